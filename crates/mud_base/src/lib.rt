@@ -1,0 +1,19 @@
+//! The values that every part of the manager speaks of: hardware and IP addresses, prefixes,
+//! moments, octet strings, lists, and the texts of them.
+#![tactic(auto)]
+
+pub mod addr;
+pub mod bytes;
+pub mod listed;
+pub mod memory;
+pub mod moment;
+pub mod packet;
+pub mod short_text;
+
+pub use addr::{Addr, Family, Mac};
+pub use bytes::Bytes;
+pub use listed::Listed;
+pub use memory::Memory;
+pub use moment::{End, Moment};
+pub use packet::{Direction, Fields, Transport};
+pub use short_text::ShortText;

@@ -1,0 +1,44 @@
+//! What the headers of a packet say.
+use crate::addr::Addr;
+
+/// Which side of a packet a Thing is on.
+#[derive(Clone, Copy, Debug, PartialEq, Eq)]
+pub enum Direction {
+    /// The Thing sends: its policy is the one from the device (RFC 8520, 2.1).
+    From,
+    /// The Thing receives: its policy is the one to the device.
+    To,
+}
+
+/// The transport header of a packet.
+#[derive(Clone, Copy, Debug, PartialEq, Eq)]
+pub enum Transport {
+    /// TCP (RFC 9293) with its ports and its octet of flags.
+    Tcp {
+        source: u16,
+        destination: u16,
+        flags: u8,
+    },
+    /// UDP (RFC 768) with its ports.
+    Udp {
+        source: u16,
+        destination: u16,
+    },
+    /// ICMP (RFC 792, RFC 4443) with its type and code.
+    Icmp {
+        kind: u8,
+        code: u8,
+    },
+    /// Another protocol, or a fragment that isn't the first.
+    Absent,
+}
+
+/// The fields of an IP packet that an access list can test.
+#[derive(Clone, Copy, Debug, PartialEq, Eq)]
+pub struct Fields {
+    pub src: Addr,
+    pub dst: Addr,
+    /// The IP protocol number, in IPv6 that of the upper layer.
+    pub protocol: u8,
+    pub transport: Transport,
+}

@@ -4,6 +4,7 @@
 
 pub mod addr;
 pub mod bytes;
+pub mod decimal;
 pub mod listed;
 pub mod memory;
 pub mod moment;
@@ -12,6 +13,7 @@ pub mod short_text;
 
 pub use addr::{Addr, Family, Mac};
 pub use bytes::Bytes;
+pub use decimal::number_upto;
 pub use listed::Listed;
 pub use memory::Memory;
 pub use moment::{End, Moment};

@@ -1,0 +1,47 @@
+//! Numbers in decimal digits.
+ghost use Rattle.std.specs.Prelude.{◌≡◌};
+ghost use Rattle.mud_base.specs.Decimal as spec;
+
+/// Whether a zero stands in front of no other digit, and the text isn't empty.
+#[tactic(auto, unfolding(crate::specs::Decimal::has_numeral_front))]
+fn has_numeral_front(text: &[u8]) -> bool
+    ensures { result ≡ spec.has_numeral_front text.now }
+{
+    match text {
+        [] => false,
+        [_] => true,
+        [first, ..] => *first != b'0',
+    }
+}
+
+/// The number that a text of digits spells, where it is at most `most`.
+#[tactic(auto, using(crate::proofs::Digits::digits_step, crate::proofs::Digits::digits_stop, crate::proofs::Digits::digits_above, crate::proofs::Digits::digits_end))]
+fn digits_upto(most: u64, text: &[u8]) -> Option<u64>
+    ensures { result ≡ spec.digits_upto most 0 text.now }
+{
+    let mut number = 0u64;
+    for digit in text {
+        if !digit.is_ascii_digit() {
+            return None;
+        }
+        let longer = number as u128 * 10 + (*digit - b'0') as u128;
+        if longer > most as u128 {
+            return None;
+        }
+        number = longer as u64;
+    }
+    Some(number)
+}
+
+/// The number that decimal digits with no leading zero spell. None for any other text, and for a
+/// number above `most`.
+#[tactic(auto, unfolding(crate::specs::Decimal::number_upto))]
+pub fn number_upto(most: u64, text: &[u8]) -> Option<u64>
+    ensures { result ≡ spec.number_upto most text.now }
+{
+    if has_numeral_front(text) {
+        digits_upto(most, text)
+    } else {
+        None
+    }
+}

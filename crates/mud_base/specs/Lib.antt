@@ -1,3 +1,4 @@
 pub mod Decimal
 pub mod Faults
 pub mod Padded
+pub mod Texts

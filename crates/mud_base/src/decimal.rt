@@ -1,6 +1,10 @@
 //! Numbers in decimal digits.
-ghost use Rattle.std.specs.Prelude.{◌≡◌};
+ghost use Rattle.std.specs.Prelude.{◌≡◌, IfOk, decimal};
 ghost use Rattle.mud_base.specs.Decimal as spec;
+
+use crate::bytes::Bytes;
+use crate::memory::Memory;
+use std::alloc::Global;
 
 /// Whether a zero stands in front of no other digit, and the text isn't empty.
 #[tactic(auto, unfolding(crate::specs::Decimal::has_numeral_front))]
@@ -44,4 +48,12 @@ pub fn number_upto(most: u64, text: &[u8]) -> Option<u64>
     } else {
         None
     }
+}
+
+/// The decimal digits of a number, with no leading zero.
+pub fn decimal_text(alloc: Global, number: u64) -> Result<Bytes, Memory>
+    ensures { IfOk result (λ text. text ≡ decimal number) }
+{
+    let text = number.to_string(alloc)?;
+    Bytes::new(alloc, text.as_bytes())
 }

@@ -10,12 +10,14 @@ pub mod memory;
 pub mod moment;
 pub mod packet;
 pub mod short_text;
+pub mod texts;
 
 pub use addr::{Addr, Family, Mac};
 pub use bytes::Bytes;
-pub use decimal::number_upto;
+pub use decimal::{decimal_text, number_upto};
 pub use listed::Listed;
 pub use memory::Memory;
 pub use moment::{End, Moment};
 pub use packet::{Direction, Fields, Transport};
 pub use short_text::ShortText;
+pub use texts::{addr_text, mac_text};

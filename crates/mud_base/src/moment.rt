@@ -1,5 +1,5 @@
 //! Moments and ends, in whole seconds.
-ghost use Rattle.std.specs.Prelude.{◌≡◌, ◌≤◌, ◌↔◌, IsTrue, SomeIff};
+ghost use Rattle.std.specs.Prelude.{◌≡◌, ◌≤◌, min, SomeIff};
 
 use std::marker::Model;
 
@@ -33,6 +33,13 @@ impl Moment {
         } else {
             None
         }
+    }
+
+    /// The moment so many seconds after 1970-01-01T00:00:00Z, or the last one where that is later.
+    pub fn at_most_last(seconds: u64) -> Moment
+        ensures { result ≡ min seconds 253402300799 }
+    {
+        Moment(seconds.min(Moment::LAST))
     }
 
     /// The seconds since 1970-01-01T00:00:00Z.

@@ -1,4 +1,5 @@
 pub mod Decimal
 pub mod Faults
 pub mod Padded
+pub mod Reading
 pub mod Texts

@@ -1,5 +1,5 @@
 //! Numbers in decimal digits.
-ghost use Rattle.std.specs.Prelude.{◌≡◌, IfOk, decimal};
+ghost use Rattle.std.specs.Prelude.{◌≡◌, ◌≤◌, IfOk, IfSome, decimal};
 ghost use Rattle.mud_base.specs.Decimal as spec;
 
 use crate::bytes::Bytes;
@@ -21,7 +21,8 @@ fn has_numeral_front(text: &[u8]) -> bool
 /// The number that a text of digits spells, where it is at most `most`.
 #[tactic(auto, using(crate::proofs::Digits::digits_step, crate::proofs::Digits::digits_stop, crate::proofs::Digits::digits_above, crate::proofs::Digits::digits_end))]
 fn digits_upto(most: u64, text: &[u8]) -> Option<u64>
-    ensures { result ≡ spec.digits_upto most 0 text.now }
+    ensures value { result ≡ spec.digits_upto most 0 text.now }
+    ensures within { IfSome result (λ number. number ≤ most) }
 {
     let mut number = 0u64;
     for digit in text {
@@ -41,7 +42,8 @@ fn digits_upto(most: u64, text: &[u8]) -> Option<u64>
 /// number above `most`.
 #[tactic(auto, unfolding(crate::specs::Decimal::number_upto))]
 pub fn number_upto(most: u64, text: &[u8]) -> Option<u64>
-    ensures { result ≡ spec.number_upto most text.now }
+    ensures value { result ≡ spec.number_upto most text.now }
+    ensures within { IfSome result (λ number. number ≤ most) }
 {
     if has_numeral_front(text) {
         digits_upto(most, text)

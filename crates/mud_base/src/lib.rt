@@ -9,6 +9,7 @@ pub mod listed;
 pub mod memory;
 pub mod moment;
 pub mod packet;
+pub mod read;
 pub mod short_text;
 pub mod texts;
 
@@ -19,5 +20,6 @@ pub use listed::Listed;
 pub use memory::Memory;
 pub use moment::{End, Moment};
 pub use packet::{Direction, Fields, Transport};
+pub use read::{mac_of, moment_of};
 pub use short_text::ShortText;
 pub use texts::{addr_text, mac_text};

@@ -1,3 +1,4 @@
+pub mod Addresses
 pub mod Decimal
 pub mod Faults
 pub mod Padded

@@ -34,11 +34,7 @@ fn has_mac_colons(text: &[u8]) -> bool
     requires { length text.now ≡ 17 }
     ensures { result ≡ spec.has_mac_colons text.now }
 {
-    text[2] == b':'
-        && text[5] == b':'
-        && text[8] == b':'
-        && text[11] == b':'
-        && text[14] == b':'
+    text[2] == b':' && text[5] == b':' && text[8] == b':' && text[11] == b':' && text[14] == b':'
 }
 
 /// The hardware address of a text: six pairs of hex digits of either case with colons between

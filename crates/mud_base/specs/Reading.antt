@@ -1,9 +1,17 @@
 -- The texts of addresses and moments, as they are read.
-use Rattle.std.specs.Prelude.{ℕ, ◌+◌, ◌*◌, Bool, ◌&&◌, ◌==◌, List, [], ◌∷◌, length, slice_index, Option, Some, None, option_and_then, if◌then◌else◌}
-use Rattle.std.specs.List.{list_all}
+use Rattle.std.specs.Prelude.{◌≡◌, ℕ, ◌+◌, ◌*◌, Bool, ◌&&◌, ◌==◌, List, [], ◌∷◌, length, slice_index, Option, Some, None, option_map, option_and_then, if◌then◌else◌}
+use Rattle.std.specs.Option.{option_or}
+use Rattle.std.specs.List.{list_all, before_first, after_first}
 use Rattle.std.specs.Char.{is_digit, digit_value}
+use Rattle.std.specs.Int.{w32, w128, from_be_bytes}
+use Rattle.std.specs.Net.Addr.{octets_of}
+use Rattle.std.specs.Net.Grammar.{IsDotted, IsColonHex}
+use Rattle.std.specs.Net.Reader.{read_ipv4, read_ipv6, whole_value}
 use Rattle.mud_base.specs.Decimal.{number_upto}
+use Rattle.mud_base.specs.Addresses.{addr_bits, PrefixParts, prefix_at}
 use Rattle.mud_base.specs.declared.addr.Mac.{Mac}
+use Rattle.mud_base.specs.declared.addr.Addr.{Addr}
+use Rattle.mud_base.specs.declared.addr.Addr.TheVariants.{V4, V6}
 
 infixl 10 ◌>>=◌
 abbrev ◌>>=◌ : {A B : Type 0} → Option A → (A → Option B) → Option B
@@ -34,6 +42,49 @@ mac_in text = if length text == 17 && has_mac_colons text then (do
   e ← octet_at text 12
   f ← octet_at text 15
   Some (record { 0 = a ∷ b ∷ c ∷ d ∷ e ∷ f ∷ [] })) else None
+
+-- the IPv4 address of these octets, most significant first
+abbrev pub addr_of_octets : List ℕ → Addr
+addr_of_octets octets = V4 (from_be_bytes w32 octets)
+
+-- the IPv6 address of these groups of 16 bits, most significant first
+abbrev pub addr_of_groups : List ℕ → Addr
+addr_of_groups groups = V6 (from_be_bytes w128 (octets_of groups))
+
+-- The text writes the address: an IPv4 address as four decimal numbers from 0 to 255 with dots between them and no
+-- leading zero; an IPv6 address by RFC 4291, section 2.2: eight groups of one to four hex digits with colons between
+-- them, where one `::` may stand for one or more groups of zeros, and an IPv4 text for the last two. No zone.
+abbrev pub IsAddrText : List ℕ → Addr → Type 0
+IsAddrText text (V4 n) = (octets : List ℕ) × IsDotted text octets × (V4 n ≡ addr_of_octets octets)
+IsAddrText text (V6 n) = (groups : List ℕ) × IsColonHex text groups × (V6 n ≡ addr_of_groups groups)
+
+-- the address that the text writes, or None where it writes none
+abbrev pub IsAddrReading : List ℕ → Option Addr → Type 0
+IsAddrReading text None = (addr : Addr) → ¬ (IsAddrText text addr)
+IsAddrReading text (Some addr) = IsAddrText text addr
+
+-- the IPv4 address of a text
+unfoldable pub ipv4_in : List ℕ → Option Addr
+ipv4_in text = option_map addr_of_octets (whole_value (read_ipv4 text))
+
+-- the IPv6 address of a text
+unfoldable pub ipv6_in : List ℕ → Option Addr
+ipv6_in text = option_map addr_of_groups (whole_value (read_ipv6 text))
+
+-- that address, computed
+unfoldable pub addr_in : List ℕ → Option Addr
+addr_in text = option_or (ipv4_in text) (ipv6_in text)
+
+abbrev pub is_slash : ℕ → Bool
+is_slash c = c == 47
+
+-- The prefix of a text: an address, `/` and a decimal number with no leading zero, at most as many as the address has
+-- bits. The other bits are cleared.
+unfoldable pub prefix_in : List ℕ → Option PrefixParts
+prefix_in text = do
+  addr ← addr_in (before_first is_slash text)
+  len ← number_upto (addr_bits addr) (after_first is_slash text)
+  prefix_at addr len
 
 -- the moment of a text: its seconds in decimal digits with no leading zero, up to 9999-12-31T23:59:59Z
 abbrev pub moment_in : List ℕ → Option ℕ

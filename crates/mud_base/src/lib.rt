@@ -22,6 +22,6 @@ pub use memory::Memory;
 pub use moment::{End, Moment};
 pub use packet::{Direction, Fields, Transport};
 pub use prefix::Prefix;
-pub use read::{mac_of, moment_of};
+pub use read::{addr_of, mac_of, moment_of};
 pub use short_text::ShortText;
 pub use texts::{addr_text, mac_text};

@@ -2,9 +2,10 @@
 ghost use Rattle.std.specs.Prelude.{◌≡◌, ◌+◌, ◌<◌, IfSome, length};
 ghost use Rattle.mud_base.specs.Reading as spec;
 
-use crate::addr::Mac;
+use crate::addr::{Addr, Mac};
 use crate::decimal::number_upto;
 use crate::moment::Moment;
+use std::net::{Ipv4Addr, Ipv6Addr};
 
 #[tactic(auto, unfolding(crate::specs::Reading::hex_value))]
 fn hex_value(digit: u8) -> Option<u8>
@@ -57,6 +58,40 @@ pub fn mac_of(text: &[u8]) -> Option<Mac>
         octet_at(text, 12)?,
         octet_at(text, 15)?,
     ]))
+}
+
+#[tactic(auto, using(crate::proofs::AddrTexts::read_v4, crate::proofs::AddrTexts::none_v4), unfolding(crate::specs::Reading::ipv4_in))]
+fn ipv4_of(text: &[u8]) -> Option<Addr>
+    ensures { result ≡ spec.ipv4_in text.now }
+{
+    match Ipv4Addr::parse_ascii(text) {
+        Ok(addr) => Some(Addr::V4(addr.to_bits())),
+        Err(_) => None,
+    }
+}
+
+#[tactic(auto, using(crate::proofs::AddrTexts::read_v6, crate::proofs::AddrTexts::none_v6), unfolding(crate::specs::Reading::ipv6_in))]
+fn ipv6_of(text: &[u8]) -> Option<Addr>
+    ensures { result ≡ spec.ipv6_in text.now }
+{
+    match Ipv6Addr::parse_ascii(text) {
+        Ok(addr) => Some(Addr::V6(addr.to_bits())),
+        Err(_) => None,
+    }
+}
+
+/// The IP address of a text: an IPv4 address as four decimal numbers with dots between them and no
+/// leading zero, or an IPv6 address in a form of RFC 4291, section 2.2, with no zone. None for any
+/// other text. It takes no memory.
+#[tactic(auto, unfolding(crate::specs::Reading::addr_in))]
+pub fn addr_of(text: &[u8]) -> Option<Addr>
+    ensures value { result ≡ spec.addr_in text.now }
+    ensures grammar { spec.IsAddrReading text.now result }
+{
+    match ipv4_of(text) {
+        Some(addr) => Some(addr),
+        None => ipv6_of(text),
+    }
 }
 
 /// The moment of a text: its seconds since 1970-01-01T00:00:00Z in decimal digits with no leading

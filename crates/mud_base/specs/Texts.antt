@@ -1,9 +1,10 @@
--- The one text of each address.
-use Rattle.std.specs.Prelude.{ℕ, ◌/◌, ◌%◌, List, [], ◌∷◌, ◌++◌, drop, slice_index, flat_map}
+-- The one text of each address and prefix.
+use Rattle.std.specs.Prelude.{ℕ, ◌/◌, ◌%◌, List, [], ◌∷◌, ◌++◌, drop, slice_index, flat_map, codes, decimal}
 use Rattle.std.specs.Char.{digit_char}
 use Rattle.std.specs.Int.{w32, w128, to_be_bytes}
 use Rattle.std.specs.Net.Addr.{segments_of}
 use Rattle.std.specs.Net.Text.{ipv4_text, hex_groups_text}
+use Rattle.mud_base.specs.Addresses.{PrefixParts}
 use Rattle.mud_base.specs.declared.addr.Mac.{Mac}
 use Rattle.mud_base.specs.declared.addr.Addr.{Addr}
 use Rattle.mud_base.specs.declared.addr.Addr.TheVariants.{V4, V6}
@@ -33,3 +34,7 @@ groups_v6 n = segments_of (to_be_bytes w128 n)
 unfoldable pub addr_text : Addr → List ℕ
 addr_text (V4 n) = ipv4_text (octets_v4 n)
 addr_text (V6 n) = hex_groups_text (groups_v6 n)
+
+-- the address, `/`, and the length in decimal (RFC 4632, 3.1; RFC 4291, 2.3)
+unfoldable pub prefix_text : PrefixParts → List ℕ
+prefix_text prefix = addr_text prefix.addr ++ codes "/" ++ decimal prefix.len

@@ -1,4 +1,8 @@
 //! Hardware addresses and IP addresses.
+ghost use Rattle.std.specs.Prelude.{◌≡◌, ◌↔◌, IsTrue};
+ghost use Rattle.mud_base.specs.Addresses as spec;
+
+use std::cmp::Ordering;
 
 /// A hardware (MAC) address of six octets, in the order in which a frame carries them.
 #[derive(Clone, Copy, Debug, PartialEq, Eq, PartialOrd, Ord)]
@@ -23,4 +27,21 @@ pub enum Family {
     V6,
     /// Either version.
     Both,
+}
+
+/// The order of two addresses: IPv4 before IPv6, and then the lesser number first.
+#[tactic(auto, unfolding(crate::specs::Addresses::addr_cmp))]
+pub fn addr_order(a: Addr, b: Addr) -> Ordering
+    ensures { result ≡ spec.addr_cmp a b }
+{
+    a.cmp(&b)
+}
+
+/// Whether both are one address.
+#[tactic(auto, unfolding(crate::specs::Addresses::same_addr))]
+pub fn same_addr(a: Addr, b: Addr) -> bool
+    ensures value { result ≡ spec.same_addr a b }
+    ensures same { IsTrue result ↔ (a ≡ b) }
+{
+    a == b
 }

@@ -14,7 +14,7 @@ pub mod read;
 pub mod short_text;
 pub mod texts;
 
-pub use addr::{Addr, Family, Mac};
+pub use addr::{Addr, Family, Mac, addr_order, same_addr};
 pub use bytes::Bytes;
 pub use decimal::{decimal_text, number_upto};
 pub use listed::Listed;
@@ -22,6 +22,6 @@ pub use memory::Memory;
 pub use moment::{End, Moment};
 pub use packet::{Direction, Fields, Transport};
 pub use prefix::Prefix;
-pub use read::{addr_of, mac_of, moment_of};
+pub use read::{addr_of, mac_of, moment_of, prefix_of};
 pub use short_text::ShortText;
-pub use texts::{addr_text, mac_text};
+pub use texts::{addr_text, mac_text, prefix_text};

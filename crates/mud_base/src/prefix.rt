@@ -26,8 +26,9 @@ impl Model for Prefix {
     ghost inverse = { λ p. record { addr = p.addr; len = p.len } };
 }
 
+/// How many bits an address of this version has.
 #[tactic(auto, unfolding(crate::specs::Addresses::addr_bits))]
-fn addr_bits(addr: Addr) -> u8
+pub(crate) fn addr_bits(addr: Addr) -> u8
     ensures { result ≡ spec.addr_bits addr }
 {
     match addr {

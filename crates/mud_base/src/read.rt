@@ -1,10 +1,12 @@
 //! The texts of addresses and moments, as they are read.
 ghost use Rattle.std.specs.Prelude.{◌≡◌, ◌+◌, ◌<◌, IfSome, length};
+ghost use Rattle.std.specs.List.{before_first, after_first, position};
 ghost use Rattle.mud_base.specs.Reading as spec;
 
 use crate::addr::{Addr, Mac};
 use crate::decimal::number_upto;
 use crate::moment::Moment;
+use crate::prefix::{Prefix, addr_bits};
 use std::net::{Ipv4Addr, Ipv6Addr};
 
 #[tactic(auto, unfolding(crate::specs::Reading::hex_value))]
@@ -92,6 +94,41 @@ pub fn addr_of(text: &[u8]) -> Option<Addr>
         Some(addr) => Some(addr),
         None => ipv6_of(text),
     }
+}
+
+fn first_slash(text: &[u8]) -> Option<usize>
+    ensures { result ≡ position spec.is_slash text.now }
+{
+    text.iter().position(|octet| *octet == b'/')
+}
+
+/// What stands before and after the first slash. With no slash nothing stands after it.
+#[tactic(auto, using(crate::proofs::Slashes::place_is, crate::proofs::Slashes::place_within, crate::proofs::Slashes::before_none, crate::proofs::Slashes::after_none))]
+fn around_slash(text: &[u8]) -> (&[u8], &[u8])
+    ensures before { result.0.now ≡ before_first spec.is_slash text.now }
+    ensures after { result.1.now ≡ after_first spec.is_slash text.now }
+{
+    match first_slash(text) {
+        Some(place) => {
+            let (before, _) = text.split_at(place);
+            let (_, after) = text.split_at(place + 1);
+            (before, after)
+        }
+        None => (text, &[]),
+    }
+}
+
+/// The prefix of a text: an address as [`addr_of`] reads it, `/` and a decimal number with no
+/// leading zero, at most 32 or 128. The bits behind so many are cleared. None for any other text.
+/// It takes no memory.
+#[tactic(auto, unfolding(crate::specs::Reading::prefix_in))]
+pub fn prefix_of(text: &[u8]) -> Option<Prefix>
+    ensures { result ≡ spec.prefix_in text.now }
+{
+    let (addr, len) = around_slash(text);
+    let addr = addr_of(addr)?;
+    let len = number_upto(u64::from(addr_bits(addr)), len)?;
+    Prefix::new(addr, len as u8)
 }
 
 /// The moment of a text: its seconds since 1970-01-01T00:00:00Z in decimal digits with no leading

@@ -7,7 +7,9 @@ ghost use Rattle.mud_base.specs.Texts as spec;
 
 use crate::addr::{Addr, Mac};
 use crate::bytes::Bytes;
+use crate::decimal::decimal_text;
 use crate::memory::Memory;
+use crate::prefix::Prefix;
 use std::alloc::Global;
 use std::net::{Ipv4Addr, Ipv6Addr};
 
@@ -83,4 +85,17 @@ pub fn addr_text(alloc: Global, addr: Addr) -> Result<Bytes, Memory>
         Addr::V4(number) => dotted_text(alloc, number),
         Addr::V6(number) => groups_text(alloc, number),
     }
+}
+
+/// The text of a prefix: its address as [`addr_text`] writes it, `/`, and its length in decimal
+/// (RFC 4632, section 3.1; RFC 4291, section 2.3).
+#[tactic(auto, unfolding(crate::specs::Texts::prefix_text))]
+pub fn prefix_text(alloc: Global, prefix: Prefix) -> Result<Bytes, Memory>
+    ensures { IfOk result (λ text. text ≡ spec.prefix_text prefix) }
+{
+    let mut text = addr_text(alloc, prefix.addr())?;
+    text.push(b'/')?;
+    let len = decimal_text(alloc, u64::from(prefix.len()))?;
+    text.append(len.octets())?;
+    Ok(text)
 }

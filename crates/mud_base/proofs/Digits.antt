@@ -1,10 +1,8 @@
 -- Reading decimal digits one by one.
-use Rattle.std.proofs.Common.{◌≡◌, ℕ, ◌+◌, ◌-◌, ◌*◌, ◌<◌, ◌≤◌, Bool, true, false, List, [], ◌∷◌, refl, arith, IsTrue, ap, ◌∙◌, sym, if◌then◌else◌, nat_le, ◌&&◌, length, drop, get_or, suc, drop-cons, add-one}
+use Rattle.std.proofs.Common.{◌≡◌, ℕ, ◌+◌, ◌-◌, ◌*◌, ◌<◌, ◌≤◌, true, false, List, [], ◌∷◌, refl, arith, ap, ◌∙◌, sym, length, drop, get_or, suc, drop-cons, add-one}
 use Rattle.std.proofs.Math.ListN.{drop_of_length-le}
-use Rattle.std.specs.Prelude.{Option, Some, None}
+use Rattle.std.specs.Prelude.{Some, None}
 use Rattle.std.specs.Char.{is_ascii_digit}
-use Rattle.std.specs.Str.{all_ascii_digits}
-use Rattle.std.proofs.lemmas.Grind.{common_steps}
 use Rattle.mud_base.specs.Decimal.{number_behind, digits_upto}
 
 -- more digits spell no lesser number

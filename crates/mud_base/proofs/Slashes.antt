@@ -1,10 +1,10 @@
 -- What stands before and after the first element of a kind.
-use Rattle.std.proofs.Common.{◌≡◌, ℕ, ◌+◌, ◌<◌, ◌≤◌, List, [], length, take, drop, Option, Some, None, Bool, true, false, nat_lt, sym, ap, ◌∙◌, arith, rules, not}
+use Rattle.std.proofs.Common.{◌≡◌, ℕ, suc, get_or, ◌∷◌, ◌++◌, refl, ◌<◌, ◌≤◌, List, [], length, Some, None, Bool, true, false, arith}
 use Rattle.std.proofs.Math.ListN.{drop_of_length-le}
+use Rattle.std.proofs.Math.Seq.{take-append_seam, drop-append-add}
 use Rattle.std.proofs.lemmas.Bool.Decides.{nat_tests}
-use Rattle.std.proofs.lemmas.List.Sums.{prefix_len-le-length}
 use Rattle.std.proofs.lemmas.Grind.{common_steps}
-use Rattle.std.specs.List.{position, position_or_len, before_first, after_first, prefix_len}
+use Rattle.std.specs.List.{position, position_or_len, before_first, after_first}
 
 module _ (p : ℕ → Bool) (text : List ℕ) where
   pub place_is : (place : ℕ) → position p text ≡ Some place → position_or_len p text ≡ place
@@ -21,3 +21,15 @@ module _ (p : ℕ → Bool) (text : List ℕ) where
 
   pub after_none : position p text ≡ None → after_first p text ≡ []
   after_none none = let past = over none in drop_of_length-le text (omega arith)
+
+-- a list with no such element, one, and what follows
+module _ (p : ℕ → Bool) (first : ℕ) (is_first : p first ≡ true) (rest : List ℕ) where
+  position_or_len-append : (front : List ℕ) → ((k : ℕ) → k < length front → p (get_or front k 0) ≡ false) → position_or_len p (front ++ first ∷ rest) ≡ length front
+  position_or_len-append [] none = rw is_first refl
+  position_or_len-append (x ∷ front) none = rw (none 0 (omega arith)) (rw (position_or_len-append front (λ k h. none (suc k) (omega arith))) (omega arith))
+
+  pub before_first-append : (front : List ℕ) → ((k : ℕ) → k < length front → p (get_or front k 0) ≡ false) → before_first p (front ++ first ∷ rest) ≡ front
+  before_first-append front none = rw (position_or_len-append front none) (take-append_seam front (first ∷ rest))
+
+  pub after_first-append : (front : List ℕ) → ((k : ℕ) → k < length front → p (get_or front k 0) ≡ false) → after_first p (front ++ first ∷ rest) ≡ rest
+  after_first-append front none = rw (position_or_len-append front none) (drop-append-add front (first ∷ rest) 1)

@@ -1,5 +1,5 @@
 -- A table of faults, in its order: the first row that holds is the fault.
-use Rattle.std.specs.Prelude.{ℕ, Bool, List, [], ◌∷◌, Option, Some, None, option_map, Result, Ok, Err, if◌then◌else◌}
+use Rattle.std.specs.Prelude.{ℕ, Bool, List, [], ◌∷◌, Option, Some, None, option_map, Result, Err, if◌then◌else◌}
 
 -- a row: the fault, where its condition holds
 abbrev pub row : {F : Type 0} → Bool → F → Option F

@@ -1,7 +1,7 @@
 -- A text at the front of a buffer of 256 octets, with zeros behind it.
-use Rattle.std.specs.Prelude.{◌≡◌, ℕ, ◌+◌, ◌-◌, ◌<◌, ◌≤◌, List, [], ◌∷◌, ◌++◌, length, take, drop, replicate}
+use Rattle.std.specs.Prelude.{◌≡◌, ℕ, ◌+◌, ◌-◌, ◌<◌, ◌≤◌, List, ◌++◌, length, take, drop, replicate}
 use Rattle.std.proofs.Common.{set, arith, sym, ap, ◌∙◌, length-set}
-use Rattle.std.proofs.lemmas.List.{take-append-drop, length-take-le, take_more_set, drop-set-lt, drop-drop, drop-replicate}
+use Rattle.std.proofs.lemmas.List.{take-append-drop, length-take-le, drop-set-lt, drop-drop, drop-replicate}
 
 -- the octets in use
 abbrev pub front : List ℕ → ℕ → List ℕ

@@ -5,6 +5,7 @@
 pub mod addr;
 pub mod bytes;
 pub mod decimal;
+pub mod laws;
 pub mod listed;
 pub mod memory;
 pub mod moment;

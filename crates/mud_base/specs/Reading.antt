@@ -75,6 +75,10 @@ ipv6_in text = option_map addr_of_groups (whole_value (read_ipv6 text))
 unfoldable pub addr_in : List ℕ → Option Addr
 addr_in text = option_or (ipv4_in text) (ipv6_in text)
 
+-- the text writes no other address than the one that is computed
+abbrev pub WritesOneAddr : List ℕ → Type 0
+WritesOneAddr text = (addr : Addr) → IsAddrText text addr → addr_in text ≡ Some addr
+
 abbrev pub is_slash : ℕ → Bool
 is_slash c = c == 47
 

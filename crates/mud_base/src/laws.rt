@@ -6,7 +6,7 @@ ghost use Rattle.std.specs.Str.{str_to_ascii_lowercase};
 ghost use Rattle.std.specs.declared.cmp.Ordering.TheVariants.{Equal};
 ghost use Rattle.mud_base.specs.Addresses.{addr_cmp};
 ghost use Rattle.mud_base.specs.Decimal.{number_upto};
-ghost use Rattle.mud_base.specs.Reading.{mac_in, addr_in, prefix_in, moment_in, IsAddrText};
+ghost use Rattle.mud_base.specs.Reading.{mac_in, addr_in, prefix_in, moment_in, IsAddrText, WritesOneAddr};
 ghost use Rattle.mud_base.specs.Texts.{mac_text, addr_text, prefix_text};
 
 use crate::addr::{Addr, Mac};
@@ -34,6 +34,11 @@ pub fn addr_is_read_back(addr: Addr)
         Addr::V6(_number) => (),
     }
 }
+
+/// A text writes no other IP address than the one that is read of it.
+pub fn text_writes_one_addr(text: &[u8])
+    ensures { WritesOneAddr text.now }
+{}
 
 /// The text that is written of a prefix is read back to it.
 pub fn prefix_is_read_back(prefix: Prefix)

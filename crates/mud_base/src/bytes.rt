@@ -37,6 +37,13 @@ impl Bytes {
         Ok(Bytes { octets })
     }
 
+    /// The string of a vector's octets, which it keeps. It takes no memory.
+    pub fn from_vec(octets: Vec<u8>) -> Bytes
+        ensures { result ≡ octets.items }
+    {
+        Bytes { octets }
+    }
+
     /// An equal string.
     pub fn copy(&self) -> Result<Bytes, Memory>
         ensures { IfOk result (λ bytes. bytes ≡ self.now) }

@@ -29,6 +29,15 @@ impl<T> Listed<T> {
         }
     }
 
+    /// The empty list, over the allocator of this one. It takes no memory.
+    pub fn empty_like(&self) -> Listed<T>
+        ensures { result ≡ [] }
+    {
+        Listed {
+            items: Vec::new(*self.items.allocator()),
+        }
+    }
+
     /// The list of these elements.
     pub fn from_vec(items: Vec<T>) -> Listed<T>
         ensures { result ≡ items.items }

@@ -1,0 +1,3 @@
+pub mod Bounds
+pub mod Idempotence
+pub mod Places

@@ -1,0 +1,11 @@
+//! MUD URLs (RFC 8520, 6): reading one, its canonical text and its host, and host names.
+#![tactic(auto)]
+
+mod canonical;
+pub mod fault;
+pub mod host;
+mod parts;
+pub mod url;
+
+pub use fault::UrlFault;
+pub use url::{MudUrl, mud_string, mud_url};

@@ -1,0 +1,205 @@
+//! MUD URLs and MUD strings.
+ghost use Rattle.std.specs.Prelude.{◌≡◌, ◌+◌, ◌≤◌, length, position, bytes_eq};
+ghost use Rattle.std.proofs.Common.{rules};
+ghost use Rattle.std.specs.Cmp.Lexicographic.{slice_cmp};
+ghost use Rattle.std.specs.Cmp.Rules.{comparing};
+ghost use Rattle.std.specs.Ordering.{nat_cmp, as_partial_cmp};
+ghost use Rattle.mud_base.specs.Faults.{first_row};
+ghost use Rattle.mud_url.specs.Url as spec;
+ghost use Rattle.mud_url.specs.Url.{url_of, string_of, host_of};
+
+use crate::canonical::canonical_text;
+use crate::fault::UrlFault;
+use crate::host::is_host;
+use crate::parts::{
+    authority, begins_with_scheme, first_not_graphic, has_fragment, has_user_info, host_part,
+    is_port, path_and_query, path_fault, port_part,
+};
+use mud_base::ShortText;
+use std::cmp::Ordering;
+use std::fmt;
+use std::marker::Model;
+
+/// A MUD URL, kept as its canonical text: `https://`, the host in lower case, `:` and the port
+/// unless it is 443, the path and the query. Two are equal where their texts are, and the order is
+/// that of the texts. Contracts see it as its text.
+#[derive(Clone, Copy)]
+pub struct MudUrl {
+    text: ShortText,
+}
+
+impl Model for MudUrl {
+    ghost use Rattle.std.specs.Prelude.{ℕ, List};
+    ghost use Rattle.mud_url.specs.Url.{IsUrlText};
+
+    ghost Value = { List ℕ };
+
+    ghost view = { λ u. u.text };
+
+    ghost invariant = { λ u. IsUrlText u.text };
+
+    ghost inverse = { λ text. record { text = text } };
+}
+
+impl MudUrl {
+    /// The canonical text, at most 256 octets.
+    pub fn text(&self) -> &[u8]
+        ensures value { result.now ≡ self.now }
+        ensures short { length self.now ≤ 256 }
+    {
+        self.text.octets()
+    }
+
+    /// The host, in lower case.
+    #[tactic(auto, unfolding(crate::specs::Url::host_of))]
+    pub fn host(&self) -> &[u8]
+        ensures { result.now ≡ host_of self.now }
+    {
+        host_part(self.text())
+    }
+}
+
+impl PartialEq for MudUrl {
+    ghost eq = { bytes_eq };
+
+    ghost laws = { Prim.search (comparing, rules) };
+
+    fn eq(&self, other: &MudUrl) -> bool {
+        self.text() == other.text()
+    }
+}
+
+impl Eq for MudUrl {
+    ghost laws = { Prim.search (comparing, rules) };
+}
+
+impl PartialOrd for MudUrl {
+    ghost partial_cmp = { as_partial_cmp (slice_cmp nat_cmp) };
+
+    ghost laws = { Prim.search (comparing, rules) };
+
+    fn partial_cmp(&self, other: &MudUrl) -> Option<Ordering> {
+        Some(self.cmp(other))
+    }
+}
+
+impl Ord for MudUrl {
+    ghost cmp = { slice_cmp nat_cmp };
+
+    ghost total = { Prim.search (comparing, rules) };
+
+    ghost matches_partial_cmp = { Prim.search (comparing, rules) };
+
+    ghost matches_eq = { Prim.search (comparing, rules) };
+
+    fn cmp(&self, other: &MudUrl) -> Ordering {
+        self.text().cmp(other.text())
+    }
+}
+
+impl fmt::Debug for MudUrl {
+    fn fmt<W: fmt::Write>(&self, f: &mut fmt::Formatter<W>) -> fmt::Result {
+        match str::from_utf8(self.text()) {
+            Ok(text) => write!(f, "MudUrl({text})"),
+            Err(_) => Err(fmt::Error),
+        }
+    }
+}
+
+/// The first fault of a URL.
+fn first_fault(url: &[u8]) -> Option<UrlFault>
+    ensures { result ≡ first_row (spec.faults url.now) }
+{
+    if url.is_empty() {
+        return Some(UrlFault::Empty);
+    }
+    if url.len() > 255 {
+        return Some(UrlFault::Long);
+    }
+    if let Some(at) = first_not_graphic(url) {
+        return Some(UrlFault::Octet(at));
+    }
+    if !begins_with_scheme(url) {
+        return Some(UrlFault::Scheme);
+    }
+    if has_fragment(url) {
+        return Some(UrlFault::Fragment);
+    }
+    if has_user_info(authority(url)) {
+        return Some(UrlFault::UserInfo);
+    }
+    if !is_host(host_part(url)) {
+        return Some(UrlFault::Host);
+    }
+    if !is_port(port_part(url)) {
+        return Some(UrlFault::Port);
+    }
+    first_path_fault(url).map(UrlFault::Path)
+}
+
+/// The place of the first octet of a URL that can't stand in its path or query.
+#[tactic(auto, using(crate::proofs::Bounds::lengths))]
+fn first_path_fault(url: &[u8]) -> Option<usize>
+    requires { length url.now ≤ 255 }
+    ensures { result ≡ spec.path_fault (8 + length (spec.authority url.now)) (spec.path_and_query url.now) }
+{
+    path_fault(8 + authority(url).len(), path_and_query(url))
+}
+
+/// The MUD URL that octets spell, or the first fault: an `https` URL (RFC 8520, 6) of at most 255
+/// octets with a host name, an optional port, a path and an optional query (RFC 3986). It takes no
+/// memory.
+#[tactic(auto, unfolding(crate::specs::Url::url_of))]
+pub fn mud_url(octets: &[u8]) -> Result<MudUrl, UrlFault>
+    ensures { result ≡ url_of octets.now }
+{
+    match first_fault(octets) {
+        Some(fault) => Err(fault),
+        None => Ok(MudUrl {
+            text: canonical_text(octets),
+        }),
+    }
+}
+
+/// The octets without one zero octet at their end.
+#[tactic(auto, unfolding(crate::specs::Url::without_last_zero))]
+fn without_last_zero(octets: &[u8]) -> &[u8]
+    ensures { result.now ≡ spec.without_last_zero octets.now }
+{
+    match octets {
+        [text @ .., 0] => text,
+        _ => octets,
+    }
+}
+
+/// The place of the first space.
+fn first_space(text: &[u8]) -> Option<usize>
+    ensures { result ≡ position spec.is_space text.now }
+{
+    text.iter().position(|octet| *octet == b' ')
+}
+
+/// What stands before the first space.
+#[tactic(auto, using(crate::proofs::Places::before_first_found, crate::proofs::Places::before_first_none), unfolding(crate::specs::Url::before_space))]
+fn before_space(text: &[u8]) -> &[u8]
+    ensures { result.now ≡ spec.before_space text.now }
+{
+    match first_space(text) {
+        Some(end) => text.split_at(end).0,
+        None => text,
+    }
+}
+
+/// The MUD URL of a MUD string (RFC 8520, 10): one zero octet at its end is dropped, at most 255
+/// octets may be left, and what follows the first space is ignored. Places are those in the string.
+/// It takes no memory.
+#[tactic(auto, unfolding(crate::specs::Url::string_of))]
+pub fn mud_string(octets: &[u8]) -> Result<MudUrl, UrlFault>
+    ensures { result ≡ string_of octets.now }
+{
+    let text = without_last_zero(octets);
+    if text.len() > 255 {
+        return Err(UrlFault::Long);
+    }
+    mud_url(before_space(text))
+}

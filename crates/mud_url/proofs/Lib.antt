@@ -1,3 +1,6 @@
 pub mod Bounds
+pub mod Cuts
 pub mod Idempotence
+pub mod Octets
 pub mod Places
+pub mod Written

@@ -4,8 +4,10 @@
 mod canonical;
 pub mod fault;
 pub mod host;
+pub mod laws;
 mod parts;
 pub mod url;
 
 pub use fault::UrlFault;
+pub use host::host_name;
 pub use url::{MudUrl, mud_string, mud_url};

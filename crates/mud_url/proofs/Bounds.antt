@@ -1,5 +1,5 @@
 -- How long the parts of a URL and its canonical text are.
-use Rattle.std.proofs.Common.{◌≡◌, ℕ, ◌+◌, ◌<◌, ◌≤◌, eqb, ◌||◌, ◌⊎◌, inl, inr, List, [], ◌∷◌, ◌++◌, length, drop, refl, arith}
+use Rattle.std.proofs.Common.{◌≡◌, ℕ, ◌+◌, ◌<◌, ◌≤◌, eqb, ◌||◌, ◌⊎◌, inl, inr, List, [], ◌∷◌, ◌++◌, length, take, drop, refl, arith}
 use Rattle.std.specs.Prelude.{codes, bytes_eq}
 use Rattle.std.proofs.lemmas.Bool.{cond_both, eqb-false, or_parts}
 use Rattle.std.proofs.lemmas.List.{length-take, length-drop, length-map, length-append}
@@ -42,5 +42,9 @@ authority_fits url = omega (arith, length-take {A = ℕ}, length-drop {A = ℕ})
 pub canonical_fits : (url : List ℕ) → length url ≤ 255 → length (scheme ++ lowered (host_part url) ++ canonical_port (port_part url)) + length (canonical_path (path_and_query url)) ≤ 256
 canonical_fits url short =
     omega (arith, length-append {A = ℕ}, length-scheme, length-lowered (host_part url), length-canonical_path (path_and_query url), parts_fit url, length-drop 8 url)
+
+pub around_slash_fits : (text : List ℕ) → length text ≤ 256 → length (take (8 + length (authority text)) text) + length (drop 1 (path_and_query text)) ≤ 256
+unfolding authority path_and_query
+around_slash_fits text short = omega (arith, length-take {A = ℕ}, length-drop {A = ℕ})
 
 pub ruleset lengths = (length-scheme, length-lowered, length-canonical_path, parts_fit, authority_fits)

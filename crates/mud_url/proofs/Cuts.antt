@@ -1,7 +1,7 @@
 -- A list that is cut at its first element that passes a test, where it is made of two lists.
-use Rattle.std.proofs.Common.{◌≡◌, ℕ, suc, ◌+◌, ◌<◌, Bool, true, false, not, cond, ◌||◌, List, [], ◌∷◌, ◌++◌, length, take, drop, refl, sym, ap, ◌∙◌, arith, add-one}
+use Rattle.std.proofs.Common.{◌≡◌, ℕ, suc, ◌+◌, ◌<◌, Bool, true, false, not, cond, ◌||◌, List, [], ◌∷◌, ◌++◌, length, take, drop, position, ltb, Some, None, refl, sym, ap, ◌∙◌, arith, add-one}
 use Rattle.std.specs.List.{position_or_len, before_first, after_first, list_any}
-use Rattle.std.proofs.lemmas.Bool.{cond_both, or_parts}
+use Rattle.std.proofs.lemmas.Bool.{or_parts, cond-false, le-ltb}
 use Rattle.std.proofs.lemmas.List.{take-append-drop, drop-drop, drop_at, drop_all, append-nil}
 use Rattle.std.proofs.lemmas.List.Folds.{list_any-append}
 use Rattle.std.proofs.lemmas.List.Sums.{take_while-cons}
@@ -44,10 +44,14 @@ after_first-append p xs c ys none e =
     ∙ sym (drop-drop 1 (length xs) (xs ++ c ∷ ys))
     ∙ ap (λ l. drop 1 l) (drop_at xs (c ∷ ys) (length xs) refl)
 
+position_past : (p : ℕ → Bool) (xs : List ℕ) → list_any p xs ≡ false → position_or_len p xs ≡ length xs
+position_past p xs none = ap (position_or_len p) (sym (append-nil xs)) ∙ position_at p xs [] none (begins-nil p)
+
+pub position-none : (p : ℕ → Bool) (xs : List ℕ) → list_any p xs ≡ false → position p xs ≡ None
+position-none p xs none = cond-false (ltb (position_or_len p xs) (length xs)) (Some (position_or_len p xs)) None (le-ltb _ _ (let at = position_past p xs none in omega (arith, at)))
+
 pub after_first-none : (p : ℕ → Bool) (xs : List ℕ) → list_any p xs ≡ false → after_first p xs ≡ []
-after_first-none p xs none =
-    let at = ap (position_or_len p) (sym (append-nil xs)) ∙ position_at p xs [] none (begins-nil p) in
-    drop_all (position_or_len p xs + 1) xs (omega (arith, at))
+after_first-none p xs none = drop_all (position_or_len p xs + 1) xs (let at = position_past p xs none in omega (arith, at))
 
 pub list_any-take : (q : ℕ → Bool) (n : ℕ) (xs : List ℕ) → list_any q xs ≡ false → list_any q (take n xs) ≡ false
 list_any-take q n xs none = (or_parts _ _ (sym (list_any-append q (take n xs) (drop n xs)) ∙ ap (list_any q) (take-append-drop n xs) ∙ none)).0

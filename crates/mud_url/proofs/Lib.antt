@@ -1,6 +1,8 @@
 pub mod Bounds
 pub mod Cuts
+pub mod HostNames
 pub mod Idempotence
 pub mod Octets
+pub mod Paths
 pub mod Places
 pub mod Written

@@ -1,8 +1,10 @@
 -- Where the parts of a URL begin and end.
-use Rattle.std.proofs.Common.{◌≡◌, ℕ, ◌+◌, ◌<◌, ◌≤◌, Bool, cond, ltb, List, [], length, take, drop, Some, None, position, sym, ap, arith}
+use Rattle.std.proofs.Common.{◌≡◌, ℕ, ◌+◌, ◌<◌, ◌≤◌, Bool, true, cond, ltb, List, [], length, take, drop, Some, None, position, sym, ap, arith}
 use Rattle.std.specs.List.{position_or_len, before_first, after_first}
 use Rattle.std.proofs.lemmas.Bool.{cond_both, ltb-true, ltb-false}
 use Rattle.std.proofs.lemmas.List.{take_all, drop_all, length-take}
+use Rattle.std.specs.Prelude.{bytes_eq}
+use Rattle.std.proofs.lemmas.Slice.Eq.{bytes_eq-Decides}
 use Rattle.mud_url.specs.Url.{authority}
 
 -- the place that `position` answers is the length of what stands before it
@@ -32,3 +34,7 @@ found_within p xs k e = (position_is (position_or_len p xs) (length xs) k e).1
 pub authority_within : (url : List ℕ) → length (authority url) ≤ length (drop 8 url)
 unfolding authority
 authority_within url = omega (arith, length-take {A = ℕ})
+
+-- equal octets are one text
+pub same_octets : (xs ys : List ℕ) → bytes_eq xs ys ≡ true → xs ≡ ys
+same_octets xs ys e = (bytes_eq-Decides xs ys).0 e

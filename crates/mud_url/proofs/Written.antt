@@ -1,5 +1,5 @@
 -- The parts of a URL that is written from its parts.
-use Rattle.std.proofs.Common.{◌≡◌, ℕ, Bool, true, false, cond, eqb, ◌||◌, List, [], ◌∷◌, ◌++◌, length, drop, not, refl, ap, ◌∙◌}
+use Rattle.std.proofs.Common.{◌≡◌, ℕ, Bool, true, false, cond, eqb, ◌||◌, ◌⊎◌, inl, inr, List, [], ◌∷◌, ◌++◌, length, drop, not, refl, ap, ◌∙◌}
 use Rattle.std.specs.List.{list_any, before_first, after_first, position_or_len}
 use Rattle.std.specs.Prelude.{codes, bytes_eq}
 use Rattle.std.proofs.lemmas.Bool.{cond_both, or_from}
@@ -27,10 +27,15 @@ behind_scheme : (host port path : List ℕ) → drop 8 (written host port path) 
 unfolding written scheme
 behind_scheme host port path = refl
 
-canonical_port_is_authority : (port : List ℕ) → list_any is_slash_or_question port ≡ false → list_any is_slash_or_question (canonical_port port) ≡ false
+pub canonical_port_has_none : (q : ℕ → Bool) → q 58 ≡ false → (port : List ℕ) → list_any q port ≡ false → list_any q (canonical_port port) ≡ false
 unfolding canonical_port
-canonical_port_is_authority port none =
-    cond_both (eqb (length port) 0 || bytes_eq port (codes "443")) [] (58 ∷ port) (λ text. list_any is_slash_or_question text ≡ false) (λ _. refl) (λ _. none)
+canonical_port_has_none q colon port none =
+    cond_both (eqb (length port) 0 || bytes_eq port (codes "443")) [] (58 ∷ port) (λ text. list_any q text ≡ false) (λ _. refl) (λ _. or_from _ _ colon none)
+
+pub canonical_port_cases : (port : List ℕ) → (canonical_port port ≡ []) ⊎ (canonical_port port ≡ 58 ∷ port)
+unfolding canonical_port
+canonical_port_cases port =
+    cond_both (eqb (length port) 0 || bytes_eq port (codes "443")) [] (58 ∷ port) (λ text. (text ≡ []) ⊎ (text ≡ 58 ∷ port)) (λ _. inl refl) (λ _. inr refl)
 
 canonical_port_begins : (port : List ℕ) → begins is_colon (canonical_port port) ≡ true
 unfolding canonical_port begins
@@ -42,7 +47,7 @@ unfolding authority
 authority-written host port path parts =
     ap (before_first is_slash_or_question) (behind_scheme host port path)
     ∙ before_first-append is_slash_or_question (host ++ canonical_port port) path
-    (list_any-append is_slash_or_question host (canonical_port port) ∙ or_from _ _ parts.host_is_authority (canonical_port_is_authority port parts.port_is_authority)) parts.path_begins
+    (list_any-append is_slash_or_question host (canonical_port port) ∙ or_from _ _ parts.host_is_authority (canonical_port_has_none is_slash_or_question refl port parts.port_is_authority)) parts.path_begins
 
 pub path_and_query-written : (host port path : List ℕ) → AreParts host port path → path_and_query (written host port path) ≡ path
 unfolding path_and_query
@@ -63,11 +68,11 @@ parts_of url = record {
   host_is_authority = list_any-lowered is_slash_or_question slash_or_question_lowered (host_part url) ∙ list_any-take is_slash_or_question _ (authority url) (list_any-before_first is_slash_or_question (drop 8 url));
   port_is_authority = list_any-drop is_slash_or_question _ (authority url) (list_any-before_first is_slash_or_question (drop 8 url));
   path_begins =
-    let rest = drop 8 url in
-    rw (length-take-le (position_or_len is_slash_or_question rest) rest (prefix_len-le-length (λ c. not (is_slash_or_question c)) rest)) (begins-rest is_slash_or_question rest);
+      let rest = drop 8 url in
+      rw (length-take-le (position_or_len is_slash_or_question rest) rest (prefix_len-le-length (λ c. not (is_slash_or_question c)) rest)) (begins-rest is_slash_or_question rest);
 }
 
-begins-canonical_path : (path : List ℕ) → begins is_slash_or_question (canonical_path path) ≡ true
+pub begins-canonical_path : (path : List ℕ) → begins is_slash_or_question (canonical_path path) ≡ true
 unfolding begins canonical_path
 begins-canonical_path [] = refl
 begins-canonical_path (c ∷ more) = cond_both (eqb c 47) (c ∷ more) (47 ∷ c ∷ more) (λ text. begins is_slash_or_question text ≡ true) (λ e. ap (λ t. t || eqb c 63) e) (λ _. refl)

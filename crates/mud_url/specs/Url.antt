@@ -1,6 +1,6 @@
 -- MUD URLs: `https` URLs of RFC 3986 with a host name, an optional port, a path and an optional
 -- query (RFC 8520, 6), and the string in which a Thing announces one.
-use Rattle.std.specs.Prelude.{◌≡◌, ℕ, ◌+◌, ◌-◌, Bool, false, not, ◌&&◌, ◌||◌, ◌==◌, nat_lt, List, [], ◌∷◌, ◌++◌, length, take, drop, slice_index, codes, bytes_eq, Option, Some, None, Result, Ok, Err, if◌then◌else◌, position}
+use Rattle.std.specs.Prelude.{ℕ, ◌+◌, ◌-◌, Bool, false, not, ◌&&◌, ◌||◌, ◌==◌, nat_lt, List, [], ◌∷◌, ◌++◌, length, take, drop, slice_index, codes, bytes_eq, Option, Some, None, Result, Ok, Err, if◌then◌else◌, position}
 use Rattle.std.specs.List.{list_any, before_first, after_first}
 use Rattle.std.specs.Option.{option_map_or}
 use Rattle.std.specs.Char.{is_ascii_alphanumeric, is_ascii_graphic, is_ascii_hexdigit}
@@ -91,10 +91,6 @@ faults url =
 unfoldable pub url_of : List ℕ → Result (List ℕ) UrlFault
 url_of url = unless (faults url) (Ok (canonical url))
 
--- a text that is the canonical text of some URL
-abbrev pub IsUrlText : List ℕ → Type 0
-IsUrlText text = ∥ ((url : List ℕ) × (url_of url ≡ Ok text)) ∥₁
-
 -- the string without one zero octet at its end
 unfoldable pub without_last_zero : List ℕ → List ℕ
 without_last_zero text = if not (length text == 0) && slice_index text (length text - 1) == 0 then take (length text - 1) text else text
@@ -113,3 +109,28 @@ string_of octets =
 -- the host of a canonical text
 unfoldable pub host_of : List ℕ → List ℕ
 host_of text = host_part text
+
+-- whether a reading gave this text
+abbrev pub gave : Result (List ℕ) UrlFault → List ℕ → Bool
+gave (Ok read) text = bytes_eq read text
+gave (Err fault) text = false
+
+unfoldable pub reads_as : List ℕ → List ℕ → Bool
+reads_as url text = gave (url_of url) text
+
+abbrev pub is_question : ℕ → Bool
+is_question c = c == 63
+
+-- the path, without the query (RFC 3986, 3.3)
+unfoldable pub path_part : List ℕ → List ℕ
+path_part url = before_first is_question (path_and_query url)
+
+-- the text without the first octet of its path
+unfoldable pub without_slash : List ℕ → List ℕ
+without_slash text = take (8 + length (authority text)) text ++ drop 1 (path_and_query text)
+
+-- a canonical text is read as itself. One of 256 octets is too long for that: there the path is the
+-- `/` that stands for an empty one, and the text is what is read without it.
+unfoldable pub is_canonical : List ℕ → Bool
+is_canonical text =
+    reads_as text text || (length text == 256 && bytes_eq (path_part text) (47 ∷ []) && reads_as (without_slash text) text)

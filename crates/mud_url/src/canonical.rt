@@ -1,9 +1,9 @@
 //! Writing the canonical text of a URL.
-ghost use Rattle.std.specs.Prelude.{◌≡◌, ◌≤◌, ◌+◌, ◌++◌, length};
+ghost use Rattle.std.specs.Prelude.{◌≡◌, ◌≤◌, ◌+◌, ◌++◌, length, take, drop};
 ghost use Rattle.mud_url.specs.Host.{lowered};
 ghost use Rattle.mud_url.specs.Url as spec;
 
-use crate::parts::{SCHEME, host_part, path_and_query, port_part};
+use crate::parts::{SCHEME, authority, host_part, path_and_query, port_part};
 use mud_base::ShortText;
 
 /// Adds octets at the end.
@@ -74,4 +74,30 @@ pub fn canonical_text(url: &[u8]) -> ShortText
     append_port(&mut text, port_part(url));
     append_path(&mut text, path_and_query(url));
     text
+}
+
+/// What stands up to the path, and what stands behind its first octet.
+#[tactic(auto, using(std::proofs::lemmas::List::take_min, std::proofs::lemmas::List::drop_min))]
+fn around_slash(text: &[u8]) -> (&[u8], &[u8])
+    requires { length text.now ≤ 256 }
+    ensures front { result.0.now ≡ take (8 + length (spec.authority text.now)) text.now }
+    ensures back { result.1.now ≡ drop 1 (spec.path_and_query text.now) }
+{
+    let path = path_and_query(text);
+    let (front, _) = text.split_at((8 + authority(text).len()).min(text.len()));
+    let (_, back) = path.split_at(1.min(path.len()));
+    (front, back)
+}
+
+/// The text without the first octet of its path.
+#[tactic(auto, using(crate::proofs::Bounds::around_slash_fits), unfolding(crate::specs::Url::without_slash))]
+pub fn without_slash(text: &[u8]) -> ShortText
+    requires { length text.now ≤ 256 }
+    ensures { result ≡ spec.without_slash text.now }
+{
+    let (front, back) = around_slash(text);
+    let mut shorter = ShortText::new();
+    append(&mut shorter, front);
+    append(&mut shorter, back);
+    shorter
 }

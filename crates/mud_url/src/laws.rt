@@ -6,5 +6,4 @@ ghost use Rattle.mud_url.specs.Url.{canonical, host_of, host_part};
 /// The host of a canonical text is the host of the URL that it stands for, in lower case.
 pub fn canonical_keeps_host(url: &[u8])
     ensures { host_of (canonical url.now) ≡ lowered (host_part url.now) }
-{
-}
+{}

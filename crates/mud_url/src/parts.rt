@@ -69,6 +69,25 @@ pub fn path_and_query(url: &[u8]) -> &[u8]
     rest.split_at(authority(url).len()).1
 }
 
+/// The place of the first `?`.
+fn first_question(text: &[u8]) -> Option<usize>
+    ensures { result ≡ position spec.is_question text.now }
+{
+    text.iter().position(|octet| *octet == b'?')
+}
+
+/// The path, without the query.
+#[tactic(auto, using(crate::proofs::Places::before_first_found, crate::proofs::Places::before_first_none), unfolding(crate::specs::Url::path_part))]
+pub fn path_part(url: &[u8]) -> &[u8]
+    ensures { result.now ≡ spec.path_part url.now }
+{
+    let rest = path_and_query(url);
+    match first_question(rest) {
+        Some(end) => rest.split_at(end).0,
+        None => rest,
+    }
+}
+
 /// The host, before the first `:` of the authority.
 #[tactic(auto, using(crate::proofs::Places::before_first_found, crate::proofs::Places::before_first_none), unfolding(crate::specs::Url::host_part))]
 pub fn host_part(url: &[u8]) -> &[u8]

@@ -1,19 +1,19 @@
 //! MUD URLs and MUD strings.
-ghost use Rattle.std.specs.Prelude.{◌≡◌, ◌+◌, ◌≤◌, length, position, bytes_eq};
+ghost use Rattle.std.specs.Prelude.{◌≡◌, ◌+◌, ◌≤◌, length, position, bytes_eq, if◌then◌else◌, IsTrue};
 ghost use Rattle.std.proofs.Common.{rules};
 ghost use Rattle.std.specs.Cmp.Lexicographic.{slice_cmp};
 ghost use Rattle.std.specs.Cmp.Rules.{comparing};
 ghost use Rattle.std.specs.Ordering.{nat_cmp, as_partial_cmp};
 ghost use Rattle.mud_base.specs.Faults.{first_row};
 ghost use Rattle.mud_url.specs.Url as spec;
-ghost use Rattle.mud_url.specs.Url.{url_of, string_of, host_of};
+ghost use Rattle.mud_url.specs.Url.{url_of, string_of, host_of, is_canonical};
 
-use crate::canonical::canonical_text;
+use crate::canonical::{canonical_text, without_slash};
 use crate::fault::UrlFault;
 use crate::host::is_host;
 use crate::parts::{
     authority, begins_with_scheme, first_not_graphic, has_fragment, has_user_info, host_part,
-    is_port, path_and_query, path_fault, port_part,
+    is_port, path_and_query, path_fault, path_part, port_part,
 };
 use mud_base::ShortText;
 use std::cmp::Ordering;
@@ -30,13 +30,14 @@ pub struct MudUrl {
 
 impl Model for MudUrl {
     ghost use Rattle.std.specs.Prelude.{ℕ, List};
-    ghost use Rattle.mud_url.specs.Url.{IsUrlText};
+    ghost use Rattle.std.specs.Prelude.{IsTrue};
+    ghost use Rattle.mud_url.specs.Url.{is_canonical};
 
     ghost Value = { List ℕ };
 
     ghost view = { λ u. u.text };
 
-    ghost invariant = { λ u. IsUrlText u.text };
+    ghost invariant = { λ u. IsTrue (is_canonical u.text) };
 
     ghost inverse = { λ text. record { text = text } };
 }
@@ -48,6 +49,13 @@ impl MudUrl {
         ensures short { length self.now ≤ 256 }
     {
         self.text.octets()
+    }
+
+    /// Every URL's text is canonical, so [`canonical_url`] reads it back.
+    pub fn text_is_canonical(&self)
+        ensures { IsTrue (is_canonical self.now) }
+    {
+        let _text = &self.text;
     }
 
     /// The host, in lower case.
@@ -202,4 +210,33 @@ pub fn mud_string(octets: &[u8]) -> Result<MudUrl, UrlFault>
         return Err(UrlFault::Long);
     }
     mud_url(before_space(text))
+}
+
+/// The MUD URL that octets spell, where this is its text.
+#[tactic(auto, using(crate::proofs::Places::same_octets), unfolding(crate::specs::Url::reads_as))]
+fn read_as(octets: &[u8], text: &[u8]) -> Option<MudUrl>
+    ensures { result ≡ (if spec.reads_as octets.now text.now then Some text.now else None) }
+{
+    match mud_url(octets) {
+        Ok(url) if url.text() == text => Some(url),
+        _ => None,
+    }
+}
+
+/// The MUD URL of a canonical text that was kept. None exactly where the octets are no canonical
+/// text of a MUD URL. It takes no memory.
+#[tactic(auto, unfolding(crate::specs::Url::is_canonical))]
+pub fn canonical_url(octets: &[u8]) -> Option<MudUrl>
+    ensures { result ≡ (if is_canonical octets.now then Some octets.now else None) }
+{
+    if let Some(url) = read_as(octets, octets) {
+        return Some(url);
+    }
+    if octets.len() != 256 {
+        return None;
+    }
+    if path_part(octets) != b"/".as_slice() {
+        return None;
+    }
+    read_as(without_slash(octets).octets(), octets)
 }

@@ -1,16 +1,16 @@
 -- Host names and ports: their octets, and lower case.
-use Rattle.std.proofs.Common.{◌≡◌, ℕ, zero, suc, ◌+◌, ◌-◌, ◌<◌, ◌≤◌, Bool, true, false, not, cond, eqb, leb, ◌&&◌, ◌||◌, ⊎_elim, List, [], ◌∷◌, length, map, slice_index, Option, Some, None, refl, sym, ap, ap₂, ◌∙◌, arith}
-use Rattle.std.specs.List.{list_any, list_all, slice_split, onto_first}
+use Rattle.std.proofs.Common.{◌≡◌, ℕ, zero, suc, ◌-◌, Bool, true, false, cond, eqb, leb, ◌&&◌, ⊎_elim, List, [], ◌∷◌, length, map, slice_index, None, refl, sym, ap, ap₂, ◌∙◌}
+use Rattle.std.specs.List.{list_all, slice_split, onto_first}
 use Rattle.std.specs.Str.{all_ascii_digits}
 use Rattle.std.specs.Option.{option_map_or}
 use Rattle.std.specs.Char.{to_ascii_lowercase, is_ascii_digit}
-use Rattle.std.proofs.lemmas.Bool.{cond_both, and_parts, and_from, or_left, or_right, or_cases, eqb-true, cond-true, cond-false, false≢true, cases_Bool}
+use Rattle.std.proofs.lemmas.Bool.{cond_both, and_parts, and_from, or_left, or_right, or_cases, eqb-true, false≢true, cases_Bool}
 use Rattle.std.proofs.lemmas.List.{nil_from_length}
 use Rattle.std.proofs.lemmas.List.Folds.{list_all-map}
 use Rattle.std.proofs.lemmas.Str.Ascii.{lowercase-lowercase}
-use Rattle.mud_base.specs.Decimal.{number_upto, digits_upto, has_numeral_front, number_behind}
+use Rattle.mud_base.specs.Decimal.{number_upto, digits_upto, has_numeral_front}
 use Rattle.mud_url.specs.Host.{lowered, is_label_octet, is_label, is_dot, is_host}
-use Rattle.mud_url.specs.Url.{is_port, is_colon}
+use Rattle.mud_url.specs.Url.{is_port}
 use Rattle.mud_url.proofs.Bounds.{length-lowered}
 use Rattle.mud_url.proofs.Octets.{at_lowercase, list_all-lowered, is_host_octet}
 

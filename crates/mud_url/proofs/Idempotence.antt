@@ -1,13 +1,12 @@
 -- A canonical text is read as itself.
-use Rattle.std.proofs.Common.{◌≡◌, ℕ, ◌+◌, ◌<◌, ◌≤◌, Bool, true, false, not, cond, eqb, ltb, ◌&&◌, ◌||◌, ◌⊎◌, inl, inr, ⊎_elim, List, [], ◌∷◌, ◌++◌, length, take, drop, position, Option, Some, None, option_map, Result, Ok, Err, refl, sym, ap, ap₂, ◌∙◌, arith}
-use Rattle.std.specs.Prelude.{codes, bytes_eq}
-use Rattle.std.specs.List.{list_any, list_all, before_first, after_first, position_or_len}
+use Rattle.std.proofs.Common.{◌≡◌, ℕ, ◌+◌, ◌<◌, ◌≤◌, Bool, true, false, not, cond, eqb, ◌||◌, ◌⊎◌, inl, inr, ⊎_elim, List, [], ◌∷◌, ◌++◌, length, take, Option, Some, None, Ok, refl, sym, ap, ◌∙◌, arith}
+use Rattle.std.specs.List.{list_any, before_first, after_first}
 use Rattle.std.specs.Char.{is_ascii_graphic}
-use Rattle.std.proofs.lemmas.Bool.{cond_both, or_left, or_right, or_from, and_from, ltb-false, le-ltb, eq-eqb, ne_eqb, not-false, cases_lt}
-use Rattle.std.proofs.lemmas.List.{append_assoc, take_at, append-nil, length-append, length-drop}
+use Rattle.std.proofs.lemmas.Bool.{or_left, or_right, or_from, and_from, ltb-false, le-ltb, eq-eqb, ne_eqb, not-false, cases_lt}
+use Rattle.std.proofs.lemmas.List.{take_at, append-nil, length-append, length-drop}
 use Rattle.std.proofs.lemmas.List.Folds.{list_any-append}
 use Rattle.std.proofs.lemmas.Slice.Eq.{bytes_eq-Decides}
-use Rattle.mud_base.specs.Faults.{row, row_at, first_row, unless_fault, unless}
+use Rattle.mud_base.specs.Faults.{row, row_at, first_row}
 use Rattle.mud_url.specs.declared.fault.UrlFault.{UrlFault}
 use Rattle.mud_url.specs.declared.fault.UrlFault.TheVariants.{Empty, Octet, Scheme, Host, Port, Path, UserInfo, Fragment, Long}
 use Rattle.mud_url.specs.Host.{lowered, is_label_octet, is_host}

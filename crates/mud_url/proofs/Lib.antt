@@ -1,8 +1,10 @@
 pub mod Bounds
 pub mod Cuts
+pub mod Examples
 pub mod HostNames
 pub mod Idempotence
 pub mod Octets
+pub mod OnLiterals
 pub mod Paths
 pub mod Places
 pub mod Written

@@ -1,8 +1,8 @@
 -- Paths and queries in which each octet may stand.
-use Rattle.std.proofs.Common.{◌≡◌, ℕ, ◌+◌, Bool, true, false, not, cond, eqb, ◌&&◌, ◌||◌, ⊎_elim, List, [], ◌∷◌, Option, Some, None, refl, sym, ap, ◌∙◌}
-use Rattle.std.specs.List.{list_any, list_all}
+use Rattle.std.proofs.Common.{◌≡◌, ℕ, ◌+◌, Bool, true, false, cond, eqb, ⊎_elim, List, [], ◌∷◌, Option, Some, None, refl, ◌∙◌}
+use Rattle.std.specs.List.{list_all}
 use Rattle.std.proofs.lemmas.Bool.{cond_both, and_parts, and_from, or_left, or_right, or_cases}
-use Rattle.mud_url.specs.Url.{may_stand, is_path_octet, begins_with_hex_pair, path_fault, canonical_path, is_slash_or_question}
+use Rattle.mud_url.specs.Url.{may_stand, is_path_octet, begins_with_hex_pair, path_fault, canonical_path}
 use Rattle.mud_url.proofs.Octets.{is_url_octet}
 
 path_fault-cons_yes : (at c : ℕ) (more : List ℕ) → may_stand c more ≡ true → path_fault at (c ∷ more) ≡ path_fault (at + 1) more

@@ -1,6 +1,6 @@
 -- The parts of a URL that is written from its parts.
-use Rattle.std.proofs.Common.{◌≡◌, ℕ, Bool, true, false, cond, eqb, ◌||◌, ◌⊎◌, inl, inr, List, [], ◌∷◌, ◌++◌, length, drop, not, refl, ap, ◌∙◌}
-use Rattle.std.specs.List.{list_any, before_first, after_first, position_or_len}
+use Rattle.std.proofs.Common.{◌≡◌, ℕ, Bool, true, false, eqb, ◌||◌, ◌⊎◌, inl, inr, List, [], ◌∷◌, ◌++◌, length, drop, not, refl, ap, ◌∙◌}
+use Rattle.std.specs.List.{list_any, before_first, position_or_len}
 use Rattle.std.specs.Prelude.{codes, bytes_eq}
 use Rattle.std.proofs.lemmas.Bool.{cond_both, or_from}
 use Rattle.std.proofs.lemmas.List.{drop_at, length-take-le}
@@ -8,8 +8,7 @@ use Rattle.std.proofs.lemmas.List.Folds.{list_any-append}
 use Rattle.std.proofs.lemmas.List.Sums.{prefix_len-le-length}
 use Rattle.mud_url.specs.Host.{lowered}
 use Rattle.mud_url.specs.Url.{scheme, is_colon, is_slash_or_question, authority, path_and_query, host_part, port_part, canonical_port, canonical_path, canonical, host_of}
-use Rattle.mud_url.proofs.Bounds.{length-scheme}
-use Rattle.mud_url.proofs.Cuts.{begins, before_first-append, after_first-append, after_first-none, list_any-take, list_any-drop, list_any-before_first, begins-rest}
+use Rattle.mud_url.proofs.Cuts.{begins, before_first-append, list_any-take, list_any-drop, list_any-before_first, begins-rest}
 use Rattle.mud_url.proofs.Octets.{list_any-lowered, colon_lowered, slash_or_question_lowered}
 
 -- a URL, written from its parts

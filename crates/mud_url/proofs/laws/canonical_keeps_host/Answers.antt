@@ -1,5 +1,4 @@
 use Rattle.mud_url.proofs.Written.{host_of-canonical}
-use Rattle.mud_url.proofs.Idempotence.{sound_parts}
 use Rattle.mud_url.proofs.laws.canonical_keeps_host.Goals as goal
 
 pub returns : goal.returns

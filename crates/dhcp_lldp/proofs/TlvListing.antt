@@ -1,0 +1,28 @@
+-- What the first octets of the TLVs do to their listing.
+use Rattle.std.proofs.Common.{◌≡◌, ◌≢◌, ℕ, suc, zero, ◌+◌, ◌*◌, ◌/◌, ◌%◌, ◌<◌, ◌≤◌, List, [], ◌∷◌, length, take, drop, refl, ap, ◌∙◌, arith, add-one, ne_eqb, eq-eqb, le-ltb, lt-ltb}
+use Rattle.std.proofs.lemmas.List.{length-take-le}
+use Rattle.dhcp_lldp.specs.Tlvs.{listing, no_more, cut_at, with_tlv}
+
+pub listing-skipped : (skipped place : ℕ) (octets : List ℕ) → listing skipped place octets ≡ listing 0 (place + skipped) (drop skipped octets)
+listing-skipped zero place octets = ap (λ n. listing 0 n octets) (omega arith)
+listing-skipped (suc skipped) place [] = refl
+listing-skipped (suc skipped) place (octet ∷ behind) =
+    listing-skipped skipped (place + 1) behind ∙ ap (λ n. listing 0 n (drop skipped behind)) (omega arith)
+
+pub whole_step : (header low len place : ℕ) (behind : List ℕ) → header / 2 ≢ 0 → len ≡ 256 * (header % 2) + low → len ≤ length behind
+    → listing 0 place (header ∷ low ∷ behind)
+    ≡ with_tlv (record { kind = header / 2; content = take len behind }) (listing 0 (place + (2 + length (take len behind))) (drop len behind))
+whole_step header low len place behind k is fits =
+    rw (← is, ne_eqb (header / 2) 0 k, le-ltb (suc (length behind)) (len + 1) (omega arith), add-one len)
+    (ap (with_tlv (record { kind = header / 2; content = take len behind }))
+    (listing-skipped (suc len) (place + 1) (low ∷ behind)
+    ∙ ap (λ n. listing 0 n (drop len behind)) (omega (arith, length-take-le len behind fits))))
+
+pub last_step : (header low len place : ℕ) (behind : List ℕ) → header / 2 ≡ 0 → len ≡ 256 * (header % 2) + low → len ≤ length behind
+    → listing 0 place (header ∷ low ∷ behind) ≡ with_tlv (record { kind = header / 2; content = take len behind }) no_more
+last_step header low len place behind k is fits =
+    rw (← is, eq-eqb (header / 2) 0 k, le-ltb (suc (length behind)) (len + 1) (omega arith), add-one len) refl
+
+pub cut_step : (header low len place : ℕ) (behind : List ℕ) → len ≡ 256 * (header % 2) + low → length behind < len
+    → listing 0 place (header ∷ low ∷ behind) ≡ cut_at place
+cut_step header low len place behind is short = rw (← is, lt-ltb (suc (length behind)) (len + 1) (omega arith)) refl

@@ -1,0 +1,39 @@
+-- The numbers, names and places of the faults of a message.
+use Rattle.std.specs.Prelude.{ℕ, List, Option, Some, None, codes}
+use Rattle.mud_url.specs.declared.fault.UrlFault.{UrlFault}
+use Rattle.dhcp_lldp.specs.declared.heard.HearFault.{HearFault}
+use Rattle.dhcp_lldp.specs.declared.heard.HearFault.TheVariants.{Cut, Cookie, Hardware, Repeat, Order, Url}
+
+unfoldable pub number_of : HearFault → ℕ
+number_of (Cut at) = 1
+number_of Cookie = 2
+number_of Hardware = 3
+number_of Repeat = 4
+number_of Order = 5
+number_of (Url fault) = 6
+
+unfoldable pub name_of : HearFault → List ℕ
+name_of (Cut at) = codes "Cut"
+name_of Cookie = codes "Cookie"
+name_of Hardware = codes "Hardware"
+name_of Repeat = codes "Repeat"
+name_of Order = codes "Order"
+name_of (Url fault) = codes "Url"
+
+-- the place in the message, of a fault that has one
+unfoldable pub place_of : HearFault → Option ℕ
+place_of (Cut at) = Some at
+place_of Cookie = None
+place_of Hardware = None
+place_of Repeat = None
+place_of Order = None
+place_of (Url fault) = None
+
+-- the fault of the MUD URL
+unfoldable pub url_fault_of : HearFault → Option UrlFault
+url_fault_of (Cut at) = None
+url_fault_of Cookie = None
+url_fault_of Hardware = None
+url_fault_of Repeat = None
+url_fault_of Order = None
+url_fault_of (Url fault) = Some fault

@@ -1,0 +1,9 @@
+pub mod Dhcp
+pub mod Fields
+pub mod Heard
+pub mod Lldp
+pub mod Mud
+pub mod OptionStep
+pub mod Options
+pub mod TlvStep
+pub mod Tlvs

@@ -1,0 +1,47 @@
+//! LLDP frames (IEEE 802.1AB).
+ghost use Rattle.std.specs.Prelude.{◌≡◌, ◌≤◌, length};
+ghost use Rattle.dhcp_lldp.specs.Lldp.{lldp_of};
+ghost use Rattle.dhcp_lldp.specs.Lldp as spec;
+
+use crate::fields::{field, is_group, mac_at};
+use crate::heard::{HearFault, Heard};
+use crate::mud::announced;
+use crate::tlvs::{TLVS_PLACE, seen_tlvs};
+
+/// Where the source stands in a frame.
+const SOURCE_PLACE: usize = 6;
+/// Where the type stands in a frame.
+const ETHERTYPE_PLACE: usize = 12;
+/// The type of LLDP (IEEE 802.1AB, clause 7).
+const LLDP: [u8; 2] = [0x88, 0xCC];
+
+/// What an LLDP frame, from its Ethernet header on, says: the MUD URL that its source announces by
+/// a MUD URL TLV (RFC 8520, section 12), or nothing. It takes no memory.
+///
+/// A fault is the first of these: `Cut(0)` where there are fewer than 14 octets; `Hardware`; then
+/// at each TLV in turn `Cut`, at its header, where the frame ends within it, `Order` where the
+/// first three types aren't 1, 2 and 3, where one of these comes again, or where an End Of LLDPDU
+/// TLV isn't empty, and `Repeat` where a second MUD URL TLV begins; `Order` where the TLVs end
+/// before the third; and in the end `Url`. What follows an End Of LLDPDU TLV isn't read.
+#[tactic(auto, unfolding(crate::specs::Lldp::lldp_of, crate::specs::TlvStep::seen_in))]
+pub fn read_lldp(frame: &[u8]) -> Result<Heard, HearFault>
+    ensures { result ≡ lldp_of frame.now }
+{
+    if frame.len() < TLVS_PLACE {
+        return Err(HearFault::Cut(0));
+    }
+    if !is_lldp(frame) {
+        return Err(HearFault::Hardware);
+    }
+    let seen = seen_tlvs(frame)?;
+    announced(mac_at(frame, SOURCE_PLACE), seen.string())
+}
+
+/// Whether this is an LLDP frame of a source that has an address of its own.
+#[tactic(auto, unfolding(crate::specs::Lldp::is_lldp))]
+fn is_lldp(frame: &[u8]) -> bool
+    requires { 14 ≤ length frame.now }
+    ensures { result ≡ spec.is_lldp frame.now }
+{
+    field(frame, ETHERTYPE_PLACE) == LLDP && !is_group(frame, SOURCE_PLACE)
+}

@@ -1,0 +1,40 @@
+-- What each command answers to its input.
+use Rattle.std.specs.Prelude.{ℕ, nat_lt, true, false, List, [], length, Option, Some, None, Result, Ok, Err, if◌then◌else◌}
+use Rattle.dhcp_lldp.specs.Dhcp.{heard_of}
+use Rattle.dhcp_lldp.specs.declared.heard.Heard.{Heard}
+use Rattle.dhcp_lldp.specs.declared.heard.HearFault.{HearFault}
+use Rattle.mud_cli.specs.Lines.{heard_line, fault_line, too_long_line}
+use Rattle.mud_cli.specs.Words.{command_in}
+use Rattle.mud_cli.specs.declared.answer.Answer.{Answer}
+use Rattle.mud_cli.specs.declared.words.Command.{Command}
+use Rattle.mud_cli.specs.declared.words.Command.TheVariants.{HearDhcp}
+
+-- what a run of the program writes, and its status
+pub record Due : Type 0 where
+  pub text : List ℕ
+  pub status : ℕ
+
+-- the answer to a message that was read or refused
+unfoldable pub hearing : Result Heard HearFault → Answer
+hearing (Ok heard) = record { text = heard_line heard; refused = false }
+hearing (Err fault) = record { text = fault_line fault; refused = true }
+
+-- no message has more than 65,535 octets (RFC 768: the length of a datagram is a number of 16 bits)
+unfoldable pub hearing_of : (List ℕ → Result Heard HearFault) → List ℕ → Answer
+hearing_of read octets = if nat_lt 65535 (length octets) then (record { text = too_long_line; refused = true }) else hearing (read octets)
+
+unfoldable pub answer_of : Command → List ℕ → Answer
+answer_of HearDhcp octets = hearing_of heard_of octets
+
+-- The status is 0 where the input was read to its end, and 3 where it breaks a rule of its reader.
+abbrev pub status_of : Answer → ℕ
+status_of answer = if answer.refused then 3 else 0
+
+-- what is due to the words after the program's name, over the octets that can be read: nothing and the status 2 where
+-- they are no listed line
+abbrev pub due_if : Option Command → List ℕ → Due
+due_if None octets = record { text = []; status = 2 }
+due_if (Some command) octets = record { text = (answer_of command octets).text; status = status_of (answer_of command octets) }
+
+unfoldable pub due_to : List (List ℕ) → List ℕ → Due
+due_to words octets = due_if (command_in words) octets

@@ -1,0 +1,23 @@
+-- The command lines that the program takes.
+use Rattle.std.specs.Prelude.{ℕ, ◌&&◌, List, [], ◌∷◌, codes, map, Option, Some, None, if◌then◌else◌}
+use Rattle.std.specs.Str.{bytes_eq}
+use Rattle.std.specs.declared.string.String.{String}
+use Rattle.std.specs.declared.alloc.Global.{Global}
+use Rattle.std.specs.String.{string_bytes}
+use Rattle.mud_cli.specs.declared.words.Command.{Command}
+use Rattle.mud_cli.specs.declared.words.Command.TheVariants.{HearDhcp}
+
+unfoldable pub hear_word : List ℕ
+hear_word = codes "hear"
+
+unfoldable pub dhcp_word : List ℕ
+dhcp_word = codes "dhcp"
+
+-- the command that the words after the program's name are
+unfoldable pub command_in : List (List ℕ) → Option Command
+command_in (first ∷ second ∷ []) = if bytes_eq first hear_word && bytes_eq second dhcp_word then Some HearDhcp else None
+command_in _ = None
+
+-- the octets of each word
+abbrev pub words_of : List (String Global) → List (List ℕ)
+words_of words = map string_bytes words

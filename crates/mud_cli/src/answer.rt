@@ -1,0 +1,69 @@
+//! What each command answers to its input.
+ghost use Rattle.std.specs.Prelude.{◌≡◌, IfOk};
+ghost use Rattle.mud_cli.specs.Answers.{answer_of, hearing, hearing_of};
+ghost use Rattle.dhcp_lldp.specs.Dhcp.{heard_of};
+
+use crate::lines::{fault_line, heard_line, too_long_line};
+use crate::words::Command;
+use dhcp_lldp::{HearFault, Heard, read_dhcp};
+use mud_base::{Bytes, Memory};
+use std::alloc::Global;
+
+/// The most octets that a message has: the length of a UDP datagram is a number of 16 bits (RFC
+/// 768).
+pub const LONGEST_MESSAGE: usize = 65_535;
+
+/// What a command writes, and whether its input breaks a rule of its reader.
+#[derive(Drop, Debug)]
+pub struct Answer {
+    pub text: Bytes,
+    pub refused: bool,
+}
+
+/// The line of a message that was read or refused.
+#[tactic(auto, unfolding(crate::specs::Answers::hearing))]
+fn hearing(alloc: Global, read: Result<Heard, HearFault>) -> Result<Answer, Memory>
+    ensures { IfOk result (λ answer. answer ≡ hearing read) }
+{
+    match read {
+        Ok(heard) => {
+            let text = heard_line(alloc, &heard)?;
+            Ok(Answer {
+                text,
+                refused: false,
+            })
+        }
+        Err(fault) => {
+            let text = fault_line(alloc, &fault)?;
+            Ok(Answer {
+                text,
+                refused: true,
+            })
+        }
+    }
+}
+
+/// The answer to a DHCPv4 message.
+#[tactic(auto, unfolding(crate::specs::Answers::hearing_of))]
+fn hearing_of_dhcp(alloc: Global, octets: &[u8]) -> Result<Answer, Memory>
+    ensures { IfOk result (λ answer. answer ≡ hearing_of heard_of octets.now) }
+{
+    if octets.len() > LONGEST_MESSAGE {
+        let text = too_long_line(alloc)?;
+        return Ok(Answer {
+            text,
+            refused: true,
+        });
+    }
+    hearing(alloc, read_dhcp(octets))
+}
+
+/// The answer of a command to the octets that it read.
+#[tactic(auto, unfolding(crate::specs::Answers::answer_of))]
+pub fn answer_of(alloc: Global, command: Command, octets: &[u8]) -> Result<Answer, Memory>
+    ensures { IfOk result (λ answer. answer ≡ answer_of command octets.now) }
+{
+    match command {
+        Command::HearDhcp => hearing_of_dhcp(alloc, octets),
+    }
+}

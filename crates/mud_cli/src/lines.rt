@@ -1,0 +1,106 @@
+//! The lines that the program writes. Each ends with a line feed.
+ghost use Rattle.std.specs.Prelude.{◌≡◌, ◌++◌, IfOk, OnOk, codes, decimal};
+ghost use Rattle.mud_cli.specs.Lines as spec;
+
+use dhcp_lldp::{HearFault, Heard};
+use mud_base::{Addr, Bytes, Mac, Memory, addr_text, decimal_text, mac_text};
+use mud_url::{MudUrl, UrlFault};
+use std::alloc::Global;
+
+/// `url MAC URL`.
+#[tactic(auto, unfolding(crate::specs::Lines::url_line))]
+fn url_line(alloc: Global, mac: Mac, url: &MudUrl) -> Result<Bytes, Memory>
+    ensures { IfOk result (λ line. line ≡ spec.url_line mac url.now) }
+{
+    let mut line = Bytes::new(alloc, b"url ")?;
+    line.append(mac_text(alloc, mac)?.octets())?;
+    line.append(b" ")?;
+    line.append(url.text())?;
+    line.append(b"\n")?;
+    Ok(line)
+}
+
+/// `lease MAC ADDRESS SECONDS`.
+#[tactic(auto, unfolding(crate::specs::Lines::lease_line))]
+fn lease_line(alloc: Global, mac: Mac, addr: Addr, seconds: u32) -> Result<Bytes, Memory>
+    ensures { IfOk result (λ line. line ≡ spec.lease_line mac addr seconds) }
+{
+    let mut line = Bytes::new(alloc, b"lease ")?;
+    line.append(mac_text(alloc, mac)?.octets())?;
+    line.append(b" ")?;
+    line.append(addr_text(alloc, addr)?.octets())?;
+    line.append(b" ")?;
+    line.append(decimal_text(alloc, u64::from(seconds))?.octets())?;
+    line.append(b"\n")?;
+    Ok(line)
+}
+
+/// `nothing`.
+#[tactic(auto, unfolding(crate::specs::Lines::nothing_line))]
+fn nothing_line(alloc: Global) -> Result<Bytes, Memory>
+    ensures { IfOk result (λ line. line ≡ spec.nothing_line) }
+{
+    Bytes::new(alloc, b"nothing\n")
+}
+
+/// The line of what a message says.
+#[tactic(auto, unfolding(crate::specs::Lines::heard_line))]
+pub fn heard_line(alloc: Global, heard: &Heard) -> Result<Bytes, Memory>
+    ensures { IfOk result (λ line. line ≡ spec.heard_line heard.now) }
+{
+    match heard {
+        Heard::Url(mac, url) => url_line(alloc, *mac, url),
+        Heard::Lease(mac, addr, seconds) => lease_line(alloc, *mac, *addr, *seconds),
+        Heard::Nothing => nothing_line(alloc),
+    }
+}
+
+/// Adds a space and the place, where there is one.
+#[tactic(auto, unfolding(crate::specs::Lines::place_text))]
+fn append_place(alloc: Global, line: &mut Bytes, place: Option<usize>) -> Result<(), Memory>
+    ensures { OnOk result (line.new ≡ line.old ++ spec.place_text place) }
+{
+    match place {
+        None => Ok(()),
+        Some(place) => {
+            line.append(b" ")?;
+            line.append(decimal_text(alloc, place as u64)?.octets())
+        }
+    }
+}
+
+/// Adds a space and the URL's own fault, where there is one.
+#[tactic(auto, unfolding(crate::specs::Lines::url_part))]
+fn append_url_part(alloc: Global, line: &mut Bytes, fault: Option<UrlFault>) -> Result<(), Memory>
+    ensures { OnOk result (line.new ≡ line.old ++ spec.url_part fault) }
+{
+    match fault {
+        None => Ok(()),
+        Some(fault) => {
+            line.append(b" ")?;
+            line.append(fault.name().as_bytes())?;
+            append_place(alloc, line, fault.place())
+        }
+    }
+}
+
+/// The line of a refused message: `fault`, the rule's name, and its place where it has one.
+#[tactic(auto, unfolding(crate::specs::Lines::fault_line))]
+pub fn fault_line(alloc: Global, fault: &HearFault) -> Result<Bytes, Memory>
+    ensures { IfOk result (λ line. line ≡ spec.fault_line fault.now) }
+{
+    let mut line = Bytes::new(alloc, b"fault ")?;
+    line.append(fault.name().as_bytes())?;
+    append_place(alloc, &mut line, fault.place())?;
+    append_url_part(alloc, &mut line, fault.url())?;
+    line.append(b"\n")?;
+    Ok(line)
+}
+
+/// `fault Long`, for a message of more octets than a message has.
+#[tactic(auto, unfolding(crate::specs::Lines::too_long_line))]
+pub fn too_long_line(alloc: Global) -> Result<Bytes, Memory>
+    ensures { IfOk result (λ line. line ≡ spec.too_long_line) }
+{
+    Bytes::new(alloc, b"fault Long\n")
+}

@@ -1,0 +1,235 @@
+//! Runs of the program over doors in memory, with lines and statuses as the formats state them.
+use crate::{DONE, DOOR_FAILED, REFUSED, UNLISTED, mud_main};
+use mud_base::{Bytes, Listed, Moment};
+use mud_world::{Door, Failed, Keeper, MemoryClock, MemoryDoor, MemoryKeeper, MemorySpool};
+use std::alloc::Global;
+use std::process::Abort;
+use std::test::Fail;
+
+/// The octets of a DHCPv4 message from 02:00:00:00:00:01, with these fields and options.
+fn message(alloc: Global, op: u8, yiaddr: [u8; 4], options: &[u8]) -> Result<Vec<u8>, Fail> {
+    let mut octets = [op, 1, 6, 0, 0, 0, 0, 1].to_vec(alloc)?;
+    octets.extend_from_slice(&[0; 8])?;
+    octets.extend_from_slice(&yiaddr)?;
+    octets.extend_from_slice(&[0; 8])?;
+    octets.extend_from_slice(&[2, 0, 0, 0, 0, 1])?;
+    octets.extend_from_slice(&[0; 202])?;
+    octets.extend_from_slice(&[0x63, 0x82, 0x53, 0x63])?;
+    octets.extend_from_slice(options)?;
+    Ok(octets)
+}
+
+/// A door to one connection, whose octets come in pieces of this length.
+fn door_of(
+    rt: &impl Abort,
+    alloc: Global,
+    octets: &[u8],
+    piece: usize,
+) -> Result<MemoryDoor, Fail> {
+    let mut pieces = Listed::new(alloc);
+    let mut rest = octets;
+    for _ in 0..octets.len() {
+        let (front, behind) = rest.split_at(piece.min(rest.len()));
+        if !front.is_empty() {
+            pieces.push(Bytes::new(alloc, front)?)?;
+        }
+        rest = behind;
+    }
+    let mut inputs = Listed::new(alloc);
+    inputs.push(pieces)?;
+    assert!(rt; inputs.len() > 0);
+    Ok(MemoryDoor::new(alloc, inputs, 4096)?)
+}
+
+/// The status of a run of these words over the door.
+fn status_of<D: Door>(
+    rt: &impl Abort,
+    alloc: Global,
+    words: &[&str],
+    door: &mut D,
+) -> Result<u8, Fail> {
+    let mut list = Vec::new(alloc);
+    for word in words {
+        list.push(String::from_str(alloc, word)?)?;
+    }
+    let keeper: Box<dyn Keeper> = Box::new(alloc, MemoryKeeper::new(alloc, Listed::new(alloc)))?;
+    let mut spool = MemorySpool::new(alloc, Listed::new(alloc));
+    let mut moments = Listed::new(alloc);
+    moments.push(Moment::at_most_last(0))?;
+    assert!(rt; moments.len() > 0);
+    let mut clock = MemoryClock::new(moments);
+    let (status, _keeper) = mud_main(alloc, list.as_slice(), keeper, door, &mut spool, &mut clock);
+    Ok(status)
+}
+
+/// What was written to the one connection of a door.
+fn written<'a>(rt: &impl Abort, door: &'a MemoryDoor) -> &'a [u8] {
+    assert!(rt; door.connection_count() > 0);
+    door.written(0)
+}
+
+const HEAR: [&str; 2] = ["hear", "dhcp"];
+
+const BULB: &[u8] = b"\x35\x01\x03\xa1\x2chttps://lighting.example.com/lightbulb2000 x\xff";
+
+const BULB_LINE: &[u8] = b"url 02:00:00:00:00:01 https://lighting.example.com/lightbulb2000\n";
+
+#[test]
+fn hears_messages(rt: HostRuntime) -> Result<(), Fail> {
+    let rows: [(u8, [u8; 4], &[u8], u8, &[u8]); 7] = [
+        (1, [0; 4], BULB, DONE, BULB_LINE),
+        (
+            1,
+            [0; 4],
+            b"\x35\x01\x03\xa1\x2bhttps://lighting.example.com/lightbulb2000\x00\xff",
+            DONE,
+            BULB_LINE,
+        ),
+        (
+            1,
+            [0; 4],
+            b"\x35\x01\x03\xa1\x1chttp://lighting.example.com/\xff",
+            REFUSED,
+            b"fault Url Scheme\n",
+        ),
+        (
+            1,
+            [0; 4],
+            b"\x35\x01\x03\xa1\xc8https",
+            REFUSED,
+            b"fault Cut 243\n",
+        ),
+        (1, [0; 4], b"\x35\x01\x03\xff", DONE, b"nothing\n"),
+        (
+            1,
+            [0; 4],
+            b"\xa1\x09https://#\xff",
+            REFUSED,
+            b"fault Url Fragment\n",
+        ),
+        (
+            2,
+            [192, 0, 2, 10],
+            b"\x35\x01\x05\x33\x04\x00\x01\x51\x80\xff",
+            DONE,
+            b"lease 02:00:00:00:00:01 192.0.2.10 86400\n",
+        ),
+    ];
+    for (op, yiaddr, options, status, line) in rows {
+        let octets = message(rt.alloc(), op, yiaddr, options)?;
+        for piece in [1, 100, 4096] {
+            let mut door = door_of(&rt, rt.alloc(), octets.as_slice(), piece)?;
+            assert_eq!(rt;
+                status_of(&rt, rt.alloc(), &HEAR, &mut door)?,
+                status,
+                "in pieces of {piece}"
+            );
+            assert_eq!(rt; written(&rt, &door), line, "in pieces of {piece}");
+        }
+    }
+    Ok(())
+}
+
+#[test]
+fn hears_no_message(rt: HostRuntime) -> Result<(), Fail> {
+    let mut door = door_of(&rt, rt.alloc(), b"", 1)?;
+    assert_eq!(rt; status_of(&rt, rt.alloc(), &HEAR, &mut door)?, REFUSED);
+    assert_eq!(rt; written(&rt, &door), b"fault Cut 0\n".as_slice());
+    Ok(())
+}
+
+#[test]
+fn hears_the_longest_message(rt: HostRuntime) -> Result<(), Fail> {
+    let mut octets = message(rt.alloc(), 1, [0; 4], BULB)?;
+    let fill = vec![in rt.alloc(); 0u8; 65_535 - octets.len().min(65_535)]?;
+    octets.extend_from_slice(fill.as_slice())?;
+    let mut door = door_of(&rt, rt.alloc(), octets.as_slice(), 5000)?;
+    assert_eq!(rt; status_of(&rt, rt.alloc(), &HEAR, &mut door)?, DONE);
+    assert_eq!(rt; written(&rt, &door), BULB_LINE);
+
+    octets.push(0)?;
+    let mut door = door_of(&rt, rt.alloc(), octets.as_slice(), 5000)?;
+    assert_eq!(rt; status_of(&rt, rt.alloc(), &HEAR, &mut door)?, REFUSED);
+    assert_eq!(rt; written(&rt, &door), b"fault Long\n".as_slice());
+    Ok(())
+}
+
+#[test]
+fn takes_listed_words_alone(rt: HostRuntime) -> Result<(), Fail> {
+    let rows: [&[&str]; 5] = [
+        &[],
+        &["hear"],
+        &["hear", "dhcp", "dhcp"],
+        &["serve", ":memory:", "0", "1"],
+        &["-h"],
+    ];
+    for words in rows {
+        let octets = message(rt.alloc(), 1, [0; 4], BULB)?;
+        let mut door = door_of(&rt, rt.alloc(), octets.as_slice(), 4096)?;
+        assert_eq!(rt; status_of(&rt, rt.alloc(), words, &mut door)?, UNLISTED);
+        assert_eq!(rt; written(&rt, &door), b"".as_slice());
+    }
+    Ok(())
+}
+
+#[test]
+fn stops_where_the_door_fails(rt: HostRuntime) -> Result<(), Fail> {
+    let octets = message(rt.alloc(), 1, [0; 4], BULB)?;
+    for call in [1, 2] {
+        let mut door = door_of(&rt, rt.alloc(), octets.as_slice(), 200)?;
+        door.failing_read.push(call)?;
+        assert_eq!(rt;
+            status_of(&rt, rt.alloc(), &HEAR, &mut door)?,
+            DOOR_FAILED,
+            "at read {call}"
+        );
+        assert_eq!(rt; written(&rt, &door), b"".as_slice(), "at read {call}");
+    }
+    let mut door = door_of(&rt, rt.alloc(), octets.as_slice(), 200)?;
+    door.failing_write.push(1)?;
+    assert_eq!(rt; status_of(&rt, rt.alloc(), &HEAR, &mut door)?, DOOR_FAILED);
+    assert_eq!(rt; written(&rt, &door), b"".as_slice());
+    Ok(())
+}
+
+/// A door that takes one octet a write.
+#[derive(Drop)]
+struct Narrow(MemoryDoor);
+
+impl Door for Narrow {
+    ghost tells = { ⟦<MemoryDoor as Door>⟧.tells };
+
+    ghost state = { λ door. ⟦<MemoryDoor as Door>⟧.state door.0 };
+
+    ghost turns = { λ door. ⟦<MemoryDoor as Door>⟧.turns door.0 };
+
+    ghost reads = { λ door. ⟦<MemoryDoor as Door>⟧.reads door.0 };
+
+    ghost writes = { λ door. ⟦<MemoryDoor as Door>⟧.writes door.0 };
+
+    fn bind(&mut self, port: u16) -> Result<(), Failed> {
+        self.0.bind(port)
+    }
+
+    fn next(&mut self) -> Result<bool, Failed> {
+        self.0.next()
+    }
+
+    fn read(&mut self, buf: &mut [u8]) -> Result<usize, Failed> {
+        self.0.read(buf)
+    }
+
+    fn write(&mut self, piece: &[u8]) -> Result<usize, Failed> {
+        self.0.write(&piece[..piece.len().min(1)])
+    }
+}
+
+#[test]
+fn writes_by_single_octets(rt: HostRuntime) -> Result<(), Fail> {
+    let octets = message(rt.alloc(), 1, [0; 4], BULB)?;
+    let mut door = Narrow(door_of(&rt, rt.alloc(), octets.as_slice(), 1)?);
+    assert_eq!(rt; status_of(&rt, rt.alloc(), &HEAR, &mut door)?, DONE);
+    let Narrow(door) = door;
+    assert_eq!(rt; written(&rt, &door), BULB_LINE);
+    Ok(())
+}

@@ -1,0 +1,15 @@
+-- Counts of failed calls. A count stops at the last value of its 64 bits.
+use Rattle.std.specs.Prelude.{◌≡◌, ℕ, ◌+◌, ◌-◌, ◌^◌, ◌≤◌, min, Bool, false, IsTrue}
+
+-- The count rose by at least n, or stands at its last value.
+abbrev pub RoseBy : ℕ → ℕ → ℕ → Type 0
+RoseBy n before now = min (before + n) (2 ^ 64 - 1) ≤ now
+
+abbrev pub Rose : ℕ → ℕ → Type 0
+Rose before now = RoseBy 1 before now
+
+-- What a call makes of its count: it never falls, it rises where the call failed, and else stays.
+pub record Counts (failed : Bool) (before now : ℕ) : Type 0 where
+  pub later : before ≤ now
+  pub rose : IsTrue failed → Rose before now
+  pub steady : failed ≡ false → now ≡ before

@@ -1,0 +1,15 @@
+pub mod Boxed
+pub mod Calls
+pub mod Causes
+pub mod Clock
+pub mod Door
+pub mod Files
+pub mod ItemPlaces
+pub mod Items
+pub mod MemoryClock
+pub mod MemoryConnections
+pub mod MemoryDoor
+pub mod MemoryKeeper
+pub mod MemorySpool
+pub mod Whole
+pub mod Wire

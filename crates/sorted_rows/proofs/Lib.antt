@@ -1,0 +1,4 @@
+pub mod PlacedLaws
+pub mod RowLaws
+mod ProbeLaws
+mod SearchLaws

@@ -1,0 +1,303 @@
+//! Rows that are kept in the order of their places.
+ghost use Rattle.std.specs.Prelude.{◌≡◌, ◌+◌, ◌-◌, ◌*◌, ◌^◌, ◌<◌, ◌≤◌, ◌↔◌, min, [], ◌∷◌, ◌++◌, length, slice_get, Some, is_some, option_copied, IsOk, IsSome, IfSome, OnOk, if◌then◌else◌, vec_len, vec_capacity, IsTrue};
+ghost use Rattle.sorted_rows.specs.Placed.{PlacesAscend, row_at, index_in, rows_under, set_row, set_rows, without_row, comes_last};
+
+use super::search::{index_of, stretch_under};
+use super::{KeyOf, Placed, PrefixOf};
+use crate::steps::Steps;
+use mud_base::Memory;
+use std::alloc::Global;
+use std::marker::{Brand, Model};
+use std::sync::ledger::{Blank, Ledger};
+
+/// Rows in ascending order of their places, each place once. Contracts see them as the list of
+/// the rows and the room: how many more can be added without memory.
+#[derive(Debug, Drop)]
+pub struct SortedRows<R: Placed> {
+    rows: Vec<R>,
+}
+
+impl<R: Placed> Model for SortedRows<R> {
+    ghost use Rattle.std.specs.Prelude.{◌-◌, vec_len, vec_capacity};
+    ghost use Rattle.sorted_rows.specs.Placed.{PlacesAscend, RowsAndRoom};
+
+    ghost Value = { RowsAndRoom R };
+
+    ghost view = { λ s. record { rows = s.rows.items; room = vec_capacity s.rows - vec_len s.rows } };
+
+    ghost invariant = { λ s. PlacesAscend R.place s.rows.items };
+}
+
+impl<R: Placed> SortedRows<R> {
+    /// No rows, and no room. It takes no memory.
+    pub fn new(alloc: Global) -> SortedRows<R>
+        ensures rows { result.rows ≡ [] }
+        ensures room { result.room ≡ 0 }
+    {
+        SortedRows {
+            rows: Vec::new(alloc),
+        }
+    }
+
+    /// The rows, in ascending order of their places.
+    pub fn rows(&self) -> &[R]
+        ensures rows { result.now ≡ self.now.rows }
+        ensures ascend { PlacesAscend R.place self.now.rows }
+    {
+        self.rows.as_slice()
+    }
+
+    /// The rows of a list that is in order already: None exactly where it isn't. It takes no
+    /// memory.
+    pub fn from_sorted(rows: Vec<R>) -> Option<SortedRows<R>>
+    where
+        R: Drop,
+        ensures sorted { IsSome result ↔ PlacesAscend R.place rows.items }
+        ensures rows { IfSome result (λ sorted. sorted.rows ≡ rows.items) }
+    {
+        if !is_ascending(rows.as_slice()) {
+            return None;
+        }
+        Some(SortedRows { rows })
+    }
+
+    /// How many rows there are.
+    pub fn len(&self) -> usize
+        ensures { result ≡ length self.now.rows }
+    {
+        self.rows.len()
+    }
+
+    /// Whether there are no rows.
+    pub fn is_empty(&self) -> bool
+        ensures { IsTrue result ↔ (self.now.rows ≡ []) }
+    {
+        self.rows.is_empty()
+    }
+
+    /// The index of the row that the key names, or else the index at which it belongs.
+    pub fn find<K: KeyOf<R>>(&self, key: &K) -> Result<usize, usize>
+        ensures index { result ≡ index_in R.place (K.place key.now) self.now.rows }
+        ensures ascend { PlacesAscend R.place self.now.rows }
+    {
+        find_from::<R, K, Brand>(self.rows.as_slice(), key, Blank::new(1))
+    }
+
+    /// The same. Each row that is read is one step: at least one where there are rows, and no more
+    /// than the number of rows has binary digits.
+    pub fn find_counted<K: KeyOf<R>, L: Ledger>(
+        &self,
+        key: &K,
+        steps: &mut Steps<L>,
+    ) -> Result<usize, usize>
+        ensures index { result ≡ index_in R.place (K.place key.now) self.now.rows }
+        ensures least { steps.old + min 1 (length self.now.rows) ≤ steps.new }
+        ensures most { 2 ^ (steps.new - steps.old) ≤ 2 * length self.now.rows + 1 }
+    {
+        index_of(self.rows.as_slice(), key, steps)
+    }
+
+    /// The row that the key names.
+    pub fn get<K: KeyOf<R>>(&self, key: &K) -> Option<&R>
+        ensures { option_copied result ≡ row_at R.place (K.place key.now) self.now.rows }
+    {
+        match self.find(key) {
+            Ok(index) => self.rows().get(index),
+            Err(_) => None,
+        }
+    }
+
+    /// Whether there is a row that the key names.
+    pub fn contains<K: KeyOf<R>>(&self, key: &K) -> bool
+        ensures { result ≡ is_some (row_at R.place (K.place key.now) self.now.rows) }
+    {
+        self.get(key).is_some()
+    }
+
+    /// The rows whose places begin as the prefix says.
+    pub fn rows_under<K: PrefixOf<R>>(&self, prefix: &K) -> &[R]
+        ensures { result.now ≡ rows_under R.place (K.prefix prefix.now) self.now.rows }
+    {
+        rows_from::<R, K, Brand>(self.rows.as_slice(), prefix, Blank::new(1))
+    }
+
+    /// The same. Each row that is read is one step: each of those that are lent, and no more
+    /// others than the number of rows has binary digits.
+    pub fn rows_under_counted<K: PrefixOf<R>, L: Ledger>(
+        &self,
+        prefix: &K,
+        steps: &mut Steps<L>,
+    ) -> &[R]
+        ensures rows { result.now ≡ rows_under R.place (K.prefix prefix.now) self.now.rows }
+        ensures least { steps.old + length result.now ≤ steps.new }
+        ensures some { steps.old + min 1 (length self.now.rows) ≤ steps.new }
+        ensures most { 2 ^ (steps.new - steps.old - length result.now) ≤ 2 * length self.now.rows + 1 }
+    {
+        stretch_under(self.rows.as_slice(), prefix, steps)
+    }
+
+    /// Makes room for as many rows more. The rows stay, also where there is no memory for it.
+    pub fn reserve(&mut self, more: usize) -> Result<(), Memory>
+        ensures rows { self.new.rows ≡ self.old.rows }
+        ensures ok { OnOk result (more ≤ self.new.room) }
+        ensures room { self.old.room ≤ self.new.room }
+        ensures succeeds { more ≤ self.old.room → IsOk result }
+    {
+        self.rows.reserve(more)?;
+        Ok(())
+    }
+
+    /// Puts a row in, in place of the one that has its place. It takes no memory.
+    pub fn put(&mut self, row: R)
+    where
+        R: Drop,
+        requires { 1 ≤ self.old.room }
+        ensures rows { self.new.rows ≡ set_row R.place row self.old.rows }
+        ensures room { self.old.room ≤ self.new.room + 1 }
+    {
+        let found = self.find(&row);
+        self.put_at(found, row);
+    }
+
+    /// The same, where `find` has already given the index for the row's place.
+    pub fn put_at(&mut self, found: Result<usize, usize>, row: R)
+    where
+        R: Drop,
+        requires found { index_in R.place (R.place row) self.old.rows ≡ found }
+        requires room { 1 ≤ self.old.room }
+        ensures rows { self.new.rows ≡ set_row R.place row self.old.rows }
+        ensures room { self.old.room ≤ self.new.room + 1 }
+    {
+        put_row(&mut self.rows, found, row);
+    }
+
+    /// Puts each of these rows in, from the first to the last. It takes no memory.
+    pub fn put_all(&mut self, rows: Vec<R>)
+    where
+        R: Drop,
+        requires { vec_len rows ≤ self.old.room }
+        ensures rows { self.new.rows ≡ set_rows R.place rows.items self.old.rows }
+        ensures room { self.old.room ≤ self.new.room + vec_len rows }
+    {
+        for row in rows {
+            self.put(row);
+        }
+    }
+
+    /// Adds a row after all others, where its place is after theirs; else the rows stay, and the
+    /// answer is false. It takes no memory.
+    pub fn push_last(&mut self, row: R) -> bool
+    where
+        R: Drop,
+        requires { 1 ≤ self.old.room }
+        ensures last { result ≡ comes_last R.place row self.old.rows }
+        ensures rows { self.new.rows ≡ (if result then self.old.rows ++ row ∷ [] else self.old.rows) }
+        ensures room { self.old.room ≤ self.new.room + 1 }
+    {
+        if !follows_all(self.rows.as_slice(), &row) {
+            return false;
+        }
+        self.rows.push_reserved(row);
+        true
+    }
+
+    /// Takes the row of this index away.
+    pub fn take_at(&mut self, index: usize) -> R
+        requires { index < length self.old.rows }
+        ensures row { slice_get self.old.rows index ≡ Some result }
+        ensures rows { self.new.rows ≡ without_row R.place (R.place result) self.old.rows }
+        ensures room { self.old.room ≤ self.new.room }
+    {
+        take_row(&mut self.rows, index)
+    }
+
+    /// Takes the row that the key names away; None where there is none.
+    pub fn remove<K: KeyOf<R>>(&mut self, key: &K) -> Option<R>
+        ensures row { result ≡ row_at R.place (K.place key.now) self.old.rows }
+        ensures rows { self.new.rows ≡ without_row R.place (K.place key.now) self.old.rows }
+        ensures room { self.old.room ≤ self.new.room }
+    {
+        match self.find(key) {
+            Ok(index) => Some(self.take_at(index)),
+            Err(_) => None,
+        }
+    }
+}
+
+/// Finds a row with steps that are counted on a ledger of its own.
+fn find_from<R: Placed, K: KeyOf<R>, L: Ledger>(
+    rows: &[R],
+    key: &K,
+    blank: Blank,
+) -> Result<usize, usize>
+    requires name { blank.name ≡ L.name }
+    requires parts { blank.parts ≡ L.parts }
+    requires some { 0 < L.parts }
+    requires ascend { PlacesAscend R.place rows.now }
+    ensures { result ≡ index_in R.place (K.place key.now) rows.now }
+{
+    let mut steps = Steps::<L>::new(blank);
+    index_of(rows, key, &mut steps)
+}
+
+/// Finds the rows under a prefix with steps that are counted on a ledger of its own.
+fn rows_from<'a, R: Placed, K: PrefixOf<R>, L: Ledger>(
+    rows: &'a [R],
+    prefix: &K,
+    blank: Blank,
+) -> &'a [R]
+    requires name { blank.name ≡ L.name }
+    requires parts { blank.parts ≡ L.parts }
+    requires some { 0 < L.parts }
+    requires ascend { PlacesAscend R.place rows.now }
+    ensures { result.now ≡ rows_under R.place (K.prefix prefix.now) rows.now }
+{
+    let mut steps = Steps::<L>::new(blank);
+    stretch_under(rows, prefix, &mut steps)
+}
+
+/// Whether each row's place is before the next one's.
+fn is_ascending<R: Placed>(rows: &[R]) -> bool
+    ensures { IsTrue result ↔ PlacesAscend R.place rows.now }
+{
+    rows.is_sorted_by(|one, next| one.order(next).is_lt())
+}
+
+/// Whether a row's place is after those of all these.
+fn follows_all<R: Placed>(rows: &[R], row: &R) -> bool
+    requires { PlacesAscend R.place rows.now }
+    ensures { result ≡ comes_last R.place row.now rows.now }
+{
+    match rows.last() {
+        Some(last) => last.order(row).is_lt(),
+        None => true,
+    }
+}
+
+/// Puts a row at the index that was found for its place. There is room for it.
+fn put_row<R: Placed + Drop>(rows: &mut Vec<R>, found: Result<usize, usize>, row: R)
+    requires found { index_in R.place (R.place row) rows.old.items ≡ found }
+    requires room { vec_len rows.old < vec_capacity rows.old }
+    ensures items { rows.new.items ≡ set_row R.place row rows.old.items }
+    ensures len { vec_len rows.new ≤ vec_len rows.old + 1 }
+    ensures capacity { vec_capacity rows.old ≤ vec_capacity rows.new }
+{
+    match found {
+        Ok(index) => rows[index] = row,
+        Err(index) => {
+            let _ = rows.insert(index, row);
+        }
+    }
+}
+
+/// Takes the row of an index away.
+fn take_row<R: Placed>(rows: &mut Vec<R>, index: usize) -> R
+    requires ascend { PlacesAscend R.place rows.old.items }
+    requires in_range { index < vec_len rows.old }
+    ensures row { slice_get rows.old.items index ≡ Some result }
+    ensures items { rows.new.items ≡ without_row R.place (R.place result) rows.old.items }
+    ensures len { vec_len rows.new ≤ vec_len rows.old }
+    ensures capacity { vec_capacity rows.old ≤ vec_capacity rows.new }
+{
+    rows.remove(index)
+}

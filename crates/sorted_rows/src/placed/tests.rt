@@ -1,0 +1,156 @@
+//! Seats of a hall, by row and number.
+ghost use Rattle.std.specs.Prelude.{◌≡◌, ◌+◌, ◌-◌, ◌*◌, ◌^◌, ◌<◌, ◌≤◌, ◌∷◌, [], length};
+ghost use Rattle.sorted_rows.specs.Placed.{index_in};
+
+use super::*;
+use crate::steps::Steps;
+use std::alloc::Global;
+use std::marker::Brand;
+use std::sync::ledger::{Blank, Ledger};
+use std::test::Fail;
+
+#[derive(Clone, Copy, Debug, PartialEq)]
+struct Seat {
+    row: u8,
+    number: u32,
+    guest: u16,
+}
+
+impl Placed for Seat {
+    ghost place = { λ s. s.row ∷ s.number ∷ [] };
+
+    fn order(&self, other: &Seat) -> Ordering {
+        self.row
+            .cmp(&other.row)
+            .then(self.number.cmp(&other.number))
+    }
+}
+
+#[derive(Clone, Copy)]
+struct Ticket<'a> {
+    row: &'a u8,
+    number: u32,
+}
+
+impl<'a> KeyOf<Seat> for Ticket<'a> {
+    ghost place = { λ t. t.row.now ∷ t.number ∷ [] };
+
+    fn order_to(&self, seat: &Seat) -> Ordering {
+        self.row.cmp(&seat.row).then(self.number.cmp(&seat.number))
+    }
+}
+
+#[derive(Clone, Copy)]
+struct InRow(u8);
+
+impl PrefixOf<Seat> for InRow {
+    ghost prefix = { λ r. r.0 ∷ [] };
+
+    fn order_to_beginning(&self, seat: &Seat) -> Ordering {
+        self.0.cmp(&seat.row)
+    }
+}
+
+fn at(row: u8, number: u32, guest: u16) -> Seat {
+    Seat { row, number, guest }
+}
+
+fn to(row: &u8, number: u32) -> Ticket<'_> {
+    Ticket { row, number }
+}
+
+/// Four seats in two rows, put in out of order; the last is put in twice.
+fn hall(alloc: Global) -> Result<SortedRows<Seat>, Fail> {
+    let mut seats = SortedRows::new(alloc);
+    seats.reserve(5)?;
+    seats.put(at(2, 7, 1));
+    seats.put(at(1, 300, 2));
+    seats.put_all(vec![in alloc; at(2, 6, 3), at(1, 4, 4), at(1, 4, 5)]?);
+    Ok(seats)
+}
+
+#[test]
+fn rows_stand_in_order_each_place_once(rt: HostRuntime) -> Result<(), Fail> {
+    let seats = hall(rt.alloc())?;
+    let wanted = [at(1, 4, 5), at(1, 300, 2), at(2, 6, 3), at(2, 7, 1)];
+    assert_eq!(rt; seats.rows(), wanted.as_slice());
+    assert_eq!(rt; seats.len(), 4);
+    assert!(rt; !seats.is_empty());
+    Ok(())
+}
+
+#[test]
+fn rows_are_found_by_place(rt: HostRuntime) -> Result<(), Fail> {
+    let seats = hall(rt.alloc())?;
+    assert_eq!(rt; seats.find(&to(&2, 6)), Ok(2));
+    assert_eq!(rt; seats.find(&to(&1, 5)), Err(1));
+    assert_eq!(rt; seats.find(&at(2, 8, 0)), Err(4));
+    assert!(rt; seats.contains(&to(&1, 300)));
+    assert!(rt; !seats.contains(&to(&2, 300)));
+    let found = seats.get(&to(&1, 4)).ok_or("no seat")?;
+    assert_eq!(rt; found.guest, 5);
+    let second = [at(2, 6, 3), at(2, 7, 1)];
+    assert_eq!(rt; seats.rows_under(&InRow(2)), second.as_slice());
+    assert_eq!(rt; seats.rows_under(&InRow(3)).len(), 0);
+    Ok(())
+}
+
+#[test]
+fn rows_are_taken_away(rt: HostRuntime) -> Result<(), Fail> {
+    let mut seats = hall(rt.alloc())?;
+    let taken = seats.remove(&to(&2, 6)).ok_or("no seat")?;
+    assert_eq!(rt; taken.guest, 3);
+    assert_eq!(rt; seats.remove(&to(&2, 6)), None);
+    assert_eq!(rt; seats.len(), 3);
+    assert_eq!(rt; seats.take_at(0), at(1, 4, 5));
+    let left = [at(1, 300, 2), at(2, 7, 1)];
+    assert_eq!(rt; seats.rows(), left.as_slice());
+    Ok(())
+}
+
+#[test]
+fn a_row_is_put_where_it_was_found_to_belong(rt: HostRuntime) -> Result<(), Fail> {
+    let mut seats = hall(rt.alloc())?;
+    seats.reserve(1)?;
+    let late = at(2, 1, 9);
+    let found = seats.find(&late);
+    seats.put_at(found, late);
+    let second = [at(2, 1, 9), at(2, 6, 3), at(2, 7, 1)];
+    assert_eq!(rt; seats.rows_under(&InRow(2)), second.as_slice());
+    Ok(())
+}
+
+#[test]
+fn sorted_rows_are_read_back(rt: HostRuntime) -> Result<(), Fail> {
+    let stored = vec![in rt.alloc(); at(1, 4, 1), at(2, 3, 2)]?;
+    let mut seats = SortedRows::from_sorted(stored).ok_or("out of order")?;
+    seats.reserve(2)?;
+    assert!(rt; !seats.push_last(at(2, 3, 3)));
+    assert!(rt; seats.push_last(at(2, 4, 4)));
+    let wanted = [at(1, 4, 1), at(2, 3, 2), at(2, 4, 4)];
+    assert_eq!(rt; seats.rows(), wanted.as_slice());
+    let twice = vec![in rt.alloc(); at(1, 4, 1), at(1, 4, 2)]?;
+    assert!(rt; SortedRows::from_sorted(twice).is_none());
+    Ok(())
+}
+
+/// Looks up a seat and its row, counted on a ledger of the caller's.
+fn searched<L: Ledger>(seats: &SortedRows<Seat>, number: u32, blank: Blank) -> (bool, usize)
+    requires name { blank.name ≡ L.name }
+    requires parts { blank.parts ≡ L.parts }
+    requires some { 0 < L.parts }
+{
+    let mut steps = Steps::<L>::new(blank);
+    let found = seats.find_counted(&to(&2, number), &mut steps).is_ok();
+    let row = seats.rows_under_counted(&InRow(2), &mut steps);
+    steps.add(1);
+    (found, row.len())
+}
+
+#[test]
+fn a_counted_search_finds_the_same(rt: HostRuntime) -> Result<(), Fail> {
+    let seats = hall(rt.alloc())?;
+    assert_eq!(rt; searched::<Brand>(&seats, 7, Blank::new(1)), (true, 2));
+    assert_eq!(rt; searched::<Brand>(&seats, 8, Blank::new(1)), (false, 2));
+    Ok(())
+}

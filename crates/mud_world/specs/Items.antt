@@ -1,9 +1,7 @@
 -- The items of a keeper, and what a batch of puts makes of them.
-use Rattle.std.specs.Prelude.{◌≡◌, ℕ, Bool, true, false, not, ◌&&◌, IsTrue, nat_lt, nat_le, List, [], ◌∷◌, length, All, Result, Ok, Err}
-use Rattle.std.specs.Ordering.{nat_cmp, is_eq, is_lt}
-use Rattle.std.specs.Cmp.Lexicographic.{slice_cmp}
-use Rattle.std.specs.declared.cmp.Ordering.{Ordering}
-use Rattle.std.specs.declared.cmp.Ordering.TheVariants.{Less, Equal, Greater}
+use Rattle.std.specs.Prelude.{◌≡◌, ℕ, Bool, true, false, not, ◌&&◌, nat_lt, nat_le, List, [], ◌∷◌, length, All, Result, Ok, Err}
+use Rattle.std.specs.Ordering.{is_eq}
+use Rattle.sorted_rows.specs.Placed.{place_cmp, set_row, without_row, PlacesAscend}
 use Rattle.mud_world.specs.declared.item.Item.{Item}
 use Rattle.mud_world.specs.declared.item.Put.{Put}
 use Rattle.mud_world.specs.declared.item.Put.TheVariants.{Set, Gone}
@@ -14,34 +12,10 @@ use Rattle.mud_world.specs.declared.fault.KeepFault.TheVariants.{Failed, Memory}
 abbrev pub place_of : Item → List ℕ
 place_of item = item.kind ∷ item.key
 
--- the order of places
-abbrev pub place_cmp : List ℕ → List ℕ → Ordering
-place_cmp a b = slice_cmp nat_cmp a b
-
-abbrev pub set_at : Ordering → Item → Item → List Item → List Item → List Item
-set_at Less item x xs deeper = item ∷ (x ∷ xs)
-set_at Equal item x xs deeper = item ∷ xs
-set_at Greater item x xs deeper = x ∷ deeper
-
--- the items with this one in its place, instead of the one that was there
-abbrev pub set_item : List Item → Item → List Item
-set_item [] item = item ∷ []
-set_item (x ∷ xs) item = set_at (place_cmp (place_of item) (place_of x)) item x xs (set_item xs item)
-
-abbrev pub without_at : Ordering → Item → List Item → List Item → List Item
-without_at Less x xs deeper = x ∷ xs
-without_at Equal x xs deeper = xs
-without_at Greater x xs deeper = x ∷ deeper
-
--- the items without the one at the place
-abbrev pub without : List Item → List ℕ → List Item
-without [] place = []
-without (x ∷ xs) place = without_at (place_cmp place (place_of x)) x xs (without xs place)
-
--- the items after one put
+-- the items after one put: the item in its place, instead of the one that was there, or no item of the place
 abbrev pub put_one : List Item → Put → List Item
-put_one items (Set item) = set_item items item
-put_one items (Gone kind key) = without items (kind ∷ key)
+put_one items (Set item) = set_row place_of item items
+put_one items (Gone kind key) = without_row place_of (kind ∷ key) items
 
 -- the items after the puts, in order
 abbrev pub put_all : List Item → List Put → List Item
@@ -67,18 +41,9 @@ are_apart (p ∷ ps) = is_apart (place_of_put p) ps && are_apart ps
 abbrev pub is_batch : List Put → Bool
 is_batch puts = nat_lt 0 (length puts) && nat_le (length puts) 4 && are_apart puts
 
--- the place comes before that of the first item
-abbrev pub is_before : List ℕ → List Item → Bool
-is_before place [] = true
-is_before place (x ∷ xs) = is_lt (place_cmp place (place_of x))
-
-abbrev pub is_ordered : List Item → Bool
-is_ordered [] = true
-is_ordered (x ∷ xs) = is_before (place_of x) xs && is_ordered xs
-
 -- The items are in the order of their places, each place once.
 abbrev pub IsOrdered : List Item → Type 0
-IsOrdered items = IsTrue (is_ordered items)
+IsOrdered items = PlacesAscend place_of items
 
 -- The puts lead from the items before to the items after, and each of them changes something.
 pub record IsDifference (before after : List Item) (puts : List Put) : Type 0 where

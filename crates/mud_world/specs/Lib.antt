@@ -4,7 +4,6 @@ pub mod Causes
 pub mod Clock
 pub mod Door
 pub mod Files
-pub mod ItemPlaces
 pub mod Items
 pub mod MemoryClock
 pub mod MemoryConnections

@@ -20,7 +20,7 @@ no_calls = record { «open» = 0; apply = 0 }
 
 -- A keeper that was just made.
 pub record IsNew (items : List Item) (keeper : MemoryKeeper) : Type 0 where
-  pub given : keeper.items ≡ items
+  pub given : keeper.items.rows ≡ items
   pub failing_open : keeper.failing_open ≡ []
   pub failing_apply : keeper.failing_apply ≡ []
   pub count : keeper.count ≡ 0

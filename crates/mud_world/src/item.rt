@@ -1,8 +1,10 @@
 //! The items that a keeper keeps, and the changes of them.
 ghost use Rattle.std.specs.Prelude.{◌≡◌, ◌∷◌, IfOk};
-ghost use Rattle.mud_world.specs.Items.{place_cmp, place_of};
+ghost use Rattle.sorted_rows.specs.Placed.{place_cmp};
+ghost use Rattle.mud_world.specs.Items.{place_of};
 
 use mud_base::{Bytes, Memory};
+use sorted_rows::{KeyOf, Placed};
 use std::cmp::Ordering;
 
 /// An item. Items are ordered by kind and then by the octets of the key, and no two have the same
@@ -27,16 +29,39 @@ impl Item {
             body,
         })
     }
+}
 
-    /// How its place stands to that of a kind and a key.
-    pub fn order_to(&self, kind: u8, key: &[u8]) -> Ordering
-        ensures { result ≡ place_cmp (place_of self.now) (kind ∷ key.now) }
-    {
-        match self.kind.cmp(&kind) {
-            Ordering::Less => Ordering::Less,
-            Ordering::Equal => self.key.octets().cmp(key),
-            Ordering::Greater => Ordering::Greater,
-        }
+impl Placed for Item {
+    ghost place = { place_of };
+
+    fn order(&self, other: &Item) -> Ordering {
+        place_order(self.kind, self.key.octets(), other.kind, other.key.octets())
+    }
+}
+
+/// The place of an item: a kind, and the octets of a key.
+#[derive(Clone, Copy)]
+pub struct ItemKey<'a> {
+    pub kind: u8,
+    pub key: &'a [u8],
+}
+
+impl KeyOf<Item> for ItemKey<'_> {
+    ghost place = { λ place. place.kind ∷ place.key.now };
+
+    fn order_to(&self, row: &Item) -> Ordering {
+        place_order(self.kind, self.key, row.kind, row.key.octets())
+    }
+}
+
+/// How one place stands to another: by the kinds, and then by the octets of the keys.
+fn place_order(kind: u8, key: &[u8], other_kind: u8, other_key: &[u8]) -> Ordering
+    ensures { result ≡ place_cmp (kind ∷ key.now) (other_kind ∷ other_key.now) }
+{
+    match kind.cmp(&other_kind) {
+        Ordering::Less => Ordering::Less,
+        Ordering::Equal => key.cmp(other_key),
+        Ordering::Greater => Ordering::Greater,
     }
 }
 

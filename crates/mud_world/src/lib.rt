@@ -22,7 +22,7 @@ pub use boxed::{keep, open_box};
 pub use clock::Clock;
 pub use door::Door;
 pub use fault::{Failed, KeepFault, SpoolFault};
-pub use item::{Item, Put};
+pub use item::{Item, ItemKey, Put};
 pub use keeper::Keeper;
 pub use memory_clock::MemoryClock;
 pub use memory_door::{DoorCalls, MemoryDoor};

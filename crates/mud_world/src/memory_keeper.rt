@@ -2,7 +2,7 @@
 ghost use Rattle.std.specs.Prelude.{◌≡◌, true, IsTrue, IfOk, OnOk, OnErr};
 ghost use Rattle.mud_world.specs.Calls.{counted, next_call};
 ghost use Rattle.mud_world.specs.Causes.{Counts};
-ghost use Rattle.mud_world.specs.Items.{has_failed, is_batch, is_ordered, put_all, IsOrdered};
+ghost use Rattle.mud_world.specs.Items.{has_failed, is_batch, put_all, IsOrdered};
 
 use crate::calls::{is_to_fail, raise};
 use crate::fault::KeepFault;
@@ -10,6 +10,7 @@ use crate::item::{Item, Put};
 use crate::keeper::Keeper;
 use crate::memory_items::{copied_items, copied_puts, put_in};
 use mud_base::Listed;
+use sorted_rows::SortedRows;
 use std::alloc::Global;
 
 /// How often each call of a keeper was made. A number that has reached the last u64 stays there.
@@ -24,7 +25,7 @@ pub struct KeeperCalls {
 #[derive(Drop, Debug)]
 pub struct MemoryKeeper {
     /// The items, ordered by kind and then key, keys distinct.
-    pub items: Listed<Item>,
+    pub items: SortedRows<Item>,
     /// The numbers of the calls of `open` that are to fail.
     pub failing_open: Listed<u64>,
     /// The numbers of the calls of `apply` that are to fail.
@@ -35,7 +36,6 @@ pub struct MemoryKeeper {
     pub calls: KeeperCalls,
     is_open: bool,
     alloc: Global,
-    ghost ordered: { IsTrue (is_ordered items) },
 }
 
 impl MemoryKeeper {
@@ -47,7 +47,7 @@ impl MemoryKeeper {
         ensures { IsNew items result }
     {
         MemoryKeeper {
-            items,
+            items: sorted(items),
             failing_open: Listed::new(alloc),
             failing_apply: Listed::new(alloc),
             count: 0,
@@ -58,21 +58,29 @@ impl MemoryKeeper {
     }
 }
 
+/// The same items, in a list that stays in order.
+fn sorted(items: Listed<Item>) -> SortedRows<Item>
+    requires { IsOrdered items }
+    ensures { result.rows ≡ items }
+{
+    SortedRows::from_sorted(items.into_vec()).unwrap()
+}
+
 impl Keeper for MemoryKeeper {
     ghost use Rattle.mud_world.specs.MemoryKeeper.{SameScript, apply_fails, has_opened, open_fails};
 
     ghost tells = { λ _. Unit {0} };
 
-    ghost items = { λ keeper. keeper.items };
+    ghost items = { λ keeper. keeper.items.rows };
 
     ghost opened = { has_opened };
 
     ghost faults = { λ keeper. keeper.count };
 
     fn open(&mut self, alloc: Global) -> Result<Listed<Item>, KeepFault>
-        ensures items { IfOk result (λ list. list ≡ self.new.items) }
-        ensures ordered { IsOrdered self.new.items }
-        ensures same { self.new.items ≡ self.old.items }
+        ensures items { IfOk result (λ list. list ≡ self.new.items.rows) }
+        ensures ordered { IsOrdered self.new.items.rows }
+        ensures same { self.new.items.rows ≡ self.old.items.rows }
         ensures opened { OnOk result (has_opened self.new ≡ true) }
         ensures still { OnErr result (has_opened self.new ≡ has_opened self.old) }
         ensures fails { has_failed result ≡ open_fails self.old }
@@ -81,11 +89,12 @@ impl Keeper for MemoryKeeper {
         ensures script { SameScript self.old self.new }
         ensures cause { Counts (has_failed result) self.old.count self.new.count }
     {
+        let items = self.items.rows();
         if is_to_fail(&self.failing_open, &mut self.calls.open) {
             raise(&mut self.count);
             return Err(KeepFault::Failed);
         }
-        let items = copied_items(alloc, self.items.as_slice())?;
+        let items = copied_items(alloc, items)?;
         self.is_open = true;
         Ok(items)
     }
@@ -93,9 +102,9 @@ impl Keeper for MemoryKeeper {
     fn apply(&mut self, batch: &[Put]) -> Result<(), KeepFault>
         requires opened { IsTrue (has_opened self.old) }
         requires batch { IsTrue (is_batch batch.now) }
-        ensures ordered { IsOrdered self.new.items }
-        ensures ok { OnOk result (self.new.items ≡ put_all self.old.items batch.now) }
-        ensures err { OnErr result (self.new.items ≡ self.old.items) }
+        ensures ordered { IsOrdered self.new.items.rows }
+        ensures ok { OnOk result (self.new.items.rows ≡ put_all self.old.items.rows batch.now) }
+        ensures err { OnErr result (self.new.items.rows ≡ self.old.items.rows) }
         ensures opened { has_opened self.new ≡ has_opened self.old }
         ensures fails { has_failed result ≡ apply_fails self.old }
         ensures count { self.new.count ≡ counted (has_failed result) self.old.count }
@@ -103,12 +112,13 @@ impl Keeper for MemoryKeeper {
         ensures script { SameScript self.old self.new }
         ensures cause { Counts (has_failed result) self.old.count self.new.count }
     {
+        let _ = self.items.rows();
         if is_to_fail(&self.failing_apply, &mut self.calls.apply) {
             raise(&mut self.count);
             return Err(KeepFault::Failed);
         }
         let puts = copied_puts(self.alloc, batch)?;
-        put_in(self.alloc, &mut self.items, puts)?;
+        put_in(&mut self.items, puts)?;
         Ok(())
     }
 }

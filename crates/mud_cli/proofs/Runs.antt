@@ -5,29 +5,36 @@ use Rattle.std.proofs.lemmas.List.{append-nil, length-append}
 use Rattle.std.specs.Prelude.{Some, Result}
 use Rattle.mud_world.specs.Door.{DoorState, with_left, put_out}
 use Rattle.mud_world.specs.Whole.{ReadWhole, WrotePart}
+use Rattle.dhcp_lldp.specs.Dhcp.{heard_of}
+use Rattle.dhcp_lldp.specs.Lldp.{lldp_of}
 use Rattle.dhcp_lldp.specs.declared.heard.Heard.{Heard}
 use Rattle.dhcp_lldp.specs.declared.heard.HearFault.{HearFault}
 use Rattle.mud_cli.specs.declared.answer.Answer.{Answer}
 use Rattle.mud_cli.specs.declared.words.Command.{Command}
-use Rattle.mud_cli.specs.declared.words.Command.TheVariants.{HearDhcp}
-use Rattle.mud_cli.specs.Answers.{answer_of, hearing_of, status_of, due_if}
+use Rattle.mud_cli.specs.declared.words.Command.TheVariants.{HearDhcp, HearLldp}
+use Rattle.mud_cli.specs.Answers.{answer_of, hearing_within, status_of, due_if}
 use Rattle.mud_cli.specs.Run.{WritesDue, WritesPart}
 
+-- the answer to some octets, by what they are read as
+abbrev hearing_of : (List ℕ → Result Heard HearFault) → List ℕ → Answer
+hearing_of read octets = hearing_within (length octets) (read octets)
+
 -- more octets than the most are too long however many they are
-pub hearing_of_more : (read : List ℕ → Result Heard HearFault) (octets more : List ℕ) → 65535 < length octets → hearing_of read (octets ++ more) ≡ hearing_of read octets
-unfolding hearing_of
+hearing_of_more : (read : List ℕ → Result Heard HearFault) (octets more : List ℕ) → 65535 < length octets → hearing_of read (octets ++ more) ≡ hearing_of read octets
+unfolding hearing_within
 hearing_of_more read octets more long = grind (arith, length-append octets more)
 
 hearing_of_cases : (read : List ℕ → Result Heard HearFault) (octets : List ℕ) (old mid : DoorState) → ReadWhole octets 65535 old mid → (65535 < length octets) ⊎ (length octets ≤ 65535) → hearing_of read octets ≡ hearing_of read old.left
 hearing_of_cases read octets old mid whole (inl long) = sym (hearing_of_more read octets mid.left long) ∙ ap (hearing_of read) (sym whole.took.left)
 hearing_of_cases read octets old mid whole (inr short) = ap (hearing_of read) (sym (append-nil octets) ∙ ap (λ more. octets ++ more) (sym (whole.ended short)) ∙ sym whole.took.left)
 
-pub hearing_of_whole : (read : List ℕ → Result Heard HearFault) (octets : List ℕ) (old mid : DoorState) → ReadWhole octets 65535 old mid → hearing_of read octets ≡ hearing_of read old.left
+hearing_of_whole : (read : List ℕ → Result Heard HearFault) (octets : List ℕ) (old mid : DoorState) → ReadWhole octets 65535 old mid → hearing_of read octets ≡ hearing_of read old.left
 hearing_of_whole read octets old mid whole = hearing_of_cases read octets old mid whole (cases_lt 65535 (length octets))
 
 pub answer_of_whole : (command : Command) (octets : List ℕ) (old mid : DoorState) → ReadWhole octets 65535 old mid → answer_of command octets ≡ answer_of command old.left
 unfolding answer_of
-answer_of_whole HearDhcp octets old mid whole = hearing_of_whole _ octets old mid whole
+answer_of_whole HearDhcp octets old mid whole = hearing_of_whole heard_of octets old mid whole
+answer_of_whole HearLldp octets old mid whole = hearing_of_whole lldp_of octets old mid whole
 
 -- the answer to what was read, written whole
 pub writes_due : (command : Command) (answer : Answer) (octets : List ℕ) (old mid new : DoorState) → ReadWhole octets 65535 old mid → answer ≡ answer_of command octets → new ≡ put_out answer.text mid → WritesDue (due_if (Some command) old.left) old new (status_of answer)

@@ -1,13 +1,14 @@
 -- What each command answers to its input.
 use Rattle.std.specs.Prelude.{ℕ, nat_lt, true, false, List, [], length, Option, Some, None, Result, Ok, Err, if◌then◌else◌}
 use Rattle.dhcp_lldp.specs.Dhcp.{heard_of}
+use Rattle.dhcp_lldp.specs.Lldp.{lldp_of}
 use Rattle.dhcp_lldp.specs.declared.heard.Heard.{Heard}
 use Rattle.dhcp_lldp.specs.declared.heard.HearFault.{HearFault}
 use Rattle.mud_cli.specs.Lines.{heard_line, fault_line, too_long_line}
 use Rattle.mud_cli.specs.Words.{command_in}
 use Rattle.mud_cli.specs.declared.answer.Answer.{Answer}
 use Rattle.mud_cli.specs.declared.words.Command.{Command}
-use Rattle.mud_cli.specs.declared.words.Command.TheVariants.{HearDhcp}
+use Rattle.mud_cli.specs.declared.words.Command.TheVariants.{HearDhcp, HearLldp}
 
 -- what a run of the program writes, and its status
 pub record Due : Type 0 where
@@ -20,11 +21,12 @@ hearing (Ok heard) = record { text = heard_line heard; refused = false }
 hearing (Err fault) = record { text = fault_line fault; refused = true }
 
 -- no message has more than 65,535 octets (RFC 768: the length of a datagram is a number of 16 bits)
-unfoldable pub hearing_of : (List ℕ → Result Heard HearFault) → List ℕ → Answer
-hearing_of read octets = if nat_lt 65535 (length octets) then (record { text = too_long_line; refused = true }) else hearing (read octets)
+unfoldable pub hearing_within : ℕ → Result Heard HearFault → Answer
+hearing_within count read = if nat_lt 65535 count then (record { text = too_long_line; refused = true }) else hearing read
 
 unfoldable pub answer_of : Command → List ℕ → Answer
-answer_of HearDhcp octets = hearing_of heard_of octets
+answer_of HearDhcp octets = hearing_within (length octets) (heard_of octets)
+answer_of HearLldp octets = hearing_within (length octets) (lldp_of octets)
 
 -- The status is 0 where the input was read to its end, and 3 where it breaks a rule of its reader.
 abbrev pub status_of : Answer → ℕ

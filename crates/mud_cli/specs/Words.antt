@@ -5,7 +5,7 @@ use Rattle.std.specs.declared.string.String.{String}
 use Rattle.std.specs.declared.alloc.Global.{Global}
 use Rattle.std.specs.String.{string_bytes}
 use Rattle.mud_cli.specs.declared.words.Command.{Command}
-use Rattle.mud_cli.specs.declared.words.Command.TheVariants.{HearDhcp}
+use Rattle.mud_cli.specs.declared.words.Command.TheVariants.{HearDhcp, HearLldp}
 
 unfoldable pub hear_word : List ℕ
 hear_word = codes "hear"
@@ -13,9 +13,16 @@ hear_word = codes "hear"
 unfoldable pub dhcp_word : List ℕ
 dhcp_word = codes "dhcp"
 
+unfoldable pub lldp_word : List ℕ
+lldp_word = codes "lldp"
+
+-- what `hear` reads
+unfoldable pub hear_command : List ℕ → Option Command
+hear_command message = if bytes_eq message dhcp_word then Some HearDhcp else (if bytes_eq message lldp_word then Some HearLldp else None)
+
 -- the command that the words after the program's name are
 unfoldable pub command_in : List (List ℕ) → Option Command
-command_in (first ∷ second ∷ []) = if bytes_eq first hear_word && bytes_eq second dhcp_word then Some HearDhcp else None
+command_in (first ∷ second ∷ []) = if bytes_eq first hear_word then hear_command second else None
 command_in _ = None
 
 -- the octets of each word

@@ -1,11 +1,10 @@
 //! What each command answers to its input.
 ghost use Rattle.std.specs.Prelude.{◌≡◌, IfOk};
-ghost use Rattle.mud_cli.specs.Answers.{answer_of, hearing, hearing_of};
-ghost use Rattle.dhcp_lldp.specs.Dhcp.{heard_of};
+ghost use Rattle.mud_cli.specs.Answers.{answer_of, hearing, hearing_within};
 
 use crate::lines::{fault_line, heard_line, too_long_line};
 use crate::words::Command;
-use dhcp_lldp::{HearFault, Heard, read_dhcp};
+use dhcp_lldp::{HearFault, Heard, read_dhcp, read_lldp};
 use mud_base::{Bytes, Memory};
 use std::alloc::Global;
 
@@ -43,19 +42,23 @@ fn hearing(alloc: Global, read: Result<Heard, HearFault>) -> Result<Answer, Memo
     }
 }
 
-/// The answer to a DHCPv4 message.
-#[tactic(auto, unfolding(crate::specs::Answers::hearing_of))]
-fn hearing_of_dhcp(alloc: Global, octets: &[u8]) -> Result<Answer, Memory>
-    ensures { IfOk result (λ answer. answer ≡ hearing_of heard_of octets.now) }
+/// The answer to a message of so many octets, which was read or refused.
+#[tactic(auto, unfolding(crate::specs::Answers::hearing_within))]
+fn hearing_within(
+    alloc: Global,
+    count: usize,
+    read: Result<Heard, HearFault>,
+) -> Result<Answer, Memory>
+    ensures { IfOk result (λ answer. answer ≡ hearing_within count read) }
 {
-    if octets.len() > LONGEST_MESSAGE {
+    if count > LONGEST_MESSAGE {
         let text = too_long_line(alloc)?;
         return Ok(Answer {
             text,
             refused: true,
         });
     }
-    hearing(alloc, read_dhcp(octets))
+    hearing(alloc, read)
 }
 
 /// The answer of a command to the octets that it read.
@@ -64,6 +67,7 @@ pub fn answer_of(alloc: Global, command: Command, octets: &[u8]) -> Result<Answe
     ensures { IfOk result (λ answer. answer ≡ answer_of command octets.now) }
 {
     match command {
-        Command::HearDhcp => hearing_of_dhcp(alloc, octets),
+        Command::HearDhcp => hearing_within(alloc, octets.len(), read_dhcp(octets)),
+        Command::HearLldp => hearing_within(alloc, octets.len(), read_lldp(octets)),
     }
 }

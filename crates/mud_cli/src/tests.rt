@@ -131,6 +131,39 @@ fn hears_messages(rt: HostRuntime) -> Result<(), Fail> {
 }
 
 #[test]
+fn hears_frames(rt: HostRuntime) -> Result<(), Fail> {
+    for (len, header, status) in [(255, [0xFF, 3], DONE), (256, [0xFF, 4], REFUSED)] {
+        let mut frame = b"\x01\x80\xc2\x00\x00\x0e\x02\x00\x00\x00\x00\x01\x88\xcc".to_vec(
+            rt.alloc(),
+        )?;
+        frame.extend_from_slice(b"\x02\x07\x04\x02\x00\x00\x00\x00\x01\x04\x02\x071\x06\x02\x00x")?;
+        frame.extend_from_slice(&header)?;
+        frame.extend_from_slice(b"\x00\x00\x5e\x01")?;
+        let mut line = b"url 02:00:00:00:00:01 ".to_vec(rt.alloc())?;
+        let mut url = b"https://lighting.example.com/".to_vec(rt.alloc())?;
+        for _ in 29..len {
+            url.push(b'a')?;
+        }
+        frame.extend_from_slice(url.as_slice())?;
+        frame.extend_from_slice(b"\x00\x00")?;
+        line.extend_from_slice(url.as_slice())?;
+        line.push(b'\n')?;
+        let wanted = if status == DONE {
+            line.as_slice()
+        } else {
+            b"fault Url Long\n".as_slice()
+        };
+        let mut door = door_of(&rt, rt.alloc(), frame.as_slice(), 100)?;
+        assert_eq!(rt;
+            status_of(&rt, rt.alloc(), &["hear", "lldp"], &mut door)?,
+            status
+        );
+        assert_eq!(rt; written(&rt, &door), wanted);
+    }
+    Ok(())
+}
+
+#[test]
 fn hears_no_message(rt: HostRuntime) -> Result<(), Fail> {
     let mut door = door_of(&rt, rt.alloc(), b"", 1)?;
     assert_eq!(rt; status_of(&rt, rt.alloc(), &HEAR, &mut door)?, REFUSED);

@@ -1,0 +1,4 @@
+pub mod Examples
+pub mod FirstRuling
+pub mod KeyLaws
+pub mod OnLiterals

@@ -1,0 +1,5 @@
+pub mod Defaults
+pub mod FirstMatch
+pub mod Keys
+pub mod Match
+pub mod Policies

@@ -1,0 +1,96 @@
+//! Which addresses member selectors mean.
+ghost use Rattle.std.specs.Prelude.{◌≡◌, ◌↔◌, IsTrue, IfOk};
+ghost use Rattle.acl_model.specs.Keys as spec;
+
+use crate::entry::Selector;
+use mud_base::{Addr, Bytes, End, Memory};
+use mud_url::MudUrl;
+
+/// What an address is bound to, so that it meets the member selectors with this key.
+#[derive(Drop, Debug)]
+pub enum MemberKey {
+    /// The host of the MUD URL of the Thing that has the address.
+    Host(Bytes),
+    /// The MUD URL of the Thing that has the address.
+    Model(MudUrl),
+    /// The URI of a class.
+    Class(Bytes),
+    /// The MUD URL of the Things that the address controls.
+    Mine(MudUrl),
+    /// A DNS name.
+    Name(Bytes),
+}
+
+/// An address and what it is bound to until its end.
+#[derive(Drop, Debug)]
+pub struct Binding {
+    /// What the address is bound to.
+    pub key: MemberKey,
+    /// The address.
+    pub addr: Addr,
+    /// When the binding ends.
+    pub until: End,
+}
+
+/// Whether two keys are equal.
+#[tactic(auto, using(crate::proofs::KeyLaws::key_laws), unfolding(crate::specs::Keys::same_key))]
+pub fn same_key(own: &MemberKey, other: &MemberKey) -> bool
+    ensures value { result ≡ spec.same_key own.now other.now }
+    ensures equal { IsTrue result ↔ (own.now ≡ other.now) }
+{
+    match (own, other) {
+        (MemberKey::Host(own), MemberKey::Host(other)) => own.octets() == other.octets(),
+        (MemberKey::Model(own), MemberKey::Model(other)) => own == other,
+        (MemberKey::Class(own), MemberKey::Class(other)) => own.octets() == other.octets(),
+        (MemberKey::Mine(own), MemberKey::Mine(other)) => own == other,
+        (MemberKey::Name(own), MemberKey::Name(other)) => own.octets() == other.octets(),
+        _ => false,
+    }
+}
+
+impl Selector {
+    /// Whether it is a member selector with this key, in the file of this URL.
+    #[tactic(auto, unfolding(crate::specs::Keys::has_key, crate::specs::Keys::key_of, crate::specs::Keys::same_key))]
+    pub fn has_key(&self, url: &MudUrl, key: &MemberKey) -> bool
+        ensures { result ≡ spec.has_key url.now key.now self.now }
+    {
+        match (self, key) {
+            (Selector::Controller(uri), MemberKey::Class(other)) => uri.octets() == other.octets(),
+            (Selector::MyController, MemberKey::Mine(other)) => url == other,
+            (Selector::Manufacturer(host), MemberKey::Host(other)) => host.octets()
+                == other.octets(),
+            (Selector::SameManufacturer, MemberKey::Host(other)) => url.host() == other.octets(),
+            (Selector::Model(model), MemberKey::Model(other)) => model == other,
+            (Selector::Name(name), MemberKey::Name(other)) => name.octets() == other.octets(),
+            _ => false,
+        }
+    }
+}
+
+impl MemberKey {
+    /// An equal key.
+    pub fn copy(&self) -> Result<MemberKey, Memory>
+        ensures { IfOk result (λ copy. copy ≡ self.now) }
+    {
+        match self {
+            MemberKey::Host(host) => Ok(MemberKey::Host(host.copy()?)),
+            MemberKey::Model(url) => Ok(MemberKey::Model(*url)),
+            MemberKey::Class(uri) => Ok(MemberKey::Class(uri.copy()?)),
+            MemberKey::Mine(url) => Ok(MemberKey::Mine(*url)),
+            MemberKey::Name(name) => Ok(MemberKey::Name(name.copy()?)),
+        }
+    }
+}
+
+impl Binding {
+    /// An equal binding.
+    pub fn copy(&self) -> Result<Binding, Memory>
+        ensures { IfOk result (λ copy. copy ≡ self.now) }
+    {
+        Ok(Binding {
+            key: self.key.copy()?,
+            addr: self.addr,
+            until: self.until,
+        })
+    }
+}

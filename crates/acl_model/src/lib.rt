@@ -1,0 +1,20 @@
+//! What the entries of an access list mean (RFC 8519; RFC 8520, sections 3 to 5 and 8): their tests,
+//! the keys by which addresses are bound to them, the default entries, and how the first entry that
+//! matches decides.
+#![tactic(auto)]
+
+pub mod binding;
+pub mod defaults;
+pub mod entry;
+pub mod first_match;
+pub mod matching;
+pub mod ruling;
+
+pub use binding::{Binding, MemberKey, same_key};
+pub use defaults::default_entry;
+pub use entry::{Action, Entry, Layer, Policy, PortTest, Selector};
+pub use matching::{is_in_family, near_matches, peer_of, rest_matches, same_direction};
+pub use ruling::{DefaultRule, Ruling, Why};
+
+#[cfg(test)]
+mod tests;

@@ -1,0 +1,64 @@
+-- An IPv4 packet (RFC 791, 3.1), from the first octet of its header on.
+use Rattle.std.specs.Prelude.{ℕ, ◌*◌, ◌/◌, ◌%◌, Bool, false, not, ◌&&◌, ◌||◌, ◌==◌, nat_le, List, length, take, drop, slice_index, Option, Some, None, Result, Ok, Err, if◌then◌else◌}
+use Rattle.mud_base.specs.declared.addr.Addr.{Addr}
+use Rattle.mud_base.specs.declared.addr.Addr.TheVariants.{V4, V6}
+use Rattle.mud_base.specs.declared.packet.Fields.{Fields}
+use Rattle.mud_base.specs.declared.packet.Transport.{Transport}
+use Rattle.mud_base.specs.declared.packet.Transport.TheVariants.{Udp, Absent}
+use Rattle.frame_view.specs.declared.views.Part.{Part}
+use Rattle.frame_view.specs.declared.views.Part.TheVariants as part
+use Rattle.frame_view.specs.Octets.{number_16, number_32}
+use Rattle.frame_view.specs.Steps.{◌>>=◌}
+use Rattle.frame_view.specs.Upper.{transport_of}
+
+-- how many octets the header has: its length counts words of four octets
+unfoldable pub header_len : List ℕ → ℕ
+header_len packet = slice_index packet 0 % 16 * 4
+
+-- what counts: up to the end that the total length names, or the frame's end where that is first
+unfoldable pub counted : List ℕ → List ℕ
+counted packet = take (number_16 2 packet) packet
+
+-- version 4, and a header of at least five words, all of it among what counts
+unfoldable pub has_header : List ℕ → Bool
+has_header packet =
+    slice_index packet 0 / 16 == 4 && nat_le 20 (header_len packet) && nat_le (header_len packet) (length (counted packet))
+
+-- the fragment offset, the lower 13 bits of octets 6 and 7, isn't 0
+unfoldable pub is_later_fragment : List ℕ → Bool
+is_later_fragment packet = not (number_16 6 packet % 8192 == 0)
+
+-- what the header of the upper layer says, which only the first fragment has
+unfoldable pub transport_in : List ℕ → Result Transport Part
+transport_in packet =
+    if is_later_fragment packet then (Ok Absent)
+    else (transport_of 1 (slice_index packet 9) (drop (header_len packet) (counted packet)))
+
+abbrev pub fields_with : List ℕ → Transport → Fields
+fields_with packet transport = record {
+  src = V4 (number_32 12 packet);
+  dst = V4 (number_32 16 packet);
+  protocol = slice_index packet 9;
+  transport = transport;
+}
+
+unfoldable pub fields_of : List ℕ → Result Fields Part
+fields_of packet = if has_header packet then (transport_in packet >>= λ transport. Ok (fields_with packet transport)) else (Err part.Ip)
+
+abbrev pub is_udp : ℕ → ℕ → Transport → Bool
+is_udp from to (Udp source destination) = source == from && destination == to
+is_udp from to _ = false
+
+abbrev pub is_v4 : ℕ → Addr → Bool
+is_v4 number (V4 n) = n == number
+is_v4 number (V6 n) = false
+
+-- DHCP on the link itself (RFC 2131, 4.1): from a server to a client, or from a client without an address or to all
+unfoldable pub is_upkeep : Fields → Bool
+is_upkeep fields =
+    is_udp 67 68 fields.transport
+    || (is_udp 68 67 fields.transport && (is_v4 0 fields.src || is_v4 0xFFFF_FFFF fields.dst))
+
+-- the packet's fields, or None where it keeps the link up
+unfoldable pub packet_of : List ℕ → Result (Option Fields) Part
+packet_of packet = fields_of packet >>= λ fields. Ok (if is_upkeep fields then None else (Some fields))

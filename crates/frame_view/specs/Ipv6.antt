@@ -1,0 +1,77 @@
+-- An IPv6 packet (RFC 8200), from the first octet of its header on.
+use Rattle.std.specs.Prelude.{ℕ, suc, zero, ◌+◌, ◌*◌, ◌/◌, Bool, false, not, ◌&&◌, ◌||◌, ◌==◌, nat_le, nat_lt, List, length, take, drop, slice_index, Option, Some, None, Result, Ok, Err, if◌then◌else◌}
+use Rattle.mud_base.specs.declared.addr.Addr.TheVariants.{V6}
+use Rattle.mud_base.specs.declared.packet.Fields.{Fields}
+use Rattle.mud_base.specs.declared.packet.Transport.{Transport}
+use Rattle.mud_base.specs.declared.packet.Transport.TheVariants.{Icmp, Absent}
+use Rattle.frame_view.specs.declared.upper.UpperLayer.{UpperLayer}
+use Rattle.frame_view.specs.declared.views.Part.{Part}
+use Rattle.frame_view.specs.declared.views.Part.TheVariants as part
+use Rattle.frame_view.specs.Octets.{number_16, number_128}
+use Rattle.frame_view.specs.Steps.{◌>>=◌}
+use Rattle.frame_view.specs.Upper.{transport_of}
+
+-- version 6, and forty octets (section 3)
+unfoldable pub has_header : List ℕ → Bool
+has_header packet = nat_le 40 (length packet) && slice_index packet 0 / 16 == 6
+
+-- What counts behind the header: up to the end that the payload length names, or the frame's end where that is first.
+-- A payload length of 0 leaves nothing.
+unfoldable pub payload : List ℕ → List ℕ
+payload packet = take (number_16 4 packet) (drop 40 packet)
+
+-- an extension header: hop-by-hop options, routing, fragment or destination options (4.3 to 4.6)
+unfoldable pub is_extension : ℕ → Bool
+is_extension number = number == 0 || number == 43 || number == 44 || number == 60
+
+-- how many octets it has: a fragment header eight, another one eight for its first word and for each that it counts
+unfoldable pub extension_len : ℕ → List ℕ → ℕ
+extension_len number octets = if number == 44 then 8 else ((slice_index octets 1 + 1) * 8)
+
+-- it ends behind what counts
+unfoldable pub is_cut : ℕ → List ℕ → Bool
+is_cut number octets = nat_lt (length octets) (extension_len number octets)
+
+-- a fragment header whose offset, the upper 13 bits of octets 2 and 3, isn't 0 (4.5)
+unfoldable pub is_later_fragment : ℕ → List ℕ → Bool
+is_later_fragment number octets = number == 44 && not (number_16 2 octets / 8 == 0)
+
+-- the header of the upper layer, where its number is this
+unfoldable pub upper_layer : ℕ → List ℕ → Result UpperLayer Part
+upper_layer number octets =
+    transport_of 58 number octets >>= λ transport. Ok (record { protocol = number; transport = transport })
+
+-- The upper layer behind so many extension headers at most, where a header with this number stands first. Each one
+-- begins with the number of the next. A later fragment holds no header behind its own, so the walk ends there.
+unfoldable pub upper_behind : ℕ → ℕ → List ℕ → Result UpperLayer Part
+upper_behind zero number octets = if is_extension number then (Err part.Extension) else (upper_layer number octets)
+upper_behind (suc left) number octets =
+    if not (is_extension number) then (upper_layer number octets)
+    else (if is_cut number octets then (Err part.Extension)
+    else (if is_later_fragment number octets then (Ok (record { protocol = slice_index octets 0; transport = Absent }))
+    else (upper_behind left (slice_index octets 0) (drop (extension_len number octets) octets))))
+
+-- the upper layer behind eight extension headers at most
+unfoldable pub upper_in : List ℕ → Result UpperLayer Part
+upper_in packet = upper_behind 8 (slice_index packet 6) (payload packet)
+
+abbrev pub fields_with : List ℕ → UpperLayer → Fields
+fields_with packet upper = record {
+  src = V6 (number_128 8 packet);
+  dst = V6 (number_128 24 packet);
+  protocol = upper.protocol;
+  transport = upper.transport;
+}
+
+unfoldable pub fields_of : List ℕ → Result Fields Part
+fields_of packet = if has_header packet then (upper_in packet >>= λ upper. Ok (fields_with packet upper)) else (Err part.Ip)
+
+-- neighbour discovery, whose messages have these types and count with a hop limit of 255 alone (RFC 4861, 4 and 7.1)
+unfoldable pub is_upkeep : ℕ → Transport → Bool
+is_upkeep hop_limit (Icmp kind code) = nat_le 133 kind && nat_le kind 137 && hop_limit == 255
+is_upkeep hop_limit _ = false
+
+-- the packet's fields, or None where it keeps the link up
+unfoldable pub packet_of : List ℕ → Result (Option Fields) Part
+packet_of packet =
+    fields_of packet >>= λ fields. Ok (if is_upkeep (slice_index packet 7) fields.transport then None else (Some fields))

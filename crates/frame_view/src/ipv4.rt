@@ -1,0 +1,113 @@
+//! IPv4 packets (RFC 791).
+ghost use Rattle.std.specs.Prelude.{◌≡◌, ◌≤◌, length, IsTrue};
+ghost use Rattle.frame_view.specs.Ipv4 as spec;
+
+use crate::octets::{number_16, number_32};
+use crate::upper::transport_of;
+use crate::views::Part;
+use mud_base::{Addr, Fields, Transport};
+
+/// The protocol number of ICMP in IPv4.
+const ICMP: u8 = 1;
+
+/// How many octets the header has.
+#[tactic(auto, unfolding(crate::specs::Ipv4::header_len))]
+fn header_len(packet: &[u8]) -> usize
+    requires { 20 ≤ length packet.now }
+    ensures { result ≡ spec.header_len packet.now }
+{
+    (packet[0] % 16) as usize * 4
+}
+
+/// The octets that count: up to the end that the total length names, or the frame's end.
+#[tactic(auto, unfolding(crate::specs::Ipv4::counted))]
+fn counted(packet: &[u8]) -> &[u8]
+    requires { 20 ≤ length packet.now }
+    ensures { result.now ≡ spec.counted packet.now }
+{
+    let total = number_16(packet, 2) as usize;
+    let (counted, _) = packet.split_at(total.min(packet.len()));
+    counted
+}
+
+/// Whether the header is whole.
+#[tactic(auto, using(crate::proofs::Ipv4Headers::header_cut), unfolding(crate::specs::Ipv4::has_header))]
+fn has_header(packet: &[u8]) -> bool
+    ensures value { result ≡ spec.has_header packet.now }
+    ensures long { IsTrue result → 20 ≤ length packet.now }
+{
+    if packet.len() < 20 {
+        return false;
+    }
+    let header = header_len(packet);
+    packet[0] / 16 == 4 && header >= 20 && header <= counted(packet).len()
+}
+
+/// Whether this is a fragment other than the first.
+#[tactic(auto, unfolding(crate::specs::Ipv4::is_later_fragment))]
+fn is_later_fragment(packet: &[u8]) -> bool
+    requires { 20 ≤ length packet.now }
+    ensures { result ≡ spec.is_later_fragment packet.now }
+{
+    number_16(packet, 6) % 8192 != 0
+}
+
+/// What the header of the upper layer says.
+#[tactic(auto, using(crate::proofs::Ipv4Headers::header_within, crate::proofs::Ipv4Headers::packet_long), unfolding(crate::specs::Ipv4::transport_in))]
+fn transport_in(packet: &[u8]) -> Result<Transport, Part>
+    requires { IsTrue (spec.has_header packet.now) }
+    ensures { result ≡ spec.transport_in packet.now }
+{
+    if is_later_fragment(packet) {
+        return Ok(Transport::Absent);
+    }
+    let (_, upper) = counted(packet).split_at(header_len(packet));
+    transport_of(ICMP, packet[9], upper)
+}
+
+/// What the headers say.
+#[tactic(auto, unfolding(crate::specs::Ipv4::fields_of))]
+fn fields_of(packet: &[u8]) -> Result<Fields, Part>
+    ensures { result ≡ spec.fields_of packet.now }
+{
+    if !has_header(packet) {
+        return Err(Part::Ip);
+    }
+    let transport = transport_in(packet)?;
+    Ok(Fields {
+        src: Addr::V4(number_32(packet, 12)),
+        dst: Addr::V4(number_32(packet, 16)),
+        protocol: packet[9],
+        transport,
+    })
+}
+
+/// Whether a packet with these fields is DHCP on the link itself (RFC 2131, 4.1).
+#[tactic(auto, unfolding(crate::specs::Ipv4::is_upkeep))]
+fn is_upkeep(fields: &Fields) -> bool
+    ensures { result ≡ spec.is_upkeep fields.now }
+{
+    match fields.transport {
+        Transport::Udp {
+            source: 67,
+            destination: 68,
+        } => true,
+        Transport::Udp {
+            source: 68,
+            destination: 67,
+        } => fields.src == Addr::V4(0) || fields.dst == Addr::V4(u32::MAX),
+        _ => false,
+    }
+}
+
+/// The fields of a packet, or None where it keeps the link up.
+#[tactic(auto, unfolding(crate::specs::Ipv4::packet_of))]
+pub fn packet_of(packet: &[u8]) -> Result<Option<Fields>, Part>
+    ensures { result ≡ spec.packet_of packet.now }
+{
+    let fields = fields_of(packet)?;
+    if is_upkeep(&fields) {
+        return Ok(None);
+    }
+    Ok(Some(fields))
+}

@@ -1,0 +1,119 @@
+//! Frames and packets as views that borrow the frame.
+ghost use Rattle.std.specs.Prelude.{◌≡◌, ◌≤◌, length};
+ghost use Rattle.frame_view.specs.Ethernet.{destination_of, source_of};
+
+use crate::octets::array_at;
+use mud_base::{Fields, Mac};
+use std::marker::Model;
+
+/// The part of a frame that is cut or broken.
+#[derive(Clone, Copy, Debug, PartialEq, Eq)]
+pub enum Part {
+    /// The head of an Ethernet frame (IEEE 802.3).
+    Ethernet,
+    /// A tag (IEEE 802.1Q), or there are more than two.
+    Tag,
+    /// The header of an IP packet (RFC 791, RFC 8200).
+    Ip,
+    /// An IPv6 extension header (RFC 8200, section 4), or there are more than eight.
+    Extension,
+    /// The header of TCP (RFC 9293), UDP (RFC 768) or ICMP (RFC 792, RFC 4443).
+    Transport,
+}
+
+/// A frame with a whole Ethernet head. Contracts see it as the octets of the frame.
+#[derive(Drop, Debug)]
+pub struct FrameView<'a> {
+    octets: &'a [u8],
+}
+
+impl<'a> Model for FrameView<'a> {
+    ghost use Rattle.std.specs.Prelude.{ℕ, List, ◌≤◌, length};
+
+    ghost Value = { List ℕ };
+
+    ghost view = { λ f. f.octets.now };
+
+    ghost invariant = { λ f. 14 ≤ length f.octets.now };
+}
+
+impl<'a> FrameView<'a> {
+    pub(crate) fn new(frame: &'a [u8]) -> FrameView<'a>
+        requires { 14 ≤ length frame.now }
+        ensures { result ≡ frame.now }
+    {
+        FrameView { octets: frame }
+    }
+
+    /// The hardware address that the frame is sent to.
+    #[tactic(auto, unfolding(crate::specs::Ethernet::destination_of))]
+    pub fn destination(&self) -> Mac
+        ensures { result ≡ destination_of self.now }
+    {
+        Mac(array_at(self.octets, 0))
+    }
+
+    /// The hardware address that sent the frame.
+    #[tactic(auto, unfolding(crate::specs::Ethernet::source_of))]
+    pub fn source(&self) -> Mac
+        ensures { result ≡ source_of self.now }
+    {
+        Mac(array_at(self.octets, 6))
+    }
+}
+
+/// A frame that carries an IP packet. Contracts see it as the octets of the frame and what the
+/// packet's headers say.
+#[derive(Drop, Debug)]
+pub struct PacketView<'a> {
+    octets: &'a [u8],
+    fields: Fields,
+}
+
+impl<'a> Model for PacketView<'a> {
+    ghost use Rattle.std.specs.Prelude.{◌≤◌, length};
+    ghost use Rattle.frame_view.specs.PacketFrame.{PacketFrame};
+
+    ghost Value = { PacketFrame };
+
+    ghost view = { λ p. record { octets = p.octets.now; fields = p.fields } };
+
+    ghost invariant = { λ p. 14 ≤ length p.octets.now };
+}
+
+impl<'a> PacketView<'a> {
+    pub(crate) fn new(frame: &'a [u8], fields: Fields) -> PacketView<'a>
+        requires { 14 ≤ length frame.now }
+        ensures { result ≡ record { octets = frame.now; fields = fields } }
+    {
+        PacketView {
+            octets: frame,
+            fields,
+        }
+    }
+
+    /// The frame.
+    pub fn frame(&self) -> FrameView<'a>
+        ensures { result ≡ self.now.octets }
+    {
+        FrameView::new(self.octets)
+    }
+
+    /// What the packet's headers say.
+    pub fn fields(&self) -> Fields
+        ensures { result ≡ self.now.fields }
+    {
+        self.fields
+    }
+}
+
+/// What a frame is.
+#[derive(Drop, Debug)]
+pub enum Frame<'a> {
+    /// It isn't IP, or it keeps the link up.
+    Link(FrameView<'a>),
+    /// A part of it is cut or broken. There is a view exactly where that isn't the Ethernet head.
+    Unreadable(Option<FrameView<'a>>, Part),
+    /// It carries an IP packet.
+    Packet(PacketView<'a>),
+}

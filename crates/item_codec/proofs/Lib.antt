@@ -1,0 +1,5 @@
+pub mod Numbers
+pub mod Widths
+pub mod FieldLaws
+mod Examples
+pub mod RecordLaws

@@ -1,0 +1,5 @@
+pub mod Fault
+pub mod Word
+pub mod Spelling
+pub mod Reading
+pub mod Records

@@ -1,0 +1,18 @@
+//! The fields of kept items: numbers, strings, lists and the version, how they are written and how
+//! they are read back.
+#![tactic(auto)]
+
+pub mod fault;
+mod fields;
+pub mod laws;
+pub mod reader;
+pub mod word;
+pub mod writer;
+
+pub use fault::CodecFault;
+pub use reader::FieldReader;
+pub use word::Word;
+pub use writer::FieldWriter;
+
+#[cfg(test)]
+mod tests;

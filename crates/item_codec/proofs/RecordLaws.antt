@@ -106,14 +106,14 @@ optional_alone {A = A} spell Fits reading form octets x fits e =
     let n = (number_form 1 refl).alone octets b.0.0 b.0.1 fits b.1 in
     elim (chosen (eqb b.0.0 0) (Some (nothing_of A, b.0.1)) (cond (eqb b.0.0 1) (option_map some_value (reading b.0.1)) None) (Some x) b.2) [
       | inl zero_flag ↦
-        let flag : IsRead octets (number 1 0) b.0.1 = subst (λ (k : ℕ). IsRead octets (number 1 k) b.0.1) (eqb-true b.0.0 0 zero_flag.0) n.0 in
-        subst (λ (y : Option A × List ℕ). IsOptionRead spell Fits octets y) (some_is (nothing_of A, b.0.1) x zero_flag.1) (optional_none spell Fits octets b.0.1 flag)
+          let flag : IsRead octets (number 1 0) b.0.1 = subst (λ (k : ℕ). IsRead octets (number 1 k) b.0.1) (eqb-true b.0.0 0 zero_flag.0) n.0 in
+          subst (λ (y : Option A × List ℕ). IsOptionRead spell Fits octets y) (some_is (nothing_of A, b.0.1) x zero_flag.1) (optional_none spell Fits octets b.0.1 flag)
       | inr other_flag ↦
-        let one = pass_some (eqb b.0.0 1) x (option_map some_value (reading b.0.1)) other_flag.1 in
-        let flag : IsRead octets (number 1 1) b.0.1 = subst (λ (k : ℕ). IsRead octets (number 1 k) b.0.1) (eqb-true b.0.0 1 one.0) n.0 in
-        let y = some_behind (reading b.0.1) x one.1 in
-        let v = form.alone b.0.1 y.0.0 y.0.1 n.0.left y.1 in
-        subst (λ (z : Option A × List ℕ). IsOptionRead spell Fits octets z) (sym y.2) (optional_some spell Fits octets y.0.0 y.0.1 b.0.1 flag v.0 v.1)
+          let one = pass_some (eqb b.0.0 1) x (option_map some_value (reading b.0.1)) other_flag.1 in
+          let flag : IsRead octets (number 1 1) b.0.1 = subst (λ (k : ℕ). IsRead octets (number 1 k) b.0.1) (eqb-true b.0.0 1 one.0) n.0 in
+          let y = some_behind (reading b.0.1) x one.1 in
+          let v = form.alone b.0.1 y.0.0 y.0.1 n.0.left y.1 in
+          subst (λ (z : Option A × List ℕ). IsOptionRead spell Fits octets z) (sym y.2) (optional_some spell Fits octets y.0.0 y.0.1 b.0.1 flag v.0 v.1)
     ]
 
 pub optional_form : {A : Type 0} (spell : A → List ℕ) (Fits : A → Type 0) (reading : Reading A) → IsForm spell Fits reading → IsForm (optional spell) (OptionFits Fits) (optional_in reading)

@@ -74,93 +74,118 @@ const BULB: &[u8] = b"\x35\x01\x03\xa1\x2chttps://lighting.example.com/lightbulb
 
 const BULB_LINE: &[u8] = b"url 02:00:00:00:00:01 https://lighting.example.com/lightbulb2000\n";
 
-#[test]
-fn hears_messages(rt: HostRuntime) -> Result<(), Fail> {
-    let rows: [(u8, [u8; 4], &[u8], u8, &[u8]); 7] = [
-        (1, [0; 4], BULB, DONE, BULB_LINE),
-        (
-            1,
-            [0; 4],
-            b"\x35\x01\x03\xa1\x2bhttps://lighting.example.com/lightbulb2000\x00\xff",
-            DONE,
-            BULB_LINE,
-        ),
-        (
-            1,
-            [0; 4],
-            b"\x35\x01\x03\xa1\x1chttp://lighting.example.com/\xff",
-            REFUSED,
-            b"fault Url Scheme\n",
-        ),
-        (
-            1,
-            [0; 4],
-            b"\x35\x01\x03\xa1\xc8https",
-            REFUSED,
-            b"fault Cut 243\n",
-        ),
-        (1, [0; 4], b"\x35\x01\x03\xff", DONE, b"nothing\n"),
-        (
-            1,
-            [0; 4],
-            b"\xa1\x09https://#\xff",
-            REFUSED,
-            b"fault Url Fragment\n",
-        ),
-        (
-            2,
-            [192, 0, 2, 10],
-            b"\x35\x01\x05\x33\x04\x00\x01\x51\x80\xff",
-            DONE,
-            b"lease 02:00:00:00:00:01 192.0.2.10 86400\n",
-        ),
-    ];
-    for (op, yiaddr, options, status, line) in rows {
-        let octets = message(rt.alloc(), op, yiaddr, options)?;
-        for piece in [1, 100, 4096] {
-            let mut door = door_of(&rt, rt.alloc(), octets.as_slice(), piece)?;
-            assert_eq!(rt;
-                status_of(&rt, rt.alloc(), &HEAR, &mut door)?,
-                status,
-                "in pieces of {piece}"
-            );
-            assert_eq!(rt; written(&rt, &door), line, "in pieces of {piece}");
-        }
+/// A message, and the status and the line of it.
+#[derive(Clone, Copy)]
+struct Case {
+    op: u8,
+    yiaddr: [u8; 4],
+    options: &'static [u8],
+    status: u8,
+    line: &'static [u8],
+}
+
+/// A client's message.
+const fn asked(options: &'static [u8], status: u8, line: &'static [u8]) -> Case {
+    Case {
+        op: 1,
+        yiaddr: [0; 4],
+        options,
+        status,
+        line,
+    }
+}
+
+/// The status and the line of each case, where the message comes in pieces of this length.
+fn assert_heard(rt: &impl Abort, alloc: Global, cases: &[Case], piece: usize) -> Result<(), Fail> {
+    for case in cases {
+        let octets = message(alloc, case.op, case.yiaddr, case.options)?;
+        let mut door = door_of(rt, alloc, octets.as_slice(), piece)?;
+        assert_eq!(rt;
+            status_of(rt, alloc, &HEAR, &mut door)?,
+            case.status,
+            "in pieces of {piece}"
+        );
+        assert_eq!(rt; written(rt, &door), case.line, "in pieces of {piece}");
     }
     Ok(())
 }
 
 #[test]
-fn hears_frames(rt: HostRuntime) -> Result<(), Fail> {
-    for (len, header, status) in [(255, [0xFF, 3], DONE), (256, [0xFF, 4], REFUSED)] {
-        let mut frame = b"\x01\x80\xc2\x00\x00\x0e\x02\x00\x00\x00\x00\x01\x88\xcc".to_vec(
-            rt.alloc(),
-        )?;
-        frame.extend_from_slice(b"\x02\x07\x04\x02\x00\x00\x00\x00\x01\x04\x02\x071\x06\x02\x00x")?;
-        frame.extend_from_slice(&header)?;
-        frame.extend_from_slice(b"\x00\x00\x5e\x01")?;
-        let mut line = b"url 02:00:00:00:00:01 ".to_vec(rt.alloc())?;
-        let mut url = b"https://lighting.example.com/".to_vec(rt.alloc())?;
-        for _ in 29..len {
-            url.push(b'a')?;
-        }
-        frame.extend_from_slice(url.as_slice())?;
-        frame.extend_from_slice(b"\x00\x00")?;
-        line.extend_from_slice(url.as_slice())?;
-        line.push(b'\n')?;
-        let wanted = if status == DONE {
-            line.as_slice()
-        } else {
-            b"fault Url Long\n".as_slice()
-        };
-        let mut door = door_of(&rt, rt.alloc(), frame.as_slice(), 100)?;
-        assert_eq!(rt;
-            status_of(&rt, rt.alloc(), &["hear", "lldp"], &mut door)?,
-            status
-        );
-        assert_eq!(rt; written(&rt, &door), wanted);
+fn hears_messages(rt: HostRuntime) -> Result<(), Fail> {
+    let lease = Case {
+        op: 2,
+        yiaddr: [192, 0, 2, 10],
+        options: b"\x35\x01\x05\x33\x04\x00\x01\x51\x80\xff",
+        status: DONE,
+        line: b"lease 02:00:00:00:00:01 192.0.2.10 86400\n",
+    };
+    let cases = [
+        lease,
+        asked(BULB, DONE, BULB_LINE),
+        asked(
+            b"\x35\x01\x03\xa1\x2bhttps://lighting.example.com/lightbulb2000\x00\xff",
+            DONE,
+            BULB_LINE,
+        ),
+        asked(
+            b"\x35\x01\x03\xa1\x1chttp://lighting.example.com/\xff",
+            REFUSED,
+            b"fault Url Scheme\n",
+        ),
+        asked(b"\x35\x01\x03\xa1\xc8https", REFUSED, b"fault Cut 243\n"),
+        asked(b"\x35\x01\x03\xff", DONE, b"nothing\n"),
+        asked(b"\xa1\x09https://#\xff", REFUSED, b"fault Url Fragment\n"),
+    ];
+    assert_heard(&rt, rt.alloc(), &cases, 1)?;
+    assert_heard(&rt, rt.alloc(), &cases, 100)?;
+    assert_heard(&rt, rt.alloc(), &cases, 4096)
+}
+
+/// A URL of this length.
+fn url_of(alloc: Global, len: usize) -> Result<Vec<u8>, Fail> {
+    let mut url = b"https://lighting.example.com/".to_vec(alloc)?;
+    for _ in 29..len {
+        url.push(b'a')?;
     }
+    Ok(url)
+}
+
+/// An LLDP frame from 02:00:00:00:00:01 with a MUD URL TLV of this header and URL.
+fn frame_of(alloc: Global, header: [u8; 2], url: &[u8]) -> Result<Vec<u8>, Fail> {
+    let mut frame = b"\x01\x80\xc2\x00\x00\x0e\x02\x00\x00\x00\x00\x01\x88\xcc".to_vec(alloc)?;
+    frame.extend_from_slice(b"\x02\x07\x04\x02\x00\x00\x00\x00\x01\x04\x02\x071\x06\x02\x00x")?;
+    frame.extend_from_slice(&header)?;
+    frame.extend_from_slice(b"\x00\x00\x5e\x01")?;
+    frame.extend_from_slice(url)?;
+    frame.extend_from_slice(b"\x00\x00")?;
+    Ok(frame)
+}
+
+/// The status and the line of a frame.
+fn assert_frame(
+    rt: &impl Abort,
+    alloc: Global,
+    frame: &[u8],
+    status: u8,
+    line: &[u8],
+) -> Result<(), Fail> {
+    let mut door = door_of(rt, alloc, frame, 100)?;
+    assert_eq!(rt; status_of(rt, alloc, &["hear", "lldp"], &mut door)?, status);
+    assert_eq!(rt; written(rt, &door), line);
     Ok(())
+}
+
+#[test]
+fn hears_frames(rt: HostRuntime) -> Result<(), Fail> {
+    let alloc = rt.alloc();
+    let url = url_of(alloc, 255)?;
+    let mut line = b"url 02:00:00:00:00:01 ".to_vec(alloc)?;
+    line.extend_from_slice(url.as_slice())?;
+    line.push(b'\n')?;
+    let frame = frame_of(alloc, [0xFF, 3], url.as_slice())?;
+    assert_frame(&rt, alloc, frame.as_slice(), DONE, line.as_slice())?;
+    let frame = frame_of(alloc, [0xFF, 4], url_of(alloc, 256)?.as_slice())?;
+    assert_frame(&rt, alloc, frame.as_slice(), REFUSED, b"fault Url Long\n")
 }
 
 #[test]
@@ -187,37 +212,43 @@ fn hears_the_longest_message(rt: HostRuntime) -> Result<(), Fail> {
     Ok(())
 }
 
+/// These words are no listed line, and the door stays as it was.
+fn assert_unlisted(rt: &impl Abort, alloc: Global, words: &[&str]) -> Result<(), Fail> {
+    let octets = message(alloc, 1, [0; 4], BULB)?;
+    let mut door = door_of(rt, alloc, octets.as_slice(), 4096)?;
+    assert_eq!(rt; status_of(rt, alloc, words, &mut door)?, UNLISTED);
+    assert_eq!(rt; written(rt, &door), b"".as_slice());
+    Ok(())
+}
+
 #[test]
 fn takes_listed_words_alone(rt: HostRuntime) -> Result<(), Fail> {
-    let rows: [&[&str]; 5] = [
-        &[],
-        &["hear"],
-        &["hear", "dhcp", "dhcp"],
-        &["serve", ":memory:", "0", "1"],
-        &["-h"],
-    ];
-    for words in rows {
-        let octets = message(rt.alloc(), 1, [0; 4], BULB)?;
-        let mut door = door_of(&rt, rt.alloc(), octets.as_slice(), 4096)?;
-        assert_eq!(rt; status_of(&rt, rt.alloc(), words, &mut door)?, UNLISTED);
-        assert_eq!(rt; written(&rt, &door), b"".as_slice());
-    }
+    assert_unlisted(&rt, rt.alloc(), &[])?;
+    assert_unlisted(&rt, rt.alloc(), &["hear"])?;
+    assert_unlisted(&rt, rt.alloc(), &["hear", "dhcp", "dhcp"])?;
+    assert_unlisted(&rt, rt.alloc(), &["hear", "-h"])?;
+    assert_unlisted(&rt, rt.alloc(), &["serve", ":memory:", "0", "1"])
+}
+
+/// A read that fails at this call ends the run, and nothing is written.
+fn assert_read_fails(rt: &impl Abort, alloc: Global, call: u64) -> Result<(), Fail> {
+    let octets = message(alloc, 1, [0; 4], BULB)?;
+    let mut door = door_of(rt, alloc, octets.as_slice(), 200)?;
+    door.failing_read.push(call)?;
+    assert_eq!(rt;
+        status_of(rt, alloc, &HEAR, &mut door)?,
+        DOOR_FAILED,
+        "at read {call}"
+    );
+    assert_eq!(rt; written(rt, &door), b"".as_slice(), "at read {call}");
     Ok(())
 }
 
 #[test]
 fn stops_where_the_door_fails(rt: HostRuntime) -> Result<(), Fail> {
+    assert_read_fails(&rt, rt.alloc(), 1)?;
+    assert_read_fails(&rt, rt.alloc(), 2)?;
     let octets = message(rt.alloc(), 1, [0; 4], BULB)?;
-    for call in [1, 2] {
-        let mut door = door_of(&rt, rt.alloc(), octets.as_slice(), 200)?;
-        door.failing_read.push(call)?;
-        assert_eq!(rt;
-            status_of(&rt, rt.alloc(), &HEAR, &mut door)?,
-            DOOR_FAILED,
-            "at read {call}"
-        );
-        assert_eq!(rt; written(&rt, &door), b"".as_slice(), "at read {call}");
-    }
     let mut door = door_of(&rt, rt.alloc(), octets.as_slice(), 200)?;
     door.failing_write.push(1)?;
     assert_eq!(rt; status_of(&rt, rt.alloc(), &HEAR, &mut door)?, DOOR_FAILED);

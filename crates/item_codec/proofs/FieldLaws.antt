@@ -1,7 +1,7 @@
 -- A field that was written is read back, and nothing else reads.
-use Rattle.std.proofs.Common.{◌≡◌, ℕ, ◌+◌, ◌^◌, ◌<◌, ◌≤◌, Bool, true, false, cond, ltb, eqb, List, ◌++◌, length, take, drop, Result, Ok, Err, refl, sym, ap, subst, ◌∙◌, append_assoc, arith, inl, inr, lit<}
+use Rattle.std.proofs.Common.{◌≡◌, ℕ, [], ◌+◌, ◌^◌, ◌<◌, ◌≤◌, Bool, true, false, cond, ltb, eqb, List, ◌++◌, length, take, drop, Result, Ok, Err, refl, sym, ap, subst, ◌∙◌, append_assoc, arith, inl, inr, lit<}
 use Rattle.std.proofs.lemmas.Bool.{cases_lt, ltb-false, le-ltb, eqb-true}
-use Rattle.std.proofs.lemmas.List.{take_at, drop_at, take-append-drop, length-append, length-take, get_or-drop, get_or-take, get_or_past}
+use Rattle.std.proofs.lemmas.List.{take_at, drop_at, take-append-drop, append-nil, length-append, length-take, get_or-drop, get_or-take, get_or_past}
 use Rattle.item_codec.specs.declared.fault.CodecFault.{CodecFault}
 use Rattle.item_codec.specs.declared.fault.CodecFault.TheVariants.{Short, Version}
 use Rattle.item_codec.specs.Spelling.{IsWidth, IsOctets, number, string, list, version}
@@ -60,6 +60,10 @@ octets_again front rest =
 -- the text of two fields, one behind the other
 pub then_read : (a x b y c : List ℕ) → IsRead a x b → IsRead b y c → IsRead a (x ++ y) c
 then_read a x b y c p q = record { parts = p.parts ∙ ap (λ (t : List ℕ). x ++ t) q.parts ∙ sym (append_assoc x y c); left = q.left }
+
+-- a text with nothing behind it is the whole
+pub read_whole : (octets text rest : List ℕ) → IsRead octets text rest → rest ≡ [] → octets ≡ text
+read_whole octets text rest read ended = read.parts ∙ ap (λ (r : List ℕ). text ++ r) ended ∙ append-nil text
 
 -- ---- numbers
 

@@ -10,7 +10,7 @@ use Rattle.item_codec.specs.declared.fault.CodecFault.TheVariants.{Tail}
 use Rattle.item_codec.specs.Spelling.{IsWidth, IsOctets, number, string, list, version}
 use Rattle.item_codec.specs.Reading.{IsRead, number_at, string_at, list_at, version_at, end_at}
 use Rattle.item_codec.specs.Records.{Reading, ◌>>=◌, number_in, string_in, version_in, end_in, optional, some_value, optional_in, elements, each_in, elements_in, list_body, list_body_in, IsForm, OptionFits, ListFits}
-use Rattle.item_codec.proofs.FieldLaws.{then_read, number_read, number_again, string_read, string_again, list_read, list_again, version_read, version_again}
+use Rattle.item_codec.proofs.FieldLaws.{then_read, read_whole, number_read, number_again, string_read, string_again, list_read, list_again, version_read, version_again}
 
 -- ---- Readings that succeed
 
@@ -166,9 +166,30 @@ elements_alone spell Fits reading form octets values rest fits e =
 pub elements_form : {A : Type 0} (spell : A → List ℕ) (Fits : A → Type 0) (reading : Reading A) → IsForm spell Fits reading → IsForm (elements spell) (ListFits Fits) (elements_in reading)
 elements_form spell Fits reading form = record { back = elements_back spell Fits reading form; alone = elements_alone spell Fits reading form }
 
+-- ---- Two fields as the parts of one value
+
+pub pair_form : {A B C : Type 0} (spell_a : A → List ℕ) (FitsA : A → Type 0) (reading_a : Reading A) (spell_b : B → List ℕ) (FitsB : B → Type 0) (reading_b : Reading B)
+    (make : A → B → C) (first : C → A) (second : C → B) → ((c : C) → make (first c) (second c) ≡ c) → ((a : A) (b : B) → first (make a b) ≡ a) → ((a : A) (b : B) → second (make a b) ≡ b)
+    → IsForm spell_a FitsA reading_a → IsForm spell_b FitsB reading_b
+    → IsForm (λ c. spell_a (first c) ++ spell_b (second c)) (λ c. FitsA (first c) × FitsB (second c)) (λ octets. reading_a octets >>= λ a. reading_b a.1 >>= λ b. Some (make a.0 b.0, b.1))
+pair_form {C = C} spell_a FitsA reading_a spell_b FitsB reading_b make first second whole first_is second_is form_a form_b = record {
+  back = λ c rest fits.
+      ap (λ (t : List ℕ). reading_a t >>= λ a. reading_b a.1 >>= λ b. Some (make a.0 b.0, b.1)) (append_assoc (spell_a (first c)) (spell_b (second c)) rest)
+      ∙ rw (form_a.back (first c) (spell_b (second c) ++ rest) fits.0, form_b.back (second c) rest fits.1) (ap (λ (d : C). Some (d, rest)) (whole c));
+  alone = λ octets c rest fits e.
+      let a = bind_some (reading_a octets) (λ a. reading_b a.1 >>= λ b. Some (make a.0 b.0, b.1)) (c, rest) e in
+      let b = bind_some (reading_b a.0.1) (λ b. Some (make a.0.0 b.0, b.1)) (c, rest) a.2 in
+      let read_a = form_a.alone octets a.0.0 a.0.1 fits a.1 in
+      let read_b = form_b.alone a.0.1 b.0.0 b.0.1 read_a.0.left b.1 in
+      let both = then_read octets (spell_a a.0.0) a.0.1 (spell_b b.0.0) b.0.1 read_a.0 read_b.0 in
+      let made : C × List ℕ = (make a.0.0 b.0.0, b.0.1) in
+      subst (λ (x : C × List ℕ). IsRead octets (spell_a (first x.0) ++ spell_b (second x.0)) x.1 × (FitsA (first x.0) × FitsB (second x.0))) {x = made} (some_is made (c, rest) b.2)
+      (rw (first_is a.0.0 b.0.0, second_is a.0.0 b.0.0) (both, (read_a.1, read_b.1)));
+}
+
 -- ---- Bodies with one list
 
-end_back : end_in [] ≡ Some tt
+pub end_back : end_in [] ≡ Some tt
 unfolding end_in end_at
 end_back = refl
 
@@ -187,5 +208,5 @@ list_body_alone {A = A} spell Fits reading form octets values fits e =
     let one = version_alone octets a.0 fits a.1 in
     let vs = elements_alone spell Fits reading form a.0.1 b.0.0 b.0.1 one.left b.1 in
     let both = then_read octets version a.0.1 (elements spell b.0.0) b.0.1 one vs.0 in
-    let whole : octets ≡ version ++ elements spell b.0.0 = both.parts ∙ ap (λ (r : List ℕ). (version ++ elements spell b.0.0) ++ r) (end_alone b.0.1 c.0 c.1) ∙ append-nil (version ++ elements spell b.0.0) in
+    let whole : octets ≡ version ++ elements spell b.0.0 = read_whole octets (version ++ elements spell b.0.0) b.0.1 both (end_alone b.0.1 c.0 c.1) in
     subst (λ (v : List A). (octets ≡ version ++ elements spell v) × ListFits Fits v) (some_is b.0.0 values c.2) (whole, vs.1)

@@ -1,0 +1,13 @@
+pub mod FaultNames
+pub mod Limits
+pub mod Ends
+pub mod Things
+pub mod ThingSteps
+pub mod Binds
+pub mod BindSteps
+pub mod Tables
+pub mod Bindings
+pub mod History
+pub mod ItemFields
+pub mod ThingItems
+pub mod BindItems

@@ -1,0 +1,77 @@
+-- The items in which Things are kept, and when an item is one.
+use Rattle.std.specs.Prelude.{◌≡◌, ℕ, ◌<◌, ◌^◌, Bool, not, ◌&&◌, ◌==◌, nat_lt, IsTrue, List, [], ◌∷◌, ◌++◌, length, map, Option, Some, None, if◌then◌else◌}
+use Rattle.std.specs.List.{list_any}
+use Rattle.sorted_rows.specs.Placed.{comes_last}
+use Rattle.mud_world.specs.declared.item.Item.{Item}
+use Rattle.item_codec.specs.Spelling.{string, version, IsOctets}
+use Rattle.item_codec.specs.Records.{◌>>=◌, string_in, version_in, end_in, optional, optional_in, elements, elements_in, OptionFits, ListFits}
+use Rattle.mud_tables.specs.declared.thing.Thing.{Thing}
+use Rattle.mud_tables.specs.Limits.{most_things}
+use Rattle.mud_tables.specs.Things.{mac_of, holds, is_sound_thing}
+use Rattle.mud_tables.specs.ItemFields.{ending, ending_in, IsEnding}
+
+-- an item of kind 1: its key is the hardware address; the body is the version, the URL, the URL that waits or none, and
+-- the leases
+unfoldable pub thing_body : Thing → List ℕ
+thing_body thing = version ++ (string thing.url ++ (optional string thing.pending ++ elements ending thing.leases))
+
+unfoldable pub thing_item : Thing → Item
+thing_item thing = record { kind = 1; key = thing.mac.0; body = thing_body thing }
+
+unfoldable pub thing_items : List Thing → List Item
+thing_items things = map thing_item things
+
+-- ---- Reading one
+
+-- the Thing of a key and a body, where the body has the form, with nothing left
+unfoldable pub thing_of : List ℕ → List ℕ → Option Thing
+thing_of key body = do
+  one ← version_in body
+  url ← string_in one.1
+  pending ← optional_in string_in url.1
+  leases ← elements_in ending_in pending.1
+  ended ← end_in leases.1
+  Some (record { mac = record { 0 = key }; url = url.0; pending = pending.0; leases = leases.0 })
+
+unfoldable pub if_sound_thing : Thing → Option Thing
+if_sound_thing thing = if is_sound_thing thing then Some thing else None
+
+-- the Thing of an item: the URLs are canonical, the URL that waits is another one, and there are at most four leases in
+-- the order of their addresses, each address once, with ends that are for ever or below 2^40
+unfoldable pub thing_in : Item → Option Thing
+thing_in item =
+    if item.kind == 1 && length item.key == 6 then (do
+      thing ← thing_of item.key item.body
+      if_sound_thing thing) else None
+
+-- ---- Reading them one after the other
+
+-- one of these Things has a lease of the address of the row
+unfoldable pub is_taken : List Thing → Thing → Bool
+is_taken things thing = list_any (λ r. list_any (holds r.0) things) thing.leases
+
+-- the Thing may stand behind these: its hardware address is greater, there is room, and none of them has one of its
+-- addresses
+unfoldable pub may_follow : List Thing → Thing → Bool
+may_follow things thing = comes_last mac_of thing things && nat_lt (length things) most_things && not (is_taken things thing)
+
+-- the Things with that of the item, where it is one that may stand behind them
+unfoldable pub with_thing_item : List Thing → Item → Option (List Thing)
+with_thing_item things item = do
+  thing ← thing_in item
+  if may_follow things thing then Some (things ++ thing ∷ []) else None
+
+-- ---- What has a spelling
+
+-- a hardware address has six octets, and each number fits the field in which it is kept
+pub record FitsThing (thing : Thing) : Type 0 where
+  pub mac : length thing.mac.0 ≡ 6
+  pub url : length thing.url < 2 ^ 32
+  pub pending : OptionFits (λ url. length url < 2 ^ 32) thing.pending
+  pub leases : ListFits IsEnding thing.leases
+
+-- the item is that of the Thing
+pub record IsThingItem (item : Item) (thing : Thing) : Type 0 where
+  pub same : item ≡ thing_item thing
+  pub sound : IsTrue (is_sound_thing thing)
+  pub fits : FitsThing thing

@@ -66,7 +66,8 @@ fields_with packet upper = record {
 unfoldable pub fields_of : List ℕ → Result Fields Part
 fields_of packet = if has_header packet then (upper_in packet >>= λ upper. Ok (fields_with packet upper)) else (Err part.Ip)
 
--- neighbour discovery, whose messages have these types and count with a hop limit of 255 alone (RFC 4861, 4 and 7.1)
+-- neighbour discovery, whose messages have these types and count with a hop limit of 255 alone (RFC 4861, 4, 6.1, 7.1 and
+-- 8.1)
 unfoldable pub is_upkeep : ℕ → Transport → Bool
 is_upkeep hop_limit (Icmp kind code) = nat_le 133 kind && nat_le kind 137 && hop_limit == 255
 is_upkeep hop_limit _ = false

@@ -1,0 +1,8 @@
+pub mod Buffers
+mod Examples
+pub mod Exits
+pub mod OnLiterals
+pub mod Readings
+pub mod Runs
+pub mod Stages
+pub mod Steps

@@ -1,0 +1,68 @@
+-- What a caller knows who reads packet after packet: those read so far are the first ones of the capture, and the others are to come.
+use Rattle.std.proofs.Common.{◌≡◌, ◌≢◌, ℕ, List, [], ◌∷◌, ◌++◌, Option, Some, None, refl, sym, ap, ◌∙◌, append_assoc, append-nil}
+use Rattle.mud_world.specs.Door.{DoorState, Took}
+use Rattle.mud_world.proofs.Doors.{took_none, took_more}
+use Rattle.pcap_read.specs.declared.fault.CapFault.{CapFault}
+use Rattle.pcap_read.specs.declared.fault.CapFault.TheVariants.{ReadFault}
+use Rattle.pcap_read.specs.Packets.{Packet, Packets, with_packet, packets_of}
+use Rattle.pcap_read.specs.Parts.{with_next}
+use Rattle.pcap_read.specs.Reading.{Follows, EndsIn}
+use Rattle.pcap_read.specs.Taken.{Taken, AtEnd, HasRead, at_start, to_come, with_all}
+
+all_of : Packets → List Packet
+all_of packets = packets.all
+
+all_behind : Option CapFault → List Packet → Packets
+all_behind fault packets = record { all = packets; fault = fault }
+
+pub has_read_none : (s : DoorState) → HasRead [] at_start s s
+has_read_none s = record { octets = []; took = took_none s; same = λ more. refl }
+
+pub has_read_more : (packets : List Packet) (packet : Packet) (old new : Taken) (first s t : DoorState) → HasRead packets old first s
+    → Follows (to_come old) (λ more. with_next new.packet (to_come new more)) s t → new.packet ≡ Some packet → HasRead (packets ++ packet ∷ []) new first t
+unfolding all_behind
+has_read_more packets packet old new first s t p q is = record {
+  octets = p.octets ++ q.octets;
+  took = took_more p.octets q.octets first s t p.took q.took;
+  same = λ more.
+      ap packets_of (append_assoc p.octets q.octets more) ∙ p.same (q.octets ++ more)
+      ∙ ap (with_all packets) (q.same more ∙ ap (λ (next : Option Packet). with_next next (to_come new more)) is)
+      ∙ ap (all_behind (to_come new more).fault) (sym (append_assoc packets (packet ∷ []) (to_come new more).all));
+}
+
+-- at the end, they are all packets that the source told
+pub has_read_all : (packets : List Packet) (old new : Taken) (first s t : DoorState) → HasRead packets old first s
+    → Follows (to_come old) (λ more. with_next new.packet (to_come new more)) s t → new.packet ≡ None → AtEnd new t
+    → packets_of first.left ≡ record { all = packets; fault = None }
+unfolding all_behind
+has_read_all packets old new first s t p q is e =
+    ap packets_of (p.took.left ∙ ap (λ (left : List ℕ). p.octets ++ left) (q.took.left ∙ ap (λ (left : List ℕ). q.octets ++ left) e.left))
+    ∙ p.same (q.octets ++ [])
+    ∙ ap (with_all packets) (q.same [] ∙ ap (λ (next : Option Packet). with_next next (to_come new [])) is ∙ e.ended)
+    ∙ ap (all_behind None) (append-nil packets)
+
+-- at a fault of the octets, they are all packets that the source told, and the fault ends them
+pub has_read_broken : (packets : List Packet) (fault : CapFault) (old : Taken) (first s t : DoorState) → HasRead packets old first s
+    → EndsIn fault (to_come old) s t → fault ≢ ReadFault → packets_of first.left ≡ record { all = packets; fault = Some fault }
+unfolding all_behind
+has_read_broken packets fault old first s t p q other =
+    ap packets_of (p.took.left ∙ ap (λ (left : List ℕ). p.octets ++ left) q.took.left)
+    ∙ p.same (q.octets ++ t.left) ∙ ap (with_all packets) (q.broken other) ∙ ap (all_behind (Some fault)) (append-nil packets)
+
+-- at any fault, they are all packets of the octets that were taken
+pub has_read_taken : (packets : List Packet) (fault : CapFault) (old : Taken) (first s t : DoorState) → HasRead packets old first s
+    → EndsIn fault (to_come old) s t → (octets : List ℕ) × Took octets first t × ((packets_of octets).all ≡ packets)
+unfolding all_of
+has_read_taken packets fault old first s t p q = (
+  p.octets ++ q.octets,
+  took_more p.octets q.octets first s t p.took q.took,
+  ap all_of (p.same q.octets) ∙ ap (λ (later : List Packet). packets ++ later) q.none ∙ append-nil packets,
+)
+
+-- the packet that came is the first of those that were to come
+pub first_of_all : (old new : Taken) (packet : Packet) (s t : DoorState) → Follows (to_come old) (λ more. with_next new.packet (to_come new more)) s t → new.packet ≡ Some packet
+    → (later : Packets) × (to_come old s.left ≡ with_packet packet later)
+first_of_all old new packet s t p is = (
+  to_come new t.left,
+  ap (to_come old) p.took.left ∙ p.same t.left ∙ ap (λ (next : Option Packet). with_next next (to_come new t.left)) is,
+)

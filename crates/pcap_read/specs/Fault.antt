@@ -1,0 +1,45 @@
+-- The numbers, names and places of the faults of a capture.
+use Rattle.std.specs.Prelude.{ℕ, Bool, true, false, List, codes, Option, Some, None, Result, Ok, Err}
+use Rattle.pcap_read.specs.declared.fault.CapFault.{CapFault}
+use Rattle.pcap_read.specs.declared.fault.CapFault.TheVariants.{Magic, Version, LinkType, Cut, Long, ReadFault, Many}
+
+unfoldable pub number_of : CapFault → ℕ
+number_of Magic = 1
+number_of Version = 2
+number_of LinkType = 3
+number_of (Cut at) = 4
+number_of (Long at) = 5
+number_of ReadFault = 6
+number_of Many = 7
+
+unfoldable pub name_of : CapFault → List ℕ
+name_of Magic = codes "Magic"
+name_of Version = codes "Version"
+name_of LinkType = codes "LinkType"
+name_of (Cut at) = codes "Cut"
+name_of (Long at) = codes "Long"
+name_of ReadFault = codes "ReadFault"
+name_of Many = codes "Many"
+
+unfoldable pub place_of : CapFault → Option ℕ
+place_of Magic = None
+place_of Version = None
+place_of LinkType = None
+place_of (Cut at) = Some at
+place_of (Long at) = Some at
+place_of ReadFault = None
+place_of Many = None
+
+abbrev pub is_read_fault : CapFault → Bool
+is_read_fault Magic = false
+is_read_fault Version = false
+is_read_fault LinkType = false
+is_read_fault (Cut at) = false
+is_read_fault (Long at) = false
+is_read_fault ReadFault = true
+is_read_fault Many = false
+
+-- whether the source failed
+abbrev pub has_failed : {A : Type 0} → Result A CapFault → Bool
+has_failed (Ok a) = false
+has_failed (Err fault) = is_read_fault fault

@@ -1,0 +1,41 @@
+-- What a capture keeps beside its source.
+use Rattle.std.specs.Prelude.{◌≡◌, ℕ, Bool, List, [], ◌++◌, Option, None}
+use Rattle.mud_world.specs.Door.{DoorState, Took}
+use Rattle.pcap_read.specs.declared.stage.Stage.TheVariants.{Start}
+use Rattle.pcap_read.specs.declared.stage.Progress.{Progress}
+use Rattle.pcap_read.specs.Packets.{Packet, Packets, whole, packets_of}
+use Rattle.pcap_read.specs.Parts.{coming, is_ready_at}
+
+-- where it stands, the octets that it took of the source and didn't hand out, and the packet at which it stands
+pub record Taken : Type 0 where
+  pub progress : Progress
+  pub held : List ℕ
+  pub packet : Option Packet
+
+abbrev pub at_start : Taken
+at_start = record { progress = record { stage = Start; count = 0; place = 0 }; held = []; packet = None }
+
+-- The packets that are to come, and their end, where these octets come behind those held.
+abbrev pub to_come : Taken → List ℕ → Packets
+to_come taken octets = coming taken.progress (taken.held ++ octets)
+
+-- whether the next packet, or the end of the packets, is known without a read
+abbrev pub is_ready : Taken → Bool
+is_ready taken = is_ready_at taken.progress.stage taken.progress.count taken.held
+
+-- Nothing is held, nothing is left of the source, and no packet comes.
+pub record AtEnd (taken : Taken) (source : DoorState) : Type 0 where
+  pub held : taken.held ≡ []
+  pub left : source.left ≡ []
+  pub ended : to_come taken [] ≡ whole
+
+-- with packets in front of those
+abbrev pub with_all : List Packet → Packets → Packets
+with_all packets later = record { all = packets ++ later.all; fault = later.fault }
+
+-- For callers that read packet after packet: these packets were read since the source stood at the first of the two states. They
+-- are the first packets of the octets taken since then, however the source goes on, and the others are to come.
+pub record HasRead (packets : List Packet) (taken : Taken) (first now : DoorState) : Type 0 where
+  pub octets : List ℕ
+  pub took : Took octets first now
+  pub same : (more : List ℕ) → packets_of (octets ++ more) ≡ with_all packets (to_come taken more)

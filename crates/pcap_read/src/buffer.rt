@@ -1,0 +1,184 @@
+//! The one buffer between a source and the packets.
+ghost use Rattle.std.specs.Prelude.{◌≡◌, ℕ, ◌+◌, ◌-◌, ◌<◌, ◌≤◌, [], ◌++◌, length, take, drop, slice_range, IfOk, OnOk, OnErr, is_err, nat_le, false};
+ghost use Rattle.mud_world.specs.Causes.{Counts};
+ghost use Rattle.mud_world.specs.Door.{Reads, Took};
+ghost use Rattle.pcap_read.specs.Reading.{Fetched};
+
+use crate::head::MOST_OCTETS;
+use mud_base::Memory;
+use mud_world::{Door, Failed};
+use std::alloc::Global;
+use std::marker::Model;
+
+/// The octets that were taken of a source: those handed out last from `from` to `start`, and those
+/// behind them up to `end`, which are held.
+#[derive(Drop)]
+pub(crate) struct Buffer {
+    octets: Vec<u8>,
+    from: usize,
+    start: usize,
+    end: usize,
+}
+
+impl Model for Buffer {
+    ghost use Rattle.std.specs.Prelude.{◌≡◌, ◌≤◌, length, slice_range};
+    ghost use Rattle.pcap_read.specs.Held.{Holding};
+
+    ghost Value = { Holding };
+
+    ghost view = { λ b. record {
+      given = slice_range b.octets.items b.from b.start;
+      held = slice_range b.octets.items b.start b.end;
+    } };
+
+    ghost invariant = { λ b. (b.from ≤ b.start) × (b.start ≤ b.end) × (b.end ≤ length b.octets.items) × (length b.octets.items ≡ 262144) };
+}
+
+/// So many octets.
+fn zeros(alloc: Global, len: usize) -> Result<Vec<u8>, Memory>
+    ensures { IfOk result (λ octets. length octets.items ≡ len) }
+{
+    Ok(vec![in alloc; 0; len]?)
+}
+
+/// Moves the octets of a part to the front.
+#[tactic(auto, using(crate::proofs::Buffers::part_moved, crate::proofs::Buffers::part_in_front))]
+fn move_to_front(octets: &mut [u8], start: usize, end: usize)
+    requires ordered { start ≤ end }
+    requires within { end ≤ length octets.old }
+    ensures { take (end - start) octets.new ≡ slice_range octets.old start end }
+{
+    if start > 0 {
+        octets.copy_within(start..end, 0);
+    }
+}
+
+/// Reads once of the source, behind the first `at` octets.
+#[tactic(auto, using(crate::proofs::Buffers::front_kept, crate::proofs::Buffers::behind_front))]
+fn read_behind<D: Door>(source: &mut D, octets: &mut [u8], at: usize) -> Result<usize, Failed>
+    requires { at < length octets.old }
+    ensures within { IfOk result (λ n. at + n ≤ length octets.new) }
+    ensures front { take at octets.new ≡ take at octets.old }
+    ensures octets { D.tells → IfOk result (λ n.
+        Took (take n (drop at octets.new)) (D.state source.old) (D.state source.new)
+        × (n ≡ 0 → (D.state source.old).left ≡ [])) }
+    ensures err { D.tells → OnErr result (D.state source.new ≡ D.state source.old) }
+    ensures cause { Counts (is_err result) (D.reads source.old) (D.reads source.new) }
+    ensures turns { D.turns source.new ≡ D.turns source.old }
+    ensures writes { D.writes source.new ≡ D.writes source.old }
+{
+    let (_, room) = octets.split_at_mut(at);
+    source.read(room)
+}
+
+/// Moves the octets of a part to the front, and reads once of the source behind them.
+fn refill<D: Door>(
+    source: &mut D,
+    octets: &mut [u8],
+    start: usize,
+    end: usize,
+) -> Result<usize, Failed>
+    requires ordered { start ≤ end }
+    requires within { end ≤ length octets.old }
+    requires room { end - start < length octets.old }
+    ensures within { IfOk result (λ n. end - start + n ≤ length octets.new) }
+    ensures front { take (end - start) octets.new ≡ slice_range octets.old start end }
+    ensures octets { D.tells → IfOk result (λ n.
+        Took (take n (drop (end - start) octets.new)) (D.state source.old) (D.state source.new)
+        × (n ≡ 0 → (D.state source.old).left ≡ [])) }
+    ensures err { D.tells → OnErr result (D.state source.new ≡ D.state source.old) }
+    ensures cause { Counts (is_err result) (D.reads source.old) (D.reads source.new) }
+    ensures turns { D.turns source.new ≡ D.turns source.old }
+    ensures writes { D.writes source.new ≡ D.writes source.old }
+{
+    move_to_front(octets, start, end);
+    read_behind(source, octets, end - start)
+}
+
+impl Buffer {
+    ghost use Rattle.pcap_read.specs.Held.{Holding};
+
+    /// A buffer that holds nothing.
+    pub(crate) fn new(alloc: Global) -> Result<Buffer, Memory>
+        ensures { IfOk result (λ buffer. buffer ≡ record { given = []; held = [] }) }
+    {
+        Ok(Buffer {
+            octets: zeros(alloc, MOST_OCTETS)?,
+            from: 0,
+            start: 0,
+            end: 0,
+        })
+    }
+
+    /// The octets that are held.
+    pub(crate) fn held(&self) -> &[u8]
+        ensures { result.now ≡ self.now.held }
+    {
+        &self.octets[self.start..self.end]
+    }
+
+    /// The octets that were handed out last.
+    pub(crate) fn given(&self) -> &[u8]
+        ensures { result.now ≡ self.now.given }
+    {
+        &self.octets[self.from..self.start]
+    }
+
+    /// Hands out the first octets of those held.
+    pub(crate) fn hand_out(&mut self, count: usize)
+        requires { count ≤ length self.old.held }
+        ensures given { self.new.given ≡ take count self.old.held }
+        ensures held { self.new.held ≡ drop count self.old.held }
+    {
+        self.from = self.start;
+        self.start += count;
+    }
+
+    /// Reads once of the source, as much as the read gives, and answers how many octets that were:
+    /// 0 only at the end.
+    pub(crate) fn fill<D: Door>(&mut self, source: &mut D) -> Result<usize, Failed>
+        requires { length self.old.held < 262144 }
+        ensures grown { IfOk result (λ n. length self.new.held ≡ length self.old.held + n) }
+        ensures octets { D.tells → IfOk result (λ _.
+            Fetched self.old.held self.new.held (D.state source.old) (D.state source.new)) }
+        ensures end { D.tells → IfOk result (λ n. n ≡ 0 → (D.state source.new).left ≡ []) }
+        ensures kept { OnErr result (self.new.held ≡ self.old.held) }
+        ensures err { D.tells → OnErr result (D.state source.new ≡ D.state source.old) }
+        ensures cause { Counts (is_err result) (D.reads source.old) (D.reads source.new) }
+        ensures turns { D.turns source.new ≡ D.turns source.old }
+        ensures writes { D.writes source.new ≡ D.writes source.old }
+    {
+        let (start, end) = (self.start, self.end);
+        self.from = 0;
+        self.start = 0;
+        self.end = end - start;
+        let count = refill(source, self.octets.as_mut_slice(), start, end)?;
+        self.end += count;
+        Ok(count)
+    }
+}
+
+/// Reads of the source until the buffer holds so many octets, or the source is at its end. It
+/// answers whether so many are held. Where they were before, nothing is read.
+pub(crate) fn fetch<D: Door>(
+    source: &mut D,
+    buffer: &mut Buffer,
+    count: usize,
+) -> Result<bool, Failed>
+    requires { count ≤ 262144 }
+    ensures enough { IfOk result (λ enough. enough ≡ nat_le count (length buffer.new.held)) }
+    ensures end { D.tells → IfOk result (λ enough. enough ≡ false → (D.state source.new).left ≡ []) }
+    ensures short { OnErr result (length buffer.new.held < count) }
+    ensures octets { D.tells → Fetched buffer.old.held buffer.new.held (D.state source.old) (D.state source.new) }
+    ensures untouched { count ≤ length buffer.old.held → (source.new ≡ source.old) × (buffer.new.held ≡ buffer.old.held) }
+    ensures cause { Counts (is_err result) (D.reads source.old) (D.reads source.new) }
+    ensures turns { D.turns source.new ≡ D.turns source.old }
+    ensures writes { D.writes source.new ≡ D.writes source.old }
+{
+    'more: while buffer.held().len() < count {
+        if buffer.fill(source)? == 0 {
+            return Ok(false);
+        }
+    }
+    Ok(true)
+}

@@ -1,0 +1,183 @@
+//! A capture, read packet by packet.
+ghost use Rattle.std.specs.Prelude.{◌≡◌, ◌≢◌, IfSome, ◌<◌, ◌≤◌, ℕ, [], length, take, false, true, is_some, IsSome, IsTrue, IfOk, IfErr, OnOk, OnErr, is_err, Ok, Err, Some, None};
+ghost use Rattle.mud_world.specs.Causes.{Counts};
+ghost use Rattle.mud_world.specs.Door.{put_out};
+ghost use Rattle.pcap_read.specs.declared.fault.CapFault.{CapFault};
+ghost use Rattle.pcap_read.specs.declared.stage.Stage.TheVariants.{Failed as HasFailed};
+ghost use Rattle.pcap_read.specs.declared.fault.CapFault.TheVariants.{ReadFault};
+ghost use Rattle.pcap_read.specs.Captured.{packet_of};
+ghost use Rattle.pcap_read.specs.Fault.{has_failed};
+ghost use Rattle.pcap_read.specs.Packets.{Packets, whole, broken, with_packet};
+ghost use Rattle.pcap_read.specs.Parts.{is_broken, most_to_come, with_next};
+ghost use Rattle.pcap_read.specs.Reading.{Follows, EndsIn, fails};
+ghost use Rattle.pcap_read.specs.Taken as spec;
+ghost use Rattle.pcap_read.specs.Taken.{AtEnd, at_start, to_come};
+
+use crate::buffer::Buffer;
+use crate::fault::CapFault;
+use crate::head::is_decided;
+use crate::read::step;
+use crate::stage::{Current, Progress, Stage};
+use mud_base::Memory;
+use mud_world::{Door, Failed};
+use std::alloc::Global;
+use std::marker::Model;
+
+/// A packet of a capture.
+#[derive(Clone, Copy, Debug)]
+pub struct Captured<'a> {
+    /// The number of the packet, counted from 1.
+    pub number: u32,
+    /// The octet of the capture where the packet's head begins, counted from 0.
+    pub at: u64,
+    /// The whole seconds of the packet's time, since 1970.
+    pub seconds: u32,
+    /// The octets that were captured.
+    pub octets: &'a [u8],
+}
+
+/// A capture that is read of a source, at its current connection, through one buffer.
+#[derive(Drop)]
+pub struct Capture<S> {
+    source: S,
+    buffer: Buffer,
+    progress: Progress,
+    current: Option<Current>,
+}
+
+impl<S> Model for Capture<S> {
+    ghost use Rattle.pcap_read.specs.Parts.{packet_in};
+    ghost use Rattle.pcap_read.specs.Reading.{IsWithin};
+    ghost use Rattle.pcap_read.specs.Taken.{Taken};
+
+    ghost Value = { S × Taken };
+
+    ghost view = { λ c. (
+      c.source,
+      record {
+        progress = c.progress;
+        held = c.buffer.held;
+        packet = packet_in c.current c.buffer.given;
+      },
+    ) };
+
+    ghost invariant = { λ c. IsWithin c.progress };
+}
+
+impl<S: Door> Capture<S> {
+    /// A capture of this source, of which nothing was read. It takes memory for 262,144 octets, and
+    /// no other call takes any.
+    pub fn new(alloc: Global, source: S) -> Result<Capture<S>, Memory>
+    where
+        S: Drop,
+        ensures source { IfOk result (λ capture. capture.0 ≡ source) }
+        ensures start { IfOk result (λ capture. capture.1 ≡ at_start) }
+    {
+        let buffer = Buffer::new(alloc)?;
+        Ok(Capture {
+            source,
+            buffer,
+            progress: Progress {
+                stage: Stage::Start,
+                count: 0,
+                place: 0,
+            },
+            current: None,
+        })
+    }
+
+    /// Goes on to the next packet. It answers false exactly at the end of the octets between two
+    /// packets, and reads the source only where the octets held don't tell what comes next. After a
+    /// fault it answers the same fault again, and reads nothing.
+    pub fn advance(&mut self) -> Result<bool, CapFault>
+        ensures more { IfOk result (λ more. more ≡ is_some self.new.1.packet) }
+        ensures going { OnOk result (is_broken self.new.1.progress.stage ≡ false) }
+        ensures fewer { IfOk result (λ more. more ≡ true → most_to_come self.new.1.progress < most_to_come self.old.1.progress) }
+        ensures next { S.tells → OnOk result (
+            Follows (to_come self.old.1) (λ octets. with_next self.new.1.packet (to_come self.new.1 octets)) (S.state self.old.0) (S.state self.new.0)) }
+        ensures end { S.tells → IfOk result (λ more. more ≡ false → AtEnd self.new.1 (S.state self.new.0)) }
+        ensures fault { S.tells → IfErr result (λ fault. EndsIn fault (to_come self.old.1) (S.state self.old.0) (S.state self.new.0)) }
+        ensures failed { IfErr result (λ fault. self.new.1.progress.stage ≡ HasFailed fault) }
+        ensures none { OnErr result (self.new.1.packet ≡ None) }
+        ensures again { (fault : CapFault) → self.old.1.progress.stage ≡ HasFailed fault → (result ≡ Err fault) × (self.new.0 ≡ self.old.0) }
+        ensures ready { IsTrue (spec.is_ready self.old.1) → self.new.0 ≡ self.old.0 }
+        ensures cause { Counts (fails self.old.1.progress.stage (has_failed result)) (S.reads self.old.0) (S.reads self.new.0) }
+        ensures turns { S.turns self.new.0 ≡ S.turns self.old.0 }
+        ensures writes { S.writes self.new.0 ≡ S.writes self.old.0 }
+    {
+        let progress = self.progress;
+        match step(&mut self.source, &mut self.buffer, progress) {
+            Ok(next) => {
+                self.progress = next.progress;
+                self.current = next.current;
+                Ok(next.current.is_some())
+            }
+            Err(fault) => {
+                self.progress.stage = Stage::Failed(fault);
+                self.current = None;
+                Err(fault)
+            }
+        }
+    }
+
+    /// The packet to which the last `advance` went on.
+    pub fn packet(&self) -> Captured<'_>
+        requires { IsSome self.now.1.packet }
+        ensures { self.now.1.packet ≡ Some (record {
+          number = result.number;
+          place = result.at;
+          seconds = result.seconds;
+          octets = result.octets.now;
+        }) }
+    {
+        let current = self.current.unwrap();
+        Captured {
+            number: current.number,
+            at: current.at,
+            seconds: current.seconds,
+            octets: self.buffer.given(),
+        }
+    }
+
+    /// The next packet, or None at the end of the octets between two packets: `advance` and
+    /// `packet` in one call.
+    pub fn next(&mut self) -> Result<Option<Captured<'_>>, CapFault>
+        ensures found { S.tells → IfOk result (λ found. IfSome found (λ packet.
+            (later : Packets) × (to_come self.old.1 (S.state self.old.0).left ≡ with_packet (packet_of packet) later))) }
+        ensures end { S.tells → IfOk result (λ found. found ≡ None → to_come self.old.1 (S.state self.old.0).left ≡ whole) }
+        ensures fault { S.tells → IfErr result (λ fault.
+            fault ≢ ReadFault → to_come self.old.1 (S.state self.old.0).left ≡ broken fault) }
+        ensures again { (fault : CapFault) → self.old.1.progress.stage ≡ HasFailed fault → result ≡ Err fault }
+    {
+        if self.advance()? {
+            return Ok(Some(self.packet()));
+        }
+        Ok(None)
+    }
+
+    /// Whether the next `advance` answers without a read.
+    pub fn is_ready(&self) -> bool
+        ensures { result ≡ spec.is_ready self.now.1 }
+    {
+        match self.progress.stage {
+            Stage::Start => false,
+            Stage::Reading(order) => is_decided(order, self.progress.count, self.buffer.held()),
+            Stage::Failed(_) => true,
+        }
+    }
+
+    /// Writes to the source, as its own `write` does. Nothing else changes.
+    pub fn write(&mut self, piece: &[u8]) -> Result<usize, Failed>
+        ensures kept { self.new.1 ≡ self.old.1 }
+        ensures within { IfOk result (λ n. n ≤ length piece.now) }
+        ensures some { IfOk result (λ n. 0 < length piece.now → 0 < n) }
+        ensures octets { S.tells → IfOk result (λ n. S.state self.new.0 ≡ put_out (take n piece.now) (S.state self.old.0)) }
+        ensures nowhere { S.tells → (S.state self.old.0).stands ≡ false → OnOk result (piece.now ≡ []) }
+        ensures err { S.tells → OnErr result (S.state self.new.0 ≡ S.state self.old.0) }
+        ensures cause { Counts (is_err result) (S.writes self.old.0) (S.writes self.new.0) }
+        ensures turns { S.turns self.new.0 ≡ S.turns self.old.0 }
+        ensures reads { S.reads self.new.0 ≡ S.reads self.old.0 }
+    {
+        self.source.write(piece)
+    }
+}

@@ -1,0 +1,46 @@
+//! Where a reader stands in a capture.
+use crate::byte_order::ByteOrder;
+use crate::fault::CapFault;
+
+/// How far a capture was read.
+#[derive(Clone, Copy, Debug)]
+pub enum Stage {
+    /// The header wasn't read yet.
+    Start,
+    /// The header was read, and all numbers have this order.
+    Reading(ByteOrder),
+    /// There was a fault.
+    Failed(CapFault),
+}
+
+/// How far a capture was read, how many packets were handed out, and the place of the next head.
+#[derive(Clone, Copy, Debug)]
+pub struct Progress {
+    pub stage: Stage,
+    pub count: u32,
+    pub place: u64,
+}
+
+/// A place between two packets: the order of numbers, how many packets stand before it, and the
+/// octet where the next head begins.
+#[derive(Clone, Copy, Debug)]
+pub struct Cursor {
+    pub order: ByteOrder,
+    pub count: u32,
+    pub place: u64,
+}
+
+/// What is known of a packet beside its octets.
+#[derive(Clone, Copy, Debug)]
+pub struct Current {
+    pub number: u32,
+    pub at: u64,
+    pub seconds: u32,
+}
+
+/// Where a step leads, and the packet that it met.
+#[derive(Clone, Copy, Debug)]
+pub struct Next {
+    pub progress: Progress,
+    pub current: Option<Current>,
+}

@@ -98,7 +98,8 @@ rest_matches entry fields side begun =
 unfoldable pub is_local : List Prefix → Addr → Bool
 is_local locals a = list_any (λ prefix. prefix_holds prefix a) locals
 
--- a near selector is met by what the operator says of the network; a member selector isn't asked here
+-- a near selector is met by the local networks of the operator, or by the network that the entry itself names; a member
+-- selector isn't asked here
 unfoldable pub near_met : List Prefix → Addr → Selector → Bool
 near_met locals a asks.LocalNetworks = is_local locals a
 near_met locals a (asks.Network prefix) = prefix_holds prefix a

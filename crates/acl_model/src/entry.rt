@@ -8,8 +8,8 @@ use mud_url::MudUrl;
 
 /// What an entry asks of the peer's address: the IP address at the other side of the packet (RFC
 /// 8520, 2). The first six are member selectors: which addresses meet them comes from leases,
-/// bindings of the operator and observed names. The last two are near selectors: they are met by
-/// what the operator says of the network.
+/// bindings of the operator and observed names. The last two are near selectors: the local networks
+/// of the operator meet the one, the network that the entry itself names meets the other.
 #[derive(Drop, Debug)]
 pub enum Selector {
     /// An address of the class with this URI (RFC 8520, 4.6).

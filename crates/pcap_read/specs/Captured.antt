@@ -1,5 +1,5 @@
 -- A packet that is lent.
-use Rattle.pcap_read.specs.declared.capture.Captured.{Captured}
+use Rattle.pcap_read.specs.declared.reader.Captured.{Captured}
 use Rattle.pcap_read.specs.Packets.{Packet}
 
 abbrev pub packet_of : Captured → Packet

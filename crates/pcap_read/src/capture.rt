@@ -13,55 +13,26 @@ ghost use Rattle.pcap_read.specs.Reading.{Follows, EndsIn, fails};
 ghost use Rattle.pcap_read.specs.Taken as spec;
 ghost use Rattle.pcap_read.specs.Taken.{AtEnd, at_start, to_come};
 
-use crate::buffer::Buffer;
 use crate::fault::CapFault;
-use crate::head::is_decided;
-use crate::read::step;
-use crate::stage::{Current, Progress, Stage};
+use crate::reader::{Captured, Reader};
 use mud_base::Memory;
 use mud_world::{Door, Failed};
 use std::alloc::Global;
 use std::marker::Model;
 
-/// A packet of a capture.
-#[derive(Clone, Copy, Debug)]
-pub struct Captured<'a> {
-    /// The number of the packet, counted from 1.
-    pub number: u32,
-    /// The octet of the capture where the packet's head begins, counted from 0.
-    pub at: u64,
-    /// The whole seconds of the packet's time, since 1970.
-    pub seconds: u32,
-    /// The octets that were captured.
-    pub octets: &'a [u8],
-}
-
 /// A capture that is read of a source, at its current connection, through one buffer.
 #[derive(Drop)]
 pub struct Capture<S> {
     source: S,
-    buffer: Buffer,
-    progress: Progress,
-    current: Option<Current>,
+    reader: Reader,
 }
 
 impl<S> Model for Capture<S> {
-    ghost use Rattle.pcap_read.specs.Parts.{packet_in};
-    ghost use Rattle.pcap_read.specs.Reading.{IsWithin};
     ghost use Rattle.pcap_read.specs.Taken.{Taken};
 
     ghost Value = { S × Taken };
 
-    ghost view = { λ c. (
-      c.source,
-      record {
-        progress = c.progress;
-        held = c.buffer.held;
-        packet = packet_in c.current c.buffer.given;
-      },
-    ) };
-
-    ghost invariant = { λ c. IsWithin c.progress };
+    ghost view = { λ c. (c.source, c.reader) };
 }
 
 impl<S: Door> Capture<S> {
@@ -73,17 +44,8 @@ impl<S: Door> Capture<S> {
         ensures source { IfOk result (λ capture. capture.0 ≡ source) }
         ensures start { IfOk result (λ capture. capture.1 ≡ at_start) }
     {
-        let buffer = Buffer::new(alloc)?;
-        Ok(Capture {
-            source,
-            buffer,
-            progress: Progress {
-                stage: Stage::Start,
-                count: 0,
-                place: 0,
-            },
-            current: None,
-        })
+        let reader = Reader::new(alloc)?;
+        Ok(Capture { source, reader })
     }
 
     /// Goes on to the next packet. It answers false exactly at the end of the octets between two
@@ -105,19 +67,7 @@ impl<S: Door> Capture<S> {
         ensures turns { S.turns self.new.0 ≡ S.turns self.old.0 }
         ensures writes { S.writes self.new.0 ≡ S.writes self.old.0 }
     {
-        let progress = self.progress;
-        match step(&mut self.source, &mut self.buffer, progress) {
-            Ok(next) => {
-                self.progress = next.progress;
-                self.current = next.current;
-                Ok(next.current.is_some())
-            }
-            Err(fault) => {
-                self.progress.stage = Stage::Failed(fault);
-                self.current = None;
-                Err(fault)
-            }
-        }
+        self.reader.advance(&mut self.source)
     }
 
     /// The packet to which the last `advance` went on.
@@ -130,13 +80,7 @@ impl<S: Door> Capture<S> {
           octets = result.octets.now;
         }) }
     {
-        let current = self.current.unwrap();
-        Captured {
-            number: current.number,
-            at: current.at,
-            seconds: current.seconds,
-            octets: self.buffer.given(),
-        }
+        self.reader.packet()
     }
 
     /// The next packet, or None at the end of the octets between two packets: `advance` and
@@ -159,11 +103,7 @@ impl<S: Door> Capture<S> {
     pub fn is_ready(&self) -> bool
         ensures { result ≡ spec.is_ready self.now.1 }
     {
-        match self.progress.stage {
-            Stage::Start => false,
-            Stage::Reading(order) => is_decided(order, self.progress.count, self.buffer.held()),
-            Stage::Failed(_) => true,
-        }
+        self.reader.is_ready()
     }
 
     /// Writes to the source, as its own `write` does. Nothing else changes.

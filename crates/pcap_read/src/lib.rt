@@ -9,10 +9,12 @@ pub mod fault;
 mod head;
 mod header;
 mod read;
+pub mod reader;
 mod stage;
 
-pub use capture::{Capture, Captured};
+pub use capture::Capture;
 pub use fault::CapFault;
+pub use reader::{Captured, Reader};
 
 #[cfg(test)]
 mod tests;

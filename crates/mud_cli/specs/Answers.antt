@@ -4,11 +4,16 @@ use Rattle.dhcp_lldp.specs.Dhcp.{heard_of}
 use Rattle.dhcp_lldp.specs.Lldp.{lldp_of}
 use Rattle.dhcp_lldp.specs.declared.heard.Heard.{Heard}
 use Rattle.dhcp_lldp.specs.declared.heard.HearFault.{HearFault}
+use Rattle.pcap_read.specs.Packets.{packets_of}
+use Rattle.pcap_read.specs.declared.fault.CapFault.{CapFault}
+use Rattle.mud_cli.specs.Frames.{capture_text}
 use Rattle.mud_cli.specs.Lines.{heard_line, fault_line, too_long_line}
 use Rattle.mud_cli.specs.Words.{command_in}
 use Rattle.mud_cli.specs.declared.answer.Answer.{Answer}
 use Rattle.mud_cli.specs.declared.words.Command.{Command}
-use Rattle.mud_cli.specs.declared.words.Command.TheVariants.{HearDhcp, HearLldp}
+use Rattle.mud_cli.specs.declared.words.Command.TheVariants.{Hear, Frames}
+use Rattle.mud_cli.specs.declared.words.Message.{Message}
+use Rattle.mud_cli.specs.declared.words.Message.TheVariants.{Dhcp, Lldp}
 
 -- what a run of the program writes, and its status
 pub record Due : Type 0 where
@@ -24,19 +29,33 @@ hearing (Err fault) = record { text = fault_line fault; refused = true }
 unfoldable pub hearing_within : ℕ → Result Heard HearFault → Answer
 hearing_within count read = if nat_lt 65535 count then (record { text = too_long_line; refused = true }) else hearing read
 
-unfoldable pub answer_of : Command → List ℕ → Answer
-answer_of HearDhcp octets = hearing_within (length octets) (heard_of octets)
-answer_of HearLldp octets = hearing_within (length octets) (lldp_of octets)
+unfoldable pub answer_of : Message → List ℕ → Answer
+answer_of Dhcp octets = hearing_within (length octets) (heard_of octets)
+answer_of Lldp octets = hearing_within (length octets) (lldp_of octets)
 
 -- The status is 0 where the input was read to its end, and 3 where it breaks a rule of its reader.
 abbrev pub status_of : Answer → ℕ
 status_of answer = if answer.refused then 3 else 0
 
+-- what is due to a message
+abbrev pub due_of_message : Message → List ℕ → Due
+due_of_message message octets = record { text = (answer_of message octets).text; status = status_of (answer_of message octets) }
+
+-- the status of a capture that was read to its end, or to the fault that ends it
+abbrev pub status_at : Option CapFault → ℕ
+status_at None = 0
+status_at (Some fault) = 3
+
+-- what is due to a capture: the lines of its packets, and that of the fault that ends them
+abbrev pub due_of_capture : List ℕ → Due
+due_of_capture octets = record { text = capture_text (packets_of octets); status = status_at (packets_of octets).fault }
+
 -- what is due to the words after the program's name, over the octets that can be read: nothing and the status 2 where
 -- they are no listed line
 abbrev pub due_if : Option Command → List ℕ → Due
 due_if None octets = record { text = []; status = 2 }
-due_if (Some command) octets = record { text = (answer_of command octets).text; status = status_of (answer_of command octets) }
+due_if (Some (Hear message)) octets = due_of_message message octets
+due_if (Some Frames) octets = due_of_capture octets
 
 unfoldable pub due_to : List (List ℕ) → List ℕ → Due
 due_to words octets = due_if (command_in words) octets

@@ -1,7 +1,9 @@
 -- What a run of the program makes of its door.
-use Rattle.std.specs.Prelude.{◌≡◌, ℕ, List, ◌++◌, take}
+use Rattle.std.specs.Prelude.{◌≡◌, ℕ, ◌≤◌, List, ◌++◌, length, take}
 use Rattle.mud_world.specs.Door.{DoorState, with_left, put_out}
+use Rattle.pcap_read.specs.Packets.{packets_of}
 use Rattle.mud_cli.specs.Answers.{Due}
+use Rattle.mud_cli.specs.Frames.{packet_lines}
 
 -- The status is the one that is due. Octets were read of the front of the connection, the text that is due was written to
 -- it, and nothing else changed.
@@ -17,3 +19,15 @@ pub record WritesPart (due : Due) (old new : DoorState) : Type 0 where
   pub count : ℕ
   pub left_is : old.left ≡ read ++ new.left
   pub door_is : new ≡ put_out (take count due.text) (with_left new.left old)
+
+-- Octets were read of the front of the connection, the lines of their packets were written to it, and nothing else changed.
+pub record WritesTaken (old new : DoorState) : Type 0 where
+  pub read : List ℕ
+  pub left_is : old.left ≡ read ++ new.left
+  pub door_is : new ≡ put_out (packet_lines (packets_of read).all) (with_left new.left old)
+
+-- A first part of the text was written, which may be all of it.
+pub record WroteFirst (text : List ℕ) (old new : DoorState) : Type 0 where
+  pub count : ℕ
+  pub within : count ≤ length text
+  pub wrote : new ≡ put_out (take count text) old

@@ -1,11 +1,12 @@
 -- The command lines that the program takes.
-use Rattle.std.specs.Prelude.{ℕ, ◌&&◌, List, [], ◌∷◌, codes, map, Option, Some, None, if◌then◌else◌}
+use Rattle.std.specs.Prelude.{ℕ, List, [], ◌∷◌, codes, map, Option, Some, None, if◌then◌else◌}
 use Rattle.std.specs.Str.{bytes_eq}
 use Rattle.std.specs.declared.string.String.{String}
 use Rattle.std.specs.declared.alloc.Global.{Global}
 use Rattle.std.specs.String.{string_bytes}
 use Rattle.mud_cli.specs.declared.words.Command.{Command}
-use Rattle.mud_cli.specs.declared.words.Command.TheVariants.{HearDhcp, HearLldp}
+use Rattle.mud_cli.specs.declared.words.Command.TheVariants.{Hear, Frames}
+use Rattle.mud_cli.specs.declared.words.Message.TheVariants.{Dhcp, Lldp}
 
 unfoldable pub hear_word : List ℕ
 hear_word = codes "hear"
@@ -16,13 +17,17 @@ dhcp_word = codes "dhcp"
 unfoldable pub lldp_word : List ℕ
 lldp_word = codes "lldp"
 
+unfoldable pub frames_word : List ℕ
+frames_word = codes "frames"
+
 -- what `hear` reads
 unfoldable pub hear_command : List ℕ → Option Command
-hear_command message = if bytes_eq message dhcp_word then Some HearDhcp else (if bytes_eq message lldp_word then Some HearLldp else None)
+hear_command message = if bytes_eq message dhcp_word then Some (Hear Dhcp) else (if bytes_eq message lldp_word then Some (Hear Lldp) else None)
 
 -- the command that the words after the program's name are
 unfoldable pub command_in : List (List ℕ) → Option Command
 command_in (first ∷ second ∷ []) = if bytes_eq first hear_word then hear_command second else None
+command_in (only ∷ []) = if bytes_eq only frames_word then Some Frames else None
 command_in _ = None
 
 -- the octets of each word

@@ -3,7 +3,7 @@ ghost use Rattle.std.specs.Prelude.{◌≡◌, IfOk};
 ghost use Rattle.mud_cli.specs.Answers.{answer_of, hearing, hearing_within};
 
 use crate::lines::{fault_line, heard_line, too_long_line};
-use crate::words::Command;
+use crate::words::Message;
 use dhcp_lldp::{HearFault, Heard, read_dhcp, read_lldp};
 use mud_base::{Bytes, Memory};
 use std::alloc::Global;
@@ -61,13 +61,13 @@ fn hearing_within(
     hearing(alloc, read)
 }
 
-/// The answer of a command to the octets that it read.
+/// The answer to the octets of a message.
 #[tactic(auto, unfolding(crate::specs::Answers::answer_of))]
-pub fn answer_of(alloc: Global, command: Command, octets: &[u8]) -> Result<Answer, Memory>
-    ensures { IfOk result (λ answer. answer ≡ answer_of command octets.now) }
+pub fn answer_of(alloc: Global, message: Message, octets: &[u8]) -> Result<Answer, Memory>
+    ensures { IfOk result (λ answer. answer ≡ answer_of message octets.now) }
 {
-    match command {
-        Command::HearDhcp => hearing_within(alloc, octets.len(), read_dhcp(octets)),
-        Command::HearLldp => hearing_within(alloc, octets.len(), read_lldp(octets)),
+    match message {
+        Message::Dhcp => hearing_within(alloc, octets.len(), read_dhcp(octets)),
+        Message::Lldp => hearing_within(alloc, octets.len(), read_lldp(octets)),
     }
 }

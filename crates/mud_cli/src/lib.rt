@@ -2,6 +2,8 @@
 #![tactic(auto)]
 
 pub mod answer;
+mod frame_lines;
+pub mod frames;
 pub mod lines;
 pub mod real;
 pub mod run;
@@ -12,4 +14,4 @@ pub mod words;
 pub use answer::Answer;
 pub use real::{RealClock, RealDoor};
 pub use run::{DONE, DOOR_FAILED, NO_MEMORY, REFUSED, UNLISTED, mud_main};
-pub use words::Command;
+pub use words::{Command, Message};

@@ -1,5 +1,5 @@
 //! Octet strings.
-ghost use Rattle.std.specs.Prelude.{◌≡◌, [], ◌∷◌, ◌++◌, length, is_ok, OnOk, OnErr, IfOk, if◌then◌else◌};
+ghost use Rattle.std.specs.Prelude.{◌≡◌, [], ◌∷◌, ◌++◌, length, OnOk, OnErr, IfOk, if◌then◌else◌};
 
 use crate::memory::Memory;
 use std::alloc::Global;
@@ -82,5 +82,12 @@ impl Bytes {
     {
         self.octets.extend_from_slice(octets)?;
         Ok(())
+    }
+
+    /// Takes all octets away. The memory stays for those that come.
+    pub fn clear(&mut self)
+        ensures { self.new ≡ [] }
+    {
+        self.octets.clear();
     }
 }

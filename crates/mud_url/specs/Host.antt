@@ -1,4 +1,5 @@
--- Host names: labels of letters, digits, `-` and `_`, joined by `.` (RFC 1123, 2.1; RFC 952).
+-- Host names: labels of letters, digits, `-` and `_`, joined by `.` (RFC 952; RFC 1123, 2.1), of at
+-- most 63 octets a label and 253 in all (RFC 1035, 2.3.4). That `_` may stand is a choice of ours.
 use Rattle.std.specs.Prelude.{ℕ, ◌-◌, Bool, not, ◌&&◌, ◌||◌, ◌==◌, nat_le, List, length, take, slice_index, Option, Some, None, if◌then◌else◌, map}
 use Rattle.std.specs.List.{list_all, slice_split}
 use Rattle.std.specs.Char.{is_ascii_alphanumeric, to_ascii_lowercase}

@@ -84,6 +84,8 @@ fn room_for(left: usize) -> usize
     ensures some { 0 < result }
     ensures within { result ≤ left + 1 }
     ensures buffer { result ≤ BUFFER }
+    ensures last { left < BUFFER → result ≡ left + 1 }
+    ensures full { BUFFER ≤ left → result ≡ BUFFER }
 {
     if left < BUFFER { left + 1 } else { BUFFER }
 }

@@ -1,0 +1,10 @@
+use Rattle.std.proofs.Common.{◌≡◌}
+use Rattle.serde_json.specs.View.{view, members_view}
+use Rattle.usage_walk.specs.Others.{first_other, first_unknown}
+use Rattle.usage_walk.proofs.others.first_unknown.Given as goal
+
+abbrev pub invariant-members : goal.invariant-members
+invariant-members l =
+    (goal.iterator-members).can_next l.name-iterator ×
+    (goal.iterator-members).is_finite l.name-iterator ×
+    (first_unknown l.known (view l.object) ≡ first_other l.known (members_view l.name-iterator))

@@ -1,0 +1,7 @@
+pub mod Members
+pub mod Names
+pub mod Reading
+pub mod Kinds
+pub mod Named
+pub mod Elements
+pub mod Others

@@ -1,0 +1,122 @@
+//! Paths: JSON pointers (RFC 6901), and refusals that name them.
+ghost use Rattle.std.specs.Prelude.{◌≡◌, IfOk};
+ghost use Rattle.usage_walk.specs.Reading.{Gives, Refuses, at_place, fault_at, refused_where, under, under_name};
+ghost use Rattle.usage_walk.specs.Reading as reading;
+
+use crate::fault::{Broken, FileFault, Rule};
+use crate::member::Member;
+use itoa::Buffer;
+use mud_base::{Bytes, Memory};
+use std::alloc::Global;
+
+/// The path of a member of the object at this path.
+#[tactic(auto, unfolding(crate::specs::Reading::under))]
+pub fn under(alloc: Global, path: &[u8], member: Member) -> Result<Bytes, Memory>
+    ensures { IfOk result (λ found. found ≡ reading.under path.now member) }
+{
+    let mut text = Bytes::new(alloc, path)?;
+    text.push(b'/')?;
+    text.append(member.name().as_bytes())?;
+    Ok(text)
+}
+
+/// The path of an element of the list at this path, by its place from 0.
+#[tactic(auto, unfolding(crate::specs::Reading::at_place))]
+pub fn at_place(alloc: Global, path: &[u8], place: usize) -> Result<Bytes, Memory>
+    ensures { IfOk result (λ found. found ≡ reading.at_place path.now place) }
+{
+    let mut text = Bytes::new(alloc, path)?;
+    text.push(b'/')?;
+    text.append(Buffer::new().format(place).as_bytes())?;
+    Ok(text)
+}
+
+/// How an octet of a name stands in a path (RFC 6901, 3).
+fn escape(octet: &u8) -> &[u8]
+    ensures { result.now ≡ reading.escape octet.now }
+{
+    match octet {
+        b'~' => b"~0",
+        b'/' => b"~1",
+        other => std::slice::from_ref(other),
+    }
+}
+
+/// The path of a member with any name of the object at this path: `~` is written as `~0`, and `/`
+/// as `~1` (RFC 6901, 3).
+#[tactic(auto, unfolding(crate::specs::Reading::under_name))]
+pub fn under_name(alloc: Global, path: &[u8], name: &[u8]) -> Result<Bytes, Memory>
+    ensures { IfOk result (λ found. found ≡ reading.under_name path.now name.now) }
+{
+    let mut text = Bytes::new(alloc, path)?;
+    text.push(b'/')?;
+    'name: for octet in name {
+        text.append(escape(octet))?;
+    }
+    Ok(text)
+}
+
+/// The refusal that names this path.
+#[tactic(auto, unfolding(crate::specs::Reading::fault_at))]
+pub fn refused(rule: Rule, path: Bytes) -> FileFault
+    ensures { Refuses result (fault_at rule path) }
+{
+    FileFault::Broken(Broken {
+        rule,
+        path,
+        url: None,
+    })
+}
+
+/// The refusal that names a member of the object at this path.
+pub fn refusal(alloc: Global, rule: Rule, path: &[u8], member: Member) -> FileFault
+    ensures { Refuses result (fault_at rule (reading.under path.now member)) }
+{
+    match under(alloc, path, member) {
+        Ok(path) => refused(rule, path),
+        Err(Memory) => FileFault::Memory,
+    }
+}
+
+/// The refusal that names this path itself.
+pub fn refusal_here(alloc: Global, rule: Rule, path: &[u8]) -> FileFault
+    ensures { Refuses result (fault_at rule path.now) }
+{
+    match Bytes::new(alloc, path) {
+        Ok(path) => refused(rule, path),
+        Err(Memory) => FileFault::Memory,
+    }
+}
+
+/// Refuses where a rule of a member of the object at this path is broken.
+#[tactic(auto, using(crate::proofs::Readings::answer_passed, crate::proofs::Readings::answer_refused))]
+pub fn refuse_where(
+    alloc: Global,
+    breaks: bool,
+    rule: Rule,
+    path: &[u8],
+    member: Member,
+) -> Result<(), FileFault>
+    ensures { Gives (λ _. tt) result (refused_where breaks (fault_at rule (reading.under path.now member))) }
+{
+    if breaks {
+        return Err(refusal(alloc, rule, path, member));
+    }
+    Ok(())
+}
+
+/// Refuses where a rule of what stands at this path is broken.
+#[tactic(auto, using(crate::proofs::Readings::answer_passed, crate::proofs::Readings::answer_refused))]
+pub fn refuse_here_where(
+    alloc: Global,
+    breaks: bool,
+    rule: Rule,
+    path: &[u8],
+) -> Result<(), FileFault>
+    ensures { Gives (λ _. tt) result (refused_where breaks (fault_at rule path.now)) }
+{
+    if breaks {
+        return Err(refusal_here(alloc, rule, path));
+    }
+    Ok(())
+}

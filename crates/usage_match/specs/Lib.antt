@@ -1,0 +1,4 @@
+pub mod Texts
+pub mod Ports
+pub mod Containers
+pub mod Matches

@@ -1,0 +1,147 @@
+-- The rules of single members inside `matches`. The parent is the object that they stand in, and the path is the parent's.
+use Rattle.std.specs.Prelude.{ℕ, Bool, true, false, not, ◌&&◌, ◌==◌, nat_lt, nat_le, List, [], length, codes, bytes_eq, Option, Some, None, option_and_then, Result, Ok, Err, if◌then◌else◌}
+use Rattle.std.specs.List.{list_all}
+use Rattle.std.specs.Char.{is_ascii_graphic}
+use Rattle.mud_base.specs.declared.addr.Addr.{Addr}
+use Rattle.mud_base.specs.declared.addr.Addr.TheVariants.{V4, V6}
+use Rattle.mud_base.specs.declared.packet.Direction.{Direction}
+use Rattle.mud_base.specs.declared.packet.Direction.TheVariants.{From, To}
+use Rattle.mud_base.specs.Addresses.{PrefixParts}
+use Rattle.mud_base.specs.Reading.{prefix_in}
+use Rattle.mud_url.specs.declared.fault.UrlFault.{UrlFault}
+use Rattle.mud_url.specs.Host.{host_name_of}
+use Rattle.mud_url.specs.Url.{url_of}
+use Rattle.serde_json.specs.Data.{Data}
+use Rattle.usage_walk.specs.declared.fault.Rule.TheVariants as rule
+use Rattle.usage_walk.specs.declared.member.Member.{Member}
+use Rattle.usage_walk.specs.Reading.{Reading, done, ◌>>=◌, wanted, refused_where, where_there, under, fault_at}
+use Rattle.usage_walk.specs.Kinds.{number_where_there, text_where_there}
+use Rattle.usage_match.specs.declared.entry_tests.ListType.{ListType}
+use Rattle.usage_match.specs.declared.entry_tests.ListType.TheVariants.{Ipv4, Ipv6}
+use Rattle.usage_match.specs.declared.entry_tests.Operator.{Operator}
+use Rattle.usage_match.specs.declared.entry_tests.Operator.TheVariants as operator
+
+-- ---- Numbers
+
+-- a number is at most this
+unfoldable pub as_upto : ℕ → List ℕ → Member → ℕ → Reading ℕ
+as_upto most path m n = do
+  _ ← refused_where (nat_lt most n) (fault_at rule.Range (under path m))
+  done n
+
+-- a number of one octet, where it is there
+unfoldable pub octet_where_there : List ℕ → Member → Data → Reading (Option ℕ)
+octet_where_there path m parent = do
+  n ← number_where_there path m (Some parent)
+  where_there (as_upto 255 path m) n
+
+-- ---- Names
+
+unfoldable pub as_host : List ℕ → Member → List ℕ → Reading (List ℕ)
+as_host path m text = wanted [] (fault_at rule.NameText (under path m)) (host_name_of text)
+
+-- a host name, where it is there, in lower case and without a trailing dot
+unfoldable pub host_where_there : List ℕ → Member → Data → Reading (Option (List ℕ))
+host_where_there path m parent = do
+  text ← text_where_there path m (Some parent)
+  where_there (as_host path m) text
+
+abbrev pub value_of : Result (List ℕ) UrlFault → Option (List ℕ)
+value_of (Ok url) = Some url
+value_of (Err fault) = None
+
+unfoldable pub as_model : List ℕ → Member → List ℕ → Reading (List ℕ)
+as_model path m text = wanted [] (fault_at rule.NameText (under path m)) (value_of (url_of text))
+
+-- a MUD URL, where it is there
+unfoldable pub model_where_there : List ℕ → Member → Data → Reading (Option (List ℕ))
+model_where_there path m parent = do
+  text ← text_where_there path m (Some parent)
+  where_there (as_model path m) text
+
+-- 1 to 255 octets from 21 to 7E hex
+unfoldable pub is_uri : List ℕ → Bool
+is_uri text = not (length text == 0) && nat_le (length text) 255 && list_all is_ascii_graphic text
+
+unfoldable pub as_uri : List ℕ → Member → List ℕ → Reading (List ℕ)
+as_uri path m text = wanted [] (fault_at rule.NameText (under path m)) (if is_uri text then Some text else None)
+
+-- the URI of a class, where it is there
+unfoldable pub uri_where_there : List ℕ → Member → Data → Reading (Option (List ℕ))
+uri_where_there path m parent = do
+  text ← text_where_there path m (Some parent)
+  where_there (as_uri path m) text
+
+-- ---- Networks
+
+abbrev pub is_of_type : ListType → Addr → Bool
+is_of_type Ipv4 (V4 n) = true
+is_of_type Ipv4 (V6 n) = false
+is_of_type Ipv6 (V4 n) = false
+is_of_type Ipv6 (V6 n) = true
+
+abbrev pub of_type : ListType → PrefixParts → Option PrefixParts
+of_type type prefix = if is_of_type type prefix.addr then Some prefix else None
+
+-- the prefix of this IP version that a text is
+unfoldable pub network_in : ListType → List ℕ → Option PrefixParts
+network_in type text = option_and_then (of_type type) (prefix_in text)
+
+unfoldable pub as_network : ListType → List ℕ → Member → List ℕ → Reading PrefixParts
+as_network type path m text = wanted (record { addr = V4 0; len = 0 }) (fault_at rule.PrefixText (under path m)) (network_in type text)
+
+-- a network of this IP version, where it is there
+unfoldable pub network_where_there : ListType → List ℕ → Member → Data → Reading (Option PrefixParts)
+network_where_there type path m parent = do
+  text ← text_where_there path m (Some parent)
+  where_there (as_network type path m) text
+
+-- ---- Directions (RFC 8520, 4.8)
+
+unfoldable pub to_device : List ℕ
+to_device = codes "to-device"
+
+unfoldable pub from_device : List ℕ
+from_device = codes "from-device"
+
+-- the side that begins the connection
+unfoldable pub direction_in : List ℕ → Option Direction
+direction_in text = if bytes_eq text to_device then Some To else (if bytes_eq text from_device then Some From else None)
+
+unfoldable pub as_direction : List ℕ → Member → List ℕ → Reading Direction
+as_direction path m text = wanted From (fault_at rule.DirectionText (under path m)) (direction_in text)
+
+unfoldable pub direction_where_there : List ℕ → Member → Data → Reading (Option Direction)
+direction_where_there path m parent = do
+  text ← text_where_there path m (Some parent)
+  where_there (as_direction path m) text
+
+-- ---- Operators (RFC 8519, 4.2)
+
+unfoldable pub eq_word : List ℕ
+eq_word = codes "eq"
+
+unfoldable pub neq_word : List ℕ
+neq_word = codes "neq"
+
+unfoldable pub lte_word : List ℕ
+lte_word = codes "lte"
+
+unfoldable pub gte_word : List ℕ
+gte_word = codes "gte"
+
+unfoldable pub operator_in : List ℕ → Option Operator
+operator_in text =
+    if bytes_eq text eq_word then Some operator.Eq
+    else (if bytes_eq text neq_word then Some operator.Neq
+    else (if bytes_eq text lte_word then Some operator.Lte
+    else (if bytes_eq text gte_word then Some operator.Gte
+    else None)))
+
+unfoldable pub as_operator : List ℕ → Member → List ℕ → Reading Operator
+as_operator path m text = wanted operator.Eq (fault_at rule.Operator (under path m)) (operator_in text)
+
+unfoldable pub operator_where_there : List ℕ → Member → Data → Reading (Option Operator)
+operator_where_there path m parent = do
+  text ← text_where_there path m (Some parent)
+  where_there (as_operator path m) text

@@ -1,0 +1,10 @@
+use Rattle.std.proofs.Common.{◌≡◌, map, drop}
+use Rattle.serde_json.specs.View.{view}
+use Rattle.usage_walk.specs.Reading.{answer, over}
+use Rattle.mud_file.specs.Entries as spec
+use Rattle.mud_file.specs.Lists.{list_head}
+use Rattle.mud_file.proofs.entries.entries_in.Given as goal
+
+abbrev pub invariant-values : goal.invariant-values
+invariant-values l =
+    answer (spec.entries_in (list_head l.list) (map view l.values)) ≡ answer (over (spec.next_entry (list_head l.list)) l.entries (map view (drop l.value-index l.values)))

@@ -1,0 +1,4 @@
+pub mod Head
+pub mod Entries
+pub mod Lists
+pub mod File

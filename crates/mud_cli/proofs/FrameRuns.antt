@@ -1,5 +1,5 @@
 -- What `frames` has done between two packets, and what that comes to at each way out.
-use Rattle.std.proofs.Common.{◌≡◌, ◌≢◌, false, is_some, ℕ, ◌+◌, ◌≤◌, List, [], ◌∷◌, ◌++◌, length, take, Option, Some, None, refl, rules, sym, ap, ◌∙◌, append_assoc, append-nil}
+use Rattle.std.proofs.Common.{◌≡◌, ◌≢◌, Bool, true, false, IsTrue, is_some, ℕ, ◌+◌, ◌≤◌, List, [], ◌∷◌, ◌++◌, length, take, Option, Some, None, refl, rules, sym, ap, ◌∙◌, append_assoc, append-nil}
 use Rattle.std.proofs.lemmas.Grind.{flat_map-append}
 use Rattle.std.proofs.lemmas.List.{take-append-le}
 use Rattle.std.proofs.Math.Seq.{take-append-add}
@@ -14,32 +14,58 @@ use Rattle.pcap_read.specs.Taken.{Taken, AtEnd, HasRead, at_start, to_come, with
 use Rattle.pcap_read.proofs.Runs.{has_read_none, has_read_more, has_read_taken}
 use Rattle.mud_cli.specs.Frames.{packet_line, packet_lines, cap_fault_line, end_line, capture_text}
 use Rattle.mud_cli.specs.Answers.{status_at, due_of_capture}
-use Rattle.mud_cli.specs.Run.{WritesDue, WritesPart, WritesTaken}
+use Rattle.mud_cli.specs.Run.{WritesDue, WritesPart, WritesTaken, WroteFront}
 
--- the packets that were read since the door stood at the first of the two states, and their lines, which were written
-pub record Answered (taken : Taken) (first now : DoorState) : Type 0 where
+-- The packets that were read since the door stood at the first of the two states. Of their lines a first part was written, and
+-- the rest is gathered.
+pub record Gathered (taken : Taken) (first now : DoorState) (lines : List ℕ) : Type 0 where
   pub packets : List Packet
+  pub written : List ℕ
   pub read : HasRead packets taken first (with_left now.left first)
-  pub wrote : now ≡ put_out (packet_lines packets) (with_left now.left first)
+  pub split : packet_lines packets ≡ written ++ lines
+  pub wrote : now ≡ put_out written (with_left now.left first)
 
-pub answered_none : (s : DoorState) → Answered at_start s s
-answered_none s = record { packets = []; read = has_read_none s; wrote = sym (put_out_none s) }
+pub gathered_none : (s : DoorState) → Gathered at_start s s []
+gathered_none s = record { packets = []; written = []; read = has_read_none s; split = refl; wrote = sym (put_out_none s) }
+
+pub gathered_start : (taken : Taken) (lines : List ℕ) (s : DoorState) → taken ≡ at_start → lines ≡ [] → Gathered taken s s lines
+gathered_start taken lines s e h = rw e (rw h (gathered_none s))
+
+written_more : (taken : Taken) (first s : DoorState) (lines rest : List ℕ) → Gathered taken first s lines
+    → (front : List ℕ) → lines ≡ front ++ rest → Gathered taken first (put_out front s) rest
+written_more taken first s lines rest p front e = record {
+  packets = p.packets;
+  written = p.written ++ front;
+  read = p.read;
+  split = p.split ∙ ap (λ (more : List ℕ). p.written ++ more) e ∙ sym (append_assoc p.written front rest);
+  wrote = ap (put_out front) p.wrote ∙ put_out_twice p.written front (with_left s.left first);
+}
+
+-- some of what was gathered was written
+pub gathered_less : (taken : Taken) (first s t : DoorState) (lines rest : List ℕ) → Gathered taken first s lines
+    → WroteFront lines rest s t → Gathered taken first t rest
+gathered_less taken first s t lines rest p w = rw w.wrote (written_more taken first s lines rest p w.front w.split)
 
 lines_more : (packets : List Packet) (packet : Packet) → packet_lines (packets ++ packet ∷ []) ≡ packet_lines packets ++ packet_line packet
 lines_more packets packet = flat_map-append packet_line packets (packet ∷ []) ∙ ap (λ (more : List ℕ). packet_lines packets ++ more) (append-nil (packet_line packet))
 
-still : (taken : Taken) (first s t : DoorState) (p : Answered taken first s) (octets : List ℕ) → Took octets s t → t ≡ put_out (packet_lines p.packets) (with_left t.left first)
-still taken first s t p octets q = q.rest ∙ ap (with_left t.left) p.wrote
+still : (taken : Taken) (first s t : DoorState) (lines : List ℕ) (p : Gathered taken first s lines) (octets : List ℕ) → Took octets s t
+    → t ≡ put_out p.written (with_left t.left first)
+still taken first s t lines p octets q = q.rest ∙ ap (with_left t.left) p.wrote
 
-pub answered_more : (packet : Packet) (old new : Taken) (first s t : DoorState) → Answered old first s
-    → Follows (to_come old) (λ more. with_next new.packet (to_come new more)) s t → new.packet ≡ Some packet → Answered new first (put_out (packet_line packet) t)
-answered_more packet old new first s t p q is = record {
+-- a packet came, and its line was added
+pub gathered_more : (packet : Packet) (old new : Taken) (first s t : DoorState) (lines : List ℕ) → Gathered old first s lines
+    → Follows (to_come old) (λ more. with_next new.packet (to_come new more)) s t → new.packet ≡ Some packet
+    → Gathered new first t (lines ++ packet_line packet)
+gathered_more packet old new first s t lines p q is = record {
   packets = p.packets ++ packet ∷ [];
+  written = p.written;
   read = has_read_more p.packets packet old new first (with_left s.left first) (with_left t.left first) p.read
       (record { octets = q.octets; took = record { left = q.took.left; rest = refl }; same = q.same }) is;
-  wrote = ap (put_out (packet_line packet)) (still old first s t p q.octets q.took)
-      ∙ put_out_twice (packet_lines p.packets) (packet_line packet) (with_left t.left first)
-      ∙ ap (λ (text : List ℕ). put_out text (with_left t.left first)) (sym (lines_more p.packets packet));
+  split = lines_more p.packets packet
+      ∙ ap (λ (text : List ℕ). text ++ packet_line packet) p.split
+      ∙ append_assoc p.written lines (packet_line packet);
+  wrote = still old first s t lines p q.octets q.took;
 }
 
 -- ---- The text that is due
@@ -49,100 +75,121 @@ text_of_all packets later =
     ap (λ (lines : List ℕ). lines ++ end_line later.fault) (flat_map-append packet_line packets later.all)
     ∙ append_assoc (packet_lines packets) (packet_lines later.all) (end_line later.fault)
 
-all_from : (taken : Taken) (first s : DoorState) (p : Answered taken first s) → packets_of first.left ≡ with_all p.packets (to_come taken s.left)
-all_from taken first s p = ap packets_of p.read.took.left ∙ p.read.same s.left
+all_from : (taken : Taken) (first s : DoorState) (lines : List ℕ) (p : Gathered taken first s lines) → packets_of first.left ≡ with_all p.packets (to_come taken s.left)
+all_from taken first s lines p = ap packets_of p.read.took.left ∙ p.read.same s.left
 
-text_from : (taken : Taken) (first s : DoorState) (p : Answered taken first s) → capture_text (packets_of first.left) ≡ packet_lines p.packets ++ capture_text (to_come taken s.left)
-text_from taken first s p = ap (λ (packets : Packets). capture_text packets) (all_from taken first s p) ∙ text_of_all p.packets (to_come taken s.left)
+text_from : (taken : Taken) (first s : DoorState) (lines : List ℕ) (p : Gathered taken first s lines)
+    → capture_text (packets_of first.left) ≡ p.written ++ (lines ++ capture_text (to_come taken s.left))
+text_from taken first s lines p =
+    ap (λ (packets : Packets). capture_text packets) (all_from taken first s lines p)
+    ∙ text_of_all p.packets (to_come taken s.left)
+    ∙ ap (λ (text : List ℕ). text ++ capture_text (to_come taken s.left)) p.split
+    ∙ append_assoc p.written lines (capture_text (to_come taken s.left))
 
-left_from : (taken : Taken) (first s t : DoorState) (p : Answered taken first s) (octets : List ℕ) → Took octets s t → first.left ≡ (p.read.octets ++ octets) ++ t.left
-left_from taken first s t p octets q =
+left_from : (taken : Taken) (first s t : DoorState) (lines : List ℕ) (p : Gathered taken first s lines) (octets : List ℕ) → Took octets s t
+    → first.left ≡ (p.read.octets ++ octets) ++ t.left
+left_from taken first s t lines p octets q =
     p.read.took.left ∙ ap (λ (left : List ℕ). p.read.octets ++ left) q.left ∙ sym (append_assoc p.read.octets octets t.left)
 
 -- ---- The ways out
 
-part_here : (taken : Taken) (first s t : DoorState) (p : Answered taken first s) (octets : List ℕ) → Took octets s t
-    → (count : ℕ) (text more : List ℕ) → capture_text (to_come taken s.left) ≡ text ++ more → count ≤ length text
+part_here : (taken : Taken) (first s t : DoorState) (lines : List ℕ) (p : Gathered taken first s lines) (octets : List ℕ) → Took octets s t
+    → (count : ℕ) (text more : List ℕ) → lines ++ capture_text (to_come taken s.left) ≡ text ++ more → count ≤ length text
     → WritesPart (due_of_capture first.left) first (put_out (take count text) t)
-part_here taken first s t p octets q count text more is within =
-    let lines : List ℕ = packet_lines p.packets in
-    let due : take (length lines + count) (capture_text (packets_of first.left)) ≡ lines ++ take count text =
-    ap (take (length lines + count)) (text_from taken first s p ∙ ap (λ (later : List ℕ). lines ++ later) is)
-    ∙ take-append-add lines (text ++ more) count ∙ ap (λ (later : List ℕ). lines ++ later) (take-append-le count text more within) in
+part_here taken first s t lines p octets q count text more is within =
+    let written : List ℕ = p.written in
+    let due : take (length written + count) (capture_text (packets_of first.left)) ≡ written ++ take count text =
+    ap (take (length written + count)) (text_from taken first s lines p ∙ ap (λ (later : List ℕ). written ++ later) is)
+    ∙ take-append-add written (text ++ more) count ∙ ap (λ (later : List ℕ). written ++ later) (take-append-le count text more within) in
     record {
       read = p.read.octets ++ octets;
-      count = length lines + count;
-      left_is = left_from taken first s t p octets q;
-      door_is = ap (put_out (take count text)) (still taken first s t p octets q)
-          ∙ put_out_twice lines (take count text) (with_left t.left first)
+      count = length written + count;
+      left_is = left_from taken first s t lines p octets q;
+      door_is = ap (put_out (take count text)) (still taken first s t lines p octets q)
+          ∙ put_out_twice written (take count text) (with_left t.left first)
           ∙ ap (λ (wrote : List ℕ). put_out wrote (with_left t.left first)) (sym due);
     }
 
--- what comes was written up to a place in its first part
-pub part_of : (taken : Taken) (first s t u : DoorState) (p : Answered taken first s) (octets : List ℕ) → Took octets s t
-    → (count : ℕ) (text more : List ℕ) → capture_text (to_come taken s.left) ≡ text ++ more → count ≤ length text → u ≡ put_out (take count text) t
+-- of the lines gathered and what comes a first part was written
+pub part_of : (taken : Taken) (first s t u : DoorState) (lines : List ℕ) (p : Gathered taken first s lines) (octets : List ℕ) → Took octets s t
+    → (count : ℕ) (text more : List ℕ) → lines ++ capture_text (to_come taken s.left) ≡ text ++ more → count ≤ length text → u ≡ put_out (take count text) t
     → WritesPart (due_of_capture first.left) first u
-part_of taken first s t u p octets q count text more is within wrote = rw wrote (part_here taken first s t p octets q count text more is within)
+part_of taken first s t u lines p octets q count text more is within wrote = rw wrote (part_here taken first s t lines p octets q count text more is within)
 
 -- nothing more was written
-pub part_none : (taken : Taken) (first s t : DoorState) (p : Answered taken first s) (octets : List ℕ) → Took octets s t → WritesPart (due_of_capture first.left) first t
-part_none taken first s t p octets q = part_of taken first s t t p octets q 0 [] (capture_text (to_come taken s.left)) refl (search rules) (sym (put_out_none t))
+pub part_none : (taken : Taken) (first s t : DoorState) (lines : List ℕ) (p : Gathered taken first s lines) (octets : List ℕ) → Took octets s t
+    → WritesPart (due_of_capture first.left) first t
+part_none taken first s t lines p octets q =
+    part_of taken first s t t lines p octets q 0 [] (lines ++ capture_text (to_come taken s.left)) refl (search rules) (sym (put_out_none t))
 
--- what comes begins with the line of the packet that came
-pub line_first : (packet : Packet) (old new : Taken) (s t : DoorState) → Follows (to_come old) (λ more. with_next new.packet (to_come new more)) s t → new.packet ≡ Some packet
-    → capture_text (to_come old s.left) ≡ packet_line packet ++ capture_text (to_come new t.left)
-line_first packet old new s t q is =
-    ap (λ (packets : Packets). capture_text packets) (ap (to_come old) q.took.left ∙ q.same t.left ∙ ap (λ (next : Option Packet). with_next next (to_come new t.left)) is)
-    ∙ append_assoc (packet_line packet) (packet_lines (to_come new t.left).all) (end_line (to_come new t.left).fault)
+-- the lines gathered were written up to a place
+pub part_of_lines : (taken : Taken) (first s t u : DoorState) (lines : List ℕ) (p : Gathered taken first s lines) (octets : List ℕ) → Took octets s t
+    → (count : ℕ) → count ≤ length lines → u ≡ put_out (take count lines) t → WritesPart (due_of_capture first.left) first u
+part_of_lines taken first s t u lines p octets q count within wrote =
+    part_of taken first s t u lines p octets q count lines (capture_text (to_come taken s.left)) refl within wrote
 
-due_here : (taken : Taken) (first s t : DoorState) (p : Answered taken first s) (octets : List ℕ) → Took octets s t
+due_here : (taken : Taken) (first s t : DoorState) (lines : List ℕ) (p : Gathered taken first s lines) (octets : List ℕ) → Took octets s t
     → (end : Option CapFault) → to_come taken s.left ≡ record { all = []; fault = end }
-    → WritesDue (due_of_capture first.left) first (put_out (end_line end) t) (status_at end)
-due_here taken first s t p octets q end is =
-    let lines : List ℕ = packet_lines p.packets in
-    let text : capture_text (packets_of first.left) ≡ lines ++ end_line end =
-    text_from taken first s p ∙ ap (λ (later : Packets). lines ++ capture_text later) is in
+    → WritesDue (due_of_capture first.left) first (put_out (lines ++ end_line end) t) (status_at end)
+due_here taken first s t lines p octets q end is =
+    let written : List ℕ = p.written in
+    let text : capture_text (packets_of first.left) ≡ written ++ (lines ++ end_line end) =
+    text_from taken first s lines p ∙ ap (λ (later : Packets). written ++ (lines ++ capture_text later)) is in
     record {
       read = p.read.octets ++ octets;
-      status_is = sym (ap (λ (packets : Packets). status_at packets.fault) (all_from taken first s p ∙ ap (with_all p.packets) is));
-      left_is = left_from taken first s t p octets q;
-      door_is = ap (put_out (end_line end)) (still taken first s t p octets q)
-          ∙ put_out_twice lines (end_line end) (with_left t.left first)
+      status_is = sym (ap (λ (packets : Packets). status_at packets.fault) (all_from taken first s lines p ∙ ap (with_all p.packets) is));
+      left_is = left_from taken first s t lines p octets q;
+      door_is = ap (put_out (lines ++ end_line end)) (still taken first s t lines p octets q)
+          ∙ put_out_twice written (lines ++ end_line end) (with_left t.left first)
           ∙ ap (λ (wrote : List ℕ). put_out wrote (with_left t.left first)) (sym text);
     }
 
--- the capture came to its end
-pub due_at_end : (old new : Taken) (first s t : DoorState) (p : Answered old first s)
-    → Follows (to_come old) (λ more. with_next new.packet (to_come new more)) s t → new.packet ≡ None → AtEnd new t
-    → WritesDue (due_of_capture first.left) first t 0
-due_at_end old new first s t p q is e =
+-- the capture came to its end, and the lines gathered were written
+pub due_at_end : (old new : Taken) (first s t u : DoorState) (lines : List ℕ) (p : Gathered old first s lines)
+    → Follows (to_come old) (λ more. with_next new.packet (to_come new more)) s t → new.packet ≡ None → AtEnd new t → u ≡ put_out lines t
+    → WritesDue (due_of_capture first.left) first u 0
+due_at_end old new first s t u lines p q is e wrote =
     let none : to_come old s.left ≡ whole =
     ap (to_come old) q.took.left ∙ q.same t.left ∙ ap (λ (next : Option Packet). with_next next (to_come new t.left)) is ∙ ap (to_come new) e.left ∙ e.ended in
-    rw (put_out_none t) at (due_here old first s t p q.octets q.took None none)
+    rw (wrote ∙ ap (λ (text : List ℕ). put_out text t) (sym (append-nil lines))) (due_here old first s t lines p q.octets q.took None none)
 
--- the fault's line was written
-pub due_at_fault : (old : Taken) (fault : CapFault) (first s t u : DoorState) (p : Answered old first s)
-    → EndsIn fault (to_come old) s t → fault ≢ ReadFault → u ≡ put_out (cap_fault_line fault) t
+-- the lines gathered and the fault's line were written
+pub due_at_fault : (old : Taken) (fault : CapFault) (first s t u : DoorState) (lines : List ℕ) (p : Gathered old first s lines)
+    → EndsIn fault (to_come old) s t → fault ≢ ReadFault → u ≡ put_out (lines ++ cap_fault_line fault) t
     → WritesDue (due_of_capture first.left) first u 3
-due_at_fault old fault first s t u p q other wrote =
-    rw wrote (due_here old first s t p q.octets q.took (Some fault) (ap (to_come old) q.took.left ∙ q.broken other))
+due_at_fault old fault first s t u lines p q other wrote =
+    rw wrote (due_here old first s t lines p q.octets q.took (Some fault) (ap (to_come old) q.took.left ∙ q.broken other))
 
--- what comes is the fault's line
-pub line_of_fault : (old : Taken) (fault : CapFault) (s t : DoorState) → EndsIn fault (to_come old) s t → fault ≢ ReadFault
-    → capture_text (to_come old s.left) ≡ cap_fault_line fault ++ []
-line_of_fault old fault s t q other =
-    ap (λ (packets : Packets). capture_text packets) (ap (to_come old) q.took.left ∙ q.broken other) ∙ sym (append-nil (cap_fault_line fault))
+-- or they were written up to a place
+pub part_at_fault : (old : Taken) (fault : CapFault) (first s t u : DoorState) (lines : List ℕ) (p : Gathered old first s lines)
+    → EndsIn fault (to_come old) s t → fault ≢ ReadFault → (count : ℕ) → count ≤ length (lines ++ cap_fault_line fault)
+    → u ≡ put_out (take count (lines ++ cap_fault_line fault)) t → WritesPart (due_of_capture first.left) first u
+part_at_fault old fault first s t u lines p q other count within wrote =
+    part_of old first s t u lines p q.octets q.took count (lines ++ cap_fault_line fault) []
+    (ap (λ (packets : Packets). lines ++ capture_text packets) (ap (to_come old) q.took.left ∙ q.broken other) ∙ sym (append-nil (lines ++ cap_fault_line fault)))
+    within wrote
 
 -- the source failed: the packets of the octets taken were answered
-pub taken_at_fault : (old : Taken) (fault : CapFault) (first s t : DoorState) (p : Answered old first s) → EndsIn fault (to_come old) s t → WritesTaken first t
-taken_at_fault old fault first s t p q =
+taken_here : (old : Taken) (fault : CapFault) (first s t : DoorState) (p : Gathered old first s []) → EndsIn fault (to_come old) s t → WritesTaken first t
+taken_here old fault first s t p q =
     let read = has_read_taken p.packets fault old first (with_left s.left first) (with_left t.left first) p.read
     (record { octets = q.octets; took = record { left = q.took.left; rest = refl }; none = q.none; broken = q.broken }) in
     record {
       read = read.0;
       left_is = read.1.left;
-      door_is = still old first s t p q.octets q.took ∙ ap (λ (packets : List Packet). put_out (packet_lines packets) (with_left t.left first)) (sym read.2);
+      door_is = still old first s t [] p q.octets q.took
+          ∙ ap (λ (text : List ℕ). put_out text (with_left t.left first)) (sym (append-nil p.written) ∙ sym p.split)
+          ∙ ap (λ (packets : List Packet). put_out (packet_lines packets) (with_left t.left first)) (sym read.2);
     }
+
+pub taken_at_fault : (old : Taken) (fault : CapFault) (first s t : DoorState) (lines : List ℕ) → Gathered old first s lines → lines ≡ []
+    → EndsIn fault (to_come old) s t → WritesTaken first t
+taken_at_fault old fault first s t lines p e q = taken_here old fault first s t (rw e at p) q
+
+-- where more was to be read, or a ready reader is ruled out, no line is left
+pub lines_gone : (ready : Bool) (lines : List ℕ) → (ready ≡ false → lines ≡ []) → ¬ (IsTrue ready) → lines ≡ []
+lines_gone true lines gone never = absurd (never (search rules))
+lines_gone false lines gone never = gone refl
 
 pub no_packet : (next : Option Packet) → false ≡ is_some next → next ≡ None
 no_packet None e = refl

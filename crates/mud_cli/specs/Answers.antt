@@ -6,12 +6,18 @@ use Rattle.dhcp_lldp.specs.declared.heard.Heard.{Heard}
 use Rattle.dhcp_lldp.specs.declared.heard.HearFault.{HearFault}
 use Rattle.pcap_read.specs.Packets.{packets_of}
 use Rattle.pcap_read.specs.declared.fault.CapFault.{CapFault}
+use Rattle.usage_walk.specs.declared.fault.Broken.{Broken}
+use Rattle.mud_file.specs.declared.usage_file.UsageFile.{UsageFile}
+use Rattle.mud_file.specs.File.{file_of}
+use Rattle.mud_cli.specs.Check.{file_lines, broken_line}
 use Rattle.mud_cli.specs.Frames.{capture_text}
 use Rattle.mud_cli.specs.Lines.{heard_line, fault_line, too_long_line}
 use Rattle.mud_cli.specs.Words.{command_in}
 use Rattle.mud_cli.specs.declared.answer.Answer.{Answer}
+use Rattle.mud_cli.specs.declared.answer.Input.{Input}
+use Rattle.mud_cli.specs.declared.answer.Input.TheVariants as input
 use Rattle.mud_cli.specs.declared.words.Command.{Command}
-use Rattle.mud_cli.specs.declared.words.Command.TheVariants.{Hear, Frames}
+use Rattle.mud_cli.specs.declared.words.Command.TheVariants.{Hear, Check, Frames}
 use Rattle.mud_cli.specs.declared.words.Message.{Message}
 use Rattle.mud_cli.specs.declared.words.Message.TheVariants.{Dhcp, Lldp}
 
@@ -33,13 +39,27 @@ unfoldable pub answer_of : Message → List ℕ → Answer
 answer_of Dhcp octets = hearing_within (length octets) (heard_of octets)
 answer_of Lldp octets = hearing_within (length octets) (lldp_of octets)
 
+-- the answer to a usage file that was read or refused
+unfoldable pub checking : Result UsageFile Broken → Answer
+checking (Ok file) = record { text = file_lines file; refused = false }
+checking (Err broken) = record { text = broken_line broken; refused = true }
+
+-- the most octets that an input has
+unfoldable pub most_of : Input → ℕ
+most_of (input.Message message) = 65535
+most_of input.UsageFile = 262144
+
+unfoldable pub answer_to : Input → List ℕ → Answer
+answer_to (input.Message message) octets = answer_of message octets
+answer_to input.UsageFile octets = checking (file_of octets)
+
 -- The status is 0 where the input was read to its end, and 3 where it breaks a rule of its reader.
 abbrev pub status_of : Answer → ℕ
 status_of answer = if answer.refused then 3 else 0
 
--- what is due to a message
-abbrev pub due_of_message : Message → List ℕ → Due
-due_of_message message octets = record { text = (answer_of message octets).text; status = status_of (answer_of message octets) }
+-- what is due to an input that is read as a whole
+abbrev pub due_of_input : Input → List ℕ → Due
+due_of_input what octets = record { text = (answer_to what octets).text; status = status_of (answer_to what octets) }
 
 -- the status of a capture that was read to its end, or to the fault that ends it
 abbrev pub status_at : Option CapFault → ℕ
@@ -54,7 +74,8 @@ due_of_capture octets = record { text = capture_text (packets_of octets); status
 -- they are no listed line
 abbrev pub due_if : Option Command → List ℕ → Due
 due_if None octets = record { text = []; status = 2 }
-due_if (Some (Hear message)) octets = due_of_message message octets
+due_if (Some (Hear message)) octets = due_of_input (input.Message message) octets
+due_if (Some Check) octets = due_of_input input.UsageFile octets
 due_if (Some Frames) octets = due_of_capture octets
 
 unfoldable pub due_to : List (List ℕ) → List ℕ → Due

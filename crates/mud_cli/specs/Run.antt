@@ -31,3 +31,9 @@ pub record WroteFirst (text : List ℕ) (old new : DoorState) : Type 0 where
   pub count : ℕ
   pub within : count ≤ length text
   pub wrote : new ≡ put_out (take count text) old
+
+-- A front of the text was written, and the rest stays to be written.
+pub record WroteFront (text rest : List ℕ) (old new : DoorState) : Type 0 where
+  pub front : List ℕ
+  pub split : text ≡ front ++ rest
+  pub wrote : new ≡ put_out front old

@@ -5,7 +5,7 @@ use Rattle.std.specs.declared.string.String.{String}
 use Rattle.std.specs.declared.alloc.Global.{Global}
 use Rattle.std.specs.String.{string_bytes}
 use Rattle.mud_cli.specs.declared.words.Command.{Command}
-use Rattle.mud_cli.specs.declared.words.Command.TheVariants.{Hear, Frames}
+use Rattle.mud_cli.specs.declared.words.Command.TheVariants.{Hear, Check, Frames}
 use Rattle.mud_cli.specs.declared.words.Message.TheVariants.{Dhcp, Lldp}
 
 unfoldable pub hear_word : List ℕ
@@ -17,6 +17,9 @@ dhcp_word = codes "dhcp"
 unfoldable pub lldp_word : List ℕ
 lldp_word = codes "lldp"
 
+unfoldable pub check_word : List ℕ
+check_word = codes "check"
+
 unfoldable pub frames_word : List ℕ
 frames_word = codes "frames"
 
@@ -24,10 +27,13 @@ frames_word = codes "frames"
 unfoldable pub hear_command : List ℕ → Option Command
 hear_command message = if bytes_eq message dhcp_word then Some (Hear Dhcp) else (if bytes_eq message lldp_word then Some (Hear Lldp) else None)
 
+unfoldable pub one_word_command : List ℕ → Option Command
+one_word_command word = if bytes_eq word check_word then Some Check else (if bytes_eq word frames_word then Some Frames else None)
+
 -- the command that the words after the program's name are
 unfoldable pub command_in : List (List ℕ) → Option Command
 command_in (first ∷ second ∷ []) = if bytes_eq first hear_word then hear_command second else None
-command_in (only ∷ []) = if bytes_eq only frames_word then Some Frames else None
+command_in (only ∷ []) = one_word_command only
 command_in _ = None
 
 -- the octets of each word

@@ -2,6 +2,7 @@
 #![tactic(auto)]
 
 pub mod answer;
+pub mod check_lines;
 mod frame_lines;
 pub mod frames;
 pub mod lines;
@@ -9,9 +10,10 @@ pub mod real;
 pub mod run;
 #[cfg(test)]
 mod tests;
+mod texts;
 pub mod words;
 
-pub use answer::Answer;
+pub use answer::{Answer, Input};
 pub use real::{RealClock, RealDoor};
 pub use run::{DONE, DOOR_FAILED, NO_MEMORY, REFUSED, UNLISTED, mud_main};
 pub use words::{Command, Message};

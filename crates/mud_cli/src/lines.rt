@@ -2,8 +2,9 @@
 ghost use Rattle.std.specs.Prelude.{◌≡◌, ◌++◌, IfOk, OnOk, codes, decimal};
 ghost use Rattle.mud_cli.specs.Lines as spec;
 
+use crate::texts::{append_addr, append_decimal, append_place};
 use dhcp_lldp::{HearFault, Heard};
-use mud_base::{Addr, Bytes, Mac, Memory, addr_text, decimal_text, mac_text};
+use mud_base::{Addr, Bytes, Mac, Memory, mac_text};
 use mud_url::{MudUrl, UrlFault};
 use std::alloc::Global;
 
@@ -28,9 +29,9 @@ fn lease_line(alloc: Global, mac: Mac, addr: Addr, seconds: u32) -> Result<Bytes
     let mut line = Bytes::new(alloc, b"lease ")?;
     line.append(mac_text(alloc, mac)?.octets())?;
     line.append(b" ")?;
-    line.append(addr_text(alloc, addr)?.octets())?;
+    append_addr(alloc, &mut line, addr)?;
     line.append(b" ")?;
-    line.append(decimal_text(alloc, u64::from(seconds))?.octets())?;
+    append_decimal(&mut line, u64::from(seconds))?;
     line.append(b"\n")?;
     Ok(line)
 }
@@ -55,23 +56,9 @@ pub fn heard_line(alloc: Global, heard: &Heard) -> Result<Bytes, Memory>
     }
 }
 
-/// Adds a space and the place, where there is one.
-#[tactic(auto, unfolding(crate::specs::Lines::place_text))]
-fn append_place(alloc: Global, line: &mut Bytes, place: Option<usize>) -> Result<(), Memory>
-    ensures { OnOk result (line.new ≡ line.old ++ spec.place_text place) }
-{
-    match place {
-        None => Ok(()),
-        Some(place) => {
-            line.append(b" ")?;
-            line.append(decimal_text(alloc, place as u64)?.octets())
-        }
-    }
-}
-
 /// Adds a space and the URL's own fault, where there is one.
 #[tactic(auto, unfolding(crate::specs::Lines::url_part))]
-fn append_url_part(alloc: Global, line: &mut Bytes, fault: Option<UrlFault>) -> Result<(), Memory>
+pub(crate) fn append_url_part(line: &mut Bytes, fault: Option<UrlFault>) -> Result<(), Memory>
     ensures { OnOk result (line.new ≡ line.old ++ spec.url_part fault) }
 {
     match fault {
@@ -79,7 +66,7 @@ fn append_url_part(alloc: Global, line: &mut Bytes, fault: Option<UrlFault>) -> 
         Some(fault) => {
             line.append(b" ")?;
             line.append(fault.name().as_bytes())?;
-            append_place(alloc, line, fault.place())
+            append_place(line, fault.place().map(|place| place as u64))
         }
     }
 }
@@ -91,8 +78,8 @@ pub fn fault_line(alloc: Global, fault: &HearFault) -> Result<Bytes, Memory>
 {
     let mut line = Bytes::new(alloc, b"fault ")?;
     line.append(fault.name().as_bytes())?;
-    append_place(alloc, &mut line, fault.place())?;
-    append_url_part(alloc, &mut line, fault.url())?;
+    append_place(&mut line, fault.place().map(|place| place as u64))?;
+    append_url_part(&mut line, fault.url())?;
     line.append(b"\n")?;
     Ok(line)
 }

@@ -1,7 +1,11 @@
 //! The real door and the real clock. What a pipe, a terminal or a clock gives is outside what is
-//! proved, so these tell nothing of content. Their counts and bounds are proved.
-ghost use Rattle.std.specs.Prelude.{◌≡◌, false, true, []};
+//! proved, so these tell nothing of content. Their counts and bounds are proved, and what a door
+//! does with the reader and the writer that it is made of.
+ghost use Rattle.std.specs.Prelude.{◌≡◌, ◌<◌, ◌≤◌, false, true, [], length, IfOk, OnOk, Ok, is_err};
+ghost use Rattle.std.specs.Io.KnownBytes.{ReadConsumes, WriteAppends};
+ghost use Rattle.mud_world.specs.Causes.{Counts};
 ghost use Rattle.mud_world.specs.Door.{DoorState};
+ghost use Rattle.mud_cli.specs.Real.{reads_of, stands_of, turns_of, writes_of};
 
 use mud_base::Moment;
 use mud_world::{Clock, Door, Failed};
@@ -12,8 +16,8 @@ use std::time::SystemTime;
 /// it stands from the start. It binds no port.
 #[derive(Drop)]
 pub struct RealDoor<I: Read + Drop, O: Write + Drop> {
-    input: I,
-    output: O,
+    pub input: I,
+    pub output: O,
     stands: bool,
     turns: u64,
     reads: u64,
@@ -23,6 +27,8 @@ pub struct RealDoor<I: Read + Drop, O: Write + Drop> {
 impl<I: Read + Drop, O: Write + Drop> RealDoor<I, O> {
     /// A door that reads of the one and writes to the other. No call has failed yet.
     pub fn new(input: I, output: O) -> RealDoor<I, O>
+        ensures input { result.input ≡ input }
+        ensures output { result.output ≡ output }
         ensures stands { (⟦<RealDoor<I, O> as Door>⟧.state result).stands ≡ true }
         ensures turns { ⟦<RealDoor<I, O> as Door>⟧.turns result ≡ 0 }
         ensures reads { ⟦<RealDoor<I, O> as Door>⟧.reads result ≡ 0 }
@@ -50,17 +56,40 @@ impl<I: Read + Drop, O: Write + Drop> Door for RealDoor<I, O> {
 
     ghost writes = { λ door. door.writes };
 
-    fn bind(&mut self, _port: u16) -> Result<(), Failed> {
+    /// It always fails.
+    fn bind(&mut self, _port: u16) -> Result<(), Failed>
+        ensures refused { is_err result ≡ true }
+        ensures stands { stands_of self.new ≡ stands_of self.old }
+        ensures cause { Counts (is_err result) (turns_of self.old) (turns_of self.new) }
+        ensures reads { reads_of self.new ≡ reads_of self.old }
+        ensures writes { writes_of self.new ≡ writes_of self.old }
+    {
         self.turns = self.turns.saturating_add(1);
         Err(Failed)
     }
 
-    fn next(&mut self) -> Result<bool, Failed> {
+    /// There is no connection behind the one.
+    fn next(&mut self) -> Result<bool, Failed>
+        ensures none { result ≡ Ok false }
+        ensures stands { stands_of self.new ≡ false }
+        ensures cause { Counts (is_err result) (turns_of self.old) (turns_of self.new) }
+        ensures reads { reads_of self.new ≡ reads_of self.old }
+        ensures writes { writes_of self.new ≡ writes_of self.old }
+    {
         self.stands = false;
         Ok(false)
     }
 
-    fn read(&mut self, buf: &mut [u8]) -> Result<usize, Failed> {
+    /// It reads once of the reader.
+    fn read(&mut self, buf: &mut [u8]) -> Result<usize, Failed>
+        ensures within { IfOk result (λ n. n ≤ length buf.new) }
+        ensures octets { stands_of self.old ≡ true → ReadConsumes (I.remaining self.old.input) (I.remaining self.new.input) result buf.new }
+        ensures nowhere { stands_of self.old ≡ false → (result ≡ Ok 0) × (self.new.input ≡ self.old.input) }
+        ensures stands { stands_of self.new ≡ stands_of self.old }
+        ensures cause { Counts (is_err result) (reads_of self.old) (reads_of self.new) }
+        ensures turns { turns_of self.new ≡ turns_of self.old }
+        ensures writes { writes_of self.new ≡ writes_of self.old }
+    {
         if !self.stands {
             return Ok(0);
         }
@@ -73,7 +102,17 @@ impl<I: Read + Drop, O: Write + Drop> Door for RealDoor<I, O> {
         }
     }
 
-    fn write(&mut self, piece: &[u8]) -> Result<usize, Failed> {
+    /// It writes once to the writer. A writer that takes nothing has failed.
+    fn write(&mut self, piece: &[u8]) -> Result<usize, Failed>
+        ensures within { IfOk result (λ n. n ≤ length piece.now) }
+        ensures some { IfOk result (λ n. 0 < length piece.now → 0 < n) }
+        ensures octets { WriteAppends (O.contents self.old.output) (O.contents self.new.output) result piece.now }
+        ensures nowhere { stands_of self.old ≡ false → OnOk result (piece.now ≡ []) }
+        ensures stands { stands_of self.new ≡ stands_of self.old }
+        ensures cause { Counts (is_err result) (writes_of self.old) (writes_of self.new) }
+        ensures turns { turns_of self.new ≡ turns_of self.old }
+        ensures reads { reads_of self.new ≡ reads_of self.old }
+    {
         if piece.is_empty() {
             return Ok(0);
         }

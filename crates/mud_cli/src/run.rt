@@ -1,15 +1,15 @@
 //! The top call of the program.
 ghost use Rattle.std.specs.Prelude.{◌≡◌, ◌≢◌, ◌⊎◌, ◌↔◌, None, Some};
 ghost use Rattle.mud_world.specs.Causes.{Rose};
-ghost use Rattle.mud_cli.specs.Answers.{due_of_message, due_to};
+ghost use Rattle.mud_cli.specs.Answers.{due_of_input, due_to};
 ghost use Rattle.mud_cli.specs.Answers as answers;
 ghost use Rattle.mud_cli.specs.Run.{WritesDue, WritesPart, WritesTaken};
 ghost use Rattle.mud_cli.specs.Words.{command_in, words_of};
 ghost use Rattle.mud_cli.specs.declared.words.Command.TheVariants.{Frames};
 
-use crate::answer::{Answer, LONGEST_MESSAGE, answer_of};
+use crate::answer::{Answer, Input, answer_to, most_of};
 use crate::frames::answer_capture;
-use crate::words::{Command, Message, command_of};
+use crate::words::{Command, command_of};
 use mud_base::Bytes;
 use mud_world::{Clock, Door, Failed, Keeper, ReadFault, Spool, read_whole, say};
 use std::alloc::Global;
@@ -32,20 +32,20 @@ fn status_of(answer: &Answer) -> u8
     if answer.refused { REFUSED } else { DONE }
 }
 
-/// Reads a whole message and writes what it says.
-fn answer_input<D: Door>(alloc: Global, message: Message, door: &mut D) -> u8
+/// Reads a whole input and writes what it says.
+fn answer_input<D: Door>(alloc: Global, input: Input, door: &mut D) -> u8
     ensures statuses { (result ≡ 0) ⊎ ((result ≡ 3) ⊎ ((result ≡ 4) ⊎ (result ≡ 5))) }
     ensures fault { result ≡ 4 → Rose (D.reads door.old) (D.reads door.new) ⊎ Rose (D.writes door.old) (D.writes door.new) }
-    ensures done { D.tells → (result ≡ 0) ⊎ (result ≡ 3) → WritesDue (due_of_message message (D.state door.old).left) (D.state door.old) (D.state door.new) result }
-    ensures part { D.tells → (result ≡ 4) ⊎ (result ≡ 5) → WritesPart (due_of_message message (D.state door.old).left) (D.state door.old) (D.state door.new) }
+    ensures done { D.tells → (result ≡ 0) ⊎ (result ≡ 3) → WritesDue (due_of_input input (D.state door.old).left) (D.state door.old) (D.state door.new) result }
+    ensures part { D.tells → (result ≡ 4) ⊎ (result ≡ 5) → WritesPart (due_of_input input (D.state door.old).left) (D.state door.old) (D.state door.new) }
     ensures turns { D.turns door.new ≡ D.turns door.old }
 {
-    let octets = match read_whole(alloc, door, LONGEST_MESSAGE) {
+    let octets = match read_whole(alloc, door, most_of(input)) {
         Ok(octets) => octets,
         Err(ReadFault::Failed) => return DOOR_FAILED,
         Err(ReadFault::Memory) => return NO_MEMORY,
     };
-    let Ok(answer) = answer_of(alloc, message, octets.octets()) else {
+    let Ok(answer) = answer_to(alloc, input, octets.octets()) else {
         return NO_MEMORY;
     };
     match say(door, answer.text.octets()) {
@@ -87,7 +87,8 @@ pub fn mud_main<D: Door, P: Spool, C: Clock>(
 {
     let status = match command_of(words) {
         None => UNLISTED,
-        Some(Command::Hear(message)) => answer_input(alloc, message, door),
+        Some(Command::Hear(message)) => answer_input(alloc, Input::Message(message), door),
+        Some(Command::Check) => answer_input(alloc, Input::UsageFile, door),
         Some(Command::Frames) => answer_capture(alloc, door),
     };
     (status, keeper)

@@ -1,5 +1,7 @@
 //! Runs of the program over doors in memory, with lines and statuses as the formats state them.
-use crate::{DONE, DOOR_FAILED, REFUSED, UNLISTED, mud_main};
+mod check;
+
+use crate::{DONE, DOOR_FAILED, REFUSED, RealDoor, UNLISTED, mud_main};
 use mud_base::{Bytes, Listed, Moment};
 use mud_world::{Door, Failed, Keeper, MemoryClock, MemoryDoor, MemoryKeeper, MemorySpool};
 use std::alloc::Global;
@@ -19,6 +21,14 @@ fn message(alloc: Global, op: u8, yiaddr: [u8; 4], options: &[u8]) -> Result<Vec
     Ok(octets)
 }
 
+/// A door to one connection, whose octets come in these pieces.
+fn door_to(rt: &impl Abort, alloc: Global, pieces: Listed<Bytes>) -> Result<MemoryDoor, Fail> {
+    let mut inputs = Listed::new(alloc);
+    inputs.push(pieces)?;
+    assert!(rt; inputs.len() > 0);
+    Ok(MemoryDoor::new(alloc, inputs, 4096)?)
+}
+
 /// A door to one connection, whose octets come in pieces of this length.
 fn door_of(
     rt: &impl Abort,
@@ -35,10 +45,7 @@ fn door_of(
         }
         rest = behind;
     }
-    let mut inputs = Listed::new(alloc);
-    inputs.push(pieces)?;
-    assert!(rt; inputs.len() > 0);
-    Ok(MemoryDoor::new(alloc, inputs, 4096)?)
+    door_to(rt, alloc, pieces)
 }
 
 /// The status of a run of these words over the door.
@@ -309,6 +316,12 @@ const SYN: &[u8] =
 
 const SYN_LINE: &[u8] = b"1 1059 packet 192.0.2.10 198.51.100.7 6 tcp 50000 443 2\n";
 
+/// The same with a tag of VLAN 100, and the head of its packet.
+const TAGGED_HEAD: &[u8] = b"\x23\x04\x00\x00\x00\x00\x00\x00\x3a\x00\x00\x00\x3a\x00\x00\x00";
+
+const TAGGED: &[u8] =
+    b"\x02\x00\x00\x00\x00\xfe\x02\x00\x00\x00\x00\x01\x81\x00\x00\x64\x08\x00\x45\x00\x00\x28\x00\x01\x00\x00\x40\x06\x00\x00\xc0\x00\x02\x0a\xc6\x33\x64\x07\xc3\x50\x01\xbb\x00\x00\x00\x01\x00\x00\x00\x00\x50\x02\xff\xff\x00\x00\x00\x00";
+
 /// The door of a capture of these parts, in pieces of this length.
 fn capture_door(
     rt: &impl Abort,
@@ -349,6 +362,7 @@ fn frames_of_captures(rt: HostRuntime) -> Result<(), Fail> {
     assert_frames(&rt, alloc, &[], REFUSED, b"fault Cut 0\n")?;
     assert_frames(&rt, alloc, &[CAPTURE], DONE, b"")?;
     assert_frames(&rt, alloc, &[CAPTURE, HEAD, SYN], DONE, SYN_LINE)?;
+    assert_frames(&rt, alloc, &[CAPTURE, TAGGED_HEAD, TAGGED], DONE, SYN_LINE)?;
     let cut = b"1 1059 packet 192.0.2.10 198.51.100.7 6 tcp 50000 443 2\nfault Cut 94\n";
     assert_frames(&rt, alloc, &[CAPTURE, HEAD, SYN, &[0; 10]], REFUSED, cut)
 }
@@ -362,5 +376,57 @@ fn frames_until_a_read_fails(rt: HostRuntime) -> Result<(), Fail> {
         DOOR_FAILED
     );
     assert_eq!(rt; written(&rt, &door), SYN_LINE);
+    Ok(())
+}
+
+/// The heads of packets of 262,144 octets, the most, and of one more, at the second 0.
+const FULL_HEAD: &[u8] = b"\x00\x00\x00\x00\x00\x00\x00\x00\x00\x00\x04\x00\x00\x00\x04\x00";
+
+const LONG_HEAD: &[u8] = b"\x00\x00\x00\x00\x00\x00\x00\x00\x01\x00\x04\x00\x01\x00\x04\x00";
+
+/// A capture of 64 packets of as many octets as a packet has at most, all zero, and the head of a
+/// longer one.
+fn full_packets(alloc: Global) -> Result<Listed<Bytes>, Fail> {
+    let mut packet = FULL_HEAD.to_vec(alloc)?;
+    packet.extend_from_slice(vec![in alloc; 0u8; 262_144]?.as_slice())?;
+    let packet = Bytes::from_vec(packet);
+    let mut pieces = Listed::new(alloc);
+    pieces.push(Bytes::new(alloc, CAPTURE)?)?;
+    for _ in 0..64 {
+        pieces.push(packet.copy()?)?;
+    }
+    pieces.push(Bytes::new(alloc, LONG_HEAD)?)?;
+    Ok(pieces)
+}
+
+/// The lines of 64 packets that aren't IP, and that of the fault behind them.
+fn full_lines(alloc: Global) -> Result<String, Fail> {
+    let mut lines = String::new(alloc);
+    for number in 1..=64 {
+        writeln!(lines, "{number} 0 link")?;
+    }
+    lines.push_str("fault Long 16778264\n")?;
+    Ok(lines)
+}
+
+#[test]
+fn frames_until_a_packet_is_too_long(rt: HostRuntime) -> Result<(), Fail> {
+    let mut door = door_to(&rt, rt.alloc(), full_packets(rt.alloc())?)?;
+    assert_eq!(rt;
+        status_of(&rt, rt.alloc(), &["frames"], &mut door)?,
+        REFUSED
+    );
+    assert_eq!(rt; written(&rt, &door), full_lines(rt.alloc())?.as_bytes());
+    Ok(())
+}
+
+#[test]
+fn a_real_door_reads_and_writes(rt: HostRuntime) -> Result<(), Fail> {
+    let mut octets = CAPTURE.to_vec(rt.alloc())?;
+    octets.extend_from_slice(HEAD)?;
+    octets.extend_from_slice(SYN)?;
+    let mut door = RealDoor::new(octets.as_slice(), Vec::new(rt.alloc()));
+    assert_eq!(rt; status_of(&rt, rt.alloc(), &["frames"], &mut door)?, DONE);
+    assert_eq!(rt; door.output.as_slice(), SYN_LINE);
     Ok(())
 }

@@ -1,6 +1,6 @@
 //! The words of the command line.
 ghost use Rattle.std.specs.Prelude.{◌≡◌};
-ghost use Rattle.mud_cli.specs.Words.{command_in, hear_command, words_of};
+ghost use Rattle.mud_cli.specs.Words.{command_in, hear_command, one_word_command, words_of};
 
 /// What `hear` reads.
 #[derive(Clone, Copy, Debug, PartialEq, Eq)]
@@ -16,6 +16,8 @@ pub enum Message {
 pub enum Command {
     /// `hear dhcp` or `hear lldp`: reads one message and writes what it says.
     Hear(Message),
+    /// `check`: reads one usage file and writes what it allows.
+    Check,
     /// `frames`: reads a capture and writes what each packet is.
     Frames,
 }
@@ -34,9 +36,23 @@ fn hear_command(message: &str) -> Option<Command>
     None
 }
 
+/// The command of a line of one word.
+#[tactic(auto, unfolding(crate::specs::Words::one_word_command, crate::specs::Words::check_word, crate::specs::Words::frames_word))]
+fn one_word_command(word: &str) -> Option<Command>
+    ensures { result ≡ one_word_command word.now }
+{
+    if word == "check" {
+        return Some(Command::Check);
+    }
+    if word == "frames" {
+        return Some(Command::Frames);
+    }
+    None
+}
+
 /// The command that the words after the program's name are, or None where they are no listed
 /// line.
-#[tactic(auto, unfolding(crate::specs::Words::command_in, crate::specs::Words::hear_word, crate::specs::Words::frames_word))]
+#[tactic(auto, unfolding(crate::specs::Words::command_in, crate::specs::Words::hear_word))]
 pub fn command_of(words: &[String]) -> Option<Command>
     ensures { result ≡ command_in (words_of words.now) }
 {
@@ -48,13 +64,7 @@ pub fn command_of(words: &[String]) -> Option<Command>
                 None
             }
         }
-        [only] => {
-            if only.as_str() == "frames" {
-                Some(Command::Frames)
-            } else {
-                None
-            }
-        }
+        [only] => one_word_command(only.as_str()),
         _ => None,
     }
 }

@@ -1,13 +1,13 @@
 use Rattle.std.proofs.Common.{◌≡◌, false}
 use Rattle.pcap_read.specs.Parts.{is_broken, most_to_come}
-use Rattle.mud_cli.proofs.FrameRuns.{Answered}
+use Rattle.mud_cli.proofs.FrameRuns.{Gathered}
 use Rattle.mud_cli.proofs.frames.answer_capture.Given as goal
 
 abbrev pub invariant-packets : goal.invariant-packets
 invariant-packets g l =
     let door = g.D.Door in
     record {
-      answered : door.tells → Answered l.reader (door.state l.initial.door) (door.state l.door);
+      gathered : door.tells → Gathered l.reader (door.state l.initial.door) (door.state l.door) l.lines;
       going : is_broken l.reader.progress.stage ≡ false;
       writes : door.writes l.door ≡ door.writes l.initial.door;
       turns : door.turns l.door ≡ door.turns l.initial.door;

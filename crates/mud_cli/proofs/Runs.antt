@@ -10,7 +10,6 @@ use Rattle.dhcp_lldp.specs.Lldp.{lldp_of}
 use Rattle.dhcp_lldp.specs.declared.heard.Heard.{Heard}
 use Rattle.dhcp_lldp.specs.declared.heard.HearFault.{HearFault}
 use Rattle.mud_cli.specs.declared.answer.Answer.{Answer}
-use Rattle.mud_cli.specs.declared.words.Message.{Message}
 use Rattle.mud_cli.specs.declared.words.Message.TheVariants.{Dhcp, Lldp}
 use Rattle.mud_file.specs.File.{file_of}
 use Rattle.mud_cli.specs.declared.answer.Input.{Input}

@@ -1,5 +1,5 @@
 -- The lines of `check`: what a usage file allows, or the rule that it breaks. Each ends with a line feed.
-use Rattle.std.specs.Prelude.{ℕ, ◌+◌, not, ◌&&◌, ◌==◌, List, [], ◌∷◌, ◌++◌, length, flat_map, codes, decimal, Result, Ok, Err, if◌then◌else◌}
+use Rattle.std.specs.Prelude.{ℕ, ◌+◌, not, ◌&&◌, ◌==◌, List, [], ◌∷◌, ◌++◌, length, flat_map, codes, decimal, if◌then◌else◌}
 use Rattle.std.specs.Char.{is_ascii_graphic}
 use Rattle.std.specs.Fmt.{signed_decimal}
 use Rattle.hex.specs.Hex.{encode_lower}

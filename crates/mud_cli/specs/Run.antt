@@ -37,3 +37,9 @@ pub record WroteFront (text rest : List ℕ) (old new : DoorState) : Type 0 wher
   pub front : List ℕ
   pub split : text ≡ front ++ rest
   pub wrote : new ≡ put_out front old
+
+-- At most so many octets were read of the front of the connection.
+pub record ReadUpTo (most : ℕ) (old new : DoorState) : Type 0 where
+  pub read : List ℕ
+  pub left_is : old.left ≡ read ++ new.left
+  pub within : length read ≤ most

@@ -1,11 +1,12 @@
 //! The top call of the program.
-ghost use Rattle.std.specs.Prelude.{◌≡◌, ◌≢◌, ◌⊎◌, ◌↔◌, None, Some};
+ghost use Rattle.std.specs.Prelude.{◌≡◌, ◌≢◌, ◌⊎◌, ◌↔◌, ◌+◌, None, Some};
 ghost use Rattle.mud_world.specs.Causes.{Rose};
 ghost use Rattle.mud_cli.specs.Answers.{due_of_input, due_to};
 ghost use Rattle.mud_cli.specs.Answers as answers;
-ghost use Rattle.mud_cli.specs.Run.{WritesDue, WritesPart, WritesTaken};
+ghost use Rattle.mud_cli.specs.Run.{ReadUpTo, WritesDue, WritesPart, WritesTaken};
 ghost use Rattle.mud_cli.specs.Words.{command_in, words_of};
-ghost use Rattle.mud_cli.specs.declared.words.Command.TheVariants.{Frames};
+ghost use Rattle.mud_cli.specs.declared.words.Command.TheVariants.{Check, Frames, Hear};
+ghost use Rattle.mud_cli.specs.declared.words.Message.{Message};
 
 use crate::answer::{Answer, Input, answer_to, most_of};
 use crate::frames::answer_capture;
@@ -38,6 +39,7 @@ fn answer_input<D: Door>(alloc: Global, input: Input, door: &mut D) -> u8
     ensures fault { result ≡ 4 → Rose (D.reads door.old) (D.reads door.new) ⊎ Rose (D.writes door.old) (D.writes door.new) }
     ensures done { D.tells → (result ≡ 0) ⊎ (result ≡ 3) → WritesDue (due_of_input input (D.state door.old).left) (D.state door.old) (D.state door.new) result }
     ensures part { D.tells → (result ≡ 4) ⊎ (result ≡ 5) → WritesPart (due_of_input input (D.state door.old).left) (D.state door.old) (D.state door.new) }
+    ensures within { D.tells → ReadUpTo (answers.most_of input + 1) (D.state door.old) (D.state door.new) }
     ensures turns { D.turns door.new ≡ D.turns door.old }
 {
     let octets = match read_whole(alloc, door, most_of(input)) {
@@ -54,7 +56,7 @@ fn answer_input<D: Door>(alloc: Global, input: Input, door: &mut D) -> u8
     }
 }
 
-#[tactic(auto, unfolding(crate::specs::Answers::due_to))]
+#[tactic(auto, unfolding(crate::specs::Answers::due_to, crate::specs::Answers::most_of))]
 /// Runs the program on the words after its name, and answers its status and the box that it was
 /// given. A run that opens no store makes no call on the keeper.
 ///
@@ -80,6 +82,8 @@ pub fn mud_main<D: Door, P: Spool, C: Clock>(
     ensures done { D.tells → (result.0 ≡ 0) ⊎ (result.0 ≡ 3) → WritesDue (due_to (words_of words.now) (D.state door.old).left) (D.state door.old) (D.state door.new) result.0 }
     ensures part { D.tells → (result.0 ≡ 4) ⊎ (result.0 ≡ 5) → WritesPart (due_to (words_of words.now) (D.state door.old).left) (D.state door.old) (D.state door.new) }
     ensures taken { D.tells → command_in (words_of words.now) ≡ Some Frames → D.reads door.new ≢ D.reads door.old → WritesTaken (D.state door.old) (D.state door.new) }
+    ensures message_within { D.tells → (message : Message) → command_in (words_of words.now) ≡ Some (Hear message) → ReadUpTo 65536 (D.state door.old) (D.state door.new) }
+    ensures file_within { D.tells → command_in (words_of words.now) ≡ Some Check → ReadUpTo 262145 (D.state door.old) (D.state door.new) }
     ensures turns { D.turns door.new ≡ D.turns door.old }
     ensures keeper { result.1 ≡ keeper }
     ensures spool { spool.new ≡ spool.old }

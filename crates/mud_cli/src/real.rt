@@ -5,7 +5,7 @@ ghost use Rattle.std.specs.Prelude.{◌≡◌, ◌<◌, ◌≤◌, false, true, 
 ghost use Rattle.std.specs.Io.KnownBytes.{ReadConsumes, WriteAppends};
 ghost use Rattle.mud_world.specs.Causes.{Counts};
 ghost use Rattle.mud_world.specs.Door.{DoorState};
-ghost use Rattle.mud_cli.specs.Real.{reads_of, stands_of, turns_of, writes_of};
+ghost use Rattle.mud_cli.specs.Real.{last_of, reads_of, stands_of, turns_of, writes_of};
 
 use mud_base::Moment;
 use mud_world::{Clock, Door, Failed};
@@ -127,19 +127,35 @@ impl<I: Read + Drop, O: Write + Drop> Door for RealDoor<I, O> {
     }
 }
 
-/// The machine's clock, cut to the range of moments. Where it can't be read the moment is 0, which
-/// no session goes back to.
+/// The machine's clock, cut to the range of moments. It never goes back: where the machine's clock
+/// was set back or can't be read, the last moment that it gave stays, and 0 before the first one.
 #[derive(Drop)]
 pub struct RealClock<R: std::rt::Clock + Drop> {
     runtime: R,
+    last: Moment,
 }
 
 impl<R: std::rt::Clock + Drop> RealClock<R> {
     /// The clock of this runtime.
     pub fn new(runtime: R) -> RealClock<R>
-        ensures { result.runtime ≡ runtime }
+        ensures runtime { result.runtime ≡ runtime }
+        ensures last { last_of result ≡ 0 }
     {
-        RealClock { runtime }
+        RealClock {
+            runtime,
+            last: Moment::at_most_last(0),
+        }
+    }
+}
+
+/// The moment that the machine's clock shows, or 0 where it can't be read.
+fn shown<R: std::rt::Clock>(runtime: &R) -> Moment {
+    let Ok(time) = SystemTime::now(runtime) else {
+        return Moment::at_most_last(0);
+    };
+    match time.duration_since(SystemTime::UNIX_EPOCH) {
+        Ok(since) => Moment::at_most_last(since.as_secs()),
+        Err(_) => Moment::at_most_last(0),
     }
 }
 
@@ -148,13 +164,15 @@ impl<R: std::rt::Clock + Drop> Clock for RealClock<R> {
 
     ghost moments = { λ _. [] };
 
-    fn now(&mut self) -> Moment {
-        let Ok(time) = SystemTime::now(&self.runtime) else {
-            return Moment::at_most_last(0);
-        };
-        match time.duration_since(SystemTime::UNIX_EPOCH) {
-            Ok(since) => Moment::at_most_last(since.as_secs()),
-            Err(_) => Moment::at_most_last(0),
+    /// It is no earlier than the last one.
+    fn now(&mut self) -> Moment
+        ensures never_back { last_of self.old ≤ result }
+        ensures kept { last_of self.new ≡ result }
+    {
+        let shown = shown(&self.runtime);
+        if self.last.seconds() < shown.seconds() {
+            self.last = shown;
         }
+        self.last
     }
 }

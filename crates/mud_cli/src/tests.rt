@@ -1,12 +1,13 @@
 //! Runs of the program over doors in memory, with lines and statuses as the formats state them.
 mod check;
 
-use crate::{DONE, DOOR_FAILED, REFUSED, RealDoor, UNLISTED, mud_main};
+use crate::{DONE, DOOR_FAILED, REFUSED, RealClock, RealDoor, UNLISTED, mud_main};
 use mud_base::{Bytes, Listed, Moment};
-use mud_world::{Door, Failed, Keeper, MemoryClock, MemoryDoor, MemoryKeeper, MemorySpool};
+use mud_world::{Clock, Door, Failed, Keeper, MemoryClock, MemoryDoor, MemoryKeeper, MemorySpool};
 use std::alloc::Global;
 use std::process::Abort;
 use std::test::Fail;
+use std::time::Duration;
 
 /// The octets of a DHCPv4 message from 02:00:00:00:00:01, with these fields and options.
 fn message(alloc: Global, op: u8, yiaddr: [u8; 4], options: &[u8]) -> Result<Vec<u8>, Fail> {
@@ -428,5 +429,28 @@ fn a_real_door_reads_and_writes(rt: HostRuntime) -> Result<(), Fail> {
     let mut door = RealDoor::new(octets.as_slice(), Vec::new(rt.alloc()));
     assert_eq!(rt; status_of(&rt, rt.alloc(), &["frames"], &mut door)?, DONE);
     assert_eq!(rt; door.output.as_slice(), SYN_LINE);
+    Ok(())
+}
+
+/// A machine's clock that shows one moment.
+struct Stopped(u64);
+
+impl std::rt::Clock for Stopped {
+    fn monotonic(&self) -> std::io::Result<Duration> {
+        Ok(Duration::from_secs(self.0))
+    }
+
+    fn since_1970(&self) -> std::io::Result<Duration> {
+        Ok(Duration::from_secs(self.0))
+    }
+}
+
+#[test]
+fn a_real_clock_shows_the_moment(rt: HostRuntime) -> Result<(), Fail> {
+    assert_eq!(rt; RealClock::new(&Stopped(1059)).now().seconds(), 1059);
+    assert_eq!(rt;
+        RealClock::new(&Stopped(u64::MAX >> 2)).now(),
+        Moment::at_most_last(u64::MAX)
+    );
     Ok(())
 }

@@ -75,10 +75,10 @@ peer_network = record { addr = addr.V4 0xC6336400; len = 24 }
 
 -- what the Thing sends, and what is sent to it
 abbrev sent : ℕ → Transport → Fields
-sent protocol transport = record { src = thing; dst = peer; protocol = protocol; transport = transport }
+sent protocol transport = record { src = thing; dst = peer; protocol = protocol; dscp = 0; ecn = 0; length = 60; ttl = 64; transport = transport }
 
 abbrev received : ℕ → Transport → Fields
-received protocol transport = record { src = peer; dst = thing; protocol = protocol; transport = transport }
+received protocol transport = record { src = peer; dst = thing; protocol = protocol; dscp = 0; ecn = 0; length = 60; ttl = 64; transport = transport }
 
 -- a TCP segment to port 443, with SYN set
 abbrev syn : Transport
@@ -161,7 +161,7 @@ own_receives = refl
 
 -- 2001:db8::1 and 2001:db8::2
 abbrev sent_over_v6 : Fields
-sent_over_v6 = record { src = addr.V6 0x20010db8000000000000000000000001; dst = addr.V6 0x20010db8000000000000000000000002; protocol = 6; transport = syn }
+sent_over_v6 = record { src = addr.V6 0x20010db8000000000000000000000001; dst = addr.V6 0x20010db8000000000000000000000002; protocol = 6; dscp = 0; ecn = 0; length = 60; ttl = 64; transport = syn }
 
 family_of_addresses : map (λ versions. family_matches versions sent_over_v6) (family.V4 ∷ family.V6 ∷ family.Both ∷ []) ≡ false ∷ true ∷ true ∷ []
 unfolding acl_on_literals
@@ -234,7 +234,7 @@ dns_of_ntp_server : entry_matches ntp_server From (sent 17 (udp 40000 53)) None 
 unfolding acl_on_literals
 dns_of_ntp_server = refl
 
-defaults_over_v6 : entry_matches dns_server From (record { src = addr.V6 1; dst = addr.V6 2; protocol = 17; transport = udp 40000 53 }) None (default_entry Dns From) ≡ true
+defaults_over_v6 : entry_matches dns_server From (record { src = addr.V6 1; dst = addr.V6 2; protocol = 17; dscp = 0; ecn = 0; length = 60; ttl = 64; transport = udp 40000 53 }) None (default_entry Dns From) ≡ true
 unfolding acl_on_literals
 defaults_over_v6 = refl
 

@@ -40,5 +40,14 @@ pub struct Fields {
     pub dst: Addr,
     /// The IP protocol number, in IPv6 that of the upper layer.
     pub protocol: u8,
+    /// The codepoint of differentiated services (RFC 2474, 3), from 0 to 63.
+    pub dscp: u8,
+    /// The field of explicit congestion notification (RFC 3168, 5), from 0 to 3.
+    pub ecn: u8,
+    /// In IPv4 the total length in octets, the header's own included (RFC 791, 3.1); in IPv6 the
+    /// length of the payload behind the header (RFC 8200, 3).
+    pub length: u16,
+    /// The time to live of IPv4, the hop limit of IPv6.
+    pub ttl: u8,
     pub transport: Transport,
 }

@@ -98,7 +98,7 @@ bare_switch = record { mac = mac_2; url = switch_url; pending = None; leases = [
 -- ---- Packets
 
 abbrev pub tcp : Addr → ℕ → Addr → ℕ → ℕ → Fields
-tcp src from dst to flags = record { src = src; dst = dst; protocol = 6; transport = packet.Tcp from to flags }
+tcp src from dst to flags = record { src = src; dst = dst; protocol = 6; dscp = 0; ecn = 0; length = 60; ttl = 64; transport = packet.Tcp from to flags }
 
 -- the bulb opens a connection to the server, and the server answers
 abbrev pub call : Fields

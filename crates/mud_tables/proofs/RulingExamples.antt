@@ -123,7 +123,7 @@ tables = record { things = bulb ∷ []; classes = dns_row ∷ []; locals = []; n
 
 -- the bulb asks a DNS server
 abbrev question : Fields
-question = record { src = bulb_addr; dst = dns_addr; protocol = 17; transport = packet.Udp 40000 53 }
+question = record { src = bulb_addr; dst = dns_addr; protocol = 17; dscp = 0; ecn = 0; length = 60; ttl = 64; transport = packet.Udp 40000 53 }
 
 -- ---- A name that ends
 

@@ -1,0 +1,49 @@
+-- Changes of rows: one place is left, and then rows are put in.
+use Rattle.std.specs.Prelude.{ℕ, Bool, true, not, ◌&&◌, List, [], ◌∷◌, map, Option, Some, None}
+use Rattle.std.specs.List.{list_any}
+use Rattle.sorted_rows.specs.Placed.{same_place, row_at, set_rows, without_row}
+
+-- ---- A change
+
+-- the place whose row goes, where one goes, and the rows that are put in after that, from the first to the last
+pub record RowChange (R : Type 0) : Type 0 where
+  pub gone : Option (List ℕ)
+  pub sets : List R
+
+-- the rows without the one of a place that goes
+abbrev pub without_gone : {R : Type 0} → (R → List ℕ) → Option (List ℕ) → List R → List R
+without_gone place None rows = rows
+without_gone place (Some p) rows = without_row place p rows
+
+-- the rows after the change: what goes is gone before anything is put in
+unfoldable pub changed : {R : Type 0} → (R → List ℕ) → RowChange R → List R → List R
+changed place change rows = set_rows place change.sets (without_gone place change.gone rows)
+
+-- ---- What it touches
+
+-- the list behind what was found, where something was found
+abbrev pub with_found : {A : Type 0} → Option A → List A → List A
+with_found None xs = xs
+with_found (Some x) xs = x ∷ xs
+
+-- the places that the change touches
+unfoldable pub places_of : {R : Type 0} → (R → List ℕ) → RowChange R → List (List ℕ)
+places_of place change = with_found change.gone (map place change.sets)
+
+-- the rows that stand at these places
+abbrev pub rows_at : {R : Type 0} → (R → List ℕ) → List (List ℕ) → List R → List R
+rows_at place [] rows = []
+rows_at place (q ∷ qs) rows = with_found (row_at place q rows) (rows_at place qs rows)
+
+-- the rows that stand at the places that the change touches
+unfoldable pub old_rows : {R : Type 0} → (R → List ℕ) → RowChange R → List R → List R
+old_rows place change rows = rows_at place (places_of place change) rows
+
+-- no two elements pass the test
+abbrev pub are_apart : {A : Type 0} → (A → A → Bool) → List A → Bool
+are_apart near [] = true
+are_apart near (x ∷ xs) = not (list_any (near x) xs) && are_apart near xs
+
+-- the change touches no place twice
+unfoldable pub is_plain : {R : Type 0} → (R → List ℕ) → RowChange R → Bool
+is_plain place change = are_apart same_place (places_of place change)

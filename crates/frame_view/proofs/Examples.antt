@@ -13,12 +13,13 @@ use Rattle.frame_view.specs.Frame.{frame_of, carried, by_type, past_tag, is_tag}
 use Rattle.frame_view.specs.Ipv4 as ipv4
 use Rattle.frame_view.specs.Ipv6 as ipv6
 use Rattle.frame_view.specs.Octets.{number_16, number_32, number_128}
+use Rattle.frame_view.specs.Traffic.{codepoint, congestion}
 use Rattle.frame_view.specs.Upper.{transport_of, tcp, udp, icmp}
 use Rattle.frame_view.proofs.Hex.{from_hex}
 
 -- every word that a reading computes with
 unfoldable readings : Unit {0}
-unfolding frame_of carried by_type past_tag is_tag number_16 number_32 number_128 transport_of tcp udp icmp ipv4.packet_of ipv4.is_upkeep ipv4.fields_of ipv4.transport_in ipv4.is_later_fragment ipv4.has_header ipv4.counted ipv4.header_len ipv6.packet_of ipv6.is_upkeep ipv6.fields_of ipv6.upper_in ipv6.upper_behind ipv6.upper_layer ipv6.is_later_fragment ipv6.is_cut ipv6.extension_len ipv6.is_extension ipv6.payload ipv6.has_header
+unfolding frame_of carried by_type past_tag is_tag number_16 number_32 number_128 codepoint congestion transport_of tcp udp icmp ipv4.packet_of ipv4.is_upkeep ipv4.fields_of ipv4.transport_in ipv4.is_later_fragment ipv4.has_header ipv4.counted ipv4.header_len ipv6.packet_of ipv6.is_upkeep ipv6.fields_of ipv6.traffic_class ipv6.upper_in ipv6.upper_behind ipv6.upper_layer ipv6.is_later_fragment ipv6.is_cut ipv6.extension_len ipv6.is_extension ipv6.payload ipv6.has_header
 readings = tt
 
 abbrev Carries : List ℕ → Fields → Type 0
@@ -50,14 +51,24 @@ syn = codes "c35001bb 00000001 00000000 5002ffff 00000000"
 abbrev ipv4_frame : List ℕ → List ℕ → List ℕ
 ipv4_frame start behind = addressed (codes "0800" ++ start ++ codes "0000 c000020a c6336407" ++ behind)
 
-abbrev ipv4_fields : ℕ → Transport → Fields
-ipv4_fields protocol transport = record { src = V4 0xC000020A; dst = V4 0xC6336407; protocol = protocol; transport = transport }
+-- what such a header says with a type of service of 0 and a time to live of 64, by its total length and protocol
+abbrev ipv4_fields : ℕ → ℕ → Transport → Fields
+ipv4_fields length protocol transport = record {
+  src = V4 0xC000020A;
+  dst = V4 0xC6336407;
+  protocol = protocol;
+  dscp = 0;
+  ecn = 0;
+  length = length;
+  ttl = 64;
+  transport = transport;
+}
 
 abbrev syn_packet : List ℕ
 syn_packet = codes "0800 45000028 00010000 40060000 c000020a c6336407" ++ syn
 
-abbrev syn_fields : Fields
-syn_fields = ipv4_fields 6 (Tcp 50000 443 2)
+abbrev syn_fields : ℕ → Fields
+syn_fields length = ipv4_fields length 6 (Tcp 50000 443 2)
 
 -- Ethernet and tags
 ethernet_cut : frame_of (take 10 (addressed syn_packet)) ≡ Unreadable None part.Ethernet
@@ -68,15 +79,15 @@ ethernet_alone : CannotRead part.Ip (take 14 (addressed syn_packet))
 unfolding readings
 ethernet_alone = refl
 
-no_tag : Carries (addressed syn_packet) syn_fields
+no_tag : Carries (addressed syn_packet) (syn_fields 40)
 unfolding readings
 no_tag = refl
 
-one_tag : Carries (addressed (codes "81000064" ++ syn_packet)) syn_fields
+one_tag : Carries (addressed (codes "81000064" ++ syn_packet)) (syn_fields 40)
 unfolding readings
 one_tag = refl
 
-two_tags : Carries (addressed (codes "88a80064 81000065" ++ syn_packet)) syn_fields
+two_tags : Carries (addressed (codes "88a80064 81000065" ++ syn_packet)) (syn_fields 40)
 unfolding readings
 two_tags = refl
 
@@ -118,7 +129,7 @@ unfolding readings
 ipv4_shorter_than_its_header = refl
 
 -- a header of six words
-ipv4_options : Carries (ipv4_frame (codes "4600002c 00010000 4006") (codes "01010101" ++ syn)) syn_fields
+ipv4_options : Carries (ipv4_frame (codes "4600002c 00010000 4006") (codes "01010101" ++ syn)) (syn_fields 44)
 unfolding readings
 ipv4_options = refl
 
@@ -126,11 +137,11 @@ ipv4_options_cut : CannotRead part.Ip (ipv4_frame (codes "46000017 00010000 4006
 unfolding readings
 ipv4_options_cut = refl
 
-ipv4_longer_than_the_frame : Carries (ipv4_frame (codes "450000ff 00010000 4006") syn) syn_fields
+ipv4_longer_than_the_frame : Carries (ipv4_frame (codes "450000ff 00010000 4006") syn) (syn_fields 255)
 unfolding readings
 ipv4_longer_than_the_frame = refl
 
-ipv4_padded : Carries (ipv4_frame (codes "4500001c 00010000 4011") (codes "9c400035 00080000 000000000000000000000000000000000000")) (ipv4_fields 17 (Udp 40000 53))
+ipv4_padded : Carries (ipv4_frame (codes "4500001c 00010000 4011") (codes "9c400035 00080000 000000000000000000000000000000000000")) (ipv4_fields 28 17 (Udp 40000 53))
 unfolding readings
 ipv4_padded = refl
 
@@ -138,11 +149,11 @@ ipv4_padding_is_no_header : CannotRead part.Transport (ipv4_frame (codes "450000
 unfolding readings
 ipv4_padding_is_no_header = refl
 
-first_fragment : Carries (ipv4_frame (codes "45000028 00012000 4006") syn) syn_fields
+first_fragment : Carries (ipv4_frame (codes "45000028 00012000 4006") syn) (syn_fields 40)
 unfolding readings
 first_fragment = refl
 
-later_fragment : Carries (ipv4_frame (codes "45000028 00010001 4006") syn) (ipv4_fields 6 Absent)
+later_fragment : Carries (ipv4_frame (codes "45000028 00010001 4006") syn) (ipv4_fields 40 6 Absent)
 unfolding readings
 later_fragment = refl
 
@@ -155,11 +166,11 @@ tcp_of_four_words : CannotRead part.Transport (ipv4_frame (codes "45000028 00010
 unfolding readings
 tcp_of_four_words = refl
 
-tcp_options_are_not_looked_for : Carries (ipv4_frame (codes "45000028 00010000 4006") (codes "c35001bb 00000001 00000000 f0c2ffff 00000000")) (ipv4_fields 6 (Tcp 50000 443 0xC2))
+tcp_options_are_not_looked_for : Carries (ipv4_frame (codes "45000028 00010000 4006") (codes "c35001bb 00000001 00000000 f0c2ffff 00000000")) (ipv4_fields 40 6 (Tcp 50000 443 0xC2))
 unfolding readings
 tcp_options_are_not_looked_for = refl
 
-udp_query : Carries (ipv4_frame (codes "4500001c 00020000 4011") (codes "9c400035 00080000")) (ipv4_fields 17 (Udp 40000 53))
+udp_query : Carries (ipv4_frame (codes "4500001c 00020000 4011") (codes "9c400035 00080000")) (ipv4_fields 28 17 (Udp 40000 53))
 unfolding readings
 udp_query = refl
 
@@ -167,11 +178,11 @@ udp_cut : CannotRead part.Transport (ipv4_frame (codes "4500001b 00020000 4011")
 unfolding readings
 udp_cut = refl
 
-udp_length_is_not_used : Carries (ipv4_frame (codes "4500001c 00020000 4011") (codes "9c400035 ffff0000")) (ipv4_fields 17 (Udp 40000 53))
+udp_length_is_not_used : Carries (ipv4_frame (codes "4500001c 00020000 4011") (codes "9c400035 ffff0000")) (ipv4_fields 28 17 (Udp 40000 53))
 unfolding readings
 udp_length_is_not_used = refl
 
-icmp_echo : Carries (ipv4_frame (codes "4500001c 00010000 4001") (codes "0800f7ff 00000000")) (ipv4_fields 1 (Icmp 8 0))
+icmp_echo : Carries (ipv4_frame (codes "4500001c 00010000 4001") (codes "0800f7ff 00000000")) (ipv4_fields 28 1 (Icmp 8 0))
 unfolding readings
 icmp_echo = refl
 
@@ -179,13 +190,23 @@ icmp_cut : CannotRead part.Transport (ipv4_frame (codes "45000017 00010000 4001"
 unfolding readings
 icmp_cut = refl
 
-icmp_of_ipv6_in_ipv4 : Carries (ipv4_frame (codes "4500001c 00010000 403a") (codes "8000f7ff 00000000")) (ipv4_fields 58 Absent)
+icmp_of_ipv6_in_ipv4 : Carries (ipv4_frame (codes "4500001c 00010000 403a") (codes "8000f7ff 00000000")) (ipv4_fields 28 58 Absent)
 unfolding readings
 icmp_of_ipv6_in_ipv4 = refl
 
-another_protocol : Carries (ipv4_frame (codes "45000014 00010000 402f") []) (ipv4_fields 47 Absent)
+another_protocol : Carries (ipv4_frame (codes "45000014 00010000 402f") []) (ipv4_fields 20 47 Absent)
 unfolding readings
 another_protocol = refl
+
+-- Type of service 10111001 bits, the codepoint 101110 of expedited forwarding and 01; a total length of 320, which is
+-- 140 hex; a time to live of 127.
+ipv4_header_fields : Carries (ipv4_frame (codes "45b90140 00010000 7f06") syn) (record { src = V4 0xC000020A; dst = V4 0xC6336407; protocol = 6; dscp = 46; ecn = 1; length = 320; ttl = 127; transport = Tcp 50000 443 2 })
+unfolding readings
+ipv4_header_fields = refl
+
+ipv4_highest_fields : Carries (ipv4_frame (codes "45ffffff 00010000 ff06") syn) (record { src = V4 0xC000020A; dst = V4 0xC6336407; protocol = 6; dscp = 63; ecn = 3; length = 65535; ttl = 255; transport = Tcp 50000 443 2 })
+unfolding readings
+ipv4_highest_fields = refl
 
 -- DHCP: a UDP datagram between two addresses and two ports
 abbrev datagram : List ℕ → List ℕ → List ℕ
@@ -207,41 +228,50 @@ dhcp_to_all : IsLink (datagram (codes "c000020a ffffffff") (codes "00440043"))
 unfolding readings
 dhcp_to_all = refl
 
-dhcp_renewal_to_one_server : Carries (datagram (codes "c000020a c0000201") (codes "00440043")) (record { src = V4 0xC000020A; dst = V4 0xC0000201; protocol = 17; transport = Udp 68 67 })
+dhcp_renewal_to_one_server : Carries (datagram (codes "c000020a c0000201") (codes "00440043")) (record { src = V4 0xC000020A; dst = V4 0xC0000201; protocol = 17; dscp = 0; ecn = 0; length = 28; ttl = 64; transport = Udp 68 67 })
 unfolding readings
 dhcp_renewal_to_one_server = refl
 
-port_68_from_another : Carries (datagram (codes "00000000 ffffffff") (codes "9c400044")) (record { src = V4 0; dst = V4 0xFFFFFFFF; protocol = 17; transport = Udp 40000 68 })
+port_68_from_another : Carries (datagram (codes "00000000 ffffffff") (codes "9c400044")) (record { src = V4 0; dst = V4 0xFFFFFFFF; protocol = 17; dscp = 0; ecn = 0; length = 28; ttl = 64; transport = Udp 40000 68 })
 unfolding readings
 port_68_from_another = refl
 
-port_67_from_another : Carries (datagram (codes "00000000 ffffffff") (codes "9c400043")) (record { src = V4 0; dst = V4 0xFFFFFFFF; protocol = 17; transport = Udp 40000 67 })
+port_67_from_another : Carries (datagram (codes "00000000 ffffffff") (codes "9c400043")) (record { src = V4 0; dst = V4 0xFFFFFFFF; protocol = 17; dscp = 0; ecn = 0; length = 28; ttl = 64; transport = Udp 40000 67 })
 unfolding readings
 port_67_from_another = refl
 
-port_68_to_another : Carries (datagram (codes "00000000 ffffffff") (codes "00440035")) (record { src = V4 0; dst = V4 0xFFFFFFFF; protocol = 17; transport = Udp 68 53 })
+port_68_to_another : Carries (datagram (codes "00000000 ffffffff") (codes "00440035")) (record { src = V4 0; dst = V4 0xFFFFFFFF; protocol = 17; dscp = 0; ecn = 0; length = 28; ttl = 64; transport = Udp 68 53 })
 unfolding readings
 port_68_to_another = refl
 
-dhcp_later_fragment : Carries (addressed (codes "0800 4500001c 00020001 40110000 00000000 ffffffff 00440043 00080000")) (record { src = V4 0; dst = V4 0xFFFFFFFF; protocol = 17; transport = Absent })
+dhcp_later_fragment : Carries (addressed (codes "0800 4500001c 00020001 40110000 00000000 ffffffff 00440043 00080000")) (record { src = V4 0; dst = V4 0xFFFFFFFF; protocol = 17; dscp = 0; ecn = 0; length = 28; ttl = 64; transport = Absent })
 unfolding readings
 dhcp_later_fragment = refl
 
--- an IPv6 packet from 2001:db8::a to 2001:db8::7, with this payload length, next header and hop limit
-abbrev ipv6_frame : List ℕ → List ℕ → List ℕ
-ipv6_frame start behind =
-    addressed (codes "86dd 60000000" ++ start ++ codes "20010db8 00000000 00000000 0000000a 20010db8 00000000 00000000 00000007" ++ behind)
+-- an IPv6 packet from 2001:db8::a to 2001:db8::7, whose header begins with these eight octets
+abbrev ipv6_from : List ℕ → List ℕ → List ℕ
+ipv6_from start behind =
+    addressed (codes "86dd" ++ start ++ codes "20010db8 00000000 00000000 0000000a 20010db8 00000000 00000000 00000007" ++ behind)
 
-abbrev ipv6_fields : ℕ → Transport → Fields
-ipv6_fields protocol transport = record {
+-- the same with a traffic class and a flow label of 0, and this payload length, next header and hop limit
+abbrev ipv6_frame : List ℕ → List ℕ → List ℕ
+ipv6_frame start behind = ipv6_from (codes "60000000" ++ start) behind
+
+-- what such a header says with a traffic class of 0, by its payload length, hop limit and upper layer
+abbrev ipv6_fields : ℕ → ℕ → ℕ → Transport → Fields
+ipv6_fields length hop_limit protocol transport = record {
   src = V6 0x20010DB800000000000000000000000A;
   dst = V6 0x20010DB8000000000000000000000007;
   protocol = protocol;
+  dscp = 0;
+  ecn = 0;
+  length = length;
+  ttl = hop_limit;
   transport = transport;
 }
 
-abbrev syn_fields_v6 : Fields
-syn_fields_v6 = ipv6_fields 6 (Tcp 50000 443 2)
+abbrev syn_fields_v6 : ℕ → Fields
+syn_fields_v6 length = ipv6_fields length 64 6 (Tcp 50000 443 2)
 
 -- a header of destination options, with another one or TCP behind it
 abbrev options_then_options : List ℕ
@@ -257,6 +287,20 @@ abbrev six_options : List ℕ
 six_options =
     options_then_options ++ options_then_options ++ options_then_options ++ options_then_options ++ options_then_options ++ options_then_options
 
+-- Traffic class 10111001 bits and flow label 12345 hex; a payload length of 532, which is 214 hex; a hop limit of 127.
+ipv6_header_fields : Carries (ipv6_from (codes "6b912345 0214 06 7f") syn) (record { src = V6 0x20010DB800000000000000000000000A; dst = V6 0x20010DB8000000000000000000000007; protocol = 6; dscp = 46; ecn = 1; length = 532; ttl = 127; transport = Tcp 50000 443 2 })
+unfolding readings
+ipv6_header_fields = refl
+
+-- the flow label is no part of the traffic class
+flow_label_alone : Carries (ipv6_from (codes "600fffff 0014 06 40") syn) (syn_fields_v6 20)
+unfolding readings
+flow_label_alone = refl
+
+ipv6_highest_fields : Carries (ipv6_from (codes "6ff00000 ffff 06 ff") syn) (record { src = V6 0x20010DB800000000000000000000000A; dst = V6 0x20010DB8000000000000000000000007; protocol = 6; dscp = 63; ecn = 3; length = 65535; ttl = 255; transport = Tcp 50000 443 2 })
+unfolding readings
+ipv6_highest_fields = refl
+
 ipv6_cut : CannotRead part.Ip (take 53 (ipv6_frame (codes "0014 06 40") syn))
 unfolding readings
 ipv6_cut = refl
@@ -265,19 +309,19 @@ ipv6_of_version_4 : CannotRead part.Ip (addressed (codes "86dd 45000028 00010000
 unfolding readings
 ipv6_of_version_4 = refl
 
-no_extension : Carries (ipv6_frame (codes "0014 06 40") syn) syn_fields_v6
+no_extension : Carries (ipv6_frame (codes "0014 06 40") syn) (syn_fields_v6 20)
 unfolding readings
 no_extension = refl
 
-one_extension : Carries (ipv6_frame (codes "001c 00 40") (options_then_tcp ++ syn)) syn_fields_v6
+one_extension : Carries (ipv6_frame (codes "001c 00 40") (options_then_tcp ++ syn)) (syn_fields_v6 28)
 unfolding readings
 one_extension = refl
 
-one_long_extension : Carries (ipv6_frame (codes "0024 2b 40") (codes "0601 0000 00000000 0000000000000000" ++ syn)) syn_fields_v6
+one_long_extension : Carries (ipv6_frame (codes "0024 2b 40") (codes "0601 0000 00000000 0000000000000000" ++ syn)) (syn_fields_v6 36)
 unfolding readings
 one_long_extension = refl
 
-eight_extensions : Carries (ipv6_frame (codes "0054 3c 40") (six_options ++ options_then_options ++ options_then_tcp ++ syn)) syn_fields_v6
+eight_extensions : Carries (ipv6_frame (codes "0054 3c 40") (six_options ++ options_then_options ++ options_then_tcp ++ syn)) (syn_fields_v6 84)
 unfolding readings
 eight_extensions = refl
 
@@ -297,16 +341,16 @@ fragment_header_cut : CannotRead part.Extension (ipv6_frame (codes "0007 2c 40")
 unfolding readings
 fragment_header_cut = refl
 
-first_fragment_v6 : Carries (ipv6_frame (codes "001c 2c 40") (codes "0600 0001 00000001" ++ syn)) syn_fields_v6
+first_fragment_v6 : Carries (ipv6_frame (codes "001c 2c 40") (codes "0600 0001 00000001" ++ syn)) (syn_fields_v6 28)
 unfolding readings
 first_fragment_v6 = refl
 
-later_fragment_v6 : Carries (ipv6_frame (codes "001c 2c 40") (codes "0600 0008 00000001" ++ syn)) (ipv6_fields 6 Absent)
+later_fragment_v6 : Carries (ipv6_frame (codes "001c 2c 40") (codes "0600 0008 00000001" ++ syn)) (ipv6_fields 28 64 6 Absent)
 unfolding readings
 later_fragment_v6 = refl
 
 -- the eighth header is that of a later fragment, with an extension header behind it
-later_fragment_of_an_extension : Carries (ipv6_frame (codes "0040 3c 40") (six_options ++ options_then_fragment ++ codes "3c00 0008 00000001")) (ipv6_fields 60 Absent)
+later_fragment_of_an_extension : Carries (ipv6_frame (codes "0040 3c 40") (six_options ++ options_then_fragment ++ codes "3c00 0008 00000001")) (ipv6_fields 64 64 60 Absent)
 unfolding readings
 later_fragment_of_an_extension = refl
 
@@ -314,19 +358,19 @@ no_payload : CannotRead part.Transport (ipv6_frame (codes "0000 06 40") syn)
 unfolding readings
 no_payload = refl
 
-authentication_header : Carries (ipv6_frame (codes "0008 33 40") (codes "0600000000000000")) (ipv6_fields 51 Absent)
+authentication_header : Carries (ipv6_frame (codes "0008 33 40") (codes "0600000000000000")) (ipv6_fields 8 64 51 Absent)
 unfolding readings
 authentication_header = refl
 
-no_next_header : Carries (ipv6_frame (codes "0000 3b 40") []) (ipv6_fields 59 Absent)
+no_next_header : Carries (ipv6_frame (codes "0000 3b 40") []) (ipv6_fields 0 64 59 Absent)
 unfolding readings
 no_next_header = refl
 
-ipv6_longer_than_the_frame : Carries (ipv6_frame (codes "ffff 06 40") syn) syn_fields_v6
+ipv6_longer_than_the_frame : Carries (ipv6_frame (codes "ffff 06 40") syn) (syn_fields_v6 65535)
 unfolding readings
 ipv6_longer_than_the_frame = refl
 
-icmp_of_ipv4_in_ipv6 : Carries (ipv6_frame (codes "0008 01 ff") (codes "8700f7ff 00000000")) (ipv6_fields 1 Absent)
+icmp_of_ipv4_in_ipv6 : Carries (ipv6_frame (codes "0008 01 ff") (codes "8700f7ff 00000000")) (ipv6_fields 8 255 1 Absent)
 unfolding readings
 icmp_of_ipv4_in_ipv6 = refl
 
@@ -335,7 +379,7 @@ neighbour_solicitation : IsLink (ipv6_frame (codes "0018 3a ff") (codes "8700000
 unfolding readings
 neighbour_solicitation = refl
 
-neighbour_solicitation_from_afar : Carries (ipv6_frame (codes "0018 3a fe") (codes "87000000 00000000 fe800000 00000000 00000000 00000001")) (ipv6_fields 58 (Icmp 135 0))
+neighbour_solicitation_from_afar : Carries (ipv6_frame (codes "0018 3a fe") (codes "87000000 00000000 fe800000 00000000 00000000 00000001")) (ipv6_fields 24 254 58 (Icmp 135 0))
 unfolding readings
 neighbour_solicitation_from_afar = refl
 
@@ -347,10 +391,10 @@ redirect : IsLink (ipv6_frame (codes "0008 3a ff") (codes "89000000 00000000"))
 unfolding readings
 redirect = refl
 
-type_132 : Carries (ipv6_frame (codes "0008 3a ff") (codes "84000000 00000000")) (ipv6_fields 58 (Icmp 132 0))
+type_132 : Carries (ipv6_frame (codes "0008 3a ff") (codes "84000000 00000000")) (ipv6_fields 8 255 58 (Icmp 132 0))
 unfolding readings
 type_132 = refl
 
-type_138 : Carries (ipv6_frame (codes "0008 3a ff") (codes "8a000000 00000000")) (ipv6_fields 58 (Icmp 138 0))
+type_138 : Carries (ipv6_frame (codes "0008 3a ff") (codes "8a000000 00000000")) (ipv6_fields 8 255 58 (Icmp 138 0))
 unfolding readings
 type_138 = refl

@@ -9,7 +9,18 @@ use Rattle.frame_view.specs.declared.views.Part.{Part}
 use Rattle.frame_view.specs.declared.views.Part.TheVariants as part
 use Rattle.frame_view.specs.Octets.{number_16, number_32}
 use Rattle.frame_view.specs.Steps.{◌>>=◌}
+use Rattle.frame_view.specs.Traffic.{codepoint, congestion}
 use Rattle.frame_view.specs.Upper.{transport_of}
+
+-- where these fields stand in the header
+abbrev pub type_of_service : ℕ
+type_of_service = 1
+
+abbrev pub total_length : ℕ
+total_length = 2
+
+abbrev pub time_to_live : ℕ
+time_to_live = 8
 
 -- how many octets the header has: its length counts words of four octets
 unfoldable pub header_len : List ℕ → ℕ
@@ -17,7 +28,7 @@ header_len packet = slice_index packet 0 % 16 * 4
 
 -- what counts: up to the end that the total length names, or the frame's end where that is first
 unfoldable pub counted : List ℕ → List ℕ
-counted packet = take (number_16 2 packet) packet
+counted packet = take (number_16 total_length packet) packet
 
 -- version 4, and a header of at least five words, all of it among what counts
 unfoldable pub has_header : List ℕ → Bool
@@ -39,6 +50,10 @@ fields_with packet transport = record {
   src = V4 (number_32 12 packet);
   dst = V4 (number_32 16 packet);
   protocol = slice_index packet 9;
+  dscp = codepoint (slice_index packet type_of_service);
+  ecn = congestion (slice_index packet type_of_service);
+  length = number_16 total_length packet;
+  ttl = slice_index packet time_to_live;
   transport = transport;
 }
 

@@ -1,5 +1,5 @@
 -- An IPv6 packet (RFC 8200), from the first octet of its header on.
-use Rattle.std.specs.Prelude.{ℕ, suc, zero, ◌+◌, ◌*◌, ◌/◌, Bool, false, not, ◌&&◌, ◌||◌, ◌==◌, nat_le, nat_lt, List, length, take, drop, slice_index, Option, Some, None, Result, Ok, Err, if◌then◌else◌}
+use Rattle.std.specs.Prelude.{ℕ, suc, zero, ◌+◌, ◌*◌, ◌/◌, ◌%◌, Bool, false, not, ◌&&◌, ◌||◌, ◌==◌, nat_le, nat_lt, List, length, take, drop, slice_index, Option, Some, None, Result, Ok, Err, if◌then◌else◌}
 use Rattle.mud_base.specs.declared.addr.Addr.TheVariants.{V6}
 use Rattle.mud_base.specs.declared.packet.Fields.{Fields}
 use Rattle.mud_base.specs.declared.packet.Transport.{Transport}
@@ -9,7 +9,15 @@ use Rattle.frame_view.specs.declared.views.Part.{Part}
 use Rattle.frame_view.specs.declared.views.Part.TheVariants as part
 use Rattle.frame_view.specs.Octets.{number_16, number_128}
 use Rattle.frame_view.specs.Steps.{◌>>=◌}
+use Rattle.frame_view.specs.Traffic.{codepoint, congestion}
 use Rattle.frame_view.specs.Upper.{transport_of}
+
+-- where these fields stand in the header (section 3)
+abbrev pub payload_length : ℕ
+payload_length = 4
+
+abbrev pub hop_limit_at : ℕ
+hop_limit_at = 7
 
 -- version 6, and forty octets (section 3)
 unfoldable pub has_header : List ℕ → Bool
@@ -18,7 +26,7 @@ has_header packet = nat_le 40 (length packet) && slice_index packet 0 / 16 == 6
 -- What counts behind the header: up to the end that the payload length names, or the frame's end where that is first.
 -- A payload length of 0 leaves nothing.
 unfoldable pub payload : List ℕ → List ℕ
-payload packet = take (number_16 4 packet) (drop 40 packet)
+payload packet = take (number_16 payload_length packet) (drop 40 packet)
 
 -- an extension header: hop-by-hop options, routing, fragment or destination options (4.3 to 4.6)
 unfoldable pub is_extension : ℕ → Bool
@@ -55,11 +63,20 @@ upper_behind (suc left) number octets =
 unfoldable pub upper_in : List ℕ → Result UpperLayer Part
 upper_in packet = upper_behind 8 (slice_index packet 6) (payload packet)
 
+-- the traffic class: the eight bits behind the version's four, the lower half of octet 0 and the upper half of octet 1
+-- (section 3)
+unfoldable pub traffic_class : List ℕ → ℕ
+traffic_class packet = slice_index packet 0 % 16 * 16 + slice_index packet 1 / 16
+
 abbrev pub fields_with : List ℕ → UpperLayer → Fields
 fields_with packet upper = record {
   src = V6 (number_128 8 packet);
   dst = V6 (number_128 24 packet);
   protocol = upper.protocol;
+  dscp = codepoint (traffic_class packet);
+  ecn = congestion (traffic_class packet);
+  length = number_16 payload_length packet;
+  ttl = slice_index packet hop_limit_at;
   transport = upper.transport;
 }
 
@@ -75,4 +92,4 @@ is_upkeep hop_limit _ = false
 -- the packet's fields, or None where it keeps the link up
 unfoldable pub packet_of : List ℕ → Result (Option Fields) Part
 packet_of packet =
-    fields_of packet >>= λ fields. Ok (if is_upkeep (slice_index packet 7) fields.transport then None else (Some fields))
+    fields_of packet >>= λ fields. Ok (if is_upkeep (slice_index packet hop_limit_at) fields.transport then None else (Some fields))

@@ -5,4 +5,5 @@ pub mod Ipv6
 pub mod Octets
 pub mod PacketFrame
 pub mod Steps
+pub mod Traffic
 pub mod Upper

@@ -3,10 +3,17 @@ ghost use Rattle.std.specs.Prelude.{◌≡◌, ◌≤◌, length, IsTrue};
 ghost use Rattle.frame_view.specs.Ipv4 as spec;
 
 use crate::octets::{number_16, number_32};
+use crate::traffic::{codepoint, congestion};
 use crate::upper::transport_of;
 use crate::views::Part;
 use mud_base::{Addr, Fields, Transport};
 
+/// Where the type of service stands in the header (RFC 791, 3.1).
+const TYPE_OF_SERVICE: usize = 1;
+/// Where the total length stands in the header (RFC 791, 3.1).
+const TOTAL_LENGTH: usize = 2;
+/// Where the time to live stands in the header (RFC 791, 3.1).
+const TIME_TO_LIVE: usize = 8;
 /// The protocol number of ICMP in IPv4.
 const ICMP: u8 = 1;
 
@@ -25,7 +32,7 @@ fn counted(packet: &[u8]) -> &[u8]
     requires { 20 ≤ length packet.now }
     ensures { result.now ≡ spec.counted packet.now }
 {
-    let total = number_16(packet, 2) as usize;
+    let total = number_16(packet, TOTAL_LENGTH) as usize;
     let (counted, _) = packet.split_at(total.min(packet.len()));
     counted
 }
@@ -78,6 +85,10 @@ fn fields_of(packet: &[u8]) -> Result<Fields, Part>
         src: Addr::V4(number_32(packet, 12)),
         dst: Addr::V4(number_32(packet, 16)),
         protocol: packet[9],
+        dscp: codepoint(packet[TYPE_OF_SERVICE]),
+        ecn: congestion(packet[TYPE_OF_SERVICE]),
+        length: number_16(packet, TOTAL_LENGTH),
+        ttl: packet[TIME_TO_LIVE],
         transport,
     })
 }

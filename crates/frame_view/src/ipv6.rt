@@ -3,12 +3,17 @@ ghost use Rattle.std.specs.Prelude.{◌≡◌, ◌≤◌, length, IsTrue, OnOk, 
 ghost use Rattle.frame_view.specs.Ipv6 as spec;
 
 use crate::octets::{number_16, number_128};
+use crate::traffic::{codepoint, congestion};
 use crate::upper::{UpperLayer, transport_of};
 use crate::views::Part;
 use mud_base::{Addr, Fields, Transport};
 
 /// How many octets the header has.
 const HEADER: usize = 40;
+/// Where the payload length stands in the header (RFC 8200, 3).
+const PAYLOAD_LENGTH: usize = 4;
+/// Where the hop limit stands in the header (RFC 8200, 3).
+const HOP_LIMIT: usize = 7;
 /// The number of ICMP in IPv6.
 const ICMP: u8 = 58;
 /// The number of the fragment header.
@@ -33,7 +38,7 @@ fn payload(packet: &[u8]) -> &[u8]
     ensures { result.now ≡ spec.payload packet.now }
 {
     let (_, behind) = packet.split_at(HEADER);
-    let named = number_16(packet, 4) as usize;
+    let named = number_16(packet, PAYLOAD_LENGTH) as usize;
     let (counted, _) = behind.split_at(named.min(behind.len()));
     counted
 }
@@ -130,6 +135,15 @@ fn upper_in(packet: &[u8]) -> Result<UpperLayer, Part>
     upper_behind(packet[6], payload(packet))
 }
 
+/// The traffic class, which stands between the version and the flow label.
+#[tactic(auto, unfolding(crate::specs::Ipv6::traffic_class))]
+fn traffic_class(packet: &[u8]) -> u8
+    requires { 2 ≤ length packet.now }
+    ensures { result ≡ spec.traffic_class packet.now }
+{
+    packet[0] % 16 * 16 + packet[1] / 16
+}
+
 /// What the headers say.
 #[tactic(auto, unfolding(crate::specs::Ipv6::fields_of))]
 fn fields_of(packet: &[u8]) -> Result<Fields, Part>
@@ -140,10 +154,15 @@ fn fields_of(packet: &[u8]) -> Result<Fields, Part>
         return Err(Part::Ip);
     }
     let upper = upper_in(packet)?;
+    let traffic = traffic_class(packet);
     Ok(Fields {
         src: Addr::V6(number_128(packet, 8)),
         dst: Addr::V6(number_128(packet, 24)),
         protocol: upper.protocol,
+        dscp: codepoint(traffic),
+        ecn: congestion(traffic),
+        length: number_16(packet, PAYLOAD_LENGTH),
+        ttl: packet[HOP_LIMIT],
         transport: upper.transport,
     })
 }
@@ -168,7 +187,7 @@ pub fn packet_of(packet: &[u8]) -> Result<Option<Fields>, Part>
     ensures { result ≡ spec.packet_of packet.now }
 {
     let fields = fields_of(packet)?;
-    if is_upkeep(packet[7], fields.transport) {
+    if is_upkeep(packet[HOP_LIMIT], fields.transport) {
         return Ok(None);
     }
     Ok(Some(fields))

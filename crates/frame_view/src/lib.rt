@@ -6,6 +6,7 @@ mod ipv4;
 mod ipv6;
 mod octets;
 mod reading;
+mod traffic;
 mod upper;
 mod views;
 

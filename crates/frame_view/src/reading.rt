@@ -149,6 +149,10 @@ mod tests {
             src: Addr::V4(0xC000_020A),
             dst: Addr::V4(0xC633_6407),
             protocol: 6,
+            dscp: 0,
+            ecn: 0,
+            length: 40,
+            ttl: 64,
             transport: Transport::Tcp {
                 source: 50000,
                 destination: 443,
@@ -159,6 +163,10 @@ mod tests {
             src: Addr::V4(0xC000_020A),
             dst: Addr::V4(0xC000_0235),
             protocol: 17,
+            dscp: 0,
+            ecn: 0,
+            length: 28,
+            ttl: 64,
             transport: Transport::Udp {
                 source: 40000,
                 destination: 53,
@@ -168,6 +176,10 @@ mod tests {
             src: Addr::V6(0x2001_0DB8_0000_0000_0000_0000_0000_000A),
             dst: Addr::V6(0x2001_0DB8_0000_0000_0000_0000_0000_0007),
             protocol: 6,
+            dscp: 0,
+            ecn: 0,
+            length: 28,
+            ttl: 64,
             transport: Transport::Tcp {
                 source: 50000,
                 destination: 443,

@@ -92,6 +92,10 @@ entry_with selectors own protocol transport act = record {
   selectors = selectors;
   own = own;
   protocol = protocol;
+  dscp = None;
+  ecn = None;
+  length = None;
+  ttl = None;
   layer = transport;
   action = act;
 }
@@ -102,7 +106,7 @@ layer_entry transport = entry_with [] None None transport action.Accept
 -- ---- Who began the connection
 
 abbrev https_begun_by : Option Direction → Entry
-https_begun_by named = layer_entry (layer.Tcp port.Any (port.Eq 443) named)
+https_begun_by named = layer_entry (layer.Tcp port.Any (port.Eq 443) named None)
 
 abbrev beginners : List (Option Direction)
 beginners = None ∷ Some From ∷ Some To ∷ []
@@ -121,6 +125,15 @@ begun_by_peer = refl
 
 -- ---- The transport header
 
+-- named flags are the whole octet: neither part of it nor more than it
+flags_named : map (λ flags. rest_matches (layer_entry (layer.Tcp port.Any port.Any None (Some 2))) (sent 6 (packet.Tcp 50000 443 flags)) From None) (2 ∷ 0 ∷ 18 ∷ 16 ∷ []) ≡ true ∷ false ∷ false ∷ false ∷ []
+unfolding acl_on_literals
+flags_named = refl
+
+no_flag_named : map (λ flags. rest_matches (layer_entry (layer.Tcp port.Any port.Any None (Some 0))) (sent 6 (packet.Tcp 50000 443 flags)) From None) (0 ∷ 2 ∷ []) ≡ true ∷ false ∷ []
+unfolding acl_on_literals
+no_flag_named = refl
+
 abbrev echo_request : Entry
 echo_request = layer_entry (layer.Icmp (Some 8) (Some 0))
 
@@ -133,7 +146,7 @@ unfolding acl_on_literals
 icmp_kind_alone = refl
 
 -- a later fragment has no transport header, so that only an entry which asks for none matches it
-later_fragment : map (λ asked. rest_matches (layer_entry asked) (sent 17 packet.Absent) From None) (layer.Any ∷ layer.Udp port.Any port.Any ∷ layer.Tcp port.Any port.Any None ∷ layer.Icmp None None ∷ []) ≡ true ∷ false ∷ false ∷ false ∷ []
+later_fragment : map (λ asked. rest_matches (layer_entry asked) (sent 17 packet.Absent) From None) (layer.Any ∷ layer.Udp port.Any port.Any ∷ layer.Tcp port.Any port.Any None None ∷ layer.Icmp None None ∷ []) ≡ true ∷ false ∷ false ∷ false ∷ []
 unfolding acl_on_literals
 later_fragment = refl
 
@@ -170,6 +183,55 @@ family_of_addresses = refl
 v4_entry_over_v6 : rest_matches (layer_entry layer.Any) sent_over_v6 From None ≡ false
 unfolding acl_on_literals
 v4_entry_over_v6 = refl
+
+-- an entry that names one number of the IP header, and packets with these
+abbrev header_entry : Option ℕ → Option ℕ → Option ℕ → Option ℕ → Entry
+header_entry dscp ecn len ttl = record {
+  acl = [];
+  name = [];
+  family = family.V4;
+  selectors = [];
+  own = None;
+  protocol = None;
+  dscp = dscp;
+  ecn = ecn;
+  length = len;
+  ttl = ttl;
+  layer = layer.Any;
+  action = action.Accept;
+}
+
+abbrev header_packet : ℕ → ℕ → ℕ → ℕ → Fields
+header_packet dscp ecn len ttl = record { src = thing; dst = peer; protocol = 6; dscp = dscp; ecn = ecn; length = len; ttl = ttl; transport = syn }
+
+-- what an entry makes of a packet with its own numbers, and of those where one of them is another
+abbrev over_headers : Entry → List Bool
+over_headers entry = map (λ fields. rest_matches entry fields From None) (header_packet 46 1 1500 64 ∷ header_packet 45 1 1500 64 ∷ header_packet 46 2 1500 64 ∷ header_packet 46 1 1501 64 ∷ header_packet 46 1 1500 63 ∷ header_packet 1 46 64 1500 ∷ [])
+
+dscp_named : over_headers (header_entry (Some 46) None None None) ≡ true ∷ false ∷ true ∷ true ∷ true ∷ false ∷ []
+unfolding acl_on_literals
+dscp_named = refl
+
+ecn_named : over_headers (header_entry None (Some 1) None None) ≡ true ∷ true ∷ false ∷ true ∷ true ∷ false ∷ []
+unfolding acl_on_literals
+ecn_named = refl
+
+length_named : over_headers (header_entry None None (Some 1500) None) ≡ true ∷ true ∷ true ∷ false ∷ true ∷ false ∷ []
+unfolding acl_on_literals
+length_named = refl
+
+ttl_named : over_headers (header_entry None None None (Some 64)) ≡ true ∷ true ∷ true ∷ true ∷ false ∷ false ∷ []
+unfolding acl_on_literals
+ttl_named = refl
+
+all_named : over_headers (header_entry (Some 46) (Some 1) (Some 1500) (Some 64)) ≡ true ∷ false ∷ false ∷ false ∷ false ∷ false ∷ []
+unfolding acl_on_literals
+all_named = refl
+
+-- 0 is a number like others
+zero_named : over_headers (header_entry (Some 0) None None None) ≡ false ∷ false ∷ false ∷ false ∷ false ∷ false ∷ []
+unfolding acl_on_literals
+zero_named = refl
 
 -- ---- Near selectors
 

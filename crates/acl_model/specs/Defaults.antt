@@ -34,6 +34,10 @@ default_entry which side = record {
   selectors = asks.Controller (default_class which) ∷ [];
   own = None;
   protocol = None;
+  dscp = None;
+  ecn = None;
+  length = None;
+  ttl = None;
   layer = default_layer (default_port which) side;
   action = action.Accept;
 }

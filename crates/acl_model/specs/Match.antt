@@ -54,6 +54,15 @@ unfoldable pub number_passes : Option ℕ → ℕ → Bool
 number_passes None n = true
 number_passes (Some named) n = n == named
 
+-- each number of the IP header that the entry names is the packet's
+unfoldable pub header_matches : Entry → Fields → Bool
+header_matches entry fields =
+    number_passes entry.protocol fields.protocol
+    && number_passes entry.dscp fields.dscp
+    && number_passes entry.ecn fields.ecn
+    && number_passes entry.length fields.length
+    && number_passes entry.ttl fields.ttl
+
 -- ---- The transport header
 
 unfoldable pub port_passes : PortTest → ℕ → Bool
@@ -76,10 +85,10 @@ begun_passes None begun = true
 begun_passes (Some named) None = false
 begun_passes (Some named) (Some begun) = same_direction named begun
 
--- nothing is asked, or there is a header of this protocol and its fields pass
+-- nothing is asked, or there is a header of this protocol and its fields pass; named flags are the whole octet, no mask
 unfoldable pub layer_matches : Layer → Transport → Option Direction → Bool
 layer_matches layer.Any transport begun = true
-layer_matches (layer.Tcp source destination named) (packet.Tcp from to flags) begun = port_passes source from && port_passes destination to && begun_passes named begun
+layer_matches (layer.Tcp source destination named named_flags) (packet.Tcp from to flags) begun = port_passes source from && port_passes destination to && begun_passes named begun && number_passes named_flags flags
 layer_matches (layer.Udp source destination) (packet.Udp from to) begun = port_passes source from && port_passes destination to
 layer_matches (layer.Icmp kind code) (packet.Icmp k c) begun = number_passes kind k && number_passes code c
 layer_matches _ _ begun = false
@@ -89,7 +98,7 @@ unfoldable pub rest_matches : Entry → Fields → Direction → Option Directio
 rest_matches entry fields side begun =
     family_matches entry.family fields
     && own_passes entry.own (own_of side fields)
-    && number_passes entry.protocol fields.protocol
+    && header_matches entry fields
     && layer_matches entry.layer fields.transport begun
 
 -- ---- The peer's address

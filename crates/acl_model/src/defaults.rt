@@ -62,6 +62,10 @@ pub fn default_entry(alloc: Global, which: DefaultRule, side: Direction) -> Resu
         selectors,
         own: None,
         protocol: None,
+        dscp: None,
+        ecn: None,
+        length: None,
+        ttl: None,
         layer: default_layer(default_port(which), side),
         action: Action::Accept,
     })

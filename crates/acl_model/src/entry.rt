@@ -54,11 +54,13 @@ pub enum Layer {
     /// Nothing, whether there is such a header or not.
     Any,
     /// A TCP header with these ports. Where `begun` names a side, the Thing or its peer, it is the
-    /// one that began the connection (RFC 8520, 4.8, `direction-initiated`).
+    /// one that began the connection (RFC 8520, 4.8, `direction-initiated`). Where `flags` names an
+    /// octet, it is the header's whole flag octet, and no mask.
     Tcp {
         source: PortTest,
         destination: PortTest,
         begun: Option<Direction>,
+        flags: Option<u8>,
     },
     /// A UDP header with these ports.
     Udp {
@@ -97,6 +99,14 @@ pub struct Entry {
     pub own: Option<Prefix>,
     /// The IP protocol number, where it names one.
     pub protocol: Option<u8>,
+    /// The differentiated services code point, 0 to 63, where it names one.
+    pub dscp: Option<u8>,
+    /// The mark of explicit congestion notification, 0 to 3, where it names one.
+    pub ecn: Option<u8>,
+    /// The length that the IP header states, in octets, where it names one.
+    pub length: Option<u16>,
+    /// The time to live or hop limit, in hops, where it names one.
+    pub ttl: Option<u8>,
     /// What it asks of the transport header.
     pub layer: Layer,
     /// What becomes of a packet that it matches.
@@ -202,6 +212,10 @@ impl Entry {
             selectors: copied_selectors(&self.selectors)?,
             own: self.own,
             protocol: self.protocol,
+            dscp: self.dscp,
+            ecn: self.ecn,
+            length: self.length,
+            ttl: self.ttl,
             layer: self.layer,
             action: self.action,
         })

@@ -70,6 +70,29 @@ fn number_passes(named: Option<u8>, number: u8) -> bool
     }
 }
 
+/// Whether a length, in octets, is the one that is named, where one is.
+#[tactic(auto, unfolding(crate::specs::Match::number_passes))]
+fn length_passes(named: Option<u16>, length: u16) -> bool
+    ensures { result ≡ spec.number_passes named length }
+{
+    match named {
+        None => true,
+        Some(named) => length == named,
+    }
+}
+
+/// Whether each number of the IP header that the entry names is the packet's.
+#[tactic(auto, unfolding(crate::specs::Match::header_matches))]
+fn header_matches(entry: &Entry, fields: &Fields) -> bool
+    ensures { result ≡ spec.header_matches entry.now fields.now }
+{
+    number_passes(entry.protocol, fields.protocol)
+        && number_passes(entry.dscp, fields.dscp)
+        && number_passes(entry.ecn, fields.ecn)
+        && length_passes(entry.length, fields.length)
+        && number_passes(entry.ttl, fields.ttl)
+}
+
 /// Whether both are the same side.
 #[tactic(auto, unfolding(crate::specs::Match::same_direction))]
 pub fn same_direction(own: Direction, other: Direction) -> bool
@@ -103,13 +126,17 @@ fn layer_matches(layer: Layer, transport: Transport, begun: Option<Direction>) -
                 source,
                 destination,
                 begun: named,
+                flags: named_flags,
             },
             Transport::Tcp {
                 source: from,
                 destination: to,
-                flags: _,
+                flags,
             },
-        ) => source.passes(from) && destination.passes(to) && begun_passes(named, begun),
+        ) => source.passes(from)
+            && destination.passes(to)
+            && begun_passes(named, begun)
+            && number_passes(named_flags, flags),
         (
             Layer::Udp {
                 source,
@@ -132,8 +159,8 @@ fn layer_matches(layer: Layer, transport: Transport, begun: Option<Direction>) -
 }
 
 /// Whether the entry matches a packet with a Thing on this side, but for its selectors: by its
-/// family, own prefix, protocol, transport header, and the side that began the connection. It takes
-/// no memory.
+/// family, own prefix, the numbers of the IP header, the transport header, and the side that began
+/// the connection. It takes no memory.
 #[tactic(auto, unfolding(crate::specs::Match::rest_matches))]
 pub fn rest_matches(
     entry: &Entry,
@@ -145,7 +172,7 @@ pub fn rest_matches(
 {
     family_matches(entry.family, fields)
         && own_passes(&entry.own, own_of(side, fields))
-        && number_passes(entry.protocol, fields.protocol)
+        && header_matches(entry, fields)
         && layer_matches(entry.layer, fields.transport, begun)
 }
 

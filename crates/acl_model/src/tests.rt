@@ -25,10 +25,15 @@ fn full_entry(alloc: Global) -> Result<Entry, Fail> {
         selectors,
         own: Some(network),
         protocol: Some(6),
+        dscp: Some(46),
+        ecn: Some(1),
+        length: Some(1500),
+        ttl: Some(64),
         layer: Layer::Tcp {
             source: PortTest::Any,
             destination: PortTest::Eq(443),
             begun: Some(Direction::From),
+            flags: Some(2),
         },
         action: Action::Accept,
     })

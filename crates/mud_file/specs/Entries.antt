@@ -110,6 +110,10 @@ entry_of list name tests act = record {
   selectors = tests.selectors;
   own = tests.own;
   protocol = tests.protocol;
+  dscp = None;
+  ecn = None;
+  length = None;
+  ttl = None;
   layer = tests.layer;
   action = act;
 }

@@ -116,6 +116,10 @@ fn entry_of(
         selectors: tests.selectors,
         own: tests.own,
         protocol: tests.protocol,
+        dscp: None,
+        ecn: None,
+        length: None,
+        ttl: None,
         layer: tests.layer,
         action,
     })

@@ -41,6 +41,7 @@ const OUTGOING: [Written<'static>; 2] = [
             source: PortTest::Any,
             destination: PortTest::Eq(443),
             begun: Some(Direction::From),
+            flags: None,
         },
         Action::Accept,
     ),
@@ -63,6 +64,7 @@ const INCOMING: [Written<'static>; 1] = [(
         source: PortTest::Eq(443),
         destination: PortTest::Any,
         begun: Some(Direction::From),
+        flags: None,
     },
     Action::Accept,
 )];

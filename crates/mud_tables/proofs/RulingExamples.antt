@@ -23,7 +23,7 @@ use Rattle.acl_model.specs.declared.ruling.Ruling.{Ruling}
 use Rattle.acl_model.specs.declared.ruling.Ruling.TheVariants.{Accept, AcceptDefault, Drop, DropDefault}
 use Rattle.acl_model.specs.Defaults.{default_class, default_port, default_layer, default_entry}
 use Rattle.acl_model.specs.FirstMatch.{entries_of, ruled_by, first_ruling, default_ruling, ruling_by}
-use Rattle.acl_model.specs.Match.{peer_of, own_of, is_in_family, family_matches, own_passes, number_passes, port_passes, same_direction, begun_passes, layer_matches, rest_matches, is_local, near_met, near_matches, entry_matches}
+use Rattle.acl_model.specs.Match.{peer_of, own_of, is_in_family, family_matches, own_passes, number_passes, header_matches, port_passes, same_direction, begun_passes, layer_matches, rest_matches, is_local, near_met, near_matches, entry_matches}
 use Rattle.mud_tables.specs.declared.bind.Class.TheVariants.{Uri, Mine}
 use Rattle.mud_tables.specs.declared.bind.ClassRow.{ClassRow}
 use Rattle.mud_tables.specs.declared.bind.NameRow.{NameRow}
@@ -32,7 +32,7 @@ use Rattle.mud_tables.specs.History.{begun_of, with_packet}
 use Rattle.mud_tables.proofs.Literals.{binds_compute, flows_compute, tcp, call, answer, back_call, bulb_addr, switch_addr, dns_addr, test_addr, bulb_url, next_url, switch_url, dns_class, test_name, bulb, bare_bulb, bare_switch}
 
 unfoldable rulings_compute : Unit {0}
-unfolding binds_compute prefix_holds authority host_part host_of default_class default_port default_layer default_entry entries_of ruled_by first_ruling default_ruling ruling_by peer_of own_of is_in_family family_matches own_passes number_passes port_passes same_direction begun_passes layer_matches rest_matches is_local near_met near_matches entry_matches has_lease has_host has_url is_leased is_bound is_named meets ruling_of
+unfolding binds_compute prefix_holds authority host_part host_of default_class default_port default_layer default_entry entries_of ruled_by first_ruling default_ruling ruling_by peer_of own_of is_in_family family_matches own_passes number_passes header_matches port_passes same_direction begun_passes layer_matches rest_matches is_local near_met near_matches entry_matches has_lease has_host has_url is_leased is_bound is_named meets ruling_of
 rulings_compute = tt
 
 -- ---- The bulb's file: to its server by HTTPS on a connection that it began, and all that its maker's Things are
@@ -45,7 +45,11 @@ to_server = record {
   selectors = asks.Name test_name ∷ [];
   own = None;
   protocol = Some 6;
-  layer = layer.Tcp port.Any (port.Eq 443) (Some From);
+  dscp = None;
+  ecn = None;
+  length = None;
+  ttl = None;
+  layer = layer.Tcp port.Any (port.Eq 443) (Some From) None;
   action = action.Accept;
 }
 
@@ -57,6 +61,10 @@ to_maker = record {
   selectors = asks.SameManufacturer ∷ [];
   own = None;
   protocol = None;
+  dscp = None;
+  ecn = None;
+  length = None;
+  ttl = None;
   layer = layer.Any;
   action = action.Accept;
 }
@@ -69,7 +77,11 @@ from_server = record {
   selectors = asks.Name test_name ∷ [];
   own = None;
   protocol = Some 6;
-  layer = layer.Tcp (port.Eq 443) port.Any (Some From);
+  dscp = None;
+  ecn = None;
+  length = None;
+  ttl = None;
+  layer = layer.Tcp (port.Eq 443) port.Any (Some From) None;
   action = action.Accept;
 }
 
@@ -85,6 +97,10 @@ no_dns = record {
   selectors = [];
   own = None;
   protocol = None;
+  dscp = None;
+  ecn = None;
+  length = None;
+  ttl = None;
   layer = layer.Udp port.Any (port.Eq 53);
   action = action.Drop;
 }
@@ -101,7 +117,11 @@ answers = record {
   selectors = asks.SameManufacturer ∷ [];
   own = None;
   protocol = None;
-  layer = layer.Tcp port.Any port.Any (Some To);
+  dscp = None;
+  ecn = None;
+  length = None;
+  ttl = None;
+  layer = layer.Tcp port.Any port.Any (Some To) None;
   action = action.Accept;
 }
 

@@ -83,7 +83,7 @@ tcp_of path d = do
   source ← port_where_there path members.SourcePort d
   destination ← port_where_there path members.DestinationPort d
   begun ← direction_where_there path members.DirectionInitiated d
-  done (layer.Tcp source destination begun)
+  done (layer.Tcp source destination begun None)
 
 -- a direction stands in `tcp` alone
 unfoldable pub no_direction : List ℕ → Data → Reading (Unit {0})

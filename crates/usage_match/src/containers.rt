@@ -214,6 +214,7 @@ pub fn tcp_of(alloc: Global, container: &Value, path: &[u8]) -> Result<Layer, Fi
         source,
         destination,
         begun,
+        flags: None,
     })
 }
 

@@ -31,6 +31,7 @@ const READS: [Reads; 6] = [
             source: PortTest::Any,
             destination: PortTest::Eq(443),
             begun: Some(Direction::From),
+            flags: None,
         },
     },
     Reads {
@@ -68,6 +69,7 @@ const READS: [Reads; 6] = [
             source: PortTest::Neq(65535),
             destination: PortTest::Lte(1023),
             begun: Some(Direction::To),
+            flags: None,
         },
     },
     Reads {

@@ -1,8 +1,8 @@
 -- Fields and their octets.
 use Rattle.std.proofs.Common.{◌≡◌, [], ◌∷◌, ◌++◌, refl, Ok, Err, Some, None}
 use Rattle.item_codec.specs.declared.fault.CodecFault.TheVariants.{Short, Version, Tail}
-use Rattle.item_codec.specs.Spelling.{number, string, list, version}
-use Rattle.item_codec.specs.Reading.{number_of, octets_at, number_at, string_at, list_at, version_at, end_at}
+use Rattle.item_codec.specs.Spelling.{number, string, list, version, version_of}
+use Rattle.item_codec.specs.Reading.{number_of, octets_at, number_at, string_at, list_at, version_to, version_at, end_at}
 use Rattle.item_codec.specs.Records.{number_in, string_in, optional, optional_in, elements, each_in, elements_in}
 
 -- the most significant octet stands first
@@ -27,7 +27,7 @@ short_string = refl
 
 -- a version, an empty string and the count of an empty list
 front_of_body : version ++ string [] ++ list 0 ≡ 1 ∷ 0 ∷ 0 ∷ 0 ∷ 0 ∷ 0 ∷ 0 ∷ []
-unfolding version string list number
+unfolding version version_of string list number
 front_of_body = refl
 
 reads_number : number_at 2 (3 ∷ 0xe8 ∷ 9 ∷ []) ≡ Ok (1000, 9 ∷ [])
@@ -52,16 +52,29 @@ unfolding list_at number_at octets_at number_of
 reads_count = refl
 
 reads_version : version_at (1 ∷ 8 ∷ []) ≡ Ok (1, 8 ∷ [])
-unfolding version_at number_at octets_at number_of
+unfolding version_at version_to number_at octets_at number_of
 reads_version = refl
 
 later_version : version_at (2 ∷ []) ≡ Err Version
-unfolding version_at number_at octets_at number_of
+unfolding version_at version_to number_at octets_at number_of
 later_version = refl
+
+reads_second : version_to 2 (2 ∷ 8 ∷ []) ≡ Ok (2, 8 ∷ [])
+unfolding version_to number_at octets_at number_of
+reads_second = refl
+
+third_version : version_to 2 (3 ∷ []) ≡ Err Version
+unfolding version_to number_at octets_at number_of
+third_version = refl
+
+-- no version is 0
+version_zero : version_to 2 (0 ∷ []) ≡ Err Version
+unfolding version_to number_at octets_at number_of
+version_zero = refl
 
 -- where no octet is left, that is what is wrong
 no_version : version_at [] ≡ Err Short
-unfolding version_at number_at octets_at
+unfolding version_at version_to number_at octets_at
 no_version = refl
 
 at_end : end_at [] ≡ Ok tt

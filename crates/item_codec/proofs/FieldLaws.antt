@@ -1,11 +1,12 @@
 -- A field that was written is read back, and nothing else reads.
-use Rattle.std.proofs.Common.{◌≡◌, ℕ, [], ◌+◌, ◌^◌, ◌<◌, ◌≤◌, Bool, true, false, cond, ltb, eqb, List, ◌++◌, length, take, drop, Result, Ok, Err, refl, sym, ap, subst, ◌∙◌, append_assoc, arith, inl, inr, lit<}
-use Rattle.std.proofs.lemmas.Bool.{cases_lt, ltb-false, le-ltb, eqb-true}
+use Rattle.std.proofs.Common.{◌≡◌, ℕ, zero, suc, [], ◌+◌, ◌^◌, ◌<◌, ◌≤◌, Bool, true, false, ◌||◌, cond, ltb, eqb, List, ◌++◌, length, take, drop, Result, Ok, Err, refl, sym, ap, subst, ◌∙◌, append_assoc, arith, inl, inr, lit<, lit≤}
+use Rattle.std.proofs.Math.Dec.{eqb-suc-zero}
+use Rattle.std.proofs.lemmas.Bool.{cases_lt, ltb-false, le-ltb, eqb-false}
 use Rattle.std.proofs.lemmas.List.{take_at, drop_at, take-append-drop, append-nil, length-append, length-take, get_or-drop, get_or-take, get_or_past}
 use Rattle.item_codec.specs.declared.fault.CodecFault.{CodecFault}
 use Rattle.item_codec.specs.declared.fault.CodecFault.TheVariants.{Short, Version}
-use Rattle.item_codec.specs.Spelling.{IsWidth, IsOctets, number, string, list, version}
-use Rattle.item_codec.specs.Reading.{◌>>=◌, number_of, octets_at, number_at, string_at, list_at, version_at, IsRead}
+use Rattle.item_codec.specs.Spelling.{IsWidth, IsOctets, number, string, list, version, version_of}
+use Rattle.item_codec.specs.Reading.{◌>>=◌, number_of, octets_at, number_at, string_at, list_at, version_to, version_at, IsRead}
 use Rattle.item_codec.proofs.Widths.{number_of-number, number-number_of, length-number}
 
 pub IsOctets-drop : (n : ℕ) (octets : List ℕ) → IsOctets octets → IsOctets (drop n octets)
@@ -36,10 +37,10 @@ pub guard_ok : {A : Type 0} (b : Bool) (d : CodecFault) (x y : A) → cond b (Er
 guard_ok true d x y e = absurd cc
 guard_ok false d x y e = (refl, cc)
 
--- a test that let pass
-pub pass_ok : {A : Type 0} (b : Bool) (d : CodecFault) (x y : A) → cond b (Ok x) (Err d) ≡ Ok y → (b ≡ true) × (x ≡ y)
-pass_ok true d x y e = (refl, cc)
-pass_ok false d x y e = absurd cc
+-- neither of two tests holds
+neither : (b c : Bool) → (b || c) ≡ false → (b ≡ false) × (c ≡ false)
+neither true c e = absurd cc
+neither false c e = (refl, e)
 
 -- ---- octets
 
@@ -109,20 +110,43 @@ string_again text rest below =
 
 -- ---- the version
 
+above_zero : (n : ℕ) → eqb n 0 ≡ false → 1 ≤ n
+above_zero n e = omega (arith, eqb-false n 0 e)
+
+not_zero : (n : ℕ) → 1 ≤ n → eqb n 0 ≡ false
+not_zero zero least = absurd (omega (arith, least))
+not_zero (suc n) least = eqb-suc-zero n
+
+-- a version that was read, with its bounds
+pub record IsVersion (bound : ℕ) (octets : List ℕ) (value : ℕ) (rest : List ℕ) : Type 0 where
+  pub read : IsRead octets (version_of value) rest
+  pub least : 1 ≤ value
+  pub most : value ≤ bound
+
+pub version_to_read : (most : ℕ) (octets : List ℕ) (value : ℕ) (rest : List ℕ) → IsOctets octets → version_to most octets ≡ Ok (value, rest) → IsVersion most octets value rest
+unfolding version_to version_of
+version_to_read most octets value rest fits e =
+    let b = bind_ok (number_at 1 octets) (λ v. cond (eqb v.0 0 || ltb most v.0) (Err Version) (Ok v)) (value, rest) e in
+    let g = guard_ok (eqb b.0.0 0 || ltb most b.0.0) Version b.0 (value, rest) b.2 in
+    let n = number_read 1 octets b.0.0 b.0.1 refl fits b.1 in
+    let tests = neither (eqb b.0.0 0) (ltb most b.0.0) g.0 in
+    subst (λ (p : ℕ × List ℕ). IsVersion most octets p.0 p.1) g.1
+    (record { read = n.0; least = above_zero b.0.0 tests.0; most = ltb-false most b.0.0 tests.1 })
+
+pub version_to_again : (most value : ℕ) (rest : List ℕ) → 1 ≤ value → value ≤ most → value < 256 → version_to most (version_of value ++ rest) ≡ Ok (value, rest)
+unfolding version_to version_of
+version_to_again most value rest least within below = rw (number_again 1 value rest refl (omega (arith, below)), not_zero value least, le-ltb most value within) refl
+
 pub version_read : (octets : List ℕ) (value : ℕ) (rest : List ℕ) → IsOctets octets → version_at octets ≡ Ok (value, rest) → IsRead octets version rest × (value ≡ 1)
 unfolding version_at version
 version_read octets value rest fits e =
-    let b = bind_ok (number_at 1 octets) (λ v. cond (eqb v.0 1) (Ok v) (Err Version)) (value, rest) e in
-    let g = pass_ok (eqb b.0.0 1) Version b.0 (value, rest) b.2 in
-    let n = number_read 1 octets b.0.0 b.0.1 refl fits b.1 in
-    let one : b.0.0 ≡ 1 = eqb-true b.0.0 1 g.0 in
-    let v : b.0.0 ≡ value = ap (λ (p : ℕ × List ℕ). p.0) g.1 in
-    let r : b.0.1 ≡ rest = ap (λ (p : ℕ × List ℕ). p.1) g.1 in
-    (subst (λ (x : List ℕ). IsRead octets (number 1 1) x) r (subst (λ (k : ℕ). IsRead octets (number 1 k) b.0.1) one n.0), sym v ∙ one)
+    let v = version_to_read 1 octets value rest fits e in
+    let one : value ≡ 1 = omega (arith, v.least, v.most) in
+    (subst (λ (k : ℕ). IsRead octets (version_of k) rest) one v.read, one)
 
 pub version_again : (rest : List ℕ) → version_at (version ++ rest) ≡ Ok (1, rest)
 unfolding version_at version
-version_again rest = rw (number_again 1 1 rest refl (lit< tt)) refl
+version_again rest = version_to_again 1 1 rest (lit≤ tt) (lit≤ tt) (lit< tt)
 
 -- ---- one text for each value, and none begins another
 

@@ -1,16 +1,16 @@
 -- The forms of records: values or none, lists, and fields one behind the other.
-use Rattle.std.proofs.Common.{◌≡◌, ℕ, zero, suc, ◌+◌, ◌^◌, ◌<◌, Bool, true, false, cond, eqb, List, [], ◌∷◌, ◌++◌, length, Option, Some, None, Result, Ok, Err, refl, sym, ap, subst, ◌∙◌, append_assoc, arith, inl, inr, lit<, ◌⊎◌}
-use Rattle.std.specs.Prelude.{flat_map, option_map, option_and_then}
+use Rattle.std.proofs.Common.{◌≡◌, ℕ, zero, suc, ◌^◌, ◌<◌, ◌≤◌, Bool, true, false, cond, eqb, List, [], ◌∷◌, ◌++◌, length, Option, Some, None, Result, Ok, Err, refl, sym, ap, subst, ◌∙◌, append_assoc, arith, inl, inr, lit<, ◌⊎◌}
+use Rattle.std.specs.Prelude.{flat_map, option_map}
 use Rattle.std.specs.Result.{result_ok}
 use Rattle.std.specs.List.{AllByRecursion}
 use Rattle.std.proofs.lemmas.Bool.{eqb-true}
 use Rattle.std.proofs.lemmas.List.{nil_from_length, append-nil}
 use Rattle.item_codec.specs.declared.fault.CodecFault.{CodecFault}
 use Rattle.item_codec.specs.declared.fault.CodecFault.TheVariants.{Tail}
-use Rattle.item_codec.specs.Spelling.{IsWidth, IsOctets, number, string, list, version}
-use Rattle.item_codec.specs.Reading.{IsRead, number_at, string_at, list_at, version_at, end_at}
-use Rattle.item_codec.specs.Records.{Reading, ◌>>=◌, number_in, string_in, version_in, end_in, optional, some_value, optional_in, elements, each_in, elements_in, list_body, list_body_in, IsForm, OptionFits, ListFits}
-use Rattle.item_codec.proofs.FieldLaws.{then_read, read_whole, number_read, number_again, string_read, string_again, list_read, list_again, version_read, version_again}
+use Rattle.item_codec.specs.Spelling.{IsWidth, IsOctets, number, string, list, version, version_of}
+use Rattle.item_codec.specs.Reading.{IsRead, number_at, string_at, list_at, version_to, version_at, end_at}
+use Rattle.item_codec.specs.Records.{Reading, ◌>>=◌, number_in, string_in, version_to_in, version_in, end_in, optional, some_value, optional_in, elements, each_in, elements_in, list_body, list_body_in, IsForm, OptionFits, ListFits}
+use Rattle.item_codec.proofs.FieldLaws.{then_read, read_whole, number_read, number_again, string_read, string_again, list_read, list_again, IsVersion, version_to_read, version_to_again, version_read, version_again}
 
 -- ---- Readings that succeed
 
@@ -57,6 +57,14 @@ string_form = record {
   back = λ s rest fits. ap result_ok (string_again s rest fits);
   alone = λ octets s rest fits e. string_read octets s rest fits (ok_some (string_at octets) (s, rest) e);
 }
+
+pub version_to_back : (most value : ℕ) (rest : List ℕ) → 1 ≤ value → value ≤ most → value < 256 → version_to_in most (version_of value ++ rest) ≡ Some (value, rest)
+unfolding version_to_in
+version_to_back most value rest least within below = ap result_ok (version_to_again most value rest least within below)
+
+pub version_to_alone : (most : ℕ) (octets : List ℕ) (v : ℕ × List ℕ) → IsOctets octets → version_to_in most octets ≡ Some v → IsVersion most octets v.0 v.1
+unfolding version_to_in
+version_to_alone most octets v fits e = version_to_read most octets v.0 v.1 fits (ok_some (version_to most octets) v e)
 
 pub version_back : (rest : List ℕ) → version_in (version ++ rest) ≡ Some (1, rest)
 unfolding version_in

@@ -1,5 +1,5 @@
 -- Reading the field at the front of octets. A reading gives the field's value and the octets behind it, or the fault.
-use Rattle.std.specs.Prelude.{◌≡◌, ℕ, ◌+◌, ◌*◌, ◌==◌, nat_lt, List, [], ◌∷◌, ◌++◌, length, take, drop, Result, Ok, Err, if◌then◌else◌}
+use Rattle.std.specs.Prelude.{◌≡◌, ℕ, ◌+◌, ◌*◌, ◌||◌, ◌==◌, nat_lt, List, [], ◌∷◌, ◌++◌, length, take, drop, Result, Ok, Err, if◌then◌else◌}
 use Rattle.item_codec.specs.declared.fault.CodecFault.{CodecFault}
 use Rattle.item_codec.specs.declared.fault.CodecFault.TheVariants.{Short, Version, Tail}
 use Rattle.item_codec.specs.Spelling.{IsOctets}
@@ -37,11 +37,15 @@ string_at octets = do
 unfoldable pub list_at : List ℕ → Result (ℕ × List ℕ) CodecFault
 list_at octets = number_at 2 octets
 
+-- the version, which has to be from 1 to most
+unfoldable pub version_to : ℕ → List ℕ → Result (ℕ × List ℕ) CodecFault
+version_to most octets = do
+  version ← number_at 1 octets
+  if version.0 == 0 || nat_lt most version.0 then Err Version else Ok version
+
 -- the version, which has to be 1
 unfoldable pub version_at : List ℕ → Result (ℕ × List ℕ) CodecFault
-version_at octets = do
-  version ← number_at 1 octets
-  if version.0 == 1 then Ok version else Err Version
+version_at octets = version_to 1 octets
 
 -- the end: no octets are left
 unfoldable pub end_at : List ℕ → Result (Unit {0}) CodecFault

@@ -4,7 +4,7 @@ use Rattle.std.specs.Prelude.{◌≡◌, ℕ, zero, suc, ◌<◌, ◌^◌, ◌==
 use Rattle.std.specs.Result.{result_ok}
 use Rattle.std.specs.List.{AllByRecursion}
 use Rattle.item_codec.specs.Spelling.{IsOctets, number, list, version}
-use Rattle.item_codec.specs.Reading.{IsRead, number_at, string_at, list_at, version_at, end_at}
+use Rattle.item_codec.specs.Reading.{IsRead, number_at, string_at, list_at, version_to, version_at, end_at}
 
 abbrev pub Reading : Type 0 → Type 0
 Reading A = List ℕ → Option (A × List ℕ)
@@ -19,6 +19,10 @@ number_in width octets = result_ok (number_at width octets)
 
 unfoldable pub string_in : Reading (List ℕ)
 string_in octets = result_ok (string_at octets)
+
+-- a version from 1 to most
+unfoldable pub version_to_in : ℕ → Reading ℕ
+version_to_in most octets = result_ok (version_to most octets)
 
 unfoldable pub version_in : Reading ℕ
 version_in octets = result_ok (version_at octets)

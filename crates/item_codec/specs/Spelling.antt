@@ -21,9 +21,13 @@ string octets = number 4 (length octets) ++ octets
 unfoldable pub list : ℕ → List ℕ
 list count = number 2 count
 
--- the version in one octet
+-- a version in one octet
+unfoldable pub version_of : ℕ → List ℕ
+version_of n = number 1 n
+
+-- the version 1
 unfoldable pub version : List ℕ
-version = number 1 1
+version = version_of 1
 
 -- numbers that are octets
 abbrev pub IsOctets : List ℕ → Type 0

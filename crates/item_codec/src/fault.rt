@@ -6,7 +6,7 @@ ghost use Rattle.std.specs.Prelude.{◌≡◌};
 pub enum CodecFault {
     /// Fewer octets are left than the field needs.
     Short,
-    /// The version octet isn't 1.
+    /// The version octet is 0, or above the version that is asked for.
     Version,
     /// Octets are left where there should be none.
     Tail,

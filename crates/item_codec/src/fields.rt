@@ -60,14 +60,24 @@ pub fn list_at(octets: &[u8]) -> Result<(u16, &[u8]), CodecFault>
     Ok((count as u16, rest))
 }
 
+/// The version octet, which has to be from 1 to `most`.
+#[tactic(auto, unfolding(crate::specs::Reading::version_to))]
+pub fn version_to(octets: &[u8], most: u8) -> Result<(u8, &[u8]), CodecFault>
+    ensures value { spec.Gives (λ x. (x.0, x.1.now)) result (spec.version_to most octets.now) }
+    ensures least { IfOk result (λ x. 1 ≤ x.0) }
+    ensures most { IfOk result (λ x. x.0 ≤ most) }
+{
+    let (version, rest) = number_at(octets, 1)?;
+    if version == 0 || version > most as u64 {
+        return Err(CodecFault::Version);
+    }
+    Ok((version as u8, rest))
+}
+
 /// The version octet, which has to be 1.
 #[tactic(auto, unfolding(crate::specs::Reading::version_at))]
 pub fn version_at(octets: &[u8]) -> Result<(u8, &[u8]), CodecFault>
     ensures { spec.Gives (λ x. (x.0, x.1.now)) result (spec.version_at octets.now) }
 {
-    let (version, rest) = number_at(octets, 1)?;
-    if version != 1 {
-        return Err(CodecFault::Version);
-    }
-    Ok((1, rest))
+    version_to(octets, 1)
 }

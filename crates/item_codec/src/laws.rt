@@ -1,7 +1,7 @@
 //! Laws of the fields: what was written is read back, and nothing else reads.
-ghost use Rattle.std.specs.Prelude.{◌≡◌, ℕ, ◌+◌, ◌^◌, ◌<◌, List, ◌++◌, length, Ok};
-ghost use Rattle.item_codec.specs.Spelling.{IsWidth, IsOctets, number, string, list, version};
-ghost use Rattle.item_codec.specs.Reading.{IsRead, number_at, string_at, list_at, version_at};
+ghost use Rattle.std.specs.Prelude.{◌≡◌, ℕ, ◌+◌, ◌^◌, ◌<◌, ◌≤◌, List, ◌++◌, length, Ok};
+ghost use Rattle.item_codec.specs.Spelling.{IsWidth, IsOctets, number, string, list, version, version_of};
+ghost use Rattle.item_codec.specs.Reading.{IsRead, number_at, string_at, list_at, version_to, version_at};
 
 /// Numbers, in each width.
 pub fn numbers()
@@ -43,11 +43,18 @@ pub fn lists()
         → list a ++ x ≡ list b ++ y → (a ≡ b) × (x ≡ y) }
 {}
 
-/// The version.
+/// Versions.
 pub fn versions()
-    // What was written is read back, whatever follows it.
-    ensures back { (rest : List ℕ) → version_at (version ++ rest) ≡ Ok (1, rest) }
+    // What was written is read back, whatever follows it and up to whichever version is asked for.
+    ensures back_to { (most value : ℕ) (rest : List ℕ) → 1 ≤ value → value ≤ most → value < 256
+        → version_to most (version_of value ++ rest) ≡ Ok (value, rest) }
     // What is read was written so, each octet of it.
+    ensures alone_to { (most : ℕ) (octets : List ℕ) (value : ℕ) (rest : List ℕ) → IsOctets octets
+        → version_to most octets ≡ Ok (value, rest)
+        → IsRead octets (version_of value) rest × (1 ≤ value) × (value ≤ most) }
+    // The version 1 is read back, whatever follows it.
+    ensures back { (rest : List ℕ) → version_at (version ++ rest) ≡ Ok (1, rest) }
+    // What is read so was written so, each octet of it.
     ensures alone { (octets : List ℕ) (value : ℕ) (rest : List ℕ) → IsOctets octets
         → version_at octets ≡ Ok (value, rest) → IsRead octets version rest × (value ≡ 1) }
 {}

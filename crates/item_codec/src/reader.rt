@@ -1,5 +1,5 @@
 //! Reading the fields of an item, one after the other.
-ghost use Rattle.std.specs.Prelude.{◌≡◌};
+ghost use Rattle.std.specs.Prelude.{◌≡◌, ◌^◌, ◌<◌, ◌≤◌, IfOk};
 ghost use Rattle.item_codec.specs.Spelling.{IsWidth};
 ghost use Rattle.item_codec.specs.Reading as spec;
 
@@ -33,7 +33,8 @@ impl<'a> FieldReader<'a> {
     /// Reads a number of 1, 2, 4 or 8 octets, most significant first.
     pub fn number(&mut self, width: u8) -> Result<u64, CodecFault>
         requires { IsWidth width }
-        ensures { spec.Reads (λ n. n) result self.old self.new (spec.number_at width self.old) }
+        ensures value { spec.Reads (λ n. n) result self.old self.new (spec.number_at width self.old) }
+        ensures range { IfOk result (λ n. n < 256 ^ width) }
     {
         let (number, rest) = fields::number_at(self.octets, width)?;
         self.octets = rest;
@@ -56,6 +57,17 @@ impl<'a> FieldReader<'a> {
         let (count, rest) = fields::list_at(self.octets)?;
         self.octets = rest;
         Ok(count)
+    }
+
+    /// Reads the version octet, which has to be from 1 to `most`.
+    pub fn version_to(&mut self, most: u8) -> Result<u8, CodecFault>
+        ensures value { spec.Reads (λ n. n) result self.old self.new (spec.version_to most self.old) }
+        ensures least { IfOk result (λ n. 1 ≤ n) }
+        ensures most { IfOk result (λ n. n ≤ most) }
+    {
+        let (version, rest) = fields::version_to(self.octets, most)?;
+        self.octets = rest;
+        Ok(version)
     }
 
     /// Reads the version octet, which has to be 1.

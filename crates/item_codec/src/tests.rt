@@ -39,8 +39,19 @@ fn refusals_read_nothing(rt: HostRuntime) {
     let mut reader = FieldReader::new(&[0, 0, 0, 3, 1, 2]);
     assert!(rt; matches!(reader.string(), Err(CodecFault::Short)));
     assert_eq!(rt; reader.version(), Err(CodecFault::Version));
+    assert_eq!(rt; reader.version_to(2), Err(CodecFault::Version));
     assert_eq!(rt; reader.number(8), Err(CodecFault::Short));
     assert_eq!(rt; reader.number(4), Ok(3));
+}
+
+#[test]
+fn later_versions(rt: HostRuntime) {
+    assert_eq!(rt; FieldReader::new(&[2]).version_to(2), Ok(2));
+    assert_eq!(rt; FieldReader::new(&[1]).version_to(2), Ok(1));
+    assert_eq!(rt;
+        FieldReader::new(&[3]).version_to(2),
+        Err(CodecFault::Version)
+    );
 }
 
 #[test]
@@ -50,4 +61,6 @@ fn names_and_numbers(rt: HostRuntime) {
     assert_eq!(rt; CodecFault::Tail.number(), 3);
     assert_eq!(rt; Word::Stranger.text(), "stranger");
     assert_eq!(rt; Word::Unbound.text(), "unbound");
+    assert_eq!(rt; Word::Held.text(), "held");
+    assert_eq!(rt; Word::Released.text(), "released");
 }

@@ -14,6 +14,10 @@ pub enum Word {
     Moved,
     /// A Thing is no longer kept.
     Removed,
+    /// All packets of a Thing are dropped from now on.
+    Held,
+    /// A Thing is judged by its usage file again.
+    Released,
     /// A lease was heard of a hardware address that no Thing has.
     Stranger,
     /// The end of what was kept has changed.
@@ -48,6 +52,8 @@ impl Word {
             Word::Pending => "pending",
             Word::Moved => "moved",
             Word::Removed => "removed",
+            Word::Held => "held",
+            Word::Released => "released",
             Word::Stranger => "stranger",
             Word::Renewed => "renewed",
             Word::Ended => "ended",

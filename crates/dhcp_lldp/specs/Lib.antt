@@ -1,5 +1,4 @@
 pub mod Dhcp
-pub mod Fields
 pub mod Heard
 pub mod Lldp
 pub mod Mud

@@ -4,7 +4,7 @@ use Rattle.dhcp_lldp.specs.declared.heard.HearFault.{HearFault}
 use Rattle.dhcp_lldp.specs.declared.heard.HearFault.TheVariants.{Order, Repeat}
 use Rattle.dhcp_lldp.specs.declared.tlvs.Step.{Step}
 use Rattle.dhcp_lldp.specs.declared.tlvs.Step.TheVariants.{End, Cut, Whole}
-use Rattle.dhcp_lldp.specs.Tlvs.{Tlv, listing, no_more, cut_at, with_tlv, is_out_of_order, is_mud, mud_string_of}
+use Rattle.dhcp_lldp.specs.Tlvs.{Tlv, listing, no_more, cut_at, with_tlv, prefix_len, is_out_of_order, is_mud, mud_string_of}
 
 abbrev pub IsStep : List ℕ → Step → Type 0
 IsStep octets End = (place : ℕ) → listing 0 place octets ≡ no_more
@@ -33,5 +33,5 @@ once (Some earlier) seen = Err Repeat
 unfoldable pub seen_after : SeenTlvs → Tlv → Result SeenTlvs HearFault
 seen_after seen tlv =
     if is_out_of_order seen.count tlv then Err Order
-    else (if is_mud tlv then once seen.string (record { count = seen.count + 1; string = Some (drop 4 tlv.content) })
+    else (if is_mud tlv then once seen.string (record { count = seen.count + 1; string = Some (drop prefix_len tlv.content) })
     else Ok (record seen { count = seen.count + 1 }))

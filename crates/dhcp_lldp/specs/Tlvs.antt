@@ -53,9 +53,13 @@ is_out_of_order before tlv =
     if nat_lt before 3 then not (tlv.kind == before + 1)
     else (nat_le 1 tlv.kind && nat_le tlv.kind 3) || (tlv.kind == 0 && not (length tlv.content == 0))
 
+-- how many octets the OUI and the subtype of an organizationally specific TLV take (clause 8.6)
+abbrev pub prefix_len : ℕ
+prefix_len = 4
+
 -- The MUD URL TLV is organizationally specific (type 127), with the OUI 00-00-5E and the subtype 1 (RFC 8520, section 12).
 unfoldable pub is_mud : Tlv → Bool
-is_mud tlv = tlv.kind == 127 && bytes_eq (take 4 tlv.content) (0 ∷ 0 ∷ 94 ∷ 1 ∷ [])
+is_mud tlv = tlv.kind == 127 && bytes_eq (take prefix_len tlv.content) (0 ∷ 0 ∷ 94 ∷ 1 ∷ [])
 
 -- The table of faults of the TLVs in their order, where so many TLVs stand before them, and a MUD URL TLV among these or not.
 abbrev pub tlv_rows : ℕ → Bool → Option ℕ → List Tlv → List (Option HearFault)
@@ -70,4 +74,4 @@ tlv_fault l = first_row (tlv_rows 0 false l.cut l.tlvs)
 
 -- the MUD string, which stands behind the OUI and the subtype
 unfoldable pub mud_string_of : List Tlv → Option (List ℕ)
-mud_string_of tlvs = option_map (λ (tlv : Tlv). drop 4 tlv.content) (find is_mud tlvs)
+mud_string_of tlvs = option_map (λ (tlv : Tlv). drop prefix_len tlv.content) (find is_mud tlvs)

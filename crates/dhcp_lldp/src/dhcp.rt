@@ -3,11 +3,11 @@ ghost use Rattle.std.specs.Prelude.{◌≡◌, ◌≤◌, length, option_copied}
 ghost use Rattle.dhcp_lldp.specs.Dhcp.{heard_of, is_request, is_reply, is_ethernet, has_cookie, yiaddr_of, is_ack, seconds_of, granted, said};
 
 use crate::contents::Contents;
-use crate::fields::{field, is_group, mac_at};
 use crate::heard::{HearFault, Heard};
 use crate::mud::announced;
 use crate::options::{OPTIONS_PLACE, contents};
 use mud_base::{Addr, Mac};
+use octet_fields::{big_32, is_group_at, mac_at, octets_at};
 
 /// The op of a client's message.
 const BOOTREQUEST: u8 = 1;
@@ -17,15 +17,22 @@ const BOOTREPLY: u8 = 2;
 const ETHERNET: u8 = 1;
 /// The hlen of Ethernet.
 const ETHERNET_LEN: u8 = 6;
-/// The octets in front of the options (section 3).
+/// The magic cookie in front of the options (section 3).
 const COOKIE: [u8; 4] = [99, 130, 83, 99];
 /// The DHCP message type of an acknowledged lease (RFC 2132, section 9.6).
 const DHCPACK: u8 = 5;
 
+/// Where op stands in a message (section 2, figure 1).
+const OP_PLACE: usize = 0;
+/// Where htype stands in a message (section 2, figure 1).
+const HTYPE_PLACE: usize = 1;
+/// Where hlen stands in a message (section 2, figure 1).
+const HLEN_PLACE: usize = 2;
+/// Where yiaddr stands in a message (section 2, figure 1).
 const YIADDR_PLACE: usize = 16;
-
+/// Where chaddr stands in a message (section 2, figure 1).
 const CHADDR_PLACE: usize = 28;
-
+/// Where the magic cookie stands in a message: at the front of the field options (section 3).
 const COOKIE_PLACE: usize = 236;
 
 /// What a DHCPv4 message, the payload of a UDP datagram, says. A client's message announces a MUD
@@ -58,7 +65,9 @@ fn is_ethernet(message: &[u8]) -> bool
     requires { 240 ≤ length message.now }
     ensures { result ≡ is_ethernet message.now }
 {
-    message[1] == ETHERNET && message[2] == ETHERNET_LEN && !is_group(message, CHADDR_PLACE)
+    message[HTYPE_PLACE] == ETHERNET
+        && message[HLEN_PLACE] == ETHERNET_LEN
+        && !is_group_at(message, CHADDR_PLACE)
 }
 
 #[tactic(auto, unfolding(crate::specs::Dhcp::has_cookie))]
@@ -66,7 +75,7 @@ fn has_cookie(message: &[u8]) -> bool
     requires { 240 ≤ length message.now }
     ensures { result ≡ has_cookie message.now }
 {
-    field(message, COOKIE_PLACE) == COOKIE
+    octets_at(message, COOKIE_PLACE) == COOKIE
 }
 
 #[tactic(auto, unfolding(crate::specs::Dhcp::yiaddr_of))]
@@ -74,7 +83,7 @@ fn yiaddr(message: &[u8]) -> u32
     requires { 240 ≤ length message.now }
     ensures { result ≡ yiaddr_of message.now }
 {
-    u32::from_be_bytes(field(message, YIADDR_PLACE))
+    big_32(message, YIADDR_PLACE)
 }
 
 /// What a message without a fault says.
@@ -84,7 +93,7 @@ fn said(message: &[u8], contents: &Contents) -> Result<Heard, HearFault>
     ensures { result ≡ said message.now contents.now }
 {
     let mac = mac_at(message, CHADDR_PLACE);
-    match message[0] {
+    match message[OP_PLACE] {
         BOOTREQUEST => announced(mac, contents.mud_url()),
         BOOTREPLY => Ok(granted(mac, yiaddr(message), contents)),
         _ => Ok(Heard::Nothing),
@@ -122,7 +131,7 @@ fn seconds(lease_time: Option<&[u8]>) -> u32
     ensures { result ≡ seconds_of (option_copied lease_time.entry) }
 {
     match lease_time {
-        Some([a, b, c, d]) => u32::from_be_bytes([*a, *b, *c, *d]),
+        Some(content) if content.len() == 4 => big_32(content, 0),
         _ => 0,
     }
 }

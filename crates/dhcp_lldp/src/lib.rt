@@ -5,7 +5,6 @@
 
 mod contents;
 pub mod dhcp;
-mod fields;
 pub mod heard;
 pub mod lldp;
 mod mud;

@@ -3,17 +3,14 @@ ghost use Rattle.std.specs.Prelude.{◌≡◌, ◌≤◌, length};
 ghost use Rattle.dhcp_lldp.specs.Lldp.{lldp_of};
 ghost use Rattle.dhcp_lldp.specs.Lldp as spec;
 
-use crate::fields::{field, is_group, mac_at};
 use crate::heard::{HearFault, Heard};
 use crate::mud::announced;
-use crate::tlvs::{TLVS_PLACE, seen_tlvs};
+use crate::tlvs::seen_tlvs;
+use octet_fields::ethernet::{HEAD_LEN, SOURCE_PLACE, TYPE_PLACE};
+use octet_fields::{big_16, is_group_at, mac_at};
 
-/// Where the source stands in a frame.
-const SOURCE_PLACE: usize = 6;
-/// Where the type stands in a frame.
-const ETHERTYPE_PLACE: usize = 12;
 /// The type of LLDP (IEEE 802.1AB, clause 7).
-const LLDP: [u8; 2] = [0x88, 0xCC];
+const LLDP: u16 = 0x88CC;
 
 /// What an LLDP frame, from its Ethernet header on, says: the MUD URL that its source announces by
 /// a MUD URL TLV (RFC 8520, section 12), or nothing. It takes no memory.
@@ -27,7 +24,7 @@ const LLDP: [u8; 2] = [0x88, 0xCC];
 pub fn read_lldp(frame: &[u8]) -> Result<Heard, HearFault>
     ensures { result ≡ lldp_of frame.now }
 {
-    if frame.len() < TLVS_PLACE {
+    if frame.len() < HEAD_LEN {
         return Err(HearFault::Cut(0));
     }
     if !is_lldp(frame) {
@@ -43,5 +40,5 @@ fn is_lldp(frame: &[u8]) -> bool
     requires { 14 ≤ length frame.now }
     ensures { result ≡ spec.is_lldp frame.now }
 {
-    field(frame, ETHERTYPE_PLACE) == LLDP && !is_group(frame, SOURCE_PLACE)
+    big_16(frame, TYPE_PLACE) == LLDP && !is_group_at(frame, SOURCE_PLACE)
 }

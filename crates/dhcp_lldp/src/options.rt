@@ -51,7 +51,7 @@ fn first_step(octets: &[u8]) -> Step<'_>
     Step::Whole(*code, content, rest)
 }
 
-/// Where the options begin in a message (RFC 2131, section 3).
+/// Where the options begin in a message, behind the magic cookie (RFC 2131, section 3).
 pub(crate) const OPTIONS_PLACE: usize = 240;
 
 /// The contents of the options that count.

@@ -8,6 +8,7 @@ ghost use Rattle.dhcp_lldp.specs.Tlvs.{tlv_fault};
 
 use crate::heard::HearFault;
 use crate::seen::Seen;
+use octet_fields::ethernet::HEAD_LEN;
 
 /// The type of the End Of LLDPDU TLV (clause 8.5.1).
 const END: u8 = 0;
@@ -23,8 +24,6 @@ const ORGANIZATIONALLY_SPECIFIC: u8 = 127;
 pub(crate) const MUD_PREFIX_LEN: usize = 4;
 /// The OUI 00-00-5E and the subtype of the MUD URL TLV (RFC 8520, section 12).
 const MUD_PREFIX: [u8; MUD_PREFIX_LEN] = [0x00, 0x00, 0x5E, 0x01];
-/// Where the TLVs begin in a frame.
-pub(crate) const TLVS_PLACE: usize = 14;
 
 /// What stands at the front of some octets of the TLVs.
 #[derive(Drop)]
@@ -91,8 +90,8 @@ pub(crate) fn seen_tlvs(frame: &[u8]) -> Result<Seen<'_>, HearFault>
     requires { 14 ≤ length frame.now }
     ensures { result ≡ unless_fault (tlv_fault (tlvs_of frame.now)) (Ok (seen_in (tlvs_of frame.now).tlvs)) }
 {
-    let (_, mut rest) = frame.split_at(TLVS_PLACE);
-    let mut place = TLVS_PLACE;
+    let (_, mut rest) = frame.split_at(HEAD_LEN);
+    let mut place = HEAD_LEN;
     let mut seen = Seen::new();
     'tlvs: loop {
         match first_step(rest) {

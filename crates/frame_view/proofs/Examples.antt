@@ -12,14 +12,14 @@ use Rattle.frame_view.specs.Ethernet.{destination_of, source_of}
 use Rattle.frame_view.specs.Frame.{frame_of, carried, by_type, past_tag, is_tag}
 use Rattle.frame_view.specs.Ipv4 as ipv4
 use Rattle.frame_view.specs.Ipv6 as ipv6
-use Rattle.frame_view.specs.Octets.{number_16, number_32, number_128}
+use Rattle.octet_fields.proofs.OnLiterals.{fields_on_literals}
 use Rattle.frame_view.specs.Traffic.{codepoint, congestion}
 use Rattle.frame_view.specs.Upper.{transport_of, tcp, udp, icmp}
 use Rattle.frame_view.proofs.Hex.{from_hex}
 
 -- every word that a reading computes with
 unfoldable readings : Unit {0}
-unfolding frame_of carried by_type past_tag is_tag number_16 number_32 number_128 codepoint congestion transport_of tcp udp icmp ipv4.packet_of ipv4.is_upkeep ipv4.fields_of ipv4.transport_in ipv4.is_later_fragment ipv4.has_header ipv4.counted ipv4.header_len ipv6.packet_of ipv6.is_upkeep ipv6.fields_of ipv6.traffic_class ipv6.upper_in ipv6.upper_behind ipv6.upper_layer ipv6.is_later_fragment ipv6.is_cut ipv6.extension_len ipv6.is_extension ipv6.payload ipv6.has_header
+unfolding frame_of carried by_type past_tag is_tag fields_on_literals codepoint congestion transport_of tcp udp icmp ipv4.packet_of ipv4.is_upkeep ipv4.fields_of ipv4.transport_in ipv4.is_later_fragment ipv4.has_header ipv4.counted ipv4.header_len ipv6.packet_of ipv6.is_upkeep ipv6.fields_of ipv6.traffic_class ipv6.upper_in ipv6.upper_behind ipv6.upper_layer ipv6.is_later_fragment ipv6.is_cut ipv6.extension_len ipv6.is_extension ipv6.payload ipv6.has_header
 readings = tt
 
 abbrev Carries : List ℕ → Fields → Type 0
@@ -36,11 +36,11 @@ abbrev addressed : List ℕ → List ℕ
 addressed text = from_hex (codes "0200000000fe 020000000001" ++ text)
 
 destination : destination_of (addressed []) ≡ record { 0 = 2 ∷ 0 ∷ 0 ∷ 0 ∷ 0 ∷ 254 ∷ [] }
-unfolding destination_of
+unfolding fields_on_literals destination_of
 destination = refl
 
 source : source_of (addressed []) ≡ record { 0 = 2 ∷ 0 ∷ 0 ∷ 0 ∷ 0 ∷ 1 ∷ [] }
-unfolding source_of
+unfolding fields_on_literals source_of
 source = refl
 
 -- a TCP segment from port 50000 to port 443 that begins a connection

@@ -1,9 +1,11 @@
--- The head of an Ethernet frame (IEEE 802.3): six octets of destination, six of source, and from octet 12 on the type.
-use Rattle.std.specs.Prelude.{ℕ, List, take, drop}
+-- The hardware addresses of an Ethernet frame (IEEE 802.3).
+use Rattle.std.specs.Prelude.{ℕ, List}
 use Rattle.mud_base.specs.declared.addr.Mac.{Mac}
+use Rattle.octet_fields.specs.Ethernet.{destination_place, source_place}
+use Rattle.octet_fields.specs.Places.{mac_at}
 
 unfoldable pub destination_of : List ℕ → Mac
-destination_of frame = record { 0 = take 6 frame }
+destination_of frame = mac_at destination_place frame
 
 unfoldable pub source_of : List ℕ → Mac
-source_of frame = record { 0 = take 6 (drop 6 frame) }
+source_of frame = mac_at source_place frame

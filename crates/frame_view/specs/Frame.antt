@@ -1,42 +1,50 @@
 -- What the headers of an Ethernet frame say.
 use Rattle.std.specs.Prelude.{ℕ, Bool, ◌&&◌, ◌||◌, ◌==◌, nat_le, nat_lt, List, length, drop, Option, Some, None, Result, Ok, Err, if◌then◌else◌}
 use Rattle.mud_base.specs.declared.packet.Fields.{Fields}
+use Rattle.octet_fields.specs.Ethernet.{type_place, head_len}
+use Rattle.octet_fields.specs.Numbers.{big_16}
 use Rattle.frame_view.specs.declared.views.Part.{Part}
 use Rattle.frame_view.specs.declared.views.Part.TheVariants as part
 use Rattle.frame_view.specs.declared.views.Frame.{Frame}
 use Rattle.frame_view.specs.declared.views.Frame.TheVariants.{Link, Unreadable, Packet}
-use Rattle.frame_view.specs.Octets.{number_16}
 use Rattle.frame_view.specs.Ipv4 as ipv4
 use Rattle.frame_view.specs.Ipv6 as ipv6
 
+-- how many octets a type has, and a tag in front of the next type (IEEE 802.3, IEEE 802.1Q)
+abbrev pub type_len : ℕ
+type_len = 2
+
+abbrev pub tag_len : ℕ
+tag_len = 4
+
 -- the type of a tag stands first, of a customer's or of a service provider's (IEEE 802.1Q)
 unfoldable pub is_tag : List ℕ → Bool
-is_tag typed = nat_le 2 (length typed) && (number_16 0 typed == 0x8100 || number_16 0 typed == 0x88A8)
+is_tag typed = nat_le type_len (length typed) && (big_16 0 typed == 0x8100 || big_16 0 typed == 0x88A8)
 
--- what follows a tag, which has four octets: the type that it stands in front of comes first
+-- what follows a tag: the type that it stands in front of comes first
 unfoldable pub past_tag : List ℕ → List ℕ
-past_tag typed = if is_tag typed then (drop 4 typed) else typed
+past_tag typed = if is_tag typed then (drop tag_len typed) else typed
 
 -- By the type that stands first, 0800 hex for IPv4 and 86DD hex for IPv6: the packet's fields. None where it keeps the
 -- link up, and for another type.
 unfoldable pub by_type : List ℕ → Result (Option Fields) Part
 by_type typed =
-    if number_16 0 typed == 0x0800 then (ipv4.packet_of (drop 2 typed))
-    else (if number_16 0 typed == 0x86DD then (ipv6.packet_of (drop 2 typed))
+    if big_16 0 typed == 0x0800 then (ipv4.packet_of (drop type_len typed))
+    else (if big_16 0 typed == 0x86DD then (ipv6.packet_of (drop type_len typed))
     else (Ok None))
 
 -- What the frame carries, from its type on. There are two tags at most, with a type behind them.
 unfoldable pub carried : List ℕ → Result (Option Fields) Part
 carried typed =
     let inner = past_tag (past_tag typed) in
-    if nat_lt (length inner) 2 || is_tag inner then (Err part.Tag) else (by_type inner)
+    if nat_lt (length inner) type_len || is_tag inner then (Err part.Tag) else (by_type inner)
 
 abbrev pub answered : List ℕ → Result (Option Fields) Part → Frame
 answered frame (Ok None) = Link frame
 answered frame (Ok (Some fields)) = Packet (record { octets = frame; fields = fields })
 answered frame (Err part) = Unreadable (Some frame) part
 
--- What a frame is. Destination, source and type are its first 14 octets (IEEE 802.3).
+-- What a frame is. Its head is that of Ethernet, whose type is the first one that is looked at (IEEE 802.3).
 unfoldable pub frame_of : List ℕ → Frame
 frame_of frame =
-    if nat_lt (length frame) 14 then (Unreadable None part.Ethernet) else (answered frame (carried (drop 12 frame)))
+    if nat_lt (length frame) head_len then (Unreadable None part.Ethernet) else (answered frame (carried (drop type_place frame)))

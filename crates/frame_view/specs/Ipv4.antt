@@ -5,55 +5,75 @@ use Rattle.mud_base.specs.declared.addr.Addr.TheVariants.{V4, V6}
 use Rattle.mud_base.specs.declared.packet.Fields.{Fields}
 use Rattle.mud_base.specs.declared.packet.Transport.{Transport}
 use Rattle.mud_base.specs.declared.packet.Transport.TheVariants.{Udp, Absent}
+use Rattle.octet_fields.specs.Numbers.{big_16, big_32}
 use Rattle.frame_view.specs.declared.views.Part.{Part}
 use Rattle.frame_view.specs.declared.views.Part.TheVariants as part
-use Rattle.frame_view.specs.Octets.{number_16, number_32}
 use Rattle.frame_view.specs.Steps.{◌>>=◌}
 use Rattle.frame_view.specs.Traffic.{codepoint, congestion}
 use Rattle.frame_view.specs.Upper.{transport_of}
 
--- where these fields stand in the header
-abbrev pub type_of_service : ℕ
-type_of_service = 1
+-- The places of the fields of the header. The version is the upper half of the first octet, the header's length the lower half.
+abbrev pub version_and_length_place : ℕ
+version_and_length_place = 0
 
-abbrev pub total_length : ℕ
-total_length = 2
+abbrev pub type_of_service_place : ℕ
+type_of_service_place = 1
 
-abbrev pub time_to_live : ℕ
-time_to_live = 8
+abbrev pub total_length_place : ℕ
+total_length_place = 2
+
+-- three bits of flags, and thirteen of the offset
+abbrev pub fragment_offset_place : ℕ
+fragment_offset_place = 6
+
+abbrev pub time_to_live_place : ℕ
+time_to_live_place = 8
+
+abbrev pub protocol_place : ℕ
+protocol_place = 9
+
+abbrev pub source_place : ℕ
+source_place = 12
+
+abbrev pub destination_place : ℕ
+destination_place = 16
+
+-- how many octets the header has at least
+abbrev pub least_header : ℕ
+least_header = 20
 
 -- how many octets the header has: its length counts words of four octets
 unfoldable pub header_len : List ℕ → ℕ
-header_len packet = slice_index packet 0 % 16 * 4
+header_len packet = slice_index packet version_and_length_place % 16 * 4
 
 -- what counts: up to the end that the total length names, or the frame's end where that is first
 unfoldable pub counted : List ℕ → List ℕ
-counted packet = take (number_16 total_length packet) packet
+counted packet = take (big_16 total_length_place packet) packet
 
 -- version 4, and a header of at least five words, all of it among what counts
 unfoldable pub has_header : List ℕ → Bool
 has_header packet =
-    slice_index packet 0 / 16 == 4 && nat_le 20 (header_len packet) && nat_le (header_len packet) (length (counted packet))
+    slice_index packet version_and_length_place / 16 == 4 && nat_le least_header (header_len packet) && nat_le (header_len packet) (length (counted packet))
 
--- the fragment offset, the lower 13 bits of octets 6 and 7, isn't 0
+-- the fragment offset isn't 0
 unfoldable pub is_later_fragment : List ℕ → Bool
-is_later_fragment packet = not (number_16 6 packet % 8192 == 0)
+is_later_fragment packet = not (big_16 fragment_offset_place packet % 8192 == 0)
 
 -- what the header of the upper layer says, which only the first fragment has
 unfoldable pub transport_in : List ℕ → Result Transport Part
 transport_in packet =
     if is_later_fragment packet then (Ok Absent)
-    else (transport_of 1 (slice_index packet 9) (drop (header_len packet) (counted packet)))
+    else (transport_of 1 (slice_index packet protocol_place) (drop (header_len packet) (counted packet)))
 
 abbrev pub fields_with : List ℕ → Transport → Fields
 fields_with packet transport = record {
-  src = V4 (number_32 12 packet);
-  dst = V4 (number_32 16 packet);
-  protocol = slice_index packet 9;
-  dscp = codepoint (slice_index packet type_of_service);
-  ecn = congestion (slice_index packet type_of_service);
-  length = number_16 total_length packet;
-  ttl = slice_index packet time_to_live;
+  src = V4 (big_32 source_place packet);
+  dst = V4 (big_32 destination_place packet);
+  protocol = slice_index packet protocol_place;
+  dscp = codepoint (slice_index packet type_of_service_place);
+  ecn = congestion (slice_index packet type_of_service_place);
+  length = big_16 total_length_place packet;
+  ttl = slice_index packet time_to_live_place;
   transport = transport;
 }
 

@@ -4,29 +4,61 @@ use Rattle.mud_base.specs.declared.addr.Addr.TheVariants.{V6}
 use Rattle.mud_base.specs.declared.packet.Fields.{Fields}
 use Rattle.mud_base.specs.declared.packet.Transport.{Transport}
 use Rattle.mud_base.specs.declared.packet.Transport.TheVariants.{Icmp, Absent}
+use Rattle.octet_fields.specs.Numbers.{big_16, big_128}
 use Rattle.frame_view.specs.declared.upper.UpperLayer.{UpperLayer}
 use Rattle.frame_view.specs.declared.views.Part.{Part}
 use Rattle.frame_view.specs.declared.views.Part.TheVariants as part
-use Rattle.frame_view.specs.Octets.{number_16, number_128}
 use Rattle.frame_view.specs.Steps.{◌>>=◌}
 use Rattle.frame_view.specs.Traffic.{codepoint, congestion}
 use Rattle.frame_view.specs.Upper.{transport_of}
 
--- where these fields stand in the header (section 3)
-abbrev pub payload_length : ℕ
-payload_length = 4
+-- The places of the fields of the header (section 3). It begins with four bits of version, eight of traffic class and twenty of
+-- flow label.
+abbrev pub version_place : ℕ
+version_place = 0
 
-abbrev pub hop_limit_at : ℕ
-hop_limit_at = 7
+-- of the lower half of the traffic class: its upper half is that of the octet before
+abbrev pub traffic_class_place : ℕ
+traffic_class_place = 1
+
+abbrev pub payload_length_place : ℕ
+payload_length_place = 4
+
+abbrev pub next_header_place : ℕ
+next_header_place = 6
+
+abbrev pub hop_limit_place : ℕ
+hop_limit_place = 7
+
+abbrev pub source_place : ℕ
+source_place = 8
+
+abbrev pub destination_place : ℕ
+destination_place = 24
+
+-- how many octets the header has
+abbrev pub header_len : ℕ
+header_len = 40
+
+-- The places of the fields of an extension header (4.3 to 4.6): the number of the next one, the length, which a fragment header
+-- hasn't, and the offset that a fragment header has in the upper 13 bits of two octets.
+abbrev pub extension_next_place : ℕ
+extension_next_place = 0
+
+abbrev pub extension_length_place : ℕ
+extension_length_place = 1
+
+abbrev pub fragment_offset_place : ℕ
+fragment_offset_place = 2
 
 -- version 6, and forty octets (section 3)
 unfoldable pub has_header : List ℕ → Bool
-has_header packet = nat_le 40 (length packet) && slice_index packet 0 / 16 == 6
+has_header packet = nat_le header_len (length packet) && slice_index packet version_place / 16 == 6
 
 -- What counts behind the header: up to the end that the payload length names, or the frame's end where that is first.
 -- A payload length of 0 leaves nothing.
 unfoldable pub payload : List ℕ → List ℕ
-payload packet = take (number_16 payload_length packet) (drop 40 packet)
+payload packet = take (big_16 payload_length_place packet) (drop header_len packet)
 
 -- an extension header: hop-by-hop options, routing, fragment or destination options (4.3 to 4.6)
 unfoldable pub is_extension : ℕ → Bool
@@ -34,15 +66,15 @@ is_extension number = number == 0 || number == 43 || number == 44 || number == 6
 
 -- how many octets it has: a fragment header eight, another one eight for its first word and for each that it counts
 unfoldable pub extension_len : ℕ → List ℕ → ℕ
-extension_len number octets = if number == 44 then 8 else ((slice_index octets 1 + 1) * 8)
+extension_len number octets = if number == 44 then 8 else ((slice_index octets extension_length_place + 1) * 8)
 
 -- it ends behind what counts
 unfoldable pub is_cut : ℕ → List ℕ → Bool
 is_cut number octets = nat_lt (length octets) (extension_len number octets)
 
--- a fragment header whose offset, the upper 13 bits of octets 2 and 3, isn't 0 (4.5)
+-- a fragment header whose offset isn't 0 (4.5)
 unfoldable pub is_later_fragment : ℕ → List ℕ → Bool
-is_later_fragment number octets = number == 44 && not (number_16 2 octets / 8 == 0)
+is_later_fragment number octets = number == 44 && not (big_16 fragment_offset_place octets / 8 == 0)
 
 -- the header of the upper layer, where its number is this
 unfoldable pub upper_layer : ℕ → List ℕ → Result UpperLayer Part
@@ -56,27 +88,27 @@ upper_behind zero number octets = if is_extension number then (Err part.Extensio
 upper_behind (suc left) number octets =
     if not (is_extension number) then (upper_layer number octets)
     else (if is_cut number octets then (Err part.Extension)
-    else (if is_later_fragment number octets then (Ok (record { protocol = slice_index octets 0; transport = Absent }))
-    else (upper_behind left (slice_index octets 0) (drop (extension_len number octets) octets))))
+    else (if is_later_fragment number octets then (Ok (record { protocol = slice_index octets extension_next_place; transport = Absent }))
+    else (upper_behind left (slice_index octets extension_next_place) (drop (extension_len number octets) octets))))
 
 -- the upper layer behind eight extension headers at most
 unfoldable pub upper_in : List ℕ → Result UpperLayer Part
-upper_in packet = upper_behind 8 (slice_index packet 6) (payload packet)
+upper_in packet = upper_behind 8 (slice_index packet next_header_place) (payload packet)
 
 -- the traffic class: the eight bits behind the version's four, the lower half of octet 0 and the upper half of octet 1
 -- (section 3)
 unfoldable pub traffic_class : List ℕ → ℕ
-traffic_class packet = slice_index packet 0 % 16 * 16 + slice_index packet 1 / 16
+traffic_class packet = slice_index packet version_place % 16 * 16 + slice_index packet traffic_class_place / 16
 
 abbrev pub fields_with : List ℕ → UpperLayer → Fields
 fields_with packet upper = record {
-  src = V6 (number_128 8 packet);
-  dst = V6 (number_128 24 packet);
+  src = V6 (big_128 source_place packet);
+  dst = V6 (big_128 destination_place packet);
   protocol = upper.protocol;
   dscp = codepoint (traffic_class packet);
   ecn = congestion (traffic_class packet);
-  length = number_16 payload_length packet;
-  ttl = slice_index packet hop_limit_at;
+  length = big_16 payload_length_place packet;
+  ttl = slice_index packet hop_limit_place;
   transport = upper.transport;
 }
 
@@ -92,4 +124,4 @@ is_upkeep hop_limit _ = false
 -- the packet's fields, or None where it keeps the link up
 unfoldable pub packet_of : List ℕ → Result (Option Fields) Part
 packet_of packet =
-    fields_of packet >>= λ fields. Ok (if is_upkeep (slice_index packet hop_limit_at) fields.transport then None else (Some fields))
+    fields_of packet >>= λ fields. Ok (if is_upkeep (slice_index packet hop_limit_place) fields.transport then None else (Some fields))

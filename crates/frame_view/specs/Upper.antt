@@ -2,30 +2,50 @@
 use Rattle.std.specs.Prelude.{ℕ, ◌/◌, ◌&&◌, ◌==◌, nat_le, List, length, slice_index, Result, Ok, Err, if◌then◌else◌}
 use Rattle.mud_base.specs.declared.packet.Transport.{Transport}
 use Rattle.mud_base.specs.declared.packet.Transport.TheVariants.{Tcp, Udp, Icmp, Absent}
+use Rattle.octet_fields.specs.Numbers.{big_16}
 use Rattle.frame_view.specs.declared.views.Part.{Part}
 use Rattle.frame_view.specs.declared.views.Part.TheVariants as part
-use Rattle.frame_view.specs.Octets.{number_16}
 
--- Twenty octets, with a data offset of at least five words (RFC 9293, 3.1). The flags are octet 13. Options aren't
--- looked for.
+-- The places of the fields that are read: in the headers of TCP and UDP (RFC 9293, 3.1; RFC 768),
+abbrev pub source_port_place : ℕ
+source_port_place = 0
+
+abbrev pub destination_port_place : ℕ
+destination_port_place = 2
+
+-- of TCP alone, where the data offset is the upper half of its octet,
+abbrev pub data_offset_place : ℕ
+data_offset_place = 12
+
+abbrev pub flags_place : ℕ
+flags_place = 13
+
+-- and in an ICMP message (RFC 792; RFC 4443, 2.1).
+abbrev pub icmp_type_place : ℕ
+icmp_type_place = 0
+
+abbrev pub icmp_code_place : ℕ
+icmp_code_place = 1
+
+-- Twenty octets, with a data offset of at least five words (RFC 9293, 3.1). Options aren't looked for.
 unfoldable pub tcp : List ℕ → Result Transport Part
 tcp octets =
-    if nat_le 20 (length octets) && nat_le 5 (slice_index octets 12 / 16)
-    then Ok (Tcp (number_16 0 octets) (number_16 2 octets) (slice_index octets 13))
+    if nat_le 20 (length octets) && nat_le 5 (slice_index octets data_offset_place / 16)
+    then Ok (Tcp (big_16 source_port_place octets) (big_16 destination_port_place octets) (slice_index octets flags_place))
     else Err part.Transport
 
 -- Eight octets (RFC 768). The length that they name isn't used.
 unfoldable pub udp : List ℕ → Result Transport Part
 udp octets =
     if nat_le 8 (length octets)
-    then Ok (Udp (number_16 0 octets) (number_16 2 octets))
+    then Ok (Udp (big_16 source_port_place octets) (big_16 destination_port_place octets))
     else Err part.Transport
 
 -- type, code and checksum (RFC 792; RFC 4443, 2.1)
 unfoldable pub icmp : List ℕ → Result Transport Part
 icmp octets =
     if nat_le 4 (length octets)
-    then Ok (Icmp (slice_index octets 0) (slice_index octets 1))
+    then Ok (Icmp (slice_index octets icmp_type_place) (slice_index octets icmp_code_place))
     else Err part.Transport
 
 -- By the protocol's number, where ICMP has the number `icmp_number`. Of another protocol nothing is read.

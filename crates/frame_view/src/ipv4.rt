@@ -2,18 +2,35 @@
 ghost use Rattle.std.specs.Prelude.{◌≡◌, ◌≤◌, length, IsTrue};
 ghost use Rattle.frame_view.specs.Ipv4 as spec;
 
-use crate::octets::{number_16, number_32};
 use crate::traffic::{codepoint, congestion};
 use crate::upper::transport_of;
 use crate::views::Part;
 use mud_base::{Addr, Fields, Transport};
+use octet_fields::{big_16, big_32};
 
-/// Where the type of service stands in the header (RFC 791, 3.1).
-const TYPE_OF_SERVICE: usize = 1;
-/// Where the total length stands in the header (RFC 791, 3.1).
-const TOTAL_LENGTH: usize = 2;
-/// Where the time to live stands in the header (RFC 791, 3.1).
-const TIME_TO_LIVE: usize = 8;
+// The places of the fields of the header (RFC 791, 3.1).
+
+/// Where the version stands, in the upper half of its octet, and the header's length, in the lower
+/// half.
+const VERSION_AND_LENGTH_PLACE: usize = 0;
+/// Where the type of service stands.
+const TYPE_OF_SERVICE_PLACE: usize = 1;
+/// Where the total length stands.
+const TOTAL_LENGTH_PLACE: usize = 2;
+/// Where the flags stand, in the upper three bits of two octets, and the fragment offset, in the
+/// lower thirteen.
+const FRAGMENT_OFFSET_PLACE: usize = 6;
+/// Where the time to live stands.
+const TIME_TO_LIVE_PLACE: usize = 8;
+/// Where the protocol stands.
+const PROTOCOL_PLACE: usize = 9;
+/// Where the source address stands.
+const SOURCE_PLACE: usize = 12;
+/// Where the destination address stands.
+const DESTINATION_PLACE: usize = 16;
+/// How many octets the header has at least.
+const LEAST_HEADER: usize = 20;
+
 /// The protocol number of ICMP in IPv4.
 const ICMP: u8 = 1;
 
@@ -23,7 +40,7 @@ fn header_len(packet: &[u8]) -> usize
     requires { 20 ≤ length packet.now }
     ensures { result ≡ spec.header_len packet.now }
 {
-    (packet[0] % 16) as usize * 4
+    (packet[VERSION_AND_LENGTH_PLACE] % 16) as usize * 4
 }
 
 /// The octets that count: up to the end that the total length names, or the frame's end.
@@ -32,7 +49,7 @@ fn counted(packet: &[u8]) -> &[u8]
     requires { 20 ≤ length packet.now }
     ensures { result.now ≡ spec.counted packet.now }
 {
-    let total = number_16(packet, TOTAL_LENGTH) as usize;
+    let total = big_16(packet, TOTAL_LENGTH_PLACE) as usize;
     let (counted, _) = packet.split_at(total.min(packet.len()));
     counted
 }
@@ -43,11 +60,13 @@ fn has_header(packet: &[u8]) -> bool
     ensures value { result ≡ spec.has_header packet.now }
     ensures long { IsTrue result → 20 ≤ length packet.now }
 {
-    if packet.len() < 20 {
+    if packet.len() < LEAST_HEADER {
         return false;
     }
     let header = header_len(packet);
-    packet[0] / 16 == 4 && header >= 20 && header <= counted(packet).len()
+    packet[VERSION_AND_LENGTH_PLACE] / 16 == 4
+        && header >= LEAST_HEADER
+        && header <= counted(packet).len()
 }
 
 /// Whether this is a fragment other than the first.
@@ -56,7 +75,7 @@ fn is_later_fragment(packet: &[u8]) -> bool
     requires { 20 ≤ length packet.now }
     ensures { result ≡ spec.is_later_fragment packet.now }
 {
-    number_16(packet, 6) % 8192 != 0
+    big_16(packet, FRAGMENT_OFFSET_PLACE) % 8192 != 0
 }
 
 /// What the header of the upper layer says.
@@ -69,7 +88,7 @@ fn transport_in(packet: &[u8]) -> Result<Transport, Part>
         return Ok(Transport::Absent);
     }
     let (_, upper) = counted(packet).split_at(header_len(packet));
-    transport_of(ICMP, packet[9], upper)
+    transport_of(ICMP, packet[PROTOCOL_PLACE], upper)
 }
 
 /// What the headers say.
@@ -82,13 +101,13 @@ fn fields_of(packet: &[u8]) -> Result<Fields, Part>
     }
     let transport = transport_in(packet)?;
     Ok(Fields {
-        src: Addr::V4(number_32(packet, 12)),
-        dst: Addr::V4(number_32(packet, 16)),
-        protocol: packet[9],
-        dscp: codepoint(packet[TYPE_OF_SERVICE]),
-        ecn: congestion(packet[TYPE_OF_SERVICE]),
-        length: number_16(packet, TOTAL_LENGTH),
-        ttl: packet[TIME_TO_LIVE],
+        src: Addr::V4(big_32(packet, SOURCE_PLACE)),
+        dst: Addr::V4(big_32(packet, DESTINATION_PLACE)),
+        protocol: packet[PROTOCOL_PLACE],
+        dscp: codepoint(packet[TYPE_OF_SERVICE_PLACE]),
+        ecn: congestion(packet[TYPE_OF_SERVICE_PLACE]),
+        length: big_16(packet, TOTAL_LENGTH_PLACE),
+        ttl: packet[TIME_TO_LIVE_PLACE],
         transport,
     })
 }

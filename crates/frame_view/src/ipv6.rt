@@ -2,18 +2,44 @@
 ghost use Rattle.std.specs.Prelude.{◌≡◌, ◌≤◌, length, IsTrue, OnOk, false};
 ghost use Rattle.frame_view.specs.Ipv6 as spec;
 
-use crate::octets::{number_16, number_128};
 use crate::traffic::{codepoint, congestion};
 use crate::upper::{UpperLayer, transport_of};
 use crate::views::Part;
 use mud_base::{Addr, Fields, Transport};
+use octet_fields::{big_16, big_128};
 
+// The places of the fields of the header (RFC 8200, 3). It begins with four bits of version, eight
+// of traffic class and twenty of flow label.
+
+/// Where the version stands, in the upper half of its octet, and the upper half of the traffic
+/// class, in the lower half.
+const VERSION_PLACE: usize = 0;
+/// Where the lower half of the traffic class stands, in the upper half of its octet.
+const TRAFFIC_CLASS_PLACE: usize = 1;
+/// Where the payload length stands.
+const PAYLOAD_LENGTH_PLACE: usize = 4;
+/// Where the number of the next header stands.
+const NEXT_HEADER_PLACE: usize = 6;
+/// Where the hop limit stands.
+const HOP_LIMIT_PLACE: usize = 7;
+/// Where the source address stands.
+const SOURCE_PLACE: usize = 8;
+/// Where the destination address stands.
+const DESTINATION_PLACE: usize = 24;
 /// How many octets the header has.
 const HEADER: usize = 40;
-/// Where the payload length stands in the header (RFC 8200, 3).
-const PAYLOAD_LENGTH: usize = 4;
-/// Where the hop limit stands in the header (RFC 8200, 3).
-const HOP_LIMIT: usize = 7;
+
+// The places of the fields of an extension header (RFC 8200, 4.3 to 4.6).
+
+/// Where the number of the next header stands.
+const EXTENSION_NEXT_PLACE: usize = 0;
+/// Where the length stands, in units of eight octets without the first (not in a fragment header).
+const EXTENSION_LENGTH_PLACE: usize = 1;
+/// Where the offset stands in a fragment header, in the upper thirteen bits of two octets.
+const FRAGMENT_OFFSET_PLACE: usize = 2;
+/// How many octets an extension header has at least, and a fragment header always.
+const LEAST_EXTENSION: usize = 8;
+
 /// The number of ICMP in IPv6.
 const ICMP: u8 = 58;
 /// The number of the fragment header.
@@ -27,7 +53,7 @@ fn has_header(packet: &[u8]) -> bool
     ensures value { result ≡ spec.has_header packet.now }
     ensures long { IsTrue result → 40 ≤ length packet.now }
 {
-    packet.len() >= HEADER && packet[0] / 16 == 6
+    packet.len() >= HEADER && packet[VERSION_PLACE] / 16 == 6
 }
 
 /// The octets that count behind the header: as many as the payload length names, or up to the
@@ -38,7 +64,7 @@ fn payload(packet: &[u8]) -> &[u8]
     ensures { result.now ≡ spec.payload packet.now }
 {
     let (_, behind) = packet.split_at(HEADER);
-    let named = number_16(packet, PAYLOAD_LENGTH) as usize;
+    let named = big_16(packet, PAYLOAD_LENGTH_PLACE) as usize;
     let (counted, _) = behind.split_at(named.min(behind.len()));
     counted
 }
@@ -58,9 +84,9 @@ fn extension_len(number: u8, octets: &[u8]) -> usize
     ensures { result ≡ spec.extension_len number octets.now }
 {
     if number == FRAGMENT {
-        return 8;
+        return LEAST_EXTENSION;
     }
-    (octets[1] as usize + 1) * 8
+    (octets[EXTENSION_LENGTH_PLACE] as usize + 1) * 8
 }
 
 /// Whether an extension header ends behind what counts.
@@ -69,7 +95,7 @@ fn is_cut(number: u8, octets: &[u8]) -> bool
     ensures value { result ≡ spec.is_cut number octets.now }
     ensures long { result ≡ false → 8 ≤ length octets.now }
 {
-    if octets.len() < 8 {
+    if octets.len() < LEAST_EXTENSION {
         return true;
     }
     octets.len() < extension_len(number, octets)
@@ -81,7 +107,7 @@ fn is_later_fragment(number: u8, octets: &[u8]) -> bool
     requires { 8 ≤ length octets.now }
     ensures { result ≡ spec.is_later_fragment number octets.now }
 {
-    number == FRAGMENT && number_16(octets, 2) / 8 != 0
+    number == FRAGMENT && big_16(octets, FRAGMENT_OFFSET_PLACE) / 8 != 0
 }
 
 /// The header of the upper layer.
@@ -111,7 +137,7 @@ fn upper_behind(first: u8, octets: &[u8]) -> Result<UpperLayer, Part>
         if is_cut(number, rest) {
             return Err(Part::Extension);
         }
-        let next = rest[0];
+        let next = rest[EXTENSION_NEXT_PLACE];
         if is_later_fragment(number, rest) {
             return Ok(UpperLayer {
                 protocol: next,
@@ -132,7 +158,7 @@ fn upper_in(packet: &[u8]) -> Result<UpperLayer, Part>
     requires { 40 ≤ length packet.now }
     ensures { result ≡ spec.upper_in packet.now }
 {
-    upper_behind(packet[6], payload(packet))
+    upper_behind(packet[NEXT_HEADER_PLACE], payload(packet))
 }
 
 /// The traffic class, which stands between the version and the flow label.
@@ -141,7 +167,7 @@ fn traffic_class(packet: &[u8]) -> u8
     requires { 2 ≤ length packet.now }
     ensures { result ≡ spec.traffic_class packet.now }
 {
-    packet[0] % 16 * 16 + packet[1] / 16
+    packet[VERSION_PLACE] % 16 * 16 + packet[TRAFFIC_CLASS_PLACE] / 16
 }
 
 /// What the headers say.
@@ -156,13 +182,13 @@ fn fields_of(packet: &[u8]) -> Result<Fields, Part>
     let upper = upper_in(packet)?;
     let traffic = traffic_class(packet);
     Ok(Fields {
-        src: Addr::V6(number_128(packet, 8)),
-        dst: Addr::V6(number_128(packet, 24)),
+        src: Addr::V6(big_128(packet, SOURCE_PLACE)),
+        dst: Addr::V6(big_128(packet, DESTINATION_PLACE)),
         protocol: upper.protocol,
         dscp: codepoint(traffic),
         ecn: congestion(traffic),
-        length: number_16(packet, PAYLOAD_LENGTH),
-        ttl: packet[HOP_LIMIT],
+        length: big_16(packet, PAYLOAD_LENGTH_PLACE),
+        ttl: packet[HOP_LIMIT_PLACE],
         transport: upper.transport,
     })
 }
@@ -187,7 +213,7 @@ pub fn packet_of(packet: &[u8]) -> Result<Option<Fields>, Part>
     ensures { result ≡ spec.packet_of packet.now }
 {
     let fields = fields_of(packet)?;
-    if is_upkeep(packet[HOP_LIMIT], fields.transport) {
+    if is_upkeep(packet[HOP_LIMIT_PLACE], fields.transport) {
         return Ok(None);
     }
     Ok(Some(fields))

@@ -4,7 +4,6 @@
 
 mod ipv4;
 mod ipv6;
-mod octets;
 mod reading;
 mod traffic;
 mod upper;

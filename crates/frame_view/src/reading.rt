@@ -2,15 +2,20 @@
 ghost use Rattle.std.specs.Prelude.{◌≡◌, ◌≤◌, length};
 ghost use Rattle.frame_view.specs.Frame as spec;
 
-use crate::octets::number_16;
 use crate::views::{Frame, FrameView, PacketView, Part};
 use crate::{ipv4, ipv6};
 use mud_base::Fields;
+use octet_fields::big_16;
+use octet_fields::ethernet::{HEAD_LEN, TYPE_PLACE};
 
 /// The type of a customer's tag (IEEE 802.1Q).
 const CUSTOMER_TAG: u16 = 0x8100;
 /// The type of a service provider's tag (IEEE 802.1Q).
 const SERVICE_TAG: u16 = 0x88A8;
+/// How many octets a type has (IEEE 802.3, clause 3).
+const TYPE_LEN: usize = 2;
+/// How many octets a tag has in front of the next type (IEEE 802.1Q).
+const TAG_LEN: usize = 4;
 /// The type of IPv4.
 const IPV4: u16 = 0x0800;
 /// The type of IPv6.
@@ -21,10 +26,10 @@ const IPV6: u16 = 0x86DD;
 fn is_tag(typed: &[u8]) -> bool
     ensures { result ≡ spec.is_tag typed.now }
 {
-    if typed.len() < 2 {
+    if typed.len() < TYPE_LEN {
         return false;
     }
-    let kind = number_16(typed, 0);
+    let kind = big_16(typed, 0);
     kind == CUSTOMER_TAG || kind == SERVICE_TAG
 }
 
@@ -34,7 +39,7 @@ fn past_tag(typed: &[u8]) -> &[u8]
     ensures { result.now ≡ spec.past_tag typed.now }
 {
     if is_tag(typed) {
-        let (_, rest) = typed.split_at(typed.len().min(4));
+        let (_, rest) = typed.split_at(typed.len().min(TAG_LEN));
         return rest;
     }
     typed
@@ -46,8 +51,8 @@ fn by_type(typed: &[u8]) -> Result<Option<Fields>, Part>
     requires { 2 ≤ length typed.now }
     ensures { result ≡ spec.by_type typed.now }
 {
-    let kind = number_16(typed, 0);
-    let (_, packet) = typed.split_at(2);
+    let kind = big_16(typed, 0);
+    let (_, packet) = typed.split_at(TYPE_LEN);
     if kind == IPV4 {
         return ipv4::packet_of(packet);
     }
@@ -63,7 +68,7 @@ fn carried(typed: &[u8]) -> Result<Option<Fields>, Part>
     ensures { result ≡ spec.carried typed.now }
 {
     let inner = past_tag(past_tag(typed));
-    if inner.len() < 2 {
+    if inner.len() < TYPE_LEN {
         return Err(Part::Tag);
     }
     if is_tag(inner) {
@@ -77,10 +82,10 @@ fn carried(typed: &[u8]) -> Result<Option<Fields>, Part>
 pub fn view(frame: &[u8]) -> Frame<'_>
     ensures { result ≡ spec.frame_of frame.now }
 {
-    if frame.len() < 14 {
+    if frame.len() < HEAD_LEN {
         return Frame::Unreadable(None, Part::Ethernet);
     }
-    let (_, typed) = frame.split_at(12);
+    let (_, typed) = frame.split_at(TYPE_PLACE);
     match carried(typed) {
         Ok(None) => Frame::Link(FrameView::new(frame)),
         Ok(Some(fields)) => Frame::Packet(PacketView::new(frame, fields)),

@@ -1,16 +1,35 @@
 //! The headers of the upper layers: TCP, UDP and ICMP.
 ghost use Rattle.std.specs.Prelude.{◌≡◌, ◌≤◌, length};
-ghost use Rattle.frame_view.specs.Octets as spec_octets;
+ghost use Rattle.octet_fields.specs.Numbers as numbers;
 ghost use Rattle.frame_view.specs.Upper as spec;
 
-use crate::octets::number_16;
 use crate::views::Part;
 use mud_base::Transport;
+use octet_fields::big_16;
 
 /// The protocol number of TCP.
 const TCP: u8 = 6;
 /// The protocol number of UDP.
 const UDP: u8 = 17;
+
+/// Where the port of the source stands in the headers of TCP and UDP (RFC 9293, 3.1; RFC 768).
+const SOURCE_PORT_PLACE: usize = 0;
+/// Where the port of the destination stands in these headers.
+const DESTINATION_PORT_PLACE: usize = 2;
+/// Where the data offset stands in the header of TCP, in the upper half of its octet.
+const DATA_OFFSET_PLACE: usize = 12;
+/// Where the octet of flags stands in the header of TCP.
+const FLAGS_PLACE: usize = 13;
+/// How many octets the header of TCP has at least.
+const TCP_LEN: usize = 20;
+/// How many octets the header of UDP has.
+const UDP_LEN: usize = 8;
+/// Where the type stands in an ICMP message (RFC 792; RFC 4443, 2.1).
+const ICMP_TYPE_PLACE: usize = 0;
+/// Where the code stands in an ICMP message.
+const ICMP_CODE_PLACE: usize = 1;
+/// How many octets of an ICMP message stand in front of its body.
+const ICMP_LEN: usize = 4;
 
 /// The upper layer of an IP packet.
 #[derive(Clone, Copy)]
@@ -24,9 +43,12 @@ pub struct UpperLayer {
 /// The ports of source and destination, with which the headers of TCP and UDP begin.
 fn ports(octets: &[u8]) -> (u16, u16)
     requires { 4 ≤ length octets.now }
-    ensures { result ≡ (spec_octets.number_16 0 octets.now, spec_octets.number_16 2 octets.now) }
+    ensures { result ≡ (numbers.big_16 spec.source_port_place octets.now, numbers.big_16 spec.destination_port_place octets.now) }
 {
-    (number_16(octets, 0), number_16(octets, 2))
+    (
+        big_16(octets, SOURCE_PORT_PLACE),
+        big_16(octets, DESTINATION_PORT_PLACE),
+    )
 }
 
 /// A TCP header (RFC 9293, 3.1) without its options.
@@ -34,14 +56,14 @@ fn ports(octets: &[u8]) -> (u16, u16)
 fn tcp(octets: &[u8]) -> Result<Transport, Part>
     ensures { result ≡ spec.tcp octets.now }
 {
-    if octets.len() < 20 || octets[12] / 16 < 5 {
+    if octets.len() < TCP_LEN || octets[DATA_OFFSET_PLACE] / 16 < 5 {
         return Err(Part::Transport);
     }
     let (source, destination) = ports(octets);
     Ok(Transport::Tcp {
         source,
         destination,
-        flags: octets[13],
+        flags: octets[FLAGS_PLACE],
     })
 }
 
@@ -50,7 +72,7 @@ fn tcp(octets: &[u8]) -> Result<Transport, Part>
 fn udp(octets: &[u8]) -> Result<Transport, Part>
     ensures { result ≡ spec.udp octets.now }
 {
-    if octets.len() < 8 {
+    if octets.len() < UDP_LEN {
         return Err(Part::Transport);
     }
     let (source, destination) = ports(octets);
@@ -65,12 +87,12 @@ fn udp(octets: &[u8]) -> Result<Transport, Part>
 fn icmp(octets: &[u8]) -> Result<Transport, Part>
     ensures { result ≡ spec.icmp octets.now }
 {
-    if octets.len() < 4 {
+    if octets.len() < ICMP_LEN {
         return Err(Part::Transport);
     }
     Ok(Transport::Icmp {
-        kind: octets[0],
-        code: octets[1],
+        kind: octets[ICMP_TYPE_PLACE],
+        code: octets[ICMP_CODE_PLACE],
     })
 }
 

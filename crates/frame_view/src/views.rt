@@ -2,8 +2,9 @@
 ghost use Rattle.std.specs.Prelude.{◌≡◌, ◌≤◌, length};
 ghost use Rattle.frame_view.specs.Ethernet.{destination_of, source_of};
 
-use crate::octets::array_at;
 use mud_base::{Fields, Mac};
+use octet_fields::ethernet::{DESTINATION_PLACE, SOURCE_PLACE};
+use octet_fields::mac_at;
 use std::marker::Model;
 
 /// The part of a frame that is cut or broken.
@@ -50,7 +51,7 @@ impl<'a> FrameView<'a> {
     pub fn destination(&self) -> Mac
         ensures { result ≡ destination_of self.now }
     {
-        Mac(array_at(self.octets, 0))
+        mac_at(self.octets, DESTINATION_PLACE)
     }
 
     /// The hardware address that sent the frame.
@@ -58,7 +59,7 @@ impl<'a> FrameView<'a> {
     pub fn source(&self) -> Mac
         ensures { result ≡ source_of self.now }
     {
-        Mac(array_at(self.octets, 6))
+        mac_at(self.octets, SOURCE_PLACE)
     }
 }
 

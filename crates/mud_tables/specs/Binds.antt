@@ -1,12 +1,11 @@
 -- The classes, the local networks and the names.
-use Rattle.std.specs.Prelude.{◌≡◌, ℕ, ◌≤◌, Bool, true, false, not, ◌&&◌, nat_le, nat_lt, IsTrue, List, [], ◌∷◌, length, filter, bytes_eq, Option, Some, None}
+use Rattle.std.specs.Prelude.{◌≡◌, ℕ, ◌≤◌, Bool, true, false, not, ◌&&◌, ◌==◌, nat_le, nat_lt, IsTrue, List, [], ◌∷◌, length, filter, bytes_eq, Option, Some, None}
 use Rattle.std.specs.List.{list_any, list_all, AllByRecursion}
 use Rattle.std.specs.Char.{is_ascii_graphic}
-use Rattle.std.specs.Ordering.{nat_cmp, ordering_then, is_lt, is_eq}
-use Rattle.std.specs.declared.cmp.Ordering.{Ordering}
-use Rattle.std.specs.declared.cmp.Ordering.TheVariants.{Less, Equal, Greater}
-use Rattle.mud_base.specs.Addresses.{addr_cmp, same_addr, addr_bits, masked}
+use Rattle.mud_base.specs.Addresses.{same_addr, addr_bits, masked}
 use Rattle.sorted_rows.specs.Placed.{row_at, set_row, without_row, PlacesAscend}
+use Rattle.sorted_rows.specs.Addresses.{addr_place, prefix_place}
+use Rattle.sorted_rows.specs.Ascending.{places_ascend}
 use Rattle.mud_base.specs.declared.addr.Addr.{Addr}
 use Rattle.mud_base.specs.declared.prefix.Prefix.{Prefix}
 use Rattle.mud_url.specs.Host.{is_host, lowered}
@@ -51,33 +50,23 @@ has_addr a addrs = list_any (λ b. same_addr b a) addrs
 
 -- the addresses with this one, in its place
 unfoldable pub with_addr : Addr → List Addr → List Addr
-with_addr a [] = a ∷ []
-with_addr a (b ∷ bs) = elim (addr_cmp a b) [ Less ↦ a ∷ (b ∷ bs) | Equal ↦ b ∷ bs | Greater ↦ b ∷ with_addr a bs ]
+with_addr a addrs = set_row addr_place a addrs
 
 unfoldable pub without_addr : Addr → List Addr → List Addr
 without_addr a addrs = filter (λ b. not (same_addr b a)) addrs
 
-unfoldable pub is_before_addrs : Addr → List Addr → Bool
-is_before_addrs a addrs = list_all (λ b. is_lt (addr_cmp a b)) addrs
-
 -- in their order, each address once
 unfoldable pub are_addrs : List Addr → Bool
-are_addrs [] = true
-are_addrs (a ∷ addrs) = is_before_addrs a addrs && are_addrs addrs
+are_addrs addrs = places_ascend addr_place addrs
 
 -- ---- Local networks: prefixes in order, each once
 
--- the order of prefixes: that of the addresses, and then the lesser length
-unfoldable pub prefix_cmp : Prefix → Prefix → Ordering
-prefix_cmp p q = ordering_then (addr_cmp p.addr q.addr) (nat_cmp p.len q.len)
-
 unfoldable pub same_prefix : Prefix → Prefix → Bool
-same_prefix p q = is_eq (prefix_cmp p q)
+same_prefix p q = same_addr p.addr q.addr && p.len == q.len
 
--- the prefixes with this one, in its place
+-- the prefixes with this one, in its place: that of its address, and then the lesser length
 unfoldable pub with_prefix : Prefix → List Prefix → List Prefix
-with_prefix p [] = p ∷ []
-with_prefix p (q ∷ qs) = elim (prefix_cmp p q) [ Less ↦ p ∷ (q ∷ qs) | Equal ↦ q ∷ qs | Greater ↦ q ∷ with_prefix p qs ]
+with_prefix p prefixes = set_row prefix_place p prefixes
 
 -- the prefixes in order, each once
 unfoldable pub prefixes_in_order : List Prefix → List Prefix
@@ -90,12 +79,9 @@ same_prefixes (p ∷ ps) (q ∷ qs) = same_prefix p q && same_prefixes ps qs
 same_prefixes [] (q ∷ qs) = false
 same_prefixes (p ∷ ps) [] = false
 
-unfoldable pub is_before_prefixes : Prefix → List Prefix → Bool
-is_before_prefixes p prefixes = list_all (λ q. is_lt (prefix_cmp p q)) prefixes
-
+-- in their order, each prefix once
 unfoldable pub are_prefixes : List Prefix → Bool
-are_prefixes [] = true
-are_prefixes (p ∷ ps) = is_before_prefixes p ps && are_prefixes ps
+are_prefixes prefixes = places_ascend prefix_place prefixes
 
 -- ---- Names
 

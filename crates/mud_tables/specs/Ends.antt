@@ -1,11 +1,12 @@
 -- Addresses with their ends: the leases of a Thing, and the addresses at which a name was observed. An end is a moment
 -- in seconds since 1970, or for ever.
-use Rattle.std.specs.Prelude.{ℕ, ◌^◌, Bool, true, false, not, ◌&&◌, ◌||◌, ◌==◌, nat_lt, IsTrue, List, [], ◌∷◌, filter, length, Option, Some, None, if◌then◌else◌}
+use Rattle.std.specs.Prelude.{ℕ, ◌^◌, Bool, not, ◌&&◌, ◌||◌, ◌==◌, nat_lt, List, [], ◌∷◌, filter, length, Option, Some, None, if◌then◌else◌}
 use Rattle.std.specs.List.{list_any, list_all}
-use Rattle.std.specs.Ordering.{is_lt}
-use Rattle.std.specs.declared.cmp.Ordering.TheVariants.{Less, Equal, Greater}
-use Rattle.mud_base.specs.Addresses.{addr_cmp, same_addr}
+use Rattle.mud_base.specs.Addresses.{same_addr}
 use Rattle.mud_base.specs.declared.addr.Addr.{Addr}
+use Rattle.sorted_rows.specs.Placed.{set_row}
+use Rattle.sorted_rows.specs.Addresses.{end_place}
+use Rattle.sorted_rows.specs.Ascending.{places_ascend}
 
 abbrev pub Ends : Type 0
 Ends = List (Addr × ℕ)
@@ -41,8 +42,7 @@ without_address a rows = filter (λ r. not (same_addr r.0 a)) rows
 
 -- the rows with this end at the address, in its place
 unfoldable pub with_end : Addr → ℕ → Ends → Ends
-with_end a until [] = (a, until) ∷ []
-with_end a until (r ∷ rows) = elim (addr_cmp a r.0) [ Less ↦ (a, until) ∷ (r ∷ rows) | Equal ↦ (a, until) ∷ rows | Greater ↦ r ∷ with_end a until rows ]
+with_end a until rows = set_row end_place (a, until) rows
 
 -- the rows whose ends are live at this moment
 unfoldable pub live_rows : ℕ → Ends → Ends
@@ -53,14 +53,9 @@ live_count now rows = length (live_rows now rows)
 
 -- ---- What holds of every such list
 
--- the address comes before those of the rows
-unfoldable pub is_before_rows : Addr → Ends → Bool
-is_before_rows a rows = list_all (λ r. is_lt (addr_cmp a r.0)) rows
-
 -- in the order of the addresses, each address once
 unfoldable pub are_ascending : Ends → Bool
-are_ascending [] = true
-are_ascending (r ∷ rows) = is_before_rows r.0 rows && are_ascending rows
+are_ascending rows = places_ascend end_place rows
 
 unfoldable pub have_ends : Ends → Bool
 have_ends rows = list_all (λ r. is_end r.1) rows

@@ -2,6 +2,7 @@
 //! and the counter of steps by which a search is bounded.
 #![tactic(auto)]
 
+pub mod addresses;
 pub mod placed;
 pub mod steps;
 

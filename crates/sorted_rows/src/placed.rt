@@ -2,6 +2,7 @@
 ghost use Rattle.std.specs.Prelude.{◌≡◌, ℕ, List};
 ghost use Rattle.sorted_rows.specs.Placed.{place_cmp, prefix_cmp};
 
+pub mod lists;
 mod rows;
 mod search;
 

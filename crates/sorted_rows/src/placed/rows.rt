@@ -257,7 +257,7 @@ fn rows_from<'a, R: Placed, K: PrefixOf<R>, L: Ledger>(
 }
 
 /// Whether each row's place is before the next one's.
-fn is_ascending<R: Placed>(rows: &[R]) -> bool
+pub(super) fn is_ascending<R: Placed>(rows: &[R]) -> bool
     ensures { IsTrue result ↔ PlacesAscend R.place rows.now }
 {
     rows.is_sorted_by(|one, next| one.order(next).is_lt())

@@ -1,4 +1,6 @@
+pub mod BindingLaws
 pub mod Examples
 pub mod FirstRuling
 pub mod KeyLaws
 pub mod OnLiterals
+pub mod PlaceLaws

@@ -1,5 +1,7 @@
+pub mod Changes
 pub mod Defaults
 pub mod FirstMatch
 pub mod Keys
 pub mod Match
+pub mod Places
 pub mod Policies

@@ -1,0 +1,137 @@
+-- How the places of bindings stand to one another, field by field.
+use Rattle.std.proofs.Common.{◌≡◌, ℕ, suc, ◌+◌, Bool, true, false, List, [], ◌∷◌, ◌++◌, length, refl, sym, ap, ◌∙◌, arith}
+use Rattle.std.specs.Ordering.{nat_cmp, ordering_then}
+use Rattle.std.specs.Cmp.Lexicographic.{slice_cmp}
+use Rattle.std.specs.declared.cmp.Ordering.{Ordering}
+use Rattle.std.specs.declared.cmp.Ordering.TheVariants.{Less, Equal, Greater}
+use Rattle.std.proofs.lemmas.Cmp.{ranked}
+use Rattle.sorted_rows.specs.Placed.{place_cmp, prefix_cmp, same_place}
+use Rattle.sorted_rows.proofs.PlacedLaws.{same_place_exact, same_place_itself}
+use Rattle.mud_base.specs.Addresses.{addr_cmp}
+use Rattle.mud_base.specs.declared.addr.Addr.{Addr}
+use Rattle.mud_base.specs.declared.addr.Addr.TheVariants.{V4, V6}
+use Rattle.acl_model.specs.declared.binding.MemberKey.{MemberKey}
+use Rattle.acl_model.specs.declared.binding.MemberKey.TheVariants.{Host, Model, Class, Mine, Name}
+use Rattle.acl_model.specs.declared.binding.Binding.{Binding}
+use Rattle.acl_model.specs.Changes.{same_spot}
+use Rattle.acl_model.specs.Places.{version_number, addr_number, addr_place, key_kind, key_text, text_place, key_place, bound_place, binding_place}
+use Rattle.acl_model.proofs.BindingLaws.{IsSameSpot, same_spot_exact, same_spot_of}
+
+-- ---- Orders one after the other
+
+then_equal : (o : Ordering) → ordering_then o Equal ≡ o
+then_equal Less = refl
+then_equal Equal = refl
+then_equal Greater = refl
+
+then_assoc : (o p q : Ordering) → ordering_then (ordering_then o p) q ≡ ordering_then o (ordering_then p q)
+then_assoc Less p q = refl
+then_assoc Equal p q = refl
+then_assoc Greater p q = refl
+
+-- lists of one length decide before what follows them
+cmp_front : (xs ys us vs : List ℕ) → length xs ≡ length ys → slice_cmp nat_cmp (xs ++ us) (ys ++ vs) ≡ ordering_then (slice_cmp nat_cmp xs ys) (slice_cmp nat_cmp us vs)
+cmp_front [] [] us vs long = refl
+cmp_front [] (y ∷ ys) us vs long = absurd (omega arith)
+cmp_front (x ∷ xs) [] us vs long = absurd (omega arith)
+cmp_front (x ∷ xs) (y ∷ ys) us vs long = ap (ordering_then (nat_cmp x y)) (cmp_front xs ys us vs (omega arith)) ∙ sym (then_assoc (nat_cmp x y) (slice_cmp nat_cmp xs ys) (slice_cmp nat_cmp us vs))
+
+-- a list against a beginning as long as itself
+prefix_front : (xs ys vs : List ℕ) → length xs ≡ length ys → prefix_cmp xs (ys ++ vs) ≡ slice_cmp nat_cmp xs ys
+prefix_front [] [] vs long = refl
+prefix_front [] (y ∷ ys) vs long = absurd (omega arith)
+prefix_front (x ∷ xs) [] vs long = absurd (omega arith)
+prefix_front (x ∷ xs) (y ∷ ys) vs long = ap (ordering_then (nat_cmp x y)) (prefix_front xs ys vs (omega arith))
+
+-- ---- Places
+
+pub text_place_cmp : (k l : ℕ) (t u : List ℕ) → ordering_then (ordering_then (nat_cmp k l) (nat_cmp (length t) (length u))) (slice_cmp nat_cmp t u) ≡ place_cmp (text_place k t) (text_place l u)
+unfolding text_place
+text_place_cmp k l t u = then_assoc (nat_cmp k l) (nat_cmp (length t) (length u)) (slice_cmp nat_cmp t u)
+
+addr_place_cmp : (a b : Addr) → slice_cmp nat_cmp (addr_place a) (addr_place b) ≡ addr_cmp a b
+unfolding addr_place version_number addr_number addr_cmp
+addr_place_cmp (V4 m) (V4 n) = then_equal (nat_cmp m n)
+addr_place_cmp (V4 m) (V6 n) = refl
+addr_place_cmp (V6 m) (V4 n) = refl
+addr_place_cmp (V6 m) (V6 n) = then_equal (nat_cmp m n)
+
+by_length : (t u : List ℕ) (a b : Addr) (o : Ordering) → nat_cmp (length t) (length u) ≡ o → ordering_then o (slice_cmp nat_cmp (t ++ addr_place a) (u ++ addr_place b)) ≡ ordering_then o (ordering_then (slice_cmp nat_cmp t u) (addr_cmp a b))
+by_length t u a b Less e = refl
+by_length t u a b Equal e = cmp_front t u (addr_place a) (addr_place b) (ranked (length t) (length u) Equal (sym e)) ∙ ap (ordering_then (slice_cmp nat_cmp t u)) (addr_place_cmp a b)
+by_length t u a b Greater e = refl
+
+-- the key decides before the address
+pub bound_place_cmp : (k l : ℕ) (t u : List ℕ) (a b : Addr) → ordering_then (place_cmp (text_place k t) (text_place l u)) (addr_cmp a b) ≡ place_cmp (text_place k t ++ addr_place a) (text_place l u ++ addr_place b)
+unfolding text_place
+bound_place_cmp k l t u a b =
+    then_assoc (nat_cmp k l) (ordering_then (nat_cmp (length t) (length u)) (slice_cmp nat_cmp t u)) (addr_cmp a b)
+    ∙ ap (ordering_then (nat_cmp k l)) (then_assoc (nat_cmp (length t) (length u)) (slice_cmp nat_cmp t u) (addr_cmp a b) ∙ sym (by_length t u a b (nat_cmp (length t) (length u)) refl))
+
+prefix_by_length : (t u vs : List ℕ) (o : Ordering) → nat_cmp (length t) (length u) ≡ o → ordering_then o (prefix_cmp t (u ++ vs)) ≡ ordering_then o (slice_cmp nat_cmp t u)
+prefix_by_length t u vs Less e = refl
+prefix_by_length t u vs Equal e = prefix_front t u vs (ranked (length t) (length u) Equal (sym e))
+prefix_by_length t u vs Greater e = refl
+
+-- a key against the place of a binding: as its place stands to that of the binding's key
+pub text_place_prefix : (k l : ℕ) (t u : List ℕ) (a : Addr) → prefix_cmp (text_place k t) (text_place l u ++ addr_place a) ≡ place_cmp (text_place k t) (text_place l u)
+unfolding text_place
+text_place_prefix k l t u a = ap (ordering_then (nat_cmp k l)) (prefix_by_length t u (addr_place a) (nat_cmp (length t) (length u)) refl)
+
+-- ---- A place tells the key and the address
+
+pub record AreSameParts (xs ys us vs : List ℕ) : Type 0 where
+  pub first : xs ≡ ys
+  pub second : us ≡ vs
+
+same_fronts : (xs ys us vs : List ℕ) → length xs ≡ length ys → xs ++ us ≡ ys ++ vs → AreSameParts xs ys us vs
+same_fronts [] [] us vs long e = record { first = refl; second = e }
+same_fronts [] (y ∷ ys) us vs long e = absurd (omega arith)
+same_fronts (x ∷ xs) [] us vs long e = absurd (omega arith)
+same_fronts (x ∷ xs) (y ∷ ys) us vs long e =
+    let head : x ≡ y = cc in
+    let rest : xs ++ us ≡ ys ++ vs = cc in
+    let parts : AreSameParts xs ys us vs = same_fronts xs ys us vs (omega arith) rest in
+    record { first = ap (λ z. z ∷ xs) head ∙ ap (λ zs. y ∷ zs) parts.first; second = parts.second }
+
+key_exact : (k l : MemberKey) → key_kind k ≡ key_kind l → key_text k ≡ key_text l → k ≡ l
+unfolding key_kind key_text
+key_exact (Host a) (Host b) kind text = ap Host text
+key_exact (Model a) (Model b) kind text = ap Model text
+key_exact (Class a) (Class b) kind text = ap Class text
+key_exact (Mine a) (Mine b) kind text = ap Mine text
+key_exact (Name a) (Name b) kind text = ap Name text
+key_exact _ _ kind text = absurd (omega arith)
+
+four_six : {P : Type 0} (m n : ℕ) → m ≡ 4 → n ≡ 6 → m ≡ n → P
+four_six m n is_four is_six e = absurd (omega (arith, is_four, is_six, e))
+
+addr_exact : (a b : Addr) → addr_place a ≡ addr_place b → a ≡ b
+unfolding addr_place version_number addr_number
+addr_exact (V4 m) (V4 n) e = let same : m ≡ n = cc in ap V4 same
+addr_exact (V4 m) (V6 n) e = four_six 4 6 refl refl (cc)
+addr_exact (V6 m) (V4 n) e = four_six 4 6 refl refl (sym (cc))
+addr_exact (V6 m) (V6 n) e = let same : m ≡ n = cc in ap V6 same
+
+pub bound_place_exact : (k l : MemberKey) (a b : Addr) → bound_place k a ≡ bound_place l b → (k ≡ l) × (a ≡ b)
+unfolding bound_place key_place text_place
+bound_place_exact k l a b e =
+    let kind : key_kind k ≡ key_kind l = cc in
+    let long : length (key_text k) ≡ length (key_text l) = cc in
+    let rest : key_text k ++ addr_place a ≡ key_text l ++ addr_place b = cc in
+    let parts : AreSameParts (key_text k) (key_text l) (addr_place a) (addr_place b) = same_fronts (key_text k) (key_text l) (addr_place a) (addr_place b) long rest in
+    (key_exact k l kind parts.first, addr_exact a b parts.second)
+
+both_ways : (b c : Bool) → (b ≡ true → c ≡ true) → (c ≡ true → b ≡ true) → b ≡ c
+both_ways true true f g = refl
+both_ways true false f g = sym (f refl)
+both_ways false true f g = g refl
+both_ways false false f g = refl
+
+pub binding_place_exact : (b c : Binding) → same_place (binding_place b) (binding_place c) ≡ same_spot b c
+unfolding binding_place
+binding_place_exact b c = both_ways (same_place (binding_place b) (binding_place c)) (same_spot b c)
+    (λ e. let parts : (b.key ≡ c.key) × (b.addr ≡ c.addr) = bound_place_exact b.key c.key b.addr c.addr (same_place_exact (binding_place b) (binding_place c) e) in
+    same_spot_of b c (record { key = parts.0; addr = parts.1 }))
+    (λ e. let same : IsSameSpot b c = same_spot_exact b c e in
+    ap (λ p. same_place (binding_place b) p) (λ i. bound_place (sym same.key i) (sym same.addr i)) ∙ same_place_itself (binding_place b))

@@ -48,7 +48,7 @@ impl<I: Read + Drop, O: Write + Drop> RealDoor<I, O> {
 impl<I: Read + Drop, O: Write + Drop> Door for RealDoor<I, O> {
     ghost tells = { ⊥ };
 
-    ghost state = { λ door. record { bound = false; stands = door.stands; past = []; left = []; written = []; ahead = [] } };
+    ghost state = { λ door. record { bound = None; stands = door.stands; past = []; left = []; written = []; ahead = [] } };
 
     ghost turns = { λ door. door.turns };
 

@@ -1,5 +1,5 @@
 -- Laws of the connections of a door in memory.
-use Rattle.std.proofs.Common.{◌≡◌, ℕ, zero, suc, append_assoc, ◌+◌, ◌<◌, Bool, true, false, cond, ltb, List, [], ◌∷◌, ◌++◌, length, take, drop, map, get_or, set, replicate, refl, inl, inr, sym, ap, ap₂, ◌∙◌, arith, length-set}
+use Rattle.std.proofs.Common.{◌≡◌, ℕ, zero, suc, append_assoc, ◌+◌, ◌<◌, Bool, true, false, cond, ltb, Option, Some, List, [], ◌∷◌, ◌++◌, length, take, drop, map, get_or, set, replicate, refl, inl, inr, sym, ap, ap₂, ◌∙◌, arith, length-set}
 use Rattle.std.proofs.lemmas.List.{append-nil, drop_more, drop_all, take_more, take-append-drop, take-set, drop-set-lt, get_or-set_same}
 use Rattle.std.proofs.lemmas.Bool.{cases_lt, false≢true, le-ltb, lt-ltb}
 use Rattle.mud_world.specs.Door.{Connection, DoorState, connections, departed, gone_on, bound_anew, connection_here, has_more, with_here}
@@ -37,7 +37,7 @@ connections_of-fresh (p ∷ ps) room = ap (λ (cs : List Connection). new_connec
 pub nowhere : Connection
 nowhere = record { left = []; written = [] }
 
-before : Bool → List Connection → List Connection → DoorState
+before : Option ℕ → List Connection → List Connection → DoorState
 before bound past ahead = record { bound = bound; stands = false; past = past; left = []; written = []; ahead = ahead }
 
 -- the place behind the one at which the door stands
@@ -45,11 +45,11 @@ abbrev pub place_after : Bool → ℕ → ℕ
 place_after stands at = cond stands (at + 1) at
 
 -- a door that stands at a connection
-pub state_standing : (bound : Bool) (at : ℕ) (cs : List Connection) (c : Connection) → at < length cs → state_at bound true at cs ≡ entered bound (take at cs) (get_or cs at c ∷ drop (at + 1) cs)
+pub state_standing : (bound : Option ℕ) (at : ℕ) (cs : List Connection) (c : Connection) → at < length cs → state_at bound true at cs ≡ entered bound (take at cs) (get_or cs at c ∷ drop (at + 1) cs)
 state_standing bound at cs c h = ap (entered bound (take at cs)) (drop_more cs at c h)
 
 -- all connections of a door, wherever it stands
-pub connections_at : (bound stands : Bool) (at : ℕ) (cs : List Connection) → (stands ≡ true → at < length cs) → connections (state_at bound stands at cs) ≡ cs
+pub connections_at : (bound : Option ℕ) (stands : Bool) (at : ℕ) (cs : List Connection) → (stands ≡ true → at < length cs) → connections (state_at bound stands at cs) ≡ cs
 connections_at bound false at cs h =
     ap (λ (front : List Connection). front ++ drop at cs) (append-nil (take at cs)) ∙ take-append-drop at cs
 connections_at bound true at [] h = absurd (omega (arith, h refl))
@@ -60,7 +60,7 @@ connections_at bound true at (c ∷ cs) h =
     ∙ take-append-drop at (c ∷ cs)
 
 -- a door that leaves its connection stands before the next one
-pub departed_at : (bound stands : Bool) (at : ℕ) (cs : List Connection) → (stands ≡ true → at < length cs) → departed (state_at bound stands at cs) ≡ state_at bound false (place_after stands at) cs
+pub departed_at : (bound : Option ℕ) (stands : Bool) (at : ℕ) (cs : List Connection) → (stands ≡ true → at < length cs) → departed (state_at bound stands at cs) ≡ state_at bound false (place_after stands at) cs
 unfolding before
 departed_at bound false at cs h = ap (λ (front : List Connection). before bound front (drop at cs)) (append-nil (take at cs))
 departed_at bound true at [] h = absurd (omega (arith, h refl))
@@ -69,13 +69,13 @@ departed_at bound true at (c ∷ cs) h =
     ∙ ap (λ (front : List Connection). before bound front (drop (at + 1) (c ∷ cs))) (sym (take_more (c ∷ cs) at c (h refl)))
 
 -- the connections that come
-pub ahead_at : (bound stands : Bool) (at : ℕ) (cs : List Connection) → (stands ≡ true → at < length cs) → (state_at bound stands at cs).ahead ≡ drop (place_after stands at) cs
+pub ahead_at : (bound : Option ℕ) (stands : Bool) (at : ℕ) (cs : List Connection) → (stands ≡ true → at < length cs) → (state_at bound stands at cs).ahead ≡ drop (place_after stands at) cs
 ahead_at bound false at cs h = refl
 ahead_at bound true at [] h = absurd (omega (arith, h refl))
 ahead_at bound true at (c ∷ cs) h = ap (λ (s : DoorState). s.ahead) (state_standing bound at (c ∷ cs) c (h refl))
 
 -- a door that goes on from before a place
-pub gone_on-before : (bound : Bool) (at : ℕ) (cs : List Connection) → at < length cs → gone_on (state_at bound false at cs) (drop at cs) ≡ state_at bound true at cs
+pub gone_on-before : (bound : Option ℕ) (at : ℕ) (cs : List Connection) → at < length cs → gone_on (state_at bound false at cs) (drop at cs) ≡ state_at bound true at cs
 gone_on-before bound at [] h = absurd (omega arith)
 gone_on-before bound at (c ∷ cs) h =
     ap (gone_on (state_at bound false at (c ∷ cs))) (drop_more (c ∷ cs) at c h)
@@ -91,7 +91,7 @@ has_more_at at cs =
     ]
 
 -- what going on makes of a door, wherever it stands
-pub gone_on_at : (bound stands : Bool) (at : ℕ) (cs : List Connection) → (stands ≡ true → at < length cs) → gone_on (state_at bound stands at cs) (state_at bound stands at cs).ahead ≡ state_at bound (ltb (place_after stands at) (length cs)) (place_after stands at) cs
+pub gone_on_at : (bound : Option ℕ) (stands : Bool) (at : ℕ) (cs : List Connection) → (stands ≡ true → at < length cs) → gone_on (state_at bound stands at cs) (state_at bound stands at cs).ahead ≡ state_at bound (ltb (place_after stands at) (length cs)) (place_after stands at) cs
 gone_on_at bound stands at cs h =
     let place = place_after stands at in
     let s = state_at bound stands at cs in
@@ -110,16 +110,16 @@ gone_on_at bound stands at cs h =
     ]
 
 -- a door that is bound anew
-pub bound_anew_at : (bound stands : Bool) (at : ℕ) (cs : List Connection) → (stands ≡ true → at < length cs) → bound_anew (state_at bound stands at cs) ≡ state_at true false at cs
+pub bound_anew_at : (port : ℕ) (bound : Option ℕ) (stands : Bool) (at : ℕ) (cs : List Connection) → (stands ≡ true → at < length cs) → bound_anew port (state_at bound stands at cs) ≡ state_at (Some port) false at cs
 unfolding before
-bound_anew_at bound false at cs h = refl
-bound_anew_at bound true at [] h = absurd (omega (arith, h refl))
-bound_anew_at bound true at (c ∷ cs) h =
-    ap bound_anew (state_standing bound at (c ∷ cs) c (h refl))
-    ∙ ap (before true (take at (c ∷ cs))) (sym (drop_more (c ∷ cs) at c (h refl)))
+bound_anew_at port bound false at cs h = refl
+bound_anew_at port bound true at [] h = absurd (omega (arith, h refl))
+bound_anew_at port bound true at (c ∷ cs) h =
+    ap (bound_anew port) (state_standing bound at (c ∷ cs) c (h refl))
+    ∙ ap (before (Some port) (take at (c ∷ cs))) (sym (drop_more (c ∷ cs) at c (h refl)))
 
 -- another connection at the place where the door stands
-pub with_here_at : (bound : Bool) (at : ℕ) (cs : List Connection) (c : Connection) → at < length cs → state_at bound true at (set cs at c) ≡ with_here c (state_at bound true at cs)
+pub with_here_at : (bound : Option ℕ) (at : ℕ) (cs : List Connection) (c : Connection) → at < length cs → state_at bound true at (set cs at c) ≡ with_here c (state_at bound true at cs)
 with_here_at bound at cs c h =
     let within : at < length (set cs at c) = omega (arith, length-set cs at c) in
     state_standing bound at (set cs at c) c within
@@ -128,7 +128,7 @@ with_here_at bound at cs c h =
     ∙ sym (ap (with_here c) (state_standing bound at cs c h))
 
 -- the connection at which the door stands
-pub here_at : (bound : Bool) (at : ℕ) (cs : List Connection) (c : Connection) → at < length cs → connection_here (state_at bound true at cs) ≡ get_or cs at c
+pub here_at : (bound : Option ℕ) (at : ℕ) (cs : List Connection) (c : Connection) → at < length cs → connection_here (state_at bound true at cs) ≡ get_or cs at c
 here_at bound at cs c h = ap connection_here (state_standing bound at cs c h)
 
 -- wires of which nothing was taken have one room
@@ -137,7 +137,7 @@ rooms-fresh zero room = refl
 rooms-fresh (suc n) room = ap (λ (rooms : List ℕ). room ∷ rooms) (rooms-fresh n room)
 
 -- one wire changed, where the door stands
-pub changed_at : (bound stands : Bool) (at : ℕ) (inputs : List (List (List ℕ))) (wires : List WireState) (w : WireState) → stands ≡ true → length wires ≡ length inputs → at < length wires → state_at bound stands at (connections_of inputs (set wires at w)) ≡ with_here (connection_of (get_or inputs at []) w) (state_at bound stands at (connections_of inputs wires))
+pub changed_at : (bound : Option ℕ) (stands : Bool) (at : ℕ) (inputs : List (List (List ℕ))) (wires : List WireState) (w : WireState) → stands ≡ true → length wires ≡ length inputs → at < length wires → state_at bound stands at (connections_of inputs (set wires at w)) ≡ with_here (connection_of (get_or inputs at []) w) (state_at bound stands at (connections_of inputs wires))
 changed_at bound false at inputs wires w e each h = absurd (false≢true e)
 changed_at bound true at inputs wires w e each h =
     ap (state_at bound true at) (connections_of-set inputs wires at [] w each h)

@@ -1,5 +1,5 @@
 -- Laws of what a door in memory tells.
-use Rattle.std.proofs.Common.{◌≡◌, ℕ, ◌-◌, ◌<◌, min, Bool, true, false, cond, ltb, List, [], ◌∷◌, ◌++◌, set, replicate, length-set, refl, sym, subst, length, take, drop, ap₂, map, get_or, ap, ◌∙◌, arith}
+use Rattle.std.proofs.Common.{◌≡◌, ℕ, ◌-◌, ◌<◌, min, Bool, true, false, cond, ltb, Option, Some, List, [], ◌∷◌, ◌++◌, set, replicate, length-set, refl, sym, subst, length, take, drop, ap₂, map, get_or, ap, ◌∙◌, arith}
 use Rattle.std.proofs.lemmas.List.{get_or-map, get_or-replicate, get_or_default, map-set, set-get_or, take-append-drop}
 use Rattle.mud_world.specs.declared.memory_door.MemoryDoor.{MemoryDoor}
 use Rattle.mud_world.specs.Door.{Connection, Took, put_out, bound_anew, connection_here, connections, departed, gone_on, has_more, outputs, written_of}
@@ -38,11 +38,11 @@ outputs-wire d i w h e =
     ∙ ap (λ (v : WireState). v.written) (sym e)
 
 -- it stands where its state stands
-stands-state_at : (bound stands : Bool) (at : ℕ) (cs : List Connection) → (state_at bound stands at cs).stands ≡ stands
+stands-state_at : (bound : Option ℕ) (stands : Bool) (at : ℕ) (cs : List Connection) → (state_at bound stands at cs).stands ≡ stands
 stands-state_at bound false at cs = refl
 stands-state_at bound true at cs = stands-entered bound (take at cs) (drop at cs)
   where
-    stands-entered : (bound : Bool) (past cs : List Connection) → (entered bound past cs).stands ≡ true
+    stands-entered : (bound : Option ℕ) (past cs : List Connection) → (entered bound past cs).stands ≡ true
     stands-entered bound past [] = refl
     stands-entered bound past (c ∷ cs) = refl
 
@@ -75,9 +75,9 @@ room_left-nowhere d e =
     ap (λ (stands : Bool). cond stands (d.room - length (memory_state d).written) 0) (stands-memory_state d ∙ e)
 
 -- what the calls make of its state
-pub bound_anew_door : (d : MemoryDoor) → state_at true false d.at (all_of d) ≡ bound_anew (memory_state d)
+pub bound_anew_door : (d : MemoryDoor) (port : ℕ) → state_at (Some port) false d.at (all_of d) ≡ bound_anew port (memory_state d)
 unfolding memory_state
-bound_anew_door d = sym (bound_anew_at d.bound d.stands d.at (all_of d) (stands_at d))
+bound_anew_door d port = sym (bound_anew_at port d.bound d.stands d.at (all_of d) (stands_at d))
 
 pub departed_door : (d : MemoryDoor) (at : ℕ) → at ≡ place_after d.stands d.at → state_at d.bound false at (all_of d) ≡ departed (memory_state d)
 unfolding memory_state

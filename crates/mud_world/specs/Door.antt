@@ -1,14 +1,15 @@
 -- The connections of a door, and what each call makes of them.
-use Rattle.std.specs.Prelude.{◌≡◌, ℕ, ◌<◌, Bool, true, false, if◌then◌else◌, List, [], ◌∷◌, ◌++◌, length, take, map, Result, IfOk}
+use Rattle.std.specs.Prelude.{◌≡◌, ℕ, ◌<◌, Bool, true, false, if◌then◌else◌, List, [], ◌∷◌, ◌++◌, length, take, map, Option, Some, Result, IfOk}
 
 -- A connection: the octets that can still be read of it, and those that were written to it.
 pub record Connection : Type 0 where
   pub left : List ℕ
   pub written : List ℕ
 
--- The connections that the door has left behind, the one at which it stands (two empty lists where it stands at none), and those that come.
+-- The port that the door is bound to, where it is bound to one, the connections that it has left behind, the one at which it stands
+-- (two empty lists where it stands at none), and those that come.
 pub record DoorState : Type 0 where
-  pub bound : Bool
+  pub bound : Option ℕ
   pub stands : Bool
   pub past : List Connection
   pub left : List ℕ
@@ -47,9 +48,9 @@ abbrev pub has_more : List Connection → Bool
 has_more [] = false
 has_more (c ∷ cs) = true
 
--- the door is bound, and stands before the connection at which it stood
-abbrev pub bound_anew : DoorState → DoorState
-bound_anew s = record { bound = true; stands = false; past = s.past; left = []; written = []; ahead = here s ++ s.ahead }
+-- the door is bound to the port, and stands before the connection at which it stood
+abbrev pub bound_anew : ℕ → DoorState → DoorState
+bound_anew port s = record { bound = Some port; stands = false; past = s.past; left = []; written = []; ahead = here s ++ s.ahead }
 
 -- the same but for what is left of the connection
 abbrev pub with_left : List ℕ → DoorState → DoorState

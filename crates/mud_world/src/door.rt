@@ -29,7 +29,7 @@ pub trait Door {
 
     /// Binds the port, so that connections to it come by `next`.
     fn bind(&mut self, port: u16) -> Result<(), Failed>
-        ensures ok { tells → OnOk result (state self.new ≡ bound_anew (state self.old)) }
+        ensures ok { tells → OnOk result (state self.new ≡ bound_anew port (state self.old)) }
         ensures err { tells → OnErr result (state self.new ≡ state self.old) }
         ensures cause { Counts (is_err result) (turns self.old) (turns self.new) }
         ensures reads { reads self.new ≡ reads self.old }

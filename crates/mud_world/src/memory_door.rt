@@ -42,7 +42,7 @@ pub struct MemoryDoor {
     pub write_count: u64,
     /// How often each call was made.
     pub calls: DoorCalls,
-    bound: bool,
+    bound: Option<u16>,
     stands: bool,
     at: usize,
     room: usize,
@@ -83,7 +83,7 @@ impl MemoryDoor {
                 read: 0,
                 write: 0,
             },
-            bound: false,
+            bound: None,
             stands: true,
             at: 0,
             room,
@@ -163,8 +163,8 @@ impl Door for MemoryDoor {
 
     ghost writes = { λ door. door.write_count };
 
-    fn bind(&mut self, _port: u16) -> Result<(), Failed>
-        ensures ok { OnOk result (memory_state self.new ≡ bound_anew (memory_state self.old)) }
+    fn bind(&mut self, port: u16) -> Result<(), Failed>
+        ensures ok { OnOk result (memory_state self.new ≡ bound_anew port (memory_state self.old)) }
         ensures err { OnErr result (memory_state self.new ≡ memory_state self.old) }
         ensures fails { is_err result ≡ bind_fails self.old }
         ensures count { self.new.turn_count ≡ counted (is_err result) self.old.turn_count }
@@ -178,7 +178,7 @@ impl Door for MemoryDoor {
             raise(&mut self.turn_count);
             return Err(Failed);
         }
-        self.bound = true;
+        self.bound = Some(port);
         self.stands = false;
         Ok(())
     }

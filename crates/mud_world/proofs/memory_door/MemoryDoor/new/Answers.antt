@@ -1,4 +1,4 @@
-use Rattle.std.proofs.Common.{◌≡◌, ℕ, false, List, [], length, map, replicate, sym, ap, ◌∙◌, refl, arith}
+use Rattle.std.proofs.Common.{◌≡◌, ℕ, None, List, [], length, map, replicate, sym, ap, ◌∙◌, refl, arith}
 use Rattle.std.proofs.lemmas.List.{length-replicate}
 use Rattle.mud_world.specs.Wire.{WireState, fresh}
 use Rattle.mud_world.specs.MemoryConnections.{connections_of, entered, room_of}
@@ -21,7 +21,7 @@ returns c =
     let made : c.in_ok-wires.wires.items ≡ replicate (length c.args.inputs) (fresh c.args.room) = c.in_ok-wires.ensures ∙ ap (λ (n : ℕ). replicate n (fresh c.args.room)) c.len.ensures in
     record {
       given = refl;
-      state = ap (λ (ws : List WireState). entered false [] (connections_of c.args.inputs ws)) made ∙ ap (entered false []) (connections_of-fresh c.args.inputs c.args.room);
+      state = ap (λ (ws : List WireState). entered None [] (connections_of c.args.inputs ws)) made ∙ ap (entered None []) (connections_of-fresh c.args.inputs c.args.room);
       room = refl;
       failing_bind = c.new.ensures;
       failing_next = c.new-2.ensures;

@@ -6,23 +6,20 @@ use Rattle.std.specs.declared.cmp.Ordering.{Ordering}
 use Rattle.std.specs.declared.cmp.Ordering.TheVariants.{Less, Equal, Greater}
 use Rattle.std.proofs.lemmas.Cmp.{ranked}
 use Rattle.sorted_rows.specs.Placed.{place_cmp, prefix_cmp, same_place}
+use Rattle.sorted_rows.specs.Addresses.{addr_place}
+use Rattle.sorted_rows.proofs.AddressLaws.{addr_cmp-place, addr_place_exact}
+use Rattle.sorted_rows.proofs.AscendLaws.{both_ways}
 use Rattle.sorted_rows.proofs.PlacedLaws.{same_place_exact, same_place_itself}
 use Rattle.mud_base.specs.Addresses.{addr_cmp}
 use Rattle.mud_base.specs.declared.addr.Addr.{Addr}
-use Rattle.mud_base.specs.declared.addr.Addr.TheVariants.{V4, V6}
 use Rattle.acl_model.specs.declared.binding.MemberKey.{MemberKey}
 use Rattle.acl_model.specs.declared.binding.MemberKey.TheVariants.{Host, Model, Class, Mine, Name}
 use Rattle.acl_model.specs.declared.binding.Binding.{Binding}
 use Rattle.acl_model.specs.Changes.{same_spot}
-use Rattle.acl_model.specs.Places.{version_number, addr_number, addr_place, key_kind, key_text, text_place, key_place, bound_place, binding_place}
+use Rattle.acl_model.specs.Places.{key_kind, key_text, text_place, key_place, bound_place, binding_place}
 use Rattle.acl_model.proofs.BindingLaws.{IsSameSpot, same_spot_exact, same_spot_of}
 
 -- ---- Orders one after the other
-
-then_equal : (o : Ordering) → ordering_then o Equal ≡ o
-then_equal Less = refl
-then_equal Equal = refl
-then_equal Greater = refl
 
 then_assoc : (o p q : Ordering) → ordering_then (ordering_then o p) q ≡ ordering_then o (ordering_then p q)
 then_assoc Less p q = refl
@@ -50,11 +47,7 @@ unfolding text_place
 text_place_cmp k l t u = then_assoc (nat_cmp k l) (nat_cmp (length t) (length u)) (slice_cmp nat_cmp t u)
 
 addr_place_cmp : (a b : Addr) → slice_cmp nat_cmp (addr_place a) (addr_place b) ≡ addr_cmp a b
-unfolding addr_place version_number addr_number addr_cmp
-addr_place_cmp (V4 m) (V4 n) = then_equal (nat_cmp m n)
-addr_place_cmp (V4 m) (V6 n) = refl
-addr_place_cmp (V6 m) (V4 n) = refl
-addr_place_cmp (V6 m) (V6 n) = then_equal (nat_cmp m n)
+addr_place_cmp a b = sym (addr_cmp-place a b)
 
 by_length : (t u : List ℕ) (a b : Addr) (o : Ordering) → nat_cmp (length t) (length u) ≡ o → ordering_then o (slice_cmp nat_cmp (t ++ addr_place a) (u ++ addr_place b)) ≡ ordering_then o (ordering_then (slice_cmp nat_cmp t u) (addr_cmp a b))
 by_length t u a b Less e = refl
@@ -103,16 +96,6 @@ key_exact (Mine a) (Mine b) kind text = ap Mine text
 key_exact (Name a) (Name b) kind text = ap Name text
 key_exact _ _ kind text = absurd (omega arith)
 
-four_six : {P : Type 0} (m n : ℕ) → m ≡ 4 → n ≡ 6 → m ≡ n → P
-four_six m n is_four is_six e = absurd (omega (arith, is_four, is_six, e))
-
-addr_exact : (a b : Addr) → addr_place a ≡ addr_place b → a ≡ b
-unfolding addr_place version_number addr_number
-addr_exact (V4 m) (V4 n) e = let same : m ≡ n = cc in ap V4 same
-addr_exact (V4 m) (V6 n) e = four_six 4 6 refl refl (cc)
-addr_exact (V6 m) (V4 n) e = four_six 4 6 refl refl (sym (cc))
-addr_exact (V6 m) (V6 n) e = let same : m ≡ n = cc in ap V6 same
-
 pub bound_place_exact : (k l : MemberKey) (a b : Addr) → bound_place k a ≡ bound_place l b → (k ≡ l) × (a ≡ b)
 unfolding bound_place key_place text_place
 bound_place_exact k l a b e =
@@ -120,13 +103,7 @@ bound_place_exact k l a b e =
     let long : length (key_text k) ≡ length (key_text l) = cc in
     let rest : key_text k ++ addr_place a ≡ key_text l ++ addr_place b = cc in
     let parts : AreSameParts (key_text k) (key_text l) (addr_place a) (addr_place b) = same_fronts (key_text k) (key_text l) (addr_place a) (addr_place b) long rest in
-    (key_exact k l kind parts.first, addr_exact a b parts.second)
-
-both_ways : (b c : Bool) → (b ≡ true → c ≡ true) → (c ≡ true → b ≡ true) → b ≡ c
-both_ways true true f g = refl
-both_ways true false f g = sym (f refl)
-both_ways false true f g = g refl
-both_ways false false f g = refl
+    (key_exact k l kind parts.first, addr_place_exact a b parts.second)
 
 pub binding_place_exact : (b c : Binding) → same_place (binding_place b) (binding_place c) ≡ same_spot b c
 unfolding binding_place

@@ -1,25 +1,11 @@
 -- The places in whose order bindings are kept: by the kind of the key, the length of its text, the text, and the address.
 -- The length stands before the text, so that what is kept under one text is not under a longer one that begins with it.
-use Rattle.std.specs.Prelude.{ℕ, List, [], ◌∷◌, ◌++◌, length}
+use Rattle.std.specs.Prelude.{ℕ, List, ◌∷◌, ◌++◌, length}
 use Rattle.mud_base.specs.declared.addr.Addr.{Addr}
-use Rattle.mud_base.specs.declared.addr.Addr.TheVariants.{V4, V6}
+use Rattle.sorted_rows.specs.Addresses.{addr_place}
 use Rattle.acl_model.specs.declared.binding.MemberKey.{MemberKey}
 use Rattle.acl_model.specs.declared.binding.MemberKey.TheVariants as of_key
 use Rattle.acl_model.specs.declared.binding.Binding.{Binding}
-
--- ---- Addresses
-
-unfoldable pub version_number : Addr → ℕ
-version_number (V4 n) = 4
-version_number (V6 n) = 6
-
-unfoldable pub addr_number : Addr → ℕ
-addr_number (V4 n) = n
-addr_number (V6 n) = n
-
--- the version, 4 or 6, and the number
-unfoldable pub addr_place : Addr → List ℕ
-addr_place a = version_number a ∷ (addr_number a ∷ [])
 
 -- ---- Keys
 

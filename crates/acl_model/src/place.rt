@@ -4,7 +4,8 @@ ghost use Rattle.std.specs.Prelude.{◌≡◌, ◌++◌};
 ghost use Rattle.sorted_rows.specs.Placed.{place_cmp, same_place};
 ghost use Rattle.acl_model.specs.declared.binding.Binding.{Binding as BindingValue};
 ghost use Rattle.acl_model.specs.Changes.{same_spot};
-ghost use Rattle.acl_model.specs.Places.{addr_place, key_kind, key_text, text_place, binding_place};
+ghost use Rattle.sorted_rows.specs.Addresses.{addr_place};
+ghost use Rattle.acl_model.specs.Places.{key_kind, key_text, text_place, binding_place};
 
 use crate::binding::{Binding, MemberKey};
 use mud_base::{Addr, addr_order};
@@ -106,7 +107,8 @@ impl Placed for Binding {
 
 impl KeyOf<Binding> for BoundKey<'_> {
     ghost use Rattle.std.specs.Prelude.{◌++◌};
-    ghost use Rattle.acl_model.specs.Places.{text_place, addr_place};
+    ghost use Rattle.sorted_rows.specs.Addresses.{addr_place};
+    ghost use Rattle.acl_model.specs.Places.{text_place};
 
     ghost place = { λ own. text_place own.key.kind own.key.text.now ++ addr_place own.addr };
 

@@ -19,7 +19,7 @@ use Rattle.mud_tables.specs.declared.bind.NameRow.{NameRow}
 use Rattle.mud_tables.specs.Ends.{is_live, for_ever, has_live}
 use Rattle.mud_tables.specs.Binds.{key_of_class, same_class, has_addr}
 use Rattle.mud_tables.specs.Tables.{Tables, has_lease, has_host, has_url, is_leased, is_bound, is_named}
-use Rattle.mud_tables.specs.Bindings.{binding, bindings_of_lease, thing_bindings, member_key, class_binding, class_bindings, name_binding, name_bindings, bindings_of, is_met_by, has_live_binding}
+use Rattle.mud_tables.specs.Bindings.{binding, bindings_of_lease, thing_bindings, member_key, class_binding, class_bindings, name_binding, name_bindings, things_bindings, classes_bindings, names_bindings, bindings_of, is_met_by, has_live_binding}
 
 -- ---- Some element passes a test
 
@@ -162,7 +162,7 @@ no_name key a now none names =
 parts : (tables : Tables) (key : MemberKey) (a : Addr) (now : ℕ) (x y z : Bool) → list_any (is_met_by key a now) (flat_map thing_bindings tables.things) ≡ x
     → list_any (is_met_by key a now) (flat_map class_bindings tables.classes) ≡ y → list_any (is_met_by key a now) (flat_map name_bindings tables.names) ≡ z
     → has_live_binding (bindings_of tables) key a now ≡ ((x || y) || z)
-unfolding has_live_binding bindings_of
+unfolding has_live_binding bindings_of things_bindings classes_bindings names_bindings
 parts tables key a now x y z of_things of_classes of_names =
     let met : Binding → Bool = is_met_by key a now in
     list_any-append met (flat_map thing_bindings tables.things ++ flat_map class_bindings tables.classes) (flat_map name_bindings tables.names)

@@ -1,5 +1,5 @@
--- What each command on classes, local networks and names answers, and the list after it. The cases of a step stand in
--- order: the first that holds is the step. A refusal changes nothing.
+-- What each command on classes, local networks and names answers, and the list after it; then the same over all three
+-- lists. The cases of a step stand in order: the first that holds is the step. A refusal changes nothing.
 use Rattle.std.specs.Prelude.{ℕ, ◌+◌, Bool, true, false, not, ◌&&◌, ◌==◌, nat_le, nat_lt, is_none, List, [], ◌∷◌, length, find, Option, Some, None, Result, Ok, Err, if◌then◌else◌}
 use Rattle.mud_base.specs.declared.addr.Addr.{Addr}
 use Rattle.mud_base.specs.declared.prefix.Prefix.{Prefix}
@@ -12,7 +12,7 @@ use Rattle.mud_tables.specs.declared.bind_fault.BindFault.{BindFault}
 use Rattle.mud_tables.specs.declared.bind_fault.BindFault.TheVariants.{ClassesFull, ClassFull, NotBound, LocalsFull, NamesFull, NameFull}
 use Rattle.mud_tables.specs.Limits.{most_classes, most_class_addresses, most_locals, most_names, most_name_addresses}
 use Rattle.mud_tables.specs.Ends.{Ends, is_live, end_of, with_end, live_rows, live_count}
-use Rattle.mud_tables.specs.Binds.{class_at, set_class, without_class, class_row, has_addr, with_addr, without_addr, prefixes_in_order, same_prefixes, name_at, set_name, without_name, name_row, has_live_row}
+use Rattle.mud_tables.specs.Binds.{Binds, class_at, set_class, without_class, class_row, has_addr, with_addr, without_addr, prefixes_in_order, same_prefixes, name_at, set_name, without_name, name_row, has_live_row}
 
 -- ---- The operator binds an address to a class (RFC 8520, 4.6 and 4.7)
 
@@ -132,3 +132,48 @@ observe_row name a until now names row = observe_cases name a until now names ro
 
 unfoldable pub observe_step : List ℕ → Addr → ℕ → ℕ → List NameRow → NameStep
 observe_step name a ttl now names = observe_row name a (now + ttl) now names (name_at name names)
+
+-- ---- The same commands over the three lists
+
+-- what was done, the end that is kept for an address of a name, whether some list is another one than before, and the
+-- lists after it
+pub record BindsAfter : Type 0 where
+  pub word : outcome.Word
+  pub until : Option ℕ
+  pub changes : Bool
+  pub binds : Binds
+
+abbrev pub BindStep : Type 0
+BindStep = Result BindsAfter BindFault
+
+-- of what a command on these lists answers, `same` alone leaves them as they were
+unfoldable pub is_change : outcome.Word → Bool
+is_change Same = false
+is_change _ = true
+
+abbrev pub binds_done : outcome.Word → Option ℕ → Binds → BindStep
+binds_done word until binds = Ok (record { word = word; until = until; changes = is_change word; binds = binds })
+
+unfoldable pub with_classes : Binds → ClassStep → BindStep
+with_classes binds (Ok after) = binds_done after.word None (record binds { classes = after.classes })
+with_classes binds (Err fault) = Err fault
+
+unfoldable pub with_locals : Binds → LocalStep → BindStep
+with_locals binds (Ok after) = binds_done after.word None (record binds { locals = after.locals })
+with_locals binds (Err fault) = Err fault
+
+unfoldable pub with_names : Binds → NameStep → BindStep
+with_names binds (Ok after) = binds_done after.word (Some after.until) (record binds { names = after.names })
+with_names binds (Err fault) = Err fault
+
+unfoldable pub bind_class_step : Class → Addr → Binds → BindStep
+bind_class_step class a binds = with_classes binds (bind_step class a binds.classes)
+
+unfoldable pub unbind_class_step : Class → Addr → Binds → BindStep
+unbind_class_step class a binds = with_classes binds (unbind_step class a binds.classes)
+
+unfoldable pub set_locals_step : List Prefix → Binds → BindStep
+set_locals_step prefixes binds = with_locals binds (locals_step prefixes binds.locals)
+
+unfoldable pub observe_name_step : List ℕ → Addr → ℕ → ℕ → Binds → BindStep
+observe_name_step name a ttl now binds = with_names binds (observe_step name a ttl now binds.names)

@@ -55,8 +55,18 @@ name_binding row r = binding (of_key.Name row.name) r.0 r.1
 unfoldable pub name_bindings : NameRow → List Binding
 name_bindings row = map (name_binding row) row.addrs
 
+-- the three parts: their keys are of different kinds, so none has a binding of another
+unfoldable pub things_bindings : List Thing → List Binding
+things_bindings things = flat_map thing_bindings things
+
+unfoldable pub classes_bindings : List ClassRow → List Binding
+classes_bindings classes = flat_map class_bindings classes
+
+unfoldable pub names_bindings : List NameRow → List Binding
+names_bindings names = flat_map name_bindings names
+
 unfoldable pub bindings_of : Tables → List Binding
-bindings_of tables = flat_map thing_bindings tables.things ++ flat_map class_bindings tables.classes ++ flat_map name_bindings tables.names
+bindings_of tables = things_bindings tables.things ++ classes_bindings tables.classes ++ names_bindings tables.names
 
 -- ---- The ruling over a list of bindings
 

@@ -104,6 +104,13 @@ name_row name addrs = record { name = name; addrs = addrs }
 unfoldable pub has_live_row : ℕ → NameRow → Bool
 has_live_row now row = list_any (λ r. is_live r.1 now) row.addrs
 
+-- ---- The three lists together
+
+pub record Binds : Type 0 where
+  pub classes : List ClassRow
+  pub locals : List Prefix
+  pub names : List NameRow
+
 -- ---- What holds of every such list
 
 -- 1 to 255 octets from 21 to 7E hex
@@ -144,3 +151,8 @@ pub record IsSoundNames (names : List NameRow) : Type 0 where
   pub ascend : PlacesAscend name_of names
   pub each : AllByRecursion (λ row. IsTrue (is_sound_name row)) names
   pub few : length names ≤ most_names
+
+pub record IsSoundBinds (binds : Binds) : Type 0 where
+  pub classes : IsSoundClasses binds.classes
+  pub locals : IsSoundLocals binds.locals
+  pub names : IsSoundNames binds.names

@@ -3,10 +3,12 @@ pub mod Limits
 pub mod Ends
 pub mod Things
 pub mod ThingSteps
+pub mod ThingChanges
 pub mod Binds
 pub mod BindSteps
 pub mod Tables
 pub mod Bindings
+pub mod BindingChanges
 pub mod History
 pub mod ItemFields
 pub mod ThingItems

@@ -1,8 +1,9 @@
--- The tables that say which addresses a selector means, and the ruling over them.
-use Rattle.std.specs.Prelude.{ℕ, Bool, ◌&&◌, List, bytes_eq, Option}
+-- The tables that say which addresses a selector means, the Things of a frame, and the ruling.
+use Rattle.std.specs.Prelude.{ℕ, ◌%◌, Bool, ◌&&◌, ◌==◌, List, bytes_eq, slice_index_or, Option, None, if◌then◌else◌}
 use Rattle.std.specs.List.{list_any}
 use Rattle.mud_base.specs.Addresses.{prefix_holds}
 use Rattle.mud_base.specs.declared.addr.Addr.{Addr}
+use Rattle.mud_base.specs.declared.addr.Mac.{Mac}
 use Rattle.mud_base.specs.declared.prefix.Prefix.{Prefix}
 use Rattle.mud_base.specs.declared.packet.Direction.{Direction}
 use Rattle.mud_base.specs.declared.packet.Fields.{Fields}
@@ -19,13 +20,42 @@ use Rattle.mud_tables.specs.declared.bind.Class.TheVariants as class
 use Rattle.mud_tables.specs.declared.bind.ClassRow.{ClassRow}
 use Rattle.mud_tables.specs.declared.bind.NameRow.{NameRow}
 use Rattle.mud_tables.specs.Ends.{has_live}
-use Rattle.mud_tables.specs.Binds.{same_class, has_addr}
+use Rattle.mud_tables.specs.Things.{IsSoundThings, thing_at}
+use Rattle.mud_tables.specs.Binds.{Binds, same_class, has_addr, IsSoundClasses, IsSoundLocals, IsSoundNames}
 
 pub record Tables : Type 0 where
   pub things : List Thing
   pub classes : List ClassRow
   pub locals : List Prefix
   pub names : List NameRow
+
+pub record IsSoundTables (tables : Tables) : Type 0 where
+  pub things : IsSoundThings tables.things
+  pub classes : IsSoundClasses tables.classes
+  pub locals : IsSoundLocals tables.locals
+  pub names : IsSoundNames tables.names
+
+-- the classes, the local networks and the names of the tables
+unfoldable pub binds_of : Tables → Binds
+binds_of tables = record { classes = tables.classes; locals = tables.locals; names = tables.names }
+
+-- the tables with other classes, local networks and names
+unfoldable pub with_binds : Binds → Tables → Tables
+with_binds binds tables = record { things = tables.things; classes = binds.classes; locals = binds.locals; names = binds.names }
+
+-- ---- The Things of a frame
+
+-- an address for more than one station: the bit that is sent first, the least of the first octet, is 1 (IEEE 802, 8.2.2)
+unfoldable pub is_group : Mac → Bool
+is_group mac = slice_index_or mac.0 0 0 % 2 == 1
+
+-- the Thing that sent it
+unfoldable pub source_thing : Mac → List Thing → Option Thing
+source_thing mac things = thing_at mac things
+
+-- the Thing that it is for: none where it is for a group, even where a Thing is kept by that address
+unfoldable pub destination_thing : Mac → List Thing → Option Thing
+destination_thing mac things = if is_group mac then None else thing_at mac things
 
 -- ---- Which addresses meet a selector
 

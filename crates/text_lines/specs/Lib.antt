@@ -1,0 +1,4 @@
+pub mod Added
+pub mod Faults
+pub mod Numbers
+pub mod Paths

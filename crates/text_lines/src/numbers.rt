@@ -1,0 +1,61 @@
+//! Numbers, in decimal digits without a leading zero.
+ghost use Rattle.std.specs.Prelude.{◌≡◌, ◌++◌, OnErr, OnOk, decimal};
+ghost use Rattle.std.specs.Fmt.{signed_decimal};
+ghost use Rattle.text_lines.specs.Added.{AddedPart};
+ghost use Rattle.text_lines.specs.Numbers.{end_text, number_text, place_text};
+
+use itoa::Buffer;
+use mud_base::{Bytes, End, Memory};
+
+/// Adds the decimal digits of a number. Without memory the line stays as it was.
+pub fn append_decimal(line: &mut Bytes, number: u64) -> Result<(), Memory>
+    ensures ok { OnOk result (line.new ≡ line.old ++ decimal number) }
+    ensures err { OnErr result (line.new ≡ line.old) }
+{
+    let mut digits = Buffer::new();
+    line.append(digits.format(number).as_bytes())
+}
+
+/// Adds the decimal digits of a number, behind `-` where it is below 0. Without memory the line
+/// stays as it was.
+pub fn append_signed(line: &mut Bytes, number: i64) -> Result<(), Memory>
+    ensures ok { OnOk result (line.new ≡ line.old ++ signed_decimal number) }
+    ensures err { OnErr result (line.new ≡ line.old) }
+{
+    let mut digits = Buffer::new();
+    line.append(digits.format(number).as_bytes())
+}
+
+/// Adds an end: `never`, or its seconds. Without memory the line stays as it was.
+#[tactic(auto, unfolding(crate::specs::Numbers::end_text))]
+pub fn append_end(line: &mut Bytes, end: End) -> Result<(), Memory>
+    ensures ok { OnOk result (line.new ≡ line.old ++ end_text end) }
+    ensures err { OnErr result (line.new ≡ line.old) }
+{
+    if end.0 == End::NEVER {
+        return line.append(b"never");
+    }
+    append_decimal(line, end.0)
+}
+
+/// Adds a space and the number.
+#[tactic(auto, unfolding(crate::specs::Numbers::number_text))]
+pub fn append_number(line: &mut Bytes, number: u64) -> Result<(), Memory>
+    ensures ok { OnOk result (line.new ≡ line.old ++ number_text number) }
+    ensures part { OnErr result (AddedPart (number_text number) line.old line.new) }
+{
+    line.append(b" ")?;
+    append_decimal(line, number)
+}
+
+/// Adds a space and the place, where there is one.
+#[tactic(auto, unfolding(crate::specs::Numbers::place_text))]
+pub fn append_place(line: &mut Bytes, place: Option<u64>) -> Result<(), Memory>
+    ensures ok { OnOk result (line.new ≡ line.old ++ place_text place) }
+    ensures part { OnErr result (AddedPart (place_text place) line.old line.new) }
+{
+    match place {
+        None => Ok(()),
+        Some(place) => append_number(line, place),
+    }
+}

@@ -1,5 +1,5 @@
 -- The items in which the tables are kept.
-use Rattle.std.proofs.Common.{◌≡◌, ℕ, Bool, true, false, List, [], ◌∷◌, ◌++◌, Option, Some, None, refl}
+use Rattle.std.proofs.Common.{◌≡◌, ℕ, true, false, List, [], ◌∷◌, ◌++◌, Some, None, refl}
 use Rattle.std.specs.Prelude.{codes}
 use Rattle.mud_base.specs.Addresses.{addr_bits, masked}
 use Rattle.mud_base.specs.declared.addr.Addr.TheVariants.{V4, V6}
@@ -7,23 +7,22 @@ use Rattle.mud_base.specs.declared.prefix.Prefix.{Prefix}
 use Rattle.mud_world.specs.declared.item.Item.{Item}
 use Rattle.mud_url.specs.Url.{is_canonical}
 use Rattle.mud_url.proofs.OnLiterals.{url_on_literals}
-use Rattle.item_codec.specs.Spelling.{number, string, list, version}
-use Rattle.item_codec.specs.Reading.{octets_at, number_of, number_at, string_at, list_at, version_at, end_at}
-use Rattle.item_codec.specs.Records.{number_in, string_in, version_in, end_in, optional, optional_in, elements, each_in, elements_in, list_body, list_body_in}
+use Rattle.item_codec.specs.Spelling.{number, string, list, version, version_of}
+use Rattle.item_codec.specs.Reading.{octets_at, number_of, number_at, string_at, list_at, version_to, version_at, end_at}
+use Rattle.item_codec.specs.Records.{number_in, string_in, version_to_in, version_in, end_in, optional, optional_in, elements, each_in, elements_in, list_body, list_body_in}
 use Rattle.mud_tables.specs.declared.thing.Thing.{Thing}
 use Rattle.mud_tables.specs.declared.bind.Class.TheVariants.{Uri, Mine}
 use Rattle.mud_tables.specs.declared.bind.ClassRow.{ClassRow}
-use Rattle.mud_tables.specs.declared.bind.NameRow.{NameRow}
 use Rattle.mud_tables.specs.Ends.{are_ascending, have_ends, for_ever}
 use Rattle.mud_tables.specs.Things.{may_wait, are_leases, is_sound_thing}
 use Rattle.mud_tables.specs.Binds.{are_addrs, are_prefixes, is_class_uri, is_class, is_sound_class, is_prefix, is_name, is_sound_name}
 use Rattle.mud_tables.specs.ItemFields.{address, v4_in, v6_in, address_in, ending, ending_in, network, network_in}
-use Rattle.mud_tables.specs.ThingItems.{thing_body, thing_item, thing_of, if_sound_thing, thing_in, is_taken, may_follow, with_thing_item}
+use Rattle.mud_tables.specs.ThingItems.{thing_fields, hold_octet, thing_body, thing_item, first_thing_item, hold_in, thing_of, if_sound_thing, thing_in, is_taken, may_follow, with_thing_item}
 use Rattle.mud_tables.specs.BindItems.{class_item, class_of_key, if_sound_class, class_in, locals_item, locals_items, are_locals, if_sound_locals, locals_in, name_item, if_sound_name, name_in, stamp_item, stamp_items, moment_of_body, if_moment, stamp_in, with_locals_item, with_stamp_item}
-use Rattle.mud_tables.proofs.Literals.{things_compute, binds_compute, mac_1, mac_2, bulb_addr, switch_addr, dns_addr, test_addr, bulb_url, next_url, switch_url, dns_class, test_name, bulb, bare_bulb, bare_switch}
+use Rattle.mud_tables.proofs.Literals.{things_compute, binds_compute, bulb_addr, dns_addr, test_addr, bulb_url, next_url, dns_class, test_name, bulb, bare_bulb, bare_switch}
 
 unfoldable items_compute : Unit {0}
-unfolding things_compute binds_compute addr_bits masked number string list version octets_at number_of number_at string_at list_at version_at end_at number_in string_in version_in end_in optional optional_in elements each_in elements_in list_body list_body_in are_ascending have_ends may_wait are_leases is_sound_thing are_addrs are_prefixes is_class_uri is_class is_sound_class is_prefix is_name is_sound_name address v4_in v6_in address_in ending ending_in network network_in thing_body thing_item thing_of if_sound_thing thing_in is_taken may_follow with_thing_item class_item class_of_key if_sound_class class_in locals_item locals_items are_locals if_sound_locals locals_in name_item if_sound_name name_in stamp_item stamp_items moment_of_body if_moment stamp_in with_locals_item with_stamp_item
+unfolding things_compute binds_compute addr_bits masked number string list version version_of octets_at number_of number_at string_at list_at version_to version_at end_at number_in string_in version_to_in version_in end_in optional optional_in elements each_in elements_in list_body list_body_in are_ascending have_ends may_wait are_leases is_sound_thing are_addrs are_prefixes is_class_uri is_class is_sound_class is_prefix is_name is_sound_name address v4_in v6_in address_in ending ending_in network network_in thing_fields hold_octet thing_body thing_item first_thing_item hold_in thing_of if_sound_thing thing_in is_taken may_follow with_thing_item class_item class_of_key if_sound_class class_in locals_item locals_items are_locals if_sound_locals locals_in name_item if_sound_name name_in stamp_item stamp_items moment_of_body if_moment stamp_in with_locals_item with_stamp_item
 items_compute = tt
 
 -- ---- Things
@@ -36,24 +35,61 @@ canonical_next : is_canonical next_url ≡ true
 unfolding url_on_literals
 canonical_next = refl
 
--- the body of a bulb with no lease: the version, the length 42 and the URL, nothing that waits, no lease
-bare_body : thing_item bare_bulb ≡ record { kind = 1; key = 2 ∷ 0 ∷ 0 ∷ 0 ∷ 0 ∷ 1 ∷ []; body = 1 ∷ 0 ∷ 0 ∷ 0 ∷ 42 ∷ (bulb_url ++ (0 ∷ 0 ∷ 0 ∷ [])) }
-unfolding items_compute
-bare_body = refl
+abbrev bulb_key : List ℕ
+bulb_key = 2 ∷ 0 ∷ 0 ∷ 0 ∷ 0 ∷ 1 ∷ []
 
-read_bare : thing_in (record { kind = 1; key = 2 ∷ 0 ∷ 0 ∷ 0 ∷ 0 ∷ 1 ∷ []; body = 1 ∷ 0 ∷ 0 ∷ 0 ∷ 42 ∷ (bulb_url ++ (0 ∷ 0 ∷ 0 ∷ [])) }) ≡ Some bare_bulb
+-- the body of a bulb with no lease: the version, the length 42 and the URL, nothing that waits, no lease, no hold
+abbrev bare_body : List ℕ
+bare_body = 2 ∷ 0 ∷ 0 ∷ 0 ∷ 42 ∷ (bulb_url ++ (0 ∷ 0 ∷ 0 ∷ 0 ∷ []))
+
+bare_item : thing_item bare_bulb ≡ record { kind = 1; key = bulb_key; body = bare_body }
+unfolding items_compute
+bare_item = refl
+
+read_bare : thing_in (record { kind = 1; key = bulb_key; body = bare_body }) ≡ Some bare_bulb
 unfolding items_compute
 read_bare = rw canonical refl
+
+-- the same in version 1, which has no hold
+abbrev first_body : List ℕ
+first_body = 1 ∷ 0 ∷ 0 ∷ 0 ∷ 42 ∷ (bulb_url ++ (0 ∷ 0 ∷ 0 ∷ []))
+
+first_item : first_thing_item bare_bulb ≡ record { kind = 1; key = bulb_key; body = first_body }
+unfolding items_compute
+first_item = refl
+
+read_first : thing_in (record { kind = 1; key = bulb_key; body = first_body }) ≡ Some bare_bulb
+unfolding items_compute
+read_first = rw canonical refl
+
+-- version 1 with the octet of version 2, and version 2 without it
+first_with_hold : thing_in (record { kind = 1; key = bulb_key; body = first_body ++ 0 ∷ [] }) ≡ None
+unfolding items_compute
+first_with_hold = refl
+
+second_without_hold : thing_in (record { kind = 1; key = bulb_key; body = 2 ∷ 0 ∷ 0 ∷ 0 ∷ 42 ∷ (bulb_url ++ (0 ∷ 0 ∷ 0 ∷ [])) }) ≡ None
+unfolding items_compute
+second_without_hold = refl
+
+-- a held one, and an octet that is neither
+held_item : thing_item (record bare_bulb { held = true }) ≡ record { kind = 1; key = bulb_key; body = 2 ∷ 0 ∷ 0 ∷ 0 ∷ 42 ∷ (bulb_url ++ (0 ∷ 0 ∷ 0 ∷ 1 ∷ [])) }
+unfolding items_compute
+held_item = refl
+
+read_held : thing_in (record { kind = 1; key = bulb_key; body = 2 ∷ 0 ∷ 0 ∷ 0 ∷ 42 ∷ (bulb_url ++ (0 ∷ 0 ∷ 0 ∷ 1 ∷ [])) }) ≡ Some (record bare_bulb { held = true })
+unfolding items_compute
+read_held = rw canonical refl
+
+other_hold : thing_in (record { kind = 1; key = bulb_key; body = 2 ∷ 0 ∷ 0 ∷ 0 ∷ 42 ∷ (bulb_url ++ (0 ∷ 0 ∷ 0 ∷ 2 ∷ [])) }) ≡ None
+unfolding items_compute
+other_hold = refl
 
 -- a URL that waits, and a lease until 87400 (15568 hex)
 abbrev full_bulb : Thing
 full_bulb = record bulb { pending = Some next_url }
 
 abbrev full_body : List ℕ
-full_body = 1 ∷ 0 ∷ 0 ∷ 0 ∷ 42 ∷ (bulb_url ++ (1 ∷ 0 ∷ 0 ∷ 0 ∷ 42 ∷ (next_url ++ (0 ∷ 1 ∷ 4 ∷ 192 ∷ 0 ∷ 2 ∷ 10 ∷ 0 ∷ 0 ∷ 0 ∷ 0 ∷ 0 ∷ 1 ∷ 0x55 ∷ 0x68 ∷ []))))
-
-abbrev bulb_key : List ℕ
-bulb_key = 2 ∷ 0 ∷ 0 ∷ 0 ∷ 0 ∷ 1 ∷ []
+full_body = 2 ∷ 0 ∷ 0 ∷ 0 ∷ 42 ∷ (bulb_url ++ (1 ∷ 0 ∷ 0 ∷ 0 ∷ 42 ∷ (next_url ++ (0 ∷ 1 ∷ 4 ∷ 192 ∷ 0 ∷ 2 ∷ 10 ∷ 0 ∷ 0 ∷ 0 ∷ 0 ∷ 0 ∷ 1 ∷ 0x55 ∷ 0x68 ∷ 0 ∷ []))))
 
 abbrev item : ℕ → List ℕ → List ℕ → Item
 item kind key body = record { kind = kind; key = key; body = body }
@@ -84,7 +120,7 @@ other_kind : thing_in (item 2 bulb_key full_body) ≡ None
 unfolding items_compute
 other_kind = refl
 
-later_version : thing_in (item 1 bulb_key (2 ∷ 0 ∷ 0 ∷ 0 ∷ 42 ∷ (bulb_url ++ (0 ∷ 0 ∷ 0 ∷ [])))) ≡ None
+later_version : thing_in (item 1 bulb_key (3 ∷ 0 ∷ 0 ∷ 0 ∷ 42 ∷ (bulb_url ++ (0 ∷ 0 ∷ 0 ∷ [])))) ≡ None
 unfolding items_compute
 later_version = refl
 
@@ -93,12 +129,12 @@ not_canonical : is_canonical (codes "https://A.example/") ≡ false
 unfolding url_on_literals
 not_canonical = refl
 
-upper_case : thing_in (item 1 bulb_key (1 ∷ 0 ∷ 0 ∷ 0 ∷ 18 ∷ (codes "https://A.example/" ++ (0 ∷ 0 ∷ 0 ∷ [])))) ≡ None
+upper_case : thing_in (item 1 bulb_key (2 ∷ 0 ∷ 0 ∷ 0 ∷ 18 ∷ (codes "https://A.example/" ++ (0 ∷ 0 ∷ 0 ∷ 0 ∷ [])))) ≡ None
 unfolding items_compute
 upper_case = rw not_canonical refl
 
 -- its own URL can't wait
-own_url_waits : thing_in (item 1 bulb_key (1 ∷ 0 ∷ 0 ∷ 0 ∷ 42 ∷ (bulb_url ++ (1 ∷ 0 ∷ 0 ∷ 0 ∷ 42 ∷ (bulb_url ++ (0 ∷ 0 ∷ [])))))) ≡ None
+own_url_waits : thing_in (item 1 bulb_key (2 ∷ 0 ∷ 0 ∷ 0 ∷ 42 ∷ (bulb_url ++ (1 ∷ 0 ∷ 0 ∷ 0 ∷ 42 ∷ (bulb_url ++ (0 ∷ 0 ∷ 0 ∷ [])))))) ≡ None
 unfolding items_compute
 own_url_waits = rw canonical refl
 

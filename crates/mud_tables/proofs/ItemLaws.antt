@@ -1,27 +1,28 @@
 -- What is kept in an item is read back from it, and nothing else reads.
-use Rattle.std.proofs.Common.{◌≡◌, ℕ, ◌+◌, ◌*◌, ◌/◌, ◌%◌, ◌^◌, ◌<◌, ◌≤◌, leb, Bool, true, false, ◌&&◌, cond, eqb, List, [], ◌∷◌, ◌++◌, length, Option, Some, None, refl, sym, ap, subst, ◌∙◌, append_assoc, arith, inl, inr, lit<, IsTrue}
-use Rattle.std.specs.Prelude.{nat_le, nat_lt}
-use Rattle.std.proofs.lemmas.Bool.{eqb-true, leb-true, le-leb}
+use Rattle.std.proofs.Common.{◌≡◌, ℕ, ◌+◌, ◌*◌, ◌/◌, ◌%◌, ◌^◌, ◌<◌, ◌≤◌, leb, Bool, true, false, ◌&&◌, cond, eqb, List, [], ◌∷◌, ◌++◌, length, Option, Some, None, refl, sym, ap, subst, ◌∙◌, append_assoc, arith, inl, inr, lit<, lit≤, ◌⊎◌}
+use Rattle.std.proofs.lemmas.Bool.{eqb-true, eqb-false, cases_lt, leb-true, le-leb}
 use Rattle.std.proofs.lemmas.List.{append-nil, nil_from_length}
 use Rattle.mud_base.specs.declared.addr.Addr.{Addr}
 use Rattle.mud_base.specs.declared.addr.Addr.TheVariants.{V4, V6}
 use Rattle.mud_base.specs.declared.prefix.Prefix.{Prefix}
 use Rattle.mud_world.specs.declared.item.Item.{Item}
-use Rattle.item_codec.specs.Spelling.{number, string, version, IsOctets}
+use Rattle.item_codec.specs.Spelling.{number, string, version, version_of, IsOctets}
 use Rattle.item_codec.specs.Reading.{IsRead}
-use Rattle.item_codec.specs.Records.{Reading, ◌>>=◌, number_in, string_in, version_in, end_in, optional, optional_in, elements, elements_in, list_body, list_body_in, IsForm, OptionFits, ListFits}
+use Rattle.item_codec.specs.Records.{◌>>=◌, number_in, string_in, version_to_in, version_in, end_in, optional, optional_in, elements, elements_in, list_body, list_body_in, IsForm, OptionFits, ListFits}
 use Rattle.item_codec.proofs.FieldLaws.{then_read, read_whole}
-use Rattle.item_codec.proofs.RecordLaws.{some_is, bind_some, pass_some, chosen, number_form, string_form, optional_form, elements_form, version_back, version_alone, end_alone, end_back, list_body_back, list_body_alone, pair_form}
+use Rattle.item_codec.proofs.RecordLaws.{some_is, bind_some, pass_some, chosen, number_form, string_form, optional_form, elements_form, version_to_back, version_to_alone, version_back, version_alone, end_alone, end_back, list_body_back, list_body_alone, pair_form}
 use Rattle.mud_tables.specs.declared.thing.Thing.{Thing}
 use Rattle.mud_tables.specs.declared.bind.Class.{Class}
 use Rattle.mud_tables.specs.declared.bind.Class.TheVariants.{Uri, Mine}
 use Rattle.mud_tables.specs.declared.bind.ClassRow.{ClassRow}
 use Rattle.mud_tables.specs.declared.bind.NameRow.{NameRow}
-use Rattle.mud_tables.specs.Things.{is_sound_thing}
-use Rattle.mud_tables.specs.Binds.{key_of_class, class_key, class_row, is_sound_class, name_row, is_sound_name}
-use Rattle.mud_tables.specs.BindItems.{class_item, class_of_key, if_sound_class, class_in, locals_item, are_locals, if_sound_locals, locals_in, name_item, if_sound_name, name_in, stamp_item, moment_of_body, if_moment, stamp_in, FitsClass, FitsLocals, FitsName, IsClassItem, IsLocalsItem, IsNameItem}
+use Rattle.mud_tables.specs.Ends.{Ends}
+use Rattle.mud_tables.specs.Fits.{FitsThing}
+use Rattle.mud_tables.specs.Things.{is_sound_thing, IsKeptThing}
+use Rattle.mud_tables.specs.Binds.{key_of_class, class_key, class_row, is_sound_class, name_row, is_sound_name, IsKeptClass, IsKeptName}
+use Rattle.mud_tables.specs.BindItems.{class_item, class_of_key, if_sound_class, class_in, locals_item, are_locals, if_sound_locals, locals_in, name_item, if_sound_name, name_in, stamp_item, moment_of_body, if_moment, stamp_in, IsKeptLocals, IsClassItem, IsLocalsItem, IsNameItem}
 use Rattle.mud_tables.specs.ItemFields.{address, v4_in, v6_in, address_in, IsAddr, ending, ending_in, IsEnding, network, network_in, IsNetwork}
-use Rattle.mud_tables.specs.ThingItems.{thing_body, thing_item, thing_of, if_sound_thing, thing_in, FitsThing, IsThingItem}
+use Rattle.mud_tables.specs.ThingItems.{thing_fields, hold_octet, thing_body, thing_item, first_thing_item, hold_in, thing_of, if_sound_thing, thing_in, IsThingItem}
 
 -- ---- Addresses
 
@@ -137,51 +138,143 @@ url_form = optional_form string (λ s. length s < 2 ^ 32) string_in string_form
 abbrev leases_form : IsForm (elements ending) (ListFits IsEnding) (elements_in ending_in)
 leases_form = elements_form ending IsEnding ending_in ending_form
 
-thing_of_back : (thing : Thing) → FitsThing thing → thing_of thing.mac.0 (thing_body thing) ≡ Some thing
-unfolding thing_of thing_body
-thing_of_back thing fits =
-    let leases : elements_in ending_in (elements ending thing.leases) ≡ Some (thing.leases, []) =
-    ap (elements_in ending_in) (sym (append-nil (elements ending thing.leases))) ∙ leases_form.back thing.leases [] fits.leases in
-    rw (
-      version_back (string thing.url ++ (optional string thing.pending ++ elements ending thing.leases)),
-      string_form.back thing.url (optional string thing.pending ++ elements ending thing.leases) fits.url,
-      url_form.back thing.pending (elements ending thing.leases) fits.pending,
-      leases,
+abbrev some_pair : Bool → Option (Bool × List ℕ)
+some_pair b = Some (b, [])
+
+second_of_two : (n : ℕ) → 1 ≤ n → n ≤ 2 → (n ≡ 1 → ⊥) → n ≡ 2
+second_of_two n least most other =
+    elim (cases_lt n 2) [
+      | inl lt ↦ absurd (other (omega (arith, least, lt)))
+      | inr le ↦ omega (arith, most, le)
+    ]
+
+-- one octet with nothing behind it
+octet_alone : (n : ℕ) → n < 256 ^ 1 → number_in 1 (number 1 n) ≡ Some (n, [])
+octet_alone n below = ap (number_in 1) (sym (append-nil (number 1 n))) ∙ octet_form.back n [] below
+
+-- what both versions say, with more behind it, field by field
+fields_behind : (thing : Thing) (rest : List ℕ) → thing_fields thing ++ rest ≡ string thing.url ++ (optional string thing.pending ++ (elements ending thing.leases ++ rest))
+unfolding thing_fields
+fields_behind thing rest =
+    append_assoc (string thing.url) (optional string thing.pending ++ elements ending thing.leases) rest
+    ∙ ap (λ (t : List ℕ). string thing.url ++ t) (append_assoc (optional string thing.pending) (elements ending thing.leases) rest)
+
+-- a body of either version, with its hold
+thing_of_back : (version : ℕ) (thing : Thing) (hold : List ℕ) → 1 ≤ version → version ≤ 2 → FitsThing thing → hold_in version hold ≡ Some (thing.held, []) → thing_of thing.mac.0 (version_of version ++ (thing_fields thing ++ hold)) ≡ Some thing
+unfolding thing_of
+thing_of_back version thing hold least most fits held =
+    ap (λ (t : List ℕ). thing_of thing.mac.0 (version_of version ++ t)) (fields_behind thing hold)
+    ∙ rw (
+      version_to_back 2 version (string thing.url ++ (optional string thing.pending ++ (elements ending thing.leases ++ hold))) least most (omega (arith, most)),
+      string_form.back thing.url (optional string thing.pending ++ (elements ending thing.leases ++ hold)) fits.url,
+      url_form.back thing.pending (elements ending thing.leases ++ hold) fits.pending,
+      leases_form.back thing.leases hold fits.leases,
+      held,
       end_back,
     ) refl
 
--- the body of a key is that of the Thing
+hold_back : (held : Bool) → hold_in 2 (hold_octet held) ≡ Some (held, [])
+unfolding hold_in hold_octet
+hold_back true = rw (octet_alone 1 (lit< tt)) refl
+hold_back false = rw (octet_alone 0 (lit< tt)) refl
+
+no_hold_back : hold_in 1 [] ≡ Some (false, [])
+unfolding hold_in
+no_hold_back = refl
+
+-- the octet of version 2, or none
+abbrev HoldRead : ℕ → List ℕ → Bool × List ℕ → Type 0
+HoldRead version octets x = ((version ≡ 1) × ((false, octets) ≡ x)) ⊎ ((version ≡ 1 → ⊥) × IsRead octets (hold_octet x.0) x.1)
+
+flag_read : (version : ℕ) (octets : List ℕ) (x : Bool × List ℕ) → (version ≡ 1 → ⊥) → (flag : ℕ × List ℕ) → IsRead octets (number 1 flag.0) flag.1 → cond (eqb flag.0 0) (Some (false, flag.1)) (cond (eqb flag.0 1) (Some (true, flag.1)) None) ≡ Some x → HoldRead version octets x
+unfolding hold_octet
+flag_read version octets x second flag read e =
+    elim (chosen (eqb flag.0 0) (Some (false, flag.1)) (cond (eqb flag.0 1) (Some (true, flag.1)) None) (Some x) e) [
+      | inl free ↦ subst (λ (y : Bool × List ℕ). HoldRead version octets y) (some_is (false, flag.1) x free.1) (inr (second, subst (λ (k : ℕ). IsRead octets (number 1 k) flag.1) (eqb-true flag.0 0 free.0) read))
+      | inr other ↦
+          let held = pass_some (eqb flag.0 1) x (Some (true, flag.1)) other.1 in
+          subst (λ (y : Bool × List ℕ). HoldRead version octets y) (some_is (true, flag.1) x held.1) (inr (second, subst (λ (k : ℕ). IsRead octets (number 1 k) flag.1) (eqb-true flag.0 1 held.0) read))
+    ]
+
+hold_alone : (version : ℕ) (octets : List ℕ) (x : Bool × List ℕ) → IsOctets octets → hold_in version octets ≡ Some x → HoldRead version octets x
+unfolding hold_in
+hold_alone version octets x fits e =
+    elim (chosen (eqb version 1) (Some (false, octets)) (number_in 1 octets >>= λ flag. cond (eqb flag.0 0) (Some (false, flag.1)) (cond (eqb flag.0 1) (Some (true, flag.1)) None)) (Some x) e) [
+      | inl first ↦ inl (eqb-true version 1 first.0, some_is (false, octets) x first.1)
+      | inr second ↦
+          let flag = bind_some (number_in 1 octets) (λ flag. cond (eqb flag.0 0) (Some (false, flag.1)) (cond (eqb flag.0 1) (Some (true, flag.1)) None)) x second.1 in
+          flag_read version octets x (eqb-false version 1 second.0) flag.0 (octet_form.alone octets flag.0.0 flag.0.1 fits flag.1).0 flag.2
+    ]
+
+-- the body is that of the Thing, in version 2 or 1
+abbrev IsThingBody : List ℕ → Thing → Type 0
+IsThingBody body thing = (body ≡ thing_body thing) ⊎ ((body ≡ version_of 1 ++ thing_fields thing) × (thing.held ≡ false))
+
+-- fields with a hold, or without one
+by_version : (body : List ℕ) (version : ℕ) (thing : Thing) (behind : List ℕ) (hold : Bool × List ℕ) → 1 ≤ version → version ≤ 2 → IsRead body (version_of version ++ thing_fields thing) behind → HoldRead version behind hold → hold.1 ≡ [] → thing.held ≡ hold.0 → IsThingBody body thing
+unfolding thing_body
+by_version body version thing behind hold least most read (inl (one, none)) ended held =
+    let nothing : behind ≡ [] = ap (λ (p : Bool × List ℕ). p.1) none ∙ ended in
+    inr (subst (λ (k : ℕ). body ≡ version_of k ++ thing_fields thing) one (read_whole body (version_of version ++ thing_fields thing) behind read nothing), held ∙ sym (ap (λ (p : Bool × List ℕ). p.0) none))
+by_version body version thing behind hold least most read (inr (second, octet)) ended held =
+    let two : version ≡ 2 = second_of_two version least most second in
+    let whole : body ≡ (version_of version ++ thing_fields thing) ++ hold_octet hold.0 = read_whole body ((version_of version ++ thing_fields thing) ++ hold_octet hold.0) hold.1 (then_read body (version_of version ++ thing_fields thing) behind (hold_octet hold.0) hold.1 read octet) ended in
+    inl (whole ∙ append_assoc (version_of version) (thing_fields thing) (hold_octet hold.0) ∙ ap (λ (k : ℕ). version_of k ++ (thing_fields thing ++ hold_octet hold.0)) two ∙ ap (λ (b : Bool). version_of 2 ++ (thing_fields thing ++ hold_octet b)) (sym held))
+
+-- the key and the body are those of the Thing
 record IsThingRead (key body : List ℕ) (thing : Thing) : Type 0 where
   key_is : key ≡ thing.mac.0
-  body_is : body ≡ thing_body thing
+  body_is : IsThingBody body thing
   fits : FitsThing thing
 
+abbrev read_thing : List ℕ → List ℕ → Option (List ℕ) → Ends → Bool → Thing
+read_thing key url pending leases held = record { mac = record { 0 = key }; url = url; pending = pending; leases = leases; held = held }
+
 thing_of_alone : (key body : List ℕ) (thing : Thing) → length key ≡ 6 → IsOctets body → thing_of key body ≡ Some thing → IsThingRead key body thing
-unfolding thing_of thing_body
+unfolding thing_of thing_fields
 thing_of_alone key body thing six fits e =
-    let a = bind_some (version_in body) (λ one. string_in one.1 >>= λ url. optional_in string_in url.1 >>= λ pending. elements_in ending_in pending.1 >>= λ leases. end_in leases.1 >>= λ ended. Some (record { mac = record { 0 = key }; url = url.0; pending = pending.0; leases = leases.0 })) thing e in
-    let b = bind_some (string_in a.0.1) (λ url. optional_in string_in url.1 >>= λ pending. elements_in ending_in pending.1 >>= λ leases. end_in leases.1 >>= λ ended. Some (record { mac = record { 0 = key }; url = url.0; pending = pending.0; leases = leases.0 })) thing a.2 in
-    let c = bind_some (optional_in string_in b.0.1) (λ pending. elements_in ending_in pending.1 >>= λ leases. end_in leases.1 >>= λ ended. Some (record { mac = record { 0 = key }; url = b.0.0; pending = pending.0; leases = leases.0 })) thing b.2 in
-    let d = bind_some (elements_in ending_in c.0.1) (λ leases. end_in leases.1 >>= λ ended. Some (record { mac = record { 0 = key }; url = b.0.0; pending = c.0.0; leases = leases.0 })) thing c.2 in
-    let f = bind_some (end_in d.0.1) (λ ended. Some (record { mac = record { 0 = key }; url = b.0.0; pending = c.0.0; leases = d.0.0 })) thing d.2 in
-    let one = version_alone body a.0 fits a.1 in
-    let url = string_form.alone a.0.1 b.0.0 b.0.1 one.left b.1 in
+    let a = bind_some (version_to_in 2 body) (λ version. string_in version.1 >>= λ url. optional_in string_in url.1 >>= λ pending. elements_in ending_in pending.1 >>= λ leases. hold_in version.0 leases.1 >>= λ held. end_in held.1 >>= λ ended. Some (read_thing key url.0 pending.0 leases.0 held.0)) thing e in
+    let b = bind_some (string_in a.0.1) (λ url. optional_in string_in url.1 >>= λ pending. elements_in ending_in pending.1 >>= λ leases. hold_in a.0.0 leases.1 >>= λ held. end_in held.1 >>= λ ended. Some (read_thing key url.0 pending.0 leases.0 held.0)) thing a.2 in
+    let c = bind_some (optional_in string_in b.0.1) (λ pending. elements_in ending_in pending.1 >>= λ leases. hold_in a.0.0 leases.1 >>= λ held. end_in held.1 >>= λ ended. Some (read_thing key b.0.0 pending.0 leases.0 held.0)) thing b.2 in
+    let d = bind_some (elements_in ending_in c.0.1) (λ leases. hold_in a.0.0 leases.1 >>= λ held. end_in held.1 >>= λ ended. Some (read_thing key b.0.0 c.0.0 leases.0 held.0)) thing c.2 in
+    let h = bind_some (hold_in a.0.0 d.0.1) (λ held. end_in held.1 >>= λ ended. Some (read_thing key b.0.0 c.0.0 d.0.0 held.0)) thing d.2 in
+    let f = bind_some (end_in h.0.1) (λ ended. Some (read_thing key b.0.0 c.0.0 d.0.0 h.0.0)) thing h.2 in
+    let version = version_to_alone 2 body a.0 fits a.1 in
+    let url = string_form.alone a.0.1 b.0.0 b.0.1 version.read.left b.1 in
     let pending = url_form.alone b.0.1 c.0.0 c.0.1 url.0.left c.1 in
     let leases = leases_form.alone c.0.1 d.0.0 d.0.1 pending.0.left d.1 in
+    let hold = hold_alone a.0.0 d.0.1 h.0 leases.0.left h.1 in
     let read_2 = then_read b.0.1 (optional string c.0.0) c.0.1 (elements ending d.0.0) d.0.1 pending.0 leases.0 in
     let read_1 = then_read a.0.1 (string b.0.0) b.0.1 (optional string c.0.0 ++ elements ending d.0.0) d.0.1 url.0 read_2 in
-    let read_0 = then_read body version a.0.1 (string b.0.0 ++ (optional string c.0.0 ++ elements ending d.0.0)) d.0.1 one read_1 in
-    let made : Thing = record { mac = record { 0 = key }; url = b.0.0; pending = c.0.0; leases = d.0.0 } in
-    let whole : body ≡ thing_body made = read_whole body (version ++ (string b.0.0 ++ (optional string c.0.0 ++ elements ending d.0.0))) d.0.1 read_0 (end_alone d.0.1 f.0 f.1) in
+    let made : Thing = read_thing key b.0.0 c.0.0 d.0.0 h.0.0 in
+    let read_0 : IsRead body (version_of a.0.0 ++ thing_fields made) d.0.1 = then_read body (version_of a.0.0) a.0.1 (string b.0.0 ++ (optional string c.0.0 ++ elements ending d.0.0)) d.0.1 version.read read_1 in
     subst (λ (t : Thing). IsThingRead key body t) {x = made} (some_is made thing f.2)
-    (record { key_is = refl; body_is = whole; fits = record { mac = six; url = url.1; pending = pending.1; leases = leases.1 } })
+    (record {
+      key_is = refl;
+      body_is = by_version body a.0.0 made d.0.1 h.0 version.least version.most read_0 hold (end_alone h.0.1 f.0 f.1) (refl {a = h.0.0});
+      fits = record { mac = six; url = url.1; pending = pending.1; leases = leases.1 };
+    })
 
-pub thing_back : (thing : Thing) → IsTrue (is_sound_thing thing) → FitsThing thing → thing_in (thing_item thing) ≡ Some thing
-unfolding thing_in thing_item if_sound_thing
-thing_back thing sound fits = rw (fits.mac, thing_of_back thing fits, sound) refl
+pub thing_back : (thing : Thing) → IsKeptThing thing → thing_in (thing_item thing) ≡ Some thing
+unfolding thing_in thing_item thing_body if_sound_thing
+thing_back thing kept = rw (kept.fits.mac, thing_of_back 2 thing (hold_octet thing.held) (lit≤ tt) (lit≤ tt) kept.fits (hold_back thing.held), kept.sound) refl
+
+pub first_thing_back : (thing : Thing) → IsKeptThing thing → thing.held ≡ false → thing_in (first_thing_item thing) ≡ Some thing
+unfolding thing_in first_thing_item if_sound_thing
+first_thing_back thing kept free =
+    let read : thing_of thing.mac.0 (version_of 1 ++ thing_fields thing) ≡ Some thing =
+    ap (λ (t : List ℕ). thing_of thing.mac.0 (version_of 1 ++ t)) (sym (append-nil (thing_fields thing)))
+    ∙ thing_of_back 1 thing [] (lit≤ tt) (lit≤ tt) kept.fits (no_hold_back ∙ ap (λ (b : Bool). some_pair b) (sym free)) in
+    rw (kept.fits.mac, read, kept.sound) refl
+
+-- an item with that key and body
+item_of_body : (item : Item) (thing : Thing) → item.kind ≡ 1 → item.key ≡ thing.mac.0 → IsThingBody item.body thing → (item ≡ thing_item thing) ⊎ ((item ≡ first_thing_item thing) × (thing.held ≡ false))
+unfolding thing_item first_thing_item
+item_of_body item thing kind key (inl second) = inl (same_item item 1 thing.mac.0 (thing_body thing) kind key second)
+item_of_body item thing kind key (inr (first, free)) = inr (same_item item 1 thing.mac.0 (version_of 1 ++ thing_fields thing) kind key first, free)
 
 pub thing_alone : (item : Item) (thing : Thing) → IsOctets item.body → thing_in item ≡ Some thing → IsThingItem item thing
-unfolding thing_in thing_item if_sound_thing
+unfolding thing_in if_sound_thing
 thing_alone item thing octets e =
     let form = pass_some (eqb item.kind 1 && eqb (length item.key) 6) thing (thing_of item.key item.body >>= if_sound_thing) e in
     let tests = both_true (eqb item.kind 1) (eqb (length item.key) 6) form.0 in
@@ -189,7 +282,7 @@ thing_alone item thing octets e =
     let s = pass_some (is_sound_thing t.0) thing (Some t.0) t.2 in
     let read = thing_of_alone item.key item.body t.0 (eqb-true (length item.key) 6 tests.1) octets t.1 in
     subst (λ (x : Thing). IsThingItem item x) (some_is t.0 thing s.1)
-    (record { same = same_item item 1 t.0.mac.0 (thing_body t.0) (eqb-true item.kind 1 tests.0) read.key_is read.body_is; sound = s.0; fits = read.fits })
+    (record { same = item_of_body item t.0 (eqb-true item.kind 1 tests.0) read.key_is read.body_is; kept = record { sound = s.0; fits = read.fits } })
 
 -- ---- Classes
 
@@ -209,9 +302,9 @@ key_alone (which ∷ text) c e =
           subst (λ (d : Class). which ∷ text ≡ key_of_class d) (some_is (Mine text) c two.1) (ap (λ (n : ℕ). n ∷ text) (eqb-true which 2 two.0))
     ]
 
-pub class_back : (row : ClassRow) → IsTrue (is_sound_class row) → FitsClass row → class_in (class_item row) ≡ Some row
+pub class_back : (row : ClassRow) → IsKeptClass row → class_in (class_item row) ≡ Some row
 unfolding class_in class_item class_key class_row if_sound_class
-class_back row sound fits = rw (key_back row.class, list_body_back address IsAddr address_in address_form row.addrs fits, sound) refl
+class_back row kept = rw (key_back row.class, list_body_back address IsAddr address_in address_form row.addrs kept.fits, kept.sound) refl
 
 pub class_alone : (item : Item) (row : ClassRow) → IsOctets item.body → class_in item ≡ Some row → IsClassItem item row
 unfolding class_in class_item class_key class_row if_sound_class
@@ -222,13 +315,13 @@ class_alone item row octets e =
     let s = pass_some (is_sound_class (class_row c.0 addrs.0)) row (Some (class_row c.0 addrs.0)) addrs.2 in
     let body = list_body_alone address IsAddr address_in address_form item.body addrs.0 octets addrs.1 in
     subst (λ (x : ClassRow). IsClassItem item x) (some_is (class_row c.0 addrs.0) row s.1)
-    (record { same = same_item item 3 (key_of_class c.0) (list_body address addrs.0) (eqb-true item.kind 3 kind.0) (key_alone item.key c.0 c.1) body.0; sound = s.0; fits = body.1 })
+    (record { same = same_item item 3 (key_of_class c.0) (list_body address addrs.0) (eqb-true item.kind 3 kind.0) (key_alone item.key c.0 c.1) body.0; kept = record { sound = s.0; fits = body.1 } })
 
 -- ---- Local networks
 
-pub locals_back : (locals : List Prefix) → IsTrue (are_locals locals) → FitsLocals locals → locals_in (locals_item locals) ≡ Some locals
+pub locals_back : (locals : List Prefix) → IsKeptLocals locals → locals_in (locals_item locals) ≡ Some locals
 unfolding locals_in locals_item if_sound_locals
-locals_back locals sound fits = rw (list_body_back network IsNetwork network_in network_form locals fits, sound) refl
+locals_back locals kept = rw (list_body_back network IsNetwork network_in network_form locals kept.fits, kept.sound) refl
 
 pub locals_alone : (item : Item) (locals : List Prefix) → IsOctets item.body → locals_in item ≡ Some locals → IsLocalsItem item locals
 unfolding locals_in locals_item if_sound_locals
@@ -239,13 +332,13 @@ locals_alone item locals octets e =
     let s = pass_some (are_locals l.0) locals (Some l.0) l.2 in
     let body = list_body_alone network IsNetwork network_in network_form item.body l.0 octets l.1 in
     subst (λ (x : List Prefix). IsLocalsItem item x) (some_is l.0 locals s.1)
-    (record { same = same_item item 4 [] (list_body network l.0) (eqb-true item.kind 4 tests.0) (nil_from_length item.key (eqb-true (length item.key) 0 tests.1)) body.0; sound = s.0; fits = body.1 })
+    (record { same = same_item item 4 [] (list_body network l.0) (eqb-true item.kind 4 tests.0) (nil_from_length item.key (eqb-true (length item.key) 0 tests.1)) body.0; kept = record { sound = s.0; fits = body.1 } })
 
 -- ---- Names
 
-pub name_back : (row : NameRow) → IsTrue (is_sound_name row) → FitsName row → name_in (name_item row) ≡ Some row
+pub name_back : (row : NameRow) → IsKeptName row → name_in (name_item row) ≡ Some row
 unfolding name_in name_item name_row if_sound_name
-name_back row sound fits = rw (list_body_back ending IsEnding ending_in ending_form row.addrs fits, sound) refl
+name_back row kept = rw (list_body_back ending IsEnding ending_in ending_form row.addrs kept.fits, kept.sound) refl
 
 pub name_alone : (item : Item) (row : NameRow) → IsOctets item.body → name_in item ≡ Some row → IsNameItem item row
 unfolding name_in name_item name_row if_sound_name
@@ -255,7 +348,7 @@ name_alone item row octets e =
     let s = pass_some (is_sound_name (name_row item.key addrs.0)) row (Some (name_row item.key addrs.0)) addrs.2 in
     let body = list_body_alone ending IsEnding ending_in ending_form item.body addrs.0 octets addrs.1 in
     subst (λ (x : NameRow). IsNameItem item x) (some_is (name_row item.key addrs.0) row s.1)
-    (record { same = same_item item 5 item.key (list_body ending addrs.0) (eqb-true item.kind 5 kind.0) refl body.0; sound = s.0; fits = body.1 })
+    (record { same = same_item item 5 item.key (list_body ending addrs.0) (eqb-true item.kind 5 kind.0) refl body.0; kept = record { sound = s.0; fits = body.1 } })
 
 -- ---- The stamp
 

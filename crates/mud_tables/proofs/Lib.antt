@@ -7,3 +7,10 @@ mod RulingExamples
 mod FlowExamples
 mod ItemExamples
 pub mod ItemLaws
+pub mod RowSets
+pub mod UrlLengths
+pub mod AloneLaws
+pub mod LeaseLaws
+pub mod SoundThings
+pub mod ReadThings
+pub mod ToldThings

@@ -1,9 +1,9 @@
 -- The values that the examples speak of, and the definitions that compute in them.
-use Rattle.std.proofs.Common.{◌≡◌, ℕ, List, [], ◌∷◌, Option, Some, None}
+use Rattle.std.proofs.Common.{ℕ, false, List, [], ◌∷◌, None}
 use Rattle.std.specs.Prelude.{codes}
-use Rattle.mud_base.specs.Addresses.{same_addr, addr_bits, masked, prefix_at, prefix_holds}
+use Rattle.mud_base.specs.Addresses.{same_addr}
 use Rattle.mud_base.specs.declared.addr.Addr.{Addr}
-use Rattle.mud_base.specs.declared.addr.Addr.TheVariants.{V4, V6}
+use Rattle.mud_base.specs.declared.addr.Addr.TheVariants.{V4}
 use Rattle.mud_base.specs.declared.addr.Mac.{Mac}
 use Rattle.mud_base.specs.declared.packet.Fields.{Fields}
 use Rattle.mud_base.specs.declared.packet.Transport.TheVariants as packet
@@ -11,7 +11,7 @@ use Rattle.sorted_rows.specs.Addresses.{addr_place, end_place, prefix_place}
 use Rattle.mud_tables.specs.declared.thing.Thing.{Thing}
 use Rattle.mud_tables.specs.Ends.{is_live, is_end, has_address, has_live, end_of, without_address, with_end, live_rows, live_count}
 use Rattle.mud_tables.specs.Things.{mac_of, thing_at, set_thing, without_thing, new_thing, holds, with_leases, released, without_lease}
-use Rattle.mud_tables.specs.ThingSteps.{is_pending, url_cases, url_step, move_cases, move_step, remove_cases, remove_step, end_after, kept_lease, new_lease, known_lease, lease_cases, lease_step, end_step}
+use Rattle.mud_tables.specs.ThingSteps.{is_pending, url_cases, url_step, move_cases, move_step, remove_cases, remove_step, with_hold, hold_cases, hold_step, release_cases, release_step, end_after, kept_lease, new_lease, known_lease, stranger_lease, lease_cases, lease_step, end_step}
 use Rattle.mud_tables.specs.Binds.{key_of_class, same_class, class_key, class_at, set_class, without_class, class_row, has_addr, with_addr, without_addr, same_prefix, with_prefix, prefixes_in_order, same_prefixes, name_of, name_at, set_name, without_name, name_row, has_live_row}
 use Rattle.mud_tables.specs.BindSteps.{bind_cases, bind_step, classes_without, unbind_cases, unbind_step, locals_cases, locals_step, addrs_of, least_dead, replacing, new_pair, kept_pair, observe_cases, observe_row, observe_step}
 use Rattle.mud_tables.specs.History.{segment_in, segment_of, same_end, is_between, between, opens, resets, since_opened, is_unbroken, moment_of, beginner_since, beginner_of, beginner, own_end, side_of, begun_in, begun_of, with_segment, with_packet, is_flow_between, begun_by, kept_between, last_moment, is_forward, with_moment, begun_at, begun_between, is_past}
@@ -23,7 +23,7 @@ ends_compute = tt
 
 -- the steps on Things
 unfoldable pub things_compute : Unit {0}
-unfolding ends_compute mac_of thing_at set_thing without_thing new_thing holds with_leases released without_lease is_pending url_cases url_step move_cases move_step remove_cases remove_step end_after kept_lease new_lease known_lease lease_cases lease_step end_step
+unfolding ends_compute mac_of thing_at set_thing without_thing new_thing holds with_leases released without_lease is_pending url_cases url_step move_cases move_step remove_cases remove_step with_hold hold_cases hold_step release_cases release_step end_after kept_lease new_lease known_lease stranger_lease lease_cases lease_step end_step
 things_compute = tt
 
 -- the steps on classes, local networks and names
@@ -86,15 +86,15 @@ test_name = codes "test.example.com"
 
 -- a light bulb with a lease of a day, taken at 1000
 abbrev pub bulb : Thing
-bulb = record { mac = mac_1; url = bulb_url; pending = None; leases = (bulb_addr, 87400) ∷ [] }
+bulb = record { mac = mac_1; url = bulb_url; pending = None; leases = (bulb_addr, 87400) ∷ []; held = false }
 
 -- the bulb without its lease
 abbrev pub bare_bulb : Thing
-bare_bulb = record { mac = mac_1; url = bulb_url; pending = None; leases = [] }
+bare_bulb = record { mac = mac_1; url = bulb_url; pending = None; leases = []; held = false }
 
 -- a switch of the same maker, without a lease
 abbrev pub bare_switch : Thing
-bare_switch = record { mac = mac_2; url = switch_url; pending = None; leases = [] }
+bare_switch = record { mac = mac_2; url = switch_url; pending = None; leases = []; held = false }
 
 -- ---- Packets
 

@@ -1,14 +1,14 @@
 -- The steps on Things, case by case.
-use Rattle.std.proofs.Common.{◌≡◌, ℕ, ◌≤◌, List, [], ◌∷◌, length, Option, Some, None, Result, Ok, Err, refl, true, false, arith}
-use Rattle.std.specs.Prelude.{nat_le, codes}
+use Rattle.std.proofs.Common.{◌≡◌, ℕ, List, [], ◌∷◌, length, Some, None, Err, refl, true, false}
+use Rattle.std.specs.Prelude.{nat_le}
 use Rattle.mud_base.specs.declared.addr.Addr.TheVariants.{V4, V6}
 use Rattle.mud_base.specs.declared.addr.Mac.{Mac}
-use Rattle.item_codec.specs.declared.word.Word.TheVariants.{New, Same, Pending, Moved, Removed, Stranger, Renewed, Ended}
+use Rattle.item_codec.specs.declared.word.Word.TheVariants.{New, Same, Pending, Moved, Removed, Held, Released, Stranger, Renewed, Ended}
 use Rattle.mud_tables.specs.declared.thing.Thing.{Thing}
 use Rattle.mud_tables.specs.declared.thing_fault.ThingFault.TheVariants.{ThingsFull, NoThing, NoPending, LeasesFull, NoLease}
 use Rattle.mud_tables.specs.Ends.{for_ever}
 use Rattle.mud_tables.specs.Things.{thing_at}
-use Rattle.mud_tables.specs.ThingSteps.{ThingStep, done, leased_until, url_cases, url_step, move_step, remove_step, lease_step, end_step}
+use Rattle.mud_tables.specs.ThingSteps.{done, leased_until, left, left_until, url_cases, url_step, move_step, remove_step, hold_step, release_step, lease_step, end_step}
 use Rattle.mud_tables.proofs.Literals.{things_compute, mac_1, mac_2, mac_9, bulb_addr, switch_addr, bulb_url, next_url, switch_url, bulb, bare_bulb, bare_switch}
 
 -- ---- URLs
@@ -22,7 +22,7 @@ second_thing : url_step mac_1 bulb_url (bare_switch ∷ []) ≡ done New (bare_b
 unfolding things_compute
 second_thing = refl
 
-own_url : url_step mac_1 bulb_url (bulb ∷ []) ≡ done Same (bulb ∷ [])
+own_url : url_step mac_1 bulb_url (bulb ∷ []) ≡ left Same (bulb ∷ [])
 unfolding things_compute
 own_url = refl
 
@@ -30,12 +30,12 @@ other_url : url_step mac_1 next_url (bulb ∷ []) ≡ done Pending (record bulb 
 unfolding things_compute
 other_url = refl
 
-waiting_url : url_step mac_1 next_url (record bulb { pending = Some next_url } ∷ []) ≡ done Same (record bulb { pending = Some next_url } ∷ [])
+waiting_url : url_step mac_1 next_url (record bulb { pending = Some next_url } ∷ []) ≡ left Same (record bulb { pending = Some next_url } ∷ [])
 unfolding things_compute
 waiting_url = refl
 
 -- its own URL leaves the one that waits
-own_url_again : url_step mac_1 bulb_url (record bulb { pending = Some next_url } ∷ []) ≡ done Same (record bulb { pending = Some next_url } ∷ [])
+own_url_again : url_step mac_1 bulb_url (record bulb { pending = Some next_url } ∷ []) ≡ left Same (record bulb { pending = Some next_url } ∷ [])
 unfolding things_compute
 own_url_again = refl
 
@@ -55,7 +55,7 @@ move_to_waiting : move_step mac_1 next_url (record bulb { pending = Some next_ur
 unfolding things_compute
 move_to_waiting = refl
 
-move_again : move_step mac_1 next_url (record bulb { url = next_url } ∷ []) ≡ done Same (record bulb { url = next_url } ∷ [])
+move_again : move_step mac_1 next_url (record bulb { url = next_url } ∷ []) ≡ left Same (record bulb { url = next_url } ∷ [])
 unfolding things_compute
 move_again = refl
 
@@ -81,13 +81,47 @@ remove_bulb : remove_step mac_1 (bulb ∷ bare_switch ∷ []) ≡ done Removed (
 unfolding things_compute
 remove_bulb = refl
 
+-- ---- Holds
+
+abbrev held_bulb : Thing
+held_bulb = record bulb { held = true }
+
+hold_bulb : hold_step mac_1 (bulb ∷ bare_switch ∷ []) ≡ done Held (held_bulb ∷ bare_switch ∷ [])
+unfolding things_compute
+hold_bulb = refl
+
+hold_again : hold_step mac_1 (held_bulb ∷ []) ≡ left Same (held_bulb ∷ [])
+unfolding things_compute
+hold_again = refl
+
+hold_unknown : hold_step mac_9 (bulb ∷ []) ≡ Err NoThing
+unfolding things_compute
+hold_unknown = refl
+
+release_bulb : release_step mac_1 (held_bulb ∷ []) ≡ done Released (bulb ∷ [])
+unfolding things_compute
+release_bulb = refl
+
+release_again : release_step mac_1 (bulb ∷ []) ≡ left Same (bulb ∷ [])
+unfolding things_compute
+release_again = refl
+
+release_unknown : release_step mac_9 (held_bulb ∷ []) ≡ Err NoThing
+unfolding things_compute
+release_unknown = refl
+
+-- a held Thing that is moved stays held
+move_held : move_step mac_1 next_url (record held_bulb { pending = Some next_url } ∷ []) ≡ done Moved (record held_bulb { url = next_url } ∷ [])
+unfolding things_compute
+move_held = refl
+
 -- ---- Leases
 
 first_lease : lease_step mac_1 bulb_addr 86400 1000 false (bare_bulb ∷ []) ≡ leased_until 87400 New (bulb ∷ [])
 unfolding things_compute
 first_lease = refl
 
-same_lease : lease_step mac_1 bulb_addr 86400 1000 true (bulb ∷ []) ≡ leased_until 87400 Same (bulb ∷ [])
+same_lease : lease_step mac_1 bulb_addr 86400 1000 true (bulb ∷ []) ≡ left_until 87400 (bulb ∷ [])
 unfolding things_compute
 same_lease = refl
 
@@ -117,6 +151,11 @@ stated_stranger = refl
 heard_stranger : lease_step mac_9 bulb_addr 86400 1000 true (bulb ∷ []) ≡ done Stranger (bare_bulb ∷ [])
 unfolding things_compute
 heard_stranger = refl
+
+-- an address that no Thing has leaves none
+other_stranger : lease_step mac_9 switch_addr 86400 1000 true (bulb ∷ []) ≡ left Stranger (bulb ∷ [])
+unfolding things_compute
+other_stranger = refl
 
 abbrev busy : Thing
 busy = record bulb { leases = (V4 1, 2000) ∷ (V4 2, 2000) ∷ (V4 3, 2000) ∷ (V6 1, 1001) ∷ [] }

@@ -1,18 +1,19 @@
 -- The items in which classes, local networks, names and the stamp are kept, and when an item is one.
-use Rattle.std.specs.Prelude.{◌≡◌, ℕ, zero, suc, ◌<◌, ◌^◌, Bool, true, false, not, ◌&&◌, ◌==◌, nat_lt, nat_le, IsTrue, List, [], ◌∷◌, ◌++◌, length, map, Option, Some, None, if◌then◌else◌}
+use Rattle.std.specs.Prelude.{◌≡◌, ℕ, Bool, ◌&&◌, ◌==◌, nat_lt, nat_le, IsTrue, List, [], ◌∷◌, ◌++◌, length, map, Option, Some, None, if◌then◌else◌}
 use Rattle.std.specs.List.{list_all}
 use Rattle.sorted_rows.specs.Placed.{comes_last}
 use Rattle.mud_base.specs.declared.prefix.Prefix.{Prefix}
 use Rattle.mud_world.specs.declared.item.Item.{Item}
 use Rattle.item_codec.specs.Spelling.{number, version}
-use Rattle.item_codec.specs.Records.{◌>>=◌, number_in, version_in, end_in, list_body, list_body_in, ListFits}
+use Rattle.item_codec.specs.Records.{◌>>=◌, number_in, version_in, end_in, list_body, list_body_in}
 use Rattle.mud_tables.specs.declared.bind.Class.{Class}
 use Rattle.mud_tables.specs.declared.bind.Class.TheVariants.{Uri, Mine}
 use Rattle.mud_tables.specs.declared.bind.ClassRow.{ClassRow}
 use Rattle.mud_tables.specs.declared.bind.NameRow.{NameRow}
 use Rattle.mud_tables.specs.Limits.{most_classes, most_locals, most_names}
-use Rattle.mud_tables.specs.Binds.{key_of_class, class_key, class_row, is_sound_class, are_prefixes, is_prefix, name_of, name_row, is_sound_name}
-use Rattle.mud_tables.specs.ItemFields.{address, address_in, IsAddr, ending, ending_in, IsEnding, network, network_in, IsNetwork}
+use Rattle.mud_tables.specs.Binds.{class_key, class_row, is_sound_class, are_prefixes, is_prefix, name_of, name_row, is_sound_name, IsKeptClass, IsKeptName}
+use Rattle.mud_tables.specs.Fits.{FitsLocals}
+use Rattle.mud_tables.specs.ItemFields.{address, address_in, ending, ending_in, network, network_in}
 
 -- ---- Classes: kind 3; the key is 1 and the URI, or 2 and the MUD URL; the body has the addresses
 
@@ -127,29 +128,22 @@ unfoldable pub with_stamp_item : Option ℕ → Item → Option ℕ
 with_stamp_item None item = stamp_in item
 with_stamp_item (Some moment) item = None
 
--- ---- What has a spelling: each number fits the field in which it is kept
+-- ---- What has a spelling
 
-abbrev pub FitsClass : ClassRow → Type 0
-FitsClass row = ListFits IsAddr row.addrs
-
-abbrev pub FitsLocals : List Prefix → Type 0
-FitsLocals locals = ListFits IsNetwork locals
-
-abbrev pub FitsName : NameRow → Type 0
-FitsName row = ListFits IsEnding row.addrs
+-- the local networks have one item, and fit its fields
+pub record IsKeptLocals (locals : List Prefix) : Type 0 where
+  pub sound : IsTrue (are_locals locals)
+  pub fits : FitsLocals locals
 
 -- the item is that of the class, of the local networks or of the name
 pub record IsClassItem (item : Item) (row : ClassRow) : Type 0 where
   pub same : item ≡ class_item row
-  pub sound : IsTrue (is_sound_class row)
-  pub fits : FitsClass row
+  pub kept : IsKeptClass row
 
 pub record IsLocalsItem (item : Item) (locals : List Prefix) : Type 0 where
   pub same : item ≡ locals_item locals
-  pub sound : IsTrue (are_locals locals)
-  pub fits : FitsLocals locals
+  pub kept : IsKeptLocals locals
 
 pub record IsNameItem (item : Item) (row : NameRow) : Type 0 where
   pub same : item ≡ name_item row
-  pub sound : IsTrue (is_sound_name row)
-  pub fits : FitsName row
+  pub kept : IsKeptName row

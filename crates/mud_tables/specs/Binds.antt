@@ -1,5 +1,5 @@
 -- The classes, the local networks and the names.
-use Rattle.std.specs.Prelude.{◌≡◌, ℕ, ◌≤◌, Bool, true, false, not, ◌&&◌, ◌==◌, nat_le, nat_lt, IsTrue, List, [], ◌∷◌, length, filter, bytes_eq, Option, Some, None}
+use Rattle.std.specs.Prelude.{ℕ, ◌≤◌, Bool, true, false, not, ◌&&◌, ◌==◌, nat_le, nat_lt, IsTrue, List, [], ◌∷◌, length, filter, bytes_eq, Option}
 use Rattle.std.specs.List.{list_any, list_all, AllByRecursion}
 use Rattle.std.specs.Char.{is_ascii_graphic}
 use Rattle.mud_base.specs.Addresses.{same_addr, addr_bits, masked}
@@ -15,6 +15,8 @@ use Rattle.mud_tables.specs.declared.bind.Class.TheVariants as class
 use Rattle.mud_tables.specs.declared.bind.ClassRow.{ClassRow}
 use Rattle.mud_tables.specs.declared.bind.NameRow.{NameRow}
 use Rattle.mud_tables.specs.Limits.{most_classes, most_class_addresses, most_locals, most_names, most_name_addresses}
+use Rattle.mud_tables.specs.ItemFields.{IsNetwork}
+use Rattle.mud_tables.specs.Fits.{FitsClass, FitsName}
 use Rattle.mud_tables.specs.Ends.{Ends, is_live, are_ascending, have_ends}
 
 -- ---- Classes
@@ -137,19 +139,32 @@ unfoldable pub is_sound_name : NameRow → Bool
 is_sound_name row =
     is_name row.name && are_ascending row.addrs && have_ends row.addrs && nat_lt 0 (length row.addrs) && nat_le (length row.addrs) most_name_addresses
 
+-- a row that can be kept: it is sound, and fits the fields of its item
+pub record IsKeptClass (row : ClassRow) : Type 0 where
+  pub sound : IsTrue (is_sound_class row)
+  pub fits : FitsClass row
+
+pub record IsKeptNetwork (prefix : Prefix) : Type 0 where
+  pub sound : IsTrue (is_prefix prefix)
+  pub fits : IsNetwork prefix
+
+pub record IsKeptName (row : NameRow) : Type 0 where
+  pub sound : IsTrue (is_sound_name row)
+  pub fits : FitsName row
+
 pub record IsSoundClasses (classes : List ClassRow) : Type 0 where
   pub ascend : PlacesAscend class_key classes
-  pub each : AllByRecursion (λ row. IsTrue (is_sound_class row)) classes
+  pub each : AllByRecursion IsKeptClass classes
   pub few : length classes ≤ most_classes
 
 pub record IsSoundLocals (locals : List Prefix) : Type 0 where
   pub ascend : IsTrue (are_prefixes locals)
-  pub each : AllByRecursion (λ prefix. IsTrue (is_prefix prefix)) locals
+  pub each : AllByRecursion IsKeptNetwork locals
   pub few : length locals ≤ most_locals
 
 pub record IsSoundNames (names : List NameRow) : Type 0 where
   pub ascend : PlacesAscend name_of names
-  pub each : AllByRecursion (λ row. IsTrue (is_sound_name row)) names
+  pub each : AllByRecursion IsKeptName names
   pub few : length names ≤ most_names
 
 pub record IsSoundBinds (binds : Binds) : Type 0 where

@@ -1,6 +1,8 @@
 pub mod FaultNames
 pub mod Limits
 pub mod Ends
+pub mod ItemFields
+pub mod Fits
 pub mod Things
 pub mod ThingSteps
 pub mod ThingChanges
@@ -10,6 +12,5 @@ pub mod Tables
 pub mod Bindings
 pub mod BindingChanges
 pub mod History
-pub mod ItemFields
 pub mod ThingItems
 pub mod BindItems

@@ -1,19 +1,28 @@
 -- The items in which Things are kept, and when an item is one.
-use Rattle.std.specs.Prelude.{◌≡◌, ℕ, ◌<◌, ◌^◌, Bool, not, ◌&&◌, ◌==◌, nat_lt, IsTrue, List, [], ◌∷◌, ◌++◌, length, map, Option, Some, None, if◌then◌else◌}
+use Rattle.std.specs.Prelude.{◌≡◌, ℕ, Bool, true, false, not, ◌&&◌, ◌==◌, nat_lt, List, [], ◌∷◌, ◌++◌, length, map, Option, Some, None, if◌then◌else◌, ◌⊎◌}
 use Rattle.std.specs.List.{list_any}
 use Rattle.sorted_rows.specs.Placed.{comes_last}
 use Rattle.mud_world.specs.declared.item.Item.{Item}
-use Rattle.item_codec.specs.Spelling.{string, version, IsOctets}
-use Rattle.item_codec.specs.Records.{◌>>=◌, string_in, version_in, end_in, optional, optional_in, elements, elements_in, OptionFits, ListFits}
+use Rattle.item_codec.specs.Spelling.{number, string, version_of}
+use Rattle.item_codec.specs.Records.{Reading, ◌>>=◌, number_in, string_in, version_to_in, end_in, optional, optional_in, elements, elements_in}
 use Rattle.mud_tables.specs.declared.thing.Thing.{Thing}
 use Rattle.mud_tables.specs.Limits.{most_things}
-use Rattle.mud_tables.specs.Things.{mac_of, holds, is_sound_thing}
-use Rattle.mud_tables.specs.ItemFields.{ending, ending_in, IsEnding}
+use Rattle.mud_tables.specs.Things.{mac_of, holds, is_sound_thing, IsKeptThing}
+use Rattle.mud_tables.specs.ItemFields.{ending, ending_in}
 
--- an item of kind 1: its key is the hardware address; the body is the version, the URL, the URL that waits or none, and
--- the leases
+-- ---- An item of kind 1: its key is the hardware address, and its body is of the version 2 or 1
+
+-- what both versions say: the URL, the URL that waits or none, and the leases
+unfoldable pub thing_fields : Thing → List ℕ
+thing_fields thing = string thing.url ++ (optional string thing.pending ++ elements ending thing.leases)
+
+unfoldable pub hold_octet : Bool → List ℕ
+hold_octet true = number 1 1
+hold_octet false = number 1 0
+
+-- version 2 ends with one octet more: 1 where the Thing is held, and else 0
 unfoldable pub thing_body : Thing → List ℕ
-thing_body thing = version ++ (string thing.url ++ (optional string thing.pending ++ elements ending thing.leases))
+thing_body thing = version_of 2 ++ (thing_fields thing ++ hold_octet thing.held)
 
 unfoldable pub thing_item : Thing → Item
 thing_item thing = record { kind = 1; key = thing.mac.0; body = thing_body thing }
@@ -21,17 +30,29 @@ thing_item thing = record { kind = 1; key = thing.mac.0; body = thing_body thing
 unfoldable pub thing_items : List Thing → List Item
 thing_items things = map thing_item things
 
+-- version 1 says that the Thing isn't held
+unfoldable pub first_thing_item : Thing → Item
+first_thing_item thing = record { kind = 1; key = thing.mac.0; body = version_of 1 ++ thing_fields thing }
+
 -- ---- Reading one
 
--- the Thing of a key and a body, where the body has the form, with nothing left
+-- whether it is held, by the version of its body
+unfoldable pub hold_in : ℕ → Reading Bool
+hold_in version octets =
+    if version == 1 then Some (false, octets) else (do
+      flag ← number_in 1 octets
+      if flag.0 == 0 then Some (false, flag.1) else (if flag.0 == 1 then Some (true, flag.1) else None))
+
+-- the Thing of a key and a body, where the body has the form of its version, with nothing left
 unfoldable pub thing_of : List ℕ → List ℕ → Option Thing
 thing_of key body = do
-  one ← version_in body
-  url ← string_in one.1
+  version ← version_to_in 2 body
+  url ← string_in version.1
   pending ← optional_in string_in url.1
   leases ← elements_in ending_in pending.1
-  ended ← end_in leases.1
-  Some (record { mac = record { 0 = key }; url = url.0; pending = pending.0; leases = leases.0 })
+  held ← hold_in version.0 leases.1
+  ended ← end_in held.1
+  Some (record { mac = record { 0 = key }; url = url.0; pending = pending.0; leases = leases.0; held = held.0 })
 
 unfoldable pub if_sound_thing : Thing → Option Thing
 if_sound_thing thing = if is_sound_thing thing then Some thing else None
@@ -63,15 +84,7 @@ with_thing_item things item = do
 
 -- ---- What has a spelling
 
--- a hardware address has six octets, and each number fits the field in which it is kept
-pub record FitsThing (thing : Thing) : Type 0 where
-  pub mac : length thing.mac.0 ≡ 6
-  pub url : length thing.url < 2 ^ 32
-  pub pending : OptionFits (λ url. length url < 2 ^ 32) thing.pending
-  pub leases : ListFits IsEnding thing.leases
-
--- the item is that of the Thing
+-- the item is that of the Thing, or that in which version 1 keeps one that isn't held
 pub record IsThingItem (item : Item) (thing : Thing) : Type 0 where
-  pub same : item ≡ thing_item thing
-  pub sound : IsTrue (is_sound_thing thing)
-  pub fits : FitsThing thing
+  pub same : (item ≡ thing_item thing) ⊎ ((item ≡ first_thing_item thing) × (thing.held ≡ false))
+  pub kept : IsKeptThing thing

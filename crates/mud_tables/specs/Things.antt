@@ -1,12 +1,13 @@
 -- The list of Things, in the order of their hardware addresses.
-use Rattle.std.specs.Prelude.{◌≡◌, ℕ, ◌≤◌, Bool, true, false, not, ◌&&◌, nat_le, IsTrue, List, [], ◌∷◌, length, map, count_by, bytes_eq, Option, Some, None}
-use Rattle.std.specs.List.{list_any, AllByRecursion}
+use Rattle.std.specs.Prelude.{◌≡◌, ℕ, ◌≤◌, Bool, true, false, not, ◌&&◌, nat_le, IsTrue, List, [], length, map, bytes_eq, Option, Some, None}
+use Rattle.std.specs.List.{AllByRecursion}
 use Rattle.sorted_rows.specs.Placed.{row_at, set_row, without_row, PlacesAscend}
 use Rattle.mud_base.specs.declared.addr.Addr.{Addr}
 use Rattle.mud_base.specs.declared.addr.Mac.{Mac}
 use Rattle.mud_url.specs.Url.{is_canonical}
 use Rattle.mud_tables.specs.declared.thing.Thing.{Thing}
 use Rattle.mud_tables.specs.Limits.{most_things, most_leases}
+use Rattle.mud_tables.specs.Fits.{FitsThing}
 use Rattle.mud_tables.specs.Ends.{Ends, has_address, without_address, are_ascending, have_ends}
 
 -- Things are kept by their hardware addresses
@@ -25,7 +26,7 @@ without_thing mac things = without_row mac_of mac.0 things
 
 -- a Thing that has announced a URL, and no more
 unfoldable pub new_thing : Mac → List ℕ → Thing
-new_thing mac url = record { mac = mac; url = url; pending = None; leases = [] }
+new_thing mac url = record { mac = mac; url = url; pending = None; leases = []; held = false }
 
 -- ---- Leases
 
@@ -57,9 +58,17 @@ are_leases rows = are_ascending rows && have_ends rows && nat_le (length rows) m
 unfoldable pub is_sound_thing : Thing → Bool
 is_sound_thing thing = is_canonical thing.url && may_wait thing.url thing.pending && are_leases thing.leases
 
+-- a Thing that can be kept: it is sound, and fits the fields of its item
+pub record IsKeptThing (thing : Thing) : Type 0 where
+  pub sound : IsTrue (is_sound_thing thing)
+  pub fits : FitsThing thing
+
+-- an address is in the leases of one Thing: two that have it stand at one place
+abbrev pub IsAlone : List Thing → Type 0
+IsAlone things = (a : Addr) (p q : List ℕ) (t u : Thing) → row_at mac_of p things ≡ Some t → row_at mac_of q things ≡ Some u → IsTrue (holds a t) → IsTrue (holds a u) → p ≡ q
+
 pub record IsSoundThings (things : List Thing) : Type 0 where
   pub ascend : PlacesAscend mac_of things
-  pub each : AllByRecursion (λ thing. IsTrue (is_sound_thing thing)) things
+  pub each : AllByRecursion IsKeptThing things
   pub few : length things ≤ most_things
-  -- an address is in the leases of one Thing
-  pub alone : (a : Addr) → count_by (holds a) things ≤ 1
+  pub alone : IsAlone things

@@ -1,5 +1,5 @@
 //! Laws of the tables, each on a function that does nothing.
-ghost use Rattle.std.specs.Prelude.{◌≡◌, ℕ, ◌<◌, ◌≤◌, IsTrue, List, ◌&&◌, Option, Some};
+ghost use Rattle.std.specs.Prelude.{◌≡◌, ℕ, ◌<◌, ◌≤◌, false, List, ◌&&◌, Option, Some};
 ghost use Rattle.mud_base.specs.declared.addr.Addr.{Addr};
 ghost use Rattle.mud_base.specs.declared.prefix.Prefix.{Prefix};
 ghost use Rattle.mud_base.specs.declared.packet.Direction.{Direction};
@@ -13,12 +13,12 @@ ghost use Rattle.mud_tables.specs.declared.thing.Thing.{Thing};
 ghost use Rattle.mud_tables.specs.declared.bind.ClassRow.{ClassRow};
 ghost use Rattle.mud_tables.specs.declared.bind.NameRow.{NameRow};
 ghost use Rattle.mud_tables.specs.Ends.{for_ever};
-ghost use Rattle.mud_tables.specs.Things.{is_sound_thing};
-ghost use Rattle.mud_tables.specs.Binds.{is_sound_class, is_sound_name};
+ghost use Rattle.mud_tables.specs.Things.{IsKeptThing};
+ghost use Rattle.mud_tables.specs.Binds.{IsKeptClass, IsKeptName};
 ghost use Rattle.mud_tables.specs.Tables.{Tables, meets, ruling_of};
 ghost use Rattle.mud_tables.specs.Bindings.{bindings_of, selector_met, ruling_by_bindings};
-ghost use Rattle.mud_tables.specs.ThingItems.{thing_item, thing_in, FitsThing, IsThingItem};
-ghost use Rattle.mud_tables.specs.BindItems.{class_item, class_in, FitsClass, IsClassItem, locals_item, locals_in, are_locals, FitsLocals, IsLocalsItem, name_item, name_in, FitsName, IsNameItem, stamp_item, stamp_in};
+ghost use Rattle.mud_tables.specs.ThingItems.{thing_item, first_thing_item, thing_in, IsThingItem};
+ghost use Rattle.mud_tables.specs.BindItems.{class_item, class_in, IsClassItem, locals_item, locals_in, IsKeptLocals, IsLocalsItem, name_item, name_in, IsNameItem, stamp_item, stamp_in};
 
 /// The bindings of the tables, with the local networks, say all that a ruling asks of the tables.
 pub fn bindings_rule_alike()
@@ -38,9 +38,12 @@ pub fn bindings_rule_alike()
 /// Things and their items.
 pub fn things_are_read_back()
     // A Thing is read back from its item.
-    ensures back { (thing : Thing) → IsTrue (is_sound_thing thing) → FitsThing thing
-        → thing_in (thing_item thing) ≡ Some thing }
-    // An item that reads as a Thing is that Thing's item, each octet of it.
+    ensures back { (thing : Thing) → IsKeptThing thing → thing_in (thing_item thing) ≡ Some thing }
+    // One that isn't held is read back from the item of version 1 too.
+    ensures back_first { (thing : Thing) → IsKeptThing thing → thing.held ≡ false
+        → thing_in (first_thing_item thing) ≡ Some thing }
+    // An item that reads as a Thing is that Thing's item, each octet of it, or in version 1 the one
+    // that says the same.
     ensures alone { (item : Item) (thing : Thing) → IsOctets item.body → thing_in item ≡ Some thing
         → IsThingItem item thing }
 {}
@@ -48,8 +51,7 @@ pub fn things_are_read_back()
 /// Classes and their items.
 pub fn classes_are_read_back()
     // A class is read back from its item.
-    ensures back { (row : ClassRow) → IsTrue (is_sound_class row) → FitsClass row
-        → class_in (class_item row) ≡ Some row }
+    ensures back { (row : ClassRow) → IsKeptClass row → class_in (class_item row) ≡ Some row }
     // An item that reads as a class is that class's item, each octet of it.
     ensures alone { (item : Item) (row : ClassRow) → IsOctets item.body → class_in item ≡ Some row
         → IsClassItem item row }
@@ -58,7 +60,7 @@ pub fn classes_are_read_back()
 /// Local networks and their item.
 pub fn locals_are_read_back()
     // The local networks are read back from their item.
-    ensures back { (locals : List Prefix) → IsTrue (are_locals locals) → FitsLocals locals
+    ensures back { (locals : List Prefix) → IsKeptLocals locals
         → locals_in (locals_item locals) ≡ Some locals }
     // An item that reads as local networks is theirs, each octet of it.
     ensures alone { (item : Item) (locals : List Prefix) → IsOctets item.body
@@ -68,8 +70,7 @@ pub fn locals_are_read_back()
 /// Names and their items.
 pub fn names_are_read_back()
     // A name is read back from its item.
-    ensures back { (row : NameRow) → IsTrue (is_sound_name row) → FitsName row
-        → name_in (name_item row) ≡ Some row }
+    ensures back { (row : NameRow) → IsKeptName row → name_in (name_item row) ≡ Some row }
     // An item that reads as a name is that name's item, each octet of it.
     ensures alone { (item : Item) (row : NameRow) → IsOctets item.body → name_in item ≡ Some row
         → IsNameItem item row }

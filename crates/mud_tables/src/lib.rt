@@ -10,6 +10,7 @@ pub mod laws;
 pub mod limits;
 pub mod thing;
 pub mod thing_fault;
+pub mod thing_laws;
 
 pub use bind::{Class, ClassRow, NameKey, NameRow};
 pub use bind_fault::BindFault;

@@ -12,6 +12,7 @@ fn bulb(alloc: Global, last: u8) -> Result<Thing, Fail> {
         url: mud_url(b"https://lighting.example.com/lightbulb2000")?,
         pending: None,
         leases: Listed::new(alloc),
+        held: false,
     })
 }
 

@@ -16,6 +16,9 @@ pub struct Thing {
     /// Its addresses with the ends of their leases, in the order of the addresses, each once. A
     /// lease whose end has come may still stand here.
     pub leases: Listed<(Addr, End)>,
+    /// Whether the operator holds it: all its packets are dropped, whatever its usage file says. A
+    /// new Thing isn't held, and a hold ends with a release or with the Thing.
+    pub held: bool,
 }
 
 impl Placed for Thing {

@@ -1,0 +1,138 @@
+-- What the rows of two lists have in common, told by the rows at their places.
+use Rattle.std.proofs.Common.{◌≡◌, ℕ, Bool, true, false, cond, not, ◌&&◌, ◌||◌, List, [], ◌∷◌, map, Option, Some, None, refl, sym, ap, subst, ◌∙◌}
+use Rattle.std.specs.Prelude.{flat_map}
+use Rattle.std.specs.List.{list_any, AllByRecursion}
+use Rattle.std.specs.Option.{option_map}
+use Rattle.std.proofs.lemmas.Bool.{false≢true}
+use Rattle.std.proofs.lemmas.Option.{same_Some, none-some}
+use Rattle.std.proofs.lemmas.List.Folds.{list_any-append}
+use Rattle.mud_base.specs.Addresses.{same_addr}
+use Rattle.mud_base.specs.declared.addr.Addr.{Addr}
+use Rattle.sorted_rows.specs.Addresses.{addr_place}
+use Rattle.sorted_rows.proofs.AddressLaws.{same_addr-place, addr_place_exact}
+use Rattle.sorted_rows.specs.Placed.{same_place, PlacesAbove, PlacesAscend, row_at}
+use Rattle.sorted_rows.proofs.PlacedLaws.{same_place_exact, same_place_itself, row_at_above}
+
+-- ---- Tests
+
+pub both_ways : (b c : Bool) → (b ≡ true → c ≡ true) → (c ≡ true → b ≡ true) → b ≡ c
+both_ways true true f g = refl
+both_ways true false f g = sym (f refl)
+both_ways false true f g = g refl
+both_ways false false f g = refl
+
+pub left_of : (b c : Bool) → (b && c) ≡ true → b ≡ true
+left_of true c e = refl
+left_of false c e = absurd (false≢true e)
+
+pub right_of : (b c : Bool) → (b && c) ≡ true → c ≡ true
+right_of true c e = e
+right_of false c e = absurd (false≢true e)
+
+pub both : (b c : Bool) → b ≡ true → c ≡ true → (b && c) ≡ true
+both b c e f = ap (λ x. x && c) e ∙ f
+
+pub first_of_three : (b c d : Bool) → (b && c && d) ≡ true → b ≡ true
+first_of_three true true true e = e
+first_of_three true true false e = refl
+first_of_three true false d e = refl
+first_of_three false c d e = e
+
+pub not_true : (b : Bool) → (b ≡ true → ⊥) → not b ≡ true
+not_true true no_way = absurd (no_way refl)
+not_true false no_way = refl
+
+pub is_not : (b : Bool) → not b ≡ true → b ≡ true → ⊥
+is_not true e f = false≢true e
+is_not false e f = false≢true f
+
+-- ---- Addresses that are the same are one
+
+pub same_addr_exact : (a b : Addr) → same_addr a b ≡ true → a ≡ b
+same_addr_exact a b e = addr_place_exact a b (same_place_exact (addr_place a) (addr_place b) (sym (same_addr-place a b) ∙ e))
+
+pub same_addr_itself : (a : Addr) → same_addr a a ≡ true
+same_addr_itself a = same_addr-place a a ∙ same_place_itself (addr_place a)
+
+-- ---- Some element passes a test
+
+pub any_first : {A : Type 0} (p : A → Bool) (x : A) (xs : List A) → p x ≡ true → list_any p (x ∷ xs) ≡ true
+any_first p x xs e = ap (λ b. b || list_any p xs) e
+
+or_right : (b c : Bool) → c ≡ true → (b || c) ≡ true
+or_right true c e = refl
+or_right false c e = e
+
+pub any_later : {A : Type 0} (p : A → Bool) (x : A) (xs : List A) → list_any p xs ≡ true → list_any p (x ∷ xs) ≡ true
+any_later p x xs e = or_right (p x) (list_any p xs) e
+
+-- by the first element, or by the others
+pub any_by : {A : Type 0} {P : Type 0} (p : A → Bool) (x : A) (xs : List A) → (p x ≡ true → P) → (list_any p xs ≡ true → P) → list_any p (x ∷ xs) ≡ true → P
+any_by {P = P} p x xs here later e = any_by_first (p x) refl
+  where
+    any_by_first : (b : Bool) → p x ≡ b → P
+    any_by_first true is = here is
+    any_by_first false is = later (sym (ap (λ c. c || list_any p xs) is) ∙ e)
+
+pub any-flat_map : {A B : Type 0} (p : B → Bool) (f : A → List B) (xs : List A) → list_any p (flat_map f xs) ≡ list_any (λ x. list_any p (f x)) xs
+any-flat_map p f [] = refl
+any-flat_map p f (x ∷ xs) = list_any-append p (f x) (flat_map f xs) ∙ ap (λ b. list_any p (f x) || b) (any-flat_map p f xs)
+
+pub any-map : {A B : Type 0} (p : B → Bool) (f : A → B) (xs : List A) → list_any p (map f xs) ≡ list_any (λ x. p (f x)) xs
+any-map p f [] = refl
+any-map p f (x ∷ xs) = ap (λ b. p (f x) || b) (any-map p f xs)
+
+-- where the elements that pass one test pass another
+pub any_more : {A : Type 0} (p q : A → Bool) (xs : List A) → ((x : A) → p x ≡ true → q x ≡ true) → list_any p xs ≡ true → list_any q xs ≡ true
+any_more p q [] more e = e
+any_more p q (x ∷ xs) more e = any_by p x xs (λ is. any_first q x xs (more x is)) (λ rest. any_later q x xs (any_more p q xs more rest)) e
+
+module _ {R : Type 0} (place : R → List ℕ) where
+  -- a row that passes the test, found at its place
+  pub record Passing (test : R → Bool) (rows : List R) : Type 0 where
+    pub at : List ℕ
+    pub row : R
+    pub there : row_at place at rows ≡ Some row
+    pub passes : test row ≡ true
+
+  pub at_later : (p : List ℕ) (x row : R) (xs : List R) → PlacesAbove place (place x) xs → row_at place p xs ≡ Some row → (b : Bool) → same_place (place x) p ≡ b → cond b (Some x) (row_at place p xs) ≡ Some row
+  at_later p x row xs above found true e = absurd (none-some row (sym (subst (λ q. row_at place q xs ≡ None) (same_place_exact (place x) p e) (row_at_above place (place x) xs above)) ∙ found))
+  at_later p x row xs above found false e = found
+
+  pub found_passing : (test : R → Bool) (rows : List R) → PlacesAscend place rows → list_any test rows ≡ true → Passing test rows
+  found_passing test [] ascend e = absurd (false≢true e)
+  found_passing test (x ∷ xs) ascend e =
+      any_by test x xs
+      (λ is. record { at = place x; row = x; there = ap (λ b. cond b (Some x) (row_at place (place x) xs)) (same_place_itself (place x)); passes = is })
+      (λ rest. let later : Passing test xs = found_passing test xs ascend.1 rest in
+      record { at = later.at; row = later.row; there = at_later later.at x later.row xs ascend.0 later.there (same_place (place x) later.at) refl; passes = later.passes })
+      e
+
+  pub passing_found : (test : R → Bool) (rows : List R) (p : List ℕ) (row : R) → row_at place p rows ≡ Some row → test row ≡ true → list_any test rows ≡ true
+  passing_found test [] p row there e = absurd (none-some row there)
+  passing_found test (x ∷ xs) p row there e = by_first (same_place (place x) p) refl (passing_found test xs p row)
+    where
+      by_first : (b : Bool) → same_place (place x) p ≡ b → (row_at place p xs ≡ Some row → test row ≡ true → list_any test xs ≡ true) → list_any test (x ∷ xs) ≡ true
+      by_first true is later = any_first test x xs (ap test (same_Some x row (sym (ap (λ b. cond b (Some x) (row_at place p xs)) is) ∙ there)) ∙ e)
+      by_first false is later = any_later test x xs (later (sym (ap (λ b. cond b (Some x) (row_at place p xs)) is) ∙ there) e)
+
+  -- what holds of each row holds of the one at a place
+  pub all_at : (P : R → Type 0) (rows : List R) (p : List ℕ) (x : R) → AllByRecursion P rows → row_at place p rows ≡ Some x → P x
+  all_at P [] p x all found = absurd (none-some x found)
+  all_at P (y ∷ ys) p x all found = by_first (same_place (place y) p) found (all_at P ys p x all.1)
+    where
+      by_first : (b : Bool) → cond b (Some y) (row_at place p ys) ≡ Some x → (row_at place p ys ≡ Some x → P x) → P x
+      by_first true e rest = subst P (same_Some y x e) all.0
+      by_first false e rest = rest e
+
+  -- the row at a place of rows that are each changed, and keep their places
+  mapped_at : (f : R → R) (p : List ℕ) (x : R) (o : Option R) → (b : Bool) → cond b (Some (f x)) (option_map f o) ≡ option_map f (cond b (Some x) o)
+  mapped_at f p x o true = refl
+  mapped_at f p x o false = refl
+
+  pub row_at-map : (f : R → R) → ((x : R) → place (f x) ≡ place x) → (p : List ℕ) (rows : List R) → row_at place p (map f rows) ≡ option_map f (row_at place p rows)
+  row_at-map f kept p [] = refl
+  row_at-map f kept p (x ∷ xs) =
+      ap (λ q. cond (same_place q p) (Some (f x)) (row_at place p (map f xs))) (kept x)
+      ∙ ap (cond (same_place (place x) p) (Some (f x))) (row_at-map f kept p xs)
+      ∙ mapped_at f p x (row_at place p xs) (same_place (place x) p)

@@ -1,6 +1,12 @@
-pub mod PlacedLaws
-pub mod RowLaws
-pub mod AscendLaws
 pub mod AddressLaws
+pub mod AscendLaws
+pub mod ChangeLaws
+pub mod Digits
+pub mod IndexLaws
+mod Lent
+pub mod ListTests
+pub mod PlacedLaws
 mod ProbeLaws
+pub mod RowLaws
+pub mod RowSets
 mod SearchLaws

@@ -1,6 +1,5 @@
 -- What the answers of a place, and of a beginning of places, say of ascending rows.
-use Rattle.std.proofs.Common.{◌≡◌, ℕ, zero, suc, ◌+◌, ◌-◌, ◌≤◌, ◌<◌, Bool, true, false, cond, nat_eq, ◌&&◌, List, [], ◌∷◌, length, map, get_or, take, drop, Result, Ok, Err, refl, sym, ap, subst, ◌∙◌, arith}
-use Rattle.std.proofs.lemmas.Bool.{false≢true}
+use Rattle.std.proofs.Common.{◌≡◌, ℕ, zero, suc, ◌+◌, ◌-◌, ◌≤◌, ◌<◌, Bool, cond, nat_eq, ◌&&◌, List, [], ◌∷◌, length, map, get_or, take, drop, Result, Ok, Err, refl, sym, ap, subst, ◌∙◌, arith}
 use Rattle.std.specs.List.{filter, slice_range}
 use Rattle.std.specs.Cmp.{unsigned_ties}
 use Rattle.std.specs.Ordering.{ordering_index, is_eq, ordering_then, nat_cmp}

@@ -1,14 +1,11 @@
 -- More laws of rows in the order of their places: lengths, equality, what holds of each row, and images.
-use Rattle.std.proofs.Common.{◌≡◌, ℕ, zero, suc, ◌+◌, ◌≤◌, ◌<◌, Bool, true, false, cond, List, [], ◌∷◌, ◌++◌, length, map, Option, Some, None, refl, sym, ap, subst, ◌∙◌, arith}
-use Rattle.std.proofs.lemmas.Bool.{false≢true}
+use Rattle.std.proofs.Common.{◌≡◌, ℕ, ◌+◌, ◌≤◌, Bool, true, false, cond, List, [], ◌∷◌, length, map, Some, None, refl, sym, ap, subst, ◌∙◌, arith}
 use Rattle.std.proofs.lemmas.Option.{same_Some, none-some}
 use Rattle.std.specs.List.{filter, AllByRecursion}
-use Rattle.std.specs.Option.{is_some, option_map}
-use Rattle.std.specs.Ordering.{is_eq}
 use Rattle.std.specs.declared.cmp.Ordering.{Ordering}
 use Rattle.std.specs.declared.cmp.Ordering.TheVariants.{Less, Equal, Greater}
 use Rattle.sorted_rows.specs.Placed.{place_cmp, same_place, PlacesAbove, PlacesAscend, row_at, set_row, set_rows, without_row}
-use Rattle.sorted_rows.proofs.PlacedLaws.{place_cmp_exact, place_cmp_turned, same_place-cmp, same_place_itself, same_place_exact, above_trans, row_at_above, row_at-set_row, row_at-set_row_same, row_at-set_row_other, row_at-without_row, ascend-set_row, ascend-without_row}
+use Rattle.sorted_rows.proofs.PlacedLaws.{place_cmp_turned, same_place-cmp, same_place_itself, same_place_exact, above_trans, row_at_above, row_at-set_row, row_at-without_row, ascend-set_row, ascend-without_row}
 
 when_true : {A : Type 0} (b : Bool) (u w : A) → (b ≡ true → w ≡ u) → cond b u w ≡ w
 when_true true u w e = sym (e refl)

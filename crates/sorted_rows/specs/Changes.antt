@@ -1,6 +1,7 @@
 -- Changes of rows: one place is left, and then rows are put in.
-use Rattle.std.specs.Prelude.{ℕ, Bool, true, not, ◌&&◌, List, [], ◌∷◌, map, Option, Some, None}
+use Rattle.std.specs.Prelude.{ℕ, Bool, true, false, not, ◌&&◌, if◌then◌else◌, List, [], ◌∷◌, map, Option, Some, None}
 use Rattle.std.specs.List.{list_any}
+use Rattle.std.specs.Option.{option_or}
 use Rattle.sorted_rows.specs.Placed.{same_place, row_at, set_rows, without_row}
 
 -- ---- A change
@@ -18,6 +19,16 @@ without_gone place (Some p) rows = without_row place p rows
 -- the rows after the change: what goes is gone before anything is put in
 unfoldable pub changed : {R : Type 0} → (R → List ℕ) → RowChange R → List R → List R
 changed place change rows = set_rows place change.sets (without_gone place change.gone rows)
+
+-- whether the place is the one that goes
+abbrev pub is_gone : Option (List ℕ) → List ℕ → Bool
+is_gone None q = false
+is_gone (Some p) q = same_place p q
+
+-- the last of these rows that has the place
+abbrev pub last_at : {R : Type 0} → (R → List ℕ) → List ℕ → List R → Option R
+last_at place q [] = None
+last_at place q (x ∷ xs) = option_or (last_at place q xs) (if same_place (place x) q then Some x else None)
 
 -- ---- What it touches
 

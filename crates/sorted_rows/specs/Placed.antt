@@ -30,10 +30,20 @@ abbrev pub PlacesAbove : {R : Type 0} → (R → List ℕ) → List ℕ → List
 PlacesAbove place p [] = Unit {0}
 PlacesAbove place p (x ∷ xs) = (place_cmp p (place x) ≡ Less) × PlacesAbove place p xs
 
+-- each row's place is before the place
+abbrev pub PlacesBelow : {R : Type 0} → (R → List ℕ) → List ℕ → List R → Type 0
+PlacesBelow place p [] = Unit {0}
+PlacesBelow place p (x ∷ xs) = (place_cmp (place x) p ≡ Less) × PlacesBelow place p xs
+
 -- each row's place is before those of the rows after it
 abbrev pub PlacesAscend : {R : Type 0} → (R → List ℕ) → List R → Type 0
 PlacesAscend place [] = Unit {0}
 PlacesAscend place (x ∷ xs) = PlacesAbove place (place x) xs × PlacesAscend place xs
+
+-- each row of the first list is before each of the second
+abbrev pub ComeBefore : {R : Type 0} → (R → List ℕ) → List R → List R → Type 0
+ComeBefore place [] ys = Unit {0}
+ComeBefore place (x ∷ xs) ys = PlacesAbove place (place x) ys × ComeBefore place xs ys
 
 -- rows, and how many more there is room for
 pub record RowsAndRoom (R : Type 0) : Type 0 where

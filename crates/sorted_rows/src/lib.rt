@@ -3,8 +3,9 @@
 #![tactic(auto)]
 
 pub mod addresses;
+pub mod laws;
 pub mod placed;
 pub mod steps;
 
-pub use placed::{KeyOf, Placed, PrefixOf, SortedRows};
+pub use placed::{Change, KeyOf, Placed, PrefixOf, SortedRows};
 pub use steps::Steps;

@@ -3,9 +3,12 @@ ghost use Rattle.std.specs.Prelude.{◌≡◌, ℕ, List};
 ghost use Rattle.sorted_rows.specs.Placed.{place_cmp, prefix_cmp};
 
 pub mod lists;
+mod change;
+mod counted;
 mod rows;
 mod search;
 
+pub use change::Change;
 pub use rows::SortedRows;
 use std::cmp::Ordering;
 

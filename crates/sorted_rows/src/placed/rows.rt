@@ -1,9 +1,10 @@
 //! Rows that are kept in the order of their places.
-ghost use Rattle.std.specs.Prelude.{◌≡◌, ◌+◌, ◌-◌, ◌*◌, ◌^◌, ◌<◌, ◌≤◌, ◌↔◌, min, [], ◌∷◌, ◌++◌, length, slice_get, Some, is_some, option_copied, IsOk, IsSome, IfSome, OnOk, if◌then◌else◌, vec_len, vec_capacity, IsTrue};
+ghost use Rattle.std.specs.Prelude.{◌≡◌, ℕ, ◌+◌, ◌-◌, ◌*◌, ◌^◌, ◌<◌, ◌≤◌, ◌↔◌, min, [], ◌∷◌, ◌++◌, length, slice_get, Some, is_some, option_copied, IsOk, IsSome, IfSome, OnOk, if◌then◌else◌, vec_len, vec_capacity, IsTrue};
 ghost use Rattle.sorted_rows.specs.Placed.{PlacesAscend, row_at, index_in, rows_under, set_row, set_rows, without_row, comes_last};
+ghost use Rattle.sorted_rows.specs.Changes.{changed};
 
 use super::search::{index_of, stretch_under};
-use super::{KeyOf, Placed, PrefixOf};
+use super::{Change, KeyOf, Placed, PrefixOf};
 use crate::steps::Steps;
 use mud_base::Memory;
 use std::alloc::Global;
@@ -48,12 +49,13 @@ impl<R: Placed> SortedRows<R> {
     }
 
     /// The rows of a list that is in order already: None exactly where it isn't. It takes no
-    /// memory.
+    /// memory, and the room is that of the list.
     pub fn from_sorted(rows: Vec<R>) -> Option<SortedRows<R>>
     where
         R: Drop,
         ensures sorted { IsSome result ↔ PlacesAscend R.place rows.items }
         ensures rows { IfSome result (λ sorted. sorted.rows ≡ rows.items) }
+        ensures room { IfSome result (λ sorted. sorted.room ≡ vec_capacity rows - vec_len rows) }
     {
         if !is_ascending(rows.as_slice()) {
             return None;
@@ -93,6 +95,8 @@ impl<R: Placed> SortedRows<R> {
         ensures index { result ≡ index_in R.place (K.place key.now) self.now.rows }
         ensures least { steps.old + min 1 (length self.now.rows) ≤ steps.new }
         ensures most { 2 ^ (steps.new - steps.old) ≤ 2 * length self.now.rows + 1 }
+        ensures digits { (b : ℕ) → length self.now.rows < 2 ^ b → steps.new ≤ steps.old + b }
+        ensures ascend { PlacesAscend R.place self.now.rows }
     {
         index_of(self.rows.as_slice(), key, steps)
     }
@@ -132,6 +136,7 @@ impl<R: Placed> SortedRows<R> {
         ensures least { steps.old + length result.now ≤ steps.new }
         ensures some { steps.old + min 1 (length self.now.rows) ≤ steps.new }
         ensures most { 2 ^ (steps.new - steps.old - length result.now) ≤ 2 * length self.now.rows + 1 }
+        ensures digits { (b : ℕ) → length self.now.rows < 2 ^ b → steps.new ≤ steps.old + length result.now + b }
     {
         stretch_under(self.rows.as_slice(), prefix, steps)
     }
@@ -154,6 +159,7 @@ impl<R: Placed> SortedRows<R> {
         requires { 1 ≤ self.old.room }
         ensures rows { self.new.rows ≡ set_row R.place row self.old.rows }
         ensures room { self.old.room ≤ self.new.room + 1 }
+        ensures space { self.new.room + length self.new.rows ≡ self.old.room + length self.old.rows }
     {
         let found = self.find(&row);
         self.put_at(found, row);
@@ -167,6 +173,7 @@ impl<R: Placed> SortedRows<R> {
         requires room { 1 ≤ self.old.room }
         ensures rows { self.new.rows ≡ set_row R.place row self.old.rows }
         ensures room { self.old.room ≤ self.new.room + 1 }
+        ensures space { self.new.room + length self.new.rows ≡ self.old.room + length self.old.rows }
     {
         put_row(&mut self.rows, found, row);
     }
@@ -178,6 +185,7 @@ impl<R: Placed> SortedRows<R> {
         requires { vec_len rows ≤ self.old.room }
         ensures rows { self.new.rows ≡ set_rows R.place rows.items self.old.rows }
         ensures room { self.old.room ≤ self.new.room + vec_len rows }
+        ensures space { self.new.room + length self.new.rows ≡ self.old.room + length self.old.rows }
     {
         for row in rows {
             self.put(row);
@@ -193,6 +201,7 @@ impl<R: Placed> SortedRows<R> {
         ensures last { result ≡ comes_last R.place row self.old.rows }
         ensures rows { self.new.rows ≡ (if result then self.old.rows ++ row ∷ [] else self.old.rows) }
         ensures room { self.old.room ≤ self.new.room + 1 }
+        ensures space { self.new.room + length self.new.rows ≡ self.old.room + length self.old.rows }
     {
         if !follows_all(self.rows.as_slice(), &row) {
             return false;
@@ -201,26 +210,46 @@ impl<R: Placed> SortedRows<R> {
         true
     }
 
-    /// Takes the row of this index away.
+    /// Takes the row of this index away, and there is room for one more.
     pub fn take_at(&mut self, index: usize) -> R
         requires { index < length self.old.rows }
         ensures row { slice_get self.old.rows index ≡ Some result }
         ensures rows { self.new.rows ≡ without_row R.place (R.place result) self.old.rows }
-        ensures room { self.old.room ≤ self.new.room }
+        ensures room { self.new.room ≡ self.old.room + 1 }
+        ensures space { self.new.room + length self.new.rows ≡ self.old.room + length self.old.rows }
     {
         take_row(&mut self.rows, index)
     }
 
-    /// Takes the row that the key names away; None where there is none.
+    /// Takes the row that the key names away, and there is room for one more; None where there is
+    /// none.
     pub fn remove<K: KeyOf<R>>(&mut self, key: &K) -> Option<R>
         ensures row { result ≡ row_at R.place (K.place key.now) self.old.rows }
         ensures rows { self.new.rows ≡ without_row R.place (K.place key.now) self.old.rows }
-        ensures room { self.old.room ≤ self.new.room }
+        ensures room { self.new.room ≡ self.old.room + (if is_some result then 1 else 0) }
+        ensures space { self.new.room + length self.new.rows ≡ self.old.room + length self.old.rows }
     {
         match self.find(key) {
             Ok(index) => Some(self.take_at(index)),
             Err(_) => None,
         }
+    }
+
+    /// Makes the change. The row that goes is gone before anything is put in. It takes no memory.
+    pub fn change<K: KeyOf<R>>(&mut self, change: Change<K, R>)
+    where
+        R: Drop,
+        K: Drop,
+        requires { length change.sets ≤ self.old.room }
+        ensures rows { self.new.rows ≡ changed R.place change self.old.rows }
+        ensures room { self.old.room ≤ self.new.room + length change.sets }
+        ensures space { self.new.room + length self.new.rows ≡ self.old.room + length self.old.rows }
+    {
+        let (gone, sets) = change.into_parts();
+        if let Some(key) = gone {
+            drop(self.remove(&key));
+        }
+        self.put_all(sets.into_vec());
     }
 }
 
@@ -280,7 +309,7 @@ fn put_row<R: Placed + Drop>(rows: &mut Vec<R>, found: Result<usize, usize>, row
     requires room { vec_len rows.old < vec_capacity rows.old }
     ensures items { rows.new.items ≡ set_row R.place row rows.old.items }
     ensures len { vec_len rows.new ≤ vec_len rows.old + 1 }
-    ensures capacity { vec_capacity rows.old ≤ vec_capacity rows.new }
+    ensures capacity { vec_capacity rows.new ≡ vec_capacity rows.old }
 {
     match found {
         Ok(index) => rows[index] = row,
@@ -296,8 +325,8 @@ fn take_row<R: Placed>(rows: &mut Vec<R>, index: usize) -> R
     requires in_range { index < vec_len rows.old }
     ensures row { slice_get rows.old.items index ≡ Some result }
     ensures items { rows.new.items ≡ without_row R.place (R.place result) rows.old.items }
-    ensures len { vec_len rows.new ≤ vec_len rows.old }
-    ensures capacity { vec_capacity rows.old ≤ vec_capacity rows.new }
+    ensures len { vec_len rows.new + 1 ≡ vec_len rows.old }
+    ensures capacity { vec_capacity rows.new ≡ vec_capacity rows.old }
 {
     rows.remove(index)
 }

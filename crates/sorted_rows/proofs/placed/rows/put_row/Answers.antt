@@ -1,4 +1,4 @@
-use Rattle.std.proofs.Common.{◌≡◌, Bool, Ok, Err, if◌then◌else◌, sym, ap, ◌∙◌, arith}
+use Rattle.std.proofs.Common.{Bool, if◌then◌else◌, sym, ap, ◌∙◌, arith}
 use Rattle.std.specs.List.{insert}
 use Rattle.sorted_rows.proofs.PlacedLaws.{found_within, missed_within, set_row_found, set_row_missed}
 use Rattle.sorted_rows.proofs.placed.rows.put_row.Goals as goal

@@ -1,4 +1,4 @@
-use Rattle.std.proofs.Common.{map, ◌-◌, ◌+◌, ◌≡◌, ℕ, ◌<◌, length, sym, ◌∙◌, ap, subst, arith}
+use Rattle.std.proofs.Common.{map, ◌-◌, ◌+◌, ◌≡◌, ℕ, sym, ◌∙◌, ap, subst, arith}
 use Rattle.std.specs.Ordering.{is_ne}
 use Rattle.std.specs.declared.cmp.Ordering.TheVariants.{Equal, Less}
 use Rattle.sorted_rows.specs.Search.{AllGreaterBefore}

@@ -1,6 +1,5 @@
-use Rattle.std.proofs.Common.{◌≡◌, ℕ, ◌+◌, ◌-◌, map, length, get_or, sym, ◌∙◌, arith}
+use Rattle.std.proofs.Common.{map, arith}
 use Rattle.std.specs.declared.cmp.Ordering.TheVariants.{Less, Equal, Greater}
-use Rattle.sorted_rows.specs.Search.{IsMeeting}
 use Rattle.sorted_rows.proofs.SearchLaws.{answer_at, narrowed_below, narrowed_above}
 use Rattle.sorted_rows.proofs.placed.search.meet.Goals as goal
 

@@ -1,4 +1,4 @@
-use Rattle.std.proofs.Common.{map, ◌-◌, ◌+◌, ◌≡◌, ℕ, ◌<◌, length, sym, ◌∙◌, ap, subst, arith}
+use Rattle.std.proofs.Common.{map, sym, ◌∙◌, ap, arith}
 use Rattle.std.specs.Ordering.{is_ne}
 use Rattle.std.specs.declared.cmp.Ordering.TheVariants.{Equal, Less}
 use Rattle.sorted_rows.proofs.SearchLaws.{answer_at, ended_past, equal_past, not_ne}

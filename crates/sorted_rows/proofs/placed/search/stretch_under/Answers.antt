@@ -1,4 +1,4 @@
-use Rattle.std.proofs.Common.{map, ◌-◌, ◌+◌, ◌≤◌, ◌≡◌, ℕ, length, take, drop, sym, arith}
+use Rattle.std.proofs.Common.{map, ◌-◌, ◌≡◌, length, take, drop, sym, arith}
 use Rattle.std.proofs.lemmas.List.{length-take, length-drop, length-map}
 use Rattle.sorted_rows.specs.Search.{prefix_answer}
 use Rattle.sorted_rows.proofs.SearchLaws.{joined_equal, stretch_cost}

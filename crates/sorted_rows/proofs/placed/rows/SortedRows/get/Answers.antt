@@ -1,15 +1,7 @@
-use Rattle.std.proofs.Common.{◌≡◌, ℕ, List, length, slice_get, Option, Some, None, sym, ap, ◌∙◌, refl}
-use denote.Ref.{Bor}
-use Rattle.std.specs.Option.{option_copied}
-use Rattle.std.specs.Slice.{IsGetResult}
-use Rattle.std.proofs.lemmas.Option.{slice_get_past, slice_get_read}
+use Rattle.std.proofs.Common.{slice_get, sym, ap, ◌∙◌}
+use Rattle.sorted_rows.proofs.Lent.{lent}
 use Rattle.sorted_rows.proofs.PlacedLaws.{row_at_found, row_at_missed}
 use Rattle.sorted_rows.proofs.placed.rows.SortedRows.get.Goals as goal
-
--- what `get` of a slice lends
-lent : {R : Type 0} (rows : List R) (i : ℕ) (r : Option (Bor R)) → IsGetResult rows i i r → option_copied r ≡ slice_get rows i
-lent rows i None h = sym (slice_get_past rows i h.3)
-lent rows i (Some x) h = sym (slice_get_read rows (length rows) i x.now refl h.3.0 h.1)
 
 pub returns-in-Ok : goal.returns-in-Ok
 returns-in-Ok g c =

@@ -10,4 +10,5 @@ loop-row-preserved g c = (
       ∙ ap (set_row g.R.Placed.place c.in-Some.row) c.loop-row.invariant.0
       ∙ sym (set_rows-push g.R.Placed.place c.loop-row.yielded c.in-Some.row c.args.self.now.rows),
   omega (arith, length_push c.loop-row.yielded c.in-Some.row),
+  omega arith,
 )

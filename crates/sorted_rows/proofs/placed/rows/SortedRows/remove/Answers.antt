@@ -1,4 +1,4 @@
-use Rattle.std.proofs.Common.{◌≡◌, sym, ap, ◌∙◌}
+use Rattle.std.proofs.Common.{sym, ap, ◌∙◌}
 use Rattle.sorted_rows.specs.Placed.{without_row}
 use Rattle.sorted_rows.proofs.PlacedLaws.{found_within, row_at_found, row_at_missed, without_row_missed, place_found}
 use Rattle.sorted_rows.proofs.placed.rows.SortedRows.remove.Goals as goal

@@ -1,0 +1,11 @@
+use Rattle.std.proofs.Common.{◌≡◌, ℕ, ◌+◌, ◌*◌, ◌^◌, ◌≤◌, length}
+use Rattle.sorted_rows.specs.Placed.{set_rows}
+use Rattle.sorted_rows.proofs.placed.rows.SortedRows.put_all_counted.Given as goal
+
+abbrev pub invariant-loop-row : goal.invariant-loop-row
+invariant-loop-row g l =
+    (l.self.rows ≡ set_rows g.R.Placed.place l.yielded l.initial.self.rows)
+    × (l.initial.self.room ≤ l.self.room + length l.yielded)
+    × (l.self.room + length l.self.rows ≡ l.initial.self.room + length l.initial.self.rows)
+    × (l.fn.steps + length l.yielded ≤ l.steps)
+    × ((b : ℕ) → length l.initial.self.rows + length l.yielded ≤ 2 ^ b → l.steps ≤ l.fn.steps + length l.yielded * (b + 1))

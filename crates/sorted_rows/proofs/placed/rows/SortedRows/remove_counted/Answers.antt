@@ -1,0 +1,19 @@
+use Rattle.std.proofs.Common.{sym, ap, ◌∙◌}
+use Rattle.sorted_rows.specs.Placed.{without_row}
+use Rattle.sorted_rows.proofs.PlacedLaws.{found_within, row_at_found, row_at_missed, without_row_missed, place_found}
+use Rattle.sorted_rows.proofs.placed.rows.SortedRows.remove_counted.Goals as goal
+
+pub take_at_counted-requires : goal.take_at_counted-requires
+take_at_counted-requires g c = found_within g.R.Placed.place (g.K.KeyOf.place c.args.key.now) c.args.self.now.rows c.in-Ok.index (sym c.in-Ok.ensures.index)
+
+pub returns-in-Ok-clause-row : goal.returns-in-Ok-clause-row
+returns-in-Ok-clause-row g c = sym (row_at_found g.R.Placed.place (g.K.KeyOf.place c.args.key.now) c.args.self.now.rows c.in-Ok.index c.in-Ok.ensures.ascend (sym c.in-Ok.ensures.index) ∙ c.take_at_counted.ensures.row)
+
+pub returns-in-Ok-clause-rows : goal.returns-in-Ok-clause-rows
+returns-in-Ok-clause-rows g c = c.take_at_counted.ensures.rows ∙ ap (λ p. without_row g.R.Placed.place p c.args.self.now.rows) (place_found g.R.Placed.place (g.K.KeyOf.place c.args.key.now) c.args.self.now.rows c.in-Ok.index c.take_at_counted.result (sym c.in-Ok.ensures.index) c.take_at_counted.ensures.row)
+
+pub returns-in-Err-clause-row : goal.returns-in-Err-clause-row
+returns-in-Err-clause-row g c = sym (row_at_missed g.R.Placed.place (g.K.KeyOf.place c.args.key.now) c.args.self.now.rows c.in-Err.field-0 c.in-Err.ensures.ascend (sym c.in-Err.ensures.index))
+
+pub returns-in-Err-clause-rows : goal.returns-in-Err-clause-rows
+returns-in-Err-clause-rows g c = sym (without_row_missed g.R.Placed.place (g.K.KeyOf.place c.args.key.now) c.args.self.now.rows c.in-Err.field-0 (sym c.in-Err.ensures.index))

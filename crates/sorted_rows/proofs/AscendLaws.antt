@@ -1,5 +1,5 @@
 -- The test of ascending rows tells whether they ascend.
-use Rattle.std.proofs.Common.{◌≡◌, ℕ, Bool, true, false, ◌&&◌, List, [], ◌∷◌, IsTrue, refl, sym, ap, subst, ◌∙◌}
+use Rattle.std.proofs.Common.{◌≡◌, ℕ, Bool, true, false, ◌&&◌, List, [], ◌∷◌, IsTrue, refl, sym, ap, ◌∙◌}
 use Rattle.std.proofs.lemmas.Bool.{false≢true}
 use Rattle.std.specs.List.{list_all}
 use Rattle.std.specs.Ordering.{is_lt}
@@ -27,9 +27,10 @@ both_ways false false to from = refl
 module _ {R : Type 0} (place : R → List ℕ) where
   above_from : (p : List ℕ) (rows : List R) → list_all (is_before place p) rows ≡ true → PlacesAbove place p rows
   above_from p [] e = tt
-  above_from p (x ∷ xs) e =
-      (less_from_is_lt (place_cmp p (place x)) (left_true (is_before place p x) (list_all (is_before place p) xs) e),
-      above_from p xs (right_true (is_before place p x) (list_all (is_before place p) xs) e))
+  above_from p (x ∷ xs) e = (
+    less_from_is_lt (place_cmp p (place x)) (left_true (is_before place p x) (list_all (is_before place p) xs) e),
+    above_from p xs (right_true (is_before place p x) (list_all (is_before place p) xs) e),
+  )
 
   above_to : (p : List ℕ) (rows : List R) → PlacesAbove place p rows → list_all (is_before place p) rows ≡ true
   above_to p [] above = refl
@@ -37,9 +38,10 @@ module _ {R : Type 0} (place : R → List ℕ) where
 
   pub ascend_from : (rows : List R) → IsTrue (places_ascend place rows) → PlacesAscend place rows
   ascend_from [] e = tt
-  ascend_from (x ∷ xs) e =
-      (above_from (place x) xs (left_true (list_all (is_before place (place x)) xs) (places_ascend place xs) e),
-      ascend_from xs (right_true (list_all (is_before place (place x)) xs) (places_ascend place xs) e))
+  ascend_from (x ∷ xs) e = (
+    above_from (place x) xs (left_true (list_all (is_before place (place x)) xs) (places_ascend place xs) e),
+    ascend_from xs (right_true (list_all (is_before place (place x)) xs) (places_ascend place xs) e),
+  )
 
   pub ascend_to : (rows : List R) → PlacesAscend place rows → IsTrue (places_ascend place rows)
   ascend_to [] ascend = refl

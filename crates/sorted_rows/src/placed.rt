@@ -2,9 +2,9 @@
 ghost use Rattle.std.specs.Prelude.{◌≡◌, ℕ, List};
 ghost use Rattle.sorted_rows.specs.Placed.{place_cmp, prefix_cmp};
 
-pub mod lists;
 mod change;
 mod counted;
+pub mod lists;
 mod rows;
 mod search;
 

@@ -1,4 +1,3 @@
-use Rattle.std.proofs.Common.{◌≡◌, IsTrue}
 use Rattle.sorted_rows.specs.Ascending.{places_ascend}
 use Rattle.sorted_rows.proofs.AscendLaws.{ascend_from, ascend_to, both_ways}
 use Rattle.sorted_rows.proofs.placed.lists.is_ascending.Goals as goal

@@ -2,7 +2,7 @@
 use Rattle.std.proofs.Common.{◌≡◌, ℕ, ◌<◌, ◌≤◌, List, [], ◌++◌, length, take, drop, Some, Ok, Err, refl, sym, ap, ap₂, ◌∙◌, arith, length-append, append-nil}
 use Rattle.std.proofs.lemmas.List.{take-append-le, drop-append-le}
 use Rattle.mud_world.specs.Door.{DoorState}
-use Rattle.pcap_read.specs.declared.byte_order.ByteOrder.{ByteOrder}
+use Rattle.octet_fields.specs.declared.number.ByteOrder.{ByteOrder}
 use Rattle.pcap_read.specs.declared.fault.CapFault.{CapFault}
 use Rattle.pcap_read.specs.declared.fault.CapFault.TheVariants as faults
 use Rattle.pcap_read.specs.declared.head.Head.{Head}

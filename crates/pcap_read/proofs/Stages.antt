@@ -3,7 +3,7 @@ use Rattle.std.proofs.Common.{◌≡◌, ℕ, Bool, false, List, [], ◌++◌, O
 use Rattle.mud_world.specs.Causes.{Counts}
 use Rattle.mud_world.specs.Door.{DoorState}
 use Rattle.mud_world.proofs.Doors.{took_none}
-use Rattle.pcap_read.specs.declared.byte_order.ByteOrder.{ByteOrder}
+use Rattle.octet_fields.specs.declared.number.ByteOrder.{ByteOrder}
 use Rattle.pcap_read.specs.declared.fault.CapFault.{CapFault}
 use Rattle.pcap_read.specs.declared.stage.Stage.{Stage}
 use Rattle.pcap_read.specs.declared.stage.Stage.TheVariants.{Start, Reading, Failed}

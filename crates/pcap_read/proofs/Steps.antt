@@ -2,7 +2,7 @@
 use Rattle.std.proofs.Common.{◌≡◌, ◌⊎◌, inl, inr, ℕ, zero, suc, ◌+◌, ◌<◌, ◌≤◌, ltb, leb, Bool, true, false, cond, List, [], ◌∷◌, ◌++◌, length, take, drop, Ok, Err, refl, sym, ap, ap₂, ◌∙◌, arith, length-append, length-drop, le-ltb, lt-ltb, ltb-true, ltb-false, le-leb}
 use borrow.Author.Tests.{lt-leb}
 use Rattle.std.proofs.lemmas.List.{take-append-le, drop-append-le, drop-drop}
-use Rattle.pcap_read.specs.declared.byte_order.ByteOrder.{ByteOrder}
+use Rattle.octet_fields.specs.declared.number.ByteOrder.{ByteOrder}
 use Rattle.pcap_read.specs.declared.fault.CapFault.{CapFault}
 use Rattle.pcap_read.specs.declared.fault.CapFault.TheVariants as faults
 use Rattle.pcap_read.specs.Packets.{Packet, Packets, whole, broken, with_packet, seconds_of, captured_len, packets_from, header_of, behind_header, packets_of}

@@ -1,6 +1,7 @@
 pub mod Captured
 pub mod Fault
 pub mod Held
+pub mod Next
 pub mod Packets
 pub mod Parts
 pub mod Reading

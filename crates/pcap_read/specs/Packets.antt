@@ -1,9 +1,9 @@
 -- The packets of a capture in the classic format of libpcap, version 2.4 (draft-ietf-opsawg-pcap).
 use Rattle.std.specs.Prelude.{ℕ, zero, suc, ◌+◌, ◌==◌, nat_lt, nat_le, Bool, not, ◌||◌, ◌&&◌, if◌then◌else◌, List, [], ◌∷◌, length, take, drop, Option, Some, None, Result, Ok, Err}
-use Rattle.std.specs.Int.{w16, w32, from_be_bytes, from_le_bytes}
 use Rattle.mud_base.specs.Faults.{row, unless}
-use Rattle.pcap_read.specs.declared.byte_order.ByteOrder.{ByteOrder}
-use Rattle.pcap_read.specs.declared.byte_order.ByteOrder.TheVariants.{Big, Little}
+use Rattle.octet_fields.specs.Numbers.{number_16, number_32}
+use Rattle.octet_fields.specs.declared.number.ByteOrder.{ByteOrder}
+use Rattle.octet_fields.specs.declared.number.ByteOrder.TheVariants.{Big, Little}
 use Rattle.pcap_read.specs.declared.fault.CapFault.{CapFault}
 use Rattle.pcap_read.specs.declared.fault.CapFault.TheVariants as faults
 
@@ -28,29 +28,35 @@ broken fault = record { all = []; fault = Some fault }
 abbrev pub with_packet : Packet → Packets → Packets
 with_packet first later = record { all = first ∷ later.all; fault = later.fault }
 
--- The number in two or four octets from a place on. The magic number tells the order of the octets of all numbers.
-unfoldable pub number_16 : ByteOrder → ℕ → List ℕ → ℕ
-number_16 Big at octets = from_be_bytes w16 (take 2 (drop at octets))
-number_16 Little at octets = from_le_bytes w16 (take 2 (drop at octets))
+-- The header has 24 octets (section 4): the magic number, the version in two numbers, two reserved ones, the snap length and the
+-- link type. The magic number tells the order of the octets of all numbers. Here the places of those that are read:
+abbrev pub magic_place : ℕ
+magic_place = 0
 
-unfoldable pub number_32 : ByteOrder → ℕ → List ℕ → ℕ
-number_32 Big at octets = from_be_bytes w32 (take 4 (drop at octets))
-number_32 Little at octets = from_le_bytes w32 (take 4 (drop at octets))
+abbrev pub major_version_place : ℕ
+major_version_place = 4
 
--- The header has 24 octets: the magic number, the version in two numbers, the zone, the figures, the snap length and the link type.
+abbrev pub minor_version_place : ℕ
+minor_version_place = 6
+
+abbrev pub link_type_place : ℕ
+link_type_place = 20
+
+abbrev pub header_len : ℕ
+header_len = 24
 
 -- the magic numbers of captures in microseconds and in nanoseconds
 unfoldable pub has_magic : ByteOrder → List ℕ → Bool
-has_magic order header = number_32 order 0 header == 0xA1B2C3D4 || number_32 order 0 header == 0xA1B23C4D
+has_magic order header = number_32 order magic_place header == 0xA1B2C3D4 || number_32 order magic_place header == 0xA1B23C4D
 
 unfoldable pub order_in : List ℕ → Option ByteOrder
 order_in header = if has_magic Big header then Some Big else (if has_magic Little header then Some Little else None)
 
 unfoldable pub is_version_2_4 : ByteOrder → List ℕ → Bool
-is_version_2_4 order header = number_16 order 4 header == 2 && number_16 order 6 header == 4
+is_version_2_4 order header = number_16 order major_version_place header == 2 && number_16 order minor_version_place header == 4
 
 unfoldable pub is_ethernet : ByteOrder → List ℕ → Bool
-is_ethernet order header = number_32 order 20 header == 1
+is_ethernet order header = number_32 order link_type_place header == 1
 
 abbrev pub header_by : Option ByteOrder → List ℕ → Result ByteOrder CapFault
 header_by None header = Err faults.Magic
@@ -65,27 +71,36 @@ header_by (Some order) header =
 unfoldable pub header_of : List ℕ → Result ByteOrder CapFault
 header_of header = header_by (order_in header) header
 
--- The head of a packet has 16 octets: its seconds, a fraction, how many octets were captured, and how many there were.
+-- The head of a packet has 16 octets (section 5): its seconds, a fraction, how many octets were captured, and how many there were.
+-- Here the places of those that are read:
+abbrev pub seconds_place : ℕ
+seconds_place = 0
+
+abbrev pub captured_len_place : ℕ
+captured_len_place = 8
+
+abbrev pub head_len : ℕ
+head_len = 16
 
 unfoldable pub seconds_of : ByteOrder → List ℕ → ℕ
-seconds_of order head = number_32 order 0 head
+seconds_of order head = number_32 order seconds_place head
 
 unfoldable pub captured_len : ByteOrder → List ℕ → ℕ
-captured_len order head = number_32 order 8 head
+captured_len order head = number_32 order captured_len_place head
 
 -- The packet whose head begins these octets, behind so many packets, and those behind it. At most 100,000,000 packets are read,
 -- each of at most 262,144 octets.
 abbrev pub at_head : ByteOrder → ℕ → ℕ → List ℕ → Packets → Packets
 at_head order count place octets later =
     if nat_le 100000000 count then broken faults.Many
-    else (if nat_lt (length octets) 16 then broken (faults.Cut place)
-    else (if nat_lt 262144 (captured_len order (take 16 octets)) then broken (faults.Long place)
-    else (if nat_lt (length octets) (16 + captured_len order (take 16 octets)) then broken (faults.Cut place)
+    else (if nat_lt (length octets) head_len then broken (faults.Cut place)
+    else (if nat_lt 262144 (captured_len order (take head_len octets)) then broken (faults.Long place)
+    else (if nat_lt (length octets) (head_len + captured_len order (take head_len octets)) then broken (faults.Cut place)
     else with_packet (record {
       number = count + 1;
       place = place;
-      seconds = seconds_of order (take 16 octets);
-      octets = take (captured_len order (take 16 octets)) (drop 16 octets);
+      seconds = seconds_of order (take head_len octets);
+      octets = take (captured_len order (take head_len octets)) (drop head_len octets);
     }) later)))
 
 -- The packets in the octets from a place on, behind so many packets, where the first so many octets are the rest of a packet.
@@ -94,14 +109,14 @@ packets_from order skipped count place [] = whole
 packets_from order (suc skipped) count place (octet ∷ behind) = packets_from order skipped count (place + 1) behind
 packets_from order zero count place (octet ∷ behind) =
     at_head order count place (octet ∷ behind)
-    (packets_from order (15 + captured_len order (take 16 (octet ∷ behind))) (count + 1) (place + 1) behind)
+    (packets_from order (15 + captured_len order (take head_len (octet ∷ behind))) (count + 1) (place + 1) behind)
 
 abbrev pub behind_header : Result ByteOrder CapFault → List ℕ → Packets
 behind_header (Err fault) octets = broken fault
-behind_header (Ok order) octets = packets_from order 0 0 24 octets
+behind_header (Ok order) octets = packets_from order 0 0 header_len octets
 
 -- the packets of a capture
 unfoldable pub packets_of : List ℕ → Packets
 packets_of octets =
-    if nat_lt (length octets) 24 then broken (faults.Cut 0)
-    else behind_header (header_of (take 24 octets)) (drop 24 octets)
+    if nat_lt (length octets) header_len then broken (faults.Cut 0)
+    else behind_header (header_of (take header_len octets)) (drop header_len octets)

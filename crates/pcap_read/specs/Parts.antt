@@ -1,6 +1,6 @@
 -- The packets that are to come, at each place where a reader can stand.
 use Rattle.std.specs.Prelude.{ℕ, ◌+◌, ◌-◌, ◌==◌, nat_lt, nat_le, Bool, true, false, not, ◌||◌, if◌then◌else◌, List, length, take, drop, Option, Some, None}
-use Rattle.pcap_read.specs.declared.byte_order.ByteOrder.{ByteOrder}
+use Rattle.octet_fields.specs.declared.number.ByteOrder.{ByteOrder}
 use Rattle.pcap_read.specs.declared.fault.CapFault.TheVariants as faults
 use Rattle.pcap_read.specs.declared.head.Head.{Head}
 use Rattle.pcap_read.specs.declared.stage.Stage.{Stage}
@@ -9,7 +9,7 @@ use Rattle.pcap_read.specs.declared.stage.Cursor.{Cursor}
 use Rattle.pcap_read.specs.declared.stage.Progress.{Progress}
 use Rattle.pcap_read.specs.declared.stage.Current.{Current}
 use Rattle.pcap_read.specs.declared.stage.Next.{Next}
-use Rattle.pcap_read.specs.Packets.{Packet, Packets, broken, with_packet, captured_len, packets_from, packets_of}
+use Rattle.pcap_read.specs.Packets.{Packet, Packets, broken, with_packet, head_len, captured_len, packets_from, packets_of}
 
 -- behind the head of a packet: its octets, and the packets that come then
 unfoldable pub body_from : ByteOrder → ℕ → ℕ → ℕ → ℕ → List ℕ → Packets
@@ -75,8 +75,8 @@ most_to_come progress = most_at progress.stage progress.count
 unfoldable pub is_decided : ByteOrder → ℕ → List ℕ → Bool
 is_decided order count held =
     if nat_le 100000000 count then not (length held == 0)
-    else (if nat_lt (length held) 16 then false
-    else (nat_lt 262144 (captured_len order (take 16 held)) || nat_le (captured_len order (take 16 held)) (length (drop 16 held))))
+    else (if nat_lt (length held) head_len then false
+    else (nat_lt 262144 (captured_len order (take head_len held)) || nat_le (captured_len order (take head_len held)) (length (drop head_len held))))
 
 -- whether the next packet, or the end of the packets, is known without a read
 abbrev pub is_ready_at : Stage → ℕ → List ℕ → Bool

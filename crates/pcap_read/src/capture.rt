@@ -36,6 +36,11 @@ impl<S> Model for Capture<S> {
 }
 
 impl<S: Door> Capture<S> {
+    ghost use Rattle.std.specs.Borrow.{sem};
+    ghost use Rattle.std.specs.Io.BufRead.{Rests};
+    ghost use Rattle.pcap_read.specs.Next.{WentOn};
+    ghost use Rattle.pcap_read.specs.contracts.capture.Capture.{the_row};
+
     /// A capture of this source, of which nothing was read. It takes memory for 262,144 octets, and
     /// no other call takes any.
     pub fn new(alloc: Global, source: S) -> Result<Capture<S>, Memory>
@@ -84,8 +89,11 @@ impl<S: Door> Capture<S> {
     }
 
     /// The next packet, or None at the end of the octets between two packets: `advance` and
-    /// `packet` in one call.
+    /// `packet` in one call. Once the packet isn't borrowed any more, the capture stands where
+    /// `advance` leaves it.
     pub fn next(&mut self) -> Result<Option<Captured<'_>>, CapFault>
+        ensures* stands { sem 𝓛 (Rests (the_row S.row) self.entry
+            (WentOn S.tells S.state S.reads S.turns S.writes self.old result)) }
         ensures found { S.tells → IfOk result (λ found. IfSome found (λ packet.
             (later : Packets) × (to_come self.old.1 (S.state self.old.0).left ≡ with_packet (packet_of packet) later))) }
         ensures end { S.tells → IfOk result (λ found. found ≡ None → to_come self.old.1 (S.state self.old.0).left ≡ whole) }

@@ -3,9 +3,13 @@ ghost use Rattle.std.specs.Prelude.{◌≡◌, ◌≤◌, length};
 ghost use Rattle.pcap_read.specs.Packets.{seconds_of, captured_len};
 ghost use Rattle.pcap_read.specs.Parts as spec;
 
-use crate::byte_order::{ByteOrder, number_32};
+use octet_fields::{ByteOrder, number_32};
 
-/// How many octets a head has.
+/// Where the seconds stand in a head (draft-ietf-opsawg-pcap, section 5).
+const SECONDS_PLACE: usize = 0;
+/// Where the captured length stands in a head (section 5).
+const CAPTURED_LEN_PLACE: usize = 8;
+/// How many octets a head has (section 5).
 pub(crate) const HEAD_LEN: usize = 16;
 /// The most octets of a packet.
 pub(crate) const MOST_OCTETS: usize = 262_144;
@@ -27,8 +31,8 @@ pub(crate) fn head_in(order: ByteOrder, head: &[u8]) -> Head
     ensures len { result.len ≡ captured_len order head.now }
 {
     Head {
-        seconds: number_32(order, head, 0),
-        len: number_32(order, head, 8) as usize,
+        seconds: number_32(order, head, SECONDS_PLACE),
+        len: number_32(order, head, CAPTURED_LEN_PLACE) as usize,
     }
 }
 

@@ -3,15 +3,27 @@ ghost use Rattle.std.specs.Prelude.{◌≡◌, ◌≤◌, length, false};
 ghost use Rattle.pcap_read.specs.Fault.{has_failed};
 ghost use Rattle.pcap_read.specs.Packets as spec;
 
-use crate::byte_order::{ByteOrder, number_16, number_32};
 use crate::fault::CapFault;
+use octet_fields::{ByteOrder, number_16, number_32};
 
-/// How many octets the header has.
+/// Where the magic number stands in the header (draft-ietf-opsawg-pcap, section 4).
+const MAGIC_PLACE: usize = 0;
+/// Where the major version stands in the header (section 4).
+const MAJOR_VERSION_PLACE: usize = 4;
+/// Where the minor version stands in the header (section 4).
+const MINOR_VERSION_PLACE: usize = 6;
+/// Where the link type stands in the header (section 4).
+const LINK_TYPE_PLACE: usize = 20;
+/// How many octets the header has (section 4).
 pub(crate) const HEADER_LEN: usize = 24;
 /// The magic number of captures whose fractions of seconds are microseconds.
 const MICROSECONDS: u32 = 0xA1B2_C3D4;
 /// The magic number of captures whose fractions of seconds are nanoseconds.
 const NANOSECONDS: u32 = 0xA1B2_3C4D;
+/// The major version of the format.
+const MAJOR_VERSION: u16 = 2;
+/// The minor version of the format.
+const MINOR_VERSION: u16 = 4;
 /// The link type of Ethernet.
 const ETHERNET: u32 = 1;
 
@@ -21,7 +33,7 @@ fn has_magic(order: ByteOrder, header: &[u8]) -> bool
     requires { 24 ≤ length header.now }
     ensures { result ≡ spec.has_magic order header.now }
 {
-    let magic = number_32(order, header, 0);
+    let magic = number_32(order, header, MAGIC_PLACE);
     magic == MICROSECONDS || magic == NANOSECONDS
 }
 
@@ -46,7 +58,8 @@ fn is_version_2_4(order: ByteOrder, header: &[u8]) -> bool
     requires { 24 ≤ length header.now }
     ensures { result ≡ spec.is_version_2_4 order header.now }
 {
-    number_16(order, header, 4) == 2 && number_16(order, header, 6) == 4
+    number_16(order, header, MAJOR_VERSION_PLACE) == MAJOR_VERSION
+        && number_16(order, header, MINOR_VERSION_PLACE) == MINOR_VERSION
 }
 
 /// Whether a header has the link type Ethernet.
@@ -55,7 +68,7 @@ fn is_ethernet(order: ByteOrder, header: &[u8]) -> bool
     requires { 24 ≤ length header.now }
     ensures { result ≡ spec.is_ethernet order header.now }
 {
-    number_32(order, header, 20) == ETHERNET
+    number_32(order, header, LINK_TYPE_PLACE) == ETHERNET
 }
 
 /// The order of the octets of all numbers, or what is wrong with the header.

@@ -3,7 +3,6 @@
 #![tactic(auto)]
 
 mod buffer;
-mod byte_order;
 pub mod capture;
 pub mod fault;
 mod head;

@@ -11,12 +11,12 @@ ghost use Rattle.pcap_read.specs.Packets.{whole};
 ghost use Rattle.pcap_read.specs.Reading.{Follows, EndsIn, IsWithin, behind, fails};
 
 use crate::buffer::{Buffer, fetch};
-use crate::byte_order::ByteOrder;
 use crate::fault::CapFault;
 use crate::head::{HEAD_LEN, Head, MOST_OCTETS, MOST_PACKETS, head_in};
 use crate::header::{HEADER_LEN, header_of};
 use crate::stage::{Current, Cursor, Next, Progress, Stage};
 use mud_world::Door;
+use octet_fields::ByteOrder;
 
 /// Reads the header.
 fn read_header<D: Door>(source: &mut D, buffer: &mut Buffer) -> Result<ByteOrder, CapFault>

@@ -1,6 +1,6 @@
 //! Where a reader stands in a capture.
-use crate::byte_order::ByteOrder;
 use crate::fault::CapFault;
+use octet_fields::ByteOrder;
 
 /// How far a capture was read.
 #[derive(Clone, Copy, Debug)]

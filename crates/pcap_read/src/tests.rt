@@ -66,6 +66,51 @@ fn reads_in_any_pieces(rt: HostRuntime) -> Result<(), Fail> {
 }
 
 #[test]
+fn hands_out_the_next_packet(rt: HostRuntime) -> Result<(), Fail> {
+    let mut door = door(rt.alloc(), 7)?;
+    let mut capture = Capture::new(rt.alloc(), &mut door)?;
+    for (number, place) in [(1, 24), (2, 46)] {
+        let found = capture.next()?;
+        assert!(rt; found.is_some());
+        if let Some(packet) = found {
+            assert_eq!(rt; packet.number, number);
+            assert_eq!(rt; packet.at, place);
+            assert_eq!(rt; packet.seconds, 1059);
+            assert_eq!(rt; packet.octets, OCTETS.as_slice());
+        }
+    }
+    assert_eq!(rt; capture.next().err(), Some(CapFault::Cut(68)));
+    assert_eq!(rt; capture.next().err(), Some(CapFault::Cut(68)));
+    Ok(())
+}
+
+#[test]
+fn has_no_packet_behind_the_last(rt: HostRuntime) -> Result<(), Fail> {
+    let header = Bytes::new(rt.alloc(), &HEADER)?;
+    let pieces = Listed::from_vec(vec![in rt.alloc(); header]?);
+    let inputs = Listed::from_vec(vec![in rt.alloc(); pieces]?);
+    let mut door = MemoryDoor::new(rt.alloc(), inputs, 4)?;
+    let mut capture = Capture::new(rt.alloc(), &mut door)?;
+    assert!(rt; capture.next()?.is_none());
+    assert!(rt; capture.next()?.is_none());
+    Ok(())
+}
+
+#[test]
+fn answers_a_failed_read_next(rt: HostRuntime) -> Result<(), Fail> {
+    let mut door = door(rt.alloc(), 50)?;
+    door.failing_read.push(2)?;
+    let mut capture = Capture::new(rt.alloc(), &mut door)?;
+    assert!(rt; capture.next()?.is_some());
+    assert_eq!(rt; capture.next().err(), Some(CapFault::ReadFault));
+    assert_eq!(rt; capture.next().err(), Some(CapFault::ReadFault));
+    drop(capture);
+    assert_eq!(rt; door.read_count, 1);
+    assert_eq!(rt; door.calls.read, 2);
+    Ok(())
+}
+
+#[test]
 fn hands_out_what_one_read_gave(rt: HostRuntime) -> Result<(), Fail> {
     let mut door = door(rt.alloc(), 100)?;
     let mut capture = Capture::new(rt.alloc(), &mut door)?;

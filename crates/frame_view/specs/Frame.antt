@@ -17,9 +17,13 @@ type_len = 2
 abbrev pub tag_len : ℕ
 tag_len = 4
 
+-- the type that stands first
+abbrev pub first_type : List ℕ → ℕ
+first_type typed = big_16 0 typed
+
 -- the type of a tag stands first, of a customer's or of a service provider's (IEEE 802.1Q)
 unfoldable pub is_tag : List ℕ → Bool
-is_tag typed = nat_le type_len (length typed) && (big_16 0 typed == 0x8100 || big_16 0 typed == 0x88A8)
+is_tag typed = nat_le type_len (length typed) && (first_type typed == 0x8100 || first_type typed == 0x88A8)
 
 -- what follows a tag: the type that it stands in front of comes first
 unfoldable pub past_tag : List ℕ → List ℕ
@@ -29,8 +33,8 @@ past_tag typed = if is_tag typed then (drop tag_len typed) else typed
 -- link up, and for another type.
 unfoldable pub by_type : List ℕ → Result (Option Fields) Part
 by_type typed =
-    if big_16 0 typed == 0x0800 then (ipv4.packet_of (drop type_len typed))
-    else (if big_16 0 typed == 0x86DD then (ipv6.packet_of (drop type_len typed))
+    if first_type typed == 0x0800 then (ipv4.packet_of (drop type_len typed))
+    else (if first_type typed == 0x86DD then (ipv6.packet_of (drop type_len typed))
     else (Ok None))
 
 -- What the frame carries, from its type on. There are two tags at most, with a type behind them.

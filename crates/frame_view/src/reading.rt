@@ -21,6 +21,14 @@ const IPV4: u16 = 0x0800;
 /// The type of IPv6.
 const IPV6: u16 = 0x86DD;
 
+/// The type that stands first.
+fn first_type(typed: &[u8]) -> u16
+    requires { 2 ≤ length typed.now }
+    ensures { result ≡ spec.first_type typed.now }
+{
+    big_16(typed, 0)
+}
+
 /// Whether a tag's type stands first.
 #[tactic(auto, unfolding(crate::specs::Frame::is_tag))]
 fn is_tag(typed: &[u8]) -> bool
@@ -29,7 +37,7 @@ fn is_tag(typed: &[u8]) -> bool
     if typed.len() < TYPE_LEN {
         return false;
     }
-    let kind = big_16(typed, 0);
+    let kind = first_type(typed);
     kind == CUSTOMER_TAG || kind == SERVICE_TAG
 }
 
@@ -51,7 +59,7 @@ fn by_type(typed: &[u8]) -> Result<Option<Fields>, Part>
     requires { 2 ≤ length typed.now }
     ensures { result ≡ spec.by_type typed.now }
 {
-    let kind = big_16(typed, 0);
+    let kind = first_type(typed);
     let (_, packet) = typed.split_at(TYPE_LEN);
     if kind == IPV4 {
         return ipv4::packet_of(packet);

@@ -1,8 +1,8 @@
 -- Who began a connection, by what was forwarded before.
-use Rattle.std.proofs.Common.{◌≡◌, ℕ, true, false, List, [], ◌∷◌, Option, Some, None, refl, inl, inr}
+use Rattle.std.proofs.Common.{◌≡◌, ℕ, true, false, List, [], ◌∷◌, Option, Some, None, if◌then◌else◌, refl, inl, inr}
 use Rattle.mud_base.specs.declared.packet.Fields.{Fields}
 use Rattle.mud_base.specs.declared.packet.Direction.TheVariants.{From, To}
-use Rattle.mud_tables.specs.History.{Endpoint, Segment, Flow, Flows, begun_of, with_packet, kept_between, begun_between, last_moment, MayKeep, StandsFor}
+use Rattle.mud_tables.specs.History.{Endpoint, Segment, Begun, Flows, begun_of, is_between, with_packet, begun_between, last_moment, MayKeep, StandsFor}
 use Rattle.mud_tables.proofs.Literals.{flows_compute, tcp, call, answer, back_call, bulb_addr, test_addr}
 
 -- the call was forwarded at 1001
@@ -72,20 +72,36 @@ opened_again = refl
 -- ---- Tables of connections
 
 abbrev no_flows : Flows
-no_flows = record { last = None; flows = [] }
+no_flows = record { last = None; kept = λ a b. None }
 
 -- the new table stands for the empty history
 nothing_noted : StandsFor [] no_flows
 unfolding flows_compute
 nothing_noted = record { forward = refl; last = refl; kept = λ a b. refl }
 
+abbrev the_call : Segment
+the_call = record { source = (bulb_addr, 50000); destination = (test_addr, 443); flags = 2; at = 1001 }
+
+abbrev kept_of_call : Endpoint → Endpoint → Option Begun
+kept_of_call a b = if is_between a b the_call then Some ((bulb_addr, 50000), 1001) else None
+
 abbrev one_flow : Flows
-one_flow = record { last = Some 1001; flows = record { one = (test_addr, 443); other = (bulb_addr, 50000); began = (bulb_addr, 50000); at = 1001 } ∷ [] }
+one_flow = record { last = Some 1001; kept = kept_of_call }
 
 -- it keeps who began, with the moment of the last packet
-call_noted : MayKeep (last_moment called) (begun_between called (bulb_addr, 50000) (test_addr, 443)) (kept_between (bulb_addr, 50000) (test_addr, 443) one_flow)
+call_noted : MayKeep (last_moment called) (begun_between called (bulb_addr, 50000) (test_addr, 443)) (one_flow.kept (bulb_addr, 50000) (test_addr, 443))
 unfolding flows_compute
 call_noted = inl refl
+
+-- of the ends in either order
+turned_noted : MayKeep (last_moment called) (begun_between called (test_addr, 443) (bulb_addr, 50000)) (one_flow.kept (test_addr, 443) (bulb_addr, 50000))
+unfolding flows_compute
+turned_noted = inl refl
+
+-- and of no other pair of ends
+others_noted : MayKeep (last_moment called) (begun_between called (bulb_addr, 50001) (test_addr, 443)) (one_flow.kept (bulb_addr, 50001) (test_addr, 443))
+unfolding flows_compute
+others_noted = refl
 
 -- which is what the history says
 call_expected : begun_between called (bulb_addr, 50000) (test_addr, 443) ≡ Some ((bulb_addr, 50000), 1001)
@@ -96,7 +112,7 @@ call_expected = refl
 abbrev later : List Segment
 later = with_packet called (tcp bulb_addr 50001 test_addr 443 2) 8442
 
-call_forgotten : MayKeep (last_moment later) (begun_between later (bulb_addr, 50000) (test_addr, 443)) (kept_between (bulb_addr, 50000) (test_addr, 443) no_flows)
+call_forgotten : MayKeep (last_moment later) (begun_between later (bulb_addr, 50000) (test_addr, 443)) (no_flows.kept (bulb_addr, 50000) (test_addr, 443))
 unfolding flows_compute
 call_forgotten = inr (refl, refl)
 

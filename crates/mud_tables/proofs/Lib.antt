@@ -14,3 +14,5 @@ pub mod LeaseLaws
 pub mod SoundThings
 pub mod ReadThings
 pub mod ToldThings
+pub mod SoundLaws
+pub mod ReadLaws

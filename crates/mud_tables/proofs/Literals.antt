@@ -14,7 +14,7 @@ use Rattle.mud_tables.specs.Things.{mac_of, thing_at, set_thing, without_thing, 
 use Rattle.mud_tables.specs.ThingSteps.{is_pending, url_cases, url_step, move_cases, move_step, remove_cases, remove_step, with_hold, hold_cases, hold_step, release_cases, release_step, end_after, kept_lease, new_lease, known_lease, stranger_lease, lease_cases, lease_step, end_step}
 use Rattle.mud_tables.specs.Binds.{key_of_class, same_class, class_key, class_at, set_class, without_class, class_row, has_addr, with_addr, without_addr, same_prefix, with_prefix, prefixes_in_order, same_prefixes, name_of, name_at, set_name, without_name, name_row, has_live_row}
 use Rattle.mud_tables.specs.BindSteps.{bind_cases, bind_step, classes_without, unbind_cases, unbind_step, locals_cases, locals_step, addrs_of, least_dead, replacing, new_pair, kept_pair, observe_cases, observe_row, observe_step}
-use Rattle.mud_tables.specs.History.{segment_in, segment_of, same_end, is_between, between, opens, resets, since_opened, is_unbroken, moment_of, beginner_since, beginner_of, beginner, own_end, side_of, begun_in, begun_of, with_segment, with_packet, is_flow_between, begun_by, kept_between, last_moment, is_forward, with_moment, begun_at, begun_between, is_past}
+use Rattle.mud_tables.specs.History.{segment_in, segment_of, same_end, is_between, between, opens, resets, since_opened, is_unbroken, moment_of, beginner_since, beginner_of, beginner, own_end, side_of, begun_in, begun_of, with_segment, with_packet, last_moment, is_forward, with_moment, begun_at, begun_between, is_past}
 
 -- the lists of addresses and ends
 unfoldable pub ends_compute : Unit {0}
@@ -33,7 +33,7 @@ binds_compute = tt
 
 -- who began a connection
 unfoldable pub flows_compute : Unit {0}
-unfolding same_addr segment_in segment_of same_end is_between between opens resets since_opened is_unbroken moment_of beginner_since beginner_of beginner own_end side_of begun_in begun_of with_segment with_packet is_flow_between begun_by kept_between last_moment is_forward with_moment begun_at begun_between is_past
+unfolding same_addr segment_in segment_of same_end is_between between opens resets since_opened is_unbroken moment_of beginner_since beginner_of beginner own_end side_of begun_in begun_of with_segment with_packet last_moment is_forward with_moment begun_at begun_between is_past
 flows_compute = tt
 
 -- ---- Hardware addresses 02:00:00:00:00:01, :02 and :09

@@ -63,6 +63,9 @@ are_addrs addrs = places_ascend addr_place addrs
 
 -- ---- Local networks: prefixes in order, each once
 
+abbrev pub prefix_with : Addr → ℕ → Prefix
+prefix_with addr len = record { addr = addr; len = len }
+
 unfoldable pub same_prefix : Prefix → Prefix → Bool
 same_prefix p q = same_addr p.addr q.addr && p.len == q.len
 

@@ -1,6 +1,6 @@
 -- Who began a connection (RFC 8520, 4.8), by the list of the TCP packets that had a ruling and were forwarded, oldest
 -- first.
-use Rattle.std.specs.Prelude.{◌≡◌, ℕ, ◌-◌, ◌<◌, ◌&&◌, ◌||◌, ◌==◌, Bool, true, false, nat_le, nat_lt, bit_and, IsTrue, List, [], ◌∷◌, ◌++◌, map, filter, find, option_map, Option, Some, None, ◌⊎◌, if◌then◌else◌}
+use Rattle.std.specs.Prelude.{◌≡◌, ℕ, ◌-◌, ◌<◌, ◌&&◌, ◌||◌, ◌==◌, Bool, true, false, nat_le, nat_lt, bit_and, IsTrue, List, [], ◌∷◌, ◌++◌, map, filter, option_map, Option, Some, None, ◌⊎◌, if◌then◌else◌}
 use Rattle.std.specs.List.{list_any}
 use Rattle.mud_base.specs.Addresses.{same_addr}
 use Rattle.mud_base.specs.declared.addr.Addr.{Addr}
@@ -9,17 +9,12 @@ use Rattle.mud_base.specs.declared.packet.Transport.{Transport}
 use Rattle.mud_base.specs.declared.packet.Transport.TheVariants as packet
 use Rattle.mud_base.specs.declared.packet.Direction.{Direction}
 use Rattle.mud_base.specs.declared.packet.Direction.TheVariants.{From, To}
+pub use Rattle.mud_tables.specs.declared.segment.Segment.{Segment}
+use Rattle.mud_tables.specs.Limits.{most_pause}
 
 -- an end of a connection: an address and a port
 abbrev pub Endpoint : Type 0
 Endpoint = Addr × ℕ
-
--- a TCP packet: its two ends, its flags and its moment
-pub record Segment : Type 0 where
-  pub source : Endpoint
-  pub destination : Endpoint
-  pub flags : ℕ
-  pub at : ℕ
 
 unfoldable pub segment_in : Addr → Addr → ℕ → Transport → Option Segment
 segment_in src dst now (packet.Tcp from to flags) = Some (record { source = (src, from); destination = (dst, to); flags = flags; at = now })
@@ -58,10 +53,10 @@ unfoldable pub since_opened : List Segment → List Segment
 since_opened [] = []
 since_opened (p ∷ ps) = if list_any opens ps then since_opened ps else (if opens p then p ∷ ps else [])
 
--- no two neighbours of these moments are more than 7,440 seconds apart (RFC 5382, REQ-5: 2 hours and 4 minutes)
+-- no two neighbours of these moments are further apart than a connection may be silent
 unfoldable pub is_unbroken : ℕ → List ℕ → Bool
 is_unbroken m [] = true
-is_unbroken m (n ∷ ns) = nat_le (n - m) 7440 && is_unbroken n ns
+is_unbroken m (n ∷ ns) = nat_le (n - m) most_pause && is_unbroken n ns
 
 unfoldable pub moment_of : Segment → ℕ
 moment_of p = p.at
@@ -110,31 +105,15 @@ with_packet history fields now = with_segment history (segment_of fields now)
 
 -- ---- A table of connections, and when it stands for a history
 
--- what is kept of the packets between two ends: who began them, and the moment of the last
-pub record Flow : Type 0 where
-  pub one : Endpoint
-  pub other : Endpoint
-  pub began : Endpoint
-  pub at : ℕ
-
--- the moment of the last packet that was noted, and the connections
-pub record Flows : Type 0 where
-  pub last : Option ℕ
-  pub flows : List Flow
-
-unfoldable pub is_flow_between : Endpoint → Endpoint → Flow → Bool
-is_flow_between a b flow = (same_end flow.one a && same_end flow.other b) || (same_end flow.one b && same_end flow.other a)
-
--- a beginner, and the moment of the last packet
+-- who began a connection, and the moment of its last packet
 abbrev pub Begun : Type 0
 Begun = Endpoint × ℕ
 
-unfoldable pub begun_by : Flow → Begun
-begun_by flow = (flow.began, flow.at)
-
--- what is kept for two ends
-unfoldable pub kept_between : Endpoint → Endpoint → Flows → Option Begun
-kept_between a b table = option_map begun_by (find (is_flow_between a b) table.flows)
+-- What a table means: the moment of the last packet that was noted; and of each pair of ends who began what is between
+-- them and the moment of the last packet, or nothing.
+pub record Flows : Type 0 where
+  pub last : Option ℕ
+  pub kept : Endpoint → Endpoint → Option Begun
 
 -- the moment of the last packet
 unfoldable pub last_moment : List Segment → Option ℕ
@@ -159,10 +138,10 @@ begun_at history a b (Some m) = option_map (with_moment m) (beginner_of history 
 unfoldable pub begun_between : List Segment → Endpoint → Endpoint → Option Begun
 begun_between history a b = begun_at history a b (last_moment (between a b history))
 
--- the moment is more than 7,440 seconds before the last one
+-- the moment is further before the last one than a connection may be silent
 unfoldable pub is_past : Option ℕ → ℕ → Bool
 is_past None m = false
-is_past (Some last) m = nat_lt 7440 (last - m)
+is_past (Some last) m = nat_lt most_pause (last - m)
 
 -- What the history says is kept; it may be forgotten where it is past. Where the history says nothing, nothing is kept.
 abbrev pub MayKeep : Option ℕ → Option Begun → Option Begun → Type 0
@@ -170,7 +149,7 @@ MayKeep last None kept = kept ≡ None
 MayKeep last (Some begun) kept = (kept ≡ Some begun) ⊎ ((kept ≡ None) × IsTrue (is_past last begun.1))
 
 -- the table stands for the history
-pub record StandsFor (history : List Segment) (table : Flows) : Type 0 where
+pub record StandsFor (history : List Segment) (flows : Flows) : Type 0 where
   pub forward : IsTrue (is_forward history)
-  pub last : table.last ≡ last_moment history
-  pub kept : (a b : Endpoint) → MayKeep (last_moment history) (begun_between history a b) (kept_between a b table)
+  pub last : flows.last ≡ last_moment history
+  pub kept : (a b : Endpoint) → MayKeep (last_moment history) (begun_between history a b) (flows.kept a b)

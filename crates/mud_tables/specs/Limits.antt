@@ -21,3 +21,7 @@ most_names = 4096
 
 abbrev pub most_name_addresses : ℕ
 most_name_addresses = 64
+
+-- the longest silence between two packets of a connection, in seconds: 2 hours and 4 minutes (RFC 5382, REQ-5)
+abbrev pub most_pause : ℕ
+most_pause = 7440

@@ -1,7 +1,7 @@
 //! Classes and names, and the addresses that are bound to them.
-ghost use Rattle.std.specs.Prelude.{◌≡◌};
+ghost use Rattle.std.specs.Prelude.{◌≡◌, IfOk};
 
-use mud_base::{Addr, Bytes, End, Listed};
+use mud_base::{Addr, Bytes, End, Listed, Memory};
 use mud_url::MudUrl;
 use sorted_rows::{KeyOf, Placed};
 use std::cmp::Ordering;
@@ -38,6 +38,16 @@ pub struct NameRow {
 impl Class {
     ghost use Rattle.sorted_rows.specs.Placed.{place_cmp};
     ghost use Rattle.mud_tables.specs.Binds.{key_of_class};
+
+    /// An equal class.
+    pub fn copy(&self) -> Result<Class, Memory>
+        ensures { IfOk result (λ class. class ≡ self.now) }
+    {
+        match self {
+            Class::Uri(uri) => Ok(Class::Uri(uri.copy()?)),
+            Class::Mine(url) => Ok(Class::Mine(*url)),
+        }
+    }
 
     /// How it stands to another class: those by URI before those by MUD URL, and then by text.
     #[tactic(auto, unfolding(crate::specs::Binds::key_of_class))]

@@ -4,18 +4,26 @@
 //! and their meaning is in the definitions of `specs`.
 #![tactic(auto)]
 
+pub mod addrs;
 pub mod bind;
 pub mod bind_fault;
+pub mod ends;
+pub mod fields;
 pub mod laws;
 pub mod limits;
+pub mod segment;
+pub mod sound;
 pub mod thing;
 pub mod thing_fault;
 pub mod thing_laws;
 
 pub use bind::{Class, ClassRow, NameKey, NameRow};
 pub use bind_fault::BindFault;
+pub use segment::{Endpoint, Segment};
 pub use thing::Thing;
 pub use thing_fault::ThingFault;
 
+#[cfg(test)]
+mod row_tests;
 #[cfg(test)]
 mod tests;

@@ -20,3 +20,7 @@ pub const MOST_NAMES: usize = 4096;
 
 /// The most addresses of a name.
 pub const MOST_NAME_ADDRESSES: usize = 64;
+
+/// The longest silence between two packets of a connection, in seconds: 2 hours and 4 minutes
+/// (RFC 5382, REQ-5).
+pub const MOST_PAUSE: u64 = 7440;

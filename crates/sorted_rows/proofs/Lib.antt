@@ -10,3 +10,4 @@ mod ProbeLaws
 pub mod RowLaws
 pub mod RowSets
 mod SearchLaws
+mod IndexAmong

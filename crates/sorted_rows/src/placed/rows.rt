@@ -304,7 +304,7 @@ fn follows_all<R: Placed>(rows: &[R], row: &R) -> bool
 }
 
 /// Puts a row at the index that was found for its place. There is room for it.
-fn put_row<R: Placed + Drop>(rows: &mut Vec<R>, found: Result<usize, usize>, row: R)
+pub(super) fn put_row<R: Placed + Drop>(rows: &mut Vec<R>, found: Result<usize, usize>, row: R)
     requires found { index_in R.place (R.place row) rows.old.items ≡ found }
     requires room { vec_len rows.old < vec_capacity rows.old }
     ensures items { rows.new.items ≡ set_row R.place row rows.old.items }

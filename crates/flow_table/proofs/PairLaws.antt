@@ -1,0 +1,173 @@
+-- Two ends have one place, in whichever direction a packet goes between them.
+use Rattle.std.proofs.Common.{◌≡◌, ℕ, Bool, true, false, ◌&&◌, ◌||◌, ◌==◌, ◌⊎◌, inl, inr, refl, sym, ap, ◌∙◌, subst, eq-eqb, rules}
+use Rattle.std.specs.Ordering.{nat_cmp, ordering_then, ordering_reverse, match_ordering, is_eq}
+use Rattle.std.specs.BTreeMap.{is_at}
+use Rattle.std.specs.declared.cmp.Ordering.{Ordering}
+use Rattle.std.specs.declared.cmp.Ordering.TheVariants.{Less, Equal, Greater}
+use Rattle.std.proofs.lemmas.Cmp.{nat_cmp_total, ranked, tied_itself}
+use Rattle.mud_base.specs.Addresses.{addr_cmp, same_addr}
+use Rattle.mud_base.specs.declared.addr.Addr.{Addr}
+use Rattle.mud_base.specs.declared.addr.Addr.TheVariants.{V4, V6}
+use Rattle.mud_base.specs.contracts.addr.AddrOrd.TheImpl as addr_ord
+use Rattle.mud_base.proofs.AddrOrder.{addr_cmp_total, same_from_tie}
+use Rattle.mud_tables.specs.History.{Endpoint, same_end, is_between}
+use Rattle.mud_tables.specs.declared.segment.Segment.{Segment}
+use Rattle.flow_table.specs.Pairs.{Pair, end_cmp, pair_cmp, pair_of}
+
+derived : (a b : Addr) → (addr_ord.ghosts).cmp a b ≡ addr_cmp a b
+unfolding addr_cmp
+derived (V4 n) (V4 k) = refl
+derived (V4 n) (V6 k) = refl
+derived (V6 n) (V4 k) = refl
+derived (V6 n) (V6 k) = refl
+
+end_by : (a b : Endpoint) → end_cmp a b ≡ ordering_then (addr_cmp a.0 b.0) (nat_cmp a.1 b.1)
+end_by a b = ap (λ o. ordering_then o (nat_cmp a.1 b.1)) (derived a.0 b.0)
+
+then_equal : (o r : Ordering) → ordering_then o r ≡ Equal → (o ≡ Equal) × (r ≡ Equal)
+then_equal Less r e = cc
+then_equal Equal r e = (refl, e)
+then_equal Greater r e = cc
+
+then_reverse : (o r p q : Ordering) → o ≡ ordering_reverse p → r ≡ ordering_reverse q → ordering_then o r ≡ ordering_reverse (ordering_then p q)
+then_reverse o r Less q e f = rw e refl
+then_reverse o r Equal q e f = rw (e, f) refl
+then_reverse o r Greater q e f = rw e refl
+
+both_parts : {A B : Type 0} (a b : A × B) → a.0 ≡ b.0 → a.1 ≡ b.1 → a ≡ b
+both_parts a b e f = λ i. (e i, f i)
+
+-- two ends as they stand
+abbrev in_order : Endpoint → Endpoint → Pair
+in_order a b = (a, b)
+
+end_tie : (a b : Endpoint) → end_cmp a b ≡ Equal → a ≡ b
+end_tie a b e =
+    let both = then_equal (addr_cmp a.0 b.0) (nat_cmp a.1 b.1) (sym (end_by a b) ∙ e) in
+    both_parts a b (same_from_tie a.0 b.0 both.0) (ranked a.1 b.1 Equal (sym both.1))
+
+end_itself : (a : Endpoint) → end_cmp a a ≡ Equal
+end_itself a = end_by a a ∙ ap (λ o. ordering_then o (nat_cmp a.1 a.1)) (tied_itself addr_cmp_total a.0) ∙ tied_itself nat_cmp_total a.1
+
+end_reverse : (a b : Endpoint) → end_cmp a b ≡ ordering_reverse (end_cmp b a)
+end_reverse a b =
+    end_by a b ∙ then_reverse (addr_cmp a.0 b.0) (nat_cmp a.1 b.1) (addr_cmp b.0 a.0) (nat_cmp b.1 a.1) (addr_cmp_total.antisymm a.0 b.0) (nat_cmp_total.antisymm a.1 b.1) ∙ ap ordering_reverse (sym (end_by b a))
+
+-- ---- Places of two ends
+
+is_equal : (o : Ordering) → is_eq o ≡ true → o ≡ Equal
+is_equal Less e = cc
+is_equal Equal e = refl
+is_equal Greater e = cc
+
+pub at_same : (p q : Pair) → is_at (pair_cmp p) q ≡ true → p ≡ q
+at_same p q e =
+    let both = then_equal (end_cmp p.0 q.0) (end_cmp p.1 q.1) (is_equal (pair_cmp p q) e) in
+    both_parts p q (end_tie p.0 q.0 both.0) (end_tie p.1 q.1 both.1)
+
+pub at_itself : (p : Pair) → is_at (pair_cmp p) p ≡ true
+at_itself p = ap (λ o. is_eq (ordering_then o (end_cmp p.1 p.1))) (end_itself p.0) ∙ ap is_eq (end_itself p.1)
+
+pair_either : (a b : Endpoint) → (pair_of a b ≡ (in_order a b)) ⊎ (pair_of a b ≡ (in_order b a))
+unfolding pair_of
+pair_either a b = by (end_cmp a b)
+  where
+    by : (o : Ordering) → (match_ordering o (in_order a b) (in_order a b) (in_order b a) ≡ (in_order a b)) ⊎ (match_ordering o (in_order a b) (in_order a b) (in_order b a) ≡ (in_order b a))
+    by Less = inl refl
+    by Equal = inl refl
+    by Greater = inr refl
+
+pub pair_turned : (a b : Endpoint) → pair_of a b ≡ pair_of b a
+unfolding pair_of
+pair_turned a b = by (end_cmp a b) (end_cmp b a) (end_reverse a b) (end_tie a b)
+  where
+    by : (o p : Ordering) → o ≡ ordering_reverse p → (o ≡ Equal → a ≡ b) → match_ordering o (in_order a b) (in_order a b) (in_order b a) ≡ match_ordering p (in_order b a) (in_order b a) (in_order a b)
+    by Less Less e f = cc
+    by Less Equal e f = cc
+    by Less Greater e f = refl
+    by Equal Less e f = cc
+    by Equal Equal e f = let h : a ≡ b = f refl in cc
+    by Equal Greater e f = cc
+    by Greater Less e f = refl
+    by Greater Equal e f = cc
+    by Greater Greater e f = cc
+
+same_addr_is : (a b : Addr) → same_addr a b ≡ true → a ≡ b
+unfolding same_addr
+same_addr_is (V4 n) (V4 k) e = ap V4 (number n k e)
+  where
+    number : (n k : ℕ) → (n == k) ≡ true → n ≡ k
+    number n k e = search rules
+same_addr_is (V4 n) (V6 k) e = cc
+same_addr_is (V6 n) (V4 k) e = cc
+same_addr_is (V6 n) (V6 k) e = ap V6 (number n k e)
+  where
+    number : (n k : ℕ) → (n == k) ≡ true → n ≡ k
+    number n k e = search rules
+
+addr_itself : (a : Addr) → same_addr a a ≡ true
+unfolding same_addr
+addr_itself (V4 n) = eq-eqb n n refl
+addr_itself (V6 n) = eq-eqb n n refl
+
+and_true : (a b : Bool) → (a && b) ≡ true → (a ≡ true) × (b ≡ true)
+and_true true b e = (refl, e)
+and_true false b e = cc
+
+or_true : (a b : Bool) → (a || b) ≡ true → (a ≡ true) ⊎ (b ≡ true)
+or_true true b e = inl refl
+or_true false b e = inr e
+
+same_end_is : (a b : Endpoint) → same_end a b ≡ true → a ≡ b
+unfolding same_end
+same_end_is a b e =
+    let both = and_true (same_addr a.0 b.0) (a.1 == b.1) e in
+    both_parts a b (same_addr_is a.0 b.0 both.0) (number a.1 b.1 both.1)
+  where
+    number : (n k : ℕ) → (n == k) ≡ true → n ≡ k
+    number n k e = search rules
+
+end_same : (a b : Endpoint) → a ≡ b → same_end a b ≡ true
+unfolding same_end
+end_same a b e = ap (λ c. same_addr a.0 c.0 && a.1 == c.1) (sym e) ∙ ap (λ c. c && a.1 == a.1) (addr_itself a.0) ∙ eq-eqb a.1 a.1 refl
+
+both_ways : (s t : Bool) → (s ≡ true → t ≡ true) → (t ≡ true → s ≡ true) → s ≡ t
+both_ways true t f g = sym (f refl)
+both_ways false true f g = g refl
+both_ways false false f g = refl
+
+between_same : (a b : Endpoint) (p : Segment) → is_between a b p ≡ true → pair_of p.source p.destination ≡ pair_of a b
+unfolding is_between
+between_same a b p e = by (or_true (same_end p.source a && same_end p.destination b) (same_end p.source b && same_end p.destination a) e)
+  where
+    by : ((same_end p.source a && same_end p.destination b) ≡ true) ⊎ ((same_end p.source b && same_end p.destination a) ≡ true) → pair_of p.source p.destination ≡ pair_of a b
+    by (inl h) = let both = and_true (same_end p.source a) (same_end p.destination b) h in let s : p.source ≡ a = same_end_is p.source a both.0 in let d : p.destination ≡ b = same_end_is p.destination b both.1 in cc
+    by (inr h) = let both = and_true (same_end p.source b) (same_end p.destination a) h in let s : p.source ≡ b = same_end_is p.source b both.0 in let d : p.destination ≡ a = same_end_is p.destination a both.1 in let t : pair_of b a ≡ pair_of a b = pair_turned b a in cc
+
+straight : (a b : Endpoint) (p : Segment) → p.source ≡ a → p.destination ≡ b → is_between a b p ≡ true
+unfolding is_between
+straight a b p s d = ap (λ c. (c && same_end p.destination b) || (same_end p.source b && same_end p.destination a)) (end_same p.source a s) ∙ ap (λ c. c || (same_end p.source b && same_end p.destination a)) (end_same p.destination b d)
+
+turned : (a b : Endpoint) (p : Segment) → p.source ≡ b → p.destination ≡ a → is_between a b p ≡ true
+unfolding is_between
+turned a b p s d = ap (λ c. (same_end p.source a && same_end p.destination b) || (c && same_end p.destination a)) (end_same p.source b s) ∙ ap (λ c. (same_end p.source a && same_end p.destination b) || c) (end_same p.destination a d) ∙ or_last (same_end p.source a && same_end p.destination b)
+  where
+    or_last : (c : Bool) → (c || true) ≡ true
+    or_last true = refl
+    or_last false = refl
+
+same_between : (a b : Endpoint) (p : Segment) → pair_of p.source p.destination ≡ pair_of a b → is_between a b p ≡ true
+same_between a b p e = by (pair_either p.source p.destination) (pair_either a b)
+  where
+    by : (pair_of p.source p.destination ≡ in_order p.source p.destination) ⊎ (pair_of p.source p.destination ≡ in_order p.destination p.source) → (pair_of a b ≡ in_order a b) ⊎ (pair_of a b ≡ in_order b a) → is_between a b p ≡ true
+    by (inl f) (inl g) = let h : in_order p.source p.destination ≡ in_order a b = sym f ∙ e ∙ g in straight a b p (ap (λ q. q.0) h) (ap (λ q. q.1) h)
+    by (inl f) (inr g) = let h : in_order p.source p.destination ≡ in_order b a = sym f ∙ e ∙ g in turned a b p (ap (λ q. q.0) h) (ap (λ q. q.1) h)
+    by (inr f) (inl g) = let h : in_order p.destination p.source ≡ in_order a b = sym f ∙ e ∙ g in turned a b p (ap (λ q. q.1) h) (ap (λ q. q.0) h)
+    by (inr f) (inr g) = let h : in_order p.destination p.source ≡ in_order b a = sym f ∙ e ∙ g in straight a b p (ap (λ q. q.1) h) (ap (λ q. q.0) h)
+
+-- a packet is between two ends exactly where they have its place
+pub between_at : (a b : Endpoint) (p : Segment) → is_between a b p ≡ is_at (pair_cmp (pair_of p.source p.destination)) (pair_of a b)
+between_at a b p =
+    both_ways (is_between a b p) (is_at (pair_cmp (pair_of p.source p.destination)) (pair_of a b))
+    (λ e. let P : Pair → Type 0 = λ q. is_at (pair_cmp (pair_of p.source p.destination)) q ≡ true in subst P (between_same a b p e) (at_itself (pair_of p.source p.destination)))
+    (λ e. same_between a b p (at_same (pair_of p.source p.destination) (pair_of a b) e))

@@ -1,0 +1,18 @@
+-- Two ends in one order, so that both directions of a connection have one place.
+use Rattle.std.specs.Ordering.{nat_cmp, ordering_then, match_ordering}
+use Rattle.std.specs.declared.cmp.Ordering.{Ordering}
+use Rattle.mud_base.specs.contracts.addr.AddrOrd.TheImpl as addr_ord
+use Rattle.mud_tables.specs.History.{Endpoint}
+
+abbrev pub Pair : Type 0
+Pair = Endpoint × Endpoint
+
+-- by address, and then by port
+abbrev pub end_cmp : Endpoint → Endpoint → Ordering
+end_cmp a b = ordering_then ((addr_ord.ghosts).cmp a.0 b.0) (nat_cmp a.1 b.1)
+
+abbrev pub pair_cmp : Pair → Pair → Ordering
+pair_cmp a b = ordering_then (end_cmp a.0 b.0) (end_cmp a.1 b.1)
+
+unfoldable pub pair_of : Endpoint → Endpoint → Pair
+pair_of a b = match_ordering (end_cmp a b) (a, b) (a, b) (b, a)

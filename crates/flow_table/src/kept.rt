@@ -1,0 +1,46 @@
+//! What is kept of a connection, and what follows from it.
+ghost use Rattle.std.specs.Prelude.{◌≡◌};
+ghost use Rattle.flow_table.specs.Kept as spec;
+
+use mud_base::Moment;
+use mud_tables::limits::MOST_PAUSE;
+use mud_tables::{Endpoint, Segment};
+
+/// Who began a connection, and the moment of its last packet.
+pub type Begun = (Endpoint, Moment);
+
+/// Who began a connection, by what is kept of it: nobody where its last packet was more than
+/// [`MOST_PAUSE`] seconds ago.
+#[tactic(auto, unfolding(crate::specs::Kept::beginner_kept))]
+pub fn beginner_kept(kept: Option<Begun>, now: Moment) -> Option<Endpoint>
+    ensures { result ≡ spec.beginner_kept kept now }
+{
+    match kept {
+        Some((began, at)) => {
+            if now.seconds().saturating_sub(at.seconds()) <= MOST_PAUSE {
+                Some(began)
+            } else {
+                None
+            }
+        }
+        None => None,
+    }
+}
+
+/// What is kept of two ends after a packet between them: a packet that opens begins the connection
+/// anew, one that resets ends it, and each other one keeps it up.
+#[tactic(auto, unfolding(crate::specs::Kept::kept_after, mud_tables::specs::History::with_moment))]
+pub fn kept_after(packet: &Segment, kept: Option<Begun>) -> Option<Begun>
+    ensures { result ≡ spec.kept_after packet.now kept }
+{
+    if packet.opens() {
+        Some((packet.source, packet.at))
+    } else if packet.resets() {
+        None
+    } else {
+        match beginner_kept(kept, packet.at) {
+            Some(began) => Some((began, packet.at)),
+            None => None,
+        }
+    }
+}

@@ -1,0 +1,10 @@
+//! The table of TCP connections: who began each of them, by the packets that were forwarded.
+#![tactic(auto)]
+
+pub mod kept;
+pub mod pairs;
+pub mod table;
+
+pub use kept::Begun;
+pub use pairs::Pair;
+pub use table::{FlowPlan, FlowTable, pass};

@@ -1,0 +1,169 @@
+-- The bindings that a change of rows takes away and brings are the difference of those of all rows.
+use Rattle.std.proofs.Common.{◌≡◌, ℕ, Bool, true, false, cond, not, ◌&&◌, List, [], ◌∷◌, Option, Some, None, refl, sym, ap, subst, ◌∙◌}
+use Rattle.std.specs.Prelude.{flat_map}
+use Rattle.std.specs.List.{list_any, filter}
+use Rattle.std.proofs.lemmas.Bool.{false≢true}
+use Rattle.sorted_rows.specs.Placed.{same_place, PlacesAscend, row_at}
+use Rattle.acl_model.specs.declared.binding.Binding.{Binding}
+use Rattle.acl_model.proofs.BindingLaws.{same_spot_itself, spot_of_same, same_binding_exact}
+use Rattle.sorted_rows.specs.Changes.{are_apart, with_found, rows_at}
+use Rattle.acl_model.specs.Changes.{same_spot, same_binding, has_binding, those_not_in, IsBindingChange}
+use Rattle.sorted_rows.proofs.ListTests.{both_ways, left_of, right_of, both, not_true, is_not, any_first, any_later, any_by, any_more, any-flat_map}
+use Rattle.sorted_rows.proofs.RowSets.{Passing, found_passing, passing_found}
+use Rattle.sorted_rows.proofs.ListTests.{apart-append, apart-filter}
+use Rattle.sorted_rows.proofs.ChangeLaws.{PassingAt, found_at, at_found}
+
+-- ---- One key and address
+
+pub spot_among : (b : Binding) (bindings : List Binding) → has_binding b bindings ≡ true → list_any (same_spot b) bindings ≡ true
+unfolding has_binding
+spot_among b bindings e = any_more (same_binding b) (same_spot b) bindings (spot_of_same b) e
+
+-- ---- Those not among others
+
+module _ (b : Binding) (others : List Binding) where
+  -- one that is left was there, and isn't among the others
+  left_was : (x : Binding) (xs : List Binding) → (list_any (same_binding b) (filter (λ c. not (has_binding c others)) xs) ≡ true → (has_binding b xs && not (has_binding b others)) ≡ true) → (t : Bool) → not (has_binding x others) ≡ t
+      → list_any (same_binding b) (cond t (x ∷ filter (λ c. not (has_binding c others)) xs) (filter (λ c. not (has_binding c others)) xs)) ≡ true → (has_binding b (x ∷ xs) && not (has_binding b others)) ≡ true
+  unfolding has_binding
+  left_was x xs rest true is e = any_by (same_binding b) x (filter (λ c. not (has_binding c others)) xs)
+      (λ here. both (has_binding b (x ∷ xs)) (not (has_binding b others)) (any_first (same_binding b) x xs here) (ap (λ c. not (has_binding c others)) (same_binding_exact b x here) ∙ is))
+      (λ later. both (has_binding b (x ∷ xs)) (not (has_binding b others)) (any_later (same_binding b) x xs (left_of (has_binding b xs) (not (has_binding b others)) (rest later))) (right_of (has_binding b xs) (not (has_binding b others)) (rest later)))
+      e
+  left_was x xs rest false is e = both (has_binding b (x ∷ xs)) (not (has_binding b others)) (any_later (same_binding b) x xs (left_of (has_binding b xs) (not (has_binding b others)) (rest e))) (right_of (has_binding b xs) (not (has_binding b others)) (rest e))
+
+  any_left_was : (xs : List Binding) → list_any (same_binding b) (filter (λ c. not (has_binding c others)) xs) ≡ true → (has_binding b xs && not (has_binding b others)) ≡ true
+  unfolding has_binding
+  any_left_was [] e = absurd (false≢true e)
+  any_left_was (x ∷ xs) e = left_was x xs (any_left_was xs) (not (has_binding x others)) refl e
+
+  -- and the other way round
+  is_left : (x : Binding) (xs : List Binding) → not (has_binding b others) ≡ true → (has_binding b xs ≡ true → list_any (same_binding b) (filter (λ c. not (has_binding c others)) xs) ≡ true) → (t : Bool) → not (has_binding x others) ≡ t
+      → has_binding b (x ∷ xs) ≡ true → list_any (same_binding b) (cond t (x ∷ filter (λ c. not (has_binding c others)) xs) (filter (λ c. not (has_binding c others)) xs)) ≡ true
+  unfolding has_binding
+  is_left x xs none rest true is e = any_by (same_binding b) x xs (any_first (same_binding b) x (filter (λ c. not (has_binding c others)) xs)) (λ later. any_later (same_binding b) x (filter (λ c. not (has_binding c others)) xs) (rest later)) e
+  is_left x xs none rest false is e = any_by (same_binding b) x xs (λ here. absurd (false≢true (sym is ∙ ap (λ c. not (has_binding c others)) (sym (same_binding_exact b x here)) ∙ none))) rest e
+
+  any_is_left : (xs : List Binding) → not (has_binding b others) ≡ true → has_binding b xs ≡ true → list_any (same_binding b) (filter (λ c. not (has_binding c others)) xs) ≡ true
+  unfolding has_binding
+  any_is_left [] none e = e
+  any_is_left (x ∷ xs) none e = is_left x xs none (any_is_left xs none) (not (has_binding x others)) refl e
+
+  pub has-those_not_in : (xs : List Binding) → has_binding b (those_not_in others xs) ≡ (has_binding b xs && not (has_binding b others))
+  unfolding those_not_in has_binding
+  has-those_not_in xs = both_ways (list_any (same_binding b) (filter (λ c. not (has_binding c others)) xs)) (has_binding b xs && not (has_binding b others))
+      (any_left_was xs) (λ e. any_is_left xs (right_of (has_binding b xs) (not (has_binding b others)) e) (left_of (has_binding b xs) (not (has_binding b others)) e))
+
+pub apart-those_not_in : (others xs : List Binding) → are_apart same_spot xs ≡ true → are_apart same_spot (those_not_in others xs) ≡ true
+unfolding those_not_in
+apart-those_not_in others xs e = apart-filter same_spot (λ c. not (has_binding c others)) xs e
+
+-- ---- Rows and their bindings
+
+-- the bindings that go, where the rows at these places change
+unfoldable pub gone_at : {R : Type 0} → (R → List ℕ) → (R → List Binding) → List (List ℕ) → List R → List R → List Binding
+gone_at place bindings places before after = those_not_in (flat_map bindings (rows_at place places after)) (flat_map bindings (rows_at place places before))
+
+-- and those that come
+unfoldable pub come_at : {R : Type 0} → (R → List ℕ) → (R → List Binding) → List (List ℕ) → List R → List R → List Binding
+come_at place bindings places before after = gone_at place bindings places after before
+
+module _ {R : Type 0} (place : R → List ℕ) (f : R → List Binding) where
+  -- a key and an address are bound by the row of one place
+  abbrev pub IsOneRow : List R → Type 0
+  IsOneRow rows = (b : Binding) (p q : List ℕ) (x y : R) → row_at place p rows ≡ Some x → row_at place q rows ≡ Some y → list_any (same_spot b) (f x) ≡ true → list_any (same_spot b) (f y) ≡ true → p ≡ q
+
+  -- at each other place both have the same row
+  abbrev pub IsElsewhereSame : List (List ℕ) → List R → List R → Type 0
+  IsElsewhereSame places before after = (q : List ℕ) → list_any (same_place q) places ≡ false → row_at place q after ≡ row_at place q before
+
+  -- a binding of the rows at places is one of the rows
+  at_among : (b : Binding) (places : List (List ℕ)) (rows : List R) → has_binding b (flat_map f (rows_at place places rows)) ≡ true → has_binding b (flat_map f rows) ≡ true
+  unfolding has_binding
+  at_among b places rows e =
+      let r : PassingAt place (λ x. list_any (same_binding b) (f x)) places rows = found_at place (λ x. list_any (same_binding b) (f x)) places rows (sym (any-flat_map (same_binding b) f (rows_at place places rows)) ∙ e) in
+      any-flat_map (same_binding b) f rows ∙ passing_found place (λ x. list_any (same_binding b) (f x)) rows r.at r.row r.there r.passes
+
+  -- a binding of the rows, of which one at the places has its key and address, is among those of the rows at the places
+  among_at : (b : Binding) (places : List (List ℕ)) (rows : List R) (p : List ℕ) (x : R) → list_any (same_place p) places ≡ true → row_at place p rows ≡ Some x → has_binding b (f x) ≡ true → has_binding b (flat_map f (rows_at place places rows)) ≡ true
+  unfolding has_binding
+  among_at b places rows p x one there e = any-flat_map (same_binding b) f (rows_at place places rows) ∙ at_found place (λ y. list_any (same_binding b) (f y)) p x places rows one there e
+
+  module _ (places : List (List ℕ)) (before after : List R) (up : PlacesAscend place before) (up' : PlacesAscend place after) (one : IsOneRow before) (rest : IsElsewhereSame places before after) where
+    -- a binding of a row at the places that goes there is nowhere else afterwards: no other row had its key and address
+    stays_nowhere : (b : Binding) → has_binding b (flat_map f (rows_at place places before)) ≡ true → not (has_binding b (flat_map f (rows_at place places after))) ≡ true → has_binding b (flat_map f after) ≡ true → ⊥
+    unfolding has_binding
+    stays_nowhere b was gone is =
+        let old : PassingAt place (λ x. list_any (same_binding b) (f x)) places before = found_at place (λ x. list_any (same_binding b) (f x)) places before (sym (any-flat_map (same_binding b) f (rows_at place places before)) ∙ was) in
+        let new : Passing place (λ x. list_any (same_binding b) (f x)) after = found_passing place (λ x. list_any (same_binding b) (f x)) after up' (sym (any-flat_map (same_binding b) f after) ∙ is) in
+        by_place old new (list_any (same_place new.at) places) refl
+      where
+        by_place : (old : PassingAt place (λ x. list_any (same_binding b) (f x)) places before) (new : Passing place (λ x. list_any (same_binding b) (f x)) after) (t : Bool) → list_any (same_place new.at) places ≡ t → ⊥
+        by_place old new true there = is_not (has_binding b (flat_map f (rows_at place places after))) gone (among_at b places after new.at new.row there new.there new.passes)
+        by_place old new false there = false≢true (sym there ∙ subst (λ p. list_any (same_place p) places ≡ true)
+            (one b old.at new.at old.row new.row old.there (sym (rest new.at there) ∙ new.there) (spot_among b (f old.row) old.passes) (spot_among b (f new.row) new.passes))
+            old.one_of)
+
+    -- a binding that was and is no more is one of a row at the places
+    was_there : (b : Binding) → has_binding b (flat_map f before) ≡ true → not (has_binding b (flat_map f after)) ≡ true → has_binding b (flat_map f (rows_at place places before)) ≡ true
+    unfolding has_binding
+    was_there b was none =
+        let old : Passing place (λ x. list_any (same_binding b) (f x)) before = found_passing place (λ x. list_any (same_binding b) (f x)) before up (sym (any-flat_map (same_binding b) f before) ∙ was) in
+        by_place old (list_any (same_place old.at) places) refl
+      where
+        by_place : (old : Passing place (λ x. list_any (same_binding b) (f x)) before) (t : Bool) → list_any (same_place old.at) places ≡ t → has_binding b (flat_map f (rows_at place places before)) ≡ true
+        by_place old true there = among_at b places before old.at old.row there old.there old.passes
+        by_place old false there = absurd (is_not (has_binding b (flat_map f after)) none
+            (any-flat_map (same_binding b) f after ∙ passing_found place (λ x. list_any (same_binding b) (f x)) after old.at old.row (rest old.at there ∙ old.there) old.passes))
+
+    pub has-gone_at : (b : Binding) → has_binding b (gone_at place f places before after) ≡ (has_binding b (flat_map f before) && not (has_binding b (flat_map f after)))
+    unfolding gone_at
+    has-gone_at b =
+        let olds : Bool = has_binding b (flat_map f (rows_at place places before)) in
+        let news : Bool = has_binding b (flat_map f (rows_at place places after)) in
+        has-those_not_in b (flat_map f (rows_at place places after)) (flat_map f (rows_at place places before))
+        ∙ both_ways (olds && not news) (has_binding b (flat_map f before) && not (has_binding b (flat_map f after)))
+        (λ e. both (has_binding b (flat_map f before)) (not (has_binding b (flat_map f after)))
+        (at_among b places before (left_of olds (not news) e))
+        (not_true (has_binding b (flat_map f after)) (stays_nowhere b (left_of olds (not news) e) (right_of olds (not news) e))))
+        (λ e. let was : has_binding b (flat_map f before) ≡ true = left_of (has_binding b (flat_map f before)) (not (has_binding b (flat_map f after))) e in
+        let none : not (has_binding b (flat_map f after)) ≡ true = right_of (has_binding b (flat_map f before)) (not (has_binding b (flat_map f after))) e in
+        both olds (not news) (was_there b was none) (not_true news (λ new. is_not (has_binding b (flat_map f after)) none (at_among b places after new))))
+
+  -- ---- No two of one key and address
+
+  apart_with : (q : List ℕ) (qs : List (List ℕ)) (rows : List R) → IsOneRow rows → ((p : List ℕ) (x : R) → row_at place p rows ≡ Some x → are_apart same_spot (f x) ≡ true) → not (list_any (same_place q) qs) ≡ true → are_apart same_spot (flat_map f (rows_at place qs rows)) ≡ true
+      → (o : Option R) → row_at place q rows ≡ o → are_apart same_spot (flat_map f (with_found o (rows_at place qs rows))) ≡ true
+  apart_with q qs rows one each once rest None there = rest
+  apart_with q qs rows one each once rest (Some x) there =
+      apart-append same_spot same_spot_itself (f x) (flat_map f (rows_at place qs rows)) (each q x there) rest (λ b here later.
+      let r : PassingAt place (λ y. list_any (same_spot b) (f y)) qs rows = found_at place (λ y. list_any (same_spot b) (f y)) qs rows (sym (any-flat_map (same_spot b) f (rows_at place qs rows)) ∙ later) in
+      is_not (list_any (same_place q) qs) once (subst (λ p. list_any (same_place p) qs ≡ true) (sym (one b q r.at x r.row there r.there here r.passes)) r.one_of))
+
+  pub apart-rows_at : (qs : List (List ℕ)) (rows : List R) → IsOneRow rows → ((p : List ℕ) (x : R) → row_at place p rows ≡ Some x → are_apart same_spot (f x) ≡ true) → are_apart same_place qs ≡ true → are_apart same_spot (flat_map f (rows_at place qs rows)) ≡ true
+  apart-rows_at [] rows one each once = refl
+  apart-rows_at (q ∷ qs) rows one each once = apart_with q qs rows one each
+      (left_of (not (list_any (same_place q) qs)) (are_apart same_place qs) once)
+      (apart-rows_at qs rows one each (right_of (not (list_any (same_place q) qs)) (are_apart same_place qs) once))
+      (row_at place q rows) refl
+
+  -- ---- What the rows at the places take away and bring is the difference
+
+  -- rows in their order, of which each has one binding for a key and address, and no two have one
+  pub record IsBindingRows (rows : List R) : Type 0 where
+    pub ascend : PlacesAscend place rows
+    pub one : IsOneRow rows
+    pub each : (p : List ℕ) (x : R) → row_at place p rows ≡ Some x → are_apart same_spot (f x) ≡ true
+
+  elsewhere_back : (places : List (List ℕ)) (before after : List R) → IsElsewhereSame places before after → IsElsewhereSame places after before
+  elsewhere_back places before after same q other = sym (same q other)
+
+  pub binding_change : (places : List (List ℕ)) (before after : List R) → IsBindingRows before → IsBindingRows after → are_apart same_place places ≡ true → IsElsewhereSame places before after
+      → IsBindingChange (flat_map f before) (flat_map f after) (gone_at place f places before after) (come_at place f places before after)
+  unfolding gone_at come_at
+  binding_change places before after old new once same = record {
+    went = has-gone_at places before after old.ascend new.ascend old.one same;
+    came = has-gone_at places after before new.ascend old.ascend new.one (elsewhere_back places before after same);
+    gone_once = apart-those_not_in (flat_map f (rows_at place places after)) (flat_map f (rows_at place places before)) (apart-rows_at places before old.one old.each once);
+    come_once = apart-those_not_in (flat_map f (rows_at place places before)) (flat_map f (rows_at place places after)) (apart-rows_at places after new.one new.each once);
+  }

@@ -1,0 +1,45 @@
+-- Local networks that are named keep them sound.
+use Rattle.std.proofs.Common.{◌≡◌, Bool, true, false, cond, List, [], ◌∷◌, length, Ok, Err, refl}
+use Rattle.std.specs.Prelude.{nat_lt}
+use Rattle.std.specs.List.{AllByRecursion}
+use Rattle.std.proofs.lemmas.Bool.{ltb-false}
+use Rattle.mud_base.specs.declared.prefix.Prefix.{Prefix}
+use Rattle.sorted_rows.specs.Placed.{PlacesAscend}
+use Rattle.sorted_rows.specs.Addresses.{prefix_place}
+use Rattle.sorted_rows.proofs.AscendLaws.{ascend_to}
+use Rattle.sorted_rows.proofs.PlacedLaws.{ascend-set_row}
+use Rattle.sorted_rows.proofs.RowLaws.{all-set_row}
+use Rattle.item_codec.specs.declared.word.Word.TheVariants.{Same, Set}
+use Rattle.mud_tables.specs.declared.bind_fault.BindFault.TheVariants.{LocalsFull}
+use Rattle.mud_tables.specs.Limits.{most_locals}
+use Rattle.mud_tables.specs.Binds.{with_prefix, prefixes_in_order, same_prefixes, are_prefixes, IsKeptNetwork, IsSoundLocals}
+use Rattle.mud_tables.specs.BindSteps.{LocalStep, locals_done, locals_cases, locals_step}
+
+-- a refusal changes nothing, and else this holds
+abbrev pub OfLocals : (List Prefix → Type 0) → LocalStep → Type 0
+OfLocals P (Ok after) = P after.locals
+OfLocals P (Err fault) = Unit {0}
+
+pub cond_locals : (P : List Prefix → Type 0) (b : Bool) (x y : LocalStep) → (b ≡ true → OfLocals P x) → (b ≡ false → OfLocals P y) → OfLocals P (cond b x y)
+cond_locals P true x y f g = f refl
+cond_locals P false x y f g = g refl
+
+in_order_ascend : (prefixes : List Prefix) → PlacesAscend prefix_place (prefixes_in_order prefixes)
+unfolding prefixes_in_order with_prefix
+in_order_ascend [] = tt
+in_order_ascend (p ∷ ps) = ascend-set_row prefix_place p (prefixes_in_order ps) (in_order_ascend ps)
+
+in_order_each : (P : Prefix → Type 0) (prefixes : List Prefix) → AllByRecursion P prefixes → AllByRecursion P (prefixes_in_order prefixes)
+unfolding prefixes_in_order with_prefix
+in_order_each P [] all = tt
+in_order_each P (p ∷ ps) all = all-set_row prefix_place P p (prefixes_in_order ps) all.0 (in_order_each P ps all.1)
+
+pub sound-locals_step : (prefixes locals : List Prefix) → AllByRecursion IsKeptNetwork prefixes → IsSoundLocals locals → OfLocals IsSoundLocals (locals_step prefixes locals)
+unfolding locals_step locals_cases are_prefixes
+sound-locals_step prefixes locals each sound =
+    let ordered : List Prefix = prefixes_in_order prefixes in
+    cond_locals IsSoundLocals (nat_lt most_locals (length ordered)) (Err LocalsFull) (cond (same_prefixes ordered locals) (locals_done Same locals) (locals_done Set ordered))
+    (λ _. tt)
+    (λ few. cond_locals IsSoundLocals (same_prefixes ordered locals) (locals_done Same locals) (locals_done Set ordered)
+    (λ _. sound)
+    (λ _. record { ascend = ascend_to prefix_place ordered (in_order_ascend prefixes); each = in_order_each IsKeptNetwork prefixes each; few = ltb-false most_locals (length ordered) few }))

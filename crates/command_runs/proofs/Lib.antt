@@ -1,0 +1,2 @@
+pub mod CaptureRuns
+pub mod Folds

@@ -1,0 +1,4 @@
+pub mod Capture
+pub mod Due
+pub mod Fold
+pub mod Status

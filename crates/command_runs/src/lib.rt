@@ -1,0 +1,11 @@
+//! How a command runs that reads the door and writes lines to it: its status, what is due, and the
+//! lines of a capture as it streams.
+#![tactic(auto)]
+
+pub mod capture;
+pub mod status;
+#[cfg(test)]
+mod tests;
+
+pub use capture::{PacketLines, write_capture};
+pub use status::Status;

@@ -27,11 +27,11 @@ pub with_end_all : (P : Addr × ℕ → Type 0) (a : Addr) (until : ℕ) (rows :
 unfolding with_end
 with_end_all P a until rows new old = all-set_row end_place P (a, until) rows new old
 
-all_from : {A : Type 0} (p : A → Bool) (xs : List A) → list_all p xs ≡ true → AllByRecursion (λ x. p x ≡ true) xs
+pub all_from : {A : Type 0} (p : A → Bool) (xs : List A) → list_all p xs ≡ true → AllByRecursion (λ x. p x ≡ true) xs
 all_from p [] e = tt
 all_from p (x ∷ xs) e = (left_of (p x) (list_all p xs) e, all_from p xs (right_of (p x) (list_all p xs) e))
 
-all_to : {A : Type 0} (p : A → Bool) (xs : List A) → AllByRecursion (λ x. p x ≡ true) xs → list_all p xs ≡ true
+pub all_to : {A : Type 0} (p : A → Bool) (xs : List A) → AllByRecursion (λ x. p x ≡ true) xs → list_all p xs ≡ true
 all_to p [] all = refl
 all_to p (x ∷ xs) all = both (p x) (list_all p xs) all.0 (all_to p xs all.1)
 

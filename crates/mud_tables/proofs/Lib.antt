@@ -16,3 +16,5 @@ pub mod ReadThings
 pub mod ToldThings
 pub mod SoundLaws
 pub mod ReadLaws
+pub mod TakenLaws
+mod TakenExamples

@@ -14,3 +14,4 @@ pub mod BindingChanges
 pub mod History
 pub mod ThingItems
 pub mod BindItems
+pub mod TakenItems

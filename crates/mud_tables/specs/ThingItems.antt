@@ -65,6 +65,14 @@ thing_in item =
       thing ← thing_of item.key item.body
       if_sound_thing thing) else None
 
+-- the item in which version 2 says what an item of either version says, where it says a Thing
+unfoldable pub item_anew : Item → Option Thing → Item
+item_anew item (Some thing) = thing_item thing
+item_anew item None = item
+
+unfoldable pub in_second : Item → Item
+in_second item = item_anew item (thing_in item)
+
 -- ---- Reading them one after the other
 
 -- one of these Things has a lease of the address of the row

@@ -9,6 +9,7 @@ pub mod bind;
 pub mod bind_fault;
 pub mod ends;
 pub mod fields;
+pub mod item_laws;
 pub mod laws;
 pub mod limits;
 pub mod segment;

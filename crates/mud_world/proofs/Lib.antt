@@ -3,3 +3,5 @@ pub mod Doors
 pub mod MemoryDoors
 pub mod Wholes
 pub mod Wires
+pub mod ItemLaws
+mod ItemExamples

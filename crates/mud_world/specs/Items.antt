@@ -1,7 +1,10 @@
 -- The items of a keeper, and what a batch of puts makes of them.
-use Rattle.std.specs.Prelude.{◌≡◌, ℕ, Bool, true, false, not, ◌&&◌, nat_lt, nat_le, List, [], ◌∷◌, length, All, Result, Ok, Err}
+use Rattle.std.specs.Prelude.{◌≡◌, ℕ, ◌<◌, Bool, true, false, not, ◌&&◌, IsTrue, nat_lt, nat_le, List, [], ◌∷◌, map, length, All, Option, Some, None, Result, Ok, Err}
+use Rattle.std.specs.List.{AllByRecursion}
+use Rattle.std.specs.Option.{option_map}
 use Rattle.std.specs.Ordering.{is_eq}
 use Rattle.sorted_rows.specs.Placed.{place_cmp, set_row, without_row, PlacesAscend}
+use Rattle.sorted_rows.specs.Changes.{RowChange, with_found}
 use Rattle.mud_world.specs.declared.item.Item.{Item}
 use Rattle.mud_world.specs.declared.item.Put.{Put}
 use Rattle.mud_world.specs.declared.item.Put.TheVariants.{Set, Gone}
@@ -45,10 +48,52 @@ is_batch puts = nat_lt 0 (length puts) && nat_le (length puts) 4 && are_apart pu
 abbrev pub IsOrdered : List Item → Type 0
 IsOrdered items = PlacesAscend place_of items
 
--- The puts lead from the items before to the items after, and each of them changes something.
+-- The puts lead from the items before to the items after, each of them changes something, and no two are about one place. So
+-- they are what differs, in some order. A change of a book has at most two puts, and none of the stamp's kind: the desk adds
+-- that one.
 pub record IsDifference (before after : List Item) (puts : List Put) : Type 0 where
   pub reaches : put_all before puts ≡ after
   pub needed : All (λ put. ¬ (put_one before put ≡ before)) puts
+  pub apart : IsTrue (are_apart puts)
+
+-- the item that a put leaves at its place
+abbrev pub item_after : Put → Option Item
+item_after (Set item) = Some item
+item_after (Gone kind key) = None
+
+-- ---- Kinds
+
+abbrev pub kind_of_put : Put → ℕ
+kind_of_put (Set item) = item.kind
+kind_of_put (Gone kind key) = kind
+
+-- each put is of the kind
+abbrev pub ArePutsOf : ℕ → List Put → Type 0
+ArePutsOf kind puts = AllByRecursion (λ put. kind_of_put put ≡ kind) puts
+
+-- each item is of a kind before this one
+abbrev pub AreOfLowerKinds : ℕ → List Item → Type 0
+AreOfLowerKinds kind items = AllByRecursion (λ item. item.kind < kind) items
+
+-- each item is of a kind behind this one
+abbrev pub AreOfHigherKinds : ℕ → List Item → Type 0
+AreOfHigherKinds kind items = AllByRecursion (λ item. kind < item.kind) items
+
+-- ---- Rows that are kept as items
+
+-- each row's place is the key of its item, which is of the kind
+abbrev pub AreItemsOf : {R : Type 0} → (R → List ℕ) → ℕ → (R → Item) → Type 0
+AreItemsOf {R = R} place kind item = (row : R) → place_of (item row) ≡ kind ∷ place row
+
+unfoldable pub set_put : {R : Type 0} → (R → Item) → R → Put
+set_put item row = Set (item row)
+
+unfoldable pub gone_put : ℕ → List ℕ → Put
+gone_put kind p = Gone kind p
+
+-- the puts of a change of rows: the item of the row that goes, and then those of the rows that are put in
+unfoldable pub puts_of : {R : Type 0} → ℕ → (R → Item) → RowChange R → List Put
+puts_of kind item change = with_found (option_map (gone_put kind) change.gone) (map (set_put item) change.sets)
 
 -- whether the keeper itself failed
 abbrev pub has_failed : {A : Type 0} → Result A KeepFault → Bool

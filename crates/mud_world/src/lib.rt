@@ -8,6 +8,7 @@ pub mod clock;
 pub mod door;
 pub mod fault;
 pub mod item;
+pub mod item_laws;
 pub mod keeper;
 pub mod memory_clock;
 pub mod memory_door;

@@ -1,6 +1,6 @@
 -- Changes of rows: one place is left, and then rows are put in.
-use Rattle.std.specs.Prelude.{ℕ, Bool, true, false, not, ◌&&◌, if◌then◌else◌, List, [], ◌∷◌, map, Option, Some, None}
-use Rattle.std.specs.List.{list_any}
+use Rattle.std.specs.Prelude.{◌≡◌, ℕ, Bool, true, false, not, ◌&&◌, if◌then◌else◌, List, [], ◌∷◌, map, Option, Some, None, IfSome}
+use Rattle.std.specs.List.{list_any, AllByRecursion}
 use Rattle.std.specs.Option.{option_or}
 use Rattle.sorted_rows.specs.Placed.{same_place, row_at, set_rows, without_row}
 
@@ -19,6 +19,11 @@ without_gone place (Some p) rows = without_row place p rows
 -- the rows after the change: what goes is gone before anything is put in
 unfoldable pub changed : {R : Type 0} → (R → List ℕ) → RowChange R → List R → List R
 changed place change rows = set_rows place change.sets (without_gone place change.gone rows)
+
+-- the row that goes is there, and none that is put in is there already
+pub record IsNeededChange {R : Type 0} (place : R → List ℕ) (rows : List R) (change : RowChange R) : Type 0 where
+  pub gone : IfSome change.gone (λ p. ¬ (row_at place p rows ≡ None))
+  pub sets : AllByRecursion (λ row. ¬ (row_at place (place row) rows ≡ Some row)) change.sets
 
 -- whether the place is the one that goes
 abbrev pub is_gone : Option (List ℕ) → List ℕ → Bool

@@ -10,6 +10,23 @@ use crate::steps::Steps;
 use std::sync::ledger::Ledger;
 
 impl<R: Placed> SortedRows<R> {
+    /// The rows of a list that is in order already, as `from_sorted` gives them: one step for each
+    /// row of the list.
+    pub fn from_sorted_counted<L: Ledger>(
+        rows: Vec<R>,
+        steps: &mut Steps<L>,
+    ) -> Option<SortedRows<R>>
+    where
+        R: Drop,
+        ensures sorted { IsSome result ↔ PlacesAscend R.place rows.items }
+        ensures rows { IfSome result (λ sorted. sorted.rows ≡ rows.items) }
+        ensures room { IfSome result (λ sorted. sorted.room ≡ vec_capacity rows - vec_len rows) }
+        ensures counted { steps.new ≡ steps.old + vec_len rows }
+    {
+        steps.add(rows.len() as u64);
+        SortedRows::from_sorted(rows)
+    }
+
     /// The row that the key names. There is at least one step where there are rows, and there are
     /// no more than the number of rows has binary digits.
     pub fn get_counted<K: KeyOf<R>, L: Ledger>(&self, key: &K, steps: &mut Steps<L>) -> Option<&R>

@@ -1,9 +1,10 @@
 //! Seats of a hall, by row and number.
-ghost use Rattle.std.specs.Prelude.{◌≡◌, ◌+◌, ◌-◌, ◌*◌, ◌^◌, ◌<◌, ◌≤◌, ◌∷◌, [], length};
+ghost use Rattle.std.specs.Prelude.{◌≡◌, ◌+◌, ◌-◌, ◌*◌, ◌^◌, ◌<◌, ◌≤◌, ◌∷◌, [], length, vec_len};
 ghost use Rattle.sorted_rows.specs.Placed.{index_in};
 
 use super::*;
 use crate::steps::Steps;
+use mud_base::Listed;
 use std::alloc::Global;
 use std::marker::Brand;
 use std::sync::ledger::{Blank, Ledger};
@@ -152,5 +153,64 @@ fn a_counted_search_finds_the_same(rt: HostRuntime) -> Result<(), Fail> {
     let seats = hall(rt.alloc())?;
     assert_eq!(rt; searched::<Brand>(&seats, 7, Blank::new(1)), (true, 2));
     assert_eq!(rt; searched::<Brand>(&seats, 8, Blank::new(1)), (false, 2));
+    Ok(())
+}
+
+#[test]
+fn a_change_takes_away_before_it_puts_in(rt: HostRuntime) -> Result<(), Fail> {
+    let mut seats = hall(rt.alloc())?;
+    seats.reserve(2)?;
+    let mut sets = Listed::new(rt.alloc());
+    sets.push(at(2, 7, 9))?;
+    sets.push(at(1, 1, 8))?;
+    let change = Change::new(Some(at(2, 7, 0)), sets);
+    assert_eq!(rt; change.gone(), Some(&at(2, 7, 0)));
+    assert_eq!(rt; change.sets().len(), 2);
+    seats.change(change);
+    let wanted = [
+        at(1, 1, 8),
+        at(1, 4, 5),
+        at(1, 300, 2),
+        at(2, 6, 3),
+        at(2, 7, 9),
+    ];
+    assert_eq!(rt; seats.rows(), wanted.as_slice());
+    Ok(())
+}
+
+/// Changes seats with steps that are counted on a ledger of the caller's.
+fn changed<L: Ledger>(seats: &mut SortedRows<Seat>, rows: Vec<Seat>, blank: Blank) -> Option<Seat>
+    requires name { blank.name ≡ L.name }
+    requires parts { blank.parts ≡ L.parts }
+    requires some { 0 < L.parts }
+    requires room { vec_len rows + 2 ≤ seats.old.room }
+{
+    let mut steps = Steps::<L>::new(blank);
+    seats.put_counted(at(1, 5, 6), &mut steps);
+    seats.push_last_counted(at(9, 9, 9), &mut steps);
+    let gone = match seats.get_counted(&to(&1, 4), &mut steps) {
+        Some(seat) => Some(*seat),
+        None => None,
+    };
+    let change = Change::new(gone, Listed::from_vec(rows));
+    seats.change_counted(change, &mut steps);
+    seats.remove_counted(&to(&9, 9), &mut steps)
+}
+
+#[test]
+fn counted_changes_do_the_same(rt: HostRuntime) -> Result<(), Fail> {
+    let mut seats = hall(rt.alloc())?;
+    seats.reserve(4)?;
+    let rows = vec![in rt.alloc(); at(2, 6, 7), at(3, 1, 1)]?;
+    let last = changed::<Brand>(&mut seats, rows, Blank::new(1));
+    assert_eq!(rt; last, Some(at(9, 9, 9)));
+    let wanted = [
+        at(1, 5, 6),
+        at(1, 300, 2),
+        at(2, 6, 7),
+        at(2, 7, 1),
+        at(3, 1, 1),
+    ];
+    assert_eq!(rt; seats.rows(), wanted.as_slice());
     Ok(())
 }

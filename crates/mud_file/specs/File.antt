@@ -10,7 +10,8 @@ use Rattle.usage_walk.specs.declared.fault.Broken.{Broken}
 use Rattle.usage_walk.specs.declared.fault.Rule.TheVariants as rule
 use Rattle.usage_walk.specs.declared.member.Member.{Member}
 use Rattle.usage_walk.specs.declared.member.Member.TheVariants as members
-use Rattle.usage_walk.specs.Reading.{Reading, answer, and_then, done, ◌>>=◌, under, fault_at}
+use Rattle.reading.specs.Reading.{answer, and_then, done, ◌>>=◌}
+use Rattle.usage_walk.specs.Reading.{Reading, under, fault_at}
 use Rattle.usage_walk.specs.Kinds.{object_of, object_at, object_where_there, list_where_there}
 use Rattle.usage_walk.specs.Named.{Element, elements_of}
 use Rattle.mud_file.specs.declared.usage_file.Head.{Head}

@@ -2,8 +2,9 @@
 //! 4.1).
 ghost use Rattle.std.specs.Prelude.{◌≡◌, ◌++◌, map, IfOk};
 ghost use Rattle.serde_json.specs.View.{view};
-ghost use Rattle.usage_walk.specs.Reading.{Gives, Refuses, fault_at};
-ghost use Rattle.usage_walk.specs.Reading as reading;
+ghost use Rattle.reading.specs.Reading.{Gives, Refuses};
+ghost use Rattle.usage_walk.specs.Reading.{fault_at};
+ghost use Rattle.usage_walk.specs.Reading as walk;
 ghost use Rattle.usage_walk.specs.Elements.{element_view, elements_view};
 ghost use Rattle.usage_walk.specs.declared.fault.Rule.TheVariants as rule;
 ghost use Rattle.usage_walk.specs.declared.member.Member.TheVariants as members;
@@ -24,7 +25,7 @@ use usage_walk::{Element, Elements, FileFault, Member, Rule};
 const MOST_ENTRIES: usize = 128;
 
 /// The type that a text names.
-#[tactic(auto, unfolding(crate::specs::Entries::as_type), using(usage_walk::proofs::Readings::answer_wanted, usage_walk::proofs::Readings::answer_unwanted))]
+#[tactic(auto, unfolding(crate::specs::Entries::as_type), using(reading::proofs::Readings::answer_wanted, reading::proofs::Readings::answer_unwanted))]
 fn as_type(alloc: Global, text: &str, path: &[u8]) -> Result<ListType, FileFault>
     ensures { Gives (λ t. t) result (spec.as_type path.now text.now) }
 {
@@ -35,7 +36,7 @@ fn as_type(alloc: Global, text: &str, path: &[u8]) -> Result<ListType, FileFault
 }
 
 /// The type of the access list at this path.
-#[tactic(auto, unfolding(crate::specs::Entries::type_at), using(usage_walk::proofs::Readings::answer_bind))]
+#[tactic(auto, unfolding(crate::specs::Entries::type_at), using(reading::proofs::Readings::answer_bind))]
 fn type_at(alloc: Global, acl: &Value, path: &[u8]) -> Result<ListType, FileFault>
     ensures { Gives (λ t. t) result (spec.type_at path.now (view acl.now)) }
 {
@@ -54,7 +55,7 @@ fn entries_path(alloc: Global, path: &[u8]) -> Result<Bytes, Memory>
 
 /// The elements of the list of entries of the access list at this path: none where there is no such
 /// list.
-#[tactic(auto, unfolding(crate::specs::Entries::aces_at), using(usage_walk::proofs::Readings::answer_bind))]
+#[tactic(auto, unfolding(crate::specs::Entries::aces_at), using(reading::proofs::Readings::answer_bind))]
 fn aces<'a>(alloc: Global, acl: &'a Value, path: &[u8]) -> Result<&'a [Value], FileFault>
     ensures { Gives (λ l. map view l.now) result (spec.aces_at path.now (view acl.now)) }
 {
@@ -65,7 +66,7 @@ fn aces<'a>(alloc: Global, acl: &'a Value, path: &[u8]) -> Result<&'a [Value], F
 
 /// The entries of the access list at this path, read for this side, in which so many entries of the
 /// direction may stand.
-#[tactic(auto, unfolding(crate::specs::Entries::list_at), using(usage_walk::proofs::Readings::answer_bind))]
+#[tactic(auto, unfolding(crate::specs::Entries::list_at), using(reading::proofs::Readings::answer_bind))]
 fn list_entries(
     alloc: Global,
     side: Direction,
@@ -90,7 +91,7 @@ fn list_entries(
 
 /// Where the access list with this place stands.
 fn acl_path(alloc: Global, place: usize) -> Result<Bytes, Memory>
-    ensures { IfOk result (λ found. found ≡ reading.at_place spec.acls_path place) }
+    ensures { IfOk result (λ found. found ≡ walk.at_place spec.acls_path place) }
 {
     let acls = under(alloc, &[], Member::Acls)?;
     let list = under(alloc, acls.octets(), Member::Acl)?;
@@ -99,7 +100,7 @@ fn acl_path(alloc: Global, place: usize) -> Result<Bytes, Memory>
 
 /// The refusal of the name with this place in the list at this path, which no access list has.
 fn no_such_acl(alloc: Global, path: &[u8], place: usize) -> FileFault
-    ensures { Refuses result (fault_at rule.NoSuchAcl (reading.under (reading.at_place path.now place) members.Name)) }
+    ensures { Refuses result (fault_at rule.NoSuchAcl (walk.under (walk.at_place path.now place) members.Name)) }
 {
     match at_place(alloc, path, place) {
         Ok(path) => refusal(alloc, Rule::NoSuchAcl, path.octets(), Member::Name),
@@ -108,7 +109,7 @@ fn no_such_acl(alloc: Global, path: &[u8], place: usize) -> FileFault
 }
 
 /// The access list of this name, which stands in the list of names at this path.
-#[tactic(auto, unfolding(crate::specs::Entries::acl_named), using(usage_walk::proofs::Readings::answer_wanted, usage_walk::proofs::Readings::answer_unwanted))]
+#[tactic(auto, unfolding(crate::specs::Entries::acl_named), using(reading::proofs::Readings::answer_wanted, reading::proofs::Readings::answer_unwanted))]
 fn acl_named<'a>(
     alloc: Global,
     acls: &Elements<'a>,
@@ -133,7 +134,7 @@ fn joined(first: Listed<Entry>, second: Listed<Entry>) -> Result<Listed<Entry>, 
 }
 
 /// The entries of the direction so far, and those of the access list of this name.
-#[tactic(auto, unfolding(crate::specs::Entries::next_list), using(usage_walk::proofs::Readings::answer_bind, usage_walk::proofs::Readings::answer_done))]
+#[tactic(auto, unfolding(crate::specs::Entries::next_list), using(reading::proofs::Readings::answer_bind, reading::proofs::Readings::answer_done))]
 fn with_list(
     alloc: Global,
     side: Direction,

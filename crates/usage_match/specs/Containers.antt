@@ -8,7 +8,8 @@ use Rattle.serde_json.specs.Data.{Data}
 use Rattle.usage_walk.specs.declared.fault.Rule.TheVariants as rule
 use Rattle.usage_walk.specs.declared.member.Member.{Member}
 use Rattle.usage_walk.specs.declared.member.Member.TheVariants as members
-use Rattle.usage_walk.specs.Reading.{Reading, done, ◌>>=◌, refused_where, under, fault_at}
+use Rattle.reading.specs.Reading.{done, ◌>>=◌, refused_where}
+use Rattle.usage_walk.specs.Reading.{Reading, under, fault_at}
 use Rattle.usage_walk.specs.Kinds.{leaf_where_there}
 use Rattle.usage_walk.specs.Others.{all_known}
 use Rattle.usage_match.specs.declared.entry_tests.ListType.{ListType}

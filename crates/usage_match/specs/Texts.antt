@@ -14,7 +14,8 @@ use Rattle.mud_url.specs.Url.{url_of}
 use Rattle.serde_json.specs.Data.{Data}
 use Rattle.usage_walk.specs.declared.fault.Rule.TheVariants as rule
 use Rattle.usage_walk.specs.declared.member.Member.{Member}
-use Rattle.usage_walk.specs.Reading.{Reading, done, ◌>>=◌, wanted, refused_where, where_there, under, fault_at}
+use Rattle.reading.specs.Reading.{done, ◌>>=◌, wanted, refused_where, where_there}
+use Rattle.usage_walk.specs.Reading.{Reading, under, fault_at}
 use Rattle.usage_walk.specs.Kinds.{number_where_there, text_where_there}
 use Rattle.usage_match.specs.declared.entry_tests.ListType.{ListType}
 use Rattle.usage_match.specs.declared.entry_tests.ListType.TheVariants.{Ipv4, Ipv6}

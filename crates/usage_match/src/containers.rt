@@ -1,7 +1,7 @@
 //! The containers inside `matches`. Each is an object, and the path is its own.
 ghost use Rattle.std.specs.Prelude.{◌≡◌};
 ghost use Rattle.serde_json.specs.View.{view};
-ghost use Rattle.usage_walk.specs.Reading.{Gives};
+ghost use Rattle.reading.specs.Reading.{Gives};
 ghost use Rattle.usage_walk.specs.Others as spec_others;
 ghost use Rattle.usage_match.specs.Containers as spec;
 
@@ -37,7 +37,7 @@ fn mud_known(alloc: Global, container: &Value, path: &[u8]) -> Result<(), FileFa
 }
 
 /// What a container `ietf-mud:mud` asks of the peer (RFC 8520, 4).
-#[tactic(auto, unfolding(crate::specs::Containers::mud_tests_of), using(usage_walk::proofs::Readings::answer_bind, usage_walk::proofs::Readings::answer_done))]
+#[tactic(auto, unfolding(crate::specs::Containers::mud_tests_of), using(reading::proofs::Readings::answer_bind, reading::proofs::Readings::answer_done))]
 pub fn mud_tests_of(alloc: Global, container: &Value, path: &[u8]) -> Result<MudTests, FileFault>
     ensures { Gives (λ t. t) result (spec.mud_tests_of path.now (view container.now)) }
 {
@@ -107,7 +107,7 @@ fn ip_known(
 
 /// The DNS name of a side of the packet, where it is there. It may not stand at the Thing's own
 /// side.
-#[tactic(auto, unfolding(crate::specs::Containers::name_where_there), using(usage_walk::proofs::Readings::answer_bind))]
+#[tactic(auto, unfolding(crate::specs::Containers::name_where_there), using(reading::proofs::Readings::answer_bind))]
 fn name_where_there(
     alloc: Global,
     is_own: bool,
@@ -145,7 +145,7 @@ fn is_destination(side: Direction) -> bool
 }
 
 /// What a container `ipv4` or `ipv6` asks (RFC 8519, 4.2; RFC 8520, 8), in a list of a direction.
-#[tactic(auto, unfolding(crate::specs::Containers::ip_tests_of), using(usage_walk::proofs::Readings::answer_bind, usage_walk::proofs::Readings::answer_done))]
+#[tactic(auto, unfolding(crate::specs::Containers::ip_tests_of), using(reading::proofs::Readings::answer_bind, reading::proofs::Readings::answer_done))]
 pub fn ip_tests_of(
     alloc: Global,
     list_type: ListType,
@@ -202,7 +202,7 @@ fn port_layer_known(alloc: Global, container: &Value, path: &[u8]) -> Result<(),
 }
 
 /// What a container `tcp` asks of the header (RFC 8519, 4.2; RFC 8520, 4.8).
-#[tactic(auto, unfolding(crate::specs::Containers::tcp_of), using(usage_walk::proofs::Readings::answer_bind, usage_walk::proofs::Readings::answer_done))]
+#[tactic(auto, unfolding(crate::specs::Containers::tcp_of), using(reading::proofs::Readings::answer_bind, reading::proofs::Readings::answer_done))]
 pub fn tcp_of(alloc: Global, container: &Value, path: &[u8]) -> Result<Layer, FileFault>
     ensures { Gives (λ l. l) result (spec.tcp_of path.now (view container.now)) }
 {
@@ -229,7 +229,7 @@ fn no_direction(alloc: Global, container: &Value, path: &[u8]) -> Result<(), Fil
 }
 
 /// What a container `udp` asks of the header (RFC 8519, 4.2).
-#[tactic(auto, unfolding(crate::specs::Containers::udp_of), using(usage_walk::proofs::Readings::answer_bind, usage_walk::proofs::Readings::answer_done))]
+#[tactic(auto, unfolding(crate::specs::Containers::udp_of), using(reading::proofs::Readings::answer_bind, reading::proofs::Readings::answer_done))]
 pub fn udp_of(alloc: Global, container: &Value, path: &[u8]) -> Result<Layer, FileFault>
     ensures { Gives (λ l. l) result (spec.udp_of path.now (view container.now)) }
 {
@@ -253,7 +253,7 @@ fn icmp_known(alloc: Global, container: &Value, path: &[u8]) -> Result<(), FileF
 }
 
 /// What a container `icmp` asks of the header (RFC 8519, 4.2): its type and its code.
-#[tactic(auto, unfolding(crate::specs::Containers::icmp_of), using(usage_walk::proofs::Readings::answer_bind, usage_walk::proofs::Readings::answer_done))]
+#[tactic(auto, unfolding(crate::specs::Containers::icmp_of), using(reading::proofs::Readings::answer_bind, reading::proofs::Readings::answer_done))]
 pub fn icmp_of(alloc: Global, container: &Value, path: &[u8]) -> Result<Layer, FileFault>
     ensures { Gives (λ l. l) result (spec.icmp_of path.now (view container.now)) }
 {

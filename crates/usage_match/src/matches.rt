@@ -2,7 +2,7 @@
 ghost use Rattle.std.specs.Prelude.{◌≡◌, ◌++◌, IfOk, OnOk};
 ghost use Rattle.std.specs.Option.{option_to_list};
 ghost use Rattle.serde_json.specs.View.{view};
-ghost use Rattle.usage_walk.specs.Reading.{Gives};
+ghost use Rattle.reading.specs.Reading.{Gives};
 ghost use Rattle.usage_walk.specs.Others as spec_others;
 ghost use Rattle.usage_match.specs.Matches as spec;
 
@@ -250,7 +250,7 @@ fn match_known(alloc: Global, matches: &Value, path: &[u8]) -> Result<(), FileFa
 
 /// Refuses members inside `matches` that don't fit: unknown ones, the container of the other IP
 /// version, and more than one layer.
-#[tactic(auto, unfolding(crate::specs::Matches::members_fit), using(usage_walk::proofs::Readings::answer_bind))]
+#[tactic(auto, unfolding(crate::specs::Matches::members_fit), using(reading::proofs::Readings::answer_bind))]
 fn members_fit(
     alloc: Global,
     list_type: ListType,
@@ -266,7 +266,7 @@ fn members_fit(
 }
 
 /// What `ietf-mud:mud` asks of the peer. Where there is none, it asks nothing.
-#[tactic(auto, unfolding(crate::specs::Matches::mud_at), using(usage_walk::proofs::Readings::answer_bind, usage_walk::proofs::Readings::answer_done, usage_walk::proofs::Readings::answer_absent, usage_walk::proofs::Readings::answer_there))]
+#[tactic(auto, unfolding(crate::specs::Matches::mud_at), using(reading::proofs::Readings::answer_bind, reading::proofs::Readings::answer_done, reading::proofs::Readings::answer_absent, reading::proofs::Readings::answer_there))]
 fn mud_at(alloc: Global, matches: &Value, path: &[u8]) -> Result<MudTests, FileFault>
     ensures { Gives (λ t. t) result (spec.mud_at path.now (view matches.now)) }
 {
@@ -280,7 +280,7 @@ fn mud_at(alloc: Global, matches: &Value, path: &[u8]) -> Result<MudTests, FileF
 }
 
 /// What `ipv4` or `ipv6` asks. Where there is none, it asks nothing.
-#[tactic(auto, unfolding(crate::specs::Matches::ip_at), using(usage_walk::proofs::Readings::answer_bind, usage_walk::proofs::Readings::answer_done, usage_walk::proofs::Readings::answer_absent, usage_walk::proofs::Readings::answer_there))]
+#[tactic(auto, unfolding(crate::specs::Matches::ip_at), using(reading::proofs::Readings::answer_bind, reading::proofs::Readings::answer_done, reading::proofs::Readings::answer_absent, reading::proofs::Readings::answer_there))]
 fn ip_at(
     alloc: Global,
     list_type: ListType,
@@ -301,7 +301,7 @@ fn ip_at(
 }
 
 /// What `tcp` asks, where it is there.
-#[tactic(auto, unfolding(crate::specs::Matches::tcp_at), using(usage_walk::proofs::Readings::answer_bind, usage_walk::proofs::Readings::answer_absent, usage_walk::proofs::Readings::answer_there))]
+#[tactic(auto, unfolding(crate::specs::Matches::tcp_at), using(reading::proofs::Readings::answer_bind, reading::proofs::Readings::answer_absent, reading::proofs::Readings::answer_there))]
 fn tcp_at(alloc: Global, matches: &Value, path: &[u8]) -> Result<Option<Layer>, FileFault>
     ensures { Gives (λ l. l) result (spec.tcp_at path.now (view matches.now)) }
 {
@@ -315,7 +315,7 @@ fn tcp_at(alloc: Global, matches: &Value, path: &[u8]) -> Result<Option<Layer>, 
 }
 
 /// What `udp` asks, where it is there.
-#[tactic(auto, unfolding(crate::specs::Matches::udp_at), using(usage_walk::proofs::Readings::answer_bind, usage_walk::proofs::Readings::answer_absent, usage_walk::proofs::Readings::answer_there))]
+#[tactic(auto, unfolding(crate::specs::Matches::udp_at), using(reading::proofs::Readings::answer_bind, reading::proofs::Readings::answer_absent, reading::proofs::Readings::answer_there))]
 fn udp_at(alloc: Global, matches: &Value, path: &[u8]) -> Result<Option<Layer>, FileFault>
     ensures { Gives (λ l. l) result (spec.udp_at path.now (view matches.now)) }
 {
@@ -329,7 +329,7 @@ fn udp_at(alloc: Global, matches: &Value, path: &[u8]) -> Result<Option<Layer>, 
 }
 
 /// What `icmp` asks, where it is there.
-#[tactic(auto, unfolding(crate::specs::Matches::icmp_at), using(usage_walk::proofs::Readings::answer_bind, usage_walk::proofs::Readings::answer_absent, usage_walk::proofs::Readings::answer_there))]
+#[tactic(auto, unfolding(crate::specs::Matches::icmp_at), using(reading::proofs::Readings::answer_bind, reading::proofs::Readings::answer_absent, reading::proofs::Readings::answer_there))]
 fn icmp_at(alloc: Global, matches: &Value, path: &[u8]) -> Result<Option<Layer>, FileFault>
     ensures { Gives (λ l. l) result (spec.icmp_at path.now (view matches.now)) }
 {
@@ -343,7 +343,7 @@ fn icmp_at(alloc: Global, matches: &Value, path: &[u8]) -> Result<Option<Layer>,
 }
 
 /// What is asked of the transport header by `tcp`, `udp` or `icmp`, or nothing.
-#[tactic(auto, unfolding(crate::specs::Matches::layer_at), using(usage_walk::proofs::Readings::answer_bind, usage_walk::proofs::Readings::answer_done))]
+#[tactic(auto, unfolding(crate::specs::Matches::layer_at), using(reading::proofs::Readings::answer_bind, reading::proofs::Readings::answer_done))]
 fn layer_at(alloc: Global, matches: &Value, path: &[u8]) -> Result<Layer, FileFault>
     ensures { Gives (λ l. l) result (spec.layer_at path.now (view matches.now)) }
 {
@@ -354,7 +354,7 @@ fn layer_at(alloc: Global, matches: &Value, path: &[u8]) -> Result<Layer, FileFa
 }
 
 /// What the `matches` at this path test.
-#[tactic(auto, unfolding(crate::specs::Matches::matches_of), using(usage_walk::proofs::Readings::answer_bind, usage_walk::proofs::Readings::answer_done))]
+#[tactic(auto, unfolding(crate::specs::Matches::matches_of), using(reading::proofs::Readings::answer_bind, reading::proofs::Readings::answer_done))]
 fn matches_of(
     alloc: Global,
     list_type: ListType,
@@ -380,7 +380,7 @@ fn matches_of(
 /// Protocol numbers, ICMP types and codes are 0 to 255, ports 0 to 65535. Names and the hosts of
 /// manufacturers come in lower case and without a trailing dot, a model as a canonical MUD URL. The
 /// selectors stand in the order in which they are read.
-#[tactic(auto, unfolding(crate::specs::Matches::tests_at), using(usage_walk::proofs::Readings::answer_bind, usage_walk::proofs::Readings::answer_done, usage_walk::proofs::Readings::answer_absent, usage_walk::proofs::Readings::answer_there))]
+#[tactic(auto, unfolding(crate::specs::Matches::tests_at), using(reading::proofs::Readings::answer_bind, reading::proofs::Readings::answer_done, reading::proofs::Readings::answer_absent, reading::proofs::Readings::answer_there))]
 pub fn tests_at(
     alloc: Global,
     list_type: ListType,

@@ -1,7 +1,7 @@
 //! The tests of ports (RFC 8519, 4.2): one port with an operator, or a range.
 ghost use Rattle.std.specs.Prelude.{◌≡◌};
 ghost use Rattle.serde_json.specs.View.{view};
-ghost use Rattle.usage_walk.specs.Reading.{Gives};
+ghost use Rattle.reading.specs.Reading.{Gives};
 ghost use Rattle.usage_walk.specs.Others.{all_known};
 ghost use Rattle.usage_match.specs.Ports as spec;
 
@@ -37,7 +37,7 @@ fn all_known(alloc: Global, object: &Value, path: &[u8]) -> Result<(), FileFault
 }
 
 /// A port that has to be there, from 0 to 65535.
-#[tactic(auto, unfolding(crate::specs::Ports::port_at), using(usage_walk::proofs::Readings::answer_bind))]
+#[tactic(auto, unfolding(crate::specs::Ports::port_at), using(reading::proofs::Readings::answer_bind))]
 fn port_at(alloc: Global, object: &Value, path: &[u8], member: Member) -> Result<u16, FileFault>
     ensures { Gives (λ n. n) result (spec.port_at path.now member (view object.now)) }
 {
@@ -46,7 +46,7 @@ fn port_at(alloc: Global, object: &Value, path: &[u8], member: Member) -> Result
 }
 
 /// The ports from the lower to the upper one, which both have to be there, and in order.
-#[tactic(auto, unfolding(crate::specs::Ports::range_at), using(usage_walk::proofs::Readings::answer_bind, usage_walk::proofs::Readings::answer_done))]
+#[tactic(auto, unfolding(crate::specs::Ports::range_at), using(reading::proofs::Readings::answer_bind, reading::proofs::Readings::answer_done))]
 fn range_at(alloc: Global, object: &Value, path: &[u8]) -> Result<PortTest, FileFault>
     ensures { Gives (λ t. t) result (spec.range_at path.now (view object.now)) }
 {
@@ -72,7 +72,7 @@ fn test_of(operator: Operator, port: u16) -> PortTest
 }
 
 /// The test of one port. An absent operator is read as `eq`.
-#[tactic(auto, unfolding(crate::specs::Ports::single_at), using(usage_walk::proofs::Readings::answer_bind, usage_walk::proofs::Readings::answer_done))]
+#[tactic(auto, unfolding(crate::specs::Ports::single_at), using(reading::proofs::Readings::answer_bind, reading::proofs::Readings::answer_done))]
 fn single_at(alloc: Global, object: &Value, path: &[u8]) -> Result<PortTest, FileFault>
     ensures { Gives (λ t. t) result (spec.single_at path.now (view object.now)) }
 {
@@ -114,7 +114,7 @@ fn one_test(
 }
 
 /// The test of a port container, the object at this path.
-#[tactic(auto, unfolding(crate::specs::Ports::port_test_of), using(usage_walk::proofs::Readings::answer_bind))]
+#[tactic(auto, unfolding(crate::specs::Ports::port_test_of), using(reading::proofs::Readings::answer_bind))]
 fn port_test_of(alloc: Global, object: &Value, path: &[u8]) -> Result<PortTest, FileFault>
     ensures { Gives (λ t. t) result (spec.port_test_of path.now (view object.now)) }
 {
@@ -125,7 +125,7 @@ fn port_test_of(alloc: Global, object: &Value, path: &[u8]) -> Result<PortTest, 
 }
 
 /// The test of a port container in the object at this path. Where there is none, every port passes.
-#[tactic(auto, unfolding(crate::specs::Ports::port_where_there), using(usage_walk::proofs::Readings::answer_bind, usage_walk::proofs::Readings::answer_done, usage_walk::proofs::Readings::answer_absent, usage_walk::proofs::Readings::answer_there))]
+#[tactic(auto, unfolding(crate::specs::Ports::port_where_there), using(reading::proofs::Readings::answer_bind, reading::proofs::Readings::answer_done, reading::proofs::Readings::answer_absent, reading::proofs::Readings::answer_there))]
 pub fn port_where_there(
     alloc: Global,
     object: &Value,

@@ -4,7 +4,7 @@ ghost use Rattle.std.specs.Prelude.{◌≡◌};
 ghost use Rattle.std.specs.List.{list_all};
 ghost use Rattle.std.specs.Char.{is_ascii_graphic};
 ghost use Rattle.serde_json.specs.View.{view};
-ghost use Rattle.usage_walk.specs.Reading.{Gives};
+ghost use Rattle.reading.specs.Reading.{Gives};
 ghost use Rattle.usage_match.specs.Texts as spec;
 
 use crate::entry_tests::{ListType, Operator};
@@ -17,7 +17,7 @@ use usage_walk::path::refusal;
 use usage_walk::{FileFault, Member, Rule};
 
 /// The number of one octet that this is, from 0 to 255.
-#[tactic(auto, unfolding(crate::specs::Texts::as_upto), using(usage_walk::proofs::Readings::answer_bind, usage_walk::proofs::Readings::answer_done, usage_walk::proofs::Readings::answer_passed, usage_walk::proofs::Readings::answer_refused))]
+#[tactic(auto, unfolding(crate::specs::Texts::as_upto), using(reading::proofs::Readings::answer_bind, reading::proofs::Readings::answer_done, reading::proofs::Readings::answer_passed, reading::proofs::Readings::answer_refused))]
 fn as_octet(alloc: Global, path: &[u8], member: Member, number: u64) -> Result<u8, FileFault>
     ensures { Gives (λ n. n) result (spec.as_upto 255 path.now member number) }
 {
@@ -28,7 +28,7 @@ fn as_octet(alloc: Global, path: &[u8], member: Member, number: u64) -> Result<u
 }
 
 /// The port that a number is, from 0 to 65535.
-#[tactic(auto, unfolding(crate::specs::Texts::as_upto), using(usage_walk::proofs::Readings::answer_bind, usage_walk::proofs::Readings::answer_done, usage_walk::proofs::Readings::answer_passed, usage_walk::proofs::Readings::answer_refused))]
+#[tactic(auto, unfolding(crate::specs::Texts::as_upto), using(reading::proofs::Readings::answer_bind, reading::proofs::Readings::answer_done, reading::proofs::Readings::answer_passed, reading::proofs::Readings::answer_refused))]
 pub fn as_port(alloc: Global, path: &[u8], member: Member, number: u64) -> Result<u16, FileFault>
     ensures { Gives (λ n. n) result (spec.as_upto 65535 path.now member number) }
 {
@@ -39,7 +39,7 @@ pub fn as_port(alloc: Global, path: &[u8], member: Member, number: u64) -> Resul
 }
 
 /// A number of one octet, from 0 to 255, where it is there.
-#[tactic(auto, unfolding(crate::specs::Texts::octet_where_there), using(usage_walk::proofs::Readings::answer_bind, usage_walk::proofs::Readings::answer_absent, usage_walk::proofs::Readings::answer_there))]
+#[tactic(auto, unfolding(crate::specs::Texts::octet_where_there), using(reading::proofs::Readings::answer_bind, reading::proofs::Readings::answer_absent, reading::proofs::Readings::answer_there))]
 pub fn octet_where_there(
     alloc: Global,
     object: &Value,
@@ -55,7 +55,7 @@ pub fn octet_where_there(
 }
 
 /// The host name that a text is.
-#[tactic(auto, unfolding(crate::specs::Texts::as_host), using(usage_walk::proofs::Readings::answer_wanted, usage_walk::proofs::Readings::answer_unwanted))]
+#[tactic(auto, unfolding(crate::specs::Texts::as_host), using(reading::proofs::Readings::answer_wanted, reading::proofs::Readings::answer_unwanted))]
 fn as_host(alloc: Global, path: &[u8], member: Member, text: &str) -> Result<Bytes, FileFault>
     ensures { Gives (λ n. n) result (spec.as_host path.now member text.now) }
 {
@@ -66,7 +66,7 @@ fn as_host(alloc: Global, path: &[u8], member: Member, text: &str) -> Result<Byt
 }
 
 /// A host name, where it is there, in lower case and without a trailing dot.
-#[tactic(auto, unfolding(crate::specs::Texts::host_where_there), using(usage_walk::proofs::Readings::answer_bind, usage_walk::proofs::Readings::answer_absent, usage_walk::proofs::Readings::answer_there))]
+#[tactic(auto, unfolding(crate::specs::Texts::host_where_there), using(reading::proofs::Readings::answer_bind, reading::proofs::Readings::answer_absent, reading::proofs::Readings::answer_there))]
 pub fn host_where_there(
     alloc: Global,
     object: &Value,
@@ -82,7 +82,7 @@ pub fn host_where_there(
 }
 
 /// The MUD URL that a text is.
-#[tactic(auto, unfolding(crate::specs::Texts::as_model), using(usage_walk::proofs::Readings::answer_wanted, usage_walk::proofs::Readings::answer_unwanted))]
+#[tactic(auto, unfolding(crate::specs::Texts::as_model), using(reading::proofs::Readings::answer_wanted, reading::proofs::Readings::answer_unwanted))]
 fn as_model(alloc: Global, path: &[u8], member: Member, text: &str) -> Result<MudUrl, FileFault>
     ensures { Gives (λ u. u) result (spec.as_model path.now member text.now) }
 {
@@ -93,7 +93,7 @@ fn as_model(alloc: Global, path: &[u8], member: Member, text: &str) -> Result<Mu
 }
 
 /// A MUD URL, where it is there.
-#[tactic(auto, unfolding(crate::specs::Texts::model_where_there), using(usage_walk::proofs::Readings::answer_bind, usage_walk::proofs::Readings::answer_absent, usage_walk::proofs::Readings::answer_there))]
+#[tactic(auto, unfolding(crate::specs::Texts::model_where_there), using(reading::proofs::Readings::answer_bind, reading::proofs::Readings::answer_absent, reading::proofs::Readings::answer_there))]
 pub fn model_where_there(
     alloc: Global,
     object: &Value,
@@ -130,7 +130,7 @@ fn is_uri(text: &[u8]) -> bool
 }
 
 /// The URI of a class that a text is.
-#[tactic(auto, unfolding(crate::specs::Texts::as_uri), using(usage_walk::proofs::Readings::answer_wanted, usage_walk::proofs::Readings::answer_unwanted))]
+#[tactic(auto, unfolding(crate::specs::Texts::as_uri), using(reading::proofs::Readings::answer_wanted, reading::proofs::Readings::answer_unwanted))]
 fn as_uri(alloc: Global, path: &[u8], member: Member, text: &str) -> Result<Bytes, FileFault>
     ensures { Gives (λ u. u) result (spec.as_uri path.now member text.now) }
 {
@@ -141,7 +141,7 @@ fn as_uri(alloc: Global, path: &[u8], member: Member, text: &str) -> Result<Byte
 }
 
 /// The URI of a class, where it is there.
-#[tactic(auto, unfolding(crate::specs::Texts::uri_where_there), using(usage_walk::proofs::Readings::answer_bind, usage_walk::proofs::Readings::answer_absent, usage_walk::proofs::Readings::answer_there))]
+#[tactic(auto, unfolding(crate::specs::Texts::uri_where_there), using(reading::proofs::Readings::answer_bind, reading::proofs::Readings::answer_absent, reading::proofs::Readings::answer_there))]
 pub fn uri_where_there(
     alloc: Global,
     object: &Value,
@@ -180,7 +180,7 @@ fn network_in(list_type: ListType, text: &[u8]) -> Option<Prefix>
 }
 
 /// The network that a text is, of the IP version of a list.
-#[tactic(auto, unfolding(crate::specs::Texts::as_network), using(usage_walk::proofs::Readings::answer_wanted, usage_walk::proofs::Readings::answer_unwanted))]
+#[tactic(auto, unfolding(crate::specs::Texts::as_network), using(reading::proofs::Readings::answer_wanted, reading::proofs::Readings::answer_unwanted))]
 fn as_network(
     alloc: Global,
     list_type: ListType,
@@ -197,7 +197,7 @@ fn as_network(
 }
 
 /// A network of the IP version of a list, where it is there.
-#[tactic(auto, unfolding(crate::specs::Texts::network_where_there), using(usage_walk::proofs::Readings::answer_bind, usage_walk::proofs::Readings::answer_absent, usage_walk::proofs::Readings::answer_there))]
+#[tactic(auto, unfolding(crate::specs::Texts::network_where_there), using(reading::proofs::Readings::answer_bind, reading::proofs::Readings::answer_absent, reading::proofs::Readings::answer_there))]
 pub fn network_where_there(
     alloc: Global,
     list_type: ListType,
@@ -228,7 +228,7 @@ fn direction_in(text: &str) -> Option<Direction>
 }
 
 /// The direction that a text names.
-#[tactic(auto, unfolding(crate::specs::Texts::as_direction), using(usage_walk::proofs::Readings::answer_wanted, usage_walk::proofs::Readings::answer_unwanted))]
+#[tactic(auto, unfolding(crate::specs::Texts::as_direction), using(reading::proofs::Readings::answer_wanted, reading::proofs::Readings::answer_unwanted))]
 fn as_direction(
     alloc: Global,
     path: &[u8],
@@ -244,7 +244,7 @@ fn as_direction(
 }
 
 /// A direction, where it is there.
-#[tactic(auto, unfolding(crate::specs::Texts::direction_where_there), using(usage_walk::proofs::Readings::answer_bind, usage_walk::proofs::Readings::answer_absent, usage_walk::proofs::Readings::answer_there))]
+#[tactic(auto, unfolding(crate::specs::Texts::direction_where_there), using(reading::proofs::Readings::answer_bind, reading::proofs::Readings::answer_absent, reading::proofs::Readings::answer_there))]
 pub fn direction_where_there(
     alloc: Global,
     object: &Value,
@@ -280,7 +280,7 @@ fn operator_in(text: &str) -> Option<Operator>
 }
 
 /// The operator that a text is.
-#[tactic(auto, unfolding(crate::specs::Texts::as_operator), using(usage_walk::proofs::Readings::answer_wanted, usage_walk::proofs::Readings::answer_unwanted))]
+#[tactic(auto, unfolding(crate::specs::Texts::as_operator), using(reading::proofs::Readings::answer_wanted, reading::proofs::Readings::answer_unwanted))]
 fn as_operator(
     alloc: Global,
     path: &[u8],
@@ -296,7 +296,7 @@ fn as_operator(
 }
 
 /// An operator, where it is there.
-#[tactic(auto, unfolding(crate::specs::Texts::operator_where_there), using(usage_walk::proofs::Readings::answer_bind, usage_walk::proofs::Readings::answer_absent, usage_walk::proofs::Readings::answer_there))]
+#[tactic(auto, unfolding(crate::specs::Texts::operator_where_there), using(reading::proofs::Readings::answer_bind, reading::proofs::Readings::answer_absent, reading::proofs::Readings::answer_there))]
 pub fn operator_where_there(
     alloc: Global,
     object: &Value,

@@ -1,2 +1,2 @@
-pub mod Readings
+pub mod Items
 pub mod NamedLists

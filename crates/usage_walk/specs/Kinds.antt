@@ -6,7 +6,8 @@ use Rattle.serde_json.specs.Find.{get, as_null, as_bool, as_number, as_u64, as_s
 use Rattle.usage_walk.specs.declared.fault.Rule.TheVariants.{Missing, WrongKind}
 use Rattle.usage_walk.specs.declared.member.Member.{Member}
 use Rattle.usage_walk.specs.Members.{name_of}
-use Rattle.usage_walk.specs.Reading.{Reading, done, ◌>>=◌, wanted, refused_where, where_there, under, fault_at}
+use Rattle.reading.specs.Reading.{done, ◌>>=◌, wanted, refused_where, where_there}
+use Rattle.usage_walk.specs.Reading.{Reading, under, fault_at}
 
 abbrev pub object_in : Data → Option Data
 object_in d = if is_some (as_object d) then Some d else None

@@ -6,7 +6,8 @@ use Rattle.serde_json.specs.Find.{as_object}
 use Rattle.usage_walk.specs.declared.fault.Rule.TheVariants.{UnknownMatch}
 use Rattle.usage_walk.specs.declared.member.Member.{Member}
 use Rattle.usage_walk.specs.Members.{name_of}
-use Rattle.usage_walk.specs.Reading.{Reading, refused_where, under_name, fault_at}
+use Rattle.reading.specs.Reading.{refused_where}
+use Rattle.usage_walk.specs.Reading.{Reading, under_name, fault_at}
 
 -- whether it is the name of one of these
 unfoldable pub is_among : List Member → List ℕ → Bool

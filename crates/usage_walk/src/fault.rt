@@ -1,9 +1,9 @@
 //! Why a usage file is refused.
 ghost use Rattle.std.specs.Prelude.{◌≡◌};
 
-use mud_base::{Bytes, Memory};
+use mud_base::Bytes;
 use mud_url::UrlFault;
-use std::alloc::{AllocError, AllocFailed};
+use reading::Refusal;
 
 /// The rules of usage files. The first rule that is broken, in the order in which a file is read,
 /// is the one that a refusal names.
@@ -141,41 +141,5 @@ pub struct Broken {
     pub url: Option<UrlFault>,
 }
 
-/// Why a usage file has no reading.
-#[derive(Drop, Debug)]
-pub enum FileFault {
-    /// Memory was wanted and there was none.
-    Memory,
-    /// It breaks a rule.
-    Broken(Broken),
-}
-
-impl From<Memory> for FileFault {
-    ghost use Rattle.usage_walk.specs.declared.fault.FileFault.TheVariants.{Memory};
-
-    ghost from_gives = { λ _ fault. fault ≡ Memory };
-
-    fn from(_memory: Memory) -> FileFault {
-        FileFault::Memory
-    }
-}
-
-impl From<AllocError> for FileFault {
-    ghost use Rattle.usage_walk.specs.declared.fault.FileFault.TheVariants.{Memory};
-
-    ghost from_gives = { λ _ fault. fault ≡ Memory };
-
-    fn from(_error: AllocError) -> FileFault {
-        FileFault::Memory
-    }
-}
-
-impl<T: Drop> From<AllocFailed<T>> for FileFault {
-    ghost use Rattle.usage_walk.specs.declared.fault.FileFault.TheVariants.{Memory};
-
-    ghost from_gives = { λ _ fault. fault ≡ Memory };
-
-    fn from(_error: AllocFailed<T>) -> FileFault {
-        FileFault::Memory
-    }
-}
+/// Why a usage file has no reading: want of memory, or the first rule that it breaks.
+pub type FileFault = Refusal<Broken>;

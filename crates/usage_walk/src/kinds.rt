@@ -1,7 +1,8 @@
 //! Values of one JSON kind, and members of an object.
 ghost use Rattle.std.specs.Prelude.{◌≡◌, map, option_map};
 ghost use Rattle.serde_json.specs.View.{view};
-ghost use Rattle.usage_walk.specs.Reading.{Gives, under};
+ghost use Rattle.reading.specs.Reading.{Gives};
+ghost use Rattle.usage_walk.specs.Reading.{under};
 ghost use Rattle.usage_walk.specs.Kinds as spec;
 
 use crate::fault::{FileFault, Rule};
@@ -11,7 +12,7 @@ use serde_json::Value;
 use std::alloc::Global;
 
 /// The member that has to be there, of the object at this path.
-#[tactic(auto, unfolding(crate::specs::Kinds::member_at), using(crate::proofs::Readings::answer_wanted, crate::proofs::Readings::answer_unwanted))]
+#[tactic(auto, unfolding(crate::specs::Kinds::member_at), using(reading::proofs::Readings::answer_wanted, reading::proofs::Readings::answer_unwanted))]
 pub fn member_at<'a>(
     alloc: Global,
     object: &'a Value,
@@ -27,7 +28,7 @@ pub fn member_at<'a>(
 }
 
 /// The text that a member is.
-#[tactic(auto, unfolding(crate::specs::Kinds::text_of), using(crate::proofs::Readings::answer_wanted, crate::proofs::Readings::answer_unwanted))]
+#[tactic(auto, unfolding(crate::specs::Kinds::text_of), using(reading::proofs::Readings::answer_wanted, reading::proofs::Readings::answer_unwanted))]
 fn text_of<'a>(
     alloc: Global,
     value: &'a Value,
@@ -43,7 +44,7 @@ fn text_of<'a>(
 }
 
 /// A text that has to be there, in the object at this path.
-#[tactic(auto, unfolding(crate::specs::Kinds::text_at), using(crate::proofs::Readings::answer_bind))]
+#[tactic(auto, unfolding(crate::specs::Kinds::text_at), using(reading::proofs::Readings::answer_bind))]
 pub fn text_at<'a>(
     alloc: Global,
     object: &'a Value,
@@ -57,7 +58,7 @@ pub fn text_at<'a>(
 }
 
 /// The whole number that a member is.
-#[tactic(auto, unfolding(crate::specs::Kinds::number_of), using(crate::proofs::Readings::answer_wanted, crate::proofs::Readings::answer_unwanted))]
+#[tactic(auto, unfolding(crate::specs::Kinds::number_of), using(reading::proofs::Readings::answer_wanted, reading::proofs::Readings::answer_unwanted))]
 fn number_of(alloc: Global, value: &Value, path: &[u8], member: Member) -> Result<u64, FileFault>
     ensures { Gives (λ n. n) result (spec.number_of (under path.now member) (view value.now)) }
 {
@@ -68,7 +69,7 @@ fn number_of(alloc: Global, value: &Value, path: &[u8], member: Member) -> Resul
 }
 
 /// A whole number that has to be there, in the object at this path.
-#[tactic(auto, unfolding(crate::specs::Kinds::number_at), using(crate::proofs::Readings::answer_bind))]
+#[tactic(auto, unfolding(crate::specs::Kinds::number_at), using(reading::proofs::Readings::answer_bind))]
 pub fn number_at(
     alloc: Global,
     object: &Value,
@@ -82,7 +83,7 @@ pub fn number_at(
 }
 
 /// The truth value that a member is.
-#[tactic(auto, unfolding(crate::specs::Kinds::truth_of), using(crate::proofs::Readings::answer_wanted, crate::proofs::Readings::answer_unwanted))]
+#[tactic(auto, unfolding(crate::specs::Kinds::truth_of), using(reading::proofs::Readings::answer_wanted, reading::proofs::Readings::answer_unwanted))]
 fn truth_of(alloc: Global, value: &Value, path: &[u8], member: Member) -> Result<bool, FileFault>
     ensures { Gives (λ b. b) result (spec.truth_of (under path.now member) (view value.now)) }
 {
@@ -93,7 +94,7 @@ fn truth_of(alloc: Global, value: &Value, path: &[u8], member: Member) -> Result
 }
 
 /// A truth value that has to be there, in the object at this path.
-#[tactic(auto, unfolding(crate::specs::Kinds::truth_at), using(crate::proofs::Readings::answer_bind))]
+#[tactic(auto, unfolding(crate::specs::Kinds::truth_at), using(reading::proofs::Readings::answer_bind))]
 pub fn truth_at(
     alloc: Global,
     object: &Value,
@@ -107,7 +108,7 @@ pub fn truth_at(
 }
 
 /// The object that a member is.
-#[tactic(auto, unfolding(crate::specs::Kinds::object_of), using(crate::proofs::Readings::answer_wanted, crate::proofs::Readings::answer_unwanted))]
+#[tactic(auto, unfolding(crate::specs::Kinds::object_of), using(reading::proofs::Readings::answer_wanted, reading::proofs::Readings::answer_unwanted))]
 fn object_of<'a>(
     alloc: Global,
     value: &'a Value,
@@ -124,7 +125,7 @@ fn object_of<'a>(
 }
 
 /// An object that has to be there, in the object at this path.
-#[tactic(auto, unfolding(crate::specs::Kinds::object_at), using(crate::proofs::Readings::answer_bind))]
+#[tactic(auto, unfolding(crate::specs::Kinds::object_at), using(reading::proofs::Readings::answer_bind))]
 pub fn object_at<'a>(
     alloc: Global,
     object: &'a Value,
@@ -138,7 +139,7 @@ pub fn object_at<'a>(
 }
 
 /// The object that stands at this path itself.
-#[tactic(auto, unfolding(crate::specs::Kinds::object_of), using(crate::proofs::Readings::answer_wanted, crate::proofs::Readings::answer_unwanted))]
+#[tactic(auto, unfolding(crate::specs::Kinds::object_of), using(reading::proofs::Readings::answer_wanted, reading::proofs::Readings::answer_unwanted))]
 pub fn object_here<'a>(alloc: Global, value: &'a Value, path: &[u8]) -> Result<&'a Value, FileFault>
     ensures { Gives (λ v. view v.now) result (spec.object_of path.now (view value.now)) }
 {
@@ -158,7 +159,7 @@ pub fn inside<'a>(object: Option<&'a Value>, member: Member) -> Option<&'a Value
 }
 
 /// A text, where it is there, in the object at this path.
-#[tactic(auto, unfolding(crate::specs::Kinds::text_where_there), using(crate::proofs::Readings::answer_absent, crate::proofs::Readings::answer_there))]
+#[tactic(auto, unfolding(crate::specs::Kinds::text_where_there), using(reading::proofs::Readings::answer_absent, reading::proofs::Readings::answer_there))]
 pub fn text_where_there<'a>(
     alloc: Global,
     object: Option<&'a Value>,
@@ -174,7 +175,7 @@ pub fn text_where_there<'a>(
 }
 
 /// A whole number, where it is there, in the object at this path.
-#[tactic(auto, unfolding(crate::specs::Kinds::number_where_there), using(crate::proofs::Readings::answer_absent, crate::proofs::Readings::answer_there))]
+#[tactic(auto, unfolding(crate::specs::Kinds::number_where_there), using(reading::proofs::Readings::answer_absent, reading::proofs::Readings::answer_there))]
 pub fn number_where_there(
     alloc: Global,
     object: Option<&Value>,
@@ -190,7 +191,7 @@ pub fn number_where_there(
 }
 
 /// An object, where it is there, in the object at this path.
-#[tactic(auto, unfolding(crate::specs::Kinds::object_where_there), using(crate::proofs::Readings::answer_absent, crate::proofs::Readings::answer_there))]
+#[tactic(auto, unfolding(crate::specs::Kinds::object_where_there), using(reading::proofs::Readings::answer_absent, reading::proofs::Readings::answer_there))]
 pub fn object_where_there<'a>(
     alloc: Global,
     object: Option<&'a Value>,
@@ -206,7 +207,7 @@ pub fn object_where_there<'a>(
 }
 
 /// The elements of the list that a member is.
-#[tactic(auto, unfolding(crate::specs::Kinds::list_of), using(crate::proofs::Readings::answer_wanted, crate::proofs::Readings::answer_unwanted, crate::proofs::Readings::list_in_some))]
+#[tactic(auto, unfolding(crate::specs::Kinds::list_of), using(reading::proofs::Readings::answer_wanted, reading::proofs::Readings::answer_unwanted, crate::proofs::Items::list_in_some))]
 fn list_of<'a>(
     alloc: Global,
     value: &'a Value,
@@ -222,7 +223,7 @@ fn list_of<'a>(
 }
 
 /// The elements of a list in the object at this path. An absent list has none.
-#[tactic(auto, unfolding(crate::specs::Kinds::list_where_there), using(crate::proofs::Readings::answer_bind, crate::proofs::Readings::answer_done, crate::proofs::Readings::answer_absent, crate::proofs::Readings::answer_there))]
+#[tactic(auto, unfolding(crate::specs::Kinds::list_where_there), using(reading::proofs::Readings::answer_bind, reading::proofs::Readings::answer_done, reading::proofs::Readings::answer_absent, reading::proofs::Readings::answer_there))]
 pub fn list_where_there<'a>(
     alloc: Global,
     object: Option<&'a Value>,
@@ -249,7 +250,7 @@ fn is_only_null(list: &[Value]) -> bool
 }
 
 /// Whether a value is an empty leaf: `[null]` (RFC 7951, 6.9) or `null`.
-#[tactic(auto, unfolding(crate::specs::Kinds::is_empty_leaf), using(crate::proofs::Readings::list_in_some))]
+#[tactic(auto, unfolding(crate::specs::Kinds::is_empty_leaf), using(crate::proofs::Items::list_in_some))]
 fn is_empty_leaf(value: &Value) -> bool
     ensures { result ≡ spec.is_empty_leaf (view value.now) }
 {
@@ -260,7 +261,7 @@ fn is_empty_leaf(value: &Value) -> bool
 }
 
 /// The empty leaf that a member is.
-#[tactic(auto, unfolding(crate::specs::Kinds::leaf_of), using(crate::proofs::Readings::answer_passed, crate::proofs::Readings::answer_refused))]
+#[tactic(auto, unfolding(crate::specs::Kinds::leaf_of), using(reading::proofs::Readings::answer_passed, reading::proofs::Readings::answer_refused))]
 fn leaf_of(alloc: Global, value: &Value, path: &[u8], member: Member) -> Result<(), FileFault>
     ensures { Gives (λ _. tt) result (spec.leaf_of (under path.now member) (view value.now)) }
 {
@@ -272,7 +273,7 @@ fn leaf_of(alloc: Global, value: &Value, path: &[u8], member: Member) -> Result<
 }
 
 /// Whether an empty leaf is there, in the object at this path.
-#[tactic(auto, unfolding(crate::specs::Kinds::leaf_where_there), using(crate::proofs::Readings::answer_bind, crate::proofs::Readings::answer_done, crate::proofs::Readings::answer_absent, crate::proofs::Readings::answer_there))]
+#[tactic(auto, unfolding(crate::specs::Kinds::leaf_where_there), using(reading::proofs::Readings::answer_bind, reading::proofs::Readings::answer_done, reading::proofs::Readings::answer_absent, reading::proofs::Readings::answer_there))]
 pub fn leaf_where_there(
     alloc: Global,
     object: Option<&Value>,
@@ -291,7 +292,7 @@ pub fn leaf_where_there(
 }
 
 /// The text that a value at this path is.
-#[tactic(auto, unfolding(crate::specs::Kinds::text_of), using(crate::proofs::Readings::answer_wanted, crate::proofs::Readings::answer_unwanted))]
+#[tactic(auto, unfolding(crate::specs::Kinds::text_of), using(reading::proofs::Readings::answer_wanted, reading::proofs::Readings::answer_unwanted))]
 pub fn text_here<'a>(alloc: Global, value: &'a Value, path: &[u8]) -> Result<&'a str, FileFault>
     ensures { Gives (λ t. t.now) result (spec.text_of path.now (view value.now)) }
 {

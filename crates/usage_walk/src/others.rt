@@ -1,7 +1,7 @@
 //! Members that may not stand in an object.
 ghost use Rattle.std.specs.Prelude.{◌≡◌, option_map};
 ghost use Rattle.serde_json.specs.View.{view};
-ghost use Rattle.usage_walk.specs.Reading.{Gives};
+ghost use Rattle.reading.specs.Reading.{Gives};
 ghost use Rattle.usage_walk.specs.Others as spec;
 
 use crate::fault::{FileFault, Rule};
@@ -33,7 +33,7 @@ fn first_unknown<'a>(object: &'a Value, known: &[Member]) -> Option<&'a str>
 }
 
 /// Refuses the object at this path where a member stands in it that is none of these.
-#[tactic(auto, unfolding(crate::specs::Others::all_known), using(crate::proofs::Readings::answer_passed, crate::proofs::Readings::answer_refused))]
+#[tactic(auto, unfolding(crate::specs::Others::all_known), using(reading::proofs::Readings::answer_passed, reading::proofs::Readings::answer_refused))]
 pub fn all_known(
     alloc: Global,
     object: &Value,

@@ -1,7 +1,8 @@
 //! Paths: JSON pointers (RFC 6901), and refusals that name them.
 ghost use Rattle.std.specs.Prelude.{◌≡◌, IfOk};
-ghost use Rattle.usage_walk.specs.Reading.{Gives, Refuses, at_place, fault_at, refused_where, under, under_name};
-ghost use Rattle.usage_walk.specs.Reading as reading;
+ghost use Rattle.reading.specs.Reading.{Gives, Refuses, refused_where};
+ghost use Rattle.usage_walk.specs.Reading.{at_place, fault_at, under, under_name};
+ghost use Rattle.usage_walk.specs.Reading as spec;
 
 use crate::fault::{Broken, FileFault, Rule};
 use crate::member::Member;
@@ -12,7 +13,7 @@ use std::alloc::Global;
 /// The path of a member of the object at this path.
 #[tactic(auto, unfolding(crate::specs::Reading::under))]
 pub fn under(alloc: Global, path: &[u8], member: Member) -> Result<Bytes, Memory>
-    ensures { IfOk result (λ found. found ≡ reading.under path.now member) }
+    ensures { IfOk result (λ found. found ≡ spec.under path.now member) }
 {
     let mut text = Bytes::new(alloc, path)?;
     text.push(b'/')?;
@@ -23,7 +24,7 @@ pub fn under(alloc: Global, path: &[u8], member: Member) -> Result<Bytes, Memory
 /// The path of an element of the list at this path, by its place from 0.
 #[tactic(auto, unfolding(crate::specs::Reading::at_place))]
 pub fn at_place(alloc: Global, path: &[u8], place: usize) -> Result<Bytes, Memory>
-    ensures { IfOk result (λ found. found ≡ reading.at_place path.now place) }
+    ensures { IfOk result (λ found. found ≡ spec.at_place path.now place) }
 {
     let mut text = Bytes::new(alloc, path)?;
     text.push(b'/')?;
@@ -33,7 +34,7 @@ pub fn at_place(alloc: Global, path: &[u8], place: usize) -> Result<Bytes, Memor
 
 /// How an octet of a name stands in a path (RFC 6901, 3).
 fn escape(octet: &u8) -> &[u8]
-    ensures { result.now ≡ reading.escape octet.now }
+    ensures { result.now ≡ spec.escape octet.now }
 {
     match octet {
         b'~' => b"~0",
@@ -46,7 +47,7 @@ fn escape(octet: &u8) -> &[u8]
 /// as `~1` (RFC 6901, 3).
 #[tactic(auto, unfolding(crate::specs::Reading::under_name))]
 pub fn under_name(alloc: Global, path: &[u8], name: &[u8]) -> Result<Bytes, Memory>
-    ensures { IfOk result (λ found. found ≡ reading.under_name path.now name.now) }
+    ensures { IfOk result (λ found. found ≡ spec.under_name path.now name.now) }
 {
     let mut text = Bytes::new(alloc, path)?;
     text.push(b'/')?;
@@ -70,7 +71,7 @@ pub fn refused(rule: Rule, path: Bytes) -> FileFault
 
 /// The refusal that names a member of the object at this path.
 pub fn refusal(alloc: Global, rule: Rule, path: &[u8], member: Member) -> FileFault
-    ensures { Refuses result (fault_at rule (reading.under path.now member)) }
+    ensures { Refuses result (fault_at rule (spec.under path.now member)) }
 {
     match under(alloc, path, member) {
         Ok(path) => refused(rule, path),
@@ -89,7 +90,7 @@ pub fn refusal_here(alloc: Global, rule: Rule, path: &[u8]) -> FileFault
 }
 
 /// Refuses where a rule of a member of the object at this path is broken.
-#[tactic(auto, using(crate::proofs::Readings::answer_passed, crate::proofs::Readings::answer_refused))]
+#[tactic(auto, using(reading::proofs::Readings::answer_passed, reading::proofs::Readings::answer_refused))]
 pub fn refuse_where(
     alloc: Global,
     breaks: bool,
@@ -97,7 +98,7 @@ pub fn refuse_where(
     path: &[u8],
     member: Member,
 ) -> Result<(), FileFault>
-    ensures { Gives (λ _. tt) result (refused_where breaks (fault_at rule (reading.under path.now member))) }
+    ensures { Gives (λ _. tt) result (refused_where breaks (fault_at rule (spec.under path.now member))) }
 {
     if breaks {
         return Err(refusal(alloc, rule, path, member));
@@ -106,7 +107,7 @@ pub fn refuse_where(
 }
 
 /// Refuses where a rule of what stands at this path is broken.
-#[tactic(auto, using(crate::proofs::Readings::answer_passed, crate::proofs::Readings::answer_refused))]
+#[tactic(auto, using(reading::proofs::Readings::answer_passed, reading::proofs::Readings::answer_refused))]
 pub fn refuse_here_where(
     alloc: Global,
     breaks: bool,

@@ -1,5 +1,5 @@
 use Rattle.std.proofs.Common.{◌≡◌, map, drop}
-use Rattle.usage_walk.specs.Reading.{answer, over}
+use Rattle.reading.specs.Reading.{answer, over}
 use Rattle.usage_walk.specs.Elements.{element_view, elements_view}
 use Rattle.mud_file.specs.Entries as spec
 use Rattle.mud_file.proofs.lists.entries_of.Given as goal

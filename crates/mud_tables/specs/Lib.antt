@@ -8,6 +8,7 @@ pub mod ThingSteps
 pub mod ThingChanges
 pub mod Binds
 pub mod BindSteps
+pub mod BindRowChanges
 pub mod Tables
 pub mod Bindings
 pub mod BindingChanges

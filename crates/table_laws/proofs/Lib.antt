@@ -1,6 +1,7 @@
 pub mod Apart
 pub mod BindChanges
 pub mod BindLaws
+pub mod BindRows
 pub mod BindingRows
 pub mod BookChanges
 mod ChangeExamples

@@ -1,5 +1,5 @@
 -- Two puts about one place are no difference, though they lead from the items before to those after.
-use Rattle.std.proofs.Common.{◌≡◌, List, [], ◌∷◌, refl, sym}
+use Rattle.std.proofs.Common.{◌≡◌, [], ◌∷◌, refl}
 use Rattle.std.proofs.lemmas.Bool.{false≢true}
 use Rattle.mud_world.specs.declared.item.Item.{Item}
 use Rattle.mud_world.specs.declared.item.Put.TheVariants.{Set}

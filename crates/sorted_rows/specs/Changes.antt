@@ -20,6 +20,11 @@ without_gone place (Some p) rows = without_row place p rows
 unfoldable pub changed : {R : Type 0} → (R → List ℕ) → RowChange R → List R → List R
 changed place change rows = set_rows place change.sets (without_gone place change.gone rows)
 
+-- the row of the place that goes
+abbrev pub gone_row : {R : Type 0} → (R → List ℕ) → Option (List ℕ) → List R → Option R
+gone_row place None rows = None
+gone_row place (Some p) rows = row_at place p rows
+
 -- the row that goes is there, and none that is put in is there already
 pub record IsNeededChange {R : Type 0} (place : R → List ℕ) (rows : List R) (change : RowChange R) : Type 0 where
   pub gone : IfSome change.gone (λ p. ¬ (row_at place p rows ≡ None))

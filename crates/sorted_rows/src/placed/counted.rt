@@ -2,7 +2,7 @@
 //! taken away; what moves up or down in memory beside it isn't counted.
 ghost use Rattle.std.specs.Prelude.{◌≡◌, ℕ, ◌+◌, ◌*◌, ◌^◌, ◌<◌, ◌≤◌, min, length, Some, slice_get, is_some, option_copied, IsSome, IfSome, IsTrue, ◌↔◌, if◌then◌else◌, vec_len, vec_capacity, ◌-◌, ◌++◌, ◌∷◌, []};
 ghost use Rattle.sorted_rows.specs.Placed.{PlacesAscend, row_at, index_in, set_row, set_rows, without_row, comes_last};
-ghost use Rattle.sorted_rows.specs.Changes.{changed, places_of};
+ghost use Rattle.sorted_rows.specs.Changes.{changed, gone_row, places_of};
 
 use super::rows::SortedRows;
 use super::{Change, KeyOf, Placed};
@@ -86,7 +86,8 @@ impl<R: Placed> SortedRows<R> {
     }
 
     /// Puts each of these rows in, as `put_all` does: for each one step, beside those of a search
-    /// among no more rows than there are and are put in together.
+    /// among no more rows than there are and are put in together. Each search reads a row, but for
+    /// the first where there is none.
     pub fn put_all_counted<L: Ledger>(&mut self, rows: Vec<R>, steps: &mut Steps<L>)
     where
         R: Drop,
@@ -94,7 +95,7 @@ impl<R: Placed> SortedRows<R> {
         ensures rows { self.new.rows ≡ set_rows R.place rows.items self.old.rows }
         ensures room { self.old.room ≤ self.new.room + vec_len rows }
         ensures space { self.new.room + length self.new.rows ≡ self.old.room + length self.old.rows }
-        ensures least { steps.old + vec_len rows ≤ steps.new }
+        ensures least { steps.old + 2 * vec_len rows ≤ steps.new + min 1 (vec_len rows) }
         ensures most { (b : ℕ) → length self.old.rows + vec_len rows ≤ 2 ^ b → steps.new ≤ steps.old + vec_len rows * (b + 1) }
     {
         for row in rows {
@@ -159,7 +160,7 @@ impl<R: Placed> SortedRows<R> {
 
     /// Makes the change, as `change` does: for each place that it touches a search among no more
     /// rows than there are and are put in together, and one step for each row that is put in and
-    /// for the one that goes.
+    /// for the one that goes. Each search reads a row, but for the first where there is none.
     pub fn change_counted<K: KeyOf<R>, L: Ledger>(
         &mut self,
         change: Change<K, R>,
@@ -172,7 +173,7 @@ impl<R: Placed> SortedRows<R> {
         ensures rows { self.new.rows ≡ changed R.place change self.old.rows }
         ensures room { self.old.room ≤ self.new.room + length change.sets }
         ensures space { self.new.room + length self.new.rows ≡ self.old.room + length self.old.rows }
-        ensures least { steps.old + length change.sets ≤ steps.new }
+        ensures least { steps.old + (if is_some (gone_row R.place change.gone self.old.rows) then 2 else 0) + 2 * length change.sets ≤ steps.new + min 1 (length change.sets) }
         ensures most { (b : ℕ) → length self.old.rows + length change.sets < 2 ^ b → steps.new ≤ steps.old + length (places_of R.place change) * (b + 1) }
     {
         let (gone, sets) = change.into_parts();

@@ -3,7 +3,7 @@ ghost use Rattle.std.specs.Prelude.{◌≡◌, ◌==◌, bytes_eq};
 ghost use Rattle.std.specs.List.{list_all};
 ghost use Rattle.std.specs.Char.{is_ascii_graphic, to_ascii_lowercase};
 ghost use Rattle.mud_url.specs.Host.{lowered};
-ghost use Rattle.mud_tables.specs.Things.{are_leases};
+ghost use Rattle.mud_tables.specs.Things.{are_leases, is_sound_thing, may_wait};
 ghost use Rattle.mud_tables.specs.Binds as spec;
 ghost use Rattle.mud_tables.specs.BindItems.{are_locals};
 
@@ -11,7 +11,9 @@ use crate::addrs::{are_addrs, are_prefixes, prefix_of_parts};
 use crate::bind::{Class, ClassRow, NameRow};
 use crate::ends::{are_ascending, have_ends};
 use crate::limits::{MOST_CLASS_ADDRESSES, MOST_LEASES, MOST_LOCALS, MOST_NAME_ADDRESSES};
+use crate::thing::Thing;
 use mud_base::{Addr, End, Prefix};
+use mud_url::MudUrl;
 use mud_url::host::is_host;
 
 /// Whether these are the leases of a Thing: at most four, in the order of their addresses, each
@@ -21,6 +23,30 @@ pub fn are_leases(rows: &[(Addr, End)]) -> bool
     ensures { result ≡ are_leases rows.now }
 {
     are_ascending(rows) && have_ends(rows) && rows.len() <= MOST_LEASES
+}
+
+/// Whether a Thing may be kept: its URLs are canonical, the URL that waits is another than its own,
+/// and its leases are leases of a Thing.
+#[tactic(auto, unfolding(crate::specs::Things::is_sound_thing))]
+pub fn is_sound_thing(thing: &Thing) -> bool
+    ensures { result ≡ is_sound_thing thing.now }
+{
+    thing.url.text_is_canonical();
+    may_wait(&thing.url, &thing.pending) && are_leases(thing.leases.as_slice())
+}
+
+/// Whether a URL may wait beside a Thing's own: it is another one.
+#[tactic(auto, unfolding(crate::specs::Things::may_wait))]
+fn may_wait(url: &MudUrl, pending: &Option<MudUrl>) -> bool
+    ensures { result ≡ may_wait url.now pending.now }
+{
+    match pending {
+        Some(pending) => {
+            pending.text_is_canonical();
+            pending.text() != url.text()
+        }
+        None => true,
+    }
 }
 
 /// Whether a class may be kept: a URI has 1 to 255 octets from 21 to 7E hex, and there are 1 to 64

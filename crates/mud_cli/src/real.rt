@@ -1,7 +1,7 @@
 //! The real door and the real clock. What a pipe, a terminal or a clock gives is outside what is
 //! proved, so these tell nothing of content. Their counts and bounds are proved, and what a door
 //! does with the reader and the writer that it is made of.
-ghost use Rattle.std.specs.Prelude.{◌≡◌, ◌<◌, ◌≤◌, false, true, [], length, IfOk, OnOk, Ok, is_err};
+ghost use Rattle.std.specs.Prelude.{◌≡◌, ◌<◌, ◌≤◌, false, true, [], length, IfOk, OnOk, Ok, None, is_err};
 ghost use Rattle.std.specs.Io.KnownBytes.{ReadConsumes, WriteAppends};
 ghost use Rattle.mud_world.specs.Causes.{Counts};
 ghost use Rattle.mud_world.specs.Door.{DoorState};

@@ -1,5 +1,5 @@
 -- Which calls of a keeper in memory fail, and what they leave.
-use Rattle.std.specs.Prelude.{◌≡◌, ℕ, Bool, false, List, []}
+use Rattle.std.specs.Prelude.{◌≡◌, Bool, false, List, []}
 use Rattle.mud_world.specs.declared.item.Item.{Item}
 use Rattle.mud_world.specs.declared.memory_keeper.MemoryKeeper.{MemoryKeeper}
 use Rattle.mud_world.specs.declared.memory_keeper.KeeperCalls.{KeeperCalls}

@@ -121,6 +121,16 @@ fn a_row_is_put_where_it_was_found_to_belong(rt: HostRuntime) -> Result<(), Fail
     Ok(())
 }
 
+/// Reads seats back, counted on a ledger of the caller's.
+fn read_back<L: Ledger>(stored: Vec<Seat>, blank: Blank) -> Option<SortedRows<Seat>>
+    requires name { blank.name ≡ L.name }
+    requires parts { blank.parts ≡ L.parts }
+    requires some { 0 < L.parts }
+{
+    let mut steps = Steps::<L>::new(blank);
+    SortedRows::from_sorted_counted(stored, &mut steps)
+}
+
 #[test]
 fn sorted_rows_are_read_back(rt: HostRuntime) -> Result<(), Fail> {
     let stored = vec![in rt.alloc(); at(1, 4, 1), at(2, 3, 2)]?;
@@ -131,7 +141,7 @@ fn sorted_rows_are_read_back(rt: HostRuntime) -> Result<(), Fail> {
     let wanted = [at(1, 4, 1), at(2, 3, 2), at(2, 4, 4)];
     assert_eq!(rt; seats.rows(), wanted.as_slice());
     let twice = vec![in rt.alloc(); at(1, 4, 1), at(1, 4, 2)]?;
-    assert!(rt; SortedRows::from_sorted(twice).is_none());
+    assert!(rt; read_back::<Brand>(twice, Blank::new(1)).is_none());
     Ok(())
 }
 
@@ -143,6 +153,7 @@ fn searched<L: Ledger>(seats: &SortedRows<Seat>, number: u32, blank: Blank) -> (
 {
     let mut steps = Steps::<L>::new(blank);
     let found = seats.find_counted(&to(&2, number), &mut steps).is_ok();
+    let found = found && seats.contains_counted(&to(&2, number), &mut steps);
     let row = seats.rows_under_counted(&InRow(2), &mut steps);
     steps.add(1);
     (found, row.len())

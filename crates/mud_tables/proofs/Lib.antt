@@ -18,3 +18,4 @@ pub mod SoundLaws
 pub mod ReadLaws
 pub mod TakenLaws
 mod TakenExamples
+mod SamePrefixes

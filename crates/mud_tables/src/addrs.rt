@@ -58,6 +58,32 @@ pub fn prefixes_in_order(alloc: Global, prefixes: &[Prefix]) -> Result<Listed<Pr
     Ok(Listed::from_vec(sorted))
 }
 
+/// Whether both are one prefix.
+#[tactic(auto, unfolding(crate::specs::Binds::same_prefix))]
+fn same_prefix(one: &Prefix, other: &Prefix) -> bool
+    ensures { result ≡ spec.same_prefix one.now other.now }
+{
+    same_addr(one.addr(), other.addr()) && one.len() == other.len()
+}
+
+/// Whether two lists have the same prefixes, one after the other.
+#[tactic(auto, using(crate::proofs::SamePrefixes::other_lengths))]
+pub fn same_prefixes(first: &[Prefix], second: &[Prefix]) -> bool
+    ensures { result ≡ spec.same_prefixes first.now second.now }
+{
+    if first.len() != second.len() {
+        return false;
+    }
+    let mut at = first.len();
+    while at > 0 {
+        at -= 1;
+        if !same_prefix(&first[at], &second[at]) {
+            return false;
+        }
+    }
+    true
+}
+
 /// Whether the prefixes are in their order, each once.
 #[tactic(auto, unfolding(crate::specs::Binds::are_prefixes))]
 pub fn are_prefixes(prefixes: &[Prefix]) -> bool

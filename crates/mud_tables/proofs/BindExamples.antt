@@ -1,8 +1,7 @@
 -- The steps on classes, local networks and names, case by case.
-use Rattle.std.proofs.Common.{◌≡◌, ℕ, ◌+◌, ◌≤◌, List, [], ◌∷◌, ◌++◌, length, map, Option, Some, None, Result, Ok, Err, refl, true, false, zero, suc}
+use Rattle.std.proofs.Common.{◌≡◌, ℕ, List, [], ◌∷◌, ◌++◌, length, map, Some, None, Err, refl, true}
 use Rattle.std.specs.Prelude.{nat_le, codes}
 use Rattle.std.specs.List.{range_with_len}
-use Rattle.mud_base.specs.Addresses.{PrefixParts}
 use Rattle.mud_base.specs.declared.addr.Addr.{Addr}
 use Rattle.mud_base.specs.declared.addr.Addr.TheVariants.{V4, V6}
 use Rattle.mud_base.specs.declared.prefix.Prefix.{Prefix}
@@ -12,7 +11,7 @@ use Rattle.mud_tables.specs.declared.bind.Class.TheVariants.{Uri, Mine}
 use Rattle.mud_tables.specs.declared.bind.ClassRow.{ClassRow}
 use Rattle.mud_tables.specs.declared.bind.NameRow.{NameRow}
 use Rattle.mud_tables.specs.declared.bind_fault.BindFault.TheVariants.{ClassesFull, ClassFull, NotBound, LocalsFull, NamesFull, NameFull}
-use Rattle.mud_tables.specs.Binds.{class_at, class_row, name_at, name_row}
+use Rattle.mud_tables.specs.Binds.{class_at, name_at, name_row}
 use Rattle.mud_tables.specs.BindSteps.{classes_done, locals_done, observed, bind_cases, bind_step, unbind_step, locals_step, least_dead, addrs_of, replacing, new_pair, observe_cases, observe_row, observe_step}
 use Rattle.mud_tables.specs.Ends.{end_of}
 use Rattle.mud_tables.proofs.Literals.{binds_compute, bulb_addr, switch_addr, dns_addr, test_addr, bulb_url, dns_class, test_name}

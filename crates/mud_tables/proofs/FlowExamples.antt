@@ -1,5 +1,5 @@
 -- Who began a connection, by what was forwarded before.
-use Rattle.std.proofs.Common.{◌≡◌, ℕ, true, false, List, [], ◌∷◌, Option, Some, None, if◌then◌else◌, refl, inl, inr}
+use Rattle.std.proofs.Common.{◌≡◌, List, [], Option, Some, None, if◌then◌else◌, refl, inl, inr}
 use Rattle.mud_base.specs.declared.packet.Fields.{Fields}
 use Rattle.mud_base.specs.declared.packet.Direction.TheVariants.{From, To}
 use Rattle.mud_tables.specs.History.{Endpoint, Segment, Begun, Flows, begun_of, is_between, with_packet, begun_between, last_moment, MayKeep, StandsFor}

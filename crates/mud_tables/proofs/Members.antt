@@ -1,7 +1,7 @@
 -- The bindings of the tables tell exactly which addresses meet a member selector.
-use Rattle.std.proofs.Common.{◌≡◌, ℕ, ◌<◌, Bool, true, false, ◌&&◌, ◌||◌, List, [], ◌∷◌, ◌++◌, Option, Some, None, map, refl, sym, ap, ◌∙◌, arith}
+use Rattle.std.proofs.Common.{◌≡◌, ℕ, ◌<◌, Bool, true, false, ◌&&◌, ◌||◌, List, [], ◌∷◌, ◌++◌, map, refl, ap, ◌∙◌}
 use Rattle.std.specs.Prelude.{bytes_eq, flat_map}
-use Rattle.std.specs.List.{list_any, list_all}
+use Rattle.std.specs.List.{list_any}
 use Rattle.std.proofs.lemmas.Bool.{lt-ltb}
 use Rattle.std.proofs.lemmas.List.Folds.{list_any-append}
 use Rattle.mud_base.specs.Addresses.{same_addr}
@@ -19,7 +19,7 @@ use Rattle.mud_tables.specs.declared.bind.NameRow.{NameRow}
 use Rattle.mud_tables.specs.Ends.{is_live, for_ever, has_live}
 use Rattle.mud_tables.specs.Binds.{key_of_class, same_class, has_addr}
 use Rattle.mud_tables.specs.Tables.{Tables, has_lease, has_host, has_url, is_leased, is_bound, is_named}
-use Rattle.mud_tables.specs.Bindings.{binding, bindings_of_lease, thing_bindings, member_key, class_binding, class_bindings, name_binding, name_bindings, things_bindings, classes_bindings, names_bindings, bindings_of, is_met_by, has_live_binding}
+use Rattle.mud_tables.specs.Bindings.{bindings_of_lease, thing_bindings, member_key, class_binding, class_bindings, name_binding, name_bindings, things_bindings, classes_bindings, names_bindings, bindings_of, is_met_by, has_live_binding}
 
 -- ---- Some element passes a test
 

@@ -1,25 +1,21 @@
 -- Rulings on the packets of a light bulb and a switch of one maker.
-use Rattle.std.proofs.Common.{◌≡◌, ℕ, Bool, true, false, List, [], ◌∷◌, Option, Some, None, refl}
+use Rattle.std.proofs.Common.{◌≡◌, ℕ, true, false, [], ◌∷◌, Some, None, refl}
 use Rattle.std.specs.Prelude.{codes}
-use Rattle.std.specs.List.{before_first}
 use Rattle.mud_base.specs.Addresses.{prefix_holds}
-use Rattle.mud_base.specs.declared.addr.Addr.{Addr}
-use Rattle.mud_base.specs.declared.addr.Addr.TheVariants.{V4, V6}
+use Rattle.mud_base.specs.declared.addr.Addr.TheVariants.{V4}
 use Rattle.mud_base.specs.declared.addr.Family.TheVariants as family
-use Rattle.mud_base.specs.declared.packet.Direction.{Direction}
 use Rattle.mud_base.specs.declared.packet.Direction.TheVariants.{From, To}
 use Rattle.mud_base.specs.declared.packet.Fields.{Fields}
 use Rattle.mud_base.specs.declared.packet.Transport.TheVariants as packet
-use Rattle.mud_url.specs.Url.{is_slash_or_question, is_colon, authority, host_part, host_of}
+use Rattle.mud_url.specs.Url.{authority, host_part, host_of}
 use Rattle.acl_model.specs.declared.entry.Selector.TheVariants as asks
 use Rattle.acl_model.specs.declared.entry.PortTest.TheVariants as port
 use Rattle.acl_model.specs.declared.entry.Layer.TheVariants as layer
 use Rattle.acl_model.specs.declared.entry.Action.TheVariants as action
 use Rattle.acl_model.specs.declared.entry.Entry.{Entry}
 use Rattle.acl_model.specs.declared.entry.Policy.{Policy}
-use Rattle.acl_model.specs.declared.ruling.DefaultRule.TheVariants.{Dns, Ntp}
+use Rattle.acl_model.specs.declared.ruling.DefaultRule.TheVariants.{Dns}
 use Rattle.acl_model.specs.declared.ruling.Why.TheVariants.{NoFile, NoMatch}
-use Rattle.acl_model.specs.declared.ruling.Ruling.{Ruling}
 use Rattle.acl_model.specs.declared.ruling.Ruling.TheVariants.{Accept, AcceptDefault, Drop, DropDefault}
 use Rattle.acl_model.specs.Defaults.{default_class, default_port, default_layer, default_entry}
 use Rattle.acl_model.specs.FirstMatch.{entries_of, ruled_by, first_ruling, default_ruling, ruling_by}

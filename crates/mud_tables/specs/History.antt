@@ -1,6 +1,6 @@
 -- Who began a connection (RFC 8520, 4.8), by the list of the TCP packets that had a ruling and were forwarded, oldest
 -- first.
-use Rattle.std.specs.Prelude.{◌≡◌, ℕ, ◌-◌, ◌<◌, ◌&&◌, ◌||◌, ◌==◌, Bool, true, false, nat_le, nat_lt, bit_and, IsTrue, List, [], ◌∷◌, ◌++◌, map, filter, option_map, Option, Some, None, ◌⊎◌, if◌then◌else◌}
+use Rattle.std.specs.Prelude.{◌≡◌, ℕ, ◌-◌, ◌&&◌, ◌||◌, ◌==◌, Bool, true, false, nat_le, nat_lt, bit_and, IsTrue, List, [], ◌∷◌, ◌++◌, map, filter, option_map, Option, Some, None, ◌⊎◌, if◌then◌else◌}
 use Rattle.std.specs.List.{list_any}
 use Rattle.mud_base.specs.Addresses.{same_addr}
 use Rattle.mud_base.specs.declared.addr.Addr.{Addr}

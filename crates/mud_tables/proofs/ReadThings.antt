@@ -1,5 +1,5 @@
 -- Things that are read one after the other are sound, and sound Things can be read so.
-use Rattle.std.proofs.Common.{◌≡◌, ℕ, ◌<◌, Bool, true, false, cond, not, ◌&&◌, List, [], ◌∷◌, ◌++◌, length, Some, refl, sym, ap, subst, ◌∙◌, arith}
+use Rattle.std.proofs.Common.{◌≡◌, ℕ, Bool, true, false, cond, not, ◌&&◌, List, [], ◌∷◌, ◌++◌, length, Some, sym, ap, subst, ◌∙◌, arith}
 use Rattle.std.specs.Prelude.{nat_lt}
 use Rattle.std.specs.List.{list_any}
 use Rattle.std.specs.Ordering.{is_lt}
@@ -15,7 +15,7 @@ use Rattle.mud_tables.specs.Limits.{most_things}
 use Rattle.mud_tables.specs.Ends.{has_address}
 use Rattle.mud_tables.specs.Things.{mac_of, holds, IsKeptThing, IsSoundThings, set_thing}
 use Rattle.mud_tables.specs.ThingItems.{is_taken, may_follow}
-use Rattle.mud_tables.proofs.RowSets.{same_addr_exact, same_addr_itself, left_of, right_of, both, not_true, is_not, any_first, any_later, any_by, any_more, Passing, found_passing, passing_found}
+use Rattle.mud_tables.proofs.RowSets.{same_addr_exact, same_addr_itself, left_of, right_of, both, not_true, is_not, any_first, any_later, any_by, any_more, Passing, found_passing, passing_found, fewer_before, behind_others}
 use Rattle.mud_tables.proofs.AloneLaws.{IsApart}
 use Rattle.mud_tables.proofs.SoundThings.{put_new}
 
@@ -33,15 +33,6 @@ sound-push things thing sound good follows =
     (ltb-true (length things) most_things (right_of (comes_last mac_of thing things) (nat_lt (length things) most_things) last)))
 
 -- ---- The other way round: each of sound Things may follow those before it
-
--- a place before that of a row behind others
-row_behind : (xs : List Thing) (t : Thing) (ys : List Thing) → PlacesAscend mac_of (xs ++ t ∷ ys) → comes_last mac_of t xs ≡ true
-row_behind [] t ys up = refl
-row_behind (x ∷ xs) t ys up = both (is_lt (place_cmp (mac_of x) (mac_of t))) (comes_last mac_of t xs) (ap is_lt (before xs up.0)) (row_behind xs t ys up.1)
-  where
-    before : (xs : List Thing) → PlacesAbove mac_of (mac_of x) (xs ++ t ∷ ys) → place_cmp (mac_of x) (mac_of t) ≡ Less
-    before [] above = above.0
-    before (y ∷ ys') above = before ys' above.1
 
 -- the row of a place, where others stand behind or before
 at_first : (xs : List Thing) (ys : List Thing) (p : List ℕ) (u : Thing) → row_at mac_of p xs ≡ Some u → row_at mac_of p (xs ++ ys) ≡ Some u
@@ -64,10 +55,6 @@ before_other : (xs : List Thing) (t u : Thing) → comes_last mac_of t xs ≡ tr
 before_other [] t u last there = none-some u there
 before_other (x ∷ xs) t u last there = before_other xs t u (right_of (is_lt (place_cmp (mac_of x) (mac_of t))) (comes_last mac_of t xs) last)
     (sym (ap (λ b. cond b (Some x) (row_at mac_of (mac_of t) xs)) (same_place-cmp (mac_of x) (mac_of t) Less (less_from_is_lt (place_cmp (mac_of x) (mac_of t)) (left_of (is_lt (place_cmp (mac_of x) (mac_of t))) (comes_last mac_of t xs) last)))) ∙ there)
-
-rest_fewer : (xs : List Thing) (t : Thing) (ys : List Thing) → length xs < length (xs ++ t ∷ ys)
-rest_fewer [] t ys = omega arith
-rest_fewer (x ∷ xs) t ys = omega (arith, rest_fewer xs t ys)
 
 some_held : (a : Addr) (t : Thing) (r : Addr × ℕ) → same_addr r.0 a ≡ true → holds a t ≡ true → holds r.0 t ≡ true
 some_held a t r at h = subst (λ b. holds b t ≡ true) (sym (same_addr_exact r.0 a at)) h
@@ -99,9 +86,9 @@ before_up (x ∷ xs) ys up = (above xs up.0, before_up xs ys up.1)
 pub follows-sound : (xs : List Thing) (t : Thing) (ys : List Thing) → IsSoundThings (xs ++ t ∷ ys) → may_follow xs t ≡ true
 unfolding may_follow
 follows-sound xs t ys sound =
-    let last : comes_last mac_of t xs ≡ true = row_behind xs t ys sound.ascend in
+    let last : comes_last mac_of t xs ≡ true = behind_others mac_of xs t ys sound.ascend in
     both (comes_last mac_of t xs && nat_lt (length xs) most_things) (not (is_taken xs t))
-    (both (comes_last mac_of t xs) (nat_lt (length xs) most_things) last (lt-ltb (length xs) most_things (omega (arith, sound.few, rest_fewer xs t ys))))
+    (both (comes_last mac_of t xs) (nat_lt (length xs) most_things) last (lt-ltb (length xs) most_things (omega (arith, sound.few, fewer_before xs t ys))))
     (not_true (is_taken xs t) (λ e.
     let k : Taking xs t = taking xs t e in
     let u : Passing mac_of (holds k.addr) xs = found_passing mac_of (holds k.addr) xs (before_up xs (t ∷ ys) sound.ascend) k.other in

@@ -1,25 +1,19 @@
 -- What the rows of two lists have in common, told by the rows at their places.
-use Rattle.std.proofs.Common.{◌≡◌, ℕ, Bool, true, false, cond, not, ◌&&◌, ◌||◌, List, [], ◌∷◌, map, Option, Some, None, refl, sym, ap, subst, ◌∙◌}
-use Rattle.std.specs.Prelude.{flat_map}
+use Rattle.std.proofs.Common.{◌≡◌, ℕ, ◌<◌, Bool, true, false, cond, not, ◌&&◌, ◌||◌, List, [], ◌∷◌, ◌++◌, length, map, Option, Some, None, refl, sym, ap, subst, ◌∙◌, arith}
+use Rattle.std.specs.Ordering.{is_lt}
+use Rattle.std.specs.declared.cmp.Ordering.TheVariants.{Less}
 use Rattle.std.specs.List.{list_any, AllByRecursion}
 use Rattle.std.specs.Option.{option_map}
 use Rattle.std.proofs.lemmas.Bool.{false≢true}
 use Rattle.std.proofs.lemmas.Option.{same_Some, none-some}
-use Rattle.std.proofs.lemmas.List.Folds.{list_any-append}
 use Rattle.mud_base.specs.Addresses.{same_addr}
 use Rattle.mud_base.specs.declared.addr.Addr.{Addr}
 use Rattle.sorted_rows.specs.Addresses.{addr_place}
 use Rattle.sorted_rows.proofs.AddressLaws.{same_addr-place, addr_place_exact}
-use Rattle.sorted_rows.specs.Placed.{same_place, PlacesAbove, PlacesAscend, row_at}
+use Rattle.sorted_rows.specs.Placed.{place_cmp, same_place, PlacesAbove, PlacesAscend, row_at, comes_last}
 use Rattle.sorted_rows.proofs.PlacedLaws.{same_place_exact, same_place_itself, row_at_above}
 
 -- ---- Tests
-
-pub both_ways : (b c : Bool) → (b ≡ true → c ≡ true) → (c ≡ true → b ≡ true) → b ≡ c
-both_ways true true f g = refl
-both_ways true false f g = sym (f refl)
-both_ways false true f g = g refl
-both_ways false false f g = refl
 
 pub left_of : (b c : Bool) → (b && c) ≡ true → b ≡ true
 left_of true c e = refl
@@ -73,14 +67,6 @@ any_by {P = P} p x xs here later e = any_by_first (p x) refl
     any_by_first : (b : Bool) → p x ≡ b → P
     any_by_first true is = here is
     any_by_first false is = later (sym (ap (λ c. c || list_any p xs) is) ∙ e)
-
-pub any-flat_map : {A B : Type 0} (p : B → Bool) (f : A → List B) (xs : List A) → list_any p (flat_map f xs) ≡ list_any (λ x. list_any p (f x)) xs
-any-flat_map p f [] = refl
-any-flat_map p f (x ∷ xs) = list_any-append p (f x) (flat_map f xs) ∙ ap (λ b. list_any p (f x) || b) (any-flat_map p f xs)
-
-pub any-map : {A B : Type 0} (p : B → Bool) (f : A → B) (xs : List A) → list_any p (map f xs) ≡ list_any (λ x. p (f x)) xs
-any-map p f [] = refl
-any-map p f (x ∷ xs) = ap (λ b. p (f x) || b) (any-map p f xs)
 
 -- where the elements that pass one test pass another
 pub any_more : {A : Type 0} (p q : A → Bool) (xs : List A) → ((x : A) → p x ≡ true → q x ≡ true) → list_any p xs ≡ true → list_any q xs ≡ true
@@ -136,3 +122,31 @@ module _ {R : Type 0} (place : R → List ℕ) where
       ap (λ q. cond (same_place q p) (Some (f x)) (row_at place p (map f xs))) (kept x)
       ∙ ap (cond (same_place (place x) p) (Some (f x))) (row_at-map f kept p xs)
       ∙ mapped_at f p x (row_at place p xs) (same_place (place x) p)
+
+-- ---- Rows behind others
+
+pub all_push : {A : Type 0} (P : A → Type 0) (xs : List A) (x : A) → AllByRecursion P xs → P x → AllByRecursion P (xs ++ x ∷ [])
+all_push P [] x all new = (new, tt)
+all_push P (y ∷ ys) x all new = (all.0, all_push P ys x all.1 new)
+
+pub all_behind : {A : Type 0} (P : A → Type 0) (xs : List A) (x : A) (ys : List A) → AllByRecursion P (xs ++ x ∷ ys) → P x
+all_behind P [] x ys all = all.0
+all_behind P (y ∷ xs) x ys all = all_behind P xs x ys all.1
+
+pub map_push : {A B : Type 0} (f : A → B) (xs : List A) (x : A) → map f (xs ++ x ∷ []) ≡ map f xs ++ f x ∷ []
+map_push f [] x = refl
+map_push f (y ∷ ys) x = ap (λ t. f y ∷ t) (map_push f ys x)
+
+pub fewer_before : {A : Type 0} (xs : List A) (x : A) (ys : List A) → length xs < length (xs ++ x ∷ ys)
+fewer_before [] x ys = omega arith
+fewer_before (y ∷ xs) x ys = omega (arith, fewer_before xs x ys)
+
+module _ {R : Type 0} (place : R → List ℕ) where
+  before_row : (x : R) (xs : List R) (t : R) (ys : List R) → PlacesAbove place (place x) (xs ++ t ∷ ys) → place_cmp (place x) (place t) ≡ Less
+  before_row x [] t ys above = above.0
+  before_row x (y ∷ xs) t ys above = before_row x xs t ys above.1
+
+  -- a row of ascending rows comes behind those before it
+  pub behind_others : (xs : List R) (t : R) (ys : List R) → PlacesAscend place (xs ++ t ∷ ys) → comes_last place t xs ≡ true
+  behind_others [] t ys up = refl
+  behind_others (x ∷ xs) t ys up = both (is_lt (place_cmp (place x) (place t))) (comes_last place t xs) (ap is_lt (before_row x xs t ys up.0)) (behind_others xs t ys up.1)

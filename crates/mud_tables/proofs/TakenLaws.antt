@@ -2,13 +2,11 @@
 use Rattle.std.proofs.Common.{◌≡◌, ℕ, ◌≤◌, ◌<◌, ◌^◌, ◌==◌, Bool, true, cond, ◌&&◌, List, [], ◌∷◌, ◌++◌, length, map, Option, Some, None, refl, sym, ap, subst, ◌∙◌, append_assoc, arith, inl, inr}
 use Rattle.std.specs.Prelude.{nat_lt, nat_le, option_map}
 use Rattle.std.specs.List.{list_all, AllByRecursion}
-use Rattle.std.specs.Ordering.{is_lt}
-use Rattle.std.specs.declared.cmp.Ordering.TheVariants.{Less}
 use Rattle.std.proofs.lemmas.Bool.{eqb-true, ltb-true, lt-ltb, leb-true, le-leb}
 use Rattle.std.proofs.lemmas.Option.{none-some}
 use Rattle.std.proofs.lemmas.List.{append-nil, nil_from_length, length-append}
 use Rattle.mud_base.specs.declared.prefix.Prefix.{Prefix}
-use Rattle.sorted_rows.specs.Placed.{place_cmp, PlacesAbove, PlacesAscend, comes_last}
+use Rattle.sorted_rows.specs.Placed.{PlacesAscend, comes_last}
 use Rattle.sorted_rows.proofs.PlacedLaws.{ascend-push}
 use Rattle.mud_world.specs.declared.item.Item.{Item}
 use Rattle.item_codec.specs.Spelling.{IsOctets}
@@ -24,38 +22,10 @@ use Rattle.mud_tables.specs.Binds.{Binds, class_key, name_of, is_prefix, are_pre
 use Rattle.mud_tables.specs.ThingItems.{thing_item, thing_items, thing_in, item_anew, in_second, may_follow, with_thing_item, IsThingItem}
 use Rattle.mud_tables.specs.BindItems.{class_item, class_items, class_in, with_class_item, locals_item, locals_items, are_locals, with_locals_item, name_item, name_items, name_in, with_name_item, IsKeptLocals, IsClassItem, IsLocalsItem, IsNameItem}
 use Rattle.mud_tables.specs.TakenItems.{all_taken, no_binds, bind_items, is_empty, set_classes, set_locals, set_names, with_bind_item}
-use Rattle.mud_tables.proofs.RowSets.{left_of, right_of, both}
+use Rattle.mud_tables.proofs.RowSets.{left_of, right_of, both, all_push, all_behind, map_push, fewer_before, behind_others}
 use Rattle.mud_tables.proofs.LeaseLaws.{all_from, all_to}
 use Rattle.mud_tables.proofs.ItemLaws.{thing_back, thing_alone, class_back, class_alone, locals_back, locals_alone, name_back, name_alone}
 use Rattle.mud_tables.proofs.ReadThings.{sound-push, follows-sound}
-
--- ---- Rows behind others
-
-pub all_push : {A : Type 0} (P : A → Type 0) (xs : List A) (x : A) → AllByRecursion P xs → P x → AllByRecursion P (xs ++ x ∷ [])
-all_push P [] x all new = (new, tt)
-all_push P (y ∷ ys) x all new = (all.0, all_push P ys x all.1 new)
-
-pub all_behind : {A : Type 0} (P : A → Type 0) (xs : List A) (x : A) (ys : List A) → AllByRecursion P (xs ++ x ∷ ys) → P x
-all_behind P [] x ys all = all.0
-all_behind P (y ∷ xs) x ys all = all_behind P xs x ys all.1
-
-pub map_push : {A B : Type 0} (f : A → B) (xs : List A) (x : A) → map f (xs ++ x ∷ []) ≡ map f xs ++ f x ∷ []
-map_push f [] x = refl
-map_push f (y ∷ ys) x = ap (λ (t : List _). f y ∷ t) (map_push f ys x)
-
-fewer_before : {A : Type 0} (xs : List A) (x : A) (ys : List A) → length xs < length (xs ++ x ∷ ys)
-fewer_before [] x ys = omega arith
-fewer_before (y ∷ xs) x ys = omega (arith, fewer_before xs x ys)
-
-module _ {R : Type 0} (place : R → List ℕ) where
-  before_row : (x : R) (xs : List R) (t : R) (ys : List R) → PlacesAbove place (place x) (xs ++ t ∷ ys) → place_cmp (place x) (place t) ≡ Less
-  before_row x [] t ys above = above.0
-  before_row x (y ∷ xs) t ys above = before_row x xs t ys above.1
-
-  -- a row of ascending rows comes behind those before it
-  behind_others : (xs : List R) (t : R) (ys : List R) → PlacesAscend place (xs ++ t ∷ ys) → comes_last place t xs ≡ true
-  behind_others [] t ys up = refl
-  behind_others (x ∷ xs) t ys up = both (is_lt (place_cmp (place x) (place t))) (comes_last place t xs) (ap is_lt (before_row x xs t ys up.0)) (behind_others xs t ys up.1)
 
 -- ---- One row more, read from its item
 

@@ -3,10 +3,10 @@
 #![tactic(auto)]
 
 use mud_base::Listed;
-use mud_cli::{NO_MEMORY, RealClock, RealDoor, UNLISTED, mud_main};
+use mud_cli::{RealClock, RealDoor, Status, mud_main};
 use mud_world::{Keeper, MemoryKeeper, MemorySpool};
 use std::alloc::{AllocError, Global};
-use std::io::{BufReader, ErrorKind};
+use std::io::ErrorKind;
 use std::process::ExitCode;
 use std::{env, io};
 
@@ -18,12 +18,12 @@ fn main(rt: HostRuntime) -> ExitCode {
 /// no listed line.
 fn run(rt: HostRuntime) -> u8 {
     match words(&rt) {
-        Ok(words) => run_words(rt, words.as_slice()).unwrap_or(NO_MEMORY),
+        Ok(words) => run_words(rt, words.as_slice()).unwrap_or(Status::NoMemory.number()),
         Err(error) => {
             if error.kind() == ErrorKind::OutOfMemory {
-                NO_MEMORY
+                Status::NoMemory.number()
             } else {
-                UNLISTED
+                Status::Unlisted.number()
             }
         }
     }
@@ -34,10 +34,12 @@ fn words(rt: &HostRuntime) -> io::Result<Vec<String>> {
     Ok(words)
 }
 
+/// Runs these words. Nothing stands between standard input and the door, so no octet is taken of it
+/// that the door doesn't ask for.
 fn run_words(rt: HostRuntime, words: &[String]) -> io::Result<u8> {
     let alloc = rt.alloc();
     let keeper: Box<dyn Keeper> = Box::new(alloc, MemoryKeeper::new(alloc, Listed::new(alloc)))?;
-    let mut door = RealDoor::new(BufReader::new(alloc, rt.reader())?, io::writer(&rt));
+    let mut door = RealDoor::new(rt.reader(), io::writer(&rt));
     let mut spool = MemorySpool::new(alloc, Listed::new(alloc));
     let mut clock = RealClock::new(rt);
     let (status, _keeper) = mud_main(alloc, words, keeper, &mut door, &mut spool, &mut clock);

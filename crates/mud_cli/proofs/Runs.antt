@@ -10,12 +10,14 @@ use Rattle.dhcp_lldp.specs.Lldp.{lldp_of}
 use Rattle.dhcp_lldp.specs.declared.heard.Heard.{Heard}
 use Rattle.dhcp_lldp.specs.declared.heard.HearFault.{HearFault}
 use Rattle.mud_cli.specs.declared.answer.Answer.{Answer}
-use Rattle.mud_cli.specs.declared.words.Message.TheVariants.{Dhcp, Lldp}
+use Rattle.mud_cli.specs.declared.hear.Message.TheVariants.{Dhcp, Lldp}
 use Rattle.mud_file.specs.File.{file_of}
 use Rattle.mud_cli.specs.declared.answer.Input.{Input}
 use Rattle.mud_cli.specs.declared.answer.Input.TheVariants as input
-use Rattle.mud_cli.specs.Answers.{answer_of, answer_to, checking, hearing_within, most_of, status_of, due_of_input}
-use Rattle.mud_cli.specs.Run.{WritesDue, WritesPart}
+use Rattle.command_runs.specs.Due.{WritesDue, WritesPart}
+use Rattle.mud_cli.specs.Answers.{answer_to, most_of, status_of, due_of_input}
+use Rattle.mud_cli.specs.Check.Answer.{checking}
+use Rattle.mud_cli.specs.Hear.Answer.{answer_of, hearing_within}
 
 -- an answer is alike for all that begins with more octets than the most
 abbrev IsAlike : ℕ → (List ℕ → Answer) → Type 0

@@ -1,7 +1,7 @@
 pub mod Answers
 pub mod Check
 pub mod Frames
-pub mod Lines
+pub mod Hear
+pub mod Promises
 pub mod Real
-pub mod Run
 pub mod Words

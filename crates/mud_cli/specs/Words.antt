@@ -6,7 +6,7 @@ use Rattle.std.specs.declared.alloc.Global.{Global}
 use Rattle.std.specs.String.{string_bytes}
 use Rattle.mud_cli.specs.declared.words.Command.{Command}
 use Rattle.mud_cli.specs.declared.words.Command.TheVariants.{Hear, Check, Frames}
-use Rattle.mud_cli.specs.declared.words.Message.TheVariants.{Dhcp, Lldp}
+use Rattle.mud_cli.specs.declared.hear.Message.TheVariants.{Dhcp, Lldp}
 
 unfoldable pub hear_word : List ℕ
 hear_word = codes "hear"

@@ -1,24 +1,18 @@
-//! What each command answers to its input.
-ghost use Rattle.std.specs.Prelude.{◌≡◌, IfOk, Ok, Err};
-ghost use Rattle.mud_cli.specs.Answers.{answer_of, answer_to, checking, hearing, hearing_within};
+//! Commands that read an input as a whole before they answer.
+ghost use Rattle.std.specs.Prelude.{◌≡◌, ◌≢◌, ◌⊎◌, ◌+◌, IfOk};
+ghost use Rattle.mud_world.specs.Causes.{Rose};
+ghost use Rattle.command_runs.specs.Due.{WritesDue, WritesPart};
+ghost use Rattle.command_runs.specs.Status.{status_number};
+ghost use Rattle.mud_cli.specs.Answers.{answer_to, due_of_input};
 ghost use Rattle.mud_cli.specs.Answers as answers;
-ghost use Rattle.mud_file.specs.File.{file_of};
+ghost use Rattle.mud_cli.specs.Promises.{ReadUpTo};
 
-use crate::check_lines::{broken_line, file_lines};
-use crate::lines::{fault_line, heard_line, too_long_line};
-use crate::words::Message;
-use dhcp_lldp::{HearFault, Heard, read_dhcp, read_lldp};
+use crate::check::{LONGEST_FILE, checking};
+use crate::hear::{LONGEST_MESSAGE, Message, answer_of};
+use command_runs::Status;
 use mud_base::{Bytes, Memory};
-use mud_file::{UsageFile, read_usage};
+use mud_world::{Door, Failed, ReadFault, read_whole, say};
 use std::alloc::Global;
-use usage_walk::{Broken, FileFault};
-
-/// The most octets that a message has: the length of a UDP datagram is a number of 16 bits (RFC
-/// 768).
-pub const LONGEST_MESSAGE: usize = 65_535;
-
-/// The most octets that a usage file has.
-pub const LONGEST_FILE: usize = 262_144;
 
 /// What a command reads as a whole before it answers.
 #[derive(Clone, Copy, Debug, PartialEq, Eq)]
@@ -34,94 +28,6 @@ pub enum Input {
 pub struct Answer {
     pub text: Bytes,
     pub refused: bool,
-}
-
-/// The line of a message that was read or refused.
-#[tactic(auto, unfolding(crate::specs::Answers::hearing))]
-fn hearing(alloc: Global, read: Result<Heard, HearFault>) -> Result<Answer, Memory>
-    ensures { IfOk result (λ answer. answer ≡ hearing read) }
-{
-    match read {
-        Ok(heard) => {
-            let text = heard_line(alloc, &heard)?;
-            Ok(Answer {
-                text,
-                refused: false,
-            })
-        }
-        Err(fault) => {
-            let text = fault_line(alloc, &fault)?;
-            Ok(Answer {
-                text,
-                refused: true,
-            })
-        }
-    }
-}
-
-/// The answer to a message of so many octets, which was read or refused.
-#[tactic(auto, unfolding(crate::specs::Answers::hearing_within))]
-fn hearing_within(
-    alloc: Global,
-    count: usize,
-    read: Result<Heard, HearFault>,
-) -> Result<Answer, Memory>
-    ensures { IfOk result (λ answer. answer ≡ hearing_within count read) }
-{
-    if count > LONGEST_MESSAGE {
-        let text = too_long_line(alloc)?;
-        return Ok(Answer {
-            text,
-            refused: true,
-        });
-    }
-    hearing(alloc, read)
-}
-
-/// The answer to the octets of a message.
-#[tactic(auto, unfolding(crate::specs::Answers::answer_of))]
-pub fn answer_of(alloc: Global, message: Message, octets: &[u8]) -> Result<Answer, Memory>
-    ensures { IfOk result (λ answer. answer ≡ answer_of message octets.now) }
-{
-    match message {
-        Message::Dhcp => hearing_within(alloc, octets.len(), read_dhcp(octets)),
-        Message::Lldp => hearing_within(alloc, octets.len(), read_lldp(octets)),
-    }
-}
-
-/// The lines of a usage file.
-#[tactic(auto, unfolding(crate::specs::Answers::checking))]
-fn allowed(alloc: Global, file: &UsageFile) -> Result<Answer, Memory>
-    ensures { IfOk result (λ answer. answer ≡ checking (Ok file.now)) }
-{
-    let text = file_lines(alloc, file)?;
-    Ok(Answer {
-        text,
-        refused: false,
-    })
-}
-
-/// The line of the rule that a usage file breaks.
-#[tactic(auto, unfolding(crate::specs::Answers::checking))]
-fn broken(alloc: Global, broken: &Broken) -> Result<Answer, Memory>
-    ensures { IfOk result (λ answer. answer ≡ checking (Err broken.now)) }
-{
-    let text = broken_line(alloc, broken)?;
-    Ok(Answer {
-        text,
-        refused: true,
-    })
-}
-
-/// The answer to the octets of a usage file.
-fn checking(alloc: Global, octets: &[u8]) -> Result<Answer, Memory>
-    ensures { IfOk result (λ answer. answer ≡ checking (file_of octets.now)) }
-{
-    match read_usage(alloc, octets) {
-        Ok(file) => allowed(alloc, &file),
-        Err(FileFault::Broken(fault)) => broken(alloc, &fault),
-        Err(FileFault::Memory) => Err(Memory),
-    }
 }
 
 /// The most octets that an input has.
@@ -143,5 +49,40 @@ pub fn answer_to(alloc: Global, input: Input, octets: &[u8]) -> Result<Answer, M
     match input {
         Input::Message(message) => answer_of(alloc, message, octets),
         Input::UsageFile => checking(alloc, octets),
+    }
+}
+
+/// The status of a run whose answer was written.
+fn status_of(answer: &Answer) -> Status
+    ensures { status_number result ≡ answers.status_of answer.now }
+{
+    if answer.refused {
+        Status::Refused
+    } else {
+        Status::Done
+    }
+}
+
+/// Reads a whole input and writes what it says.
+pub fn answer_input<D: Door>(alloc: Global, input: Input, door: &mut D) -> Status
+    ensures statuses { (status_number result ≡ 0) ⊎ ((status_number result ≡ 3) ⊎ ((status_number result ≡ 4) ⊎ (status_number result ≡ 5))) }
+    ensures fault { status_number result ≡ 4 → Rose (D.reads door.old) (D.reads door.new) ⊎ Rose (D.writes door.old) (D.writes door.new) }
+    ensures steady { status_number result ≢ 4 → (D.reads door.new ≡ D.reads door.old) × (D.writes door.new ≡ D.writes door.old) }
+    ensures done { D.tells → (status_number result ≡ 0) ⊎ (status_number result ≡ 3) → WritesDue (due_of_input input (D.state door.old).left) (D.state door.old) (D.state door.new) (status_number result) }
+    ensures part { D.tells → (status_number result ≡ 4) ⊎ (status_number result ≡ 5) → WritesPart (due_of_input input (D.state door.old).left) (D.state door.old) (D.state door.new) }
+    ensures within { D.tells → ReadUpTo (answers.most_of input + 1) (D.state door.old) (D.state door.new) }
+    ensures turns { D.turns door.new ≡ D.turns door.old }
+{
+    let octets = match read_whole(alloc, door, most_of(input)) {
+        Ok(octets) => octets,
+        Err(ReadFault::Failed) => return Status::DoorFailed,
+        Err(ReadFault::Memory) => return Status::NoMemory,
+    };
+    let Ok(answer) = answer_to(alloc, input, octets.octets()) else {
+        return Status::NoMemory;
+    };
+    match say(door, answer.text.octets()) {
+        Ok(()) => status_of(&answer),
+        Err(Failed) => Status::DoorFailed,
     }
 }

@@ -2,18 +2,18 @@
 #![tactic(auto)]
 
 pub mod answer;
-pub mod check_lines;
-mod frame_lines;
+pub mod check;
 pub mod frames;
-pub mod lines;
+pub mod hear;
 pub mod real;
 pub mod run;
 #[cfg(test)]
 mod tests;
-mod texts;
 pub mod words;
 
 pub use answer::{Answer, Input};
+pub use command_runs::Status;
+pub use hear::Message;
 pub use real::{RealClock, RealDoor};
-pub use run::{DONE, DOOR_FAILED, NO_MEMORY, REFUSED, UNLISTED, mud_main};
-pub use words::{Command, Message};
+pub use run::mud_main;
+pub use words::Command;

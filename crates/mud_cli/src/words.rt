@@ -2,14 +2,7 @@
 ghost use Rattle.std.specs.Prelude.{◌≡◌};
 ghost use Rattle.mud_cli.specs.Words.{command_in, hear_command, one_word_command, words_of};
 
-/// What `hear` reads.
-#[derive(Clone, Copy, Debug, PartialEq, Eq)]
-pub enum Message {
-    /// One DHCPv4 message.
-    Dhcp,
-    /// One LLDP frame.
-    Lldp,
-}
+use crate::hear::Message;
 
 /// A command line that the program takes.
 #[derive(Clone, Copy, Debug, PartialEq, Eq)]

@@ -1,6 +1,0 @@
-use Rattle.std.proofs.Common.{◌≡◌, ◌+◌, ◌++◌, drop}
-use Rattle.mud_cli.specs.Check.{entry_lines}
-use Rattle.mud_cli.proofs.check_lines.append_entries.Given as goal
-
-abbrev pub invariant-entries : goal.invariant-entries
-invariant-entries l = l.lines ++ entry_lines l.side (l.place + 1) (drop l.place l.entries) ≡ l.fn.lines ++ entry_lines l.side 1 l.entries

@@ -1,0 +1,48 @@
+-- What the commands promise that read their input from the door and write what it says.
+use Rattle.std.specs.Prelude.{◌≡◌, ◌≢◌, ℕ, ◌≤◌, ◌⊎◌, List, ◌++◌, length, Option, Some}
+use Rattle.mud_world.specs.Causes.{Rose}
+use Rattle.mud_world.specs.Door.{DoorState}
+use Rattle.command_runs.specs.Capture.{WritesTaken}
+use Rattle.command_runs.specs.Due.{WritesDue, WritesPart}
+use Rattle.mud_cli.specs.Answers.{due_of, most_read}
+use Rattle.mud_cli.specs.Frames.Lines.{frame_step}
+use Rattle.mud_cli.specs.declared.words.Command.{Command}
+use Rattle.mud_cli.specs.declared.words.Command.TheVariants.{Frames}
+
+-- a door at a moment: its connections, where it tells them, and how often its calls have failed
+pub record DoorView : Type 0 where
+  pub state : DoorState
+  pub turns : ℕ
+  pub reads : ℕ
+  pub writes : ℕ
+
+abbrev pub viewed : DoorState → ℕ → ℕ → ℕ → DoorView
+viewed state turns reads writes = record { state = state; turns = turns; reads = reads; writes = writes }
+
+-- At most so many octets were read of the front of the connection.
+pub record ReadUpTo (most : ℕ) (old new : DoorState) : Type 0 where
+  pub read : List ℕ
+  pub left_is : old.left ≡ read ++ new.left
+  pub within : length read ≤ most
+
+-- `tells` says that the door tells its connections.
+pub record Promises (tells : Type 0) (command : Command) (old new : DoorView) (status : ℕ) : Type 0 where
+  -- The status is 0, 3, 4 or 5. It is 4 only where a read or a write failed in this call, and where it isn't, none failed.
+  pub statuses : (status ≡ 0) ⊎ ((status ≡ 3) ⊎ ((status ≡ 4) ⊎ (status ≡ 5)))
+  pub fault : status ≡ 4 → Rose old.reads new.reads ⊎ Rose old.writes new.writes
+  pub steady : status ≢ 4 → (new.reads ≡ old.reads) × (new.writes ≡ old.writes)
+  -- With 0 and 3 all that is due was written, with 4 and 5 a first part of it.
+  pub done : tells → (status ≡ 0) ⊎ (status ≡ 3) → WritesDue (due_of command old.state.left) old.state new.state status
+  pub part : tells → (status ≡ 4) ⊎ (status ≡ 5) → WritesPart (due_of command old.state.left) old.state new.state
+  -- Where a read of a capture failed, the lines of the packets in the octets that were read were written.
+  pub taken : tells → command ≡ Frames → new.reads ≢ old.reads → WritesTaken frame_step tt old.state new.state
+  -- Of a message or a usage file at most one octet too many is read.
+  pub within : tells → (most : ℕ) → most_read command ≡ Some most → ReadUpTo most old.state new.state
+  -- No port is bound, and the connection isn't left.
+  pub same_turns : new.turns ≡ old.turns
+
+-- The keeper's box that comes back is the one that was handed in, and the spool and the clock are as they were.
+pub record LeavesRest {K P C : Type 0} (keeper returned : K) (spool spool_after : P) (clock clock_after : C) : Type 0 where
+  pub same_keeper : returned ≡ keeper
+  pub same_spool : spool_after ≡ spool
+  pub same_clock : clock_after ≡ clock

@@ -1,2 +1,6 @@
+pub mod Bounds
 pub mod Elements
+pub mod Members
+pub mod OnLiterals
 pub mod Values
+mod Examples

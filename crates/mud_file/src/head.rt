@@ -1,7 +1,8 @@
 //! What a usage file says of itself (RFC 8520, 3). The path is that of `ietf-mud:mud`.
-ghost use Rattle.std.specs.Prelude.{map};
+ghost use Rattle.std.specs.Prelude.{◌≡◌, map};
 ghost use Rattle.serde_json.specs.View.{view};
 ghost use Rattle.reading.specs.Reading.{Gives, Refuses};
+ghost use Rattle.reading.specs.declared.refusal.Refusal.TheVariants as refusal;
 ghost use Rattle.mud_file.specs.Head as spec;
 
 use crate::usage_file::Head;
@@ -28,7 +29,7 @@ fn version(alloc: Global, mud: &Value, path: &[u8]) -> Result<(), FileFault>
 /// The refusal of a URL at this path, with the URL's own fault.
 #[tactic(auto, unfolding(crate::specs::Head::url_fault))]
 fn url_refused(path: Bytes, fault: UrlFault) -> FileFault
-    ensures { Refuses result (spec.url_fault path fault) }
+    ensures { result ≡ refusal.Broken (spec.url_fault path fault) }
 {
     FileFault::Broken(Broken {
         rule: Rule::Url,

@@ -4,6 +4,7 @@
 
 mod entries;
 mod head;
+pub mod laws;
 mod lists;
 pub mod read;
 pub mod usage_file;
@@ -11,6 +12,7 @@ mod words;
 
 pub use read::read_usage;
 pub use usage_file::{Head, UsageFile};
+pub use usage_walk::{Broken, FileFault, Rule};
 
 #[cfg(test)]
 mod tests;

@@ -1,4 +1,6 @@
 //! What a usage file means, and the rule and path of what each edit of it breaks.
+mod walk;
+
 use super::*;
 use acl_model::{Action, Entry, Layer, PortTest, Selector};
 use mud_base::{Direction, Family};

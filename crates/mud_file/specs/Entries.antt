@@ -111,10 +111,10 @@ entry_of list name tests act = record {
   selectors = tests.selectors;
   own = tests.own;
   protocol = tests.protocol;
-  dscp = None;
-  ecn = None;
-  length = None;
-  ttl = None;
+  dscp = tests.dscp;
+  ecn = tests.ecn;
+  length = tests.length;
+  ttl = tests.ttl;
   layer = tests.layer;
   action = act;
 }

@@ -22,8 +22,18 @@ fn pair(first: Option<u8>, second: Option<u8>) -> Result<(u8, u8), Refusal<PairF
 #[test]
 fn the_first_check_that_fails_is_named(rt: HostRuntime) -> Result<(), Fail> {
     assert!(rt; matches!(pair(None, None), Err(Refusal::Broken(PairFault::NoFirst))));
-    assert!(rt; matches!(pair(Some(2), None), Err(Refusal::Broken(PairFault::NoSecond))));
-    assert!(rt; matches!(pair(Some(2), Some(1)), Err(Refusal::Broken(PairFault::Order))));
+    assert!(rt;
+        matches!(
+            pair(Some(2), None),
+            Err(Refusal::Broken(PairFault::NoSecond))
+        )
+    );
+    assert!(rt;
+        matches!(
+            pair(Some(2), Some(1)),
+            Err(Refusal::Broken(PairFault::Order))
+        )
+    );
     assert!(rt; matches!(pair(Some(1), Some(2)), Ok((1, 2))));
     Ok(())
 }

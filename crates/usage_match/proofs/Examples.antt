@@ -37,7 +37,7 @@ abbrev breaks : Rule → List ℕ → Result Tests Broken
 breaks broken path = Err (fault_at broken path)
 
 abbrev tests : List Selector → Option PrefixParts → Option ℕ → Layer → Tests
-tests selectors own protocol header = record { selectors = selectors; own = own; protocol = protocol; layer = header }
+tests selectors own protocol header = record { selectors = selectors; own = own; protocol = protocol; dscp = None; ecn = None; length = None; ttl = None; layer = header }
 
 -- members of one container
 abbrev ipv4 : Fields → Fields

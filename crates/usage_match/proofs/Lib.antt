@@ -1,2 +1,3 @@
 pub mod OnLiterals
 mod Examples
+mod FlagTexts

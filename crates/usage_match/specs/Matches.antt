@@ -1,6 +1,5 @@
 -- What the `matches` of an entry test (RFC 8519, 4.2; RFC 8520, 4).
-use Rattle.std.specs.Prelude.{ℕ, Bool, false, ◌&&◌, ◌||◌, List, [], ◌∷◌, ◌++◌, Option, Some, None, unwrap_or, option_map, option_to_list, if◌then◌else◌}
-use Rattle.std.specs.Option.{option_or}
+use Rattle.std.specs.Prelude.{ℕ, Bool, ◌&&◌, ◌||◌, List, [], ◌∷◌, ◌++◌, Option, Some, None, unwrap_or, option_map, option_to_list, if◌then◌else◌}
 use Rattle.mud_base.specs.declared.packet.Direction.{Direction}
 use Rattle.mud_base.specs.declared.packet.Direction.TheVariants.{From, To}
 use Rattle.mud_base.specs.Addresses.{PrefixParts}
@@ -12,25 +11,24 @@ use Rattle.serde_json.specs.Data.{Data}
 use Rattle.usage_walk.specs.declared.fault.Rule.TheVariants as rule
 use Rattle.usage_walk.specs.declared.member.Member.{Member}
 use Rattle.usage_walk.specs.declared.member.Member.TheVariants as members
+use Rattle.usage_walk.specs.declared.row.Row.{Row}
 use Rattle.reading.specs.Reading.{done, ◌>>=◌, refused_where, where_there}
 use Rattle.usage_walk.specs.Reading.{Reading, under, fault_at}
 use Rattle.usage_walk.specs.Kinds.{object_where_there}
 use Rattle.usage_walk.specs.Others.{all_known}
+use Rattle.usage_walk.specs.Tables.{Ways, row, rows_of}
 use Rattle.usage_match.specs.declared.entry_tests.ListType.{ListType}
 use Rattle.usage_match.specs.declared.entry_tests.ListType.TheVariants.{Ipv4, Ipv6}
 use Rattle.usage_match.specs.declared.entry_tests.MudTests.{MudTests}
 use Rattle.usage_match.specs.declared.entry_tests.IpTests.{IpTests}
 use Rattle.usage_match.specs.declared.entry_tests.Tests.{Tests}
+use Rattle.usage_match.specs.declared.ways.MatchWay.{MatchWay}
+use Rattle.usage_match.specs.declared.ways.MatchWay.TheVariants as way
+use Rattle.usage_match.specs.declared.ways.MatchTests.{MatchTests}
 use Rattle.usage_match.specs.Ports.{stands}
-use Rattle.usage_match.specs.Containers.{mud_tests_of, ip_tests_of, tcp_of, udp_of, icmp_of}
+use Rattle.usage_match.specs.Containers.{no_mud_tests, mud_tests_of, no_ip_tests, ip_tests_of, tcp_of, udp_of, icmp_of}
 
 -- ---- What the containers mean together
-
-unfoldable pub no_mud_tests : MudTests
-no_mud_tests = record { manufacturer = None; same_manufacturer = false; model = None; local_networks = false; controller = None; my_controller = false }
-
-unfoldable pub no_ip_tests : IpTests
-no_ip_tests = record { protocol = None; source = None; destination = None; source_name = None; destination_name = None }
 
 abbrev pub where_true : Bool → Selector → Option Selector
 where_true holds selector = if holds then Some selector else None
@@ -78,17 +76,18 @@ tests_of side mud ip header = record {
   selectors = mud_selectors mud ++ ip_selectors side ip;
   own = own_network side ip;
   protocol = ip.protocol;
+  dscp = ip.dscp;
+  ecn = ip.ecn;
+  length = ip.length;
+  ttl = ip.ttl;
   layer = header;
 }
 
 -- nothing is tested
 unfoldable pub no_tests : Tests
-no_tests = record { selectors = []; own = None; protocol = None; layer = layer.Any }
+no_tests = record { selectors = []; own = None; protocol = None; dscp = None; ecn = None; length = None; ttl = None; layer = layer.Any }
 
 -- ---- Their reading. The path is that of `matches`.
-
-unfoldable pub match_members : List Member
-match_members = members.Mud ∷ members.Ipv4 ∷ members.Ipv6 ∷ members.Tcp ∷ members.Udp ∷ members.Icmp ∷ []
 
 unfoldable pub ip_member : ListType → Member
 ip_member Ipv4 = members.Ipv4
@@ -104,57 +103,86 @@ has_two_layers d =
     || (stands members.Tcp d && stands members.Icmp d)
     || (stands members.Udp d && stands members.Icmp d)
 
+-- the members of `matches`, in a list of this type that is read for this direction
+unfoldable pub match_rows : ListType → Direction → List (Row MatchWay)
+match_rows type side =
+    row members.Mud way.Mud
+    ∷ row (ip_member type) (way.Ip type side)
+    ∷ row (other_ip_member type) way.Refused
+    ∷ row members.Tcp way.Tcp
+    ∷ row members.Udp way.Udp
+    ∷ row members.Icmp way.Icmp
+    ∷ []
+
+-- the container of the other IP version doesn't stand
+unfoldable pub no_other : List ℕ → Member → Data → Reading (Unit {0})
+no_other path m d = refused_where (stands m d) (fault_at rule.Family (under path m))
+
 -- which members stand: known ones, no container of the other IP version, and one layer at most
-unfoldable pub members_fit : ListType → List ℕ → Data → Reading (Unit {0})
-members_fit type path d = do
-  _ ← all_known path match_members d
-  _ ← refused_where (stands (other_ip_member type) d) (fault_at rule.Family (under path (other_ip_member type)))
+unfoldable pub members_fit : ListType → Direction → List ℕ → Data → Reading (Unit {0})
+members_fit type side path d = do
+  _ ← all_known path (match_rows type side) d
+  _ ← no_other path (other_ip_member type) d
   refused_where (has_two_layers d) (fault_at rule.TwoLayers path)
 
 -- what `ietf-mud:mud` asks; absent it asks nothing
-unfoldable pub mud_at : List ℕ → Data → Reading MudTests
-mud_at path d = do
-  container ← object_where_there path members.Mud (Some d)
-  found ← where_there (mud_tests_of (under path members.Mud)) container
+unfoldable pub mud_at : List ℕ → Member → Data → Reading MudTests
+mud_at path m d = do
+  container ← object_where_there path m (Some d)
+  found ← where_there (mud_tests_of (under path m)) container
   done (unwrap_or found no_mud_tests)
 
 -- what `ipv4` or `ipv6` asks; absent it asks nothing
-unfoldable pub ip_at : ListType → Direction → List ℕ → Data → Reading IpTests
-ip_at type side path d = do
-  container ← object_where_there path (ip_member type) (Some d)
-  found ← where_there (ip_tests_of type side (under path (ip_member type))) container
+unfoldable pub ip_at : ListType → Direction → List ℕ → Member → Data → Reading IpTests
+ip_at type side path m d = do
+  container ← object_where_there path m (Some d)
+  found ← where_there (ip_tests_of type side (under path m)) container
   done (unwrap_or found no_ip_tests)
 
-unfoldable pub tcp_at : List ℕ → Data → Reading (Option Layer)
-tcp_at path d = do
-  container ← object_where_there path members.Tcp (Some d)
-  where_there (tcp_of (under path members.Tcp)) container
+unfoldable pub tcp_at : List ℕ → Member → Data → Reading (Option Layer)
+tcp_at path m d = do
+  container ← object_where_there path m (Some d)
+  where_there (tcp_of (under path m)) container
 
-unfoldable pub udp_at : List ℕ → Data → Reading (Option Layer)
-udp_at path d = do
-  container ← object_where_there path members.Udp (Some d)
-  where_there (udp_of (under path members.Udp)) container
+unfoldable pub udp_at : List ℕ → Member → Data → Reading (Option Layer)
+udp_at path m d = do
+  container ← object_where_there path m (Some d)
+  where_there (udp_of (under path m)) container
 
-unfoldable pub icmp_at : List ℕ → Data → Reading (Option Layer)
-icmp_at path d = do
-  container ← object_where_there path members.Icmp (Some d)
-  where_there (icmp_of (under path members.Icmp)) container
+unfoldable pub icmp_at : List ℕ → Member → Data → Reading (Option Layer)
+icmp_at path m d = do
+  container ← object_where_there path m (Some d)
+  where_there (icmp_of (under path m)) container
 
--- what the one that is there asks; absent they ask nothing
-unfoldable pub layer_at : List ℕ → Data → Reading Layer
-layer_at path d = do
-  tcp ← tcp_at path d
-  udp ← udp_at path d
-  icmp ← icmp_at path d
-  done (unwrap_or (option_or tcp (option_or udp icmp)) layer.Any)
+-- absent layers ask nothing; one stands at most
+unfoldable pub match_ways : Ways MatchWay MatchTests
+match_ways way.Mud path m d tests = do
+  found ← mud_at path m d
+  done (record tests { mud = found })
+match_ways (way.Ip type side) path m d tests = do
+  found ← ip_at type side path m d
+  done (record tests { ip = found })
+match_ways way.Refused path m d tests = do
+  _ ← no_other path m d
+  done tests
+match_ways way.Tcp path m d tests = do
+  found ← tcp_at path m d
+  done (record tests { layer = unwrap_or found tests.layer })
+match_ways way.Udp path m d tests = do
+  found ← udp_at path m d
+  done (record tests { layer = unwrap_or found tests.layer })
+match_ways way.Icmp path m d tests = do
+  found ← icmp_at path m d
+  done (record tests { layer = unwrap_or found tests.layer })
+
+unfoldable pub no_match_tests : MatchTests
+no_match_tests = record { mud = no_mud_tests; ip = no_ip_tests; layer = layer.Any }
 
 unfoldable pub matches_of : ListType → Direction → List ℕ → Data → Reading Tests
 matches_of type side path d = do
-  _ ← members_fit type path d
-  mud ← mud_at path d
-  ip ← ip_at type side path d
-  header ← layer_at path d
-  done (tests_of side mud ip header)
+  _ ← members_fit type side path d
+  tests ← rows_of match_ways path (match_rows type side) d no_match_tests
+  done (tests_of side tests.mud tests.ip tests.layer)
 
 -- the tests of an entry at this path; without `matches` it tests nothing
 unfoldable pub tests_at : ListType → Direction → List ℕ → Data → Reading Tests

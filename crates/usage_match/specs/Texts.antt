@@ -30,11 +30,17 @@ as_upto most path m n = do
   _ ← refused_where (nat_lt most n) (fault_at rule.Range (under path m))
   done n
 
--- a number of one octet, where it is there
-unfoldable pub octet_where_there : List ℕ → Member → Data → Reading (Option ℕ)
-octet_where_there path m parent = do
+-- a number up to this one, which is at most 255, where it is there
+unfoldable pub octet_where_there : ℕ → List ℕ → Member → Data → Reading (Option ℕ)
+octet_where_there most path m parent = do
   n ← number_where_there path m (Some parent)
-  where_there (as_upto 255 path m) n
+  where_there (as_upto most path m) n
+
+-- a length in octets, up to 65535, where it is there
+unfoldable pub length_where_there : List ℕ → Member → Data → Reading (Option ℕ)
+length_where_there path m parent = do
+  n ← number_where_there path m (Some parent)
+  where_there (as_upto 65535 path m) n
 
 -- ---- Names
 

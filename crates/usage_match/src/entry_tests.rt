@@ -47,6 +47,14 @@ pub struct MudTests {
 /// packet.
 #[derive(Drop, Debug)]
 pub struct IpTests {
+    /// The codepoint of differentiated services, from 0 to 63.
+    pub dscp: Option<u8>,
+    /// The field of explicit congestion notification, from 0 to 3.
+    pub ecn: Option<u8>,
+    /// The length in octets that the IP header names.
+    pub length: Option<u16>,
+    /// The time to live of IPv4, the hop limit of IPv6.
+    pub ttl: Option<u8>,
     /// The protocol number.
     pub protocol: Option<u8>,
     /// The network that holds the source address.
@@ -68,6 +76,14 @@ pub struct Tests {
     pub own: Option<Prefix>,
     /// The protocol number.
     pub protocol: Option<u8>,
+    /// The codepoint of differentiated services, from 0 to 63.
+    pub dscp: Option<u8>,
+    /// The field of explicit congestion notification, from 0 to 3.
+    pub ecn: Option<u8>,
+    /// The length in octets that the IP header names.
+    pub length: Option<u16>,
+    /// The time to live of IPv4, the hop limit of IPv6.
+    pub ttl: Option<u8>,
     /// What it asks of the transport header.
     pub layer: Layer,
 }

@@ -4,11 +4,14 @@
 
 mod containers;
 pub mod entry_tests;
+mod flags;
 pub mod matches;
 mod ports;
+mod tcp_flag;
 #[cfg(test)]
 mod tests;
 mod texts;
+mod ways;
 
 pub use entry_tests::{IpTests, ListType, MudTests, Operator, Tests};
 pub use matches::tests_at;

@@ -3,12 +3,14 @@ ghost use Rattle.std.specs.Prelude.{◌≡◌, ◌++◌, IfOk, OnOk};
 ghost use Rattle.std.specs.Option.{option_to_list};
 ghost use Rattle.serde_json.specs.View.{view};
 ghost use Rattle.reading.specs.Reading.{Gives};
-ghost use Rattle.usage_walk.specs.Others as spec_others;
 ghost use Rattle.usage_match.specs.Matches as spec;
 
-use crate::containers::{icmp_of, ip_tests_of, mud_tests_of, tcp_of, udp_of};
+use crate::containers::{
+    icmp_of, ip_tests_of, mud_tests_of, no_ip_tests, no_mud_tests, tcp_of, udp_of,
+};
 use crate::entry_tests::{IpTests, ListType, MudTests, Tests};
 use crate::ports::stands;
+use crate::ways::{MatchTests, MatchWay};
 use acl_model::{Layer, Selector};
 use mud_base::{Bytes, Direction, Listed, Memory, Prefix};
 use mud_url::MudUrl;
@@ -17,36 +19,8 @@ use std::alloc::Global;
 use usage_walk::kinds::object_where_there;
 use usage_walk::others::all_known;
 use usage_walk::path::{refuse_here_where, refuse_where, under};
-use usage_walk::{FileFault, Member, Rule};
-
-/// Nothing is asked of the peer by `ietf-mud:mud`.
-#[tactic(auto, unfolding(crate::specs::Matches::no_mud_tests))]
-fn no_mud_tests() -> MudTests
-    ensures { result ≡ spec.no_mud_tests }
-{
-    MudTests {
-        manufacturer: None,
-        same_manufacturer: false,
-        model: None,
-        local_networks: false,
-        controller: None,
-        my_controller: false,
-    }
-}
-
-/// Nothing is asked by `ipv4` or `ipv6`.
-#[tactic(auto, unfolding(crate::specs::Matches::no_ip_tests))]
-fn no_ip_tests() -> IpTests
-    ensures { result ≡ spec.no_ip_tests }
-{
-    IpTests {
-        protocol: None,
-        source: None,
-        destination: None,
-        source_name: None,
-        destination_name: None,
-    }
-}
+use usage_walk::table::read_rows;
+use usage_walk::{FileFault, Member, Reads, Row, Rule};
 
 /// Adds a selector at the end, where there is one.
 fn add(selectors: &mut Listed<Selector>, selector: Option<Selector>) -> Result<(), Memory>
@@ -175,6 +149,10 @@ fn tests_of(
 {
     let own = own_network(side, &ip);
     let protocol = ip.protocol;
+    let dscp = ip.dscp;
+    let ecn = ip.ecn;
+    let length = ip.length;
+    let ttl = ip.ttl;
     let mut selectors = Listed::new(alloc);
     add_mud(&mut selectors, mud)?;
     add_ip(&mut selectors, side, ip)?;
@@ -182,6 +160,10 @@ fn tests_of(
         selectors,
         own,
         protocol,
+        dscp,
+        ecn,
+        length,
+        ttl,
         layer,
     })
 }
@@ -195,6 +177,10 @@ fn no_tests(alloc: Global) -> Tests
         selectors: Listed::new(alloc),
         own: None,
         protocol: None,
+        dscp: None,
+        ecn: None,
+        length: None,
+        ttl: None,
         layer: Layer::Any,
     }
 }
@@ -232,20 +218,46 @@ fn has_two_layers(matches: &Value) -> bool
     (tcp && udp) || (tcp && icmp) || (udp && icmp)
 }
 
-/// Refuses a member inside `matches` that isn't known.
-#[tactic(auto, unfolding(crate::specs::Matches::match_members))]
-fn match_known(alloc: Global, matches: &Value, path: &[u8]) -> Result<(), FileFault>
-    ensures { Gives (λ _. tt) result (spec_others.all_known path.now spec.match_members (view matches.now)) }
+/// The table of `matches`, in a list of this type that is read for this direction.
+#[tactic(auto, unfolding(crate::specs::Matches::match_rows))]
+fn match_rows(list_type: ListType, side: Direction) -> [Row<MatchWay>; 6]
+    ensures { result ≡ spec.match_rows list_type side }
 {
-    let known = [
-        Member::Mud,
-        Member::Ipv4,
-        Member::Ipv6,
-        Member::Tcp,
-        Member::Udp,
-        Member::Icmp,
-    ];
-    all_known(alloc, matches, path, &known)
+    [
+        Row {
+            member: Member::Mud,
+            how: MatchWay::Mud,
+        },
+        Row {
+            member: ip_member(list_type),
+            how: MatchWay::Ip(list_type, side),
+        },
+        Row {
+            member: other_ip_member(list_type),
+            how: MatchWay::Refused,
+        },
+        Row {
+            member: Member::Tcp,
+            how: MatchWay::Tcp,
+        },
+        Row {
+            member: Member::Udp,
+            how: MatchWay::Udp,
+        },
+        Row {
+            member: Member::Icmp,
+            how: MatchWay::Icmp,
+        },
+    ]
+}
+
+/// Refuses the container of the other IP version.
+#[tactic(auto, unfolding(crate::specs::Matches::no_other))]
+fn no_other(alloc: Global, matches: &Value, path: &[u8], member: Member) -> Result<(), FileFault>
+    ensures { Gives (λ _. tt) result (spec.no_other path.now member (view matches.now)) }
+{
+    let breaks = stands(matches, member);
+    refuse_where(alloc, breaks, Rule::Family, path, member)
 }
 
 /// Refuses members inside `matches` that don't fit: unknown ones, the container of the other IP
@@ -254,26 +266,31 @@ fn match_known(alloc: Global, matches: &Value, path: &[u8]) -> Result<(), FileFa
 fn members_fit(
     alloc: Global,
     list_type: ListType,
+    side: Direction,
     matches: &Value,
     path: &[u8],
 ) -> Result<(), FileFault>
-    ensures { Gives (λ _. tt) result (spec.members_fit list_type path.now (view matches.now)) }
+    ensures { Gives (λ _. tt) result (spec.members_fit list_type side path.now (view matches.now)) }
 {
-    match_known(alloc, matches, path)?;
-    let other = other_ip_member(list_type);
-    refuse_where(alloc, stands(matches, other), Rule::Family, path, other)?;
+    all_known(alloc, matches, path, &match_rows(list_type, side))?;
+    no_other(alloc, matches, path, other_ip_member(list_type))?;
     refuse_here_where(alloc, has_two_layers(matches), Rule::TwoLayers, path)
 }
 
 /// What `ietf-mud:mud` asks of the peer. Where there is none, it asks nothing.
 #[tactic(auto, unfolding(crate::specs::Matches::mud_at), using(reading::proofs::Readings::answer_bind, reading::proofs::Readings::answer_done, reading::proofs::Readings::answer_absent, reading::proofs::Readings::answer_there))]
-fn mud_at(alloc: Global, matches: &Value, path: &[u8]) -> Result<MudTests, FileFault>
-    ensures { Gives (λ t. t) result (spec.mud_at path.now (view matches.now)) }
+fn mud_at(
+    alloc: Global,
+    matches: &Value,
+    path: &[u8],
+    member: Member,
+) -> Result<MudTests, FileFault>
+    ensures { Gives (λ t. t) result (spec.mud_at path.now member (view matches.now)) }
 {
-    match object_where_there(alloc, Some(matches), path, Member::Mud)? {
+    match object_where_there(alloc, Some(matches), path, member)? {
         None => Ok(no_mud_tests()),
         Some(container) => {
-            let path = under(alloc, path, Member::Mud)?;
+            let path = under(alloc, path, member)?;
             mud_tests_of(alloc, container, path.octets())
         }
     }
@@ -287,10 +304,10 @@ fn ip_at(
     side: Direction,
     matches: &Value,
     path: &[u8],
+    member: Member,
 ) -> Result<IpTests, FileFault>
-    ensures { Gives (λ t. t) result (spec.ip_at list_type side path.now (view matches.now)) }
+    ensures { Gives (λ t. t) result (spec.ip_at list_type side path.now member (view matches.now)) }
 {
-    let member = ip_member(list_type);
     match object_where_there(alloc, Some(matches), path, member)? {
         None => Ok(no_ip_tests()),
         Some(container) => {
@@ -302,13 +319,18 @@ fn ip_at(
 
 /// What `tcp` asks, where it is there.
 #[tactic(auto, unfolding(crate::specs::Matches::tcp_at), using(reading::proofs::Readings::answer_bind, reading::proofs::Readings::answer_absent, reading::proofs::Readings::answer_there))]
-fn tcp_at(alloc: Global, matches: &Value, path: &[u8]) -> Result<Option<Layer>, FileFault>
-    ensures { Gives (λ l. l) result (spec.tcp_at path.now (view matches.now)) }
+fn tcp_at(
+    alloc: Global,
+    matches: &Value,
+    path: &[u8],
+    member: Member,
+) -> Result<Option<Layer>, FileFault>
+    ensures { Gives (λ l. l) result (spec.tcp_at path.now member (view matches.now)) }
 {
-    match object_where_there(alloc, Some(matches), path, Member::Tcp)? {
+    match object_where_there(alloc, Some(matches), path, member)? {
         None => Ok(None),
         Some(container) => {
-            let path = under(alloc, path, Member::Tcp)?;
+            let path = under(alloc, path, member)?;
             Ok(Some(tcp_of(alloc, container, path.octets())?))
         }
     }
@@ -316,13 +338,18 @@ fn tcp_at(alloc: Global, matches: &Value, path: &[u8]) -> Result<Option<Layer>, 
 
 /// What `udp` asks, where it is there.
 #[tactic(auto, unfolding(crate::specs::Matches::udp_at), using(reading::proofs::Readings::answer_bind, reading::proofs::Readings::answer_absent, reading::proofs::Readings::answer_there))]
-fn udp_at(alloc: Global, matches: &Value, path: &[u8]) -> Result<Option<Layer>, FileFault>
-    ensures { Gives (λ l. l) result (spec.udp_at path.now (view matches.now)) }
+fn udp_at(
+    alloc: Global,
+    matches: &Value,
+    path: &[u8],
+    member: Member,
+) -> Result<Option<Layer>, FileFault>
+    ensures { Gives (λ l. l) result (spec.udp_at path.now member (view matches.now)) }
 {
-    match object_where_there(alloc, Some(matches), path, Member::Udp)? {
+    match object_where_there(alloc, Some(matches), path, member)? {
         None => Ok(None),
         Some(container) => {
-            let path = under(alloc, path, Member::Udp)?;
+            let path = under(alloc, path, member)?;
             Ok(Some(udp_of(alloc, container, path.octets())?))
         }
     }
@@ -330,27 +357,70 @@ fn udp_at(alloc: Global, matches: &Value, path: &[u8]) -> Result<Option<Layer>, 
 
 /// What `icmp` asks, where it is there.
 #[tactic(auto, unfolding(crate::specs::Matches::icmp_at), using(reading::proofs::Readings::answer_bind, reading::proofs::Readings::answer_absent, reading::proofs::Readings::answer_there))]
-fn icmp_at(alloc: Global, matches: &Value, path: &[u8]) -> Result<Option<Layer>, FileFault>
-    ensures { Gives (λ l. l) result (spec.icmp_at path.now (view matches.now)) }
+fn icmp_at(
+    alloc: Global,
+    matches: &Value,
+    path: &[u8],
+    member: Member,
+) -> Result<Option<Layer>, FileFault>
+    ensures { Gives (λ l. l) result (spec.icmp_at path.now member (view matches.now)) }
 {
-    match object_where_there(alloc, Some(matches), path, Member::Icmp)? {
+    match object_where_there(alloc, Some(matches), path, member)? {
         None => Ok(None),
         Some(container) => {
-            let path = under(alloc, path, Member::Icmp)?;
+            let path = under(alloc, path, member)?;
             Ok(Some(icmp_of(alloc, container, path.octets())?))
         }
     }
 }
 
-/// What is asked of the transport header by `tcp`, `udp` or `icmp`, or nothing.
-#[tactic(auto, unfolding(crate::specs::Matches::layer_at), using(reading::proofs::Readings::answer_bind, reading::proofs::Readings::answer_done))]
-fn layer_at(alloc: Global, matches: &Value, path: &[u8]) -> Result<Layer, FileFault>
-    ensures { Gives (λ l. l) result (spec.layer_at path.now (view matches.now)) }
+impl Reads for MatchWay {
+    ghost use Rattle.usage_match.specs.Matches.{match_ways};
+
+    type Meaning = MatchTests;
+
+    ghost reading = { match_ways };
+
+    #[tactic(auto, unfolding(crate::specs::Matches::match_ways), using(reading::proofs::Readings::answer_bind, reading::proofs::Readings::answer_done))]
+    fn read(
+        self,
+        alloc: Global,
+        object: &Value,
+        path: &[u8],
+        member: Member,
+        so_far: MatchTests,
+    ) -> Result<MatchTests, FileFault> {
+        let mut tests = so_far;
+        match self {
+            MatchWay::Mud => tests.mud = mud_at(alloc, object, path, member)?,
+            MatchWay::Ip(list_type, side) => {
+                tests.ip = ip_at(alloc, list_type, side, object, path, member)?;
+            }
+            MatchWay::Refused => no_other(alloc, object, path, member)?,
+            MatchWay::Tcp => {
+                tests.layer = tcp_at(alloc, object, path, member)?.unwrap_or(tests.layer);
+            }
+            MatchWay::Udp => {
+                tests.layer = udp_at(alloc, object, path, member)?.unwrap_or(tests.layer);
+            }
+            MatchWay::Icmp => {
+                tests.layer = icmp_at(alloc, object, path, member)?.unwrap_or(tests.layer);
+            }
+        }
+        Ok(tests)
+    }
+}
+
+/// Nothing is asked by the members of `matches`.
+#[tactic(auto, unfolding(crate::specs::Matches::no_match_tests))]
+fn no_match_tests() -> MatchTests
+    ensures { result ≡ spec.no_match_tests }
 {
-    let tcp = tcp_at(alloc, matches, path)?;
-    let udp = udp_at(alloc, matches, path)?;
-    let icmp = icmp_at(alloc, matches, path)?;
-    Ok(tcp.or(udp.or(icmp)).unwrap_or(Layer::Any))
+    MatchTests {
+        mud: no_mud_tests(),
+        ip: no_ip_tests(),
+        layer: Layer::Any,
+    }
 }
 
 /// What the `matches` at this path test.
@@ -364,11 +434,10 @@ fn matches_of(
 ) -> Result<Tests, FileFault>
     ensures { Gives (λ t. t) result (spec.matches_of list_type side path.now (view matches.now)) }
 {
-    members_fit(alloc, list_type, matches, path)?;
-    let mud = mud_at(alloc, matches, path)?;
-    let ip = ip_at(alloc, list_type, side, matches, path)?;
-    let layer = layer_at(alloc, matches, path)?;
-    let tests = tests_of(alloc, side, mud, ip, layer)?;
+    members_fit(alloc, list_type, side, matches, path)?;
+    let rows = match_rows(list_type, side);
+    let parts = read_rows(alloc, matches, path, &rows, no_match_tests())?;
+    let tests = tests_of(alloc, side, parts.mud, parts.ip, parts.layer)?;
     Ok(tests)
 }
 
@@ -377,7 +446,8 @@ fn matches_of(
 /// what the Thing sends or for what it receives. The path is the entry's, a JSON pointer (RFC 6901).
 /// Without `matches` it tests nothing.
 ///
-/// Protocol numbers, ICMP types and codes are 0 to 255, ports 0 to 65535. Names and the hosts of
+/// Code points are 0 to 63, congestion marks 0 to 3, times to live, protocol numbers, ICMP types and
+/// codes 0 to 255, lengths and ports 0 to 65535; named flags are their sum. Names and the hosts of
 /// manufacturers come in lower case and without a trailing dot, a model as a canonical MUD URL. The
 /// selectors stand in the order in which they are read.
 #[tactic(auto, unfolding(crate::specs::Matches::tests_at), using(reading::proofs::Readings::answer_bind, reading::proofs::Readings::answer_done, reading::proofs::Readings::answer_absent, reading::proofs::Readings::answer_there))]

@@ -16,10 +16,12 @@ struct Reads {
     selectors: &'static str,
     own: &'static str,
     protocol: Option<u8>,
+    /// `dscp`, `ecn`, `length` and `ttl`.
+    numbers: (Option<u8>, Option<u8>, Option<u16>, Option<u8>),
     layer: Layer,
 }
 
-const READS: [Reads; 6] = [
+const READS: [Reads; 7] = [
     Reads {
         list_type: ListType::Ipv4,
         side: Direction::From,
@@ -27,6 +29,7 @@ const READS: [Reads; 6] = [
         selectors: "name test.example.com;",
         own: "",
         protocol: Some(6),
+        numbers: (None, None, None, None),
         layer: Layer::Tcp {
             source: PortTest::Any,
             destination: PortTest::Eq(443),
@@ -41,6 +44,7 @@ const READS: [Reads; 6] = [
         selectors: "manufacturer example.com;same-manufacturer;model https://lighting.example.com/;local-networks;controller urn:ietf:params:mud:dns;my-controller;network 2001:db8::/32;name test.example.com;",
         own: "fe80::/10",
         protocol: Some(17),
+        numbers: (None, None, None, None),
         layer: Layer::Udp {
             source: PortTest::Within(53, 53),
             destination: PortTest::Eq(0),
@@ -53,6 +57,7 @@ const READS: [Reads; 6] = [
         selectors: "network 198.51.100.7/32;",
         own: "192.0.2.0/24",
         protocol: None,
+        numbers: (None, None, None, None),
         layer: Layer::Icmp {
             kind: Some(255),
             code: Some(0),
@@ -65,6 +70,7 @@ const READS: [Reads; 6] = [
         selectors: "",
         own: "",
         protocol: None,
+        numbers: (None, None, None, None),
         layer: Layer::Tcp {
             source: PortTest::Neq(65535),
             destination: PortTest::Lte(1023),
@@ -79,9 +85,25 @@ const READS: [Reads; 6] = [
         selectors: "",
         own: "",
         protocol: None,
+        numbers: (None, None, None, None),
         layer: Layer::Udp {
             source: PortTest::Gte(1024),
             destination: PortTest::Any,
+        },
+    },
+    Reads {
+        list_type: ListType::Ipv6,
+        side: Direction::From,
+        entry: r#"{"matches":{"ipv6":{"dscp":63,"ecn":3,"length":65535,"ttl":255},"tcp":{"flags":"fin  cwr syn"}}}"#,
+        selectors: "",
+        own: "",
+        protocol: None,
+        numbers: (Some(63), Some(3), Some(65535), Some(255)),
+        layer: Layer::Tcp {
+            source: PortTest::Any,
+            destination: PortTest::Any,
+            begun: None,
+            flags: Some(131),
         },
     },
     Reads {
@@ -91,6 +113,7 @@ const READS: [Reads; 6] = [
         selectors: "",
         own: "",
         protocol: None,
+        numbers: (None, None, None, None),
         layer: Layer::Any,
     },
 ];
@@ -150,6 +173,8 @@ fn entries_are_read(rt: HostRuntime) -> Result<(), Fail> {
         assert_eq!(rt; selectors.octets(), row.selectors.as_bytes());
         assert_eq!(rt; own.octets(), row.own.as_bytes());
         assert_eq!(rt; tests.protocol, row.protocol);
+        let numbers = (tests.dscp, tests.ecn, tests.length, tests.ttl);
+        assert_eq!(rt; numbers, row.numbers);
         assert_eq!(rt; tests.layer, row.layer);
     }
     Ok(())
@@ -157,7 +182,7 @@ fn entries_are_read(rt: HostRuntime) -> Result<(), Fail> {
 
 /// What stands in the `matches` of an entry, in a list of IPv4 for what the Thing sends, and the
 /// rule and the path under `matches` that it breaks.
-const BREAKS: [(&str, Rule, &str); 21] = [
+const BREAKS: [(&str, Rule, &str); 32] = [
     ("[]", Rule::WrongKind, ""),
     (
         r#"{"z":1,"eth/0":{},"ipv6":{}}"#,
@@ -196,10 +221,57 @@ const BREAKS: [(&str, Rule, &str); 21] = [
         "/ietf-mud:mud/controller",
     ),
     (
-        r#"{"ipv4":{"ttl":1,"protocol":256}}"#,
+        r#"{"ipv4":{"flow-label":1,"protocol":256}}"#,
         Rule::UnknownMatch,
+        "/ipv4/flow-label",
+    ),
+    (
+        r#"{"ietf-mud:mud":{"mfg":1,"manufacturer":1}}"#,
+        Rule::UnknownMatch,
+        "/ietf-mud:mud/mfg",
+    ),
+    (
+        r#"{"udp":{"flags":"syn"}}"#,
+        Rule::UnknownMatch,
+        "/udp/flags",
+    ),
+    (
+        r#"{"icmp":{"rest-of-header":"00","type":256}}"#,
+        Rule::UnknownMatch,
+        "/icmp/rest-of-header",
+    ),
+    (
+        r#"{"tcp":{"source-port":{"prot":1}}}"#,
+        Rule::UnknownMatch,
+        "/tcp/source-port/prot",
+    ),
+    (r#"{"ipv4":{"ecn":4,"dscp":64}}"#, Rule::Range, "/ipv4/dscp"),
+    (
+        r#"{"ipv4":{"length":65536,"ecn":4}}"#,
+        Rule::Range,
+        "/ipv4/ecn",
+    ),
+    (
+        r#"{"ipv4":{"ttl":256,"length":65536}}"#,
+        Rule::Range,
+        "/ipv4/length",
+    ),
+    (
+        r#"{"ipv4":{"protocol":256,"ttl":256}}"#,
+        Rule::Range,
         "/ipv4/ttl",
     ),
+    (
+        r#"{"tcp":{"flags":"syn push"}}"#,
+        Rule::FlagText,
+        "/tcp/flags",
+    ),
+    (
+        r#"{"tcp":{"flags":2,"ietf-mud:direction-initiated":1}}"#,
+        Rule::WrongKind,
+        "/tcp/ietf-mud:direction-initiated",
+    ),
+    (r#"{"tcp":{"flags":2}}"#, Rule::WrongKind, "/tcp/flags"),
     (
         r#"{"ipv4":{"protocol":256}}"#,
         Rule::Range,

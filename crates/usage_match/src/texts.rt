@@ -16,20 +16,31 @@ use usage_walk::kinds::{number_where_there, text_where_there};
 use usage_walk::path::refusal;
 use usage_walk::{FileFault, Member, Rule};
 
-/// The number of one octet that this is, from 0 to 255.
+/// The number that this is, where it is at most `most`.
 #[tactic(auto, unfolding(crate::specs::Texts::as_upto), using(reading::proofs::Readings::answer_bind, reading::proofs::Readings::answer_done, reading::proofs::Readings::answer_passed, reading::proofs::Readings::answer_refused))]
-fn as_octet(alloc: Global, path: &[u8], member: Member, number: u64) -> Result<u8, FileFault>
-    ensures { Gives (λ n. n) result (spec.as_upto 255 path.now member number) }
+fn as_octet(
+    alloc: Global,
+    most: u8,
+    path: &[u8],
+    member: Member,
+    number: u64,
+) -> Result<u8, FileFault>
+    ensures { Gives (λ n. n) result (spec.as_upto most path.now member number) }
 {
-    if number > 255 {
+    if number > most as u64 {
         return Err(refusal(alloc, Rule::Range, path, member));
     }
     Ok(number as u8)
 }
 
-/// The port that a number is, from 0 to 65535.
+/// The number of two octets that this is, from 0 to 65535.
 #[tactic(auto, unfolding(crate::specs::Texts::as_upto), using(reading::proofs::Readings::answer_bind, reading::proofs::Readings::answer_done, reading::proofs::Readings::answer_passed, reading::proofs::Readings::answer_refused))]
-pub fn as_port(alloc: Global, path: &[u8], member: Member, number: u64) -> Result<u16, FileFault>
+pub fn as_two_octets(
+    alloc: Global,
+    path: &[u8],
+    member: Member,
+    number: u64,
+) -> Result<u16, FileFault>
     ensures { Gives (λ n. n) result (spec.as_upto 65535 path.now member number) }
 {
     if number > 65535 {
@@ -38,19 +49,36 @@ pub fn as_port(alloc: Global, path: &[u8], member: Member, number: u64) -> Resul
     Ok(number as u16)
 }
 
-/// A number of one octet, from 0 to 255, where it is there.
+/// A number from 0 to `most`, where it is there.
 #[tactic(auto, unfolding(crate::specs::Texts::octet_where_there), using(reading::proofs::Readings::answer_bind, reading::proofs::Readings::answer_absent, reading::proofs::Readings::answer_there))]
 pub fn octet_where_there(
     alloc: Global,
+    most: u8,
     object: &Value,
     path: &[u8],
     member: Member,
 ) -> Result<Option<u8>, FileFault>
-    ensures { Gives (λ n. n) result (spec.octet_where_there path.now member (view object.now)) }
+    ensures { Gives (λ n. n) result (spec.octet_where_there most path.now member (view object.now)) }
 {
     match number_where_there(alloc, Some(object), path, member)? {
         None => Ok(None),
-        Some(number) => Ok(Some(as_octet(alloc, path, member, number)?)),
+        Some(number) => Ok(Some(as_octet(alloc, most, path, member, number)?)),
+    }
+}
+
+/// A length in octets, from 0 to 65535, where it is there.
+#[tactic(auto, unfolding(crate::specs::Texts::length_where_there), using(reading::proofs::Readings::answer_bind, reading::proofs::Readings::answer_absent, reading::proofs::Readings::answer_there))]
+pub fn length_where_there(
+    alloc: Global,
+    object: &Value,
+    path: &[u8],
+    member: Member,
+) -> Result<Option<u16>, FileFault>
+    ensures { Gives (λ n. n) result (spec.length_where_there path.now member (view object.now)) }
+{
+    match number_where_there(alloc, Some(object), path, member)? {
+        None => Ok(None),
+        Some(number) => Ok(Some(as_two_octets(alloc, path, member, number)?)),
     }
 }
 

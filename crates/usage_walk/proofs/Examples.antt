@@ -5,12 +5,14 @@ use Rattle.serde_json.specs.Data.{Data, null, boolean, string}
 use Rattle.usage_walk.specs.declared.fault.Rule.{Rule}
 use Rattle.usage_walk.specs.declared.fault.Rule.TheVariants as rule
 use Rattle.usage_walk.specs.declared.member.Member.TheVariants as members
+use Rattle.usage_walk.specs.declared.row.Row.{Row}
 use Rattle.usage_walk.specs.Names as names
 use Rattle.reading.specs.Reading.{answer}
 use Rattle.usage_walk.specs.Reading.{fault_at, under, at_place, under_name}
 use Rattle.usage_walk.specs.Kinds.{is_empty_leaf, text_at, number_at, truth_at, object_at, text_where_there, number_where_there, object_where_there, list_where_there, leaf_where_there}
 use Rattle.usage_walk.specs.Named.{elements_of}
 use Rattle.usage_walk.specs.Others.{all_known}
+use Rattle.usage_walk.specs.Tables.{row}
 use Rattle.usage_walk.proofs.OnLiterals.{walk_on_literals}
 use Rattle.usage_walk.proofs.Written.{num, list, obj}
 
@@ -20,9 +22,9 @@ abbrev rules : List Rule
 rules =
     rule.TooLong ∷ rule.Json ∷ rule.Missing ∷ rule.WrongKind ∷ rule.Version ∷ rule.Url ∷ rule.Update ∷ rule.Validity
     ∷ rule.NoSuchAcl ∷ rule.AclType ∷ rule.UnknownMatch ∷ rule.TwoLayers ∷ rule.PortRange ∷ rule.NameSide ∷ rule.DirectionNotTcp ∷ rule.Action
-    ∷ rule.EntriesFull ∷ rule.NameText ∷ rule.RepeatedName ∷ rule.Family ∷ rule.PrefixText ∷ rule.Range ∷ rule.DirectionText ∷ rule.Operator ∷ []
+    ∷ rule.EntriesFull ∷ rule.NameText ∷ rule.RepeatedName ∷ rule.Family ∷ rule.PrefixText ∷ rule.Range ∷ rule.DirectionText ∷ rule.Operator ∷ rule.FlagText ∷ []
 
-rules_are_numbered : map names.number_of rules ≡ 1 ∷ 2 ∷ 3 ∷ 4 ∷ 5 ∷ 6 ∷ 7 ∷ 8 ∷ 9 ∷ 10 ∷ 11 ∷ 12 ∷ 13 ∷ 14 ∷ 15 ∷ 16 ∷ 17 ∷ 18 ∷ 19 ∷ 20 ∷ 21 ∷ 22 ∷ 23 ∷ 24 ∷ []
+rules_are_numbered : map names.number_of rules ≡ 1 ∷ 2 ∷ 3 ∷ 4 ∷ 5 ∷ 6 ∷ 7 ∷ 8 ∷ 9 ∷ 10 ∷ 11 ∷ 12 ∷ 13 ∷ 14 ∷ 15 ∷ 16 ∷ 17 ∷ 18 ∷ 19 ∷ 20 ∷ 21 ∷ 22 ∷ 23 ∷ 24 ∷ 25 ∷ []
 unfolding walk_on_literals
 rules_are_numbered = refl
 
@@ -156,10 +158,16 @@ name_as_number = refl
 
 -- ---- Members that may not stand: the least of them by octets is named
 
-known_alone : answer (all_known here (members.Operator ∷ members.Port ∷ []) (with_port null)) ≡ Ok tt
+abbrev operator_and_port : List (Row ℕ)
+operator_and_port = row members.Operator 0 ∷ row members.Port 0 ∷ []
+
+abbrev port_alone : List (Row ℕ)
+port_alone = row members.Port 0 ∷ []
+
+known_alone : answer (all_known here operator_and_port (with_port null)) ≡ Ok tt
 unfolding walk_on_literals
 known_alone = refl
 
-least_unknown : answer (all_known here (members.Port ∷ []) (obj ((codes "z", null) ∷ (codes "port", null) ∷ (codes "c/d", null) ∷ (codes "x", null) ∷ []))) ≡ Err (fault_at rule.UnknownMatch (codes "/a/c~1d"))
+least_unknown : answer (all_known here port_alone (obj ((codes "z", null) ∷ (codes "port", null) ∷ (codes "c/d", null) ∷ (codes "x", null) ∷ []))) ≡ Err (fault_at rule.UnknownMatch (codes "/a/c~1d"))
 unfolding walk_on_literals
 least_unknown = refl

@@ -5,3 +5,4 @@ pub mod Kinds
 pub mod Named
 pub mod Elements
 pub mod Others
+pub mod Tables

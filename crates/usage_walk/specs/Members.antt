@@ -1,7 +1,7 @@
 -- The names of the members of a usage file (RFC 8520, 2 to 9; RFC 8519, 4).
 use Rattle.std.specs.Prelude.{ℕ, List, codes}
 use Rattle.usage_walk.specs.declared.member.Member.{Member}
-use Rattle.usage_walk.specs.declared.member.Member.TheVariants.{Mud, MudVersion, MudUrl, LastUpdate, CacheValidity, IsSupported, MudSignature, SystemInfo, MfgName, ModelName, FirmwareRev, SoftwareRev, Documentation, Extensions, FromDevicePolicy, ToDevicePolicy, AccessLists, AccessList, Name, Acls, Acl, Kind, Aces, Ace, Matches, Actions, Forwarding, Ipv4, Ipv6, Tcp, Udp, Icmp, Manufacturer, SameManufacturer, Model, LocalNetworks, Controller, MyController, Protocol, SourceIpv4Network, DestinationIpv4Network, SourceIpv6Network, DestinationIpv6Network, SrcDnsname, DstDnsname, SourcePort, DestinationPort, DirectionInitiated, Code, Operator, Port, LowerPort, UpperPort}
+use Rattle.usage_walk.specs.declared.member.Member.TheVariants.{Mud, MudVersion, MudUrl, LastUpdate, CacheValidity, IsSupported, MudSignature, SystemInfo, MfgName, ModelName, FirmwareRev, SoftwareRev, Documentation, Extensions, FromDevicePolicy, ToDevicePolicy, AccessLists, AccessList, Name, Acls, Acl, Kind, Aces, Ace, Matches, Actions, Forwarding, Ipv4, Ipv6, Tcp, Udp, Icmp, Manufacturer, SameManufacturer, Model, LocalNetworks, Controller, MyController, Dscp, Ecn, Length, Ttl, Protocol, SourceIpv4Network, DestinationIpv4Network, SourceIpv6Network, DestinationIpv6Network, SrcDnsname, DstDnsname, SourcePort, DestinationPort, DirectionInitiated, Flags, Code, Operator, Port, LowerPort, UpperPort}
 
 unfoldable pub name_of : Member → List ℕ
 name_of Mud = codes "ietf-mud:mud"
@@ -42,6 +42,10 @@ name_of Model = codes "model"
 name_of LocalNetworks = codes "local-networks"
 name_of Controller = codes "controller"
 name_of MyController = codes "my-controller"
+name_of Dscp = codes "dscp"
+name_of Ecn = codes "ecn"
+name_of Length = codes "length"
+name_of Ttl = codes "ttl"
 name_of Protocol = codes "protocol"
 name_of SourceIpv4Network = codes "source-ipv4-network"
 name_of DestinationIpv4Network = codes "destination-ipv4-network"
@@ -52,6 +56,7 @@ name_of DstDnsname = codes "ietf-acldns:dst-dnsname"
 name_of SourcePort = codes "source-port"
 name_of DestinationPort = codes "destination-port"
 name_of DirectionInitiated = codes "ietf-mud:direction-initiated"
+name_of Flags = codes "flags"
 name_of Code = codes "code"
 name_of Operator = codes "operator"
 name_of Port = codes "port"

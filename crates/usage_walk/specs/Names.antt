@@ -1,7 +1,7 @@
 -- The numbers and names of the rules of usage files.
 use Rattle.std.specs.Prelude.{ℕ, List, codes}
 use Rattle.usage_walk.specs.declared.fault.Rule.{Rule}
-use Rattle.usage_walk.specs.declared.fault.Rule.TheVariants.{TooLong, Json, Missing, WrongKind, Version, Url, Update, Validity, NoSuchAcl, AclType, UnknownMatch, TwoLayers, PortRange, NameSide, DirectionNotTcp, Action, EntriesFull, NameText, RepeatedName, Family, PrefixText, Range, DirectionText, Operator}
+use Rattle.usage_walk.specs.declared.fault.Rule.TheVariants.{TooLong, Json, Missing, WrongKind, Version, Url, Update, Validity, NoSuchAcl, AclType, UnknownMatch, TwoLayers, PortRange, NameSide, DirectionNotTcp, Action, EntriesFull, NameText, RepeatedName, Family, PrefixText, Range, DirectionText, Operator, FlagText}
 
 unfoldable pub number_of : Rule → ℕ
 number_of TooLong = 1
@@ -28,6 +28,7 @@ number_of PrefixText = 21
 number_of Range = 22
 number_of DirectionText = 23
 number_of Operator = 24
+number_of FlagText = 25
 
 unfoldable pub name_of : Rule → List ℕ
 name_of TooLong = codes "TooLong"
@@ -54,3 +55,4 @@ name_of PrefixText = codes "PrefixText"
 name_of Range = codes "Range"
 name_of DirectionText = codes "DirectionText"
 name_of Operator = codes "Operator"
+name_of FlagText = codes "FlagText"

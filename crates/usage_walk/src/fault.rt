@@ -51,18 +51,22 @@ pub enum Rule {
     Family,
     /// A network is no prefix of its IP version.
     PrefixText,
-    /// A number is above 255, or a port above 65535.
+    /// `dscp` is above 63, `ecn` above 3, `ttl`, `protocol` or an ICMP type or code above 255, or
+    /// `length` or a port above 65535.
     Range,
     /// A direction is neither `to-device` nor `from-device` (RFC 8520, 4.8).
     DirectionText,
     /// An operator is none of `eq`, `neq`, `lte` and `gte` (RFC 8519, 4.2).
     Operator,
+    /// `flags` names another word than a flag of TCP or one flag twice, or has a space at an end
+    /// (RFC 8519, 4.2).
+    FlagText,
 }
 
 impl Rule {
     ghost use Rattle.usage_walk.specs.Names.{number_of, name_of};
 
-    /// The number of the rule, from 1 to 24.
+    /// The number of the rule, from 1 to 25.
     #[tactic(auto, unfolding(crate::specs::Names::number_of))]
     pub fn number(&self) -> u8
         ensures { result ≡ number_of self.now }
@@ -92,6 +96,7 @@ impl Rule {
             Rule::Range => 22,
             Rule::DirectionText => 23,
             Rule::Operator => 24,
+            Rule::FlagText => 25,
         }
     }
 
@@ -125,6 +130,7 @@ impl Rule {
             Rule::Range => "Range",
             Rule::DirectionText => "DirectionText",
             Rule::Operator => "Operator",
+            Rule::FlagText => "FlagText",
         }
     }
 }

@@ -81,6 +81,14 @@ pub enum Member {
     Controller,
     /// `my-controller`
     MyController,
+    /// `dscp`
+    Dscp,
+    /// `ecn`
+    Ecn,
+    /// `length`
+    Length,
+    /// `ttl`
+    Ttl,
     /// `protocol`
     Protocol,
     /// `source-ipv4-network`
@@ -101,6 +109,8 @@ pub enum Member {
     DestinationPort,
     /// `ietf-mud:direction-initiated`
     DirectionInitiated,
+    /// `flags`
+    Flags,
     /// `code`
     Code,
     /// `operator`
@@ -160,6 +170,10 @@ impl Member {
             Member::LocalNetworks => "local-networks",
             Member::Controller => "controller",
             Member::MyController => "my-controller",
+            Member::Dscp => "dscp",
+            Member::Ecn => "ecn",
+            Member::Length => "length",
+            Member::Ttl => "ttl",
             Member::Protocol => "protocol",
             Member::SourceIpv4Network => "source-ipv4-network",
             Member::DestinationIpv4Network => "destination-ipv4-network",
@@ -170,6 +184,7 @@ impl Member {
             Member::SourcePort => "source-port",
             Member::DestinationPort => "destination-port",
             Member::DirectionInitiated => "ietf-mud:direction-initiated",
+            Member::Flags => "flags",
             Member::Code => "code",
             Member::Operator => "operator",
             Member::Port => "port",

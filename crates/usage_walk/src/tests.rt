@@ -27,6 +27,11 @@ enum Kind {
 
 use Kind::*;
 
+/// A row for a member that isn't read.
+fn row(member: Member) -> Row<()> {
+    Row { member, how: () }
+}
+
 /// What is read of the member `port` of an object at the path `/a`: the number, the length, or 1
 /// for a value that is there.
 fn read(alloc: Global, kind: Kind, root: &Value) -> Result<u64, FileFault> {
@@ -59,7 +64,8 @@ fn read(alloc: Global, kind: Kind, root: &Value) -> Result<u64, FileFault> {
             Ok(elements_of(alloc, list, b"/a/port")?.len() as u64)
         }
         Kind::Known => {
-            all_known(alloc, object, path, &[Member::Operator, port])?;
+            let known = [row(Member::Operator), row(port)];
+            all_known(alloc, object, path, &known)?;
             Ok(1)
         }
     }
@@ -204,6 +210,8 @@ fn names_rules_and_paths(rt: HostRuntime) -> Result<(), Fail> {
     assert_eq!(rt; Rule::RepeatedName.number(), 19);
     assert_eq!(rt; Rule::Operator.number(), 24);
     assert_eq!(rt; Rule::Operator.name(), "Operator");
+    assert_eq!(rt; Rule::FlagText.number(), 25);
+    assert_eq!(rt; Rule::FlagText.name(), "FlagText");
     assert_eq!(rt; Member::Acls.name(), "ietf-access-control-list:acls");
     assert_eq!(rt;
         under(alloc, b"/a", Member::Aces)?.octets(),

@@ -4,7 +4,7 @@ use Rattle.usage_walk.specs.Others.{first_other, first_unknown}
 use Rattle.usage_walk.proofs.others.first_unknown.Given as goal
 
 abbrev pub invariant-members : goal.invariant-members
-invariant-members l =
-    (goal.iterator-members).can_next l.name-iterator ×
-    (goal.iterator-members).is_finite l.name-iterator ×
-    (first_unknown l.known (view l.object) ≡ first_other l.known (members_view l.name-iterator))
+invariant-members g l =
+    (goal.iterator-members g).can_next l.name-iterator ×
+    (goal.iterator-members g).is_finite l.name-iterator ×
+    (first_unknown l.rows (view l.object) ≡ first_other l.rows (members_view l.name-iterator))

@@ -1,0 +1,86 @@
+-- Texts that name flags of TCP (RFC 8519, 4.2, `flags`; RFC 7950, 9.7.2).
+use Rattle.std.specs.Prelude.{ℕ, Bool, false, not, ◌&&◌, ◌||◌, ◌==◌, ◌-◌, nat_lt, List, [], ◌∷◌, length, map, sum, slice_index, codes, bytes_eq, Option, Some, None, if◌then◌else◌}
+use Rattle.std.specs.List.{list_any, list_all, filter, slice_split}
+use Rattle.reading.specs.Reading.{◌>>=◌, wanted, where_there}
+use Rattle.serde_json.specs.Data.{Data}
+use Rattle.usage_walk.specs.declared.fault.Rule.TheVariants as rule
+use Rattle.usage_walk.specs.declared.member.Member.{Member}
+use Rattle.usage_walk.specs.Reading.{Reading, under, fault_at}
+use Rattle.usage_walk.specs.Kinds.{text_where_there}
+use Rattle.usage_match.specs.declared.tcp_flag.TcpFlag.{TcpFlag}
+use Rattle.usage_match.specs.declared.tcp_flag.TcpFlag.TheVariants.{Cwr, Ece, Urg, Ack, Psh, Rst, Syn, Fin}
+
+unfoldable pub flags : List TcpFlag
+flags = Cwr ∷ Ece ∷ Urg ∷ Ack ∷ Psh ∷ Rst ∷ Syn ∷ Fin ∷ []
+
+unfoldable pub word_of : TcpFlag → List ℕ
+word_of Cwr = codes "cwr"
+word_of Ece = codes "ece"
+word_of Urg = codes "urg"
+word_of Ack = codes "ack"
+word_of Psh = codes "psh"
+word_of Rst = codes "rst"
+word_of Syn = codes "syn"
+word_of Fin = codes "fin"
+
+-- what a flag stands for in the octet (RFC 9293, 3.1)
+unfoldable pub bit_of : TcpFlag → ℕ
+bit_of Cwr = 128
+bit_of Ece = 64
+bit_of Urg = 32
+bit_of Ack = 16
+bit_of Psh = 8
+bit_of Rst = 4
+bit_of Syn = 2
+bit_of Fin = 1
+
+-- what stands between the spaces of a text: words, and nothing where two spaces follow one another
+unfoldable pub pieces : List ℕ → List (List ℕ)
+pieces text = slice_split (λ c. c == 32) text
+
+unfoldable pub is_flag : List ℕ → Bool
+is_flag word = list_any (λ f. bytes_eq (word_of f) word) flags
+
+unfoldable pub is_piece : List ℕ → Bool
+is_piece piece = length piece == 0 || is_flag piece
+
+-- every word is a flag
+unfoldable pub are_flags : List ℕ → Bool
+are_flags text = list_all is_piece (pieces text)
+
+-- how many times a text names a flag
+unfoldable pub times : List ℕ → TcpFlag → ℕ
+times text f = length (filter (λ piece. bytes_eq piece (word_of f)) (pieces text))
+
+unfoldable pub has_repeat : List ℕ → Bool
+has_repeat text = list_any (λ f. nat_lt 1 (times text f)) flags
+
+unfoldable pub begins_with_space : List ℕ → Bool
+begins_with_space [] = false
+begins_with_space (c ∷ more) = c == 32
+
+unfoldable pub ends_with_space : List ℕ → Bool
+ends_with_space text = slice_index text (length text - 1) == 32
+
+-- words that are flags, each at most once, parted by one or more spaces, with no space at either end
+unfoldable pub is_flag_text : List ℕ → Bool
+is_flag_text text = not (begins_with_space text) && not (ends_with_space text) && are_flags text && not (has_repeat text)
+
+unfoldable pub bit_where_named : List ℕ → TcpFlag → ℕ
+bit_where_named text f = if nat_lt 0 (times text f) then bit_of f else 0
+
+-- the octet of flags in which those that the text names are set, and no other
+unfoldable pub octet_of : List ℕ → ℕ
+octet_of text = sum (map (bit_where_named text) flags)
+
+unfoldable pub flags_in : List ℕ → Option ℕ
+flags_in text = if is_flag_text text then Some (octet_of text) else None
+
+unfoldable pub as_flags : List ℕ → Member → List ℕ → Reading ℕ
+as_flags path m text = wanted 0 (fault_at rule.FlagText (under path m)) (flags_in text)
+
+-- an octet of flags, where it is there
+unfoldable pub flags_where_there : List ℕ → Member → Data → Reading (Option ℕ)
+flags_where_there path m parent = do
+  text ← text_where_there path m (Some parent)
+  where_there (as_flags path m) text

@@ -1,0 +1,215 @@
+//! Texts that name flags of TCP (RFC 8519, 4.2, `flags`).
+ghost use Rattle.std.specs.Prelude.{◌≡◌, ◌≤◌};
+ghost use Rattle.serde_json.specs.View.{view};
+ghost use Rattle.reading.specs.Reading.{Gives};
+ghost use Rattle.usage_match.specs.Flags as spec;
+
+use crate::tcp_flag::TcpFlag;
+use serde_json::Value;
+use std::alloc::Global;
+use usage_walk::kinds::text_where_there;
+use usage_walk::path::refusal;
+use usage_walk::{FileFault, Member, Rule};
+
+/// The flags.
+#[tactic(auto, unfolding(crate::specs::Flags::flags))]
+fn flags() -> [TcpFlag; 8]
+    ensures { result ≡ spec.flags }
+{
+    [
+        TcpFlag::Cwr,
+        TcpFlag::Ece,
+        TcpFlag::Urg,
+        TcpFlag::Ack,
+        TcpFlag::Psh,
+        TcpFlag::Rst,
+        TcpFlag::Syn,
+        TcpFlag::Fin,
+    ]
+}
+
+/// The word that names a flag.
+#[tactic(auto, unfolding(crate::specs::Flags::word_of))]
+fn word_of(flag: TcpFlag) -> &'static str
+    ensures { result.now ≡ spec.word_of flag }
+{
+    match flag {
+        TcpFlag::Cwr => "cwr",
+        TcpFlag::Ece => "ece",
+        TcpFlag::Urg => "urg",
+        TcpFlag::Ack => "ack",
+        TcpFlag::Psh => "psh",
+        TcpFlag::Rst => "rst",
+        TcpFlag::Syn => "syn",
+        TcpFlag::Fin => "fin",
+    }
+}
+
+/// What a flag stands for in the octet.
+#[tactic(auto, unfolding(crate::specs::Flags::bit_of))]
+fn bit_of(flag: TcpFlag) -> u8
+    ensures { result ≡ spec.bit_of flag }
+{
+    match flag {
+        TcpFlag::Cwr => 128,
+        TcpFlag::Ece => 64,
+        TcpFlag::Urg => 32,
+        TcpFlag::Ack => 16,
+        TcpFlag::Psh => 8,
+        TcpFlag::Rst => 4,
+        TcpFlag::Syn => 2,
+        TcpFlag::Fin => 1,
+    }
+}
+
+/// Whether a word names a flag.
+#[tactic(auto, unfolding(crate::specs::Flags::is_flag))]
+fn is_flag(word: &str) -> bool
+    ensures { result ≡ spec.is_flag word.now }
+{
+    flags().iter().any(|flag| word_of(*flag) == word)
+}
+
+/// Whether what stands between two spaces is a flag or nothing.
+#[tactic(auto, unfolding(crate::specs::Flags::is_piece))]
+fn is_piece(piece: &str) -> bool
+    ensures { result ≡ spec.is_piece piece.now }
+{
+    if piece.is_empty() {
+        return true;
+    }
+    is_flag(piece)
+}
+
+/// Whether every word of a text is a flag.
+#[tactic(auto, unfolding(crate::specs::Flags::are_flags, crate::specs::Flags::pieces))]
+fn are_flags(text: &str) -> bool
+    ensures { result ≡ spec.are_flags text.now }
+{
+    text.split(' ').all(is_piece)
+}
+
+/// How many times a text names a flag.
+#[tactic(auto, unfolding(crate::specs::Flags::times, crate::specs::Flags::pieces))]
+fn times(text: &str, flag: TcpFlag) -> usize
+    ensures { result ≡ spec.times text.now flag }
+{
+    let word = word_of(flag);
+    text.split(' ').filter(|piece| *piece == word).count()
+}
+
+/// Whether a text names a flag twice.
+#[tactic(auto, unfolding(crate::specs::Flags::has_repeat))]
+fn has_repeat(text: &str) -> bool
+    ensures { result ≡ spec.has_repeat text.now }
+{
+    flags().iter().any(|flag| times(text, *flag) > 1)
+}
+
+/// Whether a text begins with a space.
+#[tactic(auto, unfolding(crate::specs::Flags::begins_with_space))]
+fn begins_with_space(text: &[u8]) -> bool
+    ensures { result ≡ spec.begins_with_space text.now }
+{
+    match text {
+        [] => false,
+        [first, ..] => *first == b' ',
+    }
+}
+
+/// Whether a text ends with a space.
+#[tactic(auto, unfolding(crate::specs::Flags::ends_with_space))]
+fn ends_with_space(text: &[u8]) -> bool
+    ensures { result ≡ spec.ends_with_space text.now }
+{
+    match text {
+        [] => false,
+        [.., last] => *last == b' ',
+    }
+}
+
+/// Whether a text names flags, each at most once, parted by one or more spaces, with no space at
+/// either end.
+#[tactic(auto, unfolding(crate::specs::Flags::is_flag_text))]
+fn is_flag_text(text: &str) -> bool
+    ensures { result ≡ spec.is_flag_text text.now }
+{
+    if begins_with_space(text.as_bytes()) {
+        return false;
+    }
+    if ends_with_space(text.as_bytes()) {
+        return false;
+    }
+    if !are_flags(text) {
+        return false;
+    }
+    !has_repeat(text)
+}
+
+/// What a flag stands for, where a text names it, and else 0.
+#[tactic(auto, unfolding(crate::specs::Flags::bit_where_named))]
+fn bit_where_named(text: &str, flag: TcpFlag) -> u8
+    ensures bit { result ≡ spec.bit_where_named text.now flag }
+    ensures most { result ≤ spec.bit_of flag }
+{
+    if times(text, flag) > 0 {
+        bit_of(flag)
+    } else {
+        0
+    }
+}
+
+/// The octet of flags in which those that a text names are set, and no other.
+#[tactic(auto, unfolding(crate::specs::Flags::octet_of, crate::specs::Flags::flags, crate::specs::Flags::bit_of))]
+fn octet_of(text: &str) -> u8
+    ensures { result ≡ spec.octet_of text.now }
+{
+    let cwr = bit_where_named(text, TcpFlag::Cwr);
+    let ece = bit_where_named(text, TcpFlag::Ece);
+    let urg = bit_where_named(text, TcpFlag::Urg);
+    let ack = bit_where_named(text, TcpFlag::Ack);
+    let psh = bit_where_named(text, TcpFlag::Psh);
+    let rst = bit_where_named(text, TcpFlag::Rst);
+    let syn = bit_where_named(text, TcpFlag::Syn);
+    let fin = bit_where_named(text, TcpFlag::Fin);
+    cwr + ece + urg + ack + psh + rst + syn + fin
+}
+
+/// The octet of flags that a text names.
+#[tactic(auto, unfolding(crate::specs::Flags::flags_in))]
+fn flags_in(text: &str) -> Option<u8>
+    ensures { result ≡ spec.flags_in text.now }
+{
+    if is_flag_text(text) {
+        Some(octet_of(text))
+    } else {
+        None
+    }
+}
+
+/// The octet of flags that a text is.
+#[tactic(auto, unfolding(crate::specs::Flags::as_flags), using(reading::proofs::Readings::answer_wanted, reading::proofs::Readings::answer_unwanted))]
+fn as_flags(alloc: Global, path: &[u8], member: Member, text: &str) -> Result<u8, FileFault>
+    ensures { Gives (λ n. n) result (spec.as_flags path.now member text.now) }
+{
+    match flags_in(text) {
+        Some(octet) => Ok(octet),
+        None => Err(refusal(alloc, Rule::FlagText, path, member)),
+    }
+}
+
+/// An octet of flags, where it is there.
+#[tactic(auto, unfolding(crate::specs::Flags::flags_where_there), using(reading::proofs::Readings::answer_bind, reading::proofs::Readings::answer_absent, reading::proofs::Readings::answer_there))]
+pub fn flags_where_there(
+    alloc: Global,
+    object: &Value,
+    path: &[u8],
+    member: Member,
+) -> Result<Option<u8>, FileFault>
+    ensures { Gives (λ n. n) result (spec.flags_where_there path.now member (view object.now)) }
+{
+    match text_where_there(alloc, Some(object), path, member)? {
+        None => Ok(None),
+        Some(text) => Ok(Some(as_flags(alloc, path, member, text)?)),
+    }
+}

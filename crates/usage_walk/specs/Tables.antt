@@ -1,0 +1,29 @@
+-- Objects that are read by a table: which members are known there, and what is read, are one list of rows.
+use Rattle.std.specs.Prelude.{ℕ, List}
+use Rattle.reading.specs.Reading.{◌>>=◌, over}
+use Rattle.serde_json.specs.Data.{Data}
+use Rattle.usage_walk.specs.declared.member.Member.{Member}
+use Rattle.usage_walk.specs.declared.row.Row.{Row}
+use Rattle.usage_walk.specs.Reading.{Reading}
+use Rattle.usage_walk.specs.Others.{all_known}
+
+-- how the ways H of rows read a member of the object at a path, behind what came of the members before it
+abbrev pub Ways : Type 0 → Type 0 → Type 0
+Ways H A = H → List ℕ → Member → Data → A → Reading A
+
+abbrev pub row : {H : Type 0} → Member → H → Row H
+row member how = record { member = member; how = how }
+
+-- the member of a row
+unfoldable pub row_of : {H A : Type 0} → Ways H A → List ℕ → Data → A → Row H → Reading A
+row_of ways path d so_far r = ways r.how path r.member d so_far
+
+-- the members of the rows, in the order of the rows
+unfoldable pub rows_of : {H A : Type 0} → Ways H A → List ℕ → List (Row H) → Data → A → Reading A
+rows_of ways path rows d nothing = over (row_of ways path d) nothing rows
+
+-- no member stands but those of the rows, and these are read in the order of the rows
+unfoldable pub table_of : {H A : Type 0} → Ways H A → List ℕ → List (Row H) → Data → A → Reading A
+table_of ways path rows d nothing = do
+  _ ← all_known path rows d
+  rows_of ways path rows d nothing

@@ -94,10 +94,8 @@ always_matches_of : (type : ListType) (side : Direction) (path : List ℕ) (d : 
 unfolding matches_of
 always_matches_of type side path d =
     always_after IsFewTests _ _ (λ _.
-    always_after IsFewTests _ _ (λ mud.
-    always_after IsFewTests _ _ (λ ip.
-    always_after IsFewTests _ _ (λ header.
-    always_done IsFewTests _ (few_of_tests side mud ip header)))))
+    always_after IsFewTests _ _ (λ parts.
+    always_done IsFewTests _ (few_of_tests side parts.mud parts.ip parts.layer)))
 
 few_or_none : (found : Option Tests) → WhereThere IsFewTests found → IsFewTests (unwrap_or found no_tests)
 unfolding no_tests

@@ -8,6 +8,7 @@ use std::test::Fail;
 use text_lines::append_decimal;
 
 /// It writes how many octets the packets had so far.
+#[derive(Drop)]
 struct Sums {
     octets: u64,
 }

@@ -1,5 +1,5 @@
 -- What entries test, worked out. The names are those of RFC 8519, 4.2, and RFC 8520, 4 and 8.
-use Rattle.std.proofs.Common.{◌≡◌, ℕ, Bool, true, false, List, [], ◌∷◌, Option, Some, None, Ok, Err, Result, map, refl}
+use Rattle.std.proofs.Common.{◌≡◌, ℕ, List, [], ◌∷◌, Option, Some, None, Ok, Err, Result, map, refl}
 use Rattle.std.specs.Prelude.{codes}
 use Rattle.mud_base.specs.declared.addr.Addr.TheVariants as addr
 use Rattle.mud_base.specs.Addresses.{PrefixParts}
@@ -61,14 +61,14 @@ mud ms = (codes "ietf-mud:mud", obj ms) ∷ []
 -- ---- The entries of the example of RFC 8520, 9
 
 from_thing : read Ipv4 From ((codes "ipv4", obj ((codes "ietf-acldns:dst-dnsname", string (codes "test.example.com")) ∷ (codes "protocol", num 6) ∷ []))
-  ∷ (codes "tcp", obj ((codes "ietf-mud:direction-initiated", string (codes "from-device")) ∷ (codes "destination-port", obj ((codes "operator", string (codes "eq")) ∷ (codes "port", num 443) ∷ [])) ∷ [])) ∷ [])
-  ≡ Ok (tests (asks.Name (codes "test.example.com") ∷ []) None (Some 6) (layer.Tcp port.Any (port.Eq 443) (Some From) None))
+    ∷ (codes "tcp", obj ((codes "ietf-mud:direction-initiated", string (codes "from-device")) ∷ (codes "destination-port", obj ((codes "operator", string (codes "eq")) ∷ (codes "port", num 443) ∷ [])) ∷ [])) ∷ [])
+    ≡ Ok (tests (asks.Name (codes "test.example.com") ∷ []) None (Some 6) (layer.Tcp port.Any (port.Eq 443) (Some From) None))
 unfolding match_on_literals
 from_thing = refl
 
 to_thing : read Ipv4 To ((codes "ipv4", obj ((codes "ietf-acldns:src-dnsname", string (codes "test.example.com")) ∷ (codes "protocol", num 6) ∷ []))
-  ∷ (codes "tcp", obj ((codes "ietf-mud:direction-initiated", string (codes "from-device")) ∷ (codes "source-port", obj ((codes "operator", string (codes "eq")) ∷ (codes "port", num 443) ∷ [])) ∷ [])) ∷ [])
-  ≡ Ok (tests (asks.Name (codes "test.example.com") ∷ []) None (Some 6) (layer.Tcp (port.Eq 443) port.Any (Some From) None))
+    ∷ (codes "tcp", obj ((codes "ietf-mud:direction-initiated", string (codes "from-device")) ∷ (codes "source-port", obj ((codes "operator", string (codes "eq")) ∷ (codes "port", num 443) ∷ [])) ∷ [])) ∷ [])
+    ≡ Ok (tests (asks.Name (codes "test.example.com") ∷ []) None (Some 6) (layer.Tcp (port.Eq 443) port.Any (Some From) None))
 unfolding match_on_literals
 to_thing = refl
 
@@ -135,14 +135,14 @@ own_name_to = refl
 -- ---- `ietf-mud:mud`: the selectors in the order in which they are read
 
 all_of_mud : read Ipv4 From (mud ((codes "my-controller", list (null ∷ [])) ∷ (codes "controller", string (codes "urn:x")) ∷ (codes "local-networks", null)
-  ∷ (codes "model", string (codes "HTTPS://A:443")) ∷ (codes "same-manufacturer", null) ∷ (codes "manufacturer", string (codes "B.c.")) ∷ []))
-  ≡ Ok (tests (asks.Manufacturer (codes "b.c") ∷ asks.SameManufacturer ∷ asks.Model (codes "https://a/") ∷ asks.LocalNetworks ∷ asks.Controller (codes "urn:x") ∷ asks.MyController ∷ []) None None layer.Any)
+    ∷ (codes "model", string (codes "HTTPS://A:443")) ∷ (codes "same-manufacturer", null) ∷ (codes "manufacturer", string (codes "B.c.")) ∷ []))
+    ≡ Ok (tests (asks.Manufacturer (codes "b.c") ∷ asks.SameManufacturer ∷ asks.Model (codes "https://a/") ∷ asks.LocalNetworks ∷ asks.Controller (codes "urn:x") ∷ asks.MyController ∷ []) None None layer.Any)
 unfolding match_on_literals
 all_of_mud = refl
 
 -- and in front of those of the IP header
 mud_and_ip : read Ipv4 To ((codes "ietf-mud:mud", obj ((codes "local-networks", null) ∷ [])) ∷ (codes "ipv4", obj ((codes "source-ipv4-network", string (codes "192.0.2.0/24")) ∷ (codes "ietf-acldns:src-dnsname", string (codes "a")) ∷ [])) ∷ [])
-  ≡ Ok (tests (asks.LocalNetworks ∷ asks.Network doc_net ∷ asks.Name (codes "a") ∷ []) None None layer.Any)
+    ≡ Ok (tests (asks.LocalNetworks ∷ asks.Network doc_net ∷ asks.Name (codes "a") ∷ []) None None layer.Any)
 unfolding match_on_literals
 mud_and_ip = refl
 

@@ -1,6 +1,7 @@
 //! Paths: JSON pointers (RFC 6901), and refusals that name them.
 ghost use Rattle.std.specs.Prelude.{◌≡◌, IfOk};
 ghost use Rattle.reading.specs.Reading.{Gives, Refuses, refused_where};
+ghost use Rattle.reading.specs.declared.refusal.Refusal.TheVariants as told;
 ghost use Rattle.usage_walk.specs.Reading.{at_place, fault_at, under, under_name};
 ghost use Rattle.usage_walk.specs.Reading as spec;
 
@@ -60,7 +61,7 @@ pub fn under_name(alloc: Global, path: &[u8], name: &[u8]) -> Result<Bytes, Memo
 /// The refusal that names this path.
 #[tactic(auto, unfolding(crate::specs::Reading::fault_at))]
 pub fn refused(rule: Rule, path: Bytes) -> FileFault
-    ensures { Refuses result (fault_at rule path) }
+    ensures { result ≡ told.Broken (fault_at rule path) }
 {
     FileFault::Broken(Broken {
         rule,

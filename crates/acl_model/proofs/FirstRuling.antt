@@ -12,7 +12,7 @@ use Rattle.acl_model.specs.declared.ruling.DefaultRule.{DefaultRule}
 use Rattle.acl_model.specs.declared.ruling.DefaultRule.TheVariants.{Dns, Ntp}
 use Rattle.acl_model.specs.declared.ruling.Why.{Why}
 use Rattle.acl_model.specs.declared.ruling.Ruling.{Ruling}
-use Rattle.acl_model.specs.declared.ruling.Ruling.TheVariants.{Accept, AcceptDefault, Drop, DropDefault}
+use Rattle.acl_model.specs.declared.ruling.Ruling.TheVariants.{Accept, AcceptDefault, Drop, DropDefault, DropHeld}
 use Rattle.acl_model.specs.Defaults.{default_entry, defaults_of}
 use Rattle.acl_model.specs.FirstMatch.{ruled_by, first_ruling, default_ruling, ruling_by, NoneMatches, IsFirstMatch, IsFirstDefault, file_entries, why_of, IsRuling, FirstMatchDecides}
 
@@ -143,6 +143,7 @@ ruling_by-is matches side policy (AcceptDefault which) says =
     ruling_by-split matches side policy ∙ first_ruling-none matches 1 (file_entries side policy) (default_ruling matches side (why_of policy)) says.0 ∙ default_ruling-accepts matches side (why_of policy) which says.1
 ruling_by-is matches side policy (DropDefault why) says =
     ruling_by-split matches side policy ∙ first_ruling-none matches 1 (file_entries side policy) (default_ruling matches side (why_of policy)) says.0 ∙ default_ruling-drops matches side (why_of policy) says.1 ∙ ap DropDefault (sym says.2)
+ruling_by-is matches side policy DropHeld says = absurd says
 
 pub first_match_decides : FirstMatchDecides
 first_match_decides matches side policy ruling = (λ e. subst (IsRuling matches side policy) e (ruling_by-says matches side policy), ruling_by-is matches side policy ruling)

@@ -13,7 +13,7 @@ use Rattle.acl_model.specs.declared.ruling.DefaultRule.TheVariants.{Dns, Ntp}
 use Rattle.acl_model.specs.declared.ruling.Why.{Why}
 use Rattle.acl_model.specs.declared.ruling.Why.TheVariants.{NoFile, NoMatch}
 use Rattle.acl_model.specs.declared.ruling.Ruling.{Ruling}
-use Rattle.acl_model.specs.declared.ruling.Ruling.TheVariants.{Accept, AcceptDefault, Drop, DropDefault}
+use Rattle.acl_model.specs.declared.ruling.Ruling.TheVariants.{Accept, AcceptDefault, Drop, DropDefault, DropHeld}
 use Rattle.acl_model.specs.Defaults.{default_entry, defaults_of}
 
 -- the entries of a policy for packets with the Thing on this side
@@ -68,11 +68,13 @@ abbrev pub why_of : Option Policy → Why
 why_of None = NoFile
 why_of (Some policy) = NoMatch
 
+-- entries never rule that a Thing is held: that is asked before them
 abbrev pub IsRuling : (Entry → Bool) → Direction → Option Policy → Ruling → Type 0
 IsRuling matches side policy (Accept n) = IsFirstMatch matches (file_entries side policy) n action.Accept
 IsRuling matches side policy (Drop n) = IsFirstMatch matches (file_entries side policy) n action.Drop
 IsRuling matches side policy (AcceptDefault which) = NoneMatches matches (file_entries side policy) × IsFirstDefault matches side which
 IsRuling matches side policy (DropDefault why) = NoneMatches matches (file_entries side policy) × NoneMatches matches (defaults_of side) × (why ≡ why_of policy)
+IsRuling matches side policy DropHeld = ⊥
 
 -- the ruling is the one of which this holds
 abbrev pub FirstMatchDecides : Type 0

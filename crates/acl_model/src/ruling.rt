@@ -31,4 +31,6 @@ pub enum Ruling {
     Drop(u16),
     /// No entry matches, and no default entry either.
     DropDefault(Why),
+    /// The operator holds the Thing: no entry is asked.
+    DropHeld,
 }

@@ -1,6 +1,8 @@
 //! Why a command on classes, local networks or names is refused.
 ghost use Rattle.std.specs.Prelude.{◌≡◌};
 
+use mud_base::Memory;
+
 /// Why a command on classes, local networks or names is refused. A refusal changes nothing.
 #[derive(Clone, Copy, Debug, PartialEq, Eq)]
 pub enum BindFault {
@@ -18,6 +20,16 @@ pub enum BindFault {
     NamesFull,
     /// The name has 64 other live addresses.
     NameFull,
+}
+
+impl From<Memory> for BindFault {
+    ghost use Rattle.mud_tables.specs.declared.bind_fault.BindFault.TheVariants.{Memory};
+
+    ghost from_gives = { λ _ fault. fault ≡ Memory };
+
+    fn from(_memory: Memory) -> BindFault {
+        BindFault::Memory
+    }
 }
 
 impl BindFault {

@@ -1,6 +1,8 @@
 //! Why a command on Things is refused.
 ghost use Rattle.std.specs.Prelude.{◌≡◌};
 
+use mud_base::Memory;
+
 /// Why a command on Things is refused. A refusal changes nothing.
 #[derive(Clone, Copy, Debug, PartialEq, Eq)]
 pub enum ThingFault {
@@ -16,6 +18,16 @@ pub enum ThingFault {
     LeasesFull,
     /// No Thing has the address.
     NoLease,
+}
+
+impl From<Memory> for ThingFault {
+    ghost use Rattle.mud_tables.specs.declared.thing_fault.ThingFault.TheVariants.{Memory};
+
+    ghost from_gives = { λ _ fault. fault ≡ Memory };
+
+    fn from(_memory: Memory) -> ThingFault {
+        ThingFault::Memory
+    }
 }
 
 impl ThingFault {

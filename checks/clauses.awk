@@ -1,12 +1,11 @@
-# The clauses of the public calls of a crate's source file, in rt fmt's layout: a line 'FILE TAB CALL
-# TAB CLAUSE' for each, where a clause without a name is '·'. A call is a 'pub fn', a method of a
-# 'pub trait', or a method of an impl of a trait that has clauses of its own; a method is written
-# 'Type::name'. What stands under #[cfg(test)] is left out. Set 'file' to the name that is printed.
+# The clauses of the public calls in a source file of rt fmt's layout: a line 'FILE CALL CLAUSE' for
+# each, with tabs between them, where FILE is the variable 'file', and a clause without a name is '·'.
+# A call is a 'pub fn', a method of a 'pub trait', or a method of a trait's impl that has clauses of
+# its own; a method is written 'Type::name'. What stands under #[cfg(test)] is left out.
 
 # the text without the generic parameters at its front
 function behind_generics(text,    depth, place, sign) {
   if (substr(text, 1, 1) != "<") return text
-  depth = 0
   for (place = 1; place <= length(text); place++) {
     sign = substr(text, place, 1)
     if (sign == "<") depth++
@@ -25,61 +24,59 @@ function type_name(text) {
   return text
 }
 
-# what the head of an impl or a trait says: its type, and whether all its methods are calls
-function enter(head,    of) {
+# what the head of an impl or a trait says: its type, and whether each of its methods is public
+function enter(head,    of_type) {
   if (head ~ /^(pub )?trait /) {
-    every = (head ~ /^pub /)
+    is_public = (head ~ /^pub /)
     sub(/^(pub )?trait /, "", head)
-    sub(/[^A-Za-z_0-9].*$/, "", head)
-    owner = head
+    owner = type_name(head)
+    sub(/:.*$/, "", owner)
     return
   }
   sub(/^impl/, "", head)
   head = behind_generics(head)
-  sub(/ where .*$/, "", head)
-  of = index(head, " for ")
-  every = (of > 0)
-  owner = type_name(of > 0 ? substr(head, of + 5) : head)
+  of_type = index(head, " for ")
+  is_public = (of_type > 0)
+  owner = type_name(of_type ? substr(head, of_type + 5) : head)
 }
-
-{ gsub(/\r/, "") }
 
 # a module of tests within the file
 /^#\[cfg\(test\)\]/ { tests_next = 1; next }
-tests_next { tests_next = 0; if ($0 ~ /^(pub(\([a-z]+\))? )?mod .*\{$/) in_tests = 1 }
-in_tests { if ($0 ~ /^}/) in_tests = 0; next }
+tests_next { tests_next = 0; if ($0 ~ /^(pub(\([a-z]+\))? )?mod .*[{]$/) in_tests = 1 }
+in_tests { if ($0 ~ /^[}]/) in_tests = 0; next }
 
+# a comment
 /^ *\/\// { next }
 
-# the head of an impl or a trait may take several lines
+# the head of an impl or a trait, on one line or more
 /^(impl|(pub )?trait )/ { head = ""; in_head = 1 }
 in_head {
   line = $0
   sub(/^ +/, "", line)
   head = (head == "" ? line : head " " line)
-  if (line ~ /(^|[^.])\{(})?$/) { in_head = 0; enter(head) }
+  if (line ~ /[{][}]?$/) { in_head = 0; enter(head) }
   next
 }
-/^}/ { owner = ""; every = 0; in_contract = 0; next }
+/^[}]/ { owner = ""; is_public = 0; in_contract = 0; next }
 
+# a function begins
 /^(    )?(pub(\([a-z]+\))? )?(const )?fn / {
   indent = ($0 ~ /^ /) ? "    " : ""
-  open = ($0 ~ /^ *pub (const )?fn /)
   call = $0
   sub(/^.*fn /, "", call)
   sub(/[^A-Za-z_0-9].*$/, "", call)
   if (indent != "" && owner != "") call = owner "::" call
-  in_contract = (open || (indent != "" && every)) && ($0 !~ /\{(})?$/)
+  in_contract = ($0 ~ /^ *pub (const )?fn / || (indent != "" && is_public)) && ($0 !~ /[{][}]?$/)
   next
 }
 !in_contract { next }
 
-# the body begins, and the contract ends
-$0 == indent "{" || $0 == indent "{}" || ($0 ~ ("^" indent "[)]") && $0 ~ /\{$/) { in_contract = 0; next }
+# its body begins
+$0 == indent "{" || $0 == indent "{}" || ($0 ~ ("^" indent "[)]") && $0 ~ /[{]$/) { in_contract = 0; next }
 
 /^ *ensures/ {
   clause = $0
-  sub(/^ *ensures\*? */, "", clause)
-  sub(/ *\{.*$/, "", clause)
+  sub(/^ *ensures[*]? */, "", clause)
+  sub(/ *[{].*$/, "", clause)
   print file "\t" call "\t" (clause == "" ? "·" : clause)
 }

@@ -1,0 +1,3 @@
+pub mod ByRows
+pub mod RuleSteps
+pub mod Verdicts

@@ -1,0 +1,8 @@
+pub mod Carried
+pub mod OldRows
+pub mod KeptItems
+pub mod StepRows
+pub mod PlannedLaws
+pub mod Readings
+pub mod Taking
+mod Examples

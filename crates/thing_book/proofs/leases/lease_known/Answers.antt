@@ -1,0 +1,15 @@
+use Rattle.std.proofs.Common.{ap, ◌∙◌}
+use Rattle.mud_tables.specs.Ends.{end_of}
+use Rattle.mud_tables.specs.ThingSteps.{known_lease}
+use Rattle.mud_tables.specs.ThingChanges.{known_lease_change}
+use Rattle.thing_book.proofs.Carried.{carried_found}
+use Rattle.thing_book.proofs.leases.lease_known.Goals as goal
+
+pub returns-in-Some-clause-ok : goal.returns-in-Some-clause-ok
+unfolding known_lease known_lease_change
+returns-in-Some-clause-ok c =
+    let a = c.args.lease.addr in
+    let until = c.args.lease.until in
+    let now = c.args.lease.now in
+    carried_found (known_lease a until now c.args.things.now c.args.thing.now) (known_lease_change a until now c.args.things.now c.args.thing.now) _ c.in-Some.old c.lease_kept.result c.or_memory.result
+    (c.in-Some.ensures ∙ ap (end_of a) c.as_slice.ensures) (c.lease_kept.ensures c.args.things.now) c.or_memory.ensures.ok

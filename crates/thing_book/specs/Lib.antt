@@ -1,0 +1,4 @@
+pub mod Planned
+pub mod RowChanges
+pub mod Changes
+pub mod Said

@@ -1,0 +1,29 @@
+//! What holds of every address and moment, each on a function that does nothing.
+ghost use Rattle.std.specs.Prelude.{◌≡◌, ◌≤◌, length};
+ghost use Rattle.mud_tables.specs.ItemFields.{IsAddr};
+
+use mud_base::{Addr, Mac, Moment};
+
+/// An address fits its 32 or 128 bits.
+pub fn addr_fits(addr: Addr)
+    ensures { IsAddr addr }
+{
+    match addr {
+        Addr::V4(_) => {}
+        Addr::V6(_) => {}
+    }
+}
+
+/// A hardware address has six octets.
+pub fn mac_has_six_octets(mac: Mac)
+    ensures { length mac.0 ≡ 6 }
+{
+    let _octets = mac.0;
+}
+
+/// No moment is after the last one.
+pub fn moment_is_kept(moment: Moment)
+    ensures { moment ≤ 253402300799 }
+{
+    let _seconds = moment.seconds();
+}

@@ -1,0 +1,10 @@
+pub mod Counts
+pub mod Tests
+pub mod SoundFiles
+pub mod ToldFiles
+pub mod SoundLaws
+pub mod ItemLaws
+pub mod EditLaws
+pub mod ReadFiles
+pub mod EntryBounds
+pub mod PolicyLaws

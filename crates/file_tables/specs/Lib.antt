@@ -1,0 +1,9 @@
+pub mod FaultNames
+pub mod Held
+pub mod Limits
+pub mod Files
+pub mod FileSteps
+pub mod FileEdits
+pub mod Policies
+pub mod Due
+pub mod FileItems

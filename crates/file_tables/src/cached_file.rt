@@ -1,0 +1,40 @@
+//! The files that are held of one URL.
+use crate::approval::Approval;
+use crate::held::Held;
+use mud_url::MudUrl;
+use sorted_rows::{KeyOf, Placed};
+use std::cmp::Ordering;
+
+/// The files of one URL: at least one of the two.
+#[derive(Drop, Debug)]
+pub struct CachedFile {
+    /// The URL, by whose text files are ordered.
+    pub url: MudUrl,
+    /// The file that the operator approved, and how: its entries are in force.
+    pub approved: Option<(Held, Approval)>,
+    /// A file that waits for the operator's verdict.
+    pub candidate: Option<Held>,
+}
+
+impl Placed for CachedFile {
+    ghost use Rattle.file_tables.specs.Files.{url_of};
+
+    ghost place = { url_of };
+
+    #[tactic(auto, unfolding(crate::specs::Files::url_of))]
+    fn order(&self, other: &CachedFile) -> Ordering {
+        self.url.text().cmp(other.url.text())
+    }
+}
+
+/// What is held of a URL is found by its text.
+impl KeyOf<CachedFile> for MudUrl {
+    ghost use Rattle.file_tables.specs.Files.{url_of};
+
+    ghost place = { λ url. url };
+
+    #[tactic(auto, unfolding(crate::specs::Files::url_of))]
+    fn order_to(&self, file: &CachedFile) -> Ordering {
+        self.text().cmp(file.url.text())
+    }
+}

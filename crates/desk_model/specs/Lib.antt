@@ -1,0 +1,6 @@
+pub mod Refusals
+pub mod DeskTables
+pub mod Commands
+pub mod Items
+pub mod Verdicts
+pub mod Sessions

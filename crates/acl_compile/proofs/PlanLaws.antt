@@ -1,0 +1,103 @@
+-- The steps of a plan, and what a commit keeps.
+use Rattle.std.proofs.Common.{◌≡◌, ℕ, ◌+◌, ◌*◌, ◌^◌, ◌<◌, ◌≤◌, List, ◌++◌, length, None, refl, sym, ap, subst, ◌∙◌, arith}
+use Rattle.std.proofs.Math.Nat.{mul-le-mul_left, mul-le-mul_right}
+use Rattle.sorted_rows.specs.Placed.{RowsAndRoom}
+use Rattle.acl_model.specs.declared.binding.Binding.{Binding}
+use Rattle.acl_model.specs.declared.entry.Policy.{Policy}
+use Rattle.acl_model.specs.Places.{binding_place}
+use Rattle.acl_model.specs.Changes.{replaced}
+use Rattle.row_edits.specs.declared.edit.Edit.{Edit}
+use Rattle.row_edits.specs.Edits.{edited, AreFound}
+use Rattle.acl_rows.specs.declared.row.Row.{Row}
+use Rattle.acl_rows.specs.Places.{row_place}
+use Rattle.acl_rows.specs.Rows.{Slots, rows_of, member_keys}
+use Rattle.acl_patch.specs.Patch.{IsPatch, rows_apart}
+use Rattle.acl_patch.specs.Touched.{touches}
+use Rattle.acl_patch.proofs.Patches.{patched}
+use Rattle.acl_patch.proofs.Apart.{few_edits}
+use Rattle.acl_compile.specs.Bindings.{AreEditsOf}
+use Rattle.acl_compile.specs.Change.{AllHeld, HolderFits}
+use Rattle.acl_compile.specs.Compiled.{CompiledState, compiled_state, UrlsApart, IsSound}
+use Rattle.acl_compile.specs.Plans.{Plan, slots_with, slots_after, bindings_after, Fits, IsMemberPlan, HaveKeys, place_steps}
+
+-- ---- Steps
+
+-- what fits the keys of an entry fits the steps of one of its places
+pub keys_fit : (slots : Slots) (s b k : ℕ) → HaveKeys s slots → AllHeld slots (λ h. HolderFits h b k (s * b + k))
+keys_fit slots s b k keys owner held holds side n entry stands =
+    let few : length (member_keys held.url entry) ≤ s = keys owner held holds side n entry stands in
+    let more : length (member_keys held.url entry) * b ≤ s * b = mul-le-mul_right b few in
+    omega arith
+
+-- the steps of the places, and of the bindings
+pub member_cost : (start middle end q c s b k : ℕ) → middle ≤ start + q * (s * b + k) → end ≤ middle + c * b → end ≤ start + (c + q) * place_steps s b k
+member_cost start middle end q c s b k first second =
+    let place : s * b + k ≤ place_steps s b k = omega arith in
+    let one : b ≤ place_steps s b k = omega arith in
+    let places : q * (s * b + k) ≤ q * place_steps s b k = mul-le-mul_left q place in
+    let bindings : c * b ≤ c * place_steps s b k = mul-le-mul_left c one in
+    sum (place_steps s b k) places bindings
+  where
+    sum : (u : ℕ) → q * (s * b + k) ≤ q * u → c * b ≤ c * u → end ≤ start + (c + q) * u
+    sum u places bindings = omega arith
+
+pub member_most : (slots : Slots) (bindings : List Binding) (rows : List Row) (gone come : List Binding) (start middle end : ℕ)
+    → ((b k u : ℕ) → length bindings < 2 ^ b → length rows < 2 ^ k → AllHeld slots (λ h. HolderFits h b k u) → middle ≤ start + length (touches slots (gone ++ come)) * u)
+    → ((b : ℕ) → length bindings < 2 ^ b → end ≤ middle + (length gone + length come) * b)
+    → (s b k : ℕ) → HaveKeys s slots → length bindings + length come < 2 ^ b → length rows < 2 ^ k → end ≤ start + (length gone + length come + length (touches slots (gone ++ come))) * place_steps s b k
+member_most slots bindings rows gone come start middle end first second s b k keys few fits =
+    let fewer : length bindings < 2 ^ b = omega arith in
+    member_cost start middle end (length (touches slots (gone ++ come))) (length gone + length come) s b k (first b k (s * b + k) fewer fits (keys_fit slots s b k keys)) (second b fewer)
+
+-- ---- A plan of members
+
+pub member_plan : (gone come : List Binding) (slots : Slots) (bindings : RowsAndRoom Binding) (rows : RowsAndRoom Row) (row_edits : List (Edit Row)) (binding_edits : List (Edit Binding))
+    → length slots ≤ 128 → UrlsApart slots → IsPatch slots bindings.rows slots (replaced gone come bindings.rows) row_edits → AreEditsOf gone come bindings.rows binding_edits
+    → length row_edits ≤ rows.room → length binding_edits ≤ bindings.room
+    → (room : ℕ) → IsMemberPlan gone come (compiled_state slots bindings rows room) (record { rows = row_edits; bindings = binding_edits; slot = None })
+unfolding slots_after slots_with bindings_after
+member_plan gone come slots bindings rows row_edits binding_edits few apart patch edits row_room binding_room room = record {
+  fits = record {
+    patch = subst (λ (bs : List Binding). IsPatch slots bindings.rows slots bs row_edits) (sym edits.made) patch;
+    found = edits.found;
+    few = few;
+    apart = apart;
+    row_room = row_room;
+    binding_room = binding_room;
+    slot_room = tt;
+  };
+  slots = refl;
+  bindings = edits.made;
+  few = edits.few;
+}
+
+-- ---- A commit
+
+pub record IsCommitted (c : CompiledState) (plan : Plan) (slots : Slots) (bindings : List Binding) (rows : List Row) (defaults : Policy) : Type 0 where
+  pub sound : IsSound slots bindings rows defaults
+  pub slots_are : slots ≡ slots_after plan c
+  pub bindings_are : bindings ≡ bindings_after plan c
+  pub rows_are : rows ≡ rows_of slots bindings
+  pub few : length plan.rows ≤ rows_apart c.rows rows
+
+pub found_rows : (c : CompiledState) (plan : Plan) → Fits plan c → c.rows ≡ rows_of c.slots c.bindings → AreFound row_place c.rows plan.rows
+found_rows c plan fits kept = subst (λ (rows : List Row). AreFound row_place rows plan.rows) (sym kept) fits.patch.found
+
+pub committed : (c : CompiledState) (plan : Plan) (slots : Slots) (bindings : List Binding) (rows : List Row) (defaults : Policy) → Fits plan c → IsSound c.slots c.bindings c.rows defaults
+    → slots ≡ slots_with plan.slot c.slots → bindings ≡ edited binding_place plan.bindings c.bindings → rows ≡ edited row_place plan.rows c.rows → IsCommitted c plan slots bindings rows defaults
+unfolding slots_after bindings_after
+committed c plan slots bindings rows defaults fits sound slots_are bindings_are rows_are =
+    let anew : rows ≡ rows_of (slots_after plan c) (bindings_after plan c) = rows_are ∙ ap (edited row_place plan.rows) sound.rows_are ∙ patched c.slots c.bindings (slots_after plan c) (bindings_after plan c) plan.rows fits.patch in
+    let same : rows_of (slots_after plan c) (bindings_after plan c) ≡ rows_of slots bindings = (λ i. rows_of (sym slots_are i) (sym bindings_are i)) in
+    record {
+      sound = record {
+        rows_are = anew ∙ same;
+        few = subst (λ (xs : Slots). length xs ≤ 128) (sym slots_are) fits.few;
+        apart = subst UrlsApart (sym slots_are) fits.apart;
+        defaults_are = sound.defaults_are;
+      };
+      slots_are = slots_are;
+      bindings_are = bindings_are;
+      rows_are = anew ∙ same;
+      few = subst (λ (n : ℕ). length plan.rows ≤ n) (λ i. rows_apart (sym sound.rows_are i) (sym anew i)) (few_edits c.slots c.bindings (slots_after plan c) (bindings_after plan c) plan.rows fits.patch);
+    }

@@ -1,0 +1,463 @@
+-- The table of policies, before and after a policy comes, goes or is replaced.
+use Rattle.std.proofs.Common.{◌≡◌, ℕ, zero, suc, ◌+◌, ◌*◌, ◌^◌, ◌<◌, ◌≤◌, ◌⊎◌, inl, inr, Bool, true, false, cond, List, [], ◌∷◌, ◌++◌, map, length, Option, Some, None, refl, sym, ap, subst, ◌∙◌, arith, length-append}
+use Rattle.std.specs.Prelude.{◌≢◌, bytes_eq, nat_eq, not, filter, flat_map, nat_lt, slice_set}
+use Rattle.std.specs.Option.{option_map, option_and_then, is_some}
+use Rattle.std.specs.List.{slice_get}
+use Rattle.std.proofs.lemmas.Bool.{false≢true}
+use Rattle.std.proofs.lemmas.Bool.Decides.{eqb_tells, leb_tells}
+use Rattle.std.proofs.lemmas.Option.{same_Some, none-some, slice_get_within}
+use Rattle.sorted_rows.proofs.PlacedLaws.{same_place_exact, same_place_itself}
+use Rattle.mud_base.specs.declared.packet.Direction.{Direction}
+use Rattle.mud_base.specs.declared.packet.Direction.TheVariants.{From, To}
+use Rattle.acl_model.specs.declared.entry.Entry.{Entry}
+use Rattle.acl_model.specs.declared.entry.Policy.{Policy}
+use Rattle.acl_model.specs.declared.binding.MemberKey.{MemberKey}
+use Rattle.acl_model.specs.declared.binding.Binding.{Binding}
+use Rattle.acl_model.specs.FirstMatch.{entries_of}
+use Rattle.acl_model.specs.Policies.{UrlPolicy}
+use Rattle.acl_rows.specs.declared.row.Owner.{Owner}
+use Rattle.acl_rows.specs.declared.row.Owner.TheVariants.{Url, Default}
+use Rattle.acl_rows.specs.declared.row.Row.{Row}
+use Rattle.acl_rows.specs.Rows.{Slots, Holder, rows_of, member_keys, numbered, slot_policy, held_by, end_at}
+use Rattle.acl_rows.specs.View.{in_slot, holder_from}
+use Rattle.acl_patch.specs.PolicyTouched.{bound_key, bound_under, first_key_touches, entry_touches, side_policy_touches, new_touches, owner_rows, IsSlotChange}
+use Rattle.acl_rows.specs.Rows.{held_end}
+use Rattle.acl_rows.specs.Places.{owner_place, row_place}
+use Rattle.acl_rows.proofs.AtPlaces.{ascend-rows_of}
+use Rattle.acl_patch.specs.Patch.{end_for}
+use Rattle.sorted_rows.specs.Placed.{is_under, RowsAndRoom}
+use Rattle.acl_compile.proofs.OwnRows.{kept}
+use Rattle.acl_compile.proofs.PolicyRows.{own_row, end_was, owner_is}
+use Rattle.acl_compile.specs.Change.{url_policy}
+use Rattle.acl_compile.specs.Compiled.{UrlsApart, compiled_state}
+use Rattle.acl_compile.specs.Fresh.{policy_count}
+use Rattle.row_edits.specs.declared.edit.Edit.{Edit}
+use Rattle.row_edits.specs.Edits.{edited, AreFound}
+use Rattle.acl_model.specs.Places.{binding_place}
+use Rattle.acl_patch.specs.Patch.{IsPatch}
+use Rattle.acl_compile.specs.Plans.{slot_set, holder_policy, holder_owner, policy_held, place_held, held_for, is_other, others_held, rows_of_owner, slots_with, slots_after, bindings_after, HaveKeys, PolicyKeys, place_steps, policy_steps, IsPlaceFor, IsPolicyPlan}
+
+lt_by : (a b : ℕ) → ((nat_lt a b ≡ true) × (suc a ≤ b)) ⊎ ((nat_lt a b ≡ false) × (b < suc a)) → ((nat_lt a b ≡ true) × (a < b)) ⊎ ((nat_lt a b ≡ false) × (b ≤ a))
+lt_by a b (inl lt) = inl (lt.0, omega (arith, lt.1))
+lt_by a b (inr ge) = inr (ge.0, omega (arith, ge.1))
+
+ltb_tells : (a b : ℕ) → ((nat_lt a b ≡ true) × (a < b)) ⊎ ((nat_lt a b ≡ false) × (b ≤ a))
+ltb_tells a b = lt_by a b (leb_tells (suc a) b)
+
+-- ---- Lists
+
+module _ {A : Type 0} where
+  set_same : (xs : List A) (i : ℕ) (v : A) → i < length xs → slice_get (slice_set xs i v) i ≡ Some v
+  set_same [] i v lt = absurd (omega arith)
+  set_same (x ∷ xs) zero v lt = refl
+  set_same (x ∷ xs) (suc i) v lt = set_same xs i v (omega arith)
+
+  set_other : (xs : List A) (i j : ℕ) (v : A) → j ≢ i → slice_get (slice_set xs i v) j ≡ slice_get xs j
+  set_other [] i j v apart = refl
+  set_other (x ∷ xs) zero zero v apart = absurd (apart refl)
+  set_other (x ∷ xs) zero (suc j) v apart = refl
+  set_other (x ∷ xs) (suc i) zero v apart = refl
+  set_other (x ∷ xs) (suc i) (suc j) v apart = set_other xs i j v (λ e. apart (ap suc e))
+
+  length-set : (xs : List A) (i : ℕ) (v : A) → length (slice_set xs i v) ≡ length xs
+  length-set [] i v = refl
+  length-set (x ∷ xs) zero v = refl
+  length-set (x ∷ xs) (suc i) v = ap suc (length-set xs i v)
+
+  last_same : (xs : List A) (i : ℕ) (v : A) → i ≡ length xs → slice_get (xs ++ v ∷ []) i ≡ Some v
+  last_same [] zero v e = refl
+  last_same [] (suc i) v e = absurd (omega arith)
+  last_same (x ∷ xs) zero v e = absurd (omega arith)
+  last_same (x ∷ xs) (suc i) v e = last_same xs i v (omega arith)
+
+  last_other : (xs : List A) (i j : ℕ) (v : A) → i ≡ length xs → j ≢ i → slice_get (xs ++ v ∷ []) j ≡ slice_get xs j
+  last_other [] i zero v e apart = absurd (apart (sym e))
+  last_other [] i (suc j) v e apart = refl
+  last_other (x ∷ xs) zero j v e apart = absurd (omega arith)
+  last_other (x ∷ xs) (suc i) zero v e apart = refl
+  last_other (x ∷ xs) (suc i) (suc j) v e apart = last_other xs i j v (omega arith) (λ same. apart (ap suc same))
+
+-- ---- The table with one place changed
+
+record IsSet (slots slots' : Slots) (i : ℕ) (new : Option UrlPolicy) : Type 0 where
+  same : slice_get slots' i ≡ Some new
+  other : (j : ℕ) → j ≢ i → slice_get slots' j ≡ slice_get slots j
+  long : length slots' ≤ length slots + 1
+  within : i < length slots → length slots' ≡ length slots
+
+set_by : (slots : Slots) (i : ℕ) (new : Option UrlPolicy) → i ≤ length slots → ((nat_lt i (length slots) ≡ true) × (i < length slots)) ⊎ ((nat_lt i (length slots) ≡ false) × (length slots ≤ i)) → IsSet slots (slot_set (i, new) slots) i new
+unfolding slot_set
+set_by slots i new le (inl lt) = subst (λ (b : Bool). IsSet slots (cond b (slice_set slots i new) (slots ++ new ∷ [])) i new) (sym lt.0) (record {
+  same = set_same slots i new lt.1;
+  other = λ j apart. set_other slots i j new apart;
+  long = omega (arith, length-set slots i new);
+  within = λ _. length-set slots i new;
+})
+set_by slots i new le (inr ge) =
+    let last : i ≡ length slots = omega (arith, ge.1) in
+    let more : length (slots ++ new ∷ []) ≡ length slots + 1 = length-append slots (new ∷ []) in
+    subst (λ (b : Bool). IsSet slots (cond b (slice_set slots i new) (slots ++ new ∷ [])) i new) (sym ge.0) (record {
+      same = last_same slots i new last;
+      other = λ j apart. last_other slots i j new last apart;
+      long = omega (arith, more);
+      within = λ lt. absurd (omega (arith, lt, ge.1));
+    })
+
+is_set : (slots : Slots) (i : ℕ) (new : Option UrlPolicy) → i ≤ length slots → IsSet slots (slot_set (i, new) slots) i new
+is_set slots i new le = set_by slots i new le (ltb_tells i (length slots))
+
+pub slot_change : (slots : Slots) (i : ℕ) (new : Option UrlPolicy) → i ≤ length slots → IsSlotChange slots (slot_set (i, new) slots) i new
+unfolding held_by slot_policy
+slot_change slots i new le =
+    let set : IsSet slots (slot_set (i, new) slots) i new = is_set slots i new le in
+    record { here = ap slot_policy set.same; others = λ j apart. ap slot_policy (set.other j apart) }
+
+pub slot_count : (slots : Slots) (i : ℕ) (new : Option UrlPolicy) → i ≤ length slots → length slots ≤ 128 → i < 128 → length (slot_set (i, new) slots) ≤ 128
+slot_count slots i new le few lt = by (ltb_tells i (length slots))
+  where
+    by : ((nat_lt i (length slots) ≡ true) × (i < length slots)) ⊎ ((nat_lt i (length slots) ≡ false) × (length slots ≤ i)) → length (slot_set (i, new) slots) ≤ 128
+    by (inl below) = omega (arith, (is_set slots i new le).within below.1, few)
+    by (inr past) = omega (arith, (is_set slots i new le).long, past.1, le, lt)
+
+-- ---- Looking up a URL
+
+held_slot : (o : Option (Option UrlPolicy)) (h : UrlPolicy) → slot_policy o ≡ Some h → o ≡ Some (Some h)
+unfolding slot_policy
+held_slot None h e = absurd (none-some h e)
+held_slot (Some slot) h e = ap Some e
+
+pub there : (slots : Slots) (j : ℕ) (h : UrlPolicy) → held_by slots (Url j) ≡ Some h → slice_get slots j ≡ Some (Some h)
+unfolding held_by
+there slots j h is = held_slot (slice_get slots j) h is
+
+pub held_there : (slots : Slots) (j : ℕ) (h : UrlPolicy) → slice_get slots j ≡ Some (Some h) → held_by slots (Url j) ≡ Some h
+unfolding held_by slot_policy
+held_there slots j h is = ap slot_policy is
+
+pub record FoundAt (url : List ℕ) (n : ℕ) (slots : Slots) (h : Holder) : Type 0 where
+  pub place : ℕ
+  pub owner : h.0 ≡ Url (n + place)
+  pub at : slice_get slots place ≡ Some (Some h.1)
+  pub has_url : bytes_eq h.1.url url ≡ true
+
+found_by : (url : List ℕ) (n : ℕ) (held : UrlPolicy) (slots : Slots) (h : Holder) → (holder_from url (n + 1) slots ≡ Some h → FoundAt url (n + 1) slots h) → (b : Bool) → bytes_eq held.url url ≡ b → cond b (Some (Url n, held)) (holder_from url (n + 1) slots) ≡ Some h → FoundAt url n (Some held ∷ slots) h
+found_by url n held slots h rest true has is =
+    let same : (Url n, held) ≡ h = same_Some (Url n, held) h is in
+    let here : n ≡ n + 0 = omega arith in
+    record {
+      place = 0;
+      owner = sym (ap (λ (x : Holder). x.0) same) ∙ ap Url here;
+      at = ap (λ (x : Holder). Some (Some x.1)) same;
+      has_url = ap (λ (x : Holder). bytes_eq x.1.url url) (sym same) ∙ has;
+    }
+found_by url n held slots h rest false has is = further url n (Some held) slots h (rest is)
+  where
+    further : (url : List ℕ) (n : ℕ) (slot : Option UrlPolicy) (slots : Slots) (h : Holder) → FoundAt url (n + 1) slots h → FoundAt url n (slot ∷ slots) h
+    further url n slot slots h found =
+        let next : n + 1 + found.place ≡ n + suc found.place = omega arith in
+        record { place = suc found.place; owner = found.owner ∙ ap Url next; at = found.at; has_url = found.has_url }
+
+pub found_at : (url : List ℕ) (n : ℕ) (slots : Slots) (h : Holder) → holder_from url n slots ≡ Some h → FoundAt url n slots h
+unfolding holder_from in_slot
+found_at url n [] h is = absurd (none-some h is)
+found_at url n (None ∷ slots) h is =
+    let found : FoundAt url (n + 1) slots h = found_at url (n + 1) slots h is in
+    let next : n + 1 + found.place ≡ n + suc found.place = omega arith in
+    record { place = suc found.place; owner = found.owner ∙ ap Url next; at = found.at; has_url = found.has_url }
+found_at url n (Some held ∷ slots) h is = found_by url n held slots h (found_at url (n + 1) slots h) (bytes_eq held.url url) refl is
+
+none_by : (url : List ℕ) (n : ℕ) (held : UrlPolicy) (slots : Slots) → (holder_from url (n + 1) slots ≡ None → (j : ℕ) (h : UrlPolicy) → slice_get slots j ≡ Some (Some h) → bytes_eq h.url url ≡ false)
+    → (b : Bool) → bytes_eq held.url url ≡ b → cond b (Some (Url n, held)) (holder_from url (n + 1) slots) ≡ None → (j : ℕ) (h : UrlPolicy) → slice_get (Some held ∷ slots) j ≡ Some (Some h) → bytes_eq h.url url ≡ false
+none_by url n held slots rest true has is j h at = absurd (none-some (Url n, held) (sym is))
+none_by url n held slots rest false has is zero h at = ap (λ (x : UrlPolicy). bytes_eq x.url url) (sym (same_Some held h (same_Some (Some held) (Some h) at))) ∙ has
+none_by url n held slots rest false has is (suc j) h at = rest is j h at
+
+pub none_at : (url : List ℕ) (n : ℕ) (slots : Slots) → holder_from url n slots ≡ None → (j : ℕ) (h : UrlPolicy) → slice_get slots j ≡ Some (Some h) → bytes_eq h.url url ≡ false
+unfolding holder_from in_slot
+none_at url n [] is j h at = absurd (none-some (Some h) at)
+none_at url n (None ∷ slots) is zero h at = absurd (none-some h (same_Some None (Some h) at))
+none_at url n (None ∷ slots) is (suc j) h at = none_at url (n + 1) slots is j h at
+none_at url n (Some held ∷ slots) is j h at = none_by url n held slots (none_at url (n + 1) slots) (bytes_eq held.url url) refl is j h at
+
+Url_same : (m n : ℕ) → Url m ≡ Url n → m ≡ n
+Url_same m n e = cc
+
+unique_by : (url : List ℕ) (slots : Slots) (j : ℕ) (h : UrlPolicy) → UrlsApart slots → held_by slots (Url j) ≡ Some h → bytes_eq h.url url ≡ true → (o : Option Holder) → holder_from url 0 slots ≡ o → o ≡ Some (Url j, h)
+unique_by url slots j h apart holds has None is = absurd (false≢true (sym (none_at url 0 slots is j h (there slots j h holds)) ∙ has))
+unique_by url slots j h apart holds has (Some g) is =
+    let found : FoundAt url 0 slots g = found_at url 0 slots g is in
+    let from_zero : 0 + found.place ≡ found.place = omega arith in
+    let held' : held_by slots (Url found.place) ≡ Some g.1 = held_there slots found.place g.1 found.at in
+    let urls : g.1.url ≡ h.url = same_place_exact g.1.url url found.has_url ∙ sym (same_place_exact h.url url has) in
+    let place : found.place ≡ j = apart found.place j g.1 h held' holds urls in
+    let same : g.1 ≡ h = same_Some g.1 h (sym held' ∙ ap (λ (k : ℕ). held_by slots (Url k)) place ∙ holds) in
+    ap Some (λ i. ((found.owner ∙ ap Url (from_zero ∙ place)) i, same i))
+
+-- the one place with the URL is found
+pub unique : (url : List ℕ) (slots : Slots) (j : ℕ) (h : UrlPolicy) → UrlsApart slots → held_by slots (Url j) ≡ Some h → bytes_eq h.url url ≡ true → holder_from url 0 slots ≡ Some (Url j, h)
+unique url slots j h apart holds has = unique_by url slots j h apart holds has (holder_from url 0 slots) refl
+
+-- ---- The place for a URL
+
+pub place_found : (url : List ℕ) (slots : Slots) (n : ℕ) (h : UrlPolicy) → length slots ≤ 128 → UrlsApart slots → holder_from url 0 slots ≡ Some (Url n, h) → IsPlaceFor url slots n
+place_found url slots n h few apart is =
+    let found : FoundAt url 0 slots (Url n, h) = found_at url 0 slots (Url n, h) is in
+    let from_zero : 0 + found.place ≡ found.place = omega arith in
+    let place : found.place ≡ n = sym (Url_same n found.place (found.owner ∙ ap Url from_zero)) in
+    let at : slice_get slots n ≡ Some (Some h) = ap (slice_get slots) (sym place) ∙ found.at in
+    let lt : n < length slots = slice_get_within slots n (Some h) at in
+    record {
+      within = omega arith;
+      own = λ g holds. ap (λ (x : UrlPolicy). bytes_eq x.url url) (same_Some g h (sym holds ∙ held_there slots n h at)) ∙ found.has_url;
+      only = λ j g holds has. apart j n g h holds (held_there slots n h at) (same_place_exact g.url url has ∙ sym (same_place_exact h.url url found.has_url));
+      few = λ _. omega (arith, lt, few);
+    }
+
+all_others : (url : List ℕ) (slots : Slots) → ((j : ℕ) (slot : Option UrlPolicy) → slice_get slots j ≡ Some slot → is_other url slot ≡ true) → length (filter (is_other url) slots) ≡ length slots
+all_others url [] each = refl
+all_others url (slot ∷ slots) each =
+    ap (λ (b : Bool). length (cond b (slot ∷ filter (is_other url) slots) (filter (is_other url) slots))) (each 0 slot refl)
+    ∙ ap suc (all_others url slots (λ j x at. each (suc j) x at))
+
+other_slot : (url : List ℕ) (slots : Slots) → holder_from url 0 slots ≡ None → (slot : Option UrlPolicy) (j : ℕ) → slice_get slots j ≡ Some slot → is_some slot ≡ true → is_other url slot ≡ true
+unfolding is_other
+other_slot url slots none None j at some = absurd (false≢true some)
+other_slot url slots none (Some held) j at some = ap not (none_at url 0 slots none j held at)
+
+pub place_free : (url : List ℕ) (slots : Slots) (i : ℕ) → length slots ≤ 128 → holder_from url 0 slots ≡ None → i ≤ length slots → ((h : UrlPolicy) → slice_get slots i ≡ Some (Some h) → Some h ≡ None)
+    → ((j : ℕ) (slot : Option UrlPolicy) → j < i → slice_get slots j ≡ Some slot → is_some slot ≡ true) → IsPlaceFor url slots i
+unfolding others_held
+place_free url slots i few none le free full = record {
+  within = le;
+  own = λ h holds. absurd (none-some h (sym (free h (there slots i h holds))));
+  only = λ j h holds has. absurd (false≢true (sym (none_at url 0 slots none j h (there slots j h holds)) ∙ has));
+  few = λ others. count others (ltb_tells i (length slots));
+}
+  where
+    count : length (filter (is_other url) slots) < 128 → ((nat_lt i (length slots) ≡ true) × (i < length slots)) ⊎ ((nat_lt i (length slots) ≡ false) × (length slots ≤ i)) → i < 128
+    count others (inl lt) = omega (arith, lt.1, few)
+    count others (inr past) = omega (arith, past.1, le, others, all_others url slots (λ j slot at. other_slot url slots none slot j at (full j slot (omega (arith, past.1, slice_get_within slots j slot at)) at)))
+
+-- ---- After the change
+
+held_url : (url : List ℕ) (policy : Option Policy) (h : UrlPolicy) → held_for url policy ≡ Some h → h.url ≡ url
+unfolding held_for
+held_url url None h is = absurd (none-some h is)
+held_url url (Some p) h is = ap (λ (x : UrlPolicy). x.url) (sym (same_Some (url_policy url p) h is))
+
+no_policy : (url : List ℕ) (h : UrlPolicy) → held_for url None ≡ Some h → ⊥
+unfolding held_for
+no_policy url h is = none-some h is
+
+some_policy : (url : List ℕ) (p : Policy) → held_for url (Some p) ≡ Some (url_policy url p)
+unfolding held_for
+some_policy url p = refl
+
+abbrev Tells : ℕ → ℕ → Type 0
+Tells j i = ((nat_eq j i ≡ true) × (j ≡ i)) ⊎ ((nat_eq j i ≡ false) × (j ≢ i))
+
+module _ (url : List ℕ) (policy : Option Policy) (slots : Slots) (i : ℕ) (slots' : Slots) (place : IsPlaceFor url slots i) (change : IsSlotChange slots slots' i (held_for url policy)) (apart : UrlsApart slots) where
+  new_url : (j : ℕ) (h : UrlPolicy) → j ≡ i → held_by slots' (Url j) ≡ Some h → h.url ≡ url
+  new_url j h at holds = held_url url policy h (sym change.here ∙ ap (λ (m : ℕ). held_by slots' (Url m)) (sym at) ∙ holds)
+
+  not_elsewhere : (j : ℕ) (h : UrlPolicy) → j ≢ i → held_by slots' (Url j) ≡ Some h → h.url ≡ url → ⊥
+  not_elsewhere j h off holds has = off (place.only j h (sym (change.others j off) ∙ holds) (ap (λ (u : List ℕ). bytes_eq u url) has ∙ same_place_itself url))
+
+  apart_by : (j k : ℕ) (h g : UrlPolicy) → held_by slots' (Url j) ≡ Some h → held_by slots' (Url k) ≡ Some g → h.url ≡ g.url → Tells j i → Tells k i → j ≡ k
+  apart_by j k h g holds holds' urls (inl at) (inl at') = at.1 ∙ sym at'.1
+  apart_by j k h g holds holds' urls (inl at) (inr off') = absurd (not_elsewhere k g off'.1 holds' (sym urls ∙ new_url j h at.1 holds))
+  apart_by j k h g holds holds' urls (inr off) (inl at') = absurd (not_elsewhere j h off.1 holds (urls ∙ new_url k g at'.1 holds'))
+  apart_by j k h g holds holds' urls (inr off) (inr off') = apart j k h g (sym (change.others j off.1) ∙ holds) (sym (change.others k off'.1) ∙ holds') urls
+
+  pub apart_after : UrlsApart slots'
+  apart_after j k h g holds holds' urls = apart_by j k h g holds holds' urls (eqb_tells j i) (eqb_tells k i)
+
+  here_some : (p : Policy) → policy ≡ Some p → holder_from url 0 slots' ≡ Some (Url i, url_policy url p)
+  here_some p is = unique url slots' i (url_policy url p) apart_after (change.here ∙ ap (held_for url) is ∙ some_policy url p) (same_place_itself url)
+
+  none_here : policy ≡ None → (g : Holder) (found : FoundAt url 0 slots' g) → Tells found.place i → ⊥
+  none_here none g found (inl at) = no_policy url g.1 (ap (held_for url) (sym none) ∙ sym change.here ∙ ap (λ (m : ℕ). held_by slots' (Url m)) (sym at.1) ∙ held_there slots' found.place g.1 found.at)
+  none_here none g found (inr off) = not_elsewhere found.place g.1 off.1 (held_there slots' found.place g.1 found.at) (same_place_exact g.1.url url found.has_url)
+
+  here_none : policy ≡ None → (o : Option Holder) → holder_from url 0 slots' ≡ o → o ≡ None
+  here_none none None is = refl
+  here_none none (Some g) is = let found : FoundAt url 0 slots' g = found_at url 0 slots' g is in absurd (none_here none g found (eqb_tells found.place i))
+
+  here_by : (o : Option Policy) → policy ≡ o → policy_held slots' url ≡ o
+  unfolding policy_held
+  here_by None is = ap (option_map holder_policy) (here_none is (holder_from url 0 slots') refl)
+  here_by (Some p) is = ap (option_map holder_policy) (here_some p is)
+
+  pub policy_here : policy_held slots' url ≡ policy
+  policy_here = here_by policy refl
+
+  -- ---- Other URLs
+
+  module _ (u : List ℕ) (other : bytes_eq url u ≡ false) where
+    not_both : (v : List ℕ) → v ≡ url → v ≡ u → ⊥
+    not_both v is is' = false≢true (sym other ∙ ap (λ (x : List ℕ). bytes_eq x u) (sym is ∙ is') ∙ same_place_itself u)
+
+    kept_by : (g : Holder) (found : FoundAt u 0 slots g) → Tells found.place i → holder_from u 0 slots' ≡ Some g
+    kept_by g found (inl at) =
+        let holds : held_by slots (Url i) ≡ Some g.1 = ap (λ (m : ℕ). held_by slots (Url m)) (sym at.1) ∙ held_there slots found.place g.1 found.at in
+        absurd (not_both g.1.url (same_place_exact g.1.url url (place.own g.1 holds)) (same_place_exact g.1.url u found.has_url))
+    kept_by g found (inr off) =
+        let from_zero : found.place ≡ 0 + found.place = omega arith in
+        unique u slots' found.place g.1 apart_after (change.others found.place off.1 ∙ held_there slots found.place g.1 found.at) found.has_url
+        ∙ ap Some (λ j. ((ap Url from_zero ∙ sym found.owner) j, g.1))
+
+    new_by : holder_from u 0 slots ≡ None → (g : Holder) (found : FoundAt u 0 slots' g) → Tells found.place i → ⊥
+    new_by none g found (inl at) = not_both g.1.url (new_url found.place g.1 at.1 (held_there slots' found.place g.1 found.at)) (same_place_exact g.1.url u found.has_url)
+    new_by none g found (inr off) =
+        false≢true (sym (none_at u 0 slots none found.place g.1 (there slots found.place g.1 (sym (change.others found.place off.1) ∙ held_there slots' found.place g.1 found.at))) ∙ found.has_url)
+
+    same_by : (o w : Option Holder) → holder_from u 0 slots ≡ o → holder_from u 0 slots' ≡ w → w ≡ o
+    same_by None None is is' = refl
+    same_by None (Some g) is is' = let found : FoundAt u 0 slots' g = found_at u 0 slots' g is' in absurd (new_by is g found (eqb_tells found.place i))
+    same_by (Some g) w is is' = let found : FoundAt u 0 slots g = found_at u 0 slots g is in sym is' ∙ kept_by g found (eqb_tells found.place i)
+
+    holder_same : holder_from u 0 slots' ≡ holder_from u 0 slots
+    holder_same = same_by (holder_from u 0 slots) (holder_from u 0 slots') refl refl
+
+    pub policy_same : policy_held slots' u ≡ policy_held slots u
+    unfolding policy_held
+    policy_same = ap (option_map holder_policy) holder_same
+
+    place_same : place_held slots' u ≡ place_held slots u
+    unfolding place_held
+    place_same = ap (option_map holder_owner) holder_same
+
+  -- ---- Places
+
+  place_by : (owner : Owner) (o : Option Holder) → holder_from url 0 slots ≡ o → option_map holder_owner o ≡ Some owner → owner ≡ Url i
+  place_by owner None is at = absurd (none-some owner at)
+  place_by owner (Some g) is at =
+      let found : FoundAt url 0 slots g = found_at url 0 slots g is in
+      let from_zero : 0 + found.place ≡ found.place = omega arith in
+      sym (same_Some g.0 owner at) ∙ found.owner ∙ ap Url (from_zero ∙ place.only found.place g.1 (held_there slots found.place g.1 found.at) found.has_url)
+
+  pub place_is : (owner : Owner) → place_held slots url ≡ Some owner → owner ≡ Url i
+  unfolding place_held
+  place_is owner at = place_by owner (holder_from url 0 slots) refl at
+
+  own_place : (owner : Owner) → place_held slots url ≡ Some owner → (o : Option Policy) → policy ≡ o → is_some (policy_held slots' url) ≡ true → place_held slots' url ≡ Some owner
+  unfolding place_held
+  own_place owner at None is some = absurd (false≢true (ap (λ (x : Option Policy). is_some x) (sym (here_by None is)) ∙ some))
+  own_place owner at (Some p) is some = ap (option_map holder_owner) (here_some p is) ∙ ap Some (sym (place_is owner at))
+
+  places_by : (u : List ℕ) (owner : Owner) → place_held slots u ≡ Some owner → is_some (policy_held slots' u) ≡ true → (b : Bool) → bytes_eq url u ≡ b → place_held slots' u ≡ Some owner
+  places_by u owner at some false other = place_same u other ∙ at
+  places_by u owner at some true same =
+      let is : url ≡ u = same_place_exact url u same in
+      subst (λ (v : List ℕ). place_held slots' v ≡ Some owner) is
+      (own_place owner (ap (place_held slots) is ∙ at) policy refl (ap (λ (v : List ℕ). is_some (policy_held slots' v)) is ∙ some))
+
+  pub places_kept : (u : List ℕ) (owner : Owner) → place_held slots u ≡ Some owner → is_some (policy_held slots' u) ≡ true → place_held slots' u ≡ Some owner
+  places_kept u owner at some = places_by u owner at some (bytes_eq url u) refl
+
+-- ---- The rows of the place
+
+none_at_first : {R : Type 0} (xs : List R) → ((x : R) → slice_get xs 0 ≡ Some x → ⊥) → xs ≡ []
+none_at_first [] none = refl
+none_at_first (x ∷ xs) none = absurd (none x refl)
+
+no_end : (slots : Slots) (bindings : List Binding) (i : ℕ) → held_by slots (Url i) ≡ None → (r : Row) → r.owner ≡ Url i → end_for slots bindings r ≡ None
+unfolding end_for end_at
+no_end slots bindings i none r own = ap (option_and_then (held_end bindings r.side r.addr r.entry)) (ap (held_by slots) own ∙ none)
+
+free_rows : (slots : Slots) (bindings : List Binding) (i : ℕ) → held_by slots (Url i) ≡ None → owner_rows (Url i) (rows_of slots bindings) ≡ []
+unfolding owner_rows
+free_rows slots bindings i none =
+    none_at_first (filter (is_under row_place (owner_place (Url i))) (rows_of slots bindings))
+    (λ r at. none-some r.until (sym (no_end slots bindings i none r (owner_is i r (kept row_place (owner_place (Url i)) (rows_of slots bindings) 0 r at))) ∙ end_was slots bindings r (own_row row_place (is_under row_place (owner_place (Url i))) (rows_of slots bindings) 0 r (ascend-rows_of slots bindings) at)))
+
+free_here : (url : List ℕ) (slots : Slots) (i : ℕ) → IsPlaceFor url slots i → holder_from url 0 slots ≡ None → (o : Option UrlPolicy) → held_by slots (Url i) ≡ o → o ≡ None
+free_here url slots i place none None is = refl
+free_here url slots i place none (Some h) is = absurd (false≢true (sym (none_at url 0 slots none i h (there slots i h is)) ∙ place.own h is))
+
+rows_by : (url : List ℕ) (policy : Option Policy) (slots : Slots) (bindings : List Binding) (i : ℕ) → IsPlaceFor url slots i → (o : Option Holder) → holder_from url 0 slots ≡ o → length (owner_rows (Url i) (rows_of slots bindings)) ≡ length (rows_of_owner (option_map holder_owner o) (rows_of slots bindings))
+unfolding rows_of_owner
+rows_by url policy slots bindings i place None is = ap (λ (rs : List Row). length rs) (free_rows slots bindings i (free_here url slots i place is (held_by slots (Url i)) refl))
+rows_by url policy slots bindings i place (Some g) is =
+    let found : FoundAt url 0 slots g = found_at url 0 slots g is in
+    let from_zero : 0 + found.place ≡ found.place = omega arith in
+    ap (λ (o : Owner). length (owner_rows o (rows_of slots bindings))) (sym (found.owner ∙ ap Url (from_zero ∙ place.only found.place g.1 (held_there slots found.place g.1 found.at) found.has_url)))
+
+pub rows_of_place : (url : List ℕ) (slots : Slots) (bindings : List Binding) (i : ℕ) → IsPlaceFor url slots i → length (owner_rows (Url i) (rows_of slots bindings)) ≡ length (rows_of_owner (place_held slots url) (rows_of slots bindings))
+unfolding place_held
+rows_of_place url slots bindings i place = rows_by url None slots bindings i place (holder_from url 0 slots) refl
+
+-- ---- The places of new rows are as many whoever owns them
+
+length-map : {A B : Type 0} (f : A → B) (xs : List A) → length (map f xs) ≡ length xs
+length-map f [] = refl
+length-map f (x ∷ xs) = ap suc (length-map f xs)
+
+first_count : (bindings : List Binding) (o o' : Owner) (side : Direction) (n : ℕ) (keys : List MemberKey) → length (first_key_touches bindings o side n keys) ≡ length (first_key_touches bindings o' side n keys)
+unfolding first_key_touches
+first_count bindings o o' side n [] = refl
+first_count bindings o o' side n (key ∷ keys) = length-map (bound_key o side n) (bound_under key bindings) ∙ sym (length-map (bound_key o' side n) (bound_under key bindings))
+
+side_count : (bindings : List Binding) (o o' : Owner) (held : UrlPolicy) (side : Direction) (es : List (ℕ × Entry)) → length (flat_map (entry_touches bindings o held side) es) ≡ length (flat_map (entry_touches bindings o' held side) es)
+unfolding entry_touches
+side_count bindings o o' held side [] = refl
+side_count bindings o o' held side (e ∷ es) =
+    length-append (entry_touches bindings o held side e) (flat_map (entry_touches bindings o held side) es)
+    ∙ (λ i. first_count bindings o o' side e.0 (member_keys held.url e.1) i + side_count bindings o o' held side es i)
+    ∙ sym (length-append (entry_touches bindings o' held side e) (flat_map (entry_touches bindings o' held side) es))
+
+pub touch_count : (bindings : List Binding) (o o' : Owner) (held : Option UrlPolicy) → length (new_touches bindings o held) ≡ length (new_touches bindings o' held)
+unfolding new_touches side_policy_touches
+touch_count bindings o o' None = refl
+touch_count bindings o o' (Some held) =
+    length-append (side_policy_touches bindings o held From) (side_policy_touches bindings o held To)
+    ∙ (λ i. side_count bindings o o' held From (numbered 1 (entries_of From held.policy)) i + side_count bindings o o' held To (numbered 1 (entries_of To held.policy)) i)
+    ∙ sym (length-append (side_policy_touches bindings o' held From) (side_policy_touches bindings o' held To))
+
+-- ---- The whole plan
+
+pub policy_plan : (url : List ℕ) (policy : Option Policy) (slots : Slots) (bindings : RowsAndRoom Binding) (rows : RowsAndRoom Row) (room i : ℕ) (held : Option UrlPolicy) (edits : List (Edit Row)) (none : List (Edit Binding))
+    → IsPlaceFor url slots i → length slots ≤ 128 → UrlsApart slots → others_held url slots < 128 → held ≡ held_for url policy → none ≡ []
+    → ((new : Slots) → IsSlotChange slots new i held → IsPatch slots bindings.rows new bindings.rows edits)
+    → length edits ≤ rows.room → i < length slots + room
+    → IsPolicyPlan url policy (compiled_state slots bindings rows room) (record { rows = edits; bindings = none; slot = Some (i, held) })
+unfolding slots_after slots_with bindings_after edited
+policy_plan url policy slots bindings rows room i held edits none place few apart others held_is none_is patch row_room slot_room =
+    let change : IsSlotChange slots (slot_set (i, held) slots) i held = slot_change slots i held place.within in
+    let change' : IsSlotChange slots (slot_set (i, held) slots) i (held_for url policy) = subst (λ (x : Option UrlPolicy). IsSlotChange slots (slot_set (i, held) slots) i x) held_is change in
+    let after : Slots = slot_set (i, held) slots in
+    let empty : edited binding_place none bindings.rows ≡ bindings.rows = ap (λ (es : List (Edit Binding)). edited binding_place es bindings.rows) none_is in
+    record {
+      fits = record {
+        patch = subst (λ (bs : List Binding). IsPatch slots bindings.rows after bs edits) (sym empty) (patch after change);
+        found = subst (λ (es : List (Edit Binding)). AreFound binding_place bindings.rows es) (sym none_is) tt;
+        few = slot_count slots i held place.within few (place.few others);
+        apart = apart_after url policy slots i after place change' apart;
+        row_room = row_room;
+        binding_room = subst (λ (es : List (Edit Binding)). length es ≤ bindings.room) (sym none_is) (omega arith);
+        slot_room = (place.within, slot_room);
+      };
+      here = policy_here url policy slots i after place change' apart;
+      others = λ u other. policy_same url policy slots i after place change' apart u other;
+      places = places_kept url policy slots i after place change' apart;
+      bindings = none_is;
+    }
+
+-- the steps of the plan
+pub policy_most : (url : List ℕ) (policy : Option Policy) (slots : Slots) (bindings : List Binding) (rows : List Row) (i : ℕ) (held : Option UrlPolicy) (start end : ℕ)
+    → IsPlaceFor url slots i → rows ≡ rows_of slots bindings → held ≡ held_for url policy
+    → ((s b k : ℕ) → HaveKeys s slots → PolicyKeys s held → length bindings < 2 ^ b → length rows < 2 ^ k → end ≤ start + length (owner_rows (Url i) rows) + (policy_count held + length (new_touches bindings (Url i) held) + 1) * place_steps s b k)
+    → (s b k : ℕ) → HaveKeys s slots → PolicyKeys s (held_for url policy) → length bindings < 2 ^ b → length rows < 2 ^ k → end ≤ start + policy_steps url policy slots bindings rows s b k
+unfolding policy_steps
+policy_most url policy slots bindings rows i held start end place kept held_is most s b k keys new few fits =
+    let spent = most s b k keys (subst (PolicyKeys s) (sym held_is) new) few fits in
+    let own : length (owner_rows (Url i) rows) ≡ length (rows_of_owner (place_held slots url) rows) =
+    ap (λ (rs : List Row). length (owner_rows (Url i) rs)) kept ∙ rows_of_place url slots bindings i place ∙ ap (λ (rs : List Row). length (rows_of_owner (place_held slots url) rs)) (sym kept) in
+    let count : policy_count held + length (new_touches bindings (Url i) held) + 1 ≡ policy_count (held_for url policy) + length (new_touches bindings Default (held_for url policy)) + 1 =
+    (λ j. policy_count (held_is j) + length (new_touches bindings (Url i) (held_is j)) + 1) ∙ ap (λ (n : ℕ). policy_count (held_for url policy) + n + 1) (touch_count bindings (Url i) Default (held_for url policy)) in
+    subst (λ (n : ℕ). end ≤ start + (length (rows_of_owner (place_held slots url) rows) + n * place_steps s b k)) count
+    (subst (λ (n : ℕ). end ≤ start + (n + (policy_count held + length (new_touches bindings (Url i) held) + 1) * place_steps s b k)) own
+    (regroup start end (length (owner_rows (Url i) rows)) ((policy_count held + length (new_touches bindings (Url i) held) + 1) * place_steps s b k) spent))
+  where
+    regroup : (start end a b : ℕ) → end ≤ start + a + b → end ≤ start + (a + b)
+    regroup start end a b h = omega arith

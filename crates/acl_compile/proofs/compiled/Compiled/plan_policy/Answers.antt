@@ -1,0 +1,11 @@
+use Rattle.std.proofs.Common.{ℕ, ◌+◌, ◌^◌, ◌<◌, ◌≤◌, length, subst}
+use Rattle.std.specs.Option.{option_copied}
+use Rattle.acl_compile.specs.Compiled.{CompiledState}
+use Rattle.acl_compile.specs.Plans.{HaveKeys, PolicyKeys, held_for, policy_steps}
+use Rattle.acl_compile.proofs.compiled.Compiled.plan_policy.Goals as goal
+
+pub returns-clause-most : goal.returns-clause-most
+returns-clause-most g c =
+    subst (λ (x : CompiledState). (s b k : ℕ) → HaveKeys s x.slots → PolicyKeys s (held_for c.args.url.now (option_copied c.args.policy)) → length x.bindings < 2 ^ b → length x.rows < 2 ^ k
+    → c.plan_slot.new.steps ≤ c.args.steps.now + policy_steps c.args.url.now (option_copied c.args.policy) x.slots x.bindings x.rows s b k)
+    c.self.view_is c.plan_slot.ensures.most

@@ -1,0 +1,47 @@
+-- What is compiled: the policies in their places, the bindings, and the rows that follow from them.
+use Rattle.std.specs.Prelude.{◌≡◌, ℕ, ◌≤◌, List, length, Some}
+use Rattle.sorted_rows.specs.Placed.{PlacesAscend, RowsAndRoom}
+use Rattle.acl_model.specs.declared.entry.Policy.{Policy}
+use Rattle.acl_model.specs.declared.binding.Binding.{Binding}
+use Rattle.acl_model.specs.Places.{binding_place}
+use Rattle.acl_rows.specs.declared.row.Row.{Row}
+use Rattle.acl_model.specs.Defaults.{default_policy}
+use Rattle.acl_model.specs.Policies.{UrlPolicy}
+use Rattle.acl_rows.specs.declared.row.Owner.TheVariants.{Url}
+use Rattle.acl_rows.specs.Rows.{Slots, held_by, rows_of}
+use Rattle.acl_rows.specs.View.{wide_from}
+
+-- the policies in their places, the bindings and the rows, and how many more of each there is room for
+pub record CompiledState : Type 0 where
+  pub slots : Slots
+  pub bindings : List Binding
+  pub rows : List Row
+  pub slot_room : ℕ
+  pub binding_room : ℕ
+  pub row_room : ℕ
+
+-- the bindings stand in their order, and the rows are those of the policies and bindings
+pub record HasItsRows (c : CompiledState) : Type 0 where
+  pub ascend : PlacesAscend binding_place c.bindings
+  pub rows : c.rows ≡ rows_of c.slots c.bindings
+
+-- the numbers of the wide entries of a policy, whose lists can be counted
+pub record HasWide (policy : Policy) (outgoing : List ℕ) (incoming : List ℕ) : Type 0 where
+  pub outgoing_is : outgoing ≡ wide_from 1 policy.outgoing
+  pub incoming_is : incoming ≡ wide_from 1 policy.incoming
+  pub outgoing_counts : length policy.outgoing ≤ 65535
+  pub incoming_counts : length policy.incoming ≤ 65535
+
+-- the policies of no two places are of one URL
+abbrev pub UrlsApart : Slots → Type 0
+UrlsApart slots = (i j : ℕ) (h g : UrlPolicy) → held_by slots (Url i) ≡ Some h → held_by slots (Url j) ≡ Some g → h.url ≡ g.url → i ≡ j
+
+-- the rows are those of the policies and bindings, there are no more places than 128, and the defaults are the standard's
+pub record IsSound (slots : Slots) (bindings : List Binding) (rows : List Row) (defaults : Policy) : Type 0 where
+  pub rows_are : rows ≡ rows_of slots bindings
+  pub few : length slots ≤ 128
+  pub apart : UrlsApart slots
+  pub defaults_are : defaults ≡ default_policy
+
+abbrev pub compiled_state : Slots → RowsAndRoom Binding → RowsAndRoom Row → ℕ → CompiledState
+compiled_state slots bindings rows room = record { slots = slots; bindings = bindings.rows; rows = rows.rows; slot_room = room; binding_room = bindings.room; row_room = rows.room }

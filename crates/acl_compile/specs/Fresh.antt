@@ -1,0 +1,58 @@
+-- The rows that a new policy asks for, and the edits that they lead to.
+use Rattle.std.specs.Prelude.{ℕ, ◌+◌, false, List, [], ◌∷◌, filter, length, is_some, Option, Some, None, Ok, if◌then◌else◌}
+use Rattle.sorted_rows.specs.Placed.{row_at, set_row}
+use Rattle.mud_base.specs.declared.packet.Direction.TheVariants.{From, To}
+use Rattle.acl_model.specs.declared.binding.Binding.{Binding}
+use Rattle.acl_model.specs.declared.entry.Entry.{Entry}
+use Rattle.acl_model.specs.Keys.{is_membered}
+use Rattle.acl_model.specs.FirstMatch.{entries_of}
+use Rattle.acl_model.specs.Policies.{UrlPolicy}
+use Rattle.row_edits.specs.declared.edit.Edit.{Edit}
+use Rattle.row_edits.specs.Edits.{edit, edit_place}
+use Rattle.acl_rows.specs.declared.row.Row.{Row}
+use Rattle.acl_rows.specs.declared.row.RowKey.{RowKey}
+use Rattle.acl_rows.specs.Places.{row_place}
+use Rattle.acl_rows.specs.Rows.{Slots, row}
+use Rattle.acl_patch.specs.Touched.{key_end, with_edit}
+
+-- ---- New rows
+
+-- edits that are planned, and the rows that are asked for so far
+pub record Fresh : Type 0 where
+  pub edits : List (Edit Row)
+  pub rows : List Row
+
+abbrev pub fresh_of : List (Edit Row) → List Row → Fresh
+fresh_of edits rows = record { edits = edits; rows = rows }
+
+-- the rows with that of a key, where there is an end
+unfoldable pub row_with : RowKey → Option ℕ → List Row → List Row
+row_with key None rows = rows
+row_with key (Some u) rows = set_row row_place (row key.owner key.side key.addr key.entry u) rows
+
+unfoldable pub one_fresh : Slots → List Binding → Slots → RowKey → Fresh → Fresh
+one_fresh slots bindings slots' key s = fresh_of (with_edit slots bindings slots' bindings key s.edits) (row_with key (key_end slots' bindings key) s.rows)
+
+unfoldable pub more_fresh : Slots → List Binding → Slots → List RowKey → Fresh → Fresh
+more_fresh slots bindings slots' [] s = s
+more_fresh slots bindings slots' (key ∷ keys) s = more_fresh slots bindings slots' keys (one_fresh slots bindings slots' key s)
+
+-- the first of a list
+unfoldable pub first_of : {A : Type 0} → List A → Option A
+first_of [] = None
+first_of (x ∷ xs) = Some x
+
+-- how many entries have a member selector
+unfoldable pub membered_count : List Entry → ℕ
+membered_count entries = length (filter is_membered entries)
+
+unfoldable pub policy_count : Option UrlPolicy → ℕ
+policy_count None = 0
+policy_count (Some held) = membered_count (entries_of From held.policy) + membered_count (entries_of To held.policy)
+
+-- ---- Old rows
+
+-- the edits by which the rows from an index on go whose places aren't among the new rows
+unfoldable pub left_edits : List Row → ℕ → List Row → List (Edit Row) → List (Edit Row)
+left_edits new n [] edits = edits
+left_edits new n (r ∷ rs) edits = left_edits new (n + 1) rs (if is_some (row_at row_place (row_place r) new) then edits else set_row (edit_place row_place) (edit r false (Ok n)) edits)

@@ -1,0 +1,171 @@
+//! Changes that are planned.
+ghost use Rattle.std.specs.Prelude.{◌≡◌, ℕ, ◌+◌, ◌-◌, ◌*◌, ◌^◌, ◌<◌, ◌≤◌, ◌++◌, length, slice_get, IfOk, Option, Some, None, true, is_some, option_copied, vec_len, vec_capacity};
+ghost use Rattle.acl_model.specs.Policies.{UrlPolicy};
+ghost use Rattle.acl_model.specs.Defaults.{default_policy};
+ghost use Rattle.acl_rows.specs.Rows.{rows_of};
+ghost use Rattle.acl_patch.specs.Touched.{touches};
+ghost use Rattle.acl_compile.specs.Compiled.{UrlsApart, compiled_state};
+ghost use Rattle.acl_compile.specs.Plans.{slot_set, IsMemberPlan, IsPolicyPlan, IsPlaceFor, CanBeCounted, HaveKeys, PolicyKeys, held_for, others_held, place_steps, policy_steps};
+
+use crate::bindings::edits_of;
+use crate::change::{Change, Holding};
+use crate::policies::{CompiledPolicy, Held, find_held};
+use crate::policy::slot_rows;
+use acl_model::{Binding, Policy};
+use acl_rows::Row;
+use mud_base::Memory;
+use mud_url::MudUrl;
+use row_edits::Edit;
+use sorted_rows::{SortedRows, Steps};
+use std::alloc::Global;
+use std::marker::Model;
+use std::sync::ledger::Ledger;
+
+/// A change that is planned: the edits of rows and of bindings, and what is to stand in a place of
+/// the table of policies. `Compiled::commit` makes it.
+#[derive(Drop)]
+pub struct RowPlan {
+    pub(crate) rows: SortedRows<Edit<Row>>,
+    pub(crate) bindings: SortedRows<Edit<Binding>>,
+    pub(crate) slot: Option<(usize, Option<Held>)>,
+}
+
+impl Model for RowPlan {
+    ghost use Rattle.acl_compile.specs.Plans.{Plan};
+
+    ghost Value = { Plan };
+
+    ghost view = { λ p. record { rows = p.rows.rows; bindings = p.bindings.rows; slot = p.slot } };
+}
+
+/// Puts this in a place of the table, or in one behind the last. It takes no memory.
+#[tactic(auto, unfolding(crate::specs::Plans::slot_set))]
+pub(crate) fn set_slot(slots: &mut Vec<Option<Held>>, index: usize, held: Option<Held>)
+    requires within { index ≤ vec_len slots.old }
+    requires room { index < vec_capacity slots.old }
+    ensures { slots.new.items ≡ slot_set (index, held) slots.old.items }
+{
+    if index < slots.len() {
+        slots[index] = held;
+    } else {
+        slots.push_reserved(held);
+    }
+}
+
+/// Plans that these bindings go and those come.
+pub(crate) fn plan_change<L: Ledger>(
+    alloc: Global,
+    slots: &[Option<Held>],
+    defaults: &CompiledPolicy,
+    bindings: &mut SortedRows<Binding>,
+    rows: &mut SortedRows<Row>,
+    gone: &[Binding],
+    come: &[Binding],
+    steps: &mut Steps<L>,
+) -> Result<RowPlan, Memory>
+    requires few { length slots.now ≤ 128 }
+    requires apart { UrlsApart slots.now }
+    requires default { defaults.now ≡ default_policy }
+    requires kept { rows.old.rows ≡ rows_of slots.now bindings.old.rows }
+    ensures bindings { bindings.new.rows ≡ bindings.old.rows }
+    ensures rows { rows.new.rows ≡ rows.old.rows }
+    ensures ok { IfOk result (λ plan. (room : ℕ) → IsMemberPlan gone.now come.now (compiled_state slots.now bindings.new rows.new room) plan) }
+    ensures most { (s b k : ℕ) → HaveKeys s slots.now → length bindings.old.rows + length come.now < 2 ^ b → length rows.old.rows < 2 ^ k
+        → steps.new ≤ steps.old + (length gone.now + length come.now + length (touches slots.now (gone.now ++ come.now))) * place_steps s b k }
+{
+    let change = Change::new(slots, bindings, rows, gone, come);
+    let holding = Holding::of_defaults(defaults.policy());
+    let row_edits = change.plan(alloc, &holding, steps)?;
+    let binding_edits = edits_of(alloc, bindings, gone, come, steps)?;
+    rows.reserve(row_edits.len())?;
+    bindings.reserve(binding_edits.len())?;
+    Ok(RowPlan {
+        rows: row_edits,
+        bindings: binding_edits,
+        slot: None,
+    })
+}
+
+/// The first place in which no policy is held: behind all others where each has one.
+fn free_place(slots: &[Option<Held>]) -> usize
+    ensures within { result ≤ length slots.now }
+    ensures free { (h : UrlPolicy) → slice_get slots.now result ≡ Some (Some h) → Some h ≡ None }
+    ensures full { (j : ℕ) (slot : Option UrlPolicy) → j < result → slice_get slots.now j ≡ Some slot → is_some slot ≡ true }
+{
+    let mut place = 0;
+    for slot in slots {
+        if slot.is_none() {
+            return place;
+        }
+        place += 1;
+    }
+    place
+}
+
+/// The place of a URL: the one in which its policy is held, or else a free one.
+fn place_for(slots: &[Option<Held>], url: &MudUrl) -> usize
+    requires few { length slots.now ≤ 128 }
+    requires apart { UrlsApart slots.now }
+    ensures { IsPlaceFor url.now slots.now result }
+{
+    match find_held(slots, url) {
+        Some((place, _)) => usize::from(place),
+        None => free_place(slots),
+    }
+}
+
+/// The policy as it is held, where there is one.
+#[tactic(auto, unfolding(crate::specs::Plans::held_for))]
+fn held_policy(alloc: Global, url: &MudUrl, policy: Option<&Policy>) -> Result<Option<Held>, Memory>
+    requires { CanBeCounted (option_copied policy) }
+    ensures { IfOk result (λ held. held ≡ held_for url.now (option_copied policy.entry)) }
+{
+    match policy {
+        None => Ok(None),
+        Some(policy) => {
+            let compiled = CompiledPolicy::new(alloc, policy.copy()?)?;
+            Ok(Some(Held::new(*url, compiled)))
+        }
+    }
+}
+
+/// Plans that this policy is held for the URL, or none.
+pub(crate) fn plan_slot<L: Ledger>(
+    alloc: Global,
+    slots: &mut Vec<Option<Held>>,
+    bindings: &SortedRows<Binding>,
+    rows: &mut SortedRows<Row>,
+    url: &MudUrl,
+    policy: Option<&Policy>,
+    steps: &mut Steps<L>,
+) -> Result<RowPlan, Memory>
+    requires few { length slots.old.items ≤ 128 }
+    requires apart { UrlsApart slots.old.items }
+    requires kept { rows.old.rows ≡ rows_of slots.old.items bindings.now.rows }
+    requires others { others_held url.now slots.old.items < 128 }
+    requires lists { CanBeCounted (option_copied policy) }
+    ensures slots { slots.new.items ≡ slots.old.items }
+    ensures rows { rows.new.rows ≡ rows.old.rows }
+    ensures ok { IfOk result (λ plan. IsPolicyPlan url.now (option_copied policy.entry) (compiled_state slots.new.items bindings.now rows.new (vec_capacity slots.new - vec_len slots.new)) plan) }
+    ensures most { (s b k : ℕ) → HaveKeys s slots.old.items → PolicyKeys s (held_for url.now (option_copied policy.entry)) → length bindings.now.rows < 2 ^ b → length rows.old.rows < 2 ^ k
+        → steps.new ≤ steps.old + policy_steps url.now (option_copied policy.entry) slots.old.items bindings.now.rows rows.old.rows s b k }
+{
+    let place = place_for(slots.as_slice(), url);
+    let held = held_policy(alloc, url, policy)?;
+    let edits = slot_rows(
+        alloc,
+        slots.as_slice(),
+        bindings,
+        rows,
+        place as u16,
+        &held,
+        steps,
+    )?;
+    slots.reserve(1)?;
+    rows.reserve(edits.len())?;
+    Ok(RowPlan {
+        rows: edits,
+        bindings: SortedRows::new(alloc),
+        slot: Some((place, held)),
+    })
+}

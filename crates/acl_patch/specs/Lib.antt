@@ -1,0 +1,3 @@
+pub mod Patch
+pub mod Touched
+pub mod PolicyTouched

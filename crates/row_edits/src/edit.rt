@@ -1,0 +1,93 @@
+//! Edits, and making them.
+ghost use Rattle.std.specs.Prelude.{◌≡◌, ◌+◌, ◌≤◌, length, OnOk};
+ghost use Rattle.sorted_rows.specs.Placed.{index_in, set_row};
+ghost use Rattle.row_edits.specs.Edits.{edit, edit_place, edit_made, edited, AreFound};
+
+use mud_base::Memory;
+use sorted_rows::{Placed, SortedRows, Steps};
+use std::cmp::Ordering;
+use std::sync::ledger::Ledger;
+
+/// What becomes of one place of sorted rows.
+#[derive(Drop, Debug)]
+pub struct Edit<R> {
+    /// The row of the place: the one that comes, in place of another or not, or the one that goes.
+    pub row: R,
+    /// Whether it comes.
+    pub comes: bool,
+    /// The index of the row of the place, or else the index at which it belongs.
+    pub found: Result<usize, usize>,
+}
+
+/// An edit stands at the place of its row.
+impl<R: Placed> Placed for Edit<R> {
+    ghost use Rattle.row_edits.specs.Edits.{edit_place};
+
+    ghost place = { edit_place R.place };
+
+    #[tactic(auto, unfolding(crate::specs::Edits::edit_place))]
+    fn order(&self, other: &Edit<R>) -> Ordering {
+        self.row.order(&other.row)
+    }
+}
+
+/// Makes one edit in one step.
+#[tactic(auto, unfolding(crate::specs::Edits::edit_made))]
+fn make_edit<R: Placed + Drop, L: Ledger>(
+    rows: &mut SortedRows<R>,
+    edit: Edit<R>,
+    steps: &mut Steps<L>,
+)
+    requires room { 1 ≤ rows.old.room }
+    requires found { edit.found ≡ index_in R.place (R.place edit.row) rows.old.rows }
+    ensures rows { rows.new.rows ≡ edit_made R.place edit rows.old.rows }
+    ensures room { rows.old.room ≤ rows.new.room + 1 }
+    ensures counted { steps.new ≡ steps.old + 1 }
+{
+    let Edit { row, comes, found } = edit;
+    steps.tick();
+    if comes {
+        rows.put_at(found, row);
+    } else if let Ok(index) = found {
+        drop(rows.take_at(index));
+    }
+}
+
+/// Makes each of these edits, from the last to the first: what an edit changes stands behind the
+/// places of those that are still to be made, so their indices stay. Each is one step, and no memory
+/// is taken.
+pub fn make_edits<R: Placed + Drop, L: Ledger>(
+    rows: &mut SortedRows<R>,
+    edits: SortedRows<Edit<R>>,
+    steps: &mut Steps<L>,
+)
+    requires room { length edits.rows ≤ rows.old.room }
+    requires found { AreFound R.place rows.old.rows edits.rows }
+    ensures rows { rows.new.rows ≡ edited R.place edits.rows rows.old.rows }
+    ensures room { rows.old.room ≤ rows.new.room + length edits.rows }
+    ensures counted { steps.new ≡ steps.old + length edits.rows }
+{
+    let mut left = edits;
+    while !left.is_empty() {
+        let _ascending = rows.rows();
+        let edits = left.rows();
+        let last = edits.len() - 1;
+        let edit = left.take_at(last);
+        make_edit(rows, edit, steps);
+    }
+}
+
+/// Adds the edit of a row that comes or goes to those that are planned, in place of the one of its
+/// place.
+pub fn plan_edit<R: Placed + Drop>(
+    edits: &mut SortedRows<Edit<R>>,
+    row: R,
+    comes: bool,
+    found: Result<usize, usize>,
+) -> Result<(), Memory>
+    ensures { OnOk result (edits.new.rows ≡ set_row (edit_place R.place) (edit row comes found) edits.old.rows) }
+{
+    edits.reserve(1)?;
+    edits.put(Edit { row, comes, found });
+    Ok(())
+}

@@ -1,0 +1,9 @@
+use Rattle.std.proofs.Common.{◌≡◌, ◌++◌, [], map, take}
+use Rattle.std.specs.Prelude.{option_map}
+use Rattle.sorted_rows.specs.Changes.{with_found}
+use Rattle.mud_world.specs.Items.{gone_put, set_put}
+use Rattle.mud_tables.specs.BindItems.{name_item}
+use Rattle.bind_book.proofs.items.name_puts.Given as goal
+
+abbrev pub invariant-loop-row : goal.invariant-loop-row
+invariant-loop-row l = l.puts ≡ with_found (option_map (gone_put 5) l.change.gone) [] ++ map (set_put name_item) (take l.row-index l.row-items)

@@ -1,0 +1,4 @@
+pub mod Book
+pub mod Observations
+pub mod Plans
+pub mod Reading

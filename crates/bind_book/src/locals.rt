@@ -1,0 +1,32 @@
+//! The local networks that a command sets.
+ghost use Rattle.std.specs.Prelude.{◌≡◌, IfOk, IfErr};
+ghost use Rattle.mud_tables.specs.BindSteps.{locals_step};
+ghost use Rattle.bind_book.specs.Book.{IsRefusal};
+ghost use Rattle.bind_book.specs.Plans.{IsSetLocals};
+
+use mud_base::{Listed, Prefix};
+use mud_tables::BindFault;
+use mud_tables::addrs::{prefixes_in_order, same_prefixes};
+use mud_tables::limits::MOST_LOCALS;
+use std::alloc::Global;
+
+/// The local networks that these prefixes are, in order and each once; None where they are the kept
+/// ones.
+#[tactic(auto, unfolding(mud_tables::specs::BindSteps::locals_step, mud_tables::specs::BindSteps::locals_cases))]
+pub fn set_locals(
+    alloc: Global,
+    prefixes: &[Prefix],
+    locals: &[Prefix],
+) -> Result<Option<Listed<Prefix>>, BindFault>
+    ensures ok { IfOk result (IsSetLocals prefixes.now locals.now) }
+    ensures err { IfErr result (IsRefusal (locals_step prefixes.now locals.now)) }
+{
+    let sorted = prefixes_in_order(alloc, prefixes)?;
+    if sorted.len() > MOST_LOCALS {
+        return Err(BindFault::LocalsFull);
+    }
+    if same_prefixes(sorted.as_slice(), locals) {
+        return Ok(None);
+    }
+    Ok(Some(sorted))
+}

@@ -11,3 +11,4 @@ pub mod FreshLaws
 pub mod OwnRows
 pub mod PolicyRows
 pub mod SlotLaws
+mod Examples

@@ -1,8 +1,10 @@
 -- The table of policies, before and after a policy comes, goes or is replaced.
-use Rattle.std.proofs.Common.{◌≡◌, ℕ, zero, suc, ◌+◌, ◌*◌, ◌^◌, ◌<◌, ◌≤◌, ◌⊎◌, inl, inr, Bool, true, false, cond, List, [], ◌∷◌, ◌++◌, map, length, Option, Some, None, refl, sym, ap, subst, ◌∙◌, arith, length-append}
+use Rattle.std.proofs.Common.{◌≡◌, ℕ, zero, suc, ◌+◌, ◌*◌, ◌^◌, ◌<◌, ◌≤◌, ◌⊎◌, inl, inr, Bool, true, false, cond, List, [], ◌∷◌, ◌++◌, map, length, drop, get_or, Option, Some, None, refl, sym, ap, subst, ◌∙◌, arith, length-append}
 use Rattle.std.specs.Prelude.{◌≢◌, bytes_eq, nat_eq, not, filter, flat_map, nat_lt, slice_set}
 use Rattle.std.specs.Option.{option_map, option_and_then, is_some}
 use Rattle.std.specs.List.{slice_get}
+use Rattle.std.proofs.Math.Seq.{drop-cons}
+use Rattle.std.proofs.lemmas.List.{drop_all}
 use Rattle.std.proofs.lemmas.Bool.{false≢true}
 use Rattle.std.proofs.lemmas.Bool.Decides.{eqb_tells, leb_tells}
 use Rattle.std.proofs.lemmas.Option.{same_Some, none-some, slice_get_within}
@@ -461,3 +463,24 @@ policy_most url policy slots bindings rows i held start end place kept held_is m
   where
     regroup : (start end a b : ℕ) → end ≤ start + a + b → end ≤ start + (a + b)
     regroup start end a b h = omega arith
+
+-- ---- Places of other URLs
+
+other_by : (url : List ℕ) (slot : Option UrlPolicy) (slots : Slots) (b : Bool) → length (cond b (slot ∷ filter (is_other url) slots) (filter (is_other url) slots)) ≡ cond b 1 0 + length (filter (is_other url) slots)
+other_by url slot slots true = omega arith
+other_by url slot slots false = omega arith
+
+pub next_other : (url : List ℕ) (slots : Slots) (i : ℕ) (slot : Option UrlPolicy) → i < length slots → slot ≡ get_or slots i slot → others_held url (drop i slots) ≡ cond (is_other url slot) 1 0 + others_held url (drop (i + 1) slots)
+unfolding others_held
+next_other url slots i slot lt is =
+    ap (λ (xs : Slots). length (filter (is_other url) xs)) (drop-cons slots i slot lt ∙ (λ j. sym is j ∷ drop (next j) slots))
+    ∙ other_by url slot (drop (i + 1) slots) (is_other url slot)
+  where
+    next : suc i ≡ i + 1
+    next = omega arith
+
+pub no_other : (url : List ℕ) (slots : Slots) (i count : ℕ) → length slots ≤ i → count + others_held url (drop i slots) ≡ others_held url slots → count ≡ others_held url slots
+unfolding others_held
+no_other url slots i count past all =
+    let none : length (filter (is_other url) (drop i slots)) ≡ 0 = ap (λ (xs : Slots). length (filter (is_other url) xs)) (drop_all i slots past) in
+    omega (arith, none, all)

@@ -1,5 +1,5 @@
 //! What is compiled, and views of it.
-ghost use Rattle.std.specs.Prelude.{◌≡◌, ℕ, ◌+◌, ◌*◌, ◌^◌, ◌<◌, ◌≤◌, ◌++◌, [], length, IfOk, option_copied};
+ghost use Rattle.std.specs.Prelude.{◌≡◌, ℕ, ◌+◌, ◌*◌, ◌^◌, ◌<◌, ◌≤◌, ◌++◌, [], length, IfOk, option_copied, ◌↔◌, IsTrue};
 ghost use Rattle.acl_rows.specs.View.{IsViewOf};
 ghost use Rattle.acl_rows.specs.Rows.{rows_of};
 ghost use Rattle.acl_patch.specs.Patch.{rows_apart};
@@ -7,7 +7,7 @@ ghost use Rattle.acl_patch.specs.Touched.{touches};
 ghost use Rattle.acl_compile.specs.Compiled.{HasItsRows};
 ghost use Rattle.acl_compile.specs.Plans.{Fits, slots_after, bindings_after, IsKept, IsMemberPlan, IsPolicyPlan, CanBeCounted, HaveKeys, PolicyKeys, held_for, others_held, place_steps, policy_steps};
 
-use crate::plan::{RowPlan, plan_change, plan_slot, set_slot};
+use crate::plan::{RowPlan, others_in, plan_change, plan_slot, set_slot};
 use crate::policies::{CompiledPolicy, Held, find_held};
 use acl_model::{Binding, Policy};
 use acl_rows::{Owner, Row, RuleView};
@@ -56,6 +56,13 @@ impl Compiled {
             bindings: SortedRows::new(alloc),
             rows: SortedRows::new(alloc),
         })
+    }
+
+    /// Whether a policy can be held for this URL: fewer than 128 other URLs have one.
+    pub fn has_place(&self, url: &MudUrl) -> bool
+        ensures { IsTrue result ↔ (others_held url.now self.now.slots < 128) }
+    {
+        others_in(self.slots.as_slice(), url) < 128
     }
 
     /// What a ruling on packets with a Thing of this URL on this side reads: the entries of the

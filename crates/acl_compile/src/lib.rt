@@ -1,14 +1,19 @@
 //! The rows of the approved policies, kept up as bindings and policies change, and lent to rulings.
+//! A change is planned first, with memory and a bounded number of steps, and committed later without
+//! memory and without a search.
 #![tactic(auto)]
 
-pub mod bindings;
-pub mod change;
+mod bindings;
+mod change;
 pub mod compiled;
-pub mod fresh;
-pub mod keys;
-pub mod plan;
-pub mod policies;
-pub mod policy;
+mod fresh;
+mod keys;
+mod plan;
+mod policies;
+mod policy;
 
 pub use compiled::Compiled;
 pub use plan::RowPlan;
+
+#[cfg(test)]
+mod tests;

@@ -5,6 +5,7 @@ ghost use Rattle.acl_model.specs.Defaults.{default_policy};
 ghost use Rattle.acl_rows.specs.Rows.{rows_of};
 ghost use Rattle.acl_patch.specs.Touched.{touches};
 ghost use Rattle.acl_compile.specs.Compiled.{UrlsApart, compiled_state};
+ghost use Rattle.acl_compile.specs.Plans as spec;
 ghost use Rattle.acl_compile.specs.Plans.{slot_set, IsMemberPlan, IsPolicyPlan, IsPlaceFor, CanBeCounted, HaveKeys, PolicyKeys, held_for, others_held, place_steps, policy_steps};
 
 use crate::bindings::edits_of;
@@ -84,6 +85,31 @@ pub(crate) fn plan_change<L: Ledger>(
         bindings: binding_edits,
         slot: None,
     })
+}
+
+/// Whether a policy of another URL is held in a place.
+#[tactic(auto, unfolding(crate::specs::Plans::is_other))]
+fn is_other(slot: &Option<Held>, url: &MudUrl) -> bool
+    ensures { result ≡ spec.is_other url.now slot.now }
+{
+    match slot {
+        None => false,
+        Some(held) => held.url() != url,
+    }
+}
+
+/// In how many places a policy of another URL is held.
+#[tactic(auto, unfolding(crate::specs::Plans::others_held))]
+pub(crate) fn others_in(slots: &[Option<Held>], url: &MudUrl) -> usize
+    ensures { result ≡ others_held url.now slots.now }
+{
+    let mut count = 0;
+    for slot in slots {
+        if is_other(slot, url) {
+            count += 1;
+        }
+    }
+    count
 }
 
 /// The first place in which no policy is held: behind all others where each has one.

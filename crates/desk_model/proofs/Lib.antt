@@ -14,3 +14,4 @@ pub mod TypeFacts
 pub mod Sessions
 mod Examples
 mod ItemExamples
+mod SessionExamples

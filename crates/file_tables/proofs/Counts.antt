@@ -1,8 +1,8 @@
 -- The entries of all approved files, where a row is put in or taken away.
-use Rattle.std.proofs.Common.{◌≡◌, ℕ, ◌+◌, ◌≤◌, Bool, true, false, cond, List, [], ◌∷◌, ◌++◌, Option, Some, None, refl, sym, ap, ◌∙◌, arith}
+use Rattle.std.proofs.Common.{◌≡◌, ℕ, ◌+◌, cond, List, [], ◌∷◌, ◌++◌, Option, Some, None, refl, ap, arith}
 use Rattle.std.specs.declared.cmp.Ordering.{Ordering}
 use Rattle.std.specs.declared.cmp.Ordering.TheVariants.{Less, Equal, Greater}
-use Rattle.sorted_rows.specs.Placed.{place_cmp, same_place, row_at, set_row, without_row, PlacesAbove, PlacesAscend}
+use Rattle.sorted_rows.specs.Placed.{place_cmp, row_at, set_row, without_row, PlacesAscend}
 use Rattle.sorted_rows.proofs.PlacedLaws.{same_place-cmp, place_cmp_turned, above_trans, row_at_above}
 use Rattle.file_tables.specs.declared.cached_file.CachedFile.{CachedFile}
 use Rattle.file_tables.specs.Files.{url_of, approved_entries, entry_count}

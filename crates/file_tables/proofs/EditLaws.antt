@@ -1,6 +1,5 @@
 -- What edits make of files and of their items.
-use Rattle.std.proofs.Common.{◌≡◌, ℕ, Bool, true, false, cond, List, [], ◌∷◌, map, Option, Some, None, refl, sym, ap, subst, ◌∙◌}
-use Rattle.std.specs.Prelude.{All}
+use Rattle.std.proofs.Common.{◌≡◌, ℕ, Bool, true, false, cond, List, [], ◌∷◌, map, Option, Some, None, refl, sym, ap, ◌∙◌}
 use Rattle.std.specs.Option.{option_map}
 use Rattle.std.proofs.lemmas.Bool.{false≢true}
 use Rattle.std.proofs.lemmas.Option.{none-some, same_Some}
@@ -11,7 +10,7 @@ use Rattle.sorted_rows.proofs.PlacedLaws.{ascend-set_row, ascend-without_row, ro
 use Rattle.sorted_rows.proofs.RowLaws.{same_rows, set_row_there, without_row_absent, place_row_at}
 use Rattle.mud_world.specs.declared.item.Item.{Item}
 use Rattle.mud_world.specs.declared.item.Put.{Put}
-use Rattle.mud_world.specs.Items.{place_of, put_one, put_all, IsDifference, AreItemsOf, set_put, gone_put, puts_of, kind_of_put, ArePutsOf}
+use Rattle.mud_world.specs.Items.{place_of, put_one, IsDifference, AreItemsOf, set_put, gone_put, puts_of, kind_of_put, ArePutsOf}
 use Rattle.mud_world.proofs.ItemLaws.{same_put, puts_kept, row_at-items, ordered-items}
 use Rattle.file_tables.specs.declared.approval.Approval.{Approval}
 use Rattle.file_tables.specs.declared.cached_file.CachedFile.{CachedFile}

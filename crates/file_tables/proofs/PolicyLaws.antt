@@ -1,13 +1,11 @@
 -- What edits make of the policies of URLs.
-use Rattle.std.proofs.Common.{◌≡◌, ℕ, Bool, true, false, cond, List, [], ◌∷◌, Option, Some, None, refl, sym, ap, subst, ◌∙◌}
-use Rattle.std.specs.Prelude.{bytes_eq, find}
+use Rattle.std.proofs.Common.{◌≡◌, ℕ, Bool, true, false, cond, List, [], ◌∷◌, Option, Some, None, refl, ap, subst, ◌∙◌}
+use Rattle.std.specs.Prelude.{bytes_eq}
 use Rattle.std.specs.List.{filter_map}
 use Rattle.std.specs.Option.{option_map, option_and_then}
-use Rattle.std.proofs.lemmas.Option.{none-some}
 use Rattle.acl_model.specs.declared.entry.Policy.{Policy}
-use Rattle.acl_model.specs.Policies.{UrlPolicy, has_url, policy_in}
-use Rattle.acl_model.specs.Policies as policies
-use Rattle.sorted_rows.specs.Placed.{same_place, row_at, set_row, without_row, PlacesAbove, PlacesAscend}
+use Rattle.acl_model.specs.Policies.{policy_in}
+use Rattle.sorted_rows.specs.Placed.{same_place, row_at, PlacesAbove, PlacesAscend}
 use Rattle.sorted_rows.proofs.PlacedLaws.{row_at-set_row, row_at-without_row, row_at_above, same_place_exact}
 use Rattle.file_tables.specs.declared.approval.Approval.{Approval}
 use Rattle.file_tables.specs.declared.cached_file.CachedFile.{CachedFile}
@@ -16,7 +14,7 @@ use Rattle.file_tables.specs.declared.file_edit.FileEdit.TheVariants.{Unchanged,
 use Rattle.file_tables.specs.Held.{HeldFile}
 use Rattle.file_tables.specs.Files.{url_of, file_at, set_file, without_file, new_file, with_candidate, with_approved}
 use Rattle.file_tables.specs.FileEdits.{fetched_at, approved_at, approved_as, if_any, kept_row, made_row, changed_row, edited_row, put_file, edited}
-use Rattle.file_tables.specs.Policies.{policy_in_held, policy_in_approved, policy_in_row, policy_of, url_policy, url_policy_in, policies_of, candidate_in_row, candidate_policy, policy_change, policy_after}
+use Rattle.file_tables.specs.Policies.{policy_in_held, policy_in_approved, policy_in_row, policy_of, url_policy_in, policies_of, candidate_in_row, candidate_policy, policy_change, policy_after}
 use Rattle.file_tables.proofs.EditLaws.{edited_url}
 
 -- ---- The policy of the row that comes

@@ -4,13 +4,13 @@ use Rattle.std.specs.Prelude.{bytes_eq, nat_le, nat_lt, is_some}
 use Rattle.std.specs.List.{AllByRecursion}
 use Rattle.std.specs.Option.{option_map_or}
 use Rattle.std.specs.Result.{result_ok}
-use Rattle.std.proofs.lemmas.Bool.{false≢true, leb-true, leb-false, le-leb, ltb-true, ltb-false}
+use Rattle.std.proofs.lemmas.Bool.{leb-false, le-leb, ltb-false}
 use Rattle.std.proofs.lemmas.Option.{none-some, same_Some}
-use Rattle.item_codec.specs.declared.word.Word.TheVariants.{New, Same, Rejected, Approved, Revoked}
+use Rattle.item_codec.specs.declared.word.Word.TheVariants.{New, Same, Approved}
 use Rattle.usage_walk.specs.declared.fault.Broken.{Broken}
 use Rattle.mud_file.specs.declared.usage_file.UsageFile.{UsageFile}
 use Rattle.mud_file.specs.File.{file_of}
-use Rattle.sorted_rows.specs.Placed.{row_at, set_row, without_row}
+use Rattle.sorted_rows.specs.Placed.{row_at, set_row}
 use Rattle.sorted_rows.proofs.PlacedLaws.{ascend-set_row, ascend-without_row}
 use Rattle.sorted_rows.proofs.RowLaws.{all-set_row, all-without_row, length-set_row, length-without_row, place_row_at}
 use Rattle.sorted_rows.proofs.IndexLaws.{set_row_length}
@@ -19,13 +19,13 @@ use Rattle.file_tables.specs.declared.approval.Approval.TheVariants as approval
 use Rattle.file_tables.specs.declared.approval.OperatorVerdict.{OperatorVerdict}
 use Rattle.file_tables.specs.declared.approval.OperatorVerdict.TheVariants as verdict
 use Rattle.file_tables.specs.declared.cached_file.CachedFile.{CachedFile}
-use Rattle.file_tables.specs.declared.cache_fault.CacheFault.TheVariants.{File, Older, CacheFull, NoCandidate, Digest, NoSignature, NotApproved, PolicyFull}
+use Rattle.file_tables.specs.declared.cache_fault.CacheFault.TheVariants.{Older, CacheFull, Digest, NoSignature, PolicyFull}
 use Rattle.file_tables.specs.Held.{HeldFile, held_file, usage_in, digest_of}
 use Rattle.file_tables.specs.Limits.{most_files, most_policy_entries, last_moment}
 use Rattle.file_tables.specs.Files.{url_of, file_at, set_file, without_file, new_file, with_candidate, with_approved, is_of_url, is_usage_of, is_signed, is_older, entries_of, approved_entries, entry_count, is_held, may_have, is_approved, is_outdated, may_follow, are_files, is_sound_file, IsKeptFile, IsSoundFiles}
 use Rattle.file_tables.specs.FileSteps.{FileStep, done, left, candidate_again, approved_again, older_than_approved, older_than_candidate, is_outdated_by, new_candidate, beside_approved, beside_candidate, import_cases, import_read, import_step, settled, left_with, approved_row, approve, ruled, candidate_cases, is_ruled, verdict_cases, verdict_step, approved_cases, revoke_cases, revoke_step}
 use Rattle.file_tables.proofs.Counts.{entries_found, entry_count-set_row, entry_count-without_row}
-use Rattle.file_tables.proofs.Tests.{left_of, right_of, both, neither_left, neither_right, same_bytes}
+use Rattle.file_tables.proofs.Tests.{left_of, right_of, both, neither_left, same_bytes}
 
 -- ---- What holds of the files behind a step
 

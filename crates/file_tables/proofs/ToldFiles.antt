@@ -8,14 +8,14 @@ use Rattle.item_codec.specs.declared.word.Word.TheVariants.{New, Same, Rejected,
 use Rattle.usage_walk.specs.declared.fault.Broken.{Broken}
 use Rattle.mud_file.specs.declared.usage_file.UsageFile.{UsageFile}
 use Rattle.mud_file.specs.File.{file_of}
-use Rattle.sorted_rows.specs.Placed.{row_at, set_row, without_row, PlacesAscend}
+use Rattle.sorted_rows.specs.Placed.{row_at, without_row, PlacesAscend}
 use Rattle.sorted_rows.proofs.PlacedLaws.{row_at-set_row_same, row_at-without_row, same_place_itself}
 use Rattle.file_tables.specs.declared.approval.Approval.{Approval}
 use Rattle.file_tables.specs.declared.approval.Approval.TheVariants as approval
 use Rattle.file_tables.specs.declared.approval.OperatorVerdict.{OperatorVerdict}
 use Rattle.file_tables.specs.declared.approval.OperatorVerdict.TheVariants as verdict
 use Rattle.file_tables.specs.declared.cached_file.CachedFile.{CachedFile}
-use Rattle.file_tables.specs.declared.cache_fault.CacheFault.TheVariants.{File, Older, CacheFull, NoCandidate, Digest, NoSignature, NotApproved, PolicyFull}
+use Rattle.file_tables.specs.declared.cache_fault.CacheFault.TheVariants.{Older, CacheFull, Digest, NoSignature, PolicyFull}
 use Rattle.file_tables.specs.Held.{HeldFile, held_file, digest_of}
 use Rattle.file_tables.specs.Limits.{most_files, most_policy_entries}
 use Rattle.file_tables.specs.Files.{url_of, file_at, set_file, without_file, new_file, with_candidate, with_approved, is_signed, entry_count}

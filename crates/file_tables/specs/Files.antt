@@ -4,7 +4,7 @@ use Rattle.std.specs.List.{AllByRecursion}
 use Rattle.std.specs.Option.{option_map_or}
 use Rattle.sorted_rows.specs.Placed.{row_at, set_row, without_row, PlacesAscend}
 use Rattle.mud_file.specs.declared.usage_file.UsageFile.{UsageFile}
-use Rattle.file_tables.specs.Held.{HeldFile, held_file, usage_in}
+use Rattle.file_tables.specs.Held.{HeldFile, usage_in}
 use Rattle.file_tables.specs.declared.approval.Approval.{Approval}
 use Rattle.file_tables.specs.declared.approval.Approval.TheVariants.{Verified, Waived}
 use Rattle.file_tables.specs.declared.cached_file.CachedFile.{CachedFile}

@@ -1,0 +1,12 @@
+use Rattle.std.proofs.Common.{sym, ap, ◌∙◌}
+use Rattle.sorted_rows.specs.Placed.{comes_last}
+use Rattle.file_tables.specs.Files.{url_of}
+use Rattle.file_cache.proofs.TakeLaws.{behind_full, behind_room}
+use Rattle.file_cache.proofs.take.push.Goals as goal
+
+pub returns-else-has_room-clause-taken : goal.returns-else-has_room-clause-taken
+returns-else-has_room-clause-taken c = behind_full c.args.files.now.rows c.args.row (sym c.if-has_room.ensures)
+
+pub returns-in_ok-reserve-clause-taken : goal.returns-in_ok-reserve-clause-taken
+returns-in_ok-reserve-clause-taken c =
+    behind_room c.args.files.now.rows c.args.row c.push_last.result (sym c.if-has_room.ensures) (c.push_last.ensures.last ∙ ap (comes_last url_of c.args.row) c.reserve.ensures.rows)

@@ -1,0 +1,127 @@
+//! What an edit makes of the row of a URL. Files are moved, and none is copied.
+ghost use Rattle.std.specs.Prelude.{◌≡◌};
+ghost use Rattle.std.specs.Option.{option_map};
+ghost use Rattle.file_tables.specs.FileEdits as spec;
+
+use file_tables::{Approval, CachedFile, FileEdit, Held};
+use mud_base::Moment;
+use mud_url::MudUrl;
+
+/// The row, where it holds a file.
+#[tactic(auto, unfolding(file_tables::specs::FileEdits::kept_row, file_tables::specs::FileEdits::if_any))]
+fn kept_row(row: CachedFile) -> Option<CachedFile>
+    ensures { result ≡ spec.kept_row row }
+{
+    match (&row.approved, &row.candidate) {
+        (None, None) => None,
+        _ => Some(row),
+    }
+}
+
+/// The candidate, fetched at another moment.
+#[tactic(auto, unfolding(file_tables::specs::FileEdits::fetched_at))]
+fn candidate_at(candidate: Option<Held>, moment: Moment) -> Option<Held>
+    ensures { result ≡ option_map (spec.fetched_at moment) candidate }
+{
+    match candidate {
+        Some(held) => Some(held.fetched_at(moment)),
+        None => None,
+    }
+}
+
+/// The approved file, fetched at another moment.
+#[tactic(auto, unfolding(file_tables::specs::FileEdits::fetched_at, file_tables::specs::FileEdits::approved_at))]
+fn approved_at(approved: Option<(Held, Approval)>, moment: Moment) -> Option<(Held, Approval)>
+    ensures { result ≡ option_map (spec.approved_at moment) approved }
+{
+    match approved {
+        Some((held, approval)) => Some((held.fetched_at(moment), approval)),
+        None => None,
+    }
+}
+
+/// The candidate as the approved file.
+#[tactic(auto, unfolding(file_tables::specs::FileEdits::approved_as))]
+fn approved_as(candidate: Option<Held>, approval: Approval) -> Option<(Held, Approval)>
+    ensures { result ≡ option_map (spec.approved_as approval) candidate }
+{
+    match candidate {
+        Some(held) => Some((held, approval)),
+        None => None,
+    }
+}
+
+/// The row that comes of a row.
+#[tactic(auto, unfolding(file_tables::specs::FileEdits::changed_row, file_tables::specs::Files::with_candidate, file_tables::specs::Files::with_approved))]
+fn changed_row(edit: FileEdit, row: CachedFile) -> Option<CachedFile>
+    ensures { result ≡ spec.changed_row edit row }
+{
+    let CachedFile {
+        url,
+        approved,
+        candidate,
+    } = row;
+    match edit {
+        FileEdit::Unchanged => Some(CachedFile {
+            url,
+            approved,
+            candidate,
+        }),
+        FileEdit::Offered(held) => Some(CachedFile {
+            url,
+            approved,
+            candidate: Some(held),
+        }),
+        FileEdit::CandidateFetched(moment) => Some(CachedFile {
+            url,
+            approved,
+            candidate: candidate_at(candidate, moment),
+        }),
+        FileEdit::ApprovedFetched(moment) => Some(CachedFile {
+            url,
+            approved: approved_at(approved, moment),
+            candidate,
+        }),
+        FileEdit::Approved(approval) => kept_row(CachedFile {
+            url,
+            approved: approved_as(candidate, approval),
+            candidate: None,
+        }),
+        FileEdit::Rejected => kept_row(CachedFile {
+            url,
+            approved,
+            candidate: None,
+        }),
+        FileEdit::Revoked => kept_row(CachedFile {
+            url,
+            approved: None,
+            candidate,
+        }),
+    }
+}
+
+/// The row of a URL of which nothing was held.
+#[tactic(auto, unfolding(file_tables::specs::FileEdits::made_row, file_tables::specs::Files::new_file))]
+fn made_row(edit: FileEdit, url: MudUrl) -> Option<CachedFile>
+    ensures { result ≡ spec.made_row edit url }
+{
+    match edit {
+        FileEdit::Offered(held) => Some(CachedFile {
+            url,
+            approved: None,
+            candidate: Some(held),
+        }),
+        _ => None,
+    }
+}
+
+/// The row of a URL after an edit.
+#[tactic(auto, unfolding(file_tables::specs::FileEdits::edited_row))]
+pub fn edited_row(edit: FileEdit, url: MudUrl, found: Option<CachedFile>) -> Option<CachedFile>
+    ensures { result ≡ spec.edited_row edit url found }
+{
+    match found {
+        Some(row) => changed_row(edit, row),
+        None => made_row(edit, url),
+    }
+}

@@ -1,0 +1,190 @@
+-- What the tests of an open show of the rows.
+use Rattle.std.proofs.Common.{◌≡◌, ℕ, ◌+◌, ◌≤◌, ◌<◌, ℤ, pos, Bool, true, false, cond, ◌&&◌, List, [], ◌∷◌, map, Option, Some, None, Ok, Err, Result, IfOk, refl, sym, ap, subst, ◌∙◌, arith}
+use Rattle.std.proofs.lemmas.Bool.{false≢true}
+use Rattle.std.proofs.lemmas.Option.{none-some}
+use Rattle.std.proofs.lemmas.Map.Lookups.{exact_signed}
+use Rattle.std.proofs.lemmas.List.Elements.{All-from_recursion, recursion_from_All}
+use Rattle.std.proofs.lemmas.List.Sorted.{All-permutation, IsPermutation-sym, IsPermutation-map, sum_by-IsPermutation}
+use Rattle.std.proofs.lemmas.List.Sums.{sum_by-cons}
+use Rattle.std.specs.List.{AllByRecursion}
+use Rattle.std.specs.Prelude.{sum_by}
+use Rattle.std.specs.Ordering.{is_eq, int_cmp}
+use Rattle.std.specs.List.Sorted.{IsPermutation}
+use Rattle.sqlite.specs.declared.types.Value.TheVariants.{Int, Blob}
+use Rattle.sqlite_value.specs.Order.{Row, column}
+use Rattle.sqlite.specs.Edit.{id_in}
+use Rattle.sqlite_schema.specs.declared.schema.Constraint.TheVariants.{Datatype}
+use Rattle.sqlite_schema.specs.Rules.{are_typed, has_computed, Keeps}
+use Rattle.sqlite.specs.Effect.{Database, IsDatabase}
+use Rattle.sqlite.specs.State.{State}
+use Rattle.sorted_rows.specs.Placed.{same_place, row_at, PlacesAscend}
+use Rattle.std.specs.declared.cmp.Ordering.TheVariants.{Less}
+use Rattle.sorted_rows.proofs.PlacedLaws.{same_place_itself, same_place_exact, same_place-cmp}
+use Rattle.sorted_rows.proofs.RowLaws.{same_rows}
+use Rattle.mud_world.specs.declared.item.Item.{Item}
+use Rattle.mud_world.specs.Items.{place_of, IsOrdered}
+use Rattle.keep_sqlite.specs.Table.{item_table, item_schema}
+use Rattle.keep_sqlite.specs.Rows.{item_in, items_in, items_of, id_of, IsItemRow, AreDistinct, HoldsItems}
+use Rattle.keep_sqlite.specs.Selections.{item_shown, ShowsItem, ShowsId, AreUnequal, shown_row, shown_id, HaveIds, HaveItems}
+use Rattle.keep_sqlite.proofs.Lookups.{place_in, found, item_at, items_ascend}
+use Rattle.keep_sqlite.proofs.Ids.{eq_exact, int_itself}
+
+-- ---- what holds of what is shown holds of the rows
+
+all_unmap : {X Y : Type 0} (P : Y → Type 0) (f : X → Y) (xs : List X) → AllByRecursion P (map f xs) → AllByRecursion (λ x. P (f x)) xs
+all_unmap P f [] all = tt
+all_unmap P f (x ∷ xs) all = (all.0, all_unmap P f xs all.1)
+
+all_map : {X Y : Type 0} (P : Y → Type 0) (f : X → Y) (xs : List X) → AllByRecursion (λ x. P (f x)) xs → AllByRecursion P (map f xs)
+all_map P f [] all = tt
+all_map P f (x ∷ xs) all = (all.0, all_map P f xs all.1)
+
+across : {X : Type 0} (P : X → Type 0) (xs ys : List X) → IsPermutation xs ys → AllByRecursion P ys → AllByRecursion P xs
+across P xs ys same all = recursion_from_All P xs (All-permutation P ys xs (IsPermutation-sym xs ys same) (All-from_recursion P ys all))
+
+pub rows_have : (P : Row → Type 0) (f : Row → Row) (rows answer : List Row) → IsPermutation (map f rows) answer → AllByRecursion P answer → AllByRecursion (λ r. P (f r)) rows
+rows_have P f rows answer same all = all_unmap P f rows (across P (map f rows) answer same all)
+
+-- ---- the rows are those of items
+
+-- a row with these values, and no more columns than the table, is that of an item
+item_row : (row : Row) (id : ℤ) (item : Item) → item.kind < 256 → (are_typed None 0 item_table.columns (Rattle.std.specs.Prelude.drop 1 row) && has_computed item_table row) ≡ true
+    → column row 0 ≡ Int id → column row 1 ≡ Int (pos item.kind) → column row 2 ≡ Blob item.key → column row 3 ≡ Blob item.body → IsItemRow row
+item_row [] id item low typed a b c d = absurd cc
+item_row (v ∷ []) id item low typed a b c d = absurd cc
+item_row (v ∷ w ∷ []) id item low typed a b c d = absurd cc
+item_row (v ∷ w ∷ x ∷ []) id item low typed a b c d = absurd cc
+item_row (v ∷ w ∷ x ∷ y ∷ []) id item low typed a b c d = (id, item, low, (λ i. a i ∷ b i ∷ c i ∷ d i ∷ []))
+item_row (v ∷ w ∷ x ∷ y ∷ z ∷ more) id item low typed a b c d =
+    let one = subst (λ u. (are_typed None 0 item_table.columns (u ∷ x ∷ y ∷ z ∷ more) && true) ≡ true) b typed in
+    let two = subst (λ u. (are_typed None 0 item_table.columns (Int (pos item.kind) ∷ u ∷ y ∷ z ∷ more) && true) ≡ true) c one in
+    let three = subst (λ u. (are_typed None 0 item_table.columns (Int (pos item.kind) ∷ Blob item.key ∷ u ∷ z ∷ more) && true) ≡ true) d two in
+    absurd (false≢true three)
+
+pub item_rows : (db : Database) → IsDatabase db → db.schema ≡ item_schema → AllByRecursion (λ r. ShowsId (shown_id r)) (db.trees 0) → AllByRecursion (λ r. ShowsItem (shown_row r)) (db.trees 0) → AllByRecursion IsItemRow (db.trees 0)
+item_rows db sound schema ids items = each (db.trees 0) (subst (λ s. Keeps Datatype s db.trees) schema (sound.obeys.rules Datatype)).0 ids items
+  where
+    each : (rows : List Row) → AllByRecursion (λ r. (are_typed None 0 item_table.columns (Rattle.std.specs.Prelude.drop 1 r) && has_computed item_table r) ≡ true) rows → AllByRecursion (λ r. ShowsId (shown_id r)) rows → AllByRecursion (λ r. ShowsItem (shown_row r)) rows → AllByRecursion IsItemRow rows
+    each [] typed ids items = tt
+    each (r ∷ rs) typed ids items = (item_row r (id_in (column r 0)) (item_shown (shown_row r)) items.0.low typed.0 ids.0.id items.0.kind items.0.key items.0.body, each rs typed.1 ids.1 items.1)
+
+-- ---- the rowids are distinct
+
+abbrev one_if : ℤ → ℤ → ℕ
+one_if n m = cond (is_eq (int_cmp n m)) 1 0
+
+none_of : (n : ℤ) (ms : List ℤ) → AllByRecursion (λ m. n ≡ m → ⊥) ms → sum_by (one_if n) ms ≡ 0
+none_of n [] far = refl
+none_of n (m ∷ ms) far = sum_by-cons (one_if n) m ms ∙ by (none_of n ms far.1) (is_eq (int_cmp n m)) refl
+  where
+    by : sum_by (one_if n) ms ≡ 0 → (b : Bool) → is_eq (int_cmp n m) ≡ b → cond b 1 0 + sum_by (one_if n) ms ≡ 0
+    by rest true e = absurd (far.0 (exact_signed n m (eq_exact (int_cmp n m) e)))
+    by rest false e = omega arith
+
+rise_once : (ms : List ℤ) → AreUnequal ms → (n : ℤ) → sum_by (one_if n) ms ≤ 1
+rise_once [] rise n = omega arith
+rise_once (m ∷ ms) rise n = subst (λ k. k ≤ 1) (sym (sum_by-cons (one_if n) m ms)) (by (rise_once ms rise.1 n) (is_eq (int_cmp n m)) refl)
+  where
+    by : sum_by (one_if n) ms ≤ 1 → (b : Bool) → is_eq (int_cmp n m) ≡ b → cond b 1 0 + sum_by (one_if n) ms ≤ 1
+    by rest true e =
+        let same : n ≡ m = exact_signed n m (eq_exact (int_cmp n m) e) in
+        let none : sum_by (one_if n) ms ≡ 0 = subst (λ k. sum_by (one_if k) ms ≡ 0) (sym same) (none_of m ms rise.0) in
+        omega arith
+    by rest false e = omega arith
+
+far_from : (n : ℤ) (rows : List Row) → sum_by (one_if n) (map id_of rows) ≡ 0 → AllByRecursion (λ other. n ≡ id_of other → ⊥) rows
+far_from n [] none = tt
+far_from n (r ∷ rs) none = by (far_from n rs) (is_eq (int_cmp n (id_of r))) refl
+  where
+    by : (sum_by (one_if n) (map id_of rs) ≡ 0 → AllByRecursion (λ other. n ≡ id_of other → ⊥) rs) → (b : Bool) → is_eq (int_cmp n (id_of r)) ≡ b → (n ≡ id_of r → ⊥) × AllByRecursion (λ other. n ≡ id_of other → ⊥) rs
+    by rest true e =
+        let total : cond true 1 0 + sum_by (one_if n) (map id_of rs) ≡ 0 = ap (λ b. cond b 1 0 + sum_by (one_if n) (map id_of rs)) (sym e) ∙ sym (sum_by-cons (one_if n) (id_of r) (map id_of rs)) ∙ none in
+        absurd (omega arith)
+    by rest false e =
+        let total : cond false 1 0 + sum_by (one_if n) (map id_of rs) ≡ 0 = ap (λ b. cond b 1 0 + sum_by (one_if n) (map id_of rs)) (sym e) ∙ sym (sum_by-cons (one_if n) (id_of r) (map id_of rs)) ∙ none in
+        ((λ same. false≢true (sym e ∙ ap (λ m. is_eq (int_cmp n m)) (sym same) ∙ ap is_eq (int_itself n))), rest (omega arith))
+
+distinct_from : (rows : List Row) → ((n : ℤ) → sum_by (one_if n) (map id_of rows) ≤ 1) → AreDistinct rows
+distinct_from [] once = tt
+distinct_from (r ∷ rs) once =
+    let here : cond true 1 0 + sum_by (one_if (id_of r)) (map id_of rs) ≤ 1 = subst (λ b. cond b 1 0 + sum_by (one_if (id_of r)) (map id_of rs) ≤ 1) (ap is_eq (int_itself (id_of r))) (subst (λ k. k ≤ 1) (sum_by-cons (one_if (id_of r)) (id_of r) (map id_of rs)) (once (id_of r))) in
+    (far_from (id_of r) rs (omega arith), distinct_from rs (λ n. let more = subst (λ k. k ≤ 1) (sum_by-cons (one_if n) (id_of r) (map id_of rs)) (once n) in omega arith))
+
+map_ids : (rows : List Row) → map (λ r. id_in (column r 0)) (map shown_id rows) ≡ map id_of rows
+map_ids [] = refl
+map_ids (r ∷ rs) = ap (λ xs. id_of r ∷ xs) (map_ids rs)
+
+pub distinct_rows : (rows answer : List Row) → IsPermutation (map shown_id rows) answer → AreUnequal (map (λ r. id_in (column r 0)) answer) → AreDistinct rows
+distinct_rows rows answer same rise = distinct_from rows (λ n.
+    let moved : sum_by (one_if n) (map (λ r. id_in (column r 0)) answer) ≡ sum_by (one_if n) (map id_of rows) =
+    sum_by-IsPermutation (one_if n) (map (λ r. id_in (column r 0)) (map shown_id rows)) (map (λ r. id_in (column r 0)) answer) (IsPermutation-map (λ r. id_in (column r 0)) (map shown_id rows) answer same) ∙ ap (sum_by (one_if n)) (map_ids rows) in
+    let few = rise_once (map (λ r. id_in (column r 0)) answer) rise n in
+    omega arith)
+
+-- ---- the items that are shown are those of the rows
+
+first_at : (items : List Item) → IsOrdered items → AllByRecursion (λ item. row_at place_of (place_of item) items ≡ Some item) items
+first_at [] up = tt
+first_at (x ∷ xs) up = (ap (λ b. cond b (Some x) (row_at place_of (place_of x) xs)) (same_place_itself (place_of x)), later xs xs up.0 (first_at xs up.1))
+  where
+    later : (ys all : List Item) → Rattle.sorted_rows.specs.Placed.PlacesAbove place_of (place_of x) ys → AllByRecursion (λ item. row_at place_of (place_of item) all ≡ Some item) ys → AllByRecursion (λ item. row_at place_of (place_of item) (x ∷ all) ≡ Some item) ys
+    later [] all above each = tt
+    later (y ∷ ys) all above each = (ap (λ b. cond b (Some x) (row_at place_of (place_of y) all)) (same_place-cmp (place_of x) (place_of y) Less above.0) ∙ each.0, later ys all above.1 each.1)
+
+-- a place that some row has is found
+found_some : (rows : List Row) → AllByRecursion (λ r. found (place_in r) rows ≡ None → ⊥) rows
+found_some [] = tt
+found_some (r ∷ rs) = ((λ none. none-some (item_in r) (sym none ∙ ap (λ b. cond b (Some (item_in r)) (found (place_in r) rs)) (same_place_itself (place_in r)))), more rs (found_some rs))
+  where
+    more : (xs : List Row) → AllByRecursion (λ x. found (place_in x) rs ≡ None → ⊥) xs → AllByRecursion (λ x. found (place_in x) (r ∷ rs) ≡ None → ⊥) xs
+    more [] each = tt
+    more (x ∷ xs) each = ((λ none. by (same_place (place_in r) (place_in x)) none), more xs each.1)
+      where
+        by : (b : Bool) → cond b (Some (item_in r)) (found (place_in x) rs) ≡ None → ⊥
+        by true none = none-some (item_in r) (sym none)
+        by false none = each.0 none
+
+same_at : (p : List ℕ) (rows : List Row) (items : List Item) → AllByRecursion (λ r. row_at place_of (place_in r) items ≡ Some (item_in r)) rows → AllByRecursion (λ item. found (place_of item) rows ≡ None → ⊥) items
+    → row_at place_of p items ≡ found p rows
+same_at p rows items each back = by (found p rows) refl
+  where
+    hit : (xs : List Row) (x : Item) → AllByRecursion (λ r. row_at place_of (place_in r) items ≡ Some (item_in r)) xs → found p xs ≡ Some x → row_at place_of p items ≡ Some x
+    hit [] x all e = absurd (none-some x e)
+    hit (r ∷ rs) x all e = at (hit rs x all.1) (same_place (place_in r) p) refl e
+      where
+        at : (found p rs ≡ Some x → row_at place_of p items ≡ Some x) → (b : Bool) → same_place (place_in r) p ≡ b → cond b (Some (item_in r)) (found p rs) ≡ Some x → row_at place_of p items ≡ Some x
+        at rest true same e = ap (λ q. row_at place_of q items) (sym (same_place_exact (place_in r) p same)) ∙ all.0 ∙ e
+        at rest false other e = rest e
+
+    miss : (xs : List Item) → AllByRecursion (λ item. found (place_of item) rows ≡ None → ⊥) xs → found p rows ≡ None → row_at place_of p xs ≡ None
+    miss [] all none = refl
+    miss (x ∷ xs) all none = at (miss xs all.1 none) (same_place (place_of x) p) refl
+      where
+        at : row_at place_of p xs ≡ None → (b : Bool) → same_place (place_of x) p ≡ b → cond b (Some x) (row_at place_of p xs) ≡ None
+        at rest true same = absurd (all.0 (ap (λ q. found q rows) (same_place_exact (place_of x) p same) ∙ none))
+        at rest false other = rest
+
+    by : (o : Option Item) → found p rows ≡ o → row_at place_of p items ≡ found p rows
+    by (Some x) e = hit rows x each e ∙ sym e
+    by None e = miss items back e ∙ sym e
+
+pub shown_items : (rows answer : List Row) → IsPermutation (map shown_row rows) answer → IsOrdered (map item_shown answer) → map item_shown answer ≡ items_in rows
+shown_items rows answer same up =
+    let items = map item_shown answer in
+    let each = all_unmap (λ s. row_at place_of (place_of (item_shown s)) items ≡ Some (item_shown s)) shown_row rows
+    (across (λ s. row_at place_of (place_of (item_shown s)) items ≡ Some (item_shown s)) (map shown_row rows) answer same (all_unmap (λ item. row_at place_of (place_of item) items ≡ Some item) item_shown answer (first_at items up))) in
+    let back = all_map (λ item. found (place_of item) rows ≡ None → ⊥) item_shown answer
+    (across (λ s. found (place_of (item_shown s)) rows ≡ None → ⊥) answer (map shown_row rows) (IsPermutation-sym (map shown_row rows) answer same) (all_map (λ s. found (place_of (item_shown s)) rows ≡ None → ⊥) shown_row rows (found_some rows))) in
+    same_rows place_of items (items_in rows) up (items_ascend rows) (λ p. same_at p rows items each back ∙ sym (item_at rows p))
+
+-- what an open has shown of a database
+pub holds_from : (first mid new : State) (items : List Item) → IsDatabase first.now → first.now.schema ≡ item_schema → mid.now ≡ first.now → new.now ≡ mid.now → HaveIds (first.now.trees 0) → HaveItems (mid.now.trees 0) → items ≡ items_of mid.now
+    → HoldsItems new.now × (items ≡ items_of new.now)
+holds_from first mid new items sound schema same next ids shown is =
+    let rows = subst (λ (d : Database). HaveItems (d.trees 0)) same shown in
+    let holds : HoldsItems first.now = record { sound = sound; schema = schema; rows = item_rows first.now sound schema ids.0 rows; distinct = ids.1 } in
+    (subst HoldsItems (sym (next ∙ same)) holds, is ∙ ap items_of (sym next))
+
+pub if_ok_map : {A E : Type 0} {P Q : A → Type 0} (r : Result A E) → IfOk r P → ((a : A) → P a → Q a) → IfOk r Q
+if_ok_map (Ok a) p f = f a p
+if_ok_map (Err e) p f = tt

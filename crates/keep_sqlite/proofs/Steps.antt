@@ -1,0 +1,64 @@
+-- The steps of a batch.
+use Rattle.std.proofs.Common.{◌≡◌, ◌⊎◌, inl, inr, ℕ, ◌+◌, ◌<◌, pos, Bool, true, false, List, [], ◌∷◌, drop, IsTrue, Ok, Err, Result, refl, sym, ap, subst, ◌∙◌}
+use Rattle.sqlite.specs.declared.types.Value.TheVariants.{Int, Blob}
+use Rattle.sqlite.specs.State.{State, ExecutesInside, KeepsCommit}
+use Rattle.mud_world.specs.declared.item.Item.{Item}
+use Rattle.mud_world.specs.declared.item.Put.{Put}
+use Rattle.mud_world.specs.declared.item.Put.TheVariants.{Set, Gone}
+use Rattle.mud_world.specs.Items.{put_all}
+use Rattle.keep_sqlite.proofs.Texts.{upsert_text, delete_text}
+use Rattle.keep_sqlite.specs.Rows.{items_of, HoldsItems}
+use Rattle.keep_sqlite.specs.Batches.{Reaches}
+use Rattle.keep_sqlite.proofs.Upserts.{upserts}
+use Rattle.keep_sqlite.proofs.Deletes.{deletes}
+
+-- a call that answered Ok was made in a transaction
+pub was_inside : {A : Type 0} {E : Type 0} {X : Type 0} (b : Bool) (a : A) (e : E) → (b ≡ false → ◌≡◌ {A = Result A E} (Ok a) (Err e) × X) → IsTrue b
+was_inside true a e ended = refl
+was_inside false a e ended = absurd (let no = (ended refl).0 in cc)
+
+pub set_reaches : (item : Item) → item.kind < 256 → (old new : State) (count : ℕ) → ExecutesInside 0 upsert_text (Int (pos item.kind) ∷ Blob item.key ∷ Blob item.body ∷ []) old new (Ok count) → (IsTrue old.is_open → HoldsItems old.now)
+    → Reaches old new [] (Set item ∷ [])
+set_reaches item low old new count h holds =
+    let did = upserts item low old new (Ok count) (holds h.1.was_open) h.0 in
+    record { was_open = h.1.was_open; is_open = h.1.is_open; mode = h.1.mode; holds = did.0; items = did.1 }
+
+pub gone_reaches : (kind : ℕ) (key : List ℕ) (old new : State) (count : ℕ) → ExecutesInside 0 delete_text (Int (pos kind) ∷ Blob key ∷ []) old new (Ok count) → (IsTrue old.is_open → HoldsItems old.now)
+    → Reaches old new [] (Gone kind key ∷ [])
+gone_reaches kind key old new count h holds =
+    let did = deletes kind key old new (Ok count) (holds h.1.was_open) h.0 in
+    record { was_open = h.1.was_open; is_open = h.1.is_open; mode = h.1.mode; holds = did.0; items = did.1 }
+
+-- one put more
+pub reaches_first : (old new : State) (p : Put) (rest batch : List Put) → batch ≡ p ∷ rest → Reaches old new [] (p ∷ []) → Reaches old new rest batch
+reaches_first old new p rest batch is one = record {
+  was_open = one.was_open;
+  is_open = one.is_open;
+  mode = one.mode;
+  holds = one.holds;
+  items = ap (λ items. put_all items rest) one.items ∙ sym (ap (put_all (items_of old.now)) is);
+}
+
+pub reaches_more : (old mid new : State) (p : Put) (left rest batch : List Put) → left ≡ p ∷ rest → Reaches old mid left batch → Reaches mid new [] (p ∷ []) → Reaches old new rest batch
+reaches_more old mid new p left rest batch is before one = record {
+  was_open = before.was_open;
+  is_open = one.is_open;
+  mode = one.mode;
+  holds = one.holds;
+  items = ap (λ items. put_all items rest) one.items ∙ sym (ap (put_all (items_of mid.now)) is) ∙ before.items;
+}
+
+pub reaches_next : (old mid new : State) (i : ℕ) (p : Put) (batch : List Put) → ((i ≡ 0) × (mid ≡ old)) ⊎ Reaches old mid (drop i batch) batch → drop i batch ≡ p ∷ drop (i + 1) batch → (IsTrue old.is_open → HoldsItems old.now)
+    → ((IsTrue mid.is_open → HoldsItems mid.now) → Reaches mid new [] (p ∷ [])) → Reaches old new (drop (i + 1) batch) batch
+reaches_next old mid new i p batch (inl start) here holds one =
+    reaches_first old new p (drop (i + 1) batch) batch (sym (ap (λ k. drop k batch) start.0) ∙ here)
+    (subst (λ s. Reaches s new [] (p ∷ [])) start.1 (one (subst (λ s. IsTrue s.is_open → HoldsItems s.now) (sym start.1) holds)))
+reaches_next old mid new i p batch (inr before) here holds one = reaches_more old mid new p (drop i batch) (drop (i + 1) batch) batch here before (one (λ _. before.holds))
+
+pub keeps_then : (a b c : State) → KeepsCommit a b → KeepsCommit b c → KeepsCommit a c
+keeps_then a b c p q = record { was_open = λ o. p.was_open (q.was_open o); committed = λ o. q.committed o ∙ p.committed (q.was_open o) }
+
+-- the same premise of a state that differs by an equation
+pub start_from : {H : Type 0} (f : H → State) (a b : H) (i : ℕ) (R : Type 0) → ((i ≡ 0) × (a ≡ b)) ⊎ R → ((i ≡ 0) × (f a ≡ f b)) ⊎ R
+start_from f a b i R (inl s) = inl (s.0, ap f s.1)
+start_from f a b i R (inr r) = inr r

@@ -1,0 +1,8 @@
+use Rattle.keep_sqlite.proofs.Steps.{was_inside, set_reaches}
+use Rattle.keep_sqlite.proofs.batch.set.Goals as goal
+
+pub returns-clause-ok : goal.returns-clause-ok
+returns-clause-ok g c clean holds =
+    set_reaches (record { kind = c.args.kind; key = c.args.key.now; body = c.args.body.now }) c.ranges.kind.fits _ _ c.in_ok-_changed._changed
+    (rw (c.params-to_sql.ensures, c.params-to_sql-2.ensures, c.params-to_sql-3.ensures, c.from.ensures, c.octets.ensures, c.octets-2.ensures) at (c.in_ok-_changed.ensures.runs clean (was_inside _ _ _ c.in_ok-_changed.ensures.ended)))
+    holds

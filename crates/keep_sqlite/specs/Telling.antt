@@ -1,0 +1,52 @@
+-- What a keeper over a connection tells.
+use Rattle.std.specs.Prelude.{ℕ, Bool, List, IsTrue, refl}
+use Rattle.std.specs.Coded.{Coded, code_by, coded×, coded_bool, coded_ℕ}
+use Rattle.sqlite_trees.specs.declared.store.Store.{Ghosts}
+use Rattle.sqlite_trees.specs.Tree.{Trees}
+use Rattle.sqlite.specs.Effect.{Database}
+use Rattle.sqlite.specs.State.{HasCleanDisk, Survives}
+use Rattle.sqlite.specs.Held.{Held, held_code, state}
+use Rattle.mud_world.specs.declared.item.Item.{Item}
+use Rattle.keep_sqlite.specs.Rows.{items_of, AreTreesOf, HoldsItems}
+
+-- A keeper over a connection, as contracts see it.
+pub record KeeperView (S : Type 0) : Type 0 where
+  pub connection : Held S
+  -- an `open` has answered Ok
+  pub has_opened : Bool
+  -- how often a call has failed
+  pub faults : ℕ
+
+abbrev pub view_code : {S : Type 0} → Coded S → Coded (KeeperView S)
+view_code {S} store =
+    code_by (Held S × (Bool × ℕ)) (coded× (held_code store) (coded× coded_bool coded_ℕ)) (λ k. (k.connection, (k.has_opened, k.faults)))
+    (λ p. record { connection = p.0; has_opened = p.1.0; faults = p.1.1 }) (λ _. refl)
+
+module _ {S : Type 0} (g : Ghosts S) where
+  -- The connection is open and its store clean: the disk has given back what was written.
+  abbrev pub IsUp : Held S → Type 0
+  IsUp connection = HasCleanDisk (state g connection) × IsTrue (state g connection).is_open
+
+  -- Once an `open` has answered Ok, the database holds items wherever the connection is up.
+  abbrev pub IsKept : Held S → Bool → Type 0
+  IsKept connection has_opened = IsTrue has_opened → IsUp connection → HoldsItems (state g connection).now
+
+  -- A keeper tells its items once an `open` has answered Ok, while the connection is up.
+  abbrev pub Tells : KeeperView S → Type 0
+  Tells keeper = IsTrue keeper.has_opened × IsUp keeper.connection
+
+  -- what the connection sees
+  abbrev pub database : KeeperView S → Database
+  database keeper = (state g keeper.connection).now
+
+  -- the items that it tells
+  abbrev pub told : KeeperView S → List Item
+  told keeper = items_of (database keeper)
+
+  -- Whatever a crash leaves at this moment are the trees of these items.
+  abbrev pub Leaves : KeeperView S → List Item → Type 0
+  Leaves keeper items = (trees : Trees) → (state g keeper.connection).may_leave trees → AreTreesOf items trees
+
+  -- After a call a crash leaves what it could leave before, or the trees of these items, whole. Only a fault shuts the connection.
+  abbrev pub MayLeave : KeeperView S → KeeperView S → List Item → Type 0
+  MayLeave old new items = Survives (state g old.connection) (state g new.connection) (AreTreesOf items)

@@ -1,0 +1,17 @@
+//! Keepers over an SQL database: items in one table, and a batch as one transaction.
+#![tactic(auto)]
+
+mod batch;
+mod fault;
+pub mod laws;
+mod listing;
+mod opening;
+pub mod path_keeper;
+mod schema;
+pub mod sqlite_keeper;
+
+pub use path_keeper::PathKeeper;
+pub use sqlite_keeper::SqliteKeeper;
+
+#[cfg(test)]
+mod tests;

@@ -1,0 +1,190 @@
+//! The items that the table holds.
+ghost use Rattle.std.specs.Prelude.{◌≡◌, ◌≤◌, IsTrue, IfOk, IfSome, OnOk, map};
+ghost use Rattle.std.specs.List.{AllByRecursion};
+ghost use Rattle.std.specs.List.Sorted.{IsPermutation};
+ghost use Rattle.mud_world.specs.Items.{IsOrdered};
+ghost use Rattle.sqlite_trees.specs.Tree.{Trees};
+ghost use Rattle.sqlite_trees.specs.View.{doubt};
+ghost use Rattle.sqlite.specs.Held.{state};
+ghost use Rattle.sqlite.specs.State.{HasCleanDisk, IsUnchanged, Survives};
+ghost use Rattle.keep_sqlite.specs.Table.{item_schema};
+ghost use Rattle.keep_sqlite.specs.Rows.{items_of};
+ghost use Rattle.keep_sqlite.specs.Telling.{IsUp};
+ghost use Rattle.keep_sqlite.specs.Selections.{item_shown, number_shown, shown_id, shown_row, AreUnequal, HaveIds, HaveItems, ShowsId, ShowsItem};
+ghost use Rattle.keep_sqlite.specs.Batches.{LeavesNothing, Stays};
+
+use crate::fault::fault_of;
+use mud_base::{Bytes, Listed};
+use mud_world::{Item, KeepFault};
+use sorted_rows::Placed;
+use sqlite::types::ValueRef;
+use sqlite::{Alter, Connection, Error, Row};
+use std::alloc::Global;
+
+/// The items of the table, by kind and then key. Rows that come in another order are a failure.
+pub(crate) fn list<S: Alter>(
+    alloc: Global,
+    connection: &mut Connection<S>,
+) -> Result<Listed<Item>, KeepFault>
+    requires { IsUp S.Store connection.old → (state S.Store connection.old).now.schema ≡ item_schema }
+    ensures clean { doubt (state S.Store connection.old).is_clean
+        ≤ doubt (state S.Store connection.new).is_clean }
+    ensures crash { (HasCleanDisk (state S.Store connection.new)
+        → (state S.Store connection.old).now.schema ≡ item_schema)
+        → LeavesNothing S.Store connection.old connection.new }
+    ensures same { HasCleanDisk (state S.Store connection.new)
+        → Stays (state S.Store connection.old) (state S.Store connection.new) }
+    ensures ok { HasCleanDisk (state S.Store connection.new)
+        → IfOk result (λ items. IsUnchanged (state S.Store connection.old) (state S.Store connection.new)
+        × HaveItems ((state S.Store connection.old).now.trees 0)
+        × (items ≡ items_of (state S.Store connection.old).now)) }
+{
+    let rows = match select(connection) {
+        Ok(rows) => rows,
+        Err(error) => return Err(fault_of(error)),
+    };
+    let items = items_in(alloc, rows.as_slice())?;
+    if !are_ordered(items.as_slice()) {
+        return Err(KeepFault::Failed);
+    }
+    Ok(items)
+}
+
+/// The rows of the table, by kind and then name.
+fn select<S: Alter>(connection: &mut Connection<S>) -> Result<Vec<Row>, Error>
+    requires { IsUp S.Store connection.old → (state S.Store connection.old).now.schema ≡ item_schema }
+    ensures clean { doubt (state S.Store connection.old).is_clean
+        ≤ doubt (state S.Store connection.new).is_clean }
+    ensures crash { (HasCleanDisk (state S.Store connection.new)
+        → (state S.Store connection.old).now.schema ≡ item_schema)
+        → LeavesNothing S.Store connection.old connection.new }
+    ensures same { HasCleanDisk (state S.Store connection.new)
+        → Stays (state S.Store connection.old) (state S.Store connection.new) }
+    ensures ok { HasCleanDisk (state S.Store connection.new)
+        → IfOk result (λ rows. IsUnchanged (state S.Store connection.old) (state S.Store connection.new)
+        × IsPermutation (map shown_row ((state S.Store connection.old).now.trees 0)) rows.items) }
+{
+    let rows = connection.query_all("SELECT kind, name, body FROM item ORDER BY kind, name", &[])?;
+    Ok(rows)
+}
+
+/// The items that rows show.
+fn items_in(alloc: Global, rows: &[Row]) -> Result<Listed<Item>, KeepFault>
+    ensures items { IfOk result (λ items. items ≡ map item_shown rows.now) }
+    ensures shown { OnOk result (AllByRecursion ShowsItem rows.now) }
+{
+    let mut items = Listed::new(alloc);
+    'rows: for row in rows {
+        let item = item_in(alloc, row)?;
+        items.push(item)?;
+    }
+    Ok(items)
+}
+
+/// The item that a row shows. A kind that is no octet is a failure.
+fn item_in(alloc: Global, row: &Row) -> Result<Item, KeepFault>
+    ensures { IfOk result (λ item. (item ≡ item_shown row.now) × ShowsItem row.now) }
+{
+    let kind = match row.get_ref(0) {
+        Ok(ValueRef::Int(number)) => match u8::try_from(number) {
+            Ok(kind) => kind,
+            Err(_) => return Err(KeepFault::Failed),
+        },
+        _ => return Err(KeepFault::Failed),
+    };
+    let Ok(ValueRef::Blob(key)) = row.get_ref(1) else {
+        return Err(KeepFault::Failed);
+    };
+    let Ok(ValueRef::Blob(body)) = row.get_ref(2) else {
+        return Err(KeepFault::Failed);
+    };
+    let key = Bytes::new(alloc, key)?;
+    let body = Bytes::new(alloc, body)?;
+    Ok(Item { kind, key, body })
+}
+
+/// Whether each item's place is before the next one's.
+fn are_ordered(items: &[Item]) -> bool
+    ensures { IsTrue result → IsOrdered items.now }
+{
+    items.is_sorted_by(|one, next| one.order(next).is_lt())
+}
+
+/// Tests that each row of the table has a rowid of its own: SQL takes a row out by its rowid, and
+/// nothing else says of a file that no two rows have one.
+pub(crate) fn test_rowids<S: Alter>(
+    alloc: Global,
+    connection: &mut Connection<S>,
+) -> Result<(), KeepFault>
+    requires { IsUp S.Store connection.old → (state S.Store connection.old).now.schema ≡ item_schema }
+    ensures clean { doubt (state S.Store connection.old).is_clean
+        ≤ doubt (state S.Store connection.new).is_clean }
+    ensures crash { (HasCleanDisk (state S.Store connection.new)
+        → (state S.Store connection.old).now.schema ≡ item_schema)
+        → LeavesNothing S.Store connection.old connection.new }
+    ensures same { HasCleanDisk (state S.Store connection.new)
+        → Stays (state S.Store connection.old) (state S.Store connection.new) }
+    ensures ok { HasCleanDisk (state S.Store connection.new)
+        → OnOk result (IsUnchanged (state S.Store connection.old) (state S.Store connection.new)
+        × HaveIds ((state S.Store connection.old).now.trees 0)) }
+{
+    let rows = match select_rowids(connection) {
+        Ok(rows) => rows,
+        Err(error) => return Err(fault_of(error)),
+    };
+    let ids = rowids_in(alloc, rows.as_slice())?;
+    if !are_rising(ids.as_slice()) {
+        return Err(KeepFault::Failed);
+    }
+    Ok(())
+}
+
+/// The rowids of the table, in order.
+fn select_rowids<S: Alter>(connection: &mut Connection<S>) -> Result<Vec<Row>, Error>
+    requires { IsUp S.Store connection.old → (state S.Store connection.old).now.schema ≡ item_schema }
+    ensures clean { doubt (state S.Store connection.old).is_clean
+        ≤ doubt (state S.Store connection.new).is_clean }
+    ensures crash { (HasCleanDisk (state S.Store connection.new)
+        → (state S.Store connection.old).now.schema ≡ item_schema)
+        → LeavesNothing S.Store connection.old connection.new }
+    ensures same { HasCleanDisk (state S.Store connection.new)
+        → Stays (state S.Store connection.old) (state S.Store connection.new) }
+    ensures ok { HasCleanDisk (state S.Store connection.new)
+        → IfOk result (λ rows. IsUnchanged (state S.Store connection.old) (state S.Store connection.new)
+        × IsPermutation (map shown_id ((state S.Store connection.old).now.trees 0)) rows.items) }
+{
+    let rows = connection.query_all("SELECT rowid FROM item ORDER BY rowid", &[])?;
+    Ok(rows)
+}
+
+/// The rowids that rows show.
+fn rowids_in(alloc: Global, rows: &[Row]) -> Result<Listed<i64>, KeepFault>
+    ensures ids { IfOk result (λ ids. ids ≡ map number_shown rows.now) }
+    ensures shown { OnOk result (AllByRecursion ShowsId rows.now) }
+{
+    let mut ids = Listed::new(alloc);
+    'rows: for row in rows {
+        let Some(id) = rowid_in(row) else {
+            return Err(KeepFault::Failed);
+        };
+        ids.push(id)?;
+    }
+    Ok(ids)
+}
+
+/// The rowid that a row shows.
+fn rowid_in(row: &Row) -> Option<i64>
+    ensures { IfSome result (λ id. (id ≡ number_shown row.now) × ShowsId row.now) }
+{
+    match row.get_ref(0) {
+        Ok(ValueRef::Int(id)) => Some(id),
+        _ => None,
+    }
+}
+
+/// Whether each number is below the next.
+fn are_rising(ids: &[i64]) -> bool
+    ensures { IsTrue result → AreUnequal ids.now }
+{
+    ids.is_sorted_by(|one, next| one < next)
+}

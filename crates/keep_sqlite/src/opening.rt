@@ -1,0 +1,76 @@
+//! The first `open` of a database: its table is found or made.
+ghost use Rattle.std.specs.Prelude.{◌≡◌, [], false, IfOk, IsTrue, OnErr, OnOk};
+ghost use Rattle.sqlite.specs.Held.{state};
+ghost use Rattle.sqlite.specs.State.{HasCleanDisk, Survives};
+ghost use Rattle.keep_sqlite.specs.Table.{item_schema, no_schema};
+ghost use Rattle.keep_sqlite.specs.Rows.{items_of, AreTreesOf, HoldsItems};
+ghost use Rattle.keep_sqlite.specs.Batches.{Makes, Stays};
+
+use crate::fault::fault_of;
+use crate::listing::{list, test_rowids};
+use crate::schema::{is_blank, is_ours};
+use mud_base::Listed;
+use mud_world::{Item, KeepFault};
+use sqlite::{Alter, Connection, Error};
+use std::alloc::Global;
+
+/// The items of a database in which the table is found, or made where there is no table. Any other
+/// table is a failure.
+pub(crate) fn find<S: Alter>(
+    alloc: Global,
+    connection: &mut Connection<S>,
+) -> Result<Listed<Item>, KeepFault>
+    requires autocommit { (state S.Store connection.old).in_transaction ≡ false }
+    requires settled { IsTrue (state S.Store connection.old).is_open
+        → (state S.Store connection.old).now ≡ (state S.Store connection.old).committed }
+    ensures crash { Survives (state S.Store connection.old) (state S.Store connection.new)
+        (AreTreesOf []) }
+    ensures makes { HasCleanDisk (state S.Store connection.new)
+        → Makes (state S.Store connection.old) (state S.Store connection.new) }
+    ensures ok { HasCleanDisk (state S.Store connection.new)
+        → IfOk result (λ items. HoldsItems (state S.Store connection.new).now
+        × (items ≡ items_of (state S.Store connection.new).now)) }
+{
+    if let Err(error) = create_if_blank(connection) {
+        return Err(fault_of(error));
+    }
+    if !is_ours(alloc, connection.schema())? {
+        return Err(KeepFault::Failed);
+    }
+    test_rowids(alloc, connection)?;
+    list(alloc, connection)
+}
+
+/// Makes the table where the database has no table.
+fn create_if_blank<S: Alter>(connection: &mut Connection<S>) -> Result<(), Error>
+    requires autocommit { (state S.Store connection.old).in_transaction ≡ false }
+    requires settled { IsTrue (state S.Store connection.old).is_open
+        → (state S.Store connection.old).now ≡ (state S.Store connection.old).committed }
+    ensures crash { Survives (state S.Store connection.old) (state S.Store connection.new)
+        (AreTreesOf []) }
+    ensures makes { HasCleanDisk (state S.Store connection.new)
+        → Makes (state S.Store connection.old) (state S.Store connection.new) }
+{
+    if is_blank(connection.schema()) {
+        create(connection)?;
+    }
+    Ok(())
+}
+
+/// Makes the table.
+fn create<S: Alter>(connection: &mut Connection<S>) -> Result<(), Error>
+    requires blank { (state S.Store connection.old).now.schema ≡ no_schema }
+    requires autocommit { (state S.Store connection.old).in_transaction ≡ false }
+    ensures crash { Survives (state S.Store connection.old) (state S.Store connection.new)
+        (AreTreesOf []) }
+    ensures ok { HasCleanDisk (state S.Store connection.new)
+        → OnOk result (Makes (state S.Store connection.old) (state S.Store connection.new)) }
+    ensures err { HasCleanDisk (state S.Store connection.new)
+        → OnErr result (Stays (state S.Store connection.old) (state S.Store connection.new)) }
+{
+    connection.execute(
+        "CREATE TABLE item (kind INTEGER NOT NULL, name BLOB NOT NULL, body BLOB NOT NULL, PRIMARY KEY (kind, name)) STRICT",
+        &[],
+    )?;
+    Ok(())
+}

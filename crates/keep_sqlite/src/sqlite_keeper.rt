@@ -1,0 +1,213 @@
+//! A keeper over a connection.
+ghost use Rattle.std.specs.Prelude.{◌≡◌, [], true, false, IsTrue, IfOk, OnOk, OnErr};
+ghost use Rattle.mud_world.specs.Causes.{Counts};
+ghost use Rattle.mud_world.specs.Items.{has_failed, is_batch, put_all, IsOrdered};
+ghost use Rattle.sqlite.specs.Held.{state};
+ghost use Rattle.keep_sqlite.specs.Rows.{HoldsItems, MayMake};
+ghost use Rattle.keep_sqlite.specs.Telling.{database, told, IsUp, Leaves, MayLeave, Tells};
+
+use crate::batch;
+use crate::fault::{count, fault_of};
+use crate::listing::list;
+use crate::opening::find;
+use mud_base::Listed;
+use mud_world::{Item, KeepFault, Keeper, Put};
+use sqlite::{Alter, Connection};
+use std::alloc::Global;
+use std::marker::Model;
+
+/// A keeper over a connection to a database. Its items are the rows of one table, and a batch is
+/// one transaction.
+#[derive(Drop)]
+pub struct SqliteKeeper<S: Alter + Drop> {
+    connection: Connection<S>,
+    /// Whether an `open` has answered Ok.
+    has_opened: bool,
+    /// How often a call has failed.
+    faults: u64,
+}
+
+impl<S: Alter + Drop> Model for SqliteKeeper<S> {
+    ghost use Rattle.keep_sqlite.specs.Telling.{view_code, IsKept, KeeperView};
+
+    ghost Value = { KeeperView S };
+
+    ghost coded = { view_code S.code };
+
+    ghost view = { λ keeper. record {
+      connection = keeper.connection;
+      has_opened = keeper.has_opened;
+      faults = keeper.faults;
+    } };
+
+    ghost invariant = { λ keeper. IsKept S.Store keeper.connection keeper.has_opened };
+}
+
+impl<S: Alter + Drop> SqliteKeeper<S> {
+    /// A keeper over this connection, whose items aren't read yet. It takes no memory. While a
+    /// transaction is begun on the connection, `open` fails.
+    pub fn adopt(connection: Connection<S>) -> SqliteKeeper<S>
+        ensures connection { result.connection ≡ connection }
+        ensures unopened { result.has_opened ≡ false }
+        ensures faults { result.faults ≡ 0 }
+    {
+        SqliteKeeper {
+            connection,
+            has_opened: false,
+            faults: 0,
+        }
+    }
+
+    /// The connection.
+    pub fn give_back(self) -> Connection<S>
+        ensures { result ≡ self.connection }
+    {
+        self.connection
+    }
+
+    /// The items: [`Keeper::open`].
+    pub(crate) fn read(&mut self, alloc: Global) -> Result<Listed<Item>, KeepFault>
+        ensures items { Tells S.Store self.new → IfOk result (λ list. list ≡ told S.Store self.new) }
+        ensures same { Tells S.Store self.old → Tells S.Store self.new
+            → told S.Store self.new ≡ told S.Store self.old }
+        ensures told { Tells S.Store self.new → OnErr result (Tells S.Store self.old) }
+        ensures opened { OnOk result (self.new.has_opened ≡ true) }
+        ensures still { OnErr result (self.new.has_opened ≡ self.old.has_opened) }
+        ensures cause { Counts (has_failed result) self.old.faults self.new.faults }
+        ensures table { Tells S.Store self.new → OnOk result (HoldsItems (database S.Store self.new)) }
+        ensures kept { IsUp S.Store self.new.connection
+            → MayMake (database S.Store self.old) (database S.Store self.new) }
+        ensures crash { IsUp S.Store self.old.connection → MayLeave S.Store self.old self.new [] }
+        ensures after { Tells S.Store self.new
+            → OnOk result (Leaves S.Store self.new (told S.Store self.new)) }
+    {
+        let answer = self.list_items(alloc);
+        count(&answer, &mut self.faults);
+        answer
+    }
+
+    /// The items, with no failure counted.
+    fn list_items(&mut self, alloc: Global) -> Result<Listed<Item>, KeepFault>
+        ensures items { Tells S.Store self.new → IfOk result (λ list. list ≡ told S.Store self.new) }
+        ensures told { Tells S.Store self.new → OnErr result (Tells S.Store self.old) }
+        ensures opened { OnOk result (self.new.has_opened ≡ true) }
+        ensures still { OnErr result (self.new.has_opened ≡ self.old.has_opened) }
+        ensures faults { self.new.faults ≡ self.old.faults }
+        ensures opens { IsUp S.Store self.new.connection → IsUp S.Store self.old.connection }
+        ensures same { Tells S.Store self.old → IsUp S.Store self.new.connection
+            → database S.Store self.new ≡ database S.Store self.old }
+        ensures kept { IsUp S.Store self.new.connection
+            → MayMake (database S.Store self.old) (database S.Store self.new) }
+        ensures crash { IsUp S.Store self.old.connection → MayLeave S.Store self.old self.new [] }
+        ensures left { Tells S.Store self.new
+            → OnOk result ((state S.Store self.new.connection).committed ≡ database S.Store self.new) }
+    {
+        // Within a transaction the items would be some that aren't committed.
+        if !self.connection.is_autocommit() {
+            return Err(KeepFault::Failed);
+        }
+        if self.has_opened {
+            return list(alloc, &mut self.connection);
+        }
+        let items = find(alloc, &mut self.connection)?;
+        self.has_opened = true;
+        Ok(items)
+    }
+
+    /// Does the puts in order, all of them or, after an error, none, also over a crash:
+    /// [`Keeper::apply`].
+    pub fn keep(&mut self, batch: &[Put]) -> Result<(), KeepFault>
+        requires opened { IsTrue self.old.has_opened }
+        requires batch { IsTrue (is_batch batch.now) }
+        ensures told { Tells S.Store self.new → Tells S.Store self.old }
+        ensures ok { Tells S.Store self.new
+            → OnOk result (told S.Store self.new ≡ put_all (told S.Store self.old) batch.now) }
+        ensures err { Tells S.Store self.new
+            → OnErr result (told S.Store self.new ≡ told S.Store self.old) }
+        ensures opened { self.new.has_opened ≡ self.old.has_opened }
+        ensures cause { Counts (has_failed result) self.old.faults self.new.faults }
+        // At each return a crash leaves what it could leave before, or the items after the whole batch,
+        ensures crash { MayLeave S.Store self.old self.new (put_all (told S.Store self.old) batch.now) }
+        // and after Ok the items after the batch.
+        ensures after { Tells S.Store self.new
+            → OnOk result (Leaves S.Store self.new (told S.Store self.new)) }
+    {
+        let answer = self.put_in(batch);
+        count(&answer, &mut self.faults);
+        answer
+    }
+
+    /// Does the puts of a batch, with no failure counted.
+    fn put_in(&mut self, batch: &[Put]) -> Result<(), KeepFault>
+        requires opened { IsTrue self.old.has_opened }
+        requires batch { IsTrue (is_batch batch.now) }
+        ensures told { Tells S.Store self.new → Tells S.Store self.old }
+        ensures ok { Tells S.Store self.new
+            → OnOk result (told S.Store self.new ≡ put_all (told S.Store self.old) batch.now) }
+        ensures err { Tells S.Store self.new
+            → OnErr result (told S.Store self.new ≡ told S.Store self.old) }
+        ensures opened { self.new.has_opened ≡ self.old.has_opened }
+        ensures faults { self.new.faults ≡ self.old.faults }
+        ensures crash { MayLeave S.Store self.old self.new (put_all (told S.Store self.old) batch.now) }
+        ensures left { Tells S.Store self.new
+            → OnOk result ((state S.Store self.new.connection).committed ≡ database S.Store self.new) }
+    {
+        match batch::keep(&mut self.connection, batch) {
+            Ok(()) => Ok(()),
+            Err(error) => Err(fault_of(error)),
+        }
+    }
+}
+
+impl<S: Alter + Drop> Keeper for SqliteKeeper<S> {
+    ghost tells = { Tells S.Store };
+
+    ghost items = { told S.Store };
+
+    ghost opened = { λ keeper. keeper.has_opened };
+
+    ghost faults = { λ keeper. keeper.faults };
+
+    #[tactic(auto, using(crate::proofs::Lookups::items_ascend))]
+    fn open(&mut self, alloc: Global) -> Result<Listed<Item>, KeepFault>
+        ensures items { Tells S.Store self.new → IfOk result (λ list. list ≡ told S.Store self.new) }
+        ensures ordered { Tells S.Store self.new → IsOrdered (told S.Store self.new) }
+        ensures same { Tells S.Store self.old → Tells S.Store self.new
+            → told S.Store self.new ≡ told S.Store self.old }
+        ensures told { Tells S.Store self.new → OnErr result (Tells S.Store self.old) }
+        ensures opened { OnOk result (self.new.has_opened ≡ true) }
+        ensures still { OnErr result (self.new.has_opened ≡ self.old.has_opened) }
+        ensures cause { Counts (has_failed result) self.old.faults self.new.faults }
+        // An Ok says that the database has our table and no other, and that each row is an item.
+        ensures table { Tells S.Store self.new → OnOk result (HoldsItems (database S.Store self.new)) }
+        // Whatever it answers, it made the table in a database with no table, or changed nothing.
+        ensures kept { IsUp S.Store self.new.connection
+            → MayMake (database S.Store self.old) (database S.Store self.new) }
+        // At each return a crash leaves what it could leave before, or the table without an item,
+        ensures crash { IsUp S.Store self.old.connection → MayLeave S.Store self.old self.new [] }
+        // and after Ok the items that it answered.
+        ensures after { Tells S.Store self.new
+            → OnOk result (Leaves S.Store self.new (told S.Store self.new)) }
+    {
+        self.read(alloc)
+    }
+
+    #[tactic(auto, using(crate::proofs::Lookups::items_ascend))]
+    fn apply(&mut self, batch: &[Put]) -> Result<(), KeepFault>
+        requires opened { IsTrue self.old.has_opened }
+        requires batch { IsTrue (is_batch batch.now) }
+        ensures told { Tells S.Store self.new → Tells S.Store self.old }
+        ensures ordered { Tells S.Store self.new → IsOrdered (told S.Store self.new) }
+        ensures ok { Tells S.Store self.new
+            → OnOk result (told S.Store self.new ≡ put_all (told S.Store self.old) batch.now) }
+        ensures err { Tells S.Store self.new
+            → OnErr result (told S.Store self.new ≡ told S.Store self.old) }
+        ensures opened { self.new.has_opened ≡ self.old.has_opened }
+        ensures cause { Counts (has_failed result) self.old.faults self.new.faults }
+        ensures crash { MayLeave S.Store self.old self.new (put_all (told S.Store self.old) batch.now) }
+        ensures after { Tells S.Store self.new
+            → OnOk result (Leaves S.Store self.new (told S.Store self.new)) }
+    {
+        self.keep(batch)
+    }
+}

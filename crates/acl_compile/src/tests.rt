@@ -13,6 +13,7 @@ use std::test::Fail;
 
 /// What the name of the server has, and what the bulb leases.
 const SERVER: Addr = Addr::V4(0xc633_6407);
+
 const BULB: Addr = Addr::V4(0xc000_020a);
 
 /// A policy whose entries, for what a Thing sends, have one selector each.
@@ -49,7 +50,8 @@ fn approve<L: Ledger>(
     policy: &Policy,
     steps: &mut Steps<L>,
 ) -> Result<(), Fail> {
-    let counted = policy.outgoing.as_slice().len() <= 128 && policy.incoming.as_slice().len() <= 128;
+    let counted = policy.outgoing.as_slice().len() <= 128
+        && policy.incoming.as_slice().len() <= 128;
     if !counted || !compiled.has_place(url) {
         return Err("no place".into());
     }
@@ -108,7 +110,10 @@ fn rows_seen<L: Ledger>(alloc: Global, blank: Blank) -> Result<[Option<(u16, u64
     let host = MemberKey::Host(Bytes::new(alloc, b"lighting.example.com")?);
     let name = Bytes::new(alloc, b"test.example.com")?;
     let server = vec![in alloc; bound(MemberKey::Name(name.copy()?), SERVER, 1060)]?;
-    let lease = vec![in alloc; bound(host, BULB, 87400), bound(MemberKey::Model(bulb), BULB, 87400)]?;
+    let lease = vec![in alloc;
+        bound(host, BULB, 87400),
+        bound(MemberKey::Model(bulb), BULB, 87400),
+    ]?;
     let mut compiled = Compiled::new(alloc)?;
     change(&mut compiled, &[], server.as_slice(), &mut steps)?;
     let asked = vec![in alloc; Selector::Name(name), Selector::SameManufacturer]?;
@@ -131,7 +136,13 @@ fn rows_seen<L: Ledger>(alloc: Global, blank: Blank) -> Result<[Option<(u16, u64
 #[test]
 fn rows_follow_policies_and_bindings(rt: HostRuntime) -> Result<(), Fail> {
     let seen = rows_seen::<Brand>(rt.alloc(), Blank::new(1))?;
-    let wanted = [Some((2, 87400)), Some((1, 87400)), None, None, Some((1, 1060))];
+    let wanted = [
+        Some((2, 87400)),
+        Some((1, 87400)),
+        None,
+        None,
+        Some((1, 1060)),
+    ];
     assert_eq!(rt; seen, wanted);
     Ok(())
 }

@@ -18,7 +18,7 @@ use mud_url::MudUrl;
 use sorted_rows::SortedRows;
 use std::alloc::Global;
 
-/// Whether a file has a `mud-signature` (RFC 8520, 3.6).
+/// Whether a file has a `mud-signature` (RFC 8520, 13).
 #[tactic(auto, unfolding(file_tables::specs::Files::is_signed))]
 pub fn is_signed(held: &Held) -> bool
     ensures { result ≡ files_spec.is_signed held.now }

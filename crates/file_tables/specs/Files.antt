@@ -54,7 +54,7 @@ entries_in file = length file.policy.outgoing + length file.policy.incoming
 unfoldable pub is_usage_of : List ℕ → HeldFile → Bool
 is_usage_of url held = option_map_or (is_of_url url) (usage_in held.octets) false
 
--- it has a `mud-signature` (RFC 8520, 3.6)
+-- it has a `mud-signature` (RFC 8520, 13)
 unfoldable pub is_signed : HeldFile → Bool
 is_signed held = option_map_or has_signature (usage_in held.octets) false
 

@@ -14,6 +14,3 @@ mod policy;
 
 pub use compiled::Compiled;
 pub use plan::RowPlan;
-
-#[cfg(test)]
-mod tests;

@@ -1,6 +1,5 @@
 -- The items of the three lists, and what puts of one kind make of them.
-use Rattle.std.proofs.Common.{◌≡◌, ℕ, ◌<◌, ◌≤◌, not, ◌&&◌, false, List, [], ◌∷◌, ◌++◌, map, length, Option, Some, None, refl, sym, ap, subst, ◌∙◌, append_assoc, arith}
-use Rattle.std.specs.Prelude.{◌↔◌}
+use Rattle.std.proofs.Common.{◌≡◌, ℕ, ◌<◌, ◌≤◌, not, ◌&&◌, false, List, [], ◌∷◌, ◌++◌, map, refl, sym, ap, ◌∙◌, append_assoc, arith}
 use Rattle.std.specs.List.{AllByRecursion}
 use Rattle.std.specs.Ordering.{is_eq}
 use Rattle.std.proofs.lemmas.List.{append-nil}
@@ -12,7 +11,7 @@ use Rattle.sorted_rows.specs.Changes.{RowChange, changed}
 use Rattle.sorted_rows.proofs.PlacedLaws.{place_cmp_itself}
 use Rattle.mud_world.specs.declared.item.Item.{Item}
 use Rattle.mud_world.specs.declared.item.Put.{Put}
-use Rattle.mud_world.specs.Items.{place_of, put_one, put_all, place_of_put, is_apart, IsOrdered, IsDifference, ArePutsOf, AreOfLowerKinds, AreOfHigherKinds, AreItemsOf, puts_of}
+use Rattle.mud_world.specs.Items.{place_of, put_one, put_all, place_of_put, is_apart, IsOrdered, IsDifference, ArePutsOf, AreOfLowerKinds, AreItemsOf, puts_of}
 use Rattle.mud_world.proofs.ItemLaws.{touched, puts_among, ordered-append, puts_kept, puts_of_kind, ordered-items}
 use Rattle.mud_tables.specs.declared.bind.ClassRow.{ClassRow}
 use Rattle.mud_tables.specs.declared.bind.NameRow.{NameRow}

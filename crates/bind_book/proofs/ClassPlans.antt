@@ -1,8 +1,7 @@
 -- A plan that changes classes is that of the step.
-use Rattle.std.proofs.Common.{◌≡◌, ℕ, ◌≤◌, Bool, true, false, cond, List, [], ◌∷◌, length, Option, Some, None, Ok, Err, IsTrue, refl, sym, ap, subst, ◌∙◌, arith}
+use Rattle.std.proofs.Common.{◌≡◌, ◌≤◌, Bool, true, false, cond, List, [], ◌∷◌, length, Option, Some, None, Ok, Err, refl, sym, ap, subst, ◌∙◌, arith}
 use Rattle.std.specs.Prelude.{IsOkAnd, All}
 use Rattle.std.specs.List.{AllByRecursion}
-use Rattle.std.proofs.lemmas.Bool.{false≢true}
 use Rattle.std.proofs.lemmas.List.Elements.{All-from_recursion}
 use Rattle.mud_base.specs.declared.addr.Addr.{Addr}
 use Rattle.sorted_rows.specs.Changes.{RowChange, changed, is_plain}
@@ -11,13 +10,13 @@ use Rattle.mud_world.specs.declared.item.Put.TheVariants.{Set, Gone}
 use Rattle.mud_world.specs.Items.{put_all, IsDifference, set_put, gone_put, puts_of}
 use Rattle.mud_world.proofs.ItemLaws.{puts_of_kind}
 use Rattle.item_codec.specs.declared.word.Word.{Word}
-use Rattle.item_codec.specs.declared.word.Word.TheVariants.{Same, Bound, Unbound}
+use Rattle.item_codec.specs.declared.word.Word.TheVariants.{Same}
 use Rattle.acl_model.specs.Changes.{IsBindingChange}
 use Rattle.mud_tables.specs.declared.bind.Class.{Class}
 use Rattle.mud_tables.specs.declared.bind.ClassRow.{ClassRow}
 use Rattle.mud_tables.specs.Fits.{FitsClass}
 use Rattle.mud_tables.specs.Binds.{Binds, key_of_class, class_key, class_at, class_row, has_addr, with_addr, without_addr, is_class, IsKeptClass, IsSoundClasses, IsSoundBinds}
-use Rattle.mud_tables.specs.BindSteps.{ClassesAfter, ClassStep, bind_step, unbind_step, is_change, with_classes, bind_class_step, unbind_class_step}
+use Rattle.mud_tables.specs.BindSteps.{ClassesAfter, ClassStep, bind_step, unbind_step, is_change, with_classes}
 use Rattle.mud_tables.specs.BindRowChanges.{one_row, class_left, bind_cases_change, bind_change, unbind_cases_change, unbind_change}
 use Rattle.mud_tables.specs.BindItems.{class_item}
 use Rattle.mud_tables.specs.ItemFields.{IsAddr}
@@ -27,7 +26,7 @@ use Rattle.mud_tables.specs.Bindings.{class_bindings, bindings_of}
 use Rattle.mud_tables.specs.BindingChanges.{gone_of, come_of}
 use Rattle.table_laws.proofs.BookChanges.{class_book_change}
 use Rattle.table_laws.proofs.BindRows.{Makes, bind_makes, unbind_makes}
-use Rattle.table_laws.proofs.BindChanges.{Tells, TellsClasses, bind_tells, unbind_tells}
+use Rattle.table_laws.proofs.BindChanges.{TellsClasses, bind_tells, unbind_tells}
 use Rattle.table_laws.proofs.SoundClasses.{OfClasses, sound-bind_step, sound-unbind_step}
 use Rattle.table_laws.proofs.BindLaws.{classes_told}
 use Rattle.mud_tables.specs.declared.bind_fault.BindFault.{BindFault}

@@ -1,5 +1,5 @@
 -- Plans of commands on small lists.
-use Rattle.std.proofs.Common.{◌≡◌, ℕ, List, [], ◌∷◌, Some, None, refl}
+use Rattle.std.proofs.Common.{◌≡◌, ℕ, [], ◌∷◌, refl}
 use Rattle.mud_world.specs.declared.item.Put.TheVariants.{Set, Gone}
 use Rattle.mud_world.specs.Items.{set_put, gone_put, puts_of}
 use Rattle.item_codec.specs.declared.word.Word.TheVariants.{New, Bound, Unbound}
@@ -11,7 +11,7 @@ use Rattle.mud_tables.specs.declared.bind.Class.TheVariants.{Uri}
 use Rattle.mud_tables.specs.declared.bind.ClassRow.{ClassRow}
 use Rattle.mud_tables.specs.declared.bind.NameRow.{NameRow}
 use Rattle.mud_tables.specs.Ends.{for_ever}
-use Rattle.mud_tables.specs.BindItems.{class_item, name_item}
+use Rattle.mud_tables.specs.BindItems.{class_item}
 use Rattle.mud_tables.specs.BindRowChanges.{bind_cases_change, bind_change, class_left, unbind_cases_change, unbind_change, new_pair_change, kept_pair_change, observe_cases_change, observe_row_change, observe_change}
 use Rattle.mud_tables.specs.Bindings.{binding, member_key, class_binding, class_bindings, name_binding, name_bindings}
 use Rattle.mud_tables.specs.BindingChanges.{gone_of, come_of}

@@ -1,10 +1,9 @@
 -- A plan that sets the local networks is that of the step.
-use Rattle.std.proofs.Common.{◌≡◌, ℕ, ◌≤◌, ◌<◌, ◌^◌, Bool, true, false, List, [], ◌∷◌, ◌++◌, length, Option, Some, None, Ok, Err, refl, sym, ap, subst, ◌∙◌, arith}
+use Rattle.std.proofs.Common.{◌≡◌, ℕ, ◌≤◌, ◌<◌, ◌^◌, true, false, List, [], ◌∷◌, ◌++◌, length, Option, Some, None, Ok, Err, refl, sym, ap, subst, ◌∙◌, arith}
 use Rattle.std.specs.Prelude.{IsOkAnd, MatchOption}
 use Rattle.std.specs.List.{AllByRecursion}
 use Rattle.mud_base.specs.declared.prefix.Prefix.{Prefix}
-use Rattle.mud_world.specs.declared.item.Item.{Item}
-use Rattle.mud_world.specs.Items.{kind_of_put, put_one, IsDifference}
+use Rattle.mud_world.specs.Items.{kind_of_put, put_one}
 use Rattle.item_codec.specs.declared.word.Word.TheVariants.{Same, Set}
 use Rattle.acl_model.specs.Changes.{IsBindingChange}
 use Rattle.mud_tables.specs.declared.bind_fault.BindFault.{BindFault}
@@ -17,7 +16,7 @@ use Rattle.mud_tables.specs.BindItems.{class_items, locals_item, locals_items, n
 use Rattle.mud_tables.specs.TakenItems.{bind_items}
 use Rattle.mud_tables.specs.Tables.{Tables, binds_of, with_binds}
 use Rattle.mud_tables.specs.Bindings.{bindings_of}
-use Rattle.table_laws.proofs.BindChanges.{Tells, TellsLocals, locals_tell}
+use Rattle.table_laws.proofs.BindChanges.{TellsLocals, locals_tell}
 use Rattle.table_laws.proofs.SoundLocals.{OfLocals, sound-locals_step}
 use Rattle.table_laws.proofs.BindLaws.{locals_told}
 use Rattle.bind_book.specs.Book.{Book, IsRefusal}

@@ -1,5 +1,5 @@
 -- A plan that changes names is that of the step.
-use Rattle.std.proofs.Common.{◌≡◌, ℕ, ◌+◌, ◌≤◌, ◌<◌, ◌^◌, Bool, true, false, cond, not, List, [], ◌∷◌, ◌++◌, map, length, Option, Some, None, Ok, Err, IsTrue, refl, sym, ap, subst, ◌∙◌, append_assoc, arith, ◌⊎◌, inl, inr}
+use Rattle.std.proofs.Common.{◌≡◌, ℕ, ◌+◌, ◌≤◌, ◌<◌, ◌^◌, Bool, true, false, cond, not, List, [], ◌∷◌, ◌++◌, map, length, Option, Some, None, Ok, Err, refl, sym, ap, subst, ◌∙◌, append_assoc, arith, ◌⊎◌, inl, inr}
 use Rattle.std.specs.Prelude.{IsOkAnd, MatchOption, All, nat_le, nat_lt, option_map}
 use Rattle.std.specs.List.{AllByRecursion}
 use Rattle.std.proofs.lemmas.List.{append_cancel_left}
@@ -11,16 +11,15 @@ use Rattle.sorted_rows.specs.Changes.{RowChange, changed, is_plain}
 use Rattle.mud_world.specs.declared.item.Item.{Item}
 use Rattle.mud_world.specs.declared.item.Put.{Put}
 use Rattle.mud_world.specs.declared.item.Put.TheVariants.{Set, Gone}
-use Rattle.mud_world.specs.Items.{place_of, place_of_put, put_one, put_all, item_after, are_apart, kind_of_put, ArePutsOf, IsDifference, set_put, gone_put, puts_of}
+use Rattle.mud_world.specs.Items.{place_of, place_of_put, put_one, put_all, item_after, kind_of_put, IsDifference, set_put, gone_put, puts_of}
 use Rattle.mud_world.proofs.ItemLaws.{same_put, puts_of_kind, puts_apart, row_at-items, ordered-items}
-use Rattle.item_codec.specs.declared.word.Word.{Word}
 use Rattle.item_codec.specs.declared.word.Word.TheVariants.{Same}
 use Rattle.acl_model.specs.Changes.{IsBindingChange}
 use Rattle.mud_tables.specs.declared.bind.NameRow.{NameRow}
 use Rattle.mud_tables.specs.declared.bind_fault.BindFault.{BindFault}
 use Rattle.mud_tables.specs.Limits.{most_names}
 use Rattle.mud_tables.specs.Fits.{FitsName}
-use Rattle.mud_tables.specs.Ends.{Ends, is_live, end_of, with_end, live_rows}
+use Rattle.mud_tables.specs.Ends.{is_live, end_of, with_end, live_rows}
 use Rattle.mud_tables.specs.Binds.{Binds, name_of, name_at, name_row, has_live_row, is_name, IsKeptName, IsSoundNames, IsSoundBinds}
 use Rattle.mud_tables.specs.BindSteps.{NamesAfter, NameStep, is_change, addrs_of, least_dead, observe_step, with_names}
 use Rattle.mud_tables.specs.BindRowChanges.{no_rows, one_row, replacing_change, new_pair_change, kept_pair_change, observe_cases_change, observe_row_change, observe_change}
@@ -33,12 +32,12 @@ use Rattle.mud_tables.specs.BindingChanges.{gone_of, come_of}
 use Rattle.table_laws.proofs.BookChanges.{name_book_change}
 use Rattle.table_laws.proofs.SoundRows.{found_there}
 use Rattle.table_laws.proofs.BindRows.{Makes, observe_makes}
-use Rattle.table_laws.proofs.BindChanges.{Tells, TellsNames, sooner, observe_tells}
+use Rattle.table_laws.proofs.BindChanges.{TellsNames, sooner, observe_tells}
 use Rattle.table_laws.proofs.SoundNames.{OfNames, sound-observe_step}
 use Rattle.table_laws.proofs.BindLaws.{names_told}
 use Rattle.bind_book.specs.declared.names.Observed.{Observed}
 use Rattle.bind_book.specs.Book.{Book, IsRefusal}
-use Rattle.bind_book.specs.Observations.{IsAnswer, IsSeen}
+use Rattle.bind_book.specs.Observations.{IsSeen}
 use Rattle.bind_book.specs.Plans.{Plan, IsPlanned, changed_binds, HasRoomFor, same_plan, name_plan}
 use Rattle.bind_book.proofs.BookItems.{one_difference, binds_told, name_of_kind, among_names, names_reach}
 use Rattle.bind_book.proofs.Plans.{empty_as_told, bind_puts, same_planned, good_sets}

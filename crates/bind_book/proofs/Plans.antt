@@ -1,12 +1,12 @@
 -- What holds of every plan.
-use Rattle.std.proofs.Common.{◌≡◌, ℕ, ◌<◌, Bool, true, false, not, ◌&&◌, List, [], ◌∷◌, length, Option, Some, None, Ok, Err, refl, sym, ap, subst, ◌∙◌, arith}
+use Rattle.std.proofs.Common.{◌≡◌, ℕ, ◌<◌, Bool, true, false, not, ◌&&◌, List, [], ◌∷◌, Option, Some, None, Ok, Err, refl, sym, ap, subst, ◌∙◌, arith}
 use Rattle.std.specs.Prelude.{◌↔◌, IsOkAnd}
 use Rattle.std.specs.List.{AllByRecursion}
 use Rattle.sorted_rows.specs.Placed.{PlacesAscend, row_at}
 use Rattle.sorted_rows.specs.Changes.{RowChange, with_found, rows_at, changed, places_of, is_plain}
 use Rattle.sorted_rows.proofs.ChangeLaws.{new_rows}
 use Rattle.mud_world.specs.declared.item.Put.{Put}
-use Rattle.mud_world.specs.Items.{IsDifference, kind_of_put, ArePutsOf}
+use Rattle.mud_world.specs.Items.{IsDifference, ArePutsOf}
 use Rattle.acl_model.specs.declared.binding.Binding.{Binding}
 use Rattle.acl_model.specs.Changes.{has_binding, IsBindingChange}
 use Rattle.mud_tables.specs.Binds.{Binds, IsSoundBinds}

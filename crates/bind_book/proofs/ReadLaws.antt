@@ -1,5 +1,5 @@
 -- What is read of bodies, element after element, and which items are of no row.
-use Rattle.std.proofs.Common.{◌≡◌, ℕ, zero, suc, ◌+◌, ◌-◌, ◌<◌, ◌≤◌, Bool, true, false, ◌&&◌, cond, List, [], ◌∷◌, ◌++◌, length, take, get_or, Option, Some, None, Result, Ok, Err, refl, sym, ap, subst, ◌∙◌, append_assoc, arith}
+use Rattle.std.proofs.Common.{◌≡◌, ℕ, zero, suc, ◌+◌, ◌<◌, Bool, true, false, ◌&&◌, cond, List, [], ◌∷◌, ◌++◌, length, get_or, Option, Some, None, Result, Ok, Err, refl, sym, ap, subst, ◌∙◌, append_assoc, arith}
 use Rattle.std.specs.Prelude.{option_map, IfSome, ◌==◌, nat_lt, nat_le}
 use Rattle.mud_tables.specs.Limits.{most_locals}
 use Rattle.std.specs.List.{list_all}
@@ -12,9 +12,8 @@ use Rattle.item_codec.specs.Records.{Reading, ◌>>=◌, version_in, end_in, ele
 use Rattle.mud_base.specs.declared.addr.Addr.{Addr}
 use Rattle.mud_base.specs.declared.prefix.Prefix.{Prefix}
 use Rattle.mud_tables.specs.declared.bind.Class.{Class}
-use Rattle.mud_tables.specs.declared.bind.ClassRow.{ClassRow}
 use Rattle.mud_tables.specs.ItemFields.{address_in, network_in}
-use Rattle.mud_tables.specs.Binds.{class_row, is_class, is_sound_class, are_addrs, are_prefixes, is_prefix}
+use Rattle.mud_tables.specs.Binds.{class_row, is_class, is_sound_class, are_prefixes, is_prefix}
 use Rattle.mud_tables.specs.BindItems.{class_of_key, if_sound_class, class_in, are_locals, if_sound_locals, locals_in}
 use Rattle.bind_book.specs.Reading.{IsNoClass, count_in, behind}
 

@@ -2,7 +2,6 @@
 use Rattle.std.proofs.Common.{◌≡◌, ℕ, ◌<◌, ◌≤◌, Bool, true, false, cond, ◌&&◌, List, [], ◌∷◌, ◌++◌, length, Option, Some, None, IsTrue, refl, sym, ap, subst, ◌∙◌, arith}
 use Rattle.std.specs.Prelude.{option_map, ◌==◌, nat_lt}
 use Rattle.std.proofs.lemmas.Bool.{eqb-true, lt-ltb, le-ltb}
-use Rattle.std.proofs.lemmas.List.{nil_from_length}
 use Rattle.mud_base.specs.declared.prefix.Prefix.{Prefix}
 use Rattle.sorted_rows.specs.Placed.{comes_last}
 use Rattle.mud_world.specs.declared.item.Item.{Item}

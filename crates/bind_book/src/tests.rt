@@ -138,10 +138,10 @@ fn item(
 }
 
 /// Fails where an item is taken that shouldn't be, or isn't that should.
-fn take(rt: &impl Abort, book: &mut BindBook, item: &Item, want: bool) -> Result<(), Memory> {
-    let taken = book.take(item)?;
-    assert_eq!(rt; taken, want);
-    Ok(())
+fn take(rt: &impl Abort, book: &mut BindBook, item: Result<Item, Memory>, want: bool) {
+    let item = item.expect(rt, "memory");
+    let taken = book.take(&item);
+    assert_eq!(rt; taken, Ok(want));
 }
 
 #[test]
@@ -221,15 +221,15 @@ fn keeps_no_more_addresses(rt: HostRuntime) -> Result<(), Fail> {
     take(
         &rt,
         &mut book,
-        &item(alloc, 3, b"\x01urn:hub", 64, None)?,
+        item(alloc, 3, b"\x01urn:hub", 64, None),
         true,
-    )?;
+    );
     take(
         &rt,
         &mut book,
-        &item(alloc, 5, b"a.example", 64, Some(1100))?,
+        item(alloc, 5, b"a.example", 64, Some(1100)),
         true,
-    )?;
+    );
     let hub = by_uri(&rt, alloc, b"urn:hub")?;
     let kept = Addr::V4(0x0a00_003f);
     same(
@@ -246,40 +246,32 @@ fn keeps_no_more_addresses(rt: HostRuntime) -> Result<(), Fail> {
 }
 
 /// Takes 256 classes with an address each.
-fn fill_classes(rt: &impl Abort, alloc: Global, book: &mut BindBook) -> Result<(), Memory> {
+fn fill_classes(rt: &impl Abort, alloc: Global, book: &mut BindBook) {
     for first in b'a'..b'q' {
         for second in b'a'..b'q' {
-            let class = item(alloc, 3, &[1, first, second], 1, None)?;
-            take(rt, book, &class, true)?;
+            take(rt, book, item(alloc, 3, &[1, first, second], 1, None), true);
         }
     }
-    Ok(())
 }
 
 /// Takes 4,096 names with an address each, all of one end.
-fn fill_names(
-    rt: &impl Abort,
-    alloc: Global,
-    book: &mut BindBook,
-    until: u64,
-) -> Result<(), Memory> {
+fn fill_names(rt: &impl Abort, alloc: Global, book: &mut BindBook, until: u64) {
     for first in b'a'..b'q' {
         for second in b'a'..b'q' {
             for third in b'a'..b'q' {
-                let name = item(alloc, 5, &[first, second, third], 1, Some(until))?;
-                take(rt, book, &name, true)?;
+                let name = [first, second, third];
+                take(rt, book, item(alloc, 5, &name, 1, Some(until)), true);
             }
         }
     }
-    Ok(())
 }
 
 #[test]
 fn keeps_no_more_classes(rt: HostRuntime) -> Result<(), Fail> {
     let alloc = rt.alloc();
     let mut book = BindBook::new(alloc);
-    fill_classes(&rt, alloc, &mut book)?;
-    take(&rt, &mut book, &item(alloc, 3, b"\x01z", 1, None)?, false)?;
+    fill_classes(&rt, alloc, &mut book);
+    take(&rt, &mut book, item(alloc, 3, b"\x01z", 1, None), false);
     let other = by_uri(&rt, alloc, b"z")?;
     same(
         &rt,
@@ -294,8 +286,8 @@ fn keeps_no_more_classes(rt: HostRuntime) -> Result<(), Fail> {
 fn keeps_no_more_names(rt: HostRuntime) -> Result<(), Fail> {
     let alloc = rt.alloc();
     let mut book = BindBook::new(alloc);
-    fill_names(&rt, alloc, &mut book, 1100)?;
-    take(&rt, &mut book, &item(alloc, 5, b"z", 1, Some(1100))?, false)?;
+    fill_names(&rt, alloc, &mut book, 1100);
+    take(&rt, &mut book, item(alloc, 5, b"z", 1, Some(1100)), false);
     let full = observe(&rt, &mut book, b"z", DNS, 60, 1099);
     same(&rt, full, Err(BindFault::NamesFull));
     let anew = observe(&rt, &mut book, b"z", DNS, 60, 1100);
@@ -322,27 +314,46 @@ fn puts_its_items(rt: HostRuntime) -> Result<(), Fail> {
     Ok(())
 }
 
-#[test]
-fn takes_items_in_order(rt: HostRuntime) -> Result<(), Fail> {
-    let alloc = rt.alloc();
-    let mut book = BindBook::new(alloc);
-    let class = item(alloc, 3, b"\x01urn:hub", 1, None)?;
-    let mine = item(alloc, 3, b"\x02https://a.example/", 1, None)?;
-    let locals = Item {
+/// The item of the local network 192.0.2.0/24.
+fn locals(alloc: Global) -> Result<Item, Memory> {
+    Ok(Item {
         kind: 4,
         key: Bytes::empty(alloc),
         body: Bytes::new(alloc, &[1, 0, 1, 4, 192, 0, 2, 0, 24])?,
-    };
-    let late = item(alloc, 3, b"\x01urn:late", 1, None)?;
-    let name = item(alloc, 5, b"a.example", 1, Some(1100))?;
-    let stamp = item(alloc, 6, b"", 0, None)?;
-    take(&rt, &mut book, &class, true)?;
-    take(&rt, &mut book, &class, false)?;
-    take(&rt, &mut book, &mine, true)?;
-    take(&rt, &mut book, &locals, true)?;
-    take(&rt, &mut book, &late, false)?;
-    take(&rt, &mut book, &name, true)?;
-    take(&rt, &mut book, &stamp, false)?;
+    })
+}
+
+#[test]
+fn takes_items_in_order(rt: HostRuntime) {
+    let alloc = rt.alloc();
+    let mut book = BindBook::new(alloc);
+    let own = b"\x02https://a.example/";
+    take(
+        &rt,
+        &mut book,
+        item(alloc, 3, b"\x01urn:hub", 1, None),
+        true,
+    );
+    take(
+        &rt,
+        &mut book,
+        item(alloc, 3, b"\x01urn:hub", 1, None),
+        false,
+    );
+    take(&rt, &mut book, item(alloc, 3, own, 1, None), true);
+    take(&rt, &mut book, locals(alloc), true);
+    take(
+        &rt,
+        &mut book,
+        item(alloc, 3, b"\x02https://b.example/", 1, None),
+        false,
+    );
+    take(
+        &rt,
+        &mut book,
+        item(alloc, 5, b"a.example", 1, Some(1100)),
+        true,
+    );
+    take(&rt, &mut book, item(alloc, 6, b"", 0, None), false);
     assert_eq!(rt; kept(&book), [2, 1, 1]);
-    Ok(())
 }

@@ -153,6 +153,16 @@ held_fits url held e =
       short_fits (length held.octets) (read_short held.octets b.file (usage_read held.octets b.file b.is)),
     )
 
+pub held_short : (url : List ℕ) (held : HeldFile) → is_held url held ≡ true → length held.octets ≤ most_octets
+unfolding is_held is_usage_of
+held_short url held e =
+    let b : Behind (is_of_url url) (usage_in held.octets) = behind (is_of_url url) (usage_in held.octets) (left_of (option_map_or (is_of_url url) (usage_in held.octets) false) (nat_le held.fetched last_moment) e) in
+    read_short held.octets b.file (usage_read held.octets b.file b.is)
+
+pub held_early : (url : List ℕ) (held : HeldFile) → is_held url held ≡ true → held.fetched ≤ last_moment
+unfolding is_held
+held_early url held e = leb-true held.fetched last_moment (right_of (is_usage_of url held) (nat_le held.fetched last_moment) e)
+
 approved_fits : (url : List ℕ) (a : HeldFile × Approval) → is_approved url a ≡ true → FitsApproved a
 unfolding is_approved
 approved_fits url a e = held_fits url a.0 (left_of (is_held url a.0) (may_have a.0 a.1) e)

@@ -7,4 +7,6 @@ pub mod ItemLaws
 pub mod EditLaws
 pub mod ReadFiles
 pub mod EntryBounds
+pub mod ImportLaws
+mod Examples
 pub mod PolicyLaws

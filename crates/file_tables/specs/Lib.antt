@@ -4,6 +4,7 @@ pub mod Limits
 pub mod Files
 pub mod FileSteps
 pub mod FileEdits
+pub mod Imports
 pub mod Policies
 pub mod Due
 pub mod FileItems

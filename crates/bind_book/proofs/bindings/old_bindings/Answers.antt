@@ -1,4 +1,4 @@
-use Rattle.std.proofs.Common.{List, [], ◌++◌, map, take, ap, sym, ◌∙◌}
+use Rattle.std.proofs.Common.{[], ◌++◌, map, ap, sym, ◌∙◌}
 use Rattle.std.specs.Prelude.{flat_map}
 use Rattle.std.proofs.lemmas.List.{take_all}
 use Rattle.sorted_rows.specs.Placed.{row_at}

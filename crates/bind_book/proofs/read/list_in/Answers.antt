@@ -1,4 +1,4 @@
-use Rattle.std.proofs.Common.{◌≡◌, ◌-◌, [], List, refl, sym, ap, subst, ◌∙◌, arith}
+use Rattle.std.proofs.Common.{◌-◌, List, sym, ap, subst, ◌∙◌, arith}
 use Rattle.bind_book.specs.Reading.{count_in}
 use Rattle.bind_book.proofs.ReadLaws.{IsRest, no_count, first_rest, no_element, more_rest, whole_list, more_behind}
 use Rattle.bind_book.proofs.read.list_in.Goals as goal

@@ -1,8 +1,7 @@
-use Rattle.std.proofs.Common.{◌≡◌, ℕ, ◌<◌, ◌++◌, ◌∷◌, [], List, length, map, get_or, take, ap, refl, sym, ◌∙◌}
+use Rattle.std.proofs.Common.{◌++◌, ◌∷◌, [], List, map, get_or, ap, ◌∙◌}
 use Rattle.std.proofs.lemmas.List.{get_or_default}
 use Rattle.mud_base.specs.declared.addr.Addr.{Addr}
 use Rattle.mud_base.specs.declared.addr.Addr.TheVariants.{V4}
-use Rattle.acl_model.specs.declared.binding.Binding.{Binding}
 use Rattle.mud_tables.specs.Bindings.{binding, class_binding, class_bindings}
 use Rattle.mud_tables.specs.Ends.{for_ever}
 use Rattle.bind_book.proofs.SoFar.{push_behind, all_behind}

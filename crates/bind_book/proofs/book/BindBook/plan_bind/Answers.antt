@@ -1,4 +1,4 @@
-use Rattle.std.proofs.Common.{refl, sym, subst, ap, ◌∙◌}
+use Rattle.std.proofs.Common.{refl, subst, ap}
 use Rattle.std.proofs.lemmas.Result.{err_from_is_err_and}
 use Rattle.item_codec.specs.declared.word.Word.TheVariants.{Bound}
 use Rattle.mud_tables.specs.Binds.{Binds}

@@ -1,10 +1,10 @@
-use Rattle.std.proofs.Common.{false, ◌≡◌, ◌<◌, ◌≤◌, ◌&&◌, ◌++◌, ◌∷◌, [], List, Some, IsTrue, cond, sym, ap, subst, ◌∙◌}
+use Rattle.std.proofs.Common.{false, ◌<◌, ◌≤◌, ◌&&◌, ◌++◌, ◌∷◌, [], List, IsTrue, cond, sym, ap, subst, ◌∙◌}
 use Rattle.std.specs.Prelude.{◌==◌, option_map}
 use Rattle.sorted_rows.specs.Placed.{comes_last}
 use Rattle.item_codec.specs.Spelling.{IsOctets}
 use Rattle.mud_tables.specs.declared.bind.ClassRow.{ClassRow}
 use Rattle.mud_tables.specs.Binds.{Binds, class_key}
-use Rattle.mud_tables.specs.BindItems.{class_in, with_class_item}
+use Rattle.mud_tables.specs.BindItems.{with_class_item}
 use Rattle.mud_tables.specs.TakenItems.{is_empty, set_classes}
 use Rattle.bind_book.specs.Book.{Book}
 use Rattle.bind_book.specs.Reading.{IsTaken}

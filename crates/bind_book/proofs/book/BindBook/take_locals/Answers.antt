@@ -1,8 +1,8 @@
-use Rattle.std.proofs.Common.{◌≡◌, ℕ, false, true, ◌&&◌, List, Some, IsTrue, sym, ap, subst, ◌∙◌}
+use Rattle.std.proofs.Common.{false, true, ◌&&◌, IsTrue, sym, ap, subst, ◌∙◌}
 use Rattle.std.specs.Prelude.{◌==◌, option_map}
 use Rattle.item_codec.specs.Spelling.{IsOctets}
 use Rattle.mud_tables.specs.Binds.{Binds}
-use Rattle.mud_tables.specs.BindItems.{locals_in, with_locals_item}
+use Rattle.mud_tables.specs.BindItems.{with_locals_item}
 use Rattle.mud_tables.specs.TakenItems.{is_empty, set_locals}
 use Rattle.bind_book.specs.Book.{Book}
 use Rattle.bind_book.specs.Reading.{IsTaken}

@@ -1,5 +1,5 @@
 -- Steps, items, digests and the end of a file's hours, worked out.
-use Rattle.std.proofs.Common.{◌≡◌, ℕ, pos, true, false, List, [], ◌∷◌, Some, None, Ok, Err, refl}
+use Rattle.std.proofs.Common.{◌≡◌, ℕ, pos, true, false, List, [], ◌∷◌, Some, None, Err, refl}
 use Rattle.std.specs.Prelude.{codes}
 use Rattle.sha2.specs.Sha256.{sha256, digest_bytes, hash_after, compress, rounds, schedule, first_words}
 use Rattle.hex.specs.Hex.{encode_with}

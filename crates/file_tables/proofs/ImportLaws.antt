@@ -6,12 +6,12 @@ use Rattle.std.proofs.lemmas.Bool.{false≢true}
 use Rattle.item_codec.specs.declared.word.Word.TheVariants.{Same}
 use Rattle.mud_file.specs.declared.usage_file.UsageFile.{UsageFile}
 use Rattle.mud_file.specs.File.{file_of}
-use Rattle.sorted_rows.specs.Placed.{same_place, row_at, set_row}
+use Rattle.sorted_rows.specs.Placed.{same_place, row_at}
 use Rattle.sorted_rows.proofs.PlacedLaws.{row_at-set_row, same_place_itself}
 use Rattle.file_tables.specs.declared.approval.Approval.{Approval}
 use Rattle.file_tables.specs.declared.cached_file.CachedFile.{CachedFile}
 use Rattle.file_tables.specs.Held.{HeldFile, held_file}
-use Rattle.file_tables.specs.Files.{url_of, file_at, set_file, new_file, with_candidate, with_approved}
+use Rattle.file_tables.specs.Files.{url_of, file_at, set_file, with_candidate, with_approved}
 use Rattle.file_tables.specs.FileEdits.{fetched_at, approved_at}
 use Rattle.file_tables.specs.FileSteps.{FileStep, done, left, candidate_again, approved_again, new_candidate, beside_approved, beside_candidate, import_cases, import_read, import_step}
 use Rattle.file_tables.specs.Imports.{has_octets, has_approved_octets, holds_octets, but_moments, IsSameAgain}

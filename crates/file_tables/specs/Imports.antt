@@ -1,5 +1,5 @@
 -- The import of octets that are held already.
-use Rattle.std.specs.Prelude.{◌≡◌, ℕ, Bool, false, ◌||◌, bytes_eq, List, Option, Some, None}
+use Rattle.std.specs.Prelude.{◌≡◌, ℕ, Bool, false, ◌||◌, bytes_eq, List}
 use Rattle.std.specs.Option.{option_map, option_map_or}
 use Rattle.item_codec.specs.declared.word.Word.TheVariants.{Same}
 use Rattle.file_tables.specs.declared.approval.Approval.{Approval}

@@ -12,11 +12,11 @@ loop-slot-preserved c =
     let next = next_other c.args.url.now c.args.slots.now c.loop-slot.slot-index c.slot-item.result c.loop-slot-test.true c.slot-item.is in
     record {
       counted = elim c.if-is_other.branch [
-        then-is_other w ↦ omega (arith, c.loop-slot.invariant.counted, next, w.count-is, ap one (sym c.is_other.ensures ∙ w.if-is_other.true))
+        | then-is_other w ↦ omega (arith, c.loop-slot.invariant.counted, next, w.count-is, ap one (sym c.is_other.ensures ∙ w.if-is_other.true))
         | else-is_other w ↦ omega (arith, c.loop-slot.invariant.counted, next, w.count-is, ap one (sym c.is_other.ensures ∙ w.if-is_other.false))
       ];
       few = elim c.if-is_other.branch [
-        then-is_other w ↦ omega (arith, c.loop-slot.invariant.few, w.count-is)
+        | then-is_other w ↦ omega (arith, c.loop-slot.invariant.few, w.count-is)
         | else-is_other w ↦ omega (arith, c.loop-slot.invariant.few, w.count-is)
       ];
     }

@@ -15,6 +15,7 @@ test:
 bench: build
 	bash bench/frames
 	bash bench/check
+	bash bench/books
 
 install: build
 	install -d "$(DESTDIR)$(PREFIX)/bin"

@@ -1,5 +1,5 @@
 -- What two changes of a store edit: an approved file whose URL no Thing has, and a lease that goes.
-use Rattle.std.proofs.Common.{◌≡◌, ℕ, ◌+◌, List, [], ◌∷◌, ◌++◌, length, Option, Some, None, refl}
+use Rattle.std.proofs.Common.{◌≡◌, ℕ, ◌+◌, List, [], ◌∷◌, ◌++◌, length, Some, None, refl}
 use Rattle.std.specs.Prelude.{codes}
 use Rattle.mud_base.specs.declared.addr.Addr.{Addr}
 use Rattle.mud_base.specs.declared.addr.Addr.TheVariants.{V4}
@@ -10,7 +10,6 @@ use Rattle.acl_model.specs.declared.entry.PortTest.TheVariants as port
 use Rattle.acl_model.specs.declared.entry.Layer.TheVariants as layer
 use Rattle.acl_model.specs.declared.entry.Action.TheVariants as action
 use Rattle.acl_model.specs.declared.entry.Entry.{Entry}
-use Rattle.acl_model.specs.declared.entry.Policy.{Policy}
 use Rattle.acl_model.specs.declared.binding.MemberKey.TheVariants as of_key
 use Rattle.acl_model.specs.declared.binding.Binding.{Binding}
 use Rattle.acl_model.specs.Changes.{replaced}
@@ -22,7 +21,7 @@ use Rattle.acl_rows.specs.Rows.{never, row, Slots, rows_of}
 use Rattle.acl_rows.proofs.OnLiterals.{rows_on_literals}
 use Rattle.acl_patch.specs.Patch.{same_row, is_missing, rows_apart}
 use Rattle.acl_patch.specs.Touched.{entry_touch, side_touches, holder_touches, binding_touches, touches}
-use Rattle.acl_compile.specs.Plans.{slot_set, others_held, is_other}
+use Rattle.acl_compile.specs.Plans.{slot_set}
 
 abbrev bulb_url : List ℕ
 bulb_url = codes "https://lighting.example.com/lightbulb2000"

@@ -15,10 +15,11 @@ use Rattle.acl_patch.specs.Patch.{IsPatch, rows_apart}
 use Rattle.acl_patch.specs.Touched.{touches}
 use Rattle.acl_patch.proofs.Patches.{patched}
 use Rattle.acl_patch.proofs.Apart.{few_edits}
-use Rattle.acl_compile.specs.Bindings.{AreEditsOf}
-use Rattle.acl_compile.specs.Change.{AllHeld, HolderFits}
+use Rattle.row_changes.specs.Bindings.{AreEditsOf}
+use Rattle.row_changes.specs.Policies.{AllHeld}
+use Rattle.row_changes.specs.Steps.{HolderFits, HaveKeys, place_steps}
 use Rattle.acl_compile.specs.Compiled.{CompiledState, compiled_state, UrlsApart, IsSound}
-use Rattle.acl_compile.specs.Plans.{Plan, slots_with, slots_after, bindings_after, Fits, IsMemberPlan, HaveKeys, place_steps}
+use Rattle.acl_compile.specs.Plans.{Plan, slots_with, slots_after, bindings_after, Fits, IsMemberPlan}
 
 -- ---- Steps
 

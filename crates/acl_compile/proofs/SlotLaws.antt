@@ -28,16 +28,17 @@ use Rattle.acl_rows.specs.Places.{owner_place, row_place}
 use Rattle.acl_rows.proofs.AtPlaces.{ascend-rows_of}
 use Rattle.acl_patch.specs.Patch.{end_for}
 use Rattle.sorted_rows.specs.Placed.{is_under, RowsAndRoom}
-use Rattle.acl_compile.proofs.OwnRows.{kept}
-use Rattle.acl_compile.proofs.PolicyRows.{own_row, end_was, owner_is}
-use Rattle.acl_compile.specs.Change.{url_policy}
+use Rattle.row_changes.proofs.OwnRows.{kept}
+use Rattle.row_changes.proofs.PolicyRows.{own_row, end_was, owner_is}
+use Rattle.row_changes.specs.Policies.{url_policy}
 use Rattle.acl_compile.specs.Compiled.{UrlsApart, compiled_state}
-use Rattle.acl_compile.specs.Fresh.{policy_count}
+use Rattle.row_changes.specs.Fresh.{policy_count}
 use Rattle.row_edits.specs.declared.edit.Edit.{Edit}
 use Rattle.row_edits.specs.Edits.{edited, AreFound}
 use Rattle.acl_model.specs.Places.{binding_place}
 use Rattle.acl_patch.specs.Patch.{IsPatch}
-use Rattle.acl_compile.specs.Plans.{slot_set, holder_policy, holder_owner, policy_held, place_held, held_for, is_other, others_held, rows_of_owner, slots_with, slots_after, bindings_after, HaveKeys, PolicyKeys, place_steps, policy_steps, IsPlaceFor, IsPolicyPlan}
+use Rattle.acl_compile.specs.Plans.{slot_set, holder_policy, holder_owner, policy_held, place_held, held_for, is_other, others_held, rows_of_owner, slots_with, slots_after, bindings_after, policy_steps, IsPlaceFor, IsPolicyPlan}
+use Rattle.row_changes.specs.Steps.{HaveKeys, PolicyKeys, place_steps}
 
 lt_by : (a b : ℕ) → ((nat_lt a b ≡ true) × (suc a ≤ b)) ⊎ ((nat_lt a b ≡ false) × (b < suc a)) → ((nat_lt a b ≡ true) × (a < b)) ⊎ ((nat_lt a b ≡ false) × (b ≤ a))
 lt_by a b (inl lt) = inl (lt.0, omega (arith, lt.1))

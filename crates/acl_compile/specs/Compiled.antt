@@ -9,7 +9,6 @@ use Rattle.acl_model.specs.Defaults.{default_policy}
 use Rattle.acl_model.specs.Policies.{UrlPolicy}
 use Rattle.acl_rows.specs.declared.row.Owner.TheVariants.{Url}
 use Rattle.acl_rows.specs.Rows.{Slots, held_by, rows_of}
-use Rattle.acl_rows.specs.View.{wide_from}
 
 -- the policies in their places, the bindings and the rows, and how many more of each there is room for
 pub record CompiledState : Type 0 where
@@ -24,13 +23,6 @@ pub record CompiledState : Type 0 where
 pub record HasItsRows (c : CompiledState) : Type 0 where
   pub ascend : PlacesAscend binding_place c.bindings
   pub rows : c.rows ≡ rows_of c.slots c.bindings
-
--- the numbers of the wide entries of a policy, whose lists can be counted
-pub record HasWide (policy : Policy) (outgoing : List ℕ) (incoming : List ℕ) : Type 0 where
-  pub outgoing_is : outgoing ≡ wide_from 1 policy.outgoing
-  pub incoming_is : incoming ≡ wide_from 1 policy.incoming
-  pub outgoing_counts : length policy.outgoing ≤ 65535
-  pub incoming_counts : length policy.incoming ≤ 65535
 
 -- the policies of no two places are of one URL
 abbrev pub UrlsApart : Slots → Type 0

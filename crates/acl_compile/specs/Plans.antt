@@ -1,10 +1,7 @@
 -- Plans: what a change edits, and what it makes of what is kept.
 use Rattle.std.specs.Prelude.{◌≡◌, ℕ, ◌+◌, ◌*◌, ◌<◌, ◌≤◌, Bool, true, false, not, bytes_eq, List, [], ◌∷◌, ◌++◌, length, filter, Option, Some, None, is_some, option_map, if◌then◌else◌, nat_lt, slice_set}
-use Rattle.mud_base.specs.declared.packet.Direction.{Direction}
 use Rattle.acl_model.specs.declared.binding.Binding.{Binding}
-use Rattle.acl_model.specs.declared.entry.Entry.{Entry}
 use Rattle.acl_model.specs.declared.entry.Policy.{Policy}
-use Rattle.acl_model.specs.FirstMatch.{entries_of}
 use Rattle.acl_model.specs.Places.{binding_place}
 use Rattle.acl_model.specs.Changes.{replaced}
 use Rattle.acl_model.specs.Policies.{UrlPolicy}
@@ -13,12 +10,13 @@ use Rattle.row_edits.specs.Edits.{edited, AreFound}
 use Rattle.acl_rows.specs.declared.row.Owner.{Owner}
 use Rattle.acl_rows.specs.declared.row.Row.{Row}
 use Rattle.acl_rows.specs.declared.row.Owner.TheVariants.{Url, Default}
-use Rattle.acl_rows.specs.Rows.{Slots, Holder, held_by, member_keys, entry_at}
+use Rattle.acl_rows.specs.Rows.{Slots, Holder, held_by}
 use Rattle.acl_rows.specs.View.{holder_from}
 use Rattle.acl_patch.specs.Patch.{IsPatch}
 use Rattle.acl_patch.specs.PolicyTouched.{owner_rows, new_touches}
-use Rattle.acl_compile.specs.Fresh.{policy_count}
-use Rattle.acl_compile.specs.Change.{AllHeld, HasCounts, url_policy}
+use Rattle.row_changes.specs.Fresh.{policy_count}
+use Rattle.row_changes.specs.Policies.{HasCounts, url_policy}
+use Rattle.row_changes.specs.Steps.{place_steps}
 use Rattle.acl_compile.specs.Compiled.{CompiledState, UrlsApart}
 
 -- ---- Plans
@@ -77,25 +75,6 @@ pub record IsMemberPlan (gone come : List Binding) (c : CompiledState) (plan : P
   pub bindings : bindings_after plan c ≡ replaced gone come c.bindings
   pub few : length plan.bindings ≤ length gone + length come
 
--- ---- Steps
-
--- no entry has more member selectors than this
-abbrev pub HolderKeys : ℕ → Holder → Type 0
-HolderKeys s h = (side : Direction) (n : ℕ) (entry : Entry) → entry_at n (entries_of side h.1.policy) ≡ Some entry → length (member_keys h.1.url entry) ≤ s
-
-abbrev pub HaveKeys : ℕ → Slots → Type 0
-HaveKeys s slots = AllHeld slots (HolderKeys s)
-
--- the steps of one place that is touched, where no entry has more than `s` member selectors, and the bindings and the rows
--- can be counted with `b` and `k` binary digits
-abbrev pub place_steps : ℕ → ℕ → ℕ → ℕ
-place_steps s b k = (s + 1) * (b + k + 2)
-
--- the same of the policy that is to come, where there is one
-abbrev pub PolicyKeys : ℕ → Option UrlPolicy → Type 0
-PolicyKeys s None = Unit {0}
-PolicyKeys s (Some held) = (owner : Owner) → HolderKeys s (owner, held)
-
 -- ---- A plan of a policy
 
 abbrev pub holder_policy : Holder → Policy
@@ -119,9 +98,6 @@ held_for url policy = option_map (url_policy url) policy
 unfoldable pub rows_of_owner : Option Owner → List Row → List Row
 rows_of_owner None rows = []
 rows_of_owner (Some owner) rows = owner_rows owner rows
-
-unfoldable pub url_rows : List ℕ → CompiledState → List Row
-url_rows url c = rows_of_owner (place_held c.slots url) c.rows
 
 -- how many places have a policy of another URL
 unfoldable pub is_other : List ℕ → Option UrlPolicy → Bool

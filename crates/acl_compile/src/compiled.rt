@@ -5,14 +5,15 @@ ghost use Rattle.acl_rows.specs.Rows.{rows_of};
 ghost use Rattle.acl_patch.specs.Patch.{rows_apart};
 ghost use Rattle.acl_patch.specs.Touched.{touches};
 ghost use Rattle.acl_compile.specs.Compiled.{HasItsRows};
-ghost use Rattle.acl_compile.specs.Plans.{Fits, slots_after, bindings_after, IsKept, IsMemberPlan, IsPolicyPlan, CanBeCounted, HaveKeys, PolicyKeys, held_for, others_held, place_steps, policy_steps};
+ghost use Rattle.acl_compile.specs.Plans.{Fits, slots_after, bindings_after, IsKept, IsMemberPlan, IsPolicyPlan, CanBeCounted, held_for, others_held, policy_steps};
+ghost use Rattle.row_changes.specs.Steps.{HaveKeys, PolicyKeys, place_steps};
 
 use crate::plan::{RowPlan, others_in, plan_change, plan_slot, set_slot};
-use crate::policies::{CompiledPolicy, Held, find_held};
 use acl_model::{Binding, Policy};
 use acl_rows::{Owner, Row, RuleView};
 use mud_base::{Direction, Memory};
 use mud_url::MudUrl;
+use row_changes::{Held, HeldDefaults, find_held};
 use row_edits::make_edits;
 use sorted_rows::{SortedRows, Steps};
 use std::alloc::Global;
@@ -25,7 +26,7 @@ use std::sync::ledger::Ledger;
 pub struct Compiled {
     alloc: Global,
     slots: Vec<Option<Held>>,
-    defaults: CompiledPolicy,
+    defaults: HeldDefaults,
     bindings: SortedRows<Binding>,
     rows: SortedRows<Row>,
 }
@@ -48,7 +49,7 @@ impl Compiled {
         ensures bindings { IfOk result (λ compiled. compiled.bindings ≡ []) }
         ensures rows { IfOk result (λ compiled. compiled.rows ≡ []) }
     {
-        let defaults = CompiledPolicy::of_defaults(alloc)?;
+        let defaults = HeldDefaults::new(alloc)?;
         Ok(Compiled {
             alloc,
             slots: Vec::new(alloc),
@@ -76,7 +77,8 @@ impl Compiled {
             None => None,
             Some((n, held)) => Some(held.policy().part(Owner::Url(n), side, &self.rows)),
         };
-        let defaults = self.defaults.part(Owner::Default, side, &self.rows);
+        let defaults = self.defaults.policy();
+        let defaults = defaults.part(Owner::Default, side, &self.rows);
         RuleView::new(side, file, defaults)
     }
 

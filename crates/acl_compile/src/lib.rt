@@ -3,14 +3,11 @@
 //! memory and without a search.
 #![tactic(auto)]
 
-mod bindings;
-mod change;
 pub mod compiled;
-mod fresh;
-mod keys;
 mod plan;
-mod policies;
-mod policy;
 
 pub use compiled::Compiled;
 pub use plan::RowPlan;
+
+#[cfg(test)]
+mod tests;

@@ -6,16 +6,16 @@ ghost use Rattle.acl_rows.specs.Rows.{rows_of};
 ghost use Rattle.acl_patch.specs.Touched.{touches};
 ghost use Rattle.acl_compile.specs.Compiled.{UrlsApart, compiled_state};
 ghost use Rattle.acl_compile.specs.Plans as spec;
-ghost use Rattle.acl_compile.specs.Plans.{slot_set, IsMemberPlan, IsPolicyPlan, IsPlaceFor, CanBeCounted, HaveKeys, PolicyKeys, held_for, others_held, place_steps, policy_steps};
+ghost use Rattle.acl_compile.specs.Plans.{slot_set, IsMemberPlan, IsPolicyPlan, IsPlaceFor, CanBeCounted, held_for, others_held, policy_steps};
+ghost use Rattle.row_changes.specs.Steps.{HaveKeys, PolicyKeys, place_steps};
 
-use crate::bindings::edits_of;
-use crate::change::{Change, Holding};
-use crate::policies::{CompiledPolicy, Held, find_held};
-use crate::policy::slot_rows;
 use acl_model::{Binding, Policy};
 use acl_rows::Row;
 use mud_base::Memory;
 use mud_url::MudUrl;
+use row_changes::{
+    Change, CompiledPolicy, Held, HeldDefaults, Holding, edits_of, find_held, slot_rows,
+};
 use row_edits::Edit;
 use sorted_rows::{SortedRows, Steps};
 use std::alloc::Global;
@@ -57,7 +57,7 @@ pub(crate) fn set_slot(slots: &mut Vec<Option<Held>>, index: usize, held: Option
 pub(crate) fn plan_change<L: Ledger>(
     alloc: Global,
     slots: &[Option<Held>],
-    defaults: &CompiledPolicy,
+    defaults: &HeldDefaults,
     bindings: &mut SortedRows<Binding>,
     rows: &mut SortedRows<Row>,
     gone: &[Binding],
@@ -75,7 +75,7 @@ pub(crate) fn plan_change<L: Ledger>(
         → steps.new ≤ steps.old + (length gone.now + length come.now + length (touches slots.now (gone.now ++ come.now))) * place_steps s b k }
 {
     let change = Change::new(slots, bindings, rows, gone, come);
-    let holding = Holding::of_defaults(defaults.policy());
+    let holding = Holding::of_defaults(defaults);
     let row_edits = change.plan(alloc, &holding, steps)?;
     let binding_edits = edits_of(alloc, bindings, gone, come, steps)?;
     rows.reserve(row_edits.len())?;
@@ -150,7 +150,7 @@ fn held_policy(alloc: Global, url: &MudUrl, policy: Option<&Policy>) -> Result<O
         None => Ok(None),
         Some(policy) => {
             let compiled = CompiledPolicy::new(alloc, policy.copy()?)?;
-            Ok(Some(Held::new(*url, compiled)))
+            Ok(Some(Held::new(alloc, *url, compiled)?))
         }
     }
 }

@@ -3,15 +3,16 @@ use Rattle.acl_model.specs.declared.binding.Binding.{Binding}
 use Rattle.acl_model.specs.Changes.{replaced}
 use Rattle.acl_rows.specs.Rows.{default_held}
 use Rattle.acl_patch.specs.Patch.{IsPatch}
-use Rattle.acl_compile.specs.Bindings.{AreEditsOf}
-use Rattle.acl_compile.specs.Change.{ChangeState, change_state, after, url_policy}
-use Rattle.acl_compile.proofs.Planned.{most_moved}
+use Rattle.row_changes.specs.Bindings.{AreEditsOf}
+use Rattle.row_changes.specs.Change.{ChangeState, change_state, after}
+use Rattle.row_changes.specs.Policies.{url_policy}
+use Rattle.row_changes.proofs.Planned.{most_moved}
 use Rattle.acl_compile.proofs.PlanLaws.{member_most, member_plan}
 use Rattle.acl_compile.proofs.plan.plan_change.Goals as goal
 
 pub plan-requires-clause-default_held : goal.plan-requires-clause-default_held
 unfolding default_held
-plan-requires-clause-default_held g c = ap (url_policy _) (sym (c.policy.ensures.value ∙ c.requires.default)) ∙ sym c.of_defaults-holding.ensures.held
+plan-requires-clause-default_held g c = ap (url_policy _) (sym c.requires.default) ∙ sym c.of_defaults-holding.ensures.held
 
 pub returns-in_err-row_edits-clause-most : goal.returns-in_err-row_edits-clause-most
 returns-in_err-row_edits-clause-most g c =

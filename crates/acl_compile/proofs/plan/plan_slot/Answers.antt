@@ -5,8 +5,9 @@ use Rattle.acl_rows.specs.Rows.{Slots}
 use Rattle.acl_patch.specs.Patch.{IsPatch}
 use Rattle.acl_patch.specs.PolicyTouched.{owner_rows, new_touches, IsSlotChange}
 use Rattle.acl_compile.specs.Compiled.{UrlsApart}
-use Rattle.acl_compile.specs.Fresh.{policy_count}
-use Rattle.acl_compile.specs.Plans.{IsPlaceFor, HaveKeys, PolicyKeys, others_held, place_steps}
+use Rattle.row_changes.specs.Fresh.{policy_count}
+use Rattle.acl_compile.specs.Plans.{IsPlaceFor, others_held}
+use Rattle.row_changes.specs.Steps.{HaveKeys, PolicyKeys, place_steps}
 use Rattle.acl_compile.proofs.SlotLaws.{policy_plan, policy_most}
 use Rattle.acl_compile.proofs.plan.plan_slot.Goals as goal
 

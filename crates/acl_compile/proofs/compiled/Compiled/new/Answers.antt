@@ -6,4 +6,4 @@ use Rattle.acl_compile.proofs.compiled.Compiled.new.Goals as goal
 
 pub invariant_of-result : goal.invariant_of-result
 invariant_of-result c =
-    transport (λ i. IsSound (sym c.new.ensures.items i) (sym c.new-2.ensures.rows i) (sym c.new-3.ensures.rows i) (sym c.in_ok-defaults.ensures i)) nothing_is_sound
+    transport (λ i. IsSound (sym c.new-2.ensures.items i) (sym c.new-3.ensures.rows i) (sym c.new-4.ensures.rows i) (sym c.in_ok-defaults.ensures i)) nothing_is_sound

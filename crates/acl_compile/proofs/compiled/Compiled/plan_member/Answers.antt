@@ -2,7 +2,7 @@ use Rattle.std.proofs.Common.{◌≡◌, ℕ, ◌+◌, ◌*◌, ◌^◌, ◌<◌
 use Rattle.std.proofs.Math.Path.{transport}
 use Rattle.acl_patch.specs.Touched.{touches}
 use Rattle.acl_compile.specs.Compiled.{CompiledState}
-use Rattle.acl_compile.specs.Plans.{HaveKeys, place_steps}
+use Rattle.row_changes.specs.Steps.{HaveKeys, place_steps}
 use Rattle.acl_compile.proofs.compiled.Compiled.plan_member.Goals as goal
 
 pub returns-clause-most : goal.returns-clause-most

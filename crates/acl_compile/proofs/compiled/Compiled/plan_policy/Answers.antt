@@ -1,7 +1,8 @@
 use Rattle.std.proofs.Common.{ℕ, ◌+◌, ◌^◌, ◌<◌, ◌≤◌, length, subst}
 use Rattle.std.specs.Option.{option_copied}
 use Rattle.acl_compile.specs.Compiled.{CompiledState}
-use Rattle.acl_compile.specs.Plans.{HaveKeys, PolicyKeys, held_for, policy_steps}
+use Rattle.row_changes.specs.Steps.{HaveKeys, PolicyKeys}
+use Rattle.acl_compile.specs.Plans.{held_for, policy_steps}
 use Rattle.acl_compile.proofs.compiled.Compiled.plan_policy.Goals as goal
 
 pub returns-clause-most : goal.returns-clause-most

@@ -1,0 +1,194 @@
+-- The rows that a new policy asks for, one after the other.
+use Rattle.std.proofs.Common.{◌≡◌, ℕ, suc, ◌+◌, ◌*◌, ◌<◌, ◌≤◌, Bool, true, false, cond, List, [], ◌∷◌, ◌++◌, map, length, drop, get_or, ◌||◌, Option, Some, None, Result, Ok, Err, OnOk, refl, sym, ap, subst, ◌∙◌, arith}
+use Rattle.std.specs.Prelude.{flat_map, filter}
+use Rattle.std.specs.Option.{option_map}
+use Rattle.std.specs.List.{filter_map, cons_option, list_any}
+use Rattle.std.proofs.Math.Seq.{drop-cons}
+use Rattle.std.specs.Option.{is_some}
+use Rattle.std.proofs.Math.Nat.{mul-le-mul_right}
+use Rattle.std.proofs.lemmas.Option.{none-some, same_Some}
+use Rattle.sorted_rows.specs.Placed.{row_at, index_in, set_row, rows_under}
+use Rattle.mud_base.specs.declared.addr.Addr.{Addr}
+use Rattle.mud_base.specs.declared.packet.Direction.{Direction}
+use Rattle.acl_model.specs.declared.entry.Entry.{Entry}
+use Rattle.acl_model.specs.declared.entry.Selector.{Selector}
+use Rattle.acl_model.specs.declared.binding.MemberKey.{MemberKey}
+use Rattle.acl_model.specs.declared.binding.Binding.{Binding}
+use Rattle.acl_model.specs.Keys.{key_of, is_member, is_membered}
+use Rattle.acl_model.specs.Places.{key_kind, key_text, key_place, text_place, binding_place}
+use Rattle.acl_model.specs.Changes.{without_bindings, replaced}
+use Rattle.acl_model.proofs.KeyLaws.{is_some-key_of}
+use Rattle.acl_model.specs.FirstMatch.{entries_of}
+use Rattle.acl_model.specs.Policies.{UrlPolicy}
+use Rattle.row_edits.specs.declared.edit.Edit.{Edit}
+use Rattle.row_edits.specs.Edits.{edit, edit_place}
+use Rattle.acl_rows.specs.declared.row.Owner.{Owner}
+use Rattle.acl_rows.specs.declared.row.Row.{Row}
+use Rattle.acl_rows.specs.declared.row.RowKey.{RowKey}
+use Rattle.acl_rows.specs.Places.{row_place}
+use Rattle.acl_rows.specs.Rows.{Slots, row, rows_of, member_keys, held_by, entry_at, entry_end, numbered}
+use Rattle.acl_rows.proofs.Lists.{any_first, any_second}
+use Rattle.acl_rows.proofs.Sound.{end_at-entry}
+use Rattle.acl_patch.specs.Touched.{row_key, row_key_place, key_end, changed_edits}
+use Rattle.acl_patch.specs.PolicyTouched.{bound_under, bound_key, first_key_touches}
+use Rattle.key_index.specs.Keys.{key_parts}
+use Rattle.row_changes.specs.Change.{ChangeState, after, end_of_row}
+use Rattle.row_changes.specs.Fresh.{Fresh, fresh_of, row_with, one_fresh, more_fresh, first_of, membered_count, left_edits}
+use Rattle.row_changes.proofs.OneEdit.{asked_edit}
+
+-- ---- The first key
+
+pub first_some : (p : ℕ × List ℕ) (o : Option MemberKey) (keys : List MemberKey) → (let q : Option (ℕ × List ℕ) = Some p in q ≡ option_map key_parts o) → (let q : Option (ℕ × List ℕ) = Some p in q ≡ option_map key_parts (first_of (cons_option o keys)))
+unfolding first_of
+first_some p None keys is = absurd (none-some p (sym is))
+first_some p (Some key) keys is = is
+
+pub first_none : (o : Option MemberKey) (keys : List MemberKey) → (let q : Option (ℕ × List ℕ) = None in q ≡ option_map key_parts o) → first_of (cons_option o keys) ≡ first_of keys
+unfolding first_of
+first_none None keys is = refl
+first_none (Some key) keys is = absurd (none-some (key_parts key) is)
+
+-- ---- One more place
+
+module _ (slots : Slots) (bindings : List Binding) (new : Slots) where
+  pub more_fresh-append : (xs ys : List RowKey) (s : Fresh) → more_fresh slots bindings new (xs ++ ys) s ≡ more_fresh slots bindings new ys (more_fresh slots bindings new xs s)
+  unfolding more_fresh
+  more_fresh-append [] ys s = refl
+  more_fresh-append (x ∷ xs) ys s = more_fresh-append xs ys (one_fresh slots bindings new x s)
+
+  pub one-more : (x : RowKey) (xs : List RowKey) (s : Fresh) → more_fresh slots bindings new (x ∷ xs) s ≡ more_fresh slots bindings new xs (one_fresh slots bindings new x s)
+  unfolding more_fresh
+  one-more x xs s = refl
+
+  pub none-more : (s : Fresh) → more_fresh slots bindings new [] s ≡ s
+  unfolding more_fresh
+  none-more s = refl
+
+-- the end that is asked at the place of an entry
+pub entry_asked : (new : Slots) (bindings : List Binding) (owner : Owner) (side : Direction) (a : Addr) (n : ℕ) (held : UrlPolicy) (entry : Entry) → held_by new owner ≡ Some held → entry_at n (entries_of side held.policy) ≡ Some entry → entry_end bindings held.url entry a ≡ key_end new bindings (row_key owner side a n)
+unfolding key_end
+entry_asked new bindings owner side a n held entry holds stands = sym (end_at-entry new bindings owner side a n held entry holds stands)
+
+module _ (slots : Slots) (bindings : List Binding) (new : Slots) (rows : List Row) (kept : rows ≡ rows_of slots bindings) (key : RowKey) where
+  pub fresh_some : (u : ℕ) (until : Option ℕ) (edits : List (Edit Row)) (s : Fresh) → until ≡ Some u → until ≡ key_end new bindings key → edits ≡ changed_edits key (index_in row_place (row_key_place key) rows) (end_of_row (row_at row_place (row_key_place key) rows)) (Some u) s.edits
+      → fresh_of edits (set_row row_place (row key.owner key.side key.addr key.entry u) s.rows) ≡ one_fresh slots bindings new key s
+  unfolding one_fresh row_with
+  fresh_some u until edits s some is made = (λ i. fresh_of ((made ∙ asked_edit slots bindings new rows kept key (Some u) s.edits (sym some ∙ is)) i) (row_with key ((sym some ∙ is) i) s.rows))
+
+  pub fresh_none : (until : Option ℕ) (edits : List (Edit Row)) (s : Fresh) → until ≡ None → until ≡ key_end new bindings key → edits ≡ changed_edits key (index_in row_place (row_key_place key) rows) (end_of_row (row_at row_place (row_key_place key) rows)) None s.edits
+      → fresh_of edits s.rows ≡ one_fresh slots bindings new key s
+  unfolding one_fresh row_with
+  fresh_none until edits s none is made = (λ i. fresh_of ((made ∙ asked_edit slots bindings new rows kept key None s.edits (sym none ∙ is)) i) (row_with key ((sym none ∙ is) i) s.rows))
+
+-- ---- The next one of a list
+
+pub next_bound : (owner : Owner) (side : Direction) (n : ℕ) (bs : List Binding) (i : ℕ) (b : Binding) → i < length bs → b ≡ get_or bs i b → map (bound_key owner side n) (drop i bs) ≡ row_key owner side b.addr n ∷ map (bound_key owner side n) (drop (i + 1) bs)
+unfolding bound_key
+next_bound owner side n bs i b lt is = ap (λ (xs : List Binding). map (bound_key owner side n) xs) (drop-cons bs i b lt ∙ (λ j. sym is j ∷ drop (next j) bs))
+  where
+    next : suc i ≡ i + 1
+    next = omega arith
+
+pub next_fresh_entry : (f : ℕ × Entry → List RowKey) (es : List Entry) (i : ℕ) (e : Entry) → i < length es → e ≡ get_or es i e
+    → flat_map f (numbered (i + 1) (drop i es)) ≡ f (i + 1, e) ++ flat_map f (numbered (i + 1 + 1) (drop (i + 1) es))
+unfolding numbered
+next_fresh_entry f es i e lt is =
+    ap (λ (xs : List Entry). flat_map f (numbered (i + 1) xs)) (drop-cons es i e lt ∙ (λ j. sym is j ∷ drop (next j) es))
+  where
+    next : suc i ≡ i + 1
+    next = omega arith
+
+count_by : (e : Entry) (es : List Entry) (b : Bool) → length (cond b (e ∷ filter is_membered es) (filter is_membered es)) ≡ length (cond b (e ∷ []) []) + length (filter is_membered es)
+count_by e es true = omega arith
+count_by e es false = omega arith
+
+pub next_count : (es : List Entry) (i : ℕ) (e : Entry) → i < length es → e ≡ get_or es i e → membered_count (drop i es) ≡ membered_count (e ∷ []) + membered_count (drop (i + 1) es)
+unfolding membered_count
+next_count es i e lt is =
+    ap (λ (xs : List Entry). length (filter is_membered xs)) (drop-cons es i e lt ∙ (λ j. sym is j ∷ drop (next j) es))
+    ∙ count_by e (drop (i + 1) es) (is_membered e)
+  where
+    next : suc i ≡ i + 1
+    next = omega arith
+
+-- ---- Answers that can fail
+
+pub on_ok_map : {A E : Type 0} (P Q : Type 0) → (P → Q) → (r : Result A E) → OnOk r P → OnOk r Q
+on_ok_map P Q f (Ok v) h = f h
+on_ok_map P Q f (Err e) h = tt
+
+-- ---- A change of no binding
+
+pub after_same : (c : ChangeState) → c.gone ≡ [] → c.come ≡ [] → after c ≡ c.bindings
+unfolding after replaced without_bindings
+after_same c gone come = (λ i. replaced (gone i) (come i) c.bindings)
+
+-- ---- The touches of an entry
+
+pub no_first : (bindings : List Binding) (owner : Owner) (side : Direction) (n : ℕ) (keys : List MemberKey) → (let q : Option (ℕ × List ℕ) = None in q ≡ option_map key_parts (first_of keys)) → first_key_touches bindings owner side n keys ≡ []
+unfolding first_of first_key_touches
+no_first bindings owner side n [] is = refl
+no_first bindings owner side n (key ∷ keys) is = absurd (none-some (key_parts key) is)
+
+pub some_first : (bindings : List Binding) (owner : Owner) (side : Direction) (n : ℕ) (kind : ℕ) (text : List ℕ) (keys : List MemberKey) → (let q : Option (ℕ × List ℕ) = Some (kind, text) in q ≡ option_map key_parts (first_of keys))
+    → first_key_touches bindings owner side n keys ≡ map (bound_key owner side n) (rows_under binding_place (text_place kind text) bindings)
+unfolding first_of first_key_touches bound_under key_parts key_place
+some_first bindings owner side n kind text [] is = absurd (none-some (kind, text) (sym is))
+some_first bindings owner side n kind text (key ∷ keys) is = (λ i. map (bound_key owner side n) (rows_under binding_place (text_place (sym (parts key is) i).0 (sym (parts key is) i).1) bindings))
+  where
+    parts : (key : MemberKey) → (let q : Option (ℕ × List ℕ) = Some (kind, text) in q ≡ Some (key_kind key, key_text key)) → (let p : ℕ × List ℕ = (kind, text) in p ≡ (key_kind key, key_text key))
+    parts key is = same_Some (kind, text) (key_kind key, key_text key) is
+
+pub length-map : {A B : Type 0} (f : A → B) (xs : List A) → length (map f xs) ≡ length xs
+length-map f [] = refl
+length-map f (x ∷ xs) = ap suc (length-map f xs)
+
+member_by : (url : List ℕ) (s : Selector) (ss : List Selector) (p : ℕ × List ℕ) → ((let q : Option (ℕ × List ℕ) = Some p in q ≡ option_map key_parts (first_of (filter_map (key_of url) ss))) → list_any is_member ss ≡ true)
+    → (o : Option MemberKey) → key_of url s ≡ o → (let q : Option (ℕ × List ℕ) = Some p in q ≡ option_map key_parts (first_of (cons_option o (filter_map (key_of url) ss)))) → (is_member s || list_any is_member ss) ≡ true
+unfolding first_of
+member_by url s ss p rest None is first = any_second (is_member s) _ (rest first)
+member_by url s ss p rest (Some key) is first = any_first (is_member s) _ (sym (is_some-key_of url s) ∙ ap is_some is)
+
+has_member : (url : List ℕ) (ss : List Selector) (p : ℕ × List ℕ) → (let q : Option (ℕ × List ℕ) = Some p in q ≡ option_map key_parts (first_of (filter_map (key_of url) ss))) → list_any is_member ss ≡ true
+unfolding first_of
+has_member url [] p first = absurd (none-some p (sym first))
+has_member url (s ∷ ss) p first = member_by url s ss p (has_member url ss p) (key_of url s) refl first
+
+pub counts_one : (url : List ℕ) (entry : Entry) (p : ℕ × List ℕ) → (let q : Option (ℕ × List ℕ) = Some p in q ≡ option_map key_parts (first_of (member_keys url entry))) → membered_count (entry ∷ []) ≡ 1
+unfolding membered_count is_membered member_keys
+counts_one url entry p first = ap (λ (b : Bool). length (cond b (entry ∷ []) [])) (has_member url entry.selectors p first)
+
+-- ---- Steps
+
+pub one_more_place : (start now end i n u : ℕ) → i < n → now ≤ start + i * u → end ≤ now + u → end ≤ start + n * u
+one_more_place start now end i n u lt so_far one =
+    let up : i + 1 ≤ n = omega arith in
+    let most : (i + 1) * u ≤ n * u = mul-le-mul_right u up in
+    omega (arith, most)
+
+pub all_places : (start now i n u : ℕ) → i ≤ n → now ≤ start + i * u → now ≤ start + n * u
+all_places start now i n u le so_far =
+    let most : i * u ≤ n * u = mul-le-mul_right u le in
+    omega (arith, most)
+
+-- one entry more: `t` touches and `m` counted entries here, `t'` and `m'` behind it
+pub entry_steps : (start now end ts t t' ms m m' t0 all all' touched b u : ℕ) → ts ≡ t + t' → ms ≡ m + m' → t0 ≡ t → all ≡ all'
+    → now + ms * b + ts * (u + 1) ≤ start + all * b + touched * (u + 1) → end ≤ now + m * b + t0 * (u + 1)
+    → (end ≤ start + all' * b + touched * (u + 1)) × (end + m' * b + t' * (u + 1) ≤ start + all * b + touched * (u + 1))
+entry_steps start now end ts t t' ms m m' t0 all all' touched b u next count here same far one =
+    let far' : now + (m + m') * b + (t + t') * (u + 1) ≤ start + all * b + touched * (u + 1) = subst (λ (x : ℕ). now + x * b + (t + t') * (u + 1) ≤ start + all * b + touched * (u + 1)) count (subst (λ (x : ℕ). now + ms * b + x * (u + 1) ≤ start + all * b + touched * (u + 1)) next far) in
+    let one' : end ≤ now + m * b + t * (u + 1) = subst (λ (x : ℕ). end ≤ now + m * b + x * (u + 1)) here one in
+    let whole : end + m' * b + t' * (u + 1) ≤ start + all * b + touched * (u + 1) = omega (arith, far', one') in
+    (subst (λ (x : ℕ). end ≤ start + x * b + touched * (u + 1)) same (omega (arith, whole)), whole)
+
+-- ---- Rows that aren't asked for any more
+
+pub next_left : (new : List Row) (n : ℕ) (own : List Row) (i : ℕ) (r : Row) (edits : List (Edit Row)) → i < length own → r ≡ get_or own i r → (b : Bool) → is_some (row_at row_place (row_place r) new) ≡ b
+    → left_edits new n (drop i own) edits ≡ left_edits new (n + 1) (drop (i + 1) own) (cond b edits (set_row (edit_place row_place) (edit r false (Ok n)) edits))
+unfolding left_edits
+next_left new n own i r edits lt is b kept =
+    ap (λ (xs : List Row). left_edits new n xs edits) (drop-cons own i r lt ∙ (λ j. sym is j ∷ drop (next j) own))
+    ∙ ap (λ (c : Bool). left_edits new (n + 1) (drop (i + 1) own) (cond c edits (set_row (edit_place row_place) (edit r false (Ok n)) edits))) kept
+  where
+    next : suc i ≡ i + 1
+    next = omega arith

@@ -1,0 +1,11 @@
+pub mod PolicyLaws
+pub mod OneEdit
+pub mod After
+pub mod LeastEnds
+pub mod Loops
+pub mod Planned
+pub mod BindingEdits
+pub mod FreshLaws
+pub mod OwnRows
+pub mod PolicyRows
+pub mod SpotTouches

@@ -1,0 +1,30 @@
+use Rattle.std.proofs.Common.{◌≡◌, ◌+◌, ◌*◌, ◌≤◌, length, Some, sym, ap, subst, ◌∙◌}
+use Rattle.std.proofs.Math.Path.{transport}
+use Rattle.acl_patch.specs.PolicyTouched.{new_touches}
+use Rattle.row_changes.specs.Fresh.{fresh_of, policy_count}
+use Rattle.row_changes.specs.Steps.{PolicyKeys}
+use Rattle.row_changes.proofs.PolicyRows.{no_fresh, policy_fits}
+use Rattle.row_changes.proofs.policy.fresh_rows.Goals as goal
+
+pub returns-in-None-clause-ok : goal.returns-in-None-clause-ok
+returns-in-None-clause-ok g c = λ new holds.
+    (λ i. fresh_of (c.new.ensures.rows i) (c.new-2.ensures.rows i))
+    ∙ no_fresh c.args.change.now.slots c.args.change.now.bindings new c.args.owner c.args.held.now c.in-None.is
+
+pub returns-in_err-policy_fresh-in-Some-clause-most : goal.returns-in_err-policy_fresh-in-Some-clause-most
+returns-in_err-policy_fresh-in-Some-clause-most g c = λ s b k keys few rows.
+    let o = c.of_held-holding.ensures.owner in
+    let h : c.of_held-holding.result.1 ≡ c.in-Some.held = c.of_held-holding.ensures.held in
+    let some : Some c.of_held-holding.result.1 ≡ c.args.held.now = ap Some h ∙ sym c.in-Some.is in
+    let own : PolicyKeys s (Some c.of_held-holding.result.1) = subst (PolicyKeys s) (sym some) keys in
+    transport (λ i. c.policy_fresh.new.steps ≤ c.args.steps.now + policy_count (some i) * b + length (new_touches c.args.change.now.bindings (o i) (some i)) * (s * b + k + 1))
+    (c.policy_fresh.ensures.most b k (s * b + k) few rows (policy_fits s b k c.of_held-holding.result (own c.of_held-holding.result.0)))
+
+pub returns-in_ok-policy_fresh-in-Some-clause-most : goal.returns-in_ok-policy_fresh-in-Some-clause-most
+returns-in_ok-policy_fresh-in-Some-clause-most g c = λ s b k keys few rows.
+    let o = c.of_held-holding.ensures.owner in
+    let h : c.of_held-holding.result.1 ≡ c.in-Some.held = c.of_held-holding.ensures.held in
+    let some : Some c.of_held-holding.result.1 ≡ c.args.held.now = ap Some h ∙ sym c.in-Some.is in
+    let own : PolicyKeys s (Some c.of_held-holding.result.1) = subst (PolicyKeys s) (sym some) keys in
+    transport (λ i. c.policy_fresh.new.steps ≤ c.args.steps.now + policy_count (some i) * b + length (new_touches c.args.change.now.bindings (o i) (some i)) * (s * b + k + 1))
+    (c.policy_fresh.ensures.most b k (s * b + k) few rows (policy_fits s b k c.of_held-holding.result (own c.of_held-holding.result.0)))

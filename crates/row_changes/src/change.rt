@@ -1,0 +1,543 @@
+//! The edits of rows that a change of bindings leads to.
+ghost use Rattle.std.specs.Prelude.{◌≡◌, ℕ, ◌+◌, ◌*◌, ◌^◌, ◌<◌, ◌≤◌, length, min, List, OnOk, Some, slice_get, IfOk, ◌++◌, ◌∷◌, [], is_some, unwrap_or, true};
+ghost use Rattle.std.specs.Option.{option_map};
+ghost use Rattle.std.specs.List.{list_any, filter_map};
+ghost use Rattle.sorted_rows.specs.Placed.{same_place, row_at, set_rows, index_in};
+ghost use Rattle.mud_url.specs.Url.{host_of};
+ghost use Rattle.acl_model.specs.declared.binding.Binding.{Binding as BindingValue};
+ghost use Rattle.acl_model.specs.Keys.{key_of};
+ghost use Rattle.acl_model.specs.Places.{binding_place, key_place};
+ghost use Rattle.acl_model.specs.Changes.{until_of};
+ghost use Rattle.acl_model.specs.FirstMatch.{entries_of};
+ghost use Rattle.acl_rows.specs.Places.{row_place};
+ghost use Rattle.acl_rows.specs.Rows as spec;
+ghost use Rattle.acl_patch.specs.Patch.{IsPatch};
+ghost use Rattle.acl_patch.specs.Touched.{changed_edits, row_key, row_key_place};
+ghost use Rattle.key_index.specs.Spots.{policy_spots};
+ghost use Rattle.acl_patch.specs.Touched as touched;
+ghost use Rattle.row_changes.specs.Keys.{place_of_text};
+ghost use Rattle.row_changes.specs.Change.{end_in, met_end, end_of_row, after, more_edits, slot_touches, change_state};
+ghost use Rattle.row_changes.specs.Steps.{key_steps, EntriesFit, HolderFits};
+ghost use Rattle.row_changes.specs.Policies.{HasCounts, AllHeld, url_policy};
+
+use crate::keys::is_bound;
+use crate::policies::{Held, HeldDefaults};
+use acl_model::{Binding, BoundKey, Entry, MemberKey, Policy, Selector, is_in_family};
+use acl_rows::{Owner, Row, RowKey};
+use key_index::{EntrySpot, KeyIndex, selector_key};
+use mud_base::{Addr, Direction, End, Memory};
+use mud_url::MudUrl;
+use row_edits::{Edit, plan_edit};
+use sorted_rows::{SortedRows, Steps};
+use std::alloc::Global;
+use std::marker::Model;
+use std::sync::ledger::Ledger;
+
+/// The end of a binding that is kept.
+#[tactic(auto, unfolding(acl_model::specs::Changes::until_of))]
+fn kept_end<L: Ledger>(
+    bindings: &SortedRows<Binding>,
+    key: &BoundKey<'_>,
+    steps: &mut Steps<L>,
+) -> Option<End>
+    ensures value { result ≡ option_map until_of (row_at binding_place (place_of_text key.entry.now.key.kind key.entry.now.key.text.now key.entry.now.addr) bindings.now.rows) }
+    ensures least { steps.old ≤ steps.new }
+    ensures most { (b : ℕ) → length bindings.now.rows < 2 ^ b → steps.new ≤ steps.old + b }
+{
+    match bindings.get_counted(key, steps) {
+        Some(binding) => Some(binding.until),
+        None => None,
+    }
+}
+
+/// A policy that is held, with its URL's text and host and its index by keys, and whose rows are its
+/// own.
+#[derive(Drop, Debug)]
+pub struct Holding<'a> {
+    owner: Owner,
+    url: &'a [u8],
+    host: &'a [u8],
+    policy: &'a Policy,
+    keys: &'a KeyIndex,
+}
+
+impl<'a> Model for Holding<'a> {
+    ghost use Rattle.acl_rows.specs.Rows.{Holder};
+    ghost use Rattle.row_changes.specs.Policies.{HasItsKeys};
+
+    ghost Value = { Holder };
+
+    ghost view = { λ h. (h.owner, record { url = h.url.now; policy = h.policy.now }) };
+
+    ghost invariant = { λ h. HasItsKeys h.url.now h.host.now h.policy.now h.keys.now };
+}
+
+/// A change of bindings, over what is kept.
+#[derive(Drop)]
+pub struct Change<'a> {
+    pub(crate) slots: &'a [Option<Held>],
+    pub(crate) bindings: &'a SortedRows<Binding>,
+    pub(crate) rows: &'a SortedRows<Row>,
+    gone: &'a [Binding],
+    come: &'a [Binding],
+}
+
+impl<'a> Model for Change<'a> {
+    ghost use Rattle.std.specs.Prelude.{◌≡◌};
+    ghost use Rattle.acl_rows.specs.Rows.{rows_of};
+    ghost use Rattle.row_changes.specs.Change.{ChangeState};
+
+    ghost Value = { ChangeState };
+
+    ghost view = { λ c. record { slots = c.slots.now; bindings = c.bindings.now.rows; rows = c.rows.now.rows; gone = c.gone.now; come = c.come.now } };
+
+    ghost invariant = { λ c. c.rows.now.rows ≡ rows_of c.slots.now c.bindings.now.rows };
+}
+
+/// The end at a place after these bindings came, one after the other, where it was `end` before.
+fn came_end(come: &[Binding], key: &BoundKey<'_>, end: Option<End>) -> Option<End>
+    ensures { (bindings : List BindingValue)
+        → end ≡ end_in (place_of_text key.entry.now.key.kind key.entry.now.key.text.now key.entry.now.addr) bindings
+        → result ≡ end_in (place_of_text key.entry.now.key.kind key.entry.now.key.text.now key.entry.now.addr) (set_rows binding_place come.now bindings) }
+{
+    let mut last = end;
+    for binding in come {
+        if is_bound(key, binding) {
+            last = Some(binding.until);
+        }
+    }
+    last
+}
+
+/// Whether one of these bindings is of the key and address.
+fn is_gone(gone: &[Binding], key: &BoundKey<'_>) -> bool
+    ensures { result ≡ list_any (λ b. same_place (binding_place b) (place_of_text key.entry.now.key.kind key.entry.now.key.text.now key.entry.now.addr)) gone.now }
+{
+    gone.iter().any(|binding| is_bound(key, binding))
+}
+
+impl<'a> Change<'a> {
+    /// The end of the binding of a key and an address after the change.
+    fn bound_end<L: Ledger>(&self, key: &BoundKey<'_>, steps: &mut Steps<L>) -> Option<End>
+        ensures value { result ≡ end_in (place_of_text key.entry.now.key.kind key.entry.now.key.text.now key.entry.now.addr) (after self.now) }
+        ensures least { steps.old ≤ steps.new }
+        ensures most { (b : ℕ) → length self.now.bindings < 2 ^ b → steps.new ≤ steps.old + b }
+    {
+        let bindings = self.bindings;
+        let _kept = bindings.rows();
+        if is_gone(self.gone, key) {
+            return came_end(self.come, key, None);
+        }
+        let end = kept_end(bindings, key, steps);
+        came_end(self.come, key, end)
+    }
+
+    /// The lesser of an end and that of the binding of a selector's key after the change. None where
+    /// there is no such binding; a selector with no key asks for none.
+    fn selector_end<L: Ledger>(
+        &self,
+        selector: &Selector,
+        url: &[u8],
+        host: &[u8],
+        addr: Addr,
+        end: End,
+        steps: &mut Steps<L>,
+    ) -> Option<End>
+        requires { host.now ≡ host_of url.now }
+        ensures value { result ≡ met_end (after self.now) addr end (key_of url.now selector.now) }
+        ensures least { steps.old ≤ steps.new }
+        ensures most { (b : ℕ) → length self.now.bindings < 2 ^ b → steps.new ≤ steps.old + key_steps b (key_of url.now selector.now) }
+    {
+        match selector_key(selector, url, host) {
+            None => Some(end),
+            Some(key) => {
+                let until = self.bound_end(&BoundKey { key, addr }, steps);
+                lesser(end, until)
+            }
+        }
+    }
+
+    /// The least end of the bindings of an address and the keys of these selectors after the change.
+    /// None where one of them isn't bound.
+    fn least_end<L: Ledger>(
+        &self,
+        selectors: &[Selector],
+        url: &[u8],
+        host: &[u8],
+        addr: Addr,
+        steps: &mut Steps<L>,
+    ) -> Option<End>
+        requires { host.now ≡ host_of url.now }
+        ensures value { result ≡ spec.least_end (after self.now) addr spec.never (filter_map (key_of url.now) selectors.now) }
+        ensures least { steps.old ≤ steps.new }
+        ensures most { (b : ℕ) → length self.now.bindings < 2 ^ b → steps.new ≤ steps.old + length (filter_map (key_of url.now) selectors.now) * b }
+    {
+        let mut end = End(End::NEVER);
+        for selector in selectors {
+            match self.selector_end(selector, url, host, addr, end, steps) {
+                None => return None,
+                Some(next) => end = next,
+            }
+        }
+        Some(end)
+    }
+
+    /// Until when an address meets the member selectors of an entry after the change, where it does.
+    #[tactic(auto, unfolding(acl_rows::specs::Rows::entry_end, acl_rows::specs::Rows::member_keys))]
+    pub(crate) fn entry_end<L: Ledger>(
+        &self,
+        entry: &Entry,
+        url: &[u8],
+        host: &[u8],
+        addr: Addr,
+        steps: &mut Steps<L>,
+    ) -> Option<End>
+        requires { host.now ≡ host_of url.now }
+        ensures value { result ≡ spec.entry_end (after self.now) url.now entry.now addr }
+        ensures least { steps.old ≤ steps.new }
+        ensures most { (b : ℕ) → length self.now.bindings < 2 ^ b → steps.new ≤ steps.old + length (spec.member_keys url.now entry.now) * b }
+    {
+        if !entry.is_membered() || !is_in_family(entry.family, addr) {
+            return None;
+        }
+        self.least_end(entry.selectors.as_slice(), url, host, addr, steps)
+    }
+
+    /// The edit by which the row of a key has this end, or by which it goes: where that changes it.
+    pub(crate) fn plan_row<L: Ledger>(
+        &self,
+        key: RowKey,
+        until: Option<End>,
+        edits: &mut SortedRows<Edit<Row>>,
+        steps: &mut Steps<L>,
+    ) -> Result<(), Memory>
+        ensures ok { OnOk result (edits.new.rows ≡ changed_edits key (index_in row_place (row_key_place key) self.now.rows) (end_of_row (row_at row_place (row_key_place key) self.now.rows)) until edits.old.rows) }
+        ensures least { steps.old ≤ steps.new }
+        ensures most { (b : ℕ) → length self.now.rows < 2 ^ b → steps.new ≤ steps.old + b }
+    {
+        let kept = self.rows.rows();
+        match self.rows.find_counted(&key, steps) {
+            Ok(index) => plan_kept(edits, key, index, row_of(kept, index).until, until),
+            Err(index) => plan_new(edits, key, index, until),
+        }
+    }
+
+    /// The edit of an entry at an address.
+    fn spot_edit<L: Ledger>(
+        &self,
+        holding: &Holding<'_>,
+        spot: &EntrySpot,
+        addr: Addr,
+        edits: &mut SortedRows<Edit<Row>>,
+        steps: &mut Steps<L>,
+    ) -> Result<(), Memory>
+        requires held { spec.held_by self.now.slots holding.now.0 ≡ Some holding.now.1 }
+        requires stands { is_some (spec.entry_at spot.now.number (entries_of spot.now.side holding.now.1.policy)) ≡ true }
+        ensures ok { OnOk result (edits.new.rows ≡ more_edits self.now (row_key holding.now.0 spot.now.side addr spot.now.number ∷ []) edits.old.rows) }
+        ensures least { steps.old ≤ steps.new }
+        ensures most { (b k u : ℕ) → length self.now.bindings < 2 ^ b → length self.now.rows < 2 ^ k
+            → HolderFits holding.now b k u → steps.new ≤ steps.old + u }
+    {
+        let _kept = &self.slots;
+        let entry = holding.entry(*spot);
+        let until = self.entry_end(entry, holding.url(), holding.host(), addr, steps);
+        let row = RowKey {
+            owner: holding.owner(),
+            side: spot.side,
+            addr,
+            entry: spot.number,
+        };
+        self.plan_row(row, until, edits, steps)
+    }
+
+    /// The edits of the entries of a holder at an address, where they have the key.
+    fn holder_edits<L: Ledger>(
+        &self,
+        holding: &Holding<'_>,
+        key: &MemberKey,
+        addr: Addr,
+        edits: &mut SortedRows<Edit<Row>>,
+        steps: &mut Steps<L>,
+    ) -> Result<(), Memory>
+        requires { spec.held_by self.now.slots holding.now.0 ≡ Some holding.now.1 }
+        ensures ok { OnOk result (edits.new.rows ≡ more_edits self.now (touched.holder_touches key.now addr holding.now) edits.old.rows) }
+        ensures least { steps.old ≤ steps.new }
+        ensures most { (b k u : ℕ) → length self.now.bindings < 2 ^ b → length self.now.rows < 2 ^ k
+            → HolderFits holding.now b k u
+            → steps.new ≤ steps.old + length (touched.holder_touches key.now addr holding.now) * u }
+    {
+        let spots = holding.spots(key);
+        for spot in spots {
+            self.spot_edit(holding, spot, addr, edits, steps)?;
+        }
+        Ok(())
+    }
+
+    /// The edits of the policy of a slot at an address, where its entries have the key.
+    #[tactic(auto, unfolding(crate::specs::Change::slot_touches))]
+    fn slot_edits<L: Ledger>(
+        &self,
+        slot: &Option<Held>,
+        n: u16,
+        binding: &Binding,
+        edits: &mut SortedRows<Edit<Row>>,
+        steps: &mut Steps<L>,
+    ) -> Result<(), Memory>
+        requires stands { slice_get self.now.slots n ≡ Some slot.now }
+        ensures ok { OnOk result (edits.new.rows ≡ more_edits self.now (slot_touches binding.now.key binding.now.addr n slot.now) edits.old.rows) }
+        ensures least { steps.old ≤ steps.new }
+        ensures most { (b k u : ℕ) → length self.now.bindings < 2 ^ b → length self.now.rows < 2 ^ k
+            → AllHeld self.now.slots (λ h. HolderFits h b k u)
+            → steps.new ≤ steps.old + length (slot_touches binding.now.key binding.now.addr n slot.now) * u }
+    {
+        match slot {
+            None => Ok(()),
+            Some(held) => {
+                let holding = Holding::of_held(Owner::Url(n), held);
+                self.holder_edits(&holding, &binding.key, binding.addr, edits, steps)
+            }
+        }
+    }
+
+    /// The edits at the address of a binding that goes or comes, of each entry that has its key.
+    #[tactic(auto, unfolding(acl_patch::specs::Touched::binding_touches))]
+    fn binding_edits<L: Ledger>(
+        &self,
+        binding: &Binding,
+        defaults: &Holding<'_>,
+        edits: &mut SortedRows<Edit<Row>>,
+        steps: &mut Steps<L>,
+    ) -> Result<(), Memory>
+        requires few { length self.now.slots ≤ 65535 }
+        requires default_owner { defaults.now.0 ≡ Owner.Default }
+        requires default_held { spec.default_held ≡ defaults.now.1 }
+        ensures ok { OnOk result (edits.new.rows ≡ more_edits self.now (touched.binding_touches self.now.slots binding.now) edits.old.rows) }
+        ensures least { steps.old ≤ steps.new }
+        ensures most { (b k u : ℕ) → length self.now.bindings < 2 ^ b → length self.now.rows < 2 ^ k
+            → AllHeld self.now.slots (λ h. HolderFits h b k u)
+            → steps.new ≤ steps.old + length (touched.binding_touches self.now.slots binding.now) * u }
+    {
+        let slots = self.slots;
+        let mut n: u16 = 0;
+        for slot in slots {
+            self.slot_edits(slot, n, binding, edits, steps)?;
+            n += 1;
+        }
+        self.holder_edits(defaults, &binding.key, binding.addr, edits, steps)
+    }
+
+    /// The edits of bindings that go or come.
+    fn all_edits<L: Ledger>(
+        &self,
+        changed: &[Binding],
+        defaults: &Holding<'_>,
+        edits: &mut SortedRows<Edit<Row>>,
+        steps: &mut Steps<L>,
+    ) -> Result<(), Memory>
+        requires few { length self.now.slots ≤ 65535 }
+        requires default_owner { defaults.now.0 ≡ Owner.Default }
+        requires default_held { spec.default_held ≡ defaults.now.1 }
+        ensures ok { OnOk result (edits.new.rows ≡ more_edits self.now (touched.touches self.now.slots changed.now) edits.old.rows) }
+        ensures least { steps.old ≤ steps.new }
+        ensures most { (b k u : ℕ) → length self.now.bindings < 2 ^ b → length self.now.rows < 2 ^ k
+            → AllHeld self.now.slots (λ h. HolderFits h b k u)
+            → steps.new ≤ steps.old + length (touched.touches self.now.slots changed.now) * u }
+    {
+        for binding in changed {
+            self.binding_edits(binding, defaults, edits, steps)?;
+        }
+        Ok(())
+    }
+
+    /// The edits of the change: with them the rows are those made anew of the bindings after it.
+    pub fn plan<L: Ledger>(
+        &self,
+        alloc: Global,
+        defaults: &Holding<'_>,
+        steps: &mut Steps<L>,
+    ) -> Result<SortedRows<Edit<Row>>, Memory>
+        requires few { length self.now.slots ≤ 65535 }
+        requires default_owner { defaults.now.0 ≡ Owner.Default }
+        requires default_held { spec.default_held ≡ defaults.now.1 }
+        ensures ok { IfOk result (λ edits. IsPatch self.now.slots self.now.bindings self.now.slots (after self.now) edits.rows) }
+        ensures most { (b k u : ℕ) → length self.now.bindings < 2 ^ b → length self.now.rows < 2 ^ k
+            → AllHeld self.now.slots (λ h. HolderFits h b k u)
+            → steps.new ≤ steps.old + length (touched.touches self.now.slots (self.now.gone ++ self.now.come)) * u }
+    {
+        let bindings = self.bindings;
+        let _kept = bindings.rows();
+        let mut edits = SortedRows::new(alloc);
+        self.all_edits(self.gone, defaults, &mut edits, steps)?;
+        self.all_edits(self.come, defaults, &mut edits, steps)?;
+        Ok(edits)
+    }
+}
+
+impl<'a> Change<'a> {
+    /// A change of bindings over these.
+    pub fn new(
+        slots: &'a [Option<Held>],
+        bindings: &'a SortedRows<Binding>,
+        rows: &'a SortedRows<Row>,
+        gone: &'a [Binding],
+        come: &'a [Binding],
+    ) -> Change<'a>
+        requires { rows.now.rows ≡ spec.rows_of slots.now bindings.now.rows }
+        ensures { result ≡ change_state slots.now bindings.now.rows rows.now.rows gone.now come.now }
+    {
+        Change {
+            slots,
+            bindings,
+            rows,
+            gone,
+            come,
+        }
+    }
+}
+
+impl<'a> Holding<'a> {
+    /// A policy that is held, whose rows are to be this owner's.
+    pub fn of_held(owner: Owner, held: &'a Held) -> Holding<'a>
+        ensures owner { result.0 ≡ owner }
+        ensures held { result.1 ≡ held.now }
+        ensures counts { HasCounts result.1.policy }
+    {
+        Holding {
+            owner,
+            url: held.url().text(),
+            host: held.url().host(),
+            policy: held.policy().policy(),
+            keys: held.keys(),
+        }
+    }
+
+    /// Whose rows are the policy's.
+    pub(crate) fn owner(&self) -> Owner
+        ensures { result ≡ self.now.0 }
+    {
+        self.owner
+    }
+
+    /// The text of the URL; the defaults have none.
+    pub(crate) fn url(&self) -> &'a [u8]
+        ensures { result.now ≡ self.now.1.url }
+    {
+        self.url
+    }
+
+    /// The host of the URL.
+    pub(crate) fn host(&self) -> &'a [u8]
+        ensures { result.now ≡ host_of self.now.1.url }
+    {
+        let _url = self.url;
+        self.host
+    }
+
+    /// The default entries, which name no URL.
+    #[tactic(auto, unfolding(mud_url::specs::Url::host_of, mud_url::specs::Url::authority, mud_url::specs::Url::host_part))]
+    pub fn of_defaults(defaults: &'a HeldDefaults) -> Holding<'a>
+        ensures owner { result.0 ≡ Owner.Default }
+        ensures held { result.1 ≡ url_policy [] defaults.now }
+    {
+        Holding {
+            owner: Owner::Default,
+            url: b"",
+            host: b"",
+            policy: defaults.policy().policy(),
+            keys: defaults.keys(),
+        }
+    }
+
+    /// The entries that have a key: those for what the Thing sends first.
+    #[tactic(auto, unfolding(acl_model::specs::Places::key_place))]
+    fn spots(&self, key: &MemberKey) -> &'a [EntrySpot]
+        ensures { result.now ≡ policy_spots self.now.1.url self.now.1.policy (key_place key.now) }
+    {
+        let keys = self.keys;
+        keys.spots(&key.key_text())
+    }
+
+    /// One of the entries.
+    fn entry(&self, spot: EntrySpot) -> &'a Entry
+        requires { is_some (spec.entry_at spot.number (entries_of spot.side self.now.1.policy)) ≡ true }
+        ensures { spec.entry_at spot.number (entries_of spot.side self.now.1.policy) ≡ Some result.now }
+    {
+        let entries = self.entries(spot.side);
+        &entries[usize::from(spot.number) - 1]
+    }
+
+    /// The entries of one side.
+    #[tactic(auto, unfolding(acl_model::specs::FirstMatch::entries_of))]
+    pub(crate) fn entries(&self, side: Direction) -> &'a [Entry]
+        ensures { result.now ≡ entries_of side self.now.1.policy }
+    {
+        let policy = self.policy;
+        match side {
+            Direction::From => policy.outgoing.as_slice(),
+            Direction::To => policy.incoming.as_slice(),
+        }
+    }
+}
+
+/// The row of an index.
+fn row_of(rows: &[Row], index: usize) -> &Row
+    requires { index < length rows.now }
+    ensures { slice_get rows.now index ≡ Some result.now }
+{
+    &rows[index]
+}
+
+/// The row of a key with this end.
+#[tactic(auto, unfolding(acl_rows::specs::Rows::row))]
+pub(crate) fn row_until(key: RowKey, until: End) -> Row
+    ensures { result ≡ spec.row key.owner key.side key.addr key.entry until }
+{
+    Row {
+        owner: key.owner,
+        side: key.side,
+        addr: key.addr,
+        entry: key.entry,
+        until,
+    }
+}
+
+/// Plans that the row of this key and index gets the new end, or goes where there is none.
+#[tactic(auto, unfolding(acl_patch::specs::Touched::changed_edits, acl_patch::specs::Touched::same_end, acl_patch::specs::Touched::edit_of))]
+fn plan_kept(
+    edits: &mut SortedRows<Edit<Row>>,
+    key: RowKey,
+    index: usize,
+    old: End,
+    new: Option<End>,
+) -> Result<(), Memory>
+    ensures { OnOk result (edits.new.rows ≡ changed_edits key (Ok index) (Some old) new edits.old.rows) }
+{
+    match new {
+        Some(end) if end.0 == old.0 => Ok(()),
+        Some(end) => plan_edit(edits, row_until(key, end), true, Ok(index)),
+        None => plan_edit(edits, row_until(key, old), false, Ok(index)),
+    }
+}
+
+/// Plans that the row of this key comes with the new end, where there is one, at this index.
+#[tactic(auto, unfolding(acl_patch::specs::Touched::changed_edits, acl_patch::specs::Touched::same_end, acl_patch::specs::Touched::edit_of))]
+fn plan_new(
+    edits: &mut SortedRows<Edit<Row>>,
+    key: RowKey,
+    index: usize,
+    new: Option<End>,
+) -> Result<(), Memory>
+    ensures { OnOk result (edits.new.rows ≡ changed_edits key (Err index) None new edits.old.rows) }
+{
+    match new {
+        Some(end) => plan_edit(edits, row_until(key, end), true, Err(index)),
+        None => Ok(()),
+    }
+}
+
+/// The lesser of two ends, where there is a second one.
+fn lesser(end: End, until: Option<End>) -> Option<End>
+    ensures { result ≡ option_map (min end) until }
+{
+    until.map(|until| End(end.0.min(until.0)))
+}

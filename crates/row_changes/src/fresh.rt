@@ -1,0 +1,215 @@
+//! The rows that a new policy asks for, and the edits that they lead to.
+ghost use Rattle.std.specs.Prelude.{◌≡◌, ℕ, ◌+◌, ◌*◌, ◌^◌, ◌<◌, ◌≤◌, length, OnOk, Some, [], ◌∷◌, map};
+ghost use Rattle.acl_model.specs.FirstMatch.{entries_of};
+ghost use Rattle.sorted_rows.specs.Placed.{set_row};
+ghost use Rattle.acl_rows.specs.Places.{row_place};
+ghost use Rattle.acl_rows.specs.Rows.{Slots, row, held_by, entry_at, member_keys};
+ghost use Rattle.acl_patch.specs.Touched.{row_key, key_end};
+ghost use Rattle.acl_patch.specs.PolicyTouched.{bound_key, entry_touches, side_policy_touches, new_touches};
+ghost use Rattle.row_changes.specs.Policies.{HasCounts};
+ghost use Rattle.row_changes.specs.Steps.{EntriesFit, HolderFits};
+ghost use Rattle.row_changes.specs.Fresh.{one_fresh, more_fresh, membered_count, policy_count, left_edits};
+
+use crate::change::{Change, Holding, row_until};
+use crate::keys::first_key;
+use acl_model::{Binding, Entry};
+use acl_rows::{Row, RowKey};
+use mud_base::{Addr, Direction, End, Memory};
+use row_edits::{Edit, plan_edit};
+use sorted_rows::{SortedRows, Steps};
+use std::alloc::Global;
+use std::marker::Model;
+use std::sync::ledger::Ledger;
+
+/// Edits that are planned, and the rows that a new policy asks for.
+#[derive(Drop)]
+pub(crate) struct FreshRows {
+    pub(crate) edits: SortedRows<Edit<Row>>,
+    pub(crate) rows: SortedRows<Row>,
+}
+
+impl Model for FreshRows {
+    ghost use Rattle.row_changes.specs.Fresh.{Fresh, fresh_of};
+
+    ghost Value = { Fresh };
+
+    ghost view = { λ f. fresh_of f.edits.rows f.rows.rows };
+}
+
+impl<'a> Change<'a> {
+    /// Plans the row of a key, which is asked for until this end or not at all.
+    fn plan_fresh<L: Ledger>(
+        &self,
+        key: RowKey,
+        until: Option<End>,
+        fresh: &mut FreshRows,
+        steps: &mut Steps<L>,
+    ) -> Result<(), Memory>
+        ensures ok { OnOk result ((new : Slots) → until ≡ key_end new self.now.bindings key → fresh.new ≡ one_fresh self.now.slots self.now.bindings new key fresh.old) }
+        ensures most { (k : ℕ) → length self.now.rows < 2 ^ k → steps.new ≤ steps.old + k }
+    {
+        let _kept = &self.slots;
+        match until {
+            Some(end) => {
+                self.plan_row(key, Some(end), &mut fresh.edits, steps)?;
+                put_fresh(&mut fresh.rows, key, end)
+            }
+            None => self.plan_row(key, None, &mut fresh.edits, steps),
+        }
+    }
+
+    /// Plans the row of an entry at an address.
+    fn address_fresh<L: Ledger>(
+        &self,
+        holding: &Holding<'_>,
+        side: Direction,
+        n: u16,
+        entry: &Entry,
+        addr: Addr,
+        fresh: &mut FreshRows,
+        steps: &mut Steps<L>,
+    ) -> Result<(), Memory>
+        requires gone { self.now.gone ≡ [] }
+        requires come { self.now.come ≡ [] }
+        requires stands { entry_at n (entries_of side holding.now.1.policy) ≡ Some entry.now }
+        ensures ok { OnOk result ((new : Slots) → held_by new holding.now.0 ≡ Some holding.now.1 → fresh.new ≡ one_fresh self.now.slots self.now.bindings new (row_key holding.now.0 side addr n) fresh.old) }
+        ensures most { (b k u : ℕ) → length self.now.bindings < 2 ^ b → length self.now.rows < 2 ^ k
+            → length (member_keys holding.now.1.url entry.now) * b + k ≤ u → steps.new ≤ steps.old + u }
+    {
+        let until = self.entry_end(entry, holding.url(), holding.host(), addr, steps);
+        let key = RowKey {
+            owner: holding.owner(),
+            side,
+            addr,
+            entry: n,
+        };
+        self.plan_fresh(key, until, fresh, steps)
+    }
+
+    /// Plans the rows of an entry at the addresses of these bindings.
+    fn bound_fresh<L: Ledger>(
+        &self,
+        holding: &Holding<'_>,
+        side: Direction,
+        n: u16,
+        entry: &Entry,
+        bound: &[Binding],
+        fresh: &mut FreshRows,
+        steps: &mut Steps<L>,
+    ) -> Result<(), Memory>
+        requires gone { self.now.gone ≡ [] }
+        requires come { self.now.come ≡ [] }
+        requires stands { entry_at n (entries_of side holding.now.1.policy) ≡ Some entry.now }
+        ensures ok { OnOk result ((new : Slots) → held_by new holding.now.0 ≡ Some holding.now.1
+            → fresh.new ≡ more_fresh self.now.slots self.now.bindings new (map (bound_key holding.now.0 side n) bound.now) fresh.old) }
+        ensures most { (b k u : ℕ) → length self.now.bindings < 2 ^ b → length self.now.rows < 2 ^ k
+            → length (member_keys holding.now.1.url entry.now) * b + k ≤ u → steps.new ≤ steps.old + length bound.now * u }
+    {
+        for binding in bound {
+            self.address_fresh(holding, side, n, entry, binding.addr, fresh, steps)?;
+        }
+        Ok(())
+    }
+
+    /// Plans the rows of an entry: at the addresses of the bindings of its first key.
+    #[tactic(auto, unfolding(acl_patch::specs::PolicyTouched::entry_touches))]
+    fn entry_fresh<L: Ledger>(
+        &self,
+        holding: &Holding<'_>,
+        side: Direction,
+        n: u16,
+        entry: &Entry,
+        fresh: &mut FreshRows,
+        steps: &mut Steps<L>,
+    ) -> Result<(), Memory>
+        requires gone { self.now.gone ≡ [] }
+        requires come { self.now.come ≡ [] }
+        requires stands { entry_at n (entries_of side holding.now.1.policy) ≡ Some entry.now }
+        ensures ok { OnOk result ((new : Slots) → held_by new holding.now.0 ≡ Some holding.now.1
+            → fresh.new ≡ more_fresh self.now.slots self.now.bindings new (entry_touches self.now.bindings holding.now.0 holding.now.1 side (n, entry.now)) fresh.old) }
+        ensures most { (b k u : ℕ) → length self.now.bindings < 2 ^ b → length self.now.rows < 2 ^ k
+            → length (member_keys holding.now.1.url entry.now) * b + k ≤ u
+            → steps.new ≤ steps.old + membered_count (entry.now ∷ []) * b + length (entry_touches self.now.bindings holding.now.0 holding.now.1 side (n, entry.now)) * (u + 1) }
+    {
+        match first_key(entry, holding.url(), holding.host()) {
+            None => Ok(()),
+            Some(key) => {
+                let bindings = self.bindings;
+                let bound = bindings.rows_under_counted(&key, steps);
+                self.bound_fresh(holding, side, n, entry, bound, fresh, steps)
+            }
+        }
+    }
+
+    /// Plans the rows of the entries of one side.
+    #[tactic(auto, unfolding(acl_patch::specs::PolicyTouched::side_policy_touches))]
+    fn side_fresh<L: Ledger>(
+        &self,
+        holding: &Holding<'_>,
+        side: Direction,
+        fresh: &mut FreshRows,
+        steps: &mut Steps<L>,
+    ) -> Result<(), Memory>
+        requires gone { self.now.gone ≡ [] }
+        requires come { self.now.come ≡ [] }
+        requires few { length (entries_of side holding.now.1.policy) ≤ 65535 }
+        ensures ok { OnOk result ((new : Slots) → held_by new holding.now.0 ≡ Some holding.now.1
+            → fresh.new ≡ more_fresh self.now.slots self.now.bindings new (side_policy_touches self.now.bindings holding.now.0 holding.now.1 side) fresh.old) }
+        ensures most { (b k u : ℕ) → length self.now.bindings < 2 ^ b → length self.now.rows < 2 ^ k
+            → EntriesFit holding.now.1.url (entries_of side holding.now.1.policy) b k u
+            → steps.new ≤ steps.old + membered_count (entries_of side holding.now.1.policy) * b + length (side_policy_touches self.now.bindings holding.now.0 holding.now.1 side) * (u + 1) }
+    {
+        let entries = holding.entries(side);
+        let mut n: u16 = 0;
+        for entry in entries {
+            n += 1;
+            self.entry_fresh(holding, side, n, entry, fresh, steps)?;
+        }
+        Ok(())
+    }
+
+    /// Plans the rows of a policy.
+    pub(crate) fn policy_fresh<L: Ledger>(
+        &self,
+        holding: &Holding<'_>,
+        fresh: &mut FreshRows,
+        steps: &mut Steps<L>,
+    ) -> Result<(), Memory>
+        requires gone { self.now.gone ≡ [] }
+        requires come { self.now.come ≡ [] }
+        requires few { HasCounts holding.now.1.policy }
+        ensures ok { OnOk result ((new : Slots) → held_by new holding.now.0 ≡ Some holding.now.1
+            → fresh.new ≡ more_fresh self.now.slots self.now.bindings new (new_touches self.now.bindings holding.now.0 (Some holding.now.1)) fresh.old) }
+        ensures most { (b k u : ℕ) → length self.now.bindings < 2 ^ b → length self.now.rows < 2 ^ k → HolderFits holding.now b k u
+            → steps.new ≤ steps.old + policy_count (Some holding.now.1) * b + length (new_touches self.now.bindings holding.now.0 (Some holding.now.1)) * (u + 1) }
+    {
+        self.side_fresh(holding, Direction::From, fresh, steps)?;
+        self.side_fresh(holding, Direction::To, fresh, steps)
+    }
+}
+
+/// Adds the row of a key with this end.
+fn put_fresh(rows: &mut SortedRows<Row>, key: RowKey, until: End) -> Result<(), Memory>
+    ensures { OnOk result (rows.new.rows ≡ set_row row_place (row key.owner key.side key.addr key.entry until) rows.old.rows) }
+{
+    rows.reserve(1)?;
+    rows.put(row_until(key, until));
+    Ok(())
+}
+
+/// Plans that those of these rows go whose places aren't among the new rows. They are kept from
+/// this index on.
+pub(crate) fn plan_left(own: &[Row], first: usize, fresh: &mut FreshRows) -> Result<(), Memory>
+    requires { first + length own.now < 2 ^ 64 }
+    ensures rows { fresh.new.rows ≡ fresh.old.rows }
+    ensures ok { OnOk result (fresh.new.edits ≡ left_edits fresh.old.rows first own.now fresh.old.edits) }
+{
+    let mut index = first;
+    for row in own {
+        if !fresh.rows.contains(row) {
+            plan_edit(&mut fresh.edits, *row, false, Ok(index))?;
+        }
+        index += 1;
+    }
+    Ok(())
+}

@@ -27,12 +27,13 @@ use Rattle.mud_tables.specs.BindingChanges.{gone_of, come_of}
 use Rattle.table_laws.proofs.BookChanges.{class_book_change}
 use Rattle.table_laws.proofs.BindRows.{Makes, bind_makes, unbind_makes}
 use Rattle.table_laws.proofs.BindChanges.{TellsClasses, bind_tells, unbind_tells}
-use Rattle.table_laws.proofs.SoundClasses.{OfClasses, sound-bind_step, sound-unbind_step}
+use Rattle.table_laws.proofs.SoundClasses.{OfClasses, sound-bind_step}
 use Rattle.table_laws.proofs.BindLaws.{classes_told}
 use Rattle.mud_tables.specs.declared.bind_fault.BindFault.{BindFault}
 use Rattle.bind_book.specs.Book.{Book, IsRefusal}
 use Rattle.bind_book.specs.Plans.{Plan, IsPlanned, changed_binds, HasRoomFor, same_plan, class_plan}
 use Rattle.bind_book.proofs.BookItems.{one_difference, binds_told, class_of_kind, classes_reach}
+use Rattle.bind_book.proofs.KeptClasses.{unbind_sound}
 use Rattle.bind_book.proofs.Plans.{empty_as_told, bind_puts, same_planned, good_sets}
 
 -- ---- The bindings
@@ -173,11 +174,12 @@ bind_known c a binds sound e fits = record {
   put = bind_put c a binds.classes (class_at c binds.classes);
 }
 
-pub unbind_known : (c : Class) (a : Addr) (binds : Binds) → IsSoundBinds binds → is_class c ≡ true → IsClassStep c a binds (unbind_change c a binds.classes) (unbind_step c a binds.classes)
+-- an address may be asked out of what is no class: then the class isn't kept, and the step is refused
+pub unbind_known : (c : Class) (a : Addr) (binds : Binds) → IsSoundBinds binds → IsClassStep c a binds (unbind_change c a binds.classes) (unbind_step c a binds.classes)
 unfolding unbind_change
-unbind_known c a binds sound e = record {
+unbind_known c a binds sound = record {
   makes = unbind_makes c a binds.classes;
-  sound = sound-unbind_step c a binds.classes sound.classes e;
+  sound = unbind_sound c a binds.classes sound.classes (class_at c binds.classes) refl;
   tells = unbind_tells c a binds.classes sound.classes.ascend;
   put = unbind_put c a binds.classes (class_at c binds.classes);
 }

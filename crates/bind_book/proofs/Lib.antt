@@ -1,6 +1,7 @@
 pub mod SoFar
 pub mod BookItems
 pub mod Plans
+pub mod KeptClasses
 pub mod ClassPlans
 pub mod NamePlans
 pub mod LocalPlans

@@ -103,9 +103,9 @@ impl BindBook {
     }
 
     /// Plans to take an address out of a class: it is `unbound`. A class with no address left goes.
-    /// It is refused where the class doesn't have the address.
+    /// It is refused where the class doesn't have the address; so is what is no class, since none
+    /// is kept.
     pub fn plan_unbind(&mut self, class: &Class, addr: Addr) -> Result<BindChange, BindFault>
-        requires { IsTrue (is_class class.now) }
         ensures same { self.new.binds ≡ self.old.binds }
         ensures ok { IfOk result (IsPlanOf (unbind_class_step class.now addr self.old.binds) self.new) }
         ensures err { IfErr result (IsRefusal (unbind_class_step class.now addr self.old.binds)) }
@@ -204,6 +204,7 @@ impl BindBook {
             BindRows::Names(rows) => self.names.change(rows),
         }
     }
+
     /// Takes what an item keeps, where that may stand behind what the items taken so far keep, which
     /// were those before it in the keeper's order: true exactly there. Else, and without memory, the
     /// book is as before.

@@ -1,9 +1,9 @@
 //! What a command changes of the book.
-ghost use Rattle.std.specs.Prelude.{◌≡◌, IfOk};
+ghost use Rattle.std.specs.Prelude.{◌≡◌, [], IfOk};
 
-use crate::bindings::changed_bindings;
 use crate::items::{class_puts, locals_put, name_puts};
 use acl_model::binding::Binding;
+use binding_changes::changed_bindings;
 use item_codec::Word;
 use mud_base::{Bytes, End, Listed, Memory, Prefix};
 use mud_tables::{Class, ClassRow, NameKey, NameRow};
@@ -12,6 +12,7 @@ use sorted_rows::{Change, KeyOf, SortedRows};
 use std::alloc::Global;
 use std::cmp::Ordering;
 use std::marker::Model;
+use std::mem;
 
 /// A name, as the key of its row.
 #[derive(Drop, Debug)]
@@ -85,6 +86,15 @@ impl BindChange {
         self.puts.as_slice()
     }
 
+    /// Moves the puts out. All else of the change stays.
+    pub fn take_puts(&mut self) -> Listed<Put>
+        ensures puts { result ≡ self.old.puts }
+        ensures left { self.new ≡ record self.old { puts = [] } }
+    {
+        let none = self.puts.empty_like();
+        mem::replace(&mut self.puts, none)
+    }
+
     /// The bindings that are no more.
     pub fn gone(&self) -> &[Binding]
         ensures { result.now ≡ self.now.gone }
@@ -151,6 +161,7 @@ impl BindChange {
             come,
         })
     }
+
     /// The local networks are these.
     #[tactic(auto, unfolding(crate::specs::Plans::locals_plan))]
     pub(crate) fn of_locals(alloc: Global, locals: Listed<Prefix>) -> Result<BindChange, Memory>

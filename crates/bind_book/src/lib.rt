@@ -3,7 +3,6 @@
 //! takes none and cannot fail.
 #![tactic(auto)]
 
-mod bindings;
 pub mod book;
 pub mod change;
 mod classes;

@@ -1,5 +1,5 @@
 -- What has been done between two packets of a capture, and what that comes to at each way out.
-use Rattle.std.proofs.Common.{◌≡◌, ◌≢◌, Bool, true, false, IsTrue, is_some, ℕ, ◌+◌, ◌≤◌, List, [], ◌∷◌, ◌++◌, length, take, Option, Some, None, refl, rules, sym, ap, ◌∙◌, append_assoc, append-nil}
+use Rattle.std.proofs.Common.{◌≡◌, ◌≢◌, Bool, true, false, IsTrue, is_some, ℕ, ◌+◌, ◌≤◌, List, [], ◌∷◌, ◌++◌, length, take, Option, Some, None, refl, rules, sym, ap, ◌∙◌, append_assoc, append-nil, subst, ◌⊎◌, inl, inr, Result, Ok, Err, is_err, OnOk, OnErr}
 use Rattle.std.proofs.lemmas.List.{take-append-le}
 use Rattle.std.proofs.Math.Seq.{take-append-add}
 use Rattle.mud_world.specs.Door.{DoorState, Took, with_left, put_out}
@@ -13,7 +13,7 @@ use Rattle.pcap_read.specs.Taken.{Taken, AtEnd, HasRead, at_start, to_come, with
 use Rattle.pcap_read.proofs.Runs.{has_read_none, has_read_more, has_read_taken}
 use Rattle.command_runs.specs.Capture.{cap_fault_line, end_line, capture_text, due_of_capture, status_at, WritesTaken}
 use Rattle.command_runs.specs.Due.{WritesDue, WritesPart, WroteFront}
-use Rattle.command_runs.specs.Fold.{LineStep, lines_from, state_after}
+use Rattle.command_runs.specs.Fold.{LineStep, lines_from, state_after, IsLeftBy}
 use Rattle.command_runs.proofs.Folds.{lines_of_append, lines_of_next, state_of_next}
 
 -- The packets that were read since the door stood at the first of the two states, and the state behind them. Of their lines a
@@ -25,6 +25,44 @@ pub record Gathered {S : Type 0} (step : S → Packet → LineStep S) (from at :
   pub behind : at ≡ state_after step from packets
   pub split : lines_from step from packets ≡ written ++ lines
   pub wrote : now ≡ put_out written (with_left now.left first)
+
+-- the same with what is kept behind the packets
+pub record IsGathered {S : Type 0} (keeps : S → Type 0) (step : S → Packet → LineStep S) (from : S) (taken : Taken) (first now : DoorState) (lines : List ℕ) : Type 0 where
+  pub at : S
+  pub kept : keeps at
+  pub gathered : Gathered step from at taken first now lines
+
+pub on_ok : {A E : Type 0} (r : Result A E) (P : Type 0) → is_err r ≡ false → OnOk r P → P
+on_ok (Ok value) P e p = p
+on_ok (Err error) P e p = cc
+
+pub on_err : {A E : Type 0} (r : Result A E) (P : Type 0) → IsTrue (is_err r) → OnErr r P → P
+on_err (Ok value) P e p = absurd (search rules)
+on_err (Err error) P e p = p
+
+-- one packet more leaves this
+pub left_more : {S : Type 0} (keeps keeps' : S → Type 0) (step : S → Packet → LineStep S) (s : S) (packet : Packet) → IsLeftBy keeps step s
+    → ((at : S) → keeps at → keeps' (step at packet).next) → IsLeftBy keeps' step s
+left_more keeps keeps' step s packet p next = record {
+  packets = p.packets ++ packet ∷ [];
+  kept = subst keeps' (state_of_next step s (state_after step s p.packets) p.packets packet refl) (next (state_after step s p.packets) p.kept);
+}
+
+left_either : {S : Type 0} (keeps : S → Type 0) (step : S → Packet → LineStep S) (s : S) (packets : List Packet) (packet : Packet)
+    → (keeps (state_after step s packets) ⊎ keeps (step (state_after step s packets) packet).next) → IsLeftBy keeps step s
+left_either keeps step s packets packet (inl kept) = record { packets = packets; kept = kept }
+left_either keeps step s packets packet (inr kept) = record {
+  packets = packets ++ packet ∷ [];
+  kept = subst keeps (state_of_next step s (state_after step s packets) packets packet refl) kept;
+}
+
+-- the packet leaves this, or it isn't counted
+pub left_err : {S : Type 0} (keeps keeps' : S → Type 0) (step : S → Packet → LineStep S) (s : S) (packet : Packet) → IsLeftBy keeps step s
+    → ((at : S) → keeps at → keeps' at ⊎ keeps' (step at packet).next) → IsLeftBy keeps' step s
+left_err keeps keeps' step s packet p still = left_either keeps' step s p.packets packet (still (state_after step s p.packets) p.kept)
+
+pub left_none : {S : Type 0} (keeps : S → Type 0) (step : S → Packet → LineStep S) (s : S) → keeps s → IsLeftBy keeps step s
+left_none keeps step s p = record { packets = []; kept = p }
 
 -- where more was to be read, or a ready reader is ruled out, no line is left
 pub lines_gone : (ready : Bool) (lines : List ℕ) → (ready ≡ false → lines ≡ []) → ¬ (IsTrue ready) → lines ≡ []

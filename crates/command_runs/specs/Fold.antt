@@ -16,3 +16,8 @@ lines_from step s (packet ∷ packets) = (step s packet).line ++ lines_from step
 abbrev pub state_after : {S : Type 0} → (S → Packet → LineStep S) → S → List Packet → S
 state_after step s [] = s
 state_after step s (packet ∷ packets) = state_after step (step s packet).next packets
+
+-- it keeps what some packets leave behind this state
+pub record IsLeftBy {S : Type 0} (keeps : S → Type 0) (step : S → Packet → LineStep S) (s : S) : Type 0 where
+  pub packets : List Packet
+  pub kept : keeps (state_after step s packets)

@@ -5,6 +5,7 @@ ghost use Rattle.mud_world.specs.Door.{put_out};
 ghost use Rattle.mud_world.specs.Whole.{WrotePart};
 ghost use Rattle.pcap_read.specs.Captured.{packet_of};
 ghost use Rattle.command_runs.specs.Capture.{WritesTaken, cap_fault_line, due_of_capture};
+ghost use Rattle.command_runs.specs.Fold.{IsLeftBy};
 ghost use Rattle.command_runs.specs.Due.{WritesDue, WritesPart, WroteFirst, WroteFront};
 ghost use Rattle.command_runs.specs.Status.{status_number};
 
@@ -23,21 +24,23 @@ pub trait PacketLines {
     /// What it keeps from packet to packet.
     ghost State: { Type 0 };
 
-    /// What it keeps now.
-    ghost state: { Self → State };
+    /// Whether this is what it keeps now.
+    ghost keeps: { Self → State → Type 0 };
 
     /// The line of a packet, and what it keeps behind it.
     ghost step: { State → Packet → LineStep State };
 
-    /// Adds the line of the next packet, with a line feed at its end.
+    /// Adds the line of the next packet, with a line feed at its end. Without memory it keeps what it
+    /// kept, or what it would keep behind the packet.
     fn append_line(
         &mut self,
         alloc: Global,
         lines: &mut Bytes,
         packet: &Captured<'_>,
     ) -> Result<(), Memory>
-        ensures line { OnOk result (lines.new ≡ lines.old ++ (step (state self.old) (packet_of packet.now)).line) }
-        ensures next { OnOk result (state self.new ≡ (step (state self.old) (packet_of packet.now)).next) };
+        ensures line { (s : State) → keeps self.old s → OnOk result (lines.new ≡ lines.old ++ (step s (packet_of packet.now)).line) }
+        ensures next { (s : State) → keeps self.old s → OnOk result (keeps self.new (step s (packet_of packet.now)).next) }
+        ensures err { (s : State) → keeps self.old s → OnErr result (keeps self.new s ⊎ keeps self.new (step s (packet_of packet.now)).next) };
 }
 
 /// Lines of more octets than these are written although the next packet is held.
@@ -126,12 +129,15 @@ pub fn write_capture<D: Door, L: PacketLines>(alloc: Global, door: &mut D, write
     ensures statuses { (status_number result ≡ 0) ⊎ ((status_number result ≡ 3) ⊎ ((status_number result ≡ 4) ⊎ (status_number result ≡ 5))) }
     ensures fault { status_number result ≡ 4 → Rose (D.reads door.old) (D.reads door.new) ⊎ Rose (D.writes door.old) (D.writes door.new) }
     ensures steady { status_number result ≢ 4 → (D.reads door.new ≡ D.reads door.old) × (D.writes door.new ≡ D.writes door.old) }
-    ensures done { D.tells → (status_number result ≡ 0) ⊎ (status_number result ≡ 3) →
-        WritesDue (due_of_capture L.step (L.state writer.old) (D.state door.old).left) (D.state door.old) (D.state door.new) (status_number result) }
-    ensures part { D.tells → (status_number result ≡ 4) ⊎ (status_number result ≡ 5) →
-        WritesPart (due_of_capture L.step (L.state writer.old) (D.state door.old).left) (D.state door.old) (D.state door.new) }
-    ensures taken { D.tells → D.reads door.new ≢ D.reads door.old →
-        WritesTaken L.step (L.state writer.old) (D.state door.old) (D.state door.new) }
+    // From whatever the writer is said to keep, the lines are those of the packets in their order,
+    ensures done { (s : L.State) → L.keeps writer.old s → D.tells → (status_number result ≡ 0) ⊎ (status_number result ≡ 3) →
+        WritesDue (due_of_capture L.step s (D.state door.old).left) (D.state door.old) (D.state door.new) (status_number result) }
+    ensures part { (s : L.State) → L.keeps writer.old s → D.tells → (status_number result ≡ 4) ⊎ (status_number result ≡ 5) →
+        WritesPart (due_of_capture L.step s (D.state door.old).left) (D.state door.old) (D.state door.new) }
+    ensures taken { (s : L.State) → L.keeps writer.old s → D.tells → D.reads door.new ≢ D.reads door.old →
+        WritesTaken L.step s (D.state door.old) (D.state door.new) }
+    // and it keeps what some of the packets leave.
+    ensures left { (s : L.State) → L.keeps writer.old s → IsLeftBy (L.keeps writer.new) L.step s }
     ensures turns { D.turns door.new ≡ D.turns door.old }
 {
     let Ok(mut reader) = Reader::new(alloc) else {

@@ -15,10 +15,14 @@ pub enum Status {
     DoorFailed,
     /// Memory was wanted and there was none.
     NoMemory,
+    /// An item of the store is no record.
+    BadItem,
+    /// The keeper of the store failed.
+    KeeperFailed,
 }
 
 impl Status {
-    /// The number of the status: 0, or 2 to 5.
+    /// The number of the status: 0, or 2 to 7.
     pub fn number(self) -> u8
         ensures { result ≡ status_number self }
     {
@@ -28,6 +32,8 @@ impl Status {
             Status::Refused => 3,
             Status::DoorFailed => 4,
             Status::NoMemory => 5,
+            Status::BadItem => 6,
+            Status::KeeperFailed => 7,
         }
     }
 }

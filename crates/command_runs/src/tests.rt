@@ -14,11 +14,11 @@ struct Sums {
 }
 
 impl PacketLines for Sums {
-    ghost use Rattle.std.specs.Prelude.{ℕ, ◌+◌, ◌++◌, decimal, codes, length, min, ◌^◌, ◌-◌};
+    ghost use Rattle.std.specs.Prelude.{◌≡◌, ℕ, ◌+◌, ◌++◌, decimal, codes, length, min, ◌^◌, ◌-◌};
 
     ghost State = { ℕ };
 
-    ghost state = { λ sums. sums.octets };
+    ghost keeps = { λ sums octets. sums.octets ≡ octets };
 
     ghost step = { λ sum packet. record {
       line = decimal (min (sum + length packet.octets) (2 ^ 64 - 1)) ++ codes "\n";

@@ -11,6 +11,7 @@ use mud_url::MudUrl;
 use mud_world::{Item, Put};
 use std::alloc::Global;
 use std::marker::Model;
+use std::mem;
 
 /// A planned change of the files of one URL. Contracts see what it answers, the URL, the edit and
 /// the puts.
@@ -118,6 +119,15 @@ impl CacheChange {
         ensures { result.now ≡ self.now.puts }
     {
         self.puts.as_slice()
+    }
+
+    /// Moves the puts out. All else of the change stays.
+    pub fn take_puts(&mut self) -> Listed<Put>
+        ensures puts { result ≡ self.old.puts }
+        ensures left { self.new ≡ record self.old { puts = [] } }
+    {
+        let none = self.puts.empty_like();
+        mem::replace(&mut self.puts, none)
     }
 
     /// What becomes of the policy of the URL. Where it comes, it is that of the candidate, which the

@@ -1,5 +1,4 @@
 pub mod Carried
-pub mod OldRows
 pub mod KeptItems
 pub mod StepRows
 pub mod PlannedLaws

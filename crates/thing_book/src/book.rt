@@ -110,7 +110,7 @@ impl ThingBook {
         or_memory(ThingChange::made(self.alloc, &mut self.things, plan))
     }
 
-    /// The operator holds a Thing (`held`): all its packets are dropped from now on. One that is held
+    /// The operator holds a Thing (`held`), for the verdict to drop all its packets. One that is held
     /// already is `same`; [`ThingFault::NoThing`] where no Thing has the hardware address.
     pub fn plan_hold(&mut self, mac: Mac) -> Result<ThingChange, ThingFault>
         ensures same { self.new.things ≡ self.old.things }
@@ -122,7 +122,7 @@ impl ThingBook {
         or_memory(ThingChange::made(self.alloc, &mut self.things, plan))
     }
 
-    /// The operator releases a Thing (`released`): it is judged by its usage file again. One that
+    /// The operator releases a Thing (`released`), for the verdict to go by its usage file. One that
     /// isn't held is `same`; [`ThingFault::NoThing`] where no Thing has the hardware address.
     pub fn plan_release(&mut self, mac: Mac) -> Result<ThingChange, ThingFault>
         ensures same { self.new.things ≡ self.old.things }

@@ -1,13 +1,12 @@
 //! A change of the Things that is planned, and committed later.
-ghost use Rattle.std.specs.Prelude.{◌≡◌, ◌≤◌, length, IfOk, OnOk};
+ghost use Rattle.std.specs.Prelude.{◌≡◌, ◌≤◌, [], length, IfOk, OnOk};
 ghost use Rattle.std.specs.List.{AllByRecursion};
 ghost use Rattle.thing_book.specs.Changes.{HasFewLeases, change_of};
 
-use crate::bindings::{bindings_of, old_bindings};
 use crate::items::puts_of;
 use crate::plan::Plan;
 use acl_model::Binding;
-use acl_model::change::those_not_in;
+use binding_changes::changed_bindings;
 use item_codec::Word;
 use mud_base::{End, Listed, Mac, Memory};
 use mud_tables::Thing;
@@ -15,6 +14,7 @@ use mud_world::Put;
 use sorted_rows::{Change, SortedRows};
 use std::alloc::Global;
 use std::marker::Model;
+use std::mem;
 
 /// A planned change of the Things: what its command answers, and what it will do. Contracts see it
 /// as the record of these.
@@ -59,6 +59,15 @@ impl ThingChange {
         self.puts.as_slice()
     }
 
+    /// Moves the puts out. All else of the change stays.
+    pub fn take_puts(&mut self) -> Listed<Put>
+        ensures puts { result ≡ self.old.puts }
+        ensures left { self.new ≡ record self.old { puts = [] } }
+    {
+        let none = self.puts.empty_like();
+        mem::replace(&mut self.puts, none)
+    }
+
     /// The bindings that go with the change. One whose end changes goes and comes.
     pub fn gone(&self) -> &[Binding]
         ensures { result.now ≡ self.now.gone }
@@ -89,16 +98,13 @@ impl ThingChange {
     }
 
     /// The change that a plan is.
-    #[tactic(auto, unfolding(crate::specs::Changes::change_of, mud_tables::specs::BindingChanges::gone_of, mud_tables::specs::BindingChanges::come_of))]
+    #[tactic(auto, unfolding(crate::specs::Changes::change_of))]
     fn of_plan(alloc: Global, things: &SortedRows<Thing>, plan: Plan) -> Result<ThingChange, Memory>
         requires { AllByRecursion HasFewLeases plan.rows.sets }
         ensures { IfOk result (λ change. change ≡ change_of things.now.rows plan) }
     {
         let puts = puts_of(alloc, &plan.rows)?;
-        let old = old_bindings(alloc, things, &plan.rows)?;
-        let new = bindings_of(alloc, plan.rows.sets())?;
-        let gone = those_not_in(alloc, new.as_slice(), old.as_slice())?;
-        let come = those_not_in(alloc, old.as_slice(), new.as_slice())?;
+        let (gone, come) = changed_bindings(alloc, &plan.rows, things)?;
         Ok(ThingChange {
             word: plan.word,
             until: plan.until,

@@ -13,7 +13,7 @@ use mud_tables::{Thing, ThingFault};
 use sorted_rows::SortedRows;
 use std::alloc::Global;
 
-/// All packets of the Thing are dropped from now on.
+/// The Thing is held from now on.
 #[tactic(auto, unfolding(mud_tables::specs::ThingSteps::hold_step, mud_tables::specs::ThingSteps::hold_cases, crate::specs::RowChanges::hold_change))]
 pub fn hold(alloc: Global, things: &SortedRows<Thing>, mac: Mac) -> Result<Plan, ThingFault>
     ensures ok { IfOk result (IsSaid (hold_step mac things.now.rows)
@@ -39,7 +39,7 @@ fn hold_thing(alloc: Global, thing: &Thing) -> Result<Plan, Memory>
     Plan::putting_one(alloc, held, Word::Held, None)
 }
 
-/// The Thing is judged by its usage file again.
+/// The Thing isn't held any more.
 #[tactic(auto, unfolding(mud_tables::specs::ThingSteps::release_step, mud_tables::specs::ThingSteps::release_cases, crate::specs::RowChanges::release_change))]
 pub fn release(alloc: Global, things: &SortedRows<Thing>, mac: Mac) -> Result<Plan, ThingFault>
     ensures ok { IfOk result (IsSaid (release_step mac things.now.rows)

@@ -3,7 +3,6 @@
 //! and leaves the list as it is; then the change is committed, which can't fail.
 #![tactic(auto)]
 
-mod bindings;
 pub mod book;
 pub mod change;
 mod copies;

@@ -1,9 +1,13 @@
+//! Each call with ample memory, at its cases and its limits.
+ghost use Rattle.std.specs.Prelude.{IfOk};
+ghost use Rattle.thing_book.specs.Planned.{IsReady};
+
 use super::*;
-use mud_base::{Addr, Bytes, End, Mac, Moment};
+use mud_base::{Addr, Bytes, End, Mac, Memory, Moment};
 use mud_url::{MudUrl, mud_url};
-use mud_world::{Item, Put};
+use mud_world::Item;
 use std::alloc::Global;
-use std::test::Fail;
+use std::process::Abort;
 
 const BULB: Mac = Mac([2, 0, 0, 0, 0, 1]);
 
@@ -14,97 +18,166 @@ const STRANGER: Mac = Mac([2, 0, 0, 0, 0, 9]);
 /// 192.0.2.10
 const ADDR: Addr = Addr::V4(0xc000_020a);
 
-fn bulb_url() -> Result<MudUrl, Fail> {
-    Ok(mud_url(b"https://lighting.example.com/lightbulb2000")?)
+const BULB_URL: &str = "https://lighting.example.com/lightbulb2000";
+
+const NEXT_URL: &str = "https://lighting.example.com/lightbulb2001";
+
+/// A command.
+#[derive(Clone, Copy)]
+enum Step {
+    Url(Mac, &'static str),
+    Move(Mac, &'static str),
+    /// From a moment on, for so many seconds.
+    Lease(Mac, Addr, u64, u32),
+    /// One that was heard, and not told by the operator.
+    Heard(Mac, Addr),
+    End(Addr),
+    Hold(Mac),
+    Release(Mac),
+    Remove(Mac),
 }
 
-fn next_url() -> Result<MudUrl, Fail> {
-    Ok(mud_url(b"https://lighting.example.com/lightbulb2001")?)
+/// What a command answered, and how many puts, bindings gone and bindings come it had.
+#[derive(Clone, Copy, Debug, PartialEq)]
+struct Done {
+    word: Word,
+    until: Option<u64>,
+    changes: [usize; 3],
 }
 
-/// A book with the bulb.
-fn with_bulb(alloc: Global) -> Result<ThingBook, Fail> {
-    let mut book = ThingBook::new(alloc);
-    let change = book.plan_url(BULB, bulb_url()?)?;
+type Answer = Result<Done, ThingFault>;
+
+fn url(rt: &impl Abort, text: &str) -> MudUrl {
+    mud_url(text.as_bytes()).expect(rt, "url")
+}
+
+/// Plans a command.
+fn planned(rt: &impl Abort, book: &mut ThingBook, step: Step) -> Result<ThingChange, ThingFault>
+    ensures { IfOk result (IsReady book.new) }
+{
+    match step {
+        Step::Url(mac, text) => book.plan_url(mac, url(rt, text)),
+        Step::Move(mac, text) => book.plan_move(mac, url(rt, text)),
+        Step::Lease(mac, addr, now, seconds) => {
+            book.plan_lease(mac, addr, seconds, Moment::at_most_last(now), false)
+        }
+        Step::Heard(mac, addr) => book.plan_lease(mac, addr, 60, Moment::at_most_last(1000), true),
+        Step::End(addr) => book.plan_end(addr),
+        Step::Hold(mac) => book.plan_hold(mac),
+        Step::Release(mac) => book.plan_release(mac),
+        Step::Remove(mac) => book.plan_remove(mac),
+    }
+}
+
+/// Plans a command, and commits it.
+fn committed(rt: &impl Abort, book: &mut ThingBook, step: Step) -> Answer {
+    let change = planned(rt, book, step)?;
+    let done = Done {
+        word: change.word(),
+        until: change.until().map(|until| until.0),
+        changes: [
+            change.puts().len(),
+            change.gone().len(),
+            change.come().len(),
+        ],
+    };
     book.commit(change);
-    Ok(book)
+    Ok(done)
+}
+
+/// Fails where a command answers something else.
+fn answers(rt: &impl Abort, book: &mut ThingBook, step: Step, want: Answer) {
+    let answer = committed(rt, book, step);
+    assert_eq!(rt; answer, want);
+}
+
+/// What a command answered, and how many puts, bindings gone and bindings come it had.
+fn told(word: Word, until: Option<u64>, changes: [usize; 3]) -> Answer {
+    Ok(Done {
+        word,
+        until,
+        changes,
+    })
 }
 
 #[test]
-fn an_announcement_and_moves(rt: HostRuntime) -> Result<(), Fail> {
+fn an_announcement_and_moves(rt: HostRuntime) {
     let mut book = ThingBook::new(rt.alloc());
-    let first = book.plan_url(BULB, bulb_url()?)?;
-    assert_eq!(rt; first.word(), Word::New);
-    assert_eq!(rt; first.puts().len(), 1);
-    assert_eq!(rt; book.things().len(), 0);
-    book.commit(first);
-    let other = book.plan_url(BULB, next_url()?)?;
-    assert_eq!(rt; other.word(), Word::Pending);
-    book.commit(other);
-    let moved = book.plan_move(BULB, next_url()?)?;
-    assert_eq!(rt; moved.word(), Word::Moved);
-    book.commit(moved);
-    let again = book.plan_move(BULB, next_url()?)?;
-    assert_eq!(rt; again.word(), Word::Same);
-    assert_eq!(rt; again.puts().len(), 0);
-    let third = mud_url(b"https://lighting.example.com/lightbulb2002")?;
-    assert_eq!(rt;
-        book.plan_move(BULB, third).err(),
-        Some(ThingFault::NoPending)
-    );
-    Ok(())
+    for (step, want) in [
+        (Step::Url(BULB, BULB_URL), told(Word::New, None, [1, 0, 0])),
+        (
+            Step::Url(BULB, NEXT_URL),
+            told(Word::Pending, None, [1, 0, 0]),
+        ),
+        (
+            Step::Move(BULB, NEXT_URL),
+            told(Word::Moved, None, [1, 0, 0]),
+        ),
+        (
+            Step::Move(BULB, NEXT_URL),
+            told(Word::Same, None, [0, 0, 0]),
+        ),
+        (Step::Move(BULB, BULB_URL), Err(ThingFault::NoPending)),
+    ] {
+        answers(&rt, &mut book, step, want);
+    }
 }
 
 #[test]
-fn an_address_that_passes_to_another_thing(rt: HostRuntime) -> Result<(), Fail> {
-    let mut book = with_bulb(rt.alloc())?;
-    let switch = book.plan_url(SWITCH, mud_url(b"https://lighting.example.com/switch1")?)?;
-    book.commit(switch);
-    let now = Moment::at_most_last(1000);
-    let first = book.plan_lease(BULB, ADDR, 86400, now, false)?;
-    assert_eq!(rt; first.word(), Word::New);
-    assert_eq!(rt; first.until(), Some(End(87400)));
-    assert_eq!(rt; first.come().len(), 2);
-    book.commit(first);
-    let passed = book.plan_lease(SWITCH, ADDR, 100, now, false)?;
-    assert_eq!(rt; passed.until(), Some(End(1100)));
-    assert_eq!(rt; passed.puts().len(), 2);
-    assert_eq!(rt; passed.gone().len(), 2);
-    book.commit(passed);
-    assert_eq!(rt; book.thing_at(BULB).map_or(9, |bulb| bulb.leases.len()), 0);
-    let strange = book.plan_lease(STRANGER, ADDR, 86400, now, true)?;
-    assert_eq!(rt; strange.word(), Word::Stranger);
-    assert_eq!(rt; strange.until(), None);
-    let ended = book.plan_end(ADDR)?;
-    assert_eq!(rt; ended.word(), Word::Ended);
-    book.commit(ended);
-    assert_eq!(rt; book.plan_end(ADDR).err(), Some(ThingFault::NoLease));
-    Ok(())
+fn an_address_that_passes_to_another_thing(rt: HostRuntime) {
+    let mut book = ThingBook::new(rt.alloc());
+    let end = Step::End(ADDR);
+    for (step, want) in [
+        (Step::Url(BULB, BULB_URL), told(Word::New, None, [1, 0, 0])),
+        (
+            Step::Url(SWITCH, NEXT_URL),
+            told(Word::New, None, [1, 0, 0]),
+        ),
+        (
+            Step::Lease(BULB, ADDR, 1000, 86400),
+            told(Word::New, Some(87400), [1, 0, 2]),
+        ),
+        // The end is the same, so the binding to the host stays.
+        (
+            Step::Lease(SWITCH, ADDR, 87300, 100),
+            told(Word::New, Some(87400), [2, 1, 1]),
+        ),
+        (end, told(Word::Ended, None, [1, 2, 0])),
+        (end, Err(ThingFault::NoLease)),
+        (
+            Step::Lease(BULB, ADDR, 1000, 60),
+            told(Word::New, Some(1060), [1, 0, 2]),
+        ),
+        (
+            Step::Heard(STRANGER, ADDR),
+            told(Word::Stranger, None, [1, 2, 0]),
+        ),
+        (end, Err(ThingFault::NoLease)),
+    ] {
+        answers(&rt, &mut book, step, want);
+    }
 }
 
 #[test]
-fn a_hold_until_the_end_of_the_thing(rt: HostRuntime) -> Result<(), Fail> {
-    let mut book = with_bulb(rt.alloc())?;
-    let held = book.plan_hold(BULB)?;
-    assert_eq!(rt; held.word(), Word::Held);
-    book.commit(held);
-    assert_eq!(rt; book.plan_hold(BULB)?.word(), Word::Same);
-    let released = book.plan_release(BULB)?;
-    assert_eq!(rt; released.word(), Word::Released);
-    book.commit(released);
-    assert_eq!(rt; book.plan_hold(STRANGER).err(), Some(ThingFault::NoThing));
-    let removed = book.plan_remove(BULB)?;
-    assert_eq!(rt; removed.word(), Word::Removed);
-    assert!(rt; matches!(removed.puts(), [Put::Gone(1, _)]));
-    book.commit(removed);
-    assert_eq!(rt; book.things().len(), 0);
-    Ok(())
+fn a_hold_until_the_end_of_the_thing(rt: HostRuntime) {
+    let mut book = ThingBook::new(rt.alloc());
+    for (step, want) in [
+        (Step::Url(BULB, BULB_URL), told(Word::New, None, [1, 0, 0])),
+        (Step::Hold(BULB), told(Word::Held, None, [1, 0, 0])),
+        (Step::Hold(BULB), told(Word::Same, None, [0, 0, 0])),
+        (Step::Release(BULB), told(Word::Released, None, [1, 0, 0])),
+        (Step::Hold(STRANGER), Err(ThingFault::NoThing)),
+        (Step::Remove(BULB), told(Word::Removed, None, [1, 0, 0])),
+    ] {
+        answers(&rt, &mut book, step, want);
+    }
+    assert!(rt; book.things().is_empty());
 }
 
 /// The item of a Thing with the bulb's URL: the version, the URL, and these octets behind it.
-fn bulb_item(alloc: Global, last: u8, version: u8, behind: &[u8]) -> Result<Item, Fail> {
+fn bulb_item(alloc: Global, last: u8, version: u8, behind: &[u8]) -> Result<Item, Memory> {
     let mut body = Bytes::new(alloc, &[version, 0, 0, 0, 0x2a])?;
-    body.append(b"https://lighting.example.com/lightbulb2000")?;
+    body.append(BULB_URL.as_bytes())?;
     body.append(behind)?;
     Ok(Item {
         kind: 1,
@@ -113,44 +186,65 @@ fn bulb_item(alloc: Global, last: u8, version: u8, behind: &[u8]) -> Result<Item
     })
 }
 
-#[test]
-fn a_body_of_either_version(rt: HostRuntime) -> Result<(), Fail> {
-    let alloc = rt.alloc();
-    let mut book = ThingBook::new(alloc);
-    assert!(rt; book.take(&bulb_item(alloc, 1, 1, &[0, 0, 0])?)?);
-    assert!(rt; !book.take(&bulb_item(alloc, 1, 1, &[0, 0, 0])?)?);
-    assert!(rt; !book.take(&bulb_item(alloc, 2, 2, &[0, 0, 0, 2])?)?);
-    assert_eq!(rt; book.things().len(), 1);
-    let item = book.item_of(0)?;
-    let anew = bulb_item(alloc, 1, 2, &[0, 0, 0, 0])?;
-    assert_eq!(rt; item.body.octets(), anew.body.octets());
-    Ok(())
+/// Fails where such an item is taken that shouldn't be, or isn't that should.
+fn take(
+    rt: &impl Abort,
+    alloc: Global,
+    book: &mut ThingBook,
+    (last, version): (u8, u8),
+    behind: &[u8],
+    want: bool,
+) {
+    let item = bulb_item(alloc, last, version, behind).expect(rt, "memory");
+    let taken = book.take(&item);
+    assert!(rt; taken == Ok(want));
+}
+
+/// Fails unless the one Thing is kept in such an item.
+fn is_kept_in(rt: &impl Abort, alloc: Global, book: &ThingBook, version: u8, behind: &[u8]) {
+    assert!(rt; book.things().len() == 1);
+    let item = book.item_of(0).expect(rt, "memory");
+    let want = bulb_item(alloc, 1, version, behind).expect(rt, "memory");
+    assert!(rt; item.body.octets() == want.body.octets());
 }
 
 #[test]
-fn as_many_as_can_be_kept(rt: HostRuntime) -> Result<(), Fail> {
-    let mut book = with_bulb(rt.alloc())?;
-    let now = Moment::at_most_last(1000);
+fn a_body_of_either_version(rt: HostRuntime) {
+    let alloc = rt.alloc();
+    let mut book = ThingBook::new(alloc);
+    take(&rt, alloc, &mut book, (1, 1), &[0, 0, 0], true);
+    take(&rt, alloc, &mut book, (1, 1), &[0, 0, 0], false);
+    take(&rt, alloc, &mut book, (2, 2), &[0, 0, 0, 2], false);
+    is_kept_in(&rt, alloc, &book, 2, &[0, 0, 0, 0]);
+}
+
+#[test]
+fn as_many_leases_as_can_be_kept(rt: HostRuntime) {
+    let mut book = ThingBook::new(rt.alloc());
+    let first = told(Word::New, None, [1, 0, 0]);
+    answers(&rt, &mut book, Step::Url(BULB, BULB_URL), first);
     for number in 1..5 {
-        let lease = book.plan_lease(BULB, Addr::V4(number), 60, now, false)?;
-        book.commit(lease);
+        let lease = Step::Lease(BULB, Addr::V4(number), 1000, 60);
+        let want = told(Word::New, Some(1060), [1, 0, 2]);
+        answers(&rt, &mut book, lease, want);
     }
-    let fifth = book.plan_lease(BULB, ADDR, 60, now, false);
-    assert_eq!(rt; fifth.err(), Some(ThingFault::LeasesFull));
-    let later = Moment::at_most_last(1060);
-    let renewed = book.plan_lease(BULB, ADDR, u32::MAX, later, false)?;
-    assert_eq!(rt; renewed.until(), Some(End(End::NEVER)));
-    book.commit(renewed);
-    for number in 0..511u16 {
+    let full = Err(ThingFault::LeasesFull);
+    answers(&rt, &mut book, Step::Lease(BULB, ADDR, 1000, 60), full);
+    let later = Step::Lease(BULB, ADDR, 1060, u32::MAX);
+    let never = told(Word::New, Some(End::NEVER), [1, 8, 2]);
+    answers(&rt, &mut book, later, never);
+}
+
+#[test]
+fn as_many_things_as_can_be_kept(rt: HostRuntime) {
+    let mut book = ThingBook::new(rt.alloc());
+    for number in 0..512u16 {
         let [high, low] = number.to_be_bytes();
-        let mac = Mac([4, 0, 0, 0, high, low]);
-        let change = book.plan_url(mac, bulb_url()?)?;
-        book.commit(change);
+        let url = Step::Url(Mac([2, 0, 0, 0, high, low]), BULB_URL);
+        answers(&rt, &mut book, url, told(Word::New, None, [1, 0, 0]));
     }
-    assert_eq!(rt;
-        book.plan_url(STRANGER, bulb_url()?).err(),
-        Some(ThingFault::ThingsFull)
-    );
-    assert_eq!(rt; book.plan_url(BULB, bulb_url()?)?.word(), Word::Same);
-    Ok(())
+    let other = Step::Url(Mac([4, 0, 0, 0, 0, 0]), BULB_URL);
+    answers(&rt, &mut book, other, Err(ThingFault::ThingsFull));
+    let again = told(Word::Same, None, [0, 0, 0]);
+    answers(&rt, &mut book, Step::Url(BULB, BULB_URL), again);
 }

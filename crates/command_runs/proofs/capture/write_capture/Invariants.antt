@@ -1,6 +1,7 @@
 use Rattle.std.proofs.Common.{◌≡◌, false}
 use Rattle.pcap_read.specs.Parts.{is_broken, most_to_come}
-use Rattle.command_runs.proofs.CaptureRuns.{Gathered}
+use Rattle.command_runs.specs.Fold.{IsLeftBy}
+use Rattle.command_runs.proofs.CaptureRuns.{IsGathered}
 use Rattle.command_runs.proofs.capture.write_capture.Given as goal
 
 abbrev pub invariant-packets : goal.invariant-packets
@@ -8,7 +9,9 @@ invariant-packets g l =
     let door = g.D.Door in
     let writer = g.L.PacketLines in
     record {
-      gathered : door.tells → Gathered writer.step (writer.state l.initial.writer) (writer.state l.writer) l.reader (door.state l.initial.door) (door.state l.door) l.lines;
+      left : (s : writer.State) → writer.keeps l.initial.writer s → IsLeftBy (writer.keeps l.writer) writer.step s;
+      gathered : (s : writer.State) → writer.keeps l.initial.writer s → door.tells
+          → IsGathered (writer.keeps l.writer) writer.step s l.reader (door.state l.initial.door) (door.state l.door) l.lines;
       going : is_broken l.reader.progress.stage ≡ false;
       writes : door.writes l.door ≡ door.writes l.initial.door;
       turns : door.turns l.door ≡ door.turns l.initial.door;

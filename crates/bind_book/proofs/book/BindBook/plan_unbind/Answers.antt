@@ -20,7 +20,7 @@ plan_classes-requires c =
     let class = c.args.class.now in
     let a = c.args.addr in
     let binds : Binds = record { classes = c.self.inside.classes.rows; locals = c.self.inside.locals; names = c.self.inside.names.rows } in
-    class_fits class a binds (unbind_change class a binds.classes) (unbind_step class a binds.classes) Unbound c.in_ok-rows.rows c.self.invariant (unbind_known class a binds c.self.invariant c.requires) c.in_ok-rows.ensures.ok
+    class_fits class a binds (unbind_change class a binds.classes) (unbind_step class a binds.classes) Unbound c.in_ok-rows.rows c.self.invariant (unbind_known class a binds c.self.invariant) c.in_ok-rows.ensures.ok
 
 pub returns-clause-ok : goal.returns-clause-ok
 unfolding unbind_class_step is_change
@@ -29,5 +29,5 @@ returns-clause-ok c =
     let a = c.args.addr in
     let binds : Binds = record { classes = c.self.inside.classes.rows; locals = c.self.inside.locals; names = c.self.inside.names.rows } in
     class_planned class a c.plan_classes.new.self binds c.args.self.now.binds (ap (λ (b : Book). b.binds) c.self.view_is) c.in_ok-plan_classes.ensures.same (unbind_step class a) (unbind_change class a binds.classes) Unbound c.in_ok-rows.rows c.in_ok-plan_classes.field-0
-    c.self.invariant (unbind_known class a binds c.self.invariant c.requires) refl
+    c.self.invariant (unbind_known class a binds c.self.invariant) refl
     c.in_ok-rows.ensures.ok c.in_ok-plan_classes.ensures.plan c.in_ok-plan_classes.ensures.room

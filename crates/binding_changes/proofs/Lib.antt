@@ -1,0 +1,2 @@
+pub mod OldRows
+pub mod Places

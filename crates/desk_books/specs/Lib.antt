@@ -1,0 +1,5 @@
+pub mod Books
+pub mod Changes
+pub mod Planned
+pub mod InBooks
+pub mod RowPlans

@@ -1,0 +1,43 @@
+-- The plan of the rows that a change of a book leads to, and its steps.
+use Rattle.std.specs.Prelude.{ℕ, ◌+◌, ◌*◌, ◌^◌, ◌<◌, ◌≤◌, List, [], ◌++◌, length, Option}
+use Rattle.acl_model.specs.declared.entry.Policy.{Policy}
+use Rattle.acl_model.specs.declared.binding.Binding.{Binding}
+use Rattle.acl_patch.specs.Touched.{touches}
+use Rattle.acl_compile.specs.Compiled.{CompiledState}
+use Rattle.acl_compile.specs.Plans.{Plan, IsMemberPlan, IsPolicyPlan, held_for, policy_steps}
+use Rattle.row_changes.specs.Steps.{HaveKeys, PolicyKeys, place_steps}
+use Rattle.file_tables.specs.declared.cached_file.CachedFile.{CachedFile}
+use Rattle.file_tables.specs.declared.file_edit.PolicyChange.{PolicyChange}
+use Rattle.file_tables.specs.declared.file_edit.PolicyChange.TheVariants.{Stays, Comes, Goes}
+use Rattle.file_tables.specs.Policies.{policy_change, policy_after}
+use Rattle.desk_books.specs.declared.change.BookChange.{BookChange}
+use Rattle.desk_books.specs.declared.change.BookChange.TheVariants.{Things, Files, Binds}
+
+-- a policy that stays changes nothing; else it is the candidate's, or none, from now on
+abbrev pub IsFileRows : PolicyChange → List ℕ → List CachedFile → CompiledState → Plan → Type 0
+IsFileRows Stays url files compiled plan = IsMemberPlan [] [] compiled plan
+IsFileRows Comes url files compiled plan = IsPolicyPlan url (policy_after Comes files url) compiled plan
+IsFileRows Goes url files compiled plan = IsPolicyPlan url (policy_after Goes files url) compiled plan
+
+-- the plan of the change, over the files before it
+abbrev pub IsRowPlan : BookChange → List CachedFile → CompiledState → Plan → Type 0
+IsRowPlan (Things change) files compiled plan = IsMemberPlan change.gone change.come compiled plan
+IsRowPlan (Files change) files compiled plan = IsFileRows (policy_change change.edit) change.url files compiled plan
+IsRowPlan (Binds change) files compiled plan = IsMemberPlan change.gone change.come compiled plan
+
+-- ---- Steps
+
+abbrev pub IsPaidByBindings : List Binding → List Binding → CompiledState → ℕ → Type 0
+IsPaidByBindings gone come compiled steps =
+    (s b k : ℕ) → HaveKeys s compiled.slots → length compiled.bindings + length come < 2 ^ b → length compiled.rows < 2 ^ k
+    → steps ≤ (length gone + length come + length (touches compiled.slots (gone ++ come))) * place_steps s b k
+
+abbrev pub IsPaidByPolicy : List ℕ → Option Policy → CompiledState → ℕ → Type 0
+IsPaidByPolicy url policy compiled steps =
+    (s b k : ℕ) → HaveKeys s compiled.slots → PolicyKeys s (held_for url policy) → length compiled.bindings < 2 ^ b → length compiled.rows < 2 ^ k
+    → steps ≤ policy_steps url policy compiled.slots compiled.bindings compiled.rows s b k
+
+abbrev pub IsRowsPaid : BookChange → List CachedFile → CompiledState → ℕ → Type 0
+IsRowsPaid (Things change) files compiled steps = IsPaidByBindings change.gone change.come compiled steps
+IsRowsPaid (Files change) files compiled steps = IsPaidByPolicy change.url (policy_after (policy_change change.edit) files change.url) compiled steps
+IsRowsPaid (Binds change) files compiled steps = IsPaidByBindings change.gone change.come compiled steps

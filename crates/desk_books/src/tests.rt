@@ -1,0 +1,117 @@
+//! One command of each book, planned and committed, with ample memory.
+ghost use Rattle.std.specs.Prelude.{◌≡◌, ◌<◌};
+ghost use Rattle.desk_model.specs.Commands.{IsAsked};
+
+use crate::DeskBooks;
+use bind_book::BindBook;
+use desk_model::Command;
+use file_cache::FileCache;
+use file_tables::OperatorVerdict;
+use mud_base::{Addr, Bytes, Direction, Listed, Mac, Memory, Moment, Prefix};
+use mud_url::{MudUrl, mud_url};
+use sorted_rows::Steps;
+use std::alloc::Global;
+use std::marker::Brand;
+use std::sync::ledger::{Blank, Ledger};
+use std::test::Fail;
+use thing_book::ThingBook;
+
+/// The file of the example of RFC 8520, 9, for IPv4 alone, with an entry for Things of the same maker.
+const BULB: &str =
+    r#"{"ietf-mud:mud":{"mud-version":1,"mud-url":"https://lighting.example.com/lightbulb2000","last-update":"2019-01-28T11:20:51+01:00","cache-validity":48,"is-supported":true,"systeminfo":"The BMS Example Light Bulb","from-device-policy":{"access-lists":{"access-list":[{"name":"v4fr"}]}},"to-device-policy":{"access-lists":{"access-list":[{"name":"v4to"}]}}},"ietf-access-control-list:acls":{"acl":[{"name":"v4to","type":"ipv4-acl-type","aces":{"ace":[{"name":"cl0-todev","matches":{"ipv4":{"ietf-acldns:src-dnsname":"test.example.com","protocol":6},"tcp":{"ietf-mud:direction-initiated":"from-device","source-port":{"operator":"eq","port":443}}},"actions":{"forwarding":"accept"}}]}},{"name":"v4fr","type":"ipv4-acl-type","aces":{"ace":[{"name":"cl0-frdev","matches":{"ipv4":{"ietf-acldns:dst-dnsname":"test.example.com","protocol":6},"tcp":{"ietf-mud:direction-initiated":"from-device","destination-port":{"operator":"eq","port":443}}},"actions":{"forwarding":"accept"}},{"name":"mfg-frdev","matches":{"ietf-mud:mud":{"same-manufacturer":[null]}},"actions":{"forwarding":"accept"}}]}}]}}"#;
+
+/// Its SHA-256 in hex digits.
+const BULB_DIGEST: &[u8] = b"fde1333bdb4a776cc061761cd6a3b72458b458493e4ada81dc79bc7956eb2096";
+
+/// The URL of the example.
+fn bulb_url() -> Result<MudUrl, Fail> {
+    let url = mud_url(b"https://lighting.example.com/lightbulb2000");
+    Ok(url.ok().ok_or("url")?)
+}
+
+/// Books with no lists.
+fn empty(alloc: Global) -> Result<DeskBooks, Memory> {
+    DeskBooks::of(
+        alloc,
+        ThingBook::new(alloc),
+        FileCache::new(alloc),
+        BindBook::new(alloc),
+        None,
+    )
+}
+
+/// What is said, and how many puts the batch has.
+type Said = (&'static str, usize);
+
+/// A command that is planned and committed, with its steps on a ledger of the caller's.
+#[tactic(auto, using(crate::proofs::Whole::ready_of))]
+fn counted<L: Ledger>(books: &mut DeskBooks, command: Command, now: u64, blank: Blank) -> Said
+    requires asked { IsAsked command }
+    requires name { blank.name ≡ L.name }
+    requires parts { blank.parts ≡ L.parts }
+    requires some { 0 < L.parts }
+{
+    let mut steps = Steps::<L>::new(blank);
+    match books.plan(command, Moment::at_most_last(now), &mut steps) {
+        Ok(change) => {
+            let said = (change.outcome().word.text(), change.batch().len());
+            books.commit(change, &mut steps);
+            said
+        }
+        Err(refusal) => (refusal.name(), 0),
+    }
+}
+
+/// The same.
+fn done(books: &mut DeskBooks, command: Command, now: u64) -> Said
+    requires { IsAsked command }
+{
+    counted::<Brand>(books, command, now, Blank::new(1))
+}
+
+#[test]
+fn a_thing_is_heard(rt: HostRuntime) -> Result<(), Fail> {
+    let mut books = empty(rt.alloc())?;
+    let bulb = Mac([2, 0, 0, 0, 0, 1]);
+    let url = bulb_url()?;
+    assert_eq!(rt;
+        done(&mut books, Command::HearUrl(bulb, url), 70),
+        ("new", 2)
+    );
+    assert_eq!(rt;
+        done(&mut books, Command::HearUrl(bulb, url), 80),
+        ("same", 0)
+    );
+    assert_eq!(rt; books.things().len(), 1);
+    assert_eq!(rt; books.stamp(), Some(Moment::at_most_last(70)));
+    Ok(())
+}
+
+#[test]
+fn a_network_is_set(rt: HostRuntime) -> Result<(), Fail> {
+    let mut books = empty(rt.alloc())?;
+    let mut prefixes = Listed::new(rt.alloc());
+    prefixes.push(Prefix::new(Addr::V4(0xc000_0200), 24).ok_or("prefix")?)?;
+    let set = Command::Locals(prefixes);
+    assert_eq!(rt; done(&mut books, set, 70), ("set", 2));
+    assert_eq!(rt; books.locals().len(), 1);
+    assert_eq!(rt; books.stamp(), Some(Moment::at_most_last(70)));
+    Ok(())
+}
+
+#[test]
+fn a_file_is_approved(rt: HostRuntime) -> Result<(), Fail> {
+    let mut books = empty(rt.alloc())?;
+    let url = bulb_url()?;
+    let octets = Bytes::new(rt.alloc(), BULB.as_bytes())?;
+    let offered = Command::Import(octets, Moment::at_most_last(60));
+    assert_eq!(rt; done(&mut books, offered, 70), ("new", 2));
+    assert!(rt; books.view(&url, Direction::From).file_part().is_none());
+    let digest = Bytes::new(rt.alloc(), BULB_DIGEST)?;
+    let verdict = Command::Verdict(url, digest, OperatorVerdict::Waived);
+    assert_eq!(rt; done(&mut books, verdict, 71), ("approved", 2));
+    assert!(rt; books.view(&url, Direction::From).file_part().is_some());
+    assert_eq!(rt; done(&mut books, Command::Revoke(url), 72), ("revoked", 2));
+    assert!(rt; books.view(&url, Direction::From).file_part().is_none());
+    Ok(())
+}

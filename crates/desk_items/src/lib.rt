@@ -1,0 +1,16 @@
+//! The items in which a desk is kept, read one after the other in the keeper's order. A keeper is
+//! opened over them: they are read whole before anything is written, and then each Thing of the first
+//! version of its record is put anew in the second.
+#![tactic(auto)]
+
+pub mod fault;
+pub mod opening;
+pub mod stamp;
+pub mod taken;
+
+pub use fault::OpenFault;
+pub use opening::open_items;
+pub use taken::{Taken, take_all};
+
+#[cfg(test)]
+mod tests;

@@ -1,0 +1,150 @@
+//! Keepers that are opened with ample memory: the items are spelled out octet for octet.
+ghost use Rattle.std.specs.Prelude.{◌≡◌, IsTrue};
+
+use super::*;
+use mud_base::{Bytes, Listed, Memory};
+use mud_world::{Item, Keeper, MemoryKeeper, Put, keep};
+use std::alloc::Global;
+use std::process::Abort;
+use std::test::Fail;
+
+/// The file of the example of RFC 8520, 9, for IPv4 alone, with an entry for Things of the same maker.
+const BULB: &str =
+    r#"{"ietf-mud:mud":{"mud-version":1,"mud-url":"https://lighting.example.com/lightbulb2000","last-update":"2019-01-28T11:20:51+01:00","cache-validity":48,"is-supported":true,"systeminfo":"The BMS Example Light Bulb","from-device-policy":{"access-lists":{"access-list":[{"name":"v4fr"}]}},"to-device-policy":{"access-lists":{"access-list":[{"name":"v4to"}]}}},"ietf-access-control-list:acls":{"acl":[{"name":"v4to","type":"ipv4-acl-type","aces":{"ace":[{"name":"cl0-todev","matches":{"ipv4":{"ietf-acldns:src-dnsname":"test.example.com","protocol":6},"tcp":{"ietf-mud:direction-initiated":"from-device","source-port":{"operator":"eq","port":443}}},"actions":{"forwarding":"accept"}}]}},{"name":"v4fr","type":"ipv4-acl-type","aces":{"ace":[{"name":"cl0-frdev","matches":{"ipv4":{"ietf-acldns:dst-dnsname":"test.example.com","protocol":6},"tcp":{"ietf-mud:direction-initiated":"from-device","destination-port":{"operator":"eq","port":443}}},"actions":{"forwarding":"accept"}},{"name":"mfg-frdev","matches":{"ietf-mud:mud":{"same-manufacturer":[null]}},"actions":{"forwarding":"accept"}}]}}]}}"#;
+
+/// A Thing of this hardware address.
+const MAC: &[u8] = b"\x02\x00\x00\x00\x00\x01";
+
+/// Its URL, no other that waits, and a lease of 192.0.2.10 until 87400, in version 1.
+const FIRST: &[u8] =
+    b"\x01\x00\x00\x00\x2ahttps://lighting.example.com/lightbulb2000\x00\x00\x01\x04\xc0\x00\x02\x0a\x00\x00\x00\x00\x00\x01\x55\x68";
+
+/// The same in version 2, which says that it isn't held.
+const SECOND: &[u8] =
+    b"\x02\x00\x00\x00\x2ahttps://lighting.example.com/lightbulb2000\x00\x00\x01\x04\xc0\x00\x02\x0a\x00\x00\x00\x00\x00\x01\x55\x68\x00";
+
+/// The class urn:ietf:params:mud:dns, with the address 192.0.2.53.
+const CLASS: (&[u8], &[u8]) = (
+    b"\x01urn:ietf:params:mud:dns",
+    b"\x01\x00\x01\x04\xc0\x00\x02\x35",
+);
+
+/// The name test.example.com, with the address 198.51.100.7 until 1060.
+const NAME: (&[u8], &[u8]) = (
+    b"test.example.com",
+    b"\x01\x00\x01\x04\xc6\x33\x64\x07\x00\x00\x00\x00\x00\x00\x04\x24",
+);
+
+/// The moment 1000.
+const STAMP: &[u8] = b"\x01\x00\x00\x00\x00\x00\x00\x03\xe8";
+
+/// The approved file of a URL, fetched at 1000 and not verified, and no candidate.
+fn file_body(alloc: Global) -> Result<Bytes, Memory> {
+    let mut body = Bytes::new(alloc, b"\x01\x01\x00\x00\x00\x00\x00\x00\x03\xe8\x02")?;
+    body.append(&(BULB.len() as u32).to_be_bytes())?;
+    body.append(BULB.as_bytes())?;
+    body.append(b"\x00")?;
+    Ok(body)
+}
+
+/// Keeps one item more.
+fn add(
+    alloc: Global,
+    keeper: &mut Box<dyn Keeper>,
+    kind: u8,
+    key: &[u8],
+    body: &[u8],
+) -> Result<(), Fail>
+    requires { IsTrue (opened keeper.old) }
+    ensures { opened keeper.new ≡ opened keeper.old }
+{
+    let key = Bytes::new(alloc, key)?;
+    let body = Bytes::new(alloc, body)?;
+    keep(keeper, &[Put::Set(Item { kind, key, body })])?;
+    Ok(())
+}
+
+/// Keeps the Thing, in version 1, and an item of another kind.
+fn add_two(alloc: Global, keeper: &mut Box<dyn Keeper>, kind: u8, body: &[u8]) -> Result<(), Fail>
+    requires { IsTrue (opened keeper.old) }
+    ensures { opened keeper.new ≡ opened keeper.old }
+{
+    add(alloc, keeper, 1, MAC, FIRST)?;
+    add(alloc, keeper, kind, b"", body)
+}
+
+/// Whether the item of the stamp is named as the first that is no record.
+fn names_stamp(answer: &Result<Taken, OpenFault>) -> bool {
+    match answer {
+        Err(OpenFault::BadItem(kind, key)) => *kind == 6 && key.len() == 0,
+        _ => false,
+    }
+}
+
+/// Asserts that the first and the last item have these bodies.
+fn check_bodies(
+    rt: &impl Abort,
+    alloc: Global,
+    keeper: &mut Box<dyn Keeper>,
+    first: &[u8],
+    last: &[u8],
+) -> Result<(), Fail> {
+    let items = keeper.open(alloc)?;
+    let front = items.as_slice().first().map(|item| item.body.octets());
+    assert!(rt; front == Some(first));
+    let back = items.as_slice().last().map(|item| item.body.octets());
+    assert!(rt; back == Some(last));
+    Ok(())
+}
+
+#[test]
+fn a_desk_is_read(rt: HostRuntime) -> Result<(), Fail> {
+    let alloc = rt.alloc();
+    let empty = MemoryKeeper::new(alloc, Listed::new(alloc));
+    let mut keeper: Box<dyn Keeper> = Box::new(alloc, empty)?;
+    keeper.open(alloc)?;
+    add(alloc, &mut keeper, 1, MAC, FIRST)?;
+    let url = b"https://lighting.example.com/lightbulb2000";
+    add(alloc, &mut keeper, 2, url, file_body(alloc)?.octets())?;
+    add(alloc, &mut keeper, 3, CLASS.0, CLASS.1)?;
+    add(alloc, &mut keeper, 5, NAME.0, NAME.1)?;
+    add(alloc, &mut keeper, 6, b"", STAMP)?;
+    let taken = open_items(alloc, &mut keeper, Taken::new(alloc))?;
+    assert_eq!(rt; taken.things.things().len(), 1);
+    assert_eq!(rt; taken.files.files().len(), 1);
+    assert_eq!(rt; taken.binds.classes().len(), 1);
+    assert_eq!(rt; taken.binds.locals().len(), 0);
+    assert_eq!(rt; taken.binds.names().len(), 1);
+    assert_eq!(rt; taken.stamp.map(|moment| moment.seconds()), Some(1000));
+    check_bodies(&rt, alloc, &mut keeper, SECOND, STAMP)
+}
+
+#[test]
+fn the_first_bad_item_is_named(rt: HostRuntime) -> Result<(), Fail> {
+    let alloc = rt.alloc();
+    let empty = MemoryKeeper::new(alloc, Listed::new(alloc));
+    let mut keeper: Box<dyn Keeper> = Box::new(alloc, empty)?;
+    keeper.open(alloc)?;
+    add_two(alloc, &mut keeper, 6, b"\x02")?;
+    add(alloc, &mut keeper, 9, b"\x09", b"")?;
+    let answer = open_items(alloc, &mut keeper, Taken::new(alloc));
+    assert!(rt; names_stamp(&answer));
+    check_bodies(&rt, alloc, &mut keeper, FIRST, b"")
+}
+
+#[test]
+fn a_failure_is_told_once(rt: HostRuntime) -> Result<(), Fail> {
+    let alloc = rt.alloc();
+    let mut failing = MemoryKeeper::new(alloc, Listed::new(alloc));
+    failing.failing_open.push(2)?;
+    failing.failing_apply.push(3)?;
+    let mut keeper: Box<dyn Keeper> = Box::new(alloc, failing)?;
+    keeper.open(alloc)?;
+    add_two(alloc, &mut keeper, 6, STAMP)?;
+    for _ in 0..2 {
+        let answer = open_items(alloc, &mut keeper, Taken::new(alloc));
+        assert!(rt; matches!(&answer, Err(OpenFault::Keeper)));
+    }
+    open_items(alloc, &mut keeper, Taken::new(alloc))?;
+    check_bodies(&rt, alloc, &mut keeper, SECOND, STAMP)
+}

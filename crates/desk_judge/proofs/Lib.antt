@@ -1,0 +1,4 @@
+pub mod Notes
+pub mod Since
+pub mod Verdicts
+pub mod Views

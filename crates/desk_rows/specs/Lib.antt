@@ -1,0 +1,2 @@
+pub mod CompiledDesk
+pub mod Policies

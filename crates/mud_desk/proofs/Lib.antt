@@ -1,0 +1,4 @@
+pub mod Boxes
+pub mod Opening
+pub mod Payments
+pub mod Sessions

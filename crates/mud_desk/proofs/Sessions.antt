@@ -1,0 +1,231 @@
+-- What the calls of a desk make of its session.
+use Rattle.std.proofs.Common.{◌≡◌, ◌≢◌, ℕ, ◌+◌, ◌-◌, ◌≤◌, Bool, true, false, IsTrue, List, [], ◌∷◌, Option, Some, None, Result, Ok, Err, refl, sym, ap, ◌∙◌, subst, inl, inr, if◌then◌else◌, arith}
+use Rattle.std.specs.Prelude.{max, length, IsOkAnd, IfOk, IsSome, unwrap_or}
+use Rattle.mud_base.specs.declared.memory.Memory as want
+use Rattle.mud_world.specs.declared.item.Item.{Item}
+use Rattle.mud_world.specs.declared.item.Put.{Put}
+use Rattle.mud_world.specs.Items.{put_all, is_batch}
+use Rattle.mud_world.specs.Causes.{Counts}
+use Rattle.acl_model.specs.declared.binding.Binding.{Binding}
+use Rattle.acl_model.specs.Changes.{IsBindingChange}
+use Rattle.acl_rows.specs.declared.row.Row.{Row}
+use Rattle.acl_patch.specs.Patch.{rows_apart}
+use Rattle.acl_compile.specs.Compiled.{CompiledState}
+use Rattle.mud_base.specs.declared.prefix.Prefix.{Prefix}
+use Rattle.mud_tables.specs.declared.thing.Thing.{Thing}
+use Rattle.mud_tables.specs.declared.segment.Segment.{Segment}
+use Rattle.mud_tables.specs.History.{last_moment}
+use Rattle.flow_table.specs.Kept.{Flows, StandsFor, is_since}
+use Rattle.flow_table.specs.Held.{Held, flows_of}
+use Rattle.mud_base.specs.declared.packet.Direction.{Direction}
+use Rattle.mud_base.specs.declared.packet.Fields.{Fields}
+use Rattle.frame_view.specs.declared.views.Frame.{Frame}
+use Rattle.frame_view.specs.Frame.{frame_of}
+use Rattle.packet_judge.specs.declared.verdict.Verdict.{Verdict}
+use Rattle.packet_judge.specs.Verdicts.{noted_fields, history_after, steps_on}
+use Rattle.desk_model.specs.declared.command.Command.{Command}
+use Rattle.desk_model.specs.declared.reply.Outcome.{Outcome}
+use Rattle.desk_model.specs.declared.reply.Refusal.{Refusal}
+use Rattle.desk_model.specs.declared.reply.Reply.{Reply}
+use Rattle.desk_model.specs.declared.reply.Reply.TheVariants.{Done, Refused, Keeper, Memory}
+use Rattle.desk_model.specs.Refusals.{is_want_of_memory, reply_of}
+use Rattle.desk_model.specs.DeskTables.{DeskTables, IsSound}
+use Rattle.desk_model.specs.Commands.{DeskAfter, DeskStep, command_step, IsTyped, IsAsked, IsCommand, TellsChange}
+use Rattle.desk_model.specs.Items.{items_of, IsKeptBy}
+use Rattle.desk_model.specs.Verdicts.{verdict_at, desk_bindings}
+use Rattle.desk_model.specs.Sessions.{Session, Answered, answered, command_in, MayAnswer, later, verdict_in, frame_in, Judged, judged, IsNoted, MayJudge, opened}
+use Rattle.desk_model.proofs.ToldSteps.{commands_told}
+use Rattle.desk_rows.specs.CompiledDesk.{IsCompiledOf}
+use Rattle.desk_judge.specs.Grounds.{grounds, AreGroundsOf}
+use Rattle.desk_judge.proofs.Since.{since_later}
+use Rattle.desk_books.specs.Books.{Books, desk_in, desk_of}
+use Rattle.desk_books.specs.Changes.{PlannedChange, desk_after}
+use Rattle.desk_books.specs.Planned.{IsPlanned, IsReady, IsBatchOf, IsPaid}
+use Rattle.mud_desk.specs.DeskState.{DeskState, tables_of, session_of, HasForwarded, IsTimely, IsBegun, IsJudged}
+use Rattle.mud_desk.specs.Answers.{is_of_keeper, PaysForCommit, IsPaidOnce}
+
+-- ---- The moment
+
+pub timely_later : (flows : Held) (m n : ℕ) → IsTimely flows m → m ≤ n → IsTimely flows n
+unfolding IsTimely
+timely_later flows m n timely le = since_later (flows_of flows).last m n timely le
+
+pub timely_since : (flows : Held) (m n : ℕ) → IsTimely flows m → m ≤ n → IsTrue (is_since (flows_of flows).last n)
+unfolding IsTimely
+timely_since flows m n timely le = since_later (flows_of flows).last m n timely le
+
+pub timely_at : (flows : Held) (n : ℕ) → IsTrue (is_since (flows_of flows).last n) → IsTimely flows n
+unfolding IsTimely
+timely_at flows n since = since
+
+pub timely_same : (before after : Held) (m : ℕ) → flows_of after ≡ flows_of before → IsTimely before m → IsTimely after m
+unfolding IsTimely
+timely_same before after m same timely = subst (λ (f : Flows). IsTrue (is_since f.last m)) (sym same) timely
+
+pub timely_new : (flows : Held) (m : ℕ) → StandsFor [] (flows_of flows) → IsTimely flows m
+unfolding IsTimely last_moment is_since
+timely_new flows m stands = subst (λ (last : Option ℕ). IsTrue (is_since last m)) (sym stands.last) refl
+
+pub max_first : (m n k : ℕ) → k ≡ max m n → m ≤ k
+max_first m n k is = omega (arith, is)
+
+same_session : (h : List Segment) (before after : DeskState) → tables_of after ≡ tables_of before → after.moment ≡ before.moment → session_of h after ≡ session_of h before
+unfolding session_of
+same_session h before after tables moment = λ i. record { desk = tables i; history = h; moment = moment i }
+
+-- ---- A command, at the moment at which it runs
+
+unfoldable answered_at : Session → Command → ℕ → Answered
+answered_at session command n = answered session n (command_step session.desk n command)
+
+runs_at : (session : Session) (now : ℕ) (command : Command) (n : ℕ) → n ≡ max session.moment now → command_in session now command ≡ answered_at session command n
+unfolding command_in answered_at later
+runs_at session now command n is = ap (answered_at session command) (sym is)
+
+step_done : (session : Session) (n : ℕ) (books : Books) (change : PlannedChange) (after : Session) → after.desk ≡ desk_after change (desk_of books) → after.history ≡ session.history → after.moment ≡ n
+    → (step : DeskStep) → IsOkAnd step (λ s. IsPlanned s books change) → answered session n step ≡ record { reply = Done change.outcome; session = after }
+unfolding answered
+step_done session n books change after desk history moment (Ok s) planned =
+    λ i. record { reply = Done (sym planned.outcome i); session = record { desk = (sym planned.leads ∙ sym desk) i; history = sym history i; moment = sym moment i } }
+step_done session n books change after desk history moment (Err refusal) planned = absurd planned
+
+step_refused : (session : Session) (n : ℕ) (refusal : Refusal) (after : Session) → after ≡ session → (step : DeskStep) → step ≡ Err refusal → answered session n step ≡ record { reply = Refused refusal; session = after }
+unfolding answered
+step_refused session n refusal after same step is = ap (answered session n) is ∙ (λ i. record { reply = Refused refusal; session = sym same i })
+
+-- the batch of a change that is planned
+batch_fits : (changes : Bool) (before after : DeskTables) (batch : List Put) → IsBatchOf changes before after batch → batch ≢ [] → (changes ≡ true) × IsTrue (is_batch batch)
+batch_fits true before after batch kept some = (refl, kept.batch)
+batch_fits false before after batch none some = absurd (some none)
+
+pub step_batch : (books : Books) (change : PlannedChange) (step : DeskStep) → IsOkAnd step (λ s. IsPlanned s books change) → change.batch ≢ [] → IsTrue (is_batch change.batch)
+step_batch books change (Ok s) planned some = (batch_fits s.changes (desk_of books) s.desk change.batch planned.batch some).1
+step_batch books change (Err refusal) planned some = absurd planned
+
+step_changes : (books : Books) (change : PlannedChange) (step : DeskStep) → IsOkAnd step (λ s. IsPlanned s books change) → change.batch ≢ [] → IsOkAnd step (λ s. s.changes ≡ true)
+step_changes books change (Ok s) planned some = (batch_fits s.changes (desk_of books) s.desk change.batch planned.batch some).0
+step_changes books change (Err refusal) planned some = absurd planned
+
+batch_reaches : (changes : Bool) (before after : DeskTables) (batch : List Put) → (changes ≡ false → after ≡ before) → IsBatchOf changes before after batch → put_all (items_of before) batch ≡ items_of after
+batch_reaches true before after batch same kept = kept.reaches
+batch_reaches false before after batch same none = ap (put_all (items_of before)) none ∙ ap items_of (sym (same refl))
+
+step_reaches : (books : Books) (now : ℕ) (change : PlannedChange) (step : DeskStep) → IsOkAnd step (λ s. IsPlanned s books change) → IfOk step (TellsChange (desk_of books) now)
+    → put_all (items_of (desk_of books)) change.batch ≡ items_of (desk_after change (desk_of books))
+step_reaches books now change (Ok s) planned told =
+    batch_reaches s.changes (desk_of books) s.desk change.batch told.same planned.batch ∙ ap items_of (sym planned.leads)
+step_reaches books now change (Err refusal) planned told = absurd planned
+
+step_ready : (books : Books) (change : PlannedChange) (step : DeskStep) → IsOkAnd step (λ s. IsPlanned s books change) → IsReady books change
+step_ready books change (Ok s) planned = planned.ready
+step_ready books change (Err refusal) planned = absurd planned
+
+module _ (before mid : DeskState) (command : Command) (n : ℕ) (same : tables_of mid ≡ tables_of before) where
+  -- the change was planned for the books in the middle
+  abbrev pub IsPlannedIn : PlannedChange → Type 0
+  IsPlannedIn change = IsOkAnd (command_step (tables_of before) n command) (λ s. IsPlanned s mid.books change)
+
+  pub ready : (change : PlannedChange) → IsPlannedIn change → IsReady mid.books change
+  ready change planned = step_ready mid.books change (command_step (tables_of before) n command) planned
+
+  pub batch_is : (change : PlannedChange) → IsPlannedIn change → change.batch ≢ [] → IsTrue (is_batch change.batch)
+  batch_is change planned some = step_batch mid.books change (command_step (tables_of before) n command) planned some
+
+  -- what the keeper has is then the desk after the change
+  pub reaches : (change : PlannedChange) → IsPlannedIn change → IsSound (tables_of before) → IsTyped command → IsAsked command
+      → put_all (items_of (tables_of before)) change.batch ≡ items_of (desk_after change (tables_of mid))
+  unfolding tables_of
+  reaches change planned sound typed asked =
+      ap (λ (desk : DeskTables). put_all (items_of desk) change.batch) (sym same)
+      ∙ step_reaches mid.books n change (command_step (tables_of before) n command) planned
+      (subst (λ (desk : DeskTables). IfOk (command_step (tables_of before) n command) (TellsChange desk n)) (sym same) (commands_told (tables_of before) sound command n (record { typed = typed; asked = asked })))
+
+  module _ (h : List Segment) (now : ℕ) (is : n ≡ max before.moment now) where
+    here : command_in (session_of h before) now command ≡ answered_at (session_of h before) command n
+    unfolding session_of
+    here = runs_at (session_of h before) now command n is
+
+    pub done : (after : DeskState) (change : PlannedChange) → IsPlannedIn change → tables_of after ≡ desk_after change (tables_of mid) → after.moment ≡ n
+        → MayAnswer (session_of h before) now command (Done change.outcome) (session_of h after)
+    unfolding session_of tables_of answered_at
+    done after change planned desk moment =
+        record { reply_is = here ∙ step_done (session_of h before) n mid.books change (session_of h after) desk refl moment (command_step (tables_of before) n command) planned }
+
+    pub refused : (refusal : Refusal) → mid.moment ≡ before.moment → (is_want_of_memory refusal ≡ false → command_step (tables_of before) n command ≡ Err refusal)
+        → MayAnswer (session_of h before) now command (reply_of refusal) (session_of h mid)
+    unfolding session_of answered_at reply_of
+    refused refusal moment says = by (is_want_of_memory refusal) refl
+      where
+        by : (b : Bool) → is_want_of_memory refusal ≡ b → MayAnswer (session_of h before) now command (if b then Memory else Refused refusal) (session_of h mid)
+        by true wanted = record { reply_is = same_session h before mid same moment }
+        by false spoken = record { reply_is = here ∙ step_refused (session_of h before) n refusal (session_of h mid) (same_session h before mid same moment) (command_step (tables_of before) n command) (says spoken) }
+
+    pub failed : (change : PlannedChange) → IsPlannedIn change → change.batch ≢ [] → mid.moment ≡ before.moment
+        → MayAnswer (session_of h before) now command Keeper (session_of h mid)
+    unfolding session_of later
+    failed change planned some moment = record {
+      reply_is = (
+        subst (λ k. IsOkAnd (command_step (tables_of before) k command) (λ s. s.changes ≡ true)) is (step_changes mid.books change (command_step (tables_of before) n command) planned some),
+        same_session h before mid same moment,
+      );
+    }
+
+    pub wanted : mid.moment ≡ before.moment → MayAnswer (session_of h before) now command Memory (session_of h mid)
+    wanted moment = record { reply_is = same_session h before mid same moment }
+
+pub never_of_keeper : (refusal : Refusal) (n : ℕ) → Counts (is_of_keeper (reply_of refusal)) n n
+unfolding reply_of
+never_of_keeper refusal n = by (is_want_of_memory refusal)
+  where
+    by : (b : Bool) → Counts (is_of_keeper (if b then Memory else Refused refusal)) n n
+    by true = record { later = omega arith; rose = λ e. absurd (cc); steady = λ e. refl }
+    by false = record { later = omega arith; rose = λ e. absurd (cc); steady = λ e. refl }
+
+-- ---- A frame
+
+pub grounds_of : (h : List Segment) (state : DeskState) (things : List Thing) (compiled : CompiledState) (locals : List Prefix) (flows : Flows)
+    → things ≡ state.books.things.things → compiled ≡ state.books.compiled → locals ≡ (tables_of state).tables.locals → IsCompiledOf (tables_of state) state.books.compiled
+    → StandsFor h flows → AreGroundsOf (tables_of state) h (grounds things compiled locals flows)
+unfolding tables_of
+grounds_of h state things compiled locals flows is_things is_compiled is_locals of stands = record {
+  things = is_things;
+  compiled = subst (IsCompiledOf (tables_of state)) (sym is_compiled) of;
+  locals = is_locals;
+  flows = stands;
+}
+
+pub verdict_here : (h : List Segment) (before : DeskState) (stamp n : ℕ) (frame : List ℕ) → n ≡ max before.moment stamp → verdict_in (session_of h before) stamp frame ≡ verdict_at (tables_of before) h n frame
+unfolding verdict_in session_of later
+verdict_here h before stamp n frame is = ap (λ k. verdict_at (tables_of before) h k frame) (sym is)
+
+module _ (h : List Segment) (before after : DeskState) (stamp n : ℕ) (frame : List ℕ) (is : n ≡ max before.moment stamp) where
+  pub judged_so : (v : Verdict) → v ≡ verdict_at (tables_of before) h n frame → StandsFor (history_after h (frame_of frame) v n) (flows_of after.flows) → after.books ≡ before.books → after.moment ≡ n
+      → IsJudged h before stamp frame (Ok v) after
+  unfolding session_of frame_in later judged tables_of
+  judged_so v is_v stands books moment = record {
+    next = history_after h (frame_of frame) v n;
+    may = record {
+      verdict_is =
+          (λ i. judged (session_of h before) (sym is i) frame ((verdict_here h before stamp n frame is ∙ sym is_v) i))
+          ∙ (λ i. record { verdict = v; session = record { desk = desk_of (sym books i); history = history_after h (frame_of frame) v n; moment = sym moment i } });
+    };
+    forwarded = stands;
+  }
+
+  pub judged_not : (memory : want.Memory) → IsSome (noted_fields (frame_of frame) (verdict_at (tables_of before) h n frame)) → HasForwarded h before → flows_of after.flows ≡ flows_of before.flows → after.books ≡ before.books → after.moment ≡ before.moment
+      → IsJudged h before stamp frame (Err memory) after
+  unfolding tables_of
+  judged_not memory noted stands flows books moment = record {
+    next = h;
+    may = record {
+      verdict_is = (subst (λ (v : Verdict). IsSome (noted_fields (frame_of frame) v)) (sym (verdict_here h before stamp n frame is)) noted, same_session h before after (ap desk_of books) moment);
+    };
+    forwarded = subst (StandsFor h) (sym flows) stands;
+  }
+
+-- the steps of a verdict, by the books that were lent for it
+pub steps_alike : (inside state : DeskState) → inside ≡ state → (things : List Thing) (compiled : CompiledState) → things ≡ inside.books.things.things → compiled ≡ inside.books.compiled
+    → (steps : CompiledState → Direction → Thing → Fields → ℕ) (frame : Frame) → steps_on (steps compiled) things frame ≡ steps_on (steps state.books.compiled) (tables_of state).tables.things frame
+unfolding tables_of
+steps_alike inside state same things compiled is_things is_compiled steps frame =
+    λ i. steps_on (steps ((is_compiled ∙ ap (λ (s : DeskState). s.books.compiled) same) i)) ((is_things ∙ ap (λ (s : DeskState). s.books.things.things) same) i) frame

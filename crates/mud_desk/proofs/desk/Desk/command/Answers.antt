@@ -1,0 +1,78 @@
+use Rattle.std.proofs.Common.{◌≡◌, ◌≢◌, ℕ, [], List, sym, subst, ap, ◌∙◌}
+use Rattle.std.specs.Prelude.{max}
+use Rattle.mud_world.specs.declared.item.Put.{Put}
+use Rattle.mud_world.specs.Causes.{Counts}
+use Rattle.mud_world.specs.Items.{put_all}
+use Rattle.mud_world.specs.Boxed.{faults_of, kept_items}
+use Rattle.desk_model.specs.declared.reply.Outcome.{Outcome}
+use Rattle.desk_model.specs.declared.reply.Reply.{Reply}
+use Rattle.desk_model.specs.declared.reply.Reply.TheVariants.{Done}
+use Rattle.desk_model.specs.Items.{items_of}
+use Rattle.desk_model.specs.Sessions.{MayAnswer}
+use Rattle.mud_desk.specs.DeskState.{tables_of, session_of}
+use Rattle.mud_desk.specs.Answers.{is_of_keeper}
+use Rattle.mud_desk.proofs.Sessions.{reaches, done, refused, failed, wanted, never_of_keeper}
+use Rattle.mud_desk.proofs.Boxes.{kept_after}
+use Rattle.mud_desk.proofs.Payments.{paid, planned_only}
+use Rattle.mud_desk.proofs.desk.Desk.command.Goals as goal
+
+pub returns-in-Err-clause-answer : goal.returns-in-Err-clause-answer
+returns-in-Err-clause-answer g c = λ h.
+    let before = c.args.self.now.state in
+    let is : c.later-now.result ≡ max before.moment c.args.now = c.later-now.ensures ∙ ap (λ m. max m c.args.now) c.moment.ensures in
+    subst (λ (r : Reply). MayAnswer (session_of h before) c.args.now c.args.command r (session_of h c.plan.new.self)) (sym c.into_reply.ensures)
+    (refused before c.plan.new.self c.args.command c.later-now.result c.in-Err.ensures.same h c.args.now is c.in-Err.refusal c.in-Err.ensures.moment c.in-Err.ensures.err)
+
+pub returns-in-Err-clause-cause : goal.returns-in-Err-clause-cause
+returns-in-Err-clause-cause g c =
+    let count = faults_of (goal.Keeper-dyn g) c.args.self.now.keeper in
+    subst (λ (r : Reply). Counts (is_of_keeper r) count count) (sym c.into_reply.ensures) (never_of_keeper c.in-Err.refusal count)
+
+pub returns-in-Err-Failed-clause-answer : goal.returns-in-Err-Failed-clause-answer
+returns-in-Err-Failed-clause-answer g c = λ h.
+    let before = c.args.self.now.state in
+    let is : c.later-now.result ≡ max before.moment c.args.now = c.later-now.ensures ∙ ap (λ m. max m c.args.now) c.moment.ensures in
+    failed before c.plan.new.self c.args.command c.later-now.result c.in-Ok.ensures.same h c.args.now is c.in-Ok.change c.in-Ok.ensures.ok
+    (subst (λ (puts : List Put). puts ≢ []) c.batch.ensures c.in-Err-Failed.ensures.some) c.in-Ok.ensures.moment
+
+pub returns-in-Err-Memory-clause-answer : goal.returns-in-Err-Memory-clause-answer
+returns-in-Err-Memory-clause-answer g c = λ h.
+    let before = c.args.self.now.state in
+    let is : c.later-now.result ≡ max before.moment c.args.now = c.later-now.ensures ∙ ap (λ m. max m c.args.now) c.moment.ensures in
+    wanted before c.plan.new.self c.args.command c.later-now.result c.in-Ok.ensures.same h c.args.now is c.in-Ok.ensures.moment
+
+pub returns-in-Err-Failed-clause-steps : goal.returns-in-Err-Failed-clause-steps
+returns-in-Err-Failed-clause-steps g c =
+    let before = c.args.self.now.state in
+    let is : c.later-now.result ≡ max before.moment c.args.now = c.later-now.ensures ∙ ap (λ m. max m c.args.now) c.moment.ensures in
+    planned_only before c.plan.new.self c.args.command c.later-now.result c.args.now is c.in-Ok.ensures.same c.in-Ok.ensures.rows c.args.steps.now c.plan.new.steps c.in-Ok.ensures.steps
+
+pub returns-in-Err-Memory-clause-steps : goal.returns-in-Err-Memory-clause-steps
+returns-in-Err-Memory-clause-steps g c =
+    let before = c.args.self.now.state in
+    let is : c.later-now.result ≡ max before.moment c.args.now = c.later-now.ensures ∙ ap (λ m. max m c.args.now) c.moment.ensures in
+    planned_only before c.plan.new.self c.args.command c.later-now.result c.args.now is c.in-Ok.ensures.same c.in-Ok.ensures.rows c.args.steps.now c.plan.new.steps c.in-Ok.ensures.steps
+
+pub returns-clause-answer : goal.returns-clause-answer
+returns-clause-answer g c = λ h.
+    let before = c.args.self.now.state in
+    let is : c.later-now.result ≡ max before.moment c.args.now = c.later-now.ensures ∙ ap (λ m. max m c.args.now) c.moment.ensures in
+    subst (λ (outcome : Outcome). MayAnswer (session_of h before) c.args.now c.args.command (Done outcome) (session_of h c.commit.new.self)) (sym c.outcome-outcome.ensures)
+    (done before c.plan.new.self c.args.command c.later-now.result c.in-Ok.ensures.same h c.args.now is c.commit.new.self c.in-Ok.change c.in-Ok.ensures.ok c.commit.ensures.desk c.commit.ensures.moment)
+
+pub returns-clause-kept : goal.returns-clause-kept
+returns-clause-kept g c =
+    let before = c.args.self.now.state in
+    let put : put_all (items_of (tables_of before)) c.in-Ok.change.batch ≡ items_of (tables_of c.commit.new.self) =
+    reaches before c.plan.new.self c.args.command c.later-now.result c.in-Ok.ensures.same c.in-Ok.change c.in-Ok.ensures.ok c.in-Ok.ensures.sound c.command_fits.ensures c.requires.asked ∙ ap items_of (sym c.commit.ensures.desk) in
+    kept_after (goal.Keeper-dyn g) c.args.self.now.keeper c.keep_batch.new.keeper (tables_of before) (tables_of c.commit.new.self) c.in-Ok.change.batch c.requires.kept
+    c.in-Ok-keep_batch.ensures.opened c.in-Ok-keep_batch.ensures.told
+    (λ tells. c.in-Ok-keep_batch.ensures.ok tells ∙ ap (put_all (kept_items (goal.Keeper-dyn g) c.args.self.now.keeper)) c.batch.ensures)
+    put
+
+pub returns-clause-steps : goal.returns-clause-steps
+returns-clause-steps g c =
+    let before = c.args.self.now.state in
+    let is : c.later-now.result ≡ max before.moment c.args.now = c.later-now.ensures ∙ ap (λ m. max m c.args.now) c.moment.ensures in
+    paid before c.plan.new.self c.args.command c.later-now.result c.args.now is c.in-Ok.ensures.same c.in-Ok.ensures.rows c.commit.new.self c.in-Ok.change c.in-Ok.ensures.ok c.commit.ensures.desk
+    c.args.steps.now c.plan.new.steps c.commit.new.steps c.in-Ok.ensures.steps c.commit.ensures.counted c.commit.ensures.most

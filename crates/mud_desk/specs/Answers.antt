@@ -1,0 +1,51 @@
+-- What a command answers, and the steps that it takes; and why a desk can't be opened.
+use Rattle.std.specs.Prelude.{◌≡◌, ℕ, ◌+◌, ◌≤◌, Bool, true, false, List, length, ◌⊎◌}
+use Rattle.acl_model.specs.declared.binding.Binding.{Binding}
+use Rattle.acl_model.specs.Changes.{IsBindingChange}
+use Rattle.acl_patch.specs.Patch.{rows_apart}
+use Rattle.desk_model.specs.declared.reply.Reply.{Reply}
+use Rattle.desk_model.specs.declared.reply.Reply.TheVariants.{Done, Refused, Keeper, Memory}
+use Rattle.desk_model.specs.Commands.{DeskStep}
+use Rattle.desk_model.specs.Verdicts.{desk_bindings}
+use Rattle.desk_items.specs.declared.fault.OpenFault.{OpenFault}
+use Rattle.desk_items.specs.declared.fault.OpenFault.TheVariants as opening
+use Rattle.desk_items.specs.Opening.{IsPartlyAnew}
+use Rattle.mud_world.specs.declared.item.Item.{Item}
+use Rattle.desk_model.specs.Items.{tables_in}
+use Rattle.desk_books.specs.Books.{Books, desk_of}
+use Rattle.desk_books.specs.Planned.{IsPaid}
+
+-- the reply is that the keeper failed
+abbrev pub is_of_keeper : Reply → Bool
+is_of_keeper (Done outcome) = false
+is_of_keeper (Refused refusal) = false
+is_of_keeper Keeper = true
+is_of_keeper Memory = false
+
+-- the fault is that the keeper failed
+abbrev pub is_fault_of_keeper : OpenFault → Bool
+is_fault_of_keeper opening.Keeper = true
+is_fault_of_keeper opening.Memory = false
+is_fault_of_keeper (opening.BadItem kind key) = false
+
+-- What a refusal leaves of the items: all of them where an item is named. Where the keeper failed, all of them, or those of the
+-- same desk, of which some Things are put anew. Where memory was wanted, those of the same desk.
+abbrev pub IsLeft : List Item → List Item → OpenFault → Type 0
+IsLeft before now (opening.BadItem kind key) = now ≡ before
+IsLeft before now opening.Keeper = (now ≡ before) ⊎ IsPartlyAnew before now
+IsLeft before now opening.Memory = tables_in now ≡ tables_in before
+
+-- one step for each compiled row that is only before or only after, and for each binding that goes or comes
+pub record PaysForCommit (before after : Books) (steps : ℕ) : Type 0 where
+  pub gone : List Binding
+  pub come : List Binding
+  pub change : IsBindingChange (desk_bindings (desk_of before)) (desk_bindings (desk_of after)) gone come
+  pub most : steps ≤ rows_apart before.compiled.rows after.compiled.rows + (length gone + length come)
+
+-- the steps between two counts are at most those of one plan and of one commit; a command that isn't done commits nothing
+pub record IsPaidOnce (step : DeskStep) (before after : Books) (begun ended : ℕ) : Type 0 where
+  pub planned : ℕ
+  pub committed : ℕ
+  pub most : ended ≤ begun + (planned + committed)
+  pub plan : IsPaid step before planned
+  pub commit : (committed ≡ 0) ⊎ PaysForCommit before after committed

@@ -1,0 +1,3 @@
+pub mod DeskState
+pub mod Boxed
+pub mod Answers

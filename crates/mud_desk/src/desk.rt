@@ -1,0 +1,237 @@
+//! The desk, and the keeper that it keeps its lists in.
+ghost use Rattle.std.specs.Prelude.{◌≡◌, ℕ, ◌+◌, ◌-◌, ◌^◌, ◌<◌, ◌≤◌, max, [], List, Ok, IfOk, IfErr, length};
+ghost use Rattle.mud_world.specs.Boxed.{faults_of, Tells, kept_items};
+ghost use Rattle.mud_world.specs.Causes.{Counts};
+ghost use Rattle.mud_tables.specs.declared.segment.Segment.{Segment as SegmentValue};
+ghost use Rattle.mud_tables.specs.Things.{thing_at};
+ghost use Rattle.frame_view.specs.Frame.{frame_of};
+ghost use Rattle.packet_judge.specs.Verdicts.{steps_on};
+ghost use Rattle.desk_model.specs.DeskTables.{IsSound};
+ghost use Rattle.desk_model.specs.Commands.{IsAsked, command_step};
+ghost use Rattle.desk_model.specs.Items.{tables_in};
+ghost use Rattle.desk_model.specs.Sessions.{MayAnswer, verdict_in};
+ghost use Rattle.desk_rows.specs.CompiledDesk.{IsCompiledOf};
+ghost use Rattle.desk_items.specs.Opening.{IsFaultOf};
+ghost use Rattle.desk_judge.specs.Grounds.{rows_read, ruling_steps};
+ghost use Rattle.mud_desk.specs.DeskState.{tables_of, session_of, HasForwarded, IsBegun, IsJudged, AreRulesOf};
+ghost use Rattle.mud_desk.specs.Boxed.{IsKept, IsSameBox};
+ghost use Rattle.mud_desk.specs.Answers.{is_of_keeper, is_fault_of_keeper, IsLeft, IsPaidOnce};
+
+use crate::keeping::keep_batch;
+use crate::state::{State, later};
+use acl_rows::RuleView;
+use desk_items::{OpenFault, Taken, open_items};
+use desk_model::types::command_fits;
+use desk_model::{Command, Reply};
+use file_tables::CachedFile;
+use mud_base::{Direction, Mac, Memory, Moment, Prefix};
+use mud_tables::{ClassRow, NameRow, Thing};
+use mud_world::{KeepFault, Keeper};
+use packet_judge::Verdict;
+use sorted_rows::Steps;
+use std::alloc::Global;
+use std::marker::Brand;
+use std::sync::ledger::{Blank, Ledger};
+
+/// The manager's lists and what is compiled of them, the connections that were forwarded, the moment
+/// of the session, and the keeper in which the lists are kept.
+#[derive(Drop)]
+pub struct Desk {
+    keeper: Box<dyn Keeper>,
+    state: State,
+}
+
+impl Desk {
+    /// Opens a keeper: the desk has the lists that its items are, and a session begins. Where an item
+    /// is no record, the first one in the keeper's order is named, and nothing was written. Each
+    /// Thing whose record is of the first version is written anew in the second; the lists and the
+    /// moment of their last change stay. A refusal hands the box back.
+    pub fn open(
+        alloc: Global,
+        keeper: Box<dyn Keeper>,
+    ) -> Result<Desk, (OpenFault, Box<dyn Keeper>)>
+        // The desk's lists are those that the keeper told before, and are kept now.
+        ensures tables { Tells Keeper-dyn keeper → IfOk result (λ desk. Tells Keeper-dyn desk.keeper
+            → tables_in (kept_items Keeper-dyn keeper) ≡ Ok (tables_of desk.state)) }
+        ensures sound { IfOk result (λ desk. IsSound (tables_of desk.state)) }
+        ensures kept { IfOk result (λ desk. IsKept Keeper-dyn desk.keeper (tables_of desk.state)) }
+        ensures begun { IfOk result (λ desk. IsBegun (tables_of desk.state) desk.state) }
+        ensures steady { IfOk result (λ desk. faults_of Keeper-dyn desk.keeper ≡ faults_of Keeper-dyn keeper) }
+        ensures same_box { IfOk result (λ desk. IsSameBox keeper desk.keeper) }
+        // The first item that is no record is named exactly where there is one.
+        ensures bad { IfErr result (λ refusal. Tells Keeper-dyn refusal.1
+            → IsFaultOf (kept_items Keeper-dyn refusal.1) refusal.0) }
+        ensures left { Tells Keeper-dyn keeper → IfErr result (λ refusal. Tells Keeper-dyn refusal.1
+            → IsLeft (kept_items Keeper-dyn keeper) (kept_items Keeper-dyn refusal.1) refusal.0) }
+        ensures cause { IfErr result (λ refusal. Counts (is_fault_of_keeper refusal.0) (faults_of Keeper-dyn keeper) (faults_of Keeper-dyn refusal.1)) }
+        ensures handed_back { IfErr result (λ refusal. IsSameBox keeper refusal.1) }
+    {
+        let mut keeper = keeper;
+        let taken = match open_items(alloc, &mut keeper, Taken::new(alloc)) {
+            Ok(taken) => taken,
+            Err(fault) => return Err((fault, keeper)),
+        };
+        match State::of(alloc, taken) {
+            Ok(state) => Ok(Desk { keeper, state }),
+            Err(Memory) => Err((OpenFault::Memory, keeper)),
+        }
+    }
+
+    /// Hands the keeper back, with its items as they are.
+    pub fn close(self) -> Box<dyn Keeper>
+        ensures { result ≡ self.keeper }
+    {
+        let Desk { keeper, state: _ } = self;
+        keeper
+    }
+
+    /// A command, at the later of the session's moment and this one. What it changes is kept by one
+    /// batch, with the moment of the change, before it is made; where nothing changes the keeper
+    /// isn't called. `Done` makes that the moment of the session; after any other reply all is as it
+    /// was. A class by URI that is bound has 1 to 255 octets from 21 to 7E hex; a stated lease is for
+    /// at least a second; a name that is observed is a host name in lower case, for 1 to
+    /// 2,147,483,647 seconds.
+    pub fn command<L: Ledger>(
+        &mut self,
+        command: Command,
+        now: Moment,
+        steps: &mut Steps<L>,
+    ) -> Reply
+        requires kept { IsKept Keeper-dyn self.old.keeper (tables_of self.old.state) }
+        requires asked { IsAsked command }
+        ensures answer { (h : List SegmentValue) → MayAnswer (session_of h self.old.state) now command result (session_of h self.new.state) }
+        ensures flows { self.new.state.flows ≡ self.old.state.flows }
+        ensures kept { IsKept Keeper-dyn self.new.keeper (tables_of self.new.state) }
+        ensures told { Tells Keeper-dyn self.new.keeper → Tells Keeper-dyn self.old.keeper }
+        ensures cause { Counts (is_of_keeper result) (faults_of Keeper-dyn self.old.keeper) (faults_of Keeper-dyn self.new.keeper) }
+        ensures same_box { IsSameBox self.old.keeper self.new.keeper }
+        ensures steps { IsPaidOnce (command_step (tables_of self.old.state) (max self.old.state.moment now) command) self.old.state.books self.new.state.books steps.old steps.new }
+    {
+        command_fits(&command);
+        let now = later(self.state.moment(), now);
+        let change = match self.state.plan(command, now, steps) {
+            Ok(change) => change,
+            Err(refusal) => return refusal.into_reply(),
+        };
+        match keep_batch(&mut self.keeper, change.batch()) {
+            Ok(()) => (),
+            Err(KeepFault::Failed) => return Reply::Keeper,
+            Err(KeepFault::Memory) => return Reply::Memory,
+        }
+        let outcome = change.outcome();
+        self.state.commit(change, now, steps);
+        Reply::Done(outcome)
+    }
+
+    /// The verdict on a frame, at the later of the session's moment and this one, which is made the
+    /// moment of the session. A TCP packet of a Thing that is forwarded counts for the connections
+    /// from then on, once. [`Memory`] comes only for such a packet, and leaves all as it was.
+    pub fn judge<L: Ledger>(
+        &mut self,
+        frame: &[u8],
+        stamp: Moment,
+        steps: &mut Steps<L>,
+    ) -> Result<Verdict, Memory>
+        ensures judged { (h : List SegmentValue) → HasForwarded h self.old.state → IsJudged h self.old.state stamp frame.now result self.new.state }
+        ensures books { self.new.state.books ≡ self.old.state.books }
+        ensures keeper { self.new.keeper ≡ self.old.keeper }
+        // Each ruling reads at least the rows that the Thing's file has of the peer,
+        ensures least { steps.old + steps_on (rows_read self.old.state.books.compiled) (tables_of self.old.state).tables.things (frame_of frame.now) ≤ steps.new }
+        // and no more than these, the rows of the peer that the defaults have, the binary digits of
+        // the number of all rows, twice, and the wide entries.
+        ensures most { (b : ℕ) → length self.old.state.books.compiled.rows < 2 ^ b
+            → steps.new ≤ steps.old + steps_on (ruling_steps self.old.state.books.compiled b) (tables_of self.old.state).tables.things (frame_of frame.now) }
+    {
+        self.state.judge(frame, stamp, steps)
+    }
+
+    /// The verdict that [`Desk::judge`] would give, with nothing changed. It takes no memory.
+    pub fn why(&self, frame: &[u8], stamp: Moment) -> Verdict
+        ensures { (h : List SegmentValue) → HasForwarded h self.now.state → result ≡ verdict_in (session_of h self.now.state) stamp frame.now }
+    {
+        self.state.verdict::<Brand>(frame, stamp, Blank::new(1))
+    }
+
+    /// What a ruling on packets with the Thing of this hardware address on this side reads; None
+    /// exactly where no Thing has it.
+    #[tactic(auto, unfolding(crate::specs::DeskState::tables_of))]
+    pub fn rules(&self, mac: Mac, side: Direction) -> Option<RuleView<'_>>
+        ensures rules { AreRulesOf self.now.state side (thing_at mac (tables_of self.now.state).tables.things) result }
+        // The policies, bindings and rows are those of the lists.
+        ensures compiled { IsCompiledOf (tables_of self.now.state) self.now.state.books.compiled }
+    {
+        let books = self.state.books();
+        let _compiled = books.compiled();
+        match books.thing_at(mac) {
+            Some(thing) => Some(books.view(&thing.url, side)),
+            None => None,
+        }
+    }
+
+    /// Makes the later of the session's moment and this one the moment of the session, and answers
+    /// it.
+    pub fn raise(&mut self, now: Moment) -> Moment
+        ensures moment { result ≡ max self.old.state.moment now }
+        ensures state { self.new.state ≡ record self.old.state { moment = result } }
+        ensures keeper { self.new.keeper ≡ self.old.keeper }
+    {
+        let moment = later(self.state.moment(), now);
+        self.state.raise(moment);
+        moment
+    }
+
+    /// The moment of the session.
+    pub fn moment(&self) -> Moment
+        ensures { result ≡ self.now.state.moment }
+    {
+        self.state.moment()
+    }
+
+    /// The moment of the last change that was kept; None where there was none.
+    #[tactic(auto, unfolding(crate::specs::DeskState::tables_of))]
+    pub fn stamp(&self) -> Option<Moment>
+        ensures { result ≡ (tables_of self.now.state).stamp }
+    {
+        self.state.books().stamp()
+    }
+
+    /// The Things, in the order of their hardware addresses.
+    #[tactic(auto, unfolding(crate::specs::DeskState::tables_of))]
+    pub fn things(&self) -> &[Thing]
+        ensures { result.now ≡ (tables_of self.now.state).tables.things }
+    {
+        self.state.books().things()
+    }
+
+    /// The usage files that are held, in the order of their URLs.
+    #[tactic(auto, unfolding(crate::specs::DeskState::tables_of))]
+    pub fn files(&self) -> &[CachedFile]
+        ensures { result.now ≡ (tables_of self.now.state).files }
+    {
+        self.state.books().files()
+    }
+
+    /// The classes: those by URI, and then those by MUD URL, in the order of their texts.
+    #[tactic(auto, unfolding(crate::specs::DeskState::tables_of))]
+    pub fn classes(&self) -> &[ClassRow]
+        ensures { result.now ≡ (tables_of self.now.state).tables.classes }
+    {
+        self.state.books().classes()
+    }
+
+    /// The local networks, in order, each once.
+    #[tactic(auto, unfolding(crate::specs::DeskState::tables_of))]
+    pub fn locals(&self) -> &[Prefix]
+        ensures { result.now ≡ (tables_of self.now.state).tables.locals }
+    {
+        self.state.books().locals()
+    }
+
+    /// The names, in the order of their octets.
+    #[tactic(auto, unfolding(crate::specs::DeskState::tables_of))]
+    pub fn names(&self) -> &[NameRow]
+        ensures { result.now ≡ (tables_of self.now.state).tables.names }
+    {
+        self.state.books().names()
+    }
+}

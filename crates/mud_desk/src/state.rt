@@ -1,0 +1,187 @@
+//! All that the desk holds beside its keeper.
+ghost use Rattle.std.specs.Prelude.{◌≡◌, ℕ, ◌+◌, ◌-◌, ◌^◌, ◌<◌, ◌≤◌, max, false, List, Err, IsTrue, IfOk, IfErr, IsOkAnd, length};
+ghost use Rattle.std.specs.Prelude.{unwrap_or};
+ghost use Rattle.acl_patch.specs.Patch.{rows_apart};
+ghost use Rattle.mud_tables.specs.declared.segment.Segment.{Segment as SegmentValue};
+ghost use Rattle.mud_tables.specs.Things.{thing_at};
+ghost use Rattle.frame_view.specs.Frame.{frame_of};
+ghost use Rattle.packet_judge.specs.Verdicts.{steps_on};
+ghost use Rattle.desk_model.specs.DeskTables.{IsSound};
+ghost use Rattle.desk_model.specs.Refusals.{is_want_of_memory};
+ghost use Rattle.desk_model.specs.Commands.{IsAsked, command_step};
+ghost use Rattle.desk_model.specs.Sessions.{verdict_in};
+ghost use Rattle.desk_rows.specs.CompiledDesk.{IsCompiledOf};
+ghost use Rattle.desk_items.specs.Taken.{taken_desk};
+ghost use Rattle.desk_judge.specs.Grounds.{rows_read, ruling_steps};
+ghost use Rattle.desk_books.specs.Changes.{desk_after};
+ghost use Rattle.desk_books.specs.Planned.{IsPlanned, IsReady, IsPaid};
+ghost use Rattle.mud_desk.specs.DeskState.{DeskState as Value, tables_of, session_of, HasForwarded, IsBegun, IsJudged, AreRulesOf};
+
+use desk_books::{DeskBooks, DeskChange};
+use desk_items::Taken;
+use desk_judge::{judge, verdict};
+use desk_model::{Command, Refusal};
+use flow_table::FlowTable;
+use mud_base::{Memory, Moment};
+use packet_judge::Verdict;
+use sorted_rows::Steps;
+use std::alloc::Global;
+use std::marker::Model;
+use std::sync::ledger::{Blank, Ledger};
+
+/// The books with what is compiled of them, the connections, and the moment of the session. Contracts
+/// see all of these.
+#[derive(Drop)]
+pub struct State {
+    books: DeskBooks,
+    flows: FlowTable,
+    moment: Moment,
+}
+
+impl Model for State {
+    ghost use Rattle.mud_desk.specs.DeskState.{DeskState, IsTimely};
+
+    ghost Value = { DeskState };
+
+    ghost view = { λ s. record { books = s.books; flows = s.flows; moment = s.moment } };
+
+    ghost invariant = { λ s. IsTimely s.flows s.moment };
+}
+
+/// The later of two moments.
+pub(crate) fn later(a: Moment, b: Moment) -> Moment
+    ensures { result ≡ max a b }
+{
+    if a.seconds() < b.seconds() { b } else { a }
+}
+
+impl State {
+    /// A session begins: nothing was forwarded in it, and its moment is that of the last change.
+    #[tactic(auto, using(crate::proofs::Sessions::timely_new), unfolding(crate::specs::DeskState::tables_of, crate::specs::DeskState::session_of, desk_model::specs::Sessions::opened, desk_model::specs::Items::desk_of))]
+    pub(crate) fn of(alloc: Global, taken: Taken) -> Result<State, Memory>
+        ensures { IfOk result (IsBegun (taken_desk taken)) }
+    {
+        let moment = taken.stamp.unwrap_or(Moment::at_most_last(0));
+        let books = DeskBooks::of(alloc, taken.things, taken.files, taken.binds, taken.stamp)?;
+        let flows = FlowTable::new(alloc);
+        Ok(State {
+            books,
+            flows,
+            moment,
+        })
+    }
+
+    /// The books.
+    pub(crate) fn books(&self) -> &DeskBooks
+        ensures { result.now ≡ self.now.books }
+    {
+        &self.books
+    }
+
+    /// The moment of the session.
+    pub(crate) fn moment(&self) -> Moment
+        ensures { result ≡ self.now.moment }
+    {
+        self.moment
+    }
+
+    /// Makes this the moment of the session, where it isn't earlier.
+    #[tactic(auto, using(crate::proofs::Sessions::timely_later))]
+    pub(crate) fn raise(&mut self, now: Moment)
+        requires { self.old.moment ≤ now }
+        ensures { self.new ≡ record self.old { moment = now } }
+    {
+        self.moment = now;
+    }
+
+    /// Plans a command: [`DeskBooks::plan`].
+    #[tactic(auto, unfolding(crate::specs::DeskState::tables_of))]
+    pub(crate) fn plan<L: Ledger>(
+        &mut self,
+        command: Command,
+        now: Moment,
+        steps: &mut Steps<L>,
+    ) -> Result<DeskChange, Refusal>
+        requires { IsAsked command }
+        ensures same { tables_of self.new ≡ tables_of self.old }
+        ensures rows { self.new.books.compiled.rows ≡ self.old.books.compiled.rows }
+        ensures flows { self.new.flows ≡ self.old.flows }
+        ensures moment { self.new.moment ≡ self.old.moment }
+        ensures ok { IfOk result (λ change. IsOkAnd (command_step (tables_of self.old) now command) (λ after. IsPlanned after self.new.books change)) }
+        ensures err { IfErr result (λ refusal. is_want_of_memory refusal ≡ false → command_step (tables_of self.old) now command ≡ Err refusal) }
+        ensures steps { IsPaid (command_step (tables_of self.old) now command) self.old.books (steps.new - steps.old) }
+        ensures sound { IsSound (tables_of self.old) }
+    {
+        let _sound = self.books.compiled();
+        self.books.plan(command, now, steps)
+    }
+
+    /// Makes a change that was planned, at a moment that isn't earlier: [`DeskBooks::commit`].
+    #[tactic(auto, unfolding(crate::specs::DeskState::tables_of))]
+    pub(crate) fn commit<L: Ledger>(
+        &mut self,
+        change: DeskChange,
+        now: Moment,
+        steps: &mut Steps<L>,
+    )
+        requires ready { IsReady self.old.books change }
+        requires later { self.old.moment ≤ now }
+        ensures desk { tables_of self.new ≡ desk_after change (tables_of self.old) }
+        ensures flows { self.new.flows ≡ self.old.flows }
+        ensures moment { self.new.moment ≡ now }
+        ensures counted { steps.new ≡ steps.old + length change.rows.rows + length change.rows.bindings }
+        ensures most { length change.rows.rows ≤ rows_apart self.old.books.compiled.rows self.new.books.compiled.rows }
+    {
+        self.books.commit(change, steps);
+        self.moment = now;
+    }
+
+    /// Judges a frame: [`desk_judge::judge`].
+    #[tactic(auto, unfolding(crate::specs::DeskState::tables_of))]
+    pub(crate) fn judge<L: Ledger>(
+        &mut self,
+        frame: &[u8],
+        stamp: Moment,
+        steps: &mut Steps<L>,
+    ) -> Result<Verdict, Memory>
+        ensures judged { (h : List SegmentValue) → HasForwarded h self.old → IsJudged h self.old stamp frame.now result self.new }
+        ensures books { self.new.books ≡ self.old.books }
+        ensures least { steps.old + steps_on (rows_read self.old.books.compiled) (tables_of self.old).tables.things (frame_of frame.now) ≤ steps.new }
+        ensures most { (b : ℕ) → length self.old.books.compiled.rows < 2 ^ b
+            → steps.new ≤ steps.old + steps_on (ruling_steps self.old.books.compiled b) (tables_of self.old).tables.things (frame_of frame.now) }
+    {
+        let now = later(self.moment, stamp);
+        let verdict = judge(
+            frame,
+            self.books.thing_book(),
+            self.books.compiled(),
+            self.books.locals(),
+            &mut self.flows,
+            now,
+            steps,
+        )?;
+        self.moment = now;
+        Ok(verdict)
+    }
+
+    /// The verdict on a frame: [`desk_judge::verdict`].
+    #[tactic(auto, unfolding(crate::specs::DeskState::tables_of))]
+    pub(crate) fn verdict<L: Ledger>(&self, frame: &[u8], stamp: Moment, blank: Blank) -> Verdict
+        requires name { blank.name ≡ L.name }
+        requires parts { blank.parts ≡ L.parts }
+        requires some { 0 < L.parts }
+        ensures { (h : List SegmentValue) → HasForwarded h self.now → result ≡ verdict_in (session_of h self.now) stamp frame.now }
+    {
+        let mut steps = Steps::<L>::new(blank);
+        let moment = later(self.moment, stamp);
+        verdict(
+            frame,
+            self.books.thing_book(),
+            self.books.compiled(),
+            self.books.locals(),
+            &self.flows,
+            moment,
+            &mut steps,
+        )
+    }
+}

@@ -1,0 +1,4 @@
+pub mod Always
+pub mod OnLiterals
+pub mod Rightly
+mod Examples

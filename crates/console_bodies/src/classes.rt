@@ -1,0 +1,124 @@
+//! Classes, and what the operator says of a file, as a body has them.
+ghost use Rattle.std.specs.Prelude.{◌≡◌, option_map};
+ghost use Rattle.serde_json.specs.View.{view};
+ghost use Rattle.reading.specs.Reading.{Gives};
+ghost use Rattle.console_bodies.specs.Statements as spec;
+
+use body_members::object::{member_in, text_in};
+use body_members::texts::url;
+use body_members::values::meant;
+use body_members::{BodyFault, Member, Unread};
+use file_tables::OperatorVerdict;
+use mud_base::Bytes;
+use mud_tables::Class;
+use mud_tables::sound::is_class_uri;
+use serde_json::Value;
+use std::alloc::Global;
+
+/// The text, where it is the URI of a class.
+fn uri_in(text: &str) -> Option<&str>
+    ensures { option_map (λ t. t.now) result ≡ spec.uri_in text.now }
+{
+    if is_class_uri(text.as_bytes()) {
+        Some(text)
+    } else {
+        None
+    }
+}
+
+/// The URI that `class` is: 1 to 255 octets from 21 to 7E hex.
+#[tactic(auto, unfolding(crate::specs::Statements::uri_at, body_members::specs::Values::meant), using(reading::proofs::Readings::answer_wanted, reading::proofs::Readings::answer_unwanted))]
+fn uri(alloc: Global, object: &Value) -> Result<Bytes, Unread>
+    ensures { Gives (λ u. u) result (spec.uri_at (view object.now)) }
+{
+    match text_in(object, Member::Class).and_then(uri_in) {
+        Some(text) => Ok(Bytes::new(alloc, text.as_bytes())?),
+        None => Err(Unread::Broken(BodyFault::Member(Member::Class))),
+    }
+}
+
+/// The class by the URI that `class` is.
+#[tactic(auto, unfolding(crate::specs::Statements::uri_class), using(reading::proofs::Readings::answer_bind, reading::proofs::Readings::answer_done))]
+fn uri_class(alloc: Global, object: &Value) -> Result<Class, Unread>
+    ensures { Gives (λ c. c) result (spec.uri_class (view object.now)) }
+{
+    Ok(Class::Uri(uri(alloc, object)?))
+}
+
+/// The controllers of the Things with the MUD URL that `my-controller-of` is.
+#[tactic(auto, unfolding(crate::specs::Statements::own_class), using(reading::proofs::Readings::answer_bind, reading::proofs::Readings::answer_done))]
+fn own_class(object: &Value) -> Result<Class, Unread>
+    ensures { Gives (λ c. c) result (spec.own_class (view object.now)) }
+{
+    Ok(Class::Mine(url(object, Member::MyControllerOf)?))
+}
+
+/// Where `class` stands beside `my-controller-of`, the second is wrong.
+#[tactic(auto, unfolding(crate::specs::Statements::only_own), using(reading::proofs::Readings::answer_passed, reading::proofs::Readings::answer_refused))]
+fn only_own(object: &Value) -> Result<(), Unread>
+    ensures { Gives (λ _. tt) result (spec.only_own (view object.now)) }
+{
+    match member_in(object, Member::Class) {
+        Some(_) => Err(Unread::Broken(BodyFault::Member(Member::MyControllerOf))),
+        None => Ok(()),
+    }
+}
+
+/// The class of an object with `my-controller-of`.
+#[tactic(auto, unfolding(crate::specs::Statements::own_alone), using(reading::proofs::Readings::answer_bind))]
+fn own_alone(object: &Value) -> Result<Class, Unread>
+    ensures { Gives (λ c. c) result (spec.own_alone (view object.now)) }
+{
+    only_own(object)?;
+    own_class(object)
+}
+
+/// The class that an object names, by `class` or by `my-controller-of`.
+#[tactic(auto, unfolding(crate::specs::Statements::class_at))]
+pub fn class(alloc: Global, object: &Value) -> Result<Class, Unread>
+    ensures { Gives (λ c. c) result (spec.class_at (view object.now)) }
+{
+    match member_in(object, Member::MyControllerOf) {
+        Some(_) => own_alone(object),
+        None => uri_class(alloc, object),
+    }
+}
+
+/// What the operator says of a candidate, by the word.
+#[tactic(auto, unfolding(crate::specs::Statements::verdict_in))]
+fn verdict_in(word: &str) -> Option<OperatorVerdict>
+    ensures { result ≡ spec.verdict_in word.now }
+{
+    VERDICTS
+        .iter()
+        .copied()
+        .find(|verdict| verdict_text(*verdict) == word)
+}
+
+/// What the operator says of a candidate.
+#[tactic(auto, unfolding(crate::specs::Statements::verdict_at))]
+pub fn verdict(object: &Value) -> Result<OperatorVerdict, Unread>
+    ensures { Gives (λ v. v) result (spec.verdict_at (view object.now)) }
+{
+    let verdict = text_in(object, Member::Verdict).and_then(verdict_in);
+    meant(verdict, Member::Verdict)
+}
+
+/// All that the operator may say of a candidate.
+const VERDICTS: [OperatorVerdict; 3] = [
+    OperatorVerdict::Verified,
+    OperatorVerdict::Waived,
+    OperatorVerdict::Failed,
+];
+
+/// The word for what the operator says.
+#[tactic(auto, unfolding(crate::specs::Statements::text_of))]
+fn verdict_text(verdict: OperatorVerdict) -> &'static str
+    ensures { result.now ≡ spec.text_of verdict }
+{
+    match verdict {
+        OperatorVerdict::Verified => "verified",
+        OperatorVerdict::Waived => "waived",
+        OperatorVerdict::Failed => "failed",
+    }
+}

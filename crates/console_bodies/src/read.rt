@@ -1,0 +1,60 @@
+//! The bodies of requests.
+ghost use Rattle.std.specs.Prelude.{◌≡◌};
+ghost use Rattle.reading.specs.Reading.{Answers};
+ghost use Rattle.console_bodies.specs.Bodies as spec;
+
+use crate::asked::Asked;
+use crate::statements::command;
+use body_members::{BodyFault, Unread, read_object};
+use console_routes::{Action, Statement};
+use desk_model::Command;
+use dhcp_lldp::{HearFault, Heard, read_dhcp, read_lldp};
+use mud_base::{Bytes, Moment};
+use std::alloc::Global;
+
+/// What a message says, or why it is refused.
+fn heard(message: Result<Heard, HearFault>) -> Result<Asked, Unread>
+    ensures { Answers (λ a. a) result (spec.heard_body message) }
+{
+    match message {
+        Ok(heard) => Ok(Asked::Heard(heard)),
+        Err(fault) => Err(Unread::Broken(BodyFault::Heard(fault))),
+    }
+}
+
+/// The command that the octets of a JSON object state.
+#[tactic(auto, unfolding(crate::specs::Bodies::stated))]
+fn stated(alloc: Global, statement: Statement, octets: &[u8]) -> Result<Command, Unread>
+    ensures { Answers (λ c. c) result (spec.stated statement octets.now) }
+{
+    let object = read_object(alloc, octets)?;
+    command(alloc, statement, &object)
+}
+
+/// The command that the octets of a JSON object state, as what is asked for.
+#[tactic(auto, unfolding(crate::specs::Bodies::stated_body))]
+fn stated_body(alloc: Global, statement: Statement, octets: &[u8]) -> Result<Asked, Unread>
+    ensures { Answers (λ a. a) result (spec.stated_body statement octets.now) }
+{
+    Ok(Asked::Command(stated(alloc, statement, octets)?))
+}
+
+/// What a request asks for by its body, read at this moment, or what is wrong with the body: the
+/// octets are no JSON object, or the first member in the route's order that is missing, of another
+/// kind, or outside its grammar or range, or a message's own fault. A usage file is fetched at the
+/// moment of the request; whether it is one, the command says. Memory is taken for a JSON text, and
+/// for what the command keeps.
+#[tactic(auto, unfolding(crate::specs::Bodies::body_of))]
+pub fn read_body(alloc: Global, action: Action, octets: &[u8], now: Moment) -> Result<Asked, Unread>
+    ensures { Answers (λ a. a) result (spec.body_of action octets.now now) }
+{
+    match action {
+        Action::HearDhcp => heard(read_dhcp(octets)),
+        Action::HearLldp => heard(read_lldp(octets)),
+        Action::List(listing) => Ok(Asked::List(listing)),
+        Action::State(statement) => stated_body(alloc, statement, octets),
+        Action::Import => Ok(Asked::Command(Command::Import(Bytes::new(alloc, octets)?, now))),
+        Action::Judge => Ok(Asked::Judge),
+        Action::Why => Ok(Asked::Why),
+    }
+}

@@ -1,0 +1,11 @@
+pub mod Head
+pub mod Fields
+pub mod Framing
+pub mod Requests
+pub mod Shapes
+pub mod Values
+pub mod Parts
+pub mod Received
+pub mod Steps
+pub mod Failing
+pub mod Serving

@@ -1,0 +1,153 @@
+//! The one buffer for the heads and bodies of requests.
+ghost use Rattle.std.specs.Prelude.{◌≡◌, ℕ, ◌+◌, ◌-◌, ◌<◌, ◌≤◌, [], ◌++◌, length, take, drop, slice_range, IfOk, OnErr, is_err};
+ghost use Rattle.mud_world.specs.Causes.{Counts};
+ghost use Rattle.mud_world.specs.Door.{Took};
+ghost use Rattle.http_requests.specs.Received.{Grown, Received};
+
+use mud_base::Memory;
+use mud_world::{Door, Failed};
+use std::alloc::Global;
+use std::marker::Model;
+
+/// How many octets fit: the longest head and the longest body.
+pub const CAPACITY: usize = 532_480;
+
+/// The octets that were taken of a connection and not yet answered. Contracts see it as the list of
+/// them.
+#[derive(Drop)]
+pub struct RequestBuffer {
+    octets: Vec<u8>,
+    start: usize,
+    end: usize,
+}
+
+impl Model for RequestBuffer {
+    ghost use Rattle.std.specs.Prelude.{◌≡◌, ◌≤◌, ℕ, List, length, slice_range};
+
+    ghost Value = { List ℕ };
+
+    ghost view = { λ b. slice_range b.octets.items b.start b.end };
+
+    ghost invariant = { λ b. (b.start ≤ b.end) × (b.end ≤ length b.octets.items) × (length b.octets.items ≡ 532480) };
+}
+
+/// So many octets.
+fn zeros(alloc: Global, len: usize) -> Result<Vec<u8>, Memory>
+    ensures { IfOk result (λ octets. length octets.items ≡ len) }
+{
+    Ok(vec![in alloc; 0; len]?)
+}
+
+/// Moves the octets of a part to the front.
+#[tactic(auto, using(crate::proofs::Buffers::part_moved, crate::proofs::Buffers::part_in_front))]
+fn move_to_front(octets: &mut [u8], start: usize, end: usize)
+    requires ordered { start ≤ end }
+    requires within { end ≤ length octets.old }
+    ensures { take (end - start) octets.new ≡ slice_range octets.old start end }
+{
+    if start > 0 {
+        octets.copy_within(start..end, 0);
+    }
+}
+
+/// Reads once of the door, behind the first `at` octets.
+#[tactic(auto, using(crate::proofs::Buffers::front_kept, crate::proofs::Buffers::behind_front))]
+fn read_behind<D: Door>(door: &mut D, octets: &mut [u8], at: usize) -> Result<usize, Failed>
+    requires { at < length octets.old }
+    ensures within { IfOk result (λ n. at + n ≤ length octets.new) }
+    ensures front { take at octets.new ≡ take at octets.old }
+    ensures octets { D.tells → IfOk result (λ n.
+        Took (take n (drop at octets.new)) (D.state door.old) (D.state door.new)
+        × (n ≡ 0 → (D.state door.old).left ≡ [])) }
+    ensures err { D.tells → OnErr result (D.state door.new ≡ D.state door.old) }
+    ensures cause { Counts (is_err result) (D.reads door.old) (D.reads door.new) }
+    ensures turns { D.turns door.new ≡ D.turns door.old }
+    ensures writes { D.writes door.new ≡ D.writes door.old }
+{
+    let (_, room) = octets.split_at_mut(at);
+    door.read(room)
+}
+
+/// Moves the octets of a part to the front, and reads once of the door behind them.
+fn refill<D: Door>(
+    door: &mut D,
+    octets: &mut [u8],
+    start: usize,
+    end: usize,
+) -> Result<usize, Failed>
+    requires ordered { start ≤ end }
+    requires within { end ≤ length octets.old }
+    requires room { end - start < length octets.old }
+    ensures within { IfOk result (λ n. end - start + n ≤ length octets.new) }
+    ensures front { take (end - start) octets.new ≡ slice_range octets.old start end }
+    ensures octets { D.tells → IfOk result (λ n.
+        Took (take n (drop (end - start) octets.new)) (D.state door.old) (D.state door.new)
+        × (n ≡ 0 → (D.state door.old).left ≡ [])) }
+    ensures err { D.tells → OnErr result (D.state door.new ≡ D.state door.old) }
+    ensures cause { Counts (is_err result) (D.reads door.old) (D.reads door.new) }
+    ensures turns { D.turns door.new ≡ D.turns door.old }
+    ensures writes { D.writes door.new ≡ D.writes door.old }
+{
+    move_to_front(octets, start, end);
+    read_behind(door, octets, end - start)
+}
+
+impl RequestBuffer {
+    /// A buffer with nothing in it. It takes all the memory that it will ever take.
+    pub fn new(alloc: Global) -> Result<RequestBuffer, Memory>
+        ensures { IfOk result (λ buffer. buffer ≡ []) }
+    {
+        Ok(RequestBuffer {
+            octets: zeros(alloc, CAPACITY)?,
+            start: 0,
+            end: 0,
+        })
+    }
+
+    /// The octets.
+    pub fn octets(&self) -> &[u8]
+        ensures value { result.now ≡ self.now }
+        ensures most { length result.now ≤ 532480 }
+    {
+        &self.octets[self.start..self.end]
+    }
+
+    /// Takes the first octets away.
+    pub fn consume(&mut self, count: usize)
+        requires { count ≤ length self.old }
+        ensures { self.new ≡ drop count self.old }
+    {
+        self.start += count;
+    }
+
+    /// Takes all octets away.
+    pub fn clear(&mut self)
+        ensures { self.new ≡ [] }
+    {
+        self.start = 0;
+        self.end = 0;
+    }
+
+    /// Reads once of the door, as much as the read gives, and answers how many octets that were: 0
+    /// only at the end of the connection.
+    pub(crate) fn fill<D: Door>(&mut self, door: &mut D) -> Result<usize, Failed>
+        requires { length self.old < 532480 }
+        ensures grown { IfOk result (λ n. length self.new ≡ length self.old + n) }
+        ensures octets { D.tells → IfOk result (λ _.
+            Received self.old self.new (D.state door.old) (D.state door.new)) }
+        ensures end { D.tells → IfOk result (λ n. n ≡ 0 → (D.state door.new).left ≡ []) }
+        ensures front { Grown self.old self.new }
+        ensures kept { OnErr result (self.new ≡ self.old) }
+        ensures err { D.tells → OnErr result (D.state door.new ≡ D.state door.old) }
+        ensures cause { Counts (is_err result) (D.reads door.old) (D.reads door.new) }
+        ensures turns { D.turns door.new ≡ D.turns door.old }
+        ensures writes { D.writes door.new ≡ D.writes door.old }
+    {
+        let (start, end) = (self.start, self.end);
+        self.start = 0;
+        self.end = end - start;
+        let count = refill(door, self.octets.as_mut_slice(), start, end)?;
+        self.end += count;
+        Ok(count)
+    }
+}

@@ -1,0 +1,58 @@
+-- What decides a frame: members by the octets of their names, and no space.
+use Rattle.std.specs.Prelude.{ℕ, List, ◌++◌, codes, decimal, Option, Some, None, option_map}
+use Rattle.json.specs.Print.{quoted}
+use Rattle.mud_base.specs.declared.addr.Mac.{Mac}
+use Rattle.mud_base.specs.Texts.{mac_text}
+use Rattle.acl_model.specs.declared.entry.Entry.{Entry}
+use Rattle.acl_model.specs.declared.ruling.Ruling.{Ruling}
+use Rattle.acl_model.specs.declared.ruling.Ruling.TheVariants.{Accept, AcceptDefault, Drop, DropDefault, DropHeld}
+use Rattle.packet_judge.specs.declared.verdict.Verdict.{Verdict}
+use Rattle.verdict_lines.specs.Verdicts.{ruling_text, verdict_text}
+use Rattle.listing_bodies.specs.declared.why.RuledEnd.{RuledEnd}
+use Rattle.listing_bodies.specs.Rows.{url_end}
+
+-- the number of the entry that a ruling names
+unfoldable pub entry_number : Ruling → Option ℕ
+entry_number (Accept n) = Some n
+entry_number (AcceptDefault rule) = None
+entry_number (Drop n) = Some n
+entry_number (DropDefault why) = None
+entry_number DropHeld = None
+
+unfoldable pub names_text : Entry → List ℕ
+names_text entry = codes "{\"ace\":" ++ quoted entry.name ++ codes ",\"acl\":" ++ quoted entry.acl
+
+unfoldable pub number_text : ℕ → List ℕ
+number_text n = codes ",\"entry\":" ++ decimal n
+
+-- the entry that decides; null where none of a usage file does
+unfoldable pub entry_text : Option ℕ → Option Entry → List ℕ
+entry_text (Some n) (Some entry) = names_text entry ++ number_text n
+entry_text (Some n) None = codes "{\"ace\":null,\"acl\":null,\"entry\":null"
+entry_text None found = codes "{\"ace\":null,\"acl\":null,\"entry\":null"
+
+unfoldable pub mac_member : Mac → List ℕ
+mac_member mac = codes ",\"mac\":" ++ quoted (mac_text mac)
+
+unfoldable pub ruling_member : Ruling → List ℕ
+ruling_member ruling = codes ",\"ruling\":" ++ quoted (ruling_text ruling)
+
+unfoldable pub end_text : RuledEnd → List ℕ
+end_text end = entry_text (entry_number end.ruling) (option_map (λ e. e.now) end.entry) ++ mac_member end.mac ++ ruling_member end.ruling ++ url_end end.url.now
+
+-- null where an end is no Thing, and where nothing is decided
+unfoldable pub side_text : Option RuledEnd → List ℕ
+side_text None = codes "null"
+side_text (Some end) = end_text end
+
+unfoldable pub verdict_text_member : List ℕ → List ℕ
+verdict_text_member text = codes ",\"verdict\":" ++ quoted text
+
+unfoldable pub verdict_member : Verdict → List ℕ
+verdict_member verdict = verdict_text_member (verdict_text verdict)
+
+unfoldable pub verdict_end : Verdict → List ℕ
+verdict_end verdict = verdict_member verdict ++ codes "}"
+
+unfoldable pub why_body : Option RuledEnd → Option RuledEnd → Verdict → List ℕ
+why_body source destination verdict = codes "{\"from\":" ++ side_text source ++ codes ",\"to\":" ++ side_text destination ++ verdict_end verdict

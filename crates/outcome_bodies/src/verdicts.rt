@@ -1,0 +1,197 @@
+//! Verdicts.
+ghost use Rattle.std.specs.Prelude.{◌≡◌, ◌++◌, codes, decimal};
+ghost use Rattle.json.specs.Print.{escape};
+ghost use Rattle.answer_buffer.specs.Kept.{kept};
+ghost use Rattle.verdict_lines.specs.Verdicts as line;
+ghost use Rattle.outcome_bodies.specs.Verdicts as spec;
+
+use acl_model::{DefaultRule, Ruling, Why};
+use answer_buffer::AnswerBuffer;
+use answer_buffer::texts::{put_escaped_decimal, put_escapes};
+use frame_view::Part;
+use packet_judge::{Verdict, forwarded};
+
+/// The name of a part that can't be read.
+#[tactic(auto, unfolding(verdict_lines::specs::Verdicts::part_name))]
+fn part_name(part: Part) -> &'static str
+    ensures { result.now ≡ line.part_name part }
+{
+    match part {
+        Part::Ethernet => "ethernet",
+        Part::Tag => "tag",
+        Part::Ip => "ip",
+        Part::Extension => "extension",
+        Part::Transport => "transport",
+    }
+}
+
+/// The name of a default entry that accepts.
+#[tactic(auto, unfolding(verdict_lines::specs::Verdicts::default_name))]
+fn default_name(rule: DefaultRule) -> &'static str
+    ensures { result.now ≡ line.default_name rule }
+{
+    match rule {
+        DefaultRule::Dns => "default-dns",
+        DefaultRule::Ntp => "default-ntp",
+    }
+}
+
+/// The name of a drop that no entry decided.
+#[tactic(auto, unfolding(verdict_lines::specs::Verdicts::why_name))]
+fn why_name(why: Why) -> &'static str
+    ensures { result.now ≡ line.why_name why }
+{
+    match why {
+        Why::NoFile => "drop:no-file",
+        Why::NoMatch => "drop:no-match",
+    }
+}
+
+/// Adds a word and the number of an entry inside a JSON string, as far as they fit.
+#[tactic(auto, using(answer_buffer::proofs::KeptLemmas::kept_escaped))]
+fn put_numbered(buffer: &mut AnswerBuffer, word: &[u8], number: u16)
+    ensures { buffer.new ≡ kept (buffer.old ++ escape (word.now ++ decimal number)) }
+{
+    put_escapes(buffer, word);
+    put_escaped_decimal(buffer, u64::from(number));
+}
+
+/// Adds a ruling inside a JSON string, as far as it fits.
+#[tactic(auto, unfolding(verdict_lines::specs::Verdicts::ruling_text))]
+pub fn put_ruling(buffer: &mut AnswerBuffer, ruling: Ruling)
+    ensures { buffer.new ≡ kept (buffer.old ++ escape (line.ruling_text ruling)) }
+{
+    match ruling {
+        Ruling::Accept(number) => put_numbered(buffer, b"accept:", number),
+        Ruling::AcceptDefault(rule) => put_escapes(buffer, default_name(rule).as_bytes()),
+        Ruling::Drop(number) => put_numbered(buffer, b"drop:", number),
+        Ruling::DropDefault(why) => put_escapes(buffer, why_name(why).as_bytes()),
+        Ruling::DropHeld => put_escapes(buffer, b"drop:held"),
+    }
+}
+
+/// Adds the ruling of an end behind its name inside a JSON string, where the end is a Thing, as far
+/// as it fits.
+#[tactic(auto, unfolding(verdict_lines::specs::Verdicts::end_text), using(answer_buffer::proofs::KeptLemmas::kept_escaped, answer_buffer::proofs::KeptLemmas::kept_none))]
+fn put_end(buffer: &mut AnswerBuffer, name: &[u8], ruling: Option<Ruling>)
+    ensures { buffer.new ≡ kept (buffer.old ++ escape (line.end_text name.now ruling)) }
+{
+    match ruling {
+        None => {
+            let _len = buffer.len();
+        }
+        Some(ruling) => {
+            put_escapes(buffer, name);
+            put_ruling(buffer, ruling);
+        }
+    }
+}
+
+/// Adds the rulings of both ends inside a JSON string, as far as they fit.
+#[tactic(auto, using(answer_buffer::proofs::KeptLemmas::kept_escaped))]
+fn put_ends(buffer: &mut AnswerBuffer, source: Option<Ruling>, destination: Option<Ruling>)
+    ensures { buffer.new ≡ kept (buffer.old ++ escape (line.end_text (codes " from=") source ++ line.end_text (codes " to=") destination)) }
+{
+    put_end(buffer, b" from=", source);
+    put_end(buffer, b" to=", destination);
+}
+
+/// Adds the name of a part inside a JSON string, as far as it fits.
+fn put_part(buffer: &mut AnswerBuffer, part: Part)
+    ensures { buffer.new ≡ kept (buffer.old ++ escape (line.part_name part)) }
+{
+    put_escapes(buffer, part_name(part).as_bytes());
+}
+
+/// Adds the part that can't be read inside a JSON string, as far as it fits.
+#[tactic(auto, unfolding(verdict_lines::specs::Verdicts::unreadable_text), using(answer_buffer::proofs::KeptLemmas::kept_escaped))]
+fn put_unreadable(buffer: &mut AnswerBuffer, part: Part)
+    ensures { buffer.new ≡ kept (buffer.old ++ escape (line.unreadable_text part)) }
+{
+    put_escapes(buffer, b" unreadable ");
+    put_part(buffer, part);
+}
+
+/// Adds the rulings or what stands in place of them inside a JSON string, as far as it fits.
+#[tactic(auto, unfolding(verdict_lines::specs::Verdicts::reason_text))]
+fn put_reason(buffer: &mut AnswerBuffer, verdict: &Verdict)
+    ensures { buffer.new ≡ kept (buffer.old ++ escape (line.reason_text verdict.now)) }
+{
+    match verdict {
+        Verdict::Unmanaged => put_escapes(buffer, b" unmanaged"),
+        Verdict::Link => put_escapes(buffer, b" link"),
+        Verdict::Unreadable(part) => put_unreadable(buffer, *part),
+        Verdict::Governed(source, destination) => put_ends(buffer, *source, *destination),
+    }
+}
+
+/// Whether the frame passes, as a word.
+#[tactic(auto, unfolding(verdict_lines::specs::Verdicts::passing_text))]
+fn passing_text(verdict: &Verdict) -> &'static [u8]
+    ensures { result.now ≡ line.passing_text verdict.now }
+{
+    if forwarded(verdict) { b"pass" } else { b"drop" }
+}
+
+/// Adds a verdict inside a JSON string, as far as it fits.
+#[tactic(auto, unfolding(verdict_lines::specs::Verdicts::verdict_text), using(answer_buffer::proofs::KeptLemmas::kept_escaped))]
+fn put_verdict_text(buffer: &mut AnswerBuffer, verdict: &Verdict)
+    ensures { buffer.new ≡ kept (buffer.old ++ escape (line.verdict_text verdict.now)) }
+{
+    put_escapes(buffer, passing_text(verdict));
+    put_reason(buffer, verdict);
+}
+
+/// Adds a verdict, as far as it fits.
+#[tactic(auto, unfolding(crate::specs::Verdicts::verdict_body), using(crate::proofs::Joins::joined_verdict))]
+fn put_verdict(buffer: &mut AnswerBuffer, verdict: &Verdict)
+    ensures { buffer.new ≡ kept (buffer.old ++ spec.verdict_body verdict.now) }
+{
+    buffer.put(b"{\"verdict\":\"");
+    put_verdict_text(buffer, verdict);
+    buffer.put(b"\"}");
+}
+
+/// The number of an entry has 16 bits.
+fn ruling_fits(ruling: Option<Ruling>)
+    ensures { spec.RulingFits ruling }
+{
+    match ruling {
+        Some(Ruling::Accept(number)) => {
+            let _number = number;
+        }
+        Some(Ruling::Drop(number)) => {
+            let _number = number;
+        }
+        Some(Ruling::AcceptDefault(_)) => (),
+        Some(Ruling::DropDefault(_)) => (),
+        Some(Ruling::DropHeld) => (),
+        None => (),
+    }
+}
+
+/// The numbers of a verdict's entries have 16 bits.
+fn verdict_fits(verdict: &Verdict)
+    ensures { spec.VerdictFits verdict.now }
+{
+    match verdict {
+        Verdict::Unmanaged => (),
+        Verdict::Link => (),
+        Verdict::Unreadable(_) => (),
+        Verdict::Governed(source, destination) => {
+            ruling_fits(*source);
+            ruling_fits(*destination);
+        }
+    }
+}
+
+/// Writes the body of the answer to a frame, in place of what stood in the buffer. It takes no
+/// memory.
+#[tactic(auto, using(crate::proofs::VerdictLengths::verdict_kept))]
+pub fn write_verdict(buffer: &mut AnswerBuffer, verdict: &Verdict)
+    ensures { buffer.new ≡ spec.verdict_body verdict.now }
+{
+    verdict_fits(verdict);
+    buffer.clear();
+    put_verdict(buffer, verdict);
+}

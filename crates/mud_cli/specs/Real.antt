@@ -2,6 +2,7 @@
 use Rattle.std.specs.Prelude.{ℕ, Bool}
 use Rattle.mud_cli.specs.declared.real.RealDoor.{RealDoor}
 use Rattle.mud_cli.specs.declared.real.RealClock.{RealClock}
+use Rattle.mud_cli.specs.declared.real_spool.RealSpool.{RealSpool}
 
 abbrev pub stands_of : {I O : Type 0} → RealDoor I O → Bool
 stands_of door = door.stands
@@ -18,3 +19,7 @@ writes_of door = door.writes
 -- the last moment that a clock gave
 abbrev pub last_of : {R : Type 0} → RealClock R → ℕ
 last_of clock = clock.last
+
+-- how often a call of a spool has failed
+abbrev pub faults_of : {R F D : Type 0} → RealSpool R F D → ℕ
+faults_of spool = spool.faults

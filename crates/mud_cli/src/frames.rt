@@ -18,7 +18,7 @@ impl PacketLines for FrameLines {
 
     ghost State = { Unit {0} };
 
-    ghost state = { λ _. tt };
+    ghost keeps = { λ _ _. Unit {0} };
 
     ghost step = { frame_step };
 

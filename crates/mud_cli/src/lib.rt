@@ -6,6 +6,7 @@ pub mod check;
 pub mod frames;
 pub mod hear;
 pub mod real;
+pub mod real_spool;
 pub mod run;
 #[cfg(test)]
 mod tests;
@@ -15,5 +16,6 @@ pub use answer::{Answer, Input};
 pub use command_runs::Status;
 pub use hear::Message;
 pub use real::{RealClock, RealDoor};
+pub use real_spool::RealSpool;
 pub use run::mud_main;
 pub use words::Command;

@@ -7,11 +7,10 @@ use Rattle.mud_base.specs.declared.packet.Transport.TheVariants.{Tcp, Udp, Icmp,
 use Rattle.frame_view.specs.Frame.{frame_of}
 use Rattle.frame_view.specs.declared.views.Frame.{Frame}
 use Rattle.frame_view.specs.declared.views.Frame.TheVariants as frame
-use Rattle.frame_view.specs.declared.views.Part.{Part}
-use Rattle.frame_view.specs.declared.views.Part.TheVariants as part
 use Rattle.pcap_read.specs.Packets.{Packet}
 use Rattle.command_runs.specs.Fold.{LineStep}
 use Rattle.text_lines.specs.Numbers.{number_text}
+use Rattle.verdict_lines.specs.Verdicts.{unreadable_text}
 
 -- the ports and the octet of flags, or the type and the code
 unfoldable pub transport_text : Transport → List ℕ
@@ -23,16 +22,6 @@ transport_text Absent = []
 -- the two addresses, the protocol number and the transport header
 unfoldable pub fields_text : Fields → List ℕ
 fields_text fields = codes " packet " ++ addr_text fields.src ++ codes " " ++ addr_text fields.dst ++ number_text fields.protocol ++ transport_text fields.transport
-
-unfoldable pub part_name : Part → List ℕ
-part_name part.Ethernet = codes "ethernet"
-part_name part.Tag = codes "tag"
-part_name part.Ip = codes "ip"
-part_name part.Extension = codes "extension"
-part_name part.Transport = codes "transport"
-
-unfoldable pub unreadable_text : Part → List ℕ
-unreadable_text part = codes " unreadable " ++ part_name part
 
 unfoldable pub frame_text : Frame → List ℕ
 frame_text (frame.Link octets) = codes " link"

@@ -3,11 +3,12 @@ ghost use Rattle.std.specs.Prelude.{◌≡◌, ◌++◌, OnOk};
 ghost use Rattle.pcap_read.specs.Captured.{packet_of};
 ghost use Rattle.mud_cli.specs.Frames.Lines as spec;
 
-use frame_view::{Frame, Part, view};
+use frame_view::{Frame, view};
 use mud_base::{Bytes, Fields, Memory, Transport};
 use pcap_read::Captured;
 use std::alloc::Global;
 use text_lines::{append_addr, append_decimal, append_number};
+use verdict_lines::append_unreadable;
 
 /// Adds the ports and the octet of flags, or the type and the code.
 #[tactic(auto, unfolding(crate::specs::Frames::Lines::transport_text))]
@@ -55,29 +56,6 @@ fn append_fields(alloc: Global, line: &mut Bytes, fields: Fields) -> Result<(), 
     append_transport(line, fields.transport)
 }
 
-/// The name of a part that can't be read.
-#[tactic(auto, unfolding(crate::specs::Frames::Lines::part_name))]
-fn part_name(part: Part) -> &'static str
-    ensures { result.now ≡ spec.part_name part }
-{
-    match part {
-        Part::Ethernet => "ethernet",
-        Part::Tag => "tag",
-        Part::Ip => "ip",
-        Part::Extension => "extension",
-        Part::Transport => "transport",
-    }
-}
-
-/// Adds `unreadable` and the part that can't be read.
-#[tactic(auto, unfolding(crate::specs::Frames::Lines::unreadable_text))]
-fn append_part(line: &mut Bytes, part: Part) -> Result<(), Memory>
-    ensures { OnOk result (line.new ≡ line.old ++ spec.unreadable_text part) }
-{
-    line.append(b" unreadable ")?;
-    line.append(part_name(part).as_bytes())
-}
-
 /// Adds what a frame is.
 #[tactic(auto, unfolding(crate::specs::Frames::Lines::frame_text))]
 fn append_frame(alloc: Global, line: &mut Bytes, frame: &Frame<'_>) -> Result<(), Memory>
@@ -85,7 +63,7 @@ fn append_frame(alloc: Global, line: &mut Bytes, frame: &Frame<'_>) -> Result<()
 {
     match frame {
         Frame::Link(_) => line.append(b" link"),
-        Frame::Unreadable(_, part) => append_part(line, *part),
+        Frame::Unreadable(_, part) => append_unreadable(line, *part),
         Frame::Packet(packet) => append_fields(alloc, line, packet.fields()),
     }
 }

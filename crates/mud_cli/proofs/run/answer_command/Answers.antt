@@ -71,9 +71,9 @@ returns-in-Frames g c =
       statuses = a.statuses;
       fault = a.fault;
       steady = a.steady;
-      done = a.done;
-      part = a.part;
-      taken = λ tells same. a.taken tells;
+      done = a.done tt tt;
+      part = a.part tt tt;
+      taken = λ tells same. a.taken tt tt tells;
       within = λ tells most is. no_most most is;
       same_turns = a.turns;
     })

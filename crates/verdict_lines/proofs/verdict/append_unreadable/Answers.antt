@@ -1,6 +1,6 @@
 use Rattle.std.proofs.Common.{List, ℕ, ◌++◌, ◌∙◌, ap, codes, append_assoc, ◌≡◌}
-use Rattle.mud_cli.specs.Frames.Lines as spec
-use Rattle.mud_cli.proofs.frames.lines.append_part.Goals as goal
+use Rattle.verdict_lines.specs.Verdicts as spec
+use Rattle.verdict_lines.proofs.verdict.append_unreadable.Goals as goal
 
 pub returns : goal.returns
 unfolding spec.unreadable_text

@@ -1,6 +1,7 @@
 //! What a route does, by the method of the request.
 ghost use Rattle.std.specs.Prelude.{◌≡◌};
 ghost use Rattle.console_routes.specs.Actions as spec;
+ghost use Rattle.console_routes.specs.declared.action.Method.TheVariants.{Delete, Get, Post, Put};
 
 use crate::route::Route;
 
@@ -97,85 +98,84 @@ impl Method {
     }
 }
 
-/// The action of a route that has methods for reading, adding and taking away.
-fn by_method(
-    method: Method,
-    get: Option<Action>,
-    post: Option<Action>,
-    delete: Option<Action>,
-) -> Option<Action>
-    ensures { result ≡ spec.by_method method get post delete }
+/// What a route does by GET. None exactly where it hasn't the method.
+#[tactic(auto, unfolding(crate::specs::Actions::action_of))]
+fn action_of_get(route: Route) -> Option<Action>
+    ensures { result ≡ spec.action_of route Get }
 {
-    match method {
-        Method::Get => get,
-        Method::Post => post,
-        Method::Delete => delete,
-        Method::Put => None,
+    match route {
+        Route::Things => Some(Action::List(Listing::Things)),
+        Route::Files => Some(Action::List(Listing::Files)),
+        Route::Classes => Some(Action::List(Listing::Classes)),
+        Route::Locals => Some(Action::List(Listing::Locals)),
+        Route::Names => Some(Action::List(Listing::Names)),
+        Route::Due => Some(Action::List(Listing::Due)),
+        Route::HearDhcp | Route::HearLldp | Route::Holds | Route::Leases => None,
+        Route::Verdicts | Route::Revokes | Route::Packets | Route::Why => None,
     }
 }
 
-/// The action of `/locals`, whose list is put as a whole.
-fn locals_action(method: Method) -> Option<Action>
-    ensures { result ≡ spec.locals_action method }
+/// What a route does by POST. None exactly where it hasn't the method.
+#[tactic(auto, unfolding(crate::specs::Actions::action_of))]
+fn action_of_post(route: Route) -> Option<Action>
+    ensures { result ≡ spec.action_of route Post }
 {
-    match method {
-        Method::Get => Some(Action::List(Listing::Locals)),
-        Method::Put => Some(Action::State(Statement::Locals)),
-        Method::Post => None,
-        Method::Delete => None,
+    match route {
+        Route::HearDhcp => Some(Action::HearDhcp),
+        Route::HearLldp => Some(Action::HearLldp),
+        Route::Things => Some(Action::State(Statement::Move)),
+        Route::Holds => Some(Action::State(Statement::Hold)),
+        Route::Leases => Some(Action::State(Statement::Lease)),
+        Route::Files => Some(Action::Import),
+        Route::Verdicts => Some(Action::State(Statement::Verdict)),
+        Route::Revokes => Some(Action::State(Statement::Revoke)),
+        Route::Classes => Some(Action::State(Statement::Bind)),
+        Route::Names => Some(Action::State(Statement::Observe)),
+        Route::Packets => Some(Action::Judge),
+        Route::Why => Some(Action::Why),
+        Route::Locals | Route::Due => None,
+    }
+}
+
+/// What a route does by DELETE. None exactly where it hasn't the method.
+#[tactic(auto, unfolding(crate::specs::Actions::action_of))]
+fn action_of_delete(route: Route) -> Option<Action>
+    ensures { result ≡ spec.action_of route Delete }
+{
+    match route {
+        Route::Things => Some(Action::State(Statement::Remove)),
+        Route::Holds => Some(Action::State(Statement::Release)),
+        Route::Leases => Some(Action::State(Statement::EndLease)),
+        Route::Classes => Some(Action::State(Statement::Unbind)),
+        Route::HearDhcp | Route::HearLldp | Route::Files | Route::Verdicts => None,
+        Route::Revokes | Route::Locals | Route::Names => None,
+        Route::Packets | Route::Due | Route::Why => None,
+    }
+}
+
+/// What a route does by PUT. None exactly where it hasn't the method.
+#[tactic(auto, unfolding(crate::specs::Actions::action_of))]
+fn action_of_put(route: Route) -> Option<Action>
+    ensures { result ≡ spec.action_of route Put }
+{
+    match route {
+        Route::Locals => Some(Action::State(Statement::Locals)),
+        Route::HearDhcp | Route::HearLldp | Route::Things | Route::Holds => None,
+        Route::Leases | Route::Files | Route::Verdicts | Route::Revokes => None,
+        Route::Classes | Route::Names | Route::Packets => None,
+        Route::Due | Route::Why => None,
     }
 }
 
 /// What the route does by this method. None exactly where it hasn't the method.
-#[tactic(auto, unfolding(crate::specs::Actions::action_of))]
 pub fn action_of(route: Route, method: Method) -> Option<Action>
     ensures { result ≡ spec.action_of route method }
 {
-    match route {
-        Route::HearDhcp => by_method(method, None, Some(Action::HearDhcp), None),
-        Route::HearLldp => by_method(method, None, Some(Action::HearLldp), None),
-        Route::Things => by_method(
-            method,
-            Some(Action::List(Listing::Things)),
-            Some(Action::State(Statement::Move)),
-            Some(Action::State(Statement::Remove)),
-        ),
-        Route::Holds => by_method(
-            method,
-            None,
-            Some(Action::State(Statement::Hold)),
-            Some(Action::State(Statement::Release)),
-        ),
-        Route::Leases => by_method(
-            method,
-            None,
-            Some(Action::State(Statement::Lease)),
-            Some(Action::State(Statement::EndLease)),
-        ),
-        Route::Files => by_method(
-            method,
-            Some(Action::List(Listing::Files)),
-            Some(Action::Import),
-            None,
-        ),
-        Route::Verdicts => by_method(method, None, Some(Action::State(Statement::Verdict)), None),
-        Route::Revokes => by_method(method, None, Some(Action::State(Statement::Revoke)), None),
-        Route::Classes => by_method(
-            method,
-            Some(Action::List(Listing::Classes)),
-            Some(Action::State(Statement::Bind)),
-            Some(Action::State(Statement::Unbind)),
-        ),
-        Route::Locals => locals_action(method),
-        Route::Names => by_method(
-            method,
-            Some(Action::List(Listing::Names)),
-            Some(Action::State(Statement::Observe)),
-            None,
-        ),
-        Route::Packets => by_method(method, None, Some(Action::Judge), None),
-        Route::Due => by_method(method, Some(Action::List(Listing::Due)), None, None),
-        Route::Why => by_method(method, None, Some(Action::Why), None),
+    match method {
+        Method::Get => action_of_get(route),
+        Method::Post => action_of_post(route),
+        Method::Delete => action_of_delete(route),
+        Method::Put => action_of_put(route),
     }
 }
 

@@ -1,5 +1,5 @@
-//! The bindings of rows, and those that go and come with a change of rows: what stays is never
-//! copied.
+//! The bindings of rows, and those that go and come with a change of rows. The rows lend the keys of
+//! their bindings, so that the text of a key is copied only where its binding goes or comes.
 #![tactic(auto)]
 
 pub mod changes;

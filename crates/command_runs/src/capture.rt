@@ -136,7 +136,7 @@ pub fn write_capture<D: Door, L: PacketLines>(alloc: Global, door: &mut D, write
         WritesPart (due_of_capture L.step s (D.state door.old).left) (D.state door.old) (D.state door.new) }
     ensures taken { (s : L.State) → L.keeps writer.old s → D.tells → D.reads door.new ≢ D.reads door.old →
         WritesTaken L.step s (D.state door.old) (D.state door.new) }
-    // and it keeps what some of the packets leave.
+    // and it keeps what some packets leave behind that; which packets, no clause says.
     ensures left { (s : L.State) → L.keeps writer.old s → IsLeftBy (L.keeps writer.new) L.step s }
     ensures turns { D.turns door.new ≡ D.turns door.old }
 {

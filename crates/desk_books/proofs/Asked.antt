@@ -8,16 +8,12 @@ use Rattle.mud_tables.specs.declared.bind_fault.BindFault.TheVariants as bind_fa
 use Rattle.file_tables.specs.declared.cache_fault.CacheFault.{CacheFault}
 use Rattle.file_tables.specs.declared.cache_fault.CacheFault.TheVariants as cache_fault
 use Rattle.mud_tables.specs.ThingSteps.{ThingStep}
-use Rattle.mud_tables.specs.BindSteps.{BindStep, unbind_class_step}
+use Rattle.mud_tables.specs.BindSteps.{BindStep}
 use Rattle.file_tables.specs.FileSteps.{FileStep}
 use Rattle.desk_model.specs.declared.reply.Refusal.TheVariants.{Things, Files, Binds}
 use Rattle.desk_model.specs.declared.reply.Refusal.{Refusal}
 use Rattle.desk_model.specs.declared.command.Command.{Command}
 use Rattle.desk_model.specs.Refusals.{is_want_of_memory}
-use Rattle.desk_model.proofs.SoundClasses.{unbind_no_class}
-use Rattle.mud_base.specs.declared.addr.Addr.{Addr}
-use Rattle.mud_tables.specs.declared.bind.Class.{Class}
-use Rattle.mud_tables.specs.Binds.{Binds as BindLists, is_class, IsSoundClasses, IsSoundLocals, IsSoundNames}
 use Rattle.desk_books.specs.declared.change.BookChange.{BookChange}
 use Rattle.desk_books.specs.declared.lists.Lists.{Lists}
 use Rattle.desk_books.specs.InBooks.{IsAnswerIn}
@@ -45,10 +41,6 @@ unfolding is_want_of_memory by_binds
 bind_refused desk now step fault answer spoken =
     let other : fault ≢ bind_fault.Memory = λ e. false≢true (sym spoken ∙ ap (λ (f : BindFault). is_want_of_memory (Binds f)) e) in
     ap (λ (s : BindStep). by_binds desk now s) (answer other)
-
--- what is no class has no address
-pub no_class_refused : (binds : BindLists) → IsSoundClasses binds.classes → IsSoundLocals binds.locals → IsSoundNames binds.names → (class : Class) (a : Addr) → is_class class ≡ false → bind.IsRefusal (unbind_class_step class a binds) bind_fault.NotBound
-no_class_refused binds classes locals names class a none other = unbind_no_class binds (record { classes = classes; locals = locals; names = names }) class a none
 
 -- the command is one of these
 pub answer_of : (desk : DeskTables) (now : ℕ) (command command' : Command) (lists : Lists) (result : Result BookChange Refusal) → command ≡ command' → IsAnswerIn desk now (command_step desk now command') lists result → IsAnswerIn desk now (command_step desk now command) lists result

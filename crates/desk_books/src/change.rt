@@ -119,8 +119,8 @@ impl DeskChange {
         self.outcome
     }
 
-    /// The puts by which the change is kept, with that of the stamp behind them: at most three, and
-    /// none exactly where no list changes.
+    /// The puts by which the change is kept, with that of the stamp behind them: a batch, or none
+    /// exactly where no list changes.
     pub fn batch(&self) -> &[Put]
         ensures { result.now ≡ self.now.batch }
     {

@@ -1,8 +1,7 @@
 //! The three books, and the plan of a command in one of them.
 ghost use Rattle.std.specs.Prelude.{◌≡◌, ℕ, Option, IfOk, IfErr, IsOkAnd};
-ghost use Rattle.mud_tables.specs.Binds as spec;
 ghost use Rattle.mud_tables.specs.ThingSteps.{ThingStep};
-ghost use Rattle.mud_tables.specs.BindSteps.{BindStep, unbind_class_step};
+ghost use Rattle.mud_tables.specs.BindSteps.{BindStep};
 ghost use Rattle.file_tables.specs.FileSteps.{FileStep};
 ghost use Rattle.thing_book.specs.Planned as thing;
 ghost use Rattle.file_cache.specs.Planned as file;
@@ -21,9 +20,8 @@ use desk_model::{Command, Refusal};
 use desk_rows::compile;
 use file_cache::{CacheChange, FileCache};
 use file_tables::CacheFault;
-use mud_base::{Addr, Memory, Moment};
-use mud_tables::sound::is_class_uri;
-use mud_tables::{BindFault, Class, ThingFault};
+use mud_base::{Memory, Moment};
+use mud_tables::{BindFault, ThingFault};
 use std::alloc::Global;
 use thing_book::{ThingBook, ThingChange};
 
@@ -63,7 +61,7 @@ impl Lists {
             ),
             Command::Revoke(url) => of_files(self.files.plan_revoke(&url)),
             Command::Bind(class, addr) => of_binds(self.binds.plan_bind(&class, addr)),
-            Command::Unbind(class, addr) => of_binds(plan_unbind(&mut self.binds, &class, addr)),
+            Command::Unbind(class, addr) => of_binds(self.binds.plan_unbind(&class, addr)),
             Command::Locals(prefixes) => of_binds(self.binds.plan_locals(prefixes.as_slice())),
             Command::Observe(name, addr, seconds) => of_binds(
                 self.binds.plan_observe(name.octets(), addr, seconds, now),
@@ -149,36 +147,5 @@ fn of_binds(planned: Result<BindChange, BindFault>) -> Result<BookChange, Refusa
     match planned {
         Ok(change) => Ok(BookChange::Binds(change)),
         Err(fault) => Err(Refusal::Binds(fault)),
-    }
-}
-
-/// Whether a class has a URI of 1 to 255 octets from 21 to 7E hex, or a MUD URL.
-#[tactic(auto, unfolding(mud_tables::specs::Binds::is_class))]
-fn is_class(class: &Class) -> bool
-    ensures { result ≡ spec.is_class class.now }
-{
-    match class {
-        Class::Uri(uri) => is_class_uri(uri.octets()),
-        Class::Mine(url) => {
-            url.text_is_canonical();
-            true
-        }
-    }
-}
-
-/// Plans to take an address out of a class. What is no class has none.
-#[tactic(auto, using(crate::proofs::Asked::no_class_refused))]
-fn plan_unbind(binds: &mut BindBook, class: &Class, addr: Addr) -> Result<BindChange, BindFault>
-    ensures same { binds.new.binds ≡ binds.old.binds }
-    ensures ok { IfOk result (bind.IsPlanOf (unbind_class_step class.now addr binds.old.binds) binds.new) }
-    ensures err { IfErr result (IsBindRefusal (unbind_class_step class.now addr binds.old.binds)) }
-{
-    let _classes = binds.classes();
-    let _locals = binds.locals();
-    let _names = binds.names();
-    if is_class(class) {
-        binds.plan_unbind(class, addr)
-    } else {
-        Err(BindFault::NotBound)
     }
 }

@@ -87,7 +87,7 @@ pub returns-in-Unbind-clause-planned : goal.returns-in-Unbind-clause-planned
 unfolding command_step binds_of
 returns-in-Unbind-clause-planned c stamp =
     let desk : DeskTables = desk_with c.args.self.now stamp in
-    let lists : Lists = record { things = c.args.self.now.things; files = c.args.self.now.files; binds = c.plan_unbind.new.binds } in
+    let lists : Lists = record { things = c.args.self.now.things; files = c.args.self.now.files; binds = c.plan_unbind.new.self } in
     answer_of desk c.args.now c.args.command (Unbind c.in-Unbind.class c.in-Unbind.addr) lists c.of_binds-in-Unbind.result c.in-Unbind.is (c.of_binds-in-Unbind.ensures desk c.args.now (unbind_class_step c.in-Unbind.class c.in-Unbind.addr c.args.self.now.binds.binds) lists c.plan_unbind.ensures.ok c.plan_unbind.ensures.err)
 
 pub returns-in-Import-clause-planned : goal.returns-in-Import-clause-planned

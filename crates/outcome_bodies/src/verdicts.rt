@@ -5,47 +5,12 @@ ghost use Rattle.answer_buffer.specs.Kept.{kept};
 ghost use Rattle.verdict_lines.specs.Verdicts as line;
 ghost use Rattle.outcome_bodies.specs.Verdicts as spec;
 
-use acl_model::{DefaultRule, Ruling, Why};
+use acl_model::Ruling;
 use answer_buffer::AnswerBuffer;
 use answer_buffer::texts::{put_escaped_decimal, put_escapes};
 use frame_view::Part;
-use packet_judge::{Verdict, forwarded};
-
-/// The name of a part that can't be read.
-#[tactic(auto, unfolding(verdict_lines::specs::Verdicts::part_name))]
-fn part_name(part: Part) -> &'static str
-    ensures { result.now ≡ line.part_name part }
-{
-    match part {
-        Part::Ethernet => "ethernet",
-        Part::Tag => "tag",
-        Part::Ip => "ip",
-        Part::Extension => "extension",
-        Part::Transport => "transport",
-    }
-}
-
-/// The name of a default entry that accepts.
-#[tactic(auto, unfolding(verdict_lines::specs::Verdicts::default_name))]
-fn default_name(rule: DefaultRule) -> &'static str
-    ensures { result.now ≡ line.default_name rule }
-{
-    match rule {
-        DefaultRule::Dns => "default-dns",
-        DefaultRule::Ntp => "default-ntp",
-    }
-}
-
-/// The name of a drop that no entry decided.
-#[tactic(auto, unfolding(verdict_lines::specs::Verdicts::why_name))]
-fn why_name(why: Why) -> &'static str
-    ensures { result.now ≡ line.why_name why }
-{
-    match why {
-        Why::NoFile => "drop:no-file",
-        Why::NoMatch => "drop:no-match",
-    }
-}
+use packet_judge::Verdict;
+use verdict_lines::{default_name, part_name, passing, why_name};
 
 /// Adds a word and the number of an entry inside a JSON string, as far as they fit.
 #[tactic(auto, using(answer_buffer::proofs::KeptLemmas::kept_escaped))]
@@ -125,20 +90,12 @@ fn put_reason(buffer: &mut AnswerBuffer, verdict: &Verdict)
     }
 }
 
-/// Whether the frame passes, as a word.
-#[tactic(auto, unfolding(verdict_lines::specs::Verdicts::passing_text))]
-fn passing_text(verdict: &Verdict) -> &'static [u8]
-    ensures { result.now ≡ line.passing_text verdict.now }
-{
-    if forwarded(verdict) { b"pass" } else { b"drop" }
-}
-
 /// Adds a verdict inside a JSON string, as far as it fits.
 #[tactic(auto, unfolding(verdict_lines::specs::Verdicts::verdict_text), using(answer_buffer::proofs::KeptLemmas::kept_escaped))]
 fn put_verdict_text(buffer: &mut AnswerBuffer, verdict: &Verdict)
     ensures { buffer.new ≡ kept (buffer.old ++ escape (line.verdict_text verdict.now)) }
 {
-    put_escapes(buffer, passing_text(verdict));
+    put_escapes(buffer, passing(verdict).as_bytes());
     put_reason(buffer, verdict);
 }
 

@@ -2,25 +2,12 @@
 ghost use Rattle.std.specs.Prelude.{◌≡◌, ◌++◌, OnOk};
 ghost use Rattle.verdict_lines.specs.Verdicts as spec;
 
-use acl_model::{DefaultRule, Ruling, Why};
+use crate::words::{default_name, part_name, passing, why_name};
+use acl_model::Ruling;
 use frame_view::Part;
 use mud_base::{Bytes, Memory};
-use packet_judge::{Verdict, forwarded};
+use packet_judge::Verdict;
 use text_lines::append_decimal;
-
-/// The name of a part that can't be read.
-#[tactic(auto, unfolding(crate::specs::Verdicts::part_name))]
-fn part_name(part: Part) -> &'static str
-    ensures { result.now ≡ spec.part_name part }
-{
-    match part {
-        Part::Ethernet => "ethernet",
-        Part::Tag => "tag",
-        Part::Ip => "ip",
-        Part::Extension => "extension",
-        Part::Transport => "transport",
-    }
-}
 
 /// Adds `unreadable` and the part that can't be read, each behind a space.
 #[tactic(auto, unfolding(crate::specs::Verdicts::unreadable_text))]
@@ -29,28 +16,6 @@ pub fn append_unreadable(line: &mut Bytes, part: Part) -> Result<(), Memory>
 {
     line.append(b" unreadable ")?;
     line.append(part_name(part).as_bytes())
-}
-
-/// The name of a default entry that accepts.
-#[tactic(auto, unfolding(crate::specs::Verdicts::default_name))]
-fn default_name(rule: DefaultRule) -> &'static str
-    ensures { result.now ≡ spec.default_name rule }
-{
-    match rule {
-        DefaultRule::Dns => "default-dns",
-        DefaultRule::Ntp => "default-ntp",
-    }
-}
-
-/// The name of a drop that no entry decided.
-#[tactic(auto, unfolding(crate::specs::Verdicts::why_name))]
-fn why_name(why: Why) -> &'static str
-    ensures { result.now ≡ spec.why_name why }
-{
-    match why {
-        Why::NoFile => "drop:no-file",
-        Why::NoMatch => "drop:no-match",
-    }
 }
 
 /// Adds a ruling: `accept:` or `drop:` and the number of the entry, `default-dns` or `default-ntp`,
@@ -86,14 +51,6 @@ fn append_end(line: &mut Bytes, name: &[u8], ruling: Option<Ruling>) -> Result<(
             append_ruling(line, ruling)
         }
     }
-}
-
-/// `pass` or `drop`.
-#[tactic(auto, unfolding(crate::specs::Verdicts::passing_text))]
-fn passing(verdict: &Verdict) -> &'static str
-    ensures { result.now ≡ spec.passing_text verdict.now }
-{
-    if forwarded(verdict) { "pass" } else { "drop" }
 }
 
 /// Adds the rulings, or what stands in place of them.

@@ -38,7 +38,8 @@ pub fn open_items(
     ensures sound { IfOk result (λ taken. IsSound (taken_desk taken)) }
     ensures kept { tells keeper.new
         → IfOk result (λ taken. items keeper.new ≡ items_of (taken_desk taken)) }
-    // The first item that is no record is named exactly where there is one.
+    // An item is named where it is the first that is no record, and else the desk isn't opened for a
+    // failure of the keeper or for want of memory.
     ensures bad { tells keeper.new → IfErr result (IsFaultOf (items keeper.new)) }
     ensures left { tells keeper.old → tells keeper.new
         → IfErr result (Leaves (items keeper.old) (items keeper.new)) }

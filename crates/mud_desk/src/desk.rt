@@ -8,9 +8,10 @@ ghost use Rattle.frame_view.specs.Frame.{frame_of};
 ghost use Rattle.packet_judge.specs.Verdicts.{steps_on};
 ghost use Rattle.desk_model.specs.DeskTables.{IsSound};
 ghost use Rattle.desk_model.specs.Commands.{IsAsked, command_step};
-ghost use Rattle.desk_model.specs.Items.{tables_in};
+ghost use Rattle.desk_model.specs.Items.{none_kept, tables_in};
 ghost use Rattle.desk_model.specs.Sessions.{MayAnswer, verdict_in};
 ghost use Rattle.desk_rows.specs.CompiledDesk.{IsCompiledOf};
+ghost use Rattle.desk_items.specs.Taken.{kept_of};
 ghost use Rattle.desk_items.specs.Opening.{IsFaultOf};
 ghost use Rattle.desk_judge.specs.Grounds.{rows_read, ruling_steps};
 ghost use Rattle.mud_desk.specs.DeskState.{tables_of, session_of, HasForwarded, IsBegun, IsJudged, AreRulesOf};
@@ -45,11 +46,17 @@ impl Desk {
     /// Opens a keeper: the desk has the lists that its items are, and a session begins. Where an item
     /// is no record, the first one in the keeper's order is named, and nothing was written. Each
     /// Thing whose record is of the first version is written anew in the second; the lists and the
-    /// moment of their last change stay. A refusal hands the box back.
+    /// moment of their last change stay. A refusal hands the box back. Nothing was taken before:
+    /// [`Taken::new`].
+    ///
+    /// Without that condition a caller in another crate would have to reckon with another keeper in
+    /// the box. So it is with that of each call that takes the desk to change it, or gives the box back.
     pub fn open(
         alloc: Global,
         keeper: Box<dyn Keeper>,
+        nothing: Taken,
     ) -> Result<Desk, (OpenFault, Box<dyn Keeper>)>
+        requires { kept_of nothing ≡ none_kept }
         // The desk's lists are those that the keeper told before, and are kept now.
         ensures tables { Tells Keeper-dyn keeper → IfOk result (λ desk. Tells Keeper-dyn desk.keeper
             → tables_in (kept_items Keeper-dyn keeper) ≡ Ok (tables_of desk.state)) }
@@ -58,7 +65,8 @@ impl Desk {
         ensures begun { IfOk result (λ desk. IsBegun (tables_of desk.state) desk.state) }
         ensures steady { IfOk result (λ desk. faults_of Keeper-dyn desk.keeper ≡ faults_of Keeper-dyn keeper) }
         ensures same_box { IfOk result (λ desk. IsSameBox keeper desk.keeper) }
-        // The first item that is no record is named exactly where there is one.
+        // An item is named where it is the first that is no record, and else the desk isn't opened for a
+        // failure of the keeper or for want of memory.
         ensures bad { IfErr result (λ refusal. Tells Keeper-dyn refusal.1
             → IsFaultOf (kept_items Keeper-dyn refusal.1) refusal.0) }
         ensures left { Tells Keeper-dyn keeper → IfErr result (λ refusal. Tells Keeper-dyn refusal.1
@@ -67,7 +75,7 @@ impl Desk {
         ensures handed_back { IfErr result (λ refusal. IsSameBox keeper refusal.1) }
     {
         let mut keeper = keeper;
-        let taken = match open_items(alloc, &mut keeper, Taken::new(alloc)) {
+        let taken = match open_items(alloc, &mut keeper, nothing) {
             Ok(taken) => taken,
             Err(fault) => return Err((fault, keeper)),
         };
@@ -79,10 +87,22 @@ impl Desk {
 
     /// Hands the keeper back, with its items as they are.
     pub fn close(self) -> Box<dyn Keeper>
+        requires { IsKept Keeper-dyn self.keeper (tables_of self.state) }
         ensures { result ≡ self.keeper }
     {
         let Desk { keeper, state: _ } = self;
         keeper
+    }
+
+    /// Hands the keeper back, as [`Desk::close`] does, and beside it all else that the desk holds: by it
+    /// the session goes on, and judges, while nothing is kept.
+    pub fn into_parts(self) -> (Box<dyn Keeper>, State)
+        requires { IsKept Keeper-dyn self.keeper (tables_of self.state) }
+        ensures keeper { result.0 ≡ self.keeper }
+        ensures state { result.1 ≡ self.state }
+    {
+        let Desk { keeper, state } = self;
+        (keeper, state)
     }
 
     /// A command, at the later of the session's moment and this one. What it changes is kept by one
@@ -126,12 +146,15 @@ impl Desk {
     /// The verdict on a frame, at the later of the session's moment and this one, which is made the
     /// moment of the session. A TCP packet of a Thing that is forwarded counts for the connections
     /// from then on, once. [`Memory`] comes only for such a packet, and leaves all as it was.
+    #[tactic(auto, using(crate::proofs::Boxes::kept_still), unfolding(crate::specs::DeskState::tables_of))]
     pub fn judge<L: Ledger>(
         &mut self,
         frame: &[u8],
         stamp: Moment,
         steps: &mut Steps<L>,
     ) -> Result<Verdict, Memory>
+        requires kept { IsKept Keeper-dyn self.old.keeper (tables_of self.old.state) }
+        ensures kept { IsKept Keeper-dyn self.new.keeper (tables_of self.new.state) }
         ensures judged { (h : List SegmentValue) → HasForwarded h self.old.state → IsJudged h self.old.state stamp frame.now result self.new.state }
         ensures books { self.new.state.books ≡ self.old.state.books }
         ensures keeper { self.new.keeper ≡ self.old.keeper }
@@ -170,7 +193,10 @@ impl Desk {
 
     /// Makes the later of the session's moment and this one the moment of the session, and answers
     /// it.
+    #[tactic(auto, using(crate::proofs::Boxes::kept_still), unfolding(crate::specs::DeskState::tables_of))]
     pub fn raise(&mut self, now: Moment) -> Moment
+        requires kept { IsKept Keeper-dyn self.old.keeper (tables_of self.old.state) }
+        ensures kept { IsKept Keeper-dyn self.new.keeper (tables_of self.new.state) }
         ensures moment { result ≡ max self.old.state.moment now }
         ensures state { self.new.state ≡ record self.old.state { moment = result } }
         ensures keeper { self.new.keeper ≡ self.old.keeper }

@@ -7,6 +7,7 @@ mod keeping;
 pub mod state;
 
 pub use desk::Desk;
-pub use desk_items::OpenFault;
+pub use desk_items::{OpenFault, Taken};
 pub use desk_model::{Command, Outcome, Refusal, Reply};
 pub use packet_judge::Verdict;
+pub use state::State;

@@ -136,9 +136,10 @@ impl State {
         self.moment = now;
     }
 
-    /// Judges a frame: [`desk_judge::judge`].
+    /// The verdict on a frame, at the later of the session's moment and this one, which is made the
+    /// moment of the session: [`desk_judge::judge`]. [`Memory`] leaves all as it was.
     #[tactic(auto, unfolding(crate::specs::DeskState::tables_of))]
-    pub(crate) fn judge<L: Ledger>(
+    pub fn judge<L: Ledger>(
         &mut self,
         frame: &[u8],
         stamp: Moment,

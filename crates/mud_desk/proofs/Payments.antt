@@ -1,7 +1,6 @@
 -- The steps of a command: those of one plan, and of one commit where it is done.
-use Rattle.std.proofs.Common.{◌≡◌, ℕ, ◌+◌, ◌-◌, ◌≤◌, List, length, Option, Ok, Err, refl, sym, ap, ◌∙◌, subst, inl, inr, arith}
+use Rattle.std.proofs.Common.{◌≡◌, ℕ, ◌+◌, ◌-◌, ◌≤◌, List, length, Ok, Err, refl, sym, subst, inl, inr, arith}
 use Rattle.std.specs.Prelude.{max, IsOkAnd}
-use Rattle.acl_model.specs.declared.binding.Binding.{Binding}
 use Rattle.acl_model.specs.Changes.{IsBindingChange}
 use Rattle.acl_rows.specs.declared.row.Row.{Row}
 use Rattle.acl_patch.specs.Patch.{rows_apart}

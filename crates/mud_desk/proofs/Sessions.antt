@@ -1,15 +1,10 @@
 -- What the calls of a desk make of its session.
-use Rattle.std.proofs.Common.{◌≡◌, ◌≢◌, ℕ, ◌+◌, ◌-◌, ◌≤◌, Bool, true, false, IsTrue, List, [], ◌∷◌, Option, Some, None, Result, Ok, Err, refl, sym, ap, ◌∙◌, subst, inl, inr, if◌then◌else◌, arith}
-use Rattle.std.specs.Prelude.{max, length, IsOkAnd, IfOk, IsSome, unwrap_or}
+use Rattle.std.proofs.Common.{◌≡◌, ◌≢◌, ℕ, ◌≤◌, Bool, true, false, IsTrue, List, [], Option, Ok, Err, refl, sym, ap, ◌∙◌, subst, if◌then◌else◌, arith}
+use Rattle.std.specs.Prelude.{max, IsOkAnd, IfOk, IsSome}
 use Rattle.mud_base.specs.declared.memory.Memory as want
-use Rattle.mud_world.specs.declared.item.Item.{Item}
 use Rattle.mud_world.specs.declared.item.Put.{Put}
 use Rattle.mud_world.specs.Items.{put_all, is_batch}
 use Rattle.mud_world.specs.Causes.{Counts}
-use Rattle.acl_model.specs.declared.binding.Binding.{Binding}
-use Rattle.acl_model.specs.Changes.{IsBindingChange}
-use Rattle.acl_rows.specs.declared.row.Row.{Row}
-use Rattle.acl_patch.specs.Patch.{rows_apart}
 use Rattle.acl_compile.specs.Compiled.{CompiledState}
 use Rattle.mud_base.specs.declared.prefix.Prefix.{Prefix}
 use Rattle.mud_tables.specs.declared.thing.Thing.{Thing}
@@ -24,25 +19,23 @@ use Rattle.frame_view.specs.Frame.{frame_of}
 use Rattle.packet_judge.specs.declared.verdict.Verdict.{Verdict}
 use Rattle.packet_judge.specs.Verdicts.{noted_fields, history_after, steps_on}
 use Rattle.desk_model.specs.declared.command.Command.{Command}
-use Rattle.desk_model.specs.declared.reply.Outcome.{Outcome}
 use Rattle.desk_model.specs.declared.reply.Refusal.{Refusal}
-use Rattle.desk_model.specs.declared.reply.Reply.{Reply}
 use Rattle.desk_model.specs.declared.reply.Reply.TheVariants.{Done, Refused, Keeper, Memory}
 use Rattle.desk_model.specs.Refusals.{is_want_of_memory, reply_of}
 use Rattle.desk_model.specs.DeskTables.{DeskTables, IsSound}
-use Rattle.desk_model.specs.Commands.{DeskAfter, DeskStep, command_step, IsTyped, IsAsked, IsCommand, TellsChange}
-use Rattle.desk_model.specs.Items.{items_of, IsKeptBy}
-use Rattle.desk_model.specs.Verdicts.{verdict_at, desk_bindings}
-use Rattle.desk_model.specs.Sessions.{Session, Answered, answered, command_in, MayAnswer, later, verdict_in, frame_in, Judged, judged, IsNoted, MayJudge, opened}
+use Rattle.desk_model.specs.Commands.{DeskStep, command_step, IsTyped, IsAsked, TellsChange}
+use Rattle.desk_model.specs.Items.{items_of}
+use Rattle.desk_model.specs.Verdicts.{verdict_at}
+use Rattle.desk_model.specs.Sessions.{Session, Answered, answered, command_in, MayAnswer, later, verdict_in, frame_in, judged}
 use Rattle.desk_model.proofs.ToldSteps.{commands_told}
 use Rattle.desk_rows.specs.CompiledDesk.{IsCompiledOf}
 use Rattle.desk_judge.specs.Grounds.{grounds, AreGroundsOf}
 use Rattle.desk_judge.proofs.Since.{since_later}
-use Rattle.desk_books.specs.Books.{Books, desk_in, desk_of}
+use Rattle.desk_books.specs.Books.{Books, desk_of}
 use Rattle.desk_books.specs.Changes.{PlannedChange, desk_after}
-use Rattle.desk_books.specs.Planned.{IsPlanned, IsReady, IsBatchOf, IsPaid}
-use Rattle.mud_desk.specs.DeskState.{DeskState, tables_of, session_of, HasForwarded, IsTimely, IsBegun, IsJudged}
-use Rattle.mud_desk.specs.Answers.{is_of_keeper, PaysForCommit, IsPaidOnce}
+use Rattle.desk_books.specs.Planned.{IsPlanned, IsReady, IsBatchOf}
+use Rattle.mud_desk.specs.DeskState.{DeskState, tables_of, session_of, HasForwarded, IsTimely, IsJudged}
+use Rattle.mud_desk.specs.Answers.{is_of_keeper}
 
 -- ---- The moment
 

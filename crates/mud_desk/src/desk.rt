@@ -51,6 +51,7 @@ impl Desk {
     ///
     /// Without that condition a caller in another crate would have to reckon with another keeper in
     /// the box. So it is with that of each call that takes the desk to change it, or gives the box back.
+    #[tactic(auto, using(crate::proofs::Opening::left_of))]
     pub fn open(
         alloc: Global,
         keeper: Box<dyn Keeper>,

@@ -1,4 +1,4 @@
-use Rattle.std.proofs.Common.{◌≤◌, sym, subst, ap}
+use Rattle.std.proofs.Common.{◌≤◌, sym, subst}
 use Rattle.mud_desk.specs.DeskState.{DeskState}
 use Rattle.mud_desk.proofs.Sessions.{timely_later}
 use Rattle.mud_desk.proofs.state.State.commit.Goals as goal

@@ -1,4 +1,4 @@
-use Rattle.std.proofs.Common.{◌≡◌, ℕ, List, sym, subst, ap, ◌∙◌}
+use Rattle.std.proofs.Common.{◌≡◌, List, sym, subst, ap, ◌∙◌}
 use Rattle.mud_tables.specs.declared.segment.Segment.{Segment}
 use Rattle.flow_table.specs.Held.{flows_of}
 use Rattle.desk_model.specs.Sessions.{verdict_in}

@@ -8,7 +8,6 @@ pub mod Framings
 pub mod Fronts
 pub mod Shapes
 pub mod Looks
-pub mod Buffers
 pub mod Steps
 pub mod Coming
 pub mod Serving

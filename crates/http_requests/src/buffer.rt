@@ -1,11 +1,11 @@
 //! The one buffer for the heads and bodies of requests.
-ghost use Rattle.std.specs.Prelude.{◌≡◌, ℕ, ◌+◌, ◌-◌, ◌<◌, ◌≤◌, [], ◌++◌, length, take, drop, slice_range, IfOk, OnErr, is_err};
+ghost use Rattle.std.specs.Prelude.{◌≡◌, ◌+◌, ◌<◌, ◌≤◌, [], length, drop, IfOk, OnErr, is_err};
 ghost use Rattle.mud_world.specs.Causes.{Counts};
-ghost use Rattle.mud_world.specs.Door.{Took};
 ghost use Rattle.http_requests.specs.Received.{Grown, Received};
 
 use mud_base::Memory;
 use mud_world::{Door, Failed};
+use octet_buffer::{refill, zeros};
 use std::alloc::Global;
 use std::marker::Model;
 
@@ -29,67 +29,6 @@ impl Model for RequestBuffer {
     ghost view = { λ b. slice_range b.octets.items b.start b.end };
 
     ghost invariant = { λ b. (b.start ≤ b.end) × (b.end ≤ length b.octets.items) × (length b.octets.items ≡ 532480) };
-}
-
-/// So many octets.
-fn zeros(alloc: Global, len: usize) -> Result<Vec<u8>, Memory>
-    ensures { IfOk result (λ octets. length octets.items ≡ len) }
-{
-    Ok(vec![in alloc; 0; len]?)
-}
-
-/// Moves the octets of a part to the front.
-#[tactic(auto, using(crate::proofs::Buffers::part_moved, crate::proofs::Buffers::part_in_front))]
-fn move_to_front(octets: &mut [u8], start: usize, end: usize)
-    requires ordered { start ≤ end }
-    requires within { end ≤ length octets.old }
-    ensures { take (end - start) octets.new ≡ slice_range octets.old start end }
-{
-    if start > 0 {
-        octets.copy_within(start..end, 0);
-    }
-}
-
-/// Reads once of the door, behind the first `at` octets.
-#[tactic(auto, using(crate::proofs::Buffers::front_kept, crate::proofs::Buffers::behind_front))]
-fn read_behind<D: Door>(door: &mut D, octets: &mut [u8], at: usize) -> Result<usize, Failed>
-    requires { at < length octets.old }
-    ensures within { IfOk result (λ n. at + n ≤ length octets.new) }
-    ensures front { take at octets.new ≡ take at octets.old }
-    ensures octets { D.tells → IfOk result (λ n.
-        Took (take n (drop at octets.new)) (D.state door.old) (D.state door.new)
-        × (n ≡ 0 → (D.state door.old).left ≡ [])) }
-    ensures err { D.tells → OnErr result (D.state door.new ≡ D.state door.old) }
-    ensures cause { Counts (is_err result) (D.reads door.old) (D.reads door.new) }
-    ensures turns { D.turns door.new ≡ D.turns door.old }
-    ensures writes { D.writes door.new ≡ D.writes door.old }
-{
-    let (_, room) = octets.split_at_mut(at);
-    door.read(room)
-}
-
-/// Moves the octets of a part to the front, and reads once of the door behind them.
-fn refill<D: Door>(
-    door: &mut D,
-    octets: &mut [u8],
-    start: usize,
-    end: usize,
-) -> Result<usize, Failed>
-    requires ordered { start ≤ end }
-    requires within { end ≤ length octets.old }
-    requires room { end - start < length octets.old }
-    ensures within { IfOk result (λ n. end - start + n ≤ length octets.new) }
-    ensures front { take (end - start) octets.new ≡ slice_range octets.old start end }
-    ensures octets { D.tells → IfOk result (λ n.
-        Took (take n (drop (end - start) octets.new)) (D.state door.old) (D.state door.new)
-        × (n ≡ 0 → (D.state door.old).left ≡ [])) }
-    ensures err { D.tells → OnErr result (D.state door.new ≡ D.state door.old) }
-    ensures cause { Counts (is_err result) (D.reads door.old) (D.reads door.new) }
-    ensures turns { D.turns door.new ≡ D.turns door.old }
-    ensures writes { D.writes door.new ≡ D.writes door.old }
-{
-    move_to_front(octets, start, end);
-    read_behind(door, octets, end - start)
 }
 
 impl RequestBuffer {

@@ -1,4 +1,3 @@
-pub mod Buffers
 mod Examples
 pub mod Exits
 pub mod OnLiterals

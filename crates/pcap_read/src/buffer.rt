@@ -1,12 +1,12 @@
 //! The one buffer between a source and the packets.
-ghost use Rattle.std.specs.Prelude.{◌≡◌, ℕ, ◌+◌, ◌-◌, ◌<◌, ◌≤◌, [], ◌++◌, length, take, drop, slice_range, IfOk, OnOk, OnErr, is_err, nat_le, false};
+ghost use Rattle.std.specs.Prelude.{◌≡◌, ◌+◌, ◌<◌, ◌≤◌, [], length, take, drop, IfOk, OnErr, is_err, nat_le, false};
 ghost use Rattle.mud_world.specs.Causes.{Counts};
-ghost use Rattle.mud_world.specs.Door.{Reads, Took};
 ghost use Rattle.pcap_read.specs.Reading.{Fetched};
 
 use crate::head::MOST_OCTETS;
 use mud_base::Memory;
 use mud_world::{Door, Failed};
+use octet_buffer::{refill, zeros};
 use std::alloc::Global;
 use std::marker::Model;
 
@@ -32,67 +32,6 @@ impl Model for Buffer {
     } };
 
     ghost invariant = { λ b. (b.from ≤ b.start) × (b.start ≤ b.end) × (b.end ≤ length b.octets.items) × (length b.octets.items ≡ 262144) };
-}
-
-/// So many octets.
-fn zeros(alloc: Global, len: usize) -> Result<Vec<u8>, Memory>
-    ensures { IfOk result (λ octets. length octets.items ≡ len) }
-{
-    Ok(vec![in alloc; 0; len]?)
-}
-
-/// Moves the octets of a part to the front.
-#[tactic(auto, using(crate::proofs::Buffers::part_moved, crate::proofs::Buffers::part_in_front))]
-fn move_to_front(octets: &mut [u8], start: usize, end: usize)
-    requires ordered { start ≤ end }
-    requires within { end ≤ length octets.old }
-    ensures { take (end - start) octets.new ≡ slice_range octets.old start end }
-{
-    if start > 0 {
-        octets.copy_within(start..end, 0);
-    }
-}
-
-/// Reads once of the source, behind the first `at` octets.
-#[tactic(auto, using(crate::proofs::Buffers::front_kept, crate::proofs::Buffers::behind_front))]
-fn read_behind<D: Door>(source: &mut D, octets: &mut [u8], at: usize) -> Result<usize, Failed>
-    requires { at < length octets.old }
-    ensures within { IfOk result (λ n. at + n ≤ length octets.new) }
-    ensures front { take at octets.new ≡ take at octets.old }
-    ensures octets { D.tells → IfOk result (λ n.
-        Took (take n (drop at octets.new)) (D.state source.old) (D.state source.new)
-        × (n ≡ 0 → (D.state source.old).left ≡ [])) }
-    ensures err { D.tells → OnErr result (D.state source.new ≡ D.state source.old) }
-    ensures cause { Counts (is_err result) (D.reads source.old) (D.reads source.new) }
-    ensures turns { D.turns source.new ≡ D.turns source.old }
-    ensures writes { D.writes source.new ≡ D.writes source.old }
-{
-    let (_, room) = octets.split_at_mut(at);
-    source.read(room)
-}
-
-/// Moves the octets of a part to the front, and reads once of the source behind them.
-fn refill<D: Door>(
-    source: &mut D,
-    octets: &mut [u8],
-    start: usize,
-    end: usize,
-) -> Result<usize, Failed>
-    requires ordered { start ≤ end }
-    requires within { end ≤ length octets.old }
-    requires room { end - start < length octets.old }
-    ensures within { IfOk result (λ n. end - start + n ≤ length octets.new) }
-    ensures front { take (end - start) octets.new ≡ slice_range octets.old start end }
-    ensures octets { D.tells → IfOk result (λ n.
-        Took (take n (drop (end - start) octets.new)) (D.state source.old) (D.state source.new)
-        × (n ≡ 0 → (D.state source.old).left ≡ [])) }
-    ensures err { D.tells → OnErr result (D.state source.new ≡ D.state source.old) }
-    ensures cause { Counts (is_err result) (D.reads source.old) (D.reads source.new) }
-    ensures turns { D.turns source.new ≡ D.turns source.old }
-    ensures writes { D.writes source.new ≡ D.writes source.old }
-{
-    move_to_front(octets, start, end);
-    read_behind(source, octets, end - start)
 }
 
 impl Buffer {

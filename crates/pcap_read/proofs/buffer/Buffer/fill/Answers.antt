@@ -2,7 +2,7 @@ use Rattle.std.proofs.Common.{◌≡◌, ◌+◌, ◌-◌, ◌++◌, length, tak
 use Rattle.std.specs.Prelude.{slice_range}
 use Rattle.std.proofs.lemmas.List.{places}
 use Rattle.pcap_read.specs.Held.{Holding}
-use Rattle.pcap_read.proofs.Buffers.{part_grown}
+use Rattle.octet_buffer.proofs.Buffers.{part_grown}
 use Rattle.pcap_read.proofs.buffer.Buffer.fill.Goals as goal
 
 pub returns-clause-octets : goal.returns-clause-octets

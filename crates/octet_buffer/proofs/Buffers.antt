@@ -1,11 +1,15 @@
--- Parts of a buffer.
-use Rattle.std.proofs.Common.{◌≡◌, ℕ, ◌+◌, ◌-◌, ◌≤◌, List, ◌++◌, length, take, drop, sym, ap, ◌∙◌, arith, length-drop, length-take-le}
-use Rattle.std.specs.Prelude.{slice_range}
+-- Octets that are all 0, and parts of a buffer.
+use Rattle.std.proofs.Common.{◌≡◌, ℕ, ◌+◌, ◌-◌, ◌≤◌, List, ◌++◌, length, take, drop, refl, sym, ap, ◌∙◌, arith, length-drop, length-take-le}
+use Rattle.std.specs.Prelude.{slice_range, All, replicate}
 use Rattle.std.specs.List.{copy_within}
 use lib.Seq.{paste}
 use Rattle.std.proofs.lemmas.List.{take-take, drop-take, drop-drop, drop-append-le, take-append-le, drop_all, take_all}
 use Rattle.std.proofs.lemmas.List.Edits.{take-paste}
+use Rattle.std.proofs.lemmas.List.Elements.{All-replicate}
 use Rattle.mud_world.proofs.Doors.{take_further}
+
+pub zeros_alone : (len : ℕ) → All (λ (octet : ℕ). octet ≡ 0) (replicate len 0)
+zeros_alone len = All-replicate (λ (octet : ℕ). octet ≡ 0) len 0 refl
 
 pub length-part : (xs : List ℕ) (a b : ℕ) → a ≤ b → b ≤ length xs → length (slice_range xs a b) ≡ b - a
 length-part xs a b ordered within = length-take-le (b - a) (drop a xs) (omega (arith, length-drop a xs))

@@ -2,3 +2,4 @@ pub mod Capture
 pub mod Due
 pub mod Fold
 pub mod Status
+pub mod View

@@ -4,20 +4,11 @@ use Rattle.mud_world.specs.Causes.{Rose}
 use Rattle.mud_world.specs.Door.{DoorState}
 use Rattle.command_runs.specs.Capture.{WritesTaken}
 use Rattle.command_runs.specs.Due.{WritesDue, WritesPart}
+pub use Rattle.command_runs.specs.View.{DoorView, viewed}
 use Rattle.mud_cli.specs.Answers.{due_of, most_read}
 use Rattle.mud_cli.specs.Frames.Lines.{frame_step}
 use Rattle.mud_cli.specs.declared.words.Command.{Command}
 use Rattle.mud_cli.specs.declared.words.Command.TheVariants.{Frames}
-
--- a door at a moment: its connections, where it tells them, and how often its calls have failed
-pub record DoorView : Type 0 where
-  pub state : DoorState
-  pub turns : ℕ
-  pub reads : ℕ
-  pub writes : ℕ
-
-abbrev pub viewed : DoorState → ℕ → ℕ → ℕ → DoorView
-viewed state turns reads writes = record { state = state; turns = turns; reads = reads; writes = writes }
 
 -- At most so many octets were read of the front of the connection.
 pub record ReadUpTo (most : ℕ) (old new : DoorState) : Type 0 where

@@ -1,0 +1,3 @@
+pub mod JudgedPackets
+pub mod Runs
+pub mod Stores

@@ -1,0 +1,59 @@
+-- What a run of `judge` over a store does.
+use Rattle.std.specs.Prelude.{◌≡◌, ◌≢◌, ℕ, ◌⊎◌, List, Result, Ok, Err, IsOkAnd}
+use Rattle.std.specs.declared.dyn_box.DynBox.{DynBox}
+use Rattle.std.specs.declared.alloc.Global.{Global}
+use Rattle.mud_world.specs.declared.keeper.Keeper.{Ghosts}
+use Rattle.mud_world.specs.declared.item.Item.{Item}
+use Rattle.mud_world.specs.Boxed.{faults_of, Tells, kept_items}
+use Rattle.mud_world.specs.Causes.{Rose}
+use Rattle.command_runs.specs.Capture.{WritesTaken, due_of_capture}
+use Rattle.command_runs.specs.Due.{Due, WritesDue, WritesPart}
+use Rattle.command_runs.specs.View.{DoorView}
+use Rattle.desk_model.specs.DeskTables.{DeskTables, IsSound}
+use Rattle.desk_model.specs.Items.{tables_in}
+use Rattle.desk_model.specs.Sessions.{opened}
+use Rattle.mud_desk.specs.Boxed.{IsKept, IsSameBox}
+use Rattle.desk_runs.specs.Judged.{judged_step}
+use Rattle.desk_runs.specs.Refused.{bad_item_line}
+
+-- What is due to a capture: its lines in the session that begins with the tables of the store. Where an item is no record, the
+-- line of the first such item is due, and the status is 6.
+abbrev pub due_of_store : Result DeskTables Item → List ℕ → Due
+due_of_store (Ok tables) octets = due_of_capture judged_step (opened tables) octets
+due_of_store (Err item) octets = record { text = bad_item_line item.kind item.key; status = 6 }
+
+-- What is written, by the tables of the store or its first item that is no record.
+pub record WritesOfStore (store : Result DeskTables Item) (old new : DoorView) (status : ℕ) : Type 0 where
+  -- With 0, 3 and 6 all that is due was written, with 4 and 5 a first part of it.
+  pub done : (status ≡ 0) ⊎ ((status ≡ 3) ⊎ (status ≡ 6)) → WritesDue (due_of_store store old.state.left) old.state new.state status
+  pub part : (status ≡ 4) ⊎ (status ≡ 5) → WritesPart (due_of_store store old.state.left) old.state new.state
+  -- Where a read failed, the lines of the packets in the octets that were read were written.
+  pub taken : new.reads ≢ old.reads → IsOkAnd store (λ tables. WritesTaken judged_step (opened tables) old.state new.state)
+  -- Where an item is no record, the capture isn't read.
+  pub unread : (item : Item) → store ≡ Err item → new.state.left ≡ old.state.left
+
+module _ {X : Type 0} {F : X → Type 0} (members : (v : (x : X) × F x) → Ghosts (F v.0)) where
+  -- the keeper is open, and the items that it tells are those of sound tables
+  pub record KeepsTables (keeper : DynBox X Global F) : Type 0 where
+    pub tables : DeskTables
+    pub sound : IsSound tables
+    pub kept : IsKept members keeper tables
+
+  -- A run of `judge`. `tells` says that the door tells its connections.
+  pub record JudgesStore (tells : Type 0) (keeper returned : DynBox X Global F) (old new : DoorView) (status : ℕ) : Type 0 where
+    -- The status is 0 or 3 to 7. It is 4 only where a read or a write of the door failed in this call, and where it isn't, none
+    -- failed. So it is with 7 and a failure of the keeper.
+    pub statuses : (status ≡ 0) ⊎ ((status ≡ 3) ⊎ ((status ≡ 4) ⊎ ((status ≡ 5) ⊎ ((status ≡ 6) ⊎ (status ≡ 7)))))
+    pub fault : status ≡ 4 → Rose old.reads new.reads ⊎ Rose old.writes new.writes
+    pub steady : status ≢ 4 → (new.reads ≡ old.reads) × (new.writes ≡ old.writes)
+    pub keeper_fault : status ≡ 7 → Rose (faults_of members keeper) (faults_of members returned)
+    pub keeper_steady : status ≢ 7 → faults_of members returned ≡ faults_of members keeper
+    -- The items that are kept when the run ends say what is due. Their tables are those that were kept when it began, and
+    -- where an item is no record all items are as they were.
+    pub writes : tells → Tells members returned → WritesOfStore (tables_in (kept_items members returned)) old new status
+    pub same_tables : Tells members keeper → Tells members returned → tables_in (kept_items members returned) ≡ tables_in (kept_items members keeper)
+    pub same_items : status ≡ 6 → Tells members keeper → Tells members returned → kept_items members returned ≡ kept_items members keeper
+    pub kept : (status ≡ 0) ⊎ (status ≡ 3) → KeepsTables returned
+    -- The box that comes back is the one that was handed in. No port is bound, and the connection isn't left.
+    pub same_box : IsSameBox keeper returned
+    pub same_turns : new.turns ≡ old.turns

@@ -1,0 +1,110 @@
+//! The verdict on each packet of a capture.
+ghost use Rattle.std.specs.Prelude.{◌≡◌, ◌≢◌, ◌⊎◌, ◌++◌, ◌<◌, IfOk, OnOk, OnErr};
+ghost use Rattle.mud_world.specs.Causes.{Rose};
+ghost use Rattle.pcap_read.specs.Captured.{packet_of};
+ghost use Rattle.command_runs.specs.Capture.{WritesTaken, due_of_capture};
+ghost use Rattle.command_runs.specs.Due.{WritesDue, WritesPart};
+ghost use Rattle.command_runs.specs.Status.{status_number};
+ghost use Rattle.desk_model.specs.Sessions.{Session};
+ghost use Rattle.mud_desk.specs.Boxed.{IsKept};
+ghost use Rattle.mud_desk.specs.DeskState.{tables_of};
+ghost use Rattle.desk_runs.specs.Judged.{IsIn, judged_line, judged_packet, judged_step};
+
+use command_runs::{PacketLines, Status, write_capture};
+use mud_base::{Bytes, Memory, Moment};
+use mud_desk::{Desk, State, Verdict};
+use mud_world::{Door, Keeper};
+use pcap_read::Captured;
+use sorted_rows::Steps;
+use std::alloc::Global;
+use std::marker::Brand;
+use std::sync::ledger::{Blank, Ledger};
+use text_lines::{append_decimal, append_number};
+use verdict_lines::append_verdict;
+
+/// The seconds of a packet as a moment. No number of 32 bits is after the last moment.
+fn moment_of(packet: &Captured<'_>) -> Moment
+    ensures { result ≡ packet.now.seconds }
+{
+    Moment::at_most_last(u64::from(packet.seconds))
+}
+
+/// The verdict on a packet, at its seconds or at the session's moment where that is later. Without
+/// memory the session stays as it was.
+fn judge_packet<L: Ledger>(
+    state: &mut State,
+    packet: &Captured<'_>,
+    blank: Blank,
+) -> Result<Verdict, Memory>
+    requires name { blank.name ≡ L.name }
+    requires parts { blank.parts ≡ L.parts }
+    requires some { 0 < L.parts }
+    ensures verdict { (s : Session) → IsIn s state.old → IfOk result (λ verdict. verdict ≡ (judged_packet s (packet_of packet.now)).verdict) }
+    ensures next { (s : Session) → IsIn s state.old → OnOk result (IsIn (judged_packet s (packet_of packet.now)).session state.new) }
+    ensures err { (s : Session) → IsIn s state.old → OnErr result (IsIn s state.new) }
+{
+    let mut steps = Steps::<L>::new(blank);
+    state.judge(packet.octets, moment_of(packet), &mut steps)
+}
+
+/// Adds the line of a packet: its number, its seconds, and the verdict on it.
+#[tactic(auto, unfolding(crate::specs::Judged::judged_line))]
+fn append_judged(lines: &mut Bytes, packet: &Captured<'_>, verdict: &Verdict) -> Result<(), Memory>
+    ensures { OnOk result (lines.new ≡ lines.old ++ judged_line (packet_of packet.now) verdict.now) }
+{
+    append_decimal(lines, u64::from(packet.number))?;
+    append_number(lines, u64::from(packet.seconds))?;
+    lines.append(b" ")?;
+    append_verdict(lines, verdict)?;
+    lines.append(b"\n")
+}
+
+/// The lines of `judge`: the verdict on each packet, in a session of a desk.
+#[derive(Drop)]
+pub struct JudgedLines {
+    pub state: State,
+}
+
+impl PacketLines for JudgedLines {
+    ghost use Rattle.desk_model.specs.Sessions.{Session};
+    ghost use Rattle.desk_runs.specs.Judged.{IsIn, judged_step};
+
+    ghost State = { Session };
+
+    ghost keeps = { λ lines session. IsIn session lines.state };
+
+    ghost step = { judged_step };
+
+    fn append_line(
+        &mut self,
+        _alloc: Global,
+        lines: &mut Bytes,
+        packet: &Captured<'_>,
+    ) -> Result<(), Memory> {
+        let verdict = judge_packet::<Brand>(&mut self.state, packet, Blank::new(1))?;
+        append_judged(lines, packet, &verdict)
+    }
+}
+
+/// Reads a capture, and writes the lines of its packets with the verdicts of the desk's session, and
+/// then that of the fault that ends them. The keeper isn't called.
+pub fn judge_capture<D: Door>(alloc: Global, desk: Desk, door: &mut D) -> (Status, Box<dyn Keeper>)
+    requires { IsKept Keeper-dyn desk.keeper (tables_of desk.state) }
+    ensures statuses { (status_number result.0 ≡ 0) ⊎ ((status_number result.0 ≡ 3) ⊎ ((status_number result.0 ≡ 4) ⊎ (status_number result.0 ≡ 5))) }
+    ensures fault { status_number result.0 ≡ 4 → Rose (D.reads door.old) (D.reads door.new) ⊎ Rose (D.writes door.old) (D.writes door.new) }
+    ensures steady { status_number result.0 ≢ 4 → (D.reads door.new ≡ D.reads door.old) × (D.writes door.new ≡ D.writes door.old) }
+    // In whatever session the desk is, the lines are those of the packets in their order.
+    ensures done { (s : Session) → IsIn s desk.state → D.tells → (status_number result.0 ≡ 0) ⊎ (status_number result.0 ≡ 3) →
+        WritesDue (due_of_capture judged_step s (D.state door.old).left) (D.state door.old) (D.state door.new) (status_number result.0) }
+    ensures part { (s : Session) → IsIn s desk.state → D.tells → (status_number result.0 ≡ 4) ⊎ (status_number result.0 ≡ 5) →
+        WritesPart (due_of_capture judged_step s (D.state door.old).left) (D.state door.old) (D.state door.new) }
+    ensures taken { (s : Session) → IsIn s desk.state → D.tells → D.reads door.new ≢ D.reads door.old →
+        WritesTaken judged_step s (D.state door.old) (D.state door.new) }
+    ensures turns { D.turns door.new ≡ D.turns door.old }
+    ensures keeper { result.1 ≡ desk.keeper }
+{
+    let (keeper, state) = desk.into_parts();
+    let mut lines = JudgedLines { state };
+    let status = write_capture(alloc, door, &mut lines);
+    (status, keeper)
+}

@@ -1,0 +1,13 @@
+//! How a run opens a desk over its keeper: what it writes where the store can't be opened, and how
+//! `judge` writes the verdict on each packet of a capture.
+#![tactic(auto)]
+
+pub mod judging;
+pub mod refusing;
+pub mod store;
+#[cfg(test)]
+mod tests;
+
+pub use judging::{JudgedLines, judge_capture};
+pub use refusing::refuse_store;
+pub use store::judge_store;

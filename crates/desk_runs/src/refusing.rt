@@ -1,0 +1,80 @@
+//! What a run writes whose store can't be opened.
+ghost use Rattle.std.specs.Prelude.{◌≡◌, ◌≢◌, ◌⊎◌, ◌++◌, IfOk, OnOk};
+ghost use Rattle.mud_world.specs.Causes.{Rose};
+ghost use Rattle.mud_world.specs.Door.{put_out};
+ghost use Rattle.command_runs.specs.Due.{WroteFirst};
+ghost use Rattle.command_runs.specs.Status.{status_number};
+ghost use Rattle.desk_items.specs.Opening.{IsOfCall};
+ghost use Rattle.desk_runs.specs.Refused.{IsRefusal, bad_item_line, key_part, refusal_text};
+
+use command_runs::Status;
+use mud_base::{Bytes, Memory};
+use mud_desk::OpenFault;
+use mud_world::{Door, Failed, say};
+use std::alloc::Global;
+use text_lines::append_number;
+
+/// Adds a space and the key of an item in lower-case hex digits, where it isn't empty.
+#[tactic(auto, unfolding(crate::specs::Refused::key_part))]
+fn append_key(alloc: Global, line: &mut Bytes, key: &[u8]) -> Result<(), Memory>
+    ensures { OnOk result (line.new ≡ line.old ++ key_part key.now) }
+{
+    if key.is_empty() {
+        return Ok(());
+    }
+    line.append(b" ")?;
+    line.append(hex::encode(alloc, key)?.as_bytes())
+}
+
+/// The line that names an item: `fault item`, its kind, and its key where it isn't empty.
+#[tactic(auto, unfolding(crate::specs::Refused::bad_item_line))]
+fn item_line(alloc: Global, kind: u8, key: &[u8]) -> Result<Bytes, Memory>
+    ensures { IfOk result (λ line. line ≡ bad_item_line kind key.now) }
+{
+    let mut line = Bytes::new(alloc, b"fault item")?;
+    append_number(&mut line, u64::from(kind))?;
+    append_key(alloc, &mut line, key)?;
+    line.append(b"\n")?;
+    Ok(line)
+}
+
+/// Writes the line that names an item.
+fn name_item<D: Door>(alloc: Global, door: &mut D, kind: u8, key: &[u8]) -> Status
+    ensures statuses { (status_number result ≡ 6) ⊎ ((status_number result ≡ 4) ⊎ (status_number result ≡ 5)) }
+    ensures fault { status_number result ≡ 4 → Rose (D.writes door.old) (D.writes door.new) }
+    ensures steady { status_number result ≢ 4 → D.writes door.new ≡ D.writes door.old }
+    ensures done { D.tells → status_number result ≡ 6 → D.state door.new ≡ put_out (bad_item_line kind key.now) (D.state door.old) }
+    ensures part { D.tells → (status_number result ≡ 4) ⊎ (status_number result ≡ 5) →
+        WroteFirst (bad_item_line kind key.now) (D.state door.old) (D.state door.new) }
+    ensures turns { D.turns door.new ≡ D.turns door.old }
+    ensures reads { D.reads door.new ≡ D.reads door.old }
+{
+    let Ok(line) = item_line(alloc, kind, key) else {
+        return Status::NoMemory;
+    };
+    match say(door, line.octets()) {
+        Ok(()) => Status::BadItem,
+        Err(Failed) => Status::DoorFailed,
+    }
+}
+
+/// The status of a run whose store can't be opened. Where an item is no record, the line that names it
+/// is written; else nothing is. The door isn't read.
+pub fn refuse_store<D: Door>(alloc: Global, door: &mut D, fault: OpenFault) -> Status
+    ensures statuses { IsRefusal fault (status_number result) }
+    ensures fault { status_number result ≡ 4 → Rose (D.writes door.old) (D.writes door.new) }
+    ensures steady { status_number result ≢ 4 → D.writes door.new ≡ D.writes door.old }
+    ensures done { D.tells → status_number result ≡ 6 → D.state door.new ≡ put_out (refusal_text fault) (D.state door.old) }
+    ensures part { D.tells → (status_number result ≡ 4) ⊎ (status_number result ≡ 5) →
+        WroteFirst (refusal_text fault) (D.state door.old) (D.state door.new) }
+    // For a failure of the keeper, and for want of memory in the opening, the door isn't called at all.
+    ensures untouched { IsOfCall fault → door.new ≡ door.old }
+    ensures turns { D.turns door.new ≡ D.turns door.old }
+    ensures reads { D.reads door.new ≡ D.reads door.old }
+{
+    match fault {
+        OpenFault::Keeper => Status::KeeperFailed,
+        OpenFault::Memory => Status::NoMemory,
+        OpenFault::BadItem(kind, key) => name_item(alloc, door, kind, key.octets()),
+    }
+}

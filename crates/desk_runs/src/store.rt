@@ -1,0 +1,37 @@
+//! The command `judge`, from the opening of its store to its status.
+ghost use Rattle.std.specs.Prelude.{◌≡◌};
+ghost use Rattle.command_runs.specs.Status.{status_number};
+ghost use Rattle.command_runs.specs.View.{viewed};
+ghost use Rattle.desk_items.specs.Taken.{kept_of};
+ghost use Rattle.desk_model.specs.Items.{none_kept};
+ghost use Rattle.desk_runs.specs.Store.{JudgesStore};
+
+use crate::judging::judge_capture;
+use crate::refusing::refuse_store;
+use command_runs::Status;
+use mud_desk::{Desk, Taken};
+use mud_world::{Door, Keeper};
+use std::alloc::Global;
+
+/// Opens a desk over the keeper, and then reads a capture and writes the verdict on each of its
+/// packets. Where the store can't be opened, the capture isn't read. The box is handed back. Nothing
+/// was taken before, as [`Desk::open`] wants it: [`Taken::new`].
+pub fn judge_store<D: Door>(
+    alloc: Global,
+    keeper: Box<dyn Keeper>,
+    nothing: Taken,
+    door: &mut D,
+) -> (Status, Box<dyn Keeper>)
+    requires { kept_of nothing ≡ none_kept }
+    ensures judged { JudgesStore Keeper-dyn D.tells keeper result.1
+        (viewed (D.state door.old) (D.turns door.old) (D.reads door.old) (D.writes door.old))
+        (viewed (D.state door.new) (D.turns door.new) (D.reads door.new) (D.writes door.new))
+        (status_number result.0) }
+    // Where the keeper failed, the door isn't called at all.
+    ensures untouched { status_number result.0 ≡ 7 → door.new ≡ door.old }
+{
+    match Desk::open(alloc, keeper, nothing) {
+        Ok(desk) => judge_capture(alloc, desk, door),
+        Err((fault, keeper)) => (refuse_store(alloc, door, fault), keeper),
+    }
+}

@@ -123,7 +123,8 @@ pub left_tables : (before now : List Item) (fault : OpenFault) → IsLeft before
 left_tables before now (BadItem kind key) same = ap tables_in same
 left_tables before now Keeper (inl same) = ap tables_in same
 left_tables before now Keeper (inr anew) = anew.same
-left_tables before now Memory same = same
+left_tables before now Memory (inl same) = ap tables_in same
+left_tables before now Memory (inr tables) = tables.same
 
 module _ {X : Type 0} {F : X → Type 0} (members : (v : (x : X) × F x) → Ghosts (F v.0)) (keeper : DynBox X Global F) where
   pub kept_tables : (desk : DeskTables) → IsSound desk → IsKept members keeper desk → Tells members keeper → tables_in (kept_items members keeper) ≡ Ok desk

@@ -1,0 +1,4 @@
+pub mod Answers
+pub mod Running
+pub mod Stops
+pub mod Serves

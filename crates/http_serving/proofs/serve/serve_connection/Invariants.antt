@@ -1,0 +1,20 @@
+use Rattle.std.proofs.Common.{◌≡◌, ◌<◌}
+use Rattle.http_serving.proofs.Serves.{Progress}
+use Rattle.http_serving.proofs.serve.serve_connection.Given as goal
+
+abbrev pub invariant-requests : goal.invariant-requests
+invariant-requests g l =
+    let door = g.D.Door in
+    let service = g.S.Service in
+    record {
+      ready : service.ready l.service;
+      progress : door.tells → (s : service.State) → service.keeps l.initial.service s
+          → Progress service.may service.refusal l.from (service.keeps l.service) l.more s (door.state l.initial.door) (door.state l.door) l.buffer;
+      some : 0 < l.more;
+      reads : door.reads l.door ≡ door.reads l.initial.door;
+      turns : door.turns l.door ≡ door.turns l.initial.door;
+      writes : door.writes l.door ≡ door.writes l.initial.door;
+    }
+
+abbrev pub decreases-requests : goal.decreases-requests
+decreases-requests g l = l.more

@@ -1,0 +1,12 @@
+//! Serving the connections of a door, whatever answers: each whole request is carried out once and
+//! answered before more is read, a fault of the framing is answered and ends its connection, and
+//! what answers keeps a state from request to request and from connection to connection.
+#![tactic(auto)]
+
+pub mod end;
+pub mod serve;
+pub mod service;
+
+pub use end::ConnectionEnd;
+pub use serve::serve_connection;
+pub use service::Service;

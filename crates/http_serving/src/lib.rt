@@ -3,10 +3,15 @@
 //! what answers keeps a state from request to request and from connection to connection.
 #![tactic(auto)]
 
+pub mod connections;
 pub mod end;
 pub mod serve;
 pub mod service;
 
+pub use connections::serve_connections;
 pub use end::ConnectionEnd;
 pub use serve::serve_connection;
 pub use service::Service;
+
+#[cfg(test)]
+mod tests;

@@ -1,0 +1,269 @@
+-- Connections served one after the other, at each place of the loop that serves them.
+use Rattle.std.proofs.Common.{◌≡◌, ℕ, ◌+◌, ◌<◌, ◌≤◌, min, Bool, true, false, cond, IsTrue, List, [], ◌∷◌, ◌++◌, length, map, None, refl, inl, inr, sym, ap, ap₂, ◌∙◌, subst, arith, append_assoc, append-nil, length-append}
+use Rattle.std.specs.List.{count_by}
+use Rattle.std.proofs.lemmas.List.{map-append, length-map}
+use Rattle.std.proofs.lemmas.List.Sums.{sum_by-append}
+use Rattle.mud_world.specs.Causes.{Counts}
+use Rattle.mud_world.specs.Door.{Connection, DoorState, connection_here, here, departed, gone_on, has_more, put_out, with_left}
+use Rattle.http_requests.specs.declared.fault.FramingFault.{FramingFault}
+use Rattle.http_requests.specs.declared.fault.MomentFrom.{MomentFrom}
+use Rattle.http_requests.specs.Requests.{Request, Ending}
+use Rattle.http_requests.specs.Serving.{Served}
+use Rattle.http_serving.specs.declared.end.ConnectionEnd.{ConnectionEnd}
+use Rattle.http_serving.specs.declared.end.ConnectionEnd.TheVariants.{Ended, Closed, Broken, Spent, ReadFailed, WriteFailed}
+use Rattle.http_serving.specs.Asked.{Asked}
+use Rattle.http_serving.specs.Ends.{ServedBy, IsServed, is_read_failed, is_write_failed}
+use Rattle.http_serving.specs.Visits.{Visit, came_of, left_of, failed_to_read, failed_to_write, alone, CountsOf, AreServed, Visited, AreEnough, AreVisited}
+
+not_true : IsTrue false → ⊥
+not_true e = cc
+
+not_false : true ≡ false → ⊥
+not_false e = cc
+
+-- ---- Counts
+
+pub counts_none : (n : ℕ) → CountsOf 0 n n
+counts_none n = record { later = omega arith; rose = omega arith; steady = λ _. refl }
+
+counts_next : (failures : ℕ) (failed : Bool) (a b c : ℕ) → CountsOf failures a b → Counts failed b c → CountsOf (failures + cond failed 1 0) a c
+counts_next failures true a b c p q = record {
+  later = omega (arith, p.later, q.later);
+  rose = let rose = q.rose refl in omega (arith, p.rose, p.later);
+  steady = λ none. absurd (omega arith);
+}
+counts_next failures false a b c p q =
+    let same = q.steady refl in
+    record {
+      later = omega (arith, p.later, same);
+      rose = omega (arith, p.rose, same);
+      steady = λ none. same ∙ p.steady (omega (arith, none));
+    }
+
+counted : (test : Visit → Bool) (visits : List Visit) (v : Visit) → count_by test (visits ++ v ∷ []) ≡ count_by test visits + cond (test v) 1 0
+counted test visits v = sum_by-append (λ w. cond (test w) 1 0) visits (v ∷ []) ∙ ap (λ n. count_by test visits + n) (omega arith)
+
+pub counts_more : (test : Visit → Bool) (visits : List Visit) (v : Visit) (failed : Bool) (a b b' c : ℕ) → test v ≡ failed → b' ≡ b → CountsOf (count_by test visits) a b → Counts failed b' c → CountsOf (count_by test (visits ++ v ∷ [])) a c
+counts_more test visits v failed a b b' c is same p q =
+    subst (λ n. CountsOf n a c) (sym (counted test visits v))
+    (counts_next (count_by test visits) (test v) a b c p (subst (λ f. Counts f b c) (sym is) (subst (λ m. Counts failed m c) same q)))
+
+-- ---- A connection by itself
+
+-- what changed is the connection
+Changed : DoorState → DoorState → Type 0
+Changed old new = (octets : List ℕ) × (new ≡ put_out octets (with_left new.left old))
+
+module _ {S : Type 0} (may : S → Asked → List ℕ → S → Type 0) (refusal : FramingFault → List ℕ) (from : MomentFrom) where
+  changed_by : (end : ConnectionEnd) (s t : S) (old new : DoorState) → ServedBy may refusal from end s t old new → Changed old new
+  unfolding Changed
+  changed_by Ended s t old new x = (_, x.state)
+  changed_by Closed s t old new x = (_, x.state)
+  changed_by Broken s t old new x = (_, x.served.state)
+  changed_by Spent s t old new x = (_, x.state)
+  changed_by ReadFailed s t old new x = (_, x.state)
+  changed_by WriteFailed s t old new (inl x) = (_, x.state)
+  changed_by WriteFailed s t old new (inr x) = (_, x.state)
+
+  served_alone : (A : List Request → List ℕ → Type 0) (end : Ending) (last : List ℕ) (old new : DoorState) → Served A from end last old new → Served A from end last (alone (connection_here old)) (alone (connection_here new))
+  served_alone A end last old new x = record {
+    requests = x.requests;
+    answers = x.answers;
+    run = x.run;
+    taken = x.taken;
+    took = x.took;
+    reads = x.reads;
+    state = ap (λ (s : DoorState). alone (connection_here s)) x.state;
+  }
+
+  alone_by : (end : ConnectionEnd) (s t : S) (old new : DoorState) → ServedBy may refusal from end s t old new → ServedBy may refusal from end s t (alone (connection_here old)) (alone (connection_here new))
+  alone_by Ended s t old new x = served_alone _ _ _ old new x
+  alone_by Closed s t old new x = served_alone _ _ _ old new x
+  alone_by Broken s t old new x = record { fault = x.fault; pending = x.pending; served = served_alone _ _ _ old new x.served }
+  alone_by Spent s t old new x = served_alone _ _ _ old new x
+  alone_by ReadFailed s t old new x = record {
+    requests = x.requests;
+    answers = x.answers;
+    run = x.run;
+    end = x.end;
+    taken = x.taken;
+    took = x.took;
+    reads = x.reads;
+    state = ap (λ (u : DoorState). alone (connection_here u)) x.state;
+  }
+  alone_by WriteFailed s t old new (inl x) = inl (record {
+    requests = x.requests;
+    answers = x.answers;
+    run = x.run;
+    more = x.more;
+    rest = x.rest;
+    goes_on = x.goes_on;
+    piece = x.piece;
+    next = x.next;
+    count = x.count;
+    part = x.part;
+    taken = x.taken;
+    took = x.took;
+    state = ap (λ (u : DoorState). alone (connection_here u)) x.state;
+  })
+  alone_by WriteFailed s t old new (inr x) = inr (record {
+    requests = x.requests;
+    answers = x.answers;
+    run = x.run;
+    more = x.more;
+    rest = x.rest;
+    goes_on = x.goes_on;
+    request = x.request;
+    behind = x.behind;
+    next = x.next;
+    text = x.text;
+    ran = x.ran;
+    count = x.count;
+    part = x.part;
+    taken = x.taken;
+    took = x.took;
+    state = ap (λ (u : DoorState). alone (connection_here u)) x.state;
+  })
+
+  -- ---- Connection after connection
+
+  are_served_more : (s t u : S) (visits : List Visit) (v : Visit) → AreServed may refusal from s t visits → ServedBy may refusal from v.end t u (alone v.came) (alone v.left)
+      → AreServed may refusal from s u (visits ++ v ∷ [])
+  are_served_more s t u [] v same by = (u, subst (λ at. ServedBy may refusal from v.end at u (alone v.came) (alone v.left)) (sym same) by, refl)
+  are_served_more s t u (w ∷ visits) v are by = (are.0, are.1, are_served_more are.0 t u visits v are.2 by)
+
+  pub visited_none : (keeps : S → Type 0) (s : S) (old : DoorState) → keeps s → Visited may refusal from keeps s [] old old
+  visited_none keeps s old kept = record {
+    next = s;
+    kept = kept;
+    served = refl;
+    came = refl;
+    past = sym (append-nil (old.past ++ here old));
+    bound = refl;
+  }
+
+  -- the door left the connection and went on to none
+  pub visited_departed : (keeps : S → Type 0) (s : S) (visits : List Visit) (old x y : DoorState) → Visited may refusal from keeps s visits old x → y ≡ departed x → Visited may refusal from keeps s visits old y
+  visited_departed keeps s visits old x y p left = record {
+    next = p.next;
+    kept = p.kept;
+    served = p.served;
+    came = p.came ∙ ap (λ cs. map came_of visits ++ cs) (sym (ap (λ (d : DoorState). d.ahead) left));
+    past = ap (λ (d : DoorState). d.past ++ here d) left ∙ append-nil (x.past ++ here x) ∙ p.past;
+    bound = ap (λ (d : DoorState). d.bound) left ∙ p.bound;
+  }
+
+  stands_here : (z : DoorState) → z.stands ≡ true → here z ≡ connection_here z ∷ []
+  stands_here z stands = ap (λ (b : Bool). cond b (connection_here z ∷ []) []) stands
+
+  -- the next connection came and was served
+  visited_one : (keeps keeps' : S → Type 0) (end : ConnectionEnd) (s : S) (visits : List Visit) (old x y z : DoorState) (c : Connection) (cs : List Connection) → (p : Visited may refusal from keeps s visits old x)
+      → x.ahead ≡ c ∷ cs → y ≡ gone_on x (c ∷ cs) → IsServed may refusal from keeps' end p.next y z
+      → Visited may refusal from keeps' s (visits ++ record { came = c; left = connection_here z; end = end } ∷ []) old z
+  unfolding Changed
+  visited_one keeps keeps' end s visits old x y z c cs p comes went by =
+      let v : Visit = record { came = c; left = connection_here z; end = end } in
+      let change = changed_by end p.next by.next y z by.served in
+      let past : z.past ≡ x.past ++ here x = ap (λ (d : DoorState). d.past) change.1 ∙ ap (λ (d : DoorState). d.past) went in
+      let stands : z.stands ≡ true = ap (λ (d : DoorState). d.stands) change.1 ∙ ap (λ (d : DoorState). d.stands) went in
+      let ahead : z.ahead ≡ cs = ap (λ (d : DoorState). d.ahead) change.1 ∙ ap (λ (d : DoorState). d.ahead) went in
+      let at : connection_here y ≡ c = ap connection_here went in
+      record {
+        next = by.next;
+        kept = by.kept;
+        served = are_served_more s p.next by.next visits v p.served
+            (subst (λ d. ServedBy may refusal from end p.next by.next (alone d) (alone (connection_here z))) at (alone_by end p.next by.next y z by.served));
+        came = p.came ∙ ap (λ more. map came_of visits ++ more) (comes ∙ ap (λ more. c ∷ more) (sym ahead))
+            ∙ sym (append_assoc (map came_of visits) (c ∷ []) z.ahead)
+            ∙ ap (λ front. front ++ z.ahead) (sym (map-append came_of visits (v ∷ [])));
+        past = ap₂ ◌++◌ past (stands_here z stands)
+            ∙ ap (λ front. front ++ connection_here z ∷ []) p.past
+            ∙ append_assoc (old.past ++ here old) (map left_of visits) (connection_here z ∷ [])
+            ∙ ap (λ more. (old.past ++ here old) ++ more) (sym (map-append left_of visits (v ∷ [])));
+        bound = ap (λ (d : DoorState). d.bound) change.1 ∙ ap (λ (d : DoorState). d.bound) went ∙ p.bound;
+      }
+
+  -- ---- The loop
+
+  -- So many connections were served.
+  pub record Rounds (keeps : S → Type 0) (count : ℕ) (s : S) (old new : DoorState) (read_before read_now write_before write_now : ℕ) : Type 0 where
+    pub visits : List Visit
+    pub visited : Visited may refusal from keeps s visits old new
+    pub counted : length visits ≡ count
+    pub reads : CountsOf (count_by failed_to_read visits) read_before read_now
+    pub writes : CountsOf (count_by failed_to_write visits) write_before write_now
+
+  pub rounds_none : (keeps : S → Type 0) (s : S) (old : DoorState) (reads writes : ℕ) → keeps s → Rounds keeps 0 s old old reads reads writes writes
+  rounds_none keeps s old reads writes kept = record {
+    visits = [];
+    visited = visited_none keeps s old kept;
+    counted = refl;
+    reads = counts_none reads;
+    writes = counts_none writes;
+  }
+
+  pub rounds_more : (keeps keeps' : S → Type 0) (end : ConnectionEnd) (count : ℕ) (s : S) (old x y z : DoorState) (r a a' b w d d' e : ℕ) → Rounds keeps count s old x r a w d
+      → has_more x.ahead ≡ true → y ≡ gone_on x x.ahead → ((at : S) → keeps at → IsServed may refusal from keeps' end at y z)
+      → a' ≡ a → Counts (is_read_failed end) a' b → d' ≡ d → Counts (is_write_failed end) d' e → Rounds keeps' (count + 1) s old z r b w e
+  rounds_more keeps keeps' end count s old x y z r a a' b w d d' e p more went by same_reads reads same_writes writes = at_next x.ahead refl more
+    where
+      at_next : (cs : List Connection) → x.ahead ≡ cs → has_more cs ≡ true → Rounds keeps' (count + 1) s old z r b w e
+      at_next [] none some = cc
+      at_next (c ∷ cs) comes some =
+          let v : Visit = record { came = c; left = connection_here z; end = end } in
+          record {
+            visits = p.visits ++ v ∷ [];
+            visited = visited_one keeps keeps' end s p.visits old x y z c cs p.visited comes (went ∙ ap (gone_on x) comes) (by p.visited.next p.visited.kept);
+            counted = omega (arith, p.counted, length-append p.visits (v ∷ []));
+            reads = counts_more failed_to_read p.visits v (is_read_failed end) r a a' b refl same_reads p.reads reads;
+            writes = counts_more failed_to_write p.visits v (is_write_failed end) w d d' e refl same_writes p.writes writes;
+          }
+
+  kept_count : (failures a b c : ℕ) → c ≡ b → CountsOf failures a b → CountsOf failures a c
+  kept_count failures a b c same p = subst (CountsOf failures a) (sym same) p
+
+  -- so many were asked for
+  pub all_visited : (keeps : S → Type 0) (count at : ℕ) (s : S) (old new : DoorState) (r r' w w' : ℕ) → Rounds keeps at s old new r r' w w' → at ≡ count
+      → AreVisited may refusal from keeps false count s old new r r' w w'
+  all_visited keeps count at s old new r r' w w' p full = record {
+    visits = p.visits;
+    visited = p.visited;
+    enough = record {
+      all = λ _. omega (arith, p.counted, full, ap length p.visited.came, length-append (map came_of p.visits) new.ahead, length-map p.visits came_of);
+      fewer = λ e. absurd (not_true e);
+    };
+    reads = p.reads;
+    writes = p.writes;
+  }
+
+  -- no more connections came
+  pub no_more_visited : (keeps : S → Type 0) (count at : ℕ) (s : S) (old x y : DoorState) (r a a' w d d' : ℕ) → Rounds keeps at s old x r a w d → at < count
+      → has_more x.ahead ≡ false → y ≡ gone_on x x.ahead → a' ≡ a → d' ≡ d → AreVisited may refusal from keeps false count s old y r a' w d'
+  no_more_visited keeps count at s old x y r a a' w d d' p less more went same_reads same_writes = at_end x.ahead refl more
+    where
+      at_end : (cs : List Connection) → x.ahead ≡ cs → has_more cs ≡ false → AreVisited may refusal from keeps false count s old y r a' w d'
+      at_end (c ∷ cs) comes none = cc
+      at_end [] comes none = record {
+        visits = p.visits;
+        visited = visited_departed keeps s p.visits old x y p.visited (went ∙ ap (gone_on x) comes);
+        enough = record {
+          all = λ _. omega (arith, p.counted, less, ap length p.visited.came, ap (λ (l : List Connection). length l) comes, length-append (map came_of p.visits) x.ahead, length-map p.visits came_of);
+          fewer = λ e. absurd (not_true e);
+        };
+        reads = kept_count _ r a a' same_reads p.reads;
+        writes = kept_count _ w d d' same_writes p.writes;
+      }
+
+  -- the door failed to go on
+  pub turn_failed : (keeps : S → Type 0) (count at : ℕ) (s : S) (old x y : DoorState) (r a a' w d d' : ℕ) → Rounds keeps at s old x r a w d → at < count
+      → y ≡ departed x → a' ≡ a → d' ≡ d → AreVisited may refusal from keeps true count s old y r a' w d'
+  turn_failed keeps count at s old x y r a a' w d d' p less left same_reads same_writes = record {
+    visits = p.visits;
+    visited = visited_departed keeps s p.visits old x y p.visited left;
+    enough = record {
+      all = λ e. absurd (not_false e);
+      fewer = λ _. omega (arith, p.counted, less);
+    };
+    reads = kept_count _ r a a' same_reads p.reads;
+    writes = kept_count _ w d d' same_writes p.writes;
+  }

@@ -1,0 +1,17 @@
+use Rattle.std.proofs.Common.{◌≡◌, true, arith, rules, sym, ◌∙◌}
+use Rattle.mud_world.specs.Door.{has_more}
+use Rattle.http_serving.proofs.Visits.{rounds_more}
+use Rattle.http_serving.proofs.connections.serve_connections.Goals as goal
+
+pub loop-i-preserved : goal.loop-i-preserved
+loop-i-preserved g c = record {
+  ready = c.serve_connection.ensures.ready;
+  served = λ t s k.
+      let next = c.in_ok-next.ensures.ok t in
+      let more : has_more (g.D.Door.state c.loop-i.door).ahead ≡ true = cc in
+      rounds_more g.S.Service.may g.S.Service.refusal c.args.from _ _ c.serve_connection.result c.loop-i.i s _ _ _ _ _ _ _ _ _ _ _ _ (c.loop-i.invariant.served t s k)
+      more next.1 (c.serve_connection.ensures.served t) c.in_ok-next.ensures.reads c.serve_connection.ensures.reads c.in_ok-next.ensures.writes c.serve_connection.ensures.writes;
+  reads = omega (arith, c.loop-i.invariant.reads, c.in_ok-next.ensures.reads, c.serve_connection.ensures.reads.later);
+  writes = omega (arith, c.loop-i.invariant.writes, c.in_ok-next.ensures.writes, c.serve_connection.ensures.writes.later);
+  turns = search rules;
+}

@@ -1,0 +1,37 @@
+//! Serving connection after connection.
+ghost use Rattle.std.specs.Prelude.{◌≡◌, ◌≤◌, is_err};
+ghost use Rattle.mud_world.specs.Causes.{Counts};
+ghost use Rattle.http_serving.specs.Visits.{AreVisited};
+
+use crate::serve::serve_connection;
+use crate::service::Service;
+use http_requests::{MomentFrom, RequestBuffer};
+use mud_world::{Door, Failed};
+
+/// Serves the connections that come to the door, one after the other and at most so many, with one
+/// state throughout. A connection whose read or write fails is over, and the next one is served. It
+/// fails exactly where the door fails to go on to the next connection.
+pub fn serve_connections<D: Door, S: Service>(
+    buffer: &mut RequestBuffer,
+    door: &mut D,
+    service: &mut S,
+    from: MomentFrom,
+    count: u32,
+) -> Result<(), Failed>
+    requires ready { S.ready service.old }
+    ensures ready { S.ready service.new }
+    ensures served { D.tells → (s : S.State) → S.keeps service.old s
+        → AreVisited S.may S.refusal from (S.keeps service.new) (is_err result) count s (D.state door.old) (D.state door.new)
+            (D.reads door.old) (D.reads door.new) (D.writes door.old) (D.writes door.new) }
+    ensures turns { Counts (is_err result) (D.turns door.old) (D.turns door.new) }
+    ensures reads { D.reads door.old ≤ D.reads door.new }
+    ensures writes { D.writes door.old ≤ D.writes door.new }
+{
+    for i in 0..count {
+        if !door.next()? {
+            return Ok(());
+        }
+        serve_connection(buffer, door, service, from);
+    }
+    Ok(())
+}

@@ -13,7 +13,7 @@ use Rattle.http_requests.specs.Head.{IsHead}
 use Rattle.http_requests.specs.Received.{Grown, Received}
 use Rattle.http_requests.specs.Requests.{Request, Begins, IsFault}
 use Rattle.http_requests.specs.Shapes.{IsShape, HasHead, MayGetHead}
-use Rattle.http_requests.specs.Steps.{Came, CameWhole, CameEnd, CameFault, ReadFailed, LeaveFailed}
+use Rattle.http_requests.specs.Steps.{Came, CameWhole, CameEnd, CameFault, HoldsWhole, ReadFailed, LeaveFailed}
 use Rattle.http_requests.proofs.Heads.{head_append, head_octets, head_unique}
 
 -- ---- Steps of a door
@@ -94,6 +94,18 @@ whole_came from shape a b s t u h wrote g r enough =
       begins = begins_whole from b h.head (h.rest ++ g.more) is h.taken body;
       is_shape = h.is_shape;
       came = subst (Came a b s u) (leave_is from shape h.head h.is_shape) (came_answered a b _ s t u wrote r);
+    }
+
+-- the whole request is held
+pub whole_holds : (from : MomentFrom) (shape : RequestShape) (a b : List ℕ) → HasHead from a shape → Grown a b → shape.head_len + shape.body_len ≤ length b → HoldsWhole from shape b
+whole_holds from shape a b h g enough =
+    let is = head_grown a b h.head h.rest h.is_head g in
+    let body : body_length h.head ≤ length (h.rest ++ g.more) = omega (arith, held_behind b h.head (h.rest ++ g.more) is, h.is_shape.head_len, h.is_shape.body_len) in
+    record {
+      request = record { head = h.head; body = take (body_length h.head) (h.rest ++ g.more) };
+      behind = drop (body_length h.head) (h.rest ++ g.more);
+      begins = begins_whole from b h.head (h.rest ++ g.more) is h.taken body;
+      is_shape = h.is_shape;
     }
 
 -- the octets end inside the body

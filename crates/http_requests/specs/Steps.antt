@@ -25,6 +25,13 @@ pub record CameWhole (from : MomentFrom) (shape : RequestShape) (before after : 
   pub is_shape : IsShape from shape request.head
   pub came : Came before after old new (leave_of request.head)
 
+-- A whole request of this shape is held, and octets behind it.
+pub record HoldsWhole (from : MomentFrom) (shape : RequestShape) (octets : List ℕ) : Type 0 where
+  pub request : Request
+  pub behind : List ℕ
+  pub begins : Begins from octets request behind
+  pub is_shape : IsShape from shape request.head
+
 -- The connection ended between two requests.
 pub record CameEnd (before after : List ℕ) (old new : DoorState) : Type 0 where
   pub none : after ≡ []

@@ -10,7 +10,7 @@ ghost use Rattle.http_requests.specs.Head.{IsHead};
 ghost use Rattle.http_requests.specs.Received.{Grown, Received};
 ghost use Rattle.http_requests.specs.Requests.{Request, Begins, IsFault};
 ghost use Rattle.http_requests.specs.Shapes.{HasHead, MayGetHead};
-ghost use Rattle.http_requests.specs.Steps.{CameWhole, CameEnd, CameFault, ReadFailed, LeaveFailed};
+ghost use Rattle.http_requests.specs.Steps.{CameWhole, CameEnd, CameFault, HoldsWhole, ReadFailed, LeaveFailed};
 ghost use Rattle.http_requests.specs.Failing.{is_read_failed, is_write_failed};
 
 use crate::buffer::RequestBuffer;
@@ -161,6 +161,8 @@ fn finish<D: Door>(
     shape: RequestShape,
 ) -> Result<Next, DoorFault>
     ensures within { (s : RequestShape) → result ≡ Ok (Next.Whole s) → s.head_len + s.body_len ≤ length buffer.new }
+    ensures held { (from : MomentFrom) (s : RequestShape) → HasHead from buffer.old shape
+        → result ≡ Ok (Next.Whole s) → HoldsWhole from s buffer.new }
     ensures whole { D.tells → (from : MomentFrom) (s : RequestShape) → HasHead from buffer.old shape
         → result ≡ Ok (Next.Whole s) → CameWhole from s buffer.old buffer.new (D.state door.old) (D.state door.new) }
     ensures unended { result ≢ Ok Next.Ended }
@@ -191,6 +193,7 @@ pub fn next_request<D: Door>(
 ) -> Result<Next, DoorFault>
     ensures within { (shape : RequestShape) → result ≡ Ok (Next.Whole shape)
         → shape.head_len + shape.body_len ≤ length buffer.new }
+    ensures held { (shape : RequestShape) → result ≡ Ok (Next.Whole shape) → HoldsWhole from shape buffer.new }
     ensures whole { D.tells → (shape : RequestShape) → result ≡ Ok (Next.Whole shape)
         → CameWhole from shape buffer.old buffer.new (D.state door.old) (D.state door.new) }
     ensures ended { D.tells → result ≡ Ok Next.Ended

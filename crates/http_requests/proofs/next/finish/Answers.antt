@@ -1,9 +1,14 @@
 use Rattle.std.proofs.Common.{List, ℕ, sym, subst, ap, ◌∙◌}
 use Rattle.mud_world.specs.Door.{put_out}
 use Rattle.mud_world.specs.Whole.{WrotePart}
-use Rattle.http_requests.specs.Steps.{CameWhole}
-use Rattle.http_requests.proofs.Coming.{whole_came, cut_came, body_failed, leave_failed}
+use Rattle.http_requests.specs.Steps.{CameWhole, HoldsWhole}
+use Rattle.http_requests.proofs.Coming.{whole_came, whole_holds, cut_came, body_failed, leave_failed}
 use Rattle.http_requests.proofs.next.finish.Goals as goal
+
+pub returns-in-Ok-clause-held : goal.returns-in-Ok-clause-held
+returns-in-Ok-clause-held g c = λ from s h e.
+    let body = c.take_body.ensures.whole s e in
+    subst (λ shape. HoldsWhole from shape c.take_body.new.buffer) (sym body.0) (whole_holds from c.args.shape _ _ h c.take_body.ensures.grown body.1)
 
 pub returns-in-Ok-clause-whole : goal.returns-in-Ok-clause-whole
 returns-in-Ok-clause-whole g c = λ t from s h e.

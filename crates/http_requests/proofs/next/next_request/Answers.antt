@@ -3,6 +3,11 @@ use Rattle.http_requests.specs.Steps.{CameFault}
 use Rattle.http_requests.proofs.Coming.{whole_later, fault_later, read_later, leave_later, whole_held, fault_came, head_failed}
 use Rattle.http_requests.proofs.next.next_request.Goals as goal
 
+pub returns-in-Ok-Found-clause-held : goal.returns-in-Ok-Found-clause-held
+returns-in-Ok-Found-clause-held g c = λ shape e.
+    let held = c.in-Ok-Found.ensures.found c.in-Ok-Found.shape (ap Ok c.in-Ok-Found.field-0-is) in
+    c.finish.ensures.held c.args.from shape held e
+
 pub returns-in-Ok-Found-clause-whole : goal.returns-in-Ok-Found-clause-whole
 returns-in-Ok-Found-clause-whole g c = λ t shape e.
     let held = c.in-Ok-Found.ensures.found c.in-Ok-Found.shape (ap Ok c.in-Ok-Found.field-0-is) in

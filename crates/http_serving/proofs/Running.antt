@@ -8,7 +8,7 @@ use Rattle.http_requests.specs.Requests.{Request, Begins, most_requests}
 use Rattle.http_requests.specs.Shapes.{IsShape}
 use Rattle.http_requests.proofs.Heads.{head_octets}
 use Rattle.http_serving.specs.Asked.{Asked, CarriedOut, asked}
-use Rattle.http_serving.specs.Runs.{Runs}
+use Rattle.http_serving.specs.Runs.{Runs, Leads, IsLeftBy}
 
 -- what is behind a request of this shape
 pub behind_is : (from : MomentFrom) (shape : RequestShape) (octets : List ℕ) (r : Request) (behind : List ℕ) → Begins from octets r behind → IsShape from shape r.head
@@ -73,3 +73,28 @@ module _ {S : Type 0} (may : S → Asked → List ℕ → S → Type 0) (from : 
     kept = still ran.next ran.kept;
     run = ran.run;
   }
+
+-- ---- What requests leave
+
+module _ {S : Type 0} (may : S → Asked → List ℕ → S → Type 0) where
+  leads_append : (s t u : S) (all more : List Asked) → Leads may s t all → Leads may t u more → Leads may s u (all ++ more)
+  leads_append s t u [] more same leads = subst (λ at. Leads may at u more) (sym same) leads
+  leads_append s t u (what ∷ all) more are leads = (are.0, are.1, are.2, leads_append are.0 t u all more are.3 leads)
+
+  pub left_none : (keeps : S → Type 0) (s : S) → keeps s → IsLeftBy may keeps s
+  left_none keeps s kept = record { all = []; next = s; kept = kept; leads = refl }
+
+  -- more requests were carried out
+  pub left_further : (keeps keeps' : S → Type 0) (s : S) → IsLeftBy may keeps s → ((at : S) → keeps at → IsLeftBy may keeps' at) → IsLeftBy may keeps' s
+  left_further keeps keeps' s p then =
+      let q = then p.next p.kept in
+      record { all = p.all ++ q.all; next = q.next; kept = q.kept; leads = leads_append s p.next q.next p.all q.all p.leads q.leads }
+
+  -- one request more was carried out
+  pub left_more : (keeps keeps' : S → Type 0) (s : S) (what : Asked) (answer : List ℕ) → IsLeftBy may keeps s → ((at : S) → keeps at → CarriedOut may keeps' at what answer) → IsLeftBy may keeps' s
+  left_more keeps keeps' s what answer p carried =
+      left_further keeps keeps' s p (λ at kept. let out = carried at kept in record { all = what ∷ []; next = out.next; kept = out.kept; leads = (out.next, answer, out.is_allowed, refl) })
+
+  -- the same state is still kept
+  pub left_kept : (keeps keeps' : S → Type 0) (s : S) → IsLeftBy may keeps s → ((at : S) → keeps at → keeps' at) → IsLeftBy may keeps' s
+  left_kept keeps keeps' s p still = record { all = p.all; next = p.next; kept = still p.next p.kept; leads = p.leads }

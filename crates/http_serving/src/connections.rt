@@ -1,6 +1,7 @@
 //! Serving connection after connection.
 ghost use Rattle.std.specs.Prelude.{◌≡◌, ◌≤◌, is_err};
 ghost use Rattle.mud_world.specs.Causes.{Counts};
+ghost use Rattle.http_serving.specs.Runs.{IsLeftBy};
 ghost use Rattle.http_serving.specs.Visits.{AreVisited};
 
 use crate::serve::serve_connection;
@@ -20,6 +21,7 @@ pub fn serve_connections<D: Door, S: Service>(
 ) -> Result<(), Failed>
     requires ready { S.ready service.old }
     ensures ready { S.ready service.new }
+    ensures left { (s : S.State) → S.keeps service.old s → IsLeftBy S.may (S.keeps service.new) s }
     ensures served { D.tells → (s : S.State) → S.keeps service.old s
         → AreVisited S.may S.refusal from (S.keeps service.new) (is_err result) count s (D.state door.old) (D.state door.new)
             (D.reads door.old) (D.reads door.new) (D.writes door.old) (D.writes door.new) }

@@ -8,6 +8,7 @@ ghost use Rattle.http_requests.specs.Requests.{Request, Begins, closed, spent, s
 ghost use Rattle.http_requests.specs.Shapes.{IsShape};
 ghost use Rattle.http_serving.specs.Asked.{CarriedOut, asked, asked_by};
 ghost use Rattle.http_serving.specs.Ends.{IsServed, is_read_failed, is_write_failed};
+ghost use Rattle.http_serving.specs.Runs.{IsLeftBy};
 
 use crate::end::ConnectionEnd;
 use crate::service::Service;
@@ -107,6 +108,7 @@ pub fn serve_connection<D: Door, S: Service>(
 ) -> ConnectionEnd
     requires ready { S.ready service.old }
     ensures ready { S.ready service.new }
+    ensures left { (s : S.State) → S.keeps service.old s → IsLeftBy S.may (S.keeps service.new) s }
     ensures served { D.tells → (s : S.State) → S.keeps service.old s
         → IsServed S.may S.refusal from (S.keeps service.new) result s (D.state door.old) (D.state door.new) }
     ensures reads { Counts (is_read_failed result) (D.reads door.old) (D.reads door.new) }

@@ -1,11 +1,13 @@
 use Rattle.std.proofs.Common.{◌≡◌, true, arith, rules, sym, ◌∙◌}
 use Rattle.mud_world.specs.Door.{has_more}
+use Rattle.http_serving.proofs.Running.{left_further}
 use Rattle.http_serving.proofs.Visits.{rounds_more}
 use Rattle.http_serving.proofs.connections.serve_connections.Goals as goal
 
 pub loop-i-preserved : goal.loop-i-preserved
 loop-i-preserved g c = record {
   ready = c.serve_connection.ensures.ready;
+  left = λ s k. left_further g.S.Service.may _ _ s (c.loop-i.invariant.left s k) c.serve_connection.ensures.left;
   served = λ t s k.
       let next = c.in_ok-next.ensures.ok t in
       let more : has_more (g.D.Door.state c.loop-i.door).ahead ≡ true = cc in

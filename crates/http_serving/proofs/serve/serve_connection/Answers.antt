@@ -1,4 +1,5 @@
 use Rattle.std.proofs.Common.{◌≡◌, ◌<◌, ◌-◌, Ok, Err, refl, ap, rules}
+use Rattle.http_serving.proofs.Running.{left_kept, left_more}
 use Rattle.http_serving.proofs.Stops.{more_left}
 use Rattle.http_serving.proofs.Serves.{progress_none, progress_more, ended_here, closed_here, spent_here, broken_here, read_failed_here, leave_failed_here, refusal_failed_here, answer_failed_here}
 use Rattle.http_serving.proofs.serve.serve_connection.Goals as goal
@@ -57,6 +58,10 @@ returns-in-Err-answer_first-clause-served g c = λ t s k.
 pub requests-preserved : goal.requests-preserved
 requests-preserved g c = record {
   ready = c.answer_first.ensures.ready;
+  left = λ s k.
+      let shape = c.in-Ok-Whole.shape in
+      let held = c.in-Ok-Whole.ensures.held shape (ap Ok c.in-Ok-Whole.field-0-is) in
+      left_more g.S.Service.may _ _ s _ _ (c.requests.invariant.left s k) (c.answer_first.ensures.answer c.args.from held.request held.behind held.begins held.is_shape);
   progress = λ t s k.
       let shape = c.in-Ok-Whole.shape in
       let came = c.in-Ok-Whole.ensures.whole t shape (ap Ok c.in-Ok-Whole.field-0-is) in
@@ -69,3 +74,27 @@ requests-preserved g c = record {
   turns = search rules;
   writes = search rules;
 }
+
+pub returns-in-Ok-Some-Closed-clause-left : goal.returns-in-Ok-Some-Closed-clause-left
+returns-in-Ok-Some-Closed-clause-left g c = λ s k.
+    let shape = c.in-Ok-Whole.shape in
+    let held = c.in-Ok-Whole.ensures.held shape (ap Ok c.in-Ok-Whole.field-0-is) in
+    left_more g.S.Service.may _ _ s _ _ (c.requests.invariant.left s k) (c.answer_first.ensures.answer c.args.from held.request held.behind held.begins held.is_shape)
+
+pub returns-in-Ok-Some-Spent-clause-left : goal.returns-in-Ok-Some-Spent-clause-left
+returns-in-Ok-Some-Spent-clause-left g c = λ s k.
+    let shape = c.in-Ok-Whole.shape in
+    let held = c.in-Ok-Whole.ensures.held shape (ap Ok c.in-Ok-Whole.field-0-is) in
+    left_more g.S.Service.may _ _ s _ _ (c.requests.invariant.left s k) (c.answer_first.ensures.answer c.args.from held.request held.behind held.begins held.is_shape)
+
+pub returns-in-Err-answer_first-clause-left : goal.returns-in-Err-answer_first-clause-left
+returns-in-Err-answer_first-clause-left g c = λ s k.
+    let shape = c.in-Ok-Whole.shape in
+    let held = c.in-Ok-Whole.ensures.held shape (ap Ok c.in-Ok-Whole.field-0-is) in
+    left_more g.S.Service.may _ _ s _ _ (c.requests.invariant.left s k) (c.answer_first.ensures.answer c.args.from held.request held.behind held.begins held.is_shape)
+
+pub returns-in-Ok-clause-left : goal.returns-in-Ok-clause-left
+returns-in-Ok-clause-left g c = λ s k. left_kept g.S.Service.may _ _ s (c.requests.invariant.left s k) c.answer_fault.ensures.state
+
+pub returns-in-Err-clause-left : goal.returns-in-Err-clause-left
+returns-in-Err-clause-left g c = λ s k. left_kept g.S.Service.may _ _ s (c.requests.invariant.left s k) c.answer_fault.ensures.state

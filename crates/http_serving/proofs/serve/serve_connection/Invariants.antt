@@ -1,4 +1,5 @@
 use Rattle.std.proofs.Common.{◌≡◌, ◌<◌}
+use Rattle.http_serving.specs.Runs.{IsLeftBy}
 use Rattle.http_serving.proofs.Serves.{Progress}
 use Rattle.http_serving.proofs.serve.serve_connection.Given as goal
 
@@ -8,6 +9,7 @@ invariant-requests g l =
     let service = g.S.Service in
     record {
       ready : service.ready l.service;
+      left : (s : service.State) → service.keeps l.initial.service s → IsLeftBy service.may (service.keeps l.service) s;
       progress : door.tells → (s : service.State) → service.keeps l.initial.service s
           → Progress service.may service.refusal l.from (service.keeps l.service) l.more s (door.state l.initial.door) (door.state l.door) l.buffer;
       some : 0 < l.more;

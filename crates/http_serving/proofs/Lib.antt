@@ -3,3 +3,4 @@ pub mod Running
 pub mod Stops
 pub mod Serves
 pub mod Visits
+mod Examples

@@ -1,19 +1,19 @@
 -- Serving a connection from a state on, at each place of the loop that serves it.
-use Rattle.std.proofs.Common.{◌≡◌, ℕ, ◌+◌, ◌-◌, ◌<◌, List, [], ◌∷◌, ◌++◌, drop, Some, None, inl, inr, sym, subst, ◌∙◌}
+use Rattle.std.proofs.Common.{◌≡◌, ℕ, ◌+◌, ◌-◌, ◌<◌, List, [], ◌++◌, drop, Some, None, inl, inr, sym, subst, ◌∙◌}
 use Rattle.mud_world.specs.Door.{DoorState, put_out}
 use Rattle.mud_world.specs.Whole.{WrotePart}
 use Rattle.http_requests.specs.declared.fault.FramingFault.{FramingFault}
 use Rattle.http_requests.specs.declared.fault.MomentFrom.{MomentFrom}
 use Rattle.http_requests.specs.declared.shape.RequestShape.{RequestShape}
 use Rattle.http_requests.specs.Framing.{leave_of}
-use Rattle.http_requests.specs.Requests.{Request, Ending, ended, closed, spent, stop_after, most_requests}
+use Rattle.http_requests.specs.Requests.{Ending, ended, closed, spent, stop_after, most_requests}
 use Rattle.http_requests.specs.Steps.{CameWhole, CameEnd, CameFault}
 use Rattle.http_requests.specs.Steps as steps
-use Rattle.http_requests.specs.Serving.{SoFar, Served, ServedFault, ServedTaken, FailedPiece, FailedAnswer}
+use Rattle.http_requests.specs.Serving.{SoFar, Served, FailedPiece}
 use Rattle.http_requests.proofs.Serving as serving
 use Rattle.http_serving.specs.declared.end.ConnectionEnd.TheVariants.{Ended, Closed, Broken, Spent, ReadFailed, WriteFailed}
 use Rattle.http_serving.specs.Asked.{Asked, CarriedOut, asked}
-use Rattle.http_serving.specs.Ends.{IsServed, Run, RunOn}
+use Rattle.http_serving.specs.Ends.{IsServed, Run}
 use Rattle.http_serving.proofs.Running.{Ran, ran_none, ran_more, ran_kept, behind_is}
 
 module _ {S : Type 0} (may : S → Asked → List ℕ → S → Type 0) (refusal : FramingFault → List ℕ) (from : MomentFrom) where

@@ -1,6 +1,6 @@
 -- When a connection goes on.
-use Rattle.std.proofs.Common.{◌≡◌, ◌≢◌, ℕ, ◌-◌, ◌<◌, Bool, true, false, List, [], None, refl, subst, arith}
-use Rattle.httparse.specs.Grammar.{RequestHead, crlf}
+use Rattle.std.proofs.Common.{◌≡◌, ◌≢◌, ℕ, ◌-◌, ◌<◌, Bool, true, false, [], None, refl, subst, arith}
+use Rattle.httparse.specs.Grammar.{crlf}
 use Rattle.http_requests.specs.Framing.{closes}
 use Rattle.http_requests.specs.Requests.{Request, stop_after}
 

@@ -1,5 +1,5 @@
 -- Connections served one after the other, at each place of the loop that serves them.
-use Rattle.std.proofs.Common.{◌≡◌, ℕ, ◌+◌, ◌<◌, ◌≤◌, min, Bool, true, false, cond, IsTrue, List, [], ◌∷◌, ◌++◌, length, map, None, refl, inl, inr, sym, ap, ap₂, ◌∙◌, subst, arith, append_assoc, append-nil, length-append}
+use Rattle.std.proofs.Common.{◌≡◌, ℕ, ◌+◌, ◌<◌, Bool, true, false, cond, IsTrue, List, [], ◌∷◌, ◌++◌, length, map, refl, inl, inr, sym, ap, ap₂, ◌∙◌, subst, arith, append_assoc, append-nil, length-append}
 use Rattle.std.specs.List.{count_by}
 use Rattle.std.proofs.lemmas.List.{map-append, length-map}
 use Rattle.std.proofs.lemmas.List.Sums.{sum_by-append}
@@ -13,7 +13,7 @@ use Rattle.http_serving.specs.declared.end.ConnectionEnd.{ConnectionEnd}
 use Rattle.http_serving.specs.declared.end.ConnectionEnd.TheVariants.{Ended, Closed, Broken, Spent, ReadFailed, WriteFailed}
 use Rattle.http_serving.specs.Asked.{Asked}
 use Rattle.http_serving.specs.Ends.{ServedBy, IsServed, is_read_failed, is_write_failed}
-use Rattle.http_serving.specs.Visits.{Visit, came_of, left_of, failed_to_read, failed_to_write, alone, CountsOf, AreServed, Visited, AreEnough, AreVisited}
+use Rattle.http_serving.specs.Visits.{Visit, before_of, after_of, failed_to_read, failed_to_write, alone, CountsOf, AreServed, Visited, ServedInTurn}
 
 not_true : IsTrue false → ⊥
 not_true e = cc
@@ -127,9 +127,9 @@ module _ {S : Type 0} (may : S → Asked → List ℕ → S → Type 0) (refusal
 
   -- ---- Connection after connection
 
-  are_served_more : (s t u : S) (visits : List Visit) (v : Visit) → AreServed may refusal from s t visits → ServedBy may refusal from v.end t u (alone v.came) (alone v.left)
+  are_served_more : (s t u : S) (visits : List Visit) (v : Visit) → AreServed may refusal from s t visits → ServedBy may refusal from v.end t u (alone v.before) (alone v.after)
       → AreServed may refusal from s u (visits ++ v ∷ [])
-  are_served_more s t u [] v same by = (u, subst (λ at. ServedBy may refusal from v.end at u (alone v.came) (alone v.left)) (sym same) by, refl)
+  are_served_more s t u [] v same by = (u, subst (λ at. ServedBy may refusal from v.end at u (alone v.before) (alone v.after)) (sym same) by, refl)
   are_served_more s t u (w ∷ visits) v are by = (are.0, are.1, are_served_more are.0 t u visits v are.2 by)
 
   pub visited_none : (keeps : S → Type 0) (s : S) (old : DoorState) → keeps s → Visited may refusal from keeps s [] old old
@@ -148,7 +148,7 @@ module _ {S : Type 0} (may : S → Asked → List ℕ → S → Type 0) (refusal
     next = p.next;
     kept = p.kept;
     served = p.served;
-    came = p.came ∙ ap (λ cs. map came_of visits ++ cs) (sym (ap (λ (d : DoorState). d.ahead) left));
+    came = p.came ∙ ap (λ cs. map before_of visits ++ cs) (sym (ap (λ (d : DoorState). d.ahead) left));
     past = ap (λ (d : DoorState). d.past ++ here d) left ∙ append-nil (x.past ++ here x) ∙ p.past;
     bound = ap (λ (d : DoorState). d.bound) left ∙ p.bound;
   }
@@ -159,10 +159,10 @@ module _ {S : Type 0} (may : S → Asked → List ℕ → S → Type 0) (refusal
   -- the next connection came and was served
   visited_one : (keeps keeps' : S → Type 0) (end : ConnectionEnd) (s : S) (visits : List Visit) (old x y z : DoorState) (c : Connection) (cs : List Connection) → (p : Visited may refusal from keeps s visits old x)
       → x.ahead ≡ c ∷ cs → y ≡ gone_on x (c ∷ cs) → IsServed may refusal from keeps' end p.next y z
-      → Visited may refusal from keeps' s (visits ++ record { came = c; left = connection_here z; end = end } ∷ []) old z
+      → Visited may refusal from keeps' s (visits ++ record { before = c; after = connection_here z; end = end } ∷ []) old z
   unfolding Changed
   visited_one keeps keeps' end s visits old x y z c cs p comes went by =
-      let v : Visit = record { came = c; left = connection_here z; end = end } in
+      let v : Visit = record { before = c; after = connection_here z; end = end } in
       let change = changed_by end p.next by.next y z by.served in
       let past : z.past ≡ x.past ++ here x = ap (λ (d : DoorState). d.past) change.1 ∙ ap (λ (d : DoorState). d.past) went in
       let stands : z.stands ≡ true = ap (λ (d : DoorState). d.stands) change.1 ∙ ap (λ (d : DoorState). d.stands) went in
@@ -173,13 +173,13 @@ module _ {S : Type 0} (may : S → Asked → List ℕ → S → Type 0) (refusal
         kept = by.kept;
         served = are_served_more s p.next by.next visits v p.served
             (subst (λ d. ServedBy may refusal from end p.next by.next (alone d) (alone (connection_here z))) at (alone_by end p.next by.next y z by.served));
-        came = p.came ∙ ap (λ more. map came_of visits ++ more) (comes ∙ ap (λ more. c ∷ more) (sym ahead))
-            ∙ sym (append_assoc (map came_of visits) (c ∷ []) z.ahead)
-            ∙ ap (λ front. front ++ z.ahead) (sym (map-append came_of visits (v ∷ [])));
+        came = p.came ∙ ap (λ more. map before_of visits ++ more) (comes ∙ ap (λ more. c ∷ more) (sym ahead))
+            ∙ sym (append_assoc (map before_of visits) (c ∷ []) z.ahead)
+            ∙ ap (λ front. front ++ z.ahead) (sym (map-append before_of visits (v ∷ [])));
         past = ap₂ ◌++◌ past (stands_here z stands)
             ∙ ap (λ front. front ++ connection_here z ∷ []) p.past
-            ∙ append_assoc (old.past ++ here old) (map left_of visits) (connection_here z ∷ [])
-            ∙ ap (λ more. (old.past ++ here old) ++ more) (sym (map-append left_of visits (v ∷ [])));
+            ∙ append_assoc (old.past ++ here old) (map after_of visits) (connection_here z ∷ [])
+            ∙ ap (λ more. (old.past ++ here old) ++ more) (sym (map-append after_of visits (v ∷ [])));
         bound = ap (λ (d : DoorState). d.bound) change.1 ∙ ap (λ (d : DoorState). d.bound) went ∙ p.bound;
       }
 
@@ -210,7 +210,7 @@ module _ {S : Type 0} (may : S → Asked → List ℕ → S → Type 0) (refusal
       at_next : (cs : List Connection) → x.ahead ≡ cs → has_more cs ≡ true → Rounds keeps' (count + 1) s old z r b w e
       at_next [] none some = cc
       at_next (c ∷ cs) comes some =
-          let v : Visit = record { came = c; left = connection_here z; end = end } in
+          let v : Visit = record { before = c; after = connection_here z; end = end } in
           record {
             visits = p.visits ++ v ∷ [];
             visited = visited_one keeps keeps' end s p.visits old x y z c cs p.visited comes (went ∙ ap (gone_on x) comes) (by p.visited.next p.visited.kept);
@@ -224,12 +224,12 @@ module _ {S : Type 0} (may : S → Asked → List ℕ → S → Type 0) (refusal
 
   -- so many were asked for
   pub all_visited : (keeps : S → Type 0) (count at : ℕ) (s : S) (old new : DoorState) (r r' w w' : ℕ) → Rounds keeps at s old new r r' w w' → at ≡ count
-      → AreVisited may refusal from keeps false count s old new r r' w w'
+      → ServedInTurn may refusal from keeps false count s old new r r' w w'
   all_visited keeps count at s old new r r' w w' p full = record {
     visits = p.visits;
     visited = p.visited;
     enough = record {
-      all = λ _. omega (arith, p.counted, full, ap length p.visited.came, length-append (map came_of p.visits) new.ahead, length-map p.visits came_of);
+      all = λ _. omega (arith, p.counted, full, ap length p.visited.came, length-append (map before_of p.visits) new.ahead, length-map p.visits before_of);
       fewer = λ e. absurd (not_true e);
     };
     reads = p.reads;
@@ -238,16 +238,16 @@ module _ {S : Type 0} (may : S → Asked → List ℕ → S → Type 0) (refusal
 
   -- no more connections came
   pub no_more_visited : (keeps : S → Type 0) (count at : ℕ) (s : S) (old x y : DoorState) (r a a' w d d' : ℕ) → Rounds keeps at s old x r a w d → at < count
-      → has_more x.ahead ≡ false → y ≡ gone_on x x.ahead → a' ≡ a → d' ≡ d → AreVisited may refusal from keeps false count s old y r a' w d'
+      → has_more x.ahead ≡ false → y ≡ gone_on x x.ahead → a' ≡ a → d' ≡ d → ServedInTurn may refusal from keeps false count s old y r a' w d'
   no_more_visited keeps count at s old x y r a a' w d d' p less more went same_reads same_writes = at_end x.ahead refl more
     where
-      at_end : (cs : List Connection) → x.ahead ≡ cs → has_more cs ≡ false → AreVisited may refusal from keeps false count s old y r a' w d'
+      at_end : (cs : List Connection) → x.ahead ≡ cs → has_more cs ≡ false → ServedInTurn may refusal from keeps false count s old y r a' w d'
       at_end (c ∷ cs) comes none = cc
       at_end [] comes none = record {
         visits = p.visits;
         visited = visited_departed keeps s p.visits old x y p.visited (went ∙ ap (gone_on x) comes);
         enough = record {
-          all = λ _. omega (arith, p.counted, less, ap length p.visited.came, ap (λ (l : List Connection). length l) comes, length-append (map came_of p.visits) x.ahead, length-map p.visits came_of);
+          all = λ _. omega (arith, p.counted, less, ap length p.visited.came, ap (λ (l : List Connection). length l) comes, length-append (map before_of p.visits) x.ahead, length-map p.visits before_of);
           fewer = λ e. absurd (not_true e);
         };
         reads = kept_count _ r a a' same_reads p.reads;
@@ -256,7 +256,7 @@ module _ {S : Type 0} (may : S → Asked → List ℕ → S → Type 0) (refusal
 
   -- the door failed to go on
   pub turn_failed : (keeps : S → Type 0) (count at : ℕ) (s : S) (old x y : DoorState) (r a a' w d d' : ℕ) → Rounds keeps at s old x r a w d → at < count
-      → y ≡ departed x → a' ≡ a → d' ≡ d → AreVisited may refusal from keeps true count s old y r a' w d'
+      → y ≡ departed x → a' ≡ a → d' ≡ d → ServedInTurn may refusal from keeps true count s old y r a' w d'
   turn_failed keeps count at s old x y r a a' w d d' p less left same_reads same_writes = record {
     visits = p.visits;
     visited = visited_departed keeps s p.visits old x y p.visited left;

@@ -10,15 +10,15 @@ use Rattle.http_serving.specs.Ends.{ServedBy, is_read_failed, is_write_failed}
 
 -- A connection as it came and as it was left, and how its service ended.
 pub record Visit : Type 0 where
-  pub came : Connection
-  pub left : Connection
+  pub before : Connection
+  pub after : Connection
   pub end : ConnectionEnd
 
-abbrev pub came_of : Visit → Connection
-came_of v = v.came
+abbrev pub before_of : Visit → Connection
+before_of v = v.before
 
-abbrev pub left_of : Visit → Connection
-left_of v = v.left
+abbrev pub after_of : Visit → Connection
+after_of v = v.after
 
 abbrev pub failed_to_read : Visit → Bool
 failed_to_read v = is_read_failed v.end
@@ -42,16 +42,16 @@ module _ {S : Type 0} (may : S → Asked → List ℕ → S → Type 0) (refusal
   -- The connections were served one after the other, each from the state behind the one before it.
   abbrev pub AreServed : S → S → List Visit → Type 0
   AreServed s t [] = s ≡ t
-  AreServed s t (v ∷ visits) = (mid : S) × ServedBy may refusal from v.end s mid (alone v.came) (alone v.left) × AreServed mid t visits
+  AreServed s t (v ∷ visits) = (mid : S) × ServedBy may refusal from v.end s mid (alone v.before) (alone v.after) × AreServed mid t visits
 
-  -- The first of the connections that came were served from the state on, and what is kept is the state behind them. The door has left
-  -- them, but for the last one where it still stands there, and the others still come.
+  -- The first of the connections that were to come were served from the state on, and what is kept is the state behind them. The door
+  -- has left them, but for the last one where it still stands there, and the others still come.
   pub record Visited (keeps : S → Type 0) (s : S) (visits : List Visit) (old new : DoorState) : Type 0 where
     pub next : S
     pub kept : keeps next
     pub served : AreServed s next visits
-    pub came : old.ahead ≡ map came_of visits ++ new.ahead
-    pub past : new.past ++ here new ≡ (old.past ++ here old) ++ map left_of visits
+    pub came : old.ahead ≡ map before_of visits ++ new.ahead
+    pub past : new.past ++ here new ≡ (old.past ++ here old) ++ map after_of visits
     pub bound : new.bound ≡ old.bound
 
 -- The visits are as many as were asked for, or all that came; fewer where the door failed to go on.
@@ -61,7 +61,7 @@ pub record AreEnough (failed : Bool) (count : ℕ) (visits : List Visit) (old : 
 
 module _ {S : Type 0} (may : S → Asked → List ℕ → S → Type 0) (refusal : FramingFault → List ℕ) (from : MomentFrom) where
   -- Connections were served: which ones, how many, and what became of the counts of failed reads and writes.
-  pub record AreVisited (keeps : S → Type 0) (failed : Bool) (count : ℕ) (s : S) (old new : DoorState) (read_before read_now write_before write_now : ℕ) : Type 0 where
+  pub record ServedInTurn (keeps : S → Type 0) (failed : Bool) (count : ℕ) (s : S) (old new : DoorState) (read_before read_now write_before write_now : ℕ) : Type 0 where
     pub visits : List Visit
     pub visited : Visited may refusal from keeps s visits old new
     pub enough : AreEnough failed count visits old

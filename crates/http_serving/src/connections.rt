@@ -2,7 +2,7 @@
 ghost use Rattle.std.specs.Prelude.{◌≡◌, ◌≤◌, is_err};
 ghost use Rattle.mud_world.specs.Causes.{Counts};
 ghost use Rattle.http_serving.specs.Runs.{IsLeftBy};
-ghost use Rattle.http_serving.specs.Visits.{AreVisited};
+ghost use Rattle.http_serving.specs.Visits.{ServedInTurn};
 
 use crate::serve::serve_connection;
 use crate::service::Service;
@@ -23,8 +23,8 @@ pub fn serve_connections<D: Door, S: Service>(
     ensures ready { S.ready service.new }
     ensures left { (s : S.State) → S.keeps service.old s → IsLeftBy S.may (S.keeps service.new) s }
     ensures served { D.tells → (s : S.State) → S.keeps service.old s
-        → AreVisited S.may S.refusal from (S.keeps service.new) (is_err result) count s (D.state door.old) (D.state door.new)
-            (D.reads door.old) (D.reads door.new) (D.writes door.old) (D.writes door.new) }
+        → ServedInTurn S.may S.refusal from (S.keeps service.new) (is_err result) count s (D.state door.old) (D.state door.new)
+        (D.reads door.old) (D.reads door.new) (D.writes door.old) (D.writes door.new) }
     ensures turns { Counts (is_err result) (D.turns door.old) (D.turns door.new) }
     ensures reads { D.reads door.old ≤ D.reads door.new }
     ensures writes { D.writes door.old ≤ D.writes door.new }

@@ -11,7 +11,7 @@ use http_requests::{FramingFault, RequestParts};
 /// one answer at a time, in two pieces: that to the last request or fault that it was given.
 pub trait Service {
     ghost use Rattle.std.specs.Prelude.{ℕ, List};
-    ghost use Rattle.http_requests.specs.declared.fault.FramingFault.{FramingFault as Fault};
+    ghost use Rattle.http_requests.specs.declared.fault.FramingFault.{FramingFault};
     ghost use Rattle.http_serving.specs.Asked.{Asked};
 
     /// Whether it may be given requests.
@@ -27,7 +27,7 @@ pub trait Service {
     ghost may: { State → Asked → List ℕ → State → Type 0 };
 
     /// The answer to a fault of the framing.
-    ghost refusal: { Fault → List ℕ };
+    ghost refusal: { FramingFault → List ℕ };
 
     /// The octets of the answer that it holds.
     ghost held: { Self → List ℕ };

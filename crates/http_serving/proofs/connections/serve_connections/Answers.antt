@@ -1,4 +1,4 @@
-use Rattle.std.proofs.Common.{◌≡◌, true, arith, rules, sym, ◌∙◌}
+use Rattle.std.proofs.Common.{◌≡◌, true, arith, rules}
 use Rattle.mud_world.specs.Door.{has_more}
 use Rattle.http_serving.proofs.Running.{left_further}
 use Rattle.http_serving.proofs.Visits.{rounds_more}

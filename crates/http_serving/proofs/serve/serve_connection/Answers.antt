@@ -1,7 +1,7 @@
-use Rattle.std.proofs.Common.{◌≡◌, ◌<◌, ◌-◌, Ok, Err, refl, ap, rules}
+use Rattle.std.proofs.Common.{Ok, Err, refl, ap, rules}
 use Rattle.http_serving.proofs.Running.{left_kept, left_more}
 use Rattle.http_serving.proofs.Stops.{more_left}
-use Rattle.http_serving.proofs.Serves.{progress_none, progress_more, ended_here, closed_here, spent_here, broken_here, read_failed_here, leave_failed_here, refusal_failed_here, answer_failed_here}
+use Rattle.http_serving.proofs.Serves.{progress_more, ended_here, closed_here, spent_here, broken_here, read_failed_here, leave_failed_here, refusal_failed_here, answer_failed_here}
 use Rattle.http_serving.proofs.serve.serve_connection.Goals as goal
 
 pub returns-in-Ok-Ended-clause-served : goal.returns-in-Ok-Ended-clause-served

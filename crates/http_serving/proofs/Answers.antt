@@ -1,18 +1,9 @@
 -- An answer that is written in two pieces.
 use Rattle.std.proofs.Common.{◌≡◌, ℕ, ◌+◌, List, ◌++◌, length, take, Result, Ok, Err, OnErr, sym, ap, ◌∙◌, subst, arith, length-append}
-use Rattle.std.proofs.lemmas.List.{take-append-le}
 use Rattle.std.proofs.Math.Seq.{take-append-add}
 use Rattle.mud_world.specs.Door.{DoorState, put_out}
 use Rattle.mud_world.specs.Whole.{WrotePart}
 use Rattle.mud_world.proofs.Doors.{put_out_twice}
-
--- a first part of the first piece
-pub wrote_first : (head body text : List ℕ) (s t : DoorState) → head ++ body ≡ text → WrotePart head s t → WrotePart text s t
-wrote_first head body text s t same w = subst (λ o. WrotePart o s t) same (record {
-  count = w.count;
-  part = omega (arith, w.part, length-append head body);
-  wrote = w.wrote ∙ ap (λ o. put_out o s) (sym (take-append-le w.count head body (omega (arith, w.part))));
-})
 
 -- the first piece, and a first part of the second one
 pub wrote_second : (head body text : List ℕ) (s t u : DoorState) → head ++ body ≡ text → t ≡ put_out head s → WrotePart body t u → WrotePart text s u

@@ -48,9 +48,6 @@ module _ {S : Type 0} (may : S → Asked → List ℕ → S → Type 0) (from : 
     pub kept : keeps next
     pub run : Runs may from most_requests s next requests answers
 
-  pub ran_none : (keeps : S → Type 0) (s : S) → keeps s → Ran keeps most_requests s [] []
-  ran_none keeps s kept = record { count = omega arith; next = s; kept = kept; run = (refl, refl) }
-
   -- one request more was carried out
   pub ran_more : (keeps keeps' : S → Type 0) (more : ℕ) (s : S) (r : Request) (answer : List ℕ) → 0 < more
       → ((at : S) → keeps at → CarriedOut may keeps' at (asked from more r) answer) → (requests : List Request) (answers : List ℕ)
@@ -80,9 +77,6 @@ module _ {S : Type 0} (may : S → Asked → List ℕ → S → Type 0) where
   leads_append : (s t u : S) (all more : List Asked) → Leads may s t all → Leads may t u more → Leads may s u (all ++ more)
   leads_append s t u [] more same leads = subst (λ at. Leads may at u more) (sym same) leads
   leads_append s t u (what ∷ all) more are leads = (are.0, are.1, are.2, leads_append are.0 t u all more are.3 leads)
-
-  pub left_none : (keeps : S → Type 0) (s : S) → keeps s → IsLeftBy may keeps s
-  left_none keeps s kept = record { all = []; next = s; kept = kept; leads = refl }
 
   -- more requests were carried out
   pub left_further : (keeps keeps' : S → Type 0) (s : S) → IsLeftBy may keeps s → ((at : S) → keeps at → IsLeftBy may keeps' at) → IsLeftBy may keeps' s

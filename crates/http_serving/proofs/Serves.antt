@@ -6,7 +6,7 @@ use Rattle.http_requests.specs.declared.fault.FramingFault.{FramingFault}
 use Rattle.http_requests.specs.declared.fault.MomentFrom.{MomentFrom}
 use Rattle.http_requests.specs.declared.shape.RequestShape.{RequestShape}
 use Rattle.http_requests.specs.Framing.{leave_of}
-use Rattle.http_requests.specs.Requests.{Ending, ended, closed, spent, stop_after, most_requests}
+use Rattle.http_requests.specs.Requests.{Ending, ended, closed, spent, stop_after}
 use Rattle.http_requests.specs.Steps.{CameWhole, CameEnd, CameFault}
 use Rattle.http_requests.specs.Steps as steps
 use Rattle.http_requests.specs.Serving.{SoFar, Served, FailedPiece}
@@ -14,18 +14,12 @@ use Rattle.http_requests.proofs.Serving as serving
 use Rattle.http_serving.specs.declared.end.ConnectionEnd.TheVariants.{Ended, Closed, Broken, Spent, ReadFailed, WriteFailed}
 use Rattle.http_serving.specs.Asked.{Asked, CarriedOut, asked}
 use Rattle.http_serving.specs.Ends.{IsServed, Run}
-use Rattle.http_serving.proofs.Running.{Ran, ran_none, ran_more, ran_kept, behind_is}
+use Rattle.http_serving.proofs.Running.{Ran, ran_more, ran_kept, behind_is}
 
 module _ {S : Type 0} (may : S → Asked → List ℕ → S → Type 0) (refusal : FramingFault → List ℕ) (from : MomentFrom) where
   -- what was done up to here, from a state that was kept at first
   pub record Progress (keeps : S → Type 0) (more : ℕ) (s : S) (old new : DoorState) (buffer : List ℕ) : Type 0 where
     pub so_far : SoFar (Ran may from keeps more s) from more [] old new buffer
-
-  pub progress_none : (keeps : S → Type 0) (more : ℕ) (s : S) (old : DoorState) (buffer : List ℕ) → keeps s → more ≡ most_requests → buffer ≡ [] → Progress keeps more s old old buffer
-  progress_none keeps more s old buffer kept all none =
-      subst (λ n. Progress keeps n s old old buffer) (sym all)
-      (subst (λ b. Progress keeps most_requests s old old b) (sym none)
-      (record { so_far = serving.so_far_start (Ran may from keeps most_requests s) from old (ran_none may from keeps s kept) }))
 
   -- the next request came
   with_whole : (keeps : S → Type 0) (more : ℕ) (s : S) (old t u : DoorState) (b c : List ℕ) (shape : RequestShape) → Progress keeps more s old t b → (w : CameWhole from shape b c t u)

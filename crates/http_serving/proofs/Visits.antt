@@ -1,10 +1,10 @@
 -- Connections served one after the other, at each place of the loop that serves them.
-use Rattle.std.proofs.Common.{◌≡◌, ℕ, ◌+◌, ◌<◌, Bool, true, false, cond, IsTrue, List, [], ◌∷◌, ◌++◌, length, map, refl, inl, inr, sym, ap, ap₂, ◌∙◌, subst, arith, append_assoc, append-nil, length-append}
+use Rattle.std.proofs.Common.{◌≡◌, ℕ, ◌+◌, Bool, true, false, cond, List, [], ◌∷◌, ◌++◌, length, map, refl, inl, inr, sym, ap, ap₂, ◌∙◌, subst, arith, append_assoc, length-append}
 use Rattle.std.specs.List.{count_by}
-use Rattle.std.proofs.lemmas.List.{map-append, length-map}
+use Rattle.std.proofs.lemmas.List.{map-append}
 use Rattle.std.proofs.lemmas.List.Sums.{sum_by-append}
 use Rattle.mud_world.specs.Causes.{Counts}
-use Rattle.mud_world.specs.Door.{Connection, DoorState, connection_here, here, departed, gone_on, has_more, put_out, with_left}
+use Rattle.mud_world.specs.Door.{Connection, DoorState, connection_here, here, gone_on, has_more, put_out, with_left}
 use Rattle.http_requests.specs.declared.fault.FramingFault.{FramingFault}
 use Rattle.http_requests.specs.declared.fault.MomentFrom.{MomentFrom}
 use Rattle.http_requests.specs.Requests.{Request, Ending}
@@ -13,18 +13,9 @@ use Rattle.http_serving.specs.declared.end.ConnectionEnd.{ConnectionEnd}
 use Rattle.http_serving.specs.declared.end.ConnectionEnd.TheVariants.{Ended, Closed, Broken, Spent, ReadFailed, WriteFailed}
 use Rattle.http_serving.specs.Asked.{Asked}
 use Rattle.http_serving.specs.Ends.{ServedBy, IsServed, is_read_failed, is_write_failed}
-use Rattle.http_serving.specs.Visits.{Visit, before_of, after_of, failed_to_read, failed_to_write, alone, CountsOf, AreServed, Visited, ServedInTurn}
-
-not_true : IsTrue false → ⊥
-not_true e = cc
-
-not_false : true ≡ false → ⊥
-not_false e = cc
+use Rattle.http_serving.specs.Visits.{Visit, before_of, after_of, failed_to_read, failed_to_write, alone, CountsOf, AreServed, Visited}
 
 -- ---- Counts
-
-pub counts_none : (n : ℕ) → CountsOf 0 n n
-counts_none n = record { later = omega arith; rose = omega arith; steady = λ _. refl }
 
 counts_next : (failures : ℕ) (failed : Bool) (a b c : ℕ) → CountsOf failures a b → Counts failed b c → CountsOf (failures + cond failed 1 0) a c
 counts_next failures true a b c p q = record {
@@ -132,27 +123,6 @@ module _ {S : Type 0} (may : S → Asked → List ℕ → S → Type 0) (refusal
   are_served_more s t u [] v same by = (u, subst (λ at. ServedBy may refusal from v.end at u (alone v.before) (alone v.after)) (sym same) by, refl)
   are_served_more s t u (w ∷ visits) v are by = (are.0, are.1, are_served_more are.0 t u visits v are.2 by)
 
-  pub visited_none : (keeps : S → Type 0) (s : S) (old : DoorState) → keeps s → Visited may refusal from keeps s [] old old
-  visited_none keeps s old kept = record {
-    next = s;
-    kept = kept;
-    served = refl;
-    came = refl;
-    past = sym (append-nil (old.past ++ here old));
-    bound = refl;
-  }
-
-  -- the door left the connection and went on to none
-  pub visited_departed : (keeps : S → Type 0) (s : S) (visits : List Visit) (old x y : DoorState) → Visited may refusal from keeps s visits old x → y ≡ departed x → Visited may refusal from keeps s visits old y
-  visited_departed keeps s visits old x y p left = record {
-    next = p.next;
-    kept = p.kept;
-    served = p.served;
-    came = p.came ∙ ap (λ cs. map before_of visits ++ cs) (sym (ap (λ (d : DoorState). d.ahead) left));
-    past = ap (λ (d : DoorState). d.past ++ here d) left ∙ append-nil (x.past ++ here x) ∙ p.past;
-    bound = ap (λ (d : DoorState). d.bound) left ∙ p.bound;
-  }
-
   stands_here : (z : DoorState) → z.stands ≡ true → here z ≡ connection_here z ∷ []
   stands_here z stands = ap (λ (b : Bool). cond b (connection_here z ∷ []) []) stands
 
@@ -193,15 +163,6 @@ module _ {S : Type 0} (may : S → Asked → List ℕ → S → Type 0) (refusal
     pub reads : CountsOf (count_by failed_to_read visits) read_before read_now
     pub writes : CountsOf (count_by failed_to_write visits) write_before write_now
 
-  pub rounds_none : (keeps : S → Type 0) (s : S) (old : DoorState) (reads writes : ℕ) → keeps s → Rounds keeps 0 s old old reads reads writes writes
-  rounds_none keeps s old reads writes kept = record {
-    visits = [];
-    visited = visited_none keeps s old kept;
-    counted = refl;
-    reads = counts_none reads;
-    writes = counts_none writes;
-  }
-
   pub rounds_more : (keeps keeps' : S → Type 0) (end : ConnectionEnd) (count : ℕ) (s : S) (old x y z : DoorState) (r a a' b w d d' e : ℕ) → Rounds keeps count s old x r a w d
       → has_more x.ahead ≡ true → y ≡ gone_on x x.ahead → ((at : S) → keeps at → IsServed may refusal from keeps' end at y z)
       → a' ≡ a → Counts (is_read_failed end) a' b → d' ≡ d → Counts (is_write_failed end) d' e → Rounds keeps' (count + 1) s old z r b w e
@@ -218,52 +179,3 @@ module _ {S : Type 0} (may : S → Asked → List ℕ → S → Type 0) (refusal
             reads = counts_more failed_to_read p.visits v (is_read_failed end) r a a' b refl same_reads p.reads reads;
             writes = counts_more failed_to_write p.visits v (is_write_failed end) w d d' e refl same_writes p.writes writes;
           }
-
-  kept_count : (failures a b c : ℕ) → c ≡ b → CountsOf failures a b → CountsOf failures a c
-  kept_count failures a b c same p = subst (CountsOf failures a) (sym same) p
-
-  -- so many were asked for
-  pub all_visited : (keeps : S → Type 0) (count at : ℕ) (s : S) (old new : DoorState) (r r' w w' : ℕ) → Rounds keeps at s old new r r' w w' → at ≡ count
-      → ServedInTurn may refusal from keeps false count s old new r r' w w'
-  all_visited keeps count at s old new r r' w w' p full = record {
-    visits = p.visits;
-    visited = p.visited;
-    enough = record {
-      all = λ _. omega (arith, p.counted, full, ap length p.visited.came, length-append (map before_of p.visits) new.ahead, length-map p.visits before_of);
-      fewer = λ e. absurd (not_true e);
-    };
-    reads = p.reads;
-    writes = p.writes;
-  }
-
-  -- no more connections came
-  pub no_more_visited : (keeps : S → Type 0) (count at : ℕ) (s : S) (old x y : DoorState) (r a a' w d d' : ℕ) → Rounds keeps at s old x r a w d → at < count
-      → has_more x.ahead ≡ false → y ≡ gone_on x x.ahead → a' ≡ a → d' ≡ d → ServedInTurn may refusal from keeps false count s old y r a' w d'
-  no_more_visited keeps count at s old x y r a a' w d d' p less more went same_reads same_writes = at_end x.ahead refl more
-    where
-      at_end : (cs : List Connection) → x.ahead ≡ cs → has_more cs ≡ false → ServedInTurn may refusal from keeps false count s old y r a' w d'
-      at_end (c ∷ cs) comes none = cc
-      at_end [] comes none = record {
-        visits = p.visits;
-        visited = visited_departed keeps s p.visits old x y p.visited (went ∙ ap (gone_on x) comes);
-        enough = record {
-          all = λ _. omega (arith, p.counted, less, ap length p.visited.came, ap (λ (l : List Connection). length l) comes, length-append (map before_of p.visits) x.ahead, length-map p.visits before_of);
-          fewer = λ e. absurd (not_true e);
-        };
-        reads = kept_count _ r a a' same_reads p.reads;
-        writes = kept_count _ w d d' same_writes p.writes;
-      }
-
-  -- the door failed to go on
-  pub turn_failed : (keeps : S → Type 0) (count at : ℕ) (s : S) (old x y : DoorState) (r a a' w d d' : ℕ) → Rounds keeps at s old x r a w d → at < count
-      → y ≡ departed x → a' ≡ a → d' ≡ d → ServedInTurn may refusal from keeps true count s old y r a' w d'
-  turn_failed keeps count at s old x y r a a' w d d' p less left same_reads same_writes = record {
-    visits = p.visits;
-    visited = visited_departed keeps s p.visits old x y p.visited left;
-    enough = record {
-      all = λ e. absurd (not_false e);
-      fewer = λ _. omega (arith, p.counted, less);
-    };
-    reads = kept_count _ r a a' same_reads p.reads;
-    writes = kept_count _ w d d' same_writes p.writes;
-  }

@@ -61,7 +61,8 @@ pub record AreEnough (failed : Bool) (count : ℕ) (visits : List Visit) (old : 
 
 module _ {S : Type 0} (may : S → Asked → List ℕ → S → Type 0) (refusal : FramingFault → List ℕ) (from : MomentFrom) where
   -- Connections were served: which ones, how many, and what became of the counts of failed reads and writes.
-  pub record ServedInTurn (keeps : S → Type 0) (failed : Bool) (count : ℕ) (s : S) (old new : DoorState) (read_before read_now write_before write_now : ℕ) : Type 0 where
+  pub record ServedInTurn (keeps : S → Type 0) (failed : Bool) (count : ℕ) (s : S) (old new : DoorState)
+      (read_before read_now write_before write_now : ℕ) : Type 0 where
     pub visits : List Visit
     pub visited : Visited may refusal from keeps s visits old new
     pub enough : AreEnough failed count visits old

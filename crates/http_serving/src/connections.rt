@@ -21,9 +21,13 @@ pub fn serve_connections<D: Door, S: Service>(
 ) -> Result<(), Failed>
     requires ready { S.ready service.old }
     ensures ready { S.ready service.new }
+
+    // From whatever the service is said to keep, it keeps what some requests left. Where the door
+    // tells, they are those of the connections, and what was written are their answers.
     ensures left { (s : S.State) → S.keeps service.old s → IsLeftBy S.may (S.keeps service.new) s }
     ensures served { D.tells → (s : S.State) → S.keeps service.old s
-        → ServedInTurn S.may S.refusal from (S.keeps service.new) (is_err result) count s (D.state door.old) (D.state door.new)
+        → ServedInTurn S.may S.refusal from (S.keeps service.new) (is_err result) count s
+        (D.state door.old) (D.state door.new)
         (D.reads door.old) (D.reads door.new) (D.writes door.old) (D.writes door.new) }
     ensures turns { Counts (is_err result) (D.turns door.old) (D.turns door.new) }
     ensures reads { D.reads door.old ≤ D.reads door.new }

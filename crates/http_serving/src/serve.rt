@@ -20,8 +20,10 @@ use mud_world::{Door, Failed, say};
 
 /// Writes the answer that the service holds, or a first part of it and then fails.
 fn say_answer<D: Door, S: Service>(door: &mut D, service: &S) -> Result<(), Failed>
-    ensures ok { D.tells → OnOk result (D.state door.new ≡ put_out (S.held service.now) (D.state door.old)) }
-    ensures part { D.tells → OnErr result (WrotePart (S.held service.now) (D.state door.old) (D.state door.new)) }
+    ensures ok { D.tells → OnOk result
+        (D.state door.new ≡ put_out (S.held service.now) (D.state door.old)) }
+    ensures part { D.tells → OnErr result
+        (WrotePart (S.held service.now) (D.state door.old) (D.state door.new)) }
     ensures cause { Counts (is_err result) (D.writes door.old) (D.writes door.new) }
     ensures turns { D.turns door.new ≡ D.turns door.old }
     ensures reads { D.reads door.new ≡ D.reads door.old }
@@ -39,7 +41,8 @@ fn carry_out_first<S: Service>(service: &mut S, octets: &[u8], shape: &RequestSh
     ensures answer { (from : MomentFrom) (request : Request) (behind : List ℕ)
         → Begins from octets.now request behind → IsShape from shape.now request.head
         → (s : S.State) → S.keeps service.old s
-        → CarriedOut S.may (S.keeps service.new) s (asked_by from is_last request) (S.held service.new) }
+        → CarriedOut S.may (S.keeps service.new) s (asked_by from is_last request)
+        (S.held service.new) }
 {
     service.carry_out(&parts_of(shape, octets), is_last);
 }
@@ -60,14 +63,16 @@ fn answer_first<D: Door, S: Service>(
         → Begins from buffer.now request behind → IsShape from shape.now request.head
         → (s : S.State) → S.keeps service.old s
         → CarriedOut S.may (S.keeps service.new) s (asked from more request) (S.held service.new) }
-    ensures ok { D.tells → OnOk result (D.state door.new ≡ put_out (S.held service.new) (D.state door.old)) }
-    ensures part { D.tells → OnErr result (WrotePart (S.held service.new) (D.state door.old) (D.state door.new)) }
-    ensures goes_on { result ≡ Ok None → (request : Request) → shape.now.closes ≡ closes request.head
-        → stop_after more request ≡ None }
-    ensures closed { result ≡ Ok (Some Stop.Closed) → (request : Request) → shape.now.closes ≡ closes request.head
-        → stop_after more request ≡ Some closed }
-    ensures spent { result ≡ Ok (Some Stop.Spent) → (request : Request) → shape.now.closes ≡ closes request.head
-        → stop_after more request ≡ Some spent }
+    ensures ok { D.tells → OnOk result
+        (D.state door.new ≡ put_out (S.held service.new) (D.state door.old)) }
+    ensures part { D.tells → OnErr result
+        (WrotePart (S.held service.new) (D.state door.old) (D.state door.new)) }
+    ensures goes_on { result ≡ Ok None → (request : Request)
+        → shape.now.closes ≡ closes request.head → stop_after more request ≡ None }
+    ensures closed { result ≡ Ok (Some Stop.Closed) → (request : Request)
+        → shape.now.closes ≡ closes request.head → stop_after more request ≡ Some closed }
+    ensures spent { result ≡ Ok (Some Stop.Spent) → (request : Request)
+        → shape.now.closes ≡ closes request.head → stop_after more request ≡ Some spent }
     ensures cause { Counts (is_err result) (D.writes door.old) (D.writes door.new) }
     ensures turns { D.turns door.new ≡ D.turns door.old }
     ensures reads { D.reads door.new ≡ D.reads door.old }
@@ -87,8 +92,10 @@ fn answer_fault<D: Door, S: Service>(
     requires ready { S.ready service.old }
     ensures ready { S.ready service.new }
     ensures state { (s : S.State) → S.keeps service.old s → S.keeps service.new s }
-    ensures ok { D.tells → OnOk result (D.state door.new ≡ put_out (S.refusal fault) (D.state door.old)) }
-    ensures part { D.tells → OnErr result (WrotePart (S.refusal fault) (D.state door.old) (D.state door.new)) }
+    ensures ok { D.tells → OnOk result
+        (D.state door.new ≡ put_out (S.refusal fault) (D.state door.old)) }
+    ensures part { D.tells → OnErr result
+        (WrotePart (S.refusal fault) (D.state door.old) (D.state door.new)) }
     ensures cause { Counts (is_err result) (D.writes door.old) (D.writes door.new) }
     ensures turns { D.turns door.new ≡ D.turns door.old }
     ensures reads { D.reads door.new ≡ D.reads door.old }
@@ -108,9 +115,13 @@ pub fn serve_connection<D: Door, S: Service>(
 ) -> ConnectionEnd
     requires ready { S.ready service.old }
     ensures ready { S.ready service.new }
+
+    // From whatever the service is said to keep, it keeps what some requests left. Where the door
+    // tells, they are those of the connection, and what was written are their answers.
     ensures left { (s : S.State) → S.keeps service.old s → IsLeftBy S.may (S.keeps service.new) s }
     ensures served { D.tells → (s : S.State) → S.keeps service.old s
-        → IsServed S.may S.refusal from (S.keeps service.new) result s (D.state door.old) (D.state door.new) }
+        → IsServed S.may S.refusal from (S.keeps service.new) result s
+        (D.state door.old) (D.state door.new) }
     ensures reads { Counts (is_read_failed result) (D.reads door.old) (D.reads door.new) }
     ensures writes { Counts (is_write_failed result) (D.writes door.old) (D.writes door.new) }
     ensures turns { D.turns door.new ≡ D.turns door.old }

@@ -1,0 +1,5 @@
+pub mod Entries
+pub mod Imports
+pub mod Order
+pub mod Runs
+pub mod Stops

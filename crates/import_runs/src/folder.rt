@@ -1,0 +1,147 @@
+//! All names of a folder.
+ghost use Rattle.std.specs.Prelude.{◌≡◌, ◌≢◌, ◌==◌, ◌⊎◌, ℕ, ◌<◌, max, false, List, [], ◌∷◌, Err, IfOk, OnErr};
+ghost use Rattle.mud_tables.specs.declared.segment.Segment.{Segment as SegmentValue};
+ghost use Rattle.mud_world.specs.Boxed.{faults_of};
+ghost use Rattle.mud_world.specs.Causes.{Counts, Rose};
+ghost use Rattle.mud_world.specs.Files.{names_of};
+ghost use Rattle.mud_desk.specs.Boxed.{IsKept};
+ghost use Rattle.mud_desk.specs.DeskState.{tables_of};
+ghost use Rattle.command_runs.specs.Status.{status_number};
+ghost use Rattle.import_runs.specs.Order.{in_order};
+ghost use Rattle.import_runs.specs.Runs.{ImportsPart, ImportsAll, StaysKept, scene};
+ghost use Rattle.import_runs.specs.Stops.{has_failed};
+
+use crate::file::import_file;
+use crate::names::names_in_order;
+use crate::stop::Stop;
+use command_runs::Status;
+use mud_base::Bytes;
+use mud_desk::Desk;
+use mud_world::{Clock, Door, Spool};
+use sorted_rows::Steps;
+use std::alloc::Global;
+use std::marker::Brand;
+use std::sync::ledger::{Blank, Ledger};
+
+/// The status that goes before the other.
+fn worse(a: Status, b: Status) -> Status
+    ensures { status_number result ≡ max (status_number a) (status_number b) }
+{
+    if a.number() < b.number() { b } else { a }
+}
+
+/// Imports the files of the names, one after the other: the line of each is written before the next
+/// one is looked at.
+fn import_names<L: Ledger, D: Door, P: Spool, C: Clock>(
+    alloc: Global,
+    desk: &mut Desk,
+    door: &mut D,
+    spool: &mut P,
+    clock: &mut C,
+    names: &[Bytes],
+    steps: &mut Steps<L>,
+) -> Result<Status, Stop>
+    requires kept { IsKept Keeper-dyn desk.old.keeper (tables_of desk.old.state) }
+    ensures stays { StaysKept Keeper-dyn desk.old.keeper desk.old.state desk.new.keeper desk.new.state }
+    ensures all { D.tells → P.tells → C.tells → IfOk result (λ status. (h : List SegmentValue) → ImportsAll (P.files spool.old) names.now
+        (scene h desk.old.state (C.moments clock.old) (D.state door.old) (faults_of Keeper-dyn desk.old.keeper))
+        (scene h desk.new.state (C.moments clock.new) (D.state door.new) (faults_of Keeper-dyn desk.new.keeper)) (status_number status)) }
+    ensures part { D.tells → P.tells → C.tells → OnErr result ((h : List SegmentValue) → ImportsPart (P.files spool.old) names.now
+        (scene h desk.old.state (C.moments clock.old) (D.state door.old) (faults_of Keeper-dyn desk.old.keeper))
+        (scene h desk.new.state (C.moments clock.new) (D.state door.new) (faults_of Keeper-dyn desk.new.keeper))) }
+    ensures statuses { IfOk result (λ status. (status_number status ≡ 0) ⊎ ((status_number status ≡ 3) ⊎ (status_number status ≡ 7))) }
+    ensures keeper { IfOk result (λ status. Counts (status_number status == 7) (faults_of Keeper-dyn desk.old.keeper) (faults_of Keeper-dyn desk.new.keeper)) }
+    ensures failed { result ≡ Err Stop.Failed → Rose (D.writes door.old) (D.writes door.new) ⊎ Rose (P.faults spool.old) (P.faults spool.new) }
+    ensures steady { has_failed result ≡ false → (D.writes door.new ≡ D.writes door.old) × (P.faults spool.new ≡ P.faults spool.old) }
+    ensures same { P.tells → P.files spool.new ≡ P.files spool.old }
+    ensures turns { D.turns door.new ≡ D.turns door.old }
+    ensures reads { D.reads door.new ≡ D.reads door.old }
+{
+    let mut status = Status::Done;
+    for name in names {
+        let one = import_file(alloc, desk, door, spool, clock, name.octets(), steps)?;
+        status = worse(status, one);
+    }
+    Ok(status)
+}
+
+/// Imports the files of the folder, whose steps are counted on this blank.
+fn import_listed<L: Ledger, D: Door, P: Spool, C: Clock>(
+    alloc: Global,
+    desk: &mut Desk,
+    door: &mut D,
+    spool: &mut P,
+    clock: &mut C,
+    blank: Blank,
+) -> Result<Status, Stop>
+    requires kept { IsKept Keeper-dyn desk.old.keeper (tables_of desk.old.state) }
+    requires name { blank.name ≡ L.name }
+    requires parts { blank.parts ≡ L.parts }
+    requires some { 0 < L.parts }
+    ensures stays { StaysKept Keeper-dyn desk.old.keeper desk.old.state desk.new.keeper desk.new.state }
+    ensures all { D.tells → P.tells → C.tells → IfOk result (λ status. (h : List SegmentValue) → ImportsAll (P.files spool.old) (in_order (names_of (P.files spool.old)))
+        (scene h desk.old.state (C.moments clock.old) (D.state door.old) (faults_of Keeper-dyn desk.old.keeper))
+        (scene h desk.new.state (C.moments clock.new) (D.state door.new) (faults_of Keeper-dyn desk.new.keeper)) (status_number status)) }
+    ensures part { D.tells → P.tells → C.tells → OnErr result ((h : List SegmentValue) → ImportsPart (P.files spool.old) (in_order (names_of (P.files spool.old)))
+        (scene h desk.old.state (C.moments clock.old) (D.state door.old) (faults_of Keeper-dyn desk.old.keeper))
+        (scene h desk.new.state (C.moments clock.new) (D.state door.new) (faults_of Keeper-dyn desk.new.keeper))) }
+    ensures statuses { IfOk result (λ status. (status_number status ≡ 0) ⊎ ((status_number status ≡ 3) ⊎ (status_number status ≡ 7))) }
+    ensures keeper { IfOk result (λ status. Counts (status_number status == 7) (faults_of Keeper-dyn desk.old.keeper) (faults_of Keeper-dyn desk.new.keeper)) }
+    ensures failed { result ≡ Err Stop.Failed → Rose (D.writes door.old) (D.writes door.new) ⊎ Rose (P.faults spool.old) (P.faults spool.new) }
+    ensures steady { has_failed result ≡ false → (D.writes door.new ≡ D.writes door.old) × (P.faults spool.new ≡ P.faults spool.old) }
+    ensures same { P.tells → P.files spool.new ≡ P.files spool.old }
+    ensures turns { D.turns door.new ≡ D.turns door.old }
+    ensures reads { D.reads door.new ≡ D.reads door.old }
+{
+    let names = names_in_order(alloc, spool)?;
+    let mut steps = Steps::<L>::new(blank);
+    import_names(alloc, desk, door, spool, clock, &names, &mut steps)
+}
+
+/// Imports the files of the folder into the desk, in the order of the octets of their names, and
+/// writes the line of each name before the next one is looked at. The name says when the file was
+/// fetched; the command runs at the later of the clock's next moment and that of the session. A name
+/// of another form is skipped: its file isn't read, and the clock isn't asked.
+///
+/// | Status | It comes |
+/// |---|---|
+/// | 0 | every file was imported, or its name was skipped |
+/// | 3 | a file was refused, and no change of any failed to be kept |
+/// | 4 | the spool or the door failed: the import ends there |
+/// | 5 | want of memory: the import ends there, and no line says so |
+/// | 7 | the keeper failed at a file; the files behind it are imported |
+pub fn import_files<D: Door, P: Spool, C: Clock>(
+    alloc: Global,
+    desk: &mut Desk,
+    door: &mut D,
+    spool: &mut P,
+    clock: &mut C,
+) -> Status
+    requires kept { IsKept Keeper-dyn desk.old.keeper (tables_of desk.old.state) }
+    ensures statuses { (status_number result ≡ 0) ⊎ ((status_number result ≡ 3) ⊎ ((status_number result ≡ 4) ⊎ ((status_number result ≡ 5) ⊎ (status_number result ≡ 7)))) }
+    // With 0, 3 and 7 every name has its line, and the desk's lists are those after all commands.
+    ensures done { D.tells → P.tells → C.tells → (status_number result ≡ 0) ⊎ ((status_number result ≡ 3) ⊎ (status_number result ≡ 7)) →
+        (h : List SegmentValue) → ImportsAll (P.files spool.old) (in_order (names_of (P.files spool.old)))
+        (scene h desk.old.state (C.moments clock.old) (D.state door.old) (faults_of Keeper-dyn desk.old.keeper))
+        (scene h desk.new.state (C.moments clock.new) (D.state door.new) (faults_of Keeper-dyn desk.new.keeper)) (status_number result) }
+    // With 4 and 5 a first part of that was done.
+    ensures part { D.tells → P.tells → C.tells → (status_number result ≡ 4) ⊎ (status_number result ≡ 5) →
+        (h : List SegmentValue) → ImportsPart (P.files spool.old) (in_order (names_of (P.files spool.old)))
+        (scene h desk.old.state (C.moments clock.old) (D.state door.old) (faults_of Keeper-dyn desk.old.keeper))
+        (scene h desk.new.state (C.moments clock.new) (D.state door.new) (faults_of Keeper-dyn desk.new.keeper)) }
+    // 4 comes exactly where a write of the door, or a call of the spool, failed in this call,
+    ensures fault { status_number result ≡ 4 → Rose (D.writes door.old) (D.writes door.new) ⊎ Rose (P.faults spool.old) (P.faults spool.new) }
+    ensures steady { status_number result ≢ 4 → (D.writes door.new ≡ D.writes door.old) × (P.faults spool.new ≡ P.faults spool.old) }
+    // and 7 only where the keeper did.
+    ensures keeper { status_number result ≡ 7 → Rose (faults_of Keeper-dyn desk.old.keeper) (faults_of Keeper-dyn desk.new.keeper) }
+    ensures keeper_steady { (status_number result ≡ 0) ⊎ (status_number result ≡ 3) → faults_of Keeper-dyn desk.new.keeper ≡ faults_of Keeper-dyn desk.old.keeper }
+    ensures stays { StaysKept Keeper-dyn desk.old.keeper desk.old.state desk.new.keeper desk.new.state }
+    ensures same { P.tells → P.files spool.new ≡ P.files spool.old }
+    ensures turns { D.turns door.new ≡ D.turns door.old }
+    ensures reads { D.reads door.new ≡ D.reads door.old }
+{
+    match import_listed::<Brand, D, P, C>(alloc, desk, door, spool, clock, Blank::new(1)) {
+        Ok(status) => status,
+        Err(stop) => stop.status(),
+    }
+}

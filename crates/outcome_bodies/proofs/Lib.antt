@@ -1,3 +1,4 @@
 pub mod Lengths
 pub mod Joins
 pub mod VerdictLengths
+pub mod HeardLengths

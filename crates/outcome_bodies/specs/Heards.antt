@@ -1,5 +1,5 @@
 -- The bodies of the answers to what was heard of a Thing.
-use Rattle.std.specs.Prelude.{ℕ, List, [], ◌++◌, codes}
+use Rattle.std.specs.Prelude.{ℕ, ◌≤◌, List, [], ◌++◌, length, codes}
 use Rattle.json.specs.Print.{quoted}
 use Rattle.item_codec.specs.Word.{text_of}
 use Rattle.mud_base.specs.Texts.{mac_text, addr_text}
@@ -31,3 +31,11 @@ unfoldable pub heard_body : Heard → Outcome → List ℕ
 heard_body (Url mac url) o = heard_url_body (mac_text mac) url o
 heard_body (Lease mac address seconds) o = heard_lease_body (addr_text address) (mac_text mac) o
 heard_body Nothing o = nothing_body
+
+-- ---- What the types say
+
+-- a hardware address has six octets, and a URL at most 256
+abbrev pub HeardFits : Heard → Type 0
+HeardFits (Url mac url) = (length mac.0 ≤ 6) × (length url ≤ 256)
+HeardFits (Lease mac address seconds) = length mac.0 ≤ 6
+HeardFits Nothing = Unit {0}

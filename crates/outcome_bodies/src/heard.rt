@@ -4,12 +4,13 @@ ghost use Rattle.json.specs.Print.{quoted};
 ghost use Rattle.answer_buffer.specs.Kept.{kept};
 ghost use Rattle.outcome_bodies.specs.Heards as spec;
 
+use crate::outcomes::end_fits;
 use crate::puts::{put_until, put_word};
 use answer_buffer::AnswerBuffer;
 use answer_buffer::texts::put_quoted;
 use desk_model::Outcome;
 use dhcp_lldp::Heard;
-use mud_base::{Bytes, Memory, addr_text, mac_text};
+use mud_base::{Bytes, Mac, Memory, addr_text, mac_text};
 use std::alloc::Global;
 
 /// The texts of the addresses that were heard. They are made before what was heard is taken, so that
@@ -112,11 +113,35 @@ fn put_heard(buffer: &mut AnswerBuffer, heard: &Heard, texts: &HeardTexts, outco
     }
 }
 
+/// A hardware address has six octets.
+fn mac_fits(mac: Mac)
+    ensures { length mac.0 ≤ 6 }
+{
+    let _octets = mac.0;
+}
+
+/// A hardware address has six octets, and a URL at most 256.
+fn heard_fits(heard: &Heard)
+    ensures { spec.HeardFits heard.now }
+{
+    match heard {
+        Heard::Url(mac, url) => {
+            mac_fits(*mac);
+            let _text = url.text();
+        }
+        Heard::Lease(mac, _, _) => mac_fits(*mac),
+        Heard::Nothing => (),
+    }
+}
+
 /// Writes the body of the answer to what was heard and taken, in place of what stood in the buffer.
+#[tactic(auto, using(crate::proofs::HeardLengths::heard_kept))]
 pub fn write_heard(buffer: &mut AnswerBuffer, heard: &Heard, texts: &HeardTexts, outcome: &Outcome)
     requires { texts.now ≡ spec.texts_of heard.now }
-    ensures { buffer.new ≡ kept (spec.heard_body heard.now outcome.now) }
+    ensures { buffer.new ≡ spec.heard_body heard.now outcome.now }
 {
+    heard_fits(heard);
+    end_fits(outcome.until);
     buffer.clear();
     put_heard(buffer, heard, texts, outcome);
 }

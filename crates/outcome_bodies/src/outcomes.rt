@@ -101,7 +101,7 @@ pub fn write_stated(buffer: &mut AnswerBuffer, statement: Statement, outcome: &O
 }
 
 /// An end fits its 64 bits.
-fn end_fits(until: Option<End>)
+pub(crate) fn end_fits(until: Option<End>)
     ensures { spec.EndFits until }
 {
     if let Some(End(seconds)) = until {

@@ -1,0 +1,45 @@
+-- Answers as octets.
+use Rattle.std.specs.Prelude.{◌≡◌, ℕ, Bool, true, false, List, bytes_eq, codes, None}
+use Rattle.http_requests.specs.Requests.{Request}
+use Rattle.http_requests.specs.declared.fault.FramingFault.{FramingFault}
+use Rattle.http_requests.specs.declared.fault.FramingFault.TheVariants.{Head, Coding, Length, Long, NoLength, Moment, Cut}
+use Rattle.http_requests.specs.Framing.{rule_of}
+use Rattle.http_answers.specs.declared.status.Status.{Status}
+use Rattle.http_answers.specs.declared.status.Status.TheVariants.{BadRequest, LengthRequired, TooLarge, NotImplemented}
+use Rattle.http_answers.specs.Heads.{answer_of}
+use Rattle.outcome_bodies.specs.Outcomes.{rule_body}
+use Rattle.desk_model.specs.Sessions.{Session}
+use Rattle.console_answers.specs.Replies.{Reply}
+use Rattle.console_answers.specs.Requests.{MayReply}
+
+-- the request was by HEAD (RFC 9110, 9.3.2), whose answers show no body
+unfoldable pub is_head : List ℕ → Bool
+is_head method = bytes_eq method (codes "HEAD")
+
+-- the octets of a reply to a request by this method, behind which the connection may end
+unfoldable pub octets_of : List ℕ → Bool → Reply → List ℕ
+octets_of method closes reply = answer_of reply.status reply.allow closes (is_head method) reply.body
+
+-- What may be answered to a request that is given this moment, behind which the connection may end: the status, the octets,
+-- and the session after it.
+pub record MayAnswer (session : Session) (given : ℕ) (request : Request) (closes : Bool) (status : Status) (octets : List ℕ) (after : Session) : Type 0 where
+  pub reply : Reply
+  pub may : MayReply session given request reply after
+  pub status_is : status ≡ reply.status
+  pub octets_are : octets ≡ octets_of request.head.method closes reply
+
+-- ---- Faults that end a connection
+
+-- (RFC 9110, 15.5 and 15.6)
+unfoldable pub fault_status : FramingFault → Status
+fault_status Head = BadRequest
+fault_status Coding = NotImplemented
+fault_status Length = BadRequest
+fault_status Long = TooLarge
+fault_status NoLength = LengthRequired
+fault_status Moment = BadRequest
+fault_status Cut = BadRequest
+
+-- the octets of the answer, which names the rule that is broken; the connection ends behind it
+unfoldable pub fault_answer : FramingFault → List ℕ
+fault_answer fault = answer_of (fault_status fault) None true false (rule_body (rule_of fault))

@@ -1,0 +1,91 @@
+//! What a request asks for.
+ghost use Rattle.std.specs.Prelude.{◌≡◌, option_and_then};
+ghost use Rattle.console_routes.specs.Routes as routes;
+ghost use Rattle.console_routes.specs.Actions as actions;
+ghost use Rattle.reading.specs.Reading.{Answers};
+ghost use Rattle.console_bodies.specs.Bodies.{body_of};
+ghost use Rattle.console_answers.specs.Asks as spec;
+
+use body_members::{BodyFault, Unread};
+use console_bodies::{Asked, read_body};
+use console_routes::{Action, Route, action_of, method_of, route_of};
+use mud_base::Moment;
+use reading::Refusal;
+use std::alloc::Global;
+
+/// What a request asks for: the action of its route by its method, and what its body means there.
+#[derive(Drop, Debug)]
+pub struct Question {
+    pub action: Action,
+    pub asked: Asked,
+}
+
+/// Why a request asks for nothing.
+#[derive(Clone, Copy, Debug, PartialEq, Eq)]
+pub enum NoQuestion {
+    /// No route has the path of its target.
+    NoRoute,
+    /// This route has not its method.
+    NoMethod(Route),
+    /// Its body breaks a rule.
+    BadBody(BodyFault),
+}
+
+/// Why nothing is asked for: want of memory, or what is wrong with the request.
+pub type Unasked = Refusal<NoQuestion>;
+
+/// What a request by this method asks of a route. None where the route has not the method.
+fn action_by(route: Route, method: &[u8]) -> Option<Action>
+    ensures { result ≡ option_and_then (actions.action_of route) (actions.method_of method.now) }
+{
+    let method = method_of(method)?;
+    action_of(route, method)
+}
+
+/// What a request for this action asks for with its body.
+#[tactic(auto, unfolding(crate::specs::Asks::by_body))]
+fn question_by(alloc: Global, action: Action, body: &[u8], now: Moment) -> Result<Question, Unasked>
+    ensures { Answers (λ q. q) result (spec.by_body action (body_of action body.now now)) }
+{
+    match read_body(alloc, action, body, now) {
+        Ok(asked) => Ok(Question { action, asked }),
+        Err(Unread::Broken(fault)) => Err(Unasked::Broken(NoQuestion::BadBody(fault))),
+        Err(Unread::Memory) => Err(Unasked::Memory),
+    }
+}
+
+/// What a request by this method asks of a route.
+#[tactic(auto, unfolding(crate::specs::Asks::by_action))]
+fn question_to(
+    alloc: Global,
+    route: Route,
+    method: &[u8],
+    body: &[u8],
+    now: Moment,
+) -> Result<Question, Unasked>
+    ensures { Answers (λ q. q) result (spec.by_action route (option_and_then (actions.action_of route) (actions.method_of method.now)) body.now now) }
+{
+    match action_by(route, method) {
+        Some(action) => question_by(alloc, action, body, now),
+        None => Err(Unasked::Broken(NoQuestion::NoMethod(route))),
+    }
+}
+
+/// What a request by this method asks for with this body, taken at this moment: the first thing that
+/// is wrong with it is its path, to which no route belongs, its method, which the route has not, or
+/// its body. The path may be the target as well. Memory is taken for what the body means.
+#[tactic(auto, unfolding(crate::specs::Asks::question_of, crate::specs::Asks::by_route))]
+pub fn question_of(
+    alloc: Global,
+    method: &[u8],
+    path: &[u8],
+    body: &[u8],
+    now: Moment,
+) -> Result<Question, Unasked>
+    ensures { Answers (λ q. q) result (spec.question_of method.now path.now body.now now) }
+{
+    match route_of(path) {
+        Some(route) => question_to(alloc, route, method, body, now),
+        None => Err(Unasked::Broken(NoQuestion::NoRoute)),
+    }
+}

@@ -1,0 +1,53 @@
+-- A reply is answered.
+use Rattle.std.proofs.Common.{◌≡◌, ℕ, Bool, List, [], refl, sym, ap, ◌∙◌, subst, inl, inr}
+use Rattle.std.specs.Prelude.{Result, Ok, Err}
+use Rattle.http_requests.specs.Requests.{Request, path_of}
+use Rattle.http_requests.specs.declared.fault.MomentFrom.{MomentFrom}
+use Rattle.http_requests.specs.declared.parts.RequestParts.{RequestParts}
+use Rattle.http_requests.specs.Parts.{AreParts}
+use Rattle.http_answers.specs.declared.status.Status.{Status}
+use Rattle.mud_tables.specs.declared.segment.Segment.{Segment}
+use Rattle.desk_model.specs.Sessions.{Session, later}
+use Rattle.console_routes.specs.Routes.{route_of}
+use Rattle.mud_desk.specs.DeskState.{DeskState, session_of, HasForwarded}
+use Rattle.console_answers.specs.declared.question.Question.{Question}
+use Rattle.console_answers.specs.declared.question.NoQuestion.{NoQuestion}
+use Rattle.console_answers.specs.Replies.{Reply, Replied, replied, no_storage, unavailable, IsOrWanted, MayStand}
+use Rattle.console_answers.specs.Asks.{question_of, by_route, refusal_of}
+use Rattle.console_answers.specs.Requests.{question_in, by_result, reply_in, MayFailBy, MayFail, MayReply, by_question, ChangesBy, command_asked}
+use Rattle.console_answers.specs.Answers.{is_head, octets_of, MayAnswer}
+use Rattle.console_replies.specs.Runs.{LeadsOn}
+use Rattle.console_replies.proofs.Paths.{route_again}
+
+-- what the parts of a request ask for is what the request asks for
+pub question_here : (from : MomentFrom) (r : Request) (parts : RequestParts) (now : ℕ) → AreParts from r parts → question_of parts.method.now parts.path.now parts.body.now now ≡ question_of r.head.method r.head.target r.body now
+unfolding question_of
+question_here from r parts now are =
+    (λ i. by_route (route_of (are.path i)) (are.method i) (are.body i) now)
+    ∙ ap (λ route. by_route route r.head.method r.body now) (route_again r.head)
+
+-- what stands for the question stands for the request
+module _ (session after : Session) (given : ℕ) (r : Request) (reply : Reply) where
+  pub asked : (question : Question) → question_in session given r ≡ Ok question
+      → MayStand (ChangesBy session given (command_asked question.asked)) session (by_question session given r.body question.action question.asked) reply after → MayReply session given r reply after
+  unfolding reply_in MayFail
+  asked question is stands =
+      subst (λ (q : Result Question NoQuestion). MayStand (MayFailBy session given q) session (by_result session given r.body q) reply after) (sym is) stands
+
+  pub refused : (nothing : NoQuestion) → question_in session given r ≡ Err nothing → IsOrWanted (refusal_of nothing) reply → after ≡ session → MayReply session given r reply after
+  unfolding reply_in MayFail
+  refused nothing is or same =
+      subst (λ (q : Result Question NoQuestion). MayStand (MayFailBy session given q) session (by_result session given r.body q) reply after) (sym is)
+      (elim or.one [ inl said ↦ record { one = inl (inl (λ i. replied (sym said i) (sym same i))) } | inr want ↦ record { one = inl (inr (want, same)) } ])
+
+  pub wanted : reply ≡ no_storage → after ≡ session → MayReply session given r reply after
+  wanted is same = record { one = inl (inr (is, same)) }
+
+-- a reply is answered by its octets
+pub answered : (h : List Segment) (before after : DeskState) (given : ℕ) (r : Request) (closes : Bool) (reply : Reply) (octets method : List ℕ) → method ≡ r.head.method → octets ≡ octets_of method closes reply
+    → LeadsOn h before after (λ s t. MayReply s given r reply t) → LeadsOn h before after (λ s t. MayAnswer s given r closes reply.status octets t)
+answered h before after given r closes reply octets method is octets_are leads = record {
+  next = leads.next;
+  leads = record { reply = reply; may = leads.leads; status_is = refl; octets_are = octets_are ∙ ap (λ (m : List ℕ). octets_of m closes reply) is };
+  forwarded = leads.forwarded;
+}

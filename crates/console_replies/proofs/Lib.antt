@@ -1,0 +1,7 @@
+pub mod Boxes
+pub mod Replying
+pub mod Standing
+pub mod Commands
+pub mod Faults
+pub mod Paths
+pub mod Answered

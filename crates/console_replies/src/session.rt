@@ -1,0 +1,69 @@
+//! Calls of a desk as they are seen in its session.
+ghost use Rattle.std.specs.Prelude.{◌≡◌, ◌<◌, max, ℕ, List};
+ghost use Rattle.mud_world.specs.Boxed.{faults_of, Tells};
+ghost use Rattle.mud_tables.specs.declared.segment.Segment.{Segment as SegmentValue};
+ghost use Rattle.desk_model.specs.Sessions.{raised};
+ghost use Rattle.mud_desk.specs.DeskState.{tables_of, session_of, HasForwarded, IsJudged};
+ghost use Rattle.mud_desk.specs.Boxed.{IsKept, IsSameBox};
+
+use mud_base::{Memory, Moment};
+use mud_desk::Desk;
+use packet_judge::Verdict;
+use sorted_rows::Steps;
+use std::marker::Brand;
+use std::sync::ledger::{Blank, Ledger};
+
+/// The later of two moments.
+pub(crate) fn later(a: Moment, b: Moment) -> Moment
+    ensures { result ≡ max a b }
+{
+    if a.seconds() < b.seconds() { b } else { a }
+}
+
+/// Makes the later of the session's moment and this one the moment of the session.
+#[tactic(auto, using(crate::proofs::Boxes::same_kept, crate::proofs::Boxes::same_told, crate::proofs::Boxes::same_box), unfolding(mud_desk::specs::DeskState::session_of, mud_desk::specs::DeskState::tables_of, desk_model::specs::Sessions::raised, desk_model::specs::Sessions::later))]
+pub(crate) fn raise(desk: &mut Desk, given: Moment)
+    requires kept { IsKept Keeper-dyn desk.old.keeper (tables_of desk.old.state) }
+    ensures raised { (h : List SegmentValue) → session_of h desk.new.state ≡ raised (session_of h desk.old.state) given }
+    ensures flows { desk.new.state.flows ≡ desk.old.state.flows }
+    ensures kept { IsKept Keeper-dyn desk.new.keeper (tables_of desk.new.state) }
+    ensures told { Tells Keeper-dyn desk.new.keeper → Tells Keeper-dyn desk.old.keeper }
+    ensures steady { faults_of Keeper-dyn desk.new.keeper ≡ faults_of Keeper-dyn desk.old.keeper }
+    ensures same_box { IsSameBox desk.old.keeper desk.new.keeper }
+{
+    let _moment = desk.raise(given);
+}
+
+/// Judges a frame, and counts the steps for nobody.
+#[tactic(auto, using(crate::proofs::Boxes::same_kept, crate::proofs::Boxes::same_told, crate::proofs::Boxes::same_box), unfolding(mud_desk::specs::DeskState::tables_of))]
+fn judge_counted<L: Ledger>(
+    desk: &mut Desk,
+    frame: &[u8],
+    given: Moment,
+    blank: Blank,
+) -> Result<Verdict, Memory>
+    requires name { blank.name ≡ L.name }
+    requires parts { blank.parts ≡ L.parts }
+    requires some { 0 < L.parts }
+    requires kept { IsKept Keeper-dyn desk.old.keeper (tables_of desk.old.state) }
+    ensures judged { (h : List SegmentValue) → HasForwarded h desk.old.state → IsJudged h desk.old.state given frame.now result desk.new.state }
+    ensures kept { IsKept Keeper-dyn desk.new.keeper (tables_of desk.new.state) }
+    ensures told { Tells Keeper-dyn desk.new.keeper → Tells Keeper-dyn desk.old.keeper }
+    ensures steady { faults_of Keeper-dyn desk.new.keeper ≡ faults_of Keeper-dyn desk.old.keeper }
+    ensures same_box { IsSameBox desk.old.keeper desk.new.keeper }
+{
+    let mut steps = Steps::<L>::new(blank);
+    desk.judge(frame, given, &mut steps)
+}
+
+/// Judges a frame.
+pub(crate) fn judge(desk: &mut Desk, frame: &[u8], given: Moment) -> Result<Verdict, Memory>
+    requires kept { IsKept Keeper-dyn desk.old.keeper (tables_of desk.old.state) }
+    ensures judged { (h : List SegmentValue) → HasForwarded h desk.old.state → IsJudged h desk.old.state given frame.now result desk.new.state }
+    ensures kept { IsKept Keeper-dyn desk.new.keeper (tables_of desk.new.state) }
+    ensures told { Tells Keeper-dyn desk.new.keeper → Tells Keeper-dyn desk.old.keeper }
+    ensures steady { faults_of Keeper-dyn desk.new.keeper ≡ faults_of Keeper-dyn desk.old.keeper }
+    ensures same_box { IsSameBox desk.old.keeper desk.new.keeper }
+{
+    judge_counted::<Brand>(desk, frame, given, Blank::new(1))
+}

@@ -1,12 +1,14 @@
 //! What a request asks for.
-ghost use Rattle.std.specs.Prelude.{◌≡◌, option_and_then};
+ghost use Rattle.std.specs.Prelude.{◌≡◌, IfOk, option_and_then};
 ghost use Rattle.console_routes.specs.Routes as routes;
 ghost use Rattle.console_routes.specs.Actions as actions;
 ghost use Rattle.reading.specs.Reading.{Answers};
 ghost use Rattle.console_bodies.specs.Bodies.{body_of};
+ghost use Rattle.console_bodies.specs.Laws.{AsksRightly};
 ghost use Rattle.console_answers.specs.Asks as spec;
 
 use body_members::{BodyFault, Unread};
+use console_bodies::laws::bodies_ask_rightly;
 use console_bodies::{Asked, read_body};
 use console_routes::{Action, Route, action_of, method_of, route_of};
 use mud_base::Moment;
@@ -45,8 +47,10 @@ fn action_by(route: Route, method: &[u8]) -> Option<Action>
 /// What a request for this action asks for with its body.
 #[tactic(auto, unfolding(crate::specs::Asks::by_body))]
 fn question_by(alloc: Global, action: Action, body: &[u8], now: Moment) -> Result<Question, Unasked>
-    ensures { Answers (λ q. q) result (spec.by_body action (body_of action body.now now)) }
+    ensures question { Answers (λ q. q) result (spec.by_body action (body_of action body.now now)) }
+    ensures asked { IfOk result (λ q. AsksRightly q.asked) }
 {
+    bodies_ask_rightly();
     match read_body(alloc, action, body, now) {
         Ok(asked) => Ok(Question { action, asked }),
         Err(Unread::Broken(fault)) => Err(Unasked::Broken(NoQuestion::BadBody(fault))),
@@ -63,7 +67,8 @@ fn question_to(
     body: &[u8],
     now: Moment,
 ) -> Result<Question, Unasked>
-    ensures { Answers (λ q. q) result (spec.by_action route (option_and_then (actions.action_of route) (actions.method_of method.now)) body.now now) }
+    ensures asked { IfOk result (λ q. AsksRightly q.asked) }
+    ensures question { Answers (λ q. q) result (spec.by_action route (option_and_then (actions.action_of route) (actions.method_of method.now)) body.now now) }
 {
     match action_by(route, method) {
         Some(action) => question_by(alloc, action, body, now),
@@ -82,7 +87,9 @@ pub fn question_of(
     body: &[u8],
     now: Moment,
 ) -> Result<Question, Unasked>
-    ensures { Answers (λ q. q) result (spec.question_of method.now path.now body.now now) }
+    ensures question { Answers (λ q. q) result (spec.question_of method.now path.now body.now now) }
+    // A command that is asked for may be given.
+    ensures asked { IfOk result (λ q. AsksRightly q.asked) }
 {
     match route_of(path) {
         Some(route) => question_to(alloc, route, method, body, now),

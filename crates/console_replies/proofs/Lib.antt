@@ -1,7 +1,7 @@
 pub mod Boxes
 pub mod Replying
 pub mod Standing
-pub mod Commands
+pub mod Carrying
 pub mod Faults
 pub mod Paths
 pub mod Answered

@@ -1,5 +1,5 @@
 //! Commands: what an operator states, a usage file that was fetched, and what was heard.
-ghost use Rattle.std.specs.Prelude.{◌≡◌, ◌<◌, ℕ, List};
+ghost use Rattle.std.specs.Prelude.{◌≡◌, ◌<◌, false, ℕ, List};
 ghost use Rattle.mud_world.specs.Boxed.{faults_of, Tells};
 ghost use Rattle.mud_world.specs.Causes.{Counts};
 ghost use Rattle.mud_tables.specs.declared.segment.Segment.{Segment as SegmentValue};
@@ -8,8 +8,9 @@ ghost use Rattle.desk_model.specs.Sessions.{MayAnswer, command_in};
 ghost use Rattle.mud_desk.specs.DeskState.{tables_of, session_of, HasForwarded};
 ghost use Rattle.mud_desk.specs.Boxed.{IsKept, IsSameBox};
 ghost use Rattle.mud_desk.specs.Answers.{is_of_keeper};
-ghost use Rattle.console_answers.specs.Replies.{reply, is_unavailable, MayStand};
+ghost use Rattle.console_answers.specs.Replies.{reply, is_unavailable, IsOrWanted, MayStand};
 ghost use Rattle.console_answers.specs.Requests.{Changes, by_command, outcome_body};
+ghost use Rattle.listing_bodies.specs.Refusals as refusals;
 ghost use Rattle.console_replies.specs.Runs.{LeadsOn};
 ghost use Rattle.console_replies.specs.Origins.{said_of, HasTexts, IsWritten};
 
@@ -100,7 +101,7 @@ fn write_outcome(body: &mut BodyText, origin: &Origin, outcome: &Outcome)
 /// Writes why a command is refused.
 #[tactic(auto, using(crate::proofs::Replying::made, crate::proofs::Replying::refusal_known))]
 fn write_refusal(alloc: Global, body: &mut BodyText, refusal: &Refusal) -> Status
-    ensures reply { IsOrWanted (reply (refusal_status refusal.now) (refusal_body refusal.now)) (reply result body.new) }
+    ensures reply { IsOrWanted (reply (refusals.refusal_status refusal.now) (refusals.refusal_body refusal.now)) (reply result body.new) }
     ensures known { is_unavailable result ≡ false }
 {
     body.take(refusal_status(refusal), refusal_body(alloc, refusal))
@@ -129,7 +130,7 @@ fn write_reply(alloc: Global, body: &mut BodyText, origin: &Origin, answered: Re
 
 /// Carries a command out. What it changes is kept before it is answered, and the answer of a command
 /// that was carried out takes no memory.
-#[tactic(auto, using(crate::proofs::Commands::stands))]
+#[tactic(auto, using(crate::proofs::Carrying::stands))]
 pub(crate) fn answer_command(
     alloc: Global,
     desk: &mut Desk,

@@ -1,6 +1,8 @@
 -- A reply is answered.
 use Rattle.std.proofs.Common.{◌≡◌, ℕ, Bool, List, [], refl, sym, ap, ◌∙◌, subst, inl, inr}
-use Rattle.std.specs.Prelude.{Result, Ok, Err}
+use Rattle.std.specs.Prelude.{Result, Ok, Err, Option, length, max, ◌++◌}
+use Rattle.console_routes.specs.declared.route.Route.{Route}
+use Rattle.http_answers.specs.Heads.{head_of, shown, answer_of}
 use Rattle.http_requests.specs.Requests.{Request, path_of}
 use Rattle.http_requests.specs.declared.fault.MomentFrom.{MomentFrom}
 use Rattle.http_requests.specs.declared.parts.RequestParts.{RequestParts}
@@ -51,3 +53,35 @@ answered h before after given r closes reply octets method is octets_are leads =
   leads = record { reply = reply; may = leads.leads; status_is = refl; octets_are = octets_are ∙ ap (λ (m : List ℕ). octets_of m closes reply) is };
   forwarded = leads.forwarded;
 }
+
+-- the octets in two pieces
+pub octets_are : (head body : List ℕ) (len : ℕ) (by_head closes : Bool) (status : Status) (allow : Option Route) (method : List ℕ) → head ≡ head_of status allow len closes → len ≡ length body → by_head ≡ is_head method
+    → head ++ shown by_head body ≡ octets_of method closes (record { status = status; allow = allow; body = body })
+unfolding octets_of answer_of
+octets_are head body len by_head closes status allow method head_is len_is is =
+    λ i. (head_is ∙ ap (λ n. head_of status allow n closes) len_is) i ++ shown (is i) body
+
+-- ---- What stands for a request, by the question that its parts ask
+
+module _ (from : MomentFrom) (r : Request) (parts : RequestParts) (are : AreParts from r parts) (h : List Segment) (before : DeskState) (given now : ℕ) (is : now ≡ max before.moment given) where
+  -- the question is taken at the later moment
+  asked_at : question_in (session_of h before) given r ≡ question_of parts.method.now parts.path.now parts.body.now now
+  unfolding question_in session_of later
+  asked_at = sym (question_here from r parts now are ∙ ap (λ n. question_of r.head.method r.head.target r.body n) is)
+
+  pub leads_asked : (after : DeskState) (reply : Reply) (question : Question) → question_of parts.method.now parts.path.now parts.body.now now ≡ Ok question
+      → LeadsOn h before after (λ s t. MayStand (ChangesBy s given (command_asked question.asked)) s (by_question s given parts.body.now question.action question.asked) reply t)
+      → LeadsOn h before after (λ s t. MayReply s given r reply t)
+  leads_asked after reply question says leads = record {
+    next = leads.next;
+    leads = asked (session_of h before) (session_of leads.next after) given r reply question (asked_at ∙ says)
+        (subst (λ (body : List ℕ). MayStand (ChangesBy (session_of h before) given (command_asked question.asked)) (session_of h before) (by_question (session_of h before) given body question.action question.asked) reply (session_of leads.next after)) are.body leads.leads);
+    forwarded = leads.forwarded;
+  }
+
+  pub leads_refused : (reply : Reply) (nothing : NoQuestion) → question_of parts.method.now parts.path.now parts.body.now now ≡ Err nothing → IsOrWanted (refusal_of nothing) reply → HasForwarded h before
+      → LeadsOn h before before (λ s t. MayReply s given r reply t)
+  leads_refused reply nothing says or forwarded = record { next = h; leads = refused (session_of h before) (session_of h before) given r reply nothing (asked_at ∙ says) or refl; forwarded = forwarded }
+
+  pub leads_wanted : (reply : Reply) → reply ≡ no_storage → HasForwarded h before → LeadsOn h before before (λ s t. MayReply s given r reply t)
+  leads_wanted reply is_wanted forwarded = record { next = h; leads = wanted (session_of h before) (session_of h before) given r reply is_wanted refl; forwarded = forwarded }

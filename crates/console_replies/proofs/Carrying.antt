@@ -1,5 +1,6 @@
 -- What may stand for a command.
-use Rattle.std.proofs.Common.{◌≡◌, ℕ, List, Result, Ok, Err, refl, sym, ap, ◌∙◌, subst, inl, inr}
+use Rattle.std.proofs.lemmas.Bool.{false≢true}
+use Rattle.std.proofs.Common.{◌≡◌, ℕ, Bool, true, false, List, Result, Ok, Err, refl, sym, ap, ◌∙◌, subst, inl, inr}
 use Rattle.desk_model.specs.declared.command.Command.{Command}
 use Rattle.desk_model.specs.declared.reply.Outcome.{Outcome}
 use Rattle.desk_model.specs.declared.reply.Refusal.{Refusal}
@@ -11,10 +12,16 @@ use Rattle.console_answers.specs.Replies.{Reply, Replied, replied, no_storage, u
 use Rattle.console_answers.specs.Requests.{command_reply, by_command, Changes}
 use Rattle.console_replies.specs.Origins.{IsWritten}
 
+abbrev is_refused : desk.Reply → Bool
+is_refused (Done outcome) = false
+is_refused (Refused refusal) = true
+is_refused Keeper = false
+is_refused Memory = false
+
 -- a refusal leaves the session
 left_by : (session after : Session) (now : ℕ) (step : DeskStep) (refusal : Refusal) → answered session now step ≡ record { reply = Refused refusal; session = after } → after ≡ session
 unfolding answered
-left_by session after now (Ok step) refusal is = absurd (cc)
+left_by session after now (Ok step) refusal is = absurd (false≢true (ap (λ (a : Answered). is_refused a.reply) is))
 left_by session after now (Err fault) refusal is = sym (ap (λ (a : Answered). a.session) is)
 
 module _ (session after : Session) (given : ℕ) (command : Command) (said : Outcome → List ℕ) where

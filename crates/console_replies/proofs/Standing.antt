@@ -1,22 +1,34 @@
 -- What stands for requests, as it is seen in the session.
+use Rattle.std.specs.Prelude.{max, IfOk}
 use Rattle.std.proofs.Common.{◌≡◌, ℕ, List, Option, Some, None, Result, Ok, Err, refl, sym, ap, ◌∙◌, subst, inl, inr}
 use Rattle.mud_base.specs.declared.memory.Memory as want
 use Rattle.mud_tables.specs.declared.segment.Segment.{Segment}
 use Rattle.flow_table.specs.Kept.{StandsFor}
 use Rattle.flow_table.specs.Held.{Held, flows_of}
+use Rattle.mud_tables.specs.declared.thing.Thing.{Thing}
+use Rattle.file_tables.specs.declared.cached_file.CachedFile.{CachedFile}
 use Rattle.packet_judge.specs.declared.verdict.Verdict.{Verdict}
 use Rattle.dhcp_lldp.specs.declared.heard.Heard.{Heard}
 use Rattle.dhcp_lldp.specs.declared.heard.Heard.TheVariants.{Url, Lease, Nothing}
 use Rattle.console_bodies.specs.Bodies.{heard_command}
+use Rattle.std.proofs.lemmas.Option.{none-some, same_Some}
 use Rattle.desk_model.specs.declared.command.Command.{Command}
+use Rattle.desk_model.specs.declared.command.Command.TheVariants.{HearUrl, HearLease}
 use Rattle.desk_model.specs.Commands.{IsAsked}
-use Rattle.desk_model.specs.Sessions.{Session, MayJudge, Judged, frame_in, raised}
+use Rattle.console_routes.specs.declared.action.Listing.{Listing}
+use Rattle.frame_view.specs.Frame.{frame_of}
+use Rattle.desk_model.specs.Sessions.{Session, MayJudge, Judged, frame_in, verdict_in, raised, later}
 use Rattle.http_answers.specs.declared.status.Status.TheVariants as status
 use Rattle.outcome_bodies.specs.Verdicts.{verdict_body}
-use Rattle.mud_desk.specs.DeskState.{DeskState, session_of, HasForwarded, IsJudged}
-use Rattle.console_answers.specs.Replies.{Reply, reply, Replied, replied, no_storage, unavailable, IsOrWanted, MayStand}
-use Rattle.console_answers.specs.Requests.{by_verdict}
+use Rattle.mud_desk.specs.DeskState.{DeskState, tables_of, session_of, HasForwarded, IsJudged}
+use Rattle.console_answers.specs.Replies.{Reply, reply, Replied, replied, made_reply, no_storage, unavailable, IsOrWanted, MayStand}
+use Rattle.console_answers.specs.Listings.{listing_text}
+use Rattle.console_answers.specs.Why.{packet_ends, ends_text, why_text}
+use Rattle.console_routes.specs.declared.action.Action.{Action}
+use Rattle.console_bodies.specs.declared.asked.Asked.{Asked}
+use Rattle.console_answers.specs.Requests.{ChangesBy, by_verdict, by_question, command_asked}
 use Rattle.console_replies.specs.Runs.{LeadsOn}
+use Rattle.console_replies.proofs.Replying.{made}
 
 -- the table of connections stays
 pub flows_stay : (h : List Segment) (before after : DeskState) → after.flows ≡ before.flows → HasForwarded h before → HasForwarded h after
@@ -68,6 +80,49 @@ module _ (h : List Segment) (before after : DeskState) (now : ℕ) (frame : List
 -- the command for what was heard may be given
 pub heard_asked : (heard : Heard) (command : Command) → heard_command heard ≡ Some command → IsAsked command
 unfolding heard_command
-heard_asked (Url mac url) command is = subst IsAsked (cc) tt
-heard_asked (Lease mac address seconds) command is = subst IsAsked (cc) tt
-heard_asked Nothing command is = absurd (cc)
+heard_asked (Url mac url) command is = subst IsAsked (same_Some (HearUrl mac url) command is) tt
+heard_asked (Lease mac address seconds) command is = subst IsAsked (same_Some (HearLease mac address seconds) command is) tt
+heard_asked Nothing command is = absurd (none-some command is)
+
+-- the moment was raised
+pub raise_is : (h : List Segment) (before after : DeskState) (given moment : ℕ) → after ≡ record before { moment = moment } → moment ≡ max before.moment given → session_of h after ≡ raised (session_of h before) given
+unfolding session_of raised later tables_of
+raise_is h before after given moment is later_is =
+    ap (session_of h) is ∙ (λ i. record { desk = tables_of before; history = h; moment = later_is i })
+
+-- rows were listed
+pub listed : (listing : Listing) (h : List Segment) (before after : DeskState) (given now : ℕ) (text : List ℕ) → now ≡ max before.moment given → text ≡ listing_text listing (tables_of before) now
+    → session_of h after ≡ raised (session_of h before) given → after.flows ≡ before.flows → HasForwarded h before
+    → LeadsOn h before after (λ s t. MayStand ⊥ s (replied (reply status.Done (listing_text listing s.desk (later s given))) (raised s given)) (reply status.Done text) t)
+listed listing h before after given now text is text_is raised_to same stands =
+    raises (λ s. reply status.Done (listing_text listing s.desk (later s given))) h before after given (reply status.Done text)
+    (ap (reply status.Done) (text_is ∙ ap (listing_text listing (tables_of before)) is ∙ here)) raised_to same stands
+  where
+    here : listing_text listing (tables_of before) (max before.moment given) ≡ listing_text listing (session_of h before).desk (later (session_of h before) given)
+    unfolding session_of later
+    here = refl
+
+-- it was told what decides a frame
+pub told : (frame : List ℕ) (h : List Segment) (state : DeskState) (given : ℕ) (written : Reply)
+    → IsOrWanted (reply status.Done (why_text (session_of h state).desk frame (verdict_in (session_of h state) given frame))) written → HasForwarded h state
+    → LeadsOn h state state (λ s t. MayStand ⊥ s (replied (reply status.Done (why_text s.desk frame (verdict_in s given frame))) s) written t)
+told frame h state given written or stands =
+    left (λ s. ⊥) (λ s. replied (reply status.Done (why_text s.desk frame (verdict_in s given frame))) s) h state written
+    (reply status.Done (why_text (session_of h state).desk frame (verdict_in (session_of h state) given frame))) refl or stands
+
+-- the text that was made for it
+pub why_is : (frame : List ℕ) (h : List Segment) (state : DeskState) (given : ℕ) (things : List Thing) (files : List CachedFile) (verdict : Verdict) (text : Result (List ℕ) want.Memory) (written : Reply)
+    → things ≡ (tables_of state).tables.things → files ≡ (tables_of state).files → verdict ≡ verdict_in (session_of h state) given frame
+    → IfOk text (λ t. t ≡ ends_text files (packet_ends things (frame_of frame)) verdict) → written ≡ made_reply status.Done text
+    → IsOrWanted (reply status.Done (why_text (session_of h state).desk frame (verdict_in (session_of h state) given frame))) written
+unfolding why_text session_of
+why_is frame h state given things files verdict text written things_is files_is is text_is made_is =
+    subst (λ (t : List ℕ). IsOrWanted (reply status.Done t) written) (λ i. ends_text (files_is i) (packet_ends (things_is i) (frame_of frame)) (is i))
+    (made status.Done (ends_text files (packet_ends things (frame_of frame)) verdict) text written text_is made_is)
+
+-- the question is this one
+pub as_asked : (h : List Segment) (before after : DeskState) (given : ℕ) (octets : List ℕ) (action : Action) (a b : Asked) (written : Reply) → a ≡ b
+    → LeadsOn h before after (λ s t. MayStand (ChangesBy s given (command_asked b)) s (by_question s given octets action b) written t)
+    → LeadsOn h before after (λ s t. MayStand (ChangesBy s given (command_asked a)) s (by_question s given octets action a) written t)
+as_asked h before after given octets action a b written is leads =
+    subst (λ (x : Asked). LeadsOn h before after (λ s t. MayStand (ChangesBy s given (command_asked x)) s (by_question s given octets action x) written t)) (sym is) leads

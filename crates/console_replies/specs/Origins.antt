@@ -12,8 +12,8 @@ use Rattle.console_replies.specs.declared.commands.Origin.TheVariants.{Asked, He
 
 -- what is told of a command that was carried out
 unfoldable pub said_of : Origin → Outcome → List ℕ
-said_of (Asked action) outcome = outcome_body action outcome
-said_of (Heard heard texts) outcome = heard_body heard outcome
+said_of (Asked action) = outcome_body action
+said_of (Heard heard texts) = heard_body heard
 
 -- the texts are those of what was heard
 abbrev pub HasTexts : Origin → Type 0

@@ -105,7 +105,7 @@ fn fault_status(fault: FramingFault) -> Status
 /// it, it says so. The status of the answer is handed out. Memory that is wanted is answered with
 /// 507, and a change that couldn't be kept with 503: all is then as it was. What stands for a change
 /// that was kept takes no memory.
-#[tactic(auto, using(crate::proofs::Answered::answered), unfolding(http_answers::specs::Heads::answer_of))]
+#[tactic(auto, unfolding(console_answers::specs::Answers::octets_of, http_answers::specs::Heads::answer_of))]
 pub fn answer_request(
     alloc: Global,
     desk: &mut Desk,

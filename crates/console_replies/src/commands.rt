@@ -108,7 +108,7 @@ fn write_refusal(alloc: Global, body: &mut BodyText, refusal: &Refusal) -> Statu
 }
 
 /// Writes what a command answered.
-#[tactic(auto, using(crate::proofs::Replying::refused), unfolding(console_answers::specs::Requests::command_reply, console_answers::specs::Replies::unavailable))]
+#[tactic(auto, unfolding(console_answers::specs::Requests::command_reply, console_answers::specs::Replies::unavailable))]
 fn write_reply(alloc: Global, body: &mut BodyText, origin: &Origin, answered: Reply) -> Status
     requires { HasTexts origin.now }
     ensures reply { IsWritten (said_of origin.now) answered (reply result body.new) }

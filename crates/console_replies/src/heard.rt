@@ -32,7 +32,7 @@ fn take_heard(
     alloc: Global,
     desk: &mut Desk,
     body: &mut BodyText,
-    heard: Heard,
+    heard: &Heard,
     command: Command,
     given: Moment,
 ) -> Status
@@ -40,15 +40,15 @@ fn take_heard(
     requires asked { IsAsked command }
     ensures reply { (h : List SegmentValue) → HasForwarded h desk.old.state
         → LeadsOn h desk.old.state desk.new.state (λ session after. MayStand (Changes session given command) session
-        (by_command (heards.heard_body heard) (command_in session given command)) (reply result body.new) after) }
+        (by_command (heards.heard_body heard.now) (command_in session given command)) (reply result body.new) after) }
     ensures kept { IsKept Keeper-dyn desk.new.keeper (tables_of desk.new.state) }
     ensures told { Tells Keeper-dyn desk.new.keeper → Tells Keeper-dyn desk.old.keeper }
     ensures cause { Counts (is_unavailable result) (faults_of Keeper-dyn desk.old.keeper) (faults_of Keeper-dyn desk.new.keeper) }
     ensures same_box { IsSameBox desk.old.keeper desk.new.keeper }
 {
-    match heard_texts(alloc, &heard) {
+    match heard_texts(alloc, heard) {
         Ok(texts) => {
-            let origin = Origin::Heard(heard, texts);
+            let origin = Origin::Heard(*heard, texts);
             answer_command(alloc, desk, body, origin, command, given)
         }
         Err(Memory) => want_memory(body),
@@ -56,7 +56,6 @@ fn take_heard(
 }
 
 /// Says that a message says nothing, which raises the moment of the session.
-#[tactic(auto, using(crate::proofs::Standing::raised_to))]
 fn answer_nothing(desk: &mut Desk, body: &mut BodyText, given: Moment) -> Status
     requires kept { IsKept Keeper-dyn desk.old.keeper (tables_of desk.old.state) }
     ensures reply { (h : List SegmentValue) → HasForwarded h desk.old.state
@@ -78,19 +77,19 @@ pub(crate) fn answer_heard(
     alloc: Global,
     desk: &mut Desk,
     body: &mut BodyText,
-    heard: Heard,
+    heard: &Heard,
     given: Moment,
 ) -> Status
     requires kept { IsKept Keeper-dyn desk.old.keeper (tables_of desk.old.state) }
     ensures reply { (h : List SegmentValue) → HasForwarded h desk.old.state
-        → LeadsOn h desk.old.state desk.new.state (λ session after. MayStand (ChangesBy session given (bodies.heard_command heard)) session
-        (by_heard session given heard (bodies.heard_command heard)) (reply result body.new) after) }
+        → LeadsOn h desk.old.state desk.new.state (λ session after. MayStand (ChangesBy session given (bodies.heard_command heard.now)) session
+        (by_heard session given heard.now (bodies.heard_command heard.now)) (reply result body.new) after) }
     ensures kept { IsKept Keeper-dyn desk.new.keeper (tables_of desk.new.state) }
     ensures told { Tells Keeper-dyn desk.new.keeper → Tells Keeper-dyn desk.old.keeper }
     ensures cause { Counts (is_unavailable result) (faults_of Keeper-dyn desk.old.keeper) (faults_of Keeper-dyn desk.new.keeper) }
     ensures same_box { IsSameBox desk.old.keeper desk.new.keeper }
 {
-    match heard_command(heard) {
+    match heard_command(*heard) {
         Some(command) => take_heard(alloc, desk, body, heard, command, given),
         None => answer_nothing(desk, body, given),
     }

@@ -41,7 +41,6 @@ fn listing_text(
 }
 
 /// Lists rows, which raises the moment of the session.
-#[tactic(auto, using(crate::proofs::Standing::listed, crate::proofs::Standing::wanted))]
 pub(crate) fn answer_listing(
     alloc: Global,
     desk: &mut Desk,

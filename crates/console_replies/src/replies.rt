@@ -29,6 +29,7 @@ use mud_desk::Desk;
 use std::alloc::Global;
 
 /// Carries out what is asked for, with the octets of the body.
+#[tactic(auto, unfolding(console_answers::specs::Requests::by_question, console_answers::specs::Requests::command_asked, crate::specs::Origins::said_of))]
 fn answer_question(
     alloc: Global,
     desk: &mut Desk,
@@ -47,11 +48,12 @@ fn answer_question(
     ensures cause { Counts (is_unavailable result) (faults_of Keeper-dyn desk.old.keeper) (faults_of Keeper-dyn desk.new.keeper) }
     ensures same_box { IsSameBox desk.old.keeper desk.new.keeper }
 {
-    match question.asked {
+    let Question { action, asked } = question;
+    match asked {
         Asked::Command(command) => {
-            answer_command(alloc, desk, body, Origin::Asked(question.action), command, given)
+            answer_command(alloc, desk, body, Origin::Asked(action), command, given)
         }
-        Asked::Heard(heard) => answer_heard(alloc, desk, body, heard, given),
+        Asked::Heard(heard) => answer_heard(alloc, desk, body, &heard, given),
         Asked::List(listing) => answer_listing(alloc, desk, body, listing, given),
         Asked::Judge => answer_frame(desk, body, octets, given),
         Asked::Why => answer_why(alloc, desk, body, octets, given),

@@ -1,9 +1,8 @@
 //! Requests to a desk over a keeper in memory.
 use crate::{Answer, answer_request};
-use http_answers::Status;
 use http_requests::{FramingFault, RequestParts};
-use mud_base::{Bytes, Listed, Memory, Moment};
-use mud_desk::Desk;
+use mud_base::{Listed, Moment};
+use mud_desk::{Desk, Taken};
 use mud_world::{Keeper, MemoryKeeper};
 use std::alloc::Global;
 use std::process::Abort;
@@ -12,7 +11,7 @@ use std::test::Fail;
 /// A desk over a keeper that holds nothing.
 fn new_desk(alloc: Global) -> Result<Desk, Fail> {
     let keeper: Box<dyn Keeper> = Box::new(alloc, MemoryKeeper::new(alloc, Listed::new(alloc)))?;
-    match Desk::open(alloc, keeper) {
+    match Desk::open(alloc, keeper, Taken::new(alloc)) {
         Ok(desk) => Ok(desk),
         Err(_refused) => Err("not opened".into()),
     }
@@ -29,27 +28,72 @@ fn request<'a>(method: &'a [u8], path: &'a [u8], body: &'a [u8]) -> RequestParts
     }
 }
 
-/// Asserts that the answer has this text.
-fn has_text(rt: &impl Abort, alloc: Global, answer: &Answer, text: &[u8]) -> Result<(), Memory> {
-    let (head, body) = answer.pieces();
-    let mut octets = Bytes::new(alloc, head)?;
-    octets.append(body)?;
-    assert_eq!(rt; octets.octets(), text);
+/// Asserts that the answer has this head and this body.
+fn has_text(rt: &impl Abort, answer: &Answer, head: &[u8], body: &[u8]) {
+    let (first, behind) = answer.pieces();
+    assert_eq!(rt; first, head);
+    assert_eq!(rt; behind, body);
+}
+
+#[test]
+fn a_statement_and_a_listing(rt: HostRuntime) -> Result<(), Fail> {
+    let alloc = rt.alloc();
+    let mut answer = Answer::new(alloc)?;
+    let mut desk = new_desk(alloc)?;
+    let now = Moment::at_most_last(5);
+    let set = request(b"PUT", b"/locals", b"{\"prefixes\":[\"192.0.2.0/24\"]}");
+    answer_request(alloc, &mut desk, &mut answer, &set, now, false);
+    has_text(
+        &rt,
+        &answer,
+        b"HTTP/1.1 200 OK\r\nContent-Type: application/json\r\nContent-Length: 16\r\n\r\n",
+        b"{\"result\":\"set\"}",
+    );
+    let list = request(b"GET", b"/locals", b"");
+    answer_request(alloc, &mut desk, &mut answer, &list, now, true);
+    has_text(
+        &rt,
+        &answer,
+        b"HTTP/1.1 200 OK\r\nContent-Type: application/json\r\nContent-Length: 27\r\nConnection: close\r\n\r\n",
+        b"{\"locals\":[\"192.0.2.0/24\"]}",
+    );
     Ok(())
 }
 
 #[test]
-fn locals_are_set_and_listed(rt: HostRuntime) -> Result<(), Fail> {
+fn a_refusal_and_a_method(rt: HostRuntime) -> Result<(), Fail> {
     let alloc = rt.alloc();
-    let mut desk = new_desk(alloc)?;
     let mut answer = Answer::new(alloc)?;
-    let set = request(b"PUT", b"/locals", b"{\"prefixes\":[\"192.0.2.0/24\"]}");
-    answer_request(alloc, &mut desk, &mut answer, &set, Moment::at_most_last(5), false);
+    let mut desk = new_desk(alloc)?;
+    let now = Moment::at_most_last(1000);
+    let remove = request(b"DELETE", b"/things", b"{\"mac\":\"02:00:00:00:00:09\"}");
+    answer_request(alloc, &mut desk, &mut answer, &remove, now, false);
     has_text(
         &rt,
-        alloc,
         &answer,
-        b"HTTP/1.1 200 OK\r\nContent-Type: application/json\r\nContent-Length: 16\r\n\r\n{\"result\":\"set\"}",
-    )?;
+        b"HTTP/1.1 409 Conflict\r\nContent-Type: application/json\r\nContent-Length: 46\r\n\r\n",
+        b"{\"book\":\"things\",\"refused\":2,\"rule\":\"NoThing\"}",
+    );
+    let head = request(b"HEAD", b"/locals", b"");
+    answer_request(alloc, &mut desk, &mut answer, &head, now, false);
+    has_text(
+        &rt,
+        &answer,
+        b"HTTP/1.1 405 Method Not Allowed\r\nContent-Type: application/json\r\nAllow: GET, PUT\r\nContent-Length: 17\r\n\r\n",
+        b"",
+    );
+    Ok(())
+}
+
+#[test]
+fn a_fault(rt: HostRuntime) -> Result<(), Fail> {
+    let mut answer = Answer::new(rt.alloc())?;
+    answer.refuse(FramingFault::Long);
+    has_text(
+        &rt,
+        &answer,
+        b"HTTP/1.1 413 Payload Too Large\r\nContent-Type: application/json\r\nContent-Length: 15\r\nConnection: close\r\n\r\n",
+        b"{\"rule\":\"long\"}",
+    );
     Ok(())
 }

@@ -13,7 +13,6 @@ use mud_desk::Desk;
 use std::alloc::Global;
 
 /// Tells what decides a frame. Nothing is changed, the moment of the session neither.
-#[tactic(auto, using(crate::proofs::Standing::told_why), unfolding(console_answers::specs::Why::why_text))]
 pub(crate) fn answer_why(
     alloc: Global,
     desk: &Desk,

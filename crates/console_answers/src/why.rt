@@ -206,7 +206,12 @@ fn ends_text(
     ensures { IfOk result (λ text. text ≡ spec.ends_text files.now (spec.ends (option_copied source.entry) (option_copied destination.entry)) verdict.now) }
 {
     let from = ruled_end(files, Direction::From, source, source_ruling(verdict));
-    let to = ruled_end(files, Direction::To, destination, destination_ruling(verdict));
+    let to = ruled_end(
+        files,
+        Direction::To,
+        destination,
+        destination_ruling(verdict),
+    );
     why_body(alloc, &from, &to, verdict)
 }
 

@@ -1,6 +1,6 @@
 -- A reply is answered.
 use Rattle.std.proofs.Common.{◌≡◌, ℕ, Bool, List, [], refl, sym, ap, ◌∙◌, subst, inl, inr}
-use Rattle.std.specs.Prelude.{Result, Ok, Err, Option, length, max, ◌++◌}
+use Rattle.std.specs.Prelude.{Result, Ok, Err, Option, None, length, max, ◌++◌}
 use Rattle.console_routes.specs.declared.route.Route.{Route}
 use Rattle.http_answers.specs.Heads.{head_of, shown, answer_of}
 use Rattle.http_requests.specs.Requests.{Request, path_of}
@@ -11,14 +11,15 @@ use Rattle.http_answers.specs.declared.status.Status.{Status}
 use Rattle.mud_tables.specs.declared.segment.Segment.{Segment}
 use Rattle.desk_model.specs.Sessions.{Session, later}
 use Rattle.console_routes.specs.Routes.{route_of}
-use Rattle.mud_desk.specs.DeskState.{DeskState, session_of, HasForwarded}
+use Rattle.mud_desk.specs.DeskState.{DeskState, tables_of, session_of, HasForwarded}
 use Rattle.console_answers.specs.declared.question.Question.{Question}
 use Rattle.console_answers.specs.declared.question.NoQuestion.{NoQuestion}
-use Rattle.console_answers.specs.Replies.{Reply, Replied, replied, no_storage, unavailable, IsOrWanted, MayStand}
+use Rattle.console_answers.specs.Replies.{Reply, reply, Replied, replied, no_storage, unavailable, IsOrWanted, MayStand}
 use Rattle.console_answers.specs.Asks.{question_of, by_route, refusal_of}
 use Rattle.console_answers.specs.Requests.{question_in, by_result, reply_in, MayFailBy, MayFail, MayReply, by_question, ChangesBy, command_asked}
 use Rattle.console_answers.specs.Answers.{is_head, octets_of, MayAnswer}
 use Rattle.console_replies.specs.Runs.{LeadsOn}
+use Rattle.console_replies.specs.declared.refusals.ReplyHead.{ReplyHead}
 use Rattle.console_replies.proofs.Paths.{route_again}
 
 -- what the parts of a request ask for is what the request asks for
@@ -85,3 +86,8 @@ module _ (from : MomentFrom) (r : Request) (parts : RequestParts) (are : ArePart
 
   pub leads_wanted : (reply : Reply) → reply ≡ no_storage → HasForwarded h before → LeadsOn h before before (λ s t. MayReply s given r reply t)
   leads_wanted reply is_wanted forwarded = record { next = h; leads = wanted (session_of h before) (session_of h before) given r reply is_wanted refl; forwarded = forwarded }
+
+-- a reply that names no methods
+pub plain_is : (head : ReplyHead) (status : Status) (body : List ℕ) → head ≡ record { status = status; allow = None } → ◌≡◌ {A = Reply} (record { status = head.status; allow = head.allow; body = body }) (reply status body)
+unfolding reply
+plain_is head status body is = ap (λ (h : ReplyHead). record { status = h.status; allow = h.allow; body = body }) is

@@ -90,17 +90,17 @@ unfolding session_of raised later tables_of
 raise_is h before after given moment is later_is =
     ap (session_of h) is ∙ (λ i. record { desk = tables_of before; history = h; moment = later_is i })
 
+listed_here : (listing : Listing) (h : List Segment) (before : DeskState) (given : ℕ) → listing_text listing (tables_of before) (max before.moment given) ≡ listing_text listing (session_of h before).desk (later (session_of h before) given)
+unfolding session_of later
+listed_here listing h before given = refl
+
 -- rows were listed
 pub listed : (listing : Listing) (h : List Segment) (before after : DeskState) (given now : ℕ) (text : List ℕ) → now ≡ max before.moment given → text ≡ listing_text listing (tables_of before) now
     → session_of h after ≡ raised (session_of h before) given → after.flows ≡ before.flows → HasForwarded h before
     → LeadsOn h before after (λ s t. MayStand ⊥ s (replied (reply status.Done (listing_text listing s.desk (later s given))) (raised s given)) (reply status.Done text) t)
 listed listing h before after given now text is text_is raised_to same stands =
     raises (λ s. reply status.Done (listing_text listing s.desk (later s given))) h before after given (reply status.Done text)
-    (ap (reply status.Done) (text_is ∙ ap (listing_text listing (tables_of before)) is ∙ here)) raised_to same stands
-  where
-    here : listing_text listing (tables_of before) (max before.moment given) ≡ listing_text listing (session_of h before).desk (later (session_of h before) given)
-    unfolding session_of later
-    here = refl
+    (ap (reply status.Done) (text_is ∙ ap (listing_text listing (tables_of before)) is ∙ listed_here listing h before given)) raised_to same stands
 
 -- it was told what decides a frame
 pub told : (frame : List ℕ) (h : List Segment) (state : DeskState) (given : ℕ) (written : Reply)

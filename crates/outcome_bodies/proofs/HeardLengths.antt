@@ -38,10 +38,19 @@ short_dotted a b c d la lb lc ld =
     let da = decimal a in
     let db = da ++ codes "." ++ decimal b in
     let dc = db ++ codes "." ++ decimal c in
-    omega (arith, short_octet a la, short_octet b lb, short_octet c lc, short_octet d ld,
-        length-append da (codes "."), length-append (da ++ codes ".") (decimal b),
-        length-append db (codes "."), length-append (db ++ codes ".") (decimal c),
-        length-append dc (codes "."), length-append (dc ++ codes ".") (decimal d))
+    omega (
+      arith,
+      short_octet a la,
+      short_octet b lb,
+      short_octet c lc,
+      short_octet d ld,
+      length-append da (codes "."),
+      length-append (da ++ codes ".") (decimal b),
+      length-append db (codes "."),
+      length-append (db ++ codes ".") (decimal c),
+      length-append dc (codes "."),
+      length-append (dc ++ codes ".") (decimal d),
+    )
 
 short_v4 : (n : ℕ) → length (ipv4_text (octets_v4 n)) ≤ 83
 unfolding octets_v4
@@ -64,8 +73,15 @@ short_groups (g ∷ groups) = omega (arith, short_rest groups, short_hex g, leng
 
 short_compressed_by : (is_run : Bool) (groups : List ℕ) (front behind : ℕ) → length (if is_run then groups_text (take front groups) ++ codes "::" ++ groups_text (drop behind groups) else groups_text groups) ≤ 10 * length groups + 2
 short_compressed_by true groups front behind =
-    omega (arith, short_groups (take front groups), short_groups (drop behind groups), length-take front groups, length-drop behind groups,
-        length-append (groups_text (take front groups)) (codes "::"), length-append (groups_text (take front groups) ++ codes "::") (groups_text (drop behind groups)))
+    omega (
+      arith,
+      short_groups (take front groups),
+      short_groups (drop behind groups),
+      length-take front groups,
+      length-drop behind groups,
+      length-append (groups_text (take front groups)) (codes "::"),
+      length-append (groups_text (take front groups) ++ codes "::") (groups_text (drop behind groups)),
+    )
 short_compressed_by false groups front behind = omega (arith, short_groups groups)
 
 short_v6 : (groups : List ℕ) → length (hex_groups_text groups) ≤ 10 * length groups + 2
@@ -93,9 +109,20 @@ short_heard_url mac url o lm lu =
     let c = b ++ codes ",\"result\":" in
     let d = c ++ quoted (text_of o.word) in
     let e = d ++ codes ",\"url\":" in
-    omega (arith, lm, lu, short_quoted mac, short_quoted url, short_quoted_word o.word,
-        length-append a (quoted mac), length-append b (codes ",\"result\":"), length-append c (quoted (text_of o.word)),
-        length-append d (codes ",\"url\":"), length-append e (quoted url), length-append (e ++ quoted url) (codes "}"))
+    omega (
+      arith,
+      lm,
+      lu,
+      short_quoted mac,
+      short_quoted url,
+      short_quoted_word o.word,
+      length-append a (quoted mac),
+      length-append b (codes ",\"result\":"),
+      length-append c (quoted (text_of o.word)),
+      length-append d (codes ",\"url\":"),
+      length-append e (quoted url),
+      length-append (e ++ quoted url) (codes "}"),
+    )
 
 short_lease_end : (o : Outcome) → EndFits o.until → length (lease_end o) ≤ 200
 unfolding lease_end
@@ -103,8 +130,15 @@ short_lease_end o fits =
     let a = codes ",\"result\":" in
     let b = a ++ quoted (text_of o.word) in
     let c = b ++ codes ",\"until\":" in
-    omega (arith, short_quoted_word o.word, short_until o.until fits,
-        length-append a (quoted (text_of o.word)), length-append b (codes ",\"until\":"), length-append c (until_text o.until), length-append (c ++ until_text o.until) (codes "}"))
+    omega (
+      arith,
+      short_quoted_word o.word,
+      short_until o.until fits,
+      length-append a (quoted (text_of o.word)),
+      length-append b (codes ",\"until\":"),
+      length-append c (until_text o.until),
+      length-append (c ++ until_text o.until) (codes "}"),
+    )
 
 short_heard_lease : (address mac : List ℕ) (o : Outcome) → length address ≤ 100 → length mac ≤ 100 → EndFits o.until → length (heard_lease_body address mac o) ≤ 4096
 unfolding heard_lease_body
@@ -112,8 +146,18 @@ short_heard_lease address mac o la lm fits =
     let a = codes "{\"address\":" in
     let b = a ++ quoted address in
     let c = b ++ codes ",\"heard\":\"lease\",\"mac\":" in
-    omega (arith, la, lm, short_quoted mac, short_quoted address, short_lease_end o fits,
-        length-append a (quoted address), length-append b (codes ",\"heard\":\"lease\",\"mac\":"), length-append c (quoted mac), length-append (c ++ quoted mac) (lease_end o))
+    omega (
+      arith,
+      la,
+      lm,
+      short_quoted mac,
+      short_quoted address,
+      short_lease_end o fits,
+      length-append a (quoted address),
+      length-append b (codes ",\"heard\":\"lease\",\"mac\":"),
+      length-append c (quoted mac),
+      length-append (c ++ quoted mac) (lease_end o),
+    )
 
 heard_fits : (heard : Heard) (o : Outcome) → HeardFits heard → EndFits o.until → length (heard_body heard o) ≤ 4096
 unfolding heard_body nothing_body

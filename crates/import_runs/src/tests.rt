@@ -8,9 +8,9 @@ use std::alloc::Global;
 use std::process::Abort;
 use std::test::Fail;
 
-/// The file of the example of RFC 8520, 9, for IPv4 alone, with an entry for Things of the same maker.
+/// A usage file that names no list.
 const BULB: &str =
-    r#"{"ietf-mud:mud":{"mud-version":1,"mud-url":"https://lighting.example.com/lightbulb2000","last-update":"2019-01-28T11:20:51+01:00","cache-validity":48,"is-supported":true,"systeminfo":"The BMS Example Light Bulb","from-device-policy":{"access-lists":{"access-list":[{"name":"v4fr"}]}},"to-device-policy":{"access-lists":{"access-list":[{"name":"v4to"}]}}},"ietf-access-control-list:acls":{"acl":[{"name":"v4to","type":"ipv4-acl-type","aces":{"ace":[{"name":"cl0-todev","matches":{"ipv4":{"ietf-acldns:src-dnsname":"test.example.com","protocol":6},"tcp":{"ietf-mud:direction-initiated":"from-device","source-port":{"operator":"eq","port":443}}},"actions":{"forwarding":"accept"}}]}},{"name":"v4fr","type":"ipv4-acl-type","aces":{"ace":[{"name":"cl0-frdev","matches":{"ipv4":{"ietf-acldns:dst-dnsname":"test.example.com","protocol":6},"tcp":{"ietf-mud:direction-initiated":"from-device","destination-port":{"operator":"eq","port":443}}},"actions":{"forwarding":"accept"}},{"name":"mfg-frdev","matches":{"ietf-mud:mud":{"same-manufacturer":[null]}},"actions":{"forwarding":"accept"}}]}}]}}"#;
+    r#"{"ietf-mud:mud":{"mud-version":1,"mud-url":"https://lighting.example.com/lightbulb2000","last-update":"2019-01-28T11:20:51+01:00","is-supported":true}}"#;
 
 /// A folder of these files, in this order.
 fn folder(alloc: Global, files: &[(&str, &str)]) -> Result<MemorySpool, Fail> {
@@ -46,36 +46,42 @@ fn assert_written(rt: &impl Abort, door: &MemoryDoor, lines: &str) {
     assert_eq!(rt; door.written(0), lines.as_bytes());
 }
 
-/// What is said of a folder: the status, the lines, and the moment of the last change that was kept.
-#[derive(Clone, Copy)]
-struct Said<'a> {
-    status: Status,
-    lines: &'a str,
-    stamp: u64,
-}
+/// What is said of a folder: the status, and the moment of the last change that was kept.
+type Said = (Status, Option<u64>);
 
 /// The folder is imported into an empty desk, whose keeper fails at this call of `apply`, counted
-/// from 1, and this is said.
-fn assert_said(
-    rt: &impl Abort,
+/// from 1.
+fn imported(
     alloc: Global,
-    spool: &mut MemorySpool,
     failing: u64,
-    said: Said<'_>,
-) -> Result<(), Fail> {
+    door: &mut MemoryDoor,
+    spool: &mut MemorySpool,
+    clock: &mut MemoryClock,
+) -> Result<Said, Fail> {
     let mut keeper = MemoryKeeper::new(alloc, Listed::new(alloc));
     keeper.failing_apply.push(failing)?;
     let keeper: Box<dyn Keeper> = Box::new(alloc, keeper)?;
-    let mut clock = clock(rt, alloc, &[2000, 2001, 2002, 2003])?;
-    let mut door = door(rt, alloc)?;
     let Ok(mut desk) = Desk::open(alloc, keeper, Taken::new(alloc)) else {
         return Err(Fail::from("desk"));
     };
-    let status = import_files(alloc, &mut desk, &mut door, spool, &mut clock);
-    assert_eq!(rt; status, said.status);
-    assert_written(rt, &door, said.lines);
-    let stamp = desk.stamp().map(|stamp| stamp.seconds());
-    assert_eq!(rt; stamp, Some(said.stamp));
+    let status = import_files(alloc, &mut desk, door, spool, clock);
+    Ok((status, desk.stamp().map(|stamp| stamp.seconds())))
+}
+
+/// It is imported so at these moments, and this is said, with these lines.
+fn assert_said(
+    rt: &impl Abort,
+    alloc: Global,
+    failing: u64,
+    spool: &mut MemorySpool,
+    said: Said,
+    lines: &str,
+) -> Result<(), Fail> {
+    let mut clock = clock(rt, alloc, &[2000, 2001, 2002, 2003])?;
+    let mut door = door(rt, alloc)?;
+    let found = imported(alloc, failing, &mut door, spool, &mut clock)?;
+    assert_eq!(rt; found, said);
+    assert_written(rt, &door, lines);
     Ok(())
 }
 
@@ -88,15 +94,12 @@ fn files_are_imported_by_name(rt: HostRuntime) -> Result<(), Fail> {
         ("1000-bulb.json", BULB),
     ];
     let mut spool = folder(rt.alloc(), &files)?;
-    let said = Said {
-        status: Status::Refused,
-        lines: "1000-bulb.json new\n\
-            1001-bulb.json same\n\
-            1002-none.json refused 2 Json\n\
-            notes.txt skipped\n",
-        stamp: 2001,
-    };
-    assert_said(&rt, rt.alloc(), &mut spool, 0, said)?;
+    let lines = "1000-bulb.json new\n\
+        1001-bulb.json same\n\
+        1002-none.json refused 2 Json\n\
+        notes.txt skipped\n";
+    let said = (Status::Refused, Some(2001));
+    assert_said(&rt, rt.alloc(), 0, &mut spool, said, lines)?;
     // The file of the name that is skipped isn't read.
     assert_eq!(rt; spool.calls.read, 3);
     Ok(())
@@ -106,10 +109,7 @@ fn files_are_imported_by_name(rt: HostRuntime) -> Result<(), Fail> {
 fn a_keeper_may_fail(rt: HostRuntime) -> Result<(), Fail> {
     let files = [("1000-bulb.json", BULB), ("1001-bulb.json", BULB)];
     let mut spool = folder(rt.alloc(), &files)?;
-    let said = Said {
-        status: Status::KeeperFailed,
-        lines: "1000-bulb.json new\n1001-bulb.json keeper\n",
-        stamp: 2000,
-    };
-    assert_said(&rt, rt.alloc(), &mut spool, 2, said)
+    let lines = "1000-bulb.json new\n1001-bulb.json keeper\n";
+    let said = (Status::KeeperFailed, Some(2000));
+    assert_said(&rt, rt.alloc(), 2, &mut spool, said, lines)
 }

@@ -39,7 +39,7 @@ locals_action Put = Some (action.State statement.Locals)
 locals_action Post = None
 locals_action Delete = None
 
--- what each route does by GET, POST and DELETE
+-- what each route does by a method: by GET, POST and DELETE, and the local networks by GET and PUT
 unfoldable pub action_of : Route → Method → Option Action
 action_of HearDhcp method = by_method method None (Some action.HearDhcp) None
 action_of HearLldp method = by_method method None (Some action.HearLldp) None

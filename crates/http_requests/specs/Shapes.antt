@@ -34,7 +34,7 @@ pub record HasHead (from : MomentFrom) (octets : List ℕ) (shape : RequestShape
 abbrev pub IsUnfinished : List ℕ → Type 0
 IsUnfinished octets = MayBecomeRequest octets ⊎ RequestExceeds 64 octets
 
--- No front of the octets is a head, and what stands there isn't broken yet: more octets decide.
+-- No front of the octets is a head, and the octets aren't refused yet.
 pub record MayGetHead (octets : List ℕ) : Type 0 where
   pub none : HasNoHead octets
   pub few : length octets < 8192

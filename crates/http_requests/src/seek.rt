@@ -29,7 +29,7 @@ const MOST_FIELDS: usize = 64;
 pub enum HeadStep {
     /// A head of this shape, which isn't refused.
     Found(RequestShape),
-    /// No head, but one may come with more octets.
+    /// No head, and the octets aren't refused yet.
     Wait,
     /// Whatever follows, the connection ends here with this fault.
     Broken(FramingFault),

@@ -47,7 +47,7 @@ pub record PaysForCommit (before after : Books) (steps : ℕ) : Type 0 where
   pub change : IsBindingChange (desk_bindings (desk_of before)) (desk_bindings (desk_of after)) gone come
   pub most : steps ≤ rows_apart before.compiled.rows after.compiled.rows + (length gone + length come)
 
--- the steps between two counts are at most those of one plan and of one commit; a command that isn't done commits nothing
+-- the steps between two counts are no more than those of one plan and of one commit at most, whatever the reply
 pub record IsPaidOnce (step : DeskStep) (before after : Books) (begun ended : ℕ) : Type 0 where
   pub planned : ℕ
   pub committed : ℕ

@@ -18,6 +18,10 @@ use Rattle.console_answers.specs.Replies.{Reply, reply, Replied, replied, no_sto
 use Rattle.console_answers.specs.Asks.{question_of, by_route, refusal_of}
 use Rattle.console_answers.specs.Requests.{question_in, by_result, reply_in, MayFailBy, MayFail, MayReply, by_question, ChangesBy, command_asked}
 use Rattle.console_answers.specs.Answers.{is_head, octets_of, MayAnswer}
+use Rattle.reading.specs.declared.refusal.Refusal.{Refusal}
+use Rattle.reading.specs.declared.refusal.Refusal.TheVariants.{Memory, Broken}
+use Rattle.reading.specs.Reading.{Fails}
+use Rattle.console_replies.specs.Refused.{IsRefusalOf}
 use Rattle.console_replies.specs.Runs.{LeadsOn}
 use Rattle.console_replies.specs.declared.refusals.ReplyHead.{ReplyHead}
 use Rattle.console_replies.proofs.Paths.{route_again}
@@ -86,6 +90,11 @@ module _ (from : MomentFrom) (r : Request) (parts : RequestParts) (are : ArePart
 
   pub leads_wanted : (reply : Reply) → reply ≡ no_storage → HasForwarded h before → LeadsOn h before before (λ s t. MayReply s given r reply t)
   leads_wanted reply is_wanted forwarded = record { next = h; leads = wanted (session_of h before) (session_of h before) given r reply is_wanted refl; forwarded = forwarded }
+
+  pub leads_unasked : (reply : Reply) (unasked : Refusal NoQuestion) → Fails unasked (question_of parts.method.now parts.path.now parts.body.now now) → IsRefusalOf unasked reply → HasForwarded h before
+      → LeadsOn h before before (λ s t. MayReply s given r reply t)
+  leads_unasked reply Memory says is_refusal forwarded = leads_wanted reply is_refusal forwarded
+  leads_unasked reply (Broken nothing) says is_refusal forwarded = leads_refused reply nothing says is_refusal forwarded
 
 -- a reply that names no methods
 pub plain_is : (head : ReplyHead) (status : Status) (body : List ℕ) → head ≡ record { status = status; allow = None } → ◌≡◌ {A = Reply} (record { status = head.status; allow = head.allow; body = body }) (reply status body)

@@ -1,5 +1,5 @@
 //! An answer as octets.
-ghost use Rattle.std.specs.Prelude.{◌≡◌, ◌++◌, [], ℕ, List, IfOk};
+ghost use Rattle.std.specs.Prelude.{◌≡◌, ◌++◌, [], ℕ, List, length, IfOk};
 ghost use Rattle.mud_world.specs.Boxed.{faults_of, Tells};
 ghost use Rattle.mud_world.specs.Causes.{Counts};
 ghost use Rattle.mud_tables.specs.declared.segment.Segment.{Segment as SegmentValue};
@@ -46,6 +46,13 @@ fn is_head(method: &[u8]) -> bool
     ensures { result ≡ spec.is_head method.now }
 {
     method == "HEAD".as_bytes()
+}
+
+/// How many octets a body has.
+fn body_len(body: &BodyText) -> usize
+    ensures { result ≡ length body.now }
+{
+    body.octets().len()
 }
 
 impl Answer {
@@ -124,8 +131,9 @@ pub fn answer_request(
     ensures same_box { IsSameBox desk.old.keeper desk.new.keeper }
 {
     let reply = reply_to(alloc, desk, &mut answer.body, request, given);
-    answer.by_head = is_head(request.method);
-    let len = answer.body.octets().len();
+    let by_head = is_head(request.method);
+    let len = body_len(&answer.body);
     write_head(&mut answer.head, reply.status, reply.allow, len, closes);
+    answer.by_head = by_head;
     reply.status
 }

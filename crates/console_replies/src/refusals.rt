@@ -2,8 +2,9 @@
 ghost use Rattle.std.specs.Prelude.{◌≡◌, false, None};
 ghost use Rattle.console_answers.specs.Replies.{reply, no_storage, is_unavailable, IsOrWanted};
 ghost use Rattle.console_answers.specs.Asks.{refusal_of};
+ghost use Rattle.console_replies.specs.Refused.{IsRefusalOf};
 
-use console_answers::{BodyText, NoQuestion};
+use console_answers::{BodyText, NoQuestion, Unasked};
 use console_routes::Route;
 use http_answers::Status;
 use listing_bodies::body_fault_body;
@@ -38,7 +39,7 @@ pub(crate) fn plain(status: Status) -> ReplyHead
 
 /// Replies to a request that asks for nothing.
 #[tactic(auto, unfolding(console_answers::specs::Asks::refusal_of, console_answers::specs::Replies::no_route, console_answers::specs::Replies::no_method, console_answers::specs::Replies::reply), using(crate::proofs::Replying::defined, crate::proofs::Replying::made))]
-pub(crate) fn refuse(alloc: Global, body: &mut BodyText, nothing: NoQuestion) -> ReplyHead
+fn refuse(alloc: Global, body: &mut BodyText, nothing: NoQuestion) -> ReplyHead
     ensures reply { IsOrWanted (refusal_of nothing) (record { status = result.status; allow = result.allow; body = body.new }) }
     ensures known { is_unavailable result.status ≡ false }
 {
@@ -57,5 +58,17 @@ pub(crate) fn refuse(alloc: Global, body: &mut BodyText, nothing: NoQuestion) ->
         NoQuestion::BadBody(fault) => {
             plain(body.take(Status::BadRequest, body_fault_body(alloc, fault)))
         }
+    }
+}
+
+/// Replies to a request that asks for nothing, or for which there is no memory.
+#[tactic(auto, unfolding(console_answers::specs::Replies::reply))]
+pub(crate) fn refuse_unasked(alloc: Global, body: &mut BodyText, unasked: Unasked) -> ReplyHead
+    ensures reply { IsRefusalOf unasked (record { status = result.status; allow = result.allow; body = body.new }) }
+    ensures known { is_unavailable result.status ≡ false }
+{
+    match unasked {
+        Unasked::Broken(nothing) => refuse(alloc, body, nothing),
+        Unasked::Memory => plain(want_memory(body)),
     }
 }

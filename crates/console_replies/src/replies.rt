@@ -17,10 +17,10 @@ use crate::commands::{Origin, answer_command};
 use crate::heard::answer_heard;
 use crate::listings::answer_listing;
 use crate::packets::answer_frame;
-use crate::refusals::{ReplyHead, plain, refuse, want_memory};
+use crate::refusals::{ReplyHead, plain, refuse_unasked};
 use crate::session::later;
 use crate::why::answer_why;
-use console_answers::{BodyText, Question, Unasked, question_of};
+use console_answers::{BodyText, Question, question_of};
 use console_bodies::Asked;
 use http_answers::Status;
 use http_requests::RequestParts;
@@ -82,7 +82,6 @@ pub(crate) fn reply_to(
         Ok(question) => {
             plain(answer_question(alloc, desk, body, question, request.body, given))
         }
-        Err(Unasked::Broken(nothing)) => refuse(alloc, body, nothing),
-        Err(Unasked::Memory) => plain(want_memory(body)),
+        Err(unasked) => refuse_unasked(alloc, body, unasked),
     }
 }

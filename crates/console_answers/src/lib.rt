@@ -12,6 +12,3 @@ pub use body::BodyText;
 pub use due::due_text;
 pub use question::{NoQuestion, Question, Unasked, question_of};
 pub use why::why_text;
-
-#[cfg(test)]
-mod tests;

@@ -49,7 +49,7 @@ module _ (may_fail : Session → Type 0) (defined : Session → Replied) (h : Li
       → LeadsOn h state state (λ s t. MayStand (may_fail s) s (defined s) given t)
   left stated is or stands =
       elim or.one [
-        inl same ↦ record { next = h; leads = record { one = inl (inl (is ∙ ap (λ (r : Reply). replied r (session_of h state)) (sym same))) }; forwarded = stands }
+        | inl same ↦ record { next = h; leads = record { one = inl (inl (is ∙ ap (λ (r : Reply). replied r (session_of h state)) (sym same))) }; forwarded = stands }
         | inr want ↦ record { next = h; leads = record { one = inl (inr (want, refl)) }; forwarded = stands }
       ]
 

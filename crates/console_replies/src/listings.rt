@@ -22,12 +22,7 @@ use std::alloc::Global;
 
 /// The rows of a desk at a moment.
 #[tactic(auto, unfolding(console_answers::specs::Listings::listing_text))]
-fn listing_text(
-    alloc: Global,
-    desk: &Desk,
-    listing: Listing,
-    now: Moment,
-) -> Result<Bytes, Memory>
+fn listing_text(alloc: Global, desk: &Desk, listing: Listing, now: Moment) -> Result<Bytes, Memory>
     ensures { IfOk result (λ text. text ≡ spec.listing_text listing (tables_of desk.now.state) now) }
 {
     match listing {

@@ -79,9 +79,7 @@ pub(crate) fn reply_to(
 {
     let now = later(desk.moment(), given);
     match question_of(alloc, request.method, request.path, request.body, now) {
-        Ok(question) => {
-            plain(answer_question(alloc, desk, body, question, request.body, given))
-        }
+        Ok(question) => { plain(answer_question(alloc, desk, body, question, request.body, given)) }
         Err(unasked) => refuse_unasked(alloc, body, unasked),
     }
 }

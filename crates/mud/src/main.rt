@@ -2,13 +2,19 @@
 //! over them.
 #![tactic(auto)]
 
+use keep_sqlite::PathKeeper;
 use mud_base::Listed;
-use mud_cli::{RealClock, RealDoor, Status, mud_main};
+use mud_cli::words::command_of;
+use mud_cli::{Command, RealClock, RealDoor, Status, mud_main};
 use mud_world::{Keeper, MemoryKeeper, MemorySpool};
 use std::alloc::{AllocError, Global};
 use std::io::ErrorKind;
 use std::process::ExitCode;
-use std::{env, io};
+use std::rt::Files;
+use std::{env, fs, io};
+
+/// The word of a store that is kept in memory alone, and is empty at the start of each run.
+const IN_MEMORY: &str = ":memory:";
 
 fn main(rt: HostRuntime) -> ExitCode {
     ExitCode::from(run(rt))
@@ -34,11 +40,35 @@ fn words(rt: &HostRuntime) -> io::Result<Vec<String>> {
     Ok(words)
 }
 
+/// The word that names the store of a command. A command without a store keeps nothing.
+fn store_of(words: &[String]) -> &str {
+    match (command_of(words), words) {
+        (Some(Command::Judge), [_, store]) => store.as_str(),
+        _ => IN_MEMORY,
+    }
+}
+
+/// Opens a folder three times, so that each standard stream that is closed is a folder from here on,
+/// of which nothing can be read and into which nothing can be written. Else the file of a store would
+/// get the number of that stream, and lines would be written into the store.
+fn take_streams(rt: &HostRuntime) -> [io::Result<<HostRuntime as Files>::File>; 3] {
+    [fs::open(rt, "/"), fs::open(rt, "/"), fs::open(rt, "/")]
+}
+
 /// Runs these words. Nothing stands between standard input and the door, so no octet is taken of it
-/// that the door doesn't ask for.
+/// that the door doesn't ask for. The keeper of a store's file opens nothing before a command does.
 fn run_words(rt: HostRuntime, words: &[String]) -> io::Result<u8> {
     let alloc = rt.alloc();
-    let keeper: Box<dyn Keeper> = Box::new(alloc, MemoryKeeper::new(alloc, Listed::new(alloc)))?;
+    let _streams = take_streams(&rt);
+    let store = store_of(words);
+    let keeper: Box<dyn Keeper> = if store == IN_MEMORY {
+        Box::new(alloc, MemoryKeeper::new(alloc, Listed::new(alloc)))?
+    } else {
+        Box::new(
+            alloc,
+            PathKeeper::over(&rt, String::from_str(alloc, store)?),
+        )?
+    };
     let mut door = RealDoor::new(rt.reader(), io::writer(&rt));
     let mut spool = MemorySpool::new(alloc, Listed::new(alloc));
     let mut clock = RealClock::new(rt);

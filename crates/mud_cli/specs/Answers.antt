@@ -1,5 +1,5 @@
 -- What is due to the input of each command that reads the door and writes what it says.
-use Rattle.std.specs.Prelude.{ℕ, Bool, true, List, Option, Some, None, if◌then◌else◌}
+use Rattle.std.specs.Prelude.{ℕ, Bool, true, false, List, [], Option, Some, None, if◌then◌else◌}
 use Rattle.mud_file.specs.File.{file_of}
 use Rattle.command_runs.specs.Capture.{due_of_capture}
 use Rattle.command_runs.specs.Due.{Due}
@@ -10,7 +10,7 @@ use Rattle.mud_cli.specs.declared.answer.Answer.{Answer}
 use Rattle.mud_cli.specs.declared.answer.Input.{Input}
 use Rattle.mud_cli.specs.declared.answer.Input.TheVariants as input
 use Rattle.mud_cli.specs.declared.words.Command.{Command}
-use Rattle.mud_cli.specs.declared.words.Command.TheVariants.{Hear, Check, Frames}
+use Rattle.mud_cli.specs.declared.words.Command.TheVariants.{Hear, Check, Frames, Judge}
 
 -- ---- An input that is read as a whole
 
@@ -38,15 +38,18 @@ abbrev pub reads_input : Command → Bool
 reads_input (Hear message) = true
 reads_input Check = true
 reads_input Frames = true
+reads_input Judge = false
 
--- what is due to such a command, over the octets that can be read
+-- what is due to such a command, over the octets that can be read; of a command over a store nothing is said here
 abbrev pub due_of : Command → List ℕ → Due
 due_of (Hear message) octets = due_of_input (input.Message message) octets
 due_of Check octets = due_of_input input.UsageFile octets
 due_of Frames octets = due_of_capture frame_step tt octets
+due_of Judge octets = record { text = []; status = 0 }
 
 -- the most octets that it reads, where it reads its input as a whole: one more than the input has at most
 abbrev pub most_read : Command → Option ℕ
 most_read (Hear message) = Some 65536
 most_read Check = Some 262145
 most_read Frames = None
+most_read Judge = None

@@ -1,11 +1,11 @@
 -- The command lines that the program takes.
-use Rattle.std.specs.Prelude.{ℕ, List, [], ◌∷◌, codes, map, Option, Some, None, if◌then◌else◌}
+use Rattle.std.specs.Prelude.{ℕ, ◌==◌, Bool, false, not, ◌&&◌, List, [], ◌∷◌, codes, map, Option, Some, None, if◌then◌else◌}
 use Rattle.std.specs.Str.{bytes_eq}
 use Rattle.std.specs.declared.string.String.{String}
 use Rattle.std.specs.declared.alloc.Global.{Global}
 use Rattle.std.specs.String.{string_bytes}
 use Rattle.mud_cli.specs.declared.words.Command.{Command}
-use Rattle.mud_cli.specs.declared.words.Command.TheVariants.{Hear, Check, Frames}
+use Rattle.mud_cli.specs.declared.words.Command.TheVariants.{Hear, Check, Frames, Judge}
 use Rattle.mud_cli.specs.declared.hear.Message.TheVariants.{Dhcp, Lldp}
 
 unfoldable pub hear_word : List ℕ
@@ -23,6 +23,18 @@ check_word = codes "check"
 unfoldable pub frames_word : List ℕ
 frames_word = codes "frames"
 
+unfoldable pub judge_word : List ℕ
+judge_word = codes "judge"
+
+-- the octet of `-`
+abbrev pub dash : ℕ
+dash = 45
+
+-- whether a word can name a store: it has at least one octet, and the first isn't a dash
+unfoldable pub is_path_word : List ℕ → Bool
+is_path_word [] = false
+is_path_word (first ∷ rest) = not (first == dash)
+
 -- what `hear` reads
 unfoldable pub hear_command : List ℕ → Option Command
 hear_command message = if bytes_eq message dhcp_word then Some (Hear Dhcp) else (if bytes_eq message lldp_word then Some (Hear Lldp) else None)
@@ -30,10 +42,13 @@ hear_command message = if bytes_eq message dhcp_word then Some (Hear Dhcp) else 
 unfoldable pub one_word_command : List ℕ → Option Command
 one_word_command word = if bytes_eq word check_word then Some Check else (if bytes_eq word frames_word then Some Frames else None)
 
+unfoldable pub two_word_command : List ℕ → List ℕ → Option Command
+two_word_command first second = if bytes_eq first hear_word then hear_command second else (if bytes_eq first judge_word && is_path_word second then Some Judge else None)
+
 -- the command that the words after the program's name are
 unfoldable pub command_in : List (List ℕ) → Option Command
-command_in (first ∷ second ∷ []) = if bytes_eq first hear_word then hear_command second else None
 command_in (only ∷ []) = one_word_command only
+command_in (first ∷ second ∷ []) = two_word_command first second
 command_in _ = None
 
 -- the octets of each word

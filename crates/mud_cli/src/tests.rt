@@ -56,17 +56,28 @@ pub(crate) fn status_of<D: Door>(
     words: &[&str],
     door: &mut D,
 ) -> Result<u8, Fail> {
+    let mut spool = MemorySpool::new(alloc, Listed::new(alloc));
+    status_over(rt, alloc, words, door, &mut spool)
+}
+
+/// The status of a run of these words over the door and the spool, and a keeper of no items.
+fn status_over<D: Door>(
+    rt: &impl Abort,
+    alloc: Global,
+    words: &[&str],
+    door: &mut D,
+    spool: &mut MemorySpool,
+) -> Result<u8, Fail> {
     let mut list = Vec::new(alloc);
     for word in words {
         list.push(String::from_str(alloc, word)?)?;
     }
     let keeper: Box<dyn Keeper> = Box::new(alloc, MemoryKeeper::new(alloc, Listed::new(alloc)))?;
-    let mut spool = MemorySpool::new(alloc, Listed::new(alloc));
     let mut moments = Listed::new(alloc);
     moments.push(Moment::at_most_last(0))?;
     assert!(rt; moments.len() > 0);
     let mut clock = MemoryClock::new(moments);
-    let (status, _keeper) = mud_main(alloc, list.as_slice(), keeper, door, &mut spool, &mut clock);
+    let (status, _keeper) = mud_main(alloc, list.as_slice(), keeper, door, spool, &mut clock);
     Ok(status)
 }
 
@@ -91,6 +102,8 @@ fn takes_listed_words_alone(rt: HostRuntime) -> Result<(), Fail> {
     assert_unlisted(&rt, rt.alloc(), &["hear"])?;
     assert_unlisted(&rt, rt.alloc(), &["hear", "dhcp", "dhcp"])?;
     assert_unlisted(&rt, rt.alloc(), &["hear", "-h"])?;
+    assert_unlisted(&rt, rt.alloc(), &["judge", ""])?;
+    assert_unlisted(&rt, rt.alloc(), &["judge", "-h"])?;
     assert_unlisted(&rt, rt.alloc(), &["serve", ":memory:", "0", "1"])
 }
 
@@ -117,6 +130,21 @@ fn stops_where_the_door_fails(rt: HostRuntime) -> Result<(), Fail> {
     door.failing_write.push(1)?;
     assert_eq!(rt; status_of(&rt, rt.alloc(), &HEAR, &mut door)?, DOOR_FAILED);
     assert_eq!(rt; written(&rt, &door), b"".as_slice());
+    Ok(())
+}
+
+#[test]
+fn judges_by_a_store(rt: HostRuntime) -> Result<(), Fail> {
+    let alloc = rt.alloc();
+    let mut octets = CAPTURE.to_vec(alloc)?;
+    octets.extend_from_slice(HEAD)?;
+    octets.extend_from_slice(SYN)?;
+    let mut door = door_of(&rt, alloc, octets.as_slice(), 60)?;
+    assert_eq!(rt;
+        status_of(&rt, alloc, &["judge", ":memory:"], &mut door)?,
+        DONE
+    );
+    assert_eq!(rt; written(&rt, &door), b"1 1059 pass unmanaged\n".as_slice());
     Ok(())
 }
 

@@ -1,6 +1,6 @@
 //! The words of the command line.
 ghost use Rattle.std.specs.Prelude.{◌≡◌};
-ghost use Rattle.mud_cli.specs.Words.{command_in, hear_command, one_word_command, words_of};
+ghost use Rattle.mud_cli.specs.Words.{command_in, hear_command, is_path_word, one_word_command, two_word_command, words_of};
 
 use crate::hear::Message;
 
@@ -13,6 +13,20 @@ pub enum Command {
     Check,
     /// `frames`: reads a capture and writes what each packet is.
     Frames,
+    /// `judge STORE`: reads a capture and writes the verdict on each packet, by what the store keeps.
+    Judge,
+}
+
+/// Whether a word can name a store: it has at least one octet, and the first isn't a
+/// dash.
+#[tactic(auto, unfolding(crate::specs::Words::is_path_word))]
+fn is_path_word(word: &str) -> bool
+    ensures { result ≡ is_path_word word.now }
+{
+    match word.as_bytes() {
+        [first, ..] => *first != b'-',
+        [] => false,
+    }
 }
 
 /// The command of the second word of `hear`.
@@ -43,21 +57,29 @@ fn one_word_command(word: &str) -> Option<Command>
     None
 }
 
+/// The command of a line of two words.
+#[tactic(auto, unfolding(crate::specs::Words::two_word_command, crate::specs::Words::hear_word, crate::specs::Words::judge_word))]
+fn two_word_command(first: &str, second: &str) -> Option<Command>
+    ensures { result ≡ two_word_command first.now second.now }
+{
+    if first == "hear" {
+        return hear_command(second);
+    }
+    if first == "judge" && is_path_word(second) {
+        return Some(Command::Judge);
+    }
+    None
+}
+
 /// The command that the words after the program's name are, or None where they are no listed
 /// line.
-#[tactic(auto, unfolding(crate::specs::Words::command_in, crate::specs::Words::hear_word))]
+#[tactic(auto, unfolding(crate::specs::Words::command_in))]
 pub fn command_of(words: &[String]) -> Option<Command>
     ensures { result ≡ command_in (words_of words.now) }
 {
     match words {
-        [first, second] => {
-            if first.as_str() == "hear" {
-                hear_command(second.as_str())
-            } else {
-                None
-            }
-        }
         [only] => one_word_command(only.as_str()),
+        [first, second] => two_word_command(first.as_str(), second.as_str()),
         _ => None,
     }
 }

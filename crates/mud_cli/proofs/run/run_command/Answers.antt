@@ -1,15 +1,16 @@
 use Rattle.std.proofs.Common.{◌≡◌, refl}
 use Rattle.command_runs.specs.Status.{status_number}
 use Rattle.mud_cli.specs.Answers.{most_of}
-use Rattle.mud_cli.specs.Promises.{Promises, viewed}
+use Rattle.command_runs.specs.View.{viewed}
+use Rattle.mud_cli.specs.Promises.{Promises}
 use Rattle.mud_cli.specs.declared.words.Command.{Command}
 use Rattle.mud_cli.specs.declared.words.Command.TheVariants.{Hear, Check, Frames}
 use Rattle.mud_cli.proofs.Promised.{no_most, not_capture, promised_of, read_up_to}
-use Rattle.mud_cli.proofs.run.answer_command.Goals as goal
+use Rattle.mud_cli.proofs.run.run_command.Goals as goal
 
-pub returns-in-Hear : goal.returns-in-Hear
+pub returns-in-Hear-clause-answers : goal.returns-in-Hear-clause-answers
 unfolding most_of
-returns-in-Hear g c =
+returns-in-Hear-clause-answers g c = λ reads.
     let door = g.D.Door in
     let old = c.args.door.now in
     let new = c.answer_input.new.door in
@@ -31,9 +32,9 @@ returns-in-Hear g c =
       same_turns = a.turns;
     })
 
-pub returns-in-Check : goal.returns-in-Check
+pub returns-in-Check-clause-answers : goal.returns-in-Check-clause-answers
 unfolding most_of
-returns-in-Check g c =
+returns-in-Check-clause-answers g c = λ reads.
     let door = g.D.Door in
     let old = c.args.door.now in
     let new = c.answer_input-in-Check.new.door in
@@ -55,8 +56,8 @@ returns-in-Check g c =
       same_turns = a.turns;
     })
 
-pub returns-in-Frames : goal.returns-in-Frames
-returns-in-Frames g c =
+pub returns-in-Frames-clause-answers : goal.returns-in-Frames-clause-answers
+returns-in-Frames-clause-answers g c = λ reads.
     let door = g.D.Door in
     let old = c.args.door.now in
     let new = c.write_capture.new.door in

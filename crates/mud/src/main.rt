@@ -5,8 +5,8 @@
 use keep_sqlite::PathKeeper;
 use mud_base::Listed;
 use mud_cli::words::command_of;
-use mud_cli::{Command, RealClock, RealDoor, Status, mud_main};
-use mud_world::{Keeper, MemoryKeeper, MemorySpool};
+use mud_cli::{Command, RealClock, RealDoor, RealSpool, Status, mud_main};
+use mud_world::{Keeper, MemoryKeeper};
 use std::alloc::{AllocError, Global};
 use std::io::ErrorKind;
 use std::process::ExitCode;
@@ -40,11 +40,13 @@ fn words(rt: &HostRuntime) -> io::Result<Vec<String>> {
     Ok(words)
 }
 
-/// The word that names the store of a command. A command without a store keeps nothing.
-fn store_of(words: &[String]) -> &str {
+/// The words that name the store and the folder of a command. A command without a store keeps
+/// nothing, and one without a folder lists none.
+fn places(words: &[String]) -> (&str, &str) {
     match (command_of(words), words) {
-        (Some(Command::Judge), [_, store]) => store.as_str(),
-        _ => IN_MEMORY,
+        (Some(Command::Judge), [_, store]) => (store.as_str(), ""),
+        (Some(Command::Import), [_, store, folder]) => (store.as_str(), folder.as_str()),
+        _ => (IN_MEMORY, ""),
     }
 }
 
@@ -56,21 +58,19 @@ fn take_streams(rt: &HostRuntime) -> [io::Result<<HostRuntime as Files>::File>; 
 }
 
 /// Runs these words. Nothing stands between standard input and the door, so no octet is taken of it
-/// that the door doesn't ask for. The keeper of a store's file opens nothing before a command does.
+/// that the door doesn't ask for. Neither the keeper of a store's file nor the spool of a folder
+/// opens anything before a command does.
 fn run_words(rt: HostRuntime, words: &[String]) -> io::Result<u8> {
     let alloc = rt.alloc();
     let _streams = take_streams(&rt);
-    let store = store_of(words);
+    let (store, folder) = places(words);
     let keeper: Box<dyn Keeper> = if store == IN_MEMORY {
         Box::new(alloc, MemoryKeeper::new(alloc, Listed::new(alloc)))?
     } else {
-        Box::new(
-            alloc,
-            PathKeeper::over(&rt, String::from_str(alloc, store)?),
-        )?
+        Box::new(alloc, PathKeeper::over(&rt, String::from_str(alloc, store)?))?
     };
     let mut door = RealDoor::new(rt.reader(), io::writer(&rt));
-    let mut spool = MemorySpool::new(alloc, Listed::new(alloc));
+    let mut spool = RealSpool::new(rt, String::from_str(alloc, folder)?);
     let mut clock = RealClock::new(rt);
     let (status, _keeper) = mud_main(alloc, words, keeper, &mut door, &mut spool, &mut clock);
     Ok(status)

@@ -4,7 +4,7 @@ use Rattle.std.proofs.lemmas.Bool.{false≢true}
 use Rattle.mud_world.specs.Door.{DoorState}
 use Rattle.mud_cli.specs.Promises.{ReadUpTo}
 use Rattle.mud_cli.specs.declared.words.Command.{Command}
-use Rattle.mud_cli.specs.declared.words.Command.TheVariants.{Hear, Check, Frames, Judge}
+use Rattle.mud_cli.specs.declared.words.Command.TheVariants.{Hear, Check, Frames, Judge, Import}
 
 pub promised : (P : Command → Type 0) (a b : Command) → Some a ≡ Some b → P a → P b
 promised P a b e holds = let same : a ≡ b = cc in subst P same holds
@@ -20,6 +20,7 @@ is_capture (Hear message) = false
 is_capture Check = false
 is_capture Frames = true
 is_capture Judge = false
+is_capture Import = false
 
 pub not_capture : {A : Type 0} (command : Command) → is_capture command ≡ false → command ≡ Frames → A
 not_capture command e h = absurd (false≢true (sym e ∙ ap is_capture h))

@@ -2,6 +2,7 @@ pub mod Answers
 pub mod Check
 pub mod Frames
 pub mod Hear
+pub mod Import
 pub mod Promises
 pub mod Real
 pub mod Words

@@ -104,6 +104,7 @@ fn takes_listed_words_alone(rt: HostRuntime) -> Result<(), Fail> {
     assert_unlisted(&rt, rt.alloc(), &["hear", "-h"])?;
     assert_unlisted(&rt, rt.alloc(), &["judge", ""])?;
     assert_unlisted(&rt, rt.alloc(), &["judge", "-h"])?;
+    assert_unlisted(&rt, rt.alloc(), &["import", ":memory:", "-h"])?;
     assert_unlisted(&rt, rt.alloc(), &["serve", ":memory:", "0", "1"])
 }
 
@@ -145,6 +146,36 @@ fn judges_by_a_store(rt: HostRuntime) -> Result<(), Fail> {
         DONE
     );
     assert_eq!(rt; written(&rt, &door), b"1 1059 pass unmanaged\n".as_slice());
+    Ok(())
+}
+
+/// A folder of one usage file that is empty, and another file.
+fn folder(alloc: Global) -> Result<MemorySpool, Fail> {
+    let mut files = Listed::new(alloc);
+    files.push((Bytes::new(alloc, b"notes.txt")?, Bytes::empty(alloc)))?;
+    files.push((Bytes::new(alloc, b"1000-empty.json")?, Bytes::empty(alloc)))?;
+    Ok(MemorySpool::new(alloc, files))
+}
+
+#[test]
+fn imports_a_folder(rt: HostRuntime) -> Result<(), Fail> {
+    let alloc = rt.alloc();
+    let mut spool = folder(alloc)?;
+    let mut door = door_of(&rt, alloc, b"", 1)?;
+    assert_eq!(rt;
+        status_over(
+            &rt,
+            alloc,
+            &["import", ":memory:", "files"],
+            &mut door,
+            &mut spool
+        )?,
+        REFUSED
+    );
+    assert_eq!(rt;
+        written(&rt, &door),
+        b"1000-empty.json refused 2 Json\nnotes.txt skipped\n".as_slice()
+    );
     Ok(())
 }
 

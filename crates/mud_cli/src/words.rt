@@ -1,6 +1,6 @@
 //! The words of the command line.
 ghost use Rattle.std.specs.Prelude.{◌≡◌};
-ghost use Rattle.mud_cli.specs.Words.{command_in, hear_command, is_path_word, one_word_command, two_word_command, words_of};
+ghost use Rattle.mud_cli.specs.Words.{command_in, hear_command, is_path_word, one_word_command, three_word_command, two_word_command, words_of};
 
 use crate::hear::Message;
 
@@ -15,9 +15,12 @@ pub enum Command {
     Frames,
     /// `judge STORE`: reads a capture and writes the verdict on each packet, by what the store keeps.
     Judge,
+    /// `import STORE FOLDER`: imports the usage files of a folder into the store, and writes a line
+    /// for each.
+    Import,
 }
 
-/// Whether a word can name a store: it has at least one octet, and the first isn't a
+/// Whether a word can name a store or a folder: it has at least one octet, and the first isn't a
 /// dash.
 #[tactic(auto, unfolding(crate::specs::Words::is_path_word))]
 fn is_path_word(word: &str) -> bool
@@ -71,6 +74,17 @@ fn two_word_command(first: &str, second: &str) -> Option<Command>
     None
 }
 
+/// The command of a line of three words.
+#[tactic(auto, unfolding(crate::specs::Words::three_word_command, crate::specs::Words::import_word))]
+fn three_word_command(first: &str, second: &str, third: &str) -> Option<Command>
+    ensures { result ≡ three_word_command first.now second.now third.now }
+{
+    if first == "import" && is_path_word(second) && is_path_word(third) {
+        return Some(Command::Import);
+    }
+    None
+}
+
 /// The command that the words after the program's name are, or None where they are no listed
 /// line.
 #[tactic(auto, unfolding(crate::specs::Words::command_in))]
@@ -80,6 +94,9 @@ pub fn command_of(words: &[String]) -> Option<Command>
     match words {
         [only] => one_word_command(only.as_str()),
         [first, second] => two_word_command(first.as_str(), second.as_str()),
+        [first, second, third] => {
+            three_word_command(first.as_str(), second.as_str(), third.as_str())
+        }
         _ => None,
     }
 }

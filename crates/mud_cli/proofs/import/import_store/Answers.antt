@@ -1,0 +1,46 @@
+use Rattle.std.proofs.Common.{ap, refl}
+use Rattle.command_runs.specs.Status.{status_number}
+use Rattle.command_runs.specs.View.{viewed}
+use Rattle.mud_cli.specs.Import.Store.{outside, spool_viewed}
+use Rattle.mud_cli.proofs.Imports.{imported_run, refused_import}
+use Rattle.mud_cli.proofs.import.import_store.Goals as goal
+
+pub returns-in-Ok : goal.returns-in-Ok
+returns-in-Ok g c =
+    let door = g.D.Door in
+    let spool = g.P.Spool in
+    let clock = g.C.Clock in
+    let old = c.args.door.now in
+    let new = c.import_files-status.new.door in
+    let desk = c.in-Ok.desk in
+    let after = c.import_files-status.new.desk in
+    let store = c.in-Ok.ensures in
+    let run = c.import_files-status.ensures in
+    imported_run (goal.Keeper-dyn g) c.args.keeper after.keeper (door.tells × (spool.tells × clock.tells))
+    (outside (viewed (door.state old) (door.turns old) (door.reads old) (door.writes old))
+    (spool_viewed (spool.files c.args.spool.now) (spool.faults c.args.spool.now)) (clock.moments c.args.clock.now))
+    (outside (viewed (door.state new) (door.turns new) (door.reads new) (door.writes new))
+    (spool_viewed (spool.files c.import_files-status.new.spool) (spool.faults c.import_files-status.new.spool)) (clock.moments c.import_files-status.new.clock))
+    (status_number c.import_files-status.result)
+    desk.keeper desk.state after.state store.tables store.sound store.begun store.steady store.same_box
+    run.stays run.statuses run.fault run.steady run.keeper run.keeper_steady
+    (λ told. run.done told.0 told.1.0 told.1.1) (λ told. run.part told.0 told.1.0 told.1.1) (λ told. run.same told.1.0) run.turns run.reads
+    c.close.result c.close.ensures
+
+pub returns-in-Err : goal.returns-in-Err
+returns-in-Err g c =
+    let door = g.D.Door in
+    let spool = g.P.Spool in
+    let clock = g.C.Clock in
+    let old = c.args.door.now in
+    let new = c.refuse_store.new.door in
+    let store = c.in-Err.ensures in
+    let run = c.refuse_store.ensures in
+    refused_import (goal.Keeper-dyn g) c.args.keeper c.in-Err.keeper (door.tells × (spool.tells × clock.tells))
+    (outside (viewed (door.state old) (door.turns old) (door.reads old) (door.writes old))
+    (spool_viewed (spool.files c.args.spool.now) (spool.faults c.args.spool.now)) (clock.moments c.args.clock.now))
+    (outside (viewed (door.state new) (door.turns new) (door.reads new) (door.writes new))
+    (spool_viewed (spool.files c.args.spool.now) (spool.faults c.args.spool.now)) (clock.moments c.args.clock.now))
+    (status_number c.refuse_store.result)
+    c.in-Err.fault store.bad store.left store.cause store.handed_back
+    run.statuses run.fault run.steady (λ told. run.done told.0) (λ told. run.part told.0) (λ call. ap door.state (run.untouched call)) run.turns run.reads refl refl

@@ -67,7 +67,10 @@ fn run_words(rt: HostRuntime, words: &[String]) -> io::Result<u8> {
     let keeper: Box<dyn Keeper> = if store == IN_MEMORY {
         Box::new(alloc, MemoryKeeper::new(alloc, Listed::new(alloc)))?
     } else {
-        Box::new(alloc, PathKeeper::over(&rt, String::from_str(alloc, store)?))?
+        Box::new(
+            alloc,
+            PathKeeper::over(&rt, String::from_str(alloc, store)?),
+        )?
     };
     let mut door = RealDoor::new(rt.reader(), io::writer(&rt));
     let mut spool = RealSpool::new(rt, String::from_str(alloc, folder)?);

@@ -1,4 +1,8 @@
 //! Requests to a desk over a keeper in memory.
+ghost use Rattle.std.specs.Prelude.{IfOk};
+ghost use Rattle.mud_desk.specs.Boxed.{IsKept};
+ghost use Rattle.mud_desk.specs.DeskState.{tables_of};
+
 use crate::{Answer, answer_request};
 use http_requests::{FramingFault, RequestParts};
 use mud_base::{Listed, Moment};
@@ -9,7 +13,9 @@ use std::process::Abort;
 use std::test::Fail;
 
 /// A desk over a keeper that holds nothing.
-fn new_desk(alloc: Global) -> Result<Desk, Fail> {
+fn new_desk(alloc: Global) -> Result<Desk, Fail>
+    ensures { IfOk result (λ desk. IsKept Keeper-dyn desk.keeper (tables_of desk.state)) }
+{
     let keeper: Box<dyn Keeper> = Box::new(alloc, MemoryKeeper::new(alloc, Listed::new(alloc)))?;
     match Desk::open(alloc, keeper, Taken::new(alloc)) {
         Ok(desk) => Ok(desk),

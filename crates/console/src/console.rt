@@ -1,0 +1,86 @@
+//! A desk, the answer that it gives and a clock, as what answers the requests of connections.
+ghost use Rattle.std.specs.Prelude.{◌≡◌, ◌++◌};
+ghost use Rattle.console.specs.States.{TakesMoment};
+
+use console_replies::{Answer, answer_request};
+use http_requests::{FramingFault, RequestParts};
+use http_serving::Service;
+use mud_base::Moment;
+use mud_desk::Desk;
+use mud_world::{Clock, Keeper};
+use std::alloc::Global;
+use std::marker::PhantomData;
+
+/// The moment at which a request is taken: its own, and the clock's next one where it gives none.
+fn moment_for<C: Clock>(request: &RequestParts<'_>, clock: &mut C) -> Moment
+    ensures { TakesMoment C.tells request.now.moment result (C.moments clock.old) (C.moments clock.new) }
+{
+    match request.moment {
+        Some(own) => own,
+        None => clock.now(),
+    }
+}
+
+/// A desk that answers requests, its last answer, and the clock by which requests are taken that
+/// give no moment.
+pub struct Console<C: Clock> {
+    /// What memory is asked of.
+    pub alloc: Global,
+    /// The desk.
+    pub desk: Desk,
+    /// The last answer.
+    pub answer: Answer,
+    /// The clock.
+    pub clock: C,
+    /// The desk's keeper is a boxed one.
+    pub keeper: PhantomData<Box<dyn Keeper>>,
+}
+
+impl<C: Clock> Service for Console<C> {
+    ghost use Rattle.std.specs.Prelude.{◌≡◌, ℕ, ◌++◌, IsTrue, Option};
+    ghost use Rattle.desk_model.specs.Items.{items_of};
+    ghost use Rattle.mud_desk.specs.DeskState.{tables_of};
+    ghost use Rattle.console_answers.specs.Answers.{fault_answer};
+    ghost use Rattle.console.specs.States.{ConsoleState, MayTake};
+    ghost use Rattle.console.specs.Beside.{MayBeside, IsAtIf};
+
+    ghost ready = { λ it. IsTrue ((Keeper-box it.desk.keeper).opened it.desk.keeper.value)
+        × ((Keeper-box it.desk.keeper).tells it.desk.keeper.value
+        → (Keeper-box it.desk.keeper).items it.desk.keeper.value ≡ items_of (tables_of it.desk.state)) };
+
+    ghost State = { Option ConsoleState × Self };
+
+    ghost keeps = { λ it s. IsAtIf C.tells it.desk.state (C.moments it.clock)
+        ((Keeper-box s.1.desk.keeper).faults s.1.desk.keeper.value)
+        ((Keeper-box it.desk.keeper).faults it.desk.keeper.value) s.0
+        × ((Keeper-box it.desk.keeper).tells it.desk.keeper.value
+        → (Keeper-box s.1.desk.keeper).tells s.1.desk.keeper.value)
+        × (it.desk.keeper.vtable ≡ s.1.desk.keeper.vtable)
+        × (it.desk.keeper.ptr ≡ s.1.desk.keeper.ptr) };
+
+    ghost may = { MayBeside (MayTake C.tells) };
+
+    ghost refusal = { fault_answer };
+
+    ghost held = { λ it. it.answer };
+
+    fn carry_out(&mut self, request: &RequestParts<'_>, is_last: bool) {
+        let given = moment_for(request, &mut self.clock);
+        answer_request(
+            self.alloc,
+            &mut self.desk,
+            &mut self.answer,
+            request,
+            given,
+            is_last,
+        );
+    }
+
+    fn refuse(&mut self, fault: FramingFault) {
+        self.answer.refuse(fault);
+    }
+
+    fn answer(&self) -> (&[u8], &[u8]) {
+        self.answer.pieces()
+    }
+}

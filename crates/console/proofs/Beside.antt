@@ -1,5 +1,5 @@
 -- What requests make of a state beside a value that stays.
-use Rattle.std.proofs.Common.{◌≡◌, ℕ, Bool, ◌-◌, List, [], ◌∷◌, ◌++◌, Option, Some, None, refl, inl, inr, sym, ap, ap₂, ◌∙◌, subst}
+use Rattle.std.proofs.Common.{◌≡◌, ℕ, Bool, ◌-◌, List, [], ◌∷◌, Option, Some, refl, inl, inr, sym, ap, ◌∙◌, subst}
 use Rattle.mud_world.specs.Door.{DoorState}
 use Rattle.http_requests.specs.declared.fault.FramingFault.{FramingFault}
 use Rattle.http_requests.specs.declared.fault.MomentFrom.{MomentFrom}
@@ -11,7 +11,7 @@ use Rattle.http_serving.specs.Asked.{Asked, asked}
 use Rattle.http_serving.specs.Ends.{ServedBy, IsServed}
 use Rattle.http_serving.specs.Runs.{Runs, Leads, IsLeftBy}
 use Rattle.http_serving.specs.Visits.{Visit, alone, AreServed, ServedInTurn}
-use Rattle.console.specs.Beside.{MayIf, MayBeside}
+use Rattle.console.specs.Beside.{MayBeside}
 
 module _ {S X : Type 0} (may : S → Asked → List ℕ → S → Type 0) where
   -- what is behind a state beside the value, and what holds of it

@@ -1,5 +1,5 @@
 -- One request more.
-use Rattle.std.proofs.Common.{◌≡◌, ℕ, ◌+◌, Bool, true, false, List, Option, Some, None, refl, sym, ap, ◌∙◌, subst, arith}
+use Rattle.std.proofs.Common.{◌≡◌, ℕ, Bool, true, false, List, Option, Some, None, refl, sym, ap, ◌∙◌, subst, arith}
 use Rattle.mud_world.specs.Causes.{Counts}
 use Rattle.mud_world.specs.Clock.{next_moment, later_moments}
 use Rattle.mud_tables.specs.declared.segment.Segment.{Segment}

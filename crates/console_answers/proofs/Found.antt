@@ -1,8 +1,7 @@
 -- What is found in a list.
-use Rattle.std.proofs.Common.{◌≡◌, ℕ, Bool, List, [], ◌∷◌, Option, Some, None, refl, sym, ap, cond, ◌∙◌}
+use Rattle.std.proofs.Common.{◌≡◌, ℕ, List, [], ◌∷◌, Option, Some, refl, sym, ap, ◌∙◌}
 use Rattle.std.specs.Prelude.{bytes_eq, find, if◌then◌else◌, option_map}
 use Rattle.sorted_rows.specs.Placed.{row_at}
-use Rattle.acl_model.specs.declared.entry.Policy.{Policy}
 use Rattle.mud_file.specs.declared.usage_file.UsageFile.{UsageFile}
 use Rattle.mud_base.specs.declared.addr.Mac.{Mac}
 use Rattle.mud_tables.specs.declared.thing.Thing.{Thing}

@@ -3,7 +3,7 @@ use Rattle.std.specs.Prelude.{◌≡◌, ℕ, ◌⊎◌, Bool, true, false, List
 use Rattle.mud_base.specs.declared.memory.Memory as want
 use Rattle.console_routes.specs.declared.route.Route.{Route}
 use Rattle.http_answers.specs.declared.status.Status.{Status}
-use Rattle.http_answers.specs.declared.status.Status.TheVariants.{Done, BadRequest, NotFound, MethodNotAllowed, Conflict, LengthRequired, TooLarge, Unprocessable, NotImplemented, Unavailable, NoStorage}
+use Rattle.http_answers.specs.declared.status.Status.TheVariants.{NotFound, MethodNotAllowed, Unavailable, NoStorage}
 use Rattle.outcome_bodies.specs.Outcomes.{rule_body}
 use Rattle.desk_model.specs.Sessions.{Session}
 

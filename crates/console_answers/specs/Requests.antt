@@ -1,7 +1,7 @@
 -- What the console answers to a request in a session, and the session after it.
-use Rattle.std.specs.Prelude.{◌≡◌, ℕ, Bool, true, List, bytes_eq, codes, Option, Some, None, Result, Ok, Err, IsOkAnd}
+use Rattle.std.specs.Prelude.{◌≡◌, ℕ, true, List, Option, Some, None, Result, Ok, Err, IsOkAnd}
 use Rattle.console_routes.specs.declared.action.Action.{Action}
-use Rattle.console_routes.specs.declared.action.Action.TheVariants.{HearDhcp, HearLldp, List as ListRows, State, Import, Judge, Why}
+use Rattle.console_routes.specs.declared.action.Action.TheVariants.{State}
 use Rattle.console_bodies.specs.declared.asked.Asked.{Asked}
 use Rattle.console_bodies.specs.declared.asked.Asked.TheVariants as asked
 use Rattle.console_bodies.specs.Bodies.{heard_command}

@@ -1,9 +1,9 @@
 -- A reply is answered.
-use Rattle.std.proofs.Common.{◌≡◌, ℕ, Bool, List, [], refl, sym, ap, ◌∙◌, subst, inl, inr}
+use Rattle.std.proofs.Common.{◌≡◌, ℕ, Bool, List, refl, sym, ap, ◌∙◌, subst, inl, inr}
 use Rattle.std.specs.Prelude.{Result, Ok, Err, Option, None, length, max, ◌++◌}
 use Rattle.console_routes.specs.declared.route.Route.{Route}
 use Rattle.http_answers.specs.Heads.{head_of, shown, answer_of}
-use Rattle.http_requests.specs.Requests.{Request, path_of}
+use Rattle.http_requests.specs.Requests.{Request}
 use Rattle.http_requests.specs.declared.fault.MomentFrom.{MomentFrom}
 use Rattle.http_requests.specs.declared.parts.RequestParts.{RequestParts}
 use Rattle.http_requests.specs.Parts.{AreParts}
@@ -11,10 +11,10 @@ use Rattle.http_answers.specs.declared.status.Status.{Status}
 use Rattle.mud_tables.specs.declared.segment.Segment.{Segment}
 use Rattle.desk_model.specs.Sessions.{Session, later}
 use Rattle.console_routes.specs.Routes.{route_of}
-use Rattle.mud_desk.specs.DeskState.{DeskState, tables_of, session_of, HasForwarded}
+use Rattle.mud_desk.specs.DeskState.{DeskState, session_of, HasForwarded}
 use Rattle.console_answers.specs.declared.question.Question.{Question}
 use Rattle.console_answers.specs.declared.question.NoQuestion.{NoQuestion}
-use Rattle.console_answers.specs.Replies.{Reply, reply, Replied, replied, no_storage, unavailable, IsOrWanted, MayStand}
+use Rattle.console_answers.specs.Replies.{Reply, reply, replied, no_storage, IsOrWanted, MayStand}
 use Rattle.console_answers.specs.Asks.{question_of, by_route, refusal_of}
 use Rattle.console_answers.specs.Requests.{question_in, by_result, reply_in, MayFailBy, MayFail, MayReply, by_question, ChangesBy, command_asked}
 use Rattle.console_answers.specs.Answers.{is_head, octets_of, MayAnswer}

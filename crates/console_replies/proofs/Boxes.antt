@@ -1,5 +1,5 @@
 -- The keeper in its box, where a call leaves it.
-use Rattle.std.proofs.Common.{◌≡◌, ℕ, Bool, false, refl, sym, ap, subst, arith}
+use Rattle.std.proofs.Common.{◌≡◌, ℕ, Bool, false, sym, ap, subst, arith}
 use Rattle.std.specs.declared.dyn_box.DynBox.{DynBox}
 use Rattle.std.specs.declared.alloc.Global.{Global}
 use Rattle.mud_world.specs.declared.keeper.Keeper.{Ghosts}
@@ -7,7 +7,7 @@ use Rattle.mud_world.specs.Causes.{Counts}
 use Rattle.mud_world.specs.Boxed.{faults_of, Tells}
 use Rattle.http_answers.specs.declared.status.Status.{Status}
 use Rattle.desk_model.specs.DeskTables.{DeskTables}
-use Rattle.desk_books.specs.Books.{Books, desk_of}
+use Rattle.desk_books.specs.Books.{desk_of}
 use Rattle.mud_desk.specs.DeskState.{DeskState, tables_of}
 use Rattle.mud_desk.specs.Boxed.{IsKept, IsSameBox}
 use Rattle.console_answers.specs.Replies.{is_unavailable}

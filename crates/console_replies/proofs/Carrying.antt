@@ -1,6 +1,6 @@
 -- What may stand for a command.
 use Rattle.std.proofs.lemmas.Bool.{false≢true}
-use Rattle.std.proofs.Common.{◌≡◌, ℕ, Bool, true, false, List, Result, Ok, Err, refl, sym, ap, ◌∙◌, subst, inl, inr}
+use Rattle.std.proofs.Common.{◌≡◌, ℕ, Bool, true, false, List, Ok, Err, sym, ap, ◌∙◌, inl, inr}
 use Rattle.desk_model.specs.declared.command.Command.{Command}
 use Rattle.desk_model.specs.declared.reply.Outcome.{Outcome}
 use Rattle.desk_model.specs.declared.reply.Refusal.{Refusal}
@@ -8,7 +8,7 @@ use Rattle.desk_model.specs.declared.reply.Reply as desk
 use Rattle.desk_model.specs.declared.reply.Reply.TheVariants.{Done, Refused, Keeper, Memory}
 use Rattle.desk_model.specs.Commands.{DeskStep, command_step}
 use Rattle.desk_model.specs.Sessions.{Session, Answered, answered, later, command_in, MayAnswer}
-use Rattle.console_answers.specs.Replies.{Reply, Replied, replied, no_storage, unavailable, IsOrWanted, MayStand}
+use Rattle.console_answers.specs.Replies.{Reply, replied, IsOrWanted, MayStand}
 use Rattle.console_answers.specs.Requests.{command_reply, by_command, Changes}
 use Rattle.console_replies.specs.Origins.{IsWritten}
 

@@ -1,5 +1,5 @@
 -- The rules of faults are short.
-use Rattle.std.proofs.Common.{ℕ, ◌≤◌, length, lit≤}
+use Rattle.std.proofs.Common.{◌≤◌, length, lit≤}
 use Rattle.http_requests.specs.declared.fault.FramingFault.{FramingFault}
 use Rattle.http_requests.specs.declared.fault.FramingFault.TheVariants.{Head, Coding, Length, Long, NoLength, Moment, Cut}
 use Rattle.http_requests.specs.Framing.{rule_of}

@@ -4,7 +4,7 @@ use Rattle.std.specs.Prelude.{find, ◌==◌}
 use Rattle.std.specs.List.{prefix_len}
 use Rattle.httparse.specs.Grammar.{RequestHead}
 use Rattle.http_requests.specs.Requests.{path_of}
-use Rattle.console_routes.specs.Routes.{is_question_mark, path_in, route_of, has_path, all_routes}
+use Rattle.console_routes.specs.Routes.{path_in, route_of, has_path, all_routes}
 
 -- the elements from the front on that pass
 abbrev front : (ℕ → Bool) → List ℕ → List ℕ

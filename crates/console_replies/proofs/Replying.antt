@@ -1,5 +1,5 @@
 -- Replies as they are written.
-use Rattle.std.proofs.Common.{◌≡◌, ℕ, Bool, false, List, Option, None, Result, Ok, Err, refl, sym, ap, ◌∙◌, subst, inl, inr}
+use Rattle.std.proofs.Common.{◌≡◌, ℕ, false, List, None, Result, Ok, Err, refl, sym, ap, ◌∙◌, subst, inl, inr}
 use Rattle.std.specs.Prelude.{IfOk}
 use Rattle.mud_base.specs.declared.memory.Memory as want
 use Rattle.http_answers.specs.declared.status.Status.{Status}
@@ -15,7 +15,7 @@ use Rattle.console_answers.specs.declared.question.NoQuestion.{NoQuestion}
 use Rattle.console_answers.specs.declared.question.NoQuestion.TheVariants.{BadBody}
 use Rattle.console_answers.specs.Asks.{refusal_of}
 use Rattle.console_replies.specs.declared.refusals.ReplyHead.{ReplyHead}
-use Rattle.console_answers.specs.Replies.{Reply, reply, made_reply, no_storage, is_unavailable, IsOrWanted}
+use Rattle.console_answers.specs.Replies.{Reply, reply, made_reply, is_unavailable, IsOrWanted}
 
 pub defined : (given is : Reply) → given ≡ is → IsOrWanted is given
 defined given is same = record { one = inl same }

@@ -1,6 +1,6 @@
 -- What stands for requests, as it is seen in the session.
 use Rattle.std.specs.Prelude.{max, IfOk}
-use Rattle.std.proofs.Common.{◌≡◌, ℕ, List, Option, Some, None, Result, Ok, Err, refl, sym, ap, ◌∙◌, subst, inl, inr}
+use Rattle.std.proofs.Common.{◌≡◌, ℕ, List, Some, Result, Ok, Err, refl, sym, ap, ◌∙◌, subst, inl, inr}
 use Rattle.mud_base.specs.declared.memory.Memory as want
 use Rattle.mud_tables.specs.declared.segment.Segment.{Segment}
 use Rattle.flow_table.specs.Kept.{StandsFor}
@@ -17,11 +17,11 @@ use Rattle.desk_model.specs.declared.command.Command.TheVariants.{HearUrl, HearL
 use Rattle.desk_model.specs.Commands.{IsAsked}
 use Rattle.console_routes.specs.declared.action.Listing.{Listing}
 use Rattle.frame_view.specs.Frame.{frame_of}
-use Rattle.desk_model.specs.Sessions.{Session, MayJudge, Judged, frame_in, verdict_in, raised, later}
+use Rattle.desk_model.specs.Sessions.{Session, MayJudge, frame_in, verdict_in, raised, later}
 use Rattle.http_answers.specs.declared.status.Status.TheVariants as status
 use Rattle.outcome_bodies.specs.Verdicts.{verdict_body}
 use Rattle.mud_desk.specs.DeskState.{DeskState, tables_of, session_of, HasForwarded, IsJudged}
-use Rattle.console_answers.specs.Replies.{Reply, reply, Replied, replied, made_reply, no_storage, unavailable, IsOrWanted, MayStand}
+use Rattle.console_answers.specs.Replies.{Reply, reply, Replied, replied, made_reply, no_storage, IsOrWanted, MayStand}
 use Rattle.console_answers.specs.Listings.{listing_text}
 use Rattle.console_answers.specs.Why.{packet_ends, ends_text, why_text}
 use Rattle.console_routes.specs.declared.action.Action.{Action}

@@ -1,7 +1,7 @@
 use Rattle.std.proofs.Common.{Bool, sym, subst}
 use Rattle.mud_world.specs.Causes.{Counts}
 use Rattle.mud_world.specs.Boxed.{faults_of}
-use Rattle.desk_model.specs.Sessions.{Session, command_in}
+use Rattle.desk_model.specs.Sessions.{command_in}
 use Rattle.mud_desk.specs.DeskState.{session_of}
 use Rattle.console_answers.specs.Replies.{reply, MayStand}
 use Rattle.console_answers.specs.Requests.{Changes, by_command}

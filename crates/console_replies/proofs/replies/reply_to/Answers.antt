@@ -1,4 +1,4 @@
-use Rattle.std.proofs.Common.{Err, ap, subst, sym, ◌∙◌}
+use Rattle.std.proofs.Common.{ap, subst, sym, ◌∙◌}
 use Rattle.std.specs.Prelude.{max}
 use Rattle.console_answers.specs.Replies.{Reply, reply}
 use Rattle.console_answers.specs.Requests.{MayReply}

@@ -1,0 +1,6 @@
+//! The words of the command line, and the commands that they are.
+#![tactic(auto)]
+
+pub mod command;
+
+pub use command::{Command, Message, ReportKind};

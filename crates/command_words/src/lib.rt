@@ -2,5 +2,9 @@
 #![tactic(auto)]
 
 pub mod command;
+pub mod usage;
+pub mod words;
 
 pub use command::{Command, Message, ReportKind};
+pub use usage::USAGE;
+pub use words::command_of;

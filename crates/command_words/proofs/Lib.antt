@@ -1,2 +1,4 @@
+pub mod Building
 mod Examples
 pub mod Lists
+pub mod Passing

@@ -2,6 +2,7 @@
 #![tactic(auto)]
 
 pub mod command;
+mod parser;
 pub mod usage;
 pub mod words;
 

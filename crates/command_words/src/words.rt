@@ -6,6 +6,7 @@ ghost use Rattle.std.specs.String.{string_bytes};
 ghost use Rattle.command_words.specs.Words as spec;
 
 use crate::command::{Command, Message, ReportKind};
+use crate::parser::is_refused;
 use mud_base::number_upto;
 use std::alloc::Global;
 
@@ -196,11 +197,14 @@ fn has_dashed(words: &[String]) -> bool
 
 /// The command that the words after the program's name are. None exactly where they are no listed
 /// line.
-#[tactic(auto, using(crate::proofs::Lists::any_of_map), unfolding(crate::specs::Words::command_in))]
-pub fn command_of(_alloc: Global, words: &[String]) -> Option<Command>
+#[tactic(auto, using(crate::proofs::Lists::any_of_map, crate::proofs::Passing::refused_is_unlisted), unfolding(crate::specs::Words::command_in))]
+pub fn command_of(alloc: Global, words: &[String]) -> Option<Command>
     ensures { result ≡ spec.command_in (spec.words_of words.now) }
 {
     if has_dashed(words) {
+        return None;
+    }
+    if is_refused(alloc, words) {
         return None;
     }
     line_in(words)

@@ -1,0 +1,13 @@
+-- How the lines of a program are added.
+use Rattle.std.proofs.Common.{◌≡◌, false, ap, ap₂, ◌∙◌}
+use Rattle.clap.specs.Words.{AddsSubcommand, App, Shape, app_of, with_subcommand}
+use Rattle.clap.specs.declared.builder.command.Command.{Command}
+use Rattle.clap.specs.declared.builder.command.Command.TheViews.{out-Command}
+use Rattle.command_words.specs.Parser.{with_line}
+
+abbrev top_of : App → Shape
+top_of line = line.top
+
+-- a line is added behind those that stand
+pub added : {program line wider : Command} {told shown : App} → AddsSubcommand program line wider → (out-Command line).has_globals ≡ false → app_of program ≡ told → app_of line ≡ shown → app_of wider ≡ with_line told shown
+added adds local is_told is_shown = adds.shape local ∙ ap₂ with_subcommand is_told (ap top_of is_shown)

@@ -1,0 +1,4 @@
+pub mod Written
+pub mod Dues
+pub mod Runs
+pub mod Examples

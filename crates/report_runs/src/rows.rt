@@ -1,0 +1,96 @@
+//! Rows written one after the other: the lines of each are written as soon as they are made.
+ghost use Rattle.std.specs.Prelude.{◌≡◌, IfOk, OnOk, OnErr, flat_map};
+ghost use Rattle.mud_world.specs.Causes.{Counts};
+ghost use Rattle.mud_world.specs.Door.{put_out};
+ghost use Rattle.command_runs.specs.Due.{WroteFirst};
+ghost use Rattle.report_runs.specs.Stops.{has_failed};
+ghost use Rattle.report_runs.specs.Tables.{due_part};
+
+use crate::stop::Stop;
+use file_cache::is_due;
+use file_tables::CachedFile;
+use mud_base::{Bytes, Memory, Moment};
+use mud_world::{Door, say};
+use report_lines::{ReportRow, append_due};
+use std::alloc::Global;
+
+/// Writes the lines of a row.
+fn write_row<D: Door, R: ReportRow>(alloc: Global, door: &mut D, row: &R) -> Result<(), Stop>
+    ensures ok { D.tells → OnOk result (D.state door.new ≡ put_out (R.text row.now) (D.state door.old)) }
+    ensures part { D.tells → OnErr result (WroteFirst (R.text row.now) (D.state door.old) (D.state door.new)) }
+    ensures cause { Counts (has_failed result) (D.writes door.old) (D.writes door.new) }
+    ensures turns { D.turns door.new ≡ D.turns door.old }
+    ensures reads { D.reads door.new ≡ D.reads door.old }
+{
+    let mut lines = Bytes::empty(alloc);
+    row.append_lines(alloc, &mut lines)?;
+    say(door, lines.octets())?;
+    Ok(())
+}
+
+/// Writes the lines of rows, in their order.
+pub(crate) fn write_rows<D: Door, R: ReportRow>(
+    alloc: Global,
+    door: &mut D,
+    rows: &[R],
+) -> Result<(), Stop>
+    ensures ok { D.tells → OnOk result (D.state door.new ≡ put_out (flat_map R.text rows.now) (D.state door.old)) }
+    ensures part { D.tells → OnErr result (WroteFirst (flat_map R.text rows.now) (D.state door.old) (D.state door.new)) }
+    ensures cause { Counts (has_failed result) (D.writes door.old) (D.writes door.new) }
+    ensures turns { D.turns door.new ≡ D.turns door.old }
+    ensures reads { D.reads door.new ≡ D.reads door.old }
+{
+    'rows: for row in rows {
+        write_row(alloc, door, row)?;
+    }
+    Ok(())
+}
+
+/// The line of a URL, where its file is to be fetched again; else no octets.
+#[tactic(auto, unfolding(crate::specs::Tables::due_part))]
+fn due_line(alloc: Global, row: &CachedFile, now: Moment) -> Result<Bytes, Memory>
+    ensures { IfOk result (λ line. line ≡ due_part now row.now) }
+{
+    let mut line = Bytes::empty(alloc);
+    if is_due(row, now) {
+        append_due(&mut line, &row.url)?;
+    }
+    Ok(line)
+}
+
+/// Writes the line of a URL, where its file is to be fetched again.
+fn write_due_row<D: Door>(
+    alloc: Global,
+    door: &mut D,
+    row: &CachedFile,
+    now: Moment,
+) -> Result<(), Stop>
+    ensures ok { D.tells → OnOk result (D.state door.new ≡ put_out (due_part now row.now) (D.state door.old)) }
+    ensures part { D.tells → OnErr result (WroteFirst (due_part now row.now) (D.state door.old) (D.state door.new)) }
+    ensures cause { Counts (has_failed result) (D.writes door.old) (D.writes door.new) }
+    ensures turns { D.turns door.new ≡ D.turns door.old }
+    ensures reads { D.reads door.new ≡ D.reads door.old }
+{
+    let line = due_line(alloc, row, now)?;
+    say(door, line.octets())?;
+    Ok(())
+}
+
+/// Writes the lines of the URLs whose file is to be fetched again at a moment, in their order.
+pub(crate) fn write_due<D: Door>(
+    alloc: Global,
+    door: &mut D,
+    files: &[CachedFile],
+    now: Moment,
+) -> Result<(), Stop>
+    ensures ok { D.tells → OnOk result (D.state door.new ≡ put_out (flat_map (due_part now) files.now) (D.state door.old)) }
+    ensures part { D.tells → OnErr result (WroteFirst (flat_map (due_part now) files.now) (D.state door.old) (D.state door.new)) }
+    ensures cause { Counts (has_failed result) (D.writes door.old) (D.writes door.new) }
+    ensures turns { D.turns door.new ≡ D.turns door.old }
+    ensures reads { D.reads door.new ≡ D.reads door.old }
+{
+    'rows: for row in files {
+        write_due_row(alloc, door, row, now)?;
+    }
+    Ok(())
+}

@@ -1,0 +1,48 @@
+//! The command `report`, from the opening of its store to its status.
+ghost use Rattle.std.specs.Prelude.{◌≡◌, ◌⊎◌, false};
+ghost use Rattle.command_runs.specs.Status.{status_number};
+ghost use Rattle.command_runs.specs.View.{viewed};
+ghost use Rattle.desk_items.specs.Taken.{kept_of};
+ghost use Rattle.desk_model.specs.Items.{none_kept};
+ghost use Rattle.report_runs.specs.Store.{ReportsStore};
+ghost use Rattle.report_runs.specs.Tables.{asks_clock, moments_after};
+
+use crate::table::report_desk;
+use command_runs::Status;
+use command_words::ReportKind;
+use desk_runs::refuse_store;
+use mud_desk::{Desk, Taken};
+use mud_world::{Clock, Door, Keeper};
+use std::alloc::Global;
+
+/// Opens a desk over the keeper, and then writes one of its tables, a row after the other in the
+/// order in which they are listed. Nothing is read of the door. Where the store can't be opened, no
+/// row is written, and the clock isn't asked. The box is handed back. Nothing was taken before, as
+/// [`Desk::open`] wants it: [`Taken::new`].
+pub fn report_store<D: Door, C: Clock>(
+    alloc: Global,
+    keeper: Box<dyn Keeper>,
+    nothing: Taken,
+    kind: ReportKind,
+    door: &mut D,
+    clock: &mut C,
+) -> (Status, Box<dyn Keeper>)
+    requires { kept_of nothing ≡ none_kept }
+    ensures reported { ReportsStore Keeper-dyn kind D.tells C.tells (C.moments clock.old) keeper result.1
+        (viewed (D.state door.old) (D.turns door.old) (D.reads door.old) (D.writes door.old))
+        (viewed (D.state door.new) (D.turns door.new) (D.reads door.new) (D.writes door.new))
+        (status_number result.0) }
+    // Where the keeper failed, the door isn't called at all.
+    ensures untouched { status_number result.0 ≡ 7 → door.new ≡ door.old }
+    // The clock is asked once for the URLs that are due,
+    ensures asked { C.tells → status_number result.0 ≡ 0 → C.moments clock.new ≡ moments_after kind (C.moments clock.old) }
+    ensures once { C.tells → (C.moments clock.new ≡ C.moments clock.old) ⊎ (C.moments clock.new ≡ moments_after kind (C.moments clock.old)) }
+    // and not for another table, nor where the store can't be opened.
+    ensures unasked { asks_clock kind ≡ false → clock.new ≡ clock.old }
+    ensures unopened { (status_number result.0 ≡ 6) ⊎ (status_number result.0 ≡ 7) → clock.new ≡ clock.old }
+{
+    match Desk::open(alloc, keeper, nothing) {
+        Ok(desk) => report_desk(alloc, desk, kind, door, clock),
+        Err((fault, keeper)) => (refuse_store(alloc, door, fault), keeper),
+    }
+}

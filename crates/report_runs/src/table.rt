@@ -1,0 +1,138 @@
+//! One of the tables of a desk, written to a door.
+ghost use Rattle.std.specs.Prelude.{◌≡◌, ◌≢◌, ◌⊎◌, false, Ok, OnOk, OnErr};
+ghost use Rattle.mud_world.specs.Causes.{Counts, Rose};
+ghost use Rattle.mud_world.specs.Door.{put_out};
+ghost use Rattle.mud_desk.specs.Boxed.{IsKept};
+ghost use Rattle.mud_desk.specs.DeskState.{tables_of};
+ghost use Rattle.command_runs.specs.Due.{WroteFirst};
+ghost use Rattle.command_runs.specs.Status.{status_number};
+ghost use Rattle.report_runs.specs.Stops.{has_failed};
+ghost use Rattle.report_runs.specs.Store.{WritesReport};
+ghost use Rattle.report_runs.specs.Tables.{clock_for, moments_after, table_text};
+ghost use Rattle.report_runs.specs.Tables as spec;
+
+use crate::rows::{write_due, write_rows};
+use crate::stop::Stop;
+use command_runs::Status;
+use command_words::ReportKind;
+use mud_base::Moment;
+use mud_desk::Desk;
+use mud_world::{Clock, Door, Keeper};
+use std::alloc::Global;
+
+/// Whether a table needs the moment now.
+fn asks_clock(kind: ReportKind) -> bool
+    ensures { result ≡ spec.asks_clock kind }
+{
+    match kind {
+        ReportKind::Due => true,
+        ReportKind::Things
+        | ReportKind::Files
+        | ReportKind::Classes
+        | ReportKind::Locals
+        | ReportKind::Names => false,
+    }
+}
+
+/// What the clock gives, where the table needs it; else it isn't asked.
+#[tactic(auto, unfolding(crate::specs::Tables::clock_for, crate::specs::Tables::moments_after))]
+fn ask_clock<C: Clock>(kind: ReportKind, clock: &mut C) -> Option<Moment>
+    ensures moment { C.tells → result ≡ clock_for kind (C.moments clock.old) }
+    ensures later { C.tells → C.moments clock.new ≡ moments_after kind (C.moments clock.old) }
+    ensures unasked { spec.asks_clock kind ≡ false → clock.new ≡ clock.old }
+{
+    if asks_clock(kind) {
+        Some(clock.now())
+    } else {
+        None
+    }
+}
+
+/// The later of the moment of the last change and of that which the clock gave, at which the URLs
+/// that are due are asked for.
+#[tactic(auto, unfolding(crate::specs::Tables::due_moment))]
+fn due_moment(stamp: Option<Moment>, clock: Option<Moment>) -> Moment
+    ensures { result ≡ spec.due_moment stamp clock }
+{
+    let first = Moment::at_most_last(0);
+    stamp.unwrap_or(first).max(clock.unwrap_or(first))
+}
+
+/// Writes a table of the desk, a row after the other.
+#[tactic(auto, unfolding(crate::specs::Tables::table_text))]
+fn write_table<D: Door>(
+    alloc: Global,
+    desk: &Desk,
+    kind: ReportKind,
+    clock: Option<Moment>,
+    door: &mut D,
+) -> Result<(), Stop>
+    ensures ok { D.tells → OnOk result (D.state door.new ≡ put_out (table_text kind clock (tables_of desk.now.state)) (D.state door.old)) }
+    ensures part { D.tells → OnErr result (WroteFirst (table_text kind clock (tables_of desk.now.state)) (D.state door.old) (D.state door.new)) }
+    ensures cause { Counts (has_failed result) (D.writes door.old) (D.writes door.new) }
+    ensures turns { D.turns door.new ≡ D.turns door.old }
+    ensures reads { D.reads door.new ≡ D.reads door.old }
+{
+    match kind {
+        ReportKind::Things => write_rows(alloc, door, desk.things()),
+        ReportKind::Files => write_rows(alloc, door, desk.files()),
+        ReportKind::Classes => write_rows(alloc, door, desk.classes()),
+        ReportKind::Locals => write_rows(alloc, door, desk.locals()),
+        ReportKind::Names => write_rows(alloc, door, desk.names()),
+        ReportKind::Due => write_due(alloc, door, desk.files(), due_moment(desk.stamp(), clock)),
+    }
+}
+
+/// Writes a table of the desk. The answer says how that ended.
+fn report_table<D: Door>(
+    alloc: Global,
+    desk: &Desk,
+    kind: ReportKind,
+    clock: Option<Moment>,
+    door: &mut D,
+) -> Status
+    ensures statuses { (status_number result ≡ 0) ⊎ ((status_number result ≡ 4) ⊎ (status_number result ≡ 5)) }
+    ensures fault { status_number result ≡ 4 → Rose (D.writes door.old) (D.writes door.new) }
+    ensures steady { status_number result ≢ 4 → D.writes door.new ≡ D.writes door.old }
+    ensures done { D.tells → status_number result ≡ 0 → D.state door.new ≡ put_out (table_text kind clock (tables_of desk.now.state)) (D.state door.old) }
+    ensures part { D.tells → (status_number result ≡ 4) ⊎ (status_number result ≡ 5) →
+        WroteFirst (table_text kind clock (tables_of desk.now.state)) (D.state door.old) (D.state door.new) }
+    ensures turns { D.turns door.new ≡ D.turns door.old }
+    ensures reads { D.reads door.new ≡ D.reads door.old }
+{
+    match write_table(alloc, desk, kind, clock, door) {
+        Ok(()) => Status::Done,
+        Err(stop) => stop.status(),
+    }
+}
+
+/// Writes a table of the desk, each row as soon as its lines are made, and hands the keeper back,
+/// which isn't called. The clock is asked for the URLs that are due, and not for another table.
+///
+/// | Status | It comes |
+/// |---|---|
+/// | 0 | the table was written |
+/// | 4 | a write of the door failed: a first part was written |
+/// | 5 | want of memory: a first part was written, and no line says so |
+pub fn report_desk<D: Door, C: Clock>(
+    alloc: Global,
+    desk: Desk,
+    kind: ReportKind,
+    door: &mut D,
+    clock: &mut C,
+) -> (Status, Box<dyn Keeper>)
+    requires { IsKept Keeper-dyn desk.keeper (tables_of desk.state) }
+    ensures statuses { (status_number result.0 ≡ 0) ⊎ ((status_number result.0 ≡ 4) ⊎ (status_number result.0 ≡ 5)) }
+    ensures fault { status_number result.0 ≡ 4 → Rose (D.writes door.old) (D.writes door.new) }
+    ensures steady { status_number result.0 ≢ 4 → D.writes door.new ≡ D.writes door.old }
+    ensures writes { D.tells → WritesReport kind C.tells (C.moments clock.old) (Ok (tables_of desk.state)) (D.state door.old) (D.state door.new) (status_number result.0) }
+    ensures turns { D.turns door.new ≡ D.turns door.old }
+    ensures reads { D.reads door.new ≡ D.reads door.old }
+    ensures later { C.tells → C.moments clock.new ≡ moments_after kind (C.moments clock.old) }
+    ensures unasked { spec.asks_clock kind ≡ false → clock.new ≡ clock.old }
+    ensures keeper { result.1 ≡ desk.keeper }
+{
+    let now = ask_clock(kind, clock);
+    let status = report_table(alloc, &desk, kind, now, door);
+    (status, desk.close())
+}

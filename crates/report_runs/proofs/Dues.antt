@@ -1,6 +1,6 @@
 -- The lines of the URLs that are due.
 use Rattle.std.proofs.Common.{◌≡◌, ℕ, Bool, true, false, List, [], ◌∷◌, ◌++◌, Option, refl, sym, ap, ap₂, ◌∙◌}
-use Rattle.std.specs.Prelude.{flat_map, map, filter, if◌then◌else◌}
+use Rattle.std.specs.Prelude.{flat_map}
 use Rattle.file_tables.specs.declared.cached_file.CachedFile.{CachedFile}
 use Rattle.file_tables.specs.Files.{url_of}
 use Rattle.file_tables.specs.Due.{is_due, due_files, due_urls}

@@ -1,5 +1,5 @@
 -- The tables of a store that is written out.
-use Rattle.std.proofs.Common.{◌≡◌, ℕ, [], ◌∷◌, Some, None, codes, refl}
+use Rattle.std.proofs.Common.{◌≡◌, [], ◌∷◌, Some, None, codes, refl}
 use Rattle.std.specs.Prelude.{⊤}
 use Rattle.mud_base.proofs.OnLiterals.{texts_on_literals}
 use Rattle.mud_tables.specs.declared.bind.Class.TheVariants.{Uri}

@@ -22,8 +22,8 @@ fn moment_for<C: Clock>(request: &RequestParts<'_>, clock: &mut C) -> Moment
 }
 
 /// A desk that answers requests, its last answer, and the clock by which requests are taken that
-/// give no moment.
-pub struct Console<C: Clock> {
+/// give no moment. The clock is lent.
+pub struct Console<'a, C: Clock> {
     /// What memory is asked of.
     pub alloc: Global,
     /// The desk.
@@ -31,12 +31,12 @@ pub struct Console<C: Clock> {
     /// The last answer.
     pub answer: Answer,
     /// The clock.
-    pub clock: C,
+    pub clock: &'a mut C,
     /// The desk's keeper is a boxed one.
     pub keeper: PhantomData<Box<dyn Keeper>>,
 }
 
-impl<C: Clock> Service for Console<C> {
+impl<C: Clock> Service for Console<'_, C> {
     ghost use Rattle.std.specs.Prelude.{◌≡◌, ℕ, ◌++◌, IsTrue, Option};
     ghost use Rattle.desk_model.specs.Items.{items_of};
     ghost use Rattle.mud_desk.specs.DeskState.{tables_of};
@@ -50,13 +50,14 @@ impl<C: Clock> Service for Console<C> {
 
     ghost State = { Option ConsoleState × Self };
 
-    ghost keeps = { λ it s. IsAtIf C.tells it.desk.state (C.moments it.clock)
+    ghost keeps = { λ it s. IsAtIf C.tells it.desk.state (C.moments it.clock.now)
         ((Keeper-box s.1.desk.keeper).faults s.1.desk.keeper.value)
         ((Keeper-box it.desk.keeper).faults it.desk.keeper.value) s.0
         × ((Keeper-box it.desk.keeper).tells it.desk.keeper.value
         → (Keeper-box s.1.desk.keeper).tells s.1.desk.keeper.value)
         × (it.desk.keeper.vtable ≡ s.1.desk.keeper.vtable)
-        × (it.desk.keeper.ptr ≡ s.1.desk.keeper.ptr) };
+        × (it.desk.keeper.ptr ≡ s.1.desk.keeper.ptr)
+        × (it.clock.ghost_name ≡ s.1.clock.ghost_name) };
 
     ghost may = { MayBeside (MayTake C.tells) };
 
@@ -65,7 +66,7 @@ impl<C: Clock> Service for Console<C> {
     ghost held = { λ it. it.answer };
 
     fn carry_out(&mut self, request: &RequestParts<'_>, is_last: bool) {
-        let given = moment_for(request, &mut self.clock);
+        let given = moment_for(request, self.clock);
         answer_request(
             self.alloc,
             &mut self.desk,

@@ -7,4 +7,4 @@ pub mod serve;
 
 pub use console::Console;
 pub use http_serving::ConnectionEnd;
-pub use serve::serve_connection;
+pub use serve::{serve_connection, serve_connections};

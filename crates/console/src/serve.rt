@@ -1,5 +1,5 @@
-//! Serving a connection by a desk.
-ghost use Rattle.std.specs.Prelude.{◌≡◌, List};
+//! Serving connections by a desk.
+ghost use Rattle.std.specs.Prelude.{◌≡◌, ◌≤◌, List, is_err};
 ghost use Rattle.mud_world.specs.Boxed.{faults_of, Tells};
 ghost use Rattle.mud_world.specs.Causes.{Counts};
 ghost use Rattle.mud_tables.specs.declared.segment.Segment.{Segment as SegmentValue};
@@ -7,19 +7,22 @@ ghost use Rattle.mud_desk.specs.DeskState.{tables_of, session_of, HasForwarded};
 ghost use Rattle.mud_desk.specs.Boxed.{IsKept, IsSameBox};
 ghost use Rattle.http_serving.specs.Ends.{IsServed, is_read_failed, is_write_failed};
 ghost use Rattle.http_serving.specs.Runs.{IsLeftBy};
+ghost use Rattle.http_serving.specs.Visits.{ServedInTurn};
 ghost use Rattle.console_answers.specs.Answers.{fault_answer};
 ghost use Rattle.console.specs.States.{MayTake, IsAt, begun};
 
 use crate::console::Console;
 use http_requests::{MomentFrom, RequestBuffer};
-use http_serving::{ConnectionEnd, serve_connection as serve_requests};
-use mud_world::{Clock, Door, Keeper};
+use http_serving::{
+    ConnectionEnd, serve_connection as serve_requests, serve_connections as serve_each,
+};
+use mud_world::{Clock, Door, Failed, Keeper};
 
 /// Serves the connection at which the door stands: its requests are answered by the desk, one after
 /// the other, and the answers are written in order, each before more is read. A fault of the framing
 /// is answered and ends the connection. What the buffer held before is forgotten.
 pub fn serve_connection<D: Door, C: Clock>(
-    console: &mut Console<C>,
+    console: &mut Console<'_, C>,
     buffer: &mut RequestBuffer,
     door: &mut D,
     from: MomentFrom,
@@ -30,21 +33,61 @@ pub fn serve_connection<D: Door, C: Clock>(
     // Whatever the door: from the session that the desk is in, it is in one that some requests left.
     ensures left { (h : List SegmentValue) → HasForwarded h console.old.desk.state
         → IsLeftBy (MayTake C.tells)
-        (IsAt C.tells console.new.desk.state (C.moments console.new.clock)
+        (IsAt C.tells console.new.desk.state (C.moments console.new.clock.now)
         (faults_of Keeper-dyn console.old.desk.keeper) (faults_of Keeper-dyn console.new.desk.keeper))
-        (begun (session_of h console.old.desk.state) (C.moments console.old.clock)) }
+        (begun (session_of h console.old.desk.state) (C.moments console.old.clock.now)) }
     // Where the door tells, they are those of the connection, and what was written are their answers.
     ensures served { D.tells → (h : List SegmentValue) → HasForwarded h console.old.desk.state
         → IsServed (MayTake C.tells) fault_answer from
-        (IsAt C.tells console.new.desk.state (C.moments console.new.clock)
+        (IsAt C.tells console.new.desk.state (C.moments console.new.clock.now)
         (faults_of Keeper-dyn console.old.desk.keeper) (faults_of Keeper-dyn console.new.desk.keeper))
-        result (begun (session_of h console.old.desk.state) (C.moments console.old.clock))
+        result (begun (session_of h console.old.desk.state) (C.moments console.old.clock.now))
         (D.state door.old) (D.state door.new) }
     ensures told { Tells Keeper-dyn console.new.desk.keeper → Tells Keeper-dyn console.old.desk.keeper }
     ensures same_box { IsSameBox console.old.desk.keeper console.new.desk.keeper }
+    // The clock stays the one that was lent.
+    ensures same_clock { console.new.clock.ghost_name ≡ console.old.clock.ghost_name }
     ensures reads { Counts (is_read_failed result) (D.reads door.old) (D.reads door.new) }
     ensures writes { Counts (is_write_failed result) (D.writes door.old) (D.writes door.new) }
     ensures turns { D.turns door.new ≡ D.turns door.old }
 {
     serve_requests(buffer, door, console, from)
+}
+
+/// Serves the connections that come to the door, one after the other and at most so many, by the
+/// desk in one session throughout. A connection whose read or write fails is over, and the next one
+/// is served. It fails exactly where the door fails to go on to the next connection.
+pub fn serve_connections<D: Door, C: Clock>(
+    console: &mut Console<'_, C>,
+    buffer: &mut RequestBuffer,
+    door: &mut D,
+    from: MomentFrom,
+    count: u32,
+) -> Result<(), Failed>
+    requires kept { IsKept Keeper-dyn console.old.desk.keeper (tables_of console.old.desk.state) }
+    ensures kept { IsKept Keeper-dyn console.new.desk.keeper (tables_of console.new.desk.state) }
+
+    // Whatever the door: from the session that the desk is in, it is in one that some requests left.
+    ensures left { (h : List SegmentValue) → HasForwarded h console.old.desk.state
+        → IsLeftBy (MayTake C.tells)
+        (IsAt C.tells console.new.desk.state (C.moments console.new.clock.now)
+        (faults_of Keeper-dyn console.old.desk.keeper) (faults_of Keeper-dyn console.new.desk.keeper))
+        (begun (session_of h console.old.desk.state) (C.moments console.old.clock.now)) }
+    // Where the door tells, they are those of the connections, and what was written are their answers.
+    ensures served { D.tells → (h : List SegmentValue) → HasForwarded h console.old.desk.state
+        → ServedInTurn (MayTake C.tells) fault_answer from
+        (IsAt C.tells console.new.desk.state (C.moments console.new.clock.now)
+        (faults_of Keeper-dyn console.old.desk.keeper) (faults_of Keeper-dyn console.new.desk.keeper))
+        (is_err result) count (begun (session_of h console.old.desk.state) (C.moments console.old.clock.now))
+        (D.state door.old) (D.state door.new)
+        (D.reads door.old) (D.reads door.new) (D.writes door.old) (D.writes door.new) }
+    ensures told { Tells Keeper-dyn console.new.desk.keeper → Tells Keeper-dyn console.old.desk.keeper }
+    ensures same_box { IsSameBox console.old.desk.keeper console.new.desk.keeper }
+    // The clock stays the one that was lent.
+    ensures same_clock { console.new.clock.ghost_name ≡ console.old.clock.ghost_name }
+    ensures turns { Counts (is_err result) (D.turns door.old) (D.turns door.new) }
+    ensures reads { D.reads door.old ≤ D.reads door.new }
+    ensures writes { D.writes door.old ≤ D.writes door.new }
+{
+    serve_each(buffer, door, console, from, count)
 }

@@ -1,4 +1,4 @@
-use Rattle.std.proofs.Common.{refl}
+use Rattle.std.proofs.Common.{◌≡◌, refl}
 use Rattle.std.specs.Prelude.{Some, None}
 use Rattle.mud_world.specs.Boxed.{faults_of, Tells}
 use Rattle.mud_desk.specs.Boxed.{IsSameBox}
@@ -15,29 +15,36 @@ returns-clause-kept g c = record { is_open = c.serve_connection.ensures.ready.0;
 pub returns-clause-left : goal.returns-clause-left
 returns-clause-left g c = λ h forwarded.
     let old = c.args.console.now in
-    let moments = g.C.Clock.moments old.clock in
+    let moments = g.C.Clock.moments old.clock.now in
     let first = begun (session_of h old.desk.state) moments in
     left_of (MayTake g.C.Clock.tells) _ _ first old (λ n k. k.0)
-    (c.serve_connection.ensures.left (Some first, old) (at_first g.C.Clock.tells old.desk.state moments (faults_of (goal.Keeper-dyn g) old.desk.keeper) h forwarded, (λ t. t), refl, refl))
+    (c.serve_connection.ensures.left (Some first, old) (at_first g.C.Clock.tells old.desk.state moments (faults_of (goal.Keeper-dyn g) old.desk.keeper) h forwarded, (λ t. t), refl, refl, refl))
 
 pub returns-clause-served : goal.returns-clause-served
 returns-clause-served g c = λ tells h forwarded.
     let old = c.args.console.now in
-    let moments = g.C.Clock.moments old.clock in
+    let moments = g.C.Clock.moments old.clock.now in
     let first = begun (session_of h old.desk.state) moments in
     is_served_of (MayTake g.C.Clock.tells) fault_answer c.args.from _ _ first old _ _ _ (λ n k. k.0)
-    (c.serve_connection.ensures.served tells (Some first, old) (at_first g.C.Clock.tells old.desk.state moments (faults_of (goal.Keeper-dyn g) old.desk.keeper) h forwarded, (λ t. t), refl, refl))
+    (c.serve_connection.ensures.served tells (Some first, old) (at_first g.C.Clock.tells old.desk.state moments (faults_of (goal.Keeper-dyn g) old.desk.keeper) h forwarded, (λ t. t), refl, refl, refl))
 
 pub returns-clause-told : goal.returns-clause-told
 returns-clause-told g c =
     let old = c.args.console.now in
     let new = c.serve_connection.new.service in
-    beside (MayTake g.C.Clock.tells) _ (None, old) (c.serve_connection.ensures.left (None, old) (tt, (λ t. t), refl, refl))
+    beside (MayTake g.C.Clock.tells) _ (None, old) (c.serve_connection.ensures.left (None, old) (tt, (λ t. t), refl, refl, refl))
     (λ x. Tells (goal.Keeper-dyn g) new.desk.keeper → Tells (goal.Keeper-dyn g) x.desk.keeper) (λ n k. k.1)
 
 pub returns-clause-same_box : goal.returns-clause-same_box
 returns-clause-same_box g c =
     let old = c.args.console.now in
     let new = c.serve_connection.new.service in
-    beside (MayTake g.C.Clock.tells) _ (None, old) (c.serve_connection.ensures.left (None, old) (tt, (λ t. t), refl, refl))
+    beside (MayTake g.C.Clock.tells) _ (None, old) (c.serve_connection.ensures.left (None, old) (tt, (λ t. t), refl, refl, refl))
     (λ x. IsSameBox x.desk.keeper new.desk.keeper) (λ n k. record { object = k.2; place = k.3 })
+
+pub returns-clause-same_clock : goal.returns-clause-same_clock
+returns-clause-same_clock g c =
+    let old = c.args.console.now in
+    let new = c.serve_connection.new.service in
+    beside (MayTake g.C.Clock.tells) _ (None, old) (c.serve_connection.ensures.left (None, old) (tt, (λ t. t), refl, refl, refl))
+    (λ x. new.clock.ghost_name ≡ x.clock.ghost_name) (λ n k. k.4)

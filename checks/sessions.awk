@@ -30,7 +30,9 @@
 #   announce MAC URL              a client's DHCPDISCOVER with this URL in option 161
 #   ack MAC ADDRESS SECONDS       a server's DHCPACK with this lease
 #
-# The variable 'folder' names where the files of run K go: K.octets, K.wanted, K.status and K.ways.
+# The variable 'folder' names where the files of run K go: K.octets, K.wanted, K.status and K.ways. Where
+# the variable 'apart' is set, there are also the table K.requests, a line 'N METHOD TARGET STATUS' each,
+# and for request N the files K.N.body and K.N.answer, the body of each.
 
 function fail(text) {
   print FILENAME ":" FNR ": " text
@@ -126,6 +128,7 @@ function write_body(file,    k) {
 
 function begin_run() {
   run++
+  number = 0
   octets = folder "/" run ".octets"
   wanted = folder "/" run ".wanted"
   printf "" >> octets
@@ -138,6 +141,7 @@ function end_run() {
   flush()
   close(octets)
   close(wanted)
+  if (apart) close(folder "/" run ".requests")
   print run_status > (folder "/" run ".status")
   print ways > (folder "/" run ".ways")
   close(folder "/" run ".status")
@@ -163,6 +167,19 @@ function write_request(    part, text, k) {
     printf "Content-Length: %d\r\n", body_size >> octets
   printf "\r\n" >> octets
   write_body(octets)
+  if (apart) {
+    number++
+    target = part[3]
+    write_apart("body")
+  }
+}
+
+# the body that was read, as a file of its own
+function write_apart(what,    file) {
+  file = folder "/" run "." number "." what
+  printf "" >> file
+  write_body(file)
+  close(file)
 }
 
 function write_answer(    status, text, closes) {
@@ -180,6 +197,10 @@ function write_answer(    status, text, closes) {
   printf "HTTP/1.1 %s %s\r\nContent-Type: application/json\r\n%s", status, phrase[status], headers >> wanted
   printf "Content-Length: %d\r\n%s\r\n", body_size, closes >> wanted
   if (method != "HEAD") write_body(wanted)
+  if (apart) {
+    write_apart("answer")
+    print number, method, target, status >> (folder "/" run ".requests")
+  }
 }
 
 # the lines of a raw request, which stand in raw[1] to raw[raw_count]

@@ -1,0 +1,63 @@
+"""Clients of the console, for checks/console.
+
+  console.py http PORT FOLDER RUN    sends the requests of FOLDER/RUN.requests over one connection by
+                                     http.client; the answer to request N goes to FOLDER/RUN.N.got, and
+                                     a line 'N METHOD TARGET STATUS' for each to standard output
+  console.py octets PORT FILE        sends the octets of FILE one a write, and then no more; writes
+                                     what comes back
+  console.py unread PORT FILE        sends the octets of FILE at once and goes away with a reset,
+                                     without reading an octet
+"""
+
+import http.client
+import socket
+import struct
+import sys
+import threading
+
+
+def by_http_client(port, folder, run):
+    connection = http.client.HTTPConnection("127.0.0.1", port, timeout=60)
+    with open(f"{folder}/{run}.requests") as table:
+        rows = [line.split() for line in table]
+    for number, method, target, _ in rows:
+        with open(f"{folder}/{run}.{number}.body", "rb") as file:
+            body = file.read()
+        connection.request(method, target, body=None if method == "GET" else body)
+        answer = connection.getresponse()
+        with open(f"{folder}/{run}.{number}.got", "wb") as file:
+            file.write(answer.read())
+        print(number, method, target, answer.status)
+    connection.close()
+
+
+def by_octets(port, name):
+    with open(name, "rb") as file:
+        octets = file.read()
+    connection = socket.create_connection(("127.0.0.1", port), timeout=60)
+    connection.setsockopt(socket.IPPROTO_TCP, socket.TCP_NODELAY, 1)
+
+    def send():
+        for octet in octets:
+            connection.sendall(bytes([octet]))
+        connection.shutdown(socket.SHUT_WR)
+
+    sender = threading.Thread(target=send)
+    sender.start()
+    while piece := connection.recv(65536):
+        sys.stdout.buffer.write(piece)
+    sender.join()
+
+
+def without_reading(port, name):
+    with open(name, "rb") as file:
+        octets = file.read()
+    connection = socket.create_connection(("127.0.0.1", port), timeout=60)
+    connection.setsockopt(socket.SOL_SOCKET, socket.SO_LINGER, struct.pack("ii", 1, 0))
+    connection.sendall(octets)
+    connection.close()
+
+
+if __name__ == "__main__":
+    way, port, *words = sys.argv[1:]
+    {"http": by_http_client, "octets": by_octets, "unread": without_reading}[way](int(port), *words)

@@ -1,25 +1,39 @@
 # make            proves and builds the program
 # make test       runs the merge gate and the repository's own checks
+# make checks     runs those of the own checks that use the built program
 # make bench      measures how fast the program is
-# make install    puts the program into PREFIX/bin
+# make install    puts the program into PREFIX/bin and its manual page into PREFIX/share/man/man1;
+#                 both under DESTDIR, where it is given
 # make clean      takes away all that was built
 PREFIX ?= /usr/local
 
-.PHONY: build test bench install clean
+.PHONY: build test checks bench install clean
 build:
 	sh ./build
 
 test:
 	bash .ci/run
 
+checks: build
+	bash checks/examples
+	bash checks/program
+	bash checks/sessions
+	bash checks/console
+	bash checks/store
+	bash checks/tour
+
 bench: build
 	bash bench/frames
 	bash bench/check
 	bash bench/books
+	bash bench/judge
+	bash bench/replay
 
 install: build
 	install -d "$(DESTDIR)$(PREFIX)/bin"
 	install -m 755 crates/mud/out/mud "$(DESTDIR)$(PREFIX)/bin/mud"
+	install -d "$(DESTDIR)$(PREFIX)/share/man/man1"
+	install -m 644 man/mud.1 "$(DESTDIR)$(PREFIX)/share/man/man1/mud.1"
 
 clean:
 	rm -rf crates/*/out

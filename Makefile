@@ -1,13 +1,14 @@
 # make            proves and builds the program
 # make test       runs the merge gate and the repository's own checks
 # make checks     runs those of the own checks that use the built program
+# make limits     runs into the limits that take minutes to reach
 # make bench      measures how fast the program is
 # make install    puts the program into PREFIX/bin and its manual page into PREFIX/share/man/man1;
 #                 both under DESTDIR, where it is given
 # make clean      takes away all that was built
 PREFIX ?= /usr/local
 
-.PHONY: build test checks bench install clean
+.PHONY: build test checks limits bench install clean
 build:
 	sh ./build
 
@@ -21,6 +22,9 @@ checks: build
 	bash checks/console
 	bash checks/store
 	bash checks/tour
+
+limits: build
+	bash checks/limits
 
 bench: build
 	bash bench/frames

@@ -1,5 +1,5 @@
 -- Lines that are written out, and the commands that they are.
-use Rattle.std.specs.Prelude.{◌≡◌, ⊤, List, ℕ, [], ◌∷◌, codes, Some, None, refl}
+use Rattle.std.specs.Prelude.{◌≡◌, ⊤, [], ◌∷◌, codes, Some, None, refl}
 use Rattle.mud_base.specs.Decimal.{digits_upto, has_numeral_front, number_upto}
 use Rattle.command_words.specs.declared.command.Command.TheVariants.{Hear, Check, Frames, Judge, Import, Replay, Serve, Report, Drill}
 use Rattle.command_words.specs.declared.command.Message.TheVariants.{Dhcp, Lldp}

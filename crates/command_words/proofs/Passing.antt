@@ -1,20 +1,21 @@
 -- `clap` lets each listed line through.
-use Rattle.std.proofs.Common.{◌≡◌, ℕ, Bool, true, false, ◌&&◌, ◌||◌, ◌⊎◌, inl, inr, List, [], ◌∷◌, refl, sym, subst, ap}
-use Rattle.std.specs.Prelude.{Option, Some, None, bytes_eq, codes, if◌then◌else◌}
+use Rattle.std.proofs.Common.{◌≡◌, ℕ, Bool, true, false, ◌&&◌, ◌||◌, ◌⊎◌, inl, inr, List, [], ◌∷◌, refl, sym, subst, ap, ap₂, ◌∙◌, ◌+◌}
+use Rattle.std.specs.Prelude.{Option, Some, None, bytes_eq, codes, find, fold, is_some, if◌then◌else◌}
+use Rattle.std.specs.Option.{option_map_or}
 use Rattle.std.specs.List.{list_any}
 use Rattle.std.proofs.lemmas.Slice.Eq.{bytes_eq-Decides}
 use Rattle.clap.specs.Lexer.{long_of, short_of}
 use Rattle.clap.specs.Words.{App, Shape, fault_of, kind_of}
-use Rattle.clap.specs.Faults.{level_fault}
-use Rattle.clap.specs.Kinds.{HasKind, or_else}
-use Rattle.clap.specs.Simple.{built_leaf, inherited, marked_built, with_leaf_noted}
-use Rattle.clap.specs.Walk.{nothing_held}
+use Rattle.clap.specs.Faults.{check_fault, defaults_fault, level_fault, settle_fault, step_fault, turn_fault, walk_fault, word_fault}
+use Rattle.clap.specs.Kinds.{HasKind, Kinds, or_else}
+use Rattle.clap.specs.Simple.{built, built_leaf, entered, inherited, label_of, marked_built, names_of, with_leaf_noted}
+use Rattle.clap.specs.Walk.{Held, Rule, Walk, after_step, answers_to, arg_by_index, finished, idle, nothing_held, settled, to_positional, value, walk, walked, word_met}
 use Rattle.clap.specs.declared.error.Error.{Error}
 use Rattle.clap.specs.declared.error.kind.ErrorKind.TheVariants.{OutOfMemory}
 use Rattle.clap.proofs.OnLiterals.{clap_on_literals}
 use Rattle.command_words.specs.declared.command.Command.{Command}
 use Rattle.command_words.specs.Words.{begins_with_dash, one_word, two_words, three_words, four_words, line_in}
-use Rattle.command_words.specs.Parser.{IsRefused, line_of_four, program}
+use Rattle.command_words.specs.Parser.{IsRefused, line_of_two, line_of_three, line_of_four, program}
 
 -- `clap` has no fault to name
 pub record Passes (words : List (List ℕ)) : Type 0 where
@@ -31,11 +32,94 @@ unfolding begins_with_dash
 plain_by_first [] no_dash = record { long = refl; short = refl; dashes = refl }
 plain_by_first (x ∷ xs) no_dash = record { long = rw no_dash refl; short = rw no_dash refl; dashes = rw no_dash refl }
 
+-- ---- words behind the first of a line
+
+-- the walk between two words of a line, none of which is a flag
+abbrev stand : Held → ℕ → Walk
+stand held position = record { held = held; waiting = idle; position = position; is_trailing = false; stopped = None }
+
+abbrev taken : Shape → ℕ → List ℕ → Held → Walk
+taken line position word held = to_positional line.rules (arg_by_index line.rules position) word (stand held position) held
+
+met_plain : (rules : List Rule) (position : ℕ) (word : List ℕ) (held : Held) → IsPlain word → word_met rules [] false idle position word held ≡ (held, value)
+met_plain rules position word held p = rw p.dashes (rw p.long (rw p.short refl))
+
+fault_plain : (line : Shape) (word : List ℕ) (held : Held) → IsPlain word → word_fault line [] false idle word held ≡ []
+fault_plain line word held p = rw p.dashes (rw p.long (rw p.short refl))
+
+walked_plain : (line : Shape) (position : ℕ) (word : List ℕ) (held : Held) → IsPlain word → walked line.rules [] (stand held position) word ≡ taken line position word held
+unfolding walked
+walked_plain line position word held p = ap (λ met. after_step line.rules word (stand held position) met.0 met.1) (met_plain line.rules position word held p)
+
+turn_plain : (line : Shape) (position : ℕ) (word : List ℕ) (held : Held) → IsPlain word → turn_fault line [] (stand held position) word ≡ step_fault line position held value
+turn_plain line position word held p = ap₂ (λ faults met. or_else faults (step_fault line position met.0 met.1)) (fault_plain line word held p) (met_plain line.rules position word held p)
+
+-- the words from a place of the line on are read without a fault, and this is held behind them
+pub record Reads (line : Shape) (held : Held) (position : ℕ) (words : List (List ℕ)) (last : Held) : Type 0 where
+  pub clear : walk_fault line [] (stand held position) words ≡ []
+  pub ends : (fold (walked line.rules []) (stand held position) words).held ≡ last
+
+reads_none : (line : Shape) (held : Held) (position : ℕ) → Reads line held position [] held
+unfolding walk_fault
+reads_none line held position = record { clear = refl; ends = refl }
+
+first_fault : (line : Shape) (held : Held) (position : ℕ) (word : List ℕ) (rest : List (List ℕ)) → IsPlain word → walk_fault line [] (stand held position) (word ∷ rest) ≡ or_else (step_fault line position held value) (walk_fault line [] (taken line position word held) rest)
+unfolding walk_fault
+first_fault line held position word rest p = ap₂ (λ faults next. or_else faults (walk_fault line [] next rest)) (turn_plain line position word held p) (walked_plain line position word held p)
+
+reads_more : (line : Shape) (held : Held) (position : ℕ) (word : List ℕ) (rest : List (List ℕ)) (last : Held) → IsPlain word → step_fault line position held value ≡ [] → taken line position word held ≡ stand (taken line position word held).held (position + 1) → Reads line (taken line position word held).held (position + 1) rest last → Reads line held position (word ∷ rest) last
+reads_more line held position word rest last p clear moves more = record {
+  clear = first_fault line held position word rest p
+      ∙ ap₂ (λ faults next. or_else faults (walk_fault line [] next rest)) clear moves
+      ∙ more.clear;
+  ends = ap (λ next. (fold (walked line.rules []) next rest).held) (walked_plain line position word held p ∙ moves) ∙ more.ends;
+}
+
+-- what is looked at behind the last word
+abbrev closing_fault : Shape → Held → Kinds
+closing_fault line last = or_else (settle_fault line.rules line.args_override_self last) (or_else (defaults_fault (settled line.rules last).rows line.rules) (check_fault line (finished line.rules last) false))
+
+line_is_clear : (line : Shape) (words : List (List ℕ)) (last : Held) → Reads line nothing_held 1 words last → closing_fault line last ≡ [] → level_fault line [] nothing_held words false [] ≡ []
+line_is_clear line words last reads closes = ap₂ (λ faults held. or_else faults (closing_fault line held)) reads.clear reads.ends ∙ closes
+
 -- ---- each line
 
-hear : (w : List ℕ) → IsPlain w → Passes (codes "hear" ∷ w ∷ [])
+abbrev leaf_fault : Shape → List (List ℕ) → Kinds
+leaf_fault line words = level_fault line [] nothing_held words false []
+
+-- the fault of the program, where `below` is that of a line's other words
+abbrev fault_above : (Shape → List (List ℕ) → Kinds) → List (List ℕ) → Kinds
+fault_above below words =
+    let whole = built program in
+    let stop = (walk whole.top.rules (names_of whole) nothing_held words).stopped in
+    level_fault whole.top (names_of whole) nothing_held words (is_some (entered whole stop))
+    (option_map_or (λ p. option_map_or (λ line. below line p.1) (find (λ line. answers_to p.0 (label_of line)) whole.subs) []) stop [])
+
+-- the program gives the other words to this line
+abbrev Enters : List (List ℕ) → Shape → List (List ℕ) → Type 0
+Enters words line rest = (below : Shape → List (List ℕ) → Kinds) → fault_above below words ≡ or_else (below line rest) []
+
+passes_by : (words : List (List ℕ)) (line : Shape) (rest : List (List ℕ)) → Enters words line rest → leaf_fault line rest ≡ [] → Passes words
+passes_by words line rest enters clear = record { clear = enters leaf_fault ∙ ap (λ below. or_else below []) clear }
+
+-- a line as it stands below the program
+abbrev leaf_of : App → Shape
+leaf_of line = built_leaf (inherited (with_leaf_noted (marked_built program.top)) line.top)
+
+abbrev hear_leaf : Shape
+hear_leaf = leaf_of (line_of_two (codes "hear") (codes "MESSAGE"))
+
+hear_enters : (u : List ℕ) → Enters (codes "hear" ∷ u ∷ []) hear_leaf (u ∷ [])
 unfolding clap_on_literals
-hear w p = record { clear = simp (p.long, p.short, p.dashes) }
+hear_enters u below = refl
+
+hear_clear : (u : List ℕ) → IsPlain u → leaf_fault hear_leaf (u ∷ []) ≡ []
+unfolding defaults_fault
+hear_clear u p =
+    line_is_clear hear_leaf (u ∷ []) _ (reads_more hear_leaf nothing_held 1 u [] _ p refl refl (reads_none hear_leaf _ 2)) refl
+
+hear : (u : List ℕ) → IsPlain u → Passes (codes "hear" ∷ u ∷ [])
+hear u p = passes_by _ hear_leaf (u ∷ []) (hear_enters u) (hear_clear u p)
 
 check : Passes (codes "check" ∷ [])
 unfolding clap_on_literals
@@ -45,40 +129,95 @@ frames : Passes (codes "frames" ∷ [])
 unfolding clap_on_literals
 frames = record { clear = refl }
 
-judge : (w : List ℕ) → IsPlain w → Passes (codes "judge" ∷ w ∷ [])
-unfolding clap_on_literals
-judge w p = record { clear = simp (p.long, p.short, p.dashes) }
+abbrev judge_leaf : Shape
+judge_leaf = leaf_of (line_of_two (codes "judge") (codes "STORE"))
 
-import_folder : (v w : List ℕ) → IsPlain v → IsPlain w → Passes (codes "import" ∷ v ∷ w ∷ [])
+judge_enters : (u : List ℕ) → Enters (codes "judge" ∷ u ∷ []) judge_leaf (u ∷ [])
 unfolding clap_on_literals
-import_folder v w p q = record { clear = simp (p.long, p.short, p.dashes, q.long, q.short, q.dashes) }
+judge_enters u below = refl
 
-report : (v w : List ℕ) → IsPlain v → IsPlain w → Passes (codes "report" ∷ v ∷ w ∷ [])
+judge_clear : (u : List ℕ) → IsPlain u → leaf_fault judge_leaf (u ∷ []) ≡ []
+unfolding defaults_fault
+judge_clear u p =
+    line_is_clear judge_leaf (u ∷ []) _ (reads_more judge_leaf nothing_held 1 u [] _ p refl refl (reads_none judge_leaf _ 2)) refl
+
+judge : (u : List ℕ) → IsPlain u → Passes (codes "judge" ∷ u ∷ [])
+judge u p = passes_by _ judge_leaf (u ∷ []) (judge_enters u) (judge_clear u p)
+
+abbrev import_folder_leaf : Shape
+import_folder_leaf = leaf_of (line_of_three (codes "import") (codes "STORE") (codes "FOLDER"))
+
+import_folder_enters : (u v : List ℕ) → Enters (codes "import" ∷ u ∷ v ∷ []) import_folder_leaf (u ∷ v ∷ [])
 unfolding clap_on_literals
-report v w p q = record { clear = simp (p.long, p.short, p.dashes, q.long, q.short, q.dashes) }
+import_folder_enters u v below = refl
 
-replay : (w : List ℕ) → IsPlain w → Passes (codes "replay" ∷ w ∷ [])
+import_folder_clear : (u v : List ℕ) → IsPlain u → IsPlain v → leaf_fault import_folder_leaf (u ∷ v ∷ []) ≡ []
+unfolding defaults_fault
+import_folder_clear u v p q =
+    line_is_clear import_folder_leaf (u ∷ v ∷ []) _ (reads_more import_folder_leaf nothing_held 1 u (v ∷ []) _ p refl refl (reads_more import_folder_leaf _ 2 v [] _ q refl refl (reads_none import_folder_leaf _ 3))) refl
+
+import_folder : (u v : List ℕ) → IsPlain u → IsPlain v → Passes (codes "import" ∷ u ∷ v ∷ [])
+import_folder u v p q = passes_by _ import_folder_leaf (u ∷ v ∷ []) (import_folder_enters u v) (import_folder_clear u v p q)
+
+abbrev report_leaf : Shape
+report_leaf = leaf_of (line_of_three (codes "report") (codes "STORE") (codes "KIND"))
+
+report_enters : (u v : List ℕ) → Enters (codes "report" ∷ u ∷ v ∷ []) report_leaf (u ∷ v ∷ [])
 unfolding clap_on_literals
-replay w p = record { clear = simp (p.long, p.short, p.dashes) }
+report_enters u v below = refl
 
--- a line as it stands below the program
-abbrev leaf_of : App → Shape
-leaf_of line = built_leaf (inherited (with_leaf_noted (marked_built program.top)) line.top)
+report_clear : (u v : List ℕ) → IsPlain u → IsPlain v → leaf_fault report_leaf (u ∷ v ∷ []) ≡ []
+unfolding defaults_fault
+report_clear u v p q =
+    line_is_clear report_leaf (u ∷ v ∷ []) _ (reads_more report_leaf nothing_held 1 u (v ∷ []) _ p refl refl (reads_more report_leaf _ 2 v [] _ q refl refl (reads_none report_leaf _ 3))) refl
+
+report : (u v : List ℕ) → IsPlain u → IsPlain v → Passes (codes "report" ∷ u ∷ v ∷ [])
+report u v p q = passes_by _ report_leaf (u ∷ v ∷ []) (report_enters u v) (report_clear u v p q)
+
+abbrev replay_leaf : Shape
+replay_leaf = leaf_of (line_of_two (codes "replay") (codes "STORE"))
+
+replay_enters : (u : List ℕ) → Enters (codes "replay" ∷ u ∷ []) replay_leaf (u ∷ [])
+unfolding clap_on_literals
+replay_enters u below = refl
+
+replay_clear : (u : List ℕ) → IsPlain u → leaf_fault replay_leaf (u ∷ []) ≡ []
+unfolding defaults_fault
+replay_clear u p =
+    line_is_clear replay_leaf (u ∷ []) _ (reads_more replay_leaf nothing_held 1 u [] _ p refl refl (reads_none replay_leaf _ 2)) refl
+
+replay : (u : List ℕ) → IsPlain u → Passes (codes "replay" ∷ u ∷ [])
+replay u p = passes_by _ replay_leaf (u ∷ []) (replay_enters u) (replay_clear u p)
 
 abbrev serve_leaf : Shape
 serve_leaf = leaf_of (line_of_four (codes "serve") (codes "STORE") (codes "PORT") (codes "COUNT"))
 
-serve_words : (u v w : List ℕ) → IsPlain u → IsPlain v → IsPlain w → level_fault serve_leaf [] nothing_held (u ∷ v ∷ w ∷ []) false [] ≡ []
+serve_enters : (u v w : List ℕ) → Enters (codes "serve" ∷ u ∷ v ∷ w ∷ []) serve_leaf (u ∷ v ∷ w ∷ [])
 unfolding clap_on_literals
-serve_words u v w p q r = rw p.dashes (rw p.long (rw p.short (rw q.dashes (rw q.long (rw q.short (rw r.dashes (rw r.long (rw r.short refl))))))))
+serve_enters u v w below = refl
+
+serve_clear : (u v w : List ℕ) → IsPlain u → IsPlain v → IsPlain w → leaf_fault serve_leaf (u ∷ v ∷ w ∷ []) ≡ []
+unfolding defaults_fault
+serve_clear u v w p q r =
+    line_is_clear serve_leaf (u ∷ v ∷ w ∷ []) _ (reads_more serve_leaf nothing_held 1 u (v ∷ w ∷ []) _ p refl refl (reads_more serve_leaf _ 2 v (w ∷ []) _ q refl refl (reads_more serve_leaf _ 3 w [] _ r refl refl (reads_none serve_leaf _ 4)))) refl
 
 serve : (u v w : List ℕ) → IsPlain u → IsPlain v → IsPlain w → Passes (codes "serve" ∷ u ∷ v ∷ w ∷ [])
-unfolding clap_on_literals
-serve u v w p q r = record { clear = ap (λ below. or_else below []) (serve_words u v w p q r) }
+serve u v w p q r = passes_by _ serve_leaf (u ∷ v ∷ w ∷ []) (serve_enters u v w) (serve_clear u v w p q r)
 
-drill : (w : List ℕ) → IsPlain w → Passes (codes "drill" ∷ w ∷ [])
+abbrev drill_leaf : Shape
+drill_leaf = leaf_of (line_of_two (codes "drill") (codes "N"))
+
+drill_enters : (u : List ℕ) → Enters (codes "drill" ∷ u ∷ []) drill_leaf (u ∷ [])
 unfolding clap_on_literals
-drill w p = record { clear = simp (p.long, p.short, p.dashes) }
+drill_enters u below = refl
+
+drill_clear : (u : List ℕ) → IsPlain u → leaf_fault drill_leaf (u ∷ []) ≡ []
+unfolding defaults_fault
+drill_clear u p =
+    line_is_clear drill_leaf (u ∷ []) _ (reads_more drill_leaf nothing_held 1 u [] _ p refl refl (reads_none drill_leaf _ 2)) refl
+
+drill : (u : List ℕ) → IsPlain u → Passes (codes "drill" ∷ u ∷ [])
+drill u p = passes_by _ drill_leaf (u ∷ []) (drill_enters u) (drill_clear u p)
 
 -- ---- the lines by their number of words
 

@@ -1,7 +1,7 @@
 //! The lines as `clap` is told of them. It refuses words that are no listed line before they are
 //! read, and lets each listed line through.
 ghost use Rattle.std.specs.Prelude.{◌≡◌, IfOk, false, true};
-ghost use Rattle.clap.specs.Words.{app_of, new_app, rule_of};
+ghost use Rattle.clap.specs.Words.{app_of, rule_of};
 ghost use Rattle.command_words.specs.Parser as spec;
 ghost use Rattle.command_words.specs.Words.{words_of};
 
@@ -67,10 +67,11 @@ fn with_input_lines<'a>(alloc: Global, program: Parser<'a>) -> Result<Parser<'a>
     let hear = line_of_two(alloc, "hear", "MESSAGE")?;
     let check = Parser::new(alloc, "check");
     let frames = Parser::new(alloc, "frames");
-    let one = program.subcommand(hear)?;
-    let two = one.subcommand(check)?;
-    let three = two.subcommand(frames)?;
-    Ok(three)
+    let wider = program
+        .subcommand(hear)?
+        .subcommand(check)?
+        .subcommand(frames)?;
+    Ok(wider)
 }
 
 /// The lines of the commands that read or change a store.
@@ -80,10 +81,11 @@ fn with_store_lines<'a>(alloc: Global, program: Parser<'a>) -> Result<Parser<'a>
     let judge = line_of_two(alloc, "judge", "STORE")?;
     let import = line_of_three(alloc, "import", "STORE", "FOLDER")?;
     let report = line_of_three(alloc, "report", "STORE", "KIND")?;
-    let one = program.subcommand(judge)?;
-    let two = one.subcommand(import)?;
-    let three = two.subcommand(report)?;
-    Ok(three)
+    let wider = program
+        .subcommand(judge)?
+        .subcommand(import)?
+        .subcommand(report)?;
+    Ok(wider)
 }
 
 /// The lines of the commands that run a session.
@@ -93,10 +95,11 @@ fn with_session_lines<'a>(alloc: Global, program: Parser<'a>) -> Result<Parser<'
     let replay = line_of_two(alloc, "replay", "STORE")?;
     let serve = line_of_four(alloc, "serve", "STORE", "PORT", "COUNT")?;
     let drill = line_of_two(alloc, "drill", "N")?;
-    let one = program.subcommand(replay)?;
-    let two = one.subcommand(serve)?;
-    let three = two.subcommand(drill)?;
-    Ok(three)
+    let wider = program
+        .subcommand(replay)?
+        .subcommand(serve)?
+        .subcommand(drill)?;
+    Ok(wider)
 }
 
 /// The program with its lines.

@@ -1,7 +1,7 @@
 -- What requests make of a state beside a value that stays.
 use Rattle.std.proofs.Common.{◌≡◌, ℕ, Bool, ◌-◌, List, [], ◌∷◌, Option, Some, refl, inl, inr, sym, ap, ◌∙◌, subst}
 use Rattle.mud_world.specs.Door.{DoorState}
-use Rattle.http_requests.specs.declared.fault.FramingFault.{FramingFault}
+use Rattle.http_requests.specs.declared.fault.RequestFault.{RequestFault}
 use Rattle.http_requests.specs.declared.fault.MomentFrom.{MomentFrom}
 use Rattle.http_requests.specs.Requests.{Request, Ending, most_requests}
 use Rattle.http_requests.specs.Serving.{Served}
@@ -52,7 +52,7 @@ module _ {S X : Type 0} (may : S → Asked → List ℕ → S → Type 0) where
       let on = leads_of s x p.next p.all p.leads in
       record { all = p.all; next = on.next; kept = then on.next (subst keeps on.is p.kept); leads = on.holds }
 
-  module _ (refusal : FramingFault → List ℕ) (from : MomentFrom) where
+  module _ (refusal : RequestFault → List ℕ) (from : MomentFrom) where
     served_of : (s : S) (x : X) (t : Option S × X) (end : Ending) (last : List ℕ) (old new : DoorState) → Served (Runs (MayBeside may) from most_requests (Some s, x) t) from end last old new
         → Reaches (λ n. Served (Runs may from most_requests s n) from end last old new) x t
     served_of s x t end last old new p =

@@ -3,7 +3,7 @@ ghost use Rattle.std.specs.Prelude.{◌≡◌, ◌++◌};
 ghost use Rattle.console.specs.States.{TakesMoment};
 
 use console_replies::{Answer, answer_request};
-use http_requests::{FramingFault, RequestParts};
+use http_requests::{RequestFault, RequestParts};
 use http_serving::Service;
 use mud_base::Moment;
 use mud_desk::Desk;
@@ -77,7 +77,7 @@ impl<C: Clock> Service for Console<'_, C> {
         );
     }
 
-    fn refuse(&mut self, fault: FramingFault) {
+    fn refuse(&mut self, fault: RequestFault) {
         self.answer.refuse(fault);
     }
 

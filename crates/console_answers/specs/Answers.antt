@@ -1,9 +1,10 @@
 -- Answers as octets.
-use Rattle.std.specs.Prelude.{◌≡◌, ℕ, Bool, true, false, List, bytes_eq, codes, None}
+use Rattle.std.specs.Prelude.{◌≡◌, ℕ, Bool, true, List, None}
 use Rattle.http_requests.specs.Requests.{Request}
 use Rattle.http_requests.specs.declared.fault.FramingFault.{FramingFault}
 use Rattle.http_requests.specs.declared.fault.FramingFault.TheVariants.{Head, Coding, Length, Long, NoLength, Moment, Cut}
-use Rattle.http_requests.specs.Framing.{rule_of}
+use Rattle.http_requests.specs.declared.fault.RequestFault.{RequestFault}
+use Rattle.http_requests.specs.Framing.{is_head, rule_of}
 use Rattle.http_answers.specs.declared.status.Status.{Status}
 use Rattle.http_answers.specs.declared.status.Status.TheVariants.{BadRequest, LengthRequired, TooLarge, NotImplemented}
 use Rattle.http_answers.specs.Heads.{answer_of}
@@ -12,11 +13,7 @@ use Rattle.desk_model.specs.Sessions.{Session}
 use Rattle.console_answers.specs.Replies.{Reply}
 use Rattle.console_answers.specs.Requests.{MayReply}
 
--- the request was by HEAD (RFC 9110, 9.3.2), whose answers show no body
-unfoldable pub is_head : List ℕ → Bool
-is_head method = bytes_eq method (codes "HEAD")
-
--- the octets of a reply to a request by this method, behind which the connection may end
+-- the octets of a reply to a request by this method, behind which the connection may end: the head alone where it is HEAD
 unfoldable pub octets_of : List ℕ → Bool → Reply → List ℕ
 octets_of method closes reply = answer_of reply.status reply.allow closes (is_head method) reply.body
 
@@ -40,6 +37,7 @@ fault_status NoLength = LengthRequired
 fault_status Moment = BadRequest
 fault_status Cut = BadRequest
 
--- the octets of the answer, which names the rule that is broken; the connection ends behind it
-unfoldable pub fault_answer : FramingFault → List ℕ
-fault_answer fault = answer_of (fault_status fault) None true false (rule_body (rule_of fault))
+-- the octets of the answer, which names the rule that is broken: the head alone where the method is HEAD (RFC 9110, 9.3.2);
+-- the connection ends behind it
+unfoldable pub fault_answer : RequestFault → List ℕ
+fault_answer fault = answer_of (fault_status fault.framing) None true fault.is_head (rule_body (rule_of fault.framing))

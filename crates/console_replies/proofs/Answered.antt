@@ -17,7 +17,8 @@ use Rattle.console_answers.specs.declared.question.NoQuestion.{NoQuestion}
 use Rattle.console_answers.specs.Replies.{Reply, reply, replied, no_storage, IsOrWanted, MayStand}
 use Rattle.console_answers.specs.Asks.{question_of, by_route, refusal_of}
 use Rattle.console_answers.specs.Requests.{question_in, by_result, reply_in, MayFailBy, MayFail, MayReply, by_question, ChangesBy, command_asked}
-use Rattle.console_answers.specs.Answers.{is_head, octets_of, MayAnswer}
+use Rattle.http_requests.specs.Framing.{is_head}
+use Rattle.console_answers.specs.Answers.{octets_of, MayAnswer}
 use Rattle.reading.specs.declared.refusal.Refusal.{Refusal}
 use Rattle.reading.specs.declared.refusal.Refusal.TheVariants.{Memory, Broken}
 use Rattle.reading.specs.Reading.{Fails}

@@ -16,7 +16,7 @@ use crate::replies::reply_to;
 use answer_buffer::AnswerBuffer;
 use console_answers::BodyText;
 use http_answers::{Status, body_part, write_head};
-use http_requests::{FramingFault, RequestParts};
+use http_requests::{FramingFault, RequestFault, RequestParts, is_head};
 use mud_base::{Memory, Moment};
 use mud_desk::Desk;
 use std::alloc::Global;
@@ -38,14 +38,6 @@ impl Model for Answer {
     ghost Value = { List ℕ };
 
     ghost view = { λ a. a.head ++ shown a.by_head a.body };
-}
-
-/// Whether a request by this method is answered with the head alone.
-#[tactic(auto, unfolding(console_answers::specs::Answers::is_head))]
-fn is_head(method: &[u8]) -> bool
-    ensures { result ≡ spec.is_head method.now }
-{
-    method == "HEAD".as_bytes()
 }
 
 /// How many octets a body has.
@@ -80,15 +72,16 @@ impl Answer {
         )
     }
 
-    /// Writes the answer to a fault that ends a connection. It takes no memory.
+    /// Writes the answer to a fault that ends a connection: its head alone, where the method is HEAD.
+    /// It takes no memory.
     #[tactic(auto, using(crate::proofs::Faults::short_rule), unfolding(console_answers::specs::Answers::fault_answer, http_answers::specs::Heads::answer_of, http_answers::specs::Heads::shown))]
-    pub fn refuse(&mut self, fault: FramingFault)
+    pub fn refuse(&mut self, fault: RequestFault)
         ensures { self.new ≡ spec.fault_answer fault }
     {
-        self.body.write_rule(fault.rule().as_bytes());
+        self.body.write_rule(fault.framing.rule().as_bytes());
         let len = self.body.octets().len();
-        write_head(&mut self.head, fault_status(fault), None, len, true);
-        self.by_head = false;
+        write_head(&mut self.head, fault_status(fault.framing), None, len, true);
+        self.by_head = fault.is_head;
     }
 }
 

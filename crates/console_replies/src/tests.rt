@@ -4,7 +4,7 @@ ghost use Rattle.mud_desk.specs.Boxed.{IsKept};
 ghost use Rattle.mud_desk.specs.DeskState.{tables_of};
 
 use crate::{Answer, answer_request};
-use http_requests::{FramingFault, RequestParts};
+use http_requests::{FramingFault, RequestFault, RequestParts};
 use mud_base::{Listed, Moment};
 use mud_desk::{Desk, Taken};
 use mud_world::{Keeper, MemoryKeeper};
@@ -92,14 +92,17 @@ fn a_refusal_and_a_method(rt: HostRuntime) -> Result<(), Fail> {
 }
 
 #[test]
-fn a_fault(rt: HostRuntime) -> Result<(), Fail> {
+fn a_fault_of_a_request_by_head(rt: HostRuntime) -> Result<(), Fail> {
     let mut answer = Answer::new(rt.alloc())?;
-    answer.refuse(FramingFault::Long);
+    answer.refuse(RequestFault {
+        framing: FramingFault::Long,
+        is_head: true,
+    });
     has_text(
         &rt,
         &answer,
         b"HTTP/1.1 413 Payload Too Large\r\nContent-Type: application/json\r\nContent-Length: 15\r\nConnection: close\r\n\r\n",
-        b"{\"rule\":\"long\"}",
+        b"",
     );
     Ok(())
 }

@@ -4,17 +4,17 @@ use Rattle.mud_world.specs.Door.{DoorState, put_out, with_left}
 use Rattle.mud_world.specs.Whole.{WrotePart}
 use Rattle.mud_world.proofs.Doors.{put_out_none, put_out_twice}
 use Rattle.httparse.specs.Grammar.{RequestHead, print_request}
-use Rattle.http_requests.specs.declared.fault.FramingFault.{FramingFault}
-use Rattle.http_requests.specs.declared.fault.FramingFault.TheVariants.{Head, Cut}
+use Rattle.http_requests.specs.declared.fault.FramingFault.TheVariants.{Cut}
+use Rattle.http_requests.specs.declared.fault.RequestFault.{RequestFault}
 use Rattle.http_requests.specs.declared.fault.MomentFrom.{MomentFrom}
 use Rattle.http_requests.specs.declared.shape.RequestShape.{RequestShape}
 use Rattle.http_requests.specs.Framing.{refusal_of, body_length, leave_of, continue_octets}
 use Rattle.http_requests.specs.Head.{IsHead}
 use Rattle.http_requests.specs.Received.{Grown, Received}
-use Rattle.http_requests.specs.Requests.{Request, Begins, IsFault}
+use Rattle.http_requests.specs.Requests.{Request, Begins, IsFault, no_head, fault_in}
 use Rattle.http_requests.specs.Shapes.{IsShape, HasHead, MayGetHead}
 use Rattle.http_requests.specs.Steps.{Came, CameWhole, CameEnd, CameFault, HoldsWhole, ReadFailed, LeaveFailed}
-use Rattle.http_requests.proofs.Heads.{head_append, head_octets, head_unique}
+use Rattle.http_requests.proofs.Heads.{head_append, head_octets, head_unique, fault_by}
 
 -- ---- Steps of a door
 
@@ -109,7 +109,7 @@ whole_holds from shape a b h g enough =
     }
 
 -- the octets end inside the body
-cut_fault : (from : MomentFrom) (shape : RequestShape) (a b : List ℕ) → (h : HasHead from a shape) → Grown a b → length b < shape.head_len + shape.body_len → IsFault from b Cut (leave_of h.head)
+cut_fault : (from : MomentFrom) (shape : RequestShape) (a b : List ℕ) → (h : HasHead from a shape) → Grown a b → length b < shape.head_len + shape.body_len → IsFault from b (fault_in h.head Cut) (leave_of h.head)
 cut_fault from shape a b h g short =
     let is = head_grown a b h.head h.rest h.is_head g in
     record {
@@ -125,14 +125,15 @@ cut_fault from shape a b h g short =
     }
 
 -- no more octets come
-at_the_end : (from : MomentFrom) (b left : List ℕ) (fault : FramingFault) (pending : List ℕ) → left ≡ [] → IsFault from b fault pending → IsFault from (b ++ left) fault pending
+at_the_end : (from : MomentFrom) (b left : List ℕ) (fault : RequestFault) (pending : List ℕ) → left ≡ [] → IsFault from b fault pending → IsFault from (b ++ left) fault pending
 at_the_end from b left fault pending none is = subst (λ o. IsFault from o fault pending) (sym (ap (λ l. b ++ l) none ∙ append-nil b)) is
 
-pub cut_came : (from : MomentFrom) (shape : RequestShape) (fault : FramingFault) (a b : List ℕ) (s t u : DoorState) → HasHead from a shape → t ≡ put_out (cond shape.awaits_leave continue_octets []) s
-    → Grown a b → Received a b t u → fault ≡ Cut → length b < shape.head_len + shape.body_len → u.left ≡ [] → CameFault from fault a b s u
+pub cut_came : (from : MomentFrom) (shape : RequestShape) (fault : RequestFault) (a b : List ℕ) (s t u : DoorState) → HasHead from a shape → t ≡ put_out (cond shape.awaits_leave continue_octets []) s
+    → Grown a b → Received a b t u → fault ≡ fault_by Cut shape.is_head → length b < shape.head_len + shape.body_len → u.left ≡ [] → CameFault from fault a b s u
 cut_came from shape fault a b s t u h wrote g r is_cut short none = record {
   pending = leave_of h.head;
-  is_fault = subst (λ f. IsFault from (b ++ u.left) f (leave_of h.head)) (sym is_cut) (at_the_end from b u.left Cut (leave_of h.head) none (cut_fault from shape a b h g short));
+  is_fault = subst (λ f. IsFault from (b ++ u.left) f (leave_of h.head)) (sym (is_cut ∙ ap (fault_by Cut) h.is_shape.is_head))
+      (at_the_end from b u.left (fault_in h.head Cut) (leave_of h.head) none (cut_fault from shape a b h g short));
   came = subst (Came a b s u) (leave_is from shape h.head h.is_shape) (came_answered a b _ s t u wrote r);
 }
 
@@ -140,7 +141,7 @@ pub body_failed : (from : MomentFrom) (shape : RequestShape) (a b : List ℕ) (s
     → Grown a b → Received a b t u → length b < shape.head_len + shape.body_len → ReadFailed from a b s u
 body_failed from shape a b s t u h wrote g r short = record {
   pending = leave_of h.head;
-  holds = record { part = inr (Cut, cut_fault from shape a b h g short) };
+  holds = record { part = inr (fault_in h.head Cut, cut_fault from shape a b h g short) };
   came = subst (Came a b s u) (leave_is from shape h.head h.is_shape) (came_answered a b _ s t u wrote r);
 }
 
@@ -167,14 +168,14 @@ head_failed from a [] s t may r = record {
 }
 head_failed from a (o ∷ os) s t may r = record {
   pending = [];
-  holds = record { part = inr (Head, record { cause = inl (inl (record { some = omega arith; none = may.none; is_lack = refl; nothing_written = refl })) }) };
+  holds = record { part = inr (no_head, record { cause = inl (inl (record { some = omega arith; none = may.none; is_lack = refl; nothing_written = refl })) }) };
   came = came_received a (o ∷ os) s t r;
 }
 
 pub end_came : (a b : List ℕ) (s t : DoorState) → b ≡ [] → t.left ≡ [] → Received a b s t → CameEnd a b s t
 end_came a b s t none nothing r = record { none = none; nothing_left = nothing; came = came_received a b s t r }
 
-pub fault_came : (from : MomentFrom) (fault : FramingFault) (a b : List ℕ) (s t : DoorState) → IsFault from (b ++ t.left) fault [] → Received a b s t → CameFault from fault a b s t
+pub fault_came : (from : MomentFrom) (fault : RequestFault) (a b : List ℕ) (s t : DoorState) → IsFault from (b ++ t.left) fault [] → Received a b s t → CameFault from fault a b s t
 fault_came from fault a b s t is r = record { pending = []; is_fault = is; came = came_received a b s t r }
 
 -- ---- Octets that come before a head is held, and then the rest
@@ -188,7 +189,7 @@ whole_later from shape a b c s t u r w = record {
   came = came_later a b c _ s t u r w.came;
 }
 
-pub fault_later : (from : MomentFrom) (fault : FramingFault) (a b c : List ℕ) (s t u : DoorState) → Received a b s t → CameFault from fault b c t u → CameFault from fault a c s u
+pub fault_later : (from : MomentFrom) (fault : RequestFault) (a b c : List ℕ) (s t u : DoorState) → Received a b s t → CameFault from fault b c t u → CameFault from fault a c s u
 fault_later from fault a b c s t u r w = record { pending = w.pending; is_fault = w.is_fault; came = came_later a b c _ s t u r w.came }
 
 pub read_later : (from : MomentFrom) (a b c : List ℕ) (s t u : DoorState) → Received a b s t → ReadFailed from b c t u → ReadFailed from a c s u

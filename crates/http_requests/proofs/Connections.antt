@@ -7,7 +7,7 @@ use Rattle.std.proofs.lemmas.List.Elements.{All-nil, All-cons, All-weaker}
 use Rattle.std.proofs.lemmas.Str.{IsUtf8-from_ascii}
 use Rattle.std.proofs.lemmas.Str.Ascii.{IsAscii-from_all}
 use Rattle.httparse.specs.Grammar.{RequestHead, IsRequestHead, Field, IsField, AllPass, is_token_byte, is_uri_byte, is_value_byte}
-use Rattle.http_requests.specs.declared.fault.FramingFault.TheVariants.{Cut}
+use Rattle.http_requests.specs.declared.fault.FramingFault.TheVariants.{Length, Cut}
 use Rattle.http_requests.specs.declared.fault.MomentFrom.TheVariants.{Header}
 use Rattle.http_requests.specs.Requests.{Request, Begins, AreRequests, closed, broken, most_requests}
 use Rattle.http_requests.proofs.OnLiterals.{requests_on_literals}
@@ -103,7 +103,7 @@ two_requests = (get_octets ++ codes "more", put_begins, inr (refl, (codes "more"
 abbrev cut_octets : List ℕ
 cut_octets = line (codes "PUT /locals?new HTTP/1.1") ++ line (codes "Mud-Moment: 5") ++ line (codes "Content-Length: 29") ++ line [] ++ codes "{'prefixes':['192.0.2.0/24']"
 
-cut_body : AreRequests Header most_requests cut_octets [] (broken Cut [])
+cut_body : AreRequests Header most_requests cut_octets [] (broken (record { framing = Cut; is_head = false }) [])
 unfolding requests_on_literals
 cut_body = record {
   cause = inr (record {
@@ -115,4 +115,31 @@ cut_body = record {
     is_cut = refl;
     leave_written = refl;
   });
+}
+
+-- A request by HEAD with two lengths.
+abbrev head : RequestHead
+head = head_of (codes "HEAD") (codes "/things") 1 (moment ∷ length_of (codes " 29") ∷ length_of (codes " 29") ∷ [])
+
+abbrev head_octets : List ℕ
+head_octets = line (codes "HEAD /things HTTP/1.1") ++ line (codes "Mud-Moment: 5") ++ line (codes "Content-Length: 29") ++ line (codes "Content-Length: 29") ++ line [] ++ body
+
+head_is_head : IsRequestHead head
+unfolding requests_on_literals
+head_is_head = is_head_tree head (lit< tt) refl (lit< tt) refl refl (lit≤ tt)
+    (All-cons IsField moment (length_of (codes " 29") ∷ length_of (codes " 29") ∷ []) moment_is_field
+    (All-cons IsField (length_of (codes " 29")) (length_of (codes " 29") ∷ []) length_is_field (All-cons IsField (length_of (codes " 29")) [] length_is_field (All-nil IsField))))
+
+head_is_refused : AreRequests Header most_requests head_octets [] (broken (record { framing = Length; is_head = true }) [])
+unfolding requests_on_literals
+head_is_refused = record {
+  cause = inl (inr (record {
+    head = head;
+    rest = body;
+    is_head = record { reads = (head_is_head, refl); fields = lit≤ tt; size = lit≤ tt };
+    reason = Length;
+    refused = refl;
+    is_refusal = refl;
+    nothing_written = refl;
+  }));
 }

@@ -6,14 +6,14 @@ use Rattle.httparse.specs.declared.spans.RequestSpans.{RequestSpans}
 use Rattle.httparse.specs.Grammar.{RequestHead, print_request, ReadsRequest}
 use Rattle.httparse.specs.Spans.{IsRequestAt, IsRequestWithin, header_bytes, name_and_value}
 use Rattle.httparse.proofs.GrammarLemmas.{ReadsRequest-append}
-use Rattle.http_requests.specs.declared.fault.FramingFault.{FramingFault}
-use Rattle.http_requests.specs.declared.fault.FramingFault.TheVariants.{Head}
+use Rattle.http_requests.specs.declared.fault.RequestFault.{RequestFault}
 use Rattle.http_requests.specs.declared.fault.MomentFrom.{MomentFrom}
-use Rattle.http_requests.specs.Framing.{refusal_of}
+use Rattle.http_requests.specs.Framing.{is_head, refusal_of}
 use Rattle.http_requests.specs.Head.{IsHead, HasNoHead, NeverHasHead}
+use Rattle.http_requests.specs.Requests.{no_head}
 use Rattle.http_requests.specs.Shapes.{AreSpans, IsUnfinished, MayGetHead, EndsBroken}
 use Rattle.http_requests.proofs.Fronts.{take_longer}
-use Rattle.http_requests.proofs.Heads.{head_append, head_some}
+use Rattle.http_requests.proofs.Heads.{head_append, head_some, fault_by}
 
 -- the spans of a head that the parser found
 pub are_spans : (octets : List ℕ) (headers fields : List HeaderSpan) (spans : RequestSpans) (head : RequestHead) → fields ≡ take spans.headers headers → IsRequestAt octets headers spans head → AreSpans octets fields spans head
@@ -64,7 +64,7 @@ full_has_none octets none full later = record {
       (subst (λ o. IsHead o head (take (8192 - length (print_request head)) rest)) (take-append-le 8192 octets later within) (front_head (octets ++ later) head rest is));
 }
 
-headless : (from : MomentFrom) (octets : List ℕ) → 0 < length octets → ((later : List ℕ) → HasNoHead (octets ++ later)) → EndsBroken from octets Head
+headless : (from : MomentFrom) (octets : List ℕ) → 0 < length octets → ((later : List ℕ) → HasNoHead (octets ++ later)) → EndsBroken from octets no_head
 headless from octets some none = record {
   some = some;
   always = λ later. record {
@@ -77,15 +77,15 @@ headless from octets some none = record {
   };
 }
 
-pub never_ends : (from : MomentFrom) (octets front : List ℕ) → front ≡ take 8192 octets → 0 < length octets → NeverHasHead front → EndsBroken from octets Head
+pub never_ends : (from : MomentFrom) (octets front : List ℕ) → front ≡ take 8192 octets → 0 < length octets → NeverHasHead front → EndsBroken from octets no_head
 never_ends from octets front e some never = headless from octets some (never_has octets (subst NeverHasHead e never))
 
-pub full_ends : (from : MomentFrom) (octets front : List ℕ) → front ≡ take 8192 octets → HasNoHead front → 8192 ≤ length front → EndsBroken from octets Head
+pub full_ends : (from : MomentFrom) (octets front : List ℕ) → front ≡ take 8192 octets → HasNoHead front → 8192 ≤ length front → EndsBroken from octets no_head
 full_ends from octets front e none full =
     let long : 8192 ≤ length (take 8192 octets) = omega (arith, ap length e) in
     headless from octets (omega (arith, length-take 8192 octets)) (full_has_none octets (subst HasNoHead e none) long)
 
-pub refused_ends : (from : MomentFrom) (octets : List ℕ) (head : RequestHead) (rest : List ℕ) (fault : FramingFault) → IsHead octets head rest → refusal_of from head ≡ Some fault → EndsBroken from octets fault
+pub refused_ends : (from : MomentFrom) (octets : List ℕ) (head : RequestHead) (rest : List ℕ) (fault : RequestFault) → IsHead octets head rest → (refusal_of from head ≡ Some fault.framing) × (fault.is_head ≡ is_head head.method) → EndsBroken from octets fault
 refused_ends from octets head rest fault is refused = record {
   some = head_some octets head rest is;
   always = λ later. record {
@@ -93,7 +93,9 @@ refused_ends from octets head rest fault is refused = record {
       head = head;
       rest = rest ++ later;
       is_head = head_append octets head rest later is;
-      refused = refused;
+      reason = fault.framing;
+      refused = refused.0;
+      is_refusal = ap (fault_by fault.framing) refused.1;
       nothing_written = refl;
     }));
   };

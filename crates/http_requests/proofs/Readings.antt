@@ -1,10 +1,11 @@
 -- The octets of a connection have one list of requests and one end.
 use Rattle.std.proofs.Common.{◌≡◌, ℕ, ◌-◌, ◌<◌, List, [], ◌∷◌, ◌++◌, length, Some, None, refl, inl, inr, sym, ap, ap₂, ◌∙◌, subst, arith, length-append}
 use Rattle.httparse.specs.Grammar.{RequestHead}
-use Rattle.http_requests.specs.declared.fault.FramingFault.{FramingFault}
+use Rattle.http_requests.specs.declared.fault.FramingFault.TheVariants.{Cut}
+use Rattle.http_requests.specs.declared.fault.RequestFault.{RequestFault}
 use Rattle.http_requests.specs.declared.fault.MomentFrom.{MomentFrom}
 use Rattle.http_requests.specs.Framing.{refusal_of, body_length, leave_of}
-use Rattle.http_requests.specs.Requests.{Request, Begins, IsFault, Ending, ended, closed, spent, broken, AreRequests, stop_after}
+use Rattle.http_requests.specs.Requests.{Request, Begins, IsFault, fault_in, Ending, ended, closed, spent, broken, AreRequests, stop_after}
 use Rattle.http_requests.proofs.Heads.{head_unique, head_some, same_cut}
 
 abbrev request : RequestHead → List ℕ → Request
@@ -18,7 +19,7 @@ begins_unique from octets r q a b x y =
     (ap₂ request heads.0 parts.0, parts.1)
 
 -- a fault has octets
-pub fault_some : (from : MomentFrom) (octets : List ℕ) (fault : FramingFault) (pending : List ℕ) → IsFault from octets fault pending → 0 < length octets
+pub fault_some : (from : MomentFrom) (octets : List ℕ) (fault : RequestFault) (pending : List ℕ) → IsFault from octets fault pending → 0 < length octets
 fault_some from octets fault pending is =
     elim is.cause [
       | inl none ↦ elim none [ inl lacks ↦ lacks.some | inr refused ↦ head_some octets refused.head refused.rest refused.is_head ]
@@ -26,14 +27,14 @@ fault_some from octets fault pending is =
     ]
 
 -- a whole request is no fault
-pub begins_sound : (from : MomentFrom) (octets : List ℕ) (r : Request) (after : List ℕ) (fault : FramingFault) (pending : List ℕ) → Begins from octets r after → IsFault from octets fault pending → ⊥
+pub begins_sound : (from : MomentFrom) (octets : List ℕ) (r : Request) (after : List ℕ) (fault : RequestFault) (pending : List ℕ) → Begins from octets r after → IsFault from octets fault pending → ⊥
 begins_sound from octets r after fault pending b is =
     elim is.cause [
       | inl none ↦ elim none [
         | inl lacks ↦ lacks.none.none r.head (r.body ++ after) b.head
         | inr refused ↦
             let same = head_unique octets r.head refused.head (r.body ++ after) refused.rest b.head refused.is_head in
-            let reason : None ≡ Some fault = sym b.taken ∙ ap (refusal_of from) same.0 ∙ refused.refused in
+            let reason : None ≡ Some refused.reason = sym b.taken ∙ ap (refusal_of from) same.0 ∙ refused.refused in
             cc
       ]
       | inr cut ↦
@@ -42,7 +43,7 @@ begins_sound from octets r after fault pending b is =
     ]
 
 -- the fault is one, and so is what was written before it
-pub fault_unique : (from : MomentFrom) (octets : List ℕ) (f g : FramingFault) (p q : List ℕ) → IsFault from octets f p → IsFault from octets g q → (f ≡ g) × (p ≡ q)
+pub fault_unique : (from : MomentFrom) (octets : List ℕ) (f g : RequestFault) (p q : List ℕ) → IsFault from octets f p → IsFault from octets g q → (f ≡ g) × (p ≡ q)
 fault_unique from octets f g p q x y =
     elim x.cause [
       | inl none ↦ elim none [
@@ -58,12 +59,13 @@ fault_unique from octets f g p q x y =
             | inl lacks ↦ absurd (lacks.none.none refused.head refused.rest refused.is_head)
             | inr again ↦
                 let same = head_unique octets refused.head again.head refused.rest again.rest refused.is_head again.is_head in
-                let reason : Some f ≡ Some g = sym refused.refused ∙ ap (refusal_of from) same.0 ∙ again.refused in
-                (cc, refused.nothing_written ∙ sym again.nothing_written)
+                let reasons : Some refused.reason ≡ Some again.reason = sym refused.refused ∙ ap (refusal_of from) same.0 ∙ again.refused in
+                let reason : refused.reason ≡ again.reason = cc in
+                (refused.is_refusal ∙ ap₂ fault_in same.0 reason ∙ sym again.is_refusal, refused.nothing_written ∙ sym again.nothing_written)
           ]
           | inr cut ↦
               let same = head_unique octets refused.head cut.head refused.rest cut.rest refused.is_head cut.is_head in
-              let reason : Some f ≡ None = sym refused.refused ∙ ap (refusal_of from) same.0 ∙ cut.taken in
+              let reason : Some refused.reason ≡ None = sym refused.refused ∙ ap (refusal_of from) same.0 ∙ cut.taken in
               absurd (cc)
         ]
       ]
@@ -72,12 +74,12 @@ fault_unique from octets f g p q x y =
           | inl lacks ↦ absurd (lacks.none.none cut.head cut.rest cut.is_head)
           | inr refused ↦
               let same = head_unique octets cut.head refused.head cut.rest refused.rest cut.is_head refused.is_head in
-              let reason : None ≡ Some g = sym cut.taken ∙ ap (refusal_of from) same.0 ∙ refused.refused in
+              let reason : None ≡ Some refused.reason = sym cut.taken ∙ ap (refusal_of from) same.0 ∙ refused.refused in
               absurd (cc)
         ]
         | inr again ↦
             let same = head_unique octets cut.head again.head cut.rest again.rest cut.is_head again.is_head in
-            (cut.is_cut ∙ sym again.is_cut, cut.leave_written ∙ ap leave_of same.0 ∙ sym again.leave_written)
+            (cut.is_cut ∙ ap (λ head. fault_in head Cut) same.0 ∙ sym again.is_cut, cut.leave_written ∙ ap leave_of same.0 ∙ sym again.leave_written)
       ]
     ]
 
@@ -88,7 +90,7 @@ nothing_begins from octets r after none b =
     omega (arith, ap length none)
 
 -- nothing is no fault
-nothing_fails : (from : MomentFrom) (octets : List ℕ) (fault : FramingFault) (pending : List ℕ) → octets ≡ [] → IsFault from octets fault pending → ⊥
+nothing_fails : (from : MomentFrom) (octets : List ℕ) (fault : RequestFault) (pending : List ℕ) → octets ≡ [] → IsFault from octets fault pending → ⊥
 nothing_fails from octets fault pending none is =
     let some = fault_some from octets fault pending is in
     omega (arith, ap length none)

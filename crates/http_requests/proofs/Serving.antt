@@ -4,7 +4,7 @@ use Rattle.std.proofs.Math.Seq.{take-append-add}
 use Rattle.mud_world.specs.Door.{DoorState, put_out, with_left}
 use Rattle.mud_world.specs.Whole.{WrotePart}
 use Rattle.mud_world.proofs.Doors.{put_out_none, put_out_twice}
-use Rattle.http_requests.specs.declared.fault.FramingFault.{FramingFault}
+use Rattle.http_requests.specs.declared.fault.RequestFault.{RequestFault}
 use Rattle.http_requests.specs.declared.fault.MomentFrom.{MomentFrom}
 use Rattle.http_requests.specs.declared.shape.RequestShape.{RequestShape}
 use Rattle.http_requests.specs.Framing.{leave_of}
@@ -124,7 +124,7 @@ stopped_at A B from more end p b r behind s t f begins stop step =
     }
 
 -- a fault came, and was answered
-pub broken_at : (A : Run) (from : MomentFrom) (more : ℕ) (refusal : FramingFault → List ℕ) (fault : FramingFault) (b c : List ℕ) (s t u v : DoorState) → SoFar A from more [] s t b
+pub broken_at : (A : Run) (from : MomentFrom) (more : ℕ) (refusal : RequestFault → List ℕ) (fault : RequestFault) (b c : List ℕ) (s t u v : DoorState) → SoFar A from more [] s t b
     → CameFault from fault b c t u → v ≡ put_out (refusal fault) u → ServedFault A from refusal s v
 unfolding so_far_said so_far_came
 broken_at A from more refusal fault b c s t u v f came said =
@@ -176,7 +176,7 @@ read_failed_at A from more b c s t u f failed =
     ]
 
 -- a write of the leave for a body failed
-pub leave_failed_at : (A : Run) (from : MomentFrom) (more : ℕ) (refusal : FramingFault → List ℕ) (b c : List ℕ) (s t u : DoorState) → SoFar A from more [] s t b → LeaveFailed from b c t u → FailedPiece A from refusal s u
+pub leave_failed_at : (A : Run) (from : MomentFrom) (more : ℕ) (refusal : RequestFault → List ℕ) (b c : List ℕ) (s t u : DoorState) → SoFar A from more [] s t b → LeaveFailed from b c t u → FailedPiece A from refusal s u
 leave_failed_at A from more refusal b c s t u f failed =
     let all = so_far_came A from more [] (take failed.count (leave_of failed.head)) b c s t u f failed.came in
     record {
@@ -200,7 +200,7 @@ take_behind : (p w : List ℕ) (n : ℕ) → p ++ take n w ≡ take (length p + 
 take_behind p w n = sym (take-append-add p w n)
 
 -- a write of the answer to a fault failed
-pub refusal_failed_at : (A : Run) (from : MomentFrom) (more : ℕ) (refusal : FramingFault → List ℕ) (fault : FramingFault) (b c : List ℕ) (s t u v : DoorState) → SoFar A from more [] s t b
+pub refusal_failed_at : (A : Run) (from : MomentFrom) (more : ℕ) (refusal : RequestFault → List ℕ) (fault : RequestFault) (b c : List ℕ) (s t u v : DoorState) → SoFar A from more [] s t b
     → CameFault from fault b c t u → WrotePart (refusal fault) u v → FailedPiece A from refusal s v
 unfolding so_far_said so_far_came
 refusal_failed_at A from more refusal fault b c s t u v f came wrote =

@@ -10,7 +10,7 @@ use Rattle.http_requests.specs.declared.fault.MomentFrom.{MomentFrom}
 use Rattle.http_requests.specs.declared.framing.Framing.{Framing}
 use Rattle.http_requests.specs.declared.shape.RequestShape.{RequestShape}
 use Rattle.http_requests.specs.Fields.{fields_of}
-use Rattle.http_requests.specs.Framing.{first_reason, reasons, refusal_of, lengths, length_by, body_length, moment_by, moment_of, closes_by, closes, awaits_by, awaits_leave}
+use Rattle.http_requests.specs.Framing.{is_head, first_reason, reasons, refusal_of, lengths, length_by, body_length, moment_by, moment_of, closes_by, closes, awaits_by, awaits_leave}
 use Rattle.http_requests.specs.Requests.{path_of}
 use Rattle.http_requests.specs.Shapes.{AreSpans, IsShape}
 use Rattle.http_requests.specs.Values.{IsFraming}
@@ -37,9 +37,10 @@ pub shape_is : (from : MomentFrom) (octets : List ℕ) (headers : List HeaderSpa
     → shape.head_len ≡ spans.len → shape.body_len ≡ framing.body_len → shape.moment ≡ framing.moment
     → shape.closes ≡ closes_by spans.version (map (header_bytes octets) headers)
     → shape.awaits_leave ≡ awaits_by spans.version framing.body_len (map (header_bytes octets) headers)
+    → shape.is_head ≡ is_head (span_bytes octets spans.method)
     → IsShape from shape head
 unfolding body_length moment_of closes awaits_leave
-shape_is from octets headers spans head framing shape are method_within path_within framed method path head_len body_len moment closing awaiting = record {
+shape_is from octets headers spans head framing shape are method_within path_within framed method path head_len body_len moment closing awaiting by_head = record {
   method = ap (span_bytes (print_request head)) method ∙ head_part octets headers spans head spans.method are method_within ∙ are.method;
   path = head_part octets headers spans head shape.path are path_within ∙ path;
   head_len = head_len ∙ are.len;
@@ -48,6 +49,7 @@ shape_is from octets headers spans head framing shape are method_within path_wit
   moment = moment ∙ framed.moment ∙ ap (moment_by from) are.fields;
   awaits_leave = awaiting ∙ ap (λ n. awaits_by spans.version n (map (header_bytes octets) headers)) (framed.body ∙ ap (λ fields. length_by (lengths fields)) are.fields)
       ∙ ap₂ (λ minor fields. awaits_by minor (length_by (lengths (fields_of head))) fields) are.version are.fields;
+  is_head = by_head ∙ ap is_head are.method;
 }
 
 -- what framing says of a method that is lent

@@ -31,9 +31,13 @@ abbrev pub is_silent : List (List ℕ) → Bool
 is_silent [] = true
 is_silent (v ∷ more) = false
 
+-- the method is HEAD, and an answer to it has no content (RFC 9110, 9.3.2)
+unfoldable pub is_head : List ℕ → Bool
+is_head method = bytes_eq method (codes "HEAD")
+
 -- a request of these methods may lack a length, and then it has no body
 abbrev pub may_lack_length : List ℕ → Bool
-may_lack_length method = bytes_eq method (codes "GET") || bytes_eq method (codes "HEAD")
+may_lack_length method = bytes_eq method (codes "GET") || is_head method
 
 -- ---- The moment
 

@@ -1,12 +1,13 @@
 -- The requests of a connection and how they end, as a statement on all its octets at once.
-use Rattle.std.specs.Prelude.{◌≡◌, ℕ, ◌-◌, ◌<◌, ◌==◌, ◌⊎◌, List, [], ◌∷◌, ◌++◌, length, Option, Some, None, if◌then◌else◌}
+use Rattle.std.specs.Prelude.{◌≡◌, ℕ, ◌-◌, ◌<◌, ◌==◌, ◌⊎◌, false, List, [], ◌∷◌, ◌++◌, length, Option, Some, None, if◌then◌else◌}
 use Rattle.std.specs.List.{before_first}
 use Rattle.httparse.specs.Grammar.{RequestHead}
 use Rattle.http_requests.specs.declared.fault.FramingFault.{FramingFault}
 use Rattle.http_requests.specs.declared.fault.FramingFault.TheVariants.{Head, Cut}
+use Rattle.http_requests.specs.declared.fault.RequestFault.{RequestFault}
 use Rattle.http_requests.specs.declared.fault.MomentFrom.{MomentFrom}
 use Rattle.http_requests.specs.Head.{IsHead, HasNoHead}
-use Rattle.http_requests.specs.Framing.{refusal_of, body_length, closes, leave_of}
+use Rattle.http_requests.specs.Framing.{is_head, refusal_of, body_length, closes, leave_of}
 
 -- A request: a head and its body.
 pub record Request : Type 0 where
@@ -25,33 +26,43 @@ pub record Begins (from : MomentFrom) (octets : List ℕ) (request : Request) (a
 
 -- ---- Faults. `pending` is what was written while a body was awaited.
 
+-- where no head can be read, and so no method
+abbrev pub no_head : RequestFault
+no_head = record { framing = Head; is_head = false }
+
+-- in the request with the head
+abbrev pub fault_in : RequestHead → FramingFault → RequestFault
+fault_in head framing = record { framing = framing; is_head = is_head head.method }
+
 -- Octets are left, and no front of them is a head.
-pub record LacksHead (octets : List ℕ) (fault : FramingFault) (pending : List ℕ) : Type 0 where
+pub record LacksHead (octets : List ℕ) (fault : RequestFault) (pending : List ℕ) : Type 0 where
   pub some : 0 < length octets
   pub none : HasNoHead octets
-  pub is_lack : fault ≡ Head
+  pub is_lack : fault ≡ no_head
   pub nothing_written : pending ≡ []
 
 -- The head is refused.
-pub record IsRefused (from : MomentFrom) (octets : List ℕ) (fault : FramingFault) (pending : List ℕ) : Type 0 where
+pub record IsRefused (from : MomentFrom) (octets : List ℕ) (fault : RequestFault) (pending : List ℕ) : Type 0 where
   pub head : RequestHead
   pub rest : List ℕ
   pub is_head : IsHead octets head rest
-  pub refused : refusal_of from head ≡ Some fault
+  pub reason : FramingFault
+  pub refused : refusal_of from head ≡ Some reason
+  pub is_refusal : fault ≡ fault_in head reason
   pub nothing_written : pending ≡ []
 
 -- The octets end inside the body.
-pub record IsCut (from : MomentFrom) (octets : List ℕ) (fault : FramingFault) (pending : List ℕ) : Type 0 where
+pub record IsCut (from : MomentFrom) (octets : List ℕ) (fault : RequestFault) (pending : List ℕ) : Type 0 where
   pub head : RequestHead
   pub rest : List ℕ
   pub is_head : IsHead octets head rest
   pub taken : refusal_of from head ≡ None
   pub short : length rest < body_length head
-  pub is_cut : fault ≡ Cut
+  pub is_cut : fault ≡ fault_in head Cut
   pub leave_written : pending ≡ leave_of head
 
 -- Where these octets are all that is left of a connection, this fault is their end.
-pub record IsFault (from : MomentFrom) (octets : List ℕ) (fault : FramingFault) (pending : List ℕ) : Type 0 where
+pub record IsFault (from : MomentFrom) (octets : List ℕ) (fault : RequestFault) (pending : List ℕ) : Type 0 where
   pub cause : (LacksHead octets fault pending ⊎ IsRefused from octets fault pending) ⊎ IsCut from octets fault pending
 
 -- ---- Whole connections
@@ -62,7 +73,7 @@ pub data Ending : Type 0 where
   ended : Ending
   closed : Ending
   spent : Ending
-  broken : FramingFault → List ℕ → Ending
+  broken : RequestFault → List ℕ → Ending
 
 -- how many requests are answered on one connection
 abbrev pub most_requests : ℕ

@@ -3,7 +3,7 @@
 use Rattle.std.specs.Prelude.{◌≡◌, ℕ, ◌<◌, ◌⊎◌, List, [], ◌∷◌, ◌++◌, length, take, None}
 use Rattle.mud_world.specs.Door.{DoorState, put_out, with_left}
 use Rattle.httparse.specs.Grammar.{RequestHead}
-use Rattle.http_requests.specs.declared.fault.FramingFault.{FramingFault}
+use Rattle.http_requests.specs.declared.fault.RequestFault.{RequestFault}
 use Rattle.http_requests.specs.declared.fault.MomentFrom.{MomentFrom}
 use Rattle.http_requests.specs.Head.{IsHead}
 use Rattle.http_requests.specs.Framing.{refusal_of, leave_of}
@@ -31,8 +31,8 @@ pub record Served (A : List Request → List ℕ → Type 0) (from : MomentFrom)
   pub state : new ≡ put_out (answers ++ last) (with_left new.left old)
 
 -- The connection ended with a fault, which was answered.
-pub record ServedFault (A : List Request → List ℕ → Type 0) (from : MomentFrom) (refusal : FramingFault → List ℕ) (old new : DoorState) : Type 0 where
-  pub fault : FramingFault
+pub record ServedFault (A : List Request → List ℕ → Type 0) (from : MomentFrom) (refusal : RequestFault → List ℕ) (old new : DoorState) : Type 0 where
+  pub fault : RequestFault
   pub pending : List ℕ
   pub served : Served A from (broken fault pending) (pending ++ refusal fault) old new
 
@@ -57,12 +57,12 @@ pub record ServedTaken (A : List Request → List ℕ → Type 0) (from : Moment
 
 -- What is written next, where no further request is carried out: the leave for the body of the head that stands there, or the
 -- answer to the fault.
-pub record IsNextPiece (from : MomentFrom) (refusal : FramingFault → List ℕ) (octets piece : List ℕ) : Type 0 where
+pub record IsNextPiece (from : MomentFrom) (refusal : RequestFault → List ℕ) (octets piece : List ℕ) : Type 0 where
   pub piece_is : ((head : RequestHead) × (rest : List ℕ) × IsHead octets head rest × (refusal_of from head ≡ None) × (piece ≡ leave_of head))
-      ⊎ ((fault : FramingFault) × (pending : List ℕ) × IsFault from octets fault pending × (piece ≡ pending ++ refusal fault))
+      ⊎ ((fault : RequestFault) × (pending : List ℕ) × IsFault from octets fault pending × (piece ≡ pending ++ refusal fault))
 
 -- A write failed, of what is written next behind the answers of the requests at the front.
-pub record FailedPiece (A : List Request → List ℕ → Type 0) (from : MomentFrom) (refusal : FramingFault → List ℕ) (old new : DoorState) : Type 0 where
+pub record FailedPiece (A : List Request → List ℕ → Type 0) (from : MomentFrom) (refusal : RequestFault → List ℕ) (old new : DoorState) : Type 0 where
   pub requests : List Request
   pub answers : List ℕ
   pub run : A requests answers

@@ -5,11 +5,11 @@ use Rattle.httparse.specs.declared.spans.RequestSpans.{RequestSpans}
 use Rattle.httparse.specs.Grammar.{RequestHead, print_request, MayBecomeRequest}
 use Rattle.httparse.specs.Spans.{RequestExceeds, span_bytes, header_bytes}
 use Rattle.http_requests.specs.Fields.{fields_of}
-use Rattle.http_requests.specs.declared.fault.FramingFault.{FramingFault}
+use Rattle.http_requests.specs.declared.fault.RequestFault.{RequestFault}
 use Rattle.http_requests.specs.declared.fault.MomentFrom.{MomentFrom}
 use Rattle.http_requests.specs.declared.shape.RequestShape.{RequestShape}
 use Rattle.http_requests.specs.Head.{IsHead, HasNoHead}
-use Rattle.http_requests.specs.Framing.{refusal_of, body_length, moment_of, closes, awaits_leave}
+use Rattle.http_requests.specs.Framing.{is_head, refusal_of, body_length, moment_of, closes, awaits_leave}
 use Rattle.http_requests.specs.Requests.{IsFault, path_of}
 
 -- The shape is that of the head. Its places count from the front of the head.
@@ -21,6 +21,7 @@ pub record IsShape (from : MomentFrom) (shape : RequestShape) (head : RequestHea
   pub closes : shape.closes ≡ closes head
   pub moment : shape.moment ≡ moment_of from head
   pub awaits_leave : shape.awaits_leave ≡ awaits_leave head
+  pub is_head : shape.is_head ≡ is_head head.method
 
 -- At the front of the octets stands a head that isn't refused, of this shape.
 pub record HasHead (from : MomentFrom) (octets : List ℕ) (shape : RequestShape) : Type 0 where
@@ -50,6 +51,6 @@ pub record AreSpans (octets : List ℕ) (headers : List HeaderSpan) (spans : Req
   pub fields : map (header_bytes octets) headers ≡ fields_of head
 
 -- Whatever octets follow, the connection ends here with this fault.
-pub record EndsBroken (from : MomentFrom) (octets : List ℕ) (fault : FramingFault) : Type 0 where
+pub record EndsBroken (from : MomentFrom) (octets : List ℕ) (fault : RequestFault) : Type 0 where
   pub some : 0 < length octets
   pub always : (later : List ℕ) → IsFault from (octets ++ later) fault []

@@ -2,7 +2,7 @@
 use Rattle.std.specs.Prelude.{◌≡◌, ℕ, ◌<◌, ◌⊎◌, List, [], ◌++◌, length, take, None}
 use Rattle.mud_world.specs.Door.{DoorState, put_out, with_left}
 use Rattle.httparse.specs.Grammar.{RequestHead}
-use Rattle.http_requests.specs.declared.fault.FramingFault.{FramingFault}
+use Rattle.http_requests.specs.declared.fault.RequestFault.{RequestFault}
 use Rattle.http_requests.specs.declared.fault.MomentFrom.{MomentFrom}
 use Rattle.http_requests.specs.declared.shape.RequestShape.{RequestShape}
 use Rattle.http_requests.specs.Head.{IsHead}
@@ -39,14 +39,14 @@ pub record CameEnd (before after : List ℕ) (old new : DoorState) : Type 0 wher
   pub came : Came before after old new []
 
 -- What is held and what is left of the connection end with the fault.
-pub record CameFault (from : MomentFrom) (fault : FramingFault) (before after : List ℕ) (old new : DoorState) : Type 0 where
+pub record CameFault (from : MomentFrom) (fault : RequestFault) (before after : List ℕ) (old new : DoorState) : Type 0 where
   pub pending : List ℕ
   pub is_fault : IsFault from (after ++ new.left) fault pending
   pub came : Came before after old new pending
 
 -- No whole request is held, but for the fault with which these octets would end.
 pub record HoldsPart (from : MomentFrom) (octets pending : List ℕ) : Type 0 where
-  pub part : ((octets ≡ []) × (pending ≡ [])) ⊎ ((fault : FramingFault) × IsFault from octets fault pending)
+  pub part : ((octets ≡ []) × (pending ≡ [])) ⊎ ((fault : RequestFault) × IsFault from octets fault pending)
 
 -- A read failed before the next request was whole.
 pub record ReadFailed (from : MomentFrom) (before after : List ℕ) (old new : DoorState) : Type 0 where

@@ -21,6 +21,21 @@ pub enum FramingFault {
     Cut,
 }
 
+/// The fault of a request, and what its answer has to know of the request's method.
+#[derive(Clone, Copy, Debug, PartialEq, Eq)]
+pub struct RequestFault {
+    /// Why no whole request stands there.
+    pub framing: FramingFault,
+    /// Whether a head could be read whose method is HEAD: the answer has then no content.
+    pub is_head: bool,
+}
+
+/// The fault where no head can be read, and so no method.
+pub(crate) const NO_HEAD: RequestFault = RequestFault {
+    framing: FramingFault::Head,
+    is_head: false,
+};
+
 /// Where the moments of requests come from.
 #[derive(Clone, Copy, Debug, PartialEq, Eq)]
 pub enum MomentFrom {
@@ -28,6 +43,14 @@ pub enum MomentFrom {
     Clock,
     /// From each request's `Mud-Moment` header.
     Header,
+}
+
+/// Whether the method is HEAD, and an answer to it has no content (RFC 9110, 9.3.2).
+#[tactic(auto, unfolding(crate::specs::Framing::is_head))]
+pub fn is_head(method: &[u8]) -> bool
+    ensures { result ≡ spec.is_head method.now }
+{
+    method == b"HEAD".as_slice()
 }
 
 impl FramingFault {

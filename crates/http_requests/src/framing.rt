@@ -4,7 +4,7 @@ ghost use Rattle.httparse.specs.Spans.{IsHeaderWithin, header_bytes};
 ghost use Rattle.http_requests.specs.Framing as spec;
 ghost use Rattle.http_requests.specs.Values.{AreValues, IsFraming, length_refusal};
 
-use crate::fault::{FramingFault, MomentFrom};
+use crate::fault::{FramingFault, MomentFrom, is_head};
 use crate::fields::{Values, has_field, values_of};
 use crate::lengths::length_number;
 use httparse::spans::HeaderSpan;
@@ -26,7 +26,7 @@ pub(crate) struct Framing {
 fn may_lack_length(method: &[u8]) -> bool
     ensures { result ≡ spec.may_lack_length method.now }
 {
-    method == b"GET".as_slice() || method == b"HEAD".as_slice()
+    method == b"GET".as_slice() || is_head(method)
 }
 
 /// The length that one `Content-Length` gives.

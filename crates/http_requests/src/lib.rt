@@ -16,7 +16,7 @@ pub mod shape;
 pub mod stop;
 
 pub use buffer::RequestBuffer;
-pub use fault::{FramingFault, MomentFrom};
+pub use fault::{FramingFault, MomentFrom, RequestFault, is_head};
 pub use next::{DoorFault, Next, next_request};
 pub use parts::{RequestParts, parts_of};
 pub use seek::{HeadStep, look};

@@ -2,7 +2,7 @@
 ghost use Rattle.std.specs.Prelude.{◌≡◌, ◌≢◌, ℕ, ◌+◌, ◌<◌, ◌≤◌, List, [], ◌++◌, length, false, nat_le, if◌then◌else◌, IfOk, OnErr, is_err};
 ghost use Rattle.httparse.specs.Grammar.{RequestHead};
 ghost use Rattle.mud_world.specs.Causes.{Counts};
-ghost use Rattle.http_requests.specs.declared.fault.FramingFault.{FramingFault};
+ghost use Rattle.http_requests.specs.declared.fault.RequestFault.{RequestFault};
 ghost use Rattle.http_requests.specs.declared.fault.MomentFrom.{MomentFrom};
 ghost use Rattle.http_requests.specs.declared.shape.RequestShape.{RequestShape};
 ghost use Rattle.http_requests.specs.Framing.{continue_octets};
@@ -14,7 +14,7 @@ ghost use Rattle.http_requests.specs.Steps.{CameWhole, CameEnd, CameFault, Holds
 ghost use Rattle.http_requests.specs.Failing.{is_read_failed, is_write_failed};
 
 use crate::buffer::RequestBuffer;
-use crate::fault::{FramingFault, MomentFrom};
+use crate::fault::{FramingFault, MomentFrom, NO_HEAD, RequestFault};
 use crate::seek::{HeadStep, look};
 use crate::shape::RequestShape;
 use mud_world::{Door, Failed, say};
@@ -26,21 +26,21 @@ pub const CONTINUE: &[u8; 25] = b"HTTP/1.1 100 Continue\r\n\r\n";
 enum HeadNext {
     Found(RequestShape),
     Ended,
-    Broken(FramingFault),
+    Broken(RequestFault),
 }
 
 /// How the connection ends where no more octets come.
 fn at_end(octets: &[u8]) -> HeadNext
     requires { MayGetHead octets.now }
     ensures ended { result ≡ HeadNext.Ended → octets.now ≡ [] }
-    ensures broken { (from : MomentFrom) (fault : FramingFault) → result ≡ HeadNext.Broken fault
+    ensures broken { (from : MomentFrom) (fault : RequestFault) → result ≡ HeadNext.Broken fault
         → IsFault from octets.now fault [] }
     ensures settled { (shape : RequestShape) → result ≢ HeadNext.Found shape }
 {
     if octets.is_empty() {
         HeadNext::Ended
     } else {
-        HeadNext::Broken(FramingFault::Head)
+        HeadNext::Broken(NO_HEAD)
     }
 }
 
@@ -53,7 +53,7 @@ fn next_head<D: Door>(
     ensures found { (shape : RequestShape) → result ≡ Ok (HeadNext.Found shape) → HasHead from buffer.new shape }
     ensures ended { result ≡ Ok HeadNext.Ended → buffer.new ≡ [] }
     ensures end { D.tells → result ≡ Ok HeadNext.Ended → (D.state door.new).left ≡ [] }
-    ensures broken { D.tells → (fault : FramingFault) → result ≡ Ok (HeadNext.Broken fault)
+    ensures broken { D.tells → (fault : RequestFault) → result ≡ Ok (HeadNext.Broken fault)
         → IsFault from (buffer.new ++ (D.state door.new).left) fault [] }
     ensures failed { OnErr result (MayGetHead buffer.new) }
     ensures received { D.tells → Received buffer.old buffer.new (D.state door.old) (D.state door.new) }
@@ -113,7 +113,7 @@ pub enum Next {
     /// The connection ended between two requests.
     Ended,
     /// It ends with this fault.
-    Broken(FramingFault),
+    Broken(RequestFault),
 }
 
 /// Which call of the door failed.
@@ -134,9 +134,10 @@ fn take_body<D: Door>(
     ensures whole { (s : RequestShape) → result ≡ Ok (Next.Whole s)
         → (s ≡ shape) × (shape.head_len + shape.body_len ≤ length buffer.new) }
     ensures unended { result ≢ Ok Next.Ended }
-    ensures cut { (fault : FramingFault) → result ≡ Ok (Next.Broken fault)
-        → (fault ≡ FramingFault.Cut) × (length buffer.new < shape.head_len + shape.body_len) }
-    ensures end { D.tells → (fault : FramingFault) → result ≡ Ok (Next.Broken fault) → (D.state door.new).left ≡ [] }
+    ensures cut { (fault : RequestFault) → result ≡ Ok (Next.Broken fault)
+        → (fault ≡ record { framing = FramingFault.Cut; is_head = shape.is_head })
+        × (length buffer.new < shape.head_len + shape.body_len) }
+    ensures end { D.tells → (fault : RequestFault) → result ≡ Ok (Next.Broken fault) → (D.state door.new).left ≡ [] }
     ensures short { result ≡ Err DoorFault.Read → length buffer.new < shape.head_len + shape.body_len }
     ensures read { OnErr result (result ≡ Err DoorFault.Read) }
     ensures grown { Grown buffer.old buffer.new }
@@ -148,7 +149,10 @@ fn take_body<D: Door>(
 {
     match next_body(buffer, door, shape.len()) {
         Ok(true) => Ok(Next::Whole(shape)),
-        Ok(false) => Ok(Next::Broken(FramingFault::Cut)),
+        Ok(false) => Ok(Next::Broken(RequestFault {
+            framing: FramingFault::Cut,
+            is_head: shape.is_head,
+        })),
         Err(_failed) => Err(DoorFault::Read),
     }
 }
@@ -166,7 +170,7 @@ fn finish<D: Door>(
     ensures whole { D.tells → (from : MomentFrom) (s : RequestShape) → HasHead from buffer.old shape
         → result ≡ Ok (Next.Whole s) → CameWhole from s buffer.old buffer.new (D.state door.old) (D.state door.new) }
     ensures unended { result ≢ Ok Next.Ended }
-    ensures broken { D.tells → (from : MomentFrom) (fault : FramingFault) → HasHead from buffer.old shape
+    ensures broken { D.tells → (from : MomentFrom) (fault : RequestFault) → HasHead from buffer.old shape
         → result ≡ Ok (Next.Broken fault) → CameFault from fault buffer.old buffer.new (D.state door.old) (D.state door.new) }
     ensures read { D.tells → (from : MomentFrom) → HasHead from buffer.old shape
         → result ≡ Err DoorFault.Read → ReadFailed from buffer.old buffer.new (D.state door.old) (D.state door.new) }
@@ -198,7 +202,7 @@ pub fn next_request<D: Door>(
         → CameWhole from shape buffer.old buffer.new (D.state door.old) (D.state door.new) }
     ensures ended { D.tells → result ≡ Ok Next.Ended
         → CameEnd buffer.old buffer.new (D.state door.old) (D.state door.new) }
-    ensures broken { D.tells → (fault : FramingFault) → result ≡ Ok (Next.Broken fault)
+    ensures broken { D.tells → (fault : RequestFault) → result ≡ Ok (Next.Broken fault)
         → CameFault from fault buffer.old buffer.new (D.state door.old) (D.state door.new) }
     ensures read { D.tells → result ≡ Err DoorFault.Read
         → ReadFailed from buffer.old buffer.new (D.state door.old) (D.state door.new) }

@@ -1,7 +1,7 @@
 //! Looking for a head at the front of octets.
 ghost use Rattle.std.specs.Prelude.{◌≡◌, ◌≢◌, ◌==◌, ◌<◌, Some, None, IfOk, IfErr, ◌≤◌, ◌+◌, length, map, take, All};
 ghost use Rattle.httparse.specs.declared.spans.RequestSpans.{RequestSpans};
-ghost use Rattle.http_requests.specs.declared.fault.FramingFault.{FramingFault};
+ghost use Rattle.http_requests.specs.declared.fault.RequestFault.{RequestFault};
 ghost use Rattle.http_requests.specs.declared.shape.RequestShape.{RequestShape};
 ghost use Rattle.std.specs.List.{before_first, position};
 ghost use Rattle.httparse.specs.Grammar.{RequestHead};
@@ -11,7 +11,7 @@ ghost use Rattle.http_requests.specs.Framing as spec;
 ghost use Rattle.http_requests.specs.Head.{HasNoHead, NeverHasHead};
 ghost use Rattle.http_requests.specs.Shapes.{IsUnfinished, AreSpans, IsShape, HasHead, MayGetHead, EndsBroken};
 
-use crate::fault::{FramingFault, MomentFrom};
+use crate::fault::{FramingFault, MomentFrom, NO_HEAD, RequestFault, is_head};
 use crate::fields::{has_value, lists_word};
 use crate::framing::framing_of;
 use crate::shape::RequestShape;
@@ -32,7 +32,7 @@ pub enum HeadStep {
     /// No head, and the octets aren't refused yet.
     Wait,
     /// Whatever follows, the connection ends here with this fault.
-    Broken(FramingFault),
+    Broken(RequestFault),
 }
 
 /// What the parser makes of octets.
@@ -143,6 +143,7 @@ fn shape_of(
         closes: closes_by(spans.version, octets, fields),
         moment: framing.moment,
         awaits_leave: awaits_by(spans.version, framing.body_len, octets, fields),
+        is_head: is_head(spans.method.of(octets)),
     })
 }
 
@@ -156,14 +157,17 @@ fn step_of(octets: &[u8], fields: &[HeaderSpan], spans: RequestSpans, from: Mome
     ensures found { (shape : RequestShape) → result ≡ HeadStep.Found shape
         → (head : RequestHead) → AreSpans octets.now fields.now spans head
         → (refusal_of from head ≡ None) × IsShape from shape head }
-    ensures broken { (fault : FramingFault) → result ≡ HeadStep.Broken fault
+    ensures broken { (fault : RequestFault) → result ≡ HeadStep.Broken fault
         → (head : RequestHead) → AreSpans octets.now fields.now spans head
-        → refusal_of from head ≡ Some fault }
+        → (refusal_of from head ≡ Some fault.framing) × (fault.is_head ≡ spec.is_head head.method) }
     ensures settled { result ≢ HeadStep.Wait }
 {
     match shape_of(octets, fields, spans, from) {
         Ok(shape) => HeadStep::Found(shape),
-        Err(fault) => HeadStep::Broken(fault),
+        Err(framing) => HeadStep::Broken(RequestFault {
+            framing,
+            is_head: is_head(spans.method.of(octets)),
+        }),
     }
 }
 
@@ -171,7 +175,7 @@ fn step_of(octets: &[u8], fields: &[HeaderSpan], spans: RequestSpans, from: Mome
 pub fn look(octets: &[u8], from: MomentFrom) -> HeadStep
     ensures found { (shape : RequestShape) → result ≡ HeadStep.Found shape → HasHead from octets.now shape }
     ensures wait { result ≡ HeadStep.Wait → MayGetHead octets.now }
-    ensures broken { (fault : FramingFault) → result ≡ HeadStep.Broken fault → EndsBroken from octets.now fault }
+    ensures broken { (fault : RequestFault) → result ≡ HeadStep.Broken fault → EndsBroken from octets.now fault }
 {
     if octets.is_empty() {
         return HeadStep::Wait;
@@ -187,9 +191,9 @@ pub fn look(octets: &[u8], from: MomentFrom) -> HeadStep
             if front.len() < MOST_HEAD {
                 HeadStep::Wait
             } else {
-                HeadStep::Broken(FramingFault::Head)
+                HeadStep::Broken(NO_HEAD)
             }
         }
-        Parsed::Never => HeadStep::Broken(FramingFault::Head),
+        Parsed::Never => HeadStep::Broken(NO_HEAD),
     }
 }

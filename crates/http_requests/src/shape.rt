@@ -22,6 +22,8 @@ pub struct RequestShape {
     pub moment: Option<Moment>,
     /// Whether the client waits for leave to send the body (RFC 9110, 10.1.1).
     pub awaits_leave: bool,
+    /// Whether the method is HEAD.
+    pub is_head: bool,
     ghost method_within: { IsWithin head_len method },
     ghost path_within: { IsWithin head_len path },
     ghost head_most: { head_len ≤ 8192 },

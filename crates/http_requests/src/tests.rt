@@ -64,7 +64,7 @@ fn every_end_is_a_fault(rt: HostRuntime) -> Result<(), Fail> {
         } else {
             FramingFault::Cut
         };
-        assert!(rt; matches!(end, Ok(Next::Broken(found)) if found == fault));
+        assert!(rt; matches!(end, Ok(Next::Broken(found)) if found.framing == fault));
         buffer.clear();
     }
     Ok(())

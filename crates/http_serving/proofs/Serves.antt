@@ -2,7 +2,7 @@
 use Rattle.std.proofs.Common.{◌≡◌, ℕ, ◌+◌, ◌-◌, ◌<◌, List, [], ◌++◌, drop, Some, None, inl, inr, sym, subst, ◌∙◌}
 use Rattle.mud_world.specs.Door.{DoorState, put_out}
 use Rattle.mud_world.specs.Whole.{WrotePart}
-use Rattle.http_requests.specs.declared.fault.FramingFault.{FramingFault}
+use Rattle.http_requests.specs.declared.fault.RequestFault.{RequestFault}
 use Rattle.http_requests.specs.declared.fault.MomentFrom.{MomentFrom}
 use Rattle.http_requests.specs.declared.shape.RequestShape.{RequestShape}
 use Rattle.http_requests.specs.Framing.{leave_of}
@@ -16,7 +16,7 @@ use Rattle.http_serving.specs.Asked.{Asked, CarriedOut, asked}
 use Rattle.http_serving.specs.Ends.{IsServed, Run}
 use Rattle.http_serving.proofs.Running.{Ran, ran_more, ran_kept, behind_is}
 
-module _ {S : Type 0} (may : S → Asked → List ℕ → S → Type 0) (refusal : FramingFault → List ℕ) (from : MomentFrom) where
+module _ {S : Type 0} (may : S → Asked → List ℕ → S → Type 0) (refusal : RequestFault → List ℕ) (from : MomentFrom) where
   -- what was done up to here, from a state that was kept at first
   pub record Progress (keeps : S → Type 0) (more : ℕ) (s : S) (old new : DoorState) (buffer : List ℕ) : Type 0 where
     pub so_far : SoFar (Ran may from keeps more s) from more [] old new buffer
@@ -95,7 +95,7 @@ module _ {S : Type 0} (may : S → Asked → List ℕ → S → Type 0) (refusal
   still keeps keeps' more s old t b p kept =
       record { so_far = serving.so_far_as (Ran may from keeps more s) (Ran may from keeps' more s) from more [] b old t (ran_kept may from keeps keeps' more s kept) p.so_far }
 
-  pub broken_here : (keeps keeps' : S → Type 0) (more : ℕ) (s : S) (old t u v : DoorState) (b c : List ℕ) (fault : FramingFault) → Progress keeps more s old t b → CameFault from fault b c t u
+  pub broken_here : (keeps keeps' : S → Type 0) (more : ℕ) (s : S) (old t u v : DoorState) (b c : List ℕ) (fault : RequestFault) → Progress keeps more s old t b → CameFault from fault b c t u
       → ((at : S) → keeps at → keeps' at) → v ≡ put_out (refusal fault) u → IsServed may refusal from keeps' Broken s old v
   broken_here keeps keeps' more s old t u v b c fault p came kept said =
       let now = still keeps keeps' more s old t b p kept in
@@ -156,7 +156,7 @@ module _ {S : Type 0} (may : S → Asked → List ℕ → S → Type 0) (refusal
   leave_failed_here keeps more s old t u b c p failed =
       piece_failed keeps more s old u (serving.leave_failed_at (Ran may from keeps more s) from more refusal b c old t u p.so_far failed)
 
-  pub refusal_failed_here : (keeps keeps' : S → Type 0) (more : ℕ) (s : S) (old t u v : DoorState) (b c : List ℕ) (fault : FramingFault) → Progress keeps more s old t b → CameFault from fault b c t u
+  pub refusal_failed_here : (keeps keeps' : S → Type 0) (more : ℕ) (s : S) (old t u v : DoorState) (b c : List ℕ) (fault : RequestFault) → Progress keeps more s old t b → CameFault from fault b c t u
       → ((at : S) → keeps at → keeps' at) → WrotePart (refusal fault) u v → IsServed may refusal from keeps' WriteFailed s old v
   refusal_failed_here keeps keeps' more s old t u v b c fault p came kept wrote =
       let now = still keeps keeps' more s old t b p kept in

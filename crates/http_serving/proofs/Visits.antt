@@ -5,7 +5,7 @@ use Rattle.std.proofs.lemmas.List.{map-append}
 use Rattle.std.proofs.lemmas.List.Sums.{sum_by-append}
 use Rattle.mud_world.specs.Causes.{Counts}
 use Rattle.mud_world.specs.Door.{Connection, DoorState, connection_here, here, gone_on, has_more, put_out, with_left}
-use Rattle.http_requests.specs.declared.fault.FramingFault.{FramingFault}
+use Rattle.http_requests.specs.declared.fault.RequestFault.{RequestFault}
 use Rattle.http_requests.specs.declared.fault.MomentFrom.{MomentFrom}
 use Rattle.http_requests.specs.Requests.{Request, Ending}
 use Rattle.http_requests.specs.Serving.{Served}
@@ -45,7 +45,7 @@ counts_more test visits v failed a b b' c is same p q =
 Changed : DoorState → DoorState → Type 0
 Changed old new = (octets : List ℕ) × (new ≡ put_out octets (with_left new.left old))
 
-module _ {S : Type 0} (may : S → Asked → List ℕ → S → Type 0) (refusal : FramingFault → List ℕ) (from : MomentFrom) where
+module _ {S : Type 0} (may : S → Asked → List ℕ → S → Type 0) (refusal : RequestFault → List ℕ) (from : MomentFrom) where
   changed_by : (end : ConnectionEnd) (s t : S) (old new : DoorState) → ServedBy may refusal from end s t old new → Changed old new
   unfolding Changed
   changed_by Ended s t old new x = (_, x.state)

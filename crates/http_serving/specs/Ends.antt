@@ -1,7 +1,7 @@
 -- What was done at a connection, by the way in which it ended.
 use Rattle.std.specs.Prelude.{ℕ, Bool, true, false, ◌⊎◌, List, []}
 use Rattle.mud_world.specs.Door.{DoorState}
-use Rattle.http_requests.specs.declared.fault.FramingFault.{FramingFault}
+use Rattle.http_requests.specs.declared.fault.RequestFault.{RequestFault}
 use Rattle.http_requests.specs.declared.fault.MomentFrom.{MomentFrom}
 use Rattle.http_requests.specs.Requests.{Request, ended, closed, spent, most_requests}
 use Rattle.http_requests.specs.Serving as serving
@@ -27,7 +27,7 @@ is_write_failed ReadFailed = false
 is_write_failed WriteFailed = true
 
 -- What requests may be answered, and what the answers to faults are; where moments come from.
-module _ {S : Type 0} (may : S → Asked → List ℕ → S → Type 0) (refusal : FramingFault → List ℕ) (from : MomentFrom) where
+module _ {S : Type 0} (may : S → Asked → List ℕ → S → Type 0) (refusal : RequestFault → List ℕ) (from : MomentFrom) where
   -- the requests lead from one state to the other
   abbrev pub Run : S → S → List Request → List ℕ → Type 0
   Run s t requests answers = Runs may from most_requests s t requests answers

@@ -2,7 +2,7 @@
 use Rattle.std.specs.Prelude.{◌≡◌, ℕ, ◌<◌, ◌≤◌, min, Bool, true, false, IsTrue, List, [], ◌∷◌, ◌++◌, length, map, count_by, None}
 use Rattle.mud_world.specs.Causes.{RoseBy}
 use Rattle.mud_world.specs.Door.{Connection, DoorState, here}
-use Rattle.http_requests.specs.declared.fault.FramingFault.{FramingFault}
+use Rattle.http_requests.specs.declared.fault.RequestFault.{RequestFault}
 use Rattle.http_requests.specs.declared.fault.MomentFrom.{MomentFrom}
 use Rattle.http_serving.specs.declared.end.ConnectionEnd.{ConnectionEnd}
 use Rattle.http_serving.specs.Asked.{Asked}
@@ -38,7 +38,7 @@ pub record CountsOf (failures before now : ℕ) : Type 0 where
   pub steady : failures ≡ 0 → now ≡ before
 
 -- What requests may be answered, and what the answers to faults are; where moments come from.
-module _ {S : Type 0} (may : S → Asked → List ℕ → S → Type 0) (refusal : FramingFault → List ℕ) (from : MomentFrom) where
+module _ {S : Type 0} (may : S → Asked → List ℕ → S → Type 0) (refusal : RequestFault → List ℕ) (from : MomentFrom) where
   -- The connections were served one after the other, each from the state behind the one before it.
   abbrev pub AreServed : S → S → List Visit → Type 0
   AreServed s t [] = s ≡ t
@@ -59,7 +59,7 @@ pub record AreEnough (failed : Bool) (count : ℕ) (visits : List Visit) (old : 
   pub all : failed ≡ false → length visits ≡ min count (length old.ahead)
   pub fewer : IsTrue failed → length visits < count
 
-module _ {S : Type 0} (may : S → Asked → List ℕ → S → Type 0) (refusal : FramingFault → List ℕ) (from : MomentFrom) where
+module _ {S : Type 0} (may : S → Asked → List ℕ → S → Type 0) (refusal : RequestFault → List ℕ) (from : MomentFrom) where
   -- Connections were served: which ones, how many, and what became of the counts of failed reads and writes.
   pub record ServedInTurn (keeps : S → Type 0) (failed : Bool) (count : ℕ) (s : S) (old new : DoorState)
       (read_before read_now write_before write_now : ℕ) : Type 0 where

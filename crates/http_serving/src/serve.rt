@@ -13,7 +13,7 @@ ghost use Rattle.http_serving.specs.Runs.{IsLeftBy};
 use crate::end::ConnectionEnd;
 use crate::service::Service;
 use http_requests::{
-    DoorFault, FramingFault, MOST_REQUESTS, MomentFrom, Next, RequestBuffer, RequestShape, Stop,
+    DoorFault, MOST_REQUESTS, MomentFrom, Next, RequestBuffer, RequestFault, RequestShape, Stop,
     next_request, parts_of, stop_of,
 };
 use mud_world::{Door, Failed, say};
@@ -87,7 +87,7 @@ fn answer_first<D: Door, S: Service>(
 fn answer_fault<D: Door, S: Service>(
     door: &mut D,
     service: &mut S,
-    fault: FramingFault,
+    fault: RequestFault,
 ) -> Result<(), Failed>
     requires ready { S.ready service.old }
     ensures ready { S.ready service.new }

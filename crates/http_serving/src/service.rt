@@ -5,13 +5,13 @@ ghost use Rattle.http_requests.specs.Parts.{AreParts};
 ghost use Rattle.http_requests.specs.Requests.{Request};
 ghost use Rattle.http_serving.specs.Asked.{CarriedOut, asked_by};
 
-use http_requests::{FramingFault, RequestParts};
+use http_requests::{RequestFault, RequestParts};
 
 /// What answers the requests of connections, and keeps a state from request to request. It holds
 /// one answer at a time, in two pieces: that to the last request or fault that it was given.
 pub trait Service {
     ghost use Rattle.std.specs.Prelude.{ℕ, List};
-    ghost use Rattle.http_requests.specs.declared.fault.FramingFault.{FramingFault};
+    ghost use Rattle.http_requests.specs.declared.fault.RequestFault.{RequestFault};
     ghost use Rattle.http_serving.specs.Asked.{Asked};
 
     /// Whether it may be given requests.
@@ -27,7 +27,7 @@ pub trait Service {
     ghost may: { State → Asked → List ℕ → State → Type 0 };
 
     /// The answer to a fault of the framing.
-    ghost refusal: { FramingFault → List ℕ };
+    ghost refusal: { RequestFault → List ℕ };
 
     /// The octets of the answer that it holds.
     ghost held: { Self → List ℕ };
@@ -42,7 +42,7 @@ pub trait Service {
             → CarriedOut may (keeps self.new) s (asked_by from is_last whole) (held self.new) };
 
     /// Holds the answer to a fault of the framing. The state stays.
-    fn refuse(&mut self, fault: FramingFault)
+    fn refuse(&mut self, fault: RequestFault)
         requires ready { ready self.old }
         ensures ready { ready self.new }
         ensures answer { held self.new ≡ refusal fault }

@@ -2,7 +2,7 @@
 ghost use Rattle.std.specs.Prelude.{◌≡◌, slice_index};
 
 use crate::{ConnectionEnd, Service, serve_connection, serve_connections};
-use http_requests::{FramingFault, MomentFrom, RequestBuffer, RequestParts};
+use http_requests::{MomentFrom, RequestBuffer, RequestFault, RequestParts};
 use mud_base::{Bytes, Listed, Memory};
 use mud_world::MemoryDoor;
 use std::alloc::Global;
@@ -39,7 +39,7 @@ impl Service for Letters {
         (answer ≡ slice_index (path_of what.request.head) 1 ∷ (if what.is_last then codes "." else codes ","))
         × (next ≡ min (count + 1) (2 ^ 64 - 1)) };
 
-    ghost refusal = { λ fault. codes "!" ++ rule_of fault };
+    ghost refusal = { λ fault. codes "!" ++ rule_of fault.framing };
 
     ghost held = { λ letters. letters.letter ++ letters.rest.now };
 
@@ -49,9 +49,9 @@ impl Service for Letters {
         self.count = self.count.saturating_add(1);
     }
 
-    fn refuse(&mut self, fault: FramingFault) {
+    fn refuse(&mut self, fault: RequestFault) {
         self.letter = [b'!'];
-        self.rest = fault.rule().as_bytes();
+        self.rest = fault.framing.rule().as_bytes();
     }
 
     fn answer(&self) -> (&[u8], &[u8]) {

@@ -1,7 +1,7 @@
 use Rattle.std.proofs.Common.{◌≡◌, refl, sym, subst, arith, eqb-true}
 use Rattle.std.proofs.lemmas.Bool.Decides.{nat_tests}
 use Rattle.std.proofs.lemmas.List.{nil_from_length}
-use Rattle.http_requests.specs.declared.fault.FramingFault.TheVariants.{Head}
+use Rattle.http_requests.specs.Requests.{no_head}
 use Rattle.http_requests.specs.Shapes.{EndsBroken}
 use Rattle.http_requests.proofs.Looks.{are_spans, found_head, never_ends, full_ends, refused_ends, short_waits, nothing_waits}
 use Rattle.http_requests.proofs.seek.look.Goals as goal
@@ -38,12 +38,12 @@ returns-then-front-lt-MOST_HEAD-clause-wait c = λ e.
 
 pub returns-else-front-lt-MOST_HEAD-clause-broken : goal.returns-else-front-lt-MOST_HEAD-clause-broken
 returns-else-front-lt-MOST_HEAD-clause-broken c = λ fault e.
-    let same : Head ≡ fault = cc in
+    let same : no_head ≡ fault = cc in
     subst (EndsBroken c.args.from c.args.octets.now) same
     (full_ends c.args.from c.args.octets.now c.front_of-front.result.now c.front_of-front.ensures.front (c.in-Partial.ensures.partial refl) (omega arith))
 
 pub returns-in-Never-clause-broken : goal.returns-in-Never-clause-broken
 returns-in-Never-clause-broken c = λ fault e.
-    let same : Head ≡ fault = cc in
+    let same : no_head ≡ fault = cc in
     subst (EndsBroken c.args.from c.args.octets.now) same
     (never_ends c.args.from c.args.octets.now c.front_of-front.result.now c.front_of-front.ensures.front (grind (arith, nat_tests)) (c.in-Never.ensures.never refl))

@@ -1,0 +1,4 @@
+pub mod Left
+pub mod Refusals
+pub mod Replays
+pub mod Serves

@@ -1,0 +1,140 @@
+-- What a run of `replay` promises where the connection is served, and where it isn't.
+use Rattle.std.proofs.Common.{◌≡◌, ◌≢◌, ℕ, ◌⊎◌, inl, inr, [], Ok, refl, subst, ◌∙◌, arith}
+use Rattle.std.specs.declared.dyn_box.DynBox.{DynBox}
+use Rattle.std.specs.declared.alloc.Global.{Global}
+use Rattle.mud_world.specs.declared.keeper.Keeper.{Ghosts}
+use Rattle.mud_world.specs.Boxed.{faults_of, Tells, kept_items}
+use Rattle.mud_world.specs.Causes.{Counts, Rose}
+use Rattle.command_runs.specs.View.{DoorView}
+use Rattle.desk_model.specs.DeskTables.{DeskTables, IsSound}
+use Rattle.desk_model.specs.Items.{tables_in}
+use Rattle.mud_desk.specs.Boxed.{IsKept, IsSameBox}
+use Rattle.mud_desk.specs.DeskState.{DeskState, IsBegun, session_of, tables_of}
+use Rattle.http_requests.specs.declared.fault.MomentFrom.TheVariants.{Header}
+use Rattle.http_serving.specs.declared.end.ConnectionEnd.{ConnectionEnd}
+use Rattle.http_serving.specs.declared.end.ConnectionEnd.TheVariants.{Ended, Closed, Broken, Spent, ReadFailed, WriteFailed}
+use Rattle.http_serving.specs.Ends.{IsServed, is_read_failed, is_write_failed}
+use Rattle.http_serving.specs.Runs.{IsLeftBy}
+use Rattle.console_answers.specs.Answers.{fault_answer}
+use Rattle.console.specs.States.{MayTake, IsAt, begun}
+use Rattle.console_runs.specs.Store.{NoneFailed, ServesNone}
+use Rattle.console_runs.specs.Replay.{ReplaysConnection, ReplaysStore, status_at}
+use Rattle.console_runs.proofs.Left.{begun_with, left_as, served_as, leaves}
+
+-- ---- Statuses
+
+abbrev IsOfReplay : ℕ → Type 0
+IsOfReplay status = (status ≡ 0) ⊎ ((status ≡ 3) ⊎ ((status ≡ 4) ⊎ ((status ≡ 5) ⊎ ((status ≡ 6) ⊎ (status ≡ 7)))))
+
+abbrev IsComplete : ℕ → Type 0
+IsComplete status = (status ≡ 0) ⊎ ((status ≡ 3) ⊎ ((status ≡ 5) ⊎ (status ≡ 6)))
+
+statuses_at : (end : ConnectionEnd) (status : ℕ) → status ≡ status_at end → IsOfReplay status
+statuses_at Ended status is = inl is
+statuses_at Closed status is = inl is
+statuses_at Broken status is = inr (inl is)
+statuses_at Spent status is = inr (inl is)
+statuses_at ReadFailed status is = inr (inr (inl is))
+statuses_at WriteFailed status is = inr (inr (inl is))
+
+at_most_four : {A : Type 0} (end : ConnectionEnd) (status : ℕ) → status ≡ status_at end → (status ≡ 5) ⊎ ((status ≡ 6) ⊎ (status ≡ 7)) → A
+at_most_four Ended status is which = absurd (grind arith)
+at_most_four Closed status is which = absurd (grind arith)
+at_most_four Broken status is which = absurd (grind arith)
+at_most_four Spent status is which = absurd (grind arith)
+at_most_four ReadFailed status is which = absurd (grind arith)
+at_most_four WriteFailed status is which = absurd (grind arith)
+
+module _ (status read_before read_now write_before write_now : ℕ) where
+  fault_at : (end : ConnectionEnd) → status ≡ status_at end → Counts (is_read_failed end) read_before read_now → Counts (is_write_failed end) write_before write_now
+      → status ≡ 4 → Rose read_before read_now ⊎ Rose write_before write_now
+  fault_at Ended is reads writes four = absurd (omega (arith, is, four))
+  fault_at Closed is reads writes four = absurd (omega (arith, is, four))
+  fault_at Broken is reads writes four = absurd (omega (arith, is, four))
+  fault_at Spent is reads writes four = absurd (omega (arith, is, four))
+  fault_at ReadFailed is reads writes four = inl (reads.rose refl)
+  fault_at WriteFailed is reads writes four = inr (writes.rose refl)
+
+  steady_at : (end : ConnectionEnd) → status ≡ status_at end → Counts (is_read_failed end) read_before read_now → Counts (is_write_failed end) write_before write_now
+      → status ≢ 4 → (read_now ≡ read_before) × (write_now ≡ write_before)
+  steady_at Ended is reads writes other = (reads.steady refl, writes.steady refl)
+  steady_at Closed is reads writes other = (reads.steady refl, writes.steady refl)
+  steady_at Broken is reads writes other = (reads.steady refl, writes.steady refl)
+  steady_at Spent is reads writes other = (reads.steady refl, writes.steady refl)
+  steady_at ReadFailed is reads writes other = absurd (other is)
+  steady_at WriteFailed is reads writes other = absurd (other is)
+
+  complete_at : (end : ConnectionEnd) → status ≡ status_at end → Counts (is_read_failed end) read_before read_now → Counts (is_write_failed end) write_before write_now
+      → ¬ (Rose read_before read_now) → ¬ (Rose write_before write_now) → IsComplete status
+  complete_at Ended is reads writes no_read no_write = inl is
+  complete_at Closed is reads writes no_read no_write = inl is
+  complete_at Broken is reads writes no_read no_write = inr (inl is)
+  complete_at Spent is reads writes no_read no_write = inr (inl is)
+  complete_at ReadFailed is reads writes no_read no_write = absurd (no_read (reads.rose refl))
+  complete_at WriteFailed is reads writes no_read no_write = absurd (no_write (writes.rose refl))
+
+-- ---- The connection
+
+module _ {X : Type 0} {F : X → Type 0} (members : (v : (x : X) × F x) → Ghosts (F v.0)) where
+  pub replayed : (tells : Type 0) (tables : DeskTables) (state ended : DeskState) (faults : ℕ) (after returned : DynBox X Global F) (end : ConnectionEnd) (old new : DoorView) (status : ℕ)
+      → IsBegun tables state → IsKept members after (tables_of ended) → returned ≡ after → status ≡ status_at end
+      → IsLeftBy (MayTake (Unit {0})) (IsAt (Unit {0}) ended [] faults (faults_of members after)) (begun (session_of [] state) [])
+      → (tells → IsServed (MayTake (Unit {0})) fault_answer Header (IsAt (Unit {0}) ended [] faults (faults_of members after)) end (begun (session_of [] state) []) old.state new.state)
+      → Counts (is_read_failed end) old.reads new.reads → Counts (is_write_failed end) old.writes new.writes → new.turns ≡ old.turns
+      → ReplaysConnection members tells tables faults returned old new status
+  replayed tells tables state ended faults after returned end old new status is kept same status_is left served reads writes turns =
+      let first = begun_with tables state [] is in
+      let then = leaves members (Unit {0}) after returned ended [] faults kept same in
+      record {
+        end = end;
+        status_is = status_is;
+        left = left_as (Unit {0}) _ _ then _ _ first left;
+        served = λ told. served_as (Unit {0}) _ _ then _ _ first Header end old.state new.state (served told);
+        reads = reads;
+        writes = writes;
+        same_turns = turns;
+      }
+
+  -- ---- The store
+
+  module _ (tells : Type 0) (keeper returned : DynBox X Global F) (old new : DoorView) (status : ℕ) where
+    pub replays_none : ServesNone members tells keeper returned old new status → IsSameBox keeper returned → ReplaysStore members tells keeper returned old new status
+    replays_none p box = record {
+      statuses = inr (inr p.statuses);
+      fault = λ four. inr (p.fault four);
+      steady = λ other. (p.same_reads, p.steady other);
+      keeper_fault = p.keeper_fault;
+      runs = inr p;
+      unread = λ told which. p.only_writes told;
+      complete = λ none. none_complete none p.statuses;
+      same_box = box;
+      same_turns = p.same_turns;
+    }
+      where
+        none_complete : NoneFailed (faults_of members keeper) (faults_of members returned) old new → (status ≡ 4) ⊎ ((status ≡ 5) ⊎ ((status ≡ 6) ⊎ (status ≡ 7))) → IsComplete status
+        none_complete none (inl four) = absurd (none.writes (p.fault four))
+        none_complete none (inr (inl five)) = inr (inr (inl five))
+        none_complete none (inr (inr (inl six))) = inr (inr (inr six))
+        none_complete none (inr (inr (inr seven))) = absurd (none.keeper (p.keeper_fault seven))
+
+    pub replays_opened : (tables : DeskTables) (begins : DynBox X Global F)
+        → (Tells members keeper → Tells members begins → tables_in (kept_items members keeper) ≡ Ok tables)
+        → IsSound tables → faults_of members begins ≡ faults_of members keeper → IsSameBox keeper begins
+        → ReplaysConnection members tells tables (faults_of members begins) returned old new status
+        → (Tells members returned → Tells members begins) → IsSameBox begins returned
+        → ReplaysStore members tells keeper returned old new status
+    replays_opened tables begins read sound same_count box run told same_box = record {
+      statuses = statuses_at run.end status run.status_is;
+      fault = fault_at status old.reads new.reads old.writes new.writes run.end run.status_is run.reads run.writes;
+      steady = steady_at status old.reads new.reads old.writes new.writes run.end run.status_is run.reads run.writes;
+      keeper_fault = λ seven. at_most_four run.end status run.status_is (inr (inr seven));
+      runs = inl (record {
+        tables = tables;
+        opens = record { sound = sound; were_kept = λ before now. read before (told now) };
+        replays = subst (λ (faults : ℕ). ReplaysConnection members tells tables faults returned old new status) same_count run;
+      });
+      unread = λ tell which. at_most_four run.end status run.status_is which;
+      complete = λ none. complete_at status old.reads new.reads old.writes new.writes run.end run.status_is run.reads run.writes none.reads none.writes;
+      same_box = record { object = same_box.object ∙ box.object; place = same_box.place ∙ box.place };
+      same_turns = run.same_turns;
+    }

@@ -1,0 +1,67 @@
+-- What a run of `replay` over a store and a connection does.
+use Rattle.std.specs.Prelude.{◌≡◌, ◌≢◌, ℕ, ◌⊎◌, []}
+use Rattle.std.specs.declared.dyn_box.DynBox.{DynBox}
+use Rattle.std.specs.declared.alloc.Global.{Global}
+use Rattle.mud_world.specs.declared.keeper.Keeper.{Ghosts}
+use Rattle.mud_world.specs.Boxed.{faults_of}
+use Rattle.mud_world.specs.Causes.{Counts, Rose}
+use Rattle.command_runs.specs.View.{DoorView}
+use Rattle.desk_model.specs.DeskTables.{DeskTables}
+use Rattle.desk_model.specs.Sessions.{opened}
+use Rattle.mud_desk.specs.Boxed.{IsSameBox}
+use Rattle.http_requests.specs.declared.fault.MomentFrom.TheVariants.{Header}
+use Rattle.http_serving.specs.declared.end.ConnectionEnd.{ConnectionEnd}
+use Rattle.http_serving.specs.declared.end.ConnectionEnd.TheVariants.{Ended, Closed, Broken, Spent, ReadFailed, WriteFailed}
+use Rattle.http_serving.specs.Ends.{IsServed, is_read_failed, is_write_failed}
+use Rattle.http_serving.specs.Runs.{IsLeftBy}
+use Rattle.console_answers.specs.Answers.{fault_answer}
+use Rattle.console.specs.States.{MayTake, begun}
+use Rattle.console_runs.specs.Store.{NoneFailed, OnlyWrites, OpensWith, LeavesDesk, ServesNone}
+
+-- The status by how the connection ended: 0 between two requests or with one that closes it, 3 with a fault of the framing or the
+-- last request that is answered on one connection, and 4 with a read or a write that failed.
+abbrev pub status_at : ConnectionEnd → ℕ
+status_at Ended = 0
+status_at Closed = 0
+status_at Broken = 3
+status_at Spent = 3
+status_at ReadFailed = 4
+status_at WriteFailed = 4
+
+module _ {X : Type 0} {F : X → Type 0} (members : (v : (x : X) × F x) → Ghosts (F v.0)) where
+  -- The connection is served by a desk that begins with these tables, whose keeper had failed so often. Each request gives its own
+  -- moment: there is no clock. `tells` says that the door tells its connections.
+  pub record ReplaysConnection (tells : Type 0) (tables : DeskTables) (faults : ℕ) (returned : DynBox X Global F) (old new : DoorView) (status : ℕ) : Type 0 where
+    pub end : ConnectionEnd
+    pub status_is : status ≡ status_at end
+    -- Whatever the door, some requests lead from the tables to what is left. Where it tells, they are those of the octets that were
+    -- taken of the connection, and what was written are their answers.
+    pub left : IsLeftBy (MayTake (Unit {0})) (LeavesDesk members (Unit {0}) faults returned []) (begun (opened tables) [])
+    pub served : tells → IsServed (MayTake (Unit {0})) fault_answer Header (LeavesDesk members (Unit {0}) faults returned []) end (begun (opened tables) []) old.state new.state
+    pub reads : Counts (is_read_failed end) old.reads new.reads
+    pub writes : Counts (is_write_failed end) old.writes new.writes
+    pub same_turns : new.turns ≡ old.turns
+
+  -- A desk is opened and the connection served by it.
+  pub record OpensAndReplays (tells : Type 0) (keeper returned : DynBox X Global F) (old new : DoorView) (status : ℕ) : Type 0 where
+    pub tables : DeskTables
+    pub opens : OpensWith members tables keeper returned
+    pub replays : ReplaysConnection tells tables (faults_of members keeper) returned old new status
+
+  -- A run of `replay`. `tells` says that the door tells its connections.
+  pub record ReplaysStore (tells : Type 0) (keeper returned : DynBox X Global F) (old new : DoorView) (status : ℕ) : Type 0 where
+    -- The status is 0 or 3 to 7. It is 4 only where a read or a write of the door failed in this call, and where it isn't, none
+    -- failed. It is 7 only where the keeper failed in the opening.
+    pub statuses : (status ≡ 0) ⊎ ((status ≡ 3) ⊎ ((status ≡ 4) ⊎ ((status ≡ 5) ⊎ ((status ≡ 6) ⊎ (status ≡ 7)))))
+    pub fault : status ≡ 4 → Rose old.reads new.reads ⊎ Rose old.writes new.writes
+    pub steady : status ≢ 4 → (new.reads ≡ old.reads) × (new.writes ≡ old.writes)
+    pub keeper_fault : status ≡ 7 → Rose (faults_of members keeper) (faults_of members returned)
+    -- The connection is served, or the store is refused, or memory is wanted before the connection is read.
+    pub runs : OpensAndReplays tells keeper returned old new status ⊎ ServesNone members tells keeper returned old new status
+    pub unread : tells → (status ≡ 5) ⊎ ((status ≡ 6) ⊎ (status ≡ 7)) → OnlyWrites old.state new.state
+    -- Where no call of the door or the keeper failed, the connection is served to its end, but for want of memory and for an item
+    -- that is no record.
+    pub complete : NoneFailed (faults_of members keeper) (faults_of members returned) old new → (status ≡ 0) ⊎ ((status ≡ 3) ⊎ ((status ≡ 5) ⊎ (status ≡ 6)))
+    -- The box that comes back is the one that was handed in. No port is bound, and the connection isn't left.
+    pub same_box : IsSameBox keeper returned
+    pub same_turns : new.turns ≡ old.turns

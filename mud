@@ -1,7 +1,7 @@
 #!/bin/sh
 # Runs the program with these words and this standard input. Where it isn't built yet, or a source
 # is newer than it, it is proved and built first; what that says goes to standard error. The status
-# is the program's own (0 and 2 to 5), 126 where it couldn't be built, and 127 where it has to be
+# is the program's own (0 and 2 to 7), 126 where it couldn't be built, and 127 where it has to be
 # built and the toolchain isn't there.
 here=$(cd "$(dirname "$0")" && pwd) || exit 126
 program=$here/crates/mud/out/mud

@@ -18,7 +18,8 @@
 #                                 two octets in hex
 #   ends N                        the status of the program, 0 unless it is said
 #   in pieces                     the run once more for each place of its octets, cut there in two
-#   in parts                      the run once more for each place, its octets ending there
+#   in parts                      the run once more for each place, its octets ending there: the answers to
+#                                 the whole requests are wanted, and a fault 'head' or 'cut' behind them
 #   again                         the next run begins
 #
 # A body is JSON text as it is, or one of these:
@@ -27,10 +28,13 @@
 #   =NAME                         those of this name in examples/replay/frames.txt
 #   hex DIGITS                    these octets
 #   fill N                        so many letters
+#   first N BODY                  the first N octets of a body of these kinds
 #   announce MAC URL              a client's DHCPDISCOVER with this URL in option 161
 #   ack MAC ADDRESS SECONDS       a server's DHCPACK with this lease
 #
-# The variable 'folder' names where the files of run K go: K.octets, K.wanted, K.status and K.ways. Where
+# The variable 'folder' names where the files of run K go: K.octets, K.wanted, K.status, K.ways, and
+# K.places with a line for each request: the octets up to the end of its head, up to its own end, and
+# those of the answers up to its own. Where
 # the variable 'apart' is set, there are also the table K.requests, a line 'N METHOD TARGET STATUS' each,
 # and for request N the files K.N.body and K.N.answer, the body of each.
 
@@ -86,7 +90,17 @@ function acknowledgement(mac, address, seconds) {
 }
 
 # what a body says: its kind in body_kind, its text, file or digits in body_text, its octets in body_size
-function read_body(text,    part, count) {
+function read_body(text,    part, count, most) {
+  if (text ~ /^first [0-9]+ /) {
+    split(text, part, " ")
+    most = part[2] + 0
+    sub(/^first [0-9]+ /, "", text)
+    read_body(text)
+    if (most < body_size) body_size = most
+    if (body_kind == "hex") body_text = substr(body_text, 1, 2 * body_size)
+    if (body_kind == "text") body_text = substr(body_text, 1, body_size)
+    return
+  }
   count = split(text, part, " ")
   body_kind = "text"
   body_text = text
@@ -122,7 +136,7 @@ function write_body(file,    k) {
     for (k = 1; k < length(body_text); k += 2) printf "%c", value[substr(body_text, k, 2)] >> file
   if (body_kind == "file") {
     close(file)
-    if (system("cat '" body_text "' >> '" file "'") != 0) fail("no file " body_text)
+    if (system("head -c " body_size " '" body_text "' >> '" file "'") != 0) fail("no file " body_text)
   }
 }
 
@@ -135,12 +149,16 @@ function begin_run() {
   printf "" >> wanted
   run_status = 0
   ways = ""
+  octet_count = 0
+  answer_count = 0
+  printf "" > (folder "/" run ".places")
 }
 
 function end_run() {
   flush()
   close(octets)
   close(wanted)
+  close(folder "/" run ".places")
   if (apart) close(folder "/" run ".requests")
   print run_status > (folder "/" run ".status")
   print ways > (folder "/" run ".ways")
@@ -155,18 +173,19 @@ function flush() {
   open = ""
 }
 
-function write_request(    part, text, k) {
+function write_request(    part, text, k, head) {
   if (split(request, part, " ") < 3) fail("a request has a moment, a method and a target")
   text = request
   for (k = 1; k <= 3; k++) sub(/^[^ ]+ ?/, "", text)
   method = part[2]
   read_body(text)
-  printf "%s %s HTTP/1.1\r\nMud-Moment: %s\r\n", part[2], part[3], part[1] >> octets
-  printf "%s", headers >> octets
+  head = part[2] " " part[3] " HTTP/1.1\r\nMud-Moment: " part[1] "\r\n" headers
   if (!has_length && (text != "" || (method != "GET" && method != "HEAD")))
-    printf "Content-Length: %d\r\n", body_size >> octets
-  printf "\r\n" >> octets
+    head = head "Content-Length: " body_size "\r\n"
+  printf "%s\r\n", head >> octets
   write_body(octets)
+  head_end = octet_count + length(head) + 2
+  octet_count = head_end + body_size
   if (apart) {
     number++
     target = part[3]
@@ -182,7 +201,7 @@ function write_apart(what,    file) {
   close(file)
 }
 
-function write_answer(    status, text, closes) {
+function write_answer(    status, text, closes, head) {
   status = answer
   sub(/ .*/, "", status)
   text = answer
@@ -194,9 +213,12 @@ function write_answer(    status, text, closes) {
   if (!(status in phrase)) fail("no phrase for the status " status)
   closes = sub(/^closes /, "", text) ? "Connection: close\r\n" : ""
   read_body(text)
-  printf "HTTP/1.1 %s %s\r\nContent-Type: application/json\r\n%s", status, phrase[status], headers >> wanted
-  printf "Content-Length: %d\r\n%s\r\n", body_size, closes >> wanted
+  head = "HTTP/1.1 " status " " phrase[status] "\r\nContent-Type: application/json\r\n" headers
+  head = head "Content-Length: " body_size "\r\n" closes "\r\n"
+  printf "%s", head >> wanted
   if (method != "HEAD") write_body(wanted)
+  answer_count += length(head) + (method != "HEAD" ? body_size : 0)
+  print head_end, octet_count, answer_count >> (folder "/" run ".places")
   if (apart) {
     write_apart("answer")
     print number, method, target, status >> (folder "/" run ".requests")
@@ -230,6 +252,8 @@ function write_raw(    k, in_body, head, body, head_size, lines, place, count) {
     head = substr(head, 1, place - 1) letters(count - head_size) substr(head, place + RLENGTH)
   }
   printf "%s%s", head, body >> octets
+  head_end = octet_count + length(head)
+  octet_count = head_end + length(body)
 }
 
 # one line of the session, or of a step, with the numbers put in

@@ -5,6 +5,8 @@ mod rows;
 mod stop;
 pub mod store;
 pub mod table;
+#[cfg(test)]
+mod tests;
 
 pub use store::report_store;
 pub use table::report_desk;

@@ -1,0 +1,4 @@
+pub mod Lines
+pub mod Packets
+pub mod RanLaws
+pub mod Stores

@@ -1,0 +1,129 @@
+//! A drill over a desk that is opened.
+ghost use Rattle.std.specs.Prelude.{◌≡◌, ◌≢◌, ◌⊎◌, IfOk};
+ghost use Rattle.mud_world.specs.Causes.{Rose};
+ghost use Rattle.mud_world.specs.Door.{put_out};
+ghost use Rattle.command_runs.specs.Due.{WroteFirst};
+ghost use Rattle.command_runs.specs.Status.{status_number};
+ghost use Rattle.command_runs.specs.View.{viewed};
+ghost use Rattle.desk_model.specs.Sessions.{Session};
+ghost use Rattle.mud_desk.specs.Boxed.{IsKept};
+ghost use Rattle.mud_desk.specs.DeskState.{tables_of};
+ghost use Rattle.desk_runs.specs.Judged.{IsIn};
+ghost use Rattle.drill_model.specs.Counts.{count_lines, verdict_counts};
+ghost use Rattle.drill_model.specs.Drill.{lines_in, numbers_to, verdicts_on};
+ghost use Rattle.drill_runs.specs.Store as spec;
+ghost use Rattle.drill_runs.specs.Store.{DrillsFrom, not_empty_line};
+
+use crate::commands::run_commands;
+use crate::judging::judge_packets;
+use command_runs::Status;
+use drill_model::append_counts;
+use mud_base::{Bytes, Memory};
+use mud_desk::{Desk, State};
+use mud_world::{Door, Failed, Keeper, say};
+use std::alloc::Global;
+
+/// What is written of a store that holds something.
+const NOT_EMPTY: &[u8] = b"fault NotEmpty\n";
+
+/// Whether a desk holds nothing, and nothing of it was ever changed.
+#[tactic(auto, unfolding(crate::specs::Store::holds_nothing))]
+pub(crate) fn holds_nothing(desk: &Desk) -> bool
+    ensures { result ≡ spec.holds_nothing (tables_of desk.now.state) }
+{
+    desk.things().is_empty()
+        && desk.files().is_empty()
+        && desk.classes().is_empty()
+        && desk.locals().is_empty()
+        && desk.names().is_empty()
+        && desk.stamp().is_none()
+}
+
+/// Refuses a desk that holds something. The box is handed back.
+pub(crate) fn refuse_full<D: Door>(desk: Desk, door: &mut D) -> (Status, Box<dyn Keeper>)
+    requires { IsKept Keeper-dyn desk.keeper (tables_of desk.state) }
+    ensures statuses { (status_number result.0 ≡ 3) ⊎ (status_number result.0 ≡ 4) }
+    ensures fault { status_number result.0 ≡ 4 → Rose (D.writes door.old) (D.writes door.new) }
+    ensures steady { status_number result.0 ≢ 4 → D.writes door.new ≡ D.writes door.old }
+    ensures done { D.tells → status_number result.0 ≡ 3 → D.state door.new ≡ put_out not_empty_line (D.state door.old) }
+    ensures part { D.tells → status_number result.0 ≡ 4 → WroteFirst not_empty_line (D.state door.old) (D.state door.new) }
+    ensures keeper { result.1 ≡ desk.keeper }
+    ensures turns { D.turns door.new ≡ D.turns door.old }
+    ensures reads { D.reads door.new ≡ D.reads door.old }
+{
+    let keeper = desk.close();
+    match say(door, NOT_EMPTY) {
+        Ok(()) => (Status::Refused, keeper),
+        Err(Failed) => (Status::DoorFailed, keeper),
+    }
+}
+
+/// The lines of a drill: so many Things and usage files, and what came of the packets.
+fn lines_of(
+    alloc: Global,
+    things: u64,
+    files: u64,
+    packets: u32,
+    state: &mut State,
+) -> Result<Bytes, Memory>
+    ensures { (s : Session) → IsIn s state.old → IfOk result (λ lines. lines ≡ count_lines things files packets (verdict_counts (verdicts_on packets s (numbers_to packets)))) }
+{
+    let counts = judge_packets(alloc, state, packets)?;
+    let mut lines = Bytes::empty(alloc);
+    append_counts(&mut lines, things, files, u64::from(packets), &counts)?;
+    Ok(lines)
+}
+
+/// Judges the packets in the session that a desk is in, and writes the lines. The box is handed back,
+/// and the keeper isn't called.
+fn write_lines<D: Door>(
+    alloc: Global,
+    desk: Desk,
+    packets: u32,
+    door: &mut D,
+) -> (Status, Box<dyn Keeper>)
+    requires { IsKept Keeper-dyn desk.keeper (tables_of desk.state) }
+    ensures statuses { (status_number result.0 ≡ 0) ⊎ ((status_number result.0 ≡ 4) ⊎ (status_number result.0 ≡ 5)) }
+    ensures fault { status_number result.0 ≡ 4 → Rose (D.writes door.old) (D.writes door.new) }
+    ensures steady { status_number result.0 ≢ 4 → D.writes door.new ≡ D.writes door.old }
+    ensures done { (s : Session) → IsIn s desk.state → D.tells → status_number result.0 ≡ 0 →
+        D.state door.new ≡ put_out (lines_in packets s) (D.state door.old) }
+    ensures part { (s : Session) → IsIn s desk.state → D.tells → (status_number result.0 ≡ 4) ⊎ (status_number result.0 ≡ 5) →
+        WroteFirst (lines_in packets s) (D.state door.old) (D.state door.new) }
+    ensures keeper { result.1 ≡ desk.keeper }
+    ensures turns { D.turns door.new ≡ D.turns door.old }
+    ensures reads { D.reads door.new ≡ D.reads door.old }
+{
+    let things = desk.things().len() as u64;
+    let files = desk.files().len() as u64;
+    let (keeper, mut state) = desk.into_parts();
+    let Ok(lines) = lines_of(alloc, things, files, packets, &mut state) else {
+        return (Status::NoMemory, keeper);
+    };
+    match say(door, lines.octets()) {
+        Ok(()) => (Status::Done, keeper),
+        Err(Failed) => (Status::DoorFailed, keeper),
+    }
+}
+
+/// Runs the commands of a drill over a desk, and then judges the packets and writes the lines. The box
+/// is handed back.
+pub(crate) fn drill_desk<D: Door>(
+    alloc: Global,
+    desk: Desk,
+    packets: u32,
+    door: &mut D,
+) -> (Status, Box<dyn Keeper>)
+    requires { IsKept Keeper-dyn desk.keeper (tables_of desk.state) }
+    ensures drilled { (s : Session) → IsIn s desk.state → DrillsFrom Keeper-dyn D.tells packets s desk.keeper result.1
+        (viewed (D.state door.old) (D.turns door.old) (D.reads door.old) (D.writes door.old))
+        (viewed (D.state door.new) (D.turns door.new) (D.reads door.new) (D.writes door.new))
+        (status_number result.0) }
+    ensures untouched { status_number result.0 ≡ 7 → door.new ≡ door.old }
+{
+    let mut desk = desk;
+    match run_commands(alloc, &mut desk, packets) {
+        Ok(()) => write_lines(alloc, desk, packets, door),
+        Err(stop) => (stop.status(), desk.close()),
+    }
+}

@@ -73,7 +73,7 @@ default_rows = row Default From dns_addr 1 never ∷ (row Default To dns_addr 1 
 
 -- ---- The file of the switch is approved: one row comes, in one step
 
-switch_row : rows_of approved bindings ≡ own_rows ++ (row (Url 1) From bulb_addr 1 87400 ∷ default_rows)
+switch_row : rows_of approved bindings ≡ default_rows ++ (own_rows ++ row (Url 1) From bulb_addr 1 87400 ∷ [])
 unfolding rows_on_literals acl_on_literals slot_set
 switch_row = refl
 
@@ -83,7 +83,7 @@ one_comes = refl
 
 -- ---- The lease of the bulb goes: two rows go, and two bindings, in four steps
 
-rows_left : rows_of approved (replaced lease [] bindings) ≡ row (Url 0) From test_addr 1 1060 ∷ default_rows
+rows_left : rows_of approved (replaced lease [] bindings) ≡ default_rows ++ row (Url 0) From test_addr 1 1060 ∷ []
 unfolding rows_on_literals acl_on_literals slot_set
 rows_left = refl
 

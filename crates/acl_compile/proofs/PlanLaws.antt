@@ -7,7 +7,8 @@ use Rattle.acl_model.specs.declared.entry.Policy.{Policy}
 use Rattle.acl_model.specs.Places.{binding_place}
 use Rattle.acl_model.specs.Changes.{replaced}
 use Rattle.row_edits.specs.declared.edit.Edit.{Edit}
-use Rattle.row_edits.specs.Edits.{edited, AreFound}
+use Rattle.row_edits.specs.Edits.{edited}
+use Rattle.row_shelves.specs.Shelves.{Shelves, AreFoundBeside, HasRoom}
 use Rattle.acl_rows.specs.declared.row.Row.{Row}
 use Rattle.acl_rows.specs.Places.{row_place}
 use Rattle.acl_rows.specs.Rows.{Slots, rows_of, member_keys}
@@ -52,9 +53,9 @@ member_most slots bindings rows gone come start middle end first second s b k ke
 
 -- ---- A plan of members
 
-pub member_plan : (gone come : List Binding) (slots : Slots) (bindings : RowsAndRoom Binding) (rows : RowsAndRoom Row) (row_edits : List (Edit Row)) (binding_edits : List (Edit Binding))
+pub member_plan : (gone come : List Binding) (slots : Slots) (bindings : RowsAndRoom Binding) (rows : Shelves) (row_edits : List (Edit Row)) (binding_edits : List (Edit Binding))
     → length slots ≤ 128 → UrlsApart slots → IsPatch slots bindings.rows slots (replaced gone come bindings.rows) row_edits → AreEditsOf gone come bindings.rows binding_edits
-    → length row_edits ≤ rows.room → length binding_edits ≤ bindings.room
+    → HasRoom row_edits rows.room → length binding_edits ≤ bindings.room
     → (room : ℕ) → IsMemberPlan gone come (compiled_state slots bindings rows room) (record { rows = row_edits; bindings = binding_edits; slot = None })
 unfolding slots_after slots_with bindings_after
 member_plan gone come slots bindings rows row_edits binding_edits few apart patch edits row_room binding_room room = record {
@@ -81,8 +82,8 @@ pub record IsCommitted (c : CompiledState) (plan : Plan) (slots : Slots) (bindin
   pub rows_are : rows ≡ rows_of slots bindings
   pub few : length plan.rows ≤ rows_apart c.rows rows
 
-pub found_rows : (c : CompiledState) (plan : Plan) → Fits plan c → c.rows ≡ rows_of c.slots c.bindings → AreFound row_place c.rows plan.rows
-found_rows c plan fits kept = subst (λ (rows : List Row). AreFound row_place rows plan.rows) (sym kept) fits.patch.found
+pub found_rows : (c : CompiledState) (plan : Plan) → Fits plan c → c.rows ≡ rows_of c.slots c.bindings → AreFoundBeside c.rows plan.rows
+found_rows c plan fits kept = subst (λ (rows : List Row). AreFoundBeside rows plan.rows) (sym kept) fits.patch.found
 
 pub committed : (c : CompiledState) (plan : Plan) (slots : Slots) (bindings : List Binding) (rows : List Row) (defaults : Policy) → Fits plan c → IsSound c.slots c.bindings c.rows defaults
     → slots ≡ slots_with plan.slot c.slots → bindings ≡ edited binding_place plan.bindings c.bindings → rows ≡ edited row_place plan.rows c.rows → IsCommitted c plan slots bindings rows defaults

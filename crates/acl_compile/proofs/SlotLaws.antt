@@ -1,11 +1,11 @@
 -- The table of policies, before and after a policy comes, goes or is replaced.
-use Rattle.std.proofs.Common.{◌≡◌, ℕ, zero, suc, ◌+◌, ◌*◌, ◌^◌, ◌<◌, ◌≤◌, ◌⊎◌, inl, inr, Bool, true, false, cond, List, [], ◌∷◌, ◌++◌, map, length, drop, get_or, Option, Some, None, refl, sym, ap, subst, ◌∙◌, arith, length-append}
+use Rattle.std.proofs.Common.{◌≡◌, ℕ, zero, suc, ◌+◌, ◌*◌, ◌^◌, ◌<◌, ◌≤◌, ◌⊎◌, inl, inr, Bool, true, false, cond, ◌&&◌, List, [], ◌∷◌, ◌++◌, map, length, drop, get_or, Option, Some, None, refl, sym, ap, subst, ◌∙◌, arith, length-append}
 use Rattle.std.specs.Prelude.{◌≢◌, bytes_eq, nat_eq, not, filter, flat_map, nat_lt, slice_set}
 use Rattle.std.specs.Option.{option_map, option_and_then, is_some}
 use Rattle.std.specs.List.{slice_get}
 use Rattle.std.proofs.Math.Seq.{drop-cons}
 use Rattle.std.proofs.lemmas.List.{drop_all}
-use Rattle.std.proofs.lemmas.Bool.{false≢true}
+use Rattle.std.proofs.lemmas.Bool.{false≢true, eqb-true, and_parts}
 use Rattle.std.proofs.lemmas.Bool.Decides.{eqb_tells, leb_tells}
 use Rattle.std.proofs.lemmas.Option.{same_Some, none-some, slice_get_within}
 use Rattle.sorted_rows.proofs.PlacedLaws.{same_place_exact, same_place_itself}
@@ -24,17 +24,18 @@ use Rattle.acl_rows.specs.Rows.{Slots, Holder, rows_of, member_keys, numbered, s
 use Rattle.acl_rows.specs.View.{in_slot, holder_from}
 use Rattle.acl_patch.specs.PolicyTouched.{bound_key, bound_under, first_key_touches, entry_touches, side_policy_touches, new_touches, owner_rows, IsSlotChange}
 use Rattle.acl_rows.specs.Rows.{held_end}
-use Rattle.acl_rows.specs.Places.{owner_place, row_place}
+use Rattle.acl_rows.specs.Places.{owner_class, owner_number, owner_place, side_place, peer_place, place_at, row_place}
 use Rattle.acl_rows.proofs.AtPlaces.{ascend-rows_of}
 use Rattle.acl_patch.specs.Patch.{end_for}
 use Rattle.sorted_rows.specs.Placed.{is_under, RowsAndRoom}
-use Rattle.row_changes.proofs.OwnRows.{kept}
-use Rattle.row_changes.proofs.PolicyRows.{own_row, end_was, owner_is}
+use Rattle.row_shelves.proofs.Beside.{kept}
+use Rattle.row_changes.proofs.PolicyRows.{own_row, end_was}
 use Rattle.row_changes.specs.Policies.{url_policy}
 use Rattle.acl_compile.specs.Compiled.{UrlsApart, compiled_state}
 use Rattle.row_changes.specs.Fresh.{policy_count}
 use Rattle.row_edits.specs.declared.edit.Edit.{Edit}
 use Rattle.row_edits.specs.Edits.{edited, AreFound}
+use Rattle.row_shelves.specs.Shelves.{Shelves, HasRoom}
 use Rattle.acl_model.specs.Places.{binding_place}
 use Rattle.acl_patch.specs.Patch.{IsPatch}
 use Rattle.acl_compile.specs.Plans.{slot_set, holder_policy, holder_owner, policy_held, place_held, held_for, is_other, others_held, rows_of_owner, slots_with, slots_after, bindings_after, policy_steps, IsPlaceFor, IsPolicyPlan}
@@ -364,6 +365,15 @@ none_at_first : {R : Type 0} (xs : List R) → ((x : R) → slice_get xs 0 ≡ S
 none_at_first [] none = refl
 none_at_first (x ∷ xs) none = absurd (none x refl)
 
+url_owner_by : (i : ℕ) (o : Owner) → (nat_eq 1 (owner_class o) && (nat_eq i (owner_number o) && true)) ≡ true → o ≡ Url i
+unfolding owner_class owner_number
+url_owner_by i (Url m) e = ap Url (sym (eqb-true i m (and_parts (nat_eq i m) true (and_parts (nat_eq 1 1) _ e).1).0))
+url_owner_by i Default e = absurd (false≢true e)
+
+owner_is : (i : ℕ) (r : Row) → is_under row_place (owner_place (Url i)) r ≡ true → r.owner ≡ Url i
+unfolding row_place place_at peer_place side_place owner_place owner_class owner_number
+owner_is i r under = url_owner_by i r.owner under
+
 no_end : (slots : Slots) (bindings : List Binding) (i : ℕ) → held_by slots (Url i) ≡ None → (r : Row) → r.owner ≡ Url i → end_for slots bindings r ≡ None
 unfolding end_for end_at
 no_end slots bindings i none r own = ap (option_and_then (held_end bindings r.side r.addr r.entry)) (ap (held_by slots) own ∙ none)
@@ -372,7 +382,7 @@ free_rows : (slots : Slots) (bindings : List Binding) (i : ℕ) → held_by slot
 unfolding owner_rows
 free_rows slots bindings i none =
     none_at_first (filter (is_under row_place (owner_place (Url i))) (rows_of slots bindings))
-    (λ r at. none-some r.until (sym (no_end slots bindings i none r (owner_is i r (kept row_place (owner_place (Url i)) (rows_of slots bindings) 0 r at))) ∙ end_was slots bindings r (own_row row_place (is_under row_place (owner_place (Url i))) (rows_of slots bindings) 0 r (ascend-rows_of slots bindings) at)))
+    (λ r at. none-some r.until (sym (no_end slots bindings i none r (owner_is i r (kept (is_under row_place (owner_place (Url i))) (rows_of slots bindings) 0 r at))) ∙ end_was slots bindings r (own_row row_place (is_under row_place (owner_place (Url i))) (rows_of slots bindings) 0 r (ascend-rows_of slots bindings) at)))
 
 free_here : (url : List ℕ) (slots : Slots) (i : ℕ) → IsPlaceFor url slots i → holder_from url 0 slots ≡ None → (o : Option UrlPolicy) → held_by slots (Url i) ≡ o → o ≡ None
 free_here url slots i place none None is = refl
@@ -419,10 +429,10 @@ touch_count bindings o o' (Some held) =
 
 -- ---- The whole plan
 
-pub policy_plan : (url : List ℕ) (policy : Option Policy) (slots : Slots) (bindings : RowsAndRoom Binding) (rows : RowsAndRoom Row) (room i : ℕ) (held : Option UrlPolicy) (edits : List (Edit Row)) (none : List (Edit Binding))
+pub policy_plan : (url : List ℕ) (policy : Option Policy) (slots : Slots) (bindings : RowsAndRoom Binding) (rows : Shelves) (room i : ℕ) (held : Option UrlPolicy) (edits : List (Edit Row)) (none : List (Edit Binding))
     → IsPlaceFor url slots i → length slots ≤ 128 → UrlsApart slots → others_held url slots < 128 → held ≡ held_for url policy → none ≡ []
     → ((new : Slots) → IsSlotChange slots new i held → IsPatch slots bindings.rows new bindings.rows edits)
-    → length edits ≤ rows.room → i < length slots + room
+    → HasRoom edits rows.room → i < length slots + room
     → IsPolicyPlan url policy (compiled_state slots bindings rows room) (record { rows = edits; bindings = none; slot = Some (i, held) })
 unfolding slots_after slots_with bindings_after edited
 policy_plan url policy slots bindings rows room i held edits none place few apart others held_is none_is patch row_room slot_room =

@@ -9,15 +9,17 @@ use Rattle.acl_model.specs.Defaults.{default_policy}
 use Rattle.acl_model.specs.Policies.{UrlPolicy}
 use Rattle.acl_rows.specs.declared.row.Owner.TheVariants.{Url}
 use Rattle.acl_rows.specs.Rows.{Slots, held_by, rows_of}
+use Rattle.row_shelves.specs.Shelves.{Shelves}
 
--- the policies in their places, the bindings and the rows, and how many more of each there is room for
+-- The policies in their places, the bindings and the rows; and how many more policies and bindings there is room for, and
+-- how many more rows on the shelf of each owner and side.
 pub record CompiledState : Type 0 where
   pub slots : Slots
   pub bindings : List Binding
   pub rows : List Row
   pub slot_room : ℕ
   pub binding_room : ℕ
-  pub row_room : ℕ
+  pub row_room : List ℕ
 
 -- the bindings stand in their order, and the rows are those of the policies and bindings
 pub record HasItsRows (c : CompiledState) : Type 0 where
@@ -35,5 +37,5 @@ pub record IsSound (slots : Slots) (bindings : List Binding) (rows : List Row) (
   pub apart : UrlsApart slots
   pub defaults_are : defaults ≡ default_policy
 
-abbrev pub compiled_state : Slots → RowsAndRoom Binding → RowsAndRoom Row → ℕ → CompiledState
+abbrev pub compiled_state : Slots → RowsAndRoom Binding → Shelves → ℕ → CompiledState
 compiled_state slots bindings rows room = record { slots = slots; bindings = bindings.rows; rows = rows.rows; slot_room = room; binding_room = bindings.room; row_room = rows.room }

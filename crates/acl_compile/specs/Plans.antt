@@ -14,6 +14,7 @@ use Rattle.acl_rows.specs.Rows.{Slots, Holder, held_by}
 use Rattle.acl_rows.specs.View.{holder_from}
 use Rattle.acl_patch.specs.Patch.{IsPatch}
 use Rattle.acl_patch.specs.PolicyTouched.{owner_rows, new_touches}
+use Rattle.row_shelves.specs.Shelves.{HasRoom}
 use Rattle.row_changes.specs.Fresh.{policy_count}
 use Rattle.row_changes.specs.Policies.{HasCounts, url_policy}
 use Rattle.row_changes.specs.Steps.{place_steps}
@@ -58,7 +59,7 @@ pub record Fits (plan : Plan) (c : CompiledState) : Type 0 where
   pub found : AreFound binding_place c.bindings plan.bindings
   pub few : length (slots_after plan c) ≤ 128
   pub apart : UrlsApart (slots_after plan c)
-  pub row_room : length plan.rows ≤ c.row_room
+  pub row_room : HasRoom plan.rows c.row_room
   pub binding_room : length plan.bindings ≤ c.binding_room
   pub slot_room : HasSlot plan.slot (length c.slots) c.slot_room
 

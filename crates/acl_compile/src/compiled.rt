@@ -10,25 +10,27 @@ ghost use Rattle.row_changes.specs.Steps.{HaveKeys, PolicyKeys, place_steps};
 
 use crate::plan::{RowPlan, others_in, plan_change, plan_slot, set_slot};
 use acl_model::{Binding, Policy};
-use acl_rows::{Owner, Row, RuleView};
+use acl_rows::{Owner, RuleView};
 use mud_base::{Direction, Memory};
 use mud_url::MudUrl;
 use row_changes::{Held, HeldDefaults, find_held};
 use row_edits::make_edits;
+use row_shelves::RowShelves;
 use sorted_rows::{SortedRows, Steps};
 use std::alloc::Global;
 use std::marker::Model;
 use std::sync::ledger::Ledger;
 
 /// The approved policies, each in its place of a table of at most 128, the bindings, and the rows
-/// that follow from them. Contracts see these, and how much more there is room for.
+/// that follow from them: the rows of each policy and side by themselves. Contracts see these, and
+/// how much more there is room for.
 #[derive(Drop)]
 pub struct Compiled {
     alloc: Global,
     slots: Vec<Option<Held>>,
     defaults: HeldDefaults,
     bindings: SortedRows<Binding>,
-    rows: SortedRows<Row>,
+    rows: RowShelves,
 }
 
 impl Model for Compiled {
@@ -55,7 +57,7 @@ impl Compiled {
             slots: Vec::new(alloc),
             defaults,
             bindings: SortedRows::new(alloc),
-            rows: SortedRows::new(alloc),
+            rows: RowShelves::new(alloc),
         })
     }
 
@@ -151,7 +153,7 @@ impl Compiled {
             bindings,
             slot,
         } = plan;
-        make_edits(&mut self.rows, rows, steps);
+        self.rows.make_edits(rows, steps);
         make_edits(&mut self.bindings, bindings, steps);
         if let Some((index, held)) = slot {
             set_slot(&mut self.slots, index, held);

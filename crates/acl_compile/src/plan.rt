@@ -17,6 +17,7 @@ use row_changes::{
     Change, CompiledPolicy, Held, HeldDefaults, Holding, edits_of, find_held, slot_rows,
 };
 use row_edits::Edit;
+use row_shelves::RowShelves;
 use sorted_rows::{SortedRows, Steps};
 use std::alloc::Global;
 use std::marker::Model;
@@ -59,7 +60,7 @@ pub(crate) fn plan_change<L: Ledger>(
     slots: &[Option<Held>],
     defaults: &HeldDefaults,
     bindings: &mut SortedRows<Binding>,
-    rows: &mut SortedRows<Row>,
+    rows: &mut RowShelves,
     gone: &[Binding],
     come: &[Binding],
     steps: &mut Steps<L>,
@@ -78,7 +79,7 @@ pub(crate) fn plan_change<L: Ledger>(
     let holding = Holding::of_defaults(defaults);
     let row_edits = change.plan(alloc, &holding, steps)?;
     let binding_edits = edits_of(alloc, bindings, gone, come, steps)?;
-    rows.reserve(row_edits.len())?;
+    rows.make_room(alloc, &row_edits)?;
     bindings.reserve(binding_edits.len())?;
     Ok(RowPlan {
         rows: row_edits,
@@ -160,7 +161,7 @@ pub(crate) fn plan_slot<L: Ledger>(
     alloc: Global,
     slots: &mut Vec<Option<Held>>,
     bindings: &SortedRows<Binding>,
-    rows: &mut SortedRows<Row>,
+    rows: &mut RowShelves,
     url: &MudUrl,
     policy: Option<&Policy>,
     steps: &mut Steps<L>,
@@ -188,7 +189,7 @@ pub(crate) fn plan_slot<L: Ledger>(
         steps,
     )?;
     slots.reserve(1)?;
-    rows.reserve(edits.len())?;
+    rows.make_room(alloc, &edits)?;
     Ok(RowPlan {
         rows: edits,
         bindings: SortedRows::new(alloc),

@@ -4,7 +4,7 @@ use Rattle.std.specs.Prelude.{◌≢◌, unwrap_or, is_some}
 use Rattle.std.specs.List.{list_any, AllByRecursion}
 use Rattle.std.proofs.lemmas.Bool.{false≢true, eqb-true, eq-eqb}
 use Rattle.std.proofs.lemmas.Option.{none-some}
-use Rattle.sorted_rows.specs.Placed.{same_place, row_at, index_in, set_row, PlacesAscend}
+use Rattle.sorted_rows.specs.Placed.{same_place, row_at, set_row, PlacesAscend}
 use Rattle.sorted_rows.proofs.PlacedLaws.{same_place_exact, row_at-set_row, row_at-set_row_same, ascend-set_row}
 use Rattle.sorted_rows.proofs.RowLaws.{all-set_row}
 use Rattle.mud_base.specs.declared.addr.Addr.{Addr}
@@ -13,7 +13,8 @@ use Rattle.acl_model.specs.declared.binding.Binding.{Binding}
 use Rattle.acl_model.specs.Places.{binding_place}
 use Rattle.acl_model.specs.Changes.{replaced}
 use Rattle.row_edits.specs.declared.edit.Edit.{Edit}
-use Rattle.row_edits.specs.Edits.{edit_place, AreFound}
+use Rattle.row_edits.specs.Edits.{edit_place}
+use Rattle.row_shelves.specs.Shelves.{index_beside, AreFoundBeside}
 use Rattle.acl_rows.specs.declared.row.Owner.{Owner}
 use Rattle.acl_rows.specs.declared.row.Row.{Row}
 use Rattle.acl_rows.specs.declared.row.RowKey.{RowKey}
@@ -57,7 +58,7 @@ module _ (slots : Slots) (bindings : List Binding) (slots' : Slots) (bindings' :
     pub ascend : PlacesAscend (edit_place row_place) edits
     pub each : AllByRecursion (λ e. edit_end e ≡ end_for slots' bindings' e.row) edits
     pub change : AllByRecursion (λ e. edit_end e ≢ end_for slots bindings e.row) edits
-    pub found : AreFound row_place (rows_of slots bindings) edits
+    pub found : AreFoundBeside (rows_of slots bindings) edits
 
   abbrev new_end : RowKey → Option ℕ
   new_end t = key_end slots' bindings' t
@@ -66,17 +67,17 @@ module _ (slots : Slots) (bindings : List Binding) (slots' : Slots) (bindings' :
   old_end t = key_end slots bindings t
 
   abbrev the_edit : RowKey → Edit Row
-  the_edit t = edit_of t (index_in row_place (row_key_place t) (rows_of slots bindings)) (old_end t) (new_end t)
+  the_edit t = edit_of t (index_beside t.owner t.side (row_key_place t) (rows_of slots bindings)) (old_end t) (new_end t)
 
   says : (t : RowKey) → edit_end (the_edit t) ≡ end_for slots' bindings' (the_edit t).row
   unfolding end_for edit_of row key_end
-  says t = edit_of-end t (index_in row_place (row_key_place t) (rows_of slots bindings)) (old_end t) (new_end t)
+  says t = edit_of-end t (index_beside t.owner t.side (row_key_place t) (rows_of slots bindings)) (old_end t) (new_end t)
 
   changes : (t : RowKey) → same_end (new_end t) (old_end t) ≡ false → edit_end (the_edit t) ≢ end_for slots bindings (the_edit t).row
   unfolding end_for edit_of row key_end
-  changes t e is = other_end (new_end t) (old_end t) e (sym (edit_of-end t (index_in row_place (row_key_place t) (rows_of slots bindings)) (old_end t) (new_end t)) ∙ is)
+  changes t e is = other_end (new_end t) (old_end t) e (sym (edit_of-end t (index_beside t.owner t.side (row_key_place t) (rows_of slots bindings)) (old_end t) (new_end t)) ∙ is)
 
-  indexed : (t : RowKey) → (the_edit t).found ≡ index_in row_place (row_place (the_edit t).row) (rows_of slots bindings)
+  indexed : (t : RowKey) → (the_edit t).found ≡ index_beside (the_edit t).row.owner (the_edit t).row.side (row_place (the_edit t).row) (rows_of slots bindings)
   unfolding edit_of row row_place row_key_place
   indexed t = refl
 
@@ -86,7 +87,7 @@ module _ (slots : Slots) (bindings : List Binding) (slots' : Slots) (bindings' :
     ascend = ascend-set_row (edit_place row_place) (the_edit t) edits are.ascend;
     each = all-set_row (edit_place row_place) (λ x. edit_end x ≡ end_for slots' bindings' x.row) (the_edit t) edits (says t) are.each;
     change = all-set_row (edit_place row_place) (λ x. edit_end x ≢ end_for slots bindings x.row) (the_edit t) edits (changes t e) are.change;
-    found = all-set_row (edit_place row_place) (λ x. x.found ≡ index_in row_place (row_place x.row) (rows_of slots bindings)) (the_edit t) edits (indexed t) are.found;
+    found = all-set_row (edit_place row_place) (λ x. x.found ≡ index_beside x.row.owner x.row.side (row_place x.row) (rows_of slots bindings)) (the_edit t) edits (indexed t) are.found;
   }
 
   pub one_more : (t : RowKey) (edits : List (Edit Row)) → AreEdits edits → AreEdits (with_edit slots bindings slots' bindings' t edits)

@@ -6,7 +6,8 @@ use Rattle.mud_base.specs.declared.addr.Addr.{Addr}
 use Rattle.mud_base.specs.declared.packet.Direction.{Direction}
 use Rattle.acl_model.specs.declared.binding.Binding.{Binding}
 use Rattle.row_edits.specs.declared.edit.Edit.{Edit}
-use Rattle.row_edits.specs.Edits.{edit_place, AreFound}
+use Rattle.row_edits.specs.Edits.{edit_place}
+use Rattle.row_shelves.specs.Shelves.{AreFoundBeside}
 use Rattle.acl_rows.specs.declared.row.Owner.{Owner}
 use Rattle.acl_rows.specs.declared.row.Row.{Row}
 use Rattle.acl_rows.specs.Places.{row_place, place_at}
@@ -23,13 +24,13 @@ unfoldable pub end_for : Slots → List Binding → Row → Option ℕ
 end_for slots bindings r = end_at slots bindings r.owner r.side r.addr r.entry
 
 -- The edits say of each place at which the ends before and after a change differ what is asked there afterwards, and of no
--- other place; and each has the index that its place has in the rows before.
+-- other place; and each has the index that its place has among the rows of its owner and side before.
 pub record IsPatch (slots : Slots) (bindings : List Binding) (slots' : Slots) (bindings' : List Binding) (edits : List (Edit Row)) : Type 0 where
   pub ascend : PlacesAscend (edit_place row_place) edits
   pub each : AllByRecursion (λ e. edit_end e ≡ end_for slots' bindings' e.row) edits
   pub change : AllByRecursion (λ e. edit_end e ≢ end_for slots bindings e.row) edits
   pub rest : (owner : Owner) (side : Direction) (a : Addr) (n : ℕ) → row_at (edit_place row_place) (place_at owner side a n) edits ≡ None → end_at slots' bindings' owner side a n ≡ end_at slots bindings owner side a n
-  pub found : AreFound row_place (rows_of slots bindings) edits
+  pub found : AreFoundBeside (rows_of slots bindings) edits
 
 -- ---- How many rows differ
 

@@ -1,7 +1,7 @@
 -- Which places a change of bindings touches, and the edits that follow.
 use Rattle.std.specs.Prelude.{ℕ, ◌==◌, Bool, true, false, List, [], ◌∷◌, ◌++◌, flat_map, Option, Some, None, Result, unwrap_or, is_some, if◌then◌else◌}
 use Rattle.std.specs.List.{list_any}
-use Rattle.sorted_rows.specs.Placed.{index_in, set_row}
+use Rattle.sorted_rows.specs.Placed.{set_row}
 use Rattle.mud_base.specs.declared.addr.Addr.{Addr}
 use Rattle.mud_base.specs.declared.packet.Direction.{Direction}
 use Rattle.mud_base.specs.declared.packet.Direction.TheVariants.{From, To}
@@ -12,6 +12,7 @@ use Rattle.acl_model.specs.Keys.{has_key}
 use Rattle.acl_model.specs.FirstMatch.{entries_of}
 use Rattle.row_edits.specs.declared.edit.Edit.{Edit}
 use Rattle.row_edits.specs.Edits.{edit_place}
+use Rattle.row_shelves.specs.Shelves.{index_beside}
 use Rattle.acl_rows.specs.declared.row.Owner.{Owner}
 use Rattle.acl_rows.specs.declared.row.Row.{Row}
 use Rattle.acl_rows.specs.declared.row.RowKey.{RowKey}
@@ -63,7 +64,7 @@ unfoldable pub row_key_place : RowKey → List ℕ
 row_key_place key = place_at key.owner key.side key.addr key.entry
 
 unfoldable pub with_edit : Slots → List Binding → Slots → List Binding → RowKey → List (Edit Row) → List (Edit Row)
-with_edit slots bindings slots' bindings' key edits = changed_edits key (index_in row_place (row_key_place key) (rows_of slots bindings)) (key_end slots bindings key) (key_end slots' bindings' key) edits
+with_edit slots bindings slots' bindings' key edits = changed_edits key (index_beside key.owner key.side (row_key_place key) (rows_of slots bindings)) (key_end slots bindings key) (key_end slots' bindings' key) edits
 
 -- the edits of these places, one after the other
 unfoldable pub with_edits : Slots → List Binding → Slots → List Binding → List RowKey → List (Edit Row) → List (Edit Row)

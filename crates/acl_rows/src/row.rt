@@ -57,16 +57,16 @@ pub struct Peer {
     pub addr: Addr,
 }
 
-/// URLs by their places in the table, and the defaults behind them.
+/// The defaults, and behind them the URLs by their places in the table.
 #[tactic(auto, unfolding(crate::specs::Places::owner_class, crate::specs::Places::owner_number, crate::specs::Places::owner_place), using(crate::proofs::PlaceOrder::then_rules))]
 fn owner_order(own: Owner, other: Owner) -> Ordering
     ensures { result ≡ place_cmp (owner_place own) (owner_place other) }
 {
     match (own, other) {
-        (Owner::Url(own), Owner::Url(other)) => own.cmp(&other),
-        (Owner::Url(_), Owner::Default) => Ordering::Less,
-        (Owner::Default, Owner::Url(_)) => Ordering::Greater,
         (Owner::Default, Owner::Default) => Ordering::Equal,
+        (Owner::Default, Owner::Url(_)) => Ordering::Less,
+        (Owner::Url(_), Owner::Default) => Ordering::Greater,
+        (Owner::Url(own), Owner::Url(other)) => own.cmp(&other),
     }
 }
 

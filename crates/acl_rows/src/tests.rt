@@ -47,12 +47,12 @@ fn kept_rows(alloc: Global) -> Result<SortedRows<Row>, Fail> {
 fn rows_stand_in_their_order(rt: HostRuntime) -> Result<(), Fail> {
     let rows = kept_rows(rt.alloc())?;
     let wanted = [
+        row(Owner::Default, Direction::From, DNS, 1, End::NEVER),
+        row(Owner::Default, Direction::To, DNS, 1, End::NEVER),
         row(Owner::Url(1), Direction::From, BULB, 2, 87400),
         row(Owner::Url(1), Direction::From, SERVER, 1, 1060),
         row(Owner::Url(1), Direction::To, SERVER, 1, 1060),
         row(Owner::Url(2), Direction::From, BULB, 1, 87400),
-        row(Owner::Default, Direction::From, DNS, 1, End::NEVER),
-        row(Owner::Default, Direction::To, DNS, 1, End::NEVER),
     ];
     assert_eq!(rt; rows.rows(), wanted.as_slice());
     let key = wanted[4].key();

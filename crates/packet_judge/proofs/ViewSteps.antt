@@ -1,13 +1,17 @@
 -- The steps of a ruling on the view of a URL are those that all rows tell.
-use Rattle.std.proofs.Common.{◌≡◌, ℕ, ◌+◌, ◌^◌, ◌<◌, List, length, filter, Option, Some, None, refl, arith}
+use Rattle.std.proofs.Common.{◌≡◌, ℕ, suc, ◌+◌, ◌^◌, ◌<◌, ◌≤◌, Bool, true, false, cond, List, [], ◌∷◌, length, filter, Option, Some, None, refl, ap, arith}
 use Rattle.std.specs.Option.{option_map_or}
 use Rattle.mud_base.specs.declared.packet.Direction.{Direction}
 use Rattle.acl_model.specs.Match.{peer_of}
 use Rattle.acl_model.specs.Defaults.{default_policy}
+use Rattle.acl_model.specs.declared.entry.Policy.{Policy}
+use Rattle.sorted_rows.specs.Placed.{is_under}
+use Rattle.acl_rows.specs.Places.{side_place, row_place}
+use Rattle.acl_rows.specs.declared.row.Owner.{Owner}
 use Rattle.acl_rows.specs.declared.row.Owner.TheVariants.{Default}
 use Rattle.acl_rows.specs.declared.row.Row.{Row}
 use Rattle.acl_rows.specs.Rows.{Slots, Holder, default_held}
-use Rattle.acl_rows.specs.View.{Part, View, is_at, rows_at, holder_from, IsPartOf, IsFilePart, IsViewOf}
+use Rattle.acl_rows.specs.View.{Part, View, rows_of_side, is_at, rows_at, holder_from, IsPartOf, IsFilePart, IsViewOf}
 use Rattle.packet_judge.specs.ByRows.{Asked, peer_rows}
 use Rattle.packet_judge.specs.RuleSteps.{file_rows, least_steps, part_steps, file_steps, most_steps, IsFoundWithin, FitsRows, rows_of_peer, holder_rows_read, url_rows_read, holder_steps, url_steps}
 
@@ -25,13 +29,29 @@ default_steps : (rows : List Row) (side : Direction) (asked : Asked) (b : ℕ) (
 unfolding default_held
 default_steps rows side asked b part is = part_steps_taken rows side asked b (Default, default_held) part is
 
+-- the rows of a part are no more than all rows
+kept_few : (x : Row) (n : ℕ) (ys : List Row) (b : Bool) → length ys ≤ n → length (cond b (x ∷ ys) ys) ≤ suc n
+kept_few x n ys true few = omega arith
+kept_few x n ys false few = omega arith
+
+filter_few : (t : Row → Bool) (rows : List Row) → length (filter t rows) ≤ length rows
+filter_few t [] = omega arith
+filter_few t (x ∷ xs) = kept_few x (length xs) (filter t xs) (t x) (filter_few t xs)
+
+side_few : (owner : Owner) (side : Direction) (rows : List Row) → length (rows_of_side owner side rows) ≤ length rows
+unfolding rows_of_side
+side_few owner side rows = filter_few (is_under row_place (side_place owner side)) rows
+
+part_within : (rows : List Row) (side : Direction) (owner : Owner) (policy : Policy) (b : ℕ) (part : Part) → IsPartOf rows side owner policy part → length rows < 2 ^ b → part.among < 2 ^ b
+part_within rows side owner policy b part is few = omega (arith, is.among, ap length is.rows_are, side_few owner side rows)
+
 -- ---- The file's part, where there is one
 
 file_within : (rows : List Row) (side : Direction) (b : ℕ) (o : Option Holder) (file : Option Part) → IsFilePart rows side o file → length rows < 2 ^ b → IsFoundWithin b file
 file_within rows side b None None is few = tt
 file_within rows side b None (Some part) is few = absurd is
 file_within rows side b (Some h) None is few = absurd is
-file_within rows side b (Some h) (Some part) is few = omega (arith, is.among)
+file_within rows side b (Some h) (Some part) is few = part_within rows side h.0 h.1.policy b part is few
 
 file_rows_read : (rows : List Row) (side : Direction) (asked : Asked) (o : Option Holder) (file : Option Part) → IsFilePart rows side o file → file_rows asked file ≡ option_map_or (holder_rows_read rows side (peer_of side asked.fields)) o 0
 unfolding file_rows
@@ -53,7 +73,7 @@ module _ (slots : Slots) (rows : List Row) (url : List ℕ) (side : Direction) (
   pub fits : (b : ℕ) → IsViewOf slots rows url side view → length rows < 2 ^ b → FitsRows b view
   fits b is few = record {
     file = file_within rows side b (holder_from url 0 slots) view.file is.file few;
-    defaults = omega (arith, is.defaults.among);
+    defaults = part_within rows side Default default_policy b view.defaults is.defaults few;
   }
 
   pub least : (asked : Asked) → IsViewOf slots rows url side view → least_steps asked view ≡ url_rows_read slots rows url side (peer_of side asked.fields)

@@ -7,7 +7,7 @@ use Rattle.std.proofs.Math.Seq.{drop-cons}
 use Rattle.std.specs.Option.{is_some}
 use Rattle.std.proofs.Math.Nat.{mul-le-mul_right}
 use Rattle.std.proofs.lemmas.Option.{none-some, same_Some}
-use Rattle.sorted_rows.specs.Placed.{row_at, index_in, set_row, rows_under}
+use Rattle.sorted_rows.specs.Placed.{row_at, set_row, rows_under}
 use Rattle.mud_base.specs.declared.addr.Addr.{Addr}
 use Rattle.mud_base.specs.declared.packet.Direction.{Direction}
 use Rattle.acl_model.specs.declared.entry.Entry.{Entry}
@@ -29,6 +29,7 @@ use Rattle.acl_rows.specs.Places.{row_place}
 use Rattle.acl_rows.specs.Rows.{Slots, row, rows_of, member_keys, held_by, entry_at, entry_end, numbered}
 use Rattle.acl_rows.proofs.Lists.{any_first, any_second}
 use Rattle.acl_rows.proofs.Sound.{end_at-entry}
+use Rattle.row_shelves.specs.Shelves.{index_beside}
 use Rattle.acl_patch.specs.Touched.{row_key, row_key_place, key_end, changed_edits}
 use Rattle.acl_patch.specs.PolicyTouched.{bound_under, bound_key, first_key_touches}
 use Rattle.key_index.specs.Keys.{key_parts}
@@ -70,12 +71,12 @@ unfolding key_end
 entry_asked new bindings owner side a n held entry holds stands = sym (end_at-entry new bindings owner side a n held entry holds stands)
 
 module _ (slots : Slots) (bindings : List Binding) (new : Slots) (rows : List Row) (kept : rows ≡ rows_of slots bindings) (key : RowKey) where
-  pub fresh_some : (u : ℕ) (until : Option ℕ) (edits : List (Edit Row)) (s : Fresh) → until ≡ Some u → until ≡ key_end new bindings key → edits ≡ changed_edits key (index_in row_place (row_key_place key) rows) (end_of_row (row_at row_place (row_key_place key) rows)) (Some u) s.edits
+  pub fresh_some : (u : ℕ) (until : Option ℕ) (edits : List (Edit Row)) (s : Fresh) → until ≡ Some u → until ≡ key_end new bindings key → edits ≡ changed_edits key (index_beside key.owner key.side (row_key_place key) rows) (end_of_row (row_at row_place (row_key_place key) rows)) (Some u) s.edits
       → fresh_of edits (set_row row_place (row key.owner key.side key.addr key.entry u) s.rows) ≡ one_fresh slots bindings new key s
   unfolding one_fresh row_with
   fresh_some u until edits s some is made = (λ i. fresh_of ((made ∙ asked_edit slots bindings new rows kept key (Some u) s.edits (sym some ∙ is)) i) (row_with key ((sym some ∙ is) i) s.rows))
 
-  pub fresh_none : (until : Option ℕ) (edits : List (Edit Row)) (s : Fresh) → until ≡ None → until ≡ key_end new bindings key → edits ≡ changed_edits key (index_in row_place (row_key_place key) rows) (end_of_row (row_at row_place (row_key_place key) rows)) None s.edits
+  pub fresh_none : (until : Option ℕ) (edits : List (Edit Row)) (s : Fresh) → until ≡ None → until ≡ key_end new bindings key → edits ≡ changed_edits key (index_beside key.owner key.side (row_key_place key) rows) (end_of_row (row_at row_place (row_key_place key) rows)) None s.edits
       → fresh_of edits s.rows ≡ one_fresh slots bindings new key s
   unfolding one_fresh row_with
   fresh_none until edits s none is made = (λ i. fresh_of ((made ∙ asked_edit slots bindings new rows kept key None s.edits (sym none ∙ is)) i) (row_with key ((sym none ∙ is) i) s.rows))

@@ -6,6 +6,5 @@ pub mod Loops
 pub mod Planned
 pub mod BindingEdits
 pub mod FreshLaws
-pub mod OwnRows
 pub mod PolicyRows
 pub mod SpotTouches

@@ -1,15 +1,17 @@
 -- The edits for a policy that comes, goes or is replaced are a patch.
-use Rattle.std.proofs.Common.{◌≡◌, ℕ, zero, suc, ◌+◌, ◌-◌, ◌*◌, ◌<◌, ◌≤◌, Bool, true, false, cond, ◌&&◌, ◌||◌, List, [], ◌∷◌, ◌++◌, map, length, Option, Some, None, Ok, Err, refl, sym, ap, subst, ◌∙◌, arith}
-use Rattle.std.specs.Prelude.{filter, nat_eq}
+use Rattle.std.proofs.Common.{◌≡◌, ℕ, zero, suc, ◌+◌, ◌-◌, ◌*◌, ◌<◌, ◌≤◌, Bool, true, false, cond, ◌&&◌, ◌||◌, List, [], ◌∷◌, ◌++◌, map, length, Option, Some, None, Ok, Err, refl, sym, ap, subst, ◌∙◌, arith, length-append}
+use Rattle.std.specs.Prelude.{filter}
 use Rattle.std.specs.Option.{option_map, is_some, is_none}
 use Rattle.std.specs.List.{slice_get, list_any, AllByRecursion}
-use Rattle.std.proofs.lemmas.Bool.{false≢true, eqb-true}
-use Rattle.std.proofs.lemmas.Option.{same_Some, none-some, slice_get_within}
+use Rattle.std.proofs.lemmas.Bool.{false≢true}
+use Rattle.std.proofs.lemmas.List.{map-append}
+use Rattle.std.proofs.lemmas.List.Elements.{filter-append}
+use Rattle.std.proofs.lemmas.Option.{same_Some, none-some}
 use Rattle.std.proofs.Math.Nat.{mul-le-mul_left, mul-le-mul_right}
-use Rattle.sorted_rows.specs.Placed.{same_place, row_at, index_in, set_row, is_under, PlacesAbove, PlacesAscend}
+use Rattle.sorted_rows.specs.Placed.{place_cmp, same_place, row_at, index_in, set_row, is_under, PlacesAbove, PlacesAscend}
 use Rattle.std.specs.declared.cmp.Ordering.TheVariants.{Less}
-use Rattle.sorted_rows.proofs.PlacedLaws.{same_place_itself, same_place_exact, same_place-cmp, row_at-set_row, found_within, row_at_missed}
-use Rattle.sorted_rows.proofs.RowLaws.{all-set_row, place_row_at, above-filter}
+use Rattle.sorted_rows.proofs.PlacedLaws.{same_place_itself, same_place_exact, same_place-cmp, row_at-set_row, index_in_row}
+use Rattle.sorted_rows.proofs.RowLaws.{all-set_row, place_row_at, above-filter, ascend-filter}
 use Rattle.mud_base.specs.declared.addr.Addr.{Addr}
 use Rattle.mud_base.specs.declared.packet.Direction.{Direction}
 use Rattle.acl_model.specs.declared.binding.Binding.{Binding}
@@ -18,14 +20,18 @@ use Rattle.acl_model.specs.Keys.{key_of}
 use Rattle.acl_model.specs.FirstMatch.{entries_of}
 use Rattle.acl_model.specs.Defaults.{default_entry}
 use Rattle.acl_model.specs.declared.ruling.DefaultRule.TheVariants.{Dns}
-use Rattle.mud_base.specs.declared.packet.Direction.TheVariants.{From}
+use Rattle.mud_base.specs.declared.packet.Direction.TheVariants.{From, To}
 use Rattle.row_edits.specs.declared.edit.Edit.{Edit}
 use Rattle.row_edits.specs.Edits.{edit, edit_place}
 use Rattle.acl_rows.specs.declared.row.Owner.{Owner}
 use Rattle.acl_rows.specs.declared.row.Owner.TheVariants.{Url, Default}
 use Rattle.acl_rows.specs.declared.row.Row.{Row}
 use Rattle.acl_rows.specs.declared.row.RowKey.{RowKey}
-use Rattle.acl_rows.specs.Places.{owner_class, owner_number, owner_place, side_place, peer_place, place_at, row_place}
+use Rattle.acl_rows.specs.Places.{side_place, place_at, row_place}
+use Rattle.acl_rows.specs.View.{rows_of_side}
+use Rattle.row_shelves.specs.Shelves.{index_beside}
+use Rattle.row_shelves.proofs.Numbers.{AreOne}
+use Rattle.row_shelves.proofs.Beside.{kept, side_is, owner_split}
 use Rattle.acl_rows.specs.Rows.{Slots, Holder, row, rows_of, member_keys, default_held, held_by, entry_at, end_at}
 use Rattle.acl_rows.proofs.Coordinates.{AreSame, same_coordinates}
 use Rattle.acl_rows.proofs.AtPlaces.{row_at-rows_of, ascend-rows_of}
@@ -37,7 +43,6 @@ use Rattle.acl_patch.proofs.Patches.{all-row_at}
 use Rattle.acl_patch.proofs.PolicyPatch.{new_by, policy_patch}
 use Rattle.row_changes.specs.Steps.{HolderFits, HolderKeys, HaveKeys, place_steps}
 use Rattle.row_changes.specs.Fresh.{Fresh, fresh_of, row_with, one_fresh, more_fresh, left_edits}
-use Rattle.row_changes.proofs.OwnRows.{above_at, kept, own_at}
 
 module _ (slots : Slots) (bindings : List Binding) (new : Slots) where
   -- ---- Edits
@@ -150,7 +155,7 @@ module _ (slots : Slots) (bindings : List Binding) (new : Slots) where
 
   -- what is known of an old row, and of its index
   pub record IsOwn (fresh : List Row) (r : Row) (i : ℕ) : Type 0 where
-    pub found : index_in row_place (row_place r) (rows_of slots bindings) ≡ Ok i
+    pub found : index_beside r.owner r.side (row_place r) (rows_of slots bindings) ≡ Ok i
     pub was : end_for slots bindings r ≡ Some r.until
     pub told : is_some (row_at row_place (row_place r) fresh) ≡ is_some (end_for new bindings r)
 
@@ -186,7 +191,13 @@ module _ (slots : Slots) (bindings : List Binding) (new : Slots) where
       shift : (n j : ℕ) → n + suc j ≡ n + 1 + j
       shift n j = omega arith
 
--- ---- The rows of an owner
+-- ---- The rows of an owner and side
+
+module _ {R : Type 0} (place : R → List ℕ) where
+  above_at : (p : List ℕ) (xs : List R) (i : ℕ) (x : R) → PlacesAbove place p xs → slice_get xs i ≡ Some x → place_cmp p (place x) ≡ Less
+  above_at p [] i x above is = absurd (none-some x is)
+  above_at p (y ∷ ys) zero x above is = ap (λ (z : R). place_cmp p (place z)) (sym (same_Some y x is)) ∙ above.0
+  above_at p (y ∷ ys) (suc i) x above is = above_at p ys i x above.1 is
 
 module _ {R : Type 0} (place : R → List ℕ) (t : R → Bool) where
   row_by : (y : R) (ys : List R) (i : ℕ) (x : R) → PlacesAbove place (place y) ys → ((j : ℕ) → slice_get (filter t ys) j ≡ Some x → row_at place (place x) ys ≡ Some x) → (b : Bool) → slice_get (cond b (y ∷ filter t ys) (filter t ys)) i ≡ Some x → row_at place (place x) (y ∷ ys) ≡ Some x
@@ -208,92 +219,60 @@ pub end_was : (slots : Slots) (bindings : List Binding) (r : Row) → row_at row
 unfolding row_place end_for
 end_was slots bindings r at = was_by r (end_at slots bindings r.owner r.side r.addr r.entry) (sym (row_at-rows_of slots bindings r.owner r.side r.addr r.entry) ∙ at)
 
-first_true : (b c : Bool) → (b && c) ≡ true → b ≡ true
-first_true true c e = refl
-first_true false c e = absurd (false≢true e)
-
-second_true : (b c : Bool) → (b && c) ≡ true → c ≡ true
-second_true true c e = e
-second_true false c e = absurd (false≢true e)
-
-url_owner_by : (i : ℕ) (o : Owner) → (nat_eq 0 (owner_class o) && (nat_eq i (owner_number o) && true)) ≡ true → o ≡ Url i
-unfolding owner_class owner_number
-url_owner_by i (Url m) e = ap Url (sym (eqb-true i m (first_true (nat_eq i m) true (second_true (nat_eq 0 0) _ e))))
-url_owner_by i Default e = absurd (false≢true e)
-
-pub owner_is : (i : ℕ) (r : Row) → is_under row_place (owner_place (Url i)) r ≡ true → r.owner ≡ Url i
-unfolding row_place place_at peer_place side_place owner_place owner_class owner_number
-owner_is i r under = url_owner_by i r.owner under
-
 -- ---- All edits
 
-record FirstOf {R : Type 0} (xs : List R) : Type 0 where
-  row : R
-  at : slice_get xs 0 ≡ Some row
-
-first_of_list : {R : Type 0} (xs : List R) (j : ℕ) (x : R) → slice_get xs j ≡ Some x → FirstOf xs
-first_of_list [] j x at = absurd (none-some x at)
-first_of_list (y ∷ ys) j x at = record { row = y; at = refl }
-
 module _ (slots : Slots) (bindings : List Binding) (new : Slots) (i : ℕ) (held : Option UrlPolicy) (change : IsSlotChange slots new i held) where
-  known_of : (own : List Row) (first : ℕ) (s : Fresh) → own ≡ owner_rows (Url i) (rows_of slots bindings)
-      → ((f : Row) → slice_get own 0 ≡ Some f → index_in row_place (row_place f) (rows_of slots bindings) ≡ Ok first)
-      → s ≡ more_fresh slots bindings new (new_touches bindings (Url i) held) (fresh_of [] []) → (j : ℕ) (r : Row) → slice_get own j ≡ Some r → IsOwn slots bindings new s.rows r (first + j)
-  unfolding owner_rows
-  known_of own first s own_is found s_is j r at =
-      let rows : List Row = rows_of slots bindings in
-      let up : PlacesAscend row_place rows = ascend-rows_of slots bindings in
-      let at' : slice_get (filter (is_under row_place (owner_place (Url i))) rows) j ≡ Some r = ap (λ (rs : List Row). slice_get rs j) (sym own_is) ∙ at in
-      let head : FirstOf own = first_of_list own j r at in
-      let head_at : slice_get (filter (is_under row_place (owner_place (Url i))) rows) 0 ≡ Some head.row = ap (λ (rs : List Row). slice_get rs 0) (sym own_is) ∙ head.at in
-      record {
-        found = own_at row_place (owner_place (Url i)) rows head.row r first j up head_at (found head.row head.at) at';
-        was = end_was slots bindings r (own_row row_place (is_under row_place (owner_place (Url i))) rows j r up at');
-        told = ap (λ (x : Fresh). is_some (row_at row_place (row_place r) x.rows)) s_is ∙ tells slots bindings new (Url i) held change.here r (owner_is i r (kept row_place (owner_place (Url i)) rows j r at'));
-      }
+  abbrev old_rows : Direction → List Row
+  old_rows side = rows_of_side (Url i) side (rows_of slots bindings)
 
-  pub slot_patch : (own : List Row) (first : ℕ) (s : Fresh) (edits : List (Edit Row)) → own ≡ owner_rows (Url i) (rows_of slots bindings)
-      → ((f : Row) → slice_get own 0 ≡ Some f → index_in row_place (row_place f) (rows_of slots bindings) ≡ Ok first)
-      → s ≡ more_fresh slots bindings new (new_touches bindings (Url i) held) (fresh_of [] []) → edits ≡ left_edits s.rows first own s.edits
-      → IsPatch slots bindings new bindings edits
-  unfolding owner_rows policy_touches left_touches
-  slot_patch own first s edits own_is found s_is made =
+  -- what is known of a row of the owner and a side, and of its index there
+  known_of : (s : Fresh) → s ≡ more_fresh slots bindings new (new_touches bindings (Url i) held) (fresh_of [] []) → (side : Direction) (j : ℕ) (r : Row) → slice_get (old_rows side) j ≡ Some r → IsOwn slots bindings new s.rows r (0 + j)
+  unfolding rows_of_side index_beside
+  known_of s s_is side j r at =
       let rows : List Row = rows_of slots bindings in
+      let test = is_under row_place (side_place (Url i) side) in
       let up : PlacesAscend row_place rows = ascend-rows_of slots bindings in
-      let known : (j : ℕ) (r : Row) → slice_get own j ≡ Some r → IsOwn slots bindings new s.rows r (first + j) = λ j r at. known_of own first s own_is found s_is j r at in
-      let same : edits ≡ with_edits slots bindings new bindings (map key_of_row (filter (is_left new bindings) own)) s.edits = made ∙ left_same slots bindings new s.rows own first s.edits known in
+      let own : AreOne r.owner (Url i) r.side side = side_is (Url i) side r (kept test rows j r at) in
+      let index : index_in row_place (row_place r) (old_rows side) ≡ Ok j = index_in_row row_place (old_rows side) j r (ascend-filter row_place test rows up) at in
+      record {
+        found = (λ k. index_in row_place (row_place r) (rows_of_side (own.owner k) (own.side k) rows)) ∙ index ∙ ap Ok (zero_more j);
+        was = end_was slots bindings r (own_row row_place test rows j r up at);
+        told = ap (λ (x : Fresh). is_some (row_at row_place (row_place r) x.rows)) s_is ∙ tells slots bindings new (Url i) held change.here r own.owner;
+      }
+    where
+      zero_more : (j : ℕ) → j ≡ 0 + j
+      zero_more j = omega arith
+
+  abbrev left_of : List Row → List RowKey
+  left_of rows = map key_of_row (filter (is_left new bindings) rows)
+
+  left_both : left_touches new bindings (rows_of slots bindings) (Url i) ≡ left_of (old_rows From) ++ left_of (old_rows To)
+  unfolding left_touches owner_rows
+  left_both =
+      ap left_of (owner_split (Url i) (rows_of slots bindings) (ascend-rows_of slots bindings))
+      ∙ ap (map key_of_row) (filter-append (is_left new bindings) (old_rows From) (old_rows To))
+      ∙ map-append key_of_row (filter (is_left new bindings) (old_rows From)) (filter (is_left new bindings) (old_rows To))
+
+  pub slot_patch : (s : Fresh) (edits : List (Edit Row)) → s ≡ more_fresh slots bindings new (new_touches bindings (Url i) held) (fresh_of [] [])
+      → edits ≡ left_edits s.rows 0 (old_rows To) (left_edits s.rows 0 (old_rows From) s.edits) → IsPatch slots bindings new bindings edits
+  unfolding policy_touches
+  slot_patch s edits s_is made =
+      let sent : left_edits s.rows 0 (old_rows From) s.edits ≡ with_edits slots bindings new bindings (left_of (old_rows From)) s.edits = left_same slots bindings new s.rows (old_rows From) 0 s.edits (known_of s s_is From) in
+      let received : (es : List (Edit Row)) → left_edits s.rows 0 (old_rows To) es ≡ with_edits slots bindings new bindings (left_of (old_rows To)) es = λ es. left_same slots bindings new s.rows (old_rows To) 0 es (known_of s s_is To) in
       let fresh : s.edits ≡ with_edits slots bindings new bindings (new_touches bindings (Url i) held) [] = ap (λ (x : Fresh). x.edits) s_is ∙ fresh_edits slots bindings new (new_touches bindings (Url i) held) (fresh_of [] []) in
       subst (IsPatch slots bindings new bindings)
-      (sym (same
-      ∙ (λ j. with_edits slots bindings new bindings (map key_of_row (filter (is_left new bindings) (own_is j))) (fresh j))
-      ∙ sym (with_edits-append slots bindings new (new_touches bindings (Url i) held) (left_touches new bindings rows (Url i)) [])))
+      (sym (made
+      ∙ received (left_edits s.rows 0 (old_rows From) s.edits)
+      ∙ ap (with_edits slots bindings new bindings (left_of (old_rows To))) sent
+      ∙ sym (with_edits-append slots bindings new (left_of (old_rows From)) (left_of (old_rows To)) s.edits)
+      ∙ (λ j. with_edits slots bindings new bindings (sym left_both j) (fresh j))
+      ∙ sym (with_edits-append slots bindings new (new_touches bindings (Url i) held) (left_touches new bindings (rows_of slots bindings) (Url i)) [])))
       (policy_patch slots new bindings i held change)
 
--- ---- The end of the own rows
-
-record Nth {R : Type 0} (xs : List R) (i : ℕ) : Type 0 where
-  row : R
-  at : slice_get xs i ≡ Some row
-
-nth : {R : Type 0} (xs : List R) (i : ℕ) → i < length xs → Nth xs i
-nth [] i lt = absurd (omega arith)
-nth (x ∷ xs) zero lt = record { row = x; at = refl }
-nth (x ∷ xs) (suc i) lt = let rest : Nth xs i = nth xs i (omega arith) in record { row = rest.row; at = rest.at }
-
-pub own_within : (rows own : List Row) (owner : Owner) (f : Row) (k : ℕ) → PlacesAscend row_place rows → own ≡ owner_rows owner rows → slice_get own 0 ≡ Some f → index_in row_place (row_place f) rows ≡ Ok k → k + length own ≤ length rows
+-- the rows of an owner are as many as those of its two sides
+pub own_length : (o : Owner) (rows : List Row) → PlacesAscend row_place rows → length (owner_rows o rows) ≡ length (rows_of_side o From rows) + length (rows_of_side o To rows)
 unfolding owner_rows
-own_within rows own owner f k up own_is first found =
-    let some : 0 < length own = slice_get_within own 0 f first in
-    let last : Nth own (length own - 1) = nth own (length own - 1) (omega arith) in
-    let at : index_in row_place (row_place last.row) rows ≡ Ok (k + (length own - 1)) =
-    own_at row_place (owner_place owner) rows f last.row k (length own - 1) up (ap (λ (rs : List Row). slice_get rs 0) (sym own_is) ∙ first) found (ap (λ (rs : List Row). slice_get rs (length own - 1)) (sym own_is) ∙ last.at) in
-    let within : k + (length own - 1) < length rows = found_within row_place (row_place last.row) rows (k + (length own - 1)) at in
-    omega arith
-
-pub own_there : (rows own : List Row) (owner : Owner) (f : Row) (k : ℕ) → PlacesAscend row_place rows → own ≡ owner_rows owner rows → slice_get own 0 ≡ Some f → index_in row_place (row_place f) rows ≡ Err k → ⊥
-unfolding owner_rows
-own_there rows own owner f k up own_is first missed =
-    none-some f (sym (row_at_missed row_place (row_place f) rows k up missed) ∙ own_row row_place (is_under row_place (owner_place owner)) rows 0 f up (ap (λ (rs : List Row). slice_get rs 0) (sym own_is) ∙ first))
+own_length o rows up = ap length (owner_split o rows up) ∙ length-append (rows_of_side o From rows) (rows_of_side o To rows)
 
 -- ---- Steps of a policy
 

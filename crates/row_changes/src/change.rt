@@ -2,7 +2,7 @@
 ghost use Rattle.std.specs.Prelude.{◌≡◌, ℕ, ◌+◌, ◌*◌, ◌^◌, ◌<◌, ◌≤◌, length, min, List, OnOk, Some, slice_get, IfOk, ◌++◌, ◌∷◌, [], is_some, unwrap_or, true};
 ghost use Rattle.std.specs.Option.{option_map};
 ghost use Rattle.std.specs.List.{list_any, filter_map};
-ghost use Rattle.sorted_rows.specs.Placed.{same_place, row_at, set_rows, index_in};
+ghost use Rattle.sorted_rows.specs.Placed.{same_place, row_at, set_rows};
 ghost use Rattle.mud_url.specs.Url.{host_of};
 ghost use Rattle.acl_model.specs.declared.binding.Binding.{Binding as BindingValue};
 ghost use Rattle.acl_model.specs.Keys.{key_of};
@@ -11,6 +11,7 @@ ghost use Rattle.acl_model.specs.Changes.{until_of};
 ghost use Rattle.acl_model.specs.FirstMatch.{entries_of};
 ghost use Rattle.acl_rows.specs.Places.{row_place};
 ghost use Rattle.acl_rows.specs.Rows as spec;
+ghost use Rattle.row_shelves.specs.Shelves.{index_beside};
 ghost use Rattle.acl_patch.specs.Patch.{IsPatch};
 ghost use Rattle.acl_patch.specs.Touched.{changed_edits, row_key, row_key_place};
 ghost use Rattle.key_index.specs.Spots.{policy_spots};
@@ -28,6 +29,7 @@ use key_index::{EntrySpot, KeyIndex, selector_key};
 use mud_base::{Addr, Direction, End, Memory};
 use mud_url::MudUrl;
 use row_edits::{Edit, plan_edit};
+use row_shelves::RowShelves;
 use sorted_rows::{SortedRows, Steps};
 use std::alloc::Global;
 use std::marker::Model;
@@ -77,7 +79,7 @@ impl<'a> Model for Holding<'a> {
 pub struct Change<'a> {
     pub(crate) slots: &'a [Option<Held>],
     pub(crate) bindings: &'a SortedRows<Binding>,
-    pub(crate) rows: &'a SortedRows<Row>,
+    pub(crate) rows: &'a RowShelves,
     gone: &'a [Binding],
     come: &'a [Binding],
 }
@@ -211,12 +213,13 @@ impl<'a> Change<'a> {
         edits: &mut SortedRows<Edit<Row>>,
         steps: &mut Steps<L>,
     ) -> Result<(), Memory>
-        ensures ok { OnOk result (edits.new.rows ≡ changed_edits key (index_in row_place (row_key_place key) self.now.rows) (end_of_row (row_at row_place (row_key_place key) self.now.rows)) until edits.old.rows) }
+        ensures ok { OnOk result (edits.new.rows ≡ changed_edits key (index_beside key.owner key.side (row_key_place key) self.now.rows) (end_of_row (row_at row_place (row_key_place key) self.now.rows)) until edits.old.rows) }
         ensures least { steps.old ≤ steps.new }
         ensures most { (b : ℕ) → length self.now.rows < 2 ^ b → steps.new ≤ steps.old + b }
     {
-        let kept = self.rows.rows();
-        match self.rows.find_counted(&key, steps) {
+        let shelf = self.rows.shelf(key.owner, key.side);
+        let kept = shelf.rows();
+        match shelf.find_counted(&key, steps) {
             Ok(index) => plan_kept(edits, key, index, row_of(kept, index).until, until),
             Err(index) => plan_new(edits, key, index, until),
         }
@@ -378,7 +381,7 @@ impl<'a> Change<'a> {
     pub fn new(
         slots: &'a [Option<Held>],
         bindings: &'a SortedRows<Binding>,
-        rows: &'a SortedRows<Row>,
+        rows: &'a RowShelves,
         gone: &'a [Binding],
         come: &'a [Binding],
     ) -> Change<'a>

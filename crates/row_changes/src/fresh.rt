@@ -197,14 +197,19 @@ fn put_fresh(rows: &mut SortedRows<Row>, key: RowKey, until: End) -> Result<(), 
     Ok(())
 }
 
-/// Plans that those of these rows go whose places aren't among the new rows. They are kept from
-/// this index on.
-pub(crate) fn plan_left(own: &[Row], first: usize, fresh: &mut FreshRows) -> Result<(), Memory>
-    requires { first + length own.now < 2 ^ 64 }
+/// Plans that those of these rows go whose places aren't among the new rows. They are the rows of
+/// one owner and side. Each is one step.
+pub(crate) fn plan_left<L: Ledger>(
+    own: &[Row],
+    fresh: &mut FreshRows,
+    steps: &mut Steps<L>,
+) -> Result<(), Memory>
     ensures rows { fresh.new.rows ≡ fresh.old.rows }
-    ensures ok { OnOk result (fresh.new.edits ≡ left_edits fresh.old.rows first own.now fresh.old.edits) }
+    ensures ok { OnOk result (fresh.new.edits ≡ left_edits fresh.old.rows 0 own.now fresh.old.edits) }
+    ensures counted { steps.new ≡ steps.old + length own.now }
 {
-    let mut index = first;
+    steps.add(own.len() as u64);
+    let mut index = 0;
     for row in own {
         if !fresh.rows.contains(row) {
             plan_edit(&mut fresh.edits, *row, false, Ok(index))?;

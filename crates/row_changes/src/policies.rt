@@ -7,11 +7,11 @@ ghost use Rattle.mud_url.specs.Url.{host_of};
 ghost use Rattle.row_changes.specs.Policies.{HasCounts, url_policy, IsIndexOf};
 
 use acl_model::{DefaultRule, Entry, Policy, default_entry};
-use acl_rows::{Owner, Row, RulePart};
+use acl_rows::{Owner, RulePart};
 use key_index::KeyIndex;
 use mud_base::{Direction, Listed, Memory};
 use mud_url::MudUrl;
-use sorted_rows::SortedRows;
+use row_shelves::RowShelves;
 use std::alloc::Global;
 use std::marker::Model;
 
@@ -138,29 +138,26 @@ impl CompiledPolicy {
         KeyIndex::new(alloc, url, host, &self.policy)
     }
 
-    /// What a ruling reads of one side of it, over rows among which those of the owner stand.
-    pub fn part<'a>(
-        &'a self,
-        owner: Owner,
-        side: Direction,
-        rows: &'a SortedRows<Row>,
-    ) -> RulePart<'a>
+    /// What a ruling reads of one side of it, over rows among which those of the owner stand. The
+    /// rows of an address are sought among those of the owner and side alone.
+    pub fn part<'a>(&'a self, owner: Owner, side: Direction, rows: &'a RowShelves) -> RulePart<'a>
         ensures { IsPartOf rows.now.rows side owner self.now result }
     {
+        let shelf = rows.shelf(owner, side);
         match side {
             Direction::From => RulePart::new(
                 owner,
                 side,
                 self.policy.outgoing.as_slice(),
                 self.wide_outgoing.as_slice(),
-                rows,
+                shelf,
             ),
             Direction::To => RulePart::new(
                 owner,
                 side,
                 self.policy.incoming.as_slice(),
                 self.wide_incoming.as_slice(),
-                rows,
+                shelf,
             ),
         }
     }

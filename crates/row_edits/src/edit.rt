@@ -31,9 +31,9 @@ impl<R: Placed> Placed for Edit<R> {
     }
 }
 
-/// Makes one edit in one step.
+/// Makes one edit in one step. It takes no memory.
 #[tactic(auto, unfolding(crate::specs::Edits::edit_made))]
-fn make_edit<R: Placed + Drop, L: Ledger>(
+pub fn make_edit<R: Placed + Drop, L: Ledger>(
     rows: &mut SortedRows<R>,
     edit: Edit<R>,
     steps: &mut Steps<L>,

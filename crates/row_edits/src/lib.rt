@@ -5,4 +5,4 @@
 pub mod edit;
 pub mod laws;
 
-pub use edit::{Edit, make_edits, plan_edit};
+pub use edit::{Edit, make_edit, make_edits, plan_edit};

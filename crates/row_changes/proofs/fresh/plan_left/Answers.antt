@@ -10,7 +10,7 @@ use Rattle.row_changes.proofs.fresh.plan_left.Goals as goal
 use Rattle.row_changes.proofs.fresh.plan_left.Goals.{then-not-contains+in_ok-plan_edit, else-not-contains}
 
 pub loop-row-preserved : goal.loop-row-preserved
-loop-row-preserved c =
+loop-row-preserved g c =
     let i : ℕ = c.loop-row.row-index in
     let new : List Row = c.args.fresh.now.rows in
     let there = c.contains.ensures ∙ ap (λ (rows : List Row). is_some (row_at row_place (row_place c.row-item.result) rows)) c.loop-row.invariant.rows in
@@ -34,5 +34,5 @@ loop-row-preserved c =
 
 pub returns-clause-ok : goal.returns-clause-ok
 unfolding left_edits
-returns-clause-ok c =
+returns-clause-ok g c =
     sym (c.loop-row.invariant.edits ∙ ap (λ (rs : List Row). left_edits c.args.fresh.now.rows c.loop-row.index rs c.loop-row.fresh-inside.edits.rows) (drop_all c.loop-row.row-index c.args.own.now c.loop-row-test.false))

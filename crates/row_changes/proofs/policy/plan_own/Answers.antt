@@ -1,0 +1,11 @@
+use Rattle.std.proofs.Common.{length, ap, ◌∙◌, arith}
+use Rattle.row_changes.proofs.PolicyRows.{own_length}
+use Rattle.row_changes.proofs.policy.plan_own.Goals as goal
+
+pub returns-in_err-plan_left-clause-most : goal.returns-in_err-plan_left-clause-most
+returns-in_err-plan_left-clause-most g c =
+    omega (arith, own_length c.args.owner c.args.rows.now.rows c.requires, ap length (c.rows.ensures.rows ∙ c.shelf.ensures.rows), c.plan_left.ensures.counted)
+
+pub returns-clause-most : goal.returns-clause-most
+returns-clause-most g c =
+    omega (arith, own_length c.args.owner c.args.rows.now.rows c.requires, ap length (c.rows.ensures.rows ∙ c.shelf.ensures.rows), c.plan_left.ensures.counted, ap length (c.rows-2.ensures.rows ∙ c.shelf-2.ensures.rows), c.plan_left-2.ensures.counted)

@@ -1,0 +1,4 @@
+pub mod Beside
+pub mod EditLaws
+pub mod Numbers
+pub mod PartLaws

@@ -5,8 +5,9 @@
 use keep_sqlite::PathKeeper;
 use mud_base::Listed;
 use mud_cli::words::command_of;
-use mud_cli::{Command, RealClock, RealDoor, RealSpool, Status, mud_main};
+use mud_cli::{Command, Status, mud_main};
 use mud_world::{Keeper, MemoryKeeper};
+use real_world::{RealClock, RealDoor, RealSpool};
 use std::alloc::{AllocError, Global};
 use std::io::ErrorKind;
 use std::process::ExitCode;
@@ -72,7 +73,7 @@ fn run_words(rt: HostRuntime, words: &[String]) -> io::Result<u8> {
             PathKeeper::over(&rt, String::from_str(alloc, store)?),
         )?
     };
-    let mut door = RealDoor::new(rt.reader(), io::writer(&rt));
+    let mut door = RealDoor::new(rt.reader(), io::writer(&rt), rt);
     let mut spool = RealSpool::new(rt, String::from_str(alloc, folder)?);
     let mut clock = RealClock::new(rt);
     let (status, _keeper) = mud_main(alloc, words, keeper, &mut door, &mut spool, &mut clock);

@@ -4,8 +4,6 @@ ghost use Rattle.mud_file.specs.File.{file_of};
 ghost use Rattle.mud_cli.specs.Check.Answer.{checking};
 
 mod lines;
-#[cfg(test)]
-mod tests;
 
 use crate::answer::Answer;
 use lines::{broken_line, file_lines};

@@ -1,7 +1,5 @@
 //! The command `frames`: the line of each packet of a capture.
 mod lines;
-#[cfg(test)]
-pub(crate) mod tests;
 
 use command_runs::PacketLines;
 use lines::append_packet;

@@ -3,8 +3,6 @@ ghost use Rattle.std.specs.Prelude.{◌≡◌, IfOk};
 ghost use Rattle.mud_cli.specs.Hear.Answer.{answer_of, hearing, hearing_within};
 
 mod lines;
-#[cfg(test)]
-pub(crate) mod tests;
 
 use crate::answer::Answer;
 use dhcp_lldp::{HearFault, Heard, read_dhcp, read_lldp};

@@ -1,4 +1,4 @@
-//! The commands of the program over any door, spool, clock and keeper, and the real ones.
+//! The commands of the program over any door, spool, clock and keeper.
 #![tactic(auto)]
 
 pub mod answer;
@@ -6,8 +6,6 @@ pub mod check;
 pub mod frames;
 pub mod hear;
 pub mod import;
-pub mod real;
-pub mod real_spool;
 pub mod run;
 #[cfg(test)]
 mod tests;
@@ -17,7 +15,5 @@ pub use answer::{Answer, Input};
 pub use command_runs::Status;
 pub use hear::Message;
 pub use import::import_store;
-pub use real::{RealClock, RealDoor};
-pub use real_spool::RealSpool;
 pub use run::mud_main;
 pub use words::Command;

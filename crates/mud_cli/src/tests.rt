@@ -1,256 +1,105 @@
-//! Runs of the program over doors in memory, with lines and statuses as the formats state them.
-use crate::frames::tests::{CAPTURE, HEAD, SYN, SYN_LINE};
-use crate::hear::tests::{BULB, BULB_LINE, HEAR, message};
-use crate::{RealClock, RealDoor, mud_main};
+//! One run of each kind of command with ample memory, and runs whose reads or writes fail.
+use crate::mud_main;
 use mud_base::{Bytes, Listed, Moment};
-use mud_world::{Clock, Door, Failed, Keeper, MemoryClock, MemoryDoor, MemoryKeeper, MemorySpool};
+use mud_world::{Keeper, MemoryClock, MemoryDoor, MemoryKeeper, MemorySpool};
 use std::alloc::Global;
 use std::process::Abort;
 use std::test::Fail;
-use std::time::Duration;
 
 /// The statuses by their numbers.
-pub(crate) const DONE: u8 = 0;
+const DONE: u8 = 0;
 
 const UNLISTED: u8 = 2;
 
-pub(crate) const REFUSED: u8 = 3;
+const REFUSED: u8 = 3;
 
-pub(crate) const DOOR_FAILED: u8 = 4;
+const DOOR_FAILED: u8 = 4;
+
+/// An LLDP frame from 02:00:00:00:00:01 with a MUD URL, in two pieces.
+const FRAME: [&[u8]; 2] = [
+    b"\x01\x80\xc2\x00\x00\x0e\x02\x00\x00\x00\x00\x01\x88\xcc\x02\x07\x04\x02\x00\x00\x00\x00\x01",
+    b"\x04\x02\x071\x06\x02\x00x\xfe\x21\x00\x00\x5e\x01https://lighting.example.com/\x00\x00",
+];
+
+const FRAME_LINE: &[u8] = b"url 02:00:00:00:00:01 https://lighting.example.com/\n";
+
+/// A capture of one packet at the second 1059, in three pieces: the header, the packet's head, and
+/// its frame. It goes from 192.0.2.10 to 198.51.100.7 and begins a TCP connection.
+const CAPTURE: [&[u8]; 3] = [
+    b"\xd4\xc3\xb2\xa1\x02\x00\x04\x00\x00\x00\x00\x00\x00\x00\x00\x00\x00\x00\x04\x00\x01\x00\x00\x00",
+    b"\x23\x04\x00\x00\x00\x00\x00\x00\x36\x00\x00\x00\x36\x00\x00\x00",
+    b"\x02\x00\x00\x00\x00\xfe\x02\x00\x00\x00\x00\x01\x08\x00\x45\x00\x00\x28\x00\x01\x00\x00\x40\x06\x00\x00\xc0\x00\x02\x0a\xc6\x33\x64\x07\xc3\x50\x01\xbb\x00\x00\x00\x01\x00\x00\x00\x00\x50\x02\xff\xff\x00\x00\x00\x00",
+];
 
 /// A door to one connection, whose octets come in these pieces.
-pub(crate) fn door_to(
-    rt: &impl Abort,
-    alloc: Global,
-    pieces: Listed<Bytes>,
-) -> Result<MemoryDoor, Fail> {
+fn door_to(rt: &impl Abort, alloc: Global, octets: &[&[u8]]) -> Result<MemoryDoor, Fail> {
+    let mut pieces = Listed::new(alloc);
+    for piece in octets {
+        pieces.push(Bytes::new(alloc, piece)?)?;
+    }
     let mut inputs = Listed::new(alloc);
     inputs.push(pieces)?;
     assert!(rt; inputs.len() > 0);
     Ok(MemoryDoor::new(alloc, inputs, 4096)?)
 }
 
-/// A door to one connection, whose octets come in pieces of this length.
-pub(crate) fn door_of(
-    rt: &impl Abort,
-    alloc: Global,
-    octets: &[u8],
-    piece: usize,
-) -> Result<MemoryDoor, Fail> {
-    let mut pieces = Listed::new(alloc);
-    let mut rest = octets;
-    for _ in 0..octets.len() {
-        let (front, behind) = rest.split_at(piece.min(rest.len()));
-        if !front.is_empty() {
-            pieces.push(Bytes::new(alloc, front)?)?;
-        }
-        rest = behind;
-    }
-    door_to(rt, alloc, pieces)
-}
-
-/// The status of a run of these words over the door.
-pub(crate) fn status_of<D: Door>(
+/// A run of these words over the door, a folder of two files, and an empty store: its status, and
+/// that these lines were written.
+fn assert_run(
     rt: &impl Abort,
     alloc: Global,
     words: &[&str],
-    door: &mut D,
-) -> Result<u8, Fail> {
-    let mut spool = MemorySpool::new(alloc, Listed::new(alloc));
-    status_over(rt, alloc, words, door, &mut spool)
-}
-
-/// The status of a run of these words over the door and the spool, and a keeper of no items.
-fn status_over<D: Door>(
-    rt: &impl Abort,
-    alloc: Global,
-    words: &[&str],
-    door: &mut D,
-    spool: &mut MemorySpool,
-) -> Result<u8, Fail> {
+    mut door: MemoryDoor,
+    status: u8,
+    lines: &[u8],
+) -> Result<(), Fail> {
     let mut list = Vec::new(alloc);
     for word in words {
         list.push(String::from_str(alloc, word)?)?;
     }
     let keeper: Box<dyn Keeper> = Box::new(alloc, MemoryKeeper::new(alloc, Listed::new(alloc)))?;
+    let mut files = Listed::new(alloc);
+    files.push((Bytes::new(alloc, b"notes.txt")?, Bytes::empty(alloc)))?;
+    files.push((Bytes::new(alloc, b"1000-empty.json")?, Bytes::empty(alloc)))?;
+    let mut spool = MemorySpool::new(alloc, files);
     let mut moments = Listed::new(alloc);
     moments.push(Moment::at_most_last(0))?;
     assert!(rt; moments.len() > 0);
     let mut clock = MemoryClock::new(moments);
-    let (status, _keeper) = mud_main(alloc, list.as_slice(), keeper, door, spool, &mut clock);
-    Ok(status)
-}
-
-/// What was written to the one connection of a door.
-pub(crate) fn written<'a>(rt: &impl Abort, door: &'a MemoryDoor) -> &'a [u8] {
+    let words = list.as_slice();
+    let (ended, _keeper) = mud_main(alloc, words, keeper, &mut door, &mut spool, &mut clock);
+    assert_eq!(rt; ended, status);
     assert!(rt; door.connection_count() > 0);
-    door.written(0)
-}
-
-/// These words are no listed line, and the door stays as it was.
-fn assert_unlisted(rt: &impl Abort, alloc: Global, words: &[&str]) -> Result<(), Fail> {
-    let octets = message(alloc, 1, [0; 4], BULB)?;
-    let mut door = door_of(rt, alloc, octets.as_slice(), 4096)?;
-    assert_eq!(rt; status_of(rt, alloc, words, &mut door)?, UNLISTED);
-    assert_eq!(rt; written(rt, &door), b"".as_slice());
+    assert_eq!(rt; door.written(0), lines);
     Ok(())
 }
 
 #[test]
-fn takes_listed_words_alone(rt: HostRuntime) -> Result<(), Fail> {
-    assert_unlisted(&rt, rt.alloc(), &[])?;
-    assert_unlisted(&rt, rt.alloc(), &["hear"])?;
-    assert_unlisted(&rt, rt.alloc(), &["hear", "dhcp", "dhcp"])?;
-    assert_unlisted(&rt, rt.alloc(), &["hear", "-h"])?;
-    assert_unlisted(&rt, rt.alloc(), &["judge", ""])?;
-    assert_unlisted(&rt, rt.alloc(), &["judge", "-h"])?;
-    assert_unlisted(&rt, rt.alloc(), &["import", ":memory:", "-h"])?;
-    assert_unlisted(&rt, rt.alloc(), &["serve", ":memory:", "0", "1"])
-}
-
-/// A read that fails at this call ends the run, and nothing is written.
-fn assert_read_fails(rt: &impl Abort, alloc: Global, call: u64) -> Result<(), Fail> {
-    let octets = message(alloc, 1, [0; 4], BULB)?;
-    let mut door = door_of(rt, alloc, octets.as_slice(), 200)?;
-    door.failing_read.push(call)?;
-    assert_eq!(rt;
-        status_of(rt, alloc, &HEAR, &mut door)?,
-        DOOR_FAILED,
-        "at read {call}"
-    );
-    assert_eq!(rt; written(rt, &door), b"".as_slice(), "at read {call}");
-    Ok(())
+fn runs_each_kind_of_command(rt: HostRuntime) -> Result<(), Fail> {
+    let alloc = rt.alloc();
+    let door = door_to(&rt, alloc, &FRAME)?;
+    assert_run(&rt, alloc, &["hear"], door, UNLISTED, b"")?;
+    let door = door_to(&rt, alloc, &FRAME)?;
+    assert_run(&rt, alloc, &["hear", "lldp"], door, DONE, FRAME_LINE)?;
+    let door = door_to(&rt, alloc, &CAPTURE)?;
+    let line = b"1 1059 packet 192.0.2.10 198.51.100.7 6 tcp 50000 443 2\n";
+    assert_run(&rt, alloc, &["frames"], door, DONE, line)?;
+    let door = door_to(&rt, alloc, &CAPTURE)?;
+    let line = b"1 1059 pass unmanaged\n";
+    assert_run(&rt, alloc, &["judge", ":memory:"], door, DONE, line)?;
+    let door = door_to(&rt, alloc, &[])?;
+    let lines = b"1000-empty.json refused 2 Json\nnotes.txt skipped\n";
+    let words = ["import", ":memory:", "files"];
+    assert_run(&rt, alloc, &words, door, REFUSED, lines)
 }
 
 #[test]
 fn stops_where_the_door_fails(rt: HostRuntime) -> Result<(), Fail> {
-    assert_read_fails(&rt, rt.alloc(), 1)?;
-    assert_read_fails(&rt, rt.alloc(), 2)?;
-    let octets = message(rt.alloc(), 1, [0; 4], BULB)?;
-    let mut door = door_of(&rt, rt.alloc(), octets.as_slice(), 200)?;
+    let alloc = rt.alloc();
+    let mut door = door_to(&rt, alloc, &FRAME)?;
+    door.failing_read.push(2)?;
+    assert_run(&rt, alloc, &["hear", "lldp"], door, DOOR_FAILED, b"")?;
+    let mut door = door_to(&rt, alloc, &FRAME)?;
     door.failing_write.push(1)?;
-    assert_eq!(rt; status_of(&rt, rt.alloc(), &HEAR, &mut door)?, DOOR_FAILED);
-    assert_eq!(rt; written(&rt, &door), b"".as_slice());
-    Ok(())
-}
-
-#[test]
-fn judges_by_a_store(rt: HostRuntime) -> Result<(), Fail> {
-    let alloc = rt.alloc();
-    let mut octets = CAPTURE.to_vec(alloc)?;
-    octets.extend_from_slice(HEAD)?;
-    octets.extend_from_slice(SYN)?;
-    let mut door = door_of(&rt, alloc, octets.as_slice(), 60)?;
-    assert_eq!(rt;
-        status_of(&rt, alloc, &["judge", ":memory:"], &mut door)?,
-        DONE
-    );
-    assert_eq!(rt; written(&rt, &door), b"1 1059 pass unmanaged\n".as_slice());
-    Ok(())
-}
-
-/// A folder of one usage file that is empty, and another file.
-fn folder(alloc: Global) -> Result<MemorySpool, Fail> {
-    let mut files = Listed::new(alloc);
-    files.push((Bytes::new(alloc, b"notes.txt")?, Bytes::empty(alloc)))?;
-    files.push((Bytes::new(alloc, b"1000-empty.json")?, Bytes::empty(alloc)))?;
-    Ok(MemorySpool::new(alloc, files))
-}
-
-#[test]
-fn imports_a_folder(rt: HostRuntime) -> Result<(), Fail> {
-    let alloc = rt.alloc();
-    let mut spool = folder(alloc)?;
-    let mut door = door_of(&rt, alloc, b"", 1)?;
-    assert_eq!(rt;
-        status_over(
-            &rt,
-            alloc,
-            &["import", ":memory:", "files"],
-            &mut door,
-            &mut spool
-        )?,
-        REFUSED
-    );
-    assert_eq!(rt;
-        written(&rt, &door),
-        b"1000-empty.json refused 2 Json\nnotes.txt skipped\n".as_slice()
-    );
-    Ok(())
-}
-
-/// A door that takes one octet a write.
-#[derive(Drop)]
-struct Narrow(MemoryDoor);
-
-impl Door for Narrow {
-    ghost tells = { ⟦<MemoryDoor as Door>⟧.tells };
-
-    ghost state = { λ door. ⟦<MemoryDoor as Door>⟧.state door.0 };
-
-    ghost turns = { λ door. ⟦<MemoryDoor as Door>⟧.turns door.0 };
-
-    ghost reads = { λ door. ⟦<MemoryDoor as Door>⟧.reads door.0 };
-
-    ghost writes = { λ door. ⟦<MemoryDoor as Door>⟧.writes door.0 };
-
-    fn bind(&mut self, port: u16) -> Result<(), Failed> {
-        self.0.bind(port)
-    }
-
-    fn next(&mut self) -> Result<bool, Failed> {
-        self.0.next()
-    }
-
-    fn read(&mut self, buf: &mut [u8]) -> Result<usize, Failed> {
-        self.0.read(buf)
-    }
-
-    fn write(&mut self, piece: &[u8]) -> Result<usize, Failed> {
-        self.0.write(&piece[..piece.len().min(1)])
-    }
-}
-
-#[test]
-fn writes_by_single_octets(rt: HostRuntime) -> Result<(), Fail> {
-    let octets = message(rt.alloc(), 1, [0; 4], BULB)?;
-    let mut door = Narrow(door_of(&rt, rt.alloc(), octets.as_slice(), 1)?);
-    assert_eq!(rt; status_of(&rt, rt.alloc(), &HEAR, &mut door)?, DONE);
-    let Narrow(door) = door;
-    assert_eq!(rt; written(&rt, &door), BULB_LINE);
-    Ok(())
-}
-
-#[test]
-fn a_real_door_reads_and_writes(rt: HostRuntime) -> Result<(), Fail> {
-    let mut octets = CAPTURE.to_vec(rt.alloc())?;
-    octets.extend_from_slice(HEAD)?;
-    octets.extend_from_slice(SYN)?;
-    let mut door = RealDoor::new(octets.as_slice(), Vec::new(rt.alloc()));
-    assert_eq!(rt; status_of(&rt, rt.alloc(), &["frames"], &mut door)?, DONE);
-    assert_eq!(rt; door.output.as_slice(), SYN_LINE);
-    Ok(())
-}
-
-/// A machine's clock that shows one moment.
-struct Stopped(u64);
-
-impl std::rt::Clock for Stopped {
-    fn monotonic(&self) -> std::io::Result<Duration> {
-        Ok(Duration::from_secs(self.0))
-    }
-
-    fn since_1970(&self) -> std::io::Result<Duration> {
-        Ok(Duration::from_secs(self.0))
-    }
-}
-
-#[test]
-fn a_real_clock_shows_the_moment(rt: HostRuntime) -> Result<(), Fail> {
-    assert_eq!(rt; RealClock::new(&Stopped(1059)).now().seconds(), 1059);
-    assert_eq!(rt;
-        RealClock::new(&Stopped(u64::MAX >> 2)).now(),
-        Moment::at_most_last(u64::MAX)
-    );
-    Ok(())
+    assert_run(&rt, alloc, &["hear", "lldp"], door, DOOR_FAILED, b"")
 }

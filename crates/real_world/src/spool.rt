@@ -3,7 +3,7 @@
 ghost use Rattle.std.specs.Prelude.{◌≡◌, ◌≤◌, ◌+◌, [], length, IfOk};
 ghost use Rattle.mud_world.specs.Causes.{Counts};
 ghost use Rattle.mud_world.specs.Files.{has_failed};
-ghost use Rattle.mud_cli.specs.Real.{faults_of};
+ghost use Rattle.real_world.specs.Real.{faults_of};
 
 use mud_base::{Bytes, Listed, Memory};
 use mud_world::{MOST_READ, Spool, SpoolFault};

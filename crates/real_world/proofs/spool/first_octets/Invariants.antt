@@ -1,5 +1,5 @@
 use Rattle.std.proofs.Common.{◌≤◌, ◌-◌, length}
-use Rattle.mud_cli.proofs.real_spool.first_octets.Given as goal
+use Rattle.real_world.proofs.spool.first_octets.Given as goal
 
 abbrev pub invariant-loop-buffer : goal.invariant-loop-buffer
 invariant-loop-buffer g l = length l.text ≤ 262145

@@ -1,0 +1,16 @@
+//! The real outside: a door over standard input and output or over the connections to a port, the
+//! machine's clock, and a spool over a folder.
+#![tactic(auto)]
+
+pub mod clock;
+pub mod door;
+pub mod port;
+pub mod spool;
+
+pub use clock::RealClock;
+pub use door::RealDoor;
+pub use port::{LONGEST_WAIT, Port};
+pub use spool::RealSpool;
+
+#[cfg(test)]
+mod tests;

@@ -1,0 +1,57 @@
+//! What no clause says of the real ones: that a client is served, and what a clock shows.
+use crate::{RealClock, RealDoor};
+use mud_base::Moment;
+use mud_world::{Clock, Door, Failed};
+use std::io::{Read, Write};
+use std::net::{TcpListener, TcpStream};
+use std::test::Fail;
+use std::time::Duration;
+
+/// The number of a port that nothing listens on.
+fn free_port(rt: &HostRuntime) -> Result<u16, Fail> {
+    let listener = TcpListener::bind(rt, "127.0.0.1:0")?;
+    Ok(listener.local_addr()?.port())
+}
+
+#[test]
+fn serves_a_client(rt: HostRuntime) -> Result<(), Fail> {
+    let mut door = RealDoor::new(b"in".as_slice(), Vec::new(rt.alloc()), rt);
+    let port = free_port(&rt)?;
+    assert_eq!(rt; door.bind(port), Ok(()));
+    assert_eq!(rt; door.bind(port), Err(Failed));
+    let mut client = TcpStream::connect(&rt, ("127.0.0.1", port))?;
+    let mut octet = [0];
+    assert_eq!(rt; door.read(&mut octet), Ok(0));
+    assert_eq!(rt; door.write(b"a"), Err(Failed));
+    assert_eq!(rt; door.next(), Ok(true));
+    client.write_all(b"q")?;
+    assert_eq!(rt; door.read(&mut octet), Ok(1));
+    assert_eq!(rt; octet, *b"q");
+    assert_eq!(rt; door.write(b"a"), Ok(1));
+    client.read_exact(&mut octet)?;
+    assert_eq!(rt; octet, *b"a");
+    Ok(())
+}
+
+/// A machine's clock that shows one moment.
+struct Stopped(u64);
+
+impl std::rt::Clock for Stopped {
+    fn monotonic(&self) -> std::io::Result<Duration> {
+        Ok(Duration::from_secs(self.0))
+    }
+
+    fn since_1970(&self) -> std::io::Result<Duration> {
+        Ok(Duration::from_secs(self.0))
+    }
+}
+
+#[test]
+fn a_real_clock_shows_the_moment(rt: HostRuntime) -> Result<(), Fail> {
+    assert_eq!(rt; RealClock::new(&Stopped(1059)).now().seconds(), 1059);
+    assert_eq!(rt;
+        RealClock::new(&Stopped(u64::MAX >> 2)).now(),
+        Moment::at_most_last(u64::MAX)
+    );
+    Ok(())
+}

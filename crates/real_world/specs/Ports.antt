@@ -3,6 +3,7 @@ use Rattle.std.specs.Prelude.{ℕ, Bool, is_some, List, [], ◌∷◌, Option, S
 use Rattle.std.specs.declared.net.ip_addr.IpAddr.{IpAddr}
 use Rattle.std.specs.declared.net.ip_addr.IpAddr.TheVariants.{V4, V6}
 use Rattle.std.specs.Net.Addr.{ipv4_octets, ipv6_octets}
+use Rattle.real_world.specs.declared.client.Client.{Client}
 use Rattle.real_world.specs.declared.port.Port.{Port}
 
 -- the octets of an address
@@ -19,6 +20,6 @@ abbrev pub is_served : {N S L : Type 0} → Port N S L → Bool
 is_served port = is_some port.client
 
 -- the octets of a client, where they are known, and none where no client is served
-abbrev pub client_octets : {S : Type 0} → (S → Option (List ℕ)) → Option S → Option (List ℕ)
+abbrev pub client_octets : {S : Type 0} → (S → Option (List ℕ)) → Option (Client S) → Option (List ℕ)
 client_octets of_client None = Some []
-client_octets of_client (Some client) = of_client client
+client_octets of_client (Some client) = of_client client.stream

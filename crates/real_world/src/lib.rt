@@ -2,11 +2,13 @@
 //! machine's clock, and a spool over a folder.
 #![tactic(auto)]
 
+pub mod client;
 pub mod clock;
 pub mod door;
 pub mod port;
 pub mod spool;
 
+pub use client::Client;
 pub use clock::RealClock;
 pub use door::RealDoor;
 pub use port::{LONGEST_WAIT, Port};

@@ -5,6 +5,7 @@ ghost use Rattle.std.specs.Io.{ReadsAtMost, WritesAtMost};
 ghost use Rattle.std.specs.Io.KnownBytes.{ReadConsumes, WriteAppends};
 ghost use Rattle.real_world.specs.Ports.{client_octets, is_served, localhost, octets_of};
 
+use crate::client::Client;
 use std::io::{self, Read, Write};
 use std::net::{IpAddr, Ipv4Addr, Net, OpenListener, OpenStream, SocketAddr};
 use std::time::Duration;
@@ -20,7 +21,7 @@ pub struct Port<N: Net> {
     pub number: u16,
     pub listener: N::Listener,
     /// The client whose connection was taken last, unless it was left.
-    pub client: Option<N::Stream>,
+    pub client: Option<Client<N::Stream>>,
 }
 
 /// The address of a port that clients on this machine alone can reach.
@@ -46,12 +47,12 @@ impl<N: Net> Port<N> {
     }
 
     /// Waits for a further client, and gives it its time limits.
-    fn accept(&self) -> io::Result<N::Stream> {
-        let (client, _) = self.listener.accept()?;
+    fn accept(&self) -> io::Result<Client<N::Stream>> {
+        let (stream, _) = self.listener.accept()?;
         let limit = Some(Duration::from_secs(LONGEST_WAIT));
-        client.set_read_timeout(limit)?;
-        client.set_write_timeout(limit)?;
-        Ok(client)
+        stream.set_read_timeout(limit)?;
+        stream.set_write_timeout(limit)?;
+        Ok(Client { stream })
     }
 
     /// Leaves the client, whose connection is closed, and waits for a further one.
@@ -74,7 +75,7 @@ impl<N: Net> Port<N> {
         ensures number { self.new.number ≡ self.old.number }
     {
         match &mut self.client {
-            Some(client) => client.read(buf),
+            Some(client) => client.stream.read(buf),
             None => Ok(0),
         }
     }
@@ -88,7 +89,7 @@ impl<N: Net> Port<N> {
         ensures number { self.new.number ≡ self.old.number }
     {
         match &mut self.client {
-            Some(client) => client.write(piece),
+            Some(client) => client.stream.write(piece),
             None => Ok(0),
         }
     }

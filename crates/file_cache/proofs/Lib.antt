@@ -4,3 +4,4 @@ pub mod StepLaws
 pub mod VerdictLaws
 pub mod ReadLaws
 pub mod TakeLaws
+mod Examples

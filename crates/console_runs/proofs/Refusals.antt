@@ -1,5 +1,5 @@
 -- What is done where no connection is served.
-use Rattle.std.proofs.Common.{◌≡◌, ◌≢◌, ℕ, ◌⊎◌, inl, inr, List, [], take, Result, Ok, Err, refl, sym, ap, ap₂, subst, ◌∙◌, arith}
+use Rattle.std.proofs.Common.{◌≡◌, ◌≢◌, ℕ, ◌⊎◌, inl, inr, List, [], take, Result, Ok, refl, sym, ap, ap₂, subst, ◌∙◌, arith}
 use Rattle.std.specs.declared.dyn_box.DynBox.{DynBox}
 use Rattle.std.specs.declared.alloc.Global.{Global}
 use Rattle.mud_world.specs.declared.keeper.Keeper.{Ghosts}
@@ -20,7 +20,7 @@ use Rattle.mud_desk.specs.Boxed.{IsKept, IsSameBox}
 use Rattle.desk_runs.specs.Refused.{IsRefusal, bad_item_line, refusal_text}
 use Rattle.desk_runs.proofs.Runs.{refused_run}
 use Rattle.desk_runs.proofs.Stores.{kept_tables}
-use Rattle.console_runs.specs.Store.{OnlyWrites, SaysItem, ServesNone, line_of_bad}
+use Rattle.console_runs.specs.Store.{OnlyWrites, SaysItem, ServesNone}
 
 abbrev pub IsOfNone : ℕ → Type 0
 IsOfNone status = (status ≡ 4) ⊎ ((status ≡ 5) ⊎ ((status ≡ 6) ⊎ (status ≡ 7)))

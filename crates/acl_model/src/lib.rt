@@ -21,6 +21,4 @@ pub use place::{BoundKey, KeyText};
 pub use ruling::{DefaultRule, Ruling, Why};
 
 #[cfg(test)]
-mod binding_tests;
-#[cfg(test)]
 mod tests;

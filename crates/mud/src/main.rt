@@ -2,10 +2,10 @@
 //! over them.
 #![tactic(auto)]
 
+use command_words::{Command, USAGE, command_of};
 use keep_sqlite::PathKeeper;
 use mud_base::Listed;
-use mud_cli::words::command_of;
-use mud_cli::{Command, Status, mud_main};
+use mud_cli::{Status, mud_main};
 use mud_world::{Keeper, MemoryKeeper};
 use real_world::{RealClock, RealDoor, RealSpool};
 use std::alloc::{AllocError, Global};
@@ -21,9 +21,18 @@ fn main(rt: HostRuntime) -> ExitCode {
     ExitCode::from(run(rt))
 }
 
-/// Runs the words after the program's name, and answers the status. A word that isn't UTF-8 is in
-/// no listed line.
+/// Runs the words after the program's name, and answers the status. Where they are no listed line, it
+/// prints the usage text on standard error; whether that succeeds doesn't change the status.
 fn run(rt: HostRuntime) -> u8 {
+    let status = status_of(rt);
+    if status == Status::Unlisted.number() {
+        let _printed = eprint!(rt; "{}", USAGE);
+    }
+    status
+}
+
+/// The status of a run. A word that isn't UTF-8 is in no listed line.
+fn status_of(rt: HostRuntime) -> u8 {
     match words(&rt) {
         Ok(words) => run_words(rt, words.as_slice()).unwrap_or(Status::NoMemory.number()),
         Err(error) => {
@@ -43,10 +52,13 @@ fn words(rt: &HostRuntime) -> io::Result<Vec<String>> {
 
 /// The words that name the store and the folder of a command. A command without a store keeps
 /// nothing, and one without a folder lists none.
-fn places(words: &[String]) -> (&str, &str) {
-    match (command_of(words), words) {
-        (Some(Command::Judge), [_, store]) => (store.as_str(), ""),
+fn places(alloc: Global, words: &[String]) -> (&str, &str) {
+    match (command_of(alloc, words), words) {
         (Some(Command::Import), [_, store, folder]) => (store.as_str(), folder.as_str()),
+        (
+            Some(Command::Judge | Command::Replay | Command::Serve { .. } | Command::Report(_)),
+            [_, store, ..],
+        ) => (store.as_str(), ""),
         _ => (IN_MEMORY, ""),
     }
 }
@@ -64,7 +76,7 @@ fn take_streams(rt: &HostRuntime) -> [io::Result<<HostRuntime as Files>::File>; 
 fn run_words(rt: HostRuntime, words: &[String]) -> io::Result<u8> {
     let alloc = rt.alloc();
     let _streams = take_streams(&rt);
-    let (store, folder) = places(words);
+    let (store, folder) = places(alloc, words);
     let keeper: Box<dyn Keeper> = if store == IN_MEMORY {
         Box::new(alloc, MemoryKeeper::new(alloc, Listed::new(alloc)))?
     } else {

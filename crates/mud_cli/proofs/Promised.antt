@@ -3,8 +3,9 @@ use Rattle.std.proofs.Common.{◌≡◌, ℕ, Bool, true, false, is_some, Option
 use Rattle.std.proofs.lemmas.Bool.{false≢true}
 use Rattle.mud_world.specs.Door.{DoorState}
 use Rattle.mud_cli.specs.Promises.{ReadUpTo}
-use Rattle.mud_cli.specs.declared.words.Command.{Command}
-use Rattle.mud_cli.specs.declared.words.Command.TheVariants.{Hear, Check, Frames, Judge, Import}
+use Rattle.command_words.specs.declared.command.Command.{Command}
+use Rattle.command_words.specs.declared.command.Command.TheVariants.{Frames, Serve, Report, Drill}
+use Rattle.command_words.specs.declared.command.ReportKind.{ReportKind}
 
 pub promised : (P : Command → Type 0) (a b : Command) → Some a ≡ Some b → P a → P b
 promised P a b e holds = let same : a ≡ b = cc in subst P same holds
@@ -16,11 +17,8 @@ pub read_up_to : (a b : ℕ) (old new : DoorState) → Some a ≡ Some b → Rea
 read_up_to a b old new e holds = let same : a ≡ b = cc in subst (λ (most : ℕ). ReadUpTo most old new) same holds
 
 abbrev pub is_capture : Command → Bool
-is_capture (Hear message) = false
-is_capture Check = false
 is_capture Frames = true
-is_capture Judge = false
-is_capture Import = false
+is_capture _ = false
 
 pub not_capture : {A : Type 0} (command : Command) → is_capture command ≡ false → command ≡ Frames → A
 not_capture command e h = absurd (false≢true (sym e ∙ ap is_capture h))
@@ -30,3 +28,17 @@ no_most most e = absurd (false≢true (ap (λ (found : Option ℕ). is_some foun
 
 pub same_command : (a b : Command) → Some a ≡ Some b → a ≡ b
 same_command a b e = cc
+
+-- ---- What is promised of a command with words of its own is promised of each way to name it
+
+pub served_of : (P : ℕ → ℕ → Type 0) (command : Command) (a b port count : ℕ) → command ≡ Serve a b → command ≡ Serve port count → P a b → P port count
+served_of P command a b port count is named holds =
+    let same_port : a ≡ port = cc in
+    let same_count : b ≡ count = cc in
+    subst (λ (n : ℕ). P n count) same_port (subst (λ (n : ℕ). P a n) same_count holds)
+
+pub reported_of : (P : ReportKind → Type 0) (command : Command) (a kind : ReportKind) → command ≡ Report a → command ≡ Report kind → P a → P kind
+reported_of P command a kind is named holds = let same : a ≡ kind = cc in subst P same holds
+
+pub drilled_of : (P : ℕ → Type 0) (command : Command) (a packets : ℕ) → command ≡ Drill a → command ≡ Drill packets → P a → P packets
+drilled_of P command a packets is named holds = let same : a ≡ packets = cc in subst P same holds

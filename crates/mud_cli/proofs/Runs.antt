@@ -10,7 +10,7 @@ use Rattle.dhcp_lldp.specs.Lldp.{lldp_of}
 use Rattle.dhcp_lldp.specs.declared.heard.Heard.{Heard}
 use Rattle.dhcp_lldp.specs.declared.heard.HearFault.{HearFault}
 use Rattle.mud_cli.specs.declared.answer.Answer.{Answer}
-use Rattle.mud_cli.specs.declared.hear.Message.TheVariants.{Dhcp, Lldp}
+use Rattle.command_words.specs.declared.command.Message.TheVariants.{Dhcp, Lldp}
 use Rattle.mud_file.specs.File.{file_of}
 use Rattle.mud_cli.specs.declared.answer.Input.{Input}
 use Rattle.mud_cli.specs.declared.answer.Input.TheVariants as input

@@ -9,8 +9,8 @@ use Rattle.mud_cli.specs.Hear.Answer.{answer_of}
 use Rattle.mud_cli.specs.declared.answer.Answer.{Answer}
 use Rattle.mud_cli.specs.declared.answer.Input.{Input}
 use Rattle.mud_cli.specs.declared.answer.Input.TheVariants as input
-use Rattle.mud_cli.specs.declared.words.Command.{Command}
-use Rattle.mud_cli.specs.declared.words.Command.TheVariants.{Hear, Check, Frames, Judge, Import}
+use Rattle.command_words.specs.declared.command.Command.{Command}
+use Rattle.command_words.specs.declared.command.Command.TheVariants.{Hear, Check, Frames}
 
 -- ---- An input that is read as a whole
 
@@ -38,21 +38,17 @@ abbrev pub reads_input : Command → Bool
 reads_input (Hear message) = true
 reads_input Check = true
 reads_input Frames = true
-reads_input Judge = false
-reads_input Import = false
+reads_input _ = false
 
--- what is due to such a command, over the octets that can be read; of a command over a store nothing is said here
+-- what is due to such a command, over the octets that can be read; of another command nothing is said here
 abbrev pub due_of : Command → List ℕ → Due
 due_of (Hear message) octets = due_of_input (input.Message message) octets
 due_of Check octets = due_of_input input.UsageFile octets
 due_of Frames octets = due_of_capture frame_step tt octets
-due_of Judge octets = record { text = []; status = 0 }
-due_of Import octets = record { text = []; status = 0 }
+due_of _ octets = record { text = []; status = 0 }
 
 -- the most octets that it reads, where it reads its input as a whole: one more than the input has at most
 abbrev pub most_read : Command → Option ℕ
 most_read (Hear message) = Some 65536
 most_read Check = Some 262145
-most_read Frames = None
-most_read Judge = None
-most_read Import = None
+most_read _ = None

@@ -4,4 +4,4 @@ pub mod Frames
 pub mod Hear
 pub mod Import
 pub mod Promises
-pub mod Words
+pub mod Report

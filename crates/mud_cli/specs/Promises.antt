@@ -7,8 +7,8 @@ use Rattle.command_runs.specs.Due.{WritesDue, WritesPart}
 pub use Rattle.command_runs.specs.View.{DoorView, viewed}
 use Rattle.mud_cli.specs.Answers.{due_of, most_read}
 use Rattle.mud_cli.specs.Frames.Lines.{frame_step}
-use Rattle.mud_cli.specs.declared.words.Command.{Command}
-use Rattle.mud_cli.specs.declared.words.Command.TheVariants.{Frames}
+use Rattle.command_words.specs.declared.command.Command.{Command}
+use Rattle.command_words.specs.declared.command.Command.TheVariants.{Frames}
 
 -- At most so many octets were read of the front of the connection.
 pub record ReadUpTo (most : ℕ) (old new : DoorState) : Type 0 where

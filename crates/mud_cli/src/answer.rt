@@ -8,8 +8,9 @@ ghost use Rattle.mud_cli.specs.Answers as answers;
 ghost use Rattle.mud_cli.specs.Promises.{ReadUpTo};
 
 use crate::check::{LONGEST_FILE, checking};
-use crate::hear::{LONGEST_MESSAGE, Message, answer_of};
+use crate::hear::{LONGEST_MESSAGE, answer_of};
 use command_runs::Status;
+use command_words::Message;
 use mud_base::{Bytes, Memory};
 use mud_world::{Door, Failed, ReadFault, read_whole, say};
 use std::alloc::Global;

@@ -5,6 +5,7 @@ ghost use Rattle.mud_cli.specs.Hear.Answer.{answer_of, hearing, hearing_within};
 mod lines;
 
 use crate::answer::Answer;
+use command_words::Message;
 use dhcp_lldp::{HearFault, Heard, read_dhcp, read_lldp};
 use lines::{fault_line, heard_line, too_long_line};
 use mud_base::Memory;
@@ -13,15 +14,6 @@ use std::alloc::Global;
 /// The most octets that a message has: the length of a UDP datagram is a number of 16 bits (RFC
 /// 768).
 pub const LONGEST_MESSAGE: usize = 65_535;
-
-/// What `hear` reads.
-#[derive(Clone, Copy, Debug, PartialEq, Eq)]
-pub enum Message {
-    /// One DHCPv4 message.
-    Dhcp,
-    /// One LLDP frame.
-    Lldp,
-}
 
 /// The line of a message that was read or refused.
 #[tactic(auto, unfolding(crate::specs::Hear::Answer::hearing))]

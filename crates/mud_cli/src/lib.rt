@@ -9,11 +9,8 @@ pub mod import;
 pub mod run;
 #[cfg(test)]
 mod tests;
-pub mod words;
 
 pub use answer::{Answer, Input};
 pub use command_runs::Status;
-pub use hear::Message;
 pub use import::import_store;
 pub use run::mud_main;
-pub use words::Command;

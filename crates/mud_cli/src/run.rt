@@ -1,23 +1,32 @@
 //! The top call of the program.
-ghost use Rattle.std.specs.Prelude.{◌≡◌, ◌≢◌, ◌↔◌, None, Some, IsTrue};
+ghost use Rattle.std.specs.Prelude.{◌≡◌, ◌≢◌, ◌↔◌, ℕ, None, Some, IsTrue};
 ghost use Rattle.command_runs.specs.Status.{status_number};
 ghost use Rattle.command_runs.specs.View.{viewed};
 ghost use Rattle.desk_runs.specs.Store.{JudgesStore};
 ghost use Rattle.mud_cli.specs.Answers.{reads_input};
 ghost use Rattle.mud_cli.specs.Import.Store.{ImportsStore, outside, spool_viewed};
 ghost use Rattle.mud_cli.specs.Promises.{LeavesRest, Promises};
-ghost use Rattle.mud_cli.specs.Words.{command_in, words_of};
-ghost use Rattle.mud_cli.specs.declared.words.Command.{Command};
-ghost use Rattle.mud_cli.specs.declared.words.Command.TheVariants.{Judge, Import};
+ghost use Rattle.command_words.specs.Words.{command_in, words_of};
+ghost use Rattle.command_words.specs.declared.command.Command.{Command};
+ghost use Rattle.command_words.specs.declared.command.Command.TheVariants.{Judge, Import, Replay, Serve, Report, Drill};
+ghost use Rattle.command_words.specs.declared.command.ReportKind.{ReportKind};
+ghost use Rattle.console_runs.specs.Replay.{ReplaysStore};
+ghost use Rattle.console_runs.specs.Serve.{ServesStore, listening, clock_run};
+ghost use Rattle.drill_runs.specs.Store.{DrillsStore};
+ghost use Rattle.report_runs.specs.Store.{ReportsStore};
+ghost use Rattle.mud_cli.specs.Report.{AsksClock};
 
 use crate::answer::{Input, answer_input};
 use crate::frames::FrameLines;
 use crate::import::import_store;
-use crate::words::{Command, command_of};
 use command_runs::{Status, write_capture};
+use command_words::{Command, command_of};
+use console_runs::{replay_store, serve_store};
 use desk_runs::judge_store;
+use drill_runs::run_drill;
 use mud_desk::Taken;
 use mud_world::{Clock, Door, Keeper, Spool};
+use report_runs::report_store;
 use std::alloc::Global;
 
 /// Runs a command.
@@ -47,6 +56,34 @@ fn run_command<D: Door, P: Spool, C: Clock>(
         (outside (viewed (D.state door.new) (D.turns door.new) (D.reads door.new) (D.writes door.new))
         (spool_viewed (P.files spool.new) (P.faults spool.new)) (C.moments clock.new))
         (status_number result.0) }
+    ensures replayed { command ≡ Replay → ReplaysStore Keeper-dyn D.tells keeper result.1
+        (viewed (D.state door.old) (D.turns door.old) (D.reads door.old) (D.writes door.old))
+        (viewed (D.state door.new) (D.turns door.new) (D.reads door.new) (D.writes door.new))
+        (status_number result.0) }
+    ensures replay_silent { command ≡ Replay → status_number result.0 ≡ 7 → door.new ≡ door.old }
+    ensures replay_apart { command ≡ Replay → (spool.new ≡ spool.old) × (clock.new ≡ clock.old) }
+    ensures served { (port count : ℕ) → command ≡ Serve port count →
+        ServesStore Keeper-dyn D.tells C.tells keeper result.1 (listening port count) (clock_run (C.moments clock.old) (C.moments clock.new))
+        (viewed (D.state door.old) (D.turns door.old) (D.reads door.old) (D.writes door.old))
+        (viewed (D.state door.new) (D.turns door.new) (D.reads door.new) (D.writes door.new))
+        (status_number result.0) }
+    ensures serve_silent { (port count : ℕ) → command ≡ Serve port count → status_number result.0 ≡ 7 → (door.new ≡ door.old) × (clock.new ≡ clock.old) }
+    ensures serve_apart { (port count : ℕ) → command ≡ Serve port count → spool.new ≡ spool.old }
+    ensures reported { (kind : ReportKind) → command ≡ Report kind →
+        ReportsStore Keeper-dyn kind D.tells C.tells (C.moments clock.old) keeper result.1
+        (viewed (D.state door.old) (D.turns door.old) (D.reads door.old) (D.writes door.old))
+        (viewed (D.state door.new) (D.turns door.new) (D.reads door.new) (D.writes door.new))
+        (status_number result.0) }
+    ensures report_silent { (kind : ReportKind) → command ≡ Report kind → status_number result.0 ≡ 7 → door.new ≡ door.old }
+    ensures report_clock { (kind : ReportKind) → command ≡ Report kind → AsksClock C.tells C.moments kind clock.old clock.new (status_number result.0) }
+    ensures report_apart { (kind : ReportKind) → command ≡ Report kind → spool.new ≡ spool.old }
+    ensures drilled { (packets : ℕ) → command ≡ Drill packets →
+        DrillsStore Keeper-dyn D.tells packets keeper result.1
+        (viewed (D.state door.old) (D.turns door.old) (D.reads door.old) (D.writes door.old))
+        (viewed (D.state door.new) (D.turns door.new) (D.reads door.new) (D.writes door.new))
+        (status_number result.0) }
+    ensures drill_silent { (packets : ℕ) → command ≡ Drill packets → status_number result.0 ≡ 7 → door.new ≡ door.old }
+    ensures drill_apart { (packets : ℕ) → command ≡ Drill packets → (spool.new ≡ spool.old) × (clock.new ≡ clock.old) }
 {
     match command {
         Command::Hear(message) => (answer_input(alloc, Input::Message(message), door), keeper),
@@ -54,22 +91,28 @@ fn run_command<D: Door, P: Spool, C: Clock>(
         Command::Frames => (write_capture(alloc, door, &mut FrameLines), keeper),
         Command::Judge => judge_store(alloc, keeper, Taken::new(alloc), door),
         Command::Import => import_store(alloc, keeper, Taken::new(alloc), door, spool, clock),
+        Command::Replay => replay_store(alloc, keeper, Taken::new(alloc), door),
+        Command::Serve { port, count } => {
+            serve_store(alloc, keeper, Taken::new(alloc), door, clock, port, count)
+        }
+        Command::Report(kind) => report_store(alloc, keeper, Taken::new(alloc), kind, door, clock),
+        Command::Drill(packets) => run_drill(alloc, keeper, Taken::new(alloc), packets, door),
     }
 }
 
 /// Runs the program on the words after its name, and answers its status and the box that it was
 /// given. A run that opens no store makes no call on the keeper. One that opens a store does so
-/// before it reads the door or lists the spool.
+/// before it binds a port, reads the door or lists the spool.
 ///
 /// | Status | It comes |
 /// |---|---|
-/// | 0 | the input was read to its end, or each file of the folder was imported or skipped |
+/// | 0 | the input was read to its end, or each file of the folder was imported or skipped; of `replay`, the connection ended between two requests or by a request that closes it; of `serve`, the connections were served; of `report` and `drill`, all was written |
 /// | 2 | exactly where the words are no listed line; then nothing is read or written |
-/// | 3 | exactly where the input breaks a rule of its reader, or an imported file is refused |
-/// | 4 | exactly where a read or a write of the door, or a call of the spool, failed in this call |
-/// | 5 | want of memory |
+/// | 3 | exactly where the input breaks a rule of its reader, or an imported file is refused; of `replay`, a fault of the framing or the last request of a connection ended it; of `drill`, the store isn't empty |
+/// | 4 | exactly where a read or a write of the door, or a call of the spool, failed in this call; of `serve`, only where the port couldn't be bound, a further connection couldn't be taken, or the line of 6 couldn't be written |
+/// | 5 | want of memory; of `replay` and `serve`, before a connection is read |
 /// | 6 | exactly where an item of the store is no record |
-/// | 7 | only where the keeper failed in this call |
+/// | 7 | only where the keeper failed in this call: of `import` and `drill` in any call, else in the opening |
 pub fn mud_main<D: Door, P: Spool, C: Clock>(
     alloc: Global,
     words: &[String],
@@ -105,8 +148,40 @@ pub fn mud_main<D: Door, P: Spool, C: Clock>(
         (outside (viewed (D.state door.new) (D.turns door.new) (D.reads door.new) (D.writes door.new))
         (spool_viewed (P.files spool.new) (P.faults spool.new)) (C.moments clock.new))
         result.0 }
+    // Of `replay`: what it does with the door and the keeper, and that it touches nothing else.
+    ensures replayed { command_in (words_of words.now) ≡ Some Replay → ReplaysStore Keeper-dyn D.tells keeper result.1
+        (viewed (D.state door.old) (D.turns door.old) (D.reads door.old) (D.writes door.old))
+        (viewed (D.state door.new) (D.turns door.new) (D.reads door.new) (D.writes door.new))
+        result.0 }
+    ensures replay_silent { command_in (words_of words.now) ≡ Some Replay → result.0 ≡ 7 → door.new ≡ door.old }
+    ensures replay_apart { command_in (words_of words.now) ≡ Some Replay → (spool.new ≡ spool.old) × (clock.new ≡ clock.old) }
+    // Of `serve`: what it does with the door, the keeper and the clock, and that it touches nothing else.
+    ensures served { (port count : ℕ) → command_in (words_of words.now) ≡ Some (Serve port count) →
+        ServesStore Keeper-dyn D.tells C.tells keeper result.1 (listening port count) (clock_run (C.moments clock.old) (C.moments clock.new))
+        (viewed (D.state door.old) (D.turns door.old) (D.reads door.old) (D.writes door.old))
+        (viewed (D.state door.new) (D.turns door.new) (D.reads door.new) (D.writes door.new))
+        result.0 }
+    ensures serve_silent { (port count : ℕ) → command_in (words_of words.now) ≡ Some (Serve port count) → result.0 ≡ 7 → (door.new ≡ door.old) × (clock.new ≡ clock.old) }
+    ensures serve_apart { (port count : ℕ) → command_in (words_of words.now) ≡ Some (Serve port count) → spool.new ≡ spool.old }
+    // Of `report`: what it does with the door and the keeper, when it asks the clock, and that it touches nothing else.
+    ensures reported { (kind : ReportKind) → command_in (words_of words.now) ≡ Some (Report kind) →
+        ReportsStore Keeper-dyn kind D.tells C.tells (C.moments clock.old) keeper result.1
+        (viewed (D.state door.old) (D.turns door.old) (D.reads door.old) (D.writes door.old))
+        (viewed (D.state door.new) (D.turns door.new) (D.reads door.new) (D.writes door.new))
+        result.0 }
+    ensures report_silent { (kind : ReportKind) → command_in (words_of words.now) ≡ Some (Report kind) → result.0 ≡ 7 → door.new ≡ door.old }
+    ensures report_clock { (kind : ReportKind) → command_in (words_of words.now) ≡ Some (Report kind) → AsksClock C.tells C.moments kind clock.old clock.new result.0 }
+    ensures report_apart { (kind : ReportKind) → command_in (words_of words.now) ≡ Some (Report kind) → spool.new ≡ spool.old }
+    // Of `drill`: what it does with the door and the keeper, and that it touches nothing else.
+    ensures drilled { (packets : ℕ) → command_in (words_of words.now) ≡ Some (Drill packets) →
+        DrillsStore Keeper-dyn D.tells packets keeper result.1
+        (viewed (D.state door.old) (D.turns door.old) (D.reads door.old) (D.writes door.old))
+        (viewed (D.state door.new) (D.turns door.new) (D.reads door.new) (D.writes door.new))
+        result.0 }
+    ensures drill_silent { (packets : ℕ) → command_in (words_of words.now) ≡ Some (Drill packets) → result.0 ≡ 7 → door.new ≡ door.old }
+    ensures drill_apart { (packets : ℕ) → command_in (words_of words.now) ≡ Some (Drill packets) → (spool.new ≡ spool.old) × (clock.new ≡ clock.old) }
 {
-    let Some(command) = command_of(words) else {
+    let Some(command) = command_of(alloc, words) else {
         return (Status::Unlisted.number(), keeper);
     };
     let (status, keeper) = run_command(alloc, command, keeper, door, spool, clock);

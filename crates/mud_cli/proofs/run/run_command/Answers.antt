@@ -1,11 +1,16 @@
-use Rattle.std.proofs.Common.{◌≡◌, refl}
+use Rattle.std.proofs.Common.{◌≡◌, ℕ, refl}
 use Rattle.command_runs.specs.Status.{status_number}
 use Rattle.mud_cli.specs.Answers.{most_of}
 use Rattle.command_runs.specs.View.{viewed}
 use Rattle.mud_cli.specs.Promises.{Promises}
-use Rattle.mud_cli.specs.declared.words.Command.{Command}
-use Rattle.mud_cli.specs.declared.words.Command.TheVariants.{Hear, Check, Frames}
-use Rattle.mud_cli.proofs.Promised.{no_most, not_capture, promised_of, read_up_to}
+use Rattle.command_words.specs.declared.command.Command.{Command}
+use Rattle.command_words.specs.declared.command.Command.TheVariants.{Hear, Check, Frames}
+use Rattle.command_words.specs.declared.command.ReportKind.{ReportKind}
+use Rattle.console_runs.specs.Serve.{ServesStore, listening, clock_run}
+use Rattle.report_runs.specs.Store.{ReportsStore}
+use Rattle.drill_runs.specs.Store.{DrillsStore}
+use Rattle.mud_cli.specs.Report.{AsksClock}
+use Rattle.mud_cli.proofs.Promised.{drilled_of, no_most, not_capture, promised_of, read_up_to, reported_of, served_of}
 use Rattle.mud_cli.proofs.run.run_command.Goals as goal
 
 pub returns-in-Hear-clause-answers : goal.returns-in-Hear-clause-answers
@@ -78,3 +83,51 @@ returns-in-Frames-clause-answers g c = λ reads.
       within = λ tells most is. no_most most is;
       same_turns = a.turns;
     })
+
+pub returns-in-Serve-clause-served : goal.returns-in-Serve-clause-served
+returns-in-Serve-clause-served g c = λ port count named.
+    let door = g.D.Door in
+    let clock = g.C.Clock in
+    let old = c.args.door.now in
+    let new = c.serve_store.new.door in
+    served_of
+    (λ (p n : ℕ). ServesStore (goal.Keeper-dyn g) door.tells clock.tells c.args.keeper c.serve_store.result.1
+    (listening p n) (clock_run (clock.moments c.args.clock.now) (clock.moments c.serve_store.new.clock))
+    (viewed (door.state old) (door.turns old) (door.reads old) (door.writes old))
+    (viewed (door.state new) (door.turns new) (door.reads new) (door.writes new))
+    (status_number c.serve_store.result.0))
+    c.args.command c.in-Serve.port c.in-Serve.count port count c.in-Serve.is named c.serve_store.ensures.served
+
+pub returns-in-Report-clause-reported : goal.returns-in-Report-clause-reported
+returns-in-Report-clause-reported g c = λ kind named.
+    let door = g.D.Door in
+    let clock = g.C.Clock in
+    let old = c.args.door.now in
+    let new = c.report_store.new.door in
+    reported_of
+    (λ (k : ReportKind). ReportsStore (goal.Keeper-dyn g) k door.tells clock.tells (clock.moments c.args.clock.now) c.args.keeper c.report_store.result.1
+    (viewed (door.state old) (door.turns old) (door.reads old) (door.writes old))
+    (viewed (door.state new) (door.turns new) (door.reads new) (door.writes new))
+    (status_number c.report_store.result.0))
+    c.args.command c.in-Report.kind kind c.in-Report.is named c.report_store.ensures.reported
+
+pub returns-in-Report-clause-report_clock : goal.returns-in-Report-clause-report_clock
+returns-in-Report-clause-report_clock g c = λ kind named.
+    let clock = g.C.Clock in
+    let asks = c.report_store.ensures in
+    reported_of
+    (λ (k : ReportKind). AsksClock clock.tells clock.moments k c.args.clock.now c.report_store.new.clock (status_number c.report_store.result.0))
+    c.args.command c.in-Report.kind kind c.in-Report.is named
+    (record { asked = asks.asked; once = asks.once; unasked = asks.unasked; unopened = asks.unopened })
+
+pub returns-in-Drill-clause-drilled : goal.returns-in-Drill-clause-drilled
+returns-in-Drill-clause-drilled g c = λ packets named.
+    let door = g.D.Door in
+    let old = c.args.door.now in
+    let new = c.run_drill.new.door in
+    drilled_of
+    (λ (n : ℕ). DrillsStore (goal.Keeper-dyn g) door.tells n c.args.keeper c.run_drill.result.1
+    (viewed (door.state old) (door.turns old) (door.reads old) (door.writes old))
+    (viewed (door.state new) (door.turns new) (door.reads new) (door.writes new))
+    (status_number c.run_drill.result.0))
+    c.args.command c.in-Drill.packets packets c.in-Drill.is named c.run_drill.ensures.drilled

@@ -264,3 +264,49 @@ unknown_of_udp = refl
 unknown_of_icmp : read Ipv4 From (icmp ((codes "rest-of-header", null) ∷ [])) ≡ breaks rule.UnknownMatch (codes "/matches/icmp/rest-of-header")
 unfolding match_on_literals
 unknown_of_icmp = refl
+
+-- ---- Numbers of the IP header, and flags
+
+-- `fin` is 1, `syn` 2 and `cwr` 128
+numbers_and_flags : read Ipv6 From ((codes "ipv6", obj ((codes "dscp", num 63) ∷ (codes "ecn", num 3) ∷ (codes "length", num 65535) ∷ (codes "ttl", num 255) ∷ []))
+    ∷ (codes "tcp", obj ((codes "flags", string (codes "fin  cwr syn")) ∷ [])) ∷ [])
+    ≡ Ok (record { selectors = []; own = None; protocol = None; dscp = Some 63; ecn = Some 3; length = Some 65535; ttl = Some 255; layer = layer.Tcp port.Any port.Any None (Some 131) })
+unfolding match_on_literals
+numbers_and_flags = refl
+
+-- each is in its range before the next one is read
+dscp_of_64 : read Ipv4 From (ipv4 ((codes "ecn", num 4) ∷ (codes "dscp", num 64) ∷ [])) ≡ breaks rule.Range (codes "/matches/ipv4/dscp")
+unfolding match_on_literals
+dscp_of_64 = refl
+
+ecn_of_4 : read Ipv4 From (ipv4 ((codes "length", num 65536) ∷ (codes "ecn", num 4) ∷ [])) ≡ breaks rule.Range (codes "/matches/ipv4/ecn")
+unfolding match_on_literals
+ecn_of_4 = refl
+
+length_of_65536 : read Ipv4 From (ipv4 ((codes "ttl", num 256) ∷ (codes "length", num 65536) ∷ [])) ≡ breaks rule.Range (codes "/matches/ipv4/length")
+unfolding match_on_literals
+length_of_65536 = refl
+
+ttl_of_256 : read Ipv4 From (ipv4 ((codes "protocol", num 256) ∷ (codes "ttl", num 256) ∷ [])) ≡ breaks rule.Range (codes "/matches/ipv4/ttl")
+unfolding match_on_literals
+ttl_of_256 = refl
+
+protocol_of_256 : read Ipv4 From (ipv4 ((codes "protocol", num 256) ∷ [])) ≡ breaks rule.Range (codes "/matches/ipv4/protocol")
+unfolding match_on_literals
+protocol_of_256 = refl
+
+other_flag : read Ipv4 From (tcp ((codes "flags", string (codes "syn push")) ∷ [])) ≡ breaks rule.FlagText (codes "/matches/tcp/flags")
+unfolding match_on_literals
+other_flag = refl
+
+direction_before_flags : read Ipv4 From (tcp ((codes "flags", num 2) ∷ (codes "ietf-mud:direction-initiated", num 1) ∷ [])) ≡ breaks rule.WrongKind (codes "/matches/tcp/ietf-mud:direction-initiated")
+unfolding match_on_literals
+direction_before_flags = refl
+
+flags_in_udp : read Ipv4 From (udp ((codes "flags", string (codes "syn")) ∷ [])) ≡ breaks rule.UnknownMatch (codes "/matches/udp/flags")
+unfolding match_on_literals
+flags_in_udp = refl
+
+unknown_of_ip : read Ipv4 From (ipv4 ((codes "flow-label", num 1) ∷ (codes "protocol", num 256) ∷ [])) ≡ breaks rule.UnknownMatch (codes "/matches/ipv4/flow-label")
+unfolding match_on_literals
+unknown_of_ip = refl

@@ -46,12 +46,15 @@ impl<N: Net> Port<N> {
         })
     }
 
-    /// Waits for a further client, and gives it its time limits.
+    /// Waits for a further client, and gives it its time limits. What is written to it is sent at once:
+    /// an answer is written in two pieces, and the second one isn't to wait until the client has
+    /// acknowledged the first.
     fn accept(&self) -> io::Result<Client<N::Stream>> {
         let (stream, _) = self.listener.accept()?;
         let limit = Some(Duration::from_secs(LONGEST_WAIT));
         stream.set_read_timeout(limit)?;
         stream.set_write_timeout(limit)?;
+        stream.set_nodelay(true)?;
         Ok(Client { stream })
     }
 

@@ -22,6 +22,8 @@ checks: build
 	bash checks/console
 	bash checks/store
 	bash checks/tour
+	checks/differential crates/mud/out/mud 1 10000
+	checks/differential crates/mud/out/mud 2 10000 200
 
 limits: build
 	bash checks/limits

@@ -1,0 +1,47 @@
+use Rattle.std.proofs.Common.{◌≡◌, ℕ, Some, sym, ◌∙◌, subst}
+use Rattle.command_runs.specs.View.{viewed}
+use Rattle.command_words.specs.declared.command.Command.TheVariants.{Replay, Serve, Report}
+use Rattle.console_runs.specs.Replay.{ReplaysStore}
+use Rattle.console_runs.specs.Serve.{ServesStore, listening, clock_run}
+use Rattle.report_runs.specs.Store.{ReportsStore}
+use Rattle.mud_cli.proofs.Promised.{same_command}
+use Rattle.mud_cli.proofs.run.mud_main.Goals as goal
+
+pub returns-clause-replayed : goal.returns-clause-replayed
+returns-clause-replayed g c = λ named.
+    let door = g.D.Door in
+    let old = c.args.door.now in
+    let new = c.run_command-status.new.door in
+    subst
+    (λ (status : ℕ). ReplaysStore (goal.Keeper-dyn g) door.tells c.args.keeper c.run_command-status.result.1
+    (viewed (door.state old) (door.turns old) (door.reads old) (door.writes old))
+    (viewed (door.state new) (door.turns new) (door.reads new) (door.writes new)) status)
+    (sym c.number-2.ensures)
+    (c.run_command-status.ensures.replayed (same_command c.in-Some.command Replay (sym c.in-Some.is ∙ c.command_of.ensures ∙ named)))
+
+pub returns-clause-served : goal.returns-clause-served
+returns-clause-served g c = λ port count named.
+    let door = g.D.Door in
+    let clock = g.C.Clock in
+    let old = c.args.door.now in
+    let new = c.run_command-status.new.door in
+    subst
+    (λ (status : ℕ). ServesStore (goal.Keeper-dyn g) door.tells clock.tells c.args.keeper c.run_command-status.result.1
+    (listening port count) (clock_run (clock.moments c.args.clock.now) (clock.moments c.run_command-status.new.clock))
+    (viewed (door.state old) (door.turns old) (door.reads old) (door.writes old))
+    (viewed (door.state new) (door.turns new) (door.reads new) (door.writes new)) status)
+    (sym c.number-2.ensures)
+    (c.run_command-status.ensures.served port count (same_command c.in-Some.command (Serve port count) (sym c.in-Some.is ∙ c.command_of.ensures ∙ named)))
+
+pub returns-clause-reported : goal.returns-clause-reported
+returns-clause-reported g c = λ kind named.
+    let door = g.D.Door in
+    let clock = g.C.Clock in
+    let old = c.args.door.now in
+    let new = c.run_command-status.new.door in
+    subst
+    (λ (status : ℕ). ReportsStore (goal.Keeper-dyn g) kind door.tells clock.tells (clock.moments c.args.clock.now) c.args.keeper c.run_command-status.result.1
+    (viewed (door.state old) (door.turns old) (door.reads old) (door.writes old))
+    (viewed (door.state new) (door.turns new) (door.reads new) (door.writes new)) status)
+    (sym c.number-2.ensures)
+    (c.run_command-status.ensures.reported kind (same_command c.in-Some.command (Report kind) (sym c.in-Some.is ∙ c.command_of.ensures ∙ named)))

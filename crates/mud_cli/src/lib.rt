@@ -7,8 +7,6 @@ pub mod frames;
 pub mod hear;
 pub mod import;
 pub mod run;
-#[cfg(test)]
-mod tests;
 
 pub use answer::{Answer, Input};
 pub use command_runs::Status;

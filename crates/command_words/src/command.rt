@@ -22,7 +22,7 @@ pub enum ReportKind {
     Locals,
     /// The names and their addresses.
     Names,
-    /// The URLs whose approved file is past its hours.
+    /// The URLs of which the file that was fetched later, approved or not, is past its hours.
     Due,
 }
 

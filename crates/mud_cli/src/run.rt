@@ -108,10 +108,10 @@ fn run_command<D: Door, P: Spool, C: Clock>(
 /// |---|---|
 /// | 0 | the input was read to its end, or each file of the folder was imported or skipped; of `replay`, the connection ended between two requests or by a request that closes it; of `serve`, the connections were served; of `report` and `drill`, all was written |
 /// | 2 | exactly where the words are no listed line; then nothing is read or written |
-/// | 3 | exactly where the input breaks a rule of its reader, or an imported file is refused; of `replay`, a fault of the framing or the last request of a connection ended it; of `drill`, the store isn't empty |
+/// | 3 | the input breaks a rule of its reader, and the line that says so was written; or an imported file is refused, and the keeper didn't fail; of `replay`, a fault of the framing or the last request of a connection ended it; of `drill`, the store isn't empty |
 /// | 4 | exactly where a read or a write of the door, or a call of the spool, failed in this call; of `serve`, only where the port couldn't be bound, a further connection couldn't be taken, or the line of 6 couldn't be written |
 /// | 5 | want of memory; of `replay` and `serve`, before a connection is read |
-/// | 6 | exactly where an item of the store is no record |
+/// | 6 | an item of the store is no record, and the line that names it was written; where it wasn't written whole it is 4 or 5 |
 /// | 7 | only where the keeper failed in this call: of `import` and `drill` in any call, else in the opening |
 pub fn mud_main<D: Door, P: Spool, C: Clock>(
     alloc: Global,

@@ -8,6 +8,7 @@ pub mod ListTests
 pub mod PlacedLaws
 mod ProbeLaws
 pub mod RowLaws
+pub mod RunLaws
 pub mod RowSets
 mod SearchLaws
 mod IndexAmong

@@ -1,5 +1,6 @@
 pub mod Changes
 pub mod Placed
+pub mod Runs
 pub mod Search
 pub mod Addresses
 pub mod Ascending

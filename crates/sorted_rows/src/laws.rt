@@ -1,9 +1,10 @@
 //! Laws of rows, each on a function that does nothing. They hold for any rows and their places.
-ghost use Rattle.std.specs.Prelude.{◌≡◌, ℕ, Bool, true, false, ◌&&◌, ◌+◌, ◌*◌, ◌<◌, ◌≤◌, ◌^◌, List, map, filter, ◌++◌, length, Option, Some, None, if◌then◌else◌, is_some, IsTrue};
+ghost use Rattle.std.specs.Prelude.{◌≡◌, ℕ, Bool, true, false, ◌&&◌, ◌+◌, ◌*◌, ◌<◌, ◌≤◌, ◌^◌, List, map, filter, take, drop, ◌++◌, length, Option, Some, None, Err, if◌then◌else◌, is_some, IsTrue};
 ghost use Rattle.std.specs.List.{list_any, AllByRecursion};
 ghost use Rattle.std.specs.Option.{option_or, option_map, option_map_or};
 ghost use Rattle.std.specs.declared.cmp.Ordering.TheVariants.{Less};
 ghost use Rattle.sorted_rows.specs.Placed.{place_cmp, same_place, row_at, index_in, set_row, set_rows, without_row, PlacesAbove, PlacesBelow, PlacesAscend, ComeBefore};
+ghost use Rattle.sorted_rows.specs.Runs.{without_rows};
 ghost use Rattle.sorted_rows.specs.Changes.{RowChange, changed, is_gone, last_at, places_of, rows_at, is_plain};
 
 use crate::placed::Placed;
@@ -66,6 +67,17 @@ pub fn parts_change_alone<R: Placed>()
         → set_row R.place row (xs ++ ys) ≡ set_row R.place row xs ++ ys }
     ensures taken_before { (q : List ℕ) (xs ys : List R) → PlacesAbove R.place q ys
         → without_row R.place q (xs ++ ys) ≡ without_row R.place q xs ++ ys }
+{}
+
+/// Runs of rows that stand side by side.
+pub fn runs_change_at_once<R: Placed>()
+    // Rows in order that all belong at one index stand there side by side once each is put in.
+    ensures put { (i : ℕ) (run rows : List R) → PlacesAscend R.place rows → PlacesAscend R.place run
+        → AllByRecursion (λ row. index_in R.place (R.place row) rows ≡ Err i) run
+        → set_rows R.place run rows ≡ take i rows ++ run ++ drop i rows }
+    // Once each row from one index up to another is taken away, those before and behind are left.
+    ensures taken { (i n : ℕ) (rows : List R) → PlacesAscend R.place rows
+        → without_rows R.place (take n (drop i rows)) rows ≡ take i rows ++ drop (i + n) rows }
 {}
 
 /// Images of rows, whose places stand to one another as theirs do.

@@ -7,5 +7,5 @@ pub mod laws;
 pub mod placed;
 pub mod steps;
 
-pub use placed::{Change, KeyOf, Placed, PrefixOf, SortedRows};
+pub use placed::{Change, HoldsRow, KeyOf, Placed, PrefixOf, SortedRows};
 pub use steps::Steps;

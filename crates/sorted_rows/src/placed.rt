@@ -6,6 +6,7 @@ mod change;
 mod counted;
 pub mod lists;
 mod rows;
+mod runs;
 mod search;
 
 pub use change::Change;
@@ -50,6 +51,16 @@ pub trait PrefixOf<R: Placed> {
     /// `Equal` where the place begins with them, and `Greater` where it ends before them.
     fn order_to_beginning(&self, row: &R) -> Ordering
         ensures { result ≡ prefix_cmp (prefix self.now) (R.place row.now) };
+}
+
+/// What a row is taken out of, as a note of what becomes of it.
+pub trait HoldsRow<R: Placed> {
+    /// The row.
+    ghost row_of: { Self → R };
+
+    /// Takes the row out.
+    fn into_row(self) -> R
+        ensures { result ≡ row_of self };
 }
 
 #[cfg(test)]

@@ -1,10 +1,12 @@
 //! Rows that are kept in the order of their places.
-ghost use Rattle.std.specs.Prelude.{◌≡◌, ℕ, ◌+◌, ◌-◌, ◌*◌, ◌^◌, ◌<◌, ◌≤◌, ◌↔◌, min, [], ◌∷◌, ◌++◌, length, slice_get, Some, is_some, option_copied, IsOk, IsSome, IfSome, OnOk, if◌then◌else◌, vec_len, vec_capacity, IsTrue};
+ghost use Rattle.std.specs.Prelude.{◌≡◌, ℕ, ◌+◌, ◌-◌, ◌*◌, ◌^◌, ◌<◌, ◌≤◌, ◌↔◌, min, [], ◌∷◌, ◌++◌, length, map, take, drop, slice_get, Some, Err, is_some, option_copied, IsOk, IsSome, IfSome, OnOk, if◌then◌else◌, vec_len, vec_capacity, IsTrue};
+ghost use Rattle.std.specs.List.{AllByRecursion};
 ghost use Rattle.sorted_rows.specs.Placed.{PlacesAscend, row_at, index_in, rows_under, set_row, set_rows, without_row, comes_last};
 ghost use Rattle.sorted_rows.specs.Changes.{changed};
 
+use super::runs::{put_run, take_run};
 use super::search::{index_of, stretch_under};
-use super::{Change, KeyOf, Placed, PrefixOf};
+use super::{Change, HoldsRow, KeyOf, Placed, PrefixOf};
 use crate::steps::Steps;
 use mud_base::Memory;
 use std::alloc::Global;
@@ -219,6 +221,40 @@ impl<R: Placed> SortedRows<R> {
         ensures space { self.new.room + length self.new.rows ≡ self.old.room + length self.old.rows }
     {
         take_row(&mut self.rows, index)
+    }
+
+    /// Puts in a run of rows that all belong at this index: those that are held from index `first`
+    /// on. What held them is gone. The rows behind move once, and it takes no memory.
+    pub fn put_run_at<E: HoldsRow<R> + Placed>(
+        &mut self,
+        index: usize,
+        held: &mut SortedRows<E>,
+        first: usize,
+    )
+        requires index { index ≤ length self.old.rows }
+        requires first { first ≤ length held.old.rows }
+        requires ascend { PlacesAscend R.place (map E.row_of (drop first held.old.rows)) }
+        requires found { AllByRecursion (λ row. index_in R.place (R.place row) self.old.rows ≡ Err index) (map E.row_of (drop first held.old.rows)) }
+        requires room { length held.old.rows ≤ self.old.room + first }
+        ensures rows { self.new.rows ≡ take index self.old.rows ++ map E.row_of (drop first held.old.rows) ++ drop index self.old.rows }
+        ensures held { held.new.rows ≡ take first held.old.rows }
+        ensures room { self.new.room + length held.old.rows ≡ self.old.room + first }
+        ensures space { self.new.room + length self.new.rows ≡ self.old.room + length self.old.rows }
+    {
+        put_run(&mut self.rows, index, &mut held.rows, first);
+    }
+
+    /// Takes away as many rows as `count` says from this index on, and there is room for as many
+    /// more. The rows behind move once.
+    pub fn take_run_at(&mut self, index: usize, count: usize)
+    where
+        R: Drop,
+        requires { index + count ≤ length self.old.rows }
+        ensures rows { self.new.rows ≡ take index self.old.rows ++ drop (index + count) self.old.rows }
+        ensures room { self.new.room ≡ self.old.room + count }
+        ensures space { self.new.room + length self.new.rows ≡ self.old.room + length self.old.rows }
+    {
+        take_run(&mut self.rows, index, count);
     }
 
     /// Takes the row that the key names away, and there is room for one more; None where there is

@@ -135,3 +135,63 @@ fn counted_calls_do_the_same(rt: HostRuntime) -> Result<(), Fail> {
     assert_eq!(rt; last, Some(at(9, 9, 9)));
     Ok(())
 }
+
+/// A seat that is to be put in.
+#[derive(Drop, Debug)]
+struct Coming(Seat);
+
+impl Placed for Coming {
+    ghost place = { λ c. c.0.row ∷ c.0.number ∷ [] };
+
+    fn order(&self, other: &Coming) -> Ordering {
+        self.0.order(&other.0)
+    }
+}
+
+impl HoldsRow<Seat> for Coming {
+    ghost row_of = { λ c. c.0 };
+
+    fn into_row(self) -> Seat {
+        let Coming(seat) = self;
+        seat
+    }
+}
+
+const FIRST: Seat = Seat {
+    row: 1,
+    number: 4,
+    guest: 1,
+};
+
+const LAST: Seat = Seat {
+    row: 2,
+    number: 3,
+    guest: 2,
+};
+
+const ONE: Seat = Seat {
+    row: 1,
+    number: 5,
+    guest: 3,
+};
+
+const OTHER: Seat = Seat {
+    row: 2,
+    number: 2,
+    guest: 4,
+};
+
+#[test]
+fn runs_are_put_and_taken_away(rt: HostRuntime) -> Result<(), Fail> {
+    let stored = vec![in rt.alloc(); FIRST, LAST]?;
+    let new = vec![in rt.alloc(); Coming(FIRST), Coming(ONE), Coming(OTHER)]?;
+    let mut seats = SortedRows::from_sorted(stored).ok_or("not in order")?;
+    let mut coming = SortedRows::from_sorted(new).ok_or("not in order")?;
+    seats.reserve(2)?;
+    seats.put_run_at(1, &mut coming, 1);
+    assert_eq!(rt; seats.rows(), [FIRST, ONE, OTHER, LAST].as_slice());
+    assert_eq!(rt; coming.len(), 1);
+    seats.take_run_at(1, 2);
+    assert_eq!(rt; seats.rows(), [FIRST, LAST].as_slice());
+    Ok(())
+}

@@ -1,0 +1,245 @@
+-- Runs of rows that stand side by side, put in or taken away at once.
+use Rattle.std.proofs.Common.{◌≡◌, ℕ, zero, suc, ◌+◌, ◌≤◌, ◌<◌, List, [], ◌∷◌, ◌++◌, length, map, take, drop, reverse, get_or, Result, Ok, Err, refl, sym, ap, subst, ◌∙◌, arith, append_assoc, append-nil}
+use Rattle.std.specs.List.{AllByRecursion}
+use Rattle.std.specs.declared.cmp.Ordering.{Ordering}
+use Rattle.std.specs.declared.cmp.Ordering.TheVariants.{Less, Equal, Greater}
+use Rattle.std.proofs.lemmas.List.{take_more, drop_more, drop-drop, same_from_push, reverse-append, take-append-drop}
+use Rattle.sorted_rows.specs.Placed.{place_cmp, index_in, one_on, set_row, set_rows, without_row, PlacesAbove, PlacesBelow, PlacesAscend}
+use Rattle.sorted_rows.specs.Runs.{without_rows}
+use Rattle.sorted_rows.proofs.PlacedLaws.{place_cmp_itself, place_cmp_turned, above_trans, ascend-set_row, ascend-without_row}
+use Rattle.sorted_rows.proofs.IndexLaws.{set_row-behind, without_row-behind}
+
+-- ---- From the end of one list to that of another
+
+-- the last of those that are held is the first behind the others
+pub record IsMoved {X : Type 0} (xs rest : List X) (n : ℕ) (x : X) : Type 0 where
+  pub left : rest ≡ take n xs
+  pub next : drop n xs ≡ x ∷ drop (n + 1) xs
+
+pub last_moved : {X : Type 0} (xs held rest : List X) (n m : ℕ) (x : X) → held ≡ take m xs → held ≡ rest ++ x ∷ [] → m ≡ n + 1 → m ≤ length xs → IsMoved xs rest n x
+last_moved xs held rest n m x is last more within =
+    let lt : n < length xs = omega arith in
+    let same = same_from_push rest (take n xs) x (get_or xs n x) (sym last ∙ is ∙ ap (λ k. take k xs) more ∙ take_more xs n x lt) in
+    record {
+      left = same.0;
+      next = drop_more xs n x lt ∙ ap (λ y. y ∷ drop (n + 1) xs) (sym same.1);
+    }
+
+-- so it comes behind the images that were added
+pub image_added : {X Y : Type 0} (f : X → Y) (ys : List Y) (xs : List X) (n m : ℕ) (x : X) → drop n xs ≡ x ∷ drop (n + 1) xs → m ≡ n + 1 → (ys ++ reverse (map f (drop m xs))) ++ f x ∷ [] ≡ ys ++ reverse (map f (drop n xs))
+image_added f ys xs n m x next more =
+    append_assoc ys (reverse (map f (drop m xs))) (f x ∷ [])
+    ∙ (λ i. ys ++ sym (reverse-append (f x ∷ []) (map f (drop m xs))) i)
+    ∙ ap (λ k. ys ++ reverse (f x ∷ map f (drop k xs))) more
+    ∙ ap (λ zs. ys ++ reverse (map f zs)) (sym next)
+
+-- ---- Indices
+
+err≢ok : (i j : ℕ) → (let r : Result ℕ ℕ = Err i in r ≡ Ok j) → ⊥
+err≢ok i j e = cc
+
+ok≢err : (i j : ℕ) → (let r : Result ℕ ℕ = Ok i in r ≡ Err j) → ⊥
+ok≢err i j e = cc
+
+same_Ok : (i j : ℕ) → (let r : Result ℕ ℕ = Ok i in r ≡ Ok j) → i ≡ j
+same_Ok i j e = cc
+
+same_Err : (i j : ℕ) → (let r : Result ℕ ℕ = Err i in r ≡ Err j) → i ≡ j
+same_Err i j e = cc
+
+zero≢suc : (i : ℕ) → 0 ≡ suc i → ⊥
+zero≢suc i e = omega arith
+
+one_on≢ok : (r : Result ℕ ℕ) → one_on r ≡ Ok 0 → ⊥
+one_on≢ok (Ok i) e = zero≢suc i (sym (same_Ok (suc i) 0 e))
+one_on≢ok (Err i) e = err≢ok (suc i) 0 e
+
+one_on≢err : (r : Result ℕ ℕ) → one_on r ≡ Err 0 → ⊥
+one_on≢err (Ok i) e = ok≢err (suc i) 0 e
+one_on≢err (Err i) e = zero≢suc i (sym (same_Err (suc i) 0 e))
+
+ok_before : (r : Result ℕ ℕ) (i : ℕ) → one_on r ≡ Ok (suc i) → r ≡ Ok i
+ok_before (Ok j) i e = let same : suc j ≡ suc i = same_Ok (suc j) (suc i) e in ap Ok (omega arith)
+ok_before (Err j) i e = absurd (err≢ok (suc j) (suc i) e)
+
+err_before : (r : Result ℕ ℕ) (i : ℕ) → one_on r ≡ Err (suc i) → r ≡ Err i
+err_before (Ok j) i e = absurd (ok≢err (suc j) (suc i) e)
+err_before (Err j) i e = let same : suc j ≡ suc i = same_Err (suc j) (suc i) e in ap Err (omega arith)
+
+module _ {R : Type 0} (place : R → List ℕ) where
+  abbrev index_first : List ℕ → List R → Ordering → Result ℕ ℕ
+  index_first p xs o = elim o [ Less ↦ Err 0 | Equal ↦ Ok 0 | Greater ↦ one_on (index_in place p xs) ]
+
+  abbrev set_first : R → R → List R → Ordering → List R
+  set_first row x xs o = elim o [ Less ↦ row ∷ (x ∷ xs) | Equal ↦ row ∷ xs | Greater ↦ x ∷ set_row place row xs ]
+
+  abbrev without_first : List ℕ → R → List R → Ordering → List R
+  without_first p x xs o = elim o [ Less ↦ x ∷ xs | Equal ↦ xs | Greater ↦ x ∷ without_row place p xs ]
+
+  -- ---- Parts of ascending rows
+
+  above-append : (p : List ℕ) (xs ys : List R) → PlacesAbove place p xs → PlacesAbove place p ys → PlacesAbove place p (xs ++ ys)
+  above-append p [] ys left right = right
+  above-append p (x ∷ xs) ys left right = (left.0, above-append p xs ys left.1 right)
+
+  above-drop : (p : List ℕ) (n : ℕ) (rows : List R) → PlacesAbove place p rows → PlacesAbove place p (drop n rows)
+  above-drop p zero rows above = above
+  above-drop p (suc n) [] above = tt
+  above-drop p (suc n) (x ∷ xs) above = above-drop p n xs above.1
+
+  pub ascend-drop : (n : ℕ) (rows : List R) → PlacesAscend place rows → PlacesAscend place (drop n rows)
+  ascend-drop zero rows up = up
+  ascend-drop (suc n) [] up = tt
+  ascend-drop (suc n) (x ∷ xs) up = ascend-drop n xs up.1
+
+  above-take : (p : List ℕ) (n : ℕ) (rows : List R) → PlacesAbove place p rows → PlacesAbove place p (take n rows)
+  above-take p zero rows above = tt
+  above-take p (suc n) [] above = tt
+  above-take p (suc n) (x ∷ xs) above = (above.0, above-take p n xs above.1)
+
+  pub ascend-take : (n : ℕ) (rows : List R) → PlacesAscend place rows → PlacesAscend place (take n rows)
+  ascend-take zero rows up = tt
+  ascend-take (suc n) [] up = tt
+  ascend-take (suc n) (x ∷ xs) up = (above-take (place x) n xs up.0, ascend-take n xs up.1)
+
+  above_cut : (p : List ℕ) (i n : ℕ) (rows : List R) → PlacesAbove place p rows → PlacesAbove place p (take i rows ++ drop n (drop i rows))
+  above_cut p i n rows above = above-append p (take i rows) (drop n (drop i rows)) (above-take p i rows above) (above-drop p n (drop i rows) (above-drop p i rows above))
+
+  ascend_cut : (i n : ℕ) (rows : List R) → PlacesAscend place rows → PlacesAscend place (take i rows ++ drop n (drop i rows))
+  ascend_cut zero n rows up = ascend-drop n rows up
+  ascend_cut (suc i) n [] up = ascend-drop n [] up
+  ascend_cut (suc i) n (x ∷ xs) up = (above_cut (place x) i n xs up.0, ascend_cut i n xs up.1)
+
+  -- without a run of them they are still in order
+  pub ascend_taken : (i n : ℕ) (rows : List R) → PlacesAscend place rows → PlacesAscend place (take i rows ++ drop (i + n) rows)
+  ascend_taken i n rows up = subst (λ (ys : List R). PlacesAscend place (take i rows ++ ys)) (drop-drop n i rows) (ascend_cut i n rows up)
+
+  above_middle : (p : List ℕ) (xs : List R) (x : R) (ys : List R) → PlacesAbove place p (xs ++ x ∷ ys) → place_cmp p (place x) ≡ Less
+  above_middle p [] x ys above = above.0
+  above_middle p (y ∷ xs) x ys above = above_middle p xs x ys above.1
+
+  below_front : (xs : List R) (x : R) (ys : List R) → PlacesAscend place (xs ++ x ∷ ys) → PlacesBelow place (place x) xs
+  below_front [] x ys up = tt
+  below_front (y ∷ xs) x ys up = (above_middle (place y) xs x ys up.0, below_front xs x ys up.1)
+
+  -- ---- Around the index at which a place belongs
+
+  below_by : (p : List ℕ) (x : R) (xs : List R) (i : ℕ) → (index_in place p xs ≡ Err i → PlacesBelow place p (take i xs)) → (o : Ordering) → place_cmp p (place x) ≡ o → index_first p xs o ≡ Err (suc i) → PlacesBelow place p (x ∷ take i xs)
+  below_by p x xs i rest Less e found = absurd (zero≢suc i (same_Err 0 (suc i) found))
+  below_by p x xs i rest Equal e found = absurd (ok≢err 0 (suc i) found)
+  below_by p x xs i rest Greater e found = (place_cmp_turned p (place x) Greater e, rest (err_before (index_in place p xs) i found))
+
+  below_take : (p : List ℕ) (rows : List R) (i : ℕ) → index_in place p rows ≡ Err i → PlacesBelow place p (take i rows)
+  below_take p rows zero found = tt
+  below_take p [] (suc i) found = tt
+  below_take p (x ∷ xs) (suc i) found = below_by p x xs i (below_take p xs i) (place_cmp p (place x)) refl found
+
+  above_first : (p : List ℕ) (x : R) (xs : List R) → PlacesAscend place (x ∷ xs) → (o : Ordering) → place_cmp p (place x) ≡ o → index_first p xs o ≡ Err 0 → PlacesAbove place p (x ∷ xs)
+  above_first p x xs up Less e found = (e, above_trans place p (place x) xs e up.0)
+  above_first p x xs up Equal e found = absurd (ok≢err 0 0 found)
+  above_first p x xs up Greater e found = absurd (one_on≢err (index_in place p xs) found)
+
+  above_by : (p : List ℕ) (xs : List R) (i : ℕ) → (index_in place p xs ≡ Err i → PlacesAbove place p (drop i xs)) → (o : Ordering) → index_first p xs o ≡ Err (suc i) → PlacesAbove place p (drop i xs)
+  above_by p xs i rest Less found = absurd (zero≢suc i (same_Err 0 (suc i) found))
+  above_by p xs i rest Equal found = absurd (ok≢err 0 (suc i) found)
+  above_by p xs i rest Greater found = rest (err_before (index_in place p xs) i found)
+
+  pub above_rest : (p : List ℕ) (rows : List R) (i : ℕ) → PlacesAscend place rows → index_in place p rows ≡ Err i → PlacesAbove place p (drop i rows)
+  above_rest p [] zero up found = tt
+  above_rest p [] (suc i) up found = tt
+  above_rest p (x ∷ xs) zero up found = above_first p x xs up (place_cmp p (place x)) refl found
+  above_rest p (x ∷ xs) (suc i) up found = above_by p xs i (above_rest p xs i up.1) (place_cmp p (place x)) found
+
+  -- ---- One row of a run
+
+  put_before : (row : R) (ys : List R) → PlacesAbove place (place row) ys → set_row place row ys ≡ row ∷ ys
+  put_before row [] above = refl
+  put_before row (y ∷ ys) above = ap (set_first row y ys) above.0
+
+  put_by : (row x : R) (xs ys : List R) (i : ℕ) → (index_in place (place row) xs ≡ Err i → set_row place row (take i xs ++ ys) ≡ take i xs ++ row ∷ ys) → (o : Ordering) → index_first (place row) xs o ≡ Err (suc i) → set_first row x (take i xs ++ ys) o ≡ x ∷ (take i xs ++ row ∷ ys)
+  put_by row x xs ys i rest Less found = absurd (zero≢suc i (same_Err 0 (suc i) found))
+  put_by row x xs ys i rest Equal found = absurd (ok≢err 0 (suc i) found)
+  put_by row x xs ys i rest Greater found = ap (λ zs. x ∷ zs) (rest (err_before (index_in place (place row) xs) i found))
+
+  -- it is put in at the index at which it belongs, in front of rows that are behind it
+  pub put_front : (row : R) (rows ys : List R) (i : ℕ) → index_in place (place row) rows ≡ Err i → PlacesAbove place (place row) ys → set_row place row (take i rows ++ ys) ≡ take i rows ++ row ∷ ys
+  put_front row rows ys zero found above = put_before row ys above
+  put_front row [] ys (suc i) found above = put_before row ys above
+  put_front row (x ∷ xs) ys (suc i) found above = put_by row x xs ys i (λ e. put_front row xs ys i e above) (place_cmp (place row) (place x)) found
+
+  taken_first : (p : List ℕ) (x : R) (xs ys : List R) → (o : Ordering) → index_first p xs o ≡ Ok 0 → without_first p x ys o ≡ ys
+  taken_first p x xs ys Less found = absurd (err≢ok 0 0 found)
+  taken_first p x xs ys Equal found = refl
+  taken_first p x xs ys Greater found = absurd (one_on≢ok (index_in place p xs) found)
+
+  taken_by : (p : List ℕ) (x : R) (xs ys : List R) (i : ℕ) → (index_in place p xs ≡ Ok i → without_row place p (take (suc i) xs ++ ys) ≡ take i xs ++ ys) → (o : Ordering) → index_first p xs o ≡ Ok (suc i) → without_first p x (take (suc i) xs ++ ys) o ≡ x ∷ (take i xs ++ ys)
+  taken_by p x xs ys i rest Less found = absurd (err≢ok 0 (suc i) found)
+  taken_by p x xs ys i rest Equal found = absurd (zero≢suc i (same_Ok 0 (suc i) found))
+  taken_by p x xs ys i rest Greater found = ap (λ zs. x ∷ zs) (rest (ok_before (index_in place p xs) i found))
+
+  -- it is taken away from its index, whatever stands behind it
+  pub taken_front : (p : List ℕ) (rows ys : List R) (i : ℕ) → index_in place p rows ≡ Ok i → without_row place p (take (suc i) rows ++ ys) ≡ take i rows ++ ys
+  taken_front p [] ys i found = absurd (err≢ok 0 i found)
+  taken_front p (x ∷ xs) ys zero found = taken_first p x xs ys (place_cmp p (place x)) found
+  taken_front p (x ∷ xs) ys (suc i) found = taken_by p x xs ys i (taken_front p xs ys i) (place_cmp p (place x)) found
+
+  -- ---- A run
+
+  -- each row of it belongs at the index
+  abbrev pub AllBelongAt : ℕ → List R → List R → Type 0
+  AllBelongAt i rows run = AllByRecursion (λ row. index_in place (place row) rows ≡ Err i) run
+
+  pub above_run : (p : List ℕ) (run rows : List R) (i : ℕ) → PlacesAscend place rows → PlacesAbove place p run → index_in place p rows ≡ Err i → PlacesAbove place p (run ++ drop i rows)
+  above_run p run rows i up above found = above-append p run (drop i rows) above (above_rest p rows i up found)
+
+  ascend_in : (run rows : List R) (i : ℕ) → PlacesAscend place rows → PlacesAscend place run → AllBelongAt i rows run → PlacesAscend place (take i rows ++ (run ++ drop i rows))
+  ascend_in [] rows i up own found = subst (PlacesAscend place) (sym (take-append-drop i rows)) up
+  ascend_in (x ∷ xs) rows i up own found =
+      subst (PlacesAscend place) (put_front x rows (xs ++ drop i rows) i found.0 (above_run (place x) xs rows i up own.0 found.0))
+      (ascend-set_row place x (take i rows ++ (xs ++ drop i rows)) (ascend_in xs rows i up own.1 found.1))
+
+  -- with a run put in they are still in order
+  pub ascend_put : (run rows : List R) (i : ℕ) → PlacesAscend place rows → PlacesAscend place run → AllBelongAt i rows run → PlacesAscend place (take i rows ++ run ++ drop i rows)
+  ascend_put run rows i up own found = subst (PlacesAscend place) (sym (append_assoc (take i rows) run (drop i rows))) (ascend_in run rows i up own found)
+
+  put_next : (y : R) (xs rows : List R) (i : ℕ) → PlacesAscend place rows → PlacesBelow place (place y) xs → index_in place (place y) rows ≡ Err i → set_row place y (take i rows ++ (xs ++ drop i rows)) ≡ take i rows ++ (xs ++ y ∷ [] ++ drop i rows)
+  put_next y xs rows i up below found =
+      set_row-behind place y (take i rows) (xs ++ drop i rows) (below_take (place y) rows i found)
+      ∙ ap (λ zs. take i rows ++ zs)
+      (set_row-behind place y xs (drop i rows) below
+      ∙ ap (λ zs. xs ++ zs) (put_before y (drop i rows) (above_rest (place y) rows i up found))
+      ∙ sym (append_assoc xs (y ∷ []) (drop i rows)))
+
+  put_more : (xs ys rows : List R) (i : ℕ) → PlacesAscend place rows → PlacesAscend place (xs ++ ys) → AllBelongAt i rows ys → set_rows place ys (take i rows ++ (xs ++ drop i rows)) ≡ take i rows ++ (xs ++ ys ++ drop i rows)
+  put_more xs [] rows i up own found = ap (λ zs. take i rows ++ (zs ++ drop i rows)) (sym (append-nil xs))
+  put_more xs (y ∷ ys) rows i up own found =
+      ap (set_rows place ys) (put_next y xs rows i up (below_front xs y ys own) found.0)
+      ∙ put_more (xs ++ y ∷ []) ys rows i up (subst (PlacesAscend place) (sym (append_assoc xs (y ∷ []) ys)) own) found.1
+      ∙ ap (λ zs. take i rows ++ (zs ++ drop i rows)) (append_assoc xs (y ∷ []) ys)
+
+  -- the rows of a run stand side by side once each is put in
+  pub set_rows-run : (run rows : List R) (i : ℕ) → PlacesAscend place rows → PlacesAscend place run → AllBelongAt i rows run → set_rows place run rows ≡ take i rows ++ run ++ drop i rows
+  set_rows-run run rows i up own found =
+      ap (set_rows place run) (sym (take-append-drop i rows))
+      ∙ put_more [] run rows i up own found
+      ∙ sym (append_assoc (take i rows) run (drop i rows))
+
+  taken_next : (x : R) (xs ys : List R) → PlacesAscend place (xs ++ x ∷ ys) → without_row place (place x) (xs ++ x ∷ ys) ≡ xs ++ ys
+  taken_next x xs ys up =
+      without_row-behind place (place x) xs (x ∷ ys) (below_front xs x ys up)
+      ∙ ap (λ o. xs ++ without_first (place x) x ys o) (place_cmp_itself (place x))
+
+  taken_more : (xs run ys : List R) → PlacesAscend place (xs ++ (run ++ ys)) → without_rows place run (xs ++ (run ++ ys)) ≡ xs ++ ys
+  taken_more xs [] ys up = refl
+  taken_more xs (x ∷ run) ys up =
+      let next = taken_next x xs (run ++ ys) up in
+      ap (without_rows place run) next
+      ∙ taken_more xs run ys (subst (PlacesAscend place) next (ascend-without_row place (place x) (xs ++ x ∷ (run ++ ys)) up))
+
+  -- once each row of a run is taken away, what stands before it and behind it is left
+  pub without_rows-run : (i n : ℕ) (rows : List R) → PlacesAscend place rows → without_rows place (take n (drop i rows)) rows ≡ take i rows ++ drop (i + n) rows
+  without_rows-run i n rows up =
+      let parts : take i rows ++ (take n (drop i rows) ++ drop n (drop i rows)) ≡ rows = ap (λ zs. take i rows ++ zs) (take-append-drop n (drop i rows)) ∙ take-append-drop i rows in
+      ap (without_rows place (take n (drop i rows))) (sym parts)
+      ∙ taken_more (take i rows) (take n (drop i rows)) (drop n (drop i rows)) (subst (PlacesAscend place) (sym parts) up)
+      ∙ ap (λ zs. take i rows ++ zs) (drop-drop n i rows)

@@ -4,6 +4,7 @@ use Rattle.std.specs.Prelude.{flat_map}
 use Rattle.std.proofs.Math.Seq.{drop-cons}
 use Rattle.std.proofs.lemmas.Option.{slice_get_read}
 use Rattle.std.proofs.lemmas.List.{drop_all, append-nil}
+use Rattle.std.proofs.lemmas.List.Sums.{sum_by-append, sum_by-cons}
 use Rattle.mud_base.specs.declared.addr.Addr.{Addr}
 use Rattle.acl_model.specs.declared.entry.Entry.{Entry}
 use Rattle.acl_model.specs.declared.binding.MemberKey.{MemberKey}
@@ -16,6 +17,7 @@ use Rattle.acl_rows.specs.Rows.{numbered, entry_at, Slots, Holder, default_held,
 use Rattle.acl_rows.specs.declared.row.RowKey.{RowKey}
 use Rattle.acl_patch.specs.Touched.{holder_touches, binding_touches, touches, with_edit, with_edits}
 use Rattle.row_changes.specs.Change.{ChangeState, after, more_edits, slot_touches}
+use Rattle.row_changes.specs.Steps.{least_step, least_steps}
 
 pub more_edits-append : (c : ChangeState) (ts us : List RowKey) (edits : List (Edit Row)) → more_edits c (ts ++ us) edits ≡ more_edits c us (more_edits c ts edits)
 unfolding more_edits with_edits
@@ -24,6 +26,18 @@ more_edits-append c (t ∷ ts) us edits = more_edits-append c ts us (with_edit c
 
 pub length_times : (ts us : List RowKey) (u : ℕ) → length (ts ++ us) * u ≡ length ts * u + length us * u
 length_times ts us u = ap (λ n. n * u) (length-append ts us) ∙ omega arith
+
+pub least_steps-append : (rows : List Row) (ts us : List RowKey) → least_steps rows (ts ++ us) ≡ least_steps rows ts + least_steps rows us
+unfolding least_steps
+least_steps-append rows ts us = sum_by-append (least_step rows) ts us
+
+pub least_steps-cons : (rows : List Row) (t : RowKey) (ts : List RowKey) → least_steps rows (t ∷ ts) ≡ least_step rows t + least_steps rows ts
+unfolding least_steps
+least_steps-cons rows t ts = sum_by-cons (least_step rows) t ts
+
+pub least_steps-none : (rows : List Row) → least_steps rows [] ≡ 0
+unfolding least_steps
+least_steps-none rows = refl
 
 -- the next entry, and those behind it
 pub next_entry : (f : ℕ × Entry → List RowKey) (es : List Entry) (i : ℕ) (e : Entry) → i < length es → e ≡ get_or es i e

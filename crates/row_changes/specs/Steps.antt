@@ -1,12 +1,15 @@
 -- The steps of what a change touches.
-use Rattle.std.specs.Prelude.{◌≡◌, ℕ, ◌+◌, ◌*◌, ◌≤◌, List, length, Option, Some, None}
+use Rattle.std.specs.Prelude.{◌≡◌, ℕ, ◌+◌, ◌*◌, ◌≤◌, min, List, length, sum_by, Option, Some, None}
 use Rattle.mud_base.specs.declared.packet.Direction.{Direction}
 use Rattle.acl_model.specs.declared.binding.MemberKey.{MemberKey}
 use Rattle.acl_model.specs.declared.entry.Entry.{Entry}
 use Rattle.acl_model.specs.FirstMatch.{entries_of}
 use Rattle.acl_model.specs.Policies.{UrlPolicy}
 use Rattle.acl_rows.specs.declared.row.Owner.{Owner}
+use Rattle.acl_rows.specs.declared.row.Row.{Row}
+use Rattle.acl_rows.specs.declared.row.RowKey.{RowKey}
 use Rattle.acl_rows.specs.Rows.{Slots, Holder, member_keys, entry_at}
+use Rattle.acl_rows.specs.View.{rows_of_side}
 use Rattle.row_changes.specs.Policies.{AllHeld}
 
 -- the steps of a key, and none where there is none
@@ -38,3 +41,11 @@ PolicyKeys s (Some held) = (owner : Owner) → HolderKeys s (owner, held)
 -- can be counted with `b` and `k` binary digits
 abbrev pub place_steps : ℕ → ℕ → ℕ → ℕ
 place_steps s b k = (s + 1) * (b + k + 2)
+
+-- the least number of steps in which a place is looked for among the rows of its owner and side: none where there are none
+unfoldable pub least_step : List Row → RowKey → ℕ
+least_step rows key = min 1 (length (rows_of_side key.owner key.side rows))
+
+-- the same of these places, together
+unfoldable pub least_steps : List Row → List RowKey → ℕ
+least_steps rows keys = sum_by (least_step rows) keys

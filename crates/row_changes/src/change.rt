@@ -18,7 +18,7 @@ ghost use Rattle.key_index.specs.Spots.{policy_spots};
 ghost use Rattle.acl_patch.specs.Touched as touched;
 ghost use Rattle.row_changes.specs.Keys.{place_of_text};
 ghost use Rattle.row_changes.specs.Change.{end_in, met_end, end_of_row, after, more_edits, slot_touches, change_state};
-ghost use Rattle.row_changes.specs.Steps.{key_steps, EntriesFit, HolderFits};
+ghost use Rattle.row_changes.specs.Steps.{key_steps, least_step, least_steps, EntriesFit, HolderFits};
 ghost use Rattle.row_changes.specs.Policies.{HasCounts, AllHeld, url_policy};
 
 use crate::keys::is_bound;
@@ -214,7 +214,7 @@ impl<'a> Change<'a> {
         steps: &mut Steps<L>,
     ) -> Result<(), Memory>
         ensures ok { OnOk result (edits.new.rows ≡ changed_edits key (index_beside key.owner key.side (row_key_place key) self.now.rows) (end_of_row (row_at row_place (row_key_place key) self.now.rows)) until edits.old.rows) }
-        ensures least { steps.old ≤ steps.new }
+        ensures least { steps.old + least_step self.now.rows key ≤ steps.new }
         ensures most { (b : ℕ) → length self.now.rows < 2 ^ b → steps.new ≤ steps.old + b }
     {
         let shelf = self.rows.shelf(key.owner, key.side);
@@ -237,7 +237,7 @@ impl<'a> Change<'a> {
         requires held { spec.held_by self.now.slots holding.now.0 ≡ Some holding.now.1 }
         requires stands { is_some (spec.entry_at spot.now.number (entries_of spot.now.side holding.now.1.policy)) ≡ true }
         ensures ok { OnOk result (edits.new.rows ≡ more_edits self.now (row_key holding.now.0 spot.now.side addr spot.now.number ∷ []) edits.old.rows) }
-        ensures least { steps.old ≤ steps.new }
+        ensures least { steps.old + least_step self.now.rows (row_key holding.now.0 spot.now.side addr spot.now.number) ≤ steps.new }
         ensures most { (b k u : ℕ) → length self.now.bindings < 2 ^ b → length self.now.rows < 2 ^ k
             → HolderFits holding.now b k u → steps.new ≤ steps.old + u }
     {
@@ -264,6 +264,7 @@ impl<'a> Change<'a> {
     ) -> Result<(), Memory>
         requires { spec.held_by self.now.slots holding.now.0 ≡ Some holding.now.1 }
         ensures ok { OnOk result (edits.new.rows ≡ more_edits self.now (touched.holder_touches key.now addr holding.now) edits.old.rows) }
+        ensures read { OnOk result (steps.old + least_steps self.now.rows (touched.holder_touches key.now addr holding.now) ≤ steps.new) }
         ensures least { steps.old ≤ steps.new }
         ensures most { (b k u : ℕ) → length self.now.bindings < 2 ^ b → length self.now.rows < 2 ^ k
             → HolderFits holding.now b k u
@@ -288,6 +289,7 @@ impl<'a> Change<'a> {
     ) -> Result<(), Memory>
         requires stands { slice_get self.now.slots n ≡ Some slot.now }
         ensures ok { OnOk result (edits.new.rows ≡ more_edits self.now (slot_touches binding.now.key binding.now.addr n slot.now) edits.old.rows) }
+        ensures read { OnOk result (steps.old + least_steps self.now.rows (slot_touches binding.now.key binding.now.addr n slot.now) ≤ steps.new) }
         ensures least { steps.old ≤ steps.new }
         ensures most { (b k u : ℕ) → length self.now.bindings < 2 ^ b → length self.now.rows < 2 ^ k
             → AllHeld self.now.slots (λ h. HolderFits h b k u)
@@ -315,6 +317,7 @@ impl<'a> Change<'a> {
         requires default_owner { defaults.now.0 ≡ Owner.Default }
         requires default_held { spec.default_held ≡ defaults.now.1 }
         ensures ok { OnOk result (edits.new.rows ≡ more_edits self.now (touched.binding_touches self.now.slots binding.now) edits.old.rows) }
+        ensures read { OnOk result (steps.old + least_steps self.now.rows (touched.binding_touches self.now.slots binding.now) ≤ steps.new) }
         ensures least { steps.old ≤ steps.new }
         ensures most { (b k u : ℕ) → length self.now.bindings < 2 ^ b → length self.now.rows < 2 ^ k
             → AllHeld self.now.slots (λ h. HolderFits h b k u)
@@ -341,6 +344,7 @@ impl<'a> Change<'a> {
         requires default_owner { defaults.now.0 ≡ Owner.Default }
         requires default_held { spec.default_held ≡ defaults.now.1 }
         ensures ok { OnOk result (edits.new.rows ≡ more_edits self.now (touched.touches self.now.slots changed.now) edits.old.rows) }
+        ensures read { OnOk result (steps.old + least_steps self.now.rows (touched.touches self.now.slots changed.now) ≤ steps.new) }
         ensures least { steps.old ≤ steps.new }
         ensures most { (b k u : ℕ) → length self.now.bindings < 2 ^ b → length self.now.rows < 2 ^ k
             → AllHeld self.now.slots (λ h. HolderFits h b k u)
@@ -353,6 +357,7 @@ impl<'a> Change<'a> {
     }
 
     /// The edits of the change: with them the rows are those made anew of the bindings after it.
+    /// Each place that is touched is looked for among the rows of its owner and side.
     pub fn plan<L: Ledger>(
         &self,
         alloc: Global,
@@ -363,6 +368,7 @@ impl<'a> Change<'a> {
         requires default_owner { defaults.now.0 ≡ Owner.Default }
         requires default_held { spec.default_held ≡ defaults.now.1 }
         ensures ok { IfOk result (λ edits. IsPatch self.now.slots self.now.bindings self.now.slots (after self.now) edits.rows) }
+        ensures read { OnOk result (steps.old + least_steps self.now.rows (touched.touches self.now.slots (self.now.gone ++ self.now.come)) ≤ steps.new) }
         ensures most { (b k u : ℕ) → length self.now.bindings < 2 ^ b → length self.now.rows < 2 ^ k
             → AllHeld self.now.slots (λ h. HolderFits h b k u)
             → steps.new ≤ steps.old + length (touched.touches self.now.slots (self.now.gone ++ self.now.come)) * u }

@@ -46,6 +46,7 @@ impl<'a> Change<'a> {
         steps: &mut Steps<L>,
     ) -> Result<(), Memory>
         ensures ok { OnOk result ((new : Slots) → until ≡ key_end new self.now.bindings key → fresh.new ≡ one_fresh self.now.slots self.now.bindings new key fresh.old) }
+        ensures least { steps.old ≤ steps.new }
         ensures most { (k : ℕ) → length self.now.rows < 2 ^ k → steps.new ≤ steps.old + k }
     {
         let _kept = &self.slots;
@@ -73,6 +74,7 @@ impl<'a> Change<'a> {
         requires come { self.now.come ≡ [] }
         requires stands { entry_at n (entries_of side holding.now.1.policy) ≡ Some entry.now }
         ensures ok { OnOk result ((new : Slots) → held_by new holding.now.0 ≡ Some holding.now.1 → fresh.new ≡ one_fresh self.now.slots self.now.bindings new (row_key holding.now.0 side addr n) fresh.old) }
+        ensures least { steps.old ≤ steps.new }
         ensures most { (b k u : ℕ) → length self.now.bindings < 2 ^ b → length self.now.rows < 2 ^ k
             → length (member_keys holding.now.1.url entry.now) * b + k ≤ u → steps.new ≤ steps.old + u }
     {
@@ -102,6 +104,7 @@ impl<'a> Change<'a> {
         requires stands { entry_at n (entries_of side holding.now.1.policy) ≡ Some entry.now }
         ensures ok { OnOk result ((new : Slots) → held_by new holding.now.0 ≡ Some holding.now.1
             → fresh.new ≡ more_fresh self.now.slots self.now.bindings new (map (bound_key holding.now.0 side n) bound.now) fresh.old) }
+        ensures least { steps.old ≤ steps.new }
         ensures most { (b k u : ℕ) → length self.now.bindings < 2 ^ b → length self.now.rows < 2 ^ k
             → length (member_keys holding.now.1.url entry.now) * b + k ≤ u → steps.new ≤ steps.old + length bound.now * u }
     {
@@ -111,7 +114,8 @@ impl<'a> Change<'a> {
         Ok(())
     }
 
-    /// Plans the rows of an entry: at the addresses of the bindings of its first key.
+    /// Plans the rows of an entry: at the addresses of the bindings of its first key. Each of these
+    /// is read.
     #[tactic(auto, unfolding(acl_patch::specs::PolicyTouched::entry_touches))]
     fn entry_fresh<L: Ledger>(
         &self,
@@ -127,6 +131,7 @@ impl<'a> Change<'a> {
         requires stands { entry_at n (entries_of side holding.now.1.policy) ≡ Some entry.now }
         ensures ok { OnOk result ((new : Slots) → held_by new holding.now.0 ≡ Some holding.now.1
             → fresh.new ≡ more_fresh self.now.slots self.now.bindings new (entry_touches self.now.bindings holding.now.0 holding.now.1 side (n, entry.now)) fresh.old) }
+        ensures least { steps.old + length (entry_touches self.now.bindings holding.now.0 holding.now.1 side (n, entry.now)) ≤ steps.new }
         ensures most { (b k u : ℕ) → length self.now.bindings < 2 ^ b → length self.now.rows < 2 ^ k
             → length (member_keys holding.now.1.url entry.now) * b + k ≤ u
             → steps.new ≤ steps.old + membered_count (entry.now ∷ []) * b + length (entry_touches self.now.bindings holding.now.0 holding.now.1 side (n, entry.now)) * (u + 1) }
@@ -155,6 +160,7 @@ impl<'a> Change<'a> {
         requires few { length (entries_of side holding.now.1.policy) ≤ 65535 }
         ensures ok { OnOk result ((new : Slots) → held_by new holding.now.0 ≡ Some holding.now.1
             → fresh.new ≡ more_fresh self.now.slots self.now.bindings new (side_policy_touches self.now.bindings holding.now.0 holding.now.1 side) fresh.old) }
+        ensures read { OnOk result (steps.old + length (side_policy_touches self.now.bindings holding.now.0 holding.now.1 side) ≤ steps.new) }
         ensures most { (b k u : ℕ) → length self.now.bindings < 2 ^ b → length self.now.rows < 2 ^ k
             → EntriesFit holding.now.1.url (entries_of side holding.now.1.policy) b k u
             → steps.new ≤ steps.old + membered_count (entries_of side holding.now.1.policy) * b + length (side_policy_touches self.now.bindings holding.now.0 holding.now.1 side) * (u + 1) }
@@ -180,6 +186,7 @@ impl<'a> Change<'a> {
         requires few { HasCounts holding.now.1.policy }
         ensures ok { OnOk result ((new : Slots) → held_by new holding.now.0 ≡ Some holding.now.1
             → fresh.new ≡ more_fresh self.now.slots self.now.bindings new (new_touches self.now.bindings holding.now.0 (Some holding.now.1)) fresh.old) }
+        ensures read { OnOk result (steps.old + length (new_touches self.now.bindings holding.now.0 (Some holding.now.1)) ≤ steps.new) }
         ensures most { (b k u : ℕ) → length self.now.bindings < 2 ^ b → length self.now.rows < 2 ^ k → HolderFits holding.now b k u
             → steps.new ≤ steps.old + policy_count (Some holding.now.1) * b + length (new_touches self.now.bindings holding.now.0 (Some holding.now.1)) * (u + 1) }
     {

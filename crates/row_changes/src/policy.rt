@@ -32,6 +32,7 @@ fn plan_own<L: Ledger>(
 ) -> Result<(), Memory>
     requires { PlacesAscend row_place rows.now.rows }
     ensures ok { OnOk result (fresh.new.edits ≡ left_edits fresh.old.rows 0 (rows_of_side owner Direction.To rows.now.rows) (left_edits fresh.old.rows 0 (rows_of_side owner Direction.From rows.now.rows) fresh.old.edits)) }
+    ensures read { OnOk result (steps.old + length (owner_rows owner rows.now.rows) ≤ steps.new) }
     ensures most { steps.new ≤ steps.old + length (owner_rows owner rows.now.rows) }
 {
     plan_left(rows.shelf(owner, Direction::From).rows(), fresh, steps)?;
@@ -49,6 +50,7 @@ fn fresh_rows<L: Ledger>(
     requires gone { change.now.gone ≡ [] }
     requires come { change.now.come ≡ [] }
     ensures ok { IfOk result (λ fresh. (new : Slots) → held_by new owner ≡ held.now → fresh ≡ more_fresh change.now.slots change.now.bindings new (new_touches change.now.bindings owner held.now) (fresh_of [] [])) }
+    ensures read { OnOk result (steps.old + length (new_touches change.now.bindings owner held.now) ≤ steps.new) }
     ensures most { (s b k : ℕ) → PolicyKeys s held.now → length change.now.bindings < 2 ^ b → length change.now.rows < 2 ^ k
         → steps.new ≤ steps.old + policy_count held.now * b + length (new_touches change.now.bindings owner held.now) * (s * b + k + 1) }
 {
@@ -66,7 +68,8 @@ fn fresh_rows<L: Ledger>(
     }
 }
 
-/// The edits of rows for this policy in a place of the table, or for none.
+/// The edits of rows for this policy in a place of the table, or for none. The rows of that place
+/// are read, and the bindings of the first key of each new entry.
 pub fn slot_rows<L: Ledger>(
     alloc: Global,
     slots: &[Option<Held>],
@@ -78,6 +81,7 @@ pub fn slot_rows<L: Ledger>(
 ) -> Result<SortedRows<Edit<Row>>, Memory>
     requires { rows.now.rows ≡ rows_of slots.now bindings.now.rows }
     ensures ok { IfOk result (λ edits. (new : Slots) → IsSlotChange slots.now new index held.now → IsPatch slots.now bindings.now.rows new bindings.now.rows edits.rows) }
+    ensures read { OnOk result (steps.old + length (owner_rows (owner_of.Url index) rows.now.rows) + length (new_touches bindings.now.rows (owner_of.Url index) held.now) ≤ steps.new) }
     ensures most { (s b k : ℕ) → HaveKeys s slots.now → PolicyKeys s held.now → length bindings.now.rows < 2 ^ b → length rows.now.rows < 2 ^ k
         → steps.new ≤ steps.old + length (owner_rows (owner_of.Url index) rows.now.rows) + (policy_count held.now + length (new_touches bindings.now.rows (owner_of.Url index) held.now) + 1) * place_steps s b k }
 {

@@ -47,3 +47,8 @@ returns-clause-most g c = λ s b k keys held few rows.
     transport (λ i. c.fresh_rows.new.steps ≤ c.args.steps.now + policy_count c.args.held.now * b + length (new_touches (c.new-change.ensures i).bindings (Url c.args.index) c.args.held.now) * (s * b + k + 1))
     (c.fresh_rows.ensures.most s b k held (subst (λ (x : ChangeState). length x.bindings < 2 ^ b) (sym c.new-change.ensures) few) (subst (λ (x : ChangeState). length x.rows < 2 ^ k) (sym c.new-change.ensures) rows)) in
     policy_cost c.args.slots.now c.args.steps.now c.fresh_rows.new.steps c.plan_own.new.steps (length (owner_rows (Url c.args.index) c.args.rows.now.rows)) (policy_count c.args.held.now) (length (new_touches c.args.bindings.now.rows (Url c.args.index) c.args.held.now)) s b k keys first (omega (arith, c.plan_own.ensures.most))
+
+pub returns-clause-read : goal.returns-clause-read
+returns-clause-read g c =
+    let first = transport (λ i. c.args.steps.now + length (new_touches (c.new-change.ensures i).bindings (Url c.args.index) c.args.held.now) ≤ c.fresh_rows.new.steps) c.in_ok-fresh.ensures.read in
+    omega (arith, first, c.in_ok-plan_own.ensures.read)

@@ -2,12 +2,13 @@ use Rattle.std.proofs.Common.{◌≡◌, ℕ, ◌+◌, ◌*◌, ◌^◌, ◌<◌
 use Rattle.acl_patch.specs.Touched.{touches}
 use Rattle.row_changes.specs.Change.{more_edits}
 use Rattle.row_changes.specs.Policies.{AllHeld}
-use Rattle.row_changes.specs.Steps.{HolderFits}
+use Rattle.row_changes.specs.Steps.{least_steps, HolderFits}
 use Rattle.row_changes.proofs.change.Change.all_edits.Given as goal
 
 abbrev pub invariant-loop-binding : goal.invariant-loop-binding
 invariant-loop-binding g l = record {
   edits : more_edits l.self (touches l.self.slots l.changed) l.initial.edits.rows ≡ more_edits l.self (touches l.self.slots (drop l.binding-index l.changed)) l.edits.rows;
+  read : l.initial.steps + least_steps l.self.rows (touches l.self.slots l.changed) ≤ l.steps + least_steps l.self.rows (touches l.self.slots (drop l.binding-index l.changed));
   up : l.initial.steps ≤ l.steps;
   most : (b k u : ℕ) → length l.self.bindings < 2 ^ b → length l.self.rows < 2 ^ k → AllHeld l.self.slots (λ h. HolderFits h b k u) → l.steps + length (touches l.self.slots (drop l.binding-index l.changed)) * u ≤ l.initial.steps + length (touches l.self.slots l.changed) * u;
 }

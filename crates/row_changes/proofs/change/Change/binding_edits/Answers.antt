@@ -9,8 +9,9 @@ use Rattle.acl_rows.specs.declared.row.RowKey.{RowKey}
 use Rattle.acl_patch.specs.Touched.{holder_touches, binding_touches}
 use Rattle.row_changes.specs.Change.{ChangeState, more_edits, slot_touches}
 use Rattle.row_changes.specs.Policies.{AllHeld, HasCounts}
-use Rattle.row_changes.specs.Steps.{HolderFits}
-use Rattle.row_changes.proofs.Loops.{more_edits-append, length_times, next_slot, slot_there, last_holder}
+use Rattle.row_changes.specs.Steps.{least_steps, HolderFits}
+use Rattle.row_changes.proofs.Loops.{more_edits-append, length_times, least_steps-append, next_slot, slot_there, last_holder}
+use Rattle.row_changes.proofs.FreshLaws.{on_ok_map}
 use Rattle.row_changes.proofs.change.Change.binding_edits.Goals as goal
 
 pub slot_edits-requires : goal.slot_edits-requires
@@ -46,6 +47,10 @@ loop-slot-preserved g c =
           ∙ ap (λ (ts : List RowKey). more_edits c.args.self.now ts c.loop-slot.edits.rows) next
           ∙ more_edits-append c.args.self.now (slot_touches c.args.binding.now.key c.args.binding.now.addr c.loop-slot.slot-index c.slot-item.result) rest c.loop-slot.edits.rows
           ∙ ap (more_edits c.args.self.now rest) (sym (c.in_ok-slot_edits.ensures.ok ∙ ap (λ (m : ℕ). more_edits c.args.self.now (slot_touches c.args.binding.now.key c.args.binding.now.addr m c.slot-item.result) c.loop-slot.edits.rows) c.loop-slot.invariant.number));
+      read =
+          (let count = ap (least_steps c.args.self.now.rows) next ∙ least_steps-append c.args.self.now.rows (slot_touches c.args.binding.now.key c.args.binding.now.addr c.loop-slot.slot-index c.slot-item.result) rest in
+          let here = ap (λ (m : ℕ). least_steps c.args.self.now.rows (slot_touches c.args.binding.now.key c.args.binding.now.addr m c.slot-item.result)) c.loop-slot.invariant.number in
+          omega (arith, c.loop-slot.invariant.read, c.in_ok-slot_edits.ensures.read, count, here));
       up = omega (arith, c.loop-slot.invariant.up, c.slot_edits.ensures.least);
       most = λ b k u few rows fits.
           let fit : AllHeld c.args.self.now.slots (λ h. HolderFits h b k u) = subst (λ (s : ChangeState). AllHeld s.slots (λ h. HolderFits h b k u)) c.self.view_is fits in
@@ -77,3 +82,10 @@ returns-clause-most g c = λ b k u few rows fit.
     let own : HolderFits c.args.defaults.now b k u = subst (λ (h : Holder). HolderFits h b k u) is (fit Default default_held (λ i. Some default_held)) in
     let all = ap (λ (s : ChangeState). length (binding_touches s.slots c.args.binding.now) * u) c.self.view_is in
     omega (arith, c.loop-slot.invariant.most b k u few rows fits, c.holder_edits.ensures.most b k u few rows own, last, all)
+
+pub returns-clause-read : goal.returns-clause-read
+returns-clause-read g c =
+    let is : (Default, default_held) ≡ c.args.defaults.now = λ i. (sym c.requires.default_owner i, c.requires.default_held i) in
+    let last = ap (least_steps c.args.self.now.rows) (last_holder c.args.binding.now.key c.args.binding.now.addr c.self.inside.slots.now c.loop-slot.slot-index c.args.defaults.now (omega arith) is) in
+    let all = ap (λ (s : ChangeState). least_steps c.args.self.now.rows (binding_touches s.slots c.args.binding.now)) c.self.view_is in
+    on_ok_map _ _ (λ read. omega (arith, c.loop-slot.invariant.read, read, last, all)) c.holder_edits.result c.holder_edits.ensures.read

@@ -23,6 +23,7 @@ loop-binding-preserved g c =
           ∙ ap (λ (ks : List RowKey). more_fresh c.args.self.now.slots c.args.self.now.bindings new ks c.loop-binding.fresh) (next_bound owner c.args.side c.args.n c.args.bound.now i c.binding-item.result c.loop-binding-test.true c.binding-item.is)
           ∙ one-more c.args.self.now.slots c.args.self.now.bindings new (row_key owner c.args.side c.binding-item.result.addr c.args.n) rest c.loop-binding.fresh
           ∙ ap (more_fresh c.args.self.now.slots c.args.self.now.bindings new rest) (sym (c.in_ok-address_fresh.ensures.ok new holds));
+      up = omega (arith, c.loop-binding.invariant.up, c.address_fresh.ensures.least);
       most = λ b k u few rows fit. one_more_place c.args.steps.now c.loop-binding.steps c.address_fresh.new.steps i (i + 1) u (omega arith) (c.loop-binding.invariant.most b k u few rows fit) (c.address_fresh.ensures.most b k u few rows fit);
     }
 

@@ -44,3 +44,22 @@ returns-in-Some-clause-most g c = λ b k u few rows fit.
   where
     total : (start middle end l n m b u : ℕ) → l ≡ n → m ≡ 1 → middle ≤ start + l + b → end ≤ middle + l * u → end ≤ start + m * b + n * (u + 1)
     total start middle end l n m b u long one read rest = subst (λ (x : ℕ). end ≤ start + m * b + x * (u + 1)) long (subst (λ (x : ℕ). end ≤ start + x * b + l * (u + 1)) (sym one) (omega arith))
+
+pub returns-in-None-clause-least : goal.returns-in-None-clause-least
+unfolding entry_touches
+returns-in-None-clause-least g c =
+    let none = c.in-None.ensures ∙ ap (λ (url : List ℕ). option_map key_parts (first_of (member_keys url c.args.entry.now))) c.url.ensures in
+    let touched = ap (λ (ks : List RowKey). length ks) (no_first c.args.self.now.bindings c.args.holding.now.0 c.args.side c.args.n (member_keys c.args.holding.now.1.url c.args.entry.now) none) in
+    omega (arith, touched)
+
+pub returns-in-Some-clause-least : goal.returns-in-Some-clause-least
+unfolding entry_touches
+returns-in-Some-clause-least g c =
+    let some = c.in-Some.ensures ∙ ap (λ (url : List ℕ). option_map key_parts (first_of (member_keys url c.args.entry.now))) c.url.ensures in
+    let bound = c.rows_under_counted-bound.ensures.rows ∙ ap (λ (s : ChangeState). rows_under binding_place (text_place c.in-Some.key.kind c.in-Some.key.text.now) s.bindings) c.self.view_is in
+    let touched =
+    ap (map (bound_key c.args.holding.now.0 c.args.side c.args.n)) bound
+    ∙ sym (some_first c.args.self.now.bindings c.args.holding.now.0 c.args.side c.args.n c.in-Some.key.kind c.in-Some.key.text.now (member_keys c.args.holding.now.1.url c.args.entry.now) some) in
+    let long : length c.rows_under_counted-bound.result.now ≡ length (first_key_touches c.args.self.now.bindings c.args.holding.now.0 c.args.side c.args.n (member_keys c.args.holding.now.1.url c.args.entry.now)) =
+    sym (length-map (bound_key c.args.holding.now.0 c.args.side c.args.n) c.rows_under_counted-bound.result.now) ∙ ap (λ (ks : List RowKey). length ks) touched in
+    omega (arith, long, c.rows_under_counted-bound.ensures.least, c.bound_fresh.ensures.least)

@@ -5,7 +5,8 @@ use Rattle.acl_rows.specs.declared.row.RowKey.{RowKey}
 use Rattle.acl_patch.specs.Touched.{with_edits}
 use Rattle.key_index.specs.declared.group.EntrySpot.{EntrySpot}
 use Rattle.row_changes.specs.Change.{more_edits}
-use Rattle.row_changes.proofs.Loops.{more_edits-append}
+use Rattle.row_changes.specs.Steps.{least_steps}
+use Rattle.row_changes.proofs.Loops.{more_edits-append, least_steps-cons}
 use Rattle.row_changes.proofs.SpotTouches.{spot_key, spots_touched, spot_there, next_spot, spot_read, spot_read_is}
 use Rattle.row_changes.proofs.change.Change.holder_edits.Goals as goal
 
@@ -32,6 +33,9 @@ loop-spot-preserved g c =
           ∙ sym (more_edits-append c.args.self.now (f (spot_read c.spots-spots.result.now c.loop-spot.spot-index) ∷ []) rest c.loop-spot.edits.rows)
           ∙ ap (λ (ts : List RowKey). more_edits c.args.self.now ts c.loop-spot.edits.rows) (sym next)
           ∙ c.loop-spot.invariant.edits;
+      read =
+          (let count = ap (least_steps c.args.self.now.rows) next ∙ least_steps-cons c.args.self.now.rows (f (spot_read c.spots-spots.result.now c.loop-spot.spot-index)) rest in
+          omega (arith, c.loop-spot.invariant.read, c.spot_edit.ensures.least, count));
       up = omega (arith, c.loop-spot.invariant.up, c.spot_edit.ensures.least);
       most = λ b k u few rows fit.
           let count = ap (λ (ts : List RowKey). length ts * u) next in
@@ -53,3 +57,12 @@ returns-clause-most g c = λ b k u few rows fit.
     let touched = ap (map f) c.spots-spots.ensures ∙ spots_touched c.args.key.now c.args.addr c.args.holding.now.0 c.args.holding.now.1 in
     let all = ap (λ (ts : List RowKey). length ts * u) touched in
     omega (arith, c.loop-spot.invariant.most b k u few rows fit, all)
+
+pub returns-clause-read : goal.returns-clause-read
+unfolding least_steps
+returns-clause-read g c =
+    let f : EntrySpot → RowKey = spot_key c.args.holding.now.0 c.args.addr in
+    let touched = ap (map f) c.spots-spots.ensures ∙ spots_touched c.args.key.now c.args.addr c.args.holding.now.0 c.args.holding.now.1 in
+    let all = ap (least_steps c.args.self.now.rows) touched in
+    let none = ap (λ (xs : List EntrySpot). least_steps c.args.self.now.rows (map f xs)) (drop_all c.loop-spot.spot-index c.spots-spots.result.now (omega arith)) in
+    omega (arith, c.loop-spot.invariant.read, all, none)

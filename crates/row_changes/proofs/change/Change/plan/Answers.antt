@@ -4,7 +4,8 @@ use Rattle.acl_model.specs.Places.{binding_place}
 use Rattle.acl_rows.specs.declared.row.RowKey.{RowKey}
 use Rattle.acl_patch.specs.Touched.{touches}
 use Rattle.row_changes.specs.Change.{ChangeState, more_edits}
-use Rattle.row_changes.proofs.Loops.{length_times}
+use Rattle.row_changes.specs.Steps.{least_steps}
+use Rattle.row_changes.proofs.Loops.{length_times, least_steps-append}
 use Rattle.row_changes.proofs.Planned.{touches-append, planned}
 use Rattle.row_changes.proofs.change.Change.plan.Goals as goal
 
@@ -34,3 +35,10 @@ returns-clause-most g c = λ b k u few rows fit.
     let left = ap (λ (s : ChangeState). length (touches c.args.self.now.slots s.gone) * u) c.self.view_is in
     let came = ap (λ (s : ChangeState). length (touches c.args.self.now.slots s.come) * u) c.self.view_is in
     omega (arith, c.all_edits.ensures.most b k u few rows fit, c.all_edits-2.ensures.most b k u few rows fit, count, left, came)
+
+pub returns-clause-read : goal.returns-clause-read
+returns-clause-read g c =
+    let count = ap (least_steps c.args.self.now.rows) (touches-append c.args.self.now.slots c.args.self.now.gone c.args.self.now.come) ∙ least_steps-append c.args.self.now.rows (touches c.args.self.now.slots c.args.self.now.gone) (touches c.args.self.now.slots c.args.self.now.come) in
+    let left = ap (λ (s : ChangeState). least_steps c.args.self.now.rows (touches c.args.self.now.slots s.gone)) c.self.view_is in
+    let came = ap (λ (s : ChangeState). least_steps c.args.self.now.rows (touches c.args.self.now.slots s.come)) c.self.view_is in
+    omega (arith, c.in_ok-all_edits.ensures.read, c.in_ok-all_edits-2.ensures.read, count, left, came)

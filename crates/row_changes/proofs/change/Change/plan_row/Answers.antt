@@ -5,6 +5,7 @@ use Rattle.acl_rows.specs.declared.row.Row.{Row}
 use Rattle.acl_rows.specs.View.{rows_of_side}
 use Rattle.acl_patch.specs.Touched.{row_key_place}
 use Rattle.row_changes.specs.Change.{ChangeState}
+use Rattle.row_changes.specs.Steps.{least_step}
 use Rattle.row_changes.proofs.OneEdit.{kept_within, kept_edits, new_edits}
 use Rattle.row_changes.proofs.change.Change.plan_row.Goals as goal
 
@@ -28,3 +29,15 @@ returns-in-Err-clause-ok g c =
     subst (λ (rows : List (Edit Row)). OnOk c.plan_new.result (c.plan_new.new.edits.rows ≡ rows))
     (new_edits c.args.self.now c.shelf-shelf.result.now.rows c.args.key (c.shelf-shelf.ensures.rows ∙ ap (λ (s : ChangeState). rows_of_side c.args.key.owner c.args.key.side s.rows) c.self.view_is) c.rows-kept.ensures.ascend c.in-Err.index c.args.until c.args.edits.now.rows c.in-Err.ensures.index)
     c.plan_new.ensures
+
+pub returns-in-Ok-clause-least : goal.returns-in-Ok-clause-least
+unfolding least_step
+returns-in-Ok-clause-least g c =
+    let own = ap length (c.shelf-shelf.ensures.rows ∙ ap (λ (s : ChangeState). rows_of_side c.args.key.owner c.args.key.side s.rows) c.self.view_is) in
+    omega (arith, c.in-Ok.ensures.least, own)
+
+pub returns-in-Err-clause-least : goal.returns-in-Err-clause-least
+unfolding least_step
+returns-in-Err-clause-least g c =
+    let own = ap length (c.shelf-shelf.ensures.rows ∙ ap (λ (s : ChangeState). rows_of_side c.args.key.owner c.args.key.side s.rows) c.self.view_is) in
+    omega (arith, c.in-Err.ensures.least, own)

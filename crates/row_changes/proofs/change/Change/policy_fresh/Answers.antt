@@ -32,3 +32,10 @@ returns-clause-most g c = λ b k u few rows fit.
     let second : List RowKey = side_policy_touches c.args.self.now.bindings c.args.holding.now.0 c.args.holding.now.1 To in
     let all = ap (λ (n : ℕ). n * (u + 1)) (length-append first second) in
     omega (arith, all, c.side_fresh.ensures.most b k u few rows (fit From), c.side_fresh-2.ensures.most b k u few rows (fit To))
+
+pub returns-clause-read : goal.returns-clause-read
+unfolding new_touches
+returns-clause-read g c =
+    let first : List RowKey = side_policy_touches c.args.self.now.bindings c.args.holding.now.0 c.args.holding.now.1 From in
+    let second : List RowKey = side_policy_touches c.args.self.now.bindings c.args.holding.now.0 c.args.holding.now.1 To in
+    on_ok_map _ _ (λ read. omega (arith, read, length-append first second, c.in_ok-side_fresh.ensures.read)) c.side_fresh-2.result c.side_fresh-2.ensures.read

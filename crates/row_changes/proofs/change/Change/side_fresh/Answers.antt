@@ -45,6 +45,10 @@ loop-entry-preserved g c =
           ∙ more_fresh-append c.args.self.now.slots c.args.self.now.bindings new (f (i + 1, c.entry-item.result)) rest c.loop-entry.fresh
           ∙ ap (more_fresh c.args.self.now.slots c.args.self.now.bindings new rest)
           (sym (c.in_ok-entry_fresh.ensures.ok new holds ∙ ap (λ (m : ℕ). more_fresh c.args.self.now.slots c.args.self.now.bindings new (f (m + 1, c.entry-item.result)) c.loop-entry.fresh) c.loop-entry.invariant.number));
+      read =
+          (let next = ap (λ (ks : List RowKey). length ks) step ∙ length-append (f (i + 1, c.entry-item.result)) rest in
+          let here = ap (λ (m : ℕ). length (f (m + 1, c.entry-item.result))) c.loop-entry.invariant.number in
+          omega (arith, c.loop-entry.invariant.read, c.entry_fresh.ensures.least, next, here));
       most = λ b k u few rows fits.
           let next = ap (λ (ks : List RowKey). length ks) step ∙ length-append (f (i + 1, c.entry-item.result)) rest in
           let here = ap (λ (m : ℕ). length (f (m + 1, c.entry-item.result))) c.loop-entry.invariant.number in
@@ -65,3 +69,9 @@ returns-clause-most g c = λ b k u few rows fit.
     let fits : EntriesFit c.args.holding.now.1.url c.entries-entries.result.now b k u = subst (λ (es : List Entry). EntriesFit c.args.holding.now.1.url es b k u) (sym c.entries-entries.ensures) fit in
     let all = ap (λ (es : List Entry). membered_count es * b) c.entries-entries.ensures in
     omega (arith, c.loop-entry.invariant.most b k u few rows fits, all)
+
+pub returns-clause-read : goal.returns-clause-read
+unfolding numbered
+returns-clause-read g c =
+    let none = ap (λ (es : List Entry). length (flat_map (entry_touches c.args.self.now.bindings c.args.holding.now.0 c.args.holding.now.1 c.args.side) (numbered (c.loop-entry.entry-index + 1) es))) (drop_all c.loop-entry.entry-index c.entries-entries.result.now c.loop-entry-test.false) in
+    omega (arith, c.loop-entry.invariant.read, none)

@@ -6,8 +6,9 @@ use Rattle.acl_rows.specs.Rows.{Holder, held_by}
 use Rattle.acl_patch.specs.Touched.{holder_touches, with_edits}
 use Rattle.row_edits.specs.declared.edit.Edit.{Edit}
 use Rattle.row_changes.specs.Change.{more_edits, slot_touches}
-use Rattle.row_changes.specs.Steps.{HolderFits}
-use Rattle.row_changes.proofs.Loops.{slot_holds}
+use Rattle.row_changes.specs.Steps.{least_steps, HolderFits}
+use Rattle.row_changes.proofs.Loops.{slot_holds, least_steps-none}
+use Rattle.row_changes.proofs.FreshLaws.{on_ok_map}
 use Rattle.row_changes.proofs.change.Change.slot_edits.Goals as goal
 
 pub holder_edits-requires : goal.holder_edits-requires
@@ -39,3 +40,18 @@ returns-in-Some-clause-most g c = λ b k u few rows fit.
     ap (λ (s : Option UrlPolicy). length (slot_touches c.args.binding.now.key c.args.binding.now.addr c.args.n s) * u) c.in-Some.is
     ∙ sym (ap (λ (h : Holder). length (holder_touches c.args.binding.now.key c.args.binding.now.addr h) * u) same) in
     omega (arith, c.holder_edits.ensures.most b k u few rows own, count)
+
+pub returns-in-None-clause-read : goal.returns-in-None-clause-read
+unfolding slot_touches
+returns-in-None-clause-read g c =
+    let none = ap (λ (s : Option UrlPolicy). least_steps c.args.self.now.rows (slot_touches c.args.binding.now.key c.args.binding.now.addr c.args.n s)) c.in-None.is ∙ least_steps-none c.args.self.now.rows in
+    omega (arith, none)
+
+pub returns-in-Some-clause-read : goal.returns-in-Some-clause-read
+unfolding slot_touches
+returns-in-Some-clause-read g c =
+    let same : c.of_held-holding.result ≡ (Url c.args.n, c.in-Some.held) = (λ i. (c.of_held-holding.ensures.owner i, c.of_held-holding.ensures.held i)) in
+    let count =
+    ap (λ (s : Option UrlPolicy). least_steps c.args.self.now.rows (slot_touches c.args.binding.now.key c.args.binding.now.addr c.args.n s)) c.in-Some.is
+    ∙ sym (ap (λ (h : Holder). least_steps c.args.self.now.rows (holder_touches c.args.binding.now.key c.args.binding.now.addr h)) same) in
+    on_ok_map _ _ (λ read. omega (arith, read, count)) c.holder_edits.result c.holder_edits.ensures.read

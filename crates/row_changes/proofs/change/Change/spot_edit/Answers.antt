@@ -1,10 +1,11 @@
-use Rattle.std.proofs.Common.{List, ◌∷◌, [], OnOk, ◌≡◌, ap, sym, subst, ◌∙◌}
+use Rattle.std.proofs.Common.{List, ◌∷◌, [], OnOk, ◌≡◌, ap, sym, subst, ◌∙◌, arith}
 use Rattle.acl_rows.specs.declared.row.Owner.{Owner}
 use Rattle.acl_rows.specs.declared.row.Row.{Row}
 use Rattle.acl_rows.specs.Rows.{entry_end, held_by, rows_of}
 use Rattle.acl_patch.specs.Touched.{row_key}
 use Rattle.row_edits.specs.declared.edit.Edit.{Edit}
 use Rattle.row_changes.specs.Change.{ChangeState, after, more_edits}
+use Rattle.row_changes.specs.Steps.{least_step}
 use Rattle.row_changes.proofs.OneEdit.{entry_edit_is}
 use Rattle.row_changes.proofs.SpotTouches.{spot_most}
 use Rattle.row_changes.proofs.change.Change.spot_edit.Goals as goal
@@ -22,3 +23,8 @@ pub returns-clause-most : goal.returns-clause-most
 returns-clause-most g c = λ b k u few rows fit.
     spot_most c.args.steps.now c.entry_end-until.new.steps c.plan_row.new.steps b k u c.url.result.now c.args.holding.now.1.url c.entry-entry.result.now c.url.ensures
     (c.entry_end-until.ensures.most b few) (c.plan_row.ensures.most k rows) (fit c.args.spot.now.side c.args.spot.now.number c.entry-entry.result.now c.entry-entry.ensures)
+
+pub returns-clause-least : goal.returns-clause-least
+returns-clause-least g c =
+    let own = ap (λ (o : Owner). least_step c.args.self.now.rows (row_key o c.args.spot.now.side c.args.addr c.args.spot.now.number)) c.owner.ensures in
+    omega (arith, c.entry_end-until.ensures.least, c.plan_row.ensures.least, own)

@@ -38,7 +38,7 @@ use Rattle.row_edits.specs.Edits.{edited, AreFound}
 use Rattle.row_shelves.specs.Shelves.{Shelves, HasRoom}
 use Rattle.acl_model.specs.Places.{binding_place}
 use Rattle.acl_patch.specs.Patch.{IsPatch}
-use Rattle.acl_compile.specs.Plans.{slot_set, holder_policy, holder_owner, policy_held, place_held, held_for, is_other, others_held, rows_of_owner, slots_with, slots_after, bindings_after, policy_steps, IsPlaceFor, IsPolicyPlan}
+use Rattle.acl_compile.specs.Plans.{slot_set, holder_policy, holder_owner, policy_held, place_held, held_for, is_other, others_held, rows_of_owner, slots_with, slots_after, bindings_after, policy_steps, policy_reads, IsPlaceFor, IsPolicyPlan}
 use Rattle.row_changes.specs.Steps.{HaveKeys, PolicyKeys, place_steps}
 
 lt_by : (a b : ℕ) → ((nat_lt a b ≡ true) × (suc a ≤ b)) ⊎ ((nat_lt a b ≡ false) × (b < suc a)) → ((nat_lt a b ≡ true) × (a < b)) ⊎ ((nat_lt a b ≡ false) × (b ≤ a))
@@ -474,6 +474,19 @@ policy_most url policy slots bindings rows i held start end place kept held_is m
   where
     regroup : (start end a b : ℕ) → end ≤ start + a + b → end ≤ start + (a + b)
     regroup start end a b h = omega arith
+
+-- what the plan reads
+pub policy_least : (url : List ℕ) (policy : Option Policy) (slots : Slots) (bindings : List Binding) (rows : List Row) (i : ℕ) (held : Option UrlPolicy) (start end : ℕ)
+    → IsPlaceFor url slots i → rows ≡ rows_of slots bindings → held ≡ held_for url policy
+    → start + length (owner_rows (Url i) rows) + length (new_touches bindings (Url i) held) ≤ end
+    → start + policy_reads url policy slots bindings rows ≤ end
+unfolding policy_reads
+policy_least url policy slots bindings rows i held start end place kept held_is read =
+    let own : length (owner_rows (Url i) rows) ≡ length (rows_of_owner (place_held slots url) rows) =
+    ap (λ (rs : List Row). length (owner_rows (Url i) rs)) kept ∙ rows_of_place url slots bindings i place ∙ ap (λ (rs : List Row). length (rows_of_owner (place_held slots url) rs)) (sym kept) in
+    let new : length (new_touches bindings (Url i) held) ≡ length (new_touches bindings Default (held_for url policy)) =
+    ap (λ (x : Option UrlPolicy). length (new_touches bindings (Url i) x)) held_is ∙ touch_count bindings (Url i) Default (held_for url policy) in
+    omega (arith, own, new, read)
 
 -- ---- Places of other URLs
 

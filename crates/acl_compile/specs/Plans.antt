@@ -134,3 +134,7 @@ unfoldable pub policy_steps : List ℕ → Option Policy → Slots → List Bind
 policy_steps url policy slots bindings rows s b k =
     length (rows_of_owner (place_held slots url) rows)
     + (policy_count (held_for url policy) + length (new_touches bindings Default (held_for url policy)) + 1) * place_steps s b k
+
+-- the rows of the URL, and the bindings of the first key of each membered entry of the new policy
+unfoldable pub policy_reads : List ℕ → Option Policy → Slots → List Binding → List Row → ℕ
+policy_reads url policy slots bindings rows = length (rows_of_owner (place_held slots url) rows) + length (new_touches bindings Default (held_for url policy))

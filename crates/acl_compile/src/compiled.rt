@@ -1,12 +1,12 @@
 //! What is compiled, and views of it.
-ghost use Rattle.std.specs.Prelude.{◌≡◌, ℕ, ◌+◌, ◌*◌, ◌^◌, ◌<◌, ◌≤◌, ◌++◌, [], length, IfOk, option_copied, ◌↔◌, IsTrue};
+ghost use Rattle.std.specs.Prelude.{◌≡◌, ℕ, ◌+◌, ◌*◌, ◌^◌, ◌<◌, ◌≤◌, ◌++◌, [], length, IfOk, OnOk, option_copied, ◌↔◌, IsTrue};
 ghost use Rattle.acl_rows.specs.View.{IsViewOf};
 ghost use Rattle.acl_rows.specs.Rows.{rows_of};
 ghost use Rattle.acl_patch.specs.Patch.{rows_apart};
 ghost use Rattle.acl_patch.specs.Touched.{touches};
 ghost use Rattle.acl_compile.specs.Compiled.{HasItsRows};
-ghost use Rattle.acl_compile.specs.Plans.{Fits, slots_after, bindings_after, IsKept, IsMemberPlan, IsPolicyPlan, CanBeCounted, held_for, others_held, policy_steps};
-ghost use Rattle.row_changes.specs.Steps.{HaveKeys, PolicyKeys, place_steps};
+ghost use Rattle.acl_compile.specs.Plans.{Fits, slots_after, bindings_after, IsKept, IsMemberPlan, IsPolicyPlan, CanBeCounted, held_for, others_held, policy_reads, policy_steps};
+ghost use Rattle.row_changes.specs.Steps.{least_steps, HaveKeys, PolicyKeys, place_steps};
 
 use crate::plan::{RowPlan, others_in, plan_change, plan_slot, set_slot};
 use acl_model::{Binding, Policy};
@@ -86,7 +86,8 @@ impl Compiled {
 
     /// Plans a change of bindings: these go and those come. What is kept stays as it is, whatever
     /// the answer. It reads the places that the change touches: for each binding that goes or comes
-    /// the entries that have its key, at its address.
+    /// the entries that have its key, at its address. Each is looked for among the rows of its owner
+    /// and side, which is a step at least where there are any.
     pub fn plan_member<L: Ledger>(
         &mut self,
         gone: &[Binding],
@@ -95,6 +96,7 @@ impl Compiled {
     ) -> Result<RowPlan, Memory>
         ensures kept { IsKept self.old self.new }
         ensures ok { IfOk result (λ plan. IsMemberPlan gone.now come.now self.new plan) }
+        ensures least { OnOk result (steps.old + least_steps self.old.rows (touches self.old.slots (gone.now ++ come.now)) ≤ steps.new) }
         ensures most { (s b k : ℕ) → HaveKeys s self.old.slots → length self.old.bindings + length come.now < 2 ^ b → length self.old.rows < 2 ^ k
             → steps.new ≤ steps.old + (length gone.now + length come.now + length (touches self.old.slots (gone.now ++ come.now))) * place_steps s b k }
     {
@@ -112,7 +114,8 @@ impl Compiled {
 
     /// Plans that this policy is held for the URL, in place of the one that is; None takes that one
     /// away. What is kept stays as it is, whatever the answer. It reads the URL's rows, and for each
-    /// entry of the new policy with a member selector the bindings of its first key.
+    /// entry of the new policy with a member selector the bindings of its first key: each is a step
+    /// at least.
     pub fn plan_policy<L: Ledger>(
         &mut self,
         url: &MudUrl,
@@ -123,6 +126,7 @@ impl Compiled {
         requires lists { CanBeCounted (option_copied policy) }
         ensures kept { IsKept self.old self.new }
         ensures ok { IfOk result (λ plan. IsPolicyPlan url.now (option_copied policy.entry) self.new plan) }
+        ensures least { OnOk result (steps.old + policy_reads url.now (option_copied policy.entry) self.old.slots self.old.bindings self.old.rows ≤ steps.new) }
         ensures most { (s b k : ℕ) → HaveKeys s self.old.slots → PolicyKeys s (held_for url.now (option_copied policy.entry)) → length self.old.bindings < 2 ^ b → length self.old.rows < 2 ^ k
             → steps.new ≤ steps.old + policy_steps url.now (option_copied policy.entry) self.old.slots self.old.bindings self.old.rows s b k }
     {

@@ -1,13 +1,13 @@
 //! Changes that are planned.
-ghost use Rattle.std.specs.Prelude.{◌≡◌, ℕ, ◌+◌, ◌-◌, ◌*◌, ◌^◌, ◌<◌, ◌≤◌, ◌++◌, length, slice_get, IfOk, Option, Some, None, true, is_some, option_copied, vec_len, vec_capacity};
+ghost use Rattle.std.specs.Prelude.{◌≡◌, ℕ, ◌+◌, ◌-◌, ◌*◌, ◌^◌, ◌<◌, ◌≤◌, ◌++◌, length, slice_get, IfOk, OnOk, Option, Some, None, true, is_some, option_copied, vec_len, vec_capacity};
 ghost use Rattle.acl_model.specs.Policies.{UrlPolicy};
 ghost use Rattle.acl_model.specs.Defaults.{default_policy};
 ghost use Rattle.acl_rows.specs.Rows.{rows_of};
 ghost use Rattle.acl_patch.specs.Touched.{touches};
 ghost use Rattle.acl_compile.specs.Compiled.{UrlsApart, compiled_state};
 ghost use Rattle.acl_compile.specs.Plans as spec;
-ghost use Rattle.acl_compile.specs.Plans.{slot_set, IsMemberPlan, IsPolicyPlan, IsPlaceFor, CanBeCounted, held_for, others_held, policy_steps};
-ghost use Rattle.row_changes.specs.Steps.{HaveKeys, PolicyKeys, place_steps};
+ghost use Rattle.acl_compile.specs.Plans.{slot_set, IsMemberPlan, IsPolicyPlan, IsPlaceFor, CanBeCounted, held_for, others_held, policy_reads, policy_steps};
+ghost use Rattle.row_changes.specs.Steps.{least_steps, HaveKeys, PolicyKeys, place_steps};
 
 use acl_model::{Binding, Policy};
 use acl_rows::Row;
@@ -72,6 +72,7 @@ pub(crate) fn plan_change<L: Ledger>(
     ensures bindings { bindings.new.rows ≡ bindings.old.rows }
     ensures rows { rows.new.rows ≡ rows.old.rows }
     ensures ok { IfOk result (λ plan. (room : ℕ) → IsMemberPlan gone.now come.now (compiled_state slots.now bindings.new rows.new room) plan) }
+    ensures read { OnOk result (steps.old + least_steps rows.old.rows (touches slots.now (gone.now ++ come.now)) ≤ steps.new) }
     ensures most { (s b k : ℕ) → HaveKeys s slots.now → length bindings.old.rows + length come.now < 2 ^ b → length rows.old.rows < 2 ^ k
         → steps.new ≤ steps.old + (length gone.now + length come.now + length (touches slots.now (gone.now ++ come.now))) * place_steps s b k }
 {
@@ -174,6 +175,7 @@ pub(crate) fn plan_slot<L: Ledger>(
     ensures slots { slots.new.items ≡ slots.old.items }
     ensures rows { rows.new.rows ≡ rows.old.rows }
     ensures ok { IfOk result (λ plan. IsPolicyPlan url.now (option_copied policy.entry) (compiled_state slots.new.items bindings.now rows.new (vec_capacity slots.new - vec_len slots.new)) plan) }
+    ensures read { OnOk result (steps.old + policy_reads url.now (option_copied policy.entry) slots.old.items bindings.now.rows rows.old.rows ≤ steps.new) }
     ensures most { (s b k : ℕ) → HaveKeys s slots.old.items → PolicyKeys s (held_for url.now (option_copied policy.entry)) → length bindings.now.rows < 2 ^ b → length rows.old.rows < 2 ^ k
         → steps.new ≤ steps.old + policy_steps url.now (option_copied policy.entry) slots.old.items bindings.now.rows rows.old.rows s b k }
 {

@@ -1,11 +1,13 @@
-use Rattle.std.proofs.Common.{List, sym, ap, subst, ◌∙◌, arith}
+use Rattle.std.proofs.Common.{◌+◌, ◌≤◌, List, ◌++◌, sym, ap, subst, ◌∙◌, arith}
 use Rattle.acl_model.specs.declared.binding.Binding.{Binding}
 use Rattle.acl_model.specs.Changes.{replaced}
 use Rattle.acl_rows.specs.Rows.{default_held}
 use Rattle.acl_patch.specs.Patch.{IsPatch}
+use Rattle.acl_patch.specs.Touched.{touches}
 use Rattle.row_changes.specs.Bindings.{AreEditsOf}
 use Rattle.row_changes.specs.Change.{ChangeState, change_state, after}
 use Rattle.row_changes.specs.Policies.{url_policy}
+use Rattle.row_changes.specs.Steps.{least_steps}
 use Rattle.row_changes.proofs.Planned.{most_moved}
 use Rattle.acl_compile.proofs.PlanLaws.{member_most, member_plan}
 use Rattle.acl_compile.proofs.plan.plan_change.Goals as goal
@@ -53,3 +55,8 @@ returns-clause-ok g c =
     (subst (λ (bs : List Binding). IsPatch c.args.slots.now bs c.args.slots.now (replaced c.args.gone.now c.args.come.now bs) c.in_ok-row_edits.row_edits.rows) kept made)
     (subst (λ (bs : List Binding). AreEditsOf c.args.gone.now c.args.come.now bs c.in_ok-binding_edits.binding_edits.rows) kept c.in_ok-binding_edits.ensures.ok)
     c.in_ok-make_room.ensures.ok (omega (arith, c.in_ok-reserve.ensures.ok, c.len.ensures))
+
+pub returns-clause-read : goal.returns-clause-read
+returns-clause-read g c =
+    let read = subst (λ (s : ChangeState). c.args.steps.now + least_steps s.rows (touches s.slots (s.gone ++ s.come)) ≤ c.plan.new.steps) c.new-change.ensures c.in_ok-row_edits.ensures.read in
+    omega (arith, read, c.edits_of.ensures.least)

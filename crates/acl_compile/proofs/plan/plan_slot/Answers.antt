@@ -8,7 +8,7 @@ use Rattle.acl_compile.specs.Compiled.{UrlsApart}
 use Rattle.row_changes.specs.Fresh.{policy_count}
 use Rattle.acl_compile.specs.Plans.{IsPlaceFor, others_held}
 use Rattle.row_changes.specs.Steps.{HaveKeys, PolicyKeys, place_steps}
-use Rattle.acl_compile.proofs.SlotLaws.{policy_plan, policy_most}
+use Rattle.acl_compile.proofs.SlotLaws.{policy_plan, policy_most, policy_least}
 use Rattle.acl_compile.proofs.plan.plan_slot.Goals as goal
 
 pub returns-in_err-edits-clause-most : goal.returns-in_err-edits-clause-most
@@ -56,3 +56,9 @@ returns-clause-ok g c =
     (subst (λ (ss : Slots). (new : Slots) → IsSlotChange ss new c.place_for-place.result c.in_ok-held.held → IsPatch ss c.args.bindings.now.rows new c.args.bindings.now.rows c.in_ok-edits.edits.rows) (c.as_slice-2.ensures.value ∙ kept) c.in_ok-edits.ensures.ok)
     c.in_ok-make_room.ensures.ok
     (omega (arith, place.within, c.in_ok-reserve.ensures.ok, c.reserve.new.self.ok.0))
+
+pub returns-clause-read : goal.returns-clause-read
+returns-clause-read g c =
+    policy_least c.args.url.now (option_copied c.args.policy) c.args.slots.now.items c.args.bindings.now.rows c.args.rows.now.rows c.place_for-place.result c.in_ok-held.held c.args.steps.now c.slot_rows.new.steps
+    (subst (λ (ss : Slots). IsPlaceFor c.args.url.now ss c.place_for-place.result) c.as_slice.ensures.value c.place_for-place.ensures) c.requires.kept c.in_ok-held.ensures
+    c.in_ok-edits.ensures.read

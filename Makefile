@@ -34,6 +34,8 @@ bench: build
 	bash bench/books
 	bash bench/judge
 	bash bench/replay
+	bash bench/serve
+	python3 bench/rows
 
 install: build
 	install -d "$(DESTDIR)$(PREFIX)/bin"

@@ -56,23 +56,26 @@ def ending(address, end=FOR_EVER):
     return b"\4" + address + struct.pack(">Q", end)
 
 
-def usage_file(file, sides):
-    """The file of a URL: for each side its number of entries, each for one name at port 443."""
+def entry(side, number, matches):
+    return {"name": f"{side}{number}", "matches": matches, "actions": {"forwarding": "accept"}}
 
-    def entry(side, number):
-        far = "dst" if side == "from" else "src"
-        port = "destination-port" if side == "from" else "source-port"
-        return {
-            "name": f"{side}{number}",
-            "matches": {
-                "ipv4": {f"ietf-acldns:{far}-dnsname": name_of(file, number), "protocol": 6},
-                "tcp": {"ietf-mud:direction-initiated": "from-device", port: {"operator": "eq", "port": 443}},
-            },
-            "actions": {"forwarding": "accept"},
-        }
 
-    def listed(side, count):
-        return {"name": side, "type": "ipv4-acl-type", "aces": {"ace": [entry(side, n) for n in range(count)]}}
+def name_matches(side, name):
+    """The tests of an entry for one name at port 443."""
+    far = "dst" if side == "from" else "src"
+    port = "destination-port" if side == "from" else "source-port"
+    return {
+        "ipv4": {f"ietf-acldns:{far}-dnsname": name, "protocol": 6},
+        "tcp": {"ietf-mud:direction-initiated": "from-device", port: {"operator": "eq", "port": 443}},
+    }
+
+
+def usage_file(url, matches):
+    """The file of a URL with an entry for each of the tests that are listed for a side."""
+
+    def listed(side):
+        entries = [entry(side, number, tests) for number, tests in enumerate(matches[side])]
+        return {"name": side, "type": "ipv4-acl-type", "aces": {"ace": entries}}
 
     def named(side):
         return {"access-lists": {"access-list": [{"name": side}]}}
@@ -81,16 +84,22 @@ def usage_file(file, sides):
         {
             "ietf-mud:mud": {
                 "mud-version": 1,
-                "mud-url": url_of(file),
+                "mud-url": url,
                 "last-update": "2019-01-28T11:20:51Z",
                 "is-supported": True,
                 "from-device-policy": named("from"),
                 "to-device-policy": named("to"),
             },
-            "ietf-access-control-list:acls": {"acl": [listed(side, count) for side, count in sides.items()]},
+            "ietf-access-control-list:acls": {"acl": [listed("from"), listed("to")]},
         },
         separators=(",", ":"),
     ).encode()
+
+
+def named_file(file, sides):
+    """The file of a URL: for each side its number of entries, each for a name of its own."""
+    matches = {side: [name_matches(side, name_of(file, n)) for n in range(count)] for side, count in sides.items()}
+    return usage_file(url_of(file), matches)
 
 
 def make_store(path, things, files, sides):
@@ -99,7 +108,7 @@ def make_store(path, things, files, sides):
         url = url_of(thing % files).encode()
         items.append((1, mac_of(thing), b"\2" + string(url) + b"\0\0\1" + ending(address_of(thing)) + b"\0"))
     for file in range(files):
-        body = b"\1\1" + struct.pack(">Q", MOMENT) + b"\2" + string(usage_file(file, sides)) + b"\0"
+        body = b"\1\1" + struct.pack(">Q", MOMENT) + b"\2" + string(named_file(file, sides)) + b"\0"
         items.append((2, url_of(file).encode(), body))
         for entry in range(sides["from"]):
             items.append((5, name_of(file, entry).encode(), b"\1\0\1" + ending(peer_of(file, entry))))

@@ -3,6 +3,7 @@ pub mod AscendLaws
 pub mod ChangeLaws
 pub mod Digits
 pub mod IndexLaws
+pub mod MergeLaws
 mod Lent
 pub mod ListTests
 pub mod PlacedLaws

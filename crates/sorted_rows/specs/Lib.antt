@@ -4,3 +4,4 @@ pub mod Runs
 pub mod Search
 pub mod Addresses
 pub mod Ascending
+pub mod Merging

@@ -5,6 +5,7 @@ ghost use Rattle.sorted_rows.specs.Placed.{place_cmp, prefix_cmp};
 mod change;
 mod counted;
 pub mod lists;
+mod merge;
 mod rows;
 mod runs;
 mod search;

@@ -1,9 +1,10 @@
 //! Rows that are kept in the order of their places.
-ghost use Rattle.std.specs.Prelude.{◌≡◌, ℕ, ◌+◌, ◌-◌, ◌*◌, ◌^◌, ◌<◌, ◌≤◌, ◌↔◌, min, [], ◌∷◌, ◌++◌, length, map, take, drop, slice_get, Some, Err, is_some, option_copied, IsOk, IsSome, IfSome, OnOk, if◌then◌else◌, vec_len, vec_capacity, IsTrue};
+ghost use Rattle.std.specs.Prelude.{◌≡◌, ℕ, ◌+◌, ◌-◌, ◌*◌, ◌^◌, ◌<◌, ◌≤◌, ◌↔◌, min, [], ◌∷◌, ◌++◌, length, map, take, drop, slice_get, Some, Err, is_some, option_copied, IsOk, IsSome, IfSome, OnOk, OnErr, if◌then◌else◌, vec_len, vec_capacity, IsTrue};
 ghost use Rattle.std.specs.List.{AllByRecursion};
 ghost use Rattle.sorted_rows.specs.Placed.{PlacesAscend, row_at, index_in, rows_under, set_row, set_rows, without_row, comes_last};
 ghost use Rattle.sorted_rows.specs.Changes.{changed};
 
+use super::merge::put_sorted;
 use super::runs::{put_run, take_run};
 use super::search::{index_of, stretch_under};
 use super::{Change, HoldsRow, KeyOf, Placed, PrefixOf};
@@ -39,6 +40,16 @@ impl<R: Placed> SortedRows<R> {
     {
         SortedRows {
             rows: Vec::new(alloc),
+        }
+    }
+
+    /// No rows, and no room, over the allocator of these. It takes no memory.
+    pub fn empty_like(&self) -> SortedRows<R>
+        ensures rows { result.rows ≡ [] }
+        ensures room { result.room ≡ 0 }
+    {
+        SortedRows {
+            rows: Vec::new(*self.rows.allocator()),
         }
     }
 
@@ -192,6 +203,19 @@ impl<R: Placed> SortedRows<R> {
         for row in rows {
             self.put(row);
         }
+    }
+
+    /// Puts each of these rows in, from the first to the last, as `put_all` does. Rows in front of
+    /// the first of them stay where they are, and each other row is moved twice, however many are
+    /// put in. The rows stay where there is no memory for it.
+    pub fn put_sorted(&mut self, rows: SortedRows<R>) -> Result<(), Memory>
+    where
+        R: Drop,
+        ensures ok { OnOk result (self.new.rows ≡ set_rows R.place rows.rows self.old.rows) }
+        ensures err { OnErr result (self.new.rows ≡ self.old.rows) }
+    {
+        let SortedRows { rows: more } = rows;
+        put_sorted(&mut self.rows, more)
     }
 
     /// Adds a row after all others, where its place is after theirs; else the rows stay, and the

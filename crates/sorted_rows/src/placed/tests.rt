@@ -105,6 +105,24 @@ fn rows_are_put_found_and_taken_away(rt: HostRuntime) -> Result<(), Fail> {
     Ok(())
 }
 
+#[test]
+fn rows_in_order_are_put_in_at_once(rt: HostRuntime) -> Result<(), Fail> {
+    let mut seats = hall(rt.alloc())?;
+    let more = vec![in rt.alloc(); at(1, 2, 6), at(1, 4, 7), at(2, 7, 8)]?;
+    if let Some(more) = SortedRows::from_sorted(more) {
+        seats.put_sorted(more)?;
+    }
+    let wanted = [
+        at(1, 2, 6),
+        at(1, 4, 7),
+        at(1, 300, 2),
+        at(2, 6, 3),
+        at(2, 7, 8),
+    ];
+    assert_eq!(rt; seats.rows(), wanted.as_slice());
+    Ok(())
+}
+
 /// Looks up a seat and its row, counted.
 fn searched<L: Ledger>(seats: &SortedRows<Seat>, steps: &mut Steps<L>) -> bool {
     let found = seats.find_counted(&to(&2, 3), steps).is_ok();

@@ -1,10 +1,11 @@
 //! Edits, and making them.
-ghost use Rattle.std.specs.Prelude.{◌≡◌, ◌+◌, ◌≤◌, length, OnOk};
+ghost use Rattle.std.specs.Prelude.{◌≡◌, ◌+◌, ◌≤◌, length, take, drop, OnOk};
 ghost use Rattle.sorted_rows.specs.Placed.{index_in, set_row};
 ghost use Rattle.row_edits.specs.Edits.{edit, edit_place, edit_made, edited, AreFound};
 
+use crate::runs::make_run;
 use mud_base::Memory;
-use sorted_rows::{Placed, SortedRows, Steps};
+use sorted_rows::{HoldsRow, Placed, SortedRows, Steps};
 use std::cmp::Ordering;
 use std::sync::ledger::Ledger;
 
@@ -28,6 +29,19 @@ impl<R: Placed> Placed for Edit<R> {
     #[tactic(auto, unfolding(crate::specs::Edits::edit_place))]
     fn order(&self, other: &Edit<R>) -> Ordering {
         self.row.order(&other.row)
+    }
+}
+
+impl<R: Placed> HoldsRow<R> for Edit<R> {
+    ghost row_of = { λ edit. edit.row };
+
+    fn into_row(self) -> R {
+        let Edit {
+            row,
+            comes: _,
+            found: _,
+        } = self;
+        row
     }
 }
 
@@ -68,12 +82,28 @@ pub fn make_edits<R: Placed + Drop, L: Ledger>(
     ensures counted { steps.new ≡ steps.old + length edits.rows }
 {
     let mut left = edits;
-    while !left.is_empty() {
-        let _ascending = rows.rows();
-        let edits = left.rows();
-        let last = edits.len() - 1;
-        let edit = left.take_at(last);
-        make_edit(rows, edit, steps);
+    make_edits_from(rows, &mut left, 0, steps);
+}
+
+/// Makes each of these edits from index `start` on, from the last to the first, and leaves those
+/// before it. Each is one step, and no memory is taken. Rows that come to stand side by side, and
+/// rows that stood side by side and go, move the rows behind them once.
+pub fn make_edits_from<R: Placed + Drop, L: Ledger>(
+    rows: &mut SortedRows<R>,
+    edits: &mut SortedRows<Edit<R>>,
+    start: usize,
+    steps: &mut Steps<L>,
+)
+    requires start { start ≤ length edits.old.rows }
+    requires room { length edits.old.rows ≤ rows.old.room + start }
+    requires found { AreFound R.place rows.old.rows (drop start edits.old.rows) }
+    ensures rows { rows.new.rows ≡ edited R.place (drop start edits.old.rows) rows.old.rows }
+    ensures left { edits.new.rows ≡ take start edits.old.rows }
+    ensures room { rows.old.room + start ≤ rows.new.room + length edits.old.rows }
+    ensures counted { steps.new + start ≡ steps.old + length edits.old.rows }
+{
+    while start < edits.len() {
+        make_run(rows, edits, start, steps);
     }
 }
 

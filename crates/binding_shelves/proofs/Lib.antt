@@ -1,0 +1,4 @@
+pub mod EditLaws
+pub mod KeyLaws
+pub mod PartLaws
+pub mod SearchLaws

@@ -1,0 +1,19 @@
+use Rattle.std.proofs.Common.{List, ℕ, length, ap, ◌∙◌, arith}
+use Rattle.acl_model.specs.Places.{text_place}
+use Rattle.binding_shelves.proofs.PartLaws.{roomier_itself, on_ok_map, key_is}
+use Rattle.binding_shelves.proofs.EditLaws.{counted_key}
+use Rattle.binding_shelves.proofs.parts.reserve_key.Goals as goal
+
+pub returns-then-is_last-clause-kept : goal.returns-then-is_last-clause-kept
+returns-then-is_last-clause-kept c = roomier_itself c.args.shelves.now.items c.requires.shelved
+
+pub returns-then-is_last-clause-ok : goal.returns-then-is_last-clause-ok
+returns-then-is_last-clause-ok c = c.requires.done c.args.key.now (c.is_last.ensures c.if-is_last.true)
+
+pub returns-clause-ok : goal.returns-clause-ok
+returns-clause-ok c =
+    let t : List ℕ = text_place c.key_text.result.kind c.key_text.result.text.now in
+    let count =
+    ap length c.rows_under-more.ensures
+    ∙ counted_key c.args.edits.now.rows c.args.key.now t (key_is c.args.key.now c.key_text.result.kind c.key_text.result.text.now c.key_text.ensures.kind c.key_text.ensures.text) in
+    on_ok_map _ _ (λ few. omega (arith, few, count)) c.reserve_shelf.result c.reserve_shelf.ensures.ok

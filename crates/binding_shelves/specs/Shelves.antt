@@ -1,0 +1,44 @@
+-- Bindings on shelves: those of one key stand by themselves, and each edit has an index among these.
+use Rattle.std.specs.Prelude.{◌≡◌, ℕ, ◌≤◌, List, [], ◌∷◌, length, Result, if◌then◌else◌}
+use Rattle.std.specs.List.{AllByRecursion}
+use Rattle.sorted_rows.specs.Placed.{same_place, index_in, rows_under}
+use Rattle.row_edits.specs.declared.edit.Edit.{Edit}
+use Rattle.row_edits.specs.Edits.{edit_place}
+use Rattle.acl_model.specs.declared.binding.MemberKey.{MemberKey}
+use Rattle.acl_model.specs.declared.binding.Binding.{Binding}
+use Rattle.acl_model.specs.Places.{key_place, binding_place}
+
+-- how many more bindings of a key there is room for
+pub record KeyRoom : Type 0 where
+  pub key : MemberKey
+  pub room : ℕ
+
+-- all bindings in the order of their places, and for each key with a shelf how many more there is room for
+pub record KeptBindings : Type 0 where
+  pub rows : List Binding
+  pub room : List KeyRoom
+
+-- a key without a shelf has no room
+unfoldable pub room_of_key : MemberKey → List KeyRoom → ℕ
+room_of_key key [] = 0
+room_of_key key (r ∷ rs) = if same_place (key_place r.key) (key_place key) then r.room else room_of_key key rs
+
+-- the bindings of one key
+unfoldable pub bindings_of_key : MemberKey → List Binding → List Binding
+bindings_of_key key rows = rows_under binding_place (key_place key) rows
+
+-- the index of a binding's place among the bindings of its key, or else the index at which it belongs there
+unfoldable pub index_by_key : Binding → List Binding → Result ℕ ℕ
+index_by_key b rows = index_in binding_place (binding_place b) (bindings_of_key b.key rows)
+
+-- each edit has the index of its place among the bindings of its key
+abbrev pub AreFoundByKey : List Binding → List (Edit Binding) → Type 0
+AreFoundByKey rows edits = AllByRecursion (λ edit. edit.found ≡ index_by_key edit.row rows) edits
+
+-- the edits of bindings of one key
+unfoldable pub edits_of_key : MemberKey → List (Edit Binding) → List (Edit Binding)
+edits_of_key key edits = rows_under (edit_place binding_place) (key_place key) edits
+
+-- for each key there is room for a binding by each of its edits
+pub record HasRoomByKey (edits : List (Edit Binding)) (room : List KeyRoom) : Type 0 where
+  pub each : (key : MemberKey) → length (edits_of_key key edits) ≤ room_of_key key room

@@ -1,7 +1,6 @@
 -- The steps of a plan, and what a commit keeps.
 use Rattle.std.proofs.Common.{◌≡◌, ℕ, ◌+◌, ◌*◌, ◌^◌, ◌<◌, ◌≤◌, List, ◌++◌, length, None, refl, sym, ap, subst, ◌∙◌, arith}
 use Rattle.std.proofs.Math.Nat.{mul-le-mul_left, mul-le-mul_right}
-use Rattle.sorted_rows.specs.Placed.{RowsAndRoom}
 use Rattle.acl_model.specs.declared.binding.Binding.{Binding}
 use Rattle.acl_model.specs.declared.entry.Policy.{Policy}
 use Rattle.acl_model.specs.Places.{binding_place}
@@ -9,6 +8,7 @@ use Rattle.acl_model.specs.Changes.{replaced}
 use Rattle.row_edits.specs.declared.edit.Edit.{Edit}
 use Rattle.row_edits.specs.Edits.{edited}
 use Rattle.row_shelves.specs.Shelves.{Shelves, AreFoundBeside, HasRoom}
+use Rattle.binding_shelves.specs.Shelves.{KeptBindings, HasRoomByKey}
 use Rattle.acl_rows.specs.declared.row.Row.{Row}
 use Rattle.acl_rows.specs.Places.{row_place}
 use Rattle.acl_rows.specs.Rows.{Slots, rows_of, member_keys}
@@ -53,9 +53,9 @@ member_most slots bindings rows gone come start middle end first second s b k ke
 
 -- ---- A plan of members
 
-pub member_plan : (gone come : List Binding) (slots : Slots) (bindings : RowsAndRoom Binding) (rows : Shelves) (row_edits : List (Edit Row)) (binding_edits : List (Edit Binding))
+pub member_plan : (gone come : List Binding) (slots : Slots) (bindings : KeptBindings) (rows : Shelves) (row_edits : List (Edit Row)) (binding_edits : List (Edit Binding))
     → length slots ≤ 128 → UrlsApart slots → IsPatch slots bindings.rows slots (replaced gone come bindings.rows) row_edits → AreEditsOf gone come bindings.rows binding_edits
-    → HasRoom row_edits rows.room → length binding_edits ≤ bindings.room
+    → HasRoom row_edits rows.room → HasRoomByKey binding_edits bindings.room
     → (room : ℕ) → IsMemberPlan gone come (compiled_state slots bindings rows room) (record { rows = row_edits; bindings = binding_edits; slot = None })
 unfolding slots_after slots_with bindings_after
 member_plan gone come slots bindings rows row_edits binding_edits few apart patch edits row_room binding_room room = record {

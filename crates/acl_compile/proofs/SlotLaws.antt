@@ -27,14 +27,16 @@ use Rattle.acl_rows.specs.Rows.{held_end}
 use Rattle.acl_rows.specs.Places.{owner_class, owner_number, owner_place, side_place, peer_place, place_at, row_place}
 use Rattle.acl_rows.proofs.AtPlaces.{ascend-rows_of}
 use Rattle.acl_patch.specs.Patch.{end_for}
-use Rattle.sorted_rows.specs.Placed.{is_under, RowsAndRoom}
+use Rattle.sorted_rows.specs.Placed.{is_under}
 use Rattle.row_shelves.proofs.Beside.{kept}
 use Rattle.row_changes.proofs.PolicyRows.{own_row, end_was}
 use Rattle.row_changes.specs.Policies.{url_policy}
 use Rattle.acl_compile.specs.Compiled.{UrlsApart, compiled_state}
 use Rattle.row_changes.specs.Fresh.{policy_count}
 use Rattle.row_edits.specs.declared.edit.Edit.{Edit}
-use Rattle.row_edits.specs.Edits.{edited, AreFound}
+use Rattle.row_edits.specs.Edits.{edited}
+use Rattle.binding_shelves.specs.Shelves.{KeptBindings, AreFoundByKey, HasRoomByKey}
+use Rattle.binding_shelves.proofs.EditLaws.{no_edits}
 use Rattle.row_shelves.specs.Shelves.{Shelves, HasRoom}
 use Rattle.acl_model.specs.Places.{binding_place}
 use Rattle.acl_patch.specs.Patch.{IsPatch}
@@ -429,7 +431,7 @@ touch_count bindings o o' (Some held) =
 
 -- ---- The whole plan
 
-pub policy_plan : (url : List ℕ) (policy : Option Policy) (slots : Slots) (bindings : RowsAndRoom Binding) (rows : Shelves) (room i : ℕ) (held : Option UrlPolicy) (edits : List (Edit Row)) (none : List (Edit Binding))
+pub policy_plan : (url : List ℕ) (policy : Option Policy) (slots : Slots) (bindings : KeptBindings) (rows : Shelves) (room i : ℕ) (held : Option UrlPolicy) (edits : List (Edit Row)) (none : List (Edit Binding))
     → IsPlaceFor url slots i → length slots ≤ 128 → UrlsApart slots → others_held url slots < 128 → held ≡ held_for url policy → none ≡ []
     → ((new : Slots) → IsSlotChange slots new i held → IsPatch slots bindings.rows new bindings.rows edits)
     → HasRoom edits rows.room → i < length slots + room
@@ -443,11 +445,11 @@ policy_plan url policy slots bindings rows room i held edits none place few apar
     record {
       fits = record {
         patch = subst (λ (bs : List Binding). IsPatch slots bindings.rows after bs edits) (sym empty) (patch after change);
-        found = subst (λ (es : List (Edit Binding)). AreFound binding_place bindings.rows es) (sym none_is) tt;
+        found = subst (λ (es : List (Edit Binding)). AreFoundByKey bindings.rows es) (sym none_is) tt;
         few = slot_count slots i held place.within few (place.few others);
         apart = apart_after url policy slots i after place change' apart;
         row_room = row_room;
-        binding_room = subst (λ (es : List (Edit Binding)). length es ≤ bindings.room) (sym none_is) (omega arith);
+        binding_room = subst (λ (es : List (Edit Binding)). HasRoomByKey es bindings.room) (sym none_is) (no_edits bindings.room);
         slot_room = (place.within, slot_room);
       };
       here = policy_here url policy slots i after place change' apart;

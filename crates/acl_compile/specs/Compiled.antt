@@ -1,6 +1,6 @@
 -- What is compiled: the policies in their places, the bindings, and the rows that follow from them.
 use Rattle.std.specs.Prelude.{◌≡◌, ℕ, ◌≤◌, List, length, Some}
-use Rattle.sorted_rows.specs.Placed.{PlacesAscend, RowsAndRoom}
+use Rattle.sorted_rows.specs.Placed.{PlacesAscend}
 use Rattle.acl_model.specs.declared.entry.Policy.{Policy}
 use Rattle.acl_model.specs.declared.binding.Binding.{Binding}
 use Rattle.acl_model.specs.Places.{binding_place}
@@ -10,15 +10,16 @@ use Rattle.acl_model.specs.Policies.{UrlPolicy}
 use Rattle.acl_rows.specs.declared.row.Owner.TheVariants.{Url}
 use Rattle.acl_rows.specs.Rows.{Slots, held_by, rows_of}
 use Rattle.row_shelves.specs.Shelves.{Shelves}
+use Rattle.binding_shelves.specs.Shelves.{KeyRoom, KeptBindings}
 
--- The policies in their places, the bindings and the rows; and how many more policies and bindings there is room for, and
--- how many more rows on the shelf of each owner and side.
+-- The policies in their places, the bindings and the rows; and how many more policies there is room for, how many more
+-- bindings on the shelf of each key, and how many more rows on the shelf of each owner and side.
 pub record CompiledState : Type 0 where
   pub slots : Slots
   pub bindings : List Binding
   pub rows : List Row
   pub slot_room : ℕ
-  pub binding_room : ℕ
+  pub binding_room : List KeyRoom
   pub row_room : List ℕ
 
 -- the bindings stand in their order, and the rows are those of the policies and bindings
@@ -37,5 +38,5 @@ pub record IsSound (slots : Slots) (bindings : List Binding) (rows : List Row) (
   pub apart : UrlsApart slots
   pub defaults_are : defaults ≡ default_policy
 
-abbrev pub compiled_state : Slots → RowsAndRoom Binding → Shelves → ℕ → CompiledState
+abbrev pub compiled_state : Slots → KeptBindings → Shelves → ℕ → CompiledState
 compiled_state slots bindings rows room = record { slots = slots; bindings = bindings.rows; rows = rows.rows; slot_room = room; binding_room = bindings.room; row_room = rows.room }

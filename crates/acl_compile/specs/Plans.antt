@@ -6,7 +6,7 @@ use Rattle.acl_model.specs.Places.{binding_place}
 use Rattle.acl_model.specs.Changes.{replaced}
 use Rattle.acl_model.specs.Policies.{UrlPolicy}
 use Rattle.row_edits.specs.declared.edit.Edit.{Edit}
-use Rattle.row_edits.specs.Edits.{edited, AreFound}
+use Rattle.row_edits.specs.Edits.{edited}
 use Rattle.acl_rows.specs.declared.row.Owner.{Owner}
 use Rattle.acl_rows.specs.declared.row.Row.{Row}
 use Rattle.acl_rows.specs.declared.row.Owner.TheVariants.{Url, Default}
@@ -15,6 +15,7 @@ use Rattle.acl_rows.specs.View.{holder_from}
 use Rattle.acl_patch.specs.Patch.{IsPatch}
 use Rattle.acl_patch.specs.PolicyTouched.{owner_rows, new_touches}
 use Rattle.row_shelves.specs.Shelves.{HasRoom}
+use Rattle.binding_shelves.specs.Shelves.{AreFoundByKey, HasRoomByKey}
 use Rattle.row_changes.specs.Fresh.{policy_count}
 use Rattle.row_changes.specs.Policies.{HasCounts, url_policy}
 use Rattle.row_changes.specs.Steps.{place_steps}
@@ -56,11 +57,11 @@ HasSlot (Some s) places room = (s.0 ≤ places) × (s.0 < places + room)
 -- the plan was made for just this, and there is room for what it adds
 pub record Fits (plan : Plan) (c : CompiledState) : Type 0 where
   pub patch : IsPatch c.slots c.bindings (slots_after plan c) (bindings_after plan c) plan.rows
-  pub found : AreFound binding_place c.bindings plan.bindings
+  pub found : AreFoundByKey c.bindings plan.bindings
   pub few : length (slots_after plan c) ≤ 128
   pub apart : UrlsApart (slots_after plan c)
   pub row_room : HasRoom plan.rows c.row_room
-  pub binding_room : length plan.bindings ≤ c.binding_room
+  pub binding_room : HasRoomByKey plan.bindings c.binding_room
   pub slot_room : HasSlot plan.slot (length c.slots) c.slot_room
 
 -- the policies, bindings and rows are the same; there may be more room

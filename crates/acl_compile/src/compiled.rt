@@ -11,25 +11,25 @@ ghost use Rattle.row_changes.specs.Steps.{least_steps, HaveKeys, PolicyKeys, pla
 use crate::plan::{RowPlan, others_in, plan_change, plan_slot, set_slot};
 use acl_model::{Binding, Policy};
 use acl_rows::{Owner, RuleView};
+use binding_shelves::BindingShelves;
 use mud_base::{Direction, Memory};
 use mud_url::MudUrl;
 use row_changes::{Held, HeldDefaults, find_held};
-use row_edits::make_edits;
 use row_shelves::RowShelves;
-use sorted_rows::{SortedRows, Steps};
+use sorted_rows::Steps;
 use std::alloc::Global;
 use std::marker::Model;
 use std::sync::ledger::Ledger;
 
-/// The approved policies, each in its place of a table of at most 128, the bindings, and the rows
-/// that follow from them: the rows of each policy and side by themselves. Contracts see these, and
-/// how much more there is room for.
+/// The approved policies, each in its place of a table of at most 128, the bindings, those of each
+/// key by themselves, and the rows that follow from them, those of each policy and side by
+/// themselves. Contracts see these, and how much more there is room for.
 #[derive(Drop)]
 pub struct Compiled {
     alloc: Global,
     slots: Vec<Option<Held>>,
     defaults: HeldDefaults,
-    bindings: SortedRows<Binding>,
+    bindings: BindingShelves,
     rows: RowShelves,
 }
 
@@ -56,7 +56,7 @@ impl Compiled {
             alloc,
             slots: Vec::new(alloc),
             defaults,
-            bindings: SortedRows::new(alloc),
+            bindings: BindingShelves::new(alloc),
             rows: RowShelves::new(alloc),
         })
     }
@@ -74,7 +74,7 @@ impl Compiled {
         ensures view { IsViewOf self.now.slots self.now.rows url.now side result }
         ensures kept { HasItsRows self.now }
     {
-        let _kept = self.bindings.rows();
+        self.bindings.tell_order();
         let file = match find_held(self.slots.as_slice(), url) {
             None => None,
             Some((n, held)) => Some(held.policy().part(Owner::Url(n), side, &self.rows)),
@@ -158,7 +158,7 @@ impl Compiled {
             slot,
         } = plan;
         self.rows.make_edits(rows, steps);
-        make_edits(&mut self.bindings, bindings, steps);
+        self.bindings.make_edits(bindings, steps);
         if let Some((index, held)) = slot {
             set_slot(&mut self.slots, index, held);
         }

@@ -11,6 +11,7 @@ ghost use Rattle.row_changes.specs.Steps.{least_steps, HaveKeys, PolicyKeys, pla
 
 use acl_model::{Binding, Policy};
 use acl_rows::Row;
+use binding_shelves::BindingShelves;
 use mud_base::Memory;
 use mud_url::MudUrl;
 use row_changes::{
@@ -59,7 +60,7 @@ pub(crate) fn plan_change<L: Ledger>(
     alloc: Global,
     slots: &[Option<Held>],
     defaults: &HeldDefaults,
-    bindings: &mut SortedRows<Binding>,
+    bindings: &mut BindingShelves,
     rows: &mut RowShelves,
     gone: &[Binding],
     come: &[Binding],
@@ -81,7 +82,7 @@ pub(crate) fn plan_change<L: Ledger>(
     let row_edits = change.plan(alloc, &holding, steps)?;
     let binding_edits = edits_of(alloc, bindings, gone, come, steps)?;
     rows.make_room(alloc, &row_edits)?;
-    bindings.reserve(binding_edits.len())?;
+    bindings.make_room(alloc, &binding_edits)?;
     Ok(RowPlan {
         rows: row_edits,
         bindings: binding_edits,
@@ -161,7 +162,7 @@ fn held_policy(alloc: Global, url: &MudUrl, policy: Option<&Policy>) -> Result<O
 pub(crate) fn plan_slot<L: Ledger>(
     alloc: Global,
     slots: &mut Vec<Option<Held>>,
-    bindings: &SortedRows<Binding>,
+    bindings: &BindingShelves,
     rows: &mut RowShelves,
     url: &MudUrl,
     policy: Option<&Policy>,

@@ -1,15 +1,16 @@
 -- The edits of bindings that go and come.
 use Rattle.std.proofs.Common.{◌≡◌, ℕ, suc, ◌+◌, ◌<◌, Bool, true, false, List, [], ◌∷◌, map, length, drop, get_or, Result, refl, sym, ap, subst, ◌∙◌, arith}
 use Rattle.std.proofs.Math.Seq.{drop-cons}
-use Rattle.sorted_rows.specs.Placed.{index_in, set_row, set_rows, PlacesAscend}
+use Rattle.sorted_rows.specs.Placed.{set_row, set_rows, PlacesAscend}
 use Rattle.sorted_rows.proofs.PlacedLaws.{ascend-set_row, ascend-set_rows}
 use Rattle.sorted_rows.proofs.RowLaws.{all-set_row, length-set_rows_le}
 use Rattle.acl_model.specs.declared.binding.Binding.{Binding}
 use Rattle.acl_model.specs.Places.{binding_place}
 use Rattle.acl_model.specs.Changes.{without_bindings, replaced}
 use Rattle.row_edits.specs.declared.edit.Edit.{Edit}
-use Rattle.row_edits.specs.Edits.{edit, edit_place, edit_made, edited, AreFound}
+use Rattle.row_edits.specs.Edits.{edit, edit_place, edit_made, edited}
 use Rattle.row_edits.proofs.EditLaws.{edited-set_row}
+use Rattle.binding_shelves.specs.Shelves.{index_by_key, AreFoundByKey}
 use Rattle.row_changes.specs.Bindings.{binding_edit, AreEditsOf}
 
 module _ (bindings : List Binding) (up : PlacesAscend binding_place bindings) where
@@ -33,12 +34,12 @@ module _ (bindings : List Binding) (up : PlacesAscend binding_place bindings) wh
       come_made come (set_row (edit_place binding_place) (binding_edit bindings true b) es) (ascend-set_row (edit_place binding_place) (binding_edit bindings true b) es up')
       ∙ ap (set_rows binding_place come) (edited-set_row binding_place (binding_edit bindings true b) es bindings up up')
 
-  found_all : (comes : Bool) (bs : List Binding) (es : Edits) → AreFound binding_place bindings es → AreFound binding_place bindings (put (map (binding_edit bindings comes) bs) es)
+  found_all : (comes : Bool) (bs : List Binding) (es : Edits) → AreFoundByKey bindings es → AreFoundByKey bindings (put (map (binding_edit bindings comes) bs) es)
   unfolding binding_edit
   found_all comes [] es found = found
   found_all comes (b ∷ bs) es found =
       found_all comes bs (set_row (edit_place binding_place) (binding_edit bindings comes b) es)
-      (all-set_row (edit_place binding_place) (λ (e : Edit Binding). e.found ≡ index_in binding_place (binding_place e.row) bindings) (binding_edit bindings comes b) es refl found)
+      (all-set_row (edit_place binding_place) (λ (e : Edit Binding). e.found ≡ index_by_key e.row bindings) (binding_edit bindings comes b) es refl found)
 
 length-map : {A B : Type 0} (f : A → B) (xs : List A) → length (map f xs) ≡ length xs
 length-map f [] = refl
@@ -67,7 +68,7 @@ next_edit f bs i b es lt is =
     next = omega arith
 
 -- one more is planned
-pub one_planned : (bindings : List Binding) (comes : Bool) (b copy : Binding) (found : Result ℕ ℕ) (es : List (Edit Binding)) → copy ≡ b → found ≡ index_in binding_place (binding_place b) bindings
+pub one_planned : (bindings : List Binding) (comes : Bool) (b copy : Binding) (found : Result ℕ ℕ) (es : List (Edit Binding)) → copy ≡ b → found ≡ index_by_key b bindings
     → set_row (edit_place binding_place) (edit copy comes found) es ≡ set_row (edit_place binding_place) (binding_edit bindings comes b) es
 unfolding binding_edit
 one_planned bindings comes b copy found es same is = (λ j. set_row (edit_place binding_place) (edit (same j) comes (is j)) es)

@@ -7,6 +7,7 @@ ghost use Rattle.row_edits.specs.Edits.{edit_place};
 ghost use Rattle.row_changes.specs.Bindings.{binding_edit, AreEditsOf};
 
 use acl_model::Binding;
+use binding_shelves::BindingShelves;
 use mud_base::Memory;
 use row_edits::{Edit, plan_edit};
 use sorted_rows::{SortedRows, Steps};
@@ -15,7 +16,7 @@ use std::sync::ledger::Ledger;
 
 /// Plans that these bindings come, or that they go.
 fn plan_bindings<L: Ledger>(
-    bindings: &SortedRows<Binding>,
+    bindings: &BindingShelves,
     changed: &[Binding],
     comes: bool,
     edits: &mut SortedRows<Edit<Binding>>,
@@ -35,7 +36,7 @@ fn plan_bindings<L: Ledger>(
 /// The edits by which these bindings go, and those come.
 pub fn edits_of<L: Ledger>(
     alloc: Global,
-    bindings: &SortedRows<Binding>,
+    bindings: &BindingShelves,
     gone: &[Binding],
     come: &[Binding],
     steps: &mut Steps<L>,
@@ -44,7 +45,7 @@ pub fn edits_of<L: Ledger>(
     ensures least { steps.old ≤ steps.new }
     ensures most { (b : ℕ) → length bindings.now.rows < 2 ^ b → steps.new ≤ steps.old + (length gone.now + length come.now) * b }
 {
-    let _ascending = bindings.rows();
+    bindings.tell_order();
     let mut edits = SortedRows::new(alloc);
     plan_bindings(bindings, gone, false, &mut edits, steps)?;
     plan_bindings(bindings, come, true, &mut edits, steps)?;

@@ -25,6 +25,7 @@ use crate::keys::is_bound;
 use crate::policies::{Held, HeldDefaults};
 use acl_model::{Binding, BoundKey, Entry, MemberKey, Policy, Selector, is_in_family};
 use acl_rows::{Owner, Row, RowKey};
+use binding_shelves::BindingShelves;
 use key_index::{EntrySpot, KeyIndex, selector_key};
 use mud_base::{Addr, Direction, End, Memory};
 use mud_url::MudUrl;
@@ -38,7 +39,7 @@ use std::sync::ledger::Ledger;
 /// The end of a binding that is kept.
 #[tactic(auto, unfolding(acl_model::specs::Changes::until_of))]
 fn kept_end<L: Ledger>(
-    bindings: &SortedRows<Binding>,
+    bindings: &BindingShelves,
     key: &BoundKey<'_>,
     steps: &mut Steps<L>,
 ) -> Option<End>
@@ -78,7 +79,7 @@ impl<'a> Model for Holding<'a> {
 #[derive(Drop)]
 pub struct Change<'a> {
     pub(crate) slots: &'a [Option<Held>],
-    pub(crate) bindings: &'a SortedRows<Binding>,
+    pub(crate) bindings: &'a BindingShelves,
     pub(crate) rows: &'a RowShelves,
     gone: &'a [Binding],
     come: &'a [Binding],
@@ -126,7 +127,7 @@ impl<'a> Change<'a> {
         ensures most { (b : ℕ) → length self.now.bindings < 2 ^ b → steps.new ≤ steps.old + b }
     {
         let bindings = self.bindings;
-        let _kept = bindings.rows();
+        bindings.tell_order();
         if is_gone(self.gone, key) {
             return came_end(self.come, key, None);
         }
@@ -374,7 +375,7 @@ impl<'a> Change<'a> {
             → steps.new ≤ steps.old + length (touched.touches self.now.slots (self.now.gone ++ self.now.come)) * u }
     {
         let bindings = self.bindings;
-        let _kept = bindings.rows();
+        bindings.tell_order();
         let mut edits = SortedRows::new(alloc);
         self.all_edits(self.gone, defaults, &mut edits, steps)?;
         self.all_edits(self.come, defaults, &mut edits, steps)?;
@@ -386,7 +387,7 @@ impl<'a> Change<'a> {
     /// A change of bindings over these.
     pub fn new(
         slots: &'a [Option<Held>],
-        bindings: &'a SortedRows<Binding>,
+        bindings: &'a BindingShelves,
         rows: &'a RowShelves,
         gone: &'a [Binding],
         come: &'a [Binding],

@@ -140,7 +140,7 @@ impl<'a> Change<'a> {
             None => Ok(()),
             Some(key) => {
                 let bindings = self.bindings;
-                let bound = bindings.rows_under_counted(&key, steps);
+                let bound = bindings.rows_under_counted(key, steps);
                 self.bound_fresh(holding, side, n, entry, bound, fresh, steps)
             }
         }

@@ -13,8 +13,8 @@ ghost use Rattle.row_changes.specs.Steps.{HaveKeys, PolicyKeys, place_steps};
 use crate::change::{Change, Holding};
 use crate::fresh::{FreshRows, plan_left};
 use crate::policies::Held;
-use acl_model::Binding;
 use acl_rows::{Owner, Row};
+use binding_shelves::BindingShelves;
 use mud_base::{Direction, Memory};
 use row_edits::Edit;
 use row_shelves::RowShelves;
@@ -73,7 +73,7 @@ fn fresh_rows<L: Ledger>(
 pub fn slot_rows<L: Ledger>(
     alloc: Global,
     slots: &[Option<Held>],
-    bindings: &SortedRows<Binding>,
+    bindings: &BindingShelves,
     rows: &RowShelves,
     index: u16,
     held: &Option<Held>,

@@ -34,8 +34,8 @@ returns-in_err-make_room-clause-most g c =
     (most_moved c.new-change.result (change_state c.args.slots.now c.args.bindings.now.rows c.args.rows.now.rows c.args.gone.now c.args.come.now) c.new-change.ensures c.args.steps.now c.plan.new.steps c.plan.ensures.most)
     c.edits_of.ensures.most
 
-pub returns-in_err-reserve-clause-most : goal.returns-in_err-reserve-clause-most
-returns-in_err-reserve-clause-most g c =
+pub returns-in_err-make_room-2-clause-most : goal.returns-in_err-make_room-2-clause-most
+returns-in_err-make_room-2-clause-most g c =
     member_most c.args.slots.now c.args.bindings.now.rows c.args.rows.now.rows c.args.gone.now c.args.come.now c.args.steps.now c.plan.new.steps c.edits_of.new.steps
     (most_moved c.new-change.result (change_state c.args.slots.now c.args.bindings.now.rows c.args.rows.now.rows c.args.gone.now c.args.come.now) c.new-change.ensures c.args.steps.now c.plan.new.steps c.plan.ensures.most)
     c.edits_of.ensures.most
@@ -50,11 +50,11 @@ pub returns-clause-ok : goal.returns-clause-ok
 unfolding after
 returns-clause-ok g c =
     let made = subst (λ (s : ChangeState). IsPatch s.slots s.bindings s.slots (after s) c.in_ok-row_edits.row_edits.rows) c.new-change.ensures c.in_ok-row_edits.ensures.ok in
-    let kept = sym c.in_ok-reserve.ensures.rows in
-    member_plan c.args.gone.now c.args.come.now c.args.slots.now c.reserve.new.self c.make_room.new.self c.in_ok-row_edits.row_edits.rows c.in_ok-binding_edits.binding_edits.rows c.requires.few c.requires.apart
+    let kept = sym c.in_ok-make_room-2.ensures.rows in
+    member_plan c.args.gone.now c.args.come.now c.args.slots.now c.make_room-2.new.self c.make_room.new.self c.in_ok-row_edits.row_edits.rows c.in_ok-binding_edits.binding_edits.rows c.requires.few c.requires.apart
     (subst (λ (bs : List Binding). IsPatch c.args.slots.now bs c.args.slots.now (replaced c.args.gone.now c.args.come.now bs) c.in_ok-row_edits.row_edits.rows) kept made)
     (subst (λ (bs : List Binding). AreEditsOf c.args.gone.now c.args.come.now bs c.in_ok-binding_edits.binding_edits.rows) kept c.in_ok-binding_edits.ensures.ok)
-    c.in_ok-make_room.ensures.ok (omega (arith, c.in_ok-reserve.ensures.ok, c.len.ensures))
+    c.in_ok-make_room.ensures.ok c.in_ok-make_room-2.ensures.ok
 
 pub returns-clause-read : goal.returns-clause-read
 returns-clause-read g c =

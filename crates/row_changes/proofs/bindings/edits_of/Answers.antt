@@ -10,7 +10,7 @@ use Rattle.row_changes.proofs.bindings.edits_of.Goals as goal
 
 pub returns-clause-ok : goal.returns-clause-ok
 returns-clause-ok g c =
-    are_edits c.args.gone.now c.args.come.now c.args.bindings.now.rows c.plan_bindings-2.new.edits.rows c.rows-ascending.ensures.ascend
+    are_edits c.args.gone.now c.args.come.now c.args.bindings.now.rows c.plan_bindings-2.new.edits.rows c.tell_order.ensures
     (c.in_ok-plan_bindings-2.ensures.ok
     ∙ ap (set_rows (edit_place binding_place) (map (binding_edit c.args.bindings.now.rows true) c.args.come.now)) c.in_ok-plan_bindings.ensures.ok
     ∙ ap (λ (es : List (Edit Binding)). set_rows (edit_place binding_place) (map (binding_edit c.args.bindings.now.rows true) c.args.come.now) (set_rows (edit_place binding_place) (map (binding_edit c.args.bindings.now.rows false) c.args.gone.now) es)) c.new-edits.ensures.rows)

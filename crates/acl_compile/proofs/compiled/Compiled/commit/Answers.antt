@@ -9,21 +9,21 @@ use Rattle.acl_compile.proofs.compiled.Compiled.commit.Given.{Over}
 use Rattle.acl_compile.proofs.compiled.Compiled.commit.Goals as goal
 
 -- what is kept after a plan with a place of the table, and after one without
-placed : (g : Over) (c : goal.After-set_slot g) → IsCommitted c.args.self.now c.args.plan c.set_slot.new.slots.items c.make_edits-2.new.rows.rows c.make_edits.new.self.rows c.self.inside.defaults
+placed : (g : Over) (c : goal.After-set_slot g) → IsCommitted c.args.self.now c.args.plan c.set_slot.new.slots.items c.make_edits-2.new.self.rows c.make_edits.new.self.rows c.self.inside.defaults
 unfolding slots_with
 placed g c =
     let slot : c.args.plan.slot ≡ Some (c.in-Some.index, c.in-Some.held) = ap (λ (p : Plan). p.slot) (sym c.plan.view_is) ∙ c.in-Some.is in
-    committed c.args.self.now c.args.plan c.set_slot.new.slots.items c.make_edits-2.new.rows.rows c.make_edits.new.self.rows c.self.inside.defaults c.requires
+    committed c.args.self.now c.args.plan c.set_slot.new.slots.items c.make_edits-2.new.self.rows c.make_edits.new.self.rows c.self.inside.defaults c.requires
     (subst (λ (s : CompiledState). IsSound s.slots s.bindings s.rows c.self.inside.defaults) c.self.view_is c.self.invariant)
     (c.set_slot.ensures ∙ (λ i. slots_with (sym slot i) (c.self.view_is i).slots))
     (c.make_edits-2.ensures.rows ∙ (λ i. edited binding_place (c.plan.view_is i).bindings (c.self.view_is i).bindings))
     (c.make_edits.ensures.rows ∙ (λ i. edited row_place (c.plan.view_is i).rows (c.self.view_is i).rows))
 
-unplaced : (g : Over) (c : goal.In_default g) → IsCommitted c.args.self.now c.args.plan c.self.inside.slots.items c.make_edits-2.new.rows.rows c.make_edits.new.self.rows c.self.inside.defaults
+unplaced : (g : Over) (c : goal.In_default g) → IsCommitted c.args.self.now c.args.plan c.self.inside.slots.items c.make_edits-2.new.self.rows c.make_edits.new.self.rows c.self.inside.defaults
 unfolding slots_with
 unplaced g c =
     let slot : c.args.plan.slot ≡ None = ap (λ (p : Plan). p.slot) (sym c.plan.view_is) ∙ c.in_default.is in
-    committed c.args.self.now c.args.plan c.self.inside.slots.items c.make_edits-2.new.rows.rows c.make_edits.new.self.rows c.self.inside.defaults c.requires
+    committed c.args.self.now c.args.plan c.self.inside.slots.items c.make_edits-2.new.self.rows c.make_edits.new.self.rows c.self.inside.defaults c.requires
     (subst (λ (s : CompiledState). IsSound s.slots s.bindings s.rows c.self.inside.defaults) c.self.view_is c.self.invariant)
     (λ i. slots_with (sym slot i) (c.self.view_is i).slots)
     (c.make_edits-2.ensures.rows ∙ (λ i. edited binding_place (c.plan.view_is i).bindings (c.self.view_is i).bindings))

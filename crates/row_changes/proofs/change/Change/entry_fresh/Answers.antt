@@ -39,7 +39,7 @@ returns-in-Some-clause-most g c = λ b k u few rows fit.
     let long : length c.rows_under_counted-bound.result.now ≡ length (first_key_touches c.args.self.now.bindings c.args.holding.now.0 c.args.side c.args.n (member_keys c.args.holding.now.1.url c.args.entry.now)) =
     sym (length-map (bound_key c.args.holding.now.0 c.args.side c.args.n) c.rows_under_counted-bound.result.now) ∙ ap (λ (ks : List RowKey). length ks) touched in
     let one = counts_one c.args.holding.now.1.url c.args.entry.now (c.in-Some.key.kind, c.in-Some.key.text.now) some in
-    let read = c.rows_under_counted-bound.ensures.digits b (subst (λ (s : ChangeState). length s.bindings < 2 ^ b) (sym c.self.view_is) few) in
+    let read : c.rows_under_counted-bound.new.steps ≤ c.args.steps.now + length c.rows_under_counted-bound.result.now + b = omega (arith, c.rows_under_counted-bound.ensures.counted) in
     total c.args.steps.now c.rows_under_counted-bound.new.steps c.bound_fresh.new.steps (length c.rows_under_counted-bound.result.now) _ _ b u long one read (c.bound_fresh.ensures.most b k u few rows fit)
   where
     total : (start middle end l n m b u : ℕ) → l ≡ n → m ≡ 1 → middle ≤ start + l + b → end ≤ middle + l * u → end ≤ start + m * b + n * (u + 1)

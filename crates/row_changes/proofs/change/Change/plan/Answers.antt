@@ -24,7 +24,7 @@ returns-in_err-all_edits-2-clause-most g c = λ b k u few rows fit.
 
 pub returns-clause-ok : goal.returns-clause-ok
 returns-clause-ok g c =
-    planned c.args.self.now c.all_edits-2.new.edits.rows (subst (λ (s : ChangeState). PlacesAscend binding_place s.bindings) c.self.view_is c.rows-kept.ensures.ascend)
+    planned c.args.self.now c.all_edits-2.new.edits.rows (subst (λ (s : ChangeState). PlacesAscend binding_place s.bindings) c.self.view_is c.tell_order.ensures)
     (c.in_ok-all_edits-2.ensures.ok
     ∙ (λ i. more_edits c.args.self.now (touches c.args.self.now.slots (c.self.view_is i).come) (c.in_ok-all_edits.ensures.ok i))
     ∙ (λ i. more_edits c.args.self.now (touches c.args.self.now.slots c.args.self.now.come) (more_edits c.args.self.now (touches c.args.self.now.slots (c.self.view_is i).gone) (c.new-edits.ensures.rows i))))

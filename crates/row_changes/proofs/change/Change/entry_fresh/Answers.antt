@@ -62,4 +62,4 @@ returns-in-Some-clause-least g c =
     ∙ sym (some_first c.args.self.now.bindings c.args.holding.now.0 c.args.side c.args.n c.in-Some.key.kind c.in-Some.key.text.now (member_keys c.args.holding.now.1.url c.args.entry.now) some) in
     let long : length c.rows_under_counted-bound.result.now ≡ length (first_key_touches c.args.self.now.bindings c.args.holding.now.0 c.args.side c.args.n (member_keys c.args.holding.now.1.url c.args.entry.now)) =
     sym (length-map (bound_key c.args.holding.now.0 c.args.side c.args.n) c.rows_under_counted-bound.result.now) ∙ ap (λ (ks : List RowKey). length ks) touched in
-    omega (arith, long, c.rows_under_counted-bound.ensures.least, c.bound_fresh.ensures.least)
+    omega (arith, long, c.rows_under_counted-bound.ensures.counted, c.bound_fresh.ensures.least)

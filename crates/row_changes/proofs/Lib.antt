@@ -5,6 +5,7 @@ pub mod LeastEnds
 pub mod Loops
 pub mod Planned
 pub mod BindingEdits
+mod FreshJoined
 pub mod FreshLaws
 pub mod PolicyRows
 pub mod SpotTouches

@@ -1,6 +1,6 @@
 -- The rows that a new policy asks for, and the edits that they lead to.
 use Rattle.std.specs.Prelude.{ℕ, ◌+◌, false, List, [], ◌∷◌, filter, length, is_some, Option, Some, None, Ok, if◌then◌else◌}
-use Rattle.sorted_rows.specs.Placed.{row_at, set_row}
+use Rattle.sorted_rows.specs.Placed.{row_at, set_row, set_rows, PlacesAscend}
 use Rattle.mud_base.specs.declared.packet.Direction.TheVariants.{From, To}
 use Rattle.acl_model.specs.declared.binding.Binding.{Binding}
 use Rattle.acl_model.specs.declared.entry.Entry.{Entry}
@@ -36,6 +36,15 @@ one_fresh slots bindings slots' key s = fresh_of (with_edit slots bindings slots
 unfoldable pub more_fresh : Slots → List Binding → Slots → List RowKey → Fresh → Fresh
 more_fresh slots bindings slots' [] s = s
 more_fresh slots bindings slots' (key ∷ keys) s = more_fresh slots bindings slots' keys (one_fresh slots bindings slots' key s)
+
+-- edits and rows put among others
+unfoldable pub joined : Fresh → Fresh → Fresh
+joined more s = fresh_of (set_rows (edit_place row_place) more.edits s.edits) (set_rows row_place more.rows s.rows)
+
+-- both are in the order of their places
+pub record AreSorted (s : Fresh) : Type 0 where
+  pub edits : PlacesAscend (edit_place row_place) s.edits
+  pub rows : PlacesAscend row_place s.rows
 
 -- the first of a list
 unfoldable pub first_of : {A : Type 0} → List A → Option A

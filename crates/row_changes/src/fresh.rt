@@ -8,7 +8,7 @@ ghost use Rattle.acl_patch.specs.Touched.{row_key, key_end};
 ghost use Rattle.acl_patch.specs.PolicyTouched.{bound_key, entry_touches, side_policy_touches, new_touches};
 ghost use Rattle.row_changes.specs.Policies.{HasCounts};
 ghost use Rattle.row_changes.specs.Steps.{EntriesFit, HolderFits};
-ghost use Rattle.row_changes.specs.Fresh.{one_fresh, more_fresh, membered_count, policy_count, left_edits};
+ghost use Rattle.row_changes.specs.Fresh.{fresh_of, one_fresh, more_fresh, joined, membered_count, policy_count, left_edits, AreSorted};
 
 use crate::change::{Change, Holding, row_until};
 use crate::keys::first_key;
@@ -34,6 +34,31 @@ impl Model for FreshRows {
     ghost Value = { Fresh };
 
     ghost view = { λ f. fresh_of f.edits.rows f.rows.rows };
+}
+
+impl FreshRows {
+    /// No edits and no rows.
+    fn empty_like(&self) -> FreshRows
+        ensures { result ≡ fresh_of [] [] }
+    {
+        FreshRows {
+            edits: self.edits.empty_like(),
+            rows: self.rows.empty_like(),
+        }
+    }
+
+    /// Puts these edits and rows among those that are planned, each of which is moved at most twice.
+    #[tactic(auto, unfolding(crate::specs::Fresh::joined))]
+    fn add(&mut self, more: FreshRows) -> Result<(), Memory>
+        ensures ok { OnOk result (self.new ≡ joined more self.old) }
+        ensures sorted { AreSorted self.old }
+    {
+        let FreshRows { edits, rows } = more;
+        let _edits = self.edits.rows();
+        let _rows = self.rows.rows();
+        self.edits.put_sorted(edits)?;
+        self.rows.put_sorted(rows)
+    }
 }
 
 impl<'a> Change<'a> {
@@ -115,7 +140,8 @@ impl<'a> Change<'a> {
     }
 
     /// Plans the rows of an entry: at the addresses of the bindings of its first key. Each of these
-    /// is read.
+    /// is read. They are planned by themselves, where each comes last, and then put among those of
+    /// the other entries.
     #[tactic(auto, unfolding(acl_patch::specs::PolicyTouched::entry_touches))]
     fn entry_fresh<L: Ledger>(
         &self,
@@ -141,7 +167,9 @@ impl<'a> Change<'a> {
             Some(key) => {
                 let bindings = self.bindings;
                 let bound = bindings.rows_under_counted(key, steps);
-                self.bound_fresh(holding, side, n, entry, bound, fresh, steps)
+                let mut own = fresh.empty_like();
+                self.bound_fresh(holding, side, n, entry, bound, &mut own, steps)?;
+                fresh.add(own)
             }
         }
     }

@@ -8,8 +8,12 @@ use Rattle.acl_patch.specs.PolicyTouched.{bound_key, first_key_touches, entry_to
 use Rattle.key_index.specs.Keys.{key_parts}
 use Rattle.row_changes.specs.Change.{ChangeState}
 use Rattle.row_changes.specs.Fresh.{first_of, more_fresh}
+use Rattle.row_changes.proofs.FreshJoined.{planned_alone}
 use Rattle.row_changes.proofs.FreshLaws.{none-more, on_ok_map, no_first, some_first, length-map, counts_one}
 use Rattle.row_changes.proofs.change.Change.entry_fresh.Goals as goal
+
+total : (start middle end l n m b u : ℕ) → l ≡ n → m ≡ 1 → middle ≤ start + l + b → end ≤ middle + l * u → end ≤ start + m * b + n * (u + 1)
+total start middle end l n m b u long one read rest = subst (λ (x : ℕ). end ≤ start + m * b + x * (u + 1)) long (subst (λ (x : ℕ). end ≤ start + x * b + l * (u + 1)) (sym one) (omega arith))
 
 pub returns-in-None-clause-ok : goal.returns-in-None-clause-ok
 unfolding entry_touches
@@ -18,19 +22,27 @@ returns-in-None-clause-ok g c = λ new holds.
     sym (ap (λ (ks : List RowKey). more_fresh c.args.self.now.slots c.args.self.now.bindings new ks c.args.fresh.now) (no_first c.args.self.now.bindings c.args.holding.now.0 c.args.side c.args.n (member_keys c.args.holding.now.1.url c.args.entry.now) none)
     ∙ none-more c.args.self.now.slots c.args.self.now.bindings new c.args.fresh.now)
 
-pub returns-in-Some-clause-ok : goal.returns-in-Some-clause-ok
+pub returns-in_ok-bound_fresh-in-Some-clause-ok : goal.returns-in_ok-bound_fresh-in-Some-clause-ok
 unfolding entry_touches
-returns-in-Some-clause-ok g c =
+returns-in_ok-bound_fresh-in-Some-clause-ok g c =
     let some = c.in-Some.ensures ∙ ap (λ (url : List ℕ). option_map key_parts (first_of (member_keys url c.args.entry.now))) c.url.ensures in
     let bound = c.rows_under_counted-bound.ensures.rows ∙ ap (λ (s : ChangeState). rows_under binding_place (text_place c.in-Some.key.kind c.in-Some.key.text.now) s.bindings) c.self.view_is in
     let touched =
     ap (map (bound_key c.args.holding.now.0 c.args.side c.args.n)) bound
     ∙ sym (some_first c.args.self.now.bindings c.args.holding.now.0 c.args.side c.args.n c.in-Some.key.kind c.in-Some.key.text.now (member_keys c.args.holding.now.1.url c.args.entry.now) some) in
-    on_ok_map _ _ (λ put new holds. put new holds ∙ ap (λ (ks : List RowKey). more_fresh c.args.self.now.slots c.args.self.now.bindings new ks c.args.fresh.now) touched) c.bound_fresh.result c.bound_fresh.ensures.ok
+    let slots = c.args.self.now.slots in
+    let bindings = c.args.self.now.bindings in
+    let keys = entry_touches bindings c.args.holding.now.0 c.args.holding.now.1 c.args.side (c.args.n, c.args.entry.now) in
+    on_ok_map _ _ (λ put new holds.
+    let own =
+    c.in_ok-bound_fresh-in-Some.ensures.ok new holds
+    ∙ ap (λ (ks : List RowKey). more_fresh slots bindings new ks c.empty_like-own.result) touched
+    ∙ ap (more_fresh slots bindings new keys) c.empty_like-own.ensures in
+    put ∙ planned_alone slots bindings new keys c.bound_fresh.new.fresh c.args.fresh.now own c.add.ensures.sorted) c.add.result c.add.ensures.ok
 
-pub returns-in-Some-clause-most : goal.returns-in-Some-clause-most
+pub returns-in_err-bound_fresh-in-Some-clause-most : goal.returns-in_err-bound_fresh-in-Some-clause-most
 unfolding entry_touches
-returns-in-Some-clause-most g c = λ b k u few rows fit.
+returns-in_err-bound_fresh-in-Some-clause-most g c = λ b k u few rows fit.
     let some = c.in-Some.ensures ∙ ap (λ (url : List ℕ). option_map key_parts (first_of (member_keys url c.args.entry.now))) c.url.ensures in
     let bound = c.rows_under_counted-bound.ensures.rows ∙ ap (λ (s : ChangeState). rows_under binding_place (text_place c.in-Some.key.kind c.in-Some.key.text.now) s.bindings) c.self.view_is in
     let touched =
@@ -41,9 +53,20 @@ returns-in-Some-clause-most g c = λ b k u few rows fit.
     let one = counts_one c.args.holding.now.1.url c.args.entry.now (c.in-Some.key.kind, c.in-Some.key.text.now) some in
     let read : c.rows_under_counted-bound.new.steps ≤ c.args.steps.now + length c.rows_under_counted-bound.result.now + b = omega (arith, c.rows_under_counted-bound.ensures.counted) in
     total c.args.steps.now c.rows_under_counted-bound.new.steps c.bound_fresh.new.steps (length c.rows_under_counted-bound.result.now) _ _ b u long one read (c.bound_fresh.ensures.most b k u few rows fit)
-  where
-    total : (start middle end l n m b u : ℕ) → l ≡ n → m ≡ 1 → middle ≤ start + l + b → end ≤ middle + l * u → end ≤ start + m * b + n * (u + 1)
-    total start middle end l n m b u long one read rest = subst (λ (x : ℕ). end ≤ start + m * b + x * (u + 1)) long (subst (λ (x : ℕ). end ≤ start + x * b + l * (u + 1)) (sym one) (omega arith))
+
+pub returns-in_ok-bound_fresh-in-Some-clause-most : goal.returns-in_ok-bound_fresh-in-Some-clause-most
+unfolding entry_touches
+returns-in_ok-bound_fresh-in-Some-clause-most g c = λ b k u few rows fit.
+    let some = c.in-Some.ensures ∙ ap (λ (url : List ℕ). option_map key_parts (first_of (member_keys url c.args.entry.now))) c.url.ensures in
+    let bound = c.rows_under_counted-bound.ensures.rows ∙ ap (λ (s : ChangeState). rows_under binding_place (text_place c.in-Some.key.kind c.in-Some.key.text.now) s.bindings) c.self.view_is in
+    let touched =
+    ap (map (bound_key c.args.holding.now.0 c.args.side c.args.n)) bound
+    ∙ sym (some_first c.args.self.now.bindings c.args.holding.now.0 c.args.side c.args.n c.in-Some.key.kind c.in-Some.key.text.now (member_keys c.args.holding.now.1.url c.args.entry.now) some) in
+    let long : length c.rows_under_counted-bound.result.now ≡ length (first_key_touches c.args.self.now.bindings c.args.holding.now.0 c.args.side c.args.n (member_keys c.args.holding.now.1.url c.args.entry.now)) =
+    sym (length-map (bound_key c.args.holding.now.0 c.args.side c.args.n) c.rows_under_counted-bound.result.now) ∙ ap (λ (ks : List RowKey). length ks) touched in
+    let one = counts_one c.args.holding.now.1.url c.args.entry.now (c.in-Some.key.kind, c.in-Some.key.text.now) some in
+    let read : c.rows_under_counted-bound.new.steps ≤ c.args.steps.now + length c.rows_under_counted-bound.result.now + b = omega (arith, c.rows_under_counted-bound.ensures.counted) in
+    total c.args.steps.now c.rows_under_counted-bound.new.steps c.bound_fresh.new.steps (length c.rows_under_counted-bound.result.now) _ _ b u long one read (c.bound_fresh.ensures.most b k u few rows fit)
 
 pub returns-in-None-clause-least : goal.returns-in-None-clause-least
 unfolding entry_touches
@@ -52,9 +75,21 @@ returns-in-None-clause-least g c =
     let touched = ap (λ (ks : List RowKey). length ks) (no_first c.args.self.now.bindings c.args.holding.now.0 c.args.side c.args.n (member_keys c.args.holding.now.1.url c.args.entry.now) none) in
     omega (arith, touched)
 
-pub returns-in-Some-clause-least : goal.returns-in-Some-clause-least
+pub returns-in_err-bound_fresh-in-Some-clause-least : goal.returns-in_err-bound_fresh-in-Some-clause-least
 unfolding entry_touches
-returns-in-Some-clause-least g c =
+returns-in_err-bound_fresh-in-Some-clause-least g c =
+    let some = c.in-Some.ensures ∙ ap (λ (url : List ℕ). option_map key_parts (first_of (member_keys url c.args.entry.now))) c.url.ensures in
+    let bound = c.rows_under_counted-bound.ensures.rows ∙ ap (λ (s : ChangeState). rows_under binding_place (text_place c.in-Some.key.kind c.in-Some.key.text.now) s.bindings) c.self.view_is in
+    let touched =
+    ap (map (bound_key c.args.holding.now.0 c.args.side c.args.n)) bound
+    ∙ sym (some_first c.args.self.now.bindings c.args.holding.now.0 c.args.side c.args.n c.in-Some.key.kind c.in-Some.key.text.now (member_keys c.args.holding.now.1.url c.args.entry.now) some) in
+    let long : length c.rows_under_counted-bound.result.now ≡ length (first_key_touches c.args.self.now.bindings c.args.holding.now.0 c.args.side c.args.n (member_keys c.args.holding.now.1.url c.args.entry.now)) =
+    sym (length-map (bound_key c.args.holding.now.0 c.args.side c.args.n) c.rows_under_counted-bound.result.now) ∙ ap (λ (ks : List RowKey). length ks) touched in
+    omega (arith, long, c.rows_under_counted-bound.ensures.counted, c.bound_fresh.ensures.least)
+
+pub returns-in_ok-bound_fresh-in-Some-clause-least : goal.returns-in_ok-bound_fresh-in-Some-clause-least
+unfolding entry_touches
+returns-in_ok-bound_fresh-in-Some-clause-least g c =
     let some = c.in-Some.ensures ∙ ap (λ (url : List ℕ). option_map key_parts (first_of (member_keys url c.args.entry.now))) c.url.ensures in
     let bound = c.rows_under_counted-bound.ensures.rows ∙ ap (λ (s : ChangeState). rows_under binding_place (text_place c.in-Some.key.kind c.in-Some.key.text.now) s.bindings) c.self.view_is in
     let touched =

@@ -1,0 +1,77 @@
+-- The rows of an entry are planned by themselves, and then put among those of others.
+use Rattle.std.proofs.Common.{◌≡◌, ℕ, Bool, true, false, cond, List, [], ◌∷◌, Option, Some, None, refl, ap, ◌∙◌}
+use Rattle.sorted_rows.specs.Placed.{set_row, set_rows, PlacesAscend}
+use Rattle.sorted_rows.proofs.PlacedLaws.{ascend-set_row}
+use Rattle.sorted_rows.proofs.MergeLaws.{set_row-set_rows}
+use Rattle.acl_model.specs.declared.binding.Binding.{Binding}
+use Rattle.row_edits.specs.declared.edit.Edit.{Edit}
+use Rattle.row_edits.specs.Edits.{edit_place}
+use Rattle.acl_rows.specs.declared.row.Row.{Row}
+use Rattle.acl_rows.specs.declared.row.RowKey.{RowKey}
+use Rattle.acl_rows.specs.Places.{row_place}
+use Rattle.acl_rows.specs.Rows.{Slots, row, rows_of}
+use Rattle.row_shelves.specs.Shelves.{index_beside}
+use Rattle.acl_patch.specs.Touched.{row_key_place, key_end, changed_edits, edit_of, same_end, with_edit}
+use Rattle.row_changes.specs.Fresh.{Fresh, fresh_of, row_with, one_fresh, more_fresh, joined, AreSorted}
+
+-- ---- One row
+
+edit_by : (e : Edit Row) (more edits : List (Edit Row)) → PlacesAscend (edit_place row_place) more → PlacesAscend (edit_place row_place) edits → (b : Bool)
+    → set_rows (edit_place row_place) (cond b more (set_row (edit_place row_place) e more)) edits ≡ cond b (set_rows (edit_place row_place) more edits) (set_row (edit_place row_place) e (set_rows (edit_place row_place) more edits))
+edit_by e more edits up up' true = refl
+edit_by e more edits up up' false = set_row-set_rows (edit_place row_place) e more edits up up'
+
+edit_sorted_by : (e : Edit Row) (more : List (Edit Row)) → PlacesAscend (edit_place row_place) more → (b : Bool) → PlacesAscend (edit_place row_place) (cond b more (set_row (edit_place row_place) e more))
+edit_sorted_by e more up true = up
+edit_sorted_by e more up false = ascend-set_row (edit_place row_place) e more up
+
+row_by : (key : RowKey) (more rows : List Row) → PlacesAscend row_place more → PlacesAscend row_place rows → (o : Option ℕ) → set_rows row_place (row_with key o more) rows ≡ row_with key o (set_rows row_place more rows)
+unfolding row_with
+row_by key more rows up up' None = refl
+row_by key more rows up up' (Some u) = set_row-set_rows row_place (row key.owner key.side key.addr key.entry u) more rows up up'
+
+row_sorted_by : (key : RowKey) (more : List Row) → PlacesAscend row_place more → (o : Option ℕ) → PlacesAscend row_place (row_with key o more)
+unfolding row_with
+row_sorted_by key more up None = up
+row_sorted_by key more up (Some u) = ascend-set_row row_place (row key.owner key.side key.addr key.entry u) more up
+
+module _ (slots : Slots) (bindings : List Binding) (new : Slots) where
+  edits_joined : (key : RowKey) (more edits : List (Edit Row)) → PlacesAscend (edit_place row_place) more → PlacesAscend (edit_place row_place) edits
+      → set_rows (edit_place row_place) (with_edit slots bindings new bindings key more) edits ≡ with_edit slots bindings new bindings key (set_rows (edit_place row_place) more edits)
+  unfolding with_edit changed_edits
+  edits_joined key more edits up up' =
+      let old = key_end slots bindings key in
+      let next = key_end new bindings key in
+      edit_by (edit_of key (index_beside key.owner key.side (row_key_place key) (rows_of slots bindings)) old next) more edits up up' (same_end next old)
+
+  edits_sorted : (key : RowKey) (more : List (Edit Row)) → PlacesAscend (edit_place row_place) more → PlacesAscend (edit_place row_place) (with_edit slots bindings new bindings key more)
+  unfolding with_edit changed_edits
+  edits_sorted key more up =
+      let old = key_end slots bindings key in
+      let next = key_end new bindings key in
+      edit_sorted_by (edit_of key (index_beside key.owner key.side (row_key_place key) (rows_of slots bindings)) old next) more up (same_end next old)
+
+  one_joined : (key : RowKey) (more s : Fresh) → AreSorted more → AreSorted s → joined (one_fresh slots bindings new key more) s ≡ one_fresh slots bindings new key (joined more s)
+  unfolding joined one_fresh
+  one_joined key more s up up' = λ i. fresh_of (edits_joined key more.edits s.edits up.edits up'.edits i) (row_by key more.rows s.rows up.rows up'.rows (key_end new bindings key) i)
+
+  one_sorted : (key : RowKey) (more : Fresh) → AreSorted more → AreSorted (one_fresh slots bindings new key more)
+  unfolding one_fresh
+  one_sorted key more up = record { edits = edits_sorted key more.edits up.edits; rows = row_sorted_by key more.rows up.rows (key_end new bindings key) }
+
+  -- ---- All rows
+
+  all_joined : (keys : List RowKey) (more s : Fresh) → AreSorted more → AreSorted s → joined (more_fresh slots bindings new keys more) s ≡ more_fresh slots bindings new keys (joined more s)
+  unfolding more_fresh
+  all_joined [] more s up up' = refl
+  all_joined (key ∷ keys) more s up up' =
+      all_joined keys (one_fresh slots bindings new key more) s (one_sorted key more up) up'
+      ∙ ap (more_fresh slots bindings new keys) (one_joined key more s up up')
+
+  none_joined : (s : Fresh) → joined (fresh_of [] []) s ≡ s
+  unfolding joined
+  none_joined s = refl
+
+  -- what was planned by itself is planned
+  pub planned_alone : (keys : List RowKey) (own s : Fresh) → own ≡ more_fresh slots bindings new keys (fresh_of [] []) → AreSorted s → joined own s ≡ more_fresh slots bindings new keys s
+  planned_alone keys own s is up = ap (λ (m : Fresh). joined m s) is ∙ all_joined keys (fresh_of [] []) s (record { edits = tt; rows = tt }) up ∙ ap (more_fresh slots bindings new keys) (none_joined s)

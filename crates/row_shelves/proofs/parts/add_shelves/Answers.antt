@@ -1,5 +1,5 @@
-use Rattle.std.proofs.Common.{◌≡◌, List, ◌++◌, ◌∷◌, [], sym, subst}
-use Rattle.row_shelves.specs.Parts.{Parts, HaveSameRows}
+use Rattle.std.proofs.Common.{sym, subst}
+use Rattle.row_shelves.specs.Parts.{HaveSameRows}
 use Rattle.row_shelves.proofs.PartLaws.{same_twice, same_pushed}
 use Rattle.row_shelves.proofs.parts.add_shelves.Goals as goal
 

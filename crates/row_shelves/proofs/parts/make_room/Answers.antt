@@ -1,4 +1,4 @@
-use Rattle.std.proofs.Common.{ℕ, sym, subst, arith}
+use Rattle.std.proofs.Common.{subst, arith}
 use Rattle.row_shelves.specs.Parts.{HaveShelves}
 use Rattle.row_shelves.proofs.PartLaws.{same_twice}
 use Rattle.row_shelves.proofs.EditLaws.{has_room, on_ok_map}

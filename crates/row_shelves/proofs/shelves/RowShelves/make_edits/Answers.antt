@@ -1,4 +1,4 @@
-use Rattle.std.proofs.Common.{◌≡◌, sym, subst}
+use Rattle.std.proofs.Common.{sym, subst}
 use Rattle.row_shelves.specs.Shelves.{Shelves, AreFoundBeside}
 use Rattle.row_shelves.proofs.EditLaws.{found_in}
 use Rattle.row_shelves.proofs.shelves.RowShelves.make_edits.Goals as goal

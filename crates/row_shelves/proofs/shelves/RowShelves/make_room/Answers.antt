@@ -1,6 +1,6 @@
-use Rattle.std.proofs.Common.{◌≡◌, ap, ◌∙◌}
+use Rattle.std.proofs.Common.{ap, ◌∙◌}
 use Rattle.row_shelves.specs.Shelves.{Shelves}
-use Rattle.row_shelves.proofs.PartLaws.{joined_same, shelved_same}
+use Rattle.row_shelves.proofs.PartLaws.{joined_same}
 use Rattle.row_shelves.proofs.shelves.RowShelves.make_room.Goals as goal
 
 pub returns-clause-rows : goal.returns-clause-rows

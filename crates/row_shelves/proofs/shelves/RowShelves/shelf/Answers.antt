@@ -1,8 +1,7 @@
-use Rattle.std.proofs.Common.{◌≡◌, ◌≤◌, List, length, ap, subst, ◌∙◌}
+use Rattle.std.proofs.Common.{◌≡◌, ◌≤◌, length, ap, subst, ◌∙◌}
 use Rattle.acl_rows.specs.View.{rows_of_side}
-use Rattle.acl_rows.specs.declared.row.Row.{Row}
 use Rattle.row_shelves.specs.Shelves.{Shelves, shelf_number}
-use Rattle.row_shelves.specs.Parts.{Parts, part_at}
+use Rattle.row_shelves.specs.Parts.{part_at}
 use Rattle.row_shelves.proofs.PartLaws.{side_lent, lent_few}
 use Rattle.row_shelves.proofs.shelves.RowShelves.shelf.Goals as goal
 

@@ -1,14 +1,14 @@
 -- What an edit makes of the shelves.
 use Rattle.std.proofs.Common.{◌≡◌, ℕ, zero, suc, ◌+◌, ◌-◌, ◌<◌, ◌≤◌, Bool, true, false, cond, List, [], ◌∷◌, ◌++◌, length, set, get_or, slice_get, Some, None, Result, Ok, Err, OnOk, inl, inr, refl, sym, ap, subst, ◌∙◌, arith, length-append}
-use Rattle.std.specs.Prelude.{filter}
+use Rattle.std.specs.Prelude.{filter, slice_set}
 use Rattle.std.specs.List.{AllByRecursion}
-use Rattle.std.specs.declared.cmp.Ordering.TheVariants.{Less, Equal, Greater}
-use Rattle.std.proofs.lemmas.Bool.{cases_eq, cases_lt, false≢true}
+use Rattle.std.specs.declared.cmp.Ordering.TheVariants.{Less, Greater}
+use Rattle.std.proofs.lemmas.Bool.{cases_eq, cases_lt}
 use Rattle.std.proofs.lemmas.Option.{none-some, slice_get_within}
-use Rattle.std.proofs.lemmas.List.{get_or-set_same, get_or-set_other, get_or_past}
+use Rattle.std.proofs.lemmas.List.{get_or-set_same, get_or-set_other}
 use Rattle.std.proofs.lemmas.List.Elements.{filter-append}
 use Rattle.sorted_rows.specs.Placed.{place_cmp, is_under, rows_under, index_in, set_row, without_row, PlacesAbove, PlacesBelow, PlacesAscend, RowsAndRoom}
-use Rattle.sorted_rows.proofs.PlacedLaws.{place_cmp_turned, place_cmp_itself}
+use Rattle.sorted_rows.proofs.PlacedLaws.{place_cmp_turned}
 use Rattle.sorted_rows.proofs.RowLaws.{all-set_row, all-without_row}
 use Rattle.sorted_rows.proofs.IndexLaws.{index_in-set_row_behind, index_in-without_row_behind, set_row-behind, set_row-before, without_row-behind, without_row-before}
 use Rattle.mud_base.specs.declared.packet.Direction.{Direction}
@@ -19,9 +19,18 @@ use Rattle.acl_rows.specs.declared.row.Owner.{Owner}
 use Rattle.acl_rows.specs.declared.row.Row.{Row}
 use Rattle.acl_rows.specs.Places.{side_place, row_place}
 use Rattle.row_shelves.specs.Shelves.{shelf_number, room_on, index_beside, edits_of_side, HasRoom, AreFoundBeside}
-use Rattle.row_shelves.specs.Parts.{row_number, shelf_place, Parts, nothing, part_at, joined, room_in, AreSorted, AreFoundIn, IsEdited, HaveShelves}
-use Rattle.row_shelves.proofs.Numbers.{AreOne, same_shelf, rows_rise, under_itself, on_under, under_on, shelf_place_is}
+use Rattle.row_shelves.specs.Parts.{row_number, shelf_place, Parts, nothing, part_at, joined, room_in, AreSorted, AreFoundIn, HaveShelves}
+use Rattle.row_shelves.proofs.Numbers.{AreOne, same_shelf, rows_rise, under_itself, under_on, shelf_place_is}
 use Rattle.row_shelves.proofs.PartLaws.{part_read, side_joined, On, from_zero, first_on, rest_on, below_list, above_joined}
+
+-- on its shelf the edit is made; the other shelves stay
+pub record IsEdited (edit : Edit Row) (old new : Parts) : Type 0 where
+  pub part : RowsAndRoom Row
+  pub within : row_number edit.row < length old
+  pub set : new ≡ slice_set old (row_number edit.row) part
+  pub rows : part.rows ≡ edit_made row_place edit (part_at old (row_number edit.row)).rows
+  pub room : (part_at old (row_number edit.row)).room ≤ part.room + 1
+  pub ascend : PlacesAscend row_place (part_at old (row_number edit.row)).rows
 
 -- ---- All rows
 

@@ -5,7 +5,7 @@ use Rattle.std.specs.List.{AllByRecursion}
 use Rattle.std.proofs.lemmas.Bool.{cases_eq}
 use Rattle.std.proofs.lemmas.List.{get_or-set_same, get_or-set_other, get_or_past, get_or_read}
 use Rattle.std.proofs.lemmas.List.Elements.{filter-append}
-use Rattle.sorted_rows.specs.Placed.{place_cmp, is_under, PlacesAbove, PlacesBelow, RowsAndRoom}
+use Rattle.sorted_rows.specs.Placed.{is_under, PlacesAbove, PlacesBelow, RowsAndRoom}
 use Rattle.mud_base.specs.declared.packet.Direction.{Direction}
 use Rattle.acl_rows.specs.declared.row.Owner.{Owner}
 use Rattle.acl_rows.specs.declared.row.Row.{Row}

@@ -1,14 +1,14 @@
 -- The shelves, one after the other. Their numbers rise with the places of the rows that stand on them.
-use Rattle.std.specs.Prelude.{◌≡◌, ℕ, ◌+◌, ◌-◌, ◌*◌, ◌/◌, ◌%◌, ◌<◌, ◌≤◌, min, List, [], ◌∷◌, ◌++◌, length, slice_index_or, slice_set}
+use Rattle.std.specs.Prelude.{◌≡◌, ℕ, ◌-◌, ◌/◌, ◌%◌, ◌≤◌, min, List, [], ◌∷◌, ◌++◌, length, slice_index_or}
 use Rattle.std.specs.List.{AllByRecursion}
-use Rattle.sorted_rows.specs.Placed.{PlacesAscend, RowsAndRoom, index_in, rows_under}
+use Rattle.sorted_rows.specs.Placed.{RowsAndRoom, index_in, rows_under}
 use Rattle.mud_base.specs.declared.packet.Direction.{Direction}
 use Rattle.row_edits.specs.declared.edit.Edit.{Edit}
-use Rattle.row_edits.specs.Edits.{edit_place, edit_made}
+use Rattle.row_edits.specs.Edits.{edit_place, edited}
 use Rattle.acl_rows.specs.declared.row.Owner.{Owner}
 use Rattle.acl_rows.specs.declared.row.Row.{Row}
 use Rattle.acl_rows.specs.Places.{row_place}
-use Rattle.row_shelves.specs.Shelves.{shelf_number, edits_of_side}
+use Rattle.row_shelves.specs.Shelves.{shelf_number, edits_of_side, HasRoom}
 
 -- ---- Numbers
 
@@ -60,17 +60,21 @@ pub record HaveSameRows (old new : Parts) : Type 0 where
 abbrev pub AreFoundIn : Parts → List (Edit Row) → Type 0
 AreFoundIn parts edits = AllByRecursion (λ edit. edit.found ≡ index_in row_place (row_place edit.row) (part_at parts (row_number edit.row)).rows) edits
 
--- on its shelf the edit is made; the other shelves stay
-pub record IsEdited (edit : Edit Row) (old new : Parts) : Type 0 where
-  pub part : RowsAndRoom Row
-  pub within : row_number edit.row < length old
-  pub set : new ≡ slice_set old (row_number edit.row) part
-  pub rows : part.rows ≡ edit_made row_place edit (part_at old (row_number edit.row)).rows
-  pub room : (part_at old (row_number edit.row)).room ≤ part.room + 1
-  pub ascend : PlacesAscend row_place (part_at old (row_number edit.row)).rows
-
 -- ---- Room
 
 -- there is a shelf for each of the edits, where there are so many
 pub record HaveShelves (edits : List (Edit Row)) (count : ℕ) : Type 0 where
   pub none : (owner : Owner) (side : Direction) → count ≤ shelf_number owner side → length (edits_of_side owner side edits) ≡ 0
+
+-- on a shelf there is room for a row by each of its edits
+abbrev pub HasRoomFor : List (Edit Row) → Parts → ℕ → Type 0
+HasRoomFor edits parts k = length (rows_under (edit_place row_place) (shelf_place k) edits) ≤ (part_at parts k).room
+
+-- ---- Edits that are made
+
+-- of some edits the last ones are made: those that are left have room and the indices of their places, and once they are made too, all are
+pub record AreLeft (edits left : List (Edit Row)) (old new : Parts) : Type 0 where
+  pub sorted : AreSorted new
+  pub room : HasRoom left (room_in new)
+  pub found : AreFoundIn new left
+  pub made : edited row_place left (joined new) ≡ edited row_place edits (joined old)

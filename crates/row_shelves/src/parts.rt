@@ -1,14 +1,15 @@
 //! Shelves, one after the other, each with the rows of one owner and side.
-ghost use Rattle.std.specs.Prelude.{◌≡◌, ℕ, ◌+◌, ◌<◌, ◌≤◌, [], length, OnOk, vec_len};
-ghost use Rattle.sorted_rows.specs.Placed.{index_in, rows_under};
+ghost use Rattle.std.specs.Prelude.{◌≡◌, ℕ, ◌+◌, ◌<◌, ◌≤◌, [], length, drop, OnOk, vec_len, IsTrue};
+ghost use Rattle.std.specs.List.{AllByRecursion};
+ghost use Rattle.sorted_rows.specs.Placed.{rows_under};
 ghost use Rattle.row_edits.specs.Edits.{edit_place, edited};
 ghost use Rattle.acl_rows.specs.Places.{row_place};
 ghost use Rattle.row_shelves.specs.Shelves.{shelf_number, HasRoom};
-ghost use Rattle.row_shelves.specs.Parts.{row_number, shelf_place, part_at, joined, room_in, AreSorted, HaveSameRows, HaveShelves, AreFoundIn, IsEdited};
+ghost use Rattle.row_shelves.specs.Parts.{row_number, shelf_place, part_at, joined, room_in, AreSorted, HaveSameRows, HaveShelves, HasRoomFor, AreFoundIn, AreLeft};
 
 use acl_rows::{Owner, Row};
 use mud_base::{Direction, Memory};
-use row_edits::{Edit, make_edit};
+use row_edits::{Edit, make_edits_from};
 use sorted_rows::{PrefixOf, SortedRows, Steps};
 use std::alloc::Global;
 use std::cmp::Ordering;
@@ -100,7 +101,28 @@ fn add_for(
     }
 }
 
-/// Makes room on each shelf for a row by each of its edits.
+/// Makes room on the shelf of this number, where there is one, for a row by each of its edits.
+fn reserve_on(
+    shelves: &mut Vec<SortedRows<Row>>,
+    edits: &SortedRows<Edit<Row>>,
+    number: usize,
+) -> Result<(), Memory>
+    ensures rows { HaveSameRows shelves.old.items shelves.new.items }
+    ensures len { vec_len shelves.new ≡ vec_len shelves.old }
+    ensures ok { OnOk result (number < vec_len shelves.new → HasRoomFor edits.now.rows shelves.new.items number) }
+    ensures kept { OnOk result ((k : ℕ) → HasRoomFor edits.now.rows shelves.old.items k
+        → HasRoomFor edits.now.rows shelves.new.items k) }
+{
+    if shelves.len() <= number {
+        return Ok(());
+    }
+    let more = edits.rows_under(&OfShelf(number)).len();
+    shelves[number].reserve(more)?;
+    Ok(())
+}
+
+/// Makes room on each shelf for a row by each of its edits. It visits the shelves of the edits
+/// alone, each once, since the edits of one shelf stand side by side.
 fn reserve_for(
     shelves: &mut Vec<SortedRows<Row>>,
     edits: &SortedRows<Edit<Row>>,
@@ -110,9 +132,13 @@ fn reserve_for(
     ensures ok { OnOk result ((k : ℕ) → k < vec_len shelves.new
         → length (rows_under (edit_place row_place) (shelf_place k) edits.now.rows) ≤ (part_at shelves.new.items k).room) }
 {
-    for number in 0..shelves.len() {
-        let more = edits.rows_under(&OfShelf(number)).len();
-        shelves[number].reserve(more)?;
+    let mut visited = shelves.len();
+    for edit in edits.rows() {
+        let number = number_of(edit.row.owner, edit.row.side);
+        if number != visited {
+            reserve_on(shelves, edits, number)?;
+            visited = number;
+        }
     }
     Ok(())
 }
@@ -130,16 +156,47 @@ pub(crate) fn make_room(
     reserve_for(shelves, edits)
 }
 
-/// Makes one edit on its shelf, in one step.
-fn make_one<L: Ledger>(shelves: &mut Vec<SortedRows<Row>>, edit: Edit<Row>, steps: &mut Steps<L>)
-    requires room { 1 ≤ (part_at shelves.old.items (row_number edit.row)).room }
-    requires found { edit.found ≡ index_in row_place (row_place edit.row) (part_at shelves.old.items (row_number edit.row)).rows }
-    ensures shelves { IsEdited edit shelves.old.items shelves.new.items }
-    ensures counted { steps.new ≡ steps.old + 1 }
+/// The number of the shelf of the last of these edits, and the index from which on they are all of
+/// that shelf.
+fn last_shelf(edits: &[Edit<Row>]) -> (usize, usize)
+    requires { 0 < length edits.now }
+    ensures end { result.1 < length edits.now }
+    ensures own { AllByRecursion (λ edit. row_number edit.row ≡ result.0) (drop result.1 edits.now) }
 {
-    let number = number_of(edit.row.owner, edit.row.side);
+    let mut start = edits.len() - 1;
+    let last = &edits[start];
+    let number = number_of(last.row.owner, last.row.side);
+    while 0 < start && is_of(&edits[start - 1], number) {
+        start -= 1;
+    }
+    (number, start)
+}
+
+/// Whether the edit is of a row of the shelf of this number.
+#[tactic(auto, unfolding(crate::specs::Parts::row_number))]
+fn is_of(edit: &Edit<Row>, number: usize) -> bool
+    ensures { IsTrue result → row_number edit.now.row ≡ number }
+{
+    number_of(edit.row.owner, edit.row.side) == number
+}
+
+/// Makes the edits of the last one's shelf, from the last to the first.
+fn make_last<L: Ledger>(
+    shelves: &mut Vec<SortedRows<Row>>,
+    edits: &mut SortedRows<Edit<Row>>,
+    steps: &mut Steps<L>,
+)
+    requires some { 0 < length edits.old.rows }
+    requires sorted { AreSorted shelves.old.items }
+    requires room { HasRoom edits.old.rows (room_in shelves.old.items) }
+    requires found { AreFoundIn shelves.old.items edits.old.rows }
+    ensures made { AreLeft edits.old.rows edits.new.rows shelves.old.items shelves.new.items }
+    ensures counted { steps.new + length edits.new.rows ≡ steps.old + length edits.old.rows }
+    ensures fewer { length edits.new.rows < length edits.old.rows }
+{
+    let (number, start) = last_shelf(edits.rows());
     let _ascending = shelves[number].rows();
-    make_edit(&mut shelves[number], edit, steps);
+    make_edits_from(&mut shelves[number], edits, start, steps);
 }
 
 /// Makes each of these edits, from the last to the first.
@@ -157,9 +214,6 @@ pub(crate) fn make_all<L: Ledger>(
 {
     let mut left = edits;
     while !left.is_empty() {
-        let edits = left.rows();
-        let last = edits.len() - 1;
-        let edit = left.take_at(last);
-        make_one(shelves, edit, steps);
+        make_last(shelves, &mut left, steps);
     }
 }

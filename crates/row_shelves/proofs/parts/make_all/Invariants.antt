@@ -5,8 +5,8 @@ use Rattle.row_shelves.specs.Shelves.{HasRoom}
 use Rattle.row_shelves.specs.Parts.{joined, room_in, AreSorted, AreFoundIn}
 use Rattle.row_shelves.proofs.parts.make_all.Given as goal
 
-abbrev pub invariant-loop-left : goal.invariant-loop-left
-invariant-loop-left g l = record {
+abbrev pub invariant-loop-shelves : goal.invariant-loop-shelves
+invariant-loop-shelves g l = record {
   sorted : AreSorted l.shelves.items;
   rows : edited row_place l.left.rows (joined l.shelves.items) ≡ edited row_place l.fn.edits.rows (joined l.initial.shelves.items);
   found : AreFoundIn l.shelves.items l.left.rows;
@@ -14,5 +14,5 @@ invariant-loop-left g l = record {
   counted : l.steps + length l.left.rows ≡ l.initial.steps + length l.fn.edits.rows;
 }
 
-abbrev pub decreases-loop-left : goal.decreases-loop-left
-decreases-loop-left g l = length l.left.rows
+abbrev pub decreases-loop-shelves : goal.decreases-loop-shelves
+decreases-loop-shelves g l = length l.left.rows

@@ -1,6 +1,5 @@
-use Rattle.std.proofs.Common.{◌≡◌, ◌+◌, ◌≤◌, length, arith}
-use Rattle.row_edits.proofs.RunLaws.{AllMade, all_made, made_none, made_more}
-use Rattle.row_edits.proofs.edit.make_edits_from.Given.{Over}
+use Rattle.std.proofs.Common.{arith}
+use Rattle.row_edits.proofs.RunLaws.{all_made, made_none, made_more}
 use Rattle.row_edits.proofs.edit.make_edits_from.Goals as goal
 
 pub loop-rows-init : goal.loop-rows-init

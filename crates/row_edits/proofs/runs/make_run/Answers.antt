@@ -1,5 +1,5 @@
-use Rattle.std.proofs.Common.{◌≡◌, ◌-◌, length, ap, ◌∙◌, arith}
-use Rattle.row_edits.proofs.RunLaws.{IsPut, IsTaken, IsLastAlone, RunLeft, put_lent, taken_lent, last_alone, run_left, alone_left, none_behind}
+use Rattle.std.proofs.Common.{◌-◌, length, ap, ◌∙◌, arith}
+use Rattle.row_edits.proofs.RunLaws.{put_lent, taken_lent, last_alone, run_left, alone_left, none_behind}
 use Rattle.row_edits.proofs.runs.make_run.Goals as goal
 
 pub put_run_at-requires-clause-index : goal.put_run_at-requires-clause-index

@@ -13,6 +13,8 @@ use std::marker::Brand;
 use std::sync::ledger::{Blank, Ledger};
 use std::test::Fail;
 
+mod made;
+
 /// 192.0.2.10
 const BULB: Addr = Addr::V4(0xc000_020a);
 
@@ -71,20 +73,15 @@ fn row(place: u16, entry: u16) -> Row {
     }
 }
 
-/// Plans that these bindings go and those come, and does it, with steps on a ledger of the caller's.
+/// Plans that these bindings go and those come, and does it.
 fn change<L: Ledger>(
     compiled: &mut Compiled,
     gone: &[Binding],
     come: &[Binding],
-    blank: Blank,
-) -> Result<(), Memory>
-    requires name { blank.name ≡ L.name }
-    requires parts { blank.parts ≡ L.parts }
-    requires some { 0 < L.parts }
-{
-    let mut steps = Steps::<L>::new(blank);
-    let plan = compiled.plan_member(gone, come, &mut steps)?;
-    compiled.commit(plan, &mut steps);
+    steps: &mut Steps<L>,
+) -> Result<(), Memory> {
+    let plan = compiled.plan_member(gone, come, steps)?;
+    compiled.commit(plan, steps);
     Ok(())
 }
 
@@ -93,12 +90,8 @@ fn hold<L: Ledger>(
     compiled: &mut Compiled,
     url: &MudUrl,
     policy: &Policy,
-    blank: Blank,
-) -> Result<bool, Memory>
-    requires name { blank.name ≡ L.name }
-    requires parts { blank.parts ≡ L.parts }
-    requires some { 0 < L.parts }
-{
+    steps: &mut Steps<L>,
+) -> Result<bool, Memory> {
     if !compiled.has_place(url) {
         return Ok(false);
     }
@@ -108,36 +101,29 @@ fn hold<L: Ledger>(
     if policy.incoming.len() > 128 {
         return Ok(false);
     }
-    let mut steps = Steps::<L>::new(blank);
-    let plan = compiled.plan_policy(url, Some(policy), &mut steps)?;
-    compiled.commit(plan, &mut steps);
+    let plan = compiled.plan_policy(url, Some(policy), steps)?;
+    compiled.commit(plan, steps);
     Ok(true)
 }
 
 /// Plans that no policy is held for the URL, and does it. False where there is no place for the URL.
-fn release<L: Ledger>(compiled: &mut Compiled, url: &MudUrl, blank: Blank) -> Result<bool, Memory>
-    requires name { blank.name ≡ L.name }
-    requires parts { blank.parts ≡ L.parts }
-    requires some { 0 < L.parts }
-{
+fn release<L: Ledger>(
+    compiled: &mut Compiled,
+    url: &MudUrl,
+    steps: &mut Steps<L>,
+) -> Result<bool, Memory> {
     if !compiled.has_place(url) {
         return Ok(false);
     }
-    let mut steps = Steps::<L>::new(blank);
-    let plan = compiled.plan_policy(url, None, &mut steps)?;
-    compiled.commit(plan, &mut steps);
+    let plan = compiled.plan_policy(url, None, steps)?;
+    compiled.commit(plan, steps);
     Ok(true)
 }
 
 /// The first row that the file of a URL has at the leased address, for what its Things send.
-fn first_row<L: Ledger>(compiled: &Compiled, url: &MudUrl, blank: Blank) -> Option<Row>
-    requires name { blank.name ≡ L.name }
-    requires parts { blank.parts ≡ L.parts }
-    requires some { 0 < L.parts }
-{
-    let mut steps = Steps::<L>::new(blank);
+fn first_row<L: Ledger>(compiled: &Compiled, url: &MudUrl, steps: &mut Steps<L>) -> Option<Row> {
     let part = compiled.view(url, Direction::From).file_part()?;
-    part.rows_at(BULB, &mut steps).first().copied()
+    part.rows_at(BULB, steps).first().copied()
 }
 
 #[test]
@@ -151,83 +137,54 @@ fn nothing_is_compiled_at_first(rt: HostRuntime) -> Result<(), Fail> {
     Ok(())
 }
 
-/// What is compiled where the address is leased and the policies of both files are held.
-fn both_held(alloc: Global) -> Result<Compiled, Memory> {
-    let mut compiled = Compiled::new(alloc)?;
-    lease(alloc, &mut compiled)?;
-    hold_bulb(alloc, &mut compiled)?;
-    hold_switch(alloc, &mut compiled)?;
-    Ok(compiled)
-}
-
 /// The address is leased to the bulb.
-fn lease(alloc: Global, compiled: &mut Compiled) -> Result<(), Memory> {
+fn lease<L: Ledger>(
+    alloc: Global,
+    compiled: &mut Compiled,
+    steps: &mut Steps<L>,
+) -> Result<(), Memory> {
     let come = [to_maker(alloc)?];
-    change::<Brand>(compiled, &[], &come, Blank::new(1))
+    change(compiled, &[], &come, steps)
 }
 
-/// The lease goes.
-fn end_lease(alloc: Global, compiled: &mut Compiled) -> Result<(), Memory> {
-    let gone = [to_maker(alloc)?];
-    change::<Brand>(compiled, &gone, &[], Blank::new(1))
-}
-
-/// The policy of the bulb's file is held.
-fn hold_bulb(alloc: Global, compiled: &mut Compiled) -> Result<bool, Memory> {
+/// The policies of both files are held.
+fn hold_both<L: Ledger>(
+    alloc: Global,
+    compiled: &mut Compiled,
+    steps: &mut Steps<L>,
+) -> Result<(), Fail> {
     let policy = bulb_policy(alloc)?;
-    hold_for(compiled, BULB_URL, &policy)
-}
-
-/// The policy of the switch's file is held.
-fn hold_switch(alloc: Global, compiled: &mut Compiled) -> Result<bool, Memory> {
+    hold(compiled, &mud_url(BULB_URL)?, &policy, steps)?;
     let policy = switch_policy(alloc)?;
-    hold_for(compiled, SWITCH_URL, &policy)
-}
-
-/// This policy is held for the URL that octets spell. False where it can't be held.
-fn hold_for(compiled: &mut Compiled, url: &[u8], policy: &Policy) -> Result<bool, Memory> {
-    match mud_url(url) {
-        Ok(url) => hold::<Brand>(compiled, &url, policy, Blank::new(1)),
-        Err(_) => Ok(false),
-    }
-}
-
-/// The policy of the bulb's file goes.
-fn release_bulb(compiled: &mut Compiled) -> Result<bool, Memory> {
-    match mud_url(BULB_URL) {
-        Ok(url) => release::<Brand>(compiled, &url, Blank::new(1)),
-        Err(_) => Ok(false),
-    }
+    hold(compiled, &mud_url(SWITCH_URL)?, &policy, steps)?;
+    Ok(())
 }
 
 /// The first row of the file of the URL that octets spell.
-fn row_of(compiled: &Compiled, url: &[u8]) -> Option<Row> {
+fn row_of<L: Ledger>(compiled: &Compiled, url: &[u8], steps: &mut Steps<L>) -> Option<Row> {
     let url = mud_url(url).ok()?;
-    first_row::<Brand>(compiled, &url, Blank::new(1))
+    first_row(compiled, &url, steps)
+}
+
+/// The first rows of the bulb and the switch, where the address is leased and both files are held,
+/// with steps on a ledger of the caller's.
+fn first_rows<L: Ledger>(alloc: Global, blank: Blank) -> Result<(Option<Row>, Option<Row>), Fail>
+    requires name { blank.name ≡ L.name }
+    requires parts { blank.parts ≡ L.parts }
+    requires some { 0 < L.parts }
+{
+    let mut steps = Steps::<L>::new(blank);
+    let mut compiled = Compiled::new(alloc)?;
+    lease(alloc, &mut compiled, &mut steps)?;
+    hold_both(alloc, &mut compiled, &mut steps)?;
+    let bulb = row_of(&compiled, BULB_URL, &mut steps);
+    Ok((bulb, row_of(&compiled, SWITCH_URL, &mut steps)))
 }
 
 #[test]
 fn approved_files_have_their_rows(rt: HostRuntime) -> Result<(), Fail> {
-    let compiled = both_held(rt.alloc())?;
-    assert_eq!(rt; row_of(&compiled, BULB_URL), Some(row(0, 2)));
-    assert_eq!(rt; row_of(&compiled, SWITCH_URL), Some(row(1, 1)));
-    Ok(())
-}
-
-#[test]
-fn rows_go_with_their_binding(rt: HostRuntime) -> Result<(), Fail> {
-    let mut compiled = both_held(rt.alloc())?;
-    end_lease(rt.alloc(), &mut compiled)?;
-    assert_eq!(rt; row_of(&compiled, BULB_URL), None);
-    assert_eq!(rt; row_of(&compiled, SWITCH_URL), None);
-    Ok(())
-}
-
-#[test]
-fn a_policy_that_goes_leaves_the_others(rt: HostRuntime) -> Result<(), Fail> {
-    let mut compiled = both_held(rt.alloc())?;
-    assert!(rt; release_bulb(&mut compiled)?);
-    assert_eq!(rt; row_of(&compiled, BULB_URL), None);
-    assert_eq!(rt; row_of(&compiled, SWITCH_URL), Some(row(1, 1)));
+    let (bulb, switch) = first_rows::<Brand>(rt.alloc(), Blank::new(1))?;
+    assert_eq!(rt; bulb, Some(row(0, 2)));
+    assert_eq!(rt; switch, Some(row(1, 1)));
     Ok(())
 }

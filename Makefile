@@ -22,6 +22,7 @@ checks: build
 	bash checks/console
 	bash checks/store
 	bash checks/tour
+	bash checks/views
 	checks/differential crates/mud/out/mud 1 10000
 	checks/differential crates/mud/out/mud 2 10000 200
 

@@ -2,4 +2,3 @@ pub mod Entries
 pub mod Imports
 pub mod Order
 pub mod Runs
-pub mod Stops

@@ -13,10 +13,9 @@ ghost use Rattle.import_runs.specs.Entries.{has_keeper_failed, is_of_memory};
 ghost use Rattle.import_runs.specs.Entries as entries;
 ghost use Rattle.import_runs.specs.Imports.{MayLead, standing};
 ghost use Rattle.import_runs.specs.Runs.{ImportsPart, ImportsAll, StaysKept, scene};
-ghost use Rattle.import_runs.specs.Stops.{has_failed};
+ghost use Rattle.command_runs.specs.Stops.{has_failed};
 
-use crate::stop::Stop;
-use command_runs::Status;
+use command_runs::{Status, Stop};
 use desk_model::{Command, Reply};
 use import_lines::{append_reply, append_skipped, fetched_in};
 use mud_base::{Bytes, Memory};

@@ -9,12 +9,11 @@ ghost use Rattle.mud_desk.specs.DeskState.{tables_of};
 ghost use Rattle.command_runs.specs.Status.{status_number};
 ghost use Rattle.import_runs.specs.Order.{in_order};
 ghost use Rattle.import_runs.specs.Runs.{ImportsPart, ImportsAll, StaysKept, scene};
-ghost use Rattle.import_runs.specs.Stops.{has_failed};
+ghost use Rattle.command_runs.specs.Stops.{has_failed};
 
 use crate::file::import_file;
 use crate::names::names_in_order;
-use crate::stop::Stop;
-use command_runs::Status;
+use command_runs::{Status, Stop};
 use mud_base::Bytes;
 use mud_desk::Desk;
 use mud_world::{Clock, Door, Spool};

@@ -5,7 +5,6 @@
 mod file;
 pub mod folder;
 mod names;
-mod stop;
 #[cfg(test)]
 mod tests;
 

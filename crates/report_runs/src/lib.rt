@@ -2,7 +2,6 @@
 #![tactic(auto)]
 
 mod rows;
-mod stop;
 pub mod store;
 pub mod table;
 #[cfg(test)]

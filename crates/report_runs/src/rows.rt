@@ -3,10 +3,10 @@ ghost use Rattle.std.specs.Prelude.{◌≡◌, IfOk, OnOk, OnErr, flat_map};
 ghost use Rattle.mud_world.specs.Causes.{Counts};
 ghost use Rattle.mud_world.specs.Door.{put_out};
 ghost use Rattle.command_runs.specs.Due.{WroteFirst};
-ghost use Rattle.report_runs.specs.Stops.{has_failed};
+ghost use Rattle.command_runs.specs.Stops.{has_failed};
 ghost use Rattle.report_runs.specs.Tables.{due_part};
 
-use crate::stop::Stop;
+use command_runs::Stop;
 use file_cache::is_due;
 use file_tables::CachedFile;
 use mud_base::{Bytes, Memory, Moment};

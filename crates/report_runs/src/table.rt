@@ -6,14 +6,13 @@ ghost use Rattle.mud_desk.specs.Boxed.{IsKept};
 ghost use Rattle.mud_desk.specs.DeskState.{tables_of};
 ghost use Rattle.command_runs.specs.Due.{WroteFirst};
 ghost use Rattle.command_runs.specs.Status.{status_number};
-ghost use Rattle.report_runs.specs.Stops.{has_failed};
+ghost use Rattle.command_runs.specs.Stops.{has_failed};
 ghost use Rattle.report_runs.specs.Store.{WritesReport};
 ghost use Rattle.report_runs.specs.Tables.{clock_for, moments_after, table_text};
 ghost use Rattle.report_runs.specs.Tables as spec;
 
 use crate::rows::{write_due, write_rows};
-use crate::stop::Stop;
-use command_runs::Status;
+use command_runs::{Status, Stop};
 use command_words::ReportKind;
 use mud_base::Moment;
 use mud_desk::Desk;

@@ -1,9 +1,9 @@
--- Why an import ends before all names were gone through.
+-- Why a run ends before all of it is done.
 use Rattle.std.specs.Prelude.{ℕ, Bool, true, false, Result, Ok, Err}
 use Rattle.mud_world.specs.declared.fault.SpoolFault.{SpoolFault}
 use Rattle.mud_world.specs.declared.fault.SpoolFault.TheVariants as spool
-use Rattle.import_runs.specs.declared.stop.Stop.{Stop}
-use Rattle.import_runs.specs.declared.stop.Stop.TheVariants.{Failed, Memory}
+use Rattle.command_runs.specs.declared.stop.Stop.{Stop}
+use Rattle.command_runs.specs.declared.stop.Stop.TheVariants.{Failed, Memory}
 
 -- a fault of the spool ends it
 abbrev pub stop_at : SpoolFault → Stop
@@ -16,7 +16,7 @@ has_failed (Ok a) = false
 has_failed (Err Failed) = true
 has_failed (Err Memory) = false
 
--- the status of an import that ends so
+-- the status of a run that ends so
 abbrev pub status_at : Stop → ℕ
 status_at Failed = 4
 status_at Memory = 5

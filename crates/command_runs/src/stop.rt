@@ -1,14 +1,14 @@
-//! Why an import ends early.
+//! Why a run ends early.
 ghost use Rattle.std.specs.Prelude.{◌≡◌};
 ghost use Rattle.command_runs.specs.Status.{status_number};
 
-use command_runs::Status;
+use crate::status::Status;
 use mud_base::Memory;
 use mud_world::{Failed, SpoolFault};
 
-/// Why an import ends before all names were gone through.
+/// Why a run ends before all of it is done.
 #[derive(Clone, Copy, Debug, PartialEq, Eq)]
-pub(crate) enum Stop {
+pub enum Stop {
     /// The spool or the door failed. Its count of failures rose.
     Failed,
     /// Memory was wanted and there was none.
@@ -16,7 +16,7 @@ pub(crate) enum Stop {
 }
 
 impl From<Failed> for Stop {
-    ghost use Rattle.import_runs.specs.declared.stop.Stop.TheVariants.{Failed};
+    ghost use Rattle.command_runs.specs.declared.stop.Stop.TheVariants.{Failed};
 
     ghost from_gives = { λ _ stop. stop ≡ Failed };
 
@@ -26,7 +26,7 @@ impl From<Failed> for Stop {
 }
 
 impl From<SpoolFault> for Stop {
-    ghost use Rattle.import_runs.specs.Stops.{stop_at};
+    ghost use Rattle.command_runs.specs.Stops.{stop_at};
 
     ghost from_gives = { λ fault stop. stop ≡ stop_at fault };
 
@@ -39,7 +39,7 @@ impl From<SpoolFault> for Stop {
 }
 
 impl From<Memory> for Stop {
-    ghost use Rattle.import_runs.specs.declared.stop.Stop.TheVariants.{Memory};
+    ghost use Rattle.command_runs.specs.declared.stop.Stop.TheVariants.{Memory};
 
     ghost from_gives = { λ _ stop. stop ≡ Memory };
 
@@ -49,10 +49,10 @@ impl From<Memory> for Stop {
 }
 
 impl Stop {
-    ghost use Rattle.import_runs.specs.Stops.{status_at};
+    ghost use Rattle.command_runs.specs.Stops.{status_at};
 
-    /// The status of an import that ends so.
-    pub(crate) fn status(self) -> Status
+    /// The status of a run that ends so.
+    pub fn status(self) -> Status
         ensures { status_number result ≡ status_at self }
     {
         match self {

@@ -37,6 +37,7 @@ bench: build
 	bash bench/replay
 	bash bench/serve
 	python3 bench/rows
+	bash bench/keeper
 
 install: build
 	install -d "$(DESTDIR)$(PREFIX)/bin"

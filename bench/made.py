@@ -1,4 +1,4 @@
-"""Makes the stores, captures and requests that bench/judge and bench/replay measure with.
+"""Makes the stores, captures, requests and statements that bench/judge, bench/replay and bench/keeper measure with.
 
   made.py judge FOLDER      FOLDER/large.db has 512 Things, 128 approved files and 4,096 entries,
                             FOLDER/small.db one Thing and a file with one entry, which is the first
@@ -10,6 +10,10 @@
   made.py replay FOLDER     FOLDER/small.requests has 200,000 requests behind those that make a Thing:
                             by turns a packet and the observation of a name; FOLDER/things.requests
                             makes 512 Things, and FOLDER/listings.requests lists them 20,000 times.
+  made.py keeper FOLDER COUNT
+                            FOLDER/requests has so many observations of 64 names, each of which changes
+                            the tables. FOLDER/statements has for sqlite3 the table of items and the
+                            same changes, a transaction each: the name's item and the last moment's.
 
 The forms of the items are those that the program keeps; numbers are big-endian.
 """
@@ -26,6 +30,10 @@ FILES = 128
 THINGS = 512
 ROUTER = bytes.fromhex("0200000000fe")
 DNS_SERVER = bytes([192, 0, 2, 53])
+TABLE = (
+    "CREATE TABLE item (kind INTEGER NOT NULL, name BLOB NOT NULL, body BLOB NOT NULL,"
+    " PRIMARY KEY (kind, name)) STRICT"
+)
 
 
 def mac_of(thing):
@@ -115,10 +123,7 @@ def make_store(path, things, files, sides):
     items.append((3, b"\1urn:ietf:params:mud:dns", b"\1\0\1\4" + DNS_SERVER))
     items.append((6, b"", b"\1" + struct.pack(">Q", MOMENT)))
     with sqlite3.connect(path) as database:
-        database.execute(
-            "CREATE TABLE item (kind INTEGER NOT NULL, name BLOB NOT NULL, body BLOB NOT NULL,"
-            " PRIMARY KEY (kind, name)) STRICT"
-        )
+        database.execute(TABLE)
         database.executemany("INSERT INTO item VALUES (?, ?, ?)", items)
     database.close()
 
@@ -210,5 +215,26 @@ def make_replay(folder):
             requests.write(request("GET", "/things", MOMENT))
 
 
+def put(kind, name, body):
+    return (
+        f"INSERT INTO item (kind, name, body) VALUES ({kind}, X'{name.hex()}', X'{body.hex()}')"
+        " ON CONFLICT (kind, name) DO UPDATE SET body = excluded.body;\n"
+    )
+
+
+def make_keeper(folder, count):
+    with open(f"{folder}/requests", "wb") as requests, open(f"{folder}/statements", "w") as statements:
+        statements.write(f"PRAGMA journal_mode = WAL;\nPRAGMA synchronous = FULL;\n{TABLE};\n")
+        for number in range(int(count)):
+            moment = MOMENT + number
+            name, address = name_of(number % 64, 0), peer_of(number % 64, 0)
+            where = ".".join(map(str, address))
+            requests.write(request("POST", "/names", moment, stated(name=name, address=where, ttl=3600)))
+            statements.write("BEGIN;\n")
+            statements.write(put(5, name.encode(), b"\1\0\1" + ending(address, moment + 3600)))
+            statements.write(put(6, b"", b"\1" + struct.pack(">Q", moment)))
+            statements.write("COMMIT;\n")
+
+
 if __name__ == "__main__":
-    {"judge": make_judge, "replay": make_replay}[sys.argv[1]](sys.argv[2])
+    {"judge": make_judge, "replay": make_replay, "keeper": make_keeper}[sys.argv[1]](*sys.argv[2:])

@@ -17,16 +17,24 @@ use std::{env, fs, io};
 /// The word of a store that is kept in memory alone, and is empty at the start of each run.
 const IN_MEMORY: &str = ":memory:";
 
+/// What standard error is told where the store failed.
+const STORE_FAILED: &str =
+    "mud: the store can't be opened or written: another program uses it, it is no store, it may not be written, or the disk is full.\n";
+
 fn main(rt: HostRuntime) -> ExitCode {
     ExitCode::from(run(rt))
 }
 
 /// Runs the words after the program's name, and answers the status. Where they are no listed line, it
-/// prints the usage text on standard error; whether that succeeds doesn't change the status.
+/// prints the usage text on standard error, and where the store failed, a sentence; whether that
+/// succeeds doesn't change the status.
 fn run(rt: HostRuntime) -> u8 {
     let status = status_of(rt);
     if status == Status::Unlisted.number() {
         let _printed = eprint!(rt; "{}", USAGE);
+    }
+    if status == Status::KeeperFailed.number() {
+        let _printed = eprint!(rt; "{}", STORE_FAILED);
     }
     status
 }

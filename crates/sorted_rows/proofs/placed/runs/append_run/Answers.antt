@@ -1,5 +1,5 @@
-use Rattle.std.proofs.Common.{◌≡◌, ◌+◌, ◌++◌, ◌∷◌, [], List, sym, ap, ◌∙◌, arith}
-use Rattle.sorted_rows.proofs.RunLaws.{IsMoved, last_moved, image_added}
+use Rattle.std.proofs.Common.{◌≡◌, ◌+◌, ◌++◌, ◌∷◌, [], ◌∙◌, arith}
+use Rattle.sorted_rows.proofs.RunLaws.{last_moved, image_added}
 use Rattle.sorted_rows.proofs.placed.runs.append_run.Goals as goal
 
 pub loop-rows-preserved : goal.loop-rows-preserved

@@ -24,6 +24,7 @@ checks: build
 	bash checks/tour
 	bash checks/views
 	bash checks/strangers
+	checks/failures
 	checks/differential crates/mud/out/mud 1 10000
 	checks/differential crates/mud/out/mud 2 10000 200
 

@@ -34,10 +34,12 @@ pub returns-in-Ok-clause-least : goal.returns-in-Ok-clause-least
 unfolding least_step
 returns-in-Ok-clause-least g c =
     let own = ap length (c.shelf-shelf.ensures.rows ∙ ap (λ (s : ChangeState). rows_of_side c.args.key.owner c.args.key.side s.rows) c.self.view_is) in
-    omega (arith, c.in-Ok.ensures.least, own)
+    let read = c.in-Ok.ensures in
+    omega (arith, own)
 
 pub returns-in-Err-clause-least : goal.returns-in-Err-clause-least
 unfolding least_step
 returns-in-Err-clause-least g c =
     let own = ap length (c.shelf-shelf.ensures.rows ∙ ap (λ (s : ChangeState). rows_of_side c.args.key.owner c.args.key.side s.rows) c.self.view_is) in
-    omega (arith, c.in-Err.ensures.least, own)
+    let read = c.in-Err.ensures in
+    omega (arith, own)

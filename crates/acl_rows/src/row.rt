@@ -7,6 +7,7 @@ ghost use Rattle.acl_rows.specs.Places.{owner_place, side_number, peer_place, pl
 use mud_base::{Addr, Direction, End, addr_order};
 use sorted_rows::{KeyOf, Placed, PrefixOf};
 use std::cmp::Ordering;
+use std::mem::size_of;
 
 /// Whose entry a row is of.
 #[derive(Clone, Copy, Debug, PartialEq, Eq)]
@@ -18,20 +19,23 @@ pub enum Owner {
 }
 
 /// An address that meets each member selector of an entry, until an end. An entry with no member
-/// selector has no rows.
+/// selector has no rows. The fields stand in an order in which they leave no gaps.
 #[derive(Clone, Copy, Debug, PartialEq, Eq)]
 pub struct Row {
+    /// The address of the peer, at the other side.
+    pub addr: Addr,
+    /// The least of the ends of the bindings by which the address meets the selectors.
+    pub until: End,
     /// Whose entry it is.
     pub owner: Owner,
     /// The side of the packet that the Thing is on.
     pub side: Direction,
-    /// The address of the peer, at the other side.
-    pub addr: Addr,
     /// The number of the entry among those of the owner and side, from 1 on.
     pub entry: u16,
-    /// The least of the ends of the bindings by which the address meets the selectors.
-    pub until: End,
 }
+
+// A row takes at most 48 octets.
+const _: () = prove!(size_of::<Row>() <= 48);
 
 /// What a row is found by. There is at most one row with this owner, side, address and entry.
 #[derive(Clone, Copy, Debug, PartialEq, Eq)]

@@ -106,10 +106,38 @@ fn files_are_imported_by_name(rt: HostRuntime) -> Result<(), Fail> {
 }
 
 #[test]
-fn a_keeper_may_fail(rt: HostRuntime) -> Result<(), Fail> {
+fn each_change_may_fail(rt: HostRuntime) -> Result<(), Fail> {
     let files = [("1000-bulb.json", BULB), ("1001-bulb.json", BULB)];
-    let mut spool = folder(rt.alloc(), &files)?;
-    let lines = "1000-bulb.json new\n1001-bulb.json keeper\n";
-    let said = (Status::KeeperFailed, Some(2000));
-    assert_said(&rt, rt.alloc(), 2, &mut spool, said, lines)
+    let runs = [
+        (
+            1,
+            Status::KeeperFailed,
+            2001,
+            "1000-bulb.json keeper\n1001-bulb.json new\n",
+        ),
+        (
+            2,
+            Status::KeeperFailed,
+            2000,
+            "1000-bulb.json new\n1001-bulb.json keeper\n",
+        ),
+        (
+            3,
+            Status::Done,
+            2001,
+            "1000-bulb.json new\n1001-bulb.json same\n",
+        ),
+    ];
+    for (failing, status, stamp, lines) in runs {
+        let mut spool = folder(rt.alloc(), &files)?;
+        assert_said(
+            &rt,
+            rt.alloc(),
+            failing,
+            &mut spool,
+            (status, Some(stamp)),
+            lines,
+        )?;
+    }
+    Ok(())
 }

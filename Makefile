@@ -2,13 +2,17 @@
 # make test       runs the merge gate and the repository's own checks
 # make checks     runs those of the own checks that use the built program
 # make limits     runs into the limits that take minutes to reach
+# make memory     runs the program with each allocation failing in turn
+# make fuzz       runs it on inputs that were changed at random, for MINUTES=1 or another number
 # make bench      measures how fast the program is
+# make hostile    measures what the slowest inputs cost
 # make install    puts the program into PREFIX/bin and its manual page into PREFIX/share/man/man1;
 #                 both under DESTDIR, where it is given
 # make clean      takes away all that was built
 PREFIX ?= /usr/local
+MINUTES ?= 1
 
-.PHONY: build test checks limits bench install clean
+.PHONY: build test checks limits memory fuzz bench hostile install clean
 build:
 	sh ./build
 
@@ -31,6 +35,12 @@ checks: build
 limits: build
 	bash checks/limits
 
+memory: build
+	checks/memory
+
+fuzz: build
+	fuzz/fuzz -m $(MINUTES)
+
 bench: build
 	bash bench/frames
 	bash bench/check
@@ -40,6 +50,9 @@ bench: build
 	bash bench/serve
 	python3 bench/rows
 	bash bench/keeper
+
+hostile: build
+	bash bench/hostile
 
 install: build
 	install -d "$(DESTDIR)$(PREFIX)/bin"

@@ -1,6 +1,7 @@
 pub mod PolicyLaws
 pub mod OneEdit
 pub mod After
+pub mod Halves
 pub mod LeastEnds
 pub mod Loops
 pub mod Planned

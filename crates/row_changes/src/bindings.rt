@@ -14,8 +14,11 @@ use sorted_rows::{SortedRows, Steps};
 use std::alloc::Global;
 use std::sync::ledger::Ledger;
 
-/// Plans that these bindings come, or that they go.
-fn plan_bindings<L: Ledger>(
+/// From this number of bindings on, each half of them is planned by itself.
+const MANY: usize = 16;
+
+/// Adds the edit of each of these bindings, which come or go, to those that are planned.
+fn plan_each<L: Ledger>(
     bindings: &BindingShelves,
     changed: &[Binding],
     comes: bool,
@@ -33,6 +36,32 @@ fn plan_bindings<L: Ledger>(
     Ok(())
 }
 
+/// The edits by which these bindings come, or go. Those of each half are planned by themselves and
+/// then put together in one pass over both, so bindings in another order than that of their places
+/// don't each move the edits of all others.
+fn plan_bindings<L: Ledger>(
+    alloc: Global,
+    bindings: &BindingShelves,
+    changed: &[Binding],
+    comes: bool,
+    steps: &mut Steps<L>,
+) -> Result<SortedRows<Edit<Binding>>, Memory>
+    ensures ok { IfOk result (λ edits. edits.rows ≡ set_rows (edit_place binding_place) (map (binding_edit bindings.now.rows comes) changed.now) []) }
+    ensures least { steps.old ≤ steps.new }
+    ensures most { (b : ℕ) → length bindings.now.rows < 2 ^ b → steps.new ≤ steps.old + length changed.now * b }
+{
+    if changed.len() < MANY {
+        let mut edits = SortedRows::new(alloc);
+        plan_each(bindings, changed, comes, &mut edits, steps)?;
+        return Ok(edits);
+    }
+    let (front, behind) = changed.split_at(changed.len() / 2);
+    let mut edits = plan_bindings(alloc, bindings, front, comes, steps)?;
+    let more = plan_bindings(alloc, bindings, behind, comes, steps)?;
+    edits.put_sorted(more)?;
+    Ok(edits)
+}
+
 /// The edits by which these bindings go, and those come.
 pub fn edits_of<L: Ledger>(
     alloc: Global,
@@ -46,8 +75,8 @@ pub fn edits_of<L: Ledger>(
     ensures most { (b : ℕ) → length bindings.now.rows < 2 ^ b → steps.new ≤ steps.old + (length gone.now + length come.now) * b }
 {
     bindings.tell_order();
-    let mut edits = SortedRows::new(alloc);
-    plan_bindings(bindings, gone, false, &mut edits, steps)?;
-    plan_bindings(bindings, come, true, &mut edits, steps)?;
+    let mut edits = plan_bindings(alloc, bindings, gone, false, steps)?;
+    let more = plan_bindings(alloc, bindings, come, true, steps)?;
+    edits.put_sorted(more)?;
     Ok(edits)
 }

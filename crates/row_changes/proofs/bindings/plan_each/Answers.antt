@@ -6,7 +6,7 @@ use Rattle.row_edits.specs.declared.edit.Edit.{Edit}
 use Rattle.row_edits.specs.Edits.{edit_place}
 use Rattle.row_changes.specs.Bindings.{binding_edit}
 use Rattle.row_changes.proofs.BindingEdits.{next_edit, one_planned}
-use Rattle.row_changes.proofs.bindings.plan_bindings.Goals as goal
+use Rattle.row_changes.proofs.bindings.plan_each.Goals as goal
 
 pub loop-binding-preserved : goal.loop-binding-preserved
 loop-binding-preserved g c =

@@ -3,7 +3,7 @@ use Rattle.sorted_rows.specs.Placed.{set_rows}
 use Rattle.acl_model.specs.Places.{binding_place}
 use Rattle.row_edits.specs.Edits.{edit_place}
 use Rattle.row_changes.specs.Bindings.{binding_edit}
-use Rattle.row_changes.proofs.bindings.plan_bindings.Given as goal
+use Rattle.row_changes.proofs.bindings.plan_each.Given as goal
 
 abbrev pub invariant-loop-binding : goal.invariant-loop-binding
 invariant-loop-binding g l = record {

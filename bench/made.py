@@ -9,7 +9,7 @@
                             the last one is the Thing's address.
   made.py replay FOLDER     FOLDER/small.requests has 200,000 requests behind those that make a Thing:
                             by turns a packet and the observation of a name; FOLDER/things.requests
-                            makes 512 Things, and FOLDER/listings.requests lists them 20,000 times.
+                            makes 512 Things, and FOLDER/listings.requests lists them 200,000 times.
   made.py keeper FOLDER COUNT
                             FOLDER/requests has so many observations of 64 names, each of which changes
                             the tables. FOLDER/statements has for sqlite3 the table of items and the
@@ -211,7 +211,7 @@ def make_replay(folder):
             lease = stated(mac=mac_of(thing).hex(":"), address=where, seconds=86400)
             requests.write(request("POST", "/leases", MOMENT, lease))
     with open(f"{folder}/listings.requests", "wb") as requests:
-        for _ in range(20000):
+        for _ in range(200000):
             requests.write(request("GET", "/things", MOMENT))
 
 

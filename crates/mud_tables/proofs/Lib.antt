@@ -19,3 +19,4 @@ pub mod ReadLaws
 pub mod TakenLaws
 mod TakenExamples
 mod SamePrefixes
+pub mod MacOrder

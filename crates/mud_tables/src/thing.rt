@@ -1,8 +1,26 @@
 //! Things and their leases.
+ghost use Rattle.std.specs.Prelude.{◌≡◌};
+ghost use Rattle.sorted_rows.specs.Placed.{place_cmp};
+
 use mud_base::{Addr, End, Listed, Mac};
 use mud_url::MudUrl;
 use sorted_rows::{KeyOf, Placed};
 use std::cmp::Ordering;
+
+/// How two hardware addresses stand to one another: the first octet that differs decides. It stops
+/// there, so it takes a small part of the time of a comparison of slices.
+fn mac_order(own: &Mac, other: &Mac) -> Ordering
+    ensures { result ≡ place_cmp own.now.0 other.now.0 }
+{
+    let mut n = 0;
+    while n < own.0.len() {
+        if own.0[n] != other.0[n] {
+            return own.0[n].cmp(&other.0[n]);
+        }
+        n += 1;
+    }
+    Ordering::Equal
+}
 
 /// A Thing (RFC 8520, 1.3): a device that announced a MUD URL. It is known by its hardware address.
 #[derive(Drop, Debug)]
@@ -28,7 +46,7 @@ impl Placed for Thing {
 
     #[tactic(auto, unfolding(crate::specs::Things::mac_of))]
     fn order(&self, other: &Thing) -> Ordering {
-        self.mac.0.as_slice().cmp(other.mac.0.as_slice())
+        mac_order(&self.mac, &other.mac)
     }
 }
 
@@ -40,6 +58,6 @@ impl KeyOf<Thing> for Mac {
 
     #[tactic(auto, unfolding(crate::specs::Things::mac_of))]
     fn order_to(&self, thing: &Thing) -> Ordering {
-        self.0.as_slice().cmp(thing.mac.0.as_slice())
+        mac_order(self, &thing.mac)
     }
 }

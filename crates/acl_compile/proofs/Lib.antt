@@ -1,4 +1,6 @@
 pub mod CompiledLaws
+pub mod PlaceLaws
 pub mod PlanLaws
 pub mod SlotLaws
+mod TextOrder
 mod Examples

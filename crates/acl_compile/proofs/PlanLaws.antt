@@ -21,6 +21,8 @@ use Rattle.row_changes.specs.Policies.{AllHeld}
 use Rattle.row_changes.specs.Steps.{HolderFits, HaveKeys, place_steps}
 use Rattle.acl_compile.specs.Compiled.{CompiledState, compiled_state, UrlsApart, IsSound}
 use Rattle.acl_compile.specs.Plans.{Plan, slots_with, slots_after, bindings_after, Fits, IsMemberPlan}
+use Rattle.acl_compile.specs.declared.places.UrlPlace.{UrlPlace}
+use Rattle.acl_compile.specs.Places.{ArePlacesOf, IsSoundWithPlaces}
 
 -- ---- Steps
 
@@ -56,9 +58,9 @@ member_most slots bindings rows gone come start middle end first second s b k ke
 pub member_plan : (gone come : List Binding) (slots : Slots) (bindings : KeptBindings) (rows : Shelves) (row_edits : List (Edit Row)) (binding_edits : List (Edit Binding))
     → length slots ≤ 128 → UrlsApart slots → IsPatch slots bindings.rows slots (replaced gone come bindings.rows) row_edits → AreEditsOf gone come bindings.rows binding_edits
     → HasRoom row_edits rows.room → HasRoomByKey binding_edits bindings.room
-    → (room : ℕ) → IsMemberPlan gone come (compiled_state slots bindings rows room) (record { rows = row_edits; bindings = binding_edits; slot = None })
+    → (room place_room : ℕ) → IsMemberPlan gone come (compiled_state slots bindings rows room place_room) (record { rows = row_edits; bindings = binding_edits; slot = None })
 unfolding slots_after slots_with bindings_after
-member_plan gone come slots bindings rows row_edits binding_edits few apart patch edits row_room binding_room room = record {
+member_plan gone come slots bindings rows row_edits binding_edits few apart patch edits row_room binding_room room place_room = record {
   fits = record {
     patch = subst (λ (bs : List Binding). IsPatch slots bindings.rows slots bs row_edits) (sym edits.made) patch;
     found = edits.found;
@@ -67,6 +69,7 @@ member_plan gone come slots bindings rows row_edits binding_edits few apart patc
     row_room = row_room;
     binding_room = binding_room;
     slot_room = tt;
+    place_room = tt;
   };
   slots = refl;
   bindings = edits.made;
@@ -75,8 +78,8 @@ member_plan gone come slots bindings rows row_edits binding_edits few apart patc
 
 -- ---- A commit
 
-pub record IsCommitted (c : CompiledState) (plan : Plan) (slots : Slots) (bindings : List Binding) (rows : List Row) (defaults : Policy) : Type 0 where
-  pub sound : IsSound slots bindings rows defaults
+pub record IsCommitted (c : CompiledState) (plan : Plan) (slots : Slots) (bindings : List Binding) (rows : List Row) (defaults : Policy) (places : List UrlPlace) : Type 0 where
+  pub sound : IsSoundWithPlaces slots bindings rows defaults places
   pub slots_are : slots ≡ slots_after plan c
   pub bindings_are : bindings ≡ bindings_after plan c
   pub rows_are : rows ≡ rows_of slots bindings
@@ -85,18 +88,21 @@ pub record IsCommitted (c : CompiledState) (plan : Plan) (slots : Slots) (bindin
 pub found_rows : (c : CompiledState) (plan : Plan) → Fits plan c → c.rows ≡ rows_of c.slots c.bindings → AreFoundBeside c.rows plan.rows
 found_rows c plan fits kept = subst (λ (rows : List Row). AreFoundBeside rows plan.rows) (sym kept) fits.patch.found
 
-pub committed : (c : CompiledState) (plan : Plan) (slots : Slots) (bindings : List Binding) (rows : List Row) (defaults : Policy) → Fits plan c → IsSound c.slots c.bindings c.rows defaults
-    → slots ≡ slots_with plan.slot c.slots → bindings ≡ edited binding_place plan.bindings c.bindings → rows ≡ edited row_place plan.rows c.rows → IsCommitted c plan slots bindings rows defaults
+pub committed : (c : CompiledState) (plan : Plan) (slots : Slots) (bindings : List Binding) (rows : List Row) (defaults : Policy) (places : List UrlPlace) → Fits plan c → IsSound c.slots c.bindings c.rows defaults
+    → slots ≡ slots_with plan.slot c.slots → bindings ≡ edited binding_place plan.bindings c.bindings → rows ≡ edited row_place plan.rows c.rows → ArePlacesOf slots places → IsCommitted c plan slots bindings rows defaults places
 unfolding slots_after bindings_after
-committed c plan slots bindings rows defaults fits sound slots_are bindings_are rows_are =
+committed c plan slots bindings rows defaults places fits sound slots_are bindings_are rows_are places_are =
     let anew : rows ≡ rows_of (slots_after plan c) (bindings_after plan c) = rows_are ∙ ap (edited row_place plan.rows) sound.rows_are ∙ patched c.slots c.bindings (slots_after plan c) (bindings_after plan c) plan.rows fits.patch in
     let same : rows_of (slots_after plan c) (bindings_after plan c) ≡ rows_of slots bindings = (λ i. rows_of (sym slots_are i) (sym bindings_are i)) in
     record {
       sound = record {
-        rows_are = anew ∙ same;
-        few = subst (λ (xs : Slots). length xs ≤ 128) (sym slots_are) fits.few;
-        apart = subst UrlsApart (sym slots_are) fits.apart;
-        defaults_are = sound.defaults_are;
+        sound = record {
+          rows_are = anew ∙ same;
+          few = subst (λ (xs : Slots). length xs ≤ 128) (sym slots_are) fits.few;
+          apart = subst UrlsApart (sym slots_are) fits.apart;
+          defaults_are = sound.defaults_are;
+        };
+        places_are = places_are;
       };
       slots_are = slots_are;
       bindings_are = bindings_are;

@@ -2,7 +2,7 @@
 use Rattle.std.proofs.Common.{◌≡◌, ℕ, zero, suc, ◌+◌, ◌*◌, ◌^◌, ◌<◌, ◌≤◌, ◌⊎◌, inl, inr, Bool, true, false, cond, ◌&&◌, List, [], ◌∷◌, ◌++◌, map, length, drop, get_or, Option, Some, None, refl, sym, ap, subst, ◌∙◌, arith, length-append}
 use Rattle.std.specs.Prelude.{◌≢◌, bytes_eq, nat_eq, not, filter, flat_map, nat_lt, slice_set}
 use Rattle.std.specs.Option.{option_map, option_and_then, is_some}
-use Rattle.std.specs.List.{slice_get}
+use Rattle.std.specs.List.{slice_get, AllByRecursion}
 use Rattle.std.proofs.Math.Seq.{drop-cons}
 use Rattle.std.proofs.lemmas.List.{drop_all}
 use Rattle.std.proofs.lemmas.Bool.{false≢true, eqb-true, and_parts}
@@ -27,9 +27,9 @@ use Rattle.acl_rows.specs.Rows.{held_end}
 use Rattle.acl_rows.specs.Places.{owner_class, owner_number, owner_place, side_place, peer_place, place_at, row_place}
 use Rattle.acl_rows.proofs.AtPlaces.{ascend-rows_of}
 use Rattle.acl_patch.specs.Patch.{end_for}
-use Rattle.sorted_rows.specs.Placed.{is_under}
-use Rattle.row_shelves.proofs.Beside.{kept}
-use Rattle.row_changes.proofs.PolicyRows.{own_row, end_was}
+use Rattle.sorted_rows.specs.Placed.{row_at, is_under}
+use Rattle.row_changes.proofs.Groups.{all_kept, each_there}
+use Rattle.row_changes.proofs.PolicyRows.{end_was}
 use Rattle.row_changes.specs.Policies.{url_policy}
 use Rattle.acl_compile.specs.Compiled.{UrlsApart, compiled_state}
 use Rattle.row_changes.specs.Fresh.{policy_count}
@@ -118,6 +118,9 @@ slot_change slots i new le =
     let set : IsSet slots (slot_set (i, new) slots) i new = is_set slots i new le in
     record { here = ap slot_policy set.same; others = λ j apart. ap slot_policy (set.other j apart) }
 
+pub slot_within : (slots : Slots) (i : ℕ) (new : Option UrlPolicy) → i ≤ length slots → i < length (slot_set (i, new) slots)
+slot_within slots i new le = slice_get_within (slot_set (i, new) slots) i new (is_set slots i new le).same
+
 pub slot_count : (slots : Slots) (i : ℕ) (new : Option UrlPolicy) → i ≤ length slots → length slots ≤ 128 → i < 128 → length (slot_set (i, new) slots) ≤ 128
 slot_count slots i new le few lt = by (ltb_tells i (length slots))
   where
@@ -185,7 +188,7 @@ none_at url n (None ∷ slots) is zero h at = absurd (none-some h (same_Some Non
 none_at url n (None ∷ slots) is (suc j) h at = none_at url (n + 1) slots is j h at
 none_at url n (Some held ∷ slots) is j h at = none_by url n held slots (none_at url (n + 1) slots) (bytes_eq held.url url) refl is j h at
 
-Url_same : (m n : ℕ) → Url m ≡ Url n → m ≡ n
+pub Url_same : (m n : ℕ) → Url m ≡ Url n → m ≡ n
 Url_same m n e = cc
 
 unique_by : (url : List ℕ) (slots : Slots) (j : ℕ) (h : UrlPolicy) → UrlsApart slots → held_by slots (Url j) ≡ Some h → bytes_eq h.url url ≡ true → (o : Option Holder) → holder_from url 0 slots ≡ o → o ≡ Some (Url j, h)
@@ -244,6 +247,64 @@ place_free url slots i few none le free full = record {
     count others (inl lt) = omega (arith, lt.1, few)
     count others (inr past) = omega (arith, past.1, le, others, all_others url slots (λ j slot at. other_slot url slots none slot j at (full j slot (omega (arith, past.1, slice_get_within slots j slot at)) at)))
 
+-- ---- Other URLs than that of a place
+
+abbrev Tells : ℕ → ℕ → Type 0
+Tells j i = ((nat_eq j i ≡ true) × (j ≡ i)) ⊎ ((nat_eq j i ≡ false) × (j ≢ i))
+
+-- whether this is a policy of the URL
+abbrev pub is_own : List ℕ → Option UrlPolicy → Bool
+is_own url None = false
+is_own url (Some held) = bytes_eq held.url url
+
+module _ (slots slots' : Slots) (i : ℕ) (new : Option UrlPolicy) (change : IsSlotChange slots slots' i new) (apart : UrlsApart slots') (u : List ℕ) where
+  -- what is found in the changed place is what was put there
+  found_new : (g : Holder) (found : FoundAt u 0 slots' g) → found.place ≡ i → is_own u new ≡ true
+  found_new g found at =
+      ap (is_own u) (sym change.here ∙ ap (λ (m : ℕ). held_by slots' (Url m)) (sym at) ∙ held_there slots' found.place g.1 found.at) ∙ found.has_url
+
+  -- what is found elsewhere was there
+  found_old : (g : Holder) (found : FoundAt u 0 slots' g) → found.place ≢ i → held_by slots (Url found.place) ≡ Some g.1
+  found_old g found off = sym (change.others found.place off) ∙ held_there slots' found.place g.1 found.at
+
+  module _ (not_new : is_own u new ≡ false) where
+    module _ (not_old : is_own u (held_by slots (Url i)) ≡ false) where
+      stays_at : (g : Holder) (found : FoundAt u 0 slots g) → Tells found.place i → holder_from u 0 slots' ≡ Some g
+      stays_at g found (inl at) =
+          let holds : held_by slots (Url i) ≡ Some g.1 = ap (λ (m : ℕ). held_by slots (Url m)) (sym at.1) ∙ held_there slots found.place g.1 found.at in
+          absurd (false≢true (sym not_old ∙ ap (is_own u) holds ∙ found.has_url))
+      stays_at g found (inr off) =
+          let from_zero : found.place ≡ 0 + found.place = omega arith in
+          unique u slots' found.place g.1 apart (change.others found.place off.1 ∙ held_there slots found.place g.1 found.at) found.has_url
+          ∙ ap Some (λ j. ((ap Url from_zero ∙ sym found.owner) j, g.1))
+
+      not_come : holder_from u 0 slots ≡ None → (g : Holder) (found : FoundAt u 0 slots' g) → Tells found.place i → ⊥
+      not_come none g found (inl at) = false≢true (sym not_new ∙ found_new g found at.1)
+      not_come none g found (inr off) = false≢true (sym (none_at u 0 slots none found.place g.1 (there slots found.place g.1 (found_old g found off.1))) ∙ found.has_url)
+
+      stays_by : (o w : Option Holder) → holder_from u 0 slots ≡ o → holder_from u 0 slots' ≡ w → w ≡ o
+      stays_by None None is is' = refl
+      stays_by None (Some g) is is' = let found : FoundAt u 0 slots' g = found_at u 0 slots' g is' in absurd (not_come is g found (eqb_tells found.place i))
+      stays_by (Some g) w is is' = let found : FoundAt u 0 slots g = found_at u 0 slots g is in sym is' ∙ stays_at g found (eqb_tells found.place i)
+
+    -- where the policy that goes and the one that comes are of other URLs, the same is found
+    pub holder_stays : is_own u (held_by slots (Url i)) ≡ false → holder_from u 0 slots' ≡ holder_from u 0 slots
+    holder_stays not_old = stays_by not_old (holder_from u 0 slots) (holder_from u 0 slots') refl refl
+
+    module _ (apart_before : UrlsApart slots) (h : UrlPolicy) (held : held_by slots (Url i) ≡ Some h) (own : bytes_eq h.url u ≡ true) where
+      not_left : (g : Holder) (found : FoundAt u 0 slots' g) → Tells found.place i → ⊥
+      not_left g found (inl at) = false≢true (sym not_new ∙ found_new g found at.1)
+      not_left g found (inr off) =
+          off.1 (apart_before found.place i g.1 h (found_old g found off.1) held (same_place_exact g.1.url u found.has_url ∙ sym (same_place_exact h.url u own)))
+
+      gone_by : (o : Option Holder) → holder_from u 0 slots' ≡ o → o ≡ None
+      gone_by None is = refl
+      gone_by (Some g) is = let found : FoundAt u 0 slots' g = found_at u 0 slots' g is in absurd (not_left g found (eqb_tells found.place i))
+
+      -- where the policy that goes is of the URL and the one that comes isn't, none is found
+      pub holder_gone : holder_from u 0 slots' ≡ None
+      holder_gone = gone_by (holder_from u 0 slots') refl
+
 -- ---- After the change
 
 held_url : (url : List ℕ) (policy : Option Policy) (h : UrlPolicy) → held_for url policy ≡ Some h → h.url ≡ url
@@ -258,9 +319,6 @@ no_policy url h is = none-some h is
 some_policy : (url : List ℕ) (p : Policy) → held_for url (Some p) ≡ Some (url_policy url p)
 unfolding held_for
 some_policy url p = refl
-
-abbrev Tells : ℕ → ℕ → Type 0
-Tells j i = ((nat_eq j i ≡ true) × (j ≡ i)) ⊎ ((nat_eq j i ≡ false) × (j ≢ i))
 
 module _ (url : List ℕ) (policy : Option Policy) (slots : Slots) (i : ℕ) (slots' : Slots) (place : IsPlaceFor url slots i) (change : IsSlotChange slots slots' i (held_for url policy)) (apart : UrlsApart slots) where
   new_url : (j : ℕ) (h : UrlPolicy) → j ≡ i → held_by slots' (Url j) ≡ Some h → h.url ≡ url
@@ -300,30 +358,15 @@ module _ (url : List ℕ) (policy : Option Policy) (slots : Slots) (i : ℕ) (sl
   -- ---- Other URLs
 
   module _ (u : List ℕ) (other : bytes_eq url u ≡ false) where
-    not_both : (v : List ℕ) → v ≡ url → v ≡ u → ⊥
-    not_both v is is' = false≢true (sym other ∙ ap (λ (x : List ℕ). bytes_eq x u) (sym is ∙ is') ∙ same_place_itself u)
-
-    kept_by : (g : Holder) (found : FoundAt u 0 slots g) → Tells found.place i → holder_from u 0 slots' ≡ Some g
-    kept_by g found (inl at) =
-        let holds : held_by slots (Url i) ≡ Some g.1 = ap (λ (m : ℕ). held_by slots (Url m)) (sym at.1) ∙ held_there slots found.place g.1 found.at in
-        absurd (not_both g.1.url (same_place_exact g.1.url url (place.own g.1 holds)) (same_place_exact g.1.url u found.has_url))
-    kept_by g found (inr off) =
-        let from_zero : found.place ≡ 0 + found.place = omega arith in
-        unique u slots' found.place g.1 apart_after (change.others found.place off.1 ∙ held_there slots found.place g.1 found.at) found.has_url
-        ∙ ap Some (λ j. ((ap Url from_zero ∙ sym found.owner) j, g.1))
-
-    new_by : holder_from u 0 slots ≡ None → (g : Holder) (found : FoundAt u 0 slots' g) → Tells found.place i → ⊥
-    new_by none g found (inl at) = not_both g.1.url (new_url found.place g.1 at.1 (held_there slots' found.place g.1 found.at)) (same_place_exact g.1.url u found.has_url)
-    new_by none g found (inr off) =
-        false≢true (sym (none_at u 0 slots none found.place g.1 (there slots found.place g.1 (sym (change.others found.place off.1) ∙ held_there slots' found.place g.1 found.at))) ∙ found.has_url)
-
-    same_by : (o w : Option Holder) → holder_from u 0 slots ≡ o → holder_from u 0 slots' ≡ w → w ≡ o
-    same_by None None is is' = refl
-    same_by None (Some g) is is' = let found : FoundAt u 0 slots' g = found_at u 0 slots' g is' in absurd (new_by is g found (eqb_tells found.place i))
-    same_by (Some g) w is is' = let found : FoundAt u 0 slots g = found_at u 0 slots g is in sym is' ∙ kept_by g found (eqb_tells found.place i)
+    other_there : (o : Option UrlPolicy) → ((h : UrlPolicy) → o ≡ Some h → h.url ≡ url) → is_own u o ≡ false
+    other_there None own = refl
+    other_there (Some h) own = ap (λ (x : List ℕ). bytes_eq x u) (own h refl) ∙ other
 
     holder_same : holder_from u 0 slots' ≡ holder_from u 0 slots
-    holder_same = same_by (holder_from u 0 slots) (holder_from u 0 slots') refl refl
+    holder_same =
+        holder_stays slots slots' i (held_for url policy) change apart_after u
+        (other_there (held_for url policy) (held_url url policy))
+        (other_there (held_by slots (Url i)) (λ h is. same_place_exact h.url url (place.own h is)))
 
     pub policy_same : policy_held slots' u ≡ policy_held slots u
     unfolding policy_held
@@ -363,9 +406,9 @@ module _ (url : List ℕ) (policy : Option Policy) (slots : Slots) (i : ℕ) (sl
 
 -- ---- The rows of the place
 
-none_at_first : {R : Type 0} (xs : List R) → ((x : R) → slice_get xs 0 ≡ Some x → ⊥) → xs ≡ []
-none_at_first [] none = refl
-none_at_first (x ∷ xs) none = absurd (none x refl)
+none_kept : {R : Type 0} (xs : List R) → AllByRecursion (λ x. ⊥) xs → xs ≡ []
+none_kept [] none = refl
+none_kept (x ∷ xs) none = absurd none.0
 
 url_owner_by : (i : ℕ) (o : Owner) → (nat_eq 1 (owner_class o) && (nat_eq i (owner_number o) && true)) ≡ true → o ≡ Url i
 unfolding owner_class owner_number
@@ -383,8 +426,10 @@ no_end slots bindings i none r own = ap (option_and_then (held_end bindings r.si
 free_rows : (slots : Slots) (bindings : List Binding) (i : ℕ) → held_by slots (Url i) ≡ None → owner_rows (Url i) (rows_of slots bindings) ≡ []
 unfolding owner_rows
 free_rows slots bindings i none =
-    none_at_first (filter (is_under row_place (owner_place (Url i))) (rows_of slots bindings))
-    (λ r at. none-some r.until (sym (no_end slots bindings i none r (owner_is i r (kept (is_under row_place (owner_place (Url i))) (rows_of slots bindings) 0 r at))) ∙ end_was slots bindings r (own_row row_place (is_under row_place (owner_place (Url i))) (rows_of slots bindings) 0 r (ascend-rows_of slots bindings) at)))
+    none_kept (filter (is_under row_place (owner_place (Url i))) (rows_of slots bindings))
+    (all_kept (is_under row_place (owner_place (Url i))) (λ r. row_at row_place (row_place r) (rows_of slots bindings) ≡ Some r) (λ r. ⊥)
+    (λ r under at. none-some r.until (sym (no_end slots bindings i none r (owner_is i r under)) ∙ end_was slots bindings r at))
+    (rows_of slots bindings) (each_there row_place (rows_of slots bindings) (ascend-rows_of slots bindings)))
 
 free_here : (url : List ℕ) (slots : Slots) (i : ℕ) → IsPlaceFor url slots i → holder_from url 0 slots ≡ None → (o : Option UrlPolicy) → held_by slots (Url i) ≡ o → o ≡ None
 free_here url slots i place none None is = refl
@@ -431,13 +476,13 @@ touch_count bindings o o' (Some held) =
 
 -- ---- The whole plan
 
-pub policy_plan : (url : List ℕ) (policy : Option Policy) (slots : Slots) (bindings : KeptBindings) (rows : Shelves) (room i : ℕ) (held : Option UrlPolicy) (edits : List (Edit Row)) (none : List (Edit Binding))
+pub policy_plan : (url : List ℕ) (policy : Option Policy) (slots : Slots) (bindings : KeptBindings) (rows : Shelves) (room place_room i : ℕ) (held : Option UrlPolicy) (edits : List (Edit Row)) (none : List (Edit Binding))
     → IsPlaceFor url slots i → length slots ≤ 128 → UrlsApart slots → others_held url slots < 128 → held ≡ held_for url policy → none ≡ []
     → ((new : Slots) → IsSlotChange slots new i held → IsPatch slots bindings.rows new bindings.rows edits)
-    → HasRoom edits rows.room → i < length slots + room
-    → IsPolicyPlan url policy (compiled_state slots bindings rows room) (record { rows = edits; bindings = none; slot = Some (i, held) })
+    → HasRoom edits rows.room → i < length slots + room → 1 ≤ place_room
+    → IsPolicyPlan url policy (compiled_state slots bindings rows room place_room) (record { rows = edits; bindings = none; slot = Some (i, held) })
 unfolding slots_after slots_with bindings_after edited
-policy_plan url policy slots bindings rows room i held edits none place few apart others held_is none_is patch row_room slot_room =
+policy_plan url policy slots bindings rows room place_room i held edits none place few apart others held_is none_is patch row_room slot_room one_more =
     let change : IsSlotChange slots (slot_set (i, held) slots) i held = slot_change slots i held place.within in
     let change' : IsSlotChange slots (slot_set (i, held) slots) i (held_for url policy) = subst (λ (x : Option UrlPolicy). IsSlotChange slots (slot_set (i, held) slots) i x) held_is change in
     let after : Slots = slot_set (i, held) slots in
@@ -451,6 +496,7 @@ policy_plan url policy slots bindings rows room i held edits none place few apar
         row_room = row_room;
         binding_room = subst (λ (es : List (Edit Binding)). HasRoomByKey es bindings.room) (sym none_is) (no_edits bindings.room);
         slot_room = (place.within, slot_room);
+        place_room = one_more;
       };
       here = policy_here url policy slots i after place change' apart;
       others = λ u other. policy_same url policy slots i after place change' apart u other;

@@ -8,19 +8,22 @@ use Rattle.acl_rows.specs.declared.row.Row.{Row}
 use Rattle.acl_model.specs.Defaults.{default_policy}
 use Rattle.acl_model.specs.Policies.{UrlPolicy}
 use Rattle.acl_rows.specs.declared.row.Owner.TheVariants.{Url}
+use Rattle.acl_rows.specs.ByAddress.{AddrRoom}
 use Rattle.acl_rows.specs.Rows.{Slots, held_by, rows_of}
 use Rattle.row_shelves.specs.Shelves.{Shelves}
 use Rattle.binding_shelves.specs.Shelves.{KeyRoom, KeptBindings}
 
 -- The policies in their places, the bindings and the rows; and how many more policies there is room for, how many more
--- bindings on the shelf of each key, and how many more rows on the shelf of each owner and side.
+-- places of URLs, how many more bindings on the shelf of each key, and how many more rows of each address on the shelf of
+-- each owner and side.
 pub record CompiledState : Type 0 where
   pub slots : Slots
   pub bindings : List Binding
   pub rows : List Row
   pub slot_room : ℕ
+  pub place_room : ℕ
   pub binding_room : List KeyRoom
-  pub row_room : List ℕ
+  pub row_room : List (List AddrRoom)
 
 -- the bindings stand in their order, and the rows are those of the policies and bindings
 pub record HasItsRows (c : CompiledState) : Type 0 where
@@ -38,5 +41,5 @@ pub record IsSound (slots : Slots) (bindings : List Binding) (rows : List Row) (
   pub apart : UrlsApart slots
   pub defaults_are : defaults ≡ default_policy
 
-abbrev pub compiled_state : Slots → KeptBindings → Shelves → ℕ → CompiledState
-compiled_state slots bindings rows room = record { slots = slots; bindings = bindings.rows; rows = rows.rows; slot_room = room; binding_room = bindings.room; row_room = rows.room }
+abbrev pub compiled_state : Slots → KeptBindings → Shelves → ℕ → ℕ → CompiledState
+compiled_state slots bindings rows slot_room place_room = record { slots = slots; bindings = bindings.rows; rows = rows.rows; slot_room = slot_room; place_room = place_room; binding_room = bindings.room; row_room = rows.room }

@@ -54,6 +54,11 @@ abbrev pub HasSlot : Option SlotChange → ℕ → ℕ → Type 0
 HasSlot None places room = Unit {0}
 HasSlot (Some s) places room = (s.0 ≤ places) × (s.0 < places + room)
 
+-- there is room for the place of one more URL
+abbrev pub HasPlace : Option SlotChange → ℕ → Type 0
+HasPlace None room = Unit {0}
+HasPlace (Some s) room = 1 ≤ room
+
 -- the plan was made for just this, and there is room for what it adds
 pub record Fits (plan : Plan) (c : CompiledState) : Type 0 where
   pub patch : IsPatch c.slots c.bindings (slots_after plan c) (bindings_after plan c) plan.rows
@@ -63,6 +68,7 @@ pub record Fits (plan : Plan) (c : CompiledState) : Type 0 where
   pub row_room : HasRoom plan.rows c.row_room
   pub binding_room : HasRoomByKey plan.bindings c.binding_room
   pub slot_room : HasSlot plan.slot (length c.slots) c.slot_room
+  pub place_room : HasPlace plan.slot c.place_room
 
 -- the policies, bindings and rows are the same; there may be more room
 pub record IsKept (old new : CompiledState) : Type 0 where

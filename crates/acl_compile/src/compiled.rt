@@ -8,26 +8,29 @@ ghost use Rattle.acl_compile.specs.Compiled.{HasItsRows};
 ghost use Rattle.acl_compile.specs.Plans.{Fits, slots_after, bindings_after, IsKept, IsMemberPlan, IsPolicyPlan, CanBeCounted, held_for, others_held, policy_reads, policy_steps};
 ghost use Rattle.row_changes.specs.Steps.{least_steps, HaveKeys, PolicyKeys, place_steps};
 
+use crate::places::{UrlPlace, find_held, set_place};
 use crate::plan::{RowPlan, others_in, plan_change, plan_slot, set_slot};
 use acl_model::{Binding, Policy};
 use acl_rows::{Owner, RuleView};
 use binding_shelves::BindingShelves;
 use mud_base::{Direction, Memory};
 use mud_url::MudUrl;
-use row_changes::{Held, HeldDefaults, find_held};
+use row_changes::{Held, HeldDefaults};
 use row_shelves::RowShelves;
-use sorted_rows::Steps;
+use sorted_rows::{SortedRows, Steps};
 use std::alloc::Global;
 use std::marker::Model;
 use std::sync::ledger::Ledger;
 
-/// The approved policies, each in its place of a table of at most 128, the bindings, those of each
-/// key by themselves, and the rows that follow from them, those of each policy and side by
-/// themselves. Contracts see these, and how much more there is room for.
+/// The approved policies, each in its place of a table of at most 128, which is found by its URL,
+/// the bindings, those of each key by themselves, and the rows that follow from them, those of each
+/// policy, side and address by themselves. Contracts see policies, bindings and rows, and how much
+/// more there is room for.
 #[derive(Drop)]
 pub struct Compiled {
     alloc: Global,
     slots: Vec<Option<Held>>,
+    places: SortedRows<UrlPlace>,
     defaults: HeldDefaults,
     bindings: BindingShelves,
     rows: RowShelves,
@@ -35,13 +38,14 @@ pub struct Compiled {
 
 impl Model for Compiled {
     ghost use Rattle.std.specs.Prelude.{◌-◌, vec_len, vec_capacity};
-    ghost use Rattle.acl_compile.specs.Compiled.{CompiledState, IsSound};
+    ghost use Rattle.acl_compile.specs.Compiled.{CompiledState};
+    ghost use Rattle.acl_compile.specs.Places.{IsSoundWithPlaces};
 
     ghost Value = { CompiledState };
 
-    ghost view = { λ c. record { slots = c.slots.items; bindings = c.bindings.rows; rows = c.rows.rows; slot_room = vec_capacity c.slots - vec_len c.slots; binding_room = c.bindings.room; row_room = c.rows.room } };
+    ghost view = { λ c. record { slots = c.slots.items; bindings = c.bindings.rows; rows = c.rows.rows; slot_room = vec_capacity c.slots - vec_len c.slots; place_room = c.places.room; binding_room = c.bindings.room; row_room = c.rows.room } };
 
-    ghost invariant = { λ c. IsSound c.slots.items c.bindings.rows c.rows.rows c.defaults };
+    ghost invariant = { λ c. IsSoundWithPlaces c.slots.items c.bindings.rows c.rows.rows c.defaults c.places.rows };
 }
 
 impl Compiled {
@@ -55,6 +59,7 @@ impl Compiled {
         Ok(Compiled {
             alloc,
             slots: Vec::new(alloc),
+            places: SortedRows::new(alloc),
             defaults,
             bindings: BindingShelves::new(alloc),
             rows: RowShelves::new(alloc),
@@ -75,7 +80,7 @@ impl Compiled {
         ensures kept { HasItsRows self.now }
     {
         self.bindings.tell_order();
-        let file = match find_held(self.slots.as_slice(), url) {
+        let file = match find_held(self.slots.as_slice(), &self.places, url) {
             None => None,
             Some((n, held)) => Some(held.policy().part(Owner::Url(n), side, &self.rows)),
         };
@@ -86,8 +91,8 @@ impl Compiled {
 
     /// Plans a change of bindings: these go and those come. What is kept stays as it is, whatever
     /// the answer. It reads the places that the change touches: for each binding that goes or comes
-    /// the entries that have its key, at its address. Each is looked for among the rows of its owner
-    /// and side, which is a step at least where there are any.
+    /// the entries that have its key, at its address. Each is looked for among the rows of its owner,
+    /// side and address, which is a step at least where there are any.
     pub fn plan_member<L: Ledger>(
         &mut self,
         gone: &[Binding],
@@ -133,6 +138,7 @@ impl Compiled {
         plan_slot(
             self.alloc,
             &mut self.slots,
+            &mut self.places,
             &self.bindings,
             &mut self.rows,
             url,
@@ -160,6 +166,7 @@ impl Compiled {
         self.rows.make_edits(rows, steps);
         self.bindings.make_edits(bindings, steps);
         if let Some((index, held)) = slot {
+            set_place(&mut self.places, self.slots.as_slice(), index, &held);
             set_slot(&mut self.slots, index, held);
         }
     }

@@ -4,6 +4,7 @@
 #![tactic(auto)]
 
 pub mod compiled;
+mod places;
 mod plan;
 
 pub use compiled::Compiled;

@@ -5,18 +5,18 @@ ghost use Rattle.acl_model.specs.Defaults.{default_policy};
 ghost use Rattle.acl_rows.specs.Rows.{rows_of};
 ghost use Rattle.acl_patch.specs.Touched.{touches};
 ghost use Rattle.acl_compile.specs.Compiled.{UrlsApart, compiled_state};
+ghost use Rattle.acl_compile.specs.Places.{ArePlacesOf};
 ghost use Rattle.acl_compile.specs.Plans as spec;
 ghost use Rattle.acl_compile.specs.Plans.{slot_set, IsMemberPlan, IsPolicyPlan, IsPlaceFor, CanBeCounted, held_for, others_held, policy_reads, policy_steps};
 ghost use Rattle.row_changes.specs.Steps.{least_steps, HaveKeys, PolicyKeys, place_steps};
 
+use crate::places::{UrlPlace, find_held};
 use acl_model::{Binding, Policy};
 use acl_rows::Row;
 use binding_shelves::BindingShelves;
 use mud_base::Memory;
 use mud_url::MudUrl;
-use row_changes::{
-    Change, CompiledPolicy, Held, HeldDefaults, Holding, edits_of, find_held, slot_rows,
-};
+use row_changes::{Change, CompiledPolicy, Held, HeldDefaults, Holding, edits_of, slot_rows};
 use row_edits::Edit;
 use row_shelves::RowShelves;
 use sorted_rows::{SortedRows, Steps};
@@ -72,7 +72,7 @@ pub(crate) fn plan_change<L: Ledger>(
     requires kept { rows.old.rows ≡ rows_of slots.now bindings.old.rows }
     ensures bindings { bindings.new.rows ≡ bindings.old.rows }
     ensures rows { rows.new.rows ≡ rows.old.rows }
-    ensures ok { IfOk result (λ plan. (room : ℕ) → IsMemberPlan gone.now come.now (compiled_state slots.now bindings.new rows.new room) plan) }
+    ensures ok { IfOk result (λ plan. (room place_room : ℕ) → IsMemberPlan gone.now come.now (compiled_state slots.now bindings.new rows.new room place_room) plan) }
     ensures read { OnOk result (steps.old + least_steps rows.old.rows (touches slots.now (gone.now ++ come.now)) ≤ steps.new) }
     ensures most { (s b k : ℕ) → HaveKeys s slots.now → length bindings.old.rows + length come.now < 2 ^ b → length rows.old.rows < 2 ^ k
         → steps.new ≤ steps.old + (length gone.now + length come.now + length (touches slots.now (gone.now ++ come.now))) * place_steps s b k }
@@ -132,12 +132,13 @@ fn free_place(slots: &[Option<Held>]) -> usize
 }
 
 /// The place of a URL: the one in which its policy is held, or else a free one.
-fn place_for(slots: &[Option<Held>], url: &MudUrl) -> usize
+fn place_for(slots: &[Option<Held>], places: &SortedRows<UrlPlace>, url: &MudUrl) -> usize
     requires few { length slots.now ≤ 128 }
     requires apart { UrlsApart slots.now }
+    requires places { ArePlacesOf slots.now places.now.rows }
     ensures { IsPlaceFor url.now slots.now result }
 {
-    match find_held(slots, url) {
+    match find_held(slots, places, url) {
         Some((place, _)) => usize::from(place),
         None => free_place(slots),
     }
@@ -162,6 +163,7 @@ fn held_policy(alloc: Global, url: &MudUrl, policy: Option<&Policy>) -> Result<O
 pub(crate) fn plan_slot<L: Ledger>(
     alloc: Global,
     slots: &mut Vec<Option<Held>>,
+    places: &mut SortedRows<UrlPlace>,
     bindings: &BindingShelves,
     rows: &mut RowShelves,
     url: &MudUrl,
@@ -170,17 +172,19 @@ pub(crate) fn plan_slot<L: Ledger>(
 ) -> Result<RowPlan, Memory>
     requires few { length slots.old.items ≤ 128 }
     requires apart { UrlsApart slots.old.items }
+    requires places { ArePlacesOf slots.old.items places.old.rows }
     requires kept { rows.old.rows ≡ rows_of slots.old.items bindings.now.rows }
     requires others { others_held url.now slots.old.items < 128 }
     requires lists { CanBeCounted (option_copied policy) }
     ensures slots { slots.new.items ≡ slots.old.items }
+    ensures places { places.new.rows ≡ places.old.rows }
     ensures rows { rows.new.rows ≡ rows.old.rows }
-    ensures ok { IfOk result (λ plan. IsPolicyPlan url.now (option_copied policy.entry) (compiled_state slots.new.items bindings.now rows.new (vec_capacity slots.new - vec_len slots.new)) plan) }
+    ensures ok { IfOk result (λ plan. IsPolicyPlan url.now (option_copied policy.entry) (compiled_state slots.new.items bindings.now rows.new (vec_capacity slots.new - vec_len slots.new) places.new.room) plan) }
     ensures read { OnOk result (steps.old + policy_reads url.now (option_copied policy.entry) slots.old.items bindings.now.rows rows.old.rows ≤ steps.new) }
     ensures most { (s b k : ℕ) → HaveKeys s slots.old.items → PolicyKeys s (held_for url.now (option_copied policy.entry)) → length bindings.now.rows < 2 ^ b → length rows.old.rows < 2 ^ k
         → steps.new ≤ steps.old + policy_steps url.now (option_copied policy.entry) slots.old.items bindings.now.rows rows.old.rows s b k }
 {
-    let place = place_for(slots.as_slice(), url);
+    let place = place_for(slots.as_slice(), places, url);
     let held = held_policy(alloc, url, policy)?;
     let edits = slot_rows(
         alloc,
@@ -192,6 +196,7 @@ pub(crate) fn plan_slot<L: Ledger>(
         steps,
     )?;
     slots.reserve(1)?;
+    places.reserve(1)?;
     rows.make_room(alloc, &edits)?;
     Ok(RowPlan {
         rows: edits,

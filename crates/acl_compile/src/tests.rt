@@ -4,7 +4,7 @@ ghost use Rattle.std.specs.Prelude.{◌≡◌, ◌<◌};
 
 use super::*;
 use acl_model::{Binding, DefaultRule, Entry, MemberKey, Policy, Selector, default_entry};
-use acl_rows::{Owner, Row};
+use acl_rows::{Owner, PackedAddr, Row};
 use mud_base::{Addr, Bytes, Direction, End, Listed, Memory};
 use mud_url::{MudUrl, mud_url};
 use sorted_rows::Steps;
@@ -67,7 +67,7 @@ fn row(place: u16, entry: u16) -> Row {
     Row {
         owner: Owner::Url(place),
         side: Direction::From,
-        addr: BULB,
+        addr: PackedAddr::new(BULB),
         entry,
         until: LEASED,
     }

@@ -14,11 +14,12 @@ use Rattle.acl_model.specs.Places.{binding_place}
 use Rattle.acl_model.specs.Changes.{replaced}
 use Rattle.row_edits.specs.declared.edit.Edit.{Edit}
 use Rattle.row_edits.specs.Edits.{edit_place}
-use Rattle.row_shelves.specs.Shelves.{index_beside, AreFoundBeside}
+use Rattle.row_shelves.specs.Shelves.{AreFoundBeside}
 use Rattle.acl_rows.specs.declared.row.Owner.{Owner}
 use Rattle.acl_rows.specs.declared.row.Row.{Row}
 use Rattle.acl_rows.specs.declared.row.RowKey.{RowKey}
 use Rattle.acl_rows.specs.Places.{place_at, row_place}
+use Rattle.acl_rows.specs.ByAddress.{index_beside}
 use Rattle.acl_rows.specs.Rows.{row, Slots, rows_of, end_at}
 use Rattle.acl_rows.proofs.Coordinates.{AreSame, same_coordinates}
 use Rattle.acl_patch.specs.Patch.{edit_end, end_for, IsPatch}
@@ -67,17 +68,17 @@ module _ (slots : Slots) (bindings : List Binding) (slots' : Slots) (bindings' :
   old_end t = key_end slots bindings t
 
   abbrev the_edit : RowKey → Edit Row
-  the_edit t = edit_of t (index_beside t.owner t.side (row_key_place t) (rows_of slots bindings)) (old_end t) (new_end t)
+  the_edit t = edit_of t (index_beside t.owner t.side t.addr (row_key_place t) (rows_of slots bindings)) (old_end t) (new_end t)
 
   says : (t : RowKey) → edit_end (the_edit t) ≡ end_for slots' bindings' (the_edit t).row
   unfolding end_for edit_of row key_end
-  says t = edit_of-end t (index_beside t.owner t.side (row_key_place t) (rows_of slots bindings)) (old_end t) (new_end t)
+  says t = edit_of-end t (index_beside t.owner t.side t.addr (row_key_place t) (rows_of slots bindings)) (old_end t) (new_end t)
 
   changes : (t : RowKey) → same_end (new_end t) (old_end t) ≡ false → edit_end (the_edit t) ≢ end_for slots bindings (the_edit t).row
   unfolding end_for edit_of row key_end
-  changes t e is = other_end (new_end t) (old_end t) e (sym (edit_of-end t (index_beside t.owner t.side (row_key_place t) (rows_of slots bindings)) (old_end t) (new_end t)) ∙ is)
+  changes t e is = other_end (new_end t) (old_end t) e (sym (edit_of-end t (index_beside t.owner t.side t.addr (row_key_place t) (rows_of slots bindings)) (old_end t) (new_end t)) ∙ is)
 
-  indexed : (t : RowKey) → (the_edit t).found ≡ index_beside (the_edit t).row.owner (the_edit t).row.side (row_place (the_edit t).row) (rows_of slots bindings)
+  indexed : (t : RowKey) → (the_edit t).found ≡ index_beside (the_edit t).row.owner (the_edit t).row.side (the_edit t).row.addr (row_place (the_edit t).row) (rows_of slots bindings)
   unfolding edit_of row row_place row_key_place
   indexed t = refl
 
@@ -87,7 +88,7 @@ module _ (slots : Slots) (bindings : List Binding) (slots' : Slots) (bindings' :
     ascend = ascend-set_row (edit_place row_place) (the_edit t) edits are.ascend;
     each = all-set_row (edit_place row_place) (λ x. edit_end x ≡ end_for slots' bindings' x.row) (the_edit t) edits (says t) are.each;
     change = all-set_row (edit_place row_place) (λ x. edit_end x ≢ end_for slots bindings x.row) (the_edit t) edits (changes t e) are.change;
-    found = all-set_row (edit_place row_place) (λ x. x.found ≡ index_beside x.row.owner x.row.side (row_place x.row) (rows_of slots bindings)) (the_edit t) edits (indexed t) are.found;
+    found = all-set_row (edit_place row_place) (λ x. x.found ≡ index_beside x.row.owner x.row.side x.row.addr (row_place x.row) (rows_of slots bindings)) (the_edit t) edits (indexed t) are.found;
   }
 
   pub one_more : (t : RowKey) (edits : List (Edit Row)) → AreEdits edits → AreEdits (with_edit slots bindings slots' bindings' t edits)

@@ -24,7 +24,7 @@ unfoldable pub end_for : Slots → List Binding → Row → Option ℕ
 end_for slots bindings r = end_at slots bindings r.owner r.side r.addr r.entry
 
 -- The edits say of each place at which the ends before and after a change differ what is asked there afterwards, and of no
--- other place; and each has the index that its place has among the rows of its owner and side before.
+-- other place; and each has the index that its place has among the rows of its owner, side and address before.
 pub record IsPatch (slots : Slots) (bindings : List Binding) (slots' : Slots) (bindings' : List Binding) (edits : List (Edit Row)) : Type 0 where
   pub ascend : PlacesAscend (edit_place row_place) edits
   pub each : AllByRecursion (λ e. edit_end e ≡ end_for slots' bindings' e.row) edits

@@ -12,11 +12,11 @@ use Rattle.acl_model.specs.Keys.{has_key}
 use Rattle.acl_model.specs.FirstMatch.{entries_of}
 use Rattle.row_edits.specs.declared.edit.Edit.{Edit}
 use Rattle.row_edits.specs.Edits.{edit_place}
-use Rattle.row_shelves.specs.Shelves.{index_beside}
 use Rattle.acl_rows.specs.declared.row.Owner.{Owner}
 use Rattle.acl_rows.specs.declared.row.Row.{Row}
 use Rattle.acl_rows.specs.declared.row.RowKey.{RowKey}
 use Rattle.acl_rows.specs.Places.{place_at, row_place}
+use Rattle.acl_rows.specs.ByAddress.{index_beside}
 use Rattle.acl_rows.specs.Rows.{Slots, Holder, row, rows_of, numbered, holders_from, end_at}
 
 -- ---- The places that are touched
@@ -64,7 +64,7 @@ unfoldable pub row_key_place : RowKey → List ℕ
 row_key_place key = place_at key.owner key.side key.addr key.entry
 
 unfoldable pub with_edit : Slots → List Binding → Slots → List Binding → RowKey → List (Edit Row) → List (Edit Row)
-with_edit slots bindings slots' bindings' key edits = changed_edits key (index_beside key.owner key.side (row_key_place key) (rows_of slots bindings)) (key_end slots bindings key) (key_end slots' bindings' key) edits
+with_edit slots bindings slots' bindings' key edits = changed_edits key (index_beside key.owner key.side key.addr (row_key_place key) (rows_of slots bindings)) (key_end slots bindings key) (key_end slots' bindings' key) edits
 
 -- the edits of these places, one after the other
 unfoldable pub with_edits : Slots → List Binding → Slots → List Binding → List RowKey → List (Edit Row) → List (Edit Row)

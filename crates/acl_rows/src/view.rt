@@ -2,51 +2,49 @@
 ghost use Rattle.std.specs.Prelude.{◌≡◌, ℕ, ◌+◌, ◌-◌, ◌^◌, ◌<◌, ◌≤◌, length, slice_get, Some};
 ghost use Rattle.acl_rows.specs.View as view;
 
-use crate::row::{Owner, Peer, Row};
+use crate::by_address::AddressRows;
+use crate::row::Row;
 use acl_model::Entry;
 use mud_base::{Addr, Direction};
-use sorted_rows::{SortedRows, Steps};
+use sorted_rows::Steps;
 use std::marker::Model;
 use std::sync::ledger::Ledger;
 
 /// The entries of one side of a file or of the defaults, and the rows that say which addresses meet
-/// their member selectors. Contracts see the rows as those of the owner and side, and how many rows
-/// they are found among.
+/// their member selectors. Contracts see the rows of all addresses, and how many rows those of one are
+/// found among.
 #[derive(Drop, Debug)]
 pub struct RulePart<'a> {
-    owner: Owner,
     side: Direction,
     entries: &'a [Entry],
     wide: &'a [u16],
-    rows: &'a SortedRows<Row>,
+    rows: &'a AddressRows,
 }
 
 impl<'a> Model for RulePart<'a> {
     ghost use Rattle.std.specs.Prelude.{◌≤◌, length};
-    ghost use Rattle.acl_rows.specs.View.{Part, part, rows_of_side};
+    ghost use Rattle.acl_rows.specs.View.{Part, part};
 
     ghost Value = { Part };
 
-    ghost view = { λ p. part p.side p.entries.now p.wide.now (rows_of_side p.owner p.side p.rows.now.rows) (length p.rows.now.rows) };
+    ghost view = { λ p. part p.side p.entries.now p.wide.now p.rows.now.rows (length p.rows.now.rows) };
 
     ghost invariant = { λ p. length p.entries.now ≤ 65535 };
 }
 
 impl<'a> RulePart<'a> {
-    /// The part of these entries, whose wide ones have these numbers, over rows among which those of
-    /// the owner and side stand. There may be rows of others.
+    /// The part of these entries, whose wide ones have these numbers, over the rows of their owner and
+    /// side.
     pub fn new(
-        owner: Owner,
         side: Direction,
         entries: &'a [Entry],
         wide: &'a [u16],
-        rows: &'a SortedRows<Row>,
+        rows: &'a AddressRows,
     ) -> RulePart<'a>
         requires { length entries.now ≤ 65535 }
-        ensures { result ≡ view.part side entries.now wide.now (view.rows_of_side owner side rows.now.rows) (length rows.now.rows) }
+        ensures { result ≡ view.part side entries.now wide.now rows.now.rows (length rows.now.rows) }
     {
         RulePart {
-            owner,
             side,
             entries,
             wide,
@@ -59,7 +57,6 @@ impl<'a> RulePart<'a> {
         ensures { result ≡ self.now }
     {
         RulePart {
-            owner: self.owner,
             side: self.side,
             entries: self.entries,
             wide: self.wide,
@@ -105,13 +102,9 @@ impl<'a> RulePart<'a> {
         ensures least { steps.old + length result.now ≤ steps.new }
         ensures most { (b : ℕ) → self.now.among < 2 ^ b → steps.new ≤ steps.old + length result.now + b }
     {
-        let peer = Peer {
-            owner: self.owner,
-            side: self.side,
-            addr,
-        };
-        let rows = self.rows;
-        rows.rows_under_counted(&peer, steps)
+        let rows = self.rows.at(addr);
+        steps.add(rows.len() as u64);
+        rows.rows()
     }
 }
 

@@ -4,11 +4,12 @@ ghost use Rattle.std.specs.Prelude.{◌≡◌, ◌<◌};
 
 use super::*;
 use acl_model::default_entry;
-use acl_rows::{Owner, Row, RulePart, RuleView};
+use acl_rows::{AddressRows, Owner, PackedAddr, Row, RulePart, RuleView};
 use frame_view::{Frame, PacketView, Part, view};
 use mud_base::{Addr, Direction, End, Listed, Mac, Moment};
 use mud_tables::Thing;
 use mud_url::mud_url;
+use row_edits::plan_edit;
 use sorted_rows::{SortedRows, Steps};
 use std::alloc::Global;
 use std::marker::Brand;
@@ -114,52 +115,66 @@ fn what_is_forwarded_counts_for_the_connections(rt: HostRuntime) -> Result<(), F
     Ok(())
 }
 
-/// The ruling on the bulb's packet by these rows of the defaults, with steps on a ledger of the
-/// caller's; None where the octets carry no packet.
-fn ruled<L: Ledger>(
-    octets: &[u8],
-    entries: &[acl_model::Entry; 1],
-    rows: &SortedRows<Row>,
-    blank: Blank,
-) -> Option<Ruling>
+/// Makes room for a row of the owner and side, and puts it in.
+fn put<L: Ledger>(
+    rows: &mut AddressRows,
+    alloc: Global,
+    row: Row,
+    steps: &mut Steps<L>,
+) -> Result<(), Fail>
+    requires owner { row.owner ≡ rows.old.owner }
+    requires side { row.side ≡ rows.old.side }
+{
+    let addr = row.addr.addr();
+    rows.reserve(alloc, addr, 1)?;
+    let found = rows.at(addr).find(&row);
+    let mut edits = SortedRows::new(alloc);
+    plan_edit(&mut edits, row, true, found)?;
+    rows.make_edits_at(addr, &mut edits, 0, steps);
+    Ok(())
+}
+
+/// The rows of the defaults for what Things send: that of entry 1 at 192.0.2.53.
+fn default_rows<L: Ledger>(alloc: Global, steps: &mut Steps<L>) -> Result<AddressRows, Fail> {
+    let row = Row {
+        owner: Owner::Default,
+        side: Direction::From,
+        addr: PackedAddr::new(Addr::V4(0xc000_0235)),
+        entry: 1,
+        until: End(End::NEVER),
+    };
+    let mut rows = AddressRows::new(alloc, Owner::Default, Direction::From);
+    put(&mut rows, alloc, row, steps)?;
+    Ok(rows)
+}
+
+/// The ruling on the bulb's packet by the defaults, with steps on a ledger of the caller's; None
+/// where the octets carry no packet.
+fn ruled<L: Ledger>(alloc: Global, octets: &[u8], blank: Blank) -> Result<Option<Ruling>, Fail>
     requires name { blank.name ≡ L.name }
     requires parts { blank.parts ≡ L.parts }
     requires some { 0 < L.parts }
 {
     let Frame::Packet(packet) = view(octets) else {
-        return None;
+        return Ok(None);
     };
     let mut steps = Steps::<L>::new(blank);
-    let defaults = RulePart::new(
-        Owner::Default,
-        Direction::From,
-        entries.as_slice(),
-        &[],
-        rows,
-    );
+    let rows = default_rows(alloc, &mut steps)?;
+    let entries = [default_entry(alloc, DefaultRule::Dns, Direction::From)?];
+    let defaults = RulePart::new(Direction::From, entries.as_slice(), &[], &rows);
     let lent = RuleView::new(Direction::From, None, defaults);
     let now = Moment::at_most_last(1001);
-    Some(rule(lent, &packet, None, &[], now, &mut steps))
+    Ok(Some(rule(lent, &packet, None, &[], now, &mut steps)))
 }
 
 #[test]
 fn a_bulb_with_no_file_may_ask_for_names(rt: HostRuntime) -> Result<(), Fail> {
-    let mut rows = SortedRows::new(rt.alloc());
-    rows.reserve(1)?;
-    rows.put(Row {
-        owner: Owner::Default,
-        side: Direction::From,
-        addr: Addr::V4(0xc000_0235),
-        entry: 1,
-        until: End(End::NEVER),
-    });
-    let entries = [default_entry(rt.alloc(), DefaultRule::Dns, Direction::From)?];
     assert_eq!(rt;
-        ruled::<Brand>(&QUESTION, &entries, &rows, Blank::new(1)),
+        ruled::<Brand>(rt.alloc(), &QUESTION, Blank::new(1))?,
         Some(Ruling::AcceptDefault(DefaultRule::Dns))
     );
     assert_eq!(rt;
-        ruled::<Brand>(&CALL, &entries, &rows, Blank::new(1)),
+        ruled::<Brand>(rt.alloc(), &CALL, Blank::new(1))?,
         Some(Ruling::DropDefault(Why::NoFile))
     );
     Ok(())

@@ -9,8 +9,8 @@ use Rattle.row_edits.specs.Edits.{edit_place}
 use Rattle.acl_rows.specs.declared.row.Row.{Row}
 use Rattle.acl_rows.specs.declared.row.RowKey.{RowKey}
 use Rattle.acl_rows.specs.Places.{row_place}
+use Rattle.acl_rows.specs.ByAddress.{index_beside}
 use Rattle.acl_rows.specs.Rows.{Slots, row, rows_of}
-use Rattle.row_shelves.specs.Shelves.{index_beside}
 use Rattle.acl_patch.specs.Touched.{row_key_place, key_end, changed_edits, edit_of, same_end, with_edit}
 use Rattle.row_changes.specs.Fresh.{Fresh, fresh_of, row_with, one_fresh, more_fresh, joined, AreSorted}
 
@@ -42,14 +42,14 @@ module _ (slots : Slots) (bindings : List Binding) (new : Slots) where
   edits_joined key more edits up up' =
       let old = key_end slots bindings key in
       let next = key_end new bindings key in
-      edit_by (edit_of key (index_beside key.owner key.side (row_key_place key) (rows_of slots bindings)) old next) more edits up up' (same_end next old)
+      edit_by (edit_of key (index_beside key.owner key.side key.addr (row_key_place key) (rows_of slots bindings)) old next) more edits up up' (same_end next old)
 
   edits_sorted : (key : RowKey) (more : List (Edit Row)) → PlacesAscend (edit_place row_place) more → PlacesAscend (edit_place row_place) (with_edit slots bindings new bindings key more)
   unfolding with_edit changed_edits
   edits_sorted key more up =
       let old = key_end slots bindings key in
       let next = key_end new bindings key in
-      edit_sorted_by (edit_of key (index_beside key.owner key.side (row_key_place key) (rows_of slots bindings)) old next) more up (same_end next old)
+      edit_sorted_by (edit_of key (index_beside key.owner key.side key.addr (row_key_place key) (rows_of slots bindings)) old next) more up (same_end next old)
 
   one_joined : (key : RowKey) (more s : Fresh) → AreSorted more → AreSorted s → joined (one_fresh slots bindings new key more) s ≡ one_fresh slots bindings new key (joined more s)
   unfolding joined one_fresh

@@ -1,13 +1,14 @@
 -- The rows that a new policy asks for, one after the other.
-use Rattle.std.proofs.Common.{◌≡◌, ℕ, suc, ◌+◌, ◌*◌, ◌<◌, ◌≤◌, Bool, true, false, cond, List, [], ◌∷◌, ◌++◌, map, length, drop, get_or, ◌||◌, Option, Some, None, Result, Ok, Err, OnOk, refl, sym, ap, subst, ◌∙◌, arith}
+use Rattle.std.proofs.Common.{◌≡◌, ℕ, zero, suc, ◌+◌, ◌*◌, ◌<◌, ◌≤◌, Bool, true, false, cond, List, [], ◌∷◌, ◌++◌, map, length, drop, get_or, ◌||◌, Option, Some, None, Result, Ok, Err, OnOk, refl, sym, ap, subst, ◌∙◌, arith}
 use Rattle.std.specs.Prelude.{flat_map, filter}
 use Rattle.std.specs.Option.{option_map}
-use Rattle.std.specs.List.{filter_map, cons_option, list_any}
+use Rattle.std.specs.List.{filter_map, cons_option, list_any, slice_get, AllByRecursion}
 use Rattle.std.proofs.Math.Seq.{drop-cons}
 use Rattle.std.specs.Option.{is_some}
 use Rattle.std.proofs.Math.Nat.{mul-le-mul_right}
-use Rattle.std.proofs.lemmas.Option.{none-some, same_Some}
-use Rattle.sorted_rows.specs.Placed.{row_at, set_row, rows_under}
+use Rattle.std.proofs.lemmas.Option.{none-some, same_Some, slice_get_read}
+use Rattle.sorted_rows.specs.Placed.{row_at, set_row, rows_under, index_in, PlacesAscend}
+use Rattle.sorted_rows.proofs.PlacedLaws.{index_in_row}
 use Rattle.mud_base.specs.declared.addr.Addr.{Addr}
 use Rattle.mud_base.specs.declared.packet.Direction.{Direction}
 use Rattle.acl_model.specs.declared.entry.Entry.{Entry}
@@ -26,15 +27,15 @@ use Rattle.acl_rows.specs.declared.row.Owner.{Owner}
 use Rattle.acl_rows.specs.declared.row.Row.{Row}
 use Rattle.acl_rows.specs.declared.row.RowKey.{RowKey}
 use Rattle.acl_rows.specs.Places.{row_place}
+use Rattle.acl_rows.specs.ByAddress.{rows_of_peer, index_beside}
 use Rattle.acl_rows.specs.Rows.{Slots, row, rows_of, member_keys, held_by, entry_at, entry_end, numbered}
 use Rattle.acl_rows.proofs.Lists.{any_first, any_second}
 use Rattle.acl_rows.proofs.Sound.{end_at-entry}
-use Rattle.row_shelves.specs.Shelves.{index_beside}
 use Rattle.acl_patch.specs.Touched.{row_key, row_key_place, key_end, changed_edits}
 use Rattle.acl_patch.specs.PolicyTouched.{bound_under, bound_key, first_key_touches}
 use Rattle.key_index.specs.Keys.{key_parts}
 use Rattle.row_changes.specs.Change.{ChangeState, after, end_of_row}
-use Rattle.row_changes.specs.Fresh.{Fresh, fresh_of, row_with, one_fresh, more_fresh, first_of, membered_count, left_edits}
+use Rattle.row_changes.specs.Fresh.{Fresh, fresh_of, row_with, one_fresh, more_fresh, first_of, membered_count, AreOfPeer, gone_edit, left_edits}
 use Rattle.row_changes.proofs.OneEdit.{asked_edit}
 
 -- ---- The first key
@@ -71,12 +72,12 @@ unfolding key_end
 entry_asked new bindings owner side a n held entry holds stands = sym (end_at-entry new bindings owner side a n held entry holds stands)
 
 module _ (slots : Slots) (bindings : List Binding) (new : Slots) (rows : List Row) (kept : rows ≡ rows_of slots bindings) (key : RowKey) where
-  pub fresh_some : (u : ℕ) (until : Option ℕ) (edits : List (Edit Row)) (s : Fresh) → until ≡ Some u → until ≡ key_end new bindings key → edits ≡ changed_edits key (index_beside key.owner key.side (row_key_place key) rows) (end_of_row (row_at row_place (row_key_place key) rows)) (Some u) s.edits
+  pub fresh_some : (u : ℕ) (until : Option ℕ) (edits : List (Edit Row)) (s : Fresh) → until ≡ Some u → until ≡ key_end new bindings key → edits ≡ changed_edits key (index_beside key.owner key.side key.addr (row_key_place key) rows) (end_of_row (row_at row_place (row_key_place key) rows)) (Some u) s.edits
       → fresh_of edits (set_row row_place (row key.owner key.side key.addr key.entry u) s.rows) ≡ one_fresh slots bindings new key s
   unfolding one_fresh row_with
   fresh_some u until edits s some is made = (λ i. fresh_of ((made ∙ asked_edit slots bindings new rows kept key (Some u) s.edits (sym some ∙ is)) i) (row_with key ((sym some ∙ is) i) s.rows))
 
-  pub fresh_none : (until : Option ℕ) (edits : List (Edit Row)) (s : Fresh) → until ≡ None → until ≡ key_end new bindings key → edits ≡ changed_edits key (index_beside key.owner key.side (row_key_place key) rows) (end_of_row (row_at row_place (row_key_place key) rows)) None s.edits
+  pub fresh_none : (until : Option ℕ) (edits : List (Edit Row)) (s : Fresh) → until ≡ None → until ≡ key_end new bindings key → edits ≡ changed_edits key (index_beside key.owner key.side key.addr (row_key_place key) rows) (end_of_row (row_at row_place (row_key_place key) rows)) None s.edits
       → fresh_of edits s.rows ≡ one_fresh slots bindings new key s
   unfolding one_fresh row_with
   fresh_none until edits s none is made = (λ i. fresh_of ((made ∙ asked_edit slots bindings new rows kept key None s.edits (sym none ∙ is)) i) (row_with key ((sym none ∙ is) i) s.rows))
@@ -184,12 +185,38 @@ entry_steps start now end ts t t' ms m m' t0 all all' touched b u next count her
 
 -- ---- Rows that aren't asked for any more
 
-pub next_left : (new : List Row) (n : ℕ) (own : List Row) (i : ℕ) (r : Row) (edits : List (Edit Row)) → i < length own → r ≡ get_or own i r → (b : Bool) → is_some (row_at row_place (row_place r) new) ≡ b
-    → left_edits new n (drop i own) edits ≡ left_edits new (n + 1) (drop (i + 1) own) (cond b edits (set_row (edit_place row_place) (edit r false (Ok n)) edits))
+peer_here : (P : Row → Type 0) (rows : List Row) (i : ℕ) (r : Row) → AllByRecursion P rows → slice_get rows i ≡ Some r → P r
+peer_here P [] i r all at = absurd (none-some r at)
+peer_here P (x ∷ xs) zero r all at = subst P (same_Some x r at) all.0
+peer_here P (x ∷ xs) (suc i) r all at = peer_here P xs i r all.1 at
+
+-- among all rows of its owner, side and address a row has its own index
+own_edit : (all own : List Row) (i n : ℕ) (r : Row) → PlacesAscend row_place own → AreOfPeer own all → i < length own → r ≡ get_or own i r → n ≡ i → edit r false (Ok n) ≡ gone_edit all r
+unfolding index_beside
+own_edit all own i n r up peer lt is here =
+    let at : slice_get own i ≡ Some r = slice_get_read own (length own) i r refl lt is in
+    let same : own ≡ rows_of_peer r.owner r.side r.addr all = peer_here (λ x. own ≡ rows_of_peer x.owner x.side x.addr all) own i r peer at in
+    ap (edit r false) (ap Ok here ∙ sym (index_in_row row_place own i r up at) ∙ ap (index_in row_place (row_place r)) same)
+
+next_left : (all new own : List Row) (i : ℕ) (r : Row) (edits : List (Edit Row)) → i < length own → r ≡ get_or own i r → (b : Bool) → is_some (row_at row_place (row_place r) new) ≡ b
+    → left_edits all new (drop i own) edits ≡ left_edits all new (drop (i + 1) own) (cond b edits (set_row (edit_place row_place) (gone_edit all r) edits))
 unfolding left_edits
-next_left new n own i r edits lt is b kept =
-    ap (λ (xs : List Row). left_edits new n xs edits) (drop-cons own i r lt ∙ (λ j. sym is j ∷ drop (next j) own))
-    ∙ ap (λ (c : Bool). left_edits new (n + 1) (drop (i + 1) own) (cond c edits (set_row (edit_place row_place) (edit r false (Ok n)) edits))) kept
+next_left all new own i r edits lt is b kept =
+    ap (λ (xs : List Row). left_edits all new xs edits) (drop-cons own i r lt ∙ (λ j. sym is j ∷ drop (next j) own))
+    ∙ ap (λ (c : Bool). left_edits all new (drop (i + 1) own) (cond c edits (set_row (edit_place row_place) (gone_edit all r) edits))) kept
   where
     next : suc i ≡ i + 1
     next = omega arith
+
+-- the next row is among the new ones
+pub left_stays : (all new own : List Row) (i : ℕ) (r : Row) (edits after : List (Edit Row)) → i < length own → r ≡ get_or own i r → is_some (row_at row_place (row_place r) new) ≡ true → after ≡ edits
+    → left_edits all new (drop i own) edits ≡ left_edits all new (drop (i + 1) own) after
+left_stays all new own i r edits after lt is there same = next_left all new own i r edits lt is true there ∙ ap (left_edits all new (drop (i + 1) own)) (sym same)
+
+-- the next row goes
+pub left_goes : (all new own : List Row) (i n : ℕ) (r : Row) (edits after : List (Edit Row)) → PlacesAscend row_place own → AreOfPeer own all → i < length own → r ≡ get_or own i r → n ≡ i
+    → is_some (row_at row_place (row_place r) new) ≡ false → after ≡ set_row (edit_place row_place) (edit r false (Ok n)) edits → left_edits all new (drop i own) edits ≡ left_edits all new (drop (i + 1) own) after
+left_goes all new own i n r edits after up peer lt is here gone made =
+    next_left all new own i r edits lt is false gone
+    ∙ ap (λ (e : Edit Row). left_edits all new (drop (i + 1) own) (set_row (edit_place row_place) e edits)) (sym (own_edit all own i n r up peer lt is here))
+    ∙ ap (left_edits all new (drop (i + 1) own)) (sym made)

@@ -1,4 +1,5 @@
 pub mod PolicyLaws
+pub mod Groups
 pub mod OneEdit
 pub mod After
 pub mod Halves

@@ -2,7 +2,6 @@
 use Rattle.std.proofs.Common.{◌≡◌, ℕ, suc, ◌+◌, ◌<◌, ◌≤◌, Bool, true, false, cond, List, [], ◌∷◌, ◌++◌, length, drop, get_or, refl, sym, ap, ◌∙◌, arith, append_assoc, append-nil}
 use Rattle.std.proofs.Math.Seq.{drop-cons}
 use Rattle.std.proofs.lemmas.List.{drop_all}
-use Rattle.mud_base.specs.declared.packet.Direction.{Direction}
 use Rattle.mud_base.specs.declared.packet.Direction.TheVariants.{From, To}
 use Rattle.acl_model.specs.declared.entry.Entry.{Entry}
 use Rattle.acl_model.specs.declared.entry.Policy.{Policy}
@@ -12,7 +11,6 @@ use Rattle.acl_model.specs.Defaults.{default_policy}
 use Rattle.acl_rows.specs.declared.row.Owner.{Owner}
 use Rattle.acl_rows.specs.declared.row.Row.{Row}
 use Rattle.acl_rows.specs.View.{part, wide_from, rows_of_side, IsPartOf}
-use Rattle.row_shelves.proofs.Beside.{side_again}
 use Rattle.row_changes.specs.Policies.{HasCounts, HasWide}
 
 pub counts_of : (policy : Policy) (outgoing incoming : List ℕ) → HasWide policy outgoing incoming → HasCounts policy
@@ -54,33 +52,15 @@ unfolding wide_from
 wide_all es i numbers past far =
     sym (append-nil numbers) ∙ ap (λ (xs : List Entry). numbers ++ wide_from (i + 1) xs) (sym (drop_all i es past)) ∙ far
 
--- what is found on a shelf isn't found among more rows than its own
-found_among : (owner : Owner) (side : Direction) (rows shelf : List Row) → shelf ≡ rows_of_side owner side rows → length shelf ≤ length (rows_of_side owner side shelf)
-found_among owner side rows shelf own =
-    let same : rows_of_side owner side shelf ≡ shelf = ap (rows_of_side owner side) own ∙ side_again owner side rows ∙ sym own in
-    omega (arith, ap length same)
-
 pub part_from : (rows shelf : List Row) (owner : Owner) (policy : Policy) (outgoing incoming wide : List ℕ) (es : List Entry) → shelf ≡ rows_of_side owner From rows → HasWide policy outgoing incoming → es ≡ policy.outgoing → wide ≡ outgoing
-    → IsPartOf rows From owner policy (part From es wide (rows_of_side owner From shelf) (length shelf))
+    → IsPartOf rows From owner policy (part From es wide shelf (length shelf))
 unfolding entries_of
-part_from rows shelf owner policy outgoing incoming wide es own has is numbers = record {
-  side_is = refl;
-  entries = is;
-  wide = numbers ∙ has.outgoing_is;
-  rows_are = ap (rows_of_side owner From) own ∙ side_again owner From rows;
-  among = found_among owner From rows shelf own;
-}
+part_from rows shelf owner policy outgoing incoming wide es own has is numbers = record { side_is = refl; entries = is; wide = numbers ∙ has.outgoing_is; rows_are = own; among = omega arith }
 
 pub part_to : (rows shelf : List Row) (owner : Owner) (policy : Policy) (outgoing incoming wide : List ℕ) (es : List Entry) → shelf ≡ rows_of_side owner To rows → HasWide policy outgoing incoming → es ≡ policy.incoming → wide ≡ incoming
-    → IsPartOf rows To owner policy (part To es wide (rows_of_side owner To shelf) (length shelf))
+    → IsPartOf rows To owner policy (part To es wide shelf (length shelf))
 unfolding entries_of
-part_to rows shelf owner policy outgoing incoming wide es own has is numbers = record {
-  side_is = refl;
-  entries = is;
-  wide = numbers ∙ has.incoming_is;
-  rows_are = ap (rows_of_side owner To) own ∙ side_again owner To rows;
-  among = found_among owner To rows shelf own;
-}
+part_to rows shelf owner policy outgoing incoming wide es own has is numbers = record { side_is = refl; entries = is; wide = numbers ∙ has.incoming_is; rows_are = own; among = omega arith }
 
 pub default_counts : HasCounts default_policy
 unfolding entries_of

@@ -1,17 +1,16 @@
 -- The edits for a policy that comes, goes or is replaced are a patch.
-use Rattle.std.proofs.Common.{◌≡◌, ℕ, zero, suc, ◌+◌, ◌-◌, ◌*◌, ◌<◌, ◌≤◌, Bool, true, false, cond, ◌&&◌, ◌||◌, List, [], ◌∷◌, ◌++◌, map, length, Option, Some, None, Ok, Err, refl, sym, ap, subst, ◌∙◌, arith, length-append}
+use Rattle.std.proofs.Common.{◌≡◌, ℕ, ◌+◌, ◌*◌, ◌≤◌, Bool, true, false, cond, ◌||◌, List, [], ◌∷◌, ◌++◌, map, length, Option, Some, None, Result, refl, sym, ap, subst, ◌∙◌, arith, length-append}
 use Rattle.std.specs.Prelude.{filter}
 use Rattle.std.specs.Option.{option_map, is_some, is_none}
-use Rattle.std.specs.List.{slice_get, list_any, AllByRecursion}
+use Rattle.std.specs.List.{list_any, AllByRecursion}
 use Rattle.std.proofs.lemmas.Bool.{false≢true}
 use Rattle.std.proofs.lemmas.List.{map-append}
 use Rattle.std.proofs.lemmas.List.Elements.{filter-append}
 use Rattle.std.proofs.lemmas.Option.{same_Some, none-some}
 use Rattle.std.proofs.Math.Nat.{mul-le-mul_left, mul-le-mul_right}
-use Rattle.sorted_rows.specs.Placed.{place_cmp, same_place, row_at, index_in, set_row, is_under, PlacesAbove, PlacesAscend}
-use Rattle.std.specs.declared.cmp.Ordering.TheVariants.{Less}
-use Rattle.sorted_rows.proofs.PlacedLaws.{same_place_itself, same_place_exact, same_place-cmp, row_at-set_row, index_in_row}
-use Rattle.sorted_rows.proofs.RowLaws.{all-set_row, place_row_at, above-filter, ascend-filter}
+use Rattle.sorted_rows.specs.Placed.{same_place, row_at, set_row, is_under, PlacesAscend}
+use Rattle.sorted_rows.proofs.PlacedLaws.{same_place_exact, row_at-set_row}
+use Rattle.sorted_rows.proofs.RowLaws.{all-set_row, place_row_at}
 use Rattle.mud_base.specs.declared.addr.Addr.{Addr}
 use Rattle.mud_base.specs.declared.packet.Direction.{Direction}
 use Rattle.acl_model.specs.declared.binding.Binding.{Binding}
@@ -29,9 +28,8 @@ use Rattle.acl_rows.specs.declared.row.Row.{Row}
 use Rattle.acl_rows.specs.declared.row.RowKey.{RowKey}
 use Rattle.acl_rows.specs.Places.{side_place, place_at, row_place}
 use Rattle.acl_rows.specs.View.{rows_of_side}
-use Rattle.row_shelves.specs.Shelves.{index_beside}
-use Rattle.row_shelves.proofs.Numbers.{AreOne}
-use Rattle.row_shelves.proofs.Beside.{kept, side_is, owner_split}
+use Rattle.acl_rows.specs.ByAddress.{index_beside}
+use Rattle.row_shelves.proofs.Beside.{side_is, owner_split}
 use Rattle.acl_rows.specs.Rows.{Slots, Holder, row, rows_of, member_keys, default_held, held_by, entry_at, end_at}
 use Rattle.acl_rows.proofs.Coordinates.{AreSame, same_coordinates}
 use Rattle.acl_rows.proofs.AtPlaces.{row_at-rows_of, ascend-rows_of}
@@ -42,7 +40,8 @@ use Rattle.acl_patch.proofs.Untouched.{touches_at}
 use Rattle.acl_patch.proofs.Patches.{all-row_at}
 use Rattle.acl_patch.proofs.PolicyPatch.{new_by, policy_patch}
 use Rattle.row_changes.specs.Steps.{HolderFits, HolderKeys, HaveKeys, place_steps}
-use Rattle.row_changes.specs.Fresh.{Fresh, fresh_of, row_with, one_fresh, more_fresh, left_edits}
+use Rattle.row_changes.specs.Fresh.{Fresh, fresh_of, row_with, one_fresh, more_fresh, gone_edit, left_edits}
+use Rattle.row_changes.proofs.Groups.{all_kept, each_there}
 
 module _ (slots : Slots) (bindings : List Binding) (new : Slots) where
   -- ---- Edits
@@ -153,61 +152,38 @@ module _ (slots : Slots) (bindings : List Binding) (new : Slots) where
 
   -- ---- Old rows that aren't asked for any more
 
-  -- what is known of an old row, and of its index
-  pub record IsOwn (fresh : List Row) (r : Row) (i : ℕ) : Type 0 where
-    pub found : index_beside r.owner r.side (row_place r) (rows_of slots bindings) ≡ Ok i
+  -- what is known of an old row
+  pub record IsOwn (fresh : List Row) (r : Row) : Type 0 where
     pub was : end_for slots bindings r ≡ Some r.until
     pub told : is_some (row_at row_place (row_place r) fresh) ≡ is_some (end_for new bindings r)
 
-  gone_edit : (r : Row) (i : ℕ) (edits : List (Edit Row)) → changed_edits (row_key r.owner r.side r.addr r.entry) (Ok i) (Some r.until) None edits ≡ set_row (edit_place row_place) (edit r false (Ok i)) edits
+  abbrev kept : List Row
+  kept = rows_of slots bindings
+
+  row_goes : (r : Row) (found : Result ℕ ℕ) (edits : List (Edit Row)) → changed_edits (row_key r.owner r.side r.addr r.entry) found (Some r.until) None edits ≡ set_row (edit_place row_place) (edit r false found) edits
   unfolding changed_edits same_end edit_of row
-  gone_edit r i edits = refl
+  row_goes r found edits = refl
 
-  goes : (fresh : List Row) (r : Row) (i : ℕ) (edits : List (Edit Row)) → IsOwn fresh r i → end_for new bindings r ≡ None → with_edit slots bindings new bindings (key_of_row r) edits ≡ set_row (edit_place row_place) (edit r false (Ok i)) edits
+  goes : (fresh : List Row) (r : Row) (edits : List (Edit Row)) → IsOwn fresh r → end_for new bindings r ≡ None → with_edit slots bindings new bindings (key_of_row r) edits ≡ set_row (edit_place row_place) (gone_edit kept r) edits
   unfolding with_edit key_of_row row_key_place key_end end_for row_place
-  goes fresh r i edits is none =
-      (λ j. changed_edits (row_key r.owner r.side r.addr r.entry) (is.found j) (is.was j) (none j) edits)
-      ∙ gone_edit r i edits
+  goes fresh r edits is none =
+      (λ j. changed_edits (row_key r.owner r.side r.addr r.entry) (index_beside r.owner r.side r.addr (row_place r) kept) (is.was j) (none j) edits)
+      ∙ row_goes r (index_beside r.owner r.side r.addr (row_place r) kept) edits
 
-  left_by : (fresh : List Row) (r : Row) (rs : List Row) (n : ℕ) (edits : List (Edit Row)) → IsOwn fresh r n
-      → ((es : List (Edit Row)) → left_edits fresh (n + 1) rs es ≡ with_edits slots bindings new bindings (map key_of_row (filter (is_left new bindings) rs)) es)
+  left_by : (fresh : List Row) (r : Row) (rs : List Row) (edits : List (Edit Row)) → IsOwn fresh r
+      → ((es : List (Edit Row)) → left_edits kept fresh rs es ≡ with_edits slots bindings new bindings (map key_of_row (filter (is_left new bindings) rs)) es)
       → (o : Option ℕ) → end_for new bindings r ≡ o
-      → left_edits fresh (n + 1) rs (cond (is_some o) edits (set_row (edit_place row_place) (edit r false (Ok n)) edits)) ≡ with_edits slots bindings new bindings (map key_of_row (cond (is_none o) (r ∷ filter (is_left new bindings) rs) (filter (is_left new bindings) rs))) edits
+      → left_edits kept fresh rs (cond (is_some o) edits (set_row (edit_place row_place) (gone_edit kept r) edits)) ≡ with_edits slots bindings new bindings (map key_of_row (cond (is_none o) (r ∷ filter (is_left new bindings) rs) (filter (is_left new bindings) rs))) edits
   unfolding with_edits
-  left_by fresh r rs n edits is rest None end = rest (set_row (edit_place row_place) (edit r false (Ok n)) edits) ∙ ap (with_edits slots bindings new bindings (map key_of_row (filter (is_left new bindings) rs))) (sym (goes fresh r n edits is end))
-  left_by fresh r rs n edits is rest (Some u) end = rest edits
+  left_by fresh r rs edits is rest None end = rest (set_row (edit_place row_place) (gone_edit kept r) edits) ∙ ap (with_edits slots bindings new bindings (map key_of_row (filter (is_left new bindings) rs))) (sym (goes fresh r edits is end))
+  left_by fresh r rs edits is rest (Some u) end = rest edits
 
-  pub left_same : (fresh : List Row) (own : List Row) (n : ℕ) (edits : List (Edit Row)) → ((j : ℕ) (r : Row) → slice_get own j ≡ Some r → IsOwn fresh r (n + j)) → left_edits fresh n own edits ≡ with_edits slots bindings new bindings (map key_of_row (filter (is_left new bindings) own)) edits
+  pub left_same : (fresh : List Row) (own : List Row) (edits : List (Edit Row)) → AllByRecursion (IsOwn fresh) own → left_edits kept fresh own edits ≡ with_edits slots bindings new bindings (map key_of_row (filter (is_left new bindings) own)) edits
   unfolding left_edits with_edits is_left
-  left_same fresh [] n edits all = refl
-  left_same fresh (r ∷ rs) n edits all =
-      let first : IsOwn fresh r n = subst (IsOwn fresh r) (plus_zero n) (all 0 r refl) in
-      ap (λ (b : Bool). left_edits fresh (n + 1) rs (cond b edits (set_row (edit_place row_place) (edit r false (Ok n)) edits))) first.told
-      ∙ left_by fresh r rs n edits first (λ es. left_same fresh rs (n + 1) es (λ j x at. subst (IsOwn fresh x) (shift n j) (all (suc j) x at))) (end_for new bindings r) refl
-    where
-      plus_zero : (n : ℕ) → n + 0 ≡ n
-      plus_zero n = omega arith
-
-      shift : (n j : ℕ) → n + suc j ≡ n + 1 + j
-      shift n j = omega arith
-
--- ---- The rows of an owner and side
-
-module _ {R : Type 0} (place : R → List ℕ) where
-  above_at : (p : List ℕ) (xs : List R) (i : ℕ) (x : R) → PlacesAbove place p xs → slice_get xs i ≡ Some x → place_cmp p (place x) ≡ Less
-  above_at p [] i x above is = absurd (none-some x is)
-  above_at p (y ∷ ys) zero x above is = ap (λ (z : R). place_cmp p (place z)) (sym (same_Some y x is)) ∙ above.0
-  above_at p (y ∷ ys) (suc i) x above is = above_at p ys i x above.1 is
-
-module _ {R : Type 0} (place : R → List ℕ) (t : R → Bool) where
-  row_by : (y : R) (ys : List R) (i : ℕ) (x : R) → PlacesAbove place (place y) ys → ((j : ℕ) → slice_get (filter t ys) j ≡ Some x → row_at place (place x) ys ≡ Some x) → (b : Bool) → slice_get (cond b (y ∷ filter t ys) (filter t ys)) i ≡ Some x → row_at place (place x) (y ∷ ys) ≡ Some x
-  row_by y ys zero x above rest true at = subst (λ (r : R). row_at place (place r) (y ∷ ys) ≡ Some r) (same_Some y x at) (ap (λ (b : Bool). cond b (Some y) (row_at place (place y) ys)) (same_place_itself (place y)))
-  row_by y ys (suc i) x above rest true at = ap (λ (b : Bool). cond b (Some y) (row_at place (place x) ys)) (same_place-cmp (place y) (place x) Less (above_at place (place y) (filter t ys) i x (above-filter place t (place y) ys above) at)) ∙ rest i at
-  row_by y ys i x above rest false at = ap (λ (b : Bool). cond b (Some y) (row_at place (place x) ys)) (same_place-cmp (place y) (place x) Less (above_at place (place y) (filter t ys) i x (above-filter place t (place y) ys above) at)) ∙ rest i at
-
-  pub own_row : (rows : List R) (i : ℕ) (x : R) → PlacesAscend place rows → slice_get (filter t rows) i ≡ Some x → row_at place (place x) rows ≡ Some x
-  own_row [] i x up at = absurd (none-some x at)
-  own_row (y ∷ ys) i x up at = row_by y ys i x up.0 (λ j at'. own_row ys j x up.1 at') (t y) at
+  left_same fresh [] edits all = refl
+  left_same fresh (r ∷ rs) edits all =
+      ap (λ (b : Bool). left_edits kept fresh rs (cond b edits (set_row (edit_place row_place) (gone_edit kept r) edits))) all.0.told
+      ∙ left_by fresh r rs edits all.0 (λ es. left_same fresh rs es all.1) (end_for new bindings r) refl
 
 was_by : (r : Row) (o : Option ℕ) → option_map (row r.owner r.side r.addr r.entry) o ≡ Some r → o ≡ Some r.until
 unfolding row
@@ -225,23 +201,16 @@ module _ (slots : Slots) (bindings : List Binding) (new : Slots) (i : ℕ) (held
   abbrev old_rows : Direction → List Row
   old_rows side = rows_of_side (Url i) side (rows_of slots bindings)
 
-  -- what is known of a row of the owner and a side, and of its index there
-  known_of : (s : Fresh) → s ≡ more_fresh slots bindings new (new_touches bindings (Url i) held) (fresh_of [] []) → (side : Direction) (j : ℕ) (r : Row) → slice_get (old_rows side) j ≡ Some r → IsOwn slots bindings new s.rows r (0 + j)
-  unfolding rows_of_side index_beside
-  known_of s s_is side j r at =
-      let rows : List Row = rows_of slots bindings in
-      let test = is_under row_place (side_place (Url i) side) in
-      let up : PlacesAscend row_place rows = ascend-rows_of slots bindings in
-      let own : AreOne r.owner (Url i) r.side side = side_is (Url i) side r (kept test rows j r at) in
-      let index : index_in row_place (row_place r) (old_rows side) ≡ Ok j = index_in_row row_place (old_rows side) j r (ascend-filter row_place test rows up) at in
-      record {
-        found = (λ k. index_in row_place (row_place r) (rows_of_side (own.owner k) (own.side k) rows)) ∙ index ∙ ap Ok (zero_more j);
-        was = end_was slots bindings r (own_row row_place test rows j r up at);
-        told = ap (λ (x : Fresh). is_some (row_at row_place (row_place r) x.rows)) s_is ∙ tells slots bindings new (Url i) held change.here r own.owner;
-      }
-    where
-      zero_more : (j : ℕ) → j ≡ 0 + j
-      zero_more j = omega arith
+  -- what is known of each row of the owner and a side
+  known : (s : Fresh) → s ≡ more_fresh slots bindings new (new_touches bindings (Url i) held) (fresh_of [] []) → (side : Direction) → AllByRecursion (IsOwn slots bindings new s.rows) (old_rows side)
+  unfolding rows_of_side
+  known s s_is side =
+      all_kept (is_under row_place (side_place (Url i) side)) (λ r. row_at row_place (row_place r) (rows_of slots bindings) ≡ Some r) (IsOwn slots bindings new s.rows)
+      (λ r under at. record {
+        was = end_was slots bindings r at;
+        told = ap (λ (x : Fresh). is_some (row_at row_place (row_place r) x.rows)) s_is ∙ tells slots bindings new (Url i) held change.here r (side_is (Url i) side r under).owner;
+      })
+      (rows_of slots bindings) (each_there row_place (rows_of slots bindings) (ascend-rows_of slots bindings))
 
   abbrev left_of : List Row → List RowKey
   left_of rows = map key_of_row (filter (is_left new bindings) rows)
@@ -254,16 +223,14 @@ module _ (slots : Slots) (bindings : List Binding) (new : Slots) (i : ℕ) (held
       ∙ map-append key_of_row (filter (is_left new bindings) (old_rows From)) (filter (is_left new bindings) (old_rows To))
 
   pub slot_patch : (s : Fresh) (edits : List (Edit Row)) → s ≡ more_fresh slots bindings new (new_touches bindings (Url i) held) (fresh_of [] [])
-      → edits ≡ left_edits s.rows 0 (old_rows To) (left_edits s.rows 0 (old_rows From) s.edits) → IsPatch slots bindings new bindings edits
+      → edits ≡ left_edits (rows_of slots bindings) s.rows (old_rows To) (left_edits (rows_of slots bindings) s.rows (old_rows From) s.edits) → IsPatch slots bindings new bindings edits
   unfolding policy_touches
   slot_patch s edits s_is made =
-      let sent : left_edits s.rows 0 (old_rows From) s.edits ≡ with_edits slots bindings new bindings (left_of (old_rows From)) s.edits = left_same slots bindings new s.rows (old_rows From) 0 s.edits (known_of s s_is From) in
-      let received : (es : List (Edit Row)) → left_edits s.rows 0 (old_rows To) es ≡ with_edits slots bindings new bindings (left_of (old_rows To)) es = λ es. left_same slots bindings new s.rows (old_rows To) 0 es (known_of s s_is To) in
       let fresh : s.edits ≡ with_edits slots bindings new bindings (new_touches bindings (Url i) held) [] = ap (λ (x : Fresh). x.edits) s_is ∙ fresh_edits slots bindings new (new_touches bindings (Url i) held) (fresh_of [] []) in
       subst (IsPatch slots bindings new bindings)
       (sym (made
-      ∙ received (left_edits s.rows 0 (old_rows From) s.edits)
-      ∙ ap (with_edits slots bindings new bindings (left_of (old_rows To))) sent
+      ∙ left_same slots bindings new s.rows (old_rows To) (left_edits (rows_of slots bindings) s.rows (old_rows From) s.edits) (known s s_is To)
+      ∙ ap (with_edits slots bindings new bindings (left_of (old_rows To))) (left_same slots bindings new s.rows (old_rows From) s.edits (known s s_is From))
       ∙ sym (with_edits-append slots bindings new (left_of (old_rows From)) (left_of (old_rows To)) s.edits)
       ∙ (λ j. with_edits slots bindings new bindings (sym left_both j) (fresh j))
       ∙ sym (with_edits-append slots bindings new (new_touches bindings (Url i) held) (left_touches new bindings (rows_of slots bindings) (Url i)) [])))

@@ -1,5 +1,6 @@
 -- The rows that a new policy asks for, and the edits that they lead to.
-use Rattle.std.specs.Prelude.{ℕ, ◌+◌, false, List, [], ◌∷◌, filter, length, is_some, Option, Some, None, Ok, if◌then◌else◌}
+use Rattle.std.specs.Prelude.{◌≡◌, ℕ, ◌+◌, false, List, [], ◌∷◌, filter, length, is_some, Option, Some, None, if◌then◌else◌}
+use Rattle.std.specs.List.{AllByRecursion}
 use Rattle.sorted_rows.specs.Placed.{row_at, set_row, set_rows, PlacesAscend}
 use Rattle.mud_base.specs.declared.packet.Direction.TheVariants.{From, To}
 use Rattle.acl_model.specs.declared.binding.Binding.{Binding}
@@ -12,6 +13,7 @@ use Rattle.row_edits.specs.Edits.{edit, edit_place}
 use Rattle.acl_rows.specs.declared.row.Row.{Row}
 use Rattle.acl_rows.specs.declared.row.RowKey.{RowKey}
 use Rattle.acl_rows.specs.Places.{row_place}
+use Rattle.acl_rows.specs.ByAddress.{rows_of_peer, index_beside}
 use Rattle.acl_rows.specs.Rows.{Slots, row}
 use Rattle.acl_patch.specs.Touched.{key_end, with_edit}
 
@@ -61,7 +63,15 @@ policy_count (Some held) = membered_count (entries_of From held.policy) + member
 
 -- ---- Old rows
 
--- the edits by which the rows from an index on go whose places aren't among the new rows
-unfoldable pub left_edits : List Row → ℕ → List Row → List (Edit Row) → List (Edit Row)
-left_edits new n [] edits = edits
-left_edits new n (r ∷ rs) edits = left_edits new (n + 1) rs (if is_some (row_at row_place (row_place r) new) then edits else set_row (edit_place row_place) (edit r false (Ok n)) edits)
+-- the rows are all those of one owner, side and address
+abbrev pub AreOfPeer : List Row → List Row → Type 0
+AreOfPeer own all = AllByRecursion (λ r. own ≡ rows_of_peer r.owner r.side r.addr all) own
+
+-- the edit by which a row goes, which stands among these
+abbrev pub gone_edit : List Row → Row → Edit Row
+gone_edit all r = edit r false (index_beside r.owner r.side r.addr (row_place r) all)
+
+-- the edits by which those of some rows go whose places aren't among the new rows; the first list has all rows that are kept
+unfoldable pub left_edits : List Row → List Row → List Row → List (Edit Row) → List (Edit Row)
+left_edits all new [] edits = edits
+left_edits all new (r ∷ rs) edits = left_edits all new rs (if is_some (row_at row_place (row_place r) new) then edits else set_row (edit_place row_place) (gone_edit all r) edits)

@@ -2,8 +2,7 @@
 use Rattle.std.specs.Prelude.{ℕ, List, ◌++◌}
 use Rattle.mud_base.specs.declared.addr.Addr.{Addr}
 use Rattle.sorted_rows.specs.Addresses.{addr_place}
-use Rattle.acl_model.specs.declared.binding.MemberKey.{MemberKey}
-use Rattle.acl_model.specs.Places.{key_kind, key_text, text_place}
+use Rattle.acl_model.specs.Places.{text_place}
 
 -- the place of the binding of a kind of key, a text and an address
 abbrev pub place_of_text : ℕ → List ℕ → Addr → List ℕ

@@ -9,7 +9,7 @@ use Rattle.acl_rows.specs.declared.row.Owner.{Owner}
 use Rattle.acl_rows.specs.declared.row.Row.{Row}
 use Rattle.acl_rows.specs.declared.row.RowKey.{RowKey}
 use Rattle.acl_rows.specs.Rows.{Slots, Holder, member_keys, entry_at}
-use Rattle.acl_rows.specs.View.{rows_of_side}
+use Rattle.acl_rows.specs.ByAddress.{rows_of_peer}
 use Rattle.row_changes.specs.Policies.{AllHeld}
 
 -- the steps of a key, and none where there is none
@@ -42,9 +42,10 @@ PolicyKeys s (Some held) = (owner : Owner) → HolderKeys s (owner, held)
 abbrev pub place_steps : ℕ → ℕ → ℕ → ℕ
 place_steps s b k = (s + 1) * (b + k + 2)
 
--- the least number of steps in which a place is looked for among the rows of its owner and side: none where there are none
+-- the least number of steps in which a place is looked for among the rows of its owner, side and address: none where there
+-- are none
 unfoldable pub least_step : List Row → RowKey → ℕ
-least_step rows key = min 1 (length (rows_of_side key.owner key.side rows))
+least_step rows key = min 1 (length (rows_of_peer key.owner key.side key.addr rows))
 
 -- the same of these places, together
 unfoldable pub least_steps : List Row → List RowKey → ℕ

@@ -10,8 +10,8 @@ ghost use Rattle.acl_model.specs.Places.{binding_place, key_place};
 ghost use Rattle.acl_model.specs.Changes.{until_of};
 ghost use Rattle.acl_model.specs.FirstMatch.{entries_of};
 ghost use Rattle.acl_rows.specs.Places.{row_place};
+ghost use Rattle.acl_rows.specs.ByAddress.{index_beside};
 ghost use Rattle.acl_rows.specs.Rows as spec;
-ghost use Rattle.row_shelves.specs.Shelves.{index_beside};
 ghost use Rattle.acl_patch.specs.Patch.{IsPatch};
 ghost use Rattle.acl_patch.specs.Touched.{changed_edits, row_key, row_key_place};
 ghost use Rattle.key_index.specs.Spots.{policy_spots};
@@ -24,7 +24,7 @@ ghost use Rattle.row_changes.specs.Policies.{HasCounts, AllHeld, url_policy};
 use crate::keys::is_bound;
 use crate::policies::{Held, HeldDefaults};
 use acl_model::{Binding, BoundKey, Entry, MemberKey, Policy, Selector, is_in_family};
-use acl_rows::{Owner, Row, RowKey};
+use acl_rows::{Owner, PackedAddr, Row, RowKey};
 use binding_shelves::BindingShelves;
 use key_index::{EntrySpot, KeyIndex, selector_key};
 use mud_base::{Addr, Direction, End, Memory};
@@ -214,13 +214,13 @@ impl<'a> Change<'a> {
         edits: &mut SortedRows<Edit<Row>>,
         steps: &mut Steps<L>,
     ) -> Result<(), Memory>
-        ensures ok { OnOk result (edits.new.rows ≡ changed_edits key (index_beside key.owner key.side (row_key_place key) self.now.rows) (end_of_row (row_at row_place (row_key_place key) self.now.rows)) until edits.old.rows) }
+        ensures ok { OnOk result (edits.new.rows ≡ changed_edits key (index_beside key.owner key.side key.addr (row_key_place key) self.now.rows) (end_of_row (row_at row_place (row_key_place key) self.now.rows)) until edits.old.rows) }
         ensures least { steps.old + least_step self.now.rows key ≤ steps.new }
         ensures most { (b : ℕ) → length self.now.rows < 2 ^ b → steps.new ≤ steps.old + b }
     {
-        let shelf = self.rows.shelf(key.owner, key.side);
-        let kept = shelf.rows();
-        match shelf.find_counted(&key, steps) {
+        let group = self.rows.at(key.owner, key.side, key.addr);
+        let kept = group.rows();
+        match group.find_counted(&key, steps) {
             Ok(index) => plan_kept(edits, key, index, row_of(kept, index).until, until),
             Err(index) => plan_new(edits, key, index, until),
         }
@@ -358,7 +358,7 @@ impl<'a> Change<'a> {
     }
 
     /// The edits of the change: with them the rows are those made anew of the bindings after it.
-    /// Each place that is touched is looked for among the rows of its owner and side.
+    /// Each place that is touched is looked for among the rows of its owner, side and address.
     pub fn plan<L: Ledger>(
         &self,
         alloc: Global,
@@ -505,7 +505,7 @@ pub(crate) fn row_until(key: RowKey, until: End) -> Row
     Row {
         owner: key.owner,
         side: key.side,
-        addr: key.addr,
+        addr: PackedAddr::new(key.addr),
         entry: key.entry,
         until,
     }

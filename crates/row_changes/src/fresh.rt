@@ -1,14 +1,15 @@
 //! The rows that a new policy asks for, and the edits that they lead to.
-ghost use Rattle.std.specs.Prelude.{◌≡◌, ℕ, ◌+◌, ◌*◌, ◌^◌, ◌<◌, ◌≤◌, length, OnOk, Some, [], ◌∷◌, map};
+ghost use Rattle.std.specs.Prelude.{◌≡◌, ℕ, ◌+◌, ◌*◌, ◌^◌, ◌<◌, ◌≤◌, length, OnOk, Some, List, [], ◌∷◌, map};
 ghost use Rattle.acl_model.specs.FirstMatch.{entries_of};
-ghost use Rattle.sorted_rows.specs.Placed.{set_row};
+ghost use Rattle.sorted_rows.specs.Placed.{set_row, PlacesAscend};
+ghost use Rattle.acl_rows.specs.declared.row.Row.{Row as RowValue};
 ghost use Rattle.acl_rows.specs.Places.{row_place};
 ghost use Rattle.acl_rows.specs.Rows.{Slots, row, held_by, entry_at, member_keys};
 ghost use Rattle.acl_patch.specs.Touched.{row_key, key_end};
 ghost use Rattle.acl_patch.specs.PolicyTouched.{bound_key, entry_touches, side_policy_touches, new_touches};
 ghost use Rattle.row_changes.specs.Policies.{HasCounts};
 ghost use Rattle.row_changes.specs.Steps.{EntriesFit, HolderFits};
-ghost use Rattle.row_changes.specs.Fresh.{fresh_of, one_fresh, more_fresh, joined, membered_count, policy_count, left_edits, AreSorted};
+ghost use Rattle.row_changes.specs.Fresh.{fresh_of, one_fresh, more_fresh, joined, membered_count, policy_count, AreOfPeer, left_edits, AreSorted};
 
 use crate::change::{Change, Holding, row_until};
 use crate::keys::first_key;
@@ -232,15 +233,16 @@ fn put_fresh(rows: &mut SortedRows<Row>, key: RowKey, until: End) -> Result<(), 
     Ok(())
 }
 
-/// Plans that those of these rows go whose places aren't among the new rows. They are the rows of
-/// one owner and side. Each is one step.
+/// Plans that those of these rows go whose places aren't among the new rows. They are all rows of
+/// one owner, side and address. Each is one step.
 pub(crate) fn plan_left<L: Ledger>(
     own: &[Row],
     fresh: &mut FreshRows,
     steps: &mut Steps<L>,
 ) -> Result<(), Memory>
+    requires { PlacesAscend row_place own.now }
     ensures rows { fresh.new.rows ≡ fresh.old.rows }
-    ensures ok { OnOk result (fresh.new.edits ≡ left_edits fresh.old.rows 0 own.now fresh.old.edits) }
+    ensures ok { OnOk result ((all : List RowValue) → AreOfPeer own.now all → fresh.new.edits ≡ left_edits all fresh.old.rows own.now fresh.old.edits) }
     ensures counted { steps.new ≡ steps.old + length own.now }
 {
     steps.add(own.len() as u64);

@@ -11,5 +11,5 @@ pub mod policy;
 
 pub use bindings::edits_of;
 pub use change::{Change, Holding};
-pub use policies::{CompiledPolicy, Held, HeldDefaults, find_held};
+pub use policies::{CompiledPolicy, Held, HeldDefaults};
 pub use policy::slot_rows;

@@ -1,8 +1,7 @@
 //! Policies that are held, with what a ruling wants of them at hand.
 ghost use Rattle.std.specs.Prelude.{◌≡◌, ◌≤◌, [], IfOk, length};
 ghost use Rattle.acl_model.specs.Defaults.{default_policy, defaults_of};
-ghost use Rattle.std.specs.Option.{option_map};
-ghost use Rattle.acl_rows.specs.View.{wide_from, holder_from, IsPartOf};
+ghost use Rattle.acl_rows.specs.View.{wide_from, IsPartOf};
 ghost use Rattle.mud_url.specs.Url.{host_of};
 ghost use Rattle.row_changes.specs.Policies.{HasCounts, url_policy, IsIndexOf};
 
@@ -139,21 +138,19 @@ impl CompiledPolicy {
     }
 
     /// What a ruling reads of one side of it, over rows among which those of the owner stand. The
-    /// rows of an address are sought among those of the owner and side alone.
+    /// rows of an address stand by themselves.
     pub fn part<'a>(&'a self, owner: Owner, side: Direction, rows: &'a RowShelves) -> RulePart<'a>
         ensures { IsPartOf rows.now.rows side owner self.now result }
     {
         let shelf = rows.shelf(owner, side);
         match side {
             Direction::From => RulePart::new(
-                owner,
                 side,
                 self.policy.outgoing.as_slice(),
                 self.wide_outgoing.as_slice(),
                 shelf,
             ),
             Direction::To => RulePart::new(
-                owner,
                 side,
                 self.policy.incoming.as_slice(),
                 self.wide_incoming.as_slice(),
@@ -218,22 +215,4 @@ impl HeldDefaults {
     {
         &self.keys
     }
-}
-
-/// The first place with the URL, and its policy.
-#[tactic(auto, unfolding(acl_rows::specs::View::holder_from, acl_rows::specs::View::in_slot))]
-pub fn find_held<'a>(slots: &'a [Option<Held>], url: &MudUrl) -> Option<(u16, &'a Held)>
-    requires { length slots.now ≤ 128 }
-    ensures { option_map (λ h. (Owner.Url h.0, h.1.now)) result ≡ holder_from url.now 0 slots.now }
-{
-    let mut n: u16 = 0;
-    for slot in slots {
-        if let Some(held) = slot {
-            if held.url() == url {
-                return Some((n, held));
-            }
-        }
-        n += 1;
-    }
-    None
 }

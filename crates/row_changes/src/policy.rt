@@ -22,6 +22,27 @@ use sorted_rows::{SortedRows, Steps};
 use std::alloc::Global;
 use std::sync::ledger::Ledger;
 
+/// Plans that those rows of an owner and side go whose places aren't among the new rows. Each row of
+/// the owner and side is one step.
+fn plan_side<L: Ledger>(
+    rows: &RowShelves,
+    owner: Owner,
+    side: Direction,
+    fresh: &mut FreshRows,
+    steps: &mut Steps<L>,
+) -> Result<(), Memory>
+    ensures rows { fresh.new.rows ≡ fresh.old.rows }
+    ensures ok { OnOk result (fresh.new.edits ≡ left_edits rows.now.rows fresh.old.rows (rows_of_side owner side rows.now.rows) fresh.old.edits) }
+    ensures read { OnOk result (steps.new ≡ steps.old + length (rows_of_side owner side rows.now.rows)) }
+    ensures most { steps.new ≤ steps.old + length (rows_of_side owner side rows.now.rows) }
+{
+    let groups = rows.shelf(owner, side).groups();
+    for group in groups.values() {
+        plan_left(group.rows(), fresh, steps)?;
+    }
+    Ok(())
+}
+
 /// Plans that those rows of an owner go whose places aren't among the new rows. Each row of the
 /// owner is one step.
 fn plan_own<L: Ledger>(
@@ -31,12 +52,12 @@ fn plan_own<L: Ledger>(
     steps: &mut Steps<L>,
 ) -> Result<(), Memory>
     requires { PlacesAscend row_place rows.now.rows }
-    ensures ok { OnOk result (fresh.new.edits ≡ left_edits fresh.old.rows 0 (rows_of_side owner Direction.To rows.now.rows) (left_edits fresh.old.rows 0 (rows_of_side owner Direction.From rows.now.rows) fresh.old.edits)) }
+    ensures ok { OnOk result (fresh.new.edits ≡ left_edits rows.now.rows fresh.old.rows (rows_of_side owner Direction.To rows.now.rows) (left_edits rows.now.rows fresh.old.rows (rows_of_side owner Direction.From rows.now.rows) fresh.old.edits)) }
     ensures read { OnOk result (steps.old + length (owner_rows owner rows.now.rows) ≤ steps.new) }
     ensures most { steps.new ≤ steps.old + length (owner_rows owner rows.now.rows) }
 {
-    plan_left(rows.shelf(owner, Direction::From).rows(), fresh, steps)?;
-    plan_left(rows.shelf(owner, Direction::To).rows(), fresh, steps)
+    plan_side(rows, owner, Direction::From, fresh, steps)?;
+    plan_side(rows, owner, Direction::To, fresh, steps)
 }
 
 /// The rows that the policy of an owner asks for, where there is one, and their edits.

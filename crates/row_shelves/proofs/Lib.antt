@@ -1,6 +1,7 @@
 pub mod Beside
-pub mod EditLaws
+pub mod IndexLaws
+pub mod LastLaws
 pub mod Numbers
 pub mod PartLaws
+pub mod RoomLaws
 pub mod RunLaws
-pub mod ReserveLaws

@@ -1,11 +1,11 @@
 -- The numbers of shelves: they rise with the places of rows, and each is of one owner and side.
-use Rattle.std.proofs.Common.{◌≡◌, ℕ, ◌+◌, ◌-◌, ◌*◌, ◌/◌, ◌%◌, ◌<◌, ◌≤◌, min, Bool, true, cond, List, [], ◌∷◌, ◌++◌, inl, inr, refl, sym, ap, ◌∙◌, arith}
+use Rattle.std.proofs.Common.{◌≡◌, ℕ, ◌+◌, ◌*◌, ◌<◌, ◌≤◌, Bool, true, cond, List, [], ◌∷◌, ◌++◌, inl, inr, refl, sym, ap, ◌∙◌, arith}
 use Rattle.std.specs.Prelude.{nat_eq}
 use Rattle.std.specs.Ordering.{nat_cmp, ordering_then}
 use Rattle.std.specs.declared.cmp.Ordering.{Ordering}
 use Rattle.std.specs.declared.cmp.Ordering.TheVariants.{Less, Equal, Greater}
 use Rattle.std.proofs.lemmas.Bool.{eqb-true, eq-eqb, lt-ltb, le-ltb, and_parts, cases_lt}
-use Rattle.sorted_rows.specs.Placed.{place_cmp, prefix_cmp, is_under}
+use Rattle.sorted_rows.specs.Placed.{place_cmp, is_under}
 use Rattle.sorted_rows.specs.Addresses.{addr_place}
 use Rattle.mud_base.specs.declared.packet.Direction.{Direction}
 use Rattle.mud_base.specs.declared.packet.Direction.TheVariants.{From, To}
@@ -14,7 +14,7 @@ use Rattle.acl_rows.specs.declared.row.Owner.TheVariants.{Url, Default}
 use Rattle.acl_rows.specs.declared.row.Row.{Row}
 use Rattle.acl_rows.specs.Places.{owner_class, owner_number, side_number, owner_place, side_place, peer_place, place_at, row_place}
 use Rattle.row_shelves.specs.Shelves.{shelf_number}
-use Rattle.row_shelves.specs.Parts.{row_number, shelf_place}
+use Rattle.row_shelves.specs.Parts.{row_number}
 
 -- ---- A lesser number stands on a shelf before
 
@@ -92,23 +92,3 @@ under_on o s r e =
     let second = and_parts (nat_eq (owner_number o) (owner_number r.owner)) _ first.1 in
     let third = and_parts (nat_eq (side_number s) (side_number r.side)) _ second.1 in
     λ i. 2 * (sym (eqb-true (owner_class o) (owner_class r.owner) first.0) i + sym (eqb-true (owner_number o) (owner_number r.owner) second.0) i) + sym (eqb-true (side_number s) (side_number r.side) third.0) i
-
--- ---- The beginnings of the places
-
-place_of_numbers : (c n s k : ℕ) → min (k / 2) 1 ≡ c → k / 2 - 1 ≡ n → k % 2 ≡ s → shelf_place k ≡ c ∷ (n ∷ (s ∷ []))
-unfolding shelf_place
-place_of_numbers c n s k first second third = λ i. first i ∷ (second i ∷ (third i ∷ []))
-
-pub shelf_place_is : (o : Owner) (s : Direction) → shelf_place (shelf_number o s) ≡ side_place o s
-unfolding shelf_number side_place owner_place owner_class owner_number
-shelf_place_is Default s =
-    let few : side_number s ≤ 1 = side_few s in
-    place_of_numbers 0 0 (side_number s) (2 * (0 + 0) + side_number s) (omega arith) (omega arith) (omega arith)
-shelf_place_is (Url n) s =
-    let few : side_number s ≤ 1 = side_few s in
-    place_of_numbers 1 n (side_number s) (2 * (1 + n) + side_number s) (omega arith) (omega arith) (omega arith)
-
--- a beginning stands to a row's place as it does to the beginning of that place
-pub begins_as : (k : ℕ) (r : Row) → prefix_cmp (shelf_place k) (row_place r) ≡ place_cmp (shelf_place k) (side_place r.owner r.side)
-unfolding shelf_place row_place place_at peer_place side_place owner_place
-begins_as k r = refl

@@ -1,19 +1,21 @@
 -- What the shelves hold, one after the other.
-use Rattle.std.proofs.Common.{◌≡◌, ℕ, zero, suc, ◌+◌, ◌<◌, ◌≤◌, Bool, true, false, cond, List, [], ◌∷◌, ◌++◌, length, set, get_or, inl, inr, refl, sym, ap, subst, ◌∙◌, arith, append-nil}
+use Rattle.std.proofs.Common.{◌≡◌, ℕ, zero, suc, ◌+◌, ◌<◌, ◌≤◌, Bool, true, false, cond, List, [], ◌∷◌, ◌++◌, length, set, get_or, refl, sym, ap, subst, ◌∙◌, arith, append-nil}
 use Rattle.std.specs.Prelude.{filter}
 use Rattle.std.specs.List.{AllByRecursion}
-use Rattle.std.proofs.lemmas.Bool.{cases_eq}
 use Rattle.std.proofs.lemmas.List.{get_or-set_same, get_or-set_other, get_or_past, get_or_read}
 use Rattle.std.proofs.lemmas.List.Elements.{filter-append}
-use Rattle.sorted_rows.specs.Placed.{is_under, PlacesAbove, PlacesBelow, RowsAndRoom}
+use Rattle.sorted_rows.specs.Placed.{is_under, PlacesAbove, PlacesBelow}
+use Rattle.mud_base.specs.declared.addr.Addr.{Addr}
 use Rattle.mud_base.specs.declared.packet.Direction.{Direction}
 use Rattle.acl_rows.specs.declared.row.Owner.{Owner}
 use Rattle.acl_rows.specs.declared.row.Row.{Row}
 use Rattle.acl_rows.specs.Places.{side_place, row_place}
 use Rattle.acl_rows.specs.View.{rows_of_side}
+use Rattle.acl_rows.specs.ByAddress.{SideRows, rows_of_peer}
 use Rattle.row_shelves.specs.Shelves.{shelf_number}
-use Rattle.row_shelves.specs.Parts.{row_number, Parts, nothing, part_at, joined, AreSorted, AreShelved, HaveSameRows}
+use Rattle.row_shelves.specs.Parts.{row_number, Parts, nothing, part_at, joined, AreSorted, AreShelved}
 use Rattle.row_shelves.proofs.Numbers.{rows_rise, on_under, under_on}
+use Rattle.row_shelves.proofs.Beside.{peer_beside, side_few}
 
 -- the rows on the shelves have their numbers, where the first one's is n
 abbrev pub On : ℕ → Parts → Type 0
@@ -25,14 +27,14 @@ from_zero parts sorted k = subst (λ (m : ℕ). AllByRecursion (λ r. row_number
     zero_more : (k : ℕ) → k ≡ 0 + k
     zero_more k = omega arith
 
-pub first_on : (n : ℕ) (s : RowsAndRoom Row) (ss : Parts) → On n (s ∷ ss) → AllByRecursion (λ r. row_number r ≡ n) s.rows
+pub first_on : (n : ℕ) (s : SideRows) (ss : Parts) → On n (s ∷ ss) → AllByRecursion (λ r. row_number r ≡ n) s.rows
 unfolding part_at
 first_on n s ss on = subst (λ (m : ℕ). AllByRecursion (λ r. row_number r ≡ m) s.rows) (no_more n) (on 0)
   where
     no_more : (n : ℕ) → n + 0 ≡ n
     no_more n = omega arith
 
-pub rest_on : (n : ℕ) (s : RowsAndRoom Row) (ss : Parts) → On n (s ∷ ss) → On (suc n) ss
+pub rest_on : (n : ℕ) (s : SideRows) (ss : Parts) → On n (s ∷ ss) → On (suc n) ss
 unfolding part_at
 rest_on n s ss on k = subst (λ (m : ℕ). AllByRecursion (λ r. row_number r ≡ m) (get_or ss k nothing).rows) (one_more n k) (on (suc k))
   where
@@ -41,7 +43,7 @@ rest_on n s ss on k = subst (λ (m : ℕ). AllByRecursion (λ r. row_number r �
 
 -- ---- One shelf
 
-pub part_read : (parts : Parts) (k : ℕ) (x : RowsAndRoom Row) → k < length parts → x ≡ get_or parts k x → x ≡ part_at parts k
+pub part_read : (parts : Parts) (k : ℕ) (x : SideRows) → k < length parts → x ≡ get_or parts k x → x ≡ part_at parts k
 unfolding part_at
 part_read parts k x lt is = get_or_read parts k x lt is nothing
 
@@ -49,11 +51,11 @@ pub part_past : (parts : Parts) (k : ℕ) → length parts ≤ k → part_at par
 unfolding part_at
 part_past parts k past = get_or_past parts k nothing past
 
-pub set_here : (parts : Parts) (k : ℕ) (part : RowsAndRoom Row) → k < length parts → part_at (set parts k part) k ≡ part
+pub set_here : (parts : Parts) (k : ℕ) (part : SideRows) → k < length parts → part_at (set parts k part) k ≡ part
 unfolding part_at
 set_here parts k part lt = get_or-set_same parts k part nothing lt
 
-pub set_other : (parts : Parts) (k j : ℕ) (part : RowsAndRoom Row) → (j ≡ k → ⊥) → part_at (set parts k part) j ≡ part_at parts j
+pub set_other : (parts : Parts) (k j : ℕ) (part : SideRows) → (j ≡ k → ⊥) → part_at (set parts k part) j ≡ part_at parts j
 unfolding part_at
 set_other parts k j part other = get_or-set_other parts k j part nothing other
 
@@ -75,38 +77,6 @@ pub above_joined : (n : ℕ) (parts : Parts) (r : Row) → On n parts → row_nu
 unfolding joined
 above_joined n [] r on lt = tt
 above_joined n (s ∷ ss) r on lt = above-append (row_place r) s.rows (joined ss) (above_list r n s.rows (first_on n s ss on) lt) (above_joined (suc n) ss r (rest_on n s ss on) (omega arith))
-
--- ---- The same rows on each shelf are the same rows
-
-same_joined : (old new : Parts) → ((k : ℕ) → (part_at new k).rows ≡ (part_at old k).rows) → joined new ≡ joined old
-unfolding joined part_at
-same_joined [] [] same = refl
-same_joined [] (y ∷ ys) same = λ i. same 0 i ++ same_joined [] ys (λ k. same (suc k)) i
-same_joined (x ∷ xs) [] same = λ i. same 0 i ++ same_joined xs [] (λ k. same (suc k)) i
-same_joined (x ∷ xs) (y ∷ ys) same = λ i. same 0 i ++ same_joined xs ys (λ k. same (suc k)) i
-
-pub joined_same : (old new : Parts) → HaveSameRows old new → joined new ≡ joined old
-joined_same old new same = same_joined old new same.each
-
-pub sorted_same : (old new : Parts) → HaveSameRows old new → AreSorted old → AreSorted new
-sorted_same old new same sorted = record { each = λ k. subst (AllByRecursion (λ r. row_number r ≡ k)) (sym (same.each k)) (sorted.each k) }
-
-pub same_itself : (parts : Parts) → HaveSameRows parts parts
-same_itself parts = record { each = λ k. refl }
-
-pub same_twice : (a b c : Parts) → HaveSameRows a b → HaveSameRows b c → HaveSameRows a c
-same_twice a b c first second = record { each = λ k. second.each k ∙ first.each k }
-
--- one empty shelf more
-pub same_pushed : (parts : Parts) (s : RowsAndRoom Row) → s.rows ≡ [] → HaveSameRows parts (parts ++ s ∷ [])
-unfolding part_at
-same_pushed parts s none = record { each = pushed parts }
-  where
-    pushed : (parts : Parts) (k : ℕ) → (get_or (parts ++ s ∷ []) k nothing).rows ≡ (get_or parts k nothing).rows
-    pushed [] zero = none
-    pushed [] (suc k) = refl
-    pushed (x ∷ xs) zero = refl
-    pushed (x ∷ xs) (suc k) = pushed xs k
 
 -- ---- The rows of an owner and side
 
@@ -148,42 +118,16 @@ side_from o s n (suc k) (x ∷ xs) on is =
 pub side_joined : (o : Owner) (s : Direction) (parts : Parts) → AreSorted parts → rows_of_side o s (joined parts) ≡ (part_at parts (shelf_number o s)).rows
 side_joined o s parts sorted = side_from o s 0 (shelf_number o s) parts (from_zero parts sorted) (omega arith)
 
--- and there are no more of them than rows
-kept_few : (x : Row) (n : ℕ) (ys : List Row) (b : Bool) → length ys ≤ n → length (cond b (x ∷ ys) ys) ≤ suc n
-kept_few x n ys true few = omega arith
-kept_few x n ys false few = omega arith
-
-filter_few : (t : Row → Bool) (rows : List Row) → length (filter t rows) ≤ length rows
-filter_few t [] = omega arith
-filter_few t (x ∷ xs) = kept_few x (length xs) (filter t xs) (t x) (filter_few t xs)
-
-pub side_few : (o : Owner) (s : Direction) (rows : List Row) → length (rows_of_side o s rows) ≤ length rows
-unfolding rows_of_side
-side_few o s rows = filter_few (is_under row_place (side_place o s)) rows
-
--- ---- Room on one shelf more
-
-pub same_set : (a old : Parts) (k : ℕ) (x part : RowsAndRoom Row) → HaveSameRows a old → k < length old → x ≡ get_or old k x → part.rows ≡ x.rows → HaveSameRows a (set old k part)
-same_set a old k x part same lt is rows = same_twice a old (set old k part) same (record {
-  each = λ j. elim (cases_eq j k) [
-    | inl here ↦ subst (λ (m : ℕ). (part_at (set old k part) m).rows ≡ (part_at old m).rows) (sym here) (ap (λ (p : RowsAndRoom Row). p.rows) (set_here old k part lt) ∙ rows ∙ ap (λ (p : RowsAndRoom Row). p.rows) (part_read old k x lt is))
-    | inr other ↦ ap (λ (p : RowsAndRoom Row). p.rows) (set_other old k j part other)
-  ];
-})
-
--- so far there is room on each shelf before the next one
-pub room_more : (old : Parts) (k : ℕ) (part : RowsAndRoom Row) (n : ℕ → ℕ) → k < length old → ((j : ℕ) → j < k → n j ≤ (part_at old j).room) → n k ≤ part.room → (j : ℕ) → j < k + 1 → n j ≤ (part_at (set old k part) j).room
-room_more old k part n lt before here j less = elim (cases_eq j k) [
-  | inl same ↦ subst (λ (m : ℕ). n m ≤ (part_at (set old k part) m).room) (sym same) (subst (λ (p : RowsAndRoom Row). n k ≤ p.room) (sym (set_here old k part lt)) here)
-  | inr other ↦ subst (λ (p : RowsAndRoom Row). n j ≤ p.room) (sym (set_other old k j part other)) (before j (omega arith))
-]
+-- and those of an address are among these
+pub peer_joined : (o : Owner) (s : Direction) (a : Addr) (parts : Parts) → AreSorted parts → rows_of_peer o s a (joined parts) ≡ rows_of_peer o s a (part_at parts (shelf_number o s)).rows
+peer_joined o s a parts sorted = sym (peer_beside o s a (joined parts)) ∙ ap (rows_of_peer o s a) (side_joined o s parts sorted)
 
 -- ---- Before anything stands there
 
 pub nothing_shelved : (parts : Parts) (none : List Row) → parts ≡ [] → none ≡ [] → AreShelved parts none
-unfolding part_at
+unfolding part_at joined
 nothing_shelved parts none empty none_is = record {
-  sorted = record { each = λ k. subst (λ (ps : Parts). AllByRecursion (λ r. row_number r ≡ k) (get_or ps k nothing).rows) (sym empty) tt };
+  sorted = subst AreSorted (sym empty) (record { own = λ k lt. absurd (omega arith); each = λ k. tt; ascend = tt });
   none_is = none_is;
 }
 
@@ -191,13 +135,10 @@ pub joined_none : (parts : Parts) → parts ≡ [] → joined parts ≡ []
 unfolding joined
 joined_none parts empty = ap joined empty
 
--- ---- What is lent, and what stays
+-- ---- What is lent
 
 pub side_lent : (o : Owner) (s : Direction) (parts : Parts) (none part : List Row) → AreShelved parts none → part ≡ (part_at parts (shelf_number o s)).rows → part ≡ rows_of_side o s (joined parts)
 side_lent o s parts none part shelved is = is ∙ sym (side_joined o s parts shelved.sorted)
 
 pub lent_few : (o : Owner) (s : Direction) (parts : Parts) (none part : List Row) → AreShelved parts none → part ≡ (part_at parts (shelf_number o s)).rows → length part ≤ length (joined parts)
 lent_few o s parts none part shelved is = subst (λ (rows : List Row). length rows ≤ length (joined parts)) (sym (side_lent o s parts none part shelved is)) (side_few o s (joined parts))
-
-pub shelved_same : (old new : Parts) (none : List Row) → HaveSameRows old new → AreShelved old none → AreShelved new none
-shelved_same old new none same shelved = record { sorted = sorted_same old new same shelved.sorted; none_is = shelved.none_is }

@@ -1,201 +1,305 @@
--- What edits of one shelf, made at once, make of the shelves.
-use Rattle.std.proofs.Common.{◌≡◌, ℕ, ◌+◌, ◌<◌, ◌≤◌, Bool, cond, List, [], ◌∷◌, ◌++◌, length, set, get_or, take, drop, refl, sym, ap, subst, ◌∙◌, arith, append_assoc, length-append, length-drop}
+-- What edits of one owner, side and address, made at once, make of the shelves.
+use Rattle.std.proofs.Common.{◌≡◌, ℕ, zero, suc, ◌+◌, ◌<◌, ◌≤◌, Bool, true, false, cond, List, [], ◌∷◌, ◌++◌, length, set, get_or, take, drop, inl, inr, refl, sym, ap, subst, ◌∙◌, arith, length-append, length-drop, length-take-le}
 use Rattle.std.specs.Prelude.{filter}
 use Rattle.std.specs.List.{AllByRecursion}
-use Rattle.std.proofs.lemmas.List.{get_or_default, length-set, set-set, take-append-drop, drop_all}
+use Rattle.std.proofs.lemmas.Bool.{cases_eq}
+use Rattle.std.proofs.lemmas.List.{length-set, take-append-drop}
 use Rattle.std.proofs.lemmas.List.Elements.{filter-append}
-use Rattle.sorted_rows.specs.Placed.{is_under, index_in, PlacesAscend, RowsAndRoom}
+use Rattle.sorted_rows.specs.Placed.{is_under, index_in, set_row, without_row, PlacesAbove, PlacesBelow, PlacesAscend}
+use Rattle.sorted_rows.proofs.RowLaws.{all-set_row, all-without_row}
+use Rattle.sorted_rows.proofs.IndexLaws.{set_row-behind, set_row-before, without_row-behind, without_row-before}
+use Rattle.mud_base.specs.Addresses.{same_addr}
+use Rattle.mud_base.specs.declared.addr.Addr.{Addr}
 use Rattle.mud_base.specs.declared.packet.Direction.{Direction}
 use Rattle.row_edits.specs.declared.edit.Edit.{Edit}
-use Rattle.row_edits.specs.Edits.{edit_place, edit_made, edited, AreFound}
-use Rattle.row_edits.proofs.EditLaws.{ascend-edited, below_last}
-use Rattle.row_edits.proofs.RunLaws.{all_right, ascend_left, first_is}
+use Rattle.row_edits.specs.Edits.{edit_place, edit_made, edited}
+use Rattle.row_edits.proofs.EditLaws.{ascend-edited}
+use Rattle.row_edits.proofs.RunLaws.{all_right, edited-append}
+use Rattle.acl_model.proofs.BindingLaws.{same_addr_exact}
 use Rattle.acl_rows.specs.declared.row.Owner.{Owner}
 use Rattle.acl_rows.specs.declared.row.Row.{Row}
-use Rattle.acl_rows.specs.Places.{side_place, row_place}
-use Rattle.row_shelves.specs.Shelves.{shelf_number, edits_of_side, HasRoom}
-use Rattle.row_shelves.specs.Parts.{row_number, Parts, nothing, part_at, room_in, AreSorted, AreFoundIn, AreLeft}
-use Rattle.row_shelves.proofs.Numbers.{on_under}
-use Rattle.row_shelves.proofs.PartLaws.{part_read, set_here}
-use Rattle.row_shelves.proofs.EditLaws.{IsEdited, IsLast, made_on, room_is, room_within, sorted_edited, left_room, left_found, left_made}
+use Rattle.acl_rows.specs.Places.{peer_place, row_place}
+use Rattle.acl_rows.specs.ByAddress.{SideRows, room_at, rows_of_peer, index_beside, IsEditAt}
+use Rattle.acl_rows.proofs.Lists.{all_implied}
+use Rattle.row_shelves.specs.Shelves.{shelf_number, room_on, edits_of_peer, AreFoundBeside, HasRoom}
+use Rattle.row_shelves.specs.Parts.{row_number, Parts, nothing, part_at, joined, room_in, AreSorted, AreLeft}
+use Rattle.row_shelves.proofs.Numbers.{AreOne, same_shelf}
+use Rattle.row_shelves.proofs.Beside.{peer_under}
+use Rattle.row_shelves.proofs.IndexLaws.{index_edited, above_right}
+use Rattle.row_shelves.proofs.PartLaws.{On, from_zero, first_on, rest_on, part_read, set_here, set_other, below_list, above_joined, peer_joined}
 
 -- on a shelf these edits are made; the other shelves stay
 pub record AreEdited (number : ℕ) (run : List (Edit Row)) (old new : Parts) : Type 0 where
-  pub part : RowsAndRoom Row
+  pub part : SideRows
   pub own : AllByRecursion (λ e. row_number e.row ≡ number) run
   pub within : number < length old
   pub set_is : new ≡ set old number part
+  pub owner_is : part.owner ≡ (part_at old number).owner
+  pub side_is : part.side ≡ (part_at old number).side
   pub rows : part.rows ≡ edited row_place run (part_at old number).rows
-  pub room : (part_at old number).room ≤ part.room + length run
-  pub ascend : PlacesAscend row_place (part_at old number).rows
 
--- ---- One edit after the other
+-- ---- All rows
 
-read_itself : (parts : Parts) (k : ℕ) → k < length parts → part_at parts k ≡ get_or parts k (part_at parts k)
-unfolding part_at
-read_itself parts k lt = get_or_default parts k nothing (get_or parts k nothing) lt
+before_by : (e : Edit Row) (xs ys : List Row) → PlacesAbove row_place (row_place e.row) ys → (b : Bool) → cond b (set_row row_place e.row (xs ++ ys)) (without_row row_place (row_place e.row) (xs ++ ys)) ≡ cond b (set_row row_place e.row xs) (without_row row_place (row_place e.row) xs) ++ ys
+before_by e xs ys above true = set_row-before row_place e.row xs ys above
+before_by e xs ys above false = without_row-before row_place (row_place e.row) xs ys above
 
-edited_one : (number : ℕ) (e : Edit Row) (old new : Parts) → AreEdited number (e ∷ []) old new → IsEdited e old new
-unfolding edited
-edited_one number e old new is =
-    subst (IsEdited e old) (sym is.set_is)
-    (made_on e old number (part_at old number) is.part (sym is.own.0) is.within (read_itself old number is.within) is.rows (omega (arith, is.room)) is.ascend)
+behind_by : (e : Edit Row) (xs ys : List Row) → PlacesBelow row_place (row_place e.row) xs → (b : Bool) → cond b (set_row row_place e.row (xs ++ ys)) (without_row row_place (row_place e.row) (xs ++ ys)) ≡ xs ++ cond b (set_row row_place e.row ys) (without_row row_place (row_place e.row) ys)
+behind_by e xs ys below true = set_row-behind row_place e.row xs ys below
+behind_by e xs ys below false = without_row-behind row_place (row_place e.row) xs ys below
 
-module _ (number : ℕ) (e : Edit Row) (tail : List (Edit Row)) (old new : Parts) (is : AreEdited number (e ∷ tail) old new) where
-  -- the shelf before the first edit is made
-  abbrev mid_part : RowsAndRoom Row
-  mid_part = record { rows = edited row_place tail (part_at old number).rows; room = is.part.room + 1 }
+edited_before : (run : List (Edit Row)) (xs ys : List Row) → AllByRecursion (λ e. PlacesAbove row_place (row_place e.row) ys) run → edited row_place run (xs ++ ys) ≡ edited row_place run xs ++ ys
+unfolding edited edit_made
+edited_before [] xs ys above = refl
+edited_before (e ∷ es) xs ys above = ap (edit_made row_place e) (edited_before es xs ys above.1) ∙ before_by e (edited row_place es xs) ys above.0 e.comes
 
-  abbrev mid : Parts
-  mid = set old number mid_part
+edited_behind : (run : List (Edit Row)) (xs ys : List Row) → AllByRecursion (λ e. PlacesBelow row_place (row_place e.row) xs) run → edited row_place run (xs ++ ys) ≡ xs ++ edited row_place run ys
+unfolding edited edit_made
+edited_behind [] xs ys below = refl
+edited_behind (e ∷ es) xs ys below = ap (edit_made row_place e) (edited_behind es xs ys below.1) ∙ behind_by e xs (edited row_place es ys) below.0 e.comes
 
-  edited_rest : AreEdited number tail old mid
-  edited_rest = record {
-    part = mid_part;
-    own = is.own.1;
-    within = is.within;
-    set_is = refl;
-    rows = refl;
-    room = omega (arith, is.room);
-    ascend = is.ascend;
+joined_set : (n : ℕ) (parts : Parts) (k : ℕ) (run : List (Edit Row)) (part : SideRows) → On n parts → AllByRecursion (λ e. row_number e.row ≡ n + k) run → k < length parts → part.rows ≡ edited row_place run (part_at parts k).rows → joined (set parts k part) ≡ edited row_place run (joined parts)
+unfolding joined part_at
+joined_set n [] k run part on own lt is = absurd (omega arith)
+joined_set n (s ∷ ss) zero run part on own lt is =
+    ap (λ (rows : List Row). rows ++ joined ss) is
+    ∙ sym (edited_before run s.rows (joined ss) (all_implied (λ e. row_number e.row ≡ n + 0) (λ e. PlacesAbove row_place (row_place e.row) (joined ss)) (λ e same. above_joined (suc n) ss e.row (rest_on n s ss on) (omega (arith, same))) run own))
+joined_set n (s ∷ ss) (suc k) run part on own lt is =
+    ap (λ (rows : List Row). s.rows ++ rows) (joined_set (suc n) ss k run part (rest_on n s ss on) (all_implied (λ e. row_number e.row ≡ n + suc k) (λ e. row_number e.row ≡ suc n + k) (λ e same. omega (arith, same)) run own) (omega arith) is)
+    ∙ sym (edited_behind run s.rows (joined ss) (all_implied (λ e. row_number e.row ≡ n + suc k) (λ e. PlacesBelow row_place (row_place e.row) s.rows) (λ e same. below_list e.row n s.rows (first_on n s ss on) (omega (arith, same))) run own))
+
+-- ---- Rows stay on their shelves
+
+all_by : (P : Row → Type 0) (e : Edit Row) (rows : List Row) → P e.row → AllByRecursion P rows → (b : Bool) → AllByRecursion P (cond b (set_row row_place e.row rows) (without_row row_place (row_place e.row) rows))
+all_by P e rows own all true = all-set_row row_place P e.row rows own all
+all_by P e rows own all false = all-without_row row_place P (row_place e.row) rows all
+
+all_edited : (P : Row → Type 0) (run : List (Edit Row)) (rows : List Row) → AllByRecursion (λ e. P e.row) run → AllByRecursion P rows → AllByRecursion P (edited row_place run rows)
+unfolding edited edit_made
+all_edited P [] rows own all = all
+all_edited P (e ∷ es) rows own all = all_by P e (edited row_place es rows) own.0 (all_edited P es rows own.1 all) e.comes
+
+module _ (number : ℕ) (run : List (Edit Row)) (old new : Parts) (is : AreEdited number run old new) where
+  part_here : part_at new number ≡ is.part
+  part_here = ap (λ (ps : Parts). part_at ps number) is.set_is ∙ set_here old number is.part is.within
+
+  part_other : (k : ℕ) → (k ≡ number → ⊥) → part_at new k ≡ part_at old k
+  part_other k other = ap (λ (ps : Parts). part_at ps k) is.set_is ∙ set_other old number k is.part other
+
+  -- on its shelf each edit is made, so it is made of all rows
+  pub joined_edited : AreSorted old → joined new ≡ edited row_place run (joined old)
+  joined_edited sorted =
+      ap joined is.set_is
+      ∙ joined_set 0 old number run is.part (from_zero old sorted) (all_implied (λ e. row_number e.row ≡ number) (λ e. row_number e.row ≡ 0 + number) (λ e same. omega (arith, same)) run is.own) is.within is.rows
+
+  own_here : AreSorted old → shelf_number (part_at new number).owner (part_at new number).side ≡ number
+  own_here sorted =
+      ap (λ (p : SideRows). shelf_number p.owner p.side) part_here
+      ∙ (λ i. shelf_number (is.owner_is i) (is.side_is i))
+      ∙ sorted.own number is.within
+
+  each_here : AreSorted old → AllByRecursion (λ r. row_number r ≡ number) (part_at new number).rows
+  each_here sorted =
+      subst (λ (p : SideRows). AllByRecursion (λ r. row_number r ≡ number) p.rows) (sym part_here)
+      (subst (AllByRecursion (λ r. row_number r ≡ number)) (sym is.rows) (all_edited (λ r. row_number r ≡ number) run (part_at old number).rows is.own (sorted.each number)))
+
+  pub sorted_edited : AreSorted old → AreSorted new
+  sorted_edited sorted = record {
+    own = λ k lt. elim (cases_eq k number) [
+      | inl same ↦ subst (λ (m : ℕ). shelf_number (part_at new m).owner (part_at new m).side ≡ m) (sym same) (own_here sorted)
+      | inr other ↦ ap (λ (p : SideRows). shelf_number p.owner p.side) (part_other k other) ∙ sorted.own k (omega (arith, lt, ap length is.set_is, length-set old number is.part))
+    ];
+    each = λ k. elim (cases_eq k number) [
+      | inl same ↦ subst (λ (m : ℕ). AllByRecursion (λ r. row_number r ≡ m) (part_at new m).rows) (sym same) (each_here sorted)
+      | inr other ↦ subst (λ (p : SideRows). AllByRecursion (λ r. row_number r ≡ k) p.rows) (sym (part_other k other)) (sorted.each k)
+    ];
+    ascend = subst (PlacesAscend row_place) (sym (joined_edited sorted)) (ascend-edited row_place run (joined old) sorted.ascend);
   }
 
-  mid_here : part_at mid number ≡ mid_part
-  mid_here = set_here old number mid_part is.within
+-- ---- Places before those of the edits keep their indices
 
-  mid_within : number < length mid
-  mid_within = let same : length mid ≡ length old = length-set old number mid_part in omega (arith, is.within, same)
+pub found_left : (left run : List (Edit Row)) (rows : List Row) → PlacesAscend row_place rows → PlacesAscend (edit_place row_place) (left ++ run) → AreFoundBeside rows (left ++ run) → AreFoundBeside (edited row_place run rows) left
+unfolding index_beside rows_of_peer edit_place
+found_left [] run rows up order found = tt
+found_left (x ∷ xs) run rows up order found =
+    (found.0 ∙ sym (index_edited row_place (is_under row_place (peer_place x.row.owner x.row.side x.row.addr)) (row_place x.row) run rows up (above_right (edit_place row_place) (row_place x.row) xs run order.0)), found_left xs run rows up order.1 found.1)
 
-  edited_first : IsEdited e mid new
-  unfolding edited
-  edited_first =
-      subst (IsEdited e mid) (set-set old number mid_part is.part ∙ sym is.set_is)
-      (made_on e mid number (part_at mid number) is.part (sym is.own.0) mid_within (read_itself mid number mid_within)
-      (is.rows ∙ ap (λ (p : RowsAndRoom Row). edit_made row_place e p.rows) (sym mid_here))
-      (subst (λ (p : RowsAndRoom Row). p.room ≤ is.part.room + 1) (sym mid_here) (omega arith))
-      (subst (λ (p : RowsAndRoom Row). PlacesAscend row_place p.rows) (sym mid_here) (ascend-edited row_place tail (part_at old number).rows is.ascend)))
+-- ---- Room
 
--- ---- What is left
+-- how much room there is for rows of an owner, side and address
+pub room_is : (parts : Parts) (o : Owner) (s : Direction) (a : Addr) → room_on (room_in parts) o s a ≡ room_at a (part_at parts (shelf_number o s)).room
+unfolding room_on room_in part_at
+room_is parts o s a = ap (room_at a) (at parts (shelf_number o s))
+  where
+    at : (parts : Parts) (k : ℕ) → get_or (room_in parts) k [] ≡ (get_or parts k nothing).room
+    at [] k = refl
+    at (x ∷ xs) zero = refl
+    at (x ∷ xs) (suc k) = at xs k
 
-left_one : (es rest : List (Edit Row)) (e : Edit Row) (old new : Parts) → IsLast es rest e → IsEdited e old new → AreSorted old → HasRoom es (room_in old) → AreFoundIn old es → AreLeft es rest old new
-left_one es rest e old new last is sorted has found = record {
-  sorted = sorted_edited e old new is sorted;
-  room = left_room es rest e last old new is has;
-  found = left_found es rest e last old new is found;
-  made = left_made es rest e last old new is sorted;
-}
+-- where there is room, there is a shelf
+room_within : (parts : Parts) (a : Addr) (k : ℕ) → 1 ≤ room_at a (part_at parts k).room → k < length parts
+unfolding part_at room_at
+room_within [] a k room = absurd (omega arith)
+room_within (x ∷ xs) a zero room = omega arith
+room_within (x ∷ xs) a (suc k) room = let rest : k < length xs = room_within xs a k room in omega arith
 
-left_more : (es some rest : List (Edit Row)) (old half new : Parts) → AreLeft es some old half → AreLeft some rest half new → AreLeft es rest old new
-left_more es some rest old half new first second = record {
-  sorted = second.sorted;
-  room = second.room;
-  found = second.found;
-  made = second.made ∙ first.made;
-}
+peer_more : (o : Owner) (s : Direction) (a : Addr) (left run : List (Edit Row)) → length (edits_of_peer o s a (left ++ run)) ≡ length (edits_of_peer o s a left) + length (edits_of_peer o s a run)
+unfolding edits_of_peer
+peer_more o s a left run =
+    ap length (filter-append (is_under (edit_place row_place) (peer_place o s a)) left run)
+    ∙ length-append (filter (is_under (edit_place row_place) (peer_place o s a)) left) (filter (is_under (edit_place row_place) (peer_place o s a)) run)
 
-last_by : (es rest : List (Edit Row)) (e : Edit Row) → es ≡ rest ++ e ∷ [] → PlacesAscend (edit_place row_place) es → IsLast es rest e
-last_by es rest e split order = record {
-  split = split;
-  below = below_last (edit_place row_place) rest e (subst (PlacesAscend (edit_place row_place)) split order);
-  long = ap length split ∙ length-append rest (e ∷ []);
-}
+pub edit_under : (o : Owner) (s : Direction) (a : Addr) (e : Edit Row) → IsEditAt o s a e → is_under (edit_place row_place) (peer_place o s a) e ≡ true
+unfolding edit_place
+edit_under o s a e is = peer_under o s a e.row (record { owner_is = is.owner_is; side_is = is.side_is; addr_is = is.addr_is })
 
-left_run : (number : ℕ) (e : Edit Row) (tail es rest : List (Edit Row)) (old new : Parts) → es ≡ rest ++ e ∷ tail → PlacesAscend (edit_place row_place) es → AreEdited number (e ∷ tail) old new → AreSorted old → HasRoom es (room_in old) → AreFoundIn old es → AreLeft es rest old new
-left_run number e [] es rest old new split order is sorted has found = left_one es rest e old new (last_by es rest e split order) (edited_one number e old new is) sorted has found
-left_run number e (f ∷ fs) es rest old new split order is sorted has found =
-    let half : Parts = mid number e (f ∷ fs) old new is in
-    let whole : es ≡ (rest ++ e ∷ []) ++ f ∷ fs = split ∙ sym (append_assoc rest (e ∷ []) (f ∷ fs)) in
-    let some : PlacesAscend (edit_place row_place) (rest ++ e ∷ []) = ascend_left (edit_place row_place) (rest ++ e ∷ []) (f ∷ fs) (subst (PlacesAscend (edit_place row_place)) whole order) in
-    let first : AreLeft es (rest ++ e ∷ []) old half = left_run number f fs es (rest ++ e ∷ []) old half whole order (edited_rest number e (f ∷ fs) old new is) sorted has found in
-    left_more es (rest ++ e ∷ []) rest old half new first
-    (left_one (rest ++ e ∷ []) rest e half new (last_by (rest ++ e ∷ []) rest e refl some) (edited_first number e (f ∷ fs) old new is) first.sorted first.room first.found)
+own_kept : (o : Owner) (s : Direction) (a : Addr) (run : List (Edit Row)) → AllByRecursion (IsEditAt o s a) run → edits_of_peer o s a run ≡ run
+unfolding edits_of_peer
+own_kept o s a [] own = refl
+own_kept o s a (e ∷ es) own =
+    ap (λ (b : Bool). cond b (e ∷ filter (is_under (edit_place row_place) (peer_place o s a)) es) (filter (is_under (edit_place row_place) (peer_place o s a)) es)) (edit_under o s a e own.0)
+    ∙ ap (λ ws. e ∷ ws) (own_kept o s a es own.1)
 
--- once edits are made on the shelf of the last ones, the others are left
-pub edits_left : (number : ℕ) (run es rest : List (Edit Row)) (old new : Parts) → 0 < length run → es ≡ rest ++ run → PlacesAscend (edit_place row_place) es → AreEdited number run old new → AreSorted old → HasRoom es (room_in old) → AreFoundIn old es → AreLeft es rest old new
-edits_left number [] es rest old new some split order is sorted has found = absurd (omega arith)
-edits_left number (e ∷ tail) es rest old new some split order is sorted has found = left_run number e tail es rest old new split order is sorted has found
-
--- what is written on a shelf are these edits
-pub edited_on : (old : Parts) (number : ℕ) (x y part : RowsAndRoom Row) (es : List (Edit Row)) (start : ℕ) → number < length old → x ≡ get_or old number x → y ≡ get_or old number y → start ≤ length es → AllByRecursion (λ e. row_number e.row ≡ number) (drop start es)
-    → part.rows ≡ edited row_place (drop start es) x.rows → x.room + start ≤ part.room + length es → PlacesAscend row_place y.rows → AreEdited number (drop start es) old (set old number part)
-edited_on old number x y part es start lt read read' le own rows room up =
-    let here : x ≡ part_at old number = part_read old number x lt read in
-    let more : x.room ≤ part.room + length (drop start es) = omega (arith, room, le, length-drop start es) in
-    record {
-      part = part;
-      own = own;
-      within = lt;
-      set_is = refl;
-      rows = rows ∙ ap (λ (p : RowsAndRoom Row). edited row_place (drop start es) p.rows) here;
-      room = subst (λ (p : RowsAndRoom Row). p.room ≤ part.room + length (drop start es)) here more;
-      ascend = subst (λ (p : RowsAndRoom Row). PlacesAscend row_place p.rows) (part_read old number y lt read') up;
-    }
+run_room : (o : Owner) (s : Direction) (a : Addr) (left run : List (Edit Row)) (parts : Parts) → AllByRecursion (IsEditAt o s a) run → HasRoom (left ++ run) (room_in parts) → length run ≤ room_at a (part_at parts (shelf_number o s)).room
+run_room o s a left run parts own has = omega (arith, has.each o s a, room_is parts o s a, peer_more o s a left run, ap length (own_kept o s a run own))
 
 -- ---- The shelf is there, has room, and each index is one on it
 
-own_kept : (o : Owner) (s : Direction) (run : List (Edit Row)) → AllByRecursion (λ e. row_number e.row ≡ shelf_number o s) run → edits_of_side o s run ≡ run
-unfolding edits_of_side edit_place
-own_kept o s [] own = refl
-own_kept o s (e ∷ es) own =
-    ap (λ (b : Bool). cond b (e ∷ filter (is_under (edit_place row_place) (side_place o s)) es) (filter (is_under (edit_place row_place) (side_place o s)) es)) (on_under o s e.row own.0)
-    ∙ ap (λ ws. e ∷ ws) (own_kept o s es own.1)
-
-side_more : (o : Owner) (s : Direction) (rest run : List (Edit Row)) → length (edits_of_side o s (rest ++ run)) ≡ length (edits_of_side o s rest) + length (edits_of_side o s run)
-unfolding edits_of_side
-side_more o s rest run =
-    ap length (filter-append (is_under (edit_place row_place) (side_place o s)) rest run)
-    ∙ length-append (filter (is_under (edit_place row_place) (side_place o s)) rest) (filter (is_under (edit_place row_place) (side_place o s)) run)
-
-side_room : (o : Owner) (s : Direction) (rest run : List (Edit Row)) (parts : Parts) → AllByRecursion (λ e. row_number e.row ≡ shelf_number o s) run → HasRoom (rest ++ run) (room_in parts) → length run ≤ (part_at parts (shelf_number o s)).room
-side_room o s rest run parts own has =
-    omega (arith, has.each o s, room_is parts o s, side_more o s rest run, ap length (own_kept o s run own))
-
-found_on : (parts : Parts) (number : ℕ) (run : List (Edit Row)) → AllByRecursion (λ e. row_number e.row ≡ number) run → AreFoundIn parts run → AreFound row_place (part_at parts number).rows run
-found_on parts number [] own found = tt
-found_on parts number (e ∷ es) own found = (subst (λ k. e.found ≡ index_in row_place (row_place e.row) (part_at parts k).rows) own.0 found.0, found_on parts number es own.1 found.1)
-
--- on the shelf of the last edits there is room for each, and each has the index of its place there
-pub record IsReady (parts : Parts) (number : ℕ) (run : List (Edit Row)) : Type 0 where
-  pub within : number < length parts
-  pub room : length run ≤ (part_at parts number).room
-  pub found : AreFound row_place (part_at parts number).rows run
-
-number_is : (r : Row) (number : ℕ) → row_number r ≡ number → shelf_number r.owner r.side ≡ number
+own_number : (o : Owner) (s : Direction) (a : Addr) (e : Edit Row) → IsEditAt o s a e → row_number e.row ≡ shelf_number o s
 unfolding row_number
-number_is r number is = is
+own_number o s a e is = λ i. shelf_number (is.owner_is i) (is.side_is i)
 
-ready_by : (parts : Parts) (number : ℕ) (e : Edit Row) (tail rest : List (Edit Row)) → AllByRecursion (λ x. row_number x.row ≡ number) (e ∷ tail) → HasRoom (rest ++ e ∷ tail) (room_in parts) → AreFoundIn parts (rest ++ e ∷ tail) → IsReady parts number (e ∷ tail)
-ready_by parts number e tail rest own has found =
-    let same : shelf_number e.row.owner e.row.side ≡ number = number_is e.row number own.0 in
-    let here : AllByRecursion (λ x. row_number x.row ≡ shelf_number e.row.owner e.row.side) (e ∷ tail) = subst (λ k. AllByRecursion (λ x. row_number x.row ≡ k) (e ∷ tail)) (sym same) own in
-    let room : length (e ∷ tail) ≤ (part_at parts number).room = subst (λ k. length (e ∷ tail) ≤ (part_at parts k).room) same (side_room e.row.owner e.row.side rest (e ∷ tail) parts here has) in
+pub own_numbers : (o : Owner) (s : Direction) (a : Addr) (run : List (Edit Row)) → AllByRecursion (IsEditAt o s a) run → AllByRecursion (λ e. row_number e.row ≡ shelf_number o s) run
+own_numbers o s a run own = all_implied (IsEditAt o s a) (λ e. row_number e.row ≡ shelf_number o s) (own_number o s a) run own
+
+-- the edits may be made on this shelf
+pub record IsReady (a : Addr) (run : List (Edit Row)) (x : SideRows) : Type 0 where
+  pub own : AllByRecursion (IsEditAt x.owner x.side a) run
+  pub room : length run ≤ room_at a x.room
+  pub found : AllByRecursion (λ e. e.found ≡ index_beside x.owner x.side a (row_place e.row) x.rows) run
+
+found_on : (o : Owner) (s : Direction) (a : Addr) (parts : Parts) (run : List (Edit Row)) → AreSorted parts → AllByRecursion (IsEditAt o s a) run → AreFoundBeside (joined parts) run → AllByRecursion (λ e. e.found ≡ index_beside o s a (row_place e.row) (part_at parts (shelf_number o s)).rows) run
+unfolding index_beside
+found_on o s a parts [] sorted own found = tt
+found_on o s a parts (e ∷ es) sorted own found =
+    (found.0 ∙ (λ i. index_in row_place (row_place e.row) (rows_of_peer (own.0.owner_is i) (own.0.side_is i) (own.0.addr_is i) (joined parts))) ∙ ap (index_in row_place (row_place e.row)) (peer_joined o s a parts sorted), found_on o s a parts es sorted own.1 found.1)
+
+ready_at : (o : Owner) (s : Direction) (a : Addr) (run : List (Edit Row)) (x : SideRows) → x.owner ≡ o → x.side ≡ s → AllByRecursion (IsEditAt o s a) run → length run ≤ room_at a x.room → AllByRecursion (λ e. e.found ≡ index_beside o s a (row_place e.row) x.rows) run → IsReady a run x
+ready_at o s a run x owner side own room found = record {
+  own = subst (λ (q : Owner). AllByRecursion (IsEditAt q x.side a) run) (sym owner) (subst (λ (u : Direction). AllByRecursion (IsEditAt o u a) run) (sym side) own);
+  room = room;
+  found = subst (λ (q : Owner). AllByRecursion (λ e. e.found ≡ index_beside q x.side a (row_place e.row) x.rows) run) (sym owner) (subst (λ (u : Direction). AllByRecursion (λ e. e.found ≡ index_beside o u a (row_place e.row) x.rows) run) (sym side) found);
+}
+
+-- ---- The edits of the last one's owner, side and address
+
+-- the last of some edits are those of an owner, side and address
+pub record IsLastRun (o : Owner) (s : Direction) (a : Addr) (es left run : List (Edit Row)) : Type 0 where
+  pub split : es ≡ left ++ run
+  pub some : 0 < length run
+  pub own : AllByRecursion (IsEditAt o s a) run
+  pub others : edits_of_peer o s a left ≡ []
+  pub order : PlacesAscend (edit_place row_place) es
+
+pub last_run : (o : Owner) (s : Direction) (a : Addr) (es all : List (Edit Row)) (start : ℕ) → all ≡ es → PlacesAscend (edit_place row_place) es → start < length all → AllByRecursion (IsEditAt o s a) (drop start all) → edits_of_peer o s a (take start all) ≡ [] → IsLastRun o s a es (take start es) (drop start es)
+last_run o s a es all start is order lt own others =
+    let lt' : start < length es = subst (λ ws. start < length ws) is lt in
     record {
-      within = room_within parts number (omega (arith, room));
-      room = room;
-      found = found_on parts number (e ∷ tail) own (all_right (λ x. x.found ≡ index_in row_place (row_place x.row) (part_at parts (row_number x.row)).rows) rest (e ∷ tail) found);
+      split = sym (take-append-drop start es);
+      some = omega (arith, lt', length-drop start es);
+      own = subst (λ ws. AllByRecursion (IsEditAt o s a) (drop start ws)) is own;
+      others = subst (λ ws. edits_of_peer o s a (take start ws) ≡ []) is others;
+      order = order;
     }
 
-ready_of : (parts : Parts) (number : ℕ) (rest run : List (Edit Row)) → 0 < length run → AllByRecursion (λ x. row_number x.row ≡ number) run → HasRoom (rest ++ run) (room_in parts) → AreFoundIn parts (rest ++ run) → IsReady parts number run
-ready_of parts number rest [] some own has found = absurd (omega arith)
-ready_of parts number rest (e ∷ tail) some own has found = ready_by parts number e tail rest own has found
+module _ (o : Owner) (s : Direction) (a : Addr) (es left run : List (Edit Row)) (last : IsLastRun o s a es left run) where
+  pub last_room : (parts : Parts) → HasRoom es (room_in parts) → length run ≤ room_at a (part_at parts (shelf_number o s)).room
+  last_room parts has = run_room o s a left run parts last.own (subst (λ ws. HasRoom ws (room_in parts)) last.split has)
 
--- some edits stand behind an index within them
-pub some_behind : (es : List (Edit Row)) (start : ℕ) → start < length es → 0 < length (drop start es)
-some_behind es start lt = omega (arith, lt, length-drop start es)
+  pub last_within : (parts : Parts) → HasRoom es (room_in parts) → shelf_number o s < length parts
+  last_within parts has = room_within parts a (shelf_number o s) (omega (arith, last.some, last_room parts has))
 
-pub shelf_ready : (parts : Parts) (number : ℕ) (es : List (Edit Row)) (start : ℕ) → start < length es → AllByRecursion (λ x. row_number x.row ≡ number) (drop start es) → HasRoom es (room_in parts) → AreFoundIn parts es → IsReady parts number (drop start es)
-shelf_ready parts number es start lt own has found =
-    let whole : es ≡ take start es ++ drop start es = sym (take-append-drop start es) in
-    ready_of parts number (take start es) (drop start es) (some_behind es start lt) own (subst (λ ws. HasRoom ws (room_in parts)) whole has) (subst (AreFoundIn parts) whole found)
+  pub last_ready : (parts : Parts) (x : SideRows) → x ≡ get_or parts (shelf_number o s) x → AreSorted parts → HasRoom es (room_in parts) → AreFoundBeside (joined parts) es → IsReady a run x
+  last_ready parts x read sorted has found =
+      let within : shelf_number o s < length parts = last_within parts has in
+      let one : AreOne (part_at parts (shelf_number o s)).owner o (part_at parts (shelf_number o s)).side s = same_shelf (part_at parts (shelf_number o s)).owner o (part_at parts (shelf_number o s)).side s (sorted.own (shelf_number o s) within) in
+      let behind : AreFoundBeside (joined parts) run = all_right (λ e. e.found ≡ index_beside e.row.owner e.row.side e.row.addr (row_place e.row) (joined parts)) left run (subst (AreFoundBeside (joined parts)) last.split found) in
+      subst (IsReady a run) (sym (part_read parts (shelf_number o s) x within read))
+      (ready_at o s a run (part_at parts (shelf_number o s)) one.owner one.side last.own (last_room parts has) (found_on o s a parts run sorted last.own behind))
 
--- what is said of the list that was lent
-pub own_lent : (number : ℕ) (all es : List (Edit Row)) (start : ℕ) → all ≡ es → AllByRecursion (λ x. row_number x.row ≡ number) (drop start all) → AllByRecursion (λ x. row_number x.row ≡ number) (drop start es)
-own_lent number all es start is own = subst (λ xs. AllByRecursion (λ x. row_number x.row ≡ number) (drop start xs)) is own
+  module _ (old new : Parts) (is : AreEdited (shelf_number o s) run old new) (others : (b : Addr) → same_addr b a ≡ false → room_at b is.part.room ≡ room_at b (part_at old (shelf_number o s)).room) where
+    -- ---- What is left
 
--- ---- The shelf of the last edits
+    left_few : (p : Owner) (t : Direction) (b : Addr) → HasRoom es (room_in old) → length (edits_of_peer p t b left) ≤ room_at b (part_at old (shelf_number p t)).room
+    left_few p t b has = omega (arith, (subst (λ ws. HasRoom ws (room_in old)) last.split has).each p t b, room_is old p t b, peer_more p t b left run)
 
-pub own_last : (es : List (Edit Row)) (n number : ℕ) (e : Edit Row) → n + 1 ≡ length es → e ≡ get_or es n e → row_number e.row ≡ number → AllByRecursion (λ x. row_number x.row ≡ number) (drop n es)
-own_last es n number e long is own = subst (AllByRecursion (λ x. row_number x.row ≡ number)) (sym (first_is es n e (omega arith) is ∙ ap (λ xs. e ∷ xs) (drop_all (n + 1) es (omega arith)))) (own, tt)
+    room_here : (p : Owner) (t : Direction) (b : Addr) → HasRoom es (room_in old) → shelf_number p t ≡ shelf_number o s → (c : Bool) → same_addr b a ≡ c → length (edits_of_peer p t b left) ≤ room_at b is.part.room
+    room_here p t b has same true e =
+        let one : AreOne p o t s = same_shelf p o t s same in
+        let none : edits_of_peer p t b left ≡ [] = (λ i. edits_of_peer (one.owner i) (one.side i) (same_addr_exact b a e i) left) ∙ last.others in
+        omega (arith, ap length none)
+    room_here p t b has same false e =
+        let here : length (edits_of_peer p t b left) ≤ room_at b (part_at old (shelf_number o s)).room = subst (λ (k : ℕ). length (edits_of_peer p t b left) ≤ room_at b (part_at old k).room) same (left_few p t b has) in
+        omega (arith, here, others b e)
 
-pub own_more : (es : List (Edit Row)) (n number : ℕ) (e : Edit Row) → n < length es → e ≡ get_or es n e → row_number e.row ≡ number → AllByRecursion (λ x. row_number x.row ≡ number) (drop (n + 1) es) → AllByRecursion (λ x. row_number x.row ≡ number) (drop n es)
-own_more es n number e lt is own rest = subst (AllByRecursion (λ x. row_number x.row ≡ number)) (sym (first_is es n e lt is)) (own, rest)
+    room_at_each : (p : Owner) (t : Direction) (b : Addr) → HasRoom es (room_in old) → length (edits_of_peer p t b left) ≤ room_at b (part_at new (shelf_number p t)).room
+    room_at_each p t b has = elim (cases_eq (shelf_number p t) (shelf_number o s)) [
+      | inl same ↦
+          subst (λ (k : ℕ). length (edits_of_peer p t b left) ≤ room_at b (part_at new k).room) (sym same)
+          (subst (λ (q : SideRows). length (edits_of_peer p t b left) ≤ room_at b q.room) (sym (part_here (shelf_number o s) run old new is)) (room_here p t b has same (same_addr b a) refl))
+      | inr other ↦ subst (λ (q : SideRows). length (edits_of_peer p t b left) ≤ room_at b q.room) (sym (part_other (shelf_number o s) run old new is (shelf_number p t) other)) (left_few p t b has)
+    ]
+
+    -- once these edits are made, the others are left
+    pub edits_left : AreSorted old → HasRoom es (room_in old) → AreFoundBeside (joined old) es → AreLeft es left old new
+    edits_left sorted has found =
+        let rows : joined new ≡ edited row_place run (joined old) = joined_edited (shelf_number o s) run old new is sorted in
+        record {
+          sorted = sorted_edited (shelf_number o s) run old new is sorted;
+          room = record { each = λ p t b. omega (arith, room_at_each p t b has, room_is new p t b) };
+          found =
+              subst (λ (ws : List Row). AreFoundBeside ws left) (sym rows)
+              (found_left left run (joined old) sorted.ascend (subst (PlacesAscend (edit_place row_place)) last.split last.order) (subst (AreFoundBeside (joined old)) last.split found));
+          made = ap (edited row_place left) rows ∙ sym (edited-append row_place left run (joined old)) ∙ ap (λ ws. edited row_place ws (joined old)) (sym last.split);
+        }
+
+-- what is written on a shelf are these edits
+pub edited_on : (o : Owner) (s : Direction) (a : Addr) (old : Parts) (x part : SideRows) (run : List (Edit Row)) → shelf_number o s < length old → x ≡ get_or old (shelf_number o s) x → AllByRecursion (IsEditAt o s a) run
+    → part.owner ≡ x.owner → part.side ≡ x.side → part.rows ≡ edited row_place run x.rows → AreEdited (shelf_number o s) run old (set old (shelf_number o s) part)
+edited_on o s a old x part run lt read own owner side rows =
+    let here : x ≡ part_at old (shelf_number o s) = part_read old (shelf_number o s) x lt read in
+    record {
+      part = part;
+      own = own_numbers o s a run own;
+      within = lt;
+      set_is = refl;
+      owner_is = owner ∙ ap (λ (p : SideRows). p.owner) here;
+      side_is = side ∙ ap (λ (p : SideRows). p.side) here;
+      rows = rows ∙ ap (λ (p : SideRows). edited row_place run p.rows) here;
+    }
+
+-- ---- The last edits on their shelf, by its number
+
+module _ (o : Owner) (s : Direction) (a : Addr) (es : List (Edit Row)) (start number : ℕ) (parts : Parts) (last : IsLastRun o s a es (take start es) (drop start es)) (is : number ≡ shelf_number o s) where
+  pub within_by : HasRoom es (room_in parts) → number < length parts
+  within_by has = omega (arith, is, last_within o s a es (take start es) (drop start es) last parts has)
+
+  pub ready_by : (x : SideRows) → x ≡ get_or parts number x → AreSorted parts → HasRoom es (room_in parts) → AreFoundBeside (joined parts) es → IsReady a (drop start es) x
+  ready_by x read sorted has found = last_ready o s a es (take start es) (drop start es) last parts x (subst (λ k. x ≡ get_or parts k x) is read) sorted has found
+
+  pub left_by : (left : List (Edit Row)) (x part : SideRows) → x ≡ get_or parts number x → left ≡ take start es → part.owner ≡ x.owner → part.side ≡ x.side → part.rows ≡ edited row_place (drop start es) x.rows
+      → ((b : Addr) → same_addr b a ≡ false → room_at b part.room ≡ room_at b x.room) → AreSorted parts → HasRoom es (room_in parts) → AreFoundBeside (joined parts) es → AreLeft es left parts (set parts number part)
+  unfolding edited_on
+  left_by left x part read left_is owner side rows others sorted has found =
+      let within : shelf_number o s < length parts = last_within o s a es (take start es) (drop start es) last parts has in
+      let read' : x ≡ get_or parts (shelf_number o s) x = subst (λ k. x ≡ get_or parts k x) is read in
+      let made : AreEdited (shelf_number o s) (drop start es) parts (set parts (shelf_number o s) part) = edited_on o s a parts x part (drop start es) within read' last.own owner side rows in
+      subst (λ k. AreLeft es left parts (set parts k part)) (sym is)
+      (subst (λ ws. AreLeft es ws parts (set parts (shelf_number o s) part)) (sym left_is)
+      (edits_left o s a es (take start es) (drop start es) last parts (set parts (shelf_number o s) part) made
+      (λ b other. others b other ∙ ap (λ (p : SideRows). room_at b p.room) (part_read parts (shelf_number o s) x within read')) sorted has found))
+
+pub left_long : (es all left : List (Edit Row)) (start : ℕ) → all ≡ es → start < length all → left ≡ take start es → length left ≡ start
+left_long es all left start is lt left_is =
+    let lt' : start < length es = subst (λ ws. start < length ws) is lt in
+    ap length left_is ∙ length-take-le start es (omega (arith, lt'))

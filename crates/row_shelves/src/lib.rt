@@ -1,5 +1,5 @@
-//! Rows on shelves: the rows of each owner and side stand by themselves, so a change moves only rows
-//! of the owners and sides that it is about.
+//! Rows on shelves: the rows of each owner and side stand by themselves, and there those of each
+//! address, so a change moves only rows of the owners, sides and addresses that it is about.
 #![tactic(auto)]
 
 mod parts;

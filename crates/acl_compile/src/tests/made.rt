@@ -325,7 +325,7 @@ fn made_rows(
 
 /// Whether a row is of this address, and of the entry of this index until this end.
 fn is_row(row: &Row, addr: Addr, made: (usize, u64)) -> bool {
-    row.addr == addr
+    row.addr.addr() == addr
         && usize::from(row.entry).checked_sub(1) == Some(made.0)
         && row.until.0 == made.1
 }

@@ -1,5 +1,4 @@
-use Rattle.std.proofs.Common.{◌≡◌, ℕ, ◌+◌, ◌≤◌, Bool, true, false, cond, drop, ap, sym, ◌∙◌, arith}
-use Rattle.acl_compile.specs.Plans.{others_held}
+use Rattle.std.proofs.Common.{ℕ, Bool, cond, ap, sym, ◌∙◌, arith}
 use Rattle.acl_compile.proofs.SlotLaws.{next_other, no_other}
 use Rattle.acl_compile.proofs.plan.others_in.Goals as goal
 use Rattle.acl_compile.proofs.plan.others_in.Goals.{then-is_other, else-is_other}

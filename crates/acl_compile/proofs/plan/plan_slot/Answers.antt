@@ -27,6 +27,14 @@ returns-in_err-reserve-clause-most g c =
     → c.slot_rows.new.steps ≤ c.args.steps.now + length (owner_rows (Url c.place_for-place.result) c.args.rows.now.rows) + (policy_count c.in_ok-held.held + length (new_touches c.args.bindings.now.rows (Url c.place_for-place.result) c.in_ok-held.held) + 1) * place_steps s b k)
     c.as_slice-2.ensures.value c.slot_rows.ensures.most)
 
+pub returns-in_err-reserve-2-clause-most : goal.returns-in_err-reserve-2-clause-most
+returns-in_err-reserve-2-clause-most g c =
+    policy_most c.args.url.now (option_copied c.args.policy) c.args.slots.now.items c.args.bindings.now.rows c.args.rows.now.rows c.place_for-place.result c.in_ok-held.held c.args.steps.now c.slot_rows.new.steps
+    (subst (λ (ss : Slots). IsPlaceFor c.args.url.now ss c.place_for-place.result) c.as_slice.ensures.value c.place_for-place.ensures) c.requires.kept c.in_ok-held.ensures
+    (subst (λ (ss : Slots). (s b k : ℕ) → HaveKeys s ss → PolicyKeys s c.in_ok-held.held → length c.args.bindings.now.rows < 2 ^ b → length c.args.rows.now.rows < 2 ^ k
+    → c.slot_rows.new.steps ≤ c.args.steps.now + length (owner_rows (Url c.place_for-place.result) c.args.rows.now.rows) + (policy_count c.in_ok-held.held + length (new_touches c.args.bindings.now.rows (Url c.place_for-place.result) c.in_ok-held.held) + 1) * place_steps s b k)
+    c.as_slice-2.ensures.value c.slot_rows.ensures.most)
+
 pub returns-in_err-make_room-clause-most : goal.returns-in_err-make_room-clause-most
 returns-in_err-make_room-clause-most g c =
     policy_most c.args.url.now (option_copied c.args.policy) c.args.slots.now.items c.args.bindings.now.rows c.args.rows.now.rows c.place_for-place.result c.in_ok-held.held c.args.steps.now c.slot_rows.new.steps
@@ -47,7 +55,7 @@ pub returns-clause-ok : goal.returns-clause-ok
 returns-clause-ok g c =
     let kept : c.args.slots.now.items ≡ c.reserve.new.self.items = sym c.in_ok-reserve.ensures.items in
     let place : IsPlaceFor c.args.url.now c.reserve.new.self.items c.place_for-place.result = subst (λ (ss : Slots). IsPlaceFor c.args.url.now ss c.place_for-place.result) (c.as_slice.ensures.value ∙ kept) c.place_for-place.ensures in
-    policy_plan c.args.url.now (option_copied c.args.policy) c.reserve.new.self.items c.args.bindings.now c.make_room.new.self _ c.place_for-place.result c.in_ok-held.held c.in_ok-edits.edits.rows c.new.result.rows
+    policy_plan c.args.url.now (option_copied c.args.policy) c.reserve.new.self.items c.args.bindings.now c.make_room.new.self _ c.reserve-2.new.self.room c.place_for-place.result c.in_ok-held.held c.in_ok-edits.edits.rows c.new.result.rows
     place
     (subst (λ (ss : Slots). length ss ≤ 128) kept c.requires.few)
     (subst UrlsApart kept c.requires.apart)
@@ -56,6 +64,7 @@ returns-clause-ok g c =
     (subst (λ (ss : Slots). (new : Slots) → IsSlotChange ss new c.place_for-place.result c.in_ok-held.held → IsPatch ss c.args.bindings.now.rows new c.args.bindings.now.rows c.in_ok-edits.edits.rows) (c.as_slice-2.ensures.value ∙ kept) c.in_ok-edits.ensures.ok)
     c.in_ok-make_room.ensures.ok
     (omega (arith, place.within, c.in_ok-reserve.ensures.ok, c.reserve.new.self.ok.0))
+    c.in_ok-reserve-2.ensures.ok
 
 pub returns-clause-read : goal.returns-clause-read
 returns-clause-read g c =

@@ -1,9 +1,8 @@
-use Rattle.std.proofs.Common.{◌+◌, ◌*◌, ◌≤◌, ◌<◌, ◌^◌, List, [], length, sym, ap, subst, ◌∙◌, arith}
+use Rattle.std.proofs.Common.{◌+◌, ◌*◌, ◌≤◌, ◌<◌, ◌^◌, [], length, sym, ap, subst, ◌∙◌, arith}
 use Rattle.std.proofs.Math.Path.{transport}
 use Rattle.sorted_rows.specs.Placed.{PlacesAscend}
 use Rattle.mud_base.specs.declared.packet.Direction.TheVariants.{From, To}
 use Rattle.acl_rows.specs.declared.row.Owner.TheVariants.{Url}
-use Rattle.acl_rows.specs.declared.row.Row.{Row}
 use Rattle.acl_rows.specs.Places.{row_place}
 use Rattle.acl_rows.specs.View.{rows_of_side}
 use Rattle.acl_rows.proofs.AtPlaces.{ascend-rows_of}
@@ -25,7 +24,7 @@ returns-clause-ok g c = λ new change.
     slot_patch c.args.slots.now c.args.bindings.now.rows new c.args.index c.args.held.now change c.in_ok-fresh.fresh c.fresh.inside.edits.rows fresh
     (ap (λ (s : Fresh). s.edits) c.fresh.view_is
     ∙ c.in_ok-plan_own.ensures.ok
-    ∙ (λ j. left_edits c.in_ok-fresh.fresh.rows 0 (rows_of_side (Url c.args.index) To (kept j)) (left_edits c.in_ok-fresh.fresh.rows 0 (rows_of_side (Url c.args.index) From (kept j)) c.in_ok-fresh.fresh.edits)))
+    ∙ (λ j. left_edits (kept j) c.in_ok-fresh.fresh.rows (rows_of_side (Url c.args.index) To (kept j)) (left_edits (kept j) c.in_ok-fresh.fresh.rows (rows_of_side (Url c.args.index) From (kept j)) c.in_ok-fresh.fresh.edits)))
 
 pub returns-in_err-fresh-clause-most : goal.returns-in_err-fresh-clause-most
 returns-in_err-fresh-clause-most g c = λ s b k keys held few rows.

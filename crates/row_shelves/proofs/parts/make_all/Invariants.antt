@@ -1,15 +1,15 @@
 use Rattle.std.proofs.Common.{◌≡◌, ◌+◌, length}
 use Rattle.row_edits.specs.Edits.{edited}
 use Rattle.acl_rows.specs.Places.{row_place}
-use Rattle.row_shelves.specs.Shelves.{HasRoom}
-use Rattle.row_shelves.specs.Parts.{joined, room_in, AreSorted, AreFoundIn}
+use Rattle.row_shelves.specs.Shelves.{AreFoundBeside, HasRoom}
+use Rattle.row_shelves.specs.Parts.{joined, room_in, AreSorted}
 use Rattle.row_shelves.proofs.parts.make_all.Given as goal
 
 abbrev pub invariant-loop-shelves : goal.invariant-loop-shelves
 invariant-loop-shelves g l = record {
   sorted : AreSorted l.shelves.items;
   rows : edited row_place l.left.rows (joined l.shelves.items) ≡ edited row_place l.fn.edits.rows (joined l.initial.shelves.items);
-  found : AreFoundIn l.shelves.items l.left.rows;
+  found : AreFoundBeside (joined l.shelves.items) l.left.rows;
   room : HasRoom l.left.rows (room_in l.shelves.items);
   counted : l.steps + length l.left.rows ≡ l.initial.steps + length l.fn.edits.rows;
 }

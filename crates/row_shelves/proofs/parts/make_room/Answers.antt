@@ -1,14 +1,18 @@
-use Rattle.std.proofs.Common.{subst, arith}
-use Rattle.row_shelves.specs.Parts.{HaveShelves}
-use Rattle.row_shelves.proofs.PartLaws.{same_twice}
-use Rattle.row_shelves.proofs.EditLaws.{has_room, on_ok_map}
+use Rattle.std.proofs.Common.{arith}
+use Rattle.row_shelves.proofs.RoomLaws.{kept_twice, shelves_more}
 use Rattle.row_shelves.proofs.parts.make_room.Goals as goal
 
-pub returns-clause-rows : goal.returns-clause-rows
-returns-clause-rows c = same_twice c.args.shelves.now.items c.add_for.new.shelves.items c.reserve_for.new.shelves.items c.add_for.ensures.rows c.reserve_for.ensures.rows
+pub clear_for-requires-clause-sorted : goal.clear_for-requires-clause-sorted
+clear_for-requires-clause-sorted c = c.add_for.ensures.kept.sorted
 
-pub returns-clause-ok : goal.returns-clause-ok
-returns-clause-ok c =
-    on_ok_map _ _
-    (λ each. has_room c.args.edits.now.rows c.reserve_for.new.shelves.items (subst (HaveShelves c.args.edits.now.rows) (omega (arith, c.reserve_for.ensures.len, c.reserve_for.new.shelves.ok.0)) c.in_ok-add_for.ensures.ok) (λ k lt. each k (omega (arith, lt, c.reserve_for.new.shelves.ok.0))))
-    c.reserve_for.result c.reserve_for.ensures.ok
+pub reserve_for-requires-clause-sorted : goal.reserve_for-requires-clause-sorted
+reserve_for-requires-clause-sorted c = c.clear_for.ensures.sorted
+
+pub reserve_for-requires-clause-shelved : goal.reserve_for-requires-clause-shelved
+reserve_for-requires-clause-shelved c =
+    shelves_more c.args.edits.now.rows c.add_for.new.shelves.len c.clear_for.new.shelves.len (omega (arith, c.clear_for.ensures.len, c.add_for.new.shelves.ok.0, c.clear_for.new.shelves.ok.0)) c.in_ok-add_for.ensures.ok
+
+pub returns-clause-kept : goal.returns-clause-kept
+returns-clause-kept c =
+    kept_twice c.args.shelves.now.items c.add_for.new.shelves.items c.reserve_for.new.shelves.items c.add_for.ensures.kept
+    (kept_twice c.add_for.new.shelves.items c.clear_for.new.shelves.items c.reserve_for.new.shelves.items c.clear_for.ensures c.reserve_for.ensures.kept.kept)

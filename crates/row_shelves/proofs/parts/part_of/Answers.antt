@@ -1,12 +1,11 @@
 use Rattle.std.proofs.Common.{sym, ap, ◌∙◌}
-use Rattle.sorted_rows.specs.Placed.{RowsAndRoom}
-use Rattle.acl_rows.specs.declared.row.Row.{Row}
+use Rattle.acl_rows.specs.ByAddress.{SideRows}
 use Rattle.row_shelves.proofs.PartLaws.{part_read, part_past}
 use Rattle.row_shelves.proofs.parts.part_of.Goals as goal
 
 pub returns-in-Some : goal.returns-in-Some
 returns-in-Some c =
-    ap (λ (p : RowsAndRoom Row). p.rows) (part_read c.args.shelves.now c.args.number c.in-Some.shelf.now c.in-Some.ensures.lookup.3.0 c.in-Some.ensures.lookup.1)
+    ap (λ (p : SideRows). p.rows) (part_read c.args.shelves.now c.args.number c.in-Some.shelf.now c.in-Some.ensures.lookup.3.0 c.in-Some.ensures.lookup.1)
 
 pub returns-in-None : goal.returns-in-None
-returns-in-None c = c.requires ∙ sym (ap (λ (p : RowsAndRoom Row). p.rows) (part_past c.args.shelves.now c.args.number c.in-None.ensures.lookup.3))
+returns-in-None c = c.requires ∙ sym (ap (λ (p : SideRows). p.rows) (part_past c.args.shelves.now c.args.number c.in-None.ensures.lookup.3))

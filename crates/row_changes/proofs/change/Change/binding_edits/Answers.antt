@@ -1,6 +1,5 @@
 use Rattle.std.proofs.Common.{◌≡◌, List, ℕ, ◌+◌, ◌*◌, length, drop, slice_get, Some, OnOk, sym, ap, subst, ◌∙◌, arith}
 use Rattle.std.specs.Prelude.{flat_map}
-use Rattle.acl_model.specs.Policies.{UrlPolicy}
 use Rattle.acl_rows.specs.declared.row.Owner.TheVariants.{Default}
 use Rattle.row_edits.specs.declared.edit.Edit.{Edit}
 use Rattle.acl_rows.specs.declared.row.Row.{Row}
@@ -8,7 +7,7 @@ use Rattle.acl_rows.specs.Rows.{Slots, Holder, holders_from, held_by, default_he
 use Rattle.acl_rows.specs.declared.row.RowKey.{RowKey}
 use Rattle.acl_patch.specs.Touched.{holder_touches, binding_touches}
 use Rattle.row_changes.specs.Change.{ChangeState, more_edits, slot_touches}
-use Rattle.row_changes.specs.Policies.{AllHeld, HasCounts}
+use Rattle.row_changes.specs.Policies.{AllHeld}
 use Rattle.row_changes.specs.Steps.{least_steps, HolderFits}
 use Rattle.row_changes.proofs.Loops.{more_edits-append, length_times, least_steps-append, next_slot, slot_there, last_holder}
 use Rattle.row_changes.proofs.FreshLaws.{on_ok_map}

@@ -1,8 +1,8 @@
 use Rattle.std.proofs.Common.{◌≡◌, Some, None, ap, subst, ◌∙◌}
 use Rattle.sorted_rows.specs.Placed.{row_at, set_row}
 use Rattle.acl_rows.specs.Places.{row_place}
+use Rattle.acl_rows.specs.ByAddress.{index_beside}
 use Rattle.acl_rows.specs.Rows.{row, rows_of}
-use Rattle.row_shelves.specs.Shelves.{index_beside}
 use Rattle.acl_patch.specs.Touched.{row_key_place, changed_edits}
 use Rattle.row_changes.specs.Change.{ChangeState, end_of_row}
 use Rattle.row_changes.specs.Fresh.{Fresh, fresh_of}
@@ -19,7 +19,7 @@ returns-in_ok-plan_row-in-Some-clause-ok g c =
     ap (fresh_of c.plan_row.new.edits.rows) (put ∙ ap (set_row row_place (row key.owner key.side key.addr key.entry c.in-Some.end)) rows)
     ∙ fresh_some c.args.self.now.slots c.args.self.now.bindings new c.args.self.now.rows kept key c.in-Some.end c.args.until c.plan_row.new.edits.rows c.args.fresh.now c.in-Some.is is
     (c.in_ok-plan_row-in-Some.ensures.ok
-    ∙ ap (changed_edits key (index_beside key.owner key.side (row_key_place key) c.args.self.now.rows) (end_of_row (row_at row_place (row_key_place key) c.args.self.now.rows)) (Some c.in-Some.end)) edits))
+    ∙ ap (changed_edits key (index_beside key.owner key.side key.addr (row_key_place key) c.args.self.now.rows) (end_of_row (row_at row_place (row_key_place key) c.args.self.now.rows)) (Some c.in-Some.end)) edits))
     c.put_fresh.result c.put_fresh.ensures
 
 pub returns-in-None-clause-ok : goal.returns-in-None-clause-ok
@@ -31,5 +31,5 @@ returns-in-None-clause-ok g c =
     on_ok_map _ _ (λ made new is.
     ap (fresh_of c.plan_row-in-None.new.edits.rows) rows
     ∙ fresh_none c.args.self.now.slots c.args.self.now.bindings new c.args.self.now.rows kept key c.args.until c.plan_row-in-None.new.edits.rows c.args.fresh.now c.in-None.is is
-    (made ∙ ap (changed_edits key (index_beside key.owner key.side (row_key_place key) c.args.self.now.rows) (end_of_row (row_at row_place (row_key_place key) c.args.self.now.rows)) None) edits))
+    (made ∙ ap (changed_edits key (index_beside key.owner key.side key.addr (row_key_place key) c.args.self.now.rows) (end_of_row (row_at row_place (row_key_place key) c.args.self.now.rows)) None) edits))
     c.plan_row-in-None.result c.plan_row-in-None.ensures.ok

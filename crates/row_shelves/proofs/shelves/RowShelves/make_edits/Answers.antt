@@ -1,8 +1,6 @@
 use Rattle.std.proofs.Common.{sym, subst}
 use Rattle.row_shelves.specs.Shelves.{Shelves, AreFoundBeside}
-use Rattle.row_shelves.proofs.EditLaws.{found_in}
 use Rattle.row_shelves.proofs.shelves.RowShelves.make_edits.Goals as goal
 
 pub make_all-requires-clause-found : goal.make_all-requires-clause-found
-make_all-requires-clause-found g c =
-    found_in c.self.inside.shelves.items c.args.edits.rows c.self.invariant.sorted (subst (λ (s : Shelves). AreFoundBeside s.rows c.args.edits.rows) (sym c.self.view_is) c.requires.found)
+make_all-requires-clause-found g c = subst (λ (s : Shelves). AreFoundBeside s.rows c.args.edits.rows) (sym c.self.view_is) c.requires.found

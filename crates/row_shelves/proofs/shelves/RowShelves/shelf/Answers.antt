@@ -7,7 +7,7 @@ use Rattle.row_shelves.proofs.shelves.RowShelves.shelf.Goals as goal
 
 -- what is lent is what stands on the shelf
 lent : (c : goal.After-part_of) → c.part_of.result.now.rows ≡ (part_at c.self.inside.shelves.items (shelf_number c.args.owner c.args.side)).rows
-lent c = c.part_of.ensures ∙ (λ i. (part_at (c.as_slice.ensures.value i) (c.number_of.ensures i)).rows)
+lent c = c.part_of.ensures ∙ (λ i. (part_at (c.as_slice.ensures.value i) (c.number_of.ensures.number i)).rows)
 
 pub returns-clause-rows : goal.returns-clause-rows
 returns-clause-rows c =

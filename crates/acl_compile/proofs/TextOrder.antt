@@ -1,0 +1,108 @@
+-- Texts that are read from behind stand to one another as the first octets do in which they differ.
+use Rattle.std.proofs.Common.{◌≡◌, ℕ, zero, suc, ◌+◌, ◌-◌, ◌<◌, ◌≤◌, ◌⊎◌, inl, inr, leb, true, false, List, [], ◌∷◌, reverse, drop, length, slice_index_or, refl, sym, ap, subst, ◌∙◌, arith}
+use Rattle.std.specs.Ordering.{nat_cmp, ordering_then, is_eq}
+use Rattle.std.specs.declared.cmp.Ordering.{Ordering}
+use Rattle.std.specs.declared.cmp.Ordering.TheVariants.{Less, Equal, Greater}
+use Rattle.std.proofs.lemmas.Cmp.{nat_cmp_total, tied_itself}
+use Rattle.std.proofs.lemmas.Bool.{eqb-true}
+use Rattle.std.proofs.lemmas.Bool.Decides.{leb_tells}
+use Rattle.std.proofs.lemmas.List.{get_or-reverse, length-reverse}
+use Rattle.std.specs.Cmp.{unsigned_ties, nat_cmp_is}
+use Rattle.sorted_rows.specs.Placed.{place_cmp}
+
+decided : (o r : Ordering) → (o ≡ Equal → ⊥) → o ≡ ordering_then o r
+decided Less r apart = refl
+decided Equal r apart = absurd (apart refl)
+decided Greater r apart = refl
+
+equal_numbers : (x y : ℕ) → nat_cmp x y ≡ Equal → x ≡ y
+equal_numbers x y e = eqb-true x y (unsigned_ties x y ∙ ap is_eq e)
+
+equal_first : (n : ℕ) (xs ys : List ℕ) → n < length xs → n < length ys → slice_index_or xs n 0 ≡ slice_index_or ys n 0 → place_cmp (drop n xs) (drop n ys) ≡ place_cmp (drop (suc n) xs) (drop (suc n) ys)
+equal_first n [] ys p q e = absurd (omega (arith, p))
+equal_first n (x ∷ xs) [] p q e = absurd (omega (arith, q))
+equal_first zero (x ∷ xs) (y ∷ ys) p q e = ap (λ o. ordering_then o (place_cmp xs ys)) (subst (λ z. nat_cmp x z ≡ Equal) e (tied_itself nat_cmp_total x))
+equal_first (suc n) (x ∷ xs) (y ∷ ys) p q e = equal_first n xs ys (omega (arith, p)) (omega (arith, q)) e
+
+-- where the first numbers left are the same, the others decide
+alike : (n : ℕ) (xs ys : List ℕ) → n < length xs → n < length ys → slice_index_or xs n 0 ≡ slice_index_or ys n 0 → place_cmp (drop n xs) (drop n ys) ≡ place_cmp (drop (n + 1) xs) (drop (n + 1) ys)
+alike n xs ys p q e =
+    let one_on : suc n ≡ n + 1 = omega arith
+    in subst (λ m. place_cmp (drop n xs) (drop n ys) ≡ place_cmp (drop m xs) (drop m ys)) one_on (equal_first n xs ys p q e)
+
+-- where they differ, they decide
+apart : (n : ℕ) (xs ys : List ℕ) → n < length xs → n < length ys → (slice_index_or xs n 0 ≡ slice_index_or ys n 0 → ⊥) → nat_cmp (slice_index_or xs n 0) (slice_index_or ys n 0) ≡ place_cmp (drop n xs) (drop n ys)
+apart n [] ys p q e = absurd (omega (arith, p))
+apart n (x ∷ xs) [] p q e = absurd (omega (arith, q))
+apart zero (x ∷ xs) (y ∷ ys) p q e = decided (nat_cmp x y) (place_cmp xs ys) (λ same. e (equal_numbers x y same))
+apart (suc n) (x ∷ xs) (y ∷ ys) p q e = apart n xs ys (omega (arith, p)) (omega (arith, q)) e
+
+ended_by : (a b n : ℕ) → n ≤ a → a ≤ b → (n < a → n < b → ⊥) → ((leb a n ≡ true) × (a ≤ n)) ⊎ ((leb a n ≡ false) × (n < a)) → a ≡ n
+ended_by a b n p s r (inl c) = omega (arith, p, c.1)
+ended_by a b n p s r (inr c) = absurd (r c.1 (omega (arith, c.1, s)))
+
+ended : (a b n : ℕ) → n ≤ a → n ≤ b → (n < a → n < b → ⊥) → a ≤ b → a ≡ n
+ended a b n p q r s = ended_by a b n p s r (leb_tells a n)
+
+-- where one of them ends, the shorter one comes first
+level : (n : ℕ) (xs ys : List ℕ) → length xs ≡ n → length ys ≡ n → place_cmp (drop n xs) (drop n ys) ≡ Equal
+level zero [] [] p q = refl
+level zero [] (y ∷ ys) p q = absurd (omega (arith, q))
+level zero (x ∷ xs) ys p q = absurd (omega (arith, p))
+level (suc n) [] ys p q = absurd (omega (arith, p))
+level (suc n) (x ∷ xs) [] p q = absurd (omega (arith, q))
+level (suc n) (x ∷ xs) (y ∷ ys) p q = level n xs ys (omega (arith, p)) (omega (arith, q))
+
+short : (n : ℕ) (xs ys : List ℕ) → length xs ≡ n → n < length ys → place_cmp (drop n xs) (drop n ys) ≡ Less
+short zero [] [] p q = absurd (omega (arith, q))
+short zero [] (y ∷ ys) p q = refl
+short zero (x ∷ xs) ys p q = absurd (omega (arith, p))
+short (suc n) [] ys p q = absurd (omega (arith, p))
+short (suc n) (x ∷ xs) [] p q = absurd (omega (arith, q))
+short (suc n) (x ∷ xs) (y ∷ ys) p q = short n xs ys (omega (arith, p)) (omega (arith, q))
+
+long : (n : ℕ) (xs ys : List ℕ) → n < length xs → length ys ≡ n → place_cmp (drop n xs) (drop n ys) ≡ Greater
+long zero [] ys p q = absurd (omega (arith, p))
+long zero (x ∷ xs) [] p q = refl
+long zero (x ∷ xs) (y ∷ ys) p q = absurd (omega (arith, q))
+long (suc n) [] ys p q = absurd (omega (arith, p))
+long (suc n) (x ∷ xs) [] p q = absurd (omega (arith, q))
+long (suc n) (x ∷ xs) (y ∷ ys) p q = long n xs ys (omega (arith, p)) (omega (arith, q))
+
+ends_by : (n : ℕ) (xs ys : List ℕ) → n ≤ length xs → n ≤ length ys → (n < length xs → n < length ys → ⊥) → ((leb (length xs) (length ys) ≡ true) × (length xs ≤ length ys)) ⊎ ((leb (length xs) (length ys) ≡ false) × (length ys < length xs)) → ((leb (length ys) (length xs) ≡ true) × (length ys ≤ length xs)) ⊎ ((leb (length ys) (length xs) ≡ false) × (length xs < length ys)) → nat_cmp (length xs) (length ys) ≡ place_cmp (drop n xs) (drop n ys)
+ends_by n xs ys p q r (inl a) (inl b) =
+    let same : length xs ≡ length ys = omega (arith, a.1, b.1) in
+    let at : length xs ≡ n = ended (length xs) (length ys) n p q r a.1 in
+    sym (nat_cmp_is (length xs) (length ys) Equal same) ∙ sym (level n xs ys at (sym same ∙ at))
+ends_by n xs ys p q r (inl a) (inr b) =
+    let at : length xs ≡ n = ended (length xs) (length ys) n p q r a.1 in
+    sym (nat_cmp_is (length xs) (length ys) Less b.1) ∙ sym (short n xs ys at (omega (arith, at, b.1)))
+ends_by n xs ys p q r (inr a) b =
+    let at : length ys ≡ n = ended (length ys) (length xs) n q p (λ s t. r t s) (omega (arith, a.1)) in
+    sym (nat_cmp_is (length xs) (length ys) Greater a.1) ∙ sym (long n xs ys (omega (arith, at, a.1)) at)
+
+ends : (n : ℕ) (xs ys : List ℕ) → n ≤ length xs → n ≤ length ys → (n < length xs → n < length ys → ⊥) → nat_cmp (length xs) (length ys) ≡ place_cmp (drop n xs) (drop n ys)
+ends n xs ys p q r = ends_by n xs ys p q r (leb_tells (length xs) (length ys)) (leb_tells (length ys) (length xs))
+
+-- ---- Texts that are read from behind
+
+turned : (xs : List ℕ) (n : ℕ) → n < length xs → slice_index_or (reverse xs) n 0 ≡ slice_index_or xs (length xs - 1 - n) 0
+turned xs n p = get_or-reverse xs n 0 p
+
+-- where the octets are the same, those in front decide
+pub alike_behind : (n : ℕ) (xs ys : List ℕ) → n < length xs → n < length ys → slice_index_or xs (length xs - 1 - n) 0 ≡ slice_index_or ys (length ys - 1 - n) 0
+    → place_cmp (drop n (reverse xs)) (drop n (reverse ys)) ≡ place_cmp (drop (n + 1) (reverse xs)) (drop (n + 1) (reverse ys))
+alike_behind n xs ys p q e = alike n (reverse xs) (reverse ys) (omega (arith, p, length-reverse xs)) (omega (arith, q, length-reverse ys)) (turned xs n p ∙ e ∙ sym (turned ys n q))
+
+-- where they differ, they decide
+pub apart_behind : (n : ℕ) (xs ys : List ℕ) → n < length xs → n < length ys → (slice_index_or xs (length xs - 1 - n) 0 ≡ slice_index_or ys (length ys - 1 - n) 0 → ⊥)
+    → nat_cmp (slice_index_or xs (length xs - 1 - n) 0) (slice_index_or ys (length ys - 1 - n) 0) ≡ place_cmp (drop n (reverse xs)) (drop n (reverse ys))
+apart_behind n xs ys p q e =
+    (λ i. nat_cmp (sym (turned xs n p) i) (sym (turned ys n q) i))
+    ∙ apart n (reverse xs) (reverse ys) (omega (arith, p, length-reverse xs)) (omega (arith, q, length-reverse ys)) (λ same. e (sym (turned xs n p) ∙ same ∙ turned ys n q))
+
+-- where one text ends, the lengths decide
+pub ends_behind : (n : ℕ) (xs ys : List ℕ) → n ≤ length xs → n ≤ length ys → (n < length xs → n < length ys → ⊥) → nat_cmp (length xs) (length ys) ≡ place_cmp (drop n (reverse xs)) (drop n (reverse ys))
+ends_behind n xs ys p q r =
+    (λ i. nat_cmp (sym (length-reverse xs) i) (sym (length-reverse ys) i))
+    ∙ ends n (reverse xs) (reverse ys) (omega (arith, p, length-reverse xs)) (omega (arith, q, length-reverse ys)) (λ s t. r (omega (arith, s, length-reverse xs)) (omega (arith, t, length-reverse ys)))

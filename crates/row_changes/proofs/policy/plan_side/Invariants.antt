@@ -1,0 +1,17 @@
+use Rattle.std.proofs.Common.{◌≡◌, ◌+◌, length}
+use Rattle.std.specs.List.{AllByRecursion}
+use Rattle.sorted_rows.specs.Placed.{RowsAndRoom}
+use Rattle.acl_rows.specs.declared.row.Row.{Row}
+use Rattle.acl_rows.specs.View.{rows_of_side}
+use Rattle.row_changes.specs.Fresh.{AreOfPeer, left_edits}
+use Rattle.row_changes.proofs.Groups.{rows_in}
+use Rattle.row_changes.proofs.policy.plan_side.Given as goal
+
+-- the groups that are left
+abbrev pub invariant-loop-group : goal.invariant-loop-group
+invariant-loop-group g l = record {
+  rows : l.fresh.rows ≡ l.fn.fresh.rows;
+  peers : AllByRecursion (λ (x : RowsAndRoom Row). AreOfPeer x.rows l.fn.rows.rows) l.group-iterator;
+  edits : left_edits l.fn.rows.rows l.fn.fresh.rows (rows_of_side l.fn.owner l.fn.side l.fn.rows.rows) l.fn.fresh.edits ≡ left_edits l.fn.rows.rows l.fn.fresh.rows (rows_in l.group-iterator) l.fresh.edits;
+  counted : l.steps + length (rows_in l.group-iterator) ≡ l.fn.steps + length (rows_of_side l.fn.owner l.fn.side l.fn.rows.rows);
+}

@@ -55,7 +55,7 @@ module _ (slots : Slots) (bindings : List Binding) (new : Slots) where
   unfolding joined one_fresh
   one_joined key more s up up' = λ i. fresh_of (edits_joined key more.edits s.edits up.edits up'.edits i) (row_by key more.rows s.rows up.rows up'.rows (key_end new bindings key) i)
 
-  one_sorted : (key : RowKey) (more : Fresh) → AreSorted more → AreSorted (one_fresh slots bindings new key more)
+  pub one_sorted : (key : RowKey) (more : Fresh) → AreSorted more → AreSorted (one_fresh slots bindings new key more)
   unfolding one_fresh
   one_sorted key more up = record { edits = edits_sorted key more.edits up.edits; rows = row_sorted_by key more.rows up.rows (key_end new bindings key) }
 

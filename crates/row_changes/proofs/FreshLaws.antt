@@ -1,6 +1,5 @@
 -- The rows that a new policy asks for, one after the other.
-use Rattle.std.proofs.Common.{◌≡◌, ℕ, zero, suc, ◌+◌, ◌*◌, ◌<◌, ◌≤◌, Bool, true, false, cond, List, [], ◌∷◌, ◌++◌, map, length, drop, get_or, ◌||◌, Option, Some, None, Result, Ok, Err, OnOk, refl, sym, ap, subst, ◌∙◌, arith}
-use Rattle.std.specs.Prelude.{flat_map, filter}
+use Rattle.std.proofs.Common.{◌≡◌, ℕ, zero, suc, ◌+◌, ◌*◌, ◌<◌, ◌≤◌, Bool, true, false, cond, List, [], ◌∷◌, ◌++◌, map, length, drop, get_or, ◌||◌, Option, Some, None, Result, Ok, Err, OnOk, IfOk, refl, sym, ap, subst, ◌∙◌, arith}
 use Rattle.std.specs.Option.{option_map}
 use Rattle.std.specs.List.{filter_map, cons_option, list_any, slice_get, AllByRecursion}
 use Rattle.std.proofs.Math.Seq.{drop-cons}
@@ -28,7 +27,7 @@ use Rattle.acl_rows.specs.declared.row.Row.{Row}
 use Rattle.acl_rows.specs.declared.row.RowKey.{RowKey}
 use Rattle.acl_rows.specs.Places.{row_place}
 use Rattle.acl_rows.specs.ByAddress.{rows_of_peer, index_beside}
-use Rattle.acl_rows.specs.Rows.{Slots, row, rows_of, member_keys, held_by, entry_at, entry_end, numbered}
+use Rattle.acl_rows.specs.Rows.{Slots, row, rows_of, member_keys, held_by, entry_at, entry_end}
 use Rattle.acl_rows.proofs.Lists.{any_first, any_second}
 use Rattle.acl_rows.proofs.Sound.{end_at-entry}
 use Rattle.acl_patch.specs.Touched.{row_key, row_key_place, key_end, changed_edits}
@@ -91,33 +90,19 @@ next_bound owner side n bs i b lt is = ap (λ (xs : List Binding). map (bound_ke
     next : suc i ≡ i + 1
     next = omega arith
 
-pub next_fresh_entry : (f : ℕ × Entry → List RowKey) (es : List Entry) (i : ℕ) (e : Entry) → i < length es → e ≡ get_or es i e
-    → flat_map f (numbered (i + 1) (drop i es)) ≡ f (i + 1, e) ++ flat_map f (numbered (i + 1 + 1) (drop (i + 1) es))
-unfolding numbered
-next_fresh_entry f es i e lt is =
-    ap (λ (xs : List Entry). flat_map f (numbered (i + 1) xs)) (drop-cons es i e lt ∙ (λ j. sym is j ∷ drop (next j) es))
-  where
-    next : suc i ≡ i + 1
-    next = omega arith
-
-count_by : (e : Entry) (es : List Entry) (b : Bool) → length (cond b (e ∷ filter is_membered es) (filter is_membered es)) ≡ length (cond b (e ∷ []) []) + length (filter is_membered es)
-count_by e es true = omega arith
-count_by e es false = omega arith
-
-pub next_count : (es : List Entry) (i : ℕ) (e : Entry) → i < length es → e ≡ get_or es i e → membered_count (drop i es) ≡ membered_count (e ∷ []) + membered_count (drop (i + 1) es)
-unfolding membered_count
-next_count es i e lt is =
-    ap (λ (xs : List Entry). length (filter is_membered xs)) (drop-cons es i e lt ∙ (λ j. sym is j ∷ drop (next j) es))
-    ∙ count_by e (drop (i + 1) es) (is_membered e)
-  where
-    next : suc i ≡ i + 1
-    next = omega arith
-
 -- ---- Answers that can fail
 
 pub on_ok_map : {A E : Type 0} (P Q : Type 0) → (P → Q) → (r : Result A E) → OnOk r P → OnOk r Q
 on_ok_map P Q f (Ok v) h = f h
 on_ok_map P Q f (Err e) h = tt
+
+pub on_ok_always : {A E : Type 0} (P : Type 0) → P → (r : Result A E) → OnOk r P
+on_ok_always P p (Ok v) = p
+on_ok_always P p (Err e) = tt
+
+pub if_ok_map : {A E : Type 0} (P Q : A → Type 0) → ((a : A) → P a → Q a) → (r : Result A E) → IfOk r P → IfOk r Q
+if_ok_map P Q f (Ok v) h = f v h
+if_ok_map P Q f (Err e) h = tt
 
 -- ---- A change of no binding
 
@@ -172,16 +157,6 @@ pub all_places : (start now i n u : ℕ) → i ≤ n → now ≤ start + i * u �
 all_places start now i n u le so_far =
     let most : i * u ≤ n * u = mul-le-mul_right u le in
     omega (arith, most)
-
--- one entry more: `t` touches and `m` counted entries here, `t'` and `m'` behind it
-pub entry_steps : (start now end ts t t' ms m m' t0 all all' touched b u : ℕ) → ts ≡ t + t' → ms ≡ m + m' → t0 ≡ t → all ≡ all'
-    → now + ms * b + ts * (u + 1) ≤ start + all * b + touched * (u + 1) → end ≤ now + m * b + t0 * (u + 1)
-    → (end ≤ start + all' * b + touched * (u + 1)) × (end + m' * b + t' * (u + 1) ≤ start + all * b + touched * (u + 1))
-entry_steps start now end ts t t' ms m m' t0 all all' touched b u next count here same far one =
-    let far' : now + (m + m') * b + (t + t') * (u + 1) ≤ start + all * b + touched * (u + 1) = subst (λ (x : ℕ). now + x * b + (t + t') * (u + 1) ≤ start + all * b + touched * (u + 1)) count (subst (λ (x : ℕ). now + ms * b + x * (u + 1) ≤ start + all * b + touched * (u + 1)) next far) in
-    let one' : end ≤ now + m * b + t * (u + 1) = subst (λ (x : ℕ). end ≤ now + m * b + x * (u + 1)) here one in
-    let whole : end + m' * b + t' * (u + 1) ≤ start + all * b + touched * (u + 1) = omega (arith, far', one') in
-    (subst (λ (x : ℕ). end ≤ start + x * b + touched * (u + 1)) same (omega (arith, whole)), whole)
 
 -- ---- Rows that aren't asked for any more
 

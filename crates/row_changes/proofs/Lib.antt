@@ -8,6 +8,7 @@ pub mod Loops
 pub mod Planned
 pub mod BindingEdits
 mod FreshJoined
+pub mod EntryHalves
 pub mod FreshLaws
 pub mod PolicyRows
 pub mod SpotTouches

@@ -1,19 +1,18 @@
 -- Edits of one part of the places after those of another.
-use Rattle.std.proofs.Common.{◌≡◌, ℕ, suc, ◌+◌, ◌*◌, ◌≤◌, ◌<◌, List, [], ◌∷◌, ◌++◌, length, length-append, drop, get_or, slice_get, Option, None, Some, refl, sym, ap, ◌∙◌, add-one, arith}
+use Rattle.std.proofs.Common.{◌≡◌, ℕ, suc, ◌+◌, ◌*◌, ◌≤◌, ◌<◌, List, [], ◌∷◌, ◌++◌, length, length-append, drop, get_or, slice_get, Option, None, Some, refl, sym, ap, ◌∙◌, arith}
 use Rattle.std.specs.Prelude.{flat_map}
 use Rattle.std.proofs.Math.Seq.{drop-cons}
 use Rattle.std.proofs.lemmas.Option.{slice_get_read}
 use Rattle.std.proofs.lemmas.List.{drop_all, append-nil}
 use Rattle.std.proofs.lemmas.List.Sums.{sum_by-append, sum_by-cons}
 use Rattle.mud_base.specs.declared.addr.Addr.{Addr}
-use Rattle.acl_model.specs.declared.entry.Entry.{Entry}
 use Rattle.acl_model.specs.declared.binding.MemberKey.{MemberKey}
 use Rattle.acl_model.specs.declared.binding.Binding.{Binding}
 use Rattle.acl_model.specs.Policies.{UrlPolicy}
 use Rattle.acl_rows.specs.declared.row.Owner.TheVariants.{Url, Default}
 use Rattle.row_edits.specs.declared.edit.Edit.{Edit}
 use Rattle.acl_rows.specs.declared.row.Row.{Row}
-use Rattle.acl_rows.specs.Rows.{numbered, entry_at, Slots, Holder, default_held, held_at, holders_from, slot_policy, held_by}
+use Rattle.acl_rows.specs.Rows.{Slots, Holder, default_held, held_at, holders_from, slot_policy, held_by}
 use Rattle.acl_rows.specs.declared.row.RowKey.{RowKey}
 use Rattle.acl_patch.specs.Touched.{holder_touches, binding_touches, touches, with_edit, with_edits}
 use Rattle.row_changes.specs.Change.{ChangeState, after, more_edits, slot_touches}
@@ -38,20 +37,6 @@ least_steps-cons rows t ts = sum_by-cons (least_step rows) t ts
 pub least_steps-none : (rows : List Row) → least_steps rows [] ≡ 0
 unfolding least_steps
 least_steps-none rows = refl
-
--- the next entry, and those behind it
-pub next_entry : (f : ℕ × Entry → List RowKey) (es : List Entry) (i : ℕ) (e : Entry) → i < length es → e ≡ get_or es i e
-    → flat_map f (numbered (i + 1) (drop i es)) ≡ f (i + 1, e) ++ flat_map f (numbered (i + 1 + 1) (drop (i + 1) es))
-unfolding numbered
-next_entry f es i e lt is =
-    ap (λ (xs : List Entry). flat_map f (numbered (i + 1) xs)) (drop-cons es i e lt ∙ (λ j. sym is j ∷ drop (next j) es))
-  where
-    next : suc i ≡ i + 1
-    next = omega arith
-
-pub stands_at : (es : List Entry) (i : ℕ) (e : Entry) → i < length es → e ≡ get_or es i e → entry_at (i + 1) es ≡ Some e
-unfolding entry_at
-stands_at es i e lt is = rw add-one (slice_get_read es (length es) i e refl lt is)
 
 -- ---- Slots
 

@@ -1,7 +1,8 @@
 -- The rows that a new policy asks for, and the edits that they lead to.
-use Rattle.std.specs.Prelude.{◌≡◌, ℕ, ◌+◌, false, List, [], ◌∷◌, filter, length, is_some, Option, Some, None, if◌then◌else◌}
+use Rattle.std.specs.Prelude.{◌≡◌, ℕ, ◌+◌, false, List, [], ◌∷◌, filter, flat_map, length, slice_get, is_some, Option, Some, None, if◌then◌else◌}
 use Rattle.std.specs.List.{AllByRecursion}
 use Rattle.sorted_rows.specs.Placed.{row_at, set_row, set_rows, PlacesAscend}
+use Rattle.mud_base.specs.declared.packet.Direction.{Direction}
 use Rattle.mud_base.specs.declared.packet.Direction.TheVariants.{From, To}
 use Rattle.acl_model.specs.declared.binding.Binding.{Binding}
 use Rattle.acl_model.specs.declared.entry.Entry.{Entry}
@@ -14,8 +15,9 @@ use Rattle.acl_rows.specs.declared.row.Row.{Row}
 use Rattle.acl_rows.specs.declared.row.RowKey.{RowKey}
 use Rattle.acl_rows.specs.Places.{row_place}
 use Rattle.acl_rows.specs.ByAddress.{rows_of_peer, index_beside}
-use Rattle.acl_rows.specs.Rows.{Slots, row}
+use Rattle.acl_rows.specs.Rows.{Slots, Holder, row, held_by, numbered, entry_at}
 use Rattle.acl_patch.specs.Touched.{key_end, with_edit}
+use Rattle.acl_patch.specs.PolicyTouched.{entry_touches}
 
 -- ---- New rows
 
@@ -42,6 +44,18 @@ more_fresh slots bindings slots' (key ∷ keys) s = more_fresh slots bindings sl
 -- edits and rows put among others
 unfoldable pub joined : Fresh → Fresh → Fresh
 joined more s = fresh_of (set_rows (edit_place row_place) more.edits s.edits) (set_rows row_place more.rows s.rows)
+
+-- what these keys ask for, whatever table it is that has the policy then
+abbrev pub ArePlanned : Slots → List Binding → Holder → List RowKey → Fresh → Type 0
+ArePlanned slots bindings h keys fresh = (new : Slots) → held_by new h.0 ≡ Some h.1 → fresh ≡ more_fresh slots bindings new keys (fresh_of [] [])
+
+-- the places of these entries, the first of which has this number
+unfoldable pub entries_touches : List Binding → Holder → Direction → ℕ → List Entry → List RowKey
+entries_touches bindings h side n entries = flat_map (entry_touches bindings h.0 h.1 side) (numbered n entries)
+
+-- among all entries these stand one behind the other, the first of them with this number
+abbrev pub StandFrom : ℕ → List Entry → List Entry → Type 0
+StandFrom n entries all = (i : ℕ) (entry : Entry) → slice_get entries i ≡ Some entry → entry_at (n + i) all ≡ Some entry
 
 -- both are in the order of their places
 pub record AreSorted (s : Fresh) : Type 0 where

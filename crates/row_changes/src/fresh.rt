@@ -1,5 +1,5 @@
 //! The rows that a new policy asks for, and the edits that they lead to.
-ghost use Rattle.std.specs.Prelude.{◌≡◌, ℕ, ◌+◌, ◌*◌, ◌^◌, ◌<◌, ◌≤◌, length, OnOk, Some, List, [], ◌∷◌, map};
+ghost use Rattle.std.specs.Prelude.{◌≡◌, ℕ, ◌+◌, ◌*◌, ◌^◌, ◌<◌, ◌≤◌, length, OnOk, IfOk, Some, List, [], ◌∷◌, map};
 ghost use Rattle.acl_model.specs.FirstMatch.{entries_of};
 ghost use Rattle.sorted_rows.specs.Placed.{set_row, PlacesAscend};
 ghost use Rattle.acl_rows.specs.declared.row.Row.{Row as RowValue};
@@ -9,7 +9,7 @@ ghost use Rattle.acl_patch.specs.Touched.{row_key, key_end};
 ghost use Rattle.acl_patch.specs.PolicyTouched.{bound_key, entry_touches, side_policy_touches, new_touches};
 ghost use Rattle.row_changes.specs.Policies.{HasCounts};
 ghost use Rattle.row_changes.specs.Steps.{EntriesFit, HolderFits};
-ghost use Rattle.row_changes.specs.Fresh.{fresh_of, one_fresh, more_fresh, joined, membered_count, policy_count, AreOfPeer, left_edits, AreSorted};
+ghost use Rattle.row_changes.specs.Fresh.{fresh_of, one_fresh, more_fresh, joined, membered_count, policy_count, entries_touches, ArePlanned, StandFrom, AreOfPeer, left_edits, AreSorted};
 
 use crate::change::{Change, Holding, row_until};
 use crate::keys::first_key;
@@ -39,12 +39,12 @@ impl Model for FreshRows {
 
 impl FreshRows {
     /// No edits and no rows.
-    fn empty_like(&self) -> FreshRows
+    pub(crate) fn new(alloc: Global) -> FreshRows
         ensures { result ≡ fresh_of [] [] }
     {
         FreshRows {
-            edits: self.edits.empty_like(),
-            rows: self.rows.empty_like(),
+            edits: SortedRows::new(alloc),
+            rows: SortedRows::new(alloc),
         }
     }
 
@@ -140,87 +140,116 @@ impl<'a> Change<'a> {
         Ok(())
     }
 
-    /// Plans the rows of an entry: at the addresses of the bindings of its first key. Each of these
-    /// is read. They are planned by themselves, where each comes last, and then put among those of
-    /// the other entries.
+    /// The rows of an entry: at the addresses of the bindings of its first key. Each of these is read.
     #[tactic(auto, unfolding(acl_patch::specs::PolicyTouched::entry_touches))]
     fn entry_fresh<L: Ledger>(
         &self,
+        alloc: Global,
         holding: &Holding<'_>,
         side: Direction,
         n: u16,
         entry: &Entry,
-        fresh: &mut FreshRows,
         steps: &mut Steps<L>,
-    ) -> Result<(), Memory>
+    ) -> Result<FreshRows, Memory>
         requires gone { self.now.gone ≡ [] }
         requires come { self.now.come ≡ [] }
         requires stands { entry_at n (entries_of side holding.now.1.policy) ≡ Some entry.now }
-        ensures ok { OnOk result ((new : Slots) → held_by new holding.now.0 ≡ Some holding.now.1
-            → fresh.new ≡ more_fresh self.now.slots self.now.bindings new (entry_touches self.now.bindings holding.now.0 holding.now.1 side (n, entry.now)) fresh.old) }
+        ensures ok { IfOk result (ArePlanned self.now.slots self.now.bindings holding.now (entry_touches self.now.bindings holding.now.0 holding.now.1 side (n, entry.now))) }
         ensures least { steps.old + length (entry_touches self.now.bindings holding.now.0 holding.now.1 side (n, entry.now)) ≤ steps.new }
         ensures most { (b k u : ℕ) → length self.now.bindings < 2 ^ b → length self.now.rows < 2 ^ k
             → length (member_keys holding.now.1.url entry.now) * b + k ≤ u
             → steps.new ≤ steps.old + membered_count (entry.now ∷ []) * b + length (entry_touches self.now.bindings holding.now.0 holding.now.1 side (n, entry.now)) * (u + 1) }
     {
+        let mut fresh = FreshRows::new(alloc);
         match first_key(entry, holding.url(), holding.host()) {
-            None => Ok(()),
+            None => Ok(fresh),
             Some(key) => {
                 let bindings = self.bindings;
                 let bound = bindings.rows_under_counted(key, steps);
-                let mut own = fresh.empty_like();
-                self.bound_fresh(holding, side, n, entry, bound, &mut own, steps)?;
-                fresh.add(own)
+                self.bound_fresh(holding, side, n, entry, bound, &mut fresh, steps)?;
+                Ok(fresh)
             }
         }
     }
 
-    /// Plans the rows of the entries of one side.
+    /// The rows of these entries of one side, the first of which has the number `first`. Those of
+    /// each half are planned by themselves and then put together in one pass over both, so the rows
+    /// of an entry don't each move those of all others.
+    #[tactic(auto, using(crate::proofs::EntryHalves::front_stands, crate::proofs::EntryHalves::behind_stands, crate::proofs::EntryHalves::only_entry, crate::proofs::EntryHalves::one_stands))]
+    fn entries_fresh<L: Ledger>(
+        &self,
+        alloc: Global,
+        holding: &Holding<'_>,
+        side: Direction,
+        first: u16,
+        entries: &[Entry],
+        steps: &mut Steps<L>,
+    ) -> Result<FreshRows, Memory>
+        requires gone { self.now.gone ≡ [] }
+        requires come { self.now.come ≡ [] }
+        requires stand { StandFrom first entries.now (entries_of side holding.now.1.policy) }
+        requires few { first + length entries.now ≤ 65536 }
+        ensures ok { IfOk result (ArePlanned self.now.slots self.now.bindings holding.now (entries_touches self.now.bindings holding.now side first entries.now)) }
+        ensures read { OnOk result (steps.old + length (entries_touches self.now.bindings holding.now side first entries.now) ≤ steps.new) }
+        ensures most { (b k u : ℕ) → length self.now.bindings < 2 ^ b → length self.now.rows < 2 ^ k
+            → EntriesFit holding.now.1.url (entries_of side holding.now.1.policy) b k u
+            → steps.new ≤ steps.old + membered_count entries.now * b + length (entries_touches self.now.bindings holding.now side first entries.now) * (u + 1) }
+    {
+        match entries {
+            [] => Ok(FreshRows::new(alloc)),
+            [entry] => self.entry_fresh(alloc, holding, side, first, entry, steps),
+            _ => {
+                let half = entries.len() / 2;
+                let (front, behind) = entries.split_at(half);
+                let middle = first + half as u16;
+                let mut fresh = self.entries_fresh(alloc, holding, side, first, front, steps)?;
+                let more = self.entries_fresh(alloc, holding, side, middle, behind, steps)?;
+                fresh.add(more)?;
+                Ok(fresh)
+            }
+        }
+    }
+
+    /// The rows of the entries of one side.
     #[tactic(auto, unfolding(acl_patch::specs::PolicyTouched::side_policy_touches))]
     fn side_fresh<L: Ledger>(
         &self,
+        alloc: Global,
         holding: &Holding<'_>,
         side: Direction,
-        fresh: &mut FreshRows,
         steps: &mut Steps<L>,
-    ) -> Result<(), Memory>
+    ) -> Result<FreshRows, Memory>
         requires gone { self.now.gone ≡ [] }
         requires come { self.now.come ≡ [] }
         requires few { length (entries_of side holding.now.1.policy) ≤ 65535 }
-        ensures ok { OnOk result ((new : Slots) → held_by new holding.now.0 ≡ Some holding.now.1
-            → fresh.new ≡ more_fresh self.now.slots self.now.bindings new (side_policy_touches self.now.bindings holding.now.0 holding.now.1 side) fresh.old) }
+        ensures ok { IfOk result (ArePlanned self.now.slots self.now.bindings holding.now (side_policy_touches self.now.bindings holding.now.0 holding.now.1 side)) }
         ensures read { OnOk result (steps.old + length (side_policy_touches self.now.bindings holding.now.0 holding.now.1 side) ≤ steps.new) }
         ensures most { (b k u : ℕ) → length self.now.bindings < 2 ^ b → length self.now.rows < 2 ^ k
             → EntriesFit holding.now.1.url (entries_of side holding.now.1.policy) b k u
             → steps.new ≤ steps.old + membered_count (entries_of side holding.now.1.policy) * b + length (side_policy_touches self.now.bindings holding.now.0 holding.now.1 side) * (u + 1) }
     {
-        let entries = holding.entries(side);
-        let mut n: u16 = 0;
-        for entry in entries {
-            n += 1;
-            self.entry_fresh(holding, side, n, entry, fresh, steps)?;
-        }
-        Ok(())
+        self.entries_fresh(alloc, holding, side, 1, holding.entries(side), steps)
     }
 
-    /// Plans the rows of a policy.
+    /// The rows of a policy.
     pub(crate) fn policy_fresh<L: Ledger>(
         &self,
+        alloc: Global,
         holding: &Holding<'_>,
-        fresh: &mut FreshRows,
         steps: &mut Steps<L>,
-    ) -> Result<(), Memory>
+    ) -> Result<FreshRows, Memory>
         requires gone { self.now.gone ≡ [] }
         requires come { self.now.come ≡ [] }
         requires few { HasCounts holding.now.1.policy }
-        ensures ok { OnOk result ((new : Slots) → held_by new holding.now.0 ≡ Some holding.now.1
-            → fresh.new ≡ more_fresh self.now.slots self.now.bindings new (new_touches self.now.bindings holding.now.0 (Some holding.now.1)) fresh.old) }
+        ensures ok { IfOk result (ArePlanned self.now.slots self.now.bindings holding.now (new_touches self.now.bindings holding.now.0 (Some holding.now.1))) }
         ensures read { OnOk result (steps.old + length (new_touches self.now.bindings holding.now.0 (Some holding.now.1)) ≤ steps.new) }
         ensures most { (b k u : ℕ) → length self.now.bindings < 2 ^ b → length self.now.rows < 2 ^ k → HolderFits holding.now b k u
             → steps.new ≤ steps.old + policy_count (Some holding.now.1) * b + length (new_touches self.now.bindings holding.now.0 (Some holding.now.1)) * (u + 1) }
     {
-        self.side_fresh(holding, Direction::From, fresh, steps)?;
-        self.side_fresh(holding, Direction::To, fresh, steps)
+        let mut fresh = self.side_fresh(alloc, holding, Direction::From, steps)?;
+        let more = self.side_fresh(alloc, holding, Direction::To, steps)?;
+        fresh.add(more)?;
+        Ok(fresh)
     }
 }
 

@@ -75,17 +75,9 @@ fn fresh_rows<L: Ledger>(
     ensures most { (s b k : ℕ) → PolicyKeys s held.now → length change.now.bindings < 2 ^ b → length change.now.rows < 2 ^ k
         → steps.new ≤ steps.old + policy_count held.now * b + length (new_touches change.now.bindings owner held.now) * (s * b + k + 1) }
 {
-    let mut fresh = FreshRows {
-        edits: SortedRows::new(alloc),
-        rows: SortedRows::new(alloc),
-    };
     match held {
-        None => Ok(fresh),
-        Some(held) => {
-            let holding = Holding::of_held(owner, held);
-            change.policy_fresh(&holding, &mut fresh, steps)?;
-            Ok(fresh)
-        }
+        None => Ok(FreshRows::new(alloc)),
+        Some(held) => change.policy_fresh(alloc, &Holding::of_held(owner, held), steps),
     }
 }
 

@@ -1,4 +1,4 @@
-use Rattle.std.proofs.Common.{◌≡◌, ℕ, ◌+◌, ◌*◌, ◌≤◌, List, length, map, ap, sym, subst, ◌∙◌, arith}
+use Rattle.std.proofs.Common.{◌≡◌, ℕ, ◌+◌, ◌*◌, ◌≤◌, List, [], length, map, ap, sym, subst, ◌∙◌, arith}
 use Rattle.std.specs.Option.{option_map}
 use Rattle.sorted_rows.specs.Placed.{rows_under}
 use Rattle.acl_model.specs.Places.{text_place, binding_place}
@@ -7,9 +7,8 @@ use Rattle.acl_rows.specs.Rows.{member_keys}
 use Rattle.acl_patch.specs.PolicyTouched.{bound_key, first_key_touches, entry_touches}
 use Rattle.key_index.specs.Keys.{key_parts}
 use Rattle.row_changes.specs.Change.{ChangeState}
-use Rattle.row_changes.specs.Fresh.{first_of, more_fresh}
-use Rattle.row_changes.proofs.FreshJoined.{planned_alone}
-use Rattle.row_changes.proofs.FreshLaws.{none-more, on_ok_map, no_first, some_first, length-map, counts_one}
+use Rattle.row_changes.specs.Fresh.{fresh_of, first_of, more_fresh}
+use Rattle.row_changes.proofs.FreshLaws.{none-more, no_first, some_first, length-map, counts_one}
 use Rattle.row_changes.proofs.change.Change.entry_fresh.Goals as goal
 
 total : (start middle end l n m b u : ℕ) → l ≡ n → m ≡ 1 → middle ≤ start + l + b → end ≤ middle + l * u → end ≤ start + m * b + n * (u + 1)
@@ -19,12 +18,13 @@ pub returns-in-None-clause-ok : goal.returns-in-None-clause-ok
 unfolding entry_touches
 returns-in-None-clause-ok g c = λ new holds.
     let none = c.in-None.ensures ∙ ap (λ (url : List ℕ). option_map key_parts (first_of (member_keys url c.args.entry.now))) c.url.ensures in
-    sym (ap (λ (ks : List RowKey). more_fresh c.args.self.now.slots c.args.self.now.bindings new ks c.args.fresh.now) (no_first c.args.self.now.bindings c.args.holding.now.0 c.args.side c.args.n (member_keys c.args.holding.now.1.url c.args.entry.now) none)
-    ∙ none-more c.args.self.now.slots c.args.self.now.bindings new c.args.fresh.now)
+    c.new-fresh.ensures
+    ∙ sym (ap (λ (ks : List RowKey). more_fresh c.args.self.now.slots c.args.self.now.bindings new ks (fresh_of [] [])) (no_first c.args.self.now.bindings c.args.holding.now.0 c.args.side c.args.n (member_keys c.args.holding.now.1.url c.args.entry.now) none)
+    ∙ none-more c.args.self.now.slots c.args.self.now.bindings new (fresh_of [] []))
 
 pub returns-in_ok-bound_fresh-in-Some-clause-ok : goal.returns-in_ok-bound_fresh-in-Some-clause-ok
 unfolding entry_touches
-returns-in_ok-bound_fresh-in-Some-clause-ok g c =
+returns-in_ok-bound_fresh-in-Some-clause-ok g c = λ new holds.
     let some = c.in-Some.ensures ∙ ap (λ (url : List ℕ). option_map key_parts (first_of (member_keys url c.args.entry.now))) c.url.ensures in
     let bound = c.rows_under_counted-bound.ensures.rows ∙ ap (λ (s : ChangeState). rows_under binding_place (text_place c.in-Some.key.kind c.in-Some.key.text.now) s.bindings) c.self.view_is in
     let touched =
@@ -33,12 +33,9 @@ returns-in_ok-bound_fresh-in-Some-clause-ok g c =
     let slots = c.args.self.now.slots in
     let bindings = c.args.self.now.bindings in
     let keys = entry_touches bindings c.args.holding.now.0 c.args.holding.now.1 c.args.side (c.args.n, c.args.entry.now) in
-    on_ok_map _ _ (λ put new holds.
-    let own =
     c.in_ok-bound_fresh-in-Some.ensures.ok new holds
-    ∙ ap (λ (ks : List RowKey). more_fresh slots bindings new ks c.empty_like-own.result) touched
-    ∙ ap (more_fresh slots bindings new keys) c.empty_like-own.ensures in
-    put ∙ planned_alone slots bindings new keys c.bound_fresh.new.fresh c.args.fresh.now own c.add.ensures.sorted) c.add.result c.add.ensures.ok
+    ∙ ap (λ (ks : List RowKey). more_fresh slots bindings new ks c.new-fresh.result) touched
+    ∙ ap (more_fresh slots bindings new keys) c.new-fresh.ensures
 
 pub returns-in_err-bound_fresh-in-Some-clause-most : goal.returns-in_err-bound_fresh-in-Some-clause-most
 unfolding entry_touches

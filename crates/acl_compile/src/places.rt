@@ -29,14 +29,14 @@ fn order_from_behind(own: &[u8], other: &[u8]) -> Ordering
     ensures { result ≡ place_cmp (reverse own.now) (reverse other.now) }
 {
     let both = own.len().min(other.len());
-    let mut n = 0;
-    while n < both {
-        let octet = own[own.len() - 1 - n];
-        let against = other[other.len() - 1 - n];
-        if octet != against {
-            return octet.cmp(&against);
+    let end = &own[own.len() - both..];
+    let other_end = &other[other.len() - both..];
+    let mut left = both;
+    while left > 0 {
+        left -= 1;
+        if end[left] != other_end[left] {
+            return end[left].cmp(&other_end[left]);
         }
-        n += 1;
     }
     own.len().cmp(&other.len())
 }

@@ -1,24 +1,32 @@
-use Rattle.std.proofs.Common.{◌<◌, ◌≤◌, length, refl, sym, ◌∙◌, arith}
-use Rattle.acl_compile.proofs.TextOrder.{alike_behind, apart_behind, ends_behind}
+use Rattle.std.proofs.Common.{ℕ, ◌≡◌, ◌-◌, drop, reverse, sym, ap, ◌∙◌, arith}
+use Rattle.sorted_rows.specs.Placed.{place_cmp}
+use Rattle.acl_compile.proofs.TextOrder.{alike_end, apart_end, ends_behind}
 use Rattle.acl_compile.proofs.places.order_from_behind.Goals as goal
 
-pub loop-n-init : goal.loop-n-init
-loop-n-init c = (c.min-both.ensures, omega arith, refl)
+pub loop-left-init : goal.loop-left-init
+loop-left-init c = (
+  c.min-both.ensures,
+  omega arith,
+  ap (λ (n : ℕ). place_cmp (drop n (reverse c.args.own.now)) (drop n (reverse c.args.other.now))) {x = c.min-both.result - c.min-both.result} {y = 0} (omega arith),
+)
 
-pub returns-then-octet-against : goal.returns-then-octet-against
-returns-then-octet-against c =
-    let p : c.loop-n.n < length c.args.own.now = omega (arith, c.min-both.ensures, c.loop-n-test.true) in
-    let q : c.loop-n.n < length c.args.other.now = omega (arith, c.min-both.ensures, c.loop-n-test.true) in
-    c.cmp.ensures ∙ apart_behind c.loop-n.n c.args.own.now c.args.other.now p q c.if-octet-against.true ∙ c.loop-n.invariant.2
+pub returns-then-end-left : goal.returns-then-end-left
+returns-then-end-left c =
+    c.cmp.ensures
+    ∙ apart_end c.args.own.now c.args.other.now c.min-both.result c.loop-left.left (omega (arith, c.min-both.ensures)) (omega (arith, c.min-both.ensures)) c.loop-left-test.true c.loop-left.invariant.1 c.if-end-left.true
+    ∙ c.loop-left.invariant.2
 
-pub loop-n-preserved : goal.loop-n-preserved
-loop-n-preserved c =
-    let p : c.loop-n.n < length c.args.own.now = omega (arith, c.min-both.ensures, c.loop-n-test.true) in
-    let q : c.loop-n.n < length c.args.other.now = omega (arith, c.min-both.ensures, c.loop-n-test.true) in
-    (c.min-both.ensures, omega (arith, c.loop-n-test.true), sym (alike_behind c.loop-n.n c.args.own.now c.args.other.now p q c.if-octet-against.false) ∙ c.loop-n.invariant.2)
+pub loop-left-preserved : goal.loop-left-preserved
+loop-left-preserved c = (
+  c.min-both.ensures,
+  omega (arith, c.loop-left.invariant.1),
+  sym (alike_end c.args.own.now c.args.other.now c.min-both.result c.loop-left.left (omega (arith, c.min-both.ensures)) (omega (arith, c.min-both.ensures)) c.loop-left-test.true c.loop-left.invariant.1 c.if-end-left.false)
+      ∙ c.loop-left.invariant.2,
+)
 
 pub returns : goal.returns
 returns c =
-    let p : c.loop-n.n ≤ length c.args.own.now = omega (arith, c.min-both.ensures, c.loop-n.invariant.1) in
-    let q : c.loop-n.n ≤ length c.args.other.now = omega (arith, c.min-both.ensures, c.loop-n.invariant.1) in
-    c.cmp-2.ensures ∙ ends_behind c.loop-n.n c.args.own.now c.args.other.now p q (λ s t. omega (arith, s, t, c.min-both.ensures, c.loop-n-test.false)) ∙ c.loop-n.invariant.2
+    let none : c.loop-left.left ≡ 0 = omega (arith, c.loop-left-test.false) in
+    c.cmp-2.ensures
+    ∙ ends_behind (c.min-both.result - c.loop-left.left) c.args.own.now c.args.other.now (omega (arith, c.min-both.ensures)) (omega (arith, c.min-both.ensures)) (λ s t. omega (arith, s, t, none, c.min-both.ensures))
+    ∙ c.loop-left.invariant.2

@@ -3,8 +3,8 @@ use Rattle.sorted_rows.specs.Placed.{place_cmp}
 use Rattle.acl_compile.proofs.places.order_from_behind.Given as goal
 
 -- the last octets are the same, so those in front of them decide
-abbrev pub invariant-loop-n : goal.invariant-loop-n
-invariant-loop-n l = (l.both ≡ min (length l.own) (length l.other)) × (l.n ≤ l.both) × (place_cmp (drop l.n (reverse l.own)) (drop l.n (reverse l.other)) ≡ place_cmp (reverse l.own) (reverse l.other))
+abbrev pub invariant-loop-left : goal.invariant-loop-left
+invariant-loop-left l = (l.both ≡ min (length l.own) (length l.other)) × (l.left ≤ l.both) × (place_cmp (drop (l.both - l.left) (reverse l.own)) (drop (l.both - l.left) (reverse l.other)) ≡ place_cmp (reverse l.own) (reverse l.other))
 
-abbrev pub decreases-loop-n : goal.decreases-loop-n
-decreases-loop-n l = l.both - l.n
+abbrev pub decreases-loop-left : goal.decreases-loop-left
+decreases-loop-left l = l.left

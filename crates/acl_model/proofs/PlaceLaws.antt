@@ -1,6 +1,6 @@
 -- How the places of bindings stand to one another, field by field.
-use Rattle.std.proofs.Common.{◌≡◌, ℕ, suc, ◌+◌, Bool, true, false, List, [], ◌∷◌, ◌++◌, length, refl, sym, ap, ◌∙◌, arith}
-use Rattle.std.specs.Ordering.{nat_cmp, ordering_then}
+use Rattle.std.proofs.Common.{◌≡◌, ℕ, true, false, List, [], ◌∷◌, ◌++◌, length, refl, sym, ap, ◌∙◌, arith}
+use Rattle.std.specs.Ordering.{nat_cmp, ordering_then, is_ne}
 use Rattle.std.specs.Cmp.Lexicographic.{slice_cmp}
 use Rattle.std.specs.declared.cmp.Ordering.{Ordering}
 use Rattle.std.specs.declared.cmp.Ordering.TheVariants.{Less, Equal, Greater}
@@ -45,6 +45,24 @@ prefix_front (x ∷ xs) (y ∷ ys) vs long = ap (ordering_then (nat_cmp x y)) (p
 pub text_place_cmp : (k l : ℕ) (t u : List ℕ) → ordering_then (ordering_then (nat_cmp k l) (nat_cmp (length t) (length u))) (slice_cmp nat_cmp t u) ≡ place_cmp (text_place k t) (text_place l u)
 unfolding text_place
 text_place_cmp k l t u = then_assoc (nat_cmp k l) (nat_cmp (length t) (length u)) (slice_cmp nat_cmp t u)
+
+front_stays : (o r : Ordering) → is_ne o ≡ true → o ≡ ordering_then o r
+front_stays Less r e = refl
+front_stays Equal r e = cc
+front_stays Greater r e = refl
+
+front_passes : (o r : Ordering) → is_ne o ≡ false → r ≡ ordering_then o r
+front_passes Less r e = cc
+front_passes Equal r e = refl
+front_passes Greater r e = cc
+
+-- where the kinds or the lengths differ, they decide
+pub front_decides : (k l : ℕ) (t u : List ℕ) (front : Ordering) → front ≡ ordering_then (nat_cmp k l) (nat_cmp (length t) (length u)) → is_ne front ≡ true → front ≡ place_cmp (text_place k t) (text_place l u)
+front_decides k l t u front is ne = front_stays front (slice_cmp nat_cmp t u) ne ∙ ap (λ (o : Ordering). ordering_then o (slice_cmp nat_cmp t u)) is ∙ text_place_cmp k l t u
+
+-- else the texts do
+pub front_ties : (k l : ℕ) (t u : List ℕ) (front : Ordering) → front ≡ ordering_then (nat_cmp k l) (nat_cmp (length t) (length u)) → is_ne front ≡ false → slice_cmp nat_cmp t u ≡ place_cmp (text_place k t) (text_place l u)
+front_ties k l t u front is ties = front_passes front (slice_cmp nat_cmp t u) ties ∙ ap (λ (o : Ordering). ordering_then o (slice_cmp nat_cmp t u)) is ∙ text_place_cmp k l t u
 
 addr_place_cmp : (a b : Addr) → slice_cmp nat_cmp (addr_place a) (addr_place b) ≡ addr_cmp a b
 addr_place_cmp a b = sym (addr_cmp-place a b)

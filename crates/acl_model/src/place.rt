@@ -62,14 +62,19 @@ impl MemberKey {
     }
 }
 
-/// How two kinds with their texts stand to one another: by kind, then by length, then by text.
-fn order_texts(own: KeyText<'_>, other: KeyText<'_>) -> Ordering
+/// How two kinds of key with their texts stand to one another: by kind, then by length, then by text.
+/// Texts are compared only where both are of one kind and length.
+pub fn order_keys(own: KeyText<'_>, other: KeyText<'_>) -> Ordering
     ensures { result ≡ place_cmp (text_place own.entry.kind own.entry.text.now) (text_place other.entry.kind other.entry.text.now) }
 {
-    own.kind
+    let front = own
+        .kind
         .cmp(&other.kind)
-        .then(own.text.len().cmp(&other.text.len()))
-        .then(own.text.cmp(other.text))
+        .then(own.text.len().cmp(&other.text.len()));
+    if front.is_ne() {
+        return front;
+    }
+    own.text.cmp(other.text)
 }
 
 /// How two keys with their addresses stand to one another: by key, and then by address.
@@ -78,7 +83,7 @@ fn order_bound(own: BoundKey<'_>, other: BoundKey<'_>) -> Ordering
         (text_place own.entry.key.kind own.entry.key.text.now ++ addr_place own.entry.addr)
         (text_place other.entry.key.kind other.entry.key.text.now ++ addr_place other.entry.addr) }
 {
-    order_texts(own.key, other.key).then(addr_order(own.addr, other.addr))
+    order_keys(own.key, other.key).then(addr_order(own.addr, other.addr))
 }
 
 impl Binding {
@@ -123,7 +128,7 @@ impl PrefixOf<Binding> for KeyText<'_> {
     ghost prefix = { λ own. text_place own.kind own.text.now };
 
     fn order_to_beginning(&self, row: &Binding) -> Ordering {
-        order_texts(*self, row.key.key_text())
+        order_keys(*self, row.key.key_text())
     }
 }
 

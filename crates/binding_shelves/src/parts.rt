@@ -7,7 +7,7 @@ ghost use Rattle.acl_model.specs.declared.binding.MemberKey.{MemberKey as KeyVal
 ghost use Rattle.binding_shelves.specs.Shelves.{HasRoomByKey, edits_of_key};
 ghost use Rattle.binding_shelves.specs.Parts.{shelf_place, part_at, joined, room_in, AreShelved, AreRoomier, AreFoundIn, IsEdited};
 
-use acl_model::{Binding, KeyText, MemberKey, same_key};
+use acl_model::{Binding, KeyText, MemberKey, order_keys, same_key};
 use mud_base::Memory;
 use row_edits::{Edit, make_edit};
 use sorted_rows::{PrefixOf, SortedRows, Steps};
@@ -20,17 +20,6 @@ use std::sync::ledger::Ledger;
 pub(crate) struct Shelf {
     key: MemberKey,
     bindings: SortedRows<Binding>,
-}
-
-/// How two kinds of key with their texts stand to one another: by kind, then by length, then by
-/// text.
-fn order_keys(own: KeyText<'_>, other: KeyText<'_>) -> Ordering
-    ensures { result ≡ place_cmp (text_place own.entry.kind own.entry.text.now) (text_place other.entry.kind other.entry.text.now) }
-{
-    own.kind
-        .cmp(&other.kind)
-        .then(own.text.len().cmp(&other.text.len()))
-        .then(own.text.cmp(other.text))
 }
 
 /// How a shelf's key stands to a key.

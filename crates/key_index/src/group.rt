@@ -4,7 +4,7 @@ ghost use Rattle.sorted_rows.specs.Placed.{place_cmp, same_place, without_row};
 ghost use Rattle.acl_model.specs.Places.{text_place};
 ghost use Rattle.key_index.specs.Spots.{group_place, spots_in, spot_if};
 
-use acl_model::KeyText;
+use acl_model::{KeyText, order_keys};
 use mud_base::{Bytes, Direction, Listed, Memory};
 use sorted_rows::{KeyOf, Placed, SortedRows};
 use std::alloc::Global;
@@ -25,16 +25,6 @@ pub struct KeyEntries {
     kind: u8,
     text: Bytes,
     spots: Listed<EntrySpot>,
-}
-
-/// How two kinds with their texts stand to one another: by kind, then by length, then by text.
-pub(crate) fn order_texts(own: KeyText<'_>, other: KeyText<'_>) -> Ordering
-    ensures { result ≡ place_cmp (text_place own.entry.kind own.entry.text.now) (text_place other.entry.kind other.entry.text.now) }
-{
-    own.kind
-        .cmp(&other.kind)
-        .then(own.text.len().cmp(&other.text.len()))
-        .then(own.text.cmp(other.text))
 }
 
 impl KeyEntries {
@@ -63,7 +53,7 @@ impl Placed for KeyEntries {
     ghost place = { group_place };
 
     fn order(&self, other: &KeyEntries) -> Ordering {
-        order_texts(self.key_text(), other.key_text())
+        order_keys(self.key_text(), other.key_text())
     }
 }
 
@@ -73,7 +63,7 @@ impl KeyOf<KeyEntries> for KeyText<'_> {
     ghost place = { λ own. text_place own.kind own.text.now };
 
     fn order_to(&self, row: &KeyEntries) -> Ordering {
-        order_texts(*self, row.key_text())
+        order_keys(*self, row.key_text())
     }
 }
 

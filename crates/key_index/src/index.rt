@@ -5,9 +5,9 @@ ghost use Rattle.mud_url.specs.Url.{host_of};
 ghost use Rattle.acl_model.specs.Places.{text_place};
 ghost use Rattle.key_index.specs.Spots.{is_keyed, spot_if, spots_in, side_spots, policy_spots};
 
-use crate::group::{EntrySpot, KeyEntries, add_spot, order_texts};
+use crate::group::{EntrySpot, KeyEntries, add_spot};
 use crate::keys::selector_key;
-use acl_model::{Entry, KeyText, Policy, Selector};
+use acl_model::{Entry, KeyText, Policy, Selector, order_keys};
 use mud_base::{Direction, Memory};
 use sorted_rows::SortedRows;
 use std::alloc::Global;
@@ -66,7 +66,7 @@ fn selector_is_keyed(selector: &Selector, url: &[u8], host: &[u8], key: &KeyText
 {
     match selector_key(selector, url, host) {
         None => false,
-        Some(own) => order_texts(own, *key).is_eq(),
+        Some(own) => order_keys(own, *key).is_eq(),
     }
 }
 

@@ -1,5 +1,4 @@
 use Rattle.std.proofs.Common.{◌≡◌, ◌==◌, ◌&&◌, Bool, sym, ap, ◌∙◌}
-use Rattle.std.specs.Bool.{Decides}
 use Rattle.acl_model.specs.Changes.{same_spot, same_binding}
 use Rattle.acl_model.proofs.BindingLaws.{same_binding-Decides}
 use Rattle.acl_model.proofs.change.same_binding.Goals as goal

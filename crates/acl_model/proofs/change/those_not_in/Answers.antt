@@ -1,4 +1,4 @@
-use Rattle.std.proofs.Common.{◌≡◌, ◌++◌, ◌∷◌, [], sym, ap, ◌∙◌}
+use Rattle.std.proofs.Common.{◌++◌, ◌∷◌, [], sym, ◌∙◌}
 use Rattle.acl_model.proofs.BindingLaws.{those_not_in-none, those_not_in-put, those_not_in-left}
 use Rattle.acl_model.proofs.change.those_not_in.Goals.{then-not-has_binding+in_ok-copy+in_ok-push, else-not-has_binding}
 use Rattle.acl_model.proofs.change.those_not_in.Goals as goal

@@ -1,4 +1,3 @@
-use Rattle.std.proofs.Common.{◌≡◌, ap, ◌∙◌}
 use Rattle.acl_model.proofs.PlaceLaws.{bound_place_cmp}
 use Rattle.acl_model.proofs.place.order_bound.Goals as goal
 

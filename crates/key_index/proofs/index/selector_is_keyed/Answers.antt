@@ -10,5 +10,5 @@ pub returns-in-Some : goal.returns-in-Some
 returns-in-Some c =
     let own : List ℕ = text_place c.in-Some.own.kind c.in-Some.own.text.now in
     let p : List ℕ = text_place c.args.key.now.kind c.args.key.now.text.now in
-    c.is_eq.ensures ∙ ap is_eq c.order_texts.ensures ∙ sym (same_place-cmp own p (place_cmp own p) refl)
+    c.is_eq.ensures ∙ ap is_eq c.order_keys.ensures ∙ sym (same_place-cmp own p (place_cmp own p) refl)
     ∙ sym (keyed_some c.in-Some.own.kind c.in-Some.own.text.now p c.args.url.now c.args.selector.now c.in-Some.ensures)

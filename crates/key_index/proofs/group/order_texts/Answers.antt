@@ -1,8 +1,0 @@
-use Rattle.std.proofs.Common.{◌≡◌, ap, ◌∙◌}
-use Rattle.acl_model.proofs.PlaceLaws.{text_place_cmp}
-use Rattle.key_index.proofs.group.order_texts.Goals as goal
-
-pub returns : goal.returns
-returns c =
-    let e = text_place_cmp c.args.own.kind c.args.other.kind c.args.own.text.now c.args.other.text.now in
-    cc e

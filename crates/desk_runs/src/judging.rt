@@ -19,7 +19,7 @@ use sorted_rows::Steps;
 use std::alloc::Global;
 use std::marker::Brand;
 use std::sync::ledger::{Blank, Ledger};
-use text_lines::{append_decimal, append_number};
+use text_lines::append_decimal;
 use verdict_lines::append_verdict;
 
 /// The seconds of a packet as a moment. No number of 32 bits is after the last moment.
@@ -48,15 +48,16 @@ fn judge_packet<L: Ledger>(
 }
 
 /// Adds the line of a packet: its number, its seconds, and the verdict on it.
-#[tactic(auto, unfolding(crate::specs::Judged::judged_line))]
+#[tactic(auto, unfolding(crate::specs::Judged::judged_line, text_lines::specs::Numbers::number_text))]
 fn append_judged(lines: &mut Bytes, packet: &Captured<'_>, verdict: &Verdict) -> Result<(), Memory>
     ensures { OnOk result (lines.new ≡ lines.old ++ judged_line (packet_of packet.now) verdict.now) }
 {
     append_decimal(lines, u64::from(packet.number))?;
-    append_number(lines, u64::from(packet.seconds))?;
-    lines.append(b" ")?;
+    lines.push(b' ')?;
+    append_decimal(lines, u64::from(packet.seconds))?;
+    lines.push(b' ')?;
     append_verdict(lines, verdict)?;
-    lines.append(b"\n")
+    lines.push(b'\n')
 }
 
 /// The lines of `judge`: the verdict on each packet, in a session of a desk.

@@ -134,10 +134,11 @@ impl FlowTable {
         ensures same { flows_of self.new ≡ flows_of self.old }
         ensures place { IfOk result (λ _. HasPlace self.new pair) }
     {
-        let begun = self.held(pair);
-        if !self.younger.contains_key(&pair) {
-            self.younger.insert(pair, begun)?;
+        if self.younger.contains_key(&pair) {
+            return Ok(());
         }
+        let begun = self.held(pair);
+        self.younger.insert(pair, begun)?;
         Ok(())
     }
 

@@ -3,6 +3,8 @@
 # make checks     runs those of the own checks that use the built program
 # make limits     runs into the limits that take minutes to reach
 # make memory     runs the program with each allocation failing in turn
+# make plants     has the prover refuse the wrong bodies in plants/, of all crates (hours) or of
+#                 CRATES="mud_url mud_base"
 # make fuzz       runs it on inputs that were changed at random, for MINUTES=1 or another number
 # make bench      measures how fast the program is
 # make hostile    measures what the slowest inputs cost
@@ -11,8 +13,9 @@
 # make clean      takes away all that was built
 PREFIX ?= /usr/local
 MINUTES ?= 1
+CRATES ?=
 
-.PHONY: build test checks limits memory fuzz bench hostile install clean
+.PHONY: build test checks limits memory plants fuzz bench hostile install clean
 build:
 	sh ./build
 
@@ -37,6 +40,9 @@ limits: build
 
 memory: build
 	checks/memory
+
+plants:
+	checks/plants $(CRATES)
 
 fuzz: build
 	fuzz/fuzz -m $(MINUTES)

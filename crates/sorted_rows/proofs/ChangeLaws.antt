@@ -1,12 +1,10 @@
 -- What a change of rows makes of the row of each place.
-use Rattle.std.proofs.Common.{◌≡◌, ℕ, ◌+◌, Bool, true, false, cond, not, ◌||◌, List, [], ◌∷◌, length, map, Option, Some, None, refl, sym, ap, subst, ◌∙◌, arith}
+use Rattle.std.proofs.Common.{◌≡◌, ℕ, Bool, true, false, cond, not, ◌||◌, List, [], ◌∷◌, map, Option, Some, None, refl, sym, ap, subst, ◌∙◌}
 use Rattle.std.specs.List.{list_any}
-use Rattle.std.specs.Option.{option_or}
 use Rattle.std.proofs.lemmas.Bool.{false≢true}
-use Rattle.std.proofs.lemmas.List.{length-map}
 use Rattle.sorted_rows.specs.Placed.{same_place, PlacesAscend, row_at, set_row, set_rows, without_row}
-use Rattle.sorted_rows.specs.Changes.{RowChange, without_gone, changed, is_gone, last_at, with_found, places_of, rows_at, are_apart, is_plain}
-use Rattle.sorted_rows.proofs.PlacedLaws.{same_place_exact, same_place_itself, row_at-set_row, row_at-set_row_same, row_at-set_row_other, row_at-without_row, ascend-set_rows, ascend-without_row}
+use Rattle.sorted_rows.specs.Changes.{RowChange, without_gone, changed, with_found, places_of, rows_at, are_apart, is_plain}
+use Rattle.sorted_rows.proofs.PlacedLaws.{same_place_exact, same_place_itself, row_at-set_row_same, row_at-set_row_other, row_at-without_row}
 use Rattle.sorted_rows.proofs.ListTests.{left_of, right_of, or_first, or_second, not_false, any_first, any_later, any_by}
 
 pub turned : (p q : List ℕ) → same_place p q ≡ false → same_place q p ≡ false
@@ -40,50 +38,7 @@ module _ {R : Type 0} (place : R → List ℕ) where
           (λ here. record { at = q; one_of = any_first (same_place q) q qs (same_place_itself q); row = x; there = is; passes = here })
           (λ more. later (rest more)) found
 
-  any_with : (test : R → Bool) (o : Option R) (xs : List R) → list_any test xs ≡ true → list_any test (with_found o xs) ≡ true
-  any_with test None xs e = e
-  any_with test (Some x) xs e = any_later test x xs e
-
-  pub at_found : (test : R → Bool) (q : List ℕ) (row : R) (qs : List (List ℕ)) (rows : List R) → list_any (same_place q) qs ≡ true → row_at place q rows ≡ Some row → test row ≡ true → list_any test (rows_at place qs rows) ≡ true
-  at_found test q row [] rows one there e = absurd (false≢true one)
-  at_found test q row (p ∷ ps) rows one there e = any_by (same_place q) p ps
-      (λ here. subst (λ o. list_any test (with_found o (rows_at place ps rows)) ≡ true) (sym (ap (λ r. row_at place r rows) (sym (same_place_exact q p here)) ∙ there)) (any_first test row (rows_at place ps rows) e))
-      (λ later. any_with test (row_at place p rows) (rows_at place ps rows) (at_found test q row ps rows later there e)) one
-
-  -- ---- The order stays
-
-  ascend_without_gone : (gone : Option (List ℕ)) (rows : List R) → PlacesAscend place rows → PlacesAscend place (without_gone place gone rows)
-  ascend_without_gone None rows up = up
-  ascend_without_gone (Some p) rows up = ascend-without_row place p rows up
-
-  pub ascend-changed : (change : RowChange R) (rows : List R) → PlacesAscend place rows → PlacesAscend place (changed place change rows)
-  unfolding changed
-  ascend-changed change rows up = ascend-set_rows place change.sets (without_gone place change.gone rows) (ascend_without_gone change.gone rows up)
-
   -- ---- The row of each place
-
-  last_or : (o w : Option R) (x : R) (b : Bool) → option_or o (cond b (Some x) w) ≡ option_or (option_or o (cond b (Some x) None)) w
-  last_or None w x true = refl
-  last_or None w x false = refl
-  last_or (Some y) w x b = refl
-
-  -- the last row that is put in at a place counts, and else what was there
-  pub row_at-set_rows : (new rows : List R) (q : List ℕ) → row_at place q (set_rows place new rows) ≡ option_or (last_at place q new) (row_at place q rows)
-  row_at-set_rows [] rows q = refl
-  row_at-set_rows (x ∷ xs) rows q =
-      row_at-set_rows xs (set_row place x rows) q
-      ∙ ap (option_or (last_at place q xs)) (row_at-set_row place x rows q)
-      ∙ last_or (last_at place q xs) (row_at place q rows) x (same_place (place x) q)
-
-  pub row_at-without_gone : (gone : Option (List ℕ)) (rows : List R) (q : List ℕ) → PlacesAscend place rows → row_at place q (without_gone place gone rows) ≡ cond (is_gone gone q) None (row_at place q rows)
-  row_at-without_gone None rows q up = refl
-  row_at-without_gone (Some p) rows q up = row_at-without_row place p rows q up
-
-  pub row_at-changed : (change : RowChange R) (rows : List R) (q : List ℕ) → PlacesAscend place rows → row_at place q (changed place change rows) ≡ option_or (last_at place q change.sets) (cond (is_gone change.gone q) None (row_at place q rows))
-  unfolding changed
-  row_at-changed change rows q up =
-      row_at-set_rows change.sets (without_gone place change.gone rows) q
-      ∙ ap (option_or (last_at place q change.sets)) (row_at-without_gone change.gone rows q up)
 
   -- rows that are put in leave those of other places
   pub row_at-set_rows_other : (new rows : List R) (q : List ℕ) → list_any (same_place q) (map place new) ≡ false → row_at place q (set_rows place new rows) ≡ row_at place q rows
@@ -130,15 +85,3 @@ module _ {R : Type 0} (place : R → List ℕ) where
   pub new_rows : (change : RowChange R) (rows : List R) → PlacesAscend place rows → is_plain place change ≡ true → rows_at place (places_of place change) (changed place change rows) ≡ change.sets
   unfolding is_plain places_of changed
   new_rows change rows up once = new_found change.gone change.sets rows up once
-
-  -- ---- How many places it touches
-
-  pub places_with : (change : RowChange R) (p : List ℕ) → change.gone ≡ Some p → length (places_of place change) ≡ length change.sets + 1
-  unfolding places_of
-  places_with change p e =
-      let long : length (p ∷ map place change.sets) ≡ length change.sets + 1 = omega (arith, length-map change.sets place) in
-      ap (λ gone. length (with_found gone (map place change.sets))) e ∙ long
-
-  pub places_without : (change : RowChange R) → change.gone ≡ None → length (places_of place change) ≡ length change.sets
-  unfolding places_of
-  places_without change e = ap (λ gone. length (with_found gone (map place change.sets))) e ∙ length-map change.sets place

@@ -1,14 +1,13 @@
 -- Where the index of a place stays, how many rows there are, and rows in parts.
 use Rattle.std.proofs.Common.{◌≡◌, ℕ, zero, suc, ◌+◌, ◌<◌, List, slice_get, [], ◌∷◌, ◌++◌, length, Option, Result, Ok, Err, refl, sym, ap, subst, ◌∙◌, arith}
-use Rattle.std.specs.List.{remove}
 use Rattle.std.specs.Prelude.{if◌then◌else◌}
 use Rattle.std.specs.Option.{is_some}
 use Rattle.std.specs.declared.cmp.Ordering.{Ordering}
 use Rattle.std.specs.declared.cmp.Ordering.TheVariants.{Less, Equal, Greater}
-use Rattle.std.proofs.lemmas.List.Edits.{length-insert, length-remove}
+use Rattle.std.proofs.lemmas.List.Edits.{length-insert}
 use Rattle.std.proofs.lemmas.List.{length-set}
 use Rattle.sorted_rows.specs.Placed.{place_cmp, row_at, index_in, one_on, set_row, without_row, PlacesAbove, PlacesBelow, ComeBefore, PlacesAscend}
-use Rattle.sorted_rows.proofs.PlacedLaws.{place_cmp_exact, place_cmp_trans, place_cmp_turned, above_trans, IsIndexOf, row_of, row_at-index_in, index_in_within, set_row_found, set_row_missed, without_row_found, without_row_missed}
+use Rattle.sorted_rows.proofs.PlacedLaws.{place_cmp_exact, place_cmp_trans, place_cmp_turned, above_trans, IsIndexOf, row_of, row_at-index_in, index_in_within, set_row_found, set_row_missed}
 
 module _ {R : Type 0} (place : R → List ℕ) where
   abbrev step : Result ℕ ℕ → Ordering → Result ℕ ℕ
@@ -52,19 +51,10 @@ module _ {R : Type 0} (place : R → List ℕ) where
   abbrev one_if_none : Option R → ℕ
   one_if_none o = if is_some o then 0 else 1
 
-  -- one where the place has one
-  abbrev one_if_some : Option R → ℕ
-  one_if_some o = if is_some o then 1 else 0
-
   some_there : (rows : List R) (i : ℕ) → i < length rows → one_if_none (slice_get rows i) ≡ 0
   some_there [] i within = absurd (omega arith)
   some_there (x ∷ xs) zero within = refl
   some_there (x ∷ xs) (suc i) within = some_there xs i (omega arith)
-
-  one_there : (rows : List R) (i : ℕ) → i < length rows → one_if_some (slice_get rows i) ≡ 1
-  one_there [] i within = absurd (omega arith)
-  one_there (x ∷ xs) zero within = refl
-  one_there (x ∷ xs) (suc i) within = one_there xs i (omega arith)
 
   put_length : (row : R) (rows : List R) (r : Result ℕ ℕ) → PlacesAscend place rows → IsIndexOf place rows r → index_in place (place row) rows ≡ r → length (set_row place row rows) ≡ length rows + one_if_none (row_of place rows r)
   put_length row rows (Ok i) up within e = ap length (set_row_found place row rows i e) ∙ length-set rows i row ∙ omega (arith, some_there rows i within)
@@ -73,14 +63,6 @@ module _ {R : Type 0} (place : R → List ℕ) where
   -- they are one more where the place of the row that is put in had none, and else as many
   pub set_row_length : (row : R) (rows : List R) → PlacesAscend place rows → length (set_row place row rows) ≡ length rows + one_if_none (row_at place (place row) rows)
   set_row_length row rows up = put_length row rows (index_in place (place row) rows) up (index_in_within place (place row) rows) refl ∙ ap (λ o. length rows + one_if_none o) (sym (row_at-index_in place (place row) rows up))
-
-  take_length : (q : List ℕ) (rows : List R) (r : Result ℕ ℕ) → IsIndexOf place rows r → index_in place q rows ≡ r → length (without_row place q rows) + one_if_some (row_of place rows r) ≡ length rows
-  take_length q rows (Ok i) within e = ap (λ ys. length ys + one_if_some (slice_get rows i)) (without_row_found place q rows i e) ∙ ap (λ n. length (remove rows i) + n) (one_there rows i within) ∙ length-remove rows i within
-  take_length q rows (Err i) within e = ap (λ ys. length ys + 0) (without_row_missed place q rows i e) ∙ omega arith
-
-  -- they are one less where the place had one, and else as many
-  pub without_row_length : (q : List ℕ) (rows : List R) → PlacesAscend place rows → length (without_row place q rows) + one_if_some (row_at place q rows) ≡ length rows
-  without_row_length q rows up = ap (λ o. length (without_row place q rows) + one_if_some o) (row_at-index_in place q rows up) ∙ take_length q rows (index_in place q rows) (index_in_within place q rows) refl
 
   -- ---- Rows behind others
 

@@ -84,13 +84,6 @@ pub any_either : {A : Type 0} {P : Type 0} (p : A → Bool) (xs ys : List A) →
 any_either p [] ys left right e = right e
 any_either p (x ∷ xs) ys left right e = any_by p x (xs ++ ys) (λ is. left (any_first p x xs is)) (λ rest. any_either p xs ys (λ l. left (any_later p x xs l)) right rest) e
 
-pub any_left : {A : Type 0} (p : A → Bool) (xs ys : List A) → list_any p xs ≡ true → list_any p (xs ++ ys) ≡ true
-any_left p xs ys e = list_any-append p xs ys ∙ ap (λ b. b || list_any p ys) e
-
-pub any_right : {A : Type 0} (p : A → Bool) (xs ys : List A) → list_any p ys ≡ true → list_any p (xs ++ ys) ≡ true
-any_right p [] ys e = e
-any_right p (x ∷ xs) ys e = any_later p x (xs ++ ys) (any_right p xs ys e)
-
 kept_first : {A : Type 0} (p q : A → Bool) (x : A) (xs : List A) → (list_any p (filter q xs) ≡ true → list_any p xs ≡ true) → (b : Bool) → list_any p (cond b (x ∷ filter q xs) (filter q xs)) ≡ true → list_any p (x ∷ xs) ≡ true
 kept_first p q x xs rest true e = any_by p x (filter q xs) (any_first p x xs) (λ later. any_later p x xs (rest later)) e
 kept_first p q x xs rest false e = any_later p x xs (rest e)

@@ -68,17 +68,6 @@ module _ {R : Type 0} (place : R → List ℕ) where
   pub rest_ascends : (row : R) (rows front : List R) → rows ≡ front ++ row ∷ [] → PlacesAscend place rows → PlacesAscend place front
   rest_ascends row rows front is up = front_ascends row front (subst (PlacesAscend place) is up)
 
-  below_more : (p q : List ℕ) (rows : List R) → place_cmp p q ≡ Less → Below p rows → Below q rows
-  below_more p q [] less all = tt
-  below_more p q (x ∷ xs) less all = (place_cmp_trans (place x) p q all.0 less, below_more p q xs less all.1)
-
-  all_below : (row : R) (rows front : List R) (q : List ℕ) → rows ≡ front ++ row ∷ [] → PlacesAscend place rows → place_cmp (place row) q ≡ Less → Below q rows
-  all_below row rows front q is up less = subst (Below q) (sym is) (both front (below_more (place row) q front less (below_last row front (subst (PlacesAscend place) is up))))
-    where
-      both : (xs : List R) → Below q xs → Below q (xs ++ row ∷ [])
-      both [] all = (less, tt)
-      both (x ∷ xs) all = (all.0, both xs all.1)
-
   -- ---- A row behind all others
 
   put_last : (row : R) (rows : List R) → Below (place row) rows → set_row place row rows ≡ rows ++ row ∷ []

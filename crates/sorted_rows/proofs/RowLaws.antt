@@ -166,10 +166,6 @@ module _ {R S : Type 0} (place : R → List ℕ) (place' : S → List ℕ) (f : 
       map_set_first row x xs (map-set_row alike row xs) (place_cmp (place row) (place x))
       ∙ ap (image_first row x xs) (sym (alike row x))
 
-  pub map-set_rows : ((x y : R) → place_cmp (place' (f x)) (place' (f y)) ≡ place_cmp (place x) (place y)) → (new rows : List R) → map f (set_rows place new rows) ≡ set_rows place' (map f new) (map f rows)
-  map-set_rows alike [] rows = refl
-  map-set_rows alike (x ∷ xs) rows = map-set_rows alike xs (set_row place x rows) ∙ ap (set_rows place' (map f xs)) (map-set_row alike x rows)
-
   abbrev image_without : List ℕ → R → List R → Ordering → List S
   image_without q x xs o = elim o [ Less ↦ f x ∷ map f xs | Equal ↦ map f xs | Greater ↦ f x ∷ without_row place' q (map f xs) ]
 

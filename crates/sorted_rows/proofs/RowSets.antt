@@ -1,7 +1,7 @@
 -- What rows have in common, told by the rows at their places.
-use Rattle.std.proofs.Common.{◌≡◌, ℕ, ◌≤◌, Bool, true, false, cond, ◌&&◌, ◌||◌, List, [], ◌∷◌, ◌++◌, length, map, Option, Some, None, refl, sym, ap, subst, ◌∙◌, arith}
+use Rattle.std.proofs.Common.{◌≡◌, ℕ, ◌≤◌, Bool, true, false, cond, ◌&&◌, ◌||◌, List, [], ◌∷◌, length, map, Option, Some, None, refl, sym, ap, subst, ◌∙◌, arith}
 use Rattle.std.specs.List.{list_any, filter, AllByRecursion}
-use Rattle.std.specs.Option.{option_map, option_map_or, option_or}
+use Rattle.std.specs.Option.{option_map, option_map_or}
 use Rattle.std.specs.declared.cmp.Ordering.{Ordering}
 use Rattle.std.specs.declared.cmp.Ordering.TheVariants.{Less, Equal, Greater}
 use Rattle.std.proofs.lemmas.Bool.{false≢true}
@@ -100,17 +100,6 @@ module _ {R : Type 0} (place : R → List ℕ) where
       row_at-set_alike p w xs (set_row place x rows) all.1
       ∙ ap (cond (list_any (stands_at p) xs) w) (row_at-set_row place x rows p)
       ∙ at_first p w (row_at place p rows) x (list_any (stands_at p) xs) (stands_at p x) all.0
-
-  -- ---- Rows behind others
-
-  first_or : (o p : Option R) (x : R) (b : Bool) → cond b (Some x) (option_or o p) ≡ option_or (cond b (Some x) o) p
-  first_or o p x true = refl
-  first_or o p x false = refl
-
-  -- the row of a place is the one among the first rows, or else the one among the others
-  pub row_at-append : (p : List ℕ) (xs ys : List R) → row_at place p (xs ++ ys) ≡ option_or (row_at place p xs) (row_at place p ys)
-  row_at-append p [] ys = refl
-  row_at-append p (x ∷ xs) ys = ap (cond (same_place (place x) p) (Some x)) (row_at-append p xs ys) ∙ first_or (row_at place p xs) (row_at place p ys) x (same_place (place x) p)
 
 -- ---- Images of rows
 

@@ -1,13 +1,11 @@
 -- Runs of rows that stand side by side, put in or taken away at once.
-use Rattle.std.proofs.Common.{◌≡◌, ℕ, zero, suc, ◌+◌, ◌≤◌, ◌<◌, List, [], ◌∷◌, ◌++◌, length, map, take, drop, reverse, get_or, Result, Ok, Err, refl, sym, ap, subst, ◌∙◌, arith, append_assoc, append-nil}
+use Rattle.std.proofs.Common.{◌≡◌, ℕ, zero, suc, ◌+◌, ◌≤◌, ◌<◌, List, [], ◌∷◌, ◌++◌, length, map, take, drop, reverse, get_or, Result, Ok, Err, refl, sym, ap, subst, ◌∙◌, arith, append_assoc}
 use Rattle.std.specs.List.{AllByRecursion}
 use Rattle.std.specs.declared.cmp.Ordering.{Ordering}
 use Rattle.std.specs.declared.cmp.Ordering.TheVariants.{Less, Equal, Greater}
 use Rattle.std.proofs.lemmas.List.{take_more, drop_more, drop-drop, same_from_push, reverse-append, take-append-drop}
-use Rattle.sorted_rows.specs.Placed.{place_cmp, index_in, one_on, set_row, set_rows, without_row, PlacesAbove, PlacesBelow, PlacesAscend}
-use Rattle.sorted_rows.specs.Runs.{without_rows}
-use Rattle.sorted_rows.proofs.PlacedLaws.{place_cmp_itself, place_cmp_turned, above_trans, ascend-set_row, ascend-without_row}
-use Rattle.sorted_rows.proofs.IndexLaws.{set_row-behind, without_row-behind}
+use Rattle.sorted_rows.specs.Placed.{place_cmp, index_in, one_on, set_row, without_row, PlacesAbove, PlacesAscend}
+use Rattle.sorted_rows.proofs.PlacedLaws.{above_trans, ascend-set_row}
 
 -- ---- From the end of one list to that of another
 
@@ -114,25 +112,7 @@ module _ {R : Type 0} (place : R → List ℕ) where
   pub ascend_taken : (i n : ℕ) (rows : List R) → PlacesAscend place rows → PlacesAscend place (take i rows ++ drop (i + n) rows)
   ascend_taken i n rows up = subst (λ (ys : List R). PlacesAscend place (take i rows ++ ys)) (drop-drop n i rows) (ascend_cut i n rows up)
 
-  above_middle : (p : List ℕ) (xs : List R) (x : R) (ys : List R) → PlacesAbove place p (xs ++ x ∷ ys) → place_cmp p (place x) ≡ Less
-  above_middle p [] x ys above = above.0
-  above_middle p (y ∷ xs) x ys above = above_middle p xs x ys above.1
-
-  below_front : (xs : List R) (x : R) (ys : List R) → PlacesAscend place (xs ++ x ∷ ys) → PlacesBelow place (place x) xs
-  below_front [] x ys up = tt
-  below_front (y ∷ xs) x ys up = (above_middle (place y) xs x ys up.0, below_front xs x ys up.1)
-
   -- ---- Around the index at which a place belongs
-
-  below_by : (p : List ℕ) (x : R) (xs : List R) (i : ℕ) → (index_in place p xs ≡ Err i → PlacesBelow place p (take i xs)) → (o : Ordering) → place_cmp p (place x) ≡ o → index_first p xs o ≡ Err (suc i) → PlacesBelow place p (x ∷ take i xs)
-  below_by p x xs i rest Less e found = absurd (zero≢suc i (same_Err 0 (suc i) found))
-  below_by p x xs i rest Equal e found = absurd (ok≢err 0 (suc i) found)
-  below_by p x xs i rest Greater e found = (place_cmp_turned p (place x) Greater e, rest (err_before (index_in place p xs) i found))
-
-  below_take : (p : List ℕ) (rows : List R) (i : ℕ) → index_in place p rows ≡ Err i → PlacesBelow place p (take i rows)
-  below_take p rows zero found = tt
-  below_take p [] (suc i) found = tt
-  below_take p (x ∷ xs) (suc i) found = below_by p x xs i (below_take p xs i) (place_cmp p (place x)) refl found
 
   above_first : (p : List ℕ) (x : R) (xs : List R) → PlacesAscend place (x ∷ xs) → (o : Ordering) → place_cmp p (place x) ≡ o → index_first p xs o ≡ Err 0 → PlacesAbove place p (x ∷ xs)
   above_first p x xs up Less e found = (e, above_trans place p (place x) xs e up.0)
@@ -201,45 +181,3 @@ module _ {R : Type 0} (place : R → List ℕ) where
   -- with a run put in they are still in order
   pub ascend_put : (run rows : List R) (i : ℕ) → PlacesAscend place rows → PlacesAscend place run → AllBelongAt i rows run → PlacesAscend place (take i rows ++ run ++ drop i rows)
   ascend_put run rows i up own found = subst (PlacesAscend place) (sym (append_assoc (take i rows) run (drop i rows))) (ascend_in run rows i up own found)
-
-  put_next : (y : R) (xs rows : List R) (i : ℕ) → PlacesAscend place rows → PlacesBelow place (place y) xs → index_in place (place y) rows ≡ Err i → set_row place y (take i rows ++ (xs ++ drop i rows)) ≡ take i rows ++ (xs ++ y ∷ [] ++ drop i rows)
-  put_next y xs rows i up below found =
-      set_row-behind place y (take i rows) (xs ++ drop i rows) (below_take (place y) rows i found)
-      ∙ ap (λ zs. take i rows ++ zs)
-      (set_row-behind place y xs (drop i rows) below
-      ∙ ap (λ zs. xs ++ zs) (put_before y (drop i rows) (above_rest (place y) rows i up found))
-      ∙ sym (append_assoc xs (y ∷ []) (drop i rows)))
-
-  put_more : (xs ys rows : List R) (i : ℕ) → PlacesAscend place rows → PlacesAscend place (xs ++ ys) → AllBelongAt i rows ys → set_rows place ys (take i rows ++ (xs ++ drop i rows)) ≡ take i rows ++ (xs ++ ys ++ drop i rows)
-  put_more xs [] rows i up own found = ap (λ zs. take i rows ++ (zs ++ drop i rows)) (sym (append-nil xs))
-  put_more xs (y ∷ ys) rows i up own found =
-      ap (set_rows place ys) (put_next y xs rows i up (below_front xs y ys own) found.0)
-      ∙ put_more (xs ++ y ∷ []) ys rows i up (subst (PlacesAscend place) (sym (append_assoc xs (y ∷ []) ys)) own) found.1
-      ∙ ap (λ zs. take i rows ++ (zs ++ drop i rows)) (append_assoc xs (y ∷ []) ys)
-
-  -- the rows of a run stand side by side once each is put in
-  pub set_rows-run : (run rows : List R) (i : ℕ) → PlacesAscend place rows → PlacesAscend place run → AllBelongAt i rows run → set_rows place run rows ≡ take i rows ++ run ++ drop i rows
-  set_rows-run run rows i up own found =
-      ap (set_rows place run) (sym (take-append-drop i rows))
-      ∙ put_more [] run rows i up own found
-      ∙ sym (append_assoc (take i rows) run (drop i rows))
-
-  taken_next : (x : R) (xs ys : List R) → PlacesAscend place (xs ++ x ∷ ys) → without_row place (place x) (xs ++ x ∷ ys) ≡ xs ++ ys
-  taken_next x xs ys up =
-      without_row-behind place (place x) xs (x ∷ ys) (below_front xs x ys up)
-      ∙ ap (λ o. xs ++ without_first (place x) x ys o) (place_cmp_itself (place x))
-
-  taken_more : (xs run ys : List R) → PlacesAscend place (xs ++ (run ++ ys)) → without_rows place run (xs ++ (run ++ ys)) ≡ xs ++ ys
-  taken_more xs [] ys up = refl
-  taken_more xs (x ∷ run) ys up =
-      let next = taken_next x xs (run ++ ys) up in
-      ap (without_rows place run) next
-      ∙ taken_more xs run ys (subst (PlacesAscend place) next (ascend-without_row place (place x) (xs ++ x ∷ (run ++ ys)) up))
-
-  -- once each row of a run is taken away, what stands before it and behind it is left
-  pub without_rows-run : (i n : ℕ) (rows : List R) → PlacesAscend place rows → without_rows place (take n (drop i rows)) rows ≡ take i rows ++ drop (i + n) rows
-  without_rows-run i n rows up =
-      let parts : take i rows ++ (take n (drop i rows) ++ drop n (drop i rows)) ≡ rows = ap (λ zs. take i rows ++ zs) (take-append-drop n (drop i rows)) ∙ take-append-drop i rows in
-      ap (without_rows place (take n (drop i rows))) (sym parts)
-      ∙ taken_more (take i rows) (take n (drop i rows)) (drop n (drop i rows)) (subst (PlacesAscend place) (sym parts) up)
-      ∙ ap (λ zs. take i rows ++ zs) (drop-drop n i rows)

@@ -45,9 +45,6 @@ halved p p' wide half n e h le = rw e (omega (arith, mul-le-mul_left p le))
 one_more : (p p' wide n : ℕ) → p' ≡ 2 * p → p * wide ≤ n → 1 ≤ wide → p' ≤ 2 * n + 1
 one_more p p' wide n e h le = omega (arith, mul-le-mul_left p le)
 
-pub narrowed_first : (os : List Ordering) → IsNarrowed os 0 0 (length os)
-narrowed_first os = record { low_le = omega arith; high_le = omega arith; before = λ k lt. absurd (omega arith); after = λ k le lt. absurd (omega arith); narrow = omega arith; few = omega arith }
-
 module _ (os : List Ordering) (falls : AnswersFall os) (t t' low high at : ℕ) (narrowed : IsNarrowed os t low high) (one_step : t' ≡ t + 1) (low_le : low ≤ at) (at_lt : at < high) where
   all_greater : get_or os at Equal ≡ Greater → AllGreaterBefore os (at + 1)
   all_greater greater k lt = greatest (get_or os k Equal) (let h : ordering_index (get_or os at Equal) ≤ ordering_index (get_or os k Equal) = falls k at (omega arith) (omega (arith, narrowed.high_le)) in let e : ordering_index (get_or os at Equal) ≡ 2 = ap ordering_index greater in omega arith)

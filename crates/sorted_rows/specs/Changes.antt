@@ -1,7 +1,6 @@
 -- Changes of rows: one place is left, and then rows are put in.
-use Rattle.std.specs.Prelude.{◌≡◌, ℕ, Bool, true, false, not, ◌&&◌, if◌then◌else◌, List, [], ◌∷◌, map, Option, Some, None, IfSome}
+use Rattle.std.specs.Prelude.{◌≡◌, ℕ, Bool, true, not, ◌&&◌, List, [], ◌∷◌, map, Option, Some, None, IfSome}
 use Rattle.std.specs.List.{list_any, AllByRecursion}
-use Rattle.std.specs.Option.{option_or}
 use Rattle.sorted_rows.specs.Placed.{same_place, row_at, set_rows, without_row}
 
 -- ---- A change
@@ -29,16 +28,6 @@ gone_row place (Some p) rows = row_at place p rows
 pub record IsNeededChange {R : Type 0} (place : R → List ℕ) (rows : List R) (change : RowChange R) : Type 0 where
   pub gone : IfSome change.gone (λ p. ¬ (row_at place p rows ≡ None))
   pub sets : AllByRecursion (λ row. ¬ (row_at place (place row) rows ≡ Some row)) change.sets
-
--- whether the place is the one that goes
-abbrev pub is_gone : Option (List ℕ) → List ℕ → Bool
-is_gone None q = false
-is_gone (Some p) q = same_place p q
-
--- the last of these rows that has the place
-abbrev pub last_at : {R : Type 0} → (R → List ℕ) → List ℕ → List R → Option R
-last_at place q [] = None
-last_at place q (x ∷ xs) = option_or (last_at place q xs) (if same_place (place x) q then Some x else None)
 
 -- ---- What it touches
 

@@ -1,6 +1,5 @@
 pub mod Changes
 pub mod Placed
-pub mod Runs
 pub mod Search
 pub mod Addresses
 pub mod Ascending

@@ -3,7 +3,6 @@
 #![tactic(auto)]
 
 pub mod addresses;
-pub mod laws;
 pub mod placed;
 pub mod steps;
 

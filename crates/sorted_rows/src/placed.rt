@@ -3,7 +3,6 @@ ghost use Rattle.std.specs.Prelude.{◌≡◌, ℕ, List};
 ghost use Rattle.sorted_rows.specs.Placed.{place_cmp, prefix_cmp};
 
 mod change;
-mod counted;
 pub mod lists;
 mod merge;
 mod rows;

@@ -124,6 +124,19 @@ impl<R: Placed> SortedRows<R> {
         }
     }
 
+    /// The same. There is at least one step where there are rows, and there are no more than the
+    /// number of rows has binary digits.
+    pub fn get_counted<K: KeyOf<R>, L: Ledger>(&self, key: &K, steps: &mut Steps<L>) -> Option<&R>
+        ensures row { option_copied result ≡ row_at R.place (K.place key.now) self.now.rows }
+        ensures least { steps.old + min 1 (length self.now.rows) ≤ steps.new }
+        ensures most { (b : ℕ) → length self.now.rows < 2 ^ b → steps.new ≤ steps.old + b }
+    {
+        match self.find_counted(key, steps) {
+            Ok(index) => self.rows().get(index),
+            Err(_) => None,
+        }
+    }
+
     /// Whether there is a row that the key names.
     pub fn contains<K: KeyOf<R>>(&self, key: &K) -> bool
         ensures { result ≡ is_some (row_at R.place (K.place key.now) self.now.rows) }
@@ -192,7 +205,7 @@ impl<R: Placed> SortedRows<R> {
     }
 
     /// Puts each of these rows in, from the first to the last. It takes no memory.
-    pub fn put_all(&mut self, rows: Vec<R>)
+    fn put_all(&mut self, rows: Vec<R>)
     where
         R: Drop,
         requires { vec_len rows ≤ self.old.room }
@@ -205,9 +218,9 @@ impl<R: Placed> SortedRows<R> {
         }
     }
 
-    /// Puts each of these rows in, from the first to the last, as `put_all` does. Rows in front of
-    /// the first of them stay where they are, and each other row is moved twice, however many are
-    /// put in. The rows stay where there is no memory for it.
+    /// Puts each of these rows in, from the first to the last. Rows in front of the first of them
+    /// stay where they are, and each other row is moved twice, however many are put in. The rows
+    /// stay where there is no memory for it.
     pub fn put_sorted(&mut self, rows: SortedRows<R>) -> Result<(), Memory>
     where
         R: Drop,

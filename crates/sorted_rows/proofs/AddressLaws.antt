@@ -1,5 +1,6 @@
 -- Two addresses, or two prefixes, are one where their places are, and stand to one another as their places do.
-use Rattle.std.proofs.Common.{◌≡◌, ℕ, Bool, true, false, ◌&&◌, [], ◌∷◌, ◌++◌, refl, sym}
+use Rattle.std.proofs.Common.{◌≡◌, ℕ, [], ◌∷◌, ◌++◌, refl, sym}
+use Rattle.std.proofs.Math.Bool.{and-true}
 use Rattle.std.specs.Ordering.{nat_cmp, ordering_then}
 use Rattle.std.specs.declared.cmp.Ordering.{Ordering}
 use Rattle.std.specs.declared.cmp.Ordering.TheVariants.{Less, Equal, Greater}
@@ -41,17 +42,13 @@ pub prefix_cmp-place : (p q : Prefix) → ordering_then (place_cmp (addr_place p
 unfolding prefix_place
 prefix_cmp-place p q = by_address p.addr q.addr p.len q.len
 
-and_true : (b : Bool) → (b && true) ≡ b
-and_true true = refl
-and_true false = refl
-
 -- two addresses are one where their places are
 pub same_addr-place : (a b : Addr) → same_addr a b ≡ same_place (addr_place a) (addr_place b)
 unfolding same_addr addr_place
-same_addr-place (V4 n) (V4 k) = sym (and_true _)
+same_addr-place (V4 n) (V4 k) = sym (and-true _)
 same_addr-place (V4 n) (V6 k) = refl
 same_addr-place (V6 n) (V4 k) = refl
-same_addr-place (V6 n) (V6 k) = sym (and_true _)
+same_addr-place (V6 n) (V6 k) = sym (and-true _)
 
 -- the place tells which address it is
 pub addr_place_exact : (a b : Addr) → addr_place a ≡ addr_place b → a ≡ b

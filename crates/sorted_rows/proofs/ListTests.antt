@@ -1,29 +1,14 @@
 -- Tests of the elements of lists, and lists of which no two elements pass a test.
-use Rattle.std.proofs.Common.{◌≡◌, Bool, true, false, cond, not, ◌&&◌, ◌||◌, List, [], ◌∷◌, ◌++◌, map, refl, sym, ap, ◌∙◌}
+use Rattle.std.proofs.Common.{◌≡◌, Bool, true, false, cond, not, ◌||◌, List, [], ◌∷◌, ◌++◌, map, refl, sym, ap, ◌∙◌}
 use Rattle.std.specs.Prelude.{flat_map}
 use Rattle.std.specs.List.{list_any, filter}
-use Rattle.std.proofs.lemmas.Bool.{false≢true}
+use Rattle.std.proofs.lemmas.Bool.{false≢true, or_right, or_parts}
 use Rattle.std.proofs.lemmas.List.Folds.{list_any-append}
 use Rattle.sorted_rows.specs.Changes.{are_apart}
+pub use Rattle.std.specs.Cmp.{both_ways, first_so as left_of, second_so as right_of}
+pub use Rattle.std.proofs.lemmas.Bool.{and_from as both, not-true as not_false}
 
 -- ---- Tests
-
-pub both_ways : (b c : Bool) → (b ≡ true → c ≡ true) → (c ≡ true → b ≡ true) → b ≡ c
-both_ways true true f g = refl
-both_ways true false f g = sym (f refl)
-both_ways false true f g = g refl
-both_ways false false f g = refl
-
-pub left_of : (b c : Bool) → (b && c) ≡ true → b ≡ true
-left_of true c e = refl
-left_of false c e = absurd (false≢true e)
-
-pub right_of : (b c : Bool) → (b && c) ≡ true → c ≡ true
-right_of true c e = e
-right_of false c e = absurd (false≢true e)
-
-pub both : (b c : Bool) → b ≡ true → c ≡ true → (b && c) ≡ true
-both b c e f = ap (λ x. x && c) e ∙ f
 
 pub not_true : (b : Bool) → (b ≡ true → ⊥) → not b ≡ true
 not_true true no_way = absurd (no_way refl)
@@ -37,10 +22,6 @@ is_not false e f = false≢true f
 
 pub any_first : {A : Type 0} (p : A → Bool) (x : A) (xs : List A) → p x ≡ true → list_any p (x ∷ xs) ≡ true
 any_first p x xs e = ap (λ b. b || list_any p xs) e
-
-or_right : (b c : Bool) → c ≡ true → (b || c) ≡ true
-or_right true c e = refl
-or_right false c e = e
 
 pub any_later : {A : Type 0} (p : A → Bool) (x : A) (xs : List A) → list_any p xs ≡ true → list_any p (x ∷ xs) ≡ true
 any_later p x xs e = or_right (p x) (list_any p xs) e
@@ -68,16 +49,10 @@ any_more p q (x ∷ xs) more e = any_by p x xs (λ is. any_first q x xs (more x 
 
 -- neither the first nor one of the others
 pub or_first : (b c : Bool) → (b || c) ≡ false → b ≡ false
-or_first true c e = e
-or_first false c e = refl
+or_first b c e = (or_parts b c e).0
 
 pub or_second : (b c : Bool) → (b || c) ≡ false → c ≡ false
-or_second true c e = absurd (false≢true (sym e))
-or_second false c e = e
-
-pub not_false : (b : Bool) → not b ≡ true → b ≡ false
-not_false true e = sym e
-not_false false e = refl
+or_second b c e = (or_parts b c e).1
 
 -- an element of two lists is one of the first or of the second
 pub any_either : {A : Type 0} {P : Type 0} (p : A → Bool) (xs ys : List A) → (list_any p xs ≡ true → P) → (list_any p ys ≡ true → P) → list_any p (xs ++ ys) ≡ true → P

@@ -1,10 +1,11 @@
 -- The laws of rows in the order of their places, for any rows and any place of a row.
 use Rattle.std.proofs.Common.{◌≡◌, ℕ, zero, suc, ◌+◌, ◌≤◌, ◌<◌, Bool, true, false, cond, ◌&&◌, List, [], ◌∷◌, ◌++◌, length, slice_get, get_or, set, Option, Some, None, Result, Ok, Err, refl, sym, ap, subst, ◌∙◌, arith}
+use Rattle.std.proofs.Math.Bool.{and-true}
 use Rattle.std.proofs.lemmas.Bool.{false≢true}
 use Rattle.std.proofs.lemmas.Option.{same_Some, none-some, slice_get_read}
 use Rattle.std.specs.List.{insert, remove, AllAdjacentBelow}
 use Rattle.std.specs.Ordering.{is_eq, is_lt, ordering_reverse}
-use Rattle.std.specs.Cmp.{IsTotalOrder}
+use Rattle.std.specs.Cmp.{IsTotalOrder, first_so, second_so}
 use Rattle.std.specs.declared.cmp.Ordering.{Ordering}
 use Rattle.std.specs.declared.cmp.Ordering.TheVariants.{Less, Equal, Greater}
 use Rattle.std.proofs.lemmas.Cmp.{nat_list_cmp_total, tied_itself}
@@ -65,18 +66,6 @@ pub less_from_is_lt : (o : Ordering) → is_lt o ≡ true → o ≡ Less
 less_from_is_lt Less e = refl
 less_from_is_lt Equal e = absurd (false≢true e)
 less_from_is_lt Greater e = absurd (false≢true e)
-
-first_true : (b c : Bool) → (b && c) ≡ true → b ≡ true
-first_true true c e = refl
-first_true false c e = absurd (false≢true e)
-
-second_true : (b c : Bool) → (b && c) ≡ true → c ≡ true
-second_true true c e = e
-second_true false c e = absurd (false≢true e)
-
-and_true : (b : Bool) → (b && true) ≡ b
-and_true true = refl
-and_true false = refl
 
 and_implied : (b c : Bool) → (c ≡ true → b ≡ true) → (b && c) ≡ c
 and_implied true c implied = refl
@@ -353,21 +342,21 @@ module _ {R : Type 0} (place : R → List ℕ) where
   pub ascend-push : (row : R) (rows : List R) → PlacesAscend place rows → comes_last place row rows ≡ true → PlacesAscend place (rows ++ row ∷ [])
   ascend-push row [] ascend last = (tt, tt)
   ascend-push row (x ∷ xs) ascend last = (
-    above-push (place x) row xs (less_from_is_lt (place_cmp (place x) (place row)) (first_true (is_lt (place_cmp (place x) (place row))) (comes_last place row xs) last)) ascend.0,
-    ascend-push row xs ascend.1 (second_true (is_lt (place_cmp (place x) (place row))) (comes_last place row xs) last),
+    above-push (place x) row xs (less_from_is_lt (place_cmp (place x) (place row)) (first_so (is_lt (place_cmp (place x) (place row))) (comes_last place row xs) last)) ascend.0,
+    ascend-push row xs ascend.1 (second_so (is_lt (place_cmp (place x) (place row))) (comes_last place row xs) last),
   )
 
   -- there it is where `set_row` puts it
   pub set_row_last : (row : R) (rows : List R) → comes_last place row rows ≡ true → set_row place row rows ≡ rows ++ row ∷ []
   set_row_last row [] last = refl
   set_row_last row (x ∷ xs) last =
-      ap (set_first row x xs) (place_cmp_turned (place x) (place row) Less (less_from_is_lt (place_cmp (place x) (place row)) (first_true (is_lt (place_cmp (place x) (place row))) (comes_last place row xs) last)))
-      ∙ ap (λ ys. x ∷ ys) (set_row_last row xs (second_true (is_lt (place_cmp (place x) (place row))) (comes_last place row xs) last))
+      ap (set_first row x xs) (place_cmp_turned (place x) (place row) Less (less_from_is_lt (place_cmp (place x) (place row)) (first_so (is_lt (place_cmp (place x) (place row))) (comes_last place row xs) last)))
+      ∙ ap (λ ys. x ∷ ys) (set_row_last row xs (second_so (is_lt (place_cmp (place x) (place row))) (comes_last place row xs) last))
 
   -- whether it comes last is told by the last row alone
   pub comes_last_by_last : (row x : R) (rows : List R) (i : ℕ) → PlacesAscend place rows → i + 1 ≡ length rows → slice_get rows i ≡ Some x → comes_last place row rows ≡ is_lt (place_cmp (place x) (place row))
   comes_last_by_last row x [] i ascend long e = absurd (none-some x e)
-  comes_last_by_last row x (y ∷ []) zero ascend long e = and_true (is_lt (place_cmp (place y) (place row))) ∙ ap (λ z. is_lt (place_cmp (place z) (place row))) (same_Some y x e)
+  comes_last_by_last row x (y ∷ []) zero ascend long e = and-true (is_lt (place_cmp (place y) (place row))) ∙ ap (λ z. is_lt (place_cmp (place z) (place row))) (same_Some y x e)
   comes_last_by_last row x (y ∷ []) (suc i) ascend long e = absurd (none-some x e)
   comes_last_by_last row x (y ∷ (z ∷ zs)) zero ascend long e = absurd (omega arith)
   comes_last_by_last row x (y ∷ (z ∷ zs)) (suc i) ascend long e =

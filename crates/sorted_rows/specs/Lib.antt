@@ -1,4 +1,5 @@
 pub mod Changes
+pub mod Ledgers
 pub mod Placed
 pub mod Search
 pub mod Addresses

@@ -1,5 +1,6 @@
 //! The counter of steps. What a step stands for is said by the calls that take it.
-ghost use Rattle.std.specs.Prelude.{◌≡◌, ◌+◌, ◌<◌};
+ghost use Rattle.std.specs.Prelude.{◌≡◌, ◌+◌};
+ghost use Rattle.sorted_rows.specs.Ledgers.{IsBlankOf};
 
 use std::marker::Model;
 use std::sync::ledger::{Blank, Book, Ledger, Share};
@@ -25,9 +26,7 @@ impl<L: Ledger> Model for Steps<L> {
 impl<L: Ledger> Steps<L> {
     /// No step yet, counted on the ledger of the blank.
     pub fn new(blank: Blank) -> Steps<L>
-        requires name { blank.name ≡ L.name }
-        requires parts { blank.parts ≡ L.parts }
-        requires some { 0 < L.parts }
+        requires blank { IsBlankOf L.name L.parts blank }
         ensures { result ≡ 0 }
     {
         let (book, share) = blank.open();

@@ -3,6 +3,7 @@ ghost use Rattle.std.specs.Prelude.{◌≡◌, ℕ, ◌+◌, ◌-◌, ◌*◌, �
 ghost use Rattle.std.specs.List.{AllByRecursion};
 ghost use Rattle.sorted_rows.specs.Placed.{PlacesAscend, row_at, index_in, rows_under, set_row, set_rows, without_row, comes_last};
 ghost use Rattle.sorted_rows.specs.Changes.{changed};
+ghost use Rattle.sorted_rows.specs.Ledgers.{IsBlankOf};
 
 use super::merge::put_sorted;
 use super::runs::{put_run, take_run};
@@ -332,9 +333,7 @@ fn find_from<R: Placed, K: KeyOf<R>, L: Ledger>(
     key: &K,
     blank: Blank,
 ) -> Result<usize, usize>
-    requires name { blank.name ≡ L.name }
-    requires parts { blank.parts ≡ L.parts }
-    requires some { 0 < L.parts }
+    requires blank { IsBlankOf L.name L.parts blank }
     requires ascend { PlacesAscend R.place rows.now }
     ensures { result ≡ index_in R.place (K.place key.now) rows.now }
 {
@@ -348,9 +347,7 @@ fn rows_from<'a, R: Placed, K: PrefixOf<R>, L: Ledger>(
     prefix: &K,
     blank: Blank,
 ) -> &'a [R]
-    requires name { blank.name ≡ L.name }
-    requires parts { blank.parts ≡ L.parts }
-    requires some { 0 < L.parts }
+    requires blank { IsBlankOf L.name L.parts blank }
     requires ascend { PlacesAscend R.place rows.now }
     ensures { result.now ≡ rows_under R.place (K.prefix prefix.now) rows.now }
 {

@@ -1,6 +1,7 @@
 //! Seats of a hall, by row and number: each call once at a type of rows, with ample memory.
 ghost use Rattle.std.specs.Prelude.{◌≡◌, ◌+◌, ◌-◌, ◌*◌, ◌^◌, ◌<◌, ◌≤◌, ◌∷◌, [], length, vec_len};
 ghost use Rattle.sorted_rows.specs.Placed.{index_in};
+ghost use Rattle.sorted_rows.specs.Ledgers.{IsBlankOf};
 
 use super::*;
 use crate::steps::Steps;
@@ -133,9 +134,7 @@ fn searched<L: Ledger>(seats: &SortedRows<Seat>, steps: &mut Steps<L>) -> bool {
 
 /// Searches among seats, counted on a ledger of the caller's.
 fn counted<L: Ledger>(seats: &SortedRows<Seat>, blank: Blank) -> bool
-    requires name { blank.name ≡ L.name }
-    requires parts { blank.parts ≡ L.parts }
-    requires some { 0 < L.parts }
+    requires blank { IsBlankOf L.name L.parts blank }
 {
     let mut steps = Steps::<L>::new(blank);
     steps.add(1);

@@ -9,17 +9,19 @@ use Rattle.frame_view.specs.declared.views.Part.{Part}
 use Rattle.frame_view.specs.declared.views.Part.TheVariants as part
 use Rattle.frame_view.specs.declared.views.Frame.TheVariants.{Link, Unreadable, Packet}
 use Rattle.frame_view.specs.Ethernet.{destination_of, source_of}
-use Rattle.frame_view.specs.Frame.{frame_of, carried, by_type, past_tag, is_tag}
+use Rattle.frame_view.specs.Carried.{carried, by_type, past_tag, is_tag, payload_of}
+use Rattle.frame_view.specs.Frame.{frame_of}
 use Rattle.frame_view.specs.Ipv4 as ipv4
 use Rattle.frame_view.specs.Ipv6 as ipv6
 use Rattle.octet_fields.proofs.OnLiterals.{fields_on_literals}
 use Rattle.frame_view.specs.Traffic.{codepoint, congestion}
+use Rattle.frame_view.specs.Upper as upper
 use Rattle.frame_view.specs.Upper.{transport_of, tcp, udp, icmp}
 use Rattle.frame_view.proofs.Hex.{from_hex}
 
 -- every word that a reading computes with
 unfoldable readings : Unit {0}
-unfolding frame_of carried by_type past_tag is_tag fields_on_literals codepoint congestion transport_of tcp udp icmp ipv4.packet_of ipv4.is_upkeep ipv4.fields_of ipv4.transport_in ipv4.is_later_fragment ipv4.has_header ipv4.counted ipv4.header_len ipv6.packet_of ipv6.is_upkeep ipv6.fields_of ipv6.traffic_class ipv6.upper_in ipv6.upper_behind ipv6.upper_layer ipv6.is_later_fragment ipv6.is_cut ipv6.extension_len ipv6.is_extension ipv6.payload ipv6.has_header
+unfolding frame_of carried by_type past_tag is_tag fields_on_literals codepoint congestion transport_of tcp udp icmp ipv4.packet_of ipv4.is_upkeep ipv4.fields_of ipv4.transport_in ipv4.is_later_fragment ipv4.has_header ipv4.counted ipv4.header_len ipv6.packet_of ipv6.is_upkeep ipv6.contents_of ipv6.traffic_class ipv6.upper_in ipv6.upper_behind ipv6.upper_layer ipv6.is_later_fragment ipv6.is_cut ipv6.extension_len ipv6.is_extension ipv6.payload ipv6.has_header
 readings = tt
 
 abbrev Carries : List ℕ → Fields → Type 0
@@ -398,3 +400,37 @@ type_132 = refl
 type_138 : Carries (ipv6_frame (codes "0008 3a ff") (codes "8a000000 00000000")) (ipv6_fields 8 255 58 (Icmp 138 0))
 unfolding readings
 type_138 = refl
+
+-- what a datagram holds
+unfoldable payloads : Unit {0}
+unfolding readings payload_of upper.payload_of
+payloads = tt
+
+abbrev Holds : List ℕ → List ℕ → Type 0
+Holds frame payload = payload_of frame ≡ payload
+
+-- three octets behind the header of UDP, and behind what counts the filling of the frame, whatever length UDP names
+udp_payload : Holds (ipv4_frame (codes "4500001f 00020000 4011") (codes "9c400035 ffff0000 010203" ++ codes "0000")) (1 ∷ 2 ∷ 3 ∷ [])
+unfolding payloads
+udp_payload = refl
+
+-- behind a header of six words and a tag
+udp_payload_behind_options : Holds (addressed (codes "81000064 0800 46000021 00010000 40110000 c000020a c6336407 01010101 9c400035 00080000 0708 09")) (7 ∷ [])
+unfolding payloads
+udp_payload_behind_options = refl
+
+udp_payload_v6 : Holds (ipv6_frame (codes "0012 00 40") (codes "1100 010400000000 9c400035 000a0000 0506 07")) (5 ∷ 6 ∷ [])
+unfolding payloads
+udp_payload_v6 = refl
+
+later_fragment_has_none : Holds (ipv4_frame (codes "4500001f 00020001 4011") (codes "9c400035 ffff0000 010203")) []
+unfolding payloads
+later_fragment_has_none = refl
+
+tcp_has_none : Holds (ipv4_frame (codes "4500002a 00010000 4006") (syn ++ codes "0102")) []
+unfolding payloads
+tcp_has_none = refl
+
+cut_frame_has_none : Holds (take 40 (addressed syn_packet)) []
+unfolding payloads
+cut_frame_has_none = refl

@@ -1,9 +1,8 @@
 -- Extension headers of IPv6 one after the other.
 use Rattle.std.proofs.Common.{◌≡◌, ℕ, suc, zero, ◌-◌, ◌<◌, ◌≤◌, true, false, List, length, drop, slice_index, Ok, Err, arith, refl}
 use Rattle.std.proofs.lemmas.Bool.Decides.{nat_tests}
-use Rattle.mud_base.specs.declared.packet.Transport.TheVariants.{Absent}
 use Rattle.frame_view.specs.declared.views.Part.TheVariants as part
-use Rattle.frame_view.specs.Ipv6.{is_extension, extension_len, is_cut, is_later_fragment, upper_layer, upper_behind}
+use Rattle.frame_view.specs.Ipv6.{is_extension, extension_len, is_cut, is_later_fragment, later_part, upper_layer, upper_behind}
 
 pub extension_long : (number : ℕ) (octets : List ℕ) → 8 ≤ extension_len number octets
 unfolding extension_len
@@ -28,7 +27,7 @@ unfolding upper_behind
 behind_cut zero number octets extension cut = rw extension refl
 behind_cut (suc left) number octets extension cut = rw (extension, cut) refl
 
-pub behind_later : (left number : ℕ) (octets : List ℕ) → 0 < left → is_extension number ≡ true → is_cut number octets ≡ false → is_later_fragment number octets ≡ true → upper_behind left number octets ≡ Ok (record { protocol = slice_index octets 0; transport = Absent })
+pub behind_later : (left number : ℕ) (octets : List ℕ) → 0 < left → is_extension number ≡ true → is_cut number octets ≡ false → is_later_fragment number octets ≡ true → upper_behind left number octets ≡ Ok (later_part (slice_index octets 0))
 unfolding upper_behind
 behind_later zero number octets some extension whole later = absurd (omega arith)
 behind_later (suc left) number octets some extension whole later = rw (extension, whole, later) refl

@@ -10,7 +10,8 @@ use Rattle.frame_view.specs.declared.views.Part.{Part}
 use Rattle.frame_view.specs.declared.views.Part.TheVariants as part
 use Rattle.frame_view.specs.Steps.{◌>>=◌}
 use Rattle.frame_view.specs.Traffic.{codepoint, congestion}
-use Rattle.frame_view.specs.Upper.{transport_of}
+use Rattle.frame_view.specs.PacketFrame.{Contents}
+use Rattle.frame_view.specs.Upper.{transport_of, payload_of}
 
 -- The places of the fields of the header. The version is the upper half of the first octet, the header's length the lower half.
 abbrev pub version_and_length_place : ℕ
@@ -59,11 +60,15 @@ has_header packet =
 unfoldable pub is_later_fragment : List ℕ → Bool
 is_later_fragment packet = not (big_16 fragment_offset_place packet % 8192 == 0)
 
+-- what counts behind the header
+abbrev pub upper_octets : List ℕ → List ℕ
+upper_octets packet = drop (header_len packet) (counted packet)
+
 -- what the header of the upper layer says, which only the first fragment has
 unfoldable pub transport_in : List ℕ → Result Transport Part
 transport_in packet =
     if is_later_fragment packet then (Ok Absent)
-    else (transport_of 1 (slice_index packet protocol_place) (drop (header_len packet) (counted packet)))
+    else (transport_of 1 (slice_index packet protocol_place) (upper_octets packet))
 
 abbrev pub fields_with : List ℕ → Transport → Fields
 fields_with packet transport = record {
@@ -94,6 +99,9 @@ is_upkeep fields =
     is_udp 67 68 fields.transport
     || (is_udp 68 67 fields.transport && (is_v4 0 fields.src || is_v4 0xFFFF_FFFF fields.dst))
 
--- the packet's fields, or None where it keeps the link up
-unfoldable pub packet_of : List ℕ → Result (Option Fields) Part
-packet_of packet = fields_of packet >>= λ fields. Ok (if is_upkeep fields then None else (Some fields))
+abbrev pub contents_with : List ℕ → Fields → Contents
+contents_with packet fields = record { fields = fields; payload = payload_of fields.transport (upper_octets packet) }
+
+-- the packet's contents, or None where it keeps the link up
+unfoldable pub packet_of : List ℕ → Result (Option Contents) Part
+packet_of packet = fields_of packet >>= λ fields. Ok (if is_upkeep fields then None else (Some (contents_with packet fields)))

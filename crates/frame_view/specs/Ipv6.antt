@@ -1,16 +1,16 @@
 -- An IPv6 packet (RFC 8200), from the first octet of its header on.
-use Rattle.std.specs.Prelude.{ℕ, suc, zero, ◌+◌, ◌*◌, ◌/◌, ◌%◌, Bool, false, not, ◌&&◌, ◌||◌, ◌==◌, nat_le, nat_lt, List, length, take, drop, slice_index, Option, Some, None, Result, Ok, Err, if◌then◌else◌}
+use Rattle.std.specs.Prelude.{ℕ, suc, zero, ◌+◌, ◌*◌, ◌/◌, ◌%◌, Bool, false, not, ◌&&◌, ◌||◌, ◌==◌, nat_le, nat_lt, List, [], length, take, drop, slice_index, Option, Some, None, Result, Ok, Err, if◌then◌else◌}
 use Rattle.mud_base.specs.declared.addr.Addr.TheVariants.{V6}
 use Rattle.mud_base.specs.declared.packet.Fields.{Fields}
 use Rattle.mud_base.specs.declared.packet.Transport.{Transport}
 use Rattle.mud_base.specs.declared.packet.Transport.TheVariants.{Icmp, Absent}
 use Rattle.octet_fields.specs.Numbers.{big_16, big_128}
-use Rattle.frame_view.specs.declared.upper.UpperLayer.{UpperLayer}
 use Rattle.frame_view.specs.declared.views.Part.{Part}
 use Rattle.frame_view.specs.declared.views.Part.TheVariants as part
 use Rattle.frame_view.specs.Steps.{◌>>=◌}
 use Rattle.frame_view.specs.Traffic.{codepoint, congestion}
-use Rattle.frame_view.specs.Upper.{transport_of}
+use Rattle.frame_view.specs.PacketFrame.{Contents}
+use Rattle.frame_view.specs.Upper.{Upper, transport_of, payload_of}
 
 -- The places of the fields of the header (section 3). It begins with four bits of version, eight of traffic class and twenty of
 -- flow label.
@@ -76,23 +76,29 @@ is_cut number octets = nat_lt (length octets) (extension_len number octets)
 unfoldable pub is_later_fragment : ℕ → List ℕ → Bool
 is_later_fragment number octets = number == 44 && not (big_16 fragment_offset_place octets / 8 == 0)
 
--- the header of the upper layer, where its number is this
-unfoldable pub upper_layer : ℕ → List ℕ → Result UpperLayer Part
-upper_layer number octets =
-    transport_of 58 number octets >>= λ transport. Ok (record { protocol = number; transport = transport })
+abbrev pub upper_with : ℕ → List ℕ → Transport → Upper
+upper_with number octets transport = record { protocol = number; transport = transport; payload = payload_of transport octets }
+
+-- the upper layer, where its number is this
+unfoldable pub upper_layer : ℕ → List ℕ → Result Upper Part
+upper_layer number octets = transport_of 58 number octets >>= λ transport. Ok (upper_with number octets transport)
+
+-- the upper layer of a later fragment, of which the number alone is known
+abbrev pub later_part : ℕ → Upper
+later_part number = record { protocol = number; transport = Absent; payload = [] }
 
 -- The upper layer behind so many extension headers at most, where a header with this number stands first. Each one
 -- begins with the number of the next. A later fragment holds no header behind its own, so the walk ends there.
-unfoldable pub upper_behind : ℕ → ℕ → List ℕ → Result UpperLayer Part
+unfoldable pub upper_behind : ℕ → ℕ → List ℕ → Result Upper Part
 upper_behind zero number octets = if is_extension number then (Err part.Extension) else (upper_layer number octets)
 upper_behind (suc left) number octets =
     if not (is_extension number) then (upper_layer number octets)
     else (if is_cut number octets then (Err part.Extension)
-    else (if is_later_fragment number octets then (Ok (record { protocol = slice_index octets extension_next_place; transport = Absent }))
+    else (if is_later_fragment number octets then (Ok (later_part (slice_index octets extension_next_place)))
     else (upper_behind left (slice_index octets extension_next_place) (drop (extension_len number octets) octets))))
 
 -- the upper layer behind eight extension headers at most
-unfoldable pub upper_in : List ℕ → Result UpperLayer Part
+unfoldable pub upper_in : List ℕ → Result Upper Part
 upper_in packet = upper_behind 8 (slice_index packet next_header_place) (payload packet)
 
 -- the traffic class: the eight bits behind the version's four, the lower half of octet 0 and the upper half of octet 1
@@ -100,7 +106,7 @@ upper_in packet = upper_behind 8 (slice_index packet next_header_place) (payload
 unfoldable pub traffic_class : List ℕ → ℕ
 traffic_class packet = slice_index packet version_place % 16 * 16 + slice_index packet traffic_class_place / 16
 
-abbrev pub fields_with : List ℕ → UpperLayer → Fields
+abbrev pub fields_with : List ℕ → Upper → Fields
 fields_with packet upper = record {
   src = V6 (big_128 source_place packet);
   dst = V6 (big_128 destination_place packet);
@@ -112,8 +118,11 @@ fields_with packet upper = record {
   transport = upper.transport;
 }
 
-unfoldable pub fields_of : List ℕ → Result Fields Part
-fields_of packet = if has_header packet then (upper_in packet >>= λ upper. Ok (fields_with packet upper)) else (Err part.Ip)
+abbrev pub contents_with : List ℕ → Upper → Contents
+contents_with packet upper = record { fields = fields_with packet upper; payload = upper.payload }
+
+unfoldable pub contents_of : List ℕ → Result Contents Part
+contents_of packet = if has_header packet then (upper_in packet >>= λ upper. Ok (contents_with packet upper)) else (Err part.Ip)
 
 -- neighbour discovery, whose messages have these types and count with a hop limit of 255 alone (RFC 4861, 4, 6.1, 7.1 and
 -- 8.1)
@@ -121,7 +130,9 @@ unfoldable pub is_upkeep : ℕ → Transport → Bool
 is_upkeep hop_limit (Icmp kind code) = nat_le 133 kind && nat_le kind 137 && hop_limit == 255
 is_upkeep hop_limit _ = false
 
--- the packet's fields, or None where it keeps the link up
-unfoldable pub packet_of : List ℕ → Result (Option Fields) Part
-packet_of packet =
-    fields_of packet >>= λ fields. Ok (if is_upkeep (slice_index packet hop_limit_place) fields.transport then None else (Some fields))
+abbrev pub is_kept_up : List ℕ → Contents → Bool
+is_kept_up packet contents = is_upkeep (slice_index packet hop_limit_place) contents.fields.transport
+
+-- the packet's contents, or None where it keeps the link up
+unfoldable pub packet_of : List ℕ → Result (Option Contents) Part
+packet_of packet = contents_of packet >>= λ contents. Ok (if is_kept_up packet contents then None else (Some contents))

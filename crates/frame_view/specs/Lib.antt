@@ -1,3 +1,4 @@
+pub mod Carried
 pub mod Ethernet
 pub mod Frame
 pub mod Ipv4

@@ -6,3 +6,8 @@ use Rattle.mud_base.specs.declared.packet.Fields.{Fields}
 pub record PacketFrame : Type 0 where
   pub octets : List ℕ
   pub fields : Fields
+
+-- what the headers of a packet say, and what it holds behind them
+pub record Contents : Type 0 where
+  pub fields : Fields
+  pub payload : List ℕ

@@ -1,10 +1,16 @@
 -- The header of the upper layer, which begins with the first of these octets.
-use Rattle.std.specs.Prelude.{ℕ, ◌/◌, ◌&&◌, ◌==◌, nat_le, List, length, slice_index, Result, Ok, Err, if◌then◌else◌}
+use Rattle.std.specs.Prelude.{ℕ, ◌/◌, ◌&&◌, ◌==◌, nat_le, List, [], length, drop, slice_index, Result, Ok, Err, if◌then◌else◌}
 use Rattle.mud_base.specs.declared.packet.Transport.{Transport}
 use Rattle.mud_base.specs.declared.packet.Transport.TheVariants.{Tcp, Udp, Icmp, Absent}
 use Rattle.octet_fields.specs.Numbers.{big_16}
 use Rattle.frame_view.specs.declared.views.Part.{Part}
 use Rattle.frame_view.specs.declared.views.Part.TheVariants as part
+
+-- the upper layer of a packet: its protocol's number, what its header says, and what it holds behind that
+pub record Upper : Type 0 where
+  pub protocol : ℕ
+  pub transport : Transport
+  pub payload : List ℕ
 
 -- The places of the fields that are read: in the headers of TCP and UDP (RFC 9293, 3.1; RFC 768),
 abbrev pub source_port_place : ℕ
@@ -34,12 +40,22 @@ tcp octets =
     then Ok (Tcp (big_16 source_port_place octets) (big_16 destination_port_place octets) (slice_index octets flags_place))
     else Err part.Transport
 
--- Eight octets (RFC 768). The length that they name isn't used.
+-- how many octets the header of UDP has (RFC 768)
+abbrev pub udp_len : ℕ
+udp_len = 8
+
+-- A whole header. The length that it names isn't used.
 unfoldable pub udp : List ℕ → Result Transport Part
 udp octets =
-    if nat_le 8 (length octets)
+    if nat_le udp_len (length octets)
     then Ok (Udp (big_16 source_port_place octets) (big_16 destination_port_place octets))
     else Err part.Transport
+
+-- What a datagram of UDP holds: all that counts behind its header. The length that it names isn't used. Of another transport
+-- nothing is said.
+unfoldable pub payload_of : Transport → List ℕ → List ℕ
+payload_of (Udp source destination) octets = drop udp_len octets
+payload_of _ octets = []
 
 -- type, code and checksum (RFC 792; RFC 4443, 2.1)
 unfoldable pub icmp : List ℕ → Result Transport Part

@@ -1,10 +1,10 @@
 //! IPv4 packets (RFC 791).
-ghost use Rattle.std.specs.Prelude.{◌≡◌, ◌≤◌, length, IsTrue};
+ghost use Rattle.std.specs.Prelude.{◌≡◌, ◌≤◌, length, IsTrue, OnOk};
 ghost use Rattle.frame_view.specs.Ipv4 as spec;
 
 use crate::traffic::{codepoint, congestion};
-use crate::upper::transport_of;
-use crate::views::Part;
+use crate::upper::{payload_of, transport_of};
+use crate::views::{Contents, Part};
 use mud_base::{Addr, Fields, Transport};
 use octet_fields::{big_16, big_32};
 
@@ -78,8 +78,18 @@ fn is_later_fragment(packet: &[u8]) -> bool
     big_16(packet, FRAGMENT_OFFSET_PLACE) % 8192 != 0
 }
 
+/// What counts behind the header.
+#[tactic(auto, using(crate::proofs::Ipv4Headers::header_within, crate::proofs::Ipv4Headers::packet_long))]
+fn upper_octets(packet: &[u8]) -> &[u8]
+    requires { IsTrue (spec.has_header packet.now) }
+    ensures { result.now ≡ spec.upper_octets packet.now }
+{
+    let (_, upper) = counted(packet).split_at(header_len(packet));
+    upper
+}
+
 /// What the header of the upper layer says.
-#[tactic(auto, using(crate::proofs::Ipv4Headers::header_within, crate::proofs::Ipv4Headers::packet_long), unfolding(crate::specs::Ipv4::transport_in))]
+#[tactic(auto, using(crate::proofs::Ipv4Headers::packet_long), unfolding(crate::specs::Ipv4::transport_in))]
 fn transport_in(packet: &[u8]) -> Result<Transport, Part>
     requires { IsTrue (spec.has_header packet.now) }
     ensures { result ≡ spec.transport_in packet.now }
@@ -87,14 +97,14 @@ fn transport_in(packet: &[u8]) -> Result<Transport, Part>
     if is_later_fragment(packet) {
         return Ok(Transport::Absent);
     }
-    let (_, upper) = counted(packet).split_at(header_len(packet));
-    transport_of(ICMP, packet[PROTOCOL_PLACE], upper)
+    transport_of(ICMP, packet[PROTOCOL_PLACE], upper_octets(packet))
 }
 
 /// What the headers say.
 #[tactic(auto, unfolding(crate::specs::Ipv4::fields_of))]
 fn fields_of(packet: &[u8]) -> Result<Fields, Part>
-    ensures { result ≡ spec.fields_of packet.now }
+    ensures value { result ≡ spec.fields_of packet.now }
+    ensures whole { OnOk result (IsTrue (spec.has_header packet.now)) }
 {
     if !has_header(packet) {
         return Err(Part::Ip);
@@ -130,14 +140,17 @@ fn is_upkeep(fields: &Fields) -> bool
     }
 }
 
-/// The fields of a packet, or None where it keeps the link up.
+/// The contents of a packet, or None where it keeps the link up.
 #[tactic(auto, unfolding(crate::specs::Ipv4::packet_of))]
-pub fn packet_of(packet: &[u8]) -> Result<Option<Fields>, Part>
+pub fn packet_of(packet: &[u8]) -> Result<Option<Contents<'_>>, Part>
     ensures { result ≡ spec.packet_of packet.now }
 {
     let fields = fields_of(packet)?;
     if is_upkeep(&fields) {
         return Ok(None);
     }
-    Ok(Some(fields))
+    Ok(Some(Contents {
+        fields,
+        payload: payload_of(fields.transport, upper_octets(packet)),
+    }))
 }

@@ -3,8 +3,8 @@ ghost use Rattle.std.specs.Prelude.{◌≡◌, ◌≤◌, length, IsTrue, OnOk, 
 ghost use Rattle.frame_view.specs.Ipv6 as spec;
 
 use crate::traffic::{codepoint, congestion};
-use crate::upper::{UpperLayer, transport_of};
-use crate::views::Part;
+use crate::upper::{UpperLayer, payload_of, transport_of};
+use crate::views::{Contents, Part};
 use mud_base::{Addr, Fields, Transport};
 use octet_fields::{big_16, big_128};
 
@@ -110,21 +110,22 @@ fn is_later_fragment(number: u8, octets: &[u8]) -> bool
     number == FRAGMENT && big_16(octets, FRAGMENT_OFFSET_PLACE) / 8 != 0
 }
 
-/// The header of the upper layer.
+/// The upper layer, where its number is this.
 #[tactic(auto, unfolding(crate::specs::Ipv6::upper_layer))]
-fn upper_layer(number: u8, octets: &[u8]) -> Result<UpperLayer, Part>
+fn upper_layer(number: u8, octets: &[u8]) -> Result<UpperLayer<'_>, Part>
     ensures { result ≡ spec.upper_layer number octets.now }
 {
     let transport = transport_of(ICMP, number, octets)?;
     Ok(UpperLayer {
         protocol: number,
         transport,
+        payload: payload_of(transport, octets),
     })
 }
 
 /// The upper layer behind the extension headers, where a header with this number stands first.
 #[tactic(auto, using(crate::proofs::Ipv6Headers::behind_end, crate::proofs::Ipv6Headers::behind_ninth, crate::proofs::Ipv6Headers::behind_cut, crate::proofs::Ipv6Headers::behind_later, crate::proofs::Ipv6Headers::behind_more, crate::proofs::Ipv6Headers::extension_within))]
-fn upper_behind(first: u8, octets: &[u8]) -> Result<UpperLayer, Part>
+fn upper_behind(first: u8, octets: &[u8]) -> Result<UpperLayer<'_>, Part>
     ensures { result ≡ spec.upper_behind 8 first octets.now }
 {
     let mut number = first;
@@ -142,6 +143,7 @@ fn upper_behind(first: u8, octets: &[u8]) -> Result<UpperLayer, Part>
             return Ok(UpperLayer {
                 protocol: next,
                 transport: Transport::Absent,
+                payload: &[],
             });
         }
         let (_, more) = rest.split_at(extension_len(number, rest));
@@ -154,7 +156,7 @@ fn upper_behind(first: u8, octets: &[u8]) -> Result<UpperLayer, Part>
 
 /// The upper layer of a packet.
 #[tactic(auto, unfolding(crate::specs::Ipv6::upper_in))]
-fn upper_in(packet: &[u8]) -> Result<UpperLayer, Part>
+fn upper_in(packet: &[u8]) -> Result<UpperLayer<'_>, Part>
     requires { 40 ≤ length packet.now }
     ensures { result ≡ spec.upper_in packet.now }
 {
@@ -170,10 +172,10 @@ fn traffic_class(packet: &[u8]) -> u8
     packet[VERSION_PLACE] % 16 * 16 + packet[TRAFFIC_CLASS_PLACE] / 16
 }
 
-/// What the headers say.
-#[tactic(auto, unfolding(crate::specs::Ipv6::fields_of))]
-fn fields_of(packet: &[u8]) -> Result<Fields, Part>
-    ensures value { result ≡ spec.fields_of packet.now }
+/// What the headers say, and what follows them.
+#[tactic(auto, unfolding(crate::specs::Ipv6::contents_of))]
+fn contents_of(packet: &[u8]) -> Result<Contents<'_>, Part>
+    ensures value { result ≡ spec.contents_of packet.now }
     ensures long { OnOk result (40 ≤ length packet.now) }
 {
     if !has_header(packet) {
@@ -181,7 +183,7 @@ fn fields_of(packet: &[u8]) -> Result<Fields, Part>
     }
     let upper = upper_in(packet)?;
     let traffic = traffic_class(packet);
-    Ok(Fields {
+    let fields = Fields {
         src: Addr::V6(big_128(packet, SOURCE_PLACE)),
         dst: Addr::V6(big_128(packet, DESTINATION_PLACE)),
         protocol: upper.protocol,
@@ -190,6 +192,10 @@ fn fields_of(packet: &[u8]) -> Result<Fields, Part>
         length: big_16(packet, PAYLOAD_LENGTH_PLACE),
         ttl: packet[HOP_LIMIT_PLACE],
         transport: upper.transport,
+    };
+    Ok(Contents {
+        fields,
+        payload: upper.payload,
     })
 }
 
@@ -207,14 +213,14 @@ fn is_upkeep(hop_limit: u8, transport: Transport) -> bool
     }
 }
 
-/// The fields of a packet, or None where it keeps the link up.
+/// The contents of a packet, or None where it keeps the link up.
 #[tactic(auto, unfolding(crate::specs::Ipv6::packet_of))]
-pub fn packet_of(packet: &[u8]) -> Result<Option<Fields>, Part>
+pub fn packet_of(packet: &[u8]) -> Result<Option<Contents<'_>>, Part>
     ensures { result ≡ spec.packet_of packet.now }
 {
-    let fields = fields_of(packet)?;
-    if is_upkeep(packet[HOP_LIMIT_PLACE], fields.transport) {
+    let contents = contents_of(packet)?;
+    if is_upkeep(packet[HOP_LIMIT_PLACE], contents.fields.transport) {
         return Ok(None);
     }
-    Ok(Some(fields))
+    Ok(Some(contents))
 }

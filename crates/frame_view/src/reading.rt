@@ -1,10 +1,10 @@
 //! What a frame is, by its headers from the outside inwards.
 ghost use Rattle.std.specs.Prelude.{◌≡◌, ◌≤◌, length};
-ghost use Rattle.frame_view.specs.Frame as spec;
+ghost use Rattle.frame_view.specs.Carried as spec;
+ghost use Rattle.frame_view.specs.Frame.{frame_of};
 
-use crate::views::{Frame, FrameView, PacketView, Part};
+use crate::views::{Contents, Frame, FrameView, PacketView, Part};
 use crate::{ipv4, ipv6};
-use mud_base::Fields;
 use octet_fields::big_16;
 use octet_fields::ethernet::{HEAD_LEN, TYPE_PLACE};
 
@@ -30,7 +30,7 @@ fn first_type(typed: &[u8]) -> u16
 }
 
 /// Whether a tag's type stands first.
-#[tactic(auto, unfolding(crate::specs::Frame::is_tag))]
+#[tactic(auto, unfolding(crate::specs::Carried::is_tag))]
 fn is_tag(typed: &[u8]) -> bool
     ensures { result ≡ spec.is_tag typed.now }
 {
@@ -42,7 +42,7 @@ fn is_tag(typed: &[u8]) -> bool
 }
 
 /// What follows a tag, where one stands first.
-#[tactic(auto, unfolding(crate::specs::Frame::past_tag))]
+#[tactic(auto, unfolding(crate::specs::Carried::past_tag))]
 fn past_tag(typed: &[u8]) -> &[u8]
     ensures { result.now ≡ spec.past_tag typed.now }
 {
@@ -54,8 +54,8 @@ fn past_tag(typed: &[u8]) -> &[u8]
 }
 
 /// What the frame carries, by the type that stands first.
-#[tactic(auto, unfolding(crate::specs::Frame::by_type))]
-fn by_type(typed: &[u8]) -> Result<Option<Fields>, Part>
+#[tactic(auto, unfolding(crate::specs::Carried::by_type))]
+fn by_type(typed: &[u8]) -> Result<Option<Contents<'_>>, Part>
     requires { 2 ≤ length typed.now }
     ensures { result ≡ spec.by_type typed.now }
 {
@@ -71,8 +71,8 @@ fn by_type(typed: &[u8]) -> Result<Option<Fields>, Part>
 }
 
 /// The same behind at most two tags.
-#[tactic(auto, unfolding(crate::specs::Frame::carried))]
-fn carried(typed: &[u8]) -> Result<Option<Fields>, Part>
+#[tactic(auto, unfolding(crate::specs::Carried::carried))]
+fn carried(typed: &[u8]) -> Result<Option<Contents<'_>>, Part>
     ensures { result ≡ spec.carried typed.now }
 {
     let inner = past_tag(past_tag(typed));
@@ -86,9 +86,9 @@ fn carried(typed: &[u8]) -> Result<Option<Fields>, Part>
 }
 
 /// What a frame is. The views borrow it.
-#[tactic(auto, unfolding(crate::specs::Frame::frame_of))]
+#[tactic(auto, unfolding(crate::specs::Frame::frame_of, crate::specs::Carried::payload_of))]
 pub fn view(frame: &[u8]) -> Frame<'_>
-    ensures { result ≡ spec.frame_of frame.now }
+    ensures { result ≡ frame_of frame.now }
 {
     if frame.len() < HEAD_LEN {
         return Frame::Unreadable(None, Part::Ethernet);
@@ -96,7 +96,7 @@ pub fn view(frame: &[u8]) -> Frame<'_>
     let (_, typed) = frame.split_at(TYPE_PLACE);
     match carried(typed) {
         Ok(None) => Frame::Link(FrameView::new(frame)),
-        Ok(Some(fields)) => Frame::Packet(PacketView::new(frame, fields)),
+        Ok(Some(contents)) => Frame::Packet(PacketView::new(frame, contents)),
         Err(part) => Frame::Unreadable(Some(FrameView::new(frame)), part),
     }
 }

@@ -6,6 +6,7 @@ ghost use Rattle.frame_view.specs.Upper as spec;
 use crate::views::Part;
 use mud_base::Transport;
 use octet_fields::big_16;
+use std::marker::Model;
 
 /// The protocol number of TCP.
 const TCP: u8 = 6;
@@ -32,12 +33,22 @@ const ICMP_CODE_PLACE: usize = 1;
 const ICMP_LEN: usize = 4;
 
 /// The upper layer of an IP packet.
-#[derive(Clone, Copy)]
-pub struct UpperLayer {
+#[derive(Drop)]
+pub struct UpperLayer<'a> {
     /// Its protocol number.
     pub protocol: u8,
     /// What its header says.
     pub transport: Transport,
+    /// What it holds behind the header.
+    pub payload: &'a [u8],
+}
+
+impl<'a> Model for UpperLayer<'a> {
+    ghost use Rattle.frame_view.specs.Upper.{Upper};
+
+    ghost Value = { Upper };
+
+    ghost view = { λ u. record { protocol = u.protocol; transport = u.transport; payload = u.payload.now } };
 }
 
 /// The ports of source and destination, with which the headers of TCP and UDP begin.
@@ -80,6 +91,20 @@ fn udp(octets: &[u8]) -> Result<Transport, Part>
         source,
         destination,
     })
+}
+
+/// What a datagram of UDP holds behind its header. Of another transport nothing is said.
+#[tactic(auto, unfolding(crate::specs::Upper::payload_of))]
+pub fn payload_of(transport: Transport, octets: &[u8]) -> &[u8]
+    ensures { result.now ≡ spec.payload_of transport octets.now }
+{
+    match transport {
+        Transport::Udp { .. } => {
+            let (_, payload) = octets.split_at(octets.len().min(UDP_LEN));
+            payload
+        }
+        _ => &[],
+    }
 }
 
 /// The type and code of an ICMP message (RFC 792; RFC 4443, 2.1).

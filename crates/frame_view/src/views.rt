@@ -1,6 +1,7 @@
 //! Frames and packets as views that borrow the frame.
 ghost use Rattle.std.specs.Prelude.{◌≡◌, ◌≤◌, length};
 ghost use Rattle.frame_view.specs.Ethernet.{destination_of, source_of};
+ghost use Rattle.frame_view.specs.Carried.{payload_of};
 
 use mud_base::{Fields, Mac};
 use octet_fields::ethernet::{DESTINATION_PLACE, SOURCE_PLACE};
@@ -63,33 +64,53 @@ impl<'a> FrameView<'a> {
     }
 }
 
+/// What the headers of a packet say, and what it holds behind them: of UDP all that counts there, of
+/// another transport nothing.
+#[derive(Drop)]
+pub(crate) struct Contents<'a> {
+    pub(crate) fields: Fields,
+    pub(crate) payload: &'a [u8],
+}
+
+impl<'a> Model for Contents<'a> {
+    ghost use Rattle.frame_view.specs.PacketFrame.{Contents};
+
+    ghost Value = { Contents };
+
+    ghost view = { λ c. record { fields = c.fields; payload = c.payload.now } };
+}
+
 /// A frame that carries an IP packet. Contracts see it as the octets of the frame and what the
 /// packet's headers say.
 #[derive(Drop, Debug)]
 pub struct PacketView<'a> {
     octets: &'a [u8],
     fields: Fields,
+    payload: &'a [u8],
 }
 
 impl<'a> Model for PacketView<'a> {
-    ghost use Rattle.std.specs.Prelude.{◌≤◌, length};
+    ghost use Rattle.std.specs.Prelude.{◌≡◌, ◌≤◌, length};
+    ghost use Rattle.frame_view.specs.Carried.{payload_of};
     ghost use Rattle.frame_view.specs.PacketFrame.{PacketFrame};
 
     ghost Value = { PacketFrame };
 
     ghost view = { λ p. record { octets = p.octets.now; fields = p.fields } };
 
-    ghost invariant = { λ p. 14 ≤ length p.octets.now };
+    ghost invariant = { λ p. (14 ≤ length p.octets.now) × (p.payload.now ≡ payload_of p.octets.now) };
 }
 
 impl<'a> PacketView<'a> {
-    pub(crate) fn new(frame: &'a [u8], fields: Fields) -> PacketView<'a>
-        requires { 14 ≤ length frame.now }
-        ensures { result ≡ record { octets = frame.now; fields = fields } }
+    pub(crate) fn new(frame: &'a [u8], contents: Contents<'a>) -> PacketView<'a>
+        requires head { 14 ≤ length frame.now }
+        requires payload { contents.payload ≡ payload_of frame.now }
+        ensures { result ≡ record { octets = frame.now; fields = contents.entry.fields } }
     {
         PacketView {
             octets: frame,
-            fields,
+            fields: contents.fields,
+            payload: contents.payload,
         }
     }
 
@@ -105,6 +126,14 @@ impl<'a> PacketView<'a> {
         ensures { result ≡ self.now.fields }
     {
         self.fields
+    }
+
+    /// What a datagram of UDP holds behind its header, up to the end of what counts of the packet.
+    /// Of another transport it is empty.
+    pub fn payload(&self) -> &'a [u8]
+        ensures { result.now ≡ payload_of self.now.octets }
+    {
+        self.payload
     }
 }
 

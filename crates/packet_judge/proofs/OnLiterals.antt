@@ -2,7 +2,8 @@
 use Rattle.mud_base.specs.Addresses.{prefix_holds, same_addr}
 use Rattle.octet_fields.proofs.OnLiterals.{fields_on_literals}
 use Rattle.frame_view.specs.Ethernet.{destination_of, source_of}
-use Rattle.frame_view.specs.Frame.{frame_of, carried, by_type, past_tag, is_tag}
+use Rattle.frame_view.specs.Carried.{carried, by_type, past_tag, is_tag}
+use Rattle.frame_view.specs.Frame.{frame_of}
 use Rattle.frame_view.specs.Ipv4.{packet_of, is_upkeep, fields_of, transport_in, is_later_fragment, has_header, counted, header_len}
 use Rattle.frame_view.specs.Traffic.{codepoint, congestion}
 use Rattle.frame_view.specs.Upper.{transport_of, tcp, udp, icmp}

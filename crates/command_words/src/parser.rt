@@ -60,17 +60,70 @@ fn bare_program<'a>(alloc: Global) -> Parser<'a>
         .subcommand_required(true)
 }
 
+/// The program with one more line of two words.
+fn with_line_of_two<'a>(
+    alloc: Global,
+    program: Parser<'a>,
+    first: &'a str,
+    second: &'a str,
+) -> Result<Parser<'a>, AllocError>
+    ensures { IfOk result (λ wider. app_of wider ≡ spec.with_line (app_of program.entry) (spec.line_of_two first.entry.now second.entry.now)) }
+{
+    match line_of_two(alloc, first, second) {
+        Ok(line) => program.subcommand(line),
+        Err(error) => {
+            drop(program);
+            Err(error)
+        }
+    }
+}
+
+/// The program with one more line of three words.
+fn with_line_of_three<'a>(
+    alloc: Global,
+    program: Parser<'a>,
+    first: &'a str,
+    second: &'a str,
+    third: &'a str,
+) -> Result<Parser<'a>, AllocError>
+    ensures { IfOk result (λ wider. app_of wider ≡ spec.with_line (app_of program.entry) (spec.line_of_three first.entry.now second.entry.now third.entry.now)) }
+{
+    match line_of_three(alloc, first, second, third) {
+        Ok(line) => program.subcommand(line),
+        Err(error) => {
+            drop(program);
+            Err(error)
+        }
+    }
+}
+
+/// The program with one more line of four words.
+fn with_line_of_four<'a>(
+    alloc: Global,
+    program: Parser<'a>,
+    first: &'a str,
+    second: &'a str,
+    third: &'a str,
+    fourth: &'a str,
+) -> Result<Parser<'a>, AllocError>
+    ensures { IfOk result (λ wider. app_of wider ≡ spec.with_line (app_of program.entry) (spec.line_of_four first.entry.now second.entry.now third.entry.now fourth.entry.now)) }
+{
+    match line_of_four(alloc, first, second, third, fourth) {
+        Ok(line) => program.subcommand(line),
+        Err(error) => {
+            drop(program);
+            Err(error)
+        }
+    }
+}
+
 /// The lines of the commands that keep nothing.
 fn with_input_lines<'a>(alloc: Global, program: Parser<'a>) -> Result<Parser<'a>, AllocError>
     ensures { IfOk result (λ wider. app_of wider ≡ spec.with_input_lines (app_of program.entry)) }
 {
-    let hear = line_of_two(alloc, "hear", "MESSAGE")?;
-    let check = Parser::new(alloc, "check");
-    let frames = Parser::new(alloc, "frames");
-    let wider = program
-        .subcommand(hear)?
-        .subcommand(check)?
-        .subcommand(frames)?;
+    let hearing = with_line_of_two(alloc, program, "hear", "MESSAGE")?;
+    let checking = hearing.subcommand(Parser::new(alloc, "check"))?;
+    let wider = checking.subcommand(Parser::new(alloc, "frames"))?;
     Ok(wider)
 }
 
@@ -78,28 +131,18 @@ fn with_input_lines<'a>(alloc: Global, program: Parser<'a>) -> Result<Parser<'a>
 fn with_store_lines<'a>(alloc: Global, program: Parser<'a>) -> Result<Parser<'a>, AllocError>
     ensures { IfOk result (λ wider. app_of wider ≡ spec.with_store_lines (app_of program.entry)) }
 {
-    let judge = line_of_two(alloc, "judge", "STORE")?;
-    let import = line_of_three(alloc, "import", "STORE", "FOLDER")?;
-    let report = line_of_three(alloc, "report", "STORE", "KIND")?;
-    let wider = program
-        .subcommand(judge)?
-        .subcommand(import)?
-        .subcommand(report)?;
-    Ok(wider)
+    let judging = with_line_of_two(alloc, program, "judge", "STORE")?;
+    let importing = with_line_of_three(alloc, judging, "import", "STORE", "FOLDER")?;
+    with_line_of_three(alloc, importing, "report", "STORE", "KIND")
 }
 
 /// The lines of the commands that run a session.
 fn with_session_lines<'a>(alloc: Global, program: Parser<'a>) -> Result<Parser<'a>, AllocError>
     ensures { IfOk result (λ wider. app_of wider ≡ spec.with_session_lines (app_of program.entry)) }
 {
-    let replay = line_of_two(alloc, "replay", "STORE")?;
-    let serve = line_of_four(alloc, "serve", "STORE", "PORT", "COUNT")?;
-    let drill = line_of_two(alloc, "drill", "N")?;
-    let wider = program
-        .subcommand(replay)?
-        .subcommand(serve)?
-        .subcommand(drill)?;
-    Ok(wider)
+    let replaying = with_line_of_two(alloc, program, "replay", "STORE")?;
+    let serving = with_line_of_four(alloc, replaying, "serve", "STORE", "PORT", "COUNT")?;
+    with_line_of_two(alloc, serving, "drill", "N")
 }
 
 /// The program with its lines.

@@ -1,9 +1,11 @@
-use Rattle.std.proofs.Common.{refl}
-use Rattle.command_words.proofs.Building.{added}
+use Rattle.std.proofs.Common.{◌∙◌, ap, codes}
+use Rattle.command_words.specs.Parser.{line_of_four, line_of_two, with_line}
+use Rattle.command_words.proofs.Building.{onto}
 use Rattle.command_words.proofs.parser.with_session_lines.Goals as goal
 
 pub returns : goal.returns
 returns c =
-    let one = added c.in_ok-subcommand.ensures c.in_ok-replay.ensures.local refl c.in_ok-replay.ensures.app in
-    let two = added c.in_ok-subcommand-2.ensures c.in_ok-serve.ensures.local one c.in_ok-serve.ensures.app in
-    added c.in_ok-wider.ensures c.in_ok-drill.ensures.local two c.in_ok-drill.ensures.app
+    let serve = line_of_four (codes "serve") (codes "STORE") (codes "PORT") (codes "COUNT") in
+    let drill = line_of_two (codes "drill") (codes "N") in
+    let two = c.in_ok-serving.ensures ∙ ap (λ program. with_line program serve) c.in_ok-replaying.ensures in
+    onto drill c.with_line_of_two-2.result two c.with_line_of_two-2.ensures

@@ -1,9 +1,11 @@
-use Rattle.std.proofs.Common.{refl}
-use Rattle.command_words.proofs.Building.{added}
+use Rattle.std.proofs.Common.{◌∙◌, ap, codes}
+use Rattle.command_words.specs.Parser.{line_of_three, with_line}
+use Rattle.command_words.proofs.Building.{onto}
 use Rattle.command_words.proofs.parser.with_store_lines.Goals as goal
 
 pub returns : goal.returns
 returns c =
-    let one = added c.in_ok-subcommand.ensures c.in_ok-judge.ensures.local refl c.in_ok-judge.ensures.app in
-    let two = added c.in_ok-subcommand-2.ensures c.in_ok-import.ensures.local one c.in_ok-import.ensures.app in
-    added c.in_ok-wider.ensures c.in_ok-report.ensures.local two c.in_ok-report.ensures.app
+    let import = line_of_three (codes "import") (codes "STORE") (codes "FOLDER") in
+    let report = line_of_three (codes "report") (codes "STORE") (codes "KIND") in
+    let two = c.in_ok-importing.ensures ∙ ap (λ program. with_line program import) c.in_ok-judging.ensures in
+    onto report c.with_line_of_three-2.result two c.with_line_of_three-2.ensures

@@ -38,13 +38,27 @@ pub fn same_key(own: &MemberKey, other: &MemberKey) -> bool
     ensures value { result ≡ spec.same_key own.now other.now }
     ensures equal { IsTrue result ↔ (own.now ≡ other.now) }
 {
-    match (own, other) {
-        (MemberKey::Host(own), MemberKey::Host(other)) => own.octets() == other.octets(),
-        (MemberKey::Model(own), MemberKey::Model(other)) => own == other,
-        (MemberKey::Class(own), MemberKey::Class(other)) => own.octets() == other.octets(),
-        (MemberKey::Mine(own), MemberKey::Mine(other)) => own == other,
-        (MemberKey::Name(own), MemberKey::Name(other)) => own.octets() == other.octets(),
-        _ => false,
+    match own {
+        MemberKey::Host(own) => match other {
+            MemberKey::Host(other) => own.octets() == other.octets(),
+            _ => false,
+        },
+        MemberKey::Model(own) => match other {
+            MemberKey::Model(other) => own == other,
+            _ => false,
+        },
+        MemberKey::Class(own) => match other {
+            MemberKey::Class(other) => own.octets() == other.octets(),
+            _ => false,
+        },
+        MemberKey::Mine(own) => match other {
+            MemberKey::Mine(other) => own == other,
+            _ => false,
+        },
+        MemberKey::Name(own) => match other {
+            MemberKey::Name(other) => own.octets() == other.octets(),
+            _ => false,
+        },
     }
 }
 
@@ -54,15 +68,28 @@ impl Selector {
     pub fn has_key(&self, url: &MudUrl, key: &MemberKey) -> bool
         ensures { result ≡ spec.has_key url.now key.now self.now }
     {
-        match (self, key) {
-            (Selector::Controller(uri), MemberKey::Class(other)) => uri.octets() == other.octets(),
-            (Selector::MyController, MemberKey::Mine(other)) => url == other,
-            (Selector::Manufacturer(host), MemberKey::Host(other)) => host.octets()
-                == other.octets(),
-            (Selector::SameManufacturer, MemberKey::Host(other)) => url.host() == other.octets(),
-            (Selector::Model(model), MemberKey::Model(other)) => model == other,
-            (Selector::Name(name), MemberKey::Name(other)) => name.octets() == other.octets(),
-            _ => false,
+        match key {
+            MemberKey::Class(other) => match self {
+                Selector::Controller(uri) => uri.octets() == other.octets(),
+                _ => false,
+            },
+            MemberKey::Mine(other) => match self {
+                Selector::MyController => url == other,
+                _ => false,
+            },
+            MemberKey::Host(other) => match self {
+                Selector::Manufacturer(host) => host.octets() == other.octets(),
+                Selector::SameManufacturer => url.host() == other.octets(),
+                _ => false,
+            },
+            MemberKey::Model(other) => match self {
+                Selector::Model(model) => model == other,
+                _ => false,
+            },
+            MemberKey::Name(other) => match self {
+                Selector::Name(name) => name.octets() == other.octets(),
+                _ => false,
+            },
         }
     }
 }

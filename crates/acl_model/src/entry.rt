@@ -175,7 +175,14 @@ fn copied_selectors(selectors: &Listed<Selector>) -> Result<Listed<Selector>, Me
     let mut copies = selectors.empty_like();
     let originals = selectors.as_slice();
     for selector in originals {
-        copies.push(selector.copy()?)?;
+        let Ok(copy) = selector.copy() else {
+            drop(copies);
+            return Err(Memory);
+        };
+        if copies.push(copy).is_err() {
+            drop(copies);
+            return Err(Memory);
+        }
     }
     Ok(copies)
 }
@@ -187,7 +194,14 @@ fn copied_entries(entries: &Listed<Entry>) -> Result<Listed<Entry>, Memory>
     let mut copies = entries.empty_like();
     let originals = entries.as_slice();
     for entry in originals {
-        copies.push(entry.copy()?)?;
+        let Ok(copy) = entry.copy() else {
+            drop(copies);
+            return Err(Memory);
+        };
+        if copies.push(copy).is_err() {
+            drop(copies);
+            return Err(Memory);
+        }
     }
     Ok(copies)
 }
@@ -205,11 +219,21 @@ impl Entry {
     pub fn copy(&self) -> Result<Entry, Memory>
         ensures { IfOk result (λ copy. copy ≡ self.now) }
     {
+        let selectors = copied_selectors(&self.selectors)?;
+        let Ok(acl) = self.acl.copy() else {
+            drop(selectors);
+            return Err(Memory);
+        };
+        let Ok(name) = self.name.copy() else {
+            drop(selectors);
+            drop(acl);
+            return Err(Memory);
+        };
         Ok(Entry {
-            acl: self.acl.copy()?,
-            name: self.name.copy()?,
+            acl,
+            name,
             family: self.family,
-            selectors: copied_selectors(&self.selectors)?,
+            selectors,
             own: self.own,
             protocol: self.protocol,
             dscp: self.dscp,

@@ -11,6 +11,7 @@ pub mod Readings
 pub mod Schemas
 pub mod Selects
 pub mod Steps
+pub mod Tellings
 pub mod Texts
 pub mod Unique
 pub mod Upserts

@@ -1,5 +1,5 @@
 -- The items that the rows of the table say.
-use Rattle.std.specs.Prelude.{◌≡◌, ◌⊎◌, ℕ, ◌^◌, ◌<◌, ℤ, pos, List, [], ◌∷◌}
+use Rattle.std.specs.Prelude.{◌≡◌, ◌⊎◌, ℕ, ◌^◌, ◌<◌, ℤ, pos, Bool, false, List, [], ◌∷◌}
 use Rattle.std.specs.List.{AllByRecursion}
 use Rattle.sqlite.specs.declared.types.Value.{Value}
 use Rattle.sqlite.specs.declared.types.Value.TheVariants.{Int, Blob}
@@ -7,6 +7,7 @@ use Rattle.sqlite_value.specs.Order.{Row, column}
 use Rattle.sqlite_trees.specs.Tree.{Trees, rowid}
 use Rattle.sqlite.specs.Edit.{id_in}
 use Rattle.sqlite.specs.Effect.{Database, IsDatabase}
+use Rattle.sqlite.specs.Table.{Table}
 use Rattle.sorted_rows.specs.Placed.{set_row}
 use Rattle.mud_world.specs.declared.item.Item.{Item}
 use Rattle.mud_world.specs.Items.{place_of}
@@ -55,6 +56,18 @@ pub record HoldsItems (db : Database) : Type 0 where
 -- the items of a database that holds items
 abbrev pub items_of : Database → List Item
 items_of db = items_in (db.trees 0)
+
+abbrev pub where_tables : List Table → List Item → List Item
+where_tables [] items = []
+where_tables (table ∷ tables) items = items
+
+-- the items of a database that holds items or has no table
+abbrev pub held_items : Database → List Item
+held_items db = where_tables db.schema.tables (items_of db)
+
+-- The database holds items or, before an `open` has answered Ok, it has no table.
+abbrev pub MayHold : Bool → Database → Type 0
+MayHold has_opened db = HoldsItems db ⊎ ((has_opened ≡ false) × (db.schema ≡ no_schema))
 
 -- The trees are those of a database that holds these items.
 abbrev pub AreTreesOf : List Item → Trees → Type 0

@@ -7,7 +7,7 @@ use Rattle.sqlite.specs.Effect.{Database}
 use Rattle.sqlite.specs.State.{HasCleanDisk, Survives}
 use Rattle.sqlite.specs.Held.{Held, held_code, state}
 use Rattle.mud_world.specs.declared.item.Item.{Item}
-use Rattle.keep_sqlite.specs.Rows.{items_of, AreTreesOf, HoldsItems}
+use Rattle.keep_sqlite.specs.Rows.{held_items, AreTreesOf, HoldsItems, MayHold}
 
 -- A keeper over a connection, as contracts see it.
 pub record KeeperView (S : Type 0) : Type 0 where
@@ -31,17 +31,17 @@ module _ {S : Type 0} (g : Ghosts S) where
   abbrev pub IsKept : Held S → Bool → Type 0
   IsKept connection has_opened = IsTrue has_opened → IsUp connection → HoldsItems (state g connection).now
 
-  -- A keeper tells its items once an `open` has answered Ok, while the connection is up.
-  abbrev pub Tells : KeeperView S → Type 0
-  Tells keeper = IsTrue keeper.has_opened × IsUp keeper.connection
-
   -- what the connection sees
   abbrev pub database : KeeperView S → Database
   database keeper = (state g keeper.connection).now
 
+  -- A keeper tells its items while the connection is up: those that its database holds, or none where it has no table and no `open` has answered Ok.
+  abbrev pub Tells : KeeperView S → Type 0
+  Tells keeper = IsUp keeper.connection × MayHold keeper.has_opened (database keeper)
+
   -- the items that it tells
   abbrev pub told : KeeperView S → List Item
-  told keeper = items_of (database keeper)
+  told keeper = held_items (database keeper)
 
   -- Whatever a crash leaves at this moment are the trees of these items.
   abbrev pub Leaves : KeeperView S → List Item → Type 0

@@ -28,7 +28,8 @@ pub(crate) fn find<S: Alter>(
     ensures makes { HasCleanDisk (state S.Store connection.new)
         → Makes (state S.Store connection.old) (state S.Store connection.new) }
     ensures ok { HasCleanDisk (state S.Store connection.new)
-        → IfOk result (λ items. HoldsItems (state S.Store connection.new).now
+        → IfOk result (λ items. IsTrue (state S.Store connection.new).is_open
+        × HoldsItems (state S.Store connection.new).now
         × (items ≡ items_of (state S.Store connection.new).now)) }
 {
     if let Err(error) = create_if_blank(connection) {

@@ -3,7 +3,8 @@ ghost use Rattle.std.specs.Prelude.{◌≡◌, [], true, false, IsTrue, IfOk, On
 ghost use Rattle.mud_world.specs.Causes.{Counts};
 ghost use Rattle.mud_world.specs.Items.{has_failed, is_batch, put_all, IsOrdered};
 ghost use Rattle.sqlite.specs.Held.{state};
-ghost use Rattle.keep_sqlite.specs.Rows.{HoldsItems, MayMake};
+ghost use Rattle.sqlite.specs.State.{HasCleanDisk};
+ghost use Rattle.keep_sqlite.specs.Rows.{items_of, HoldsItems, MayMake};
 ghost use Rattle.keep_sqlite.specs.Telling.{database, told, IsUp, Leaves, MayLeave, Tells};
 
 use crate::batch;
@@ -65,14 +66,24 @@ impl<S: Alter + Drop> SqliteKeeper<S> {
         self.connection
     }
 
+    /// Whether an `open` has answered Ok. Where the connection is up, the database then holds items.
+    pub(crate) fn has_opened(&self) -> bool
+        ensures value { result ≡ self.now.has_opened }
+        ensures holds { IsTrue self.now.has_opened → IsUp S.Store self.now.connection
+            → HoldsItems (database S.Store self.now) }
+    {
+        self.has_opened
+    }
+
     /// The items: [`Keeper::open`].
     pub(crate) fn read(&mut self, alloc: Global) -> Result<Listed<Item>, KeepFault>
         ensures items { Tells S.Store self.new → IfOk result (λ list. list ≡ told S.Store self.new) }
-        ensures same { Tells S.Store self.old → Tells S.Store self.new
-            → told S.Store self.new ≡ told S.Store self.old }
-        ensures told { Tells S.Store self.new → OnErr result (Tells S.Store self.old) }
+        ensures same { Tells S.Store self.new → told S.Store self.new ≡ told S.Store self.old }
+        ensures told { Tells S.Store self.new → Tells S.Store self.old }
+        ensures tells { HasCleanDisk (state S.Store self.new.connection) → OnOk result (Tells S.Store self.new) }
         ensures opened { OnOk result (self.new.has_opened ≡ true) }
         ensures still { OnErr result (self.new.has_opened ≡ self.old.has_opened) }
+        ensures opens { IsUp S.Store self.new.connection → IsUp S.Store self.old.connection }
         ensures cause { Counts (has_failed result) self.old.faults self.new.faults }
         ensures table { Tells S.Store self.new → OnOk result (HoldsItems (database S.Store self.new)) }
         ensures kept { IsUp S.Store self.new.connection
@@ -88,18 +99,21 @@ impl<S: Alter + Drop> SqliteKeeper<S> {
 
     /// The items, with no failure counted.
     fn list_items(&mut self, alloc: Global) -> Result<Listed<Item>, KeepFault>
-        ensures items { Tells S.Store self.new → IfOk result (λ list. list ≡ told S.Store self.new) }
-        ensures told { Tells S.Store self.new → OnErr result (Tells S.Store self.old) }
+        ensures items { HasCleanDisk (state S.Store self.new.connection)
+            → IfOk result (λ list. HoldsItems (database S.Store self.new)
+            × (list ≡ items_of (database S.Store self.new))) }
+        ensures open { HasCleanDisk (state S.Store self.new.connection)
+            → OnOk result (IsTrue (state S.Store self.new.connection).is_open) }
         ensures opened { OnOk result (self.new.has_opened ≡ true) }
         ensures still { OnErr result (self.new.has_opened ≡ self.old.has_opened) }
         ensures faults { self.new.faults ≡ self.old.faults }
         ensures opens { IsUp S.Store self.new.connection → IsUp S.Store self.old.connection }
-        ensures same { Tells S.Store self.old → IsUp S.Store self.new.connection
-            → database S.Store self.new ≡ database S.Store self.old }
+        ensures held { IsUp S.Store self.new.connection → IsTrue self.old.has_opened
+            → HoldsItems (database S.Store self.old) }
         ensures kept { IsUp S.Store self.new.connection
             → MayMake (database S.Store self.old) (database S.Store self.new) }
         ensures crash { IsUp S.Store self.old.connection → MayLeave S.Store self.old self.new [] }
-        ensures left { Tells S.Store self.new
+        ensures left { IsUp S.Store self.new.connection
             → OnOk result ((state S.Store self.new.connection).committed ≡ database S.Store self.new) }
     {
         // Within a transaction the items would be some that aren't committed.
@@ -120,6 +134,7 @@ impl<S: Alter + Drop> SqliteKeeper<S> {
         requires opened { IsTrue self.old.has_opened }
         requires batch { IsTrue (is_batch batch.now) }
         ensures told { Tells S.Store self.new → Tells S.Store self.old }
+        ensures tells { HasCleanDisk (state S.Store self.new.connection) → OnOk result (Tells S.Store self.new) }
         ensures ok { Tells S.Store self.new
             → OnOk result (told S.Store self.new ≡ put_all (told S.Store self.old) batch.now) }
         ensures err { Tells S.Store self.new
@@ -127,7 +142,7 @@ impl<S: Alter + Drop> SqliteKeeper<S> {
         ensures opened { self.new.has_opened ≡ self.old.has_opened }
         ensures cause { Counts (has_failed result) self.old.faults self.new.faults }
         // At each return a crash leaves what it could leave before, or the items after the whole batch,
-        ensures crash { MayLeave S.Store self.old self.new (put_all (told S.Store self.old) batch.now) }
+        ensures crash { MayLeave S.Store self.old self.new (put_all (items_of (database S.Store self.old)) batch.now) }
         // and after Ok the items after the batch.
         ensures after { Tells S.Store self.new
             → OnOk result (Leaves S.Store self.new (told S.Store self.new)) }
@@ -141,15 +156,18 @@ impl<S: Alter + Drop> SqliteKeeper<S> {
     fn put_in(&mut self, batch: &[Put]) -> Result<(), KeepFault>
         requires opened { IsTrue self.old.has_opened }
         requires batch { IsTrue (is_batch batch.now) }
-        ensures told { Tells S.Store self.new → Tells S.Store self.old }
-        ensures ok { Tells S.Store self.new
-            → OnOk result (told S.Store self.new ≡ put_all (told S.Store self.old) batch.now) }
-        ensures err { Tells S.Store self.new
-            → OnErr result (told S.Store self.new ≡ told S.Store self.old) }
+        ensures opens { IsUp S.Store self.new.connection → IsUp S.Store self.old.connection }
+        ensures held { IsUp S.Store self.new.connection → HoldsItems (database S.Store self.old) }
+        ensures open { HasCleanDisk (state S.Store self.new.connection)
+            → OnOk result (IsTrue (state S.Store self.new.connection).is_open) }
+        ensures ok { IsUp S.Store self.new.connection
+            → OnOk result (items_of (database S.Store self.new) ≡ put_all (items_of (database S.Store self.old)) batch.now) }
+        ensures err { IsUp S.Store self.new.connection
+            → OnErr result (database S.Store self.new ≡ database S.Store self.old) }
         ensures opened { self.new.has_opened ≡ self.old.has_opened }
         ensures faults { self.new.faults ≡ self.old.faults }
-        ensures crash { MayLeave S.Store self.old self.new (put_all (told S.Store self.old) batch.now) }
-        ensures left { Tells S.Store self.new
+        ensures crash { MayLeave S.Store self.old self.new (put_all (items_of (database S.Store self.old)) batch.now) }
+        ensures left { IsUp S.Store self.new.connection
             → OnOk result ((state S.Store self.new.connection).committed ≡ database S.Store self.new) }
     {
         match batch::keep(&mut self.connection, batch) {
@@ -172,11 +190,12 @@ impl<S: Alter + Drop> Keeper for SqliteKeeper<S> {
     fn open(&mut self, alloc: Global) -> Result<Listed<Item>, KeepFault>
         ensures items { Tells S.Store self.new → IfOk result (λ list. list ≡ told S.Store self.new) }
         ensures ordered { Tells S.Store self.new → IsOrdered (told S.Store self.new) }
-        ensures same { Tells S.Store self.old → Tells S.Store self.new
-            → told S.Store self.new ≡ told S.Store self.old }
-        ensures told { Tells S.Store self.new → OnErr result (Tells S.Store self.old) }
+        ensures same { Tells S.Store self.new → told S.Store self.new ≡ told S.Store self.old }
+        ensures told { Tells S.Store self.new → Tells S.Store self.old }
+        ensures tells { HasCleanDisk (state S.Store self.new.connection) → OnOk result (Tells S.Store self.new) }
         ensures opened { OnOk result (self.new.has_opened ≡ true) }
         ensures still { OnErr result (self.new.has_opened ≡ self.old.has_opened) }
+        ensures opens { IsUp S.Store self.new.connection → IsUp S.Store self.old.connection }
         ensures cause { Counts (has_failed result) self.old.faults self.new.faults }
         // An Ok says that the database has our table and no other, and that each row is an item.
         ensures table { Tells S.Store self.new → OnOk result (HoldsItems (database S.Store self.new)) }
@@ -197,6 +216,7 @@ impl<S: Alter + Drop> Keeper for SqliteKeeper<S> {
         requires opened { IsTrue self.old.has_opened }
         requires batch { IsTrue (is_batch batch.now) }
         ensures told { Tells S.Store self.new → Tells S.Store self.old }
+        ensures tells { HasCleanDisk (state S.Store self.new.connection) → OnOk result (Tells S.Store self.new) }
         ensures ordered { Tells S.Store self.new → IsOrdered (told S.Store self.new) }
         ensures ok { Tells S.Store self.new
             → OnOk result (told S.Store self.new ≡ put_all (told S.Store self.old) batch.now) }
@@ -204,7 +224,7 @@ impl<S: Alter + Drop> Keeper for SqliteKeeper<S> {
             → OnErr result (told S.Store self.new ≡ told S.Store self.old) }
         ensures opened { self.new.has_opened ≡ self.old.has_opened }
         ensures cause { Counts (has_failed result) self.old.faults self.new.faults }
-        ensures crash { MayLeave S.Store self.old self.new (put_all (told S.Store self.old) batch.now) }
+        ensures crash { MayLeave S.Store self.old self.new (put_all (items_of (database S.Store self.old)) batch.now) }
         ensures after { Tells S.Store self.new
             → OnOk result (Leaves S.Store self.new (told S.Store self.new)) }
     {

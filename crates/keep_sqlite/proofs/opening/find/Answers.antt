@@ -16,7 +16,8 @@ returns-clause-ok g c clean =
     let ids = c.in_ok-test_rowids.ensures.ok early in
     let ours : c.schema.result.now ≡ item_schema = search rules in
     if_ok_map c.list.result (c.list.ensures.ok clean) (λ items it.
-    holds_from first mid new items (c.schema.ensures.live ids.0.0.was_open).0 (sym c.schema.ensures.value ∙ ours) ids.0.0.now_is it.0.0.now_is ids.1 it.1 it.2)
+    let held = holds_from first mid new items (c.schema.ensures.live ids.0.0.was_open).0 (sym c.schema.ensures.value ∙ ours) ids.0.0.now_is it.0.0.now_is ids.1 it.1 it.2 in
+    (it.0.0.is_open, held.0, held.1))
 
 pub returns-clause-crash : goal.returns-clause-crash
 returns-clause-crash g c =

@@ -1,6 +1,6 @@
 //! The containers inside `matches`. Each is an object that is read by its table, and the path is its
 //! own.
-ghost use Rattle.std.specs.Prelude.{◌≡◌};
+ghost use Rattle.std.specs.Prelude.{◌≡◌, Err};
 ghost use Rattle.serde_json.specs.View.{view};
 ghost use Rattle.reading.specs.Reading.{Gives};
 ghost use Rattle.usage_match.specs.Containers as spec;
@@ -55,6 +55,14 @@ fn mud_rows() -> [Row<MudWay>; 6]
     ]
 }
 
+/// Lets go what came of the members before, where a later one is refused.
+pub(crate) fn refused<T: Drop>(so_far: T, fault: FileFault) -> Result<T, FileFault>
+    ensures { result ≡ Err fault }
+{
+    drop(so_far);
+    Err(fault)
+}
+
 impl Reads for MudWay {
     ghost use Rattle.usage_match.specs.Containers.{mud_ways};
 
@@ -73,20 +81,32 @@ impl Reads for MudWay {
     ) -> Result<MudTests, FileFault> {
         let mut tests = so_far;
         match self {
-            MudWay::Manufacturer => {
-                tests.manufacturer = host_where_there(alloc, object, path, member)?;
-            }
+            MudWay::Manufacturer => match host_where_there(alloc, object, path, member) {
+                Ok(host) => tests.manufacturer = host,
+                Err(fault) => return refused(tests, fault),
+            },
             MudWay::SameManufacturer => {
-                tests.same_manufacturer = leaf_where_there(alloc, Some(object), path, member)?;
+                match leaf_where_there(alloc, Some(object), path, member) {
+                    Ok(is_asked) => tests.same_manufacturer = is_asked,
+                    Err(fault) => return refused(tests, fault),
+                }
             }
-            MudWay::Model => tests.model = model_where_there(alloc, object, path, member)?,
-            MudWay::LocalNetworks => {
-                tests.local_networks = leaf_where_there(alloc, Some(object), path, member)?;
-            }
-            MudWay::Controller => tests.controller = uri_where_there(alloc, object, path, member)?,
-            MudWay::MyController => {
-                tests.my_controller = leaf_where_there(alloc, Some(object), path, member)?;
-            }
+            MudWay::Model => match model_where_there(alloc, object, path, member) {
+                Ok(model) => tests.model = model,
+                Err(fault) => return refused(tests, fault),
+            },
+            MudWay::LocalNetworks => match leaf_where_there(alloc, Some(object), path, member) {
+                Ok(is_asked) => tests.local_networks = is_asked,
+                Err(fault) => return refused(tests, fault),
+            },
+            MudWay::Controller => match uri_where_there(alloc, object, path, member) {
+                Ok(uri) => tests.controller = uri,
+                Err(fault) => return refused(tests, fault),
+            },
+            MudWay::MyController => match leaf_where_there(alloc, Some(object), path, member) {
+                Ok(is_asked) => tests.my_controller = is_asked,
+                Err(fault) => return refused(tests, fault),
+            },
         }
         Ok(tests)
     }

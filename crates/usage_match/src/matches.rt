@@ -6,7 +6,7 @@ ghost use Rattle.reading.specs.Reading.{Gives};
 ghost use Rattle.usage_match.specs.Matches as spec;
 
 use crate::containers::{
-    icmp_of, ip_tests_of, mud_tests_of, no_ip_tests, no_mud_tests, tcp_of, udp_of,
+    icmp_of, ip_tests_of, mud_tests_of, no_ip_tests, no_mud_tests, refused, tcp_of, udp_of,
 };
 use crate::entry_tests::{IpTests, ListType, MudTests, Tests};
 use crate::ports::stands;
@@ -392,20 +392,32 @@ impl Reads for MatchWay {
     ) -> Result<MatchTests, FileFault> {
         let mut tests = so_far;
         match self {
-            MatchWay::Mud => tests.mud = mud_at(alloc, object, path, member)?,
+            MatchWay::Mud => match mud_at(alloc, object, path, member) {
+                Ok(mud) => tests.mud = mud,
+                Err(fault) => return refused(tests, fault),
+            },
             MatchWay::Ip(list_type, side) => {
-                tests.ip = ip_at(alloc, list_type, side, object, path, member)?;
+                match ip_at(alloc, list_type, side, object, path, member) {
+                    Ok(ip) => tests.ip = ip,
+                    Err(fault) => return refused(tests, fault),
+                }
             }
-            MatchWay::Refused => no_other(alloc, object, path, member)?,
-            MatchWay::Tcp => {
-                tests.layer = tcp_at(alloc, object, path, member)?.unwrap_or(tests.layer);
-            }
-            MatchWay::Udp => {
-                tests.layer = udp_at(alloc, object, path, member)?.unwrap_or(tests.layer);
-            }
-            MatchWay::Icmp => {
-                tests.layer = icmp_at(alloc, object, path, member)?.unwrap_or(tests.layer);
-            }
+            MatchWay::Refused => match no_other(alloc, object, path, member) {
+                Ok(()) => {}
+                Err(fault) => return refused(tests, fault),
+            },
+            MatchWay::Tcp => match tcp_at(alloc, object, path, member) {
+                Ok(layer) => tests.layer = layer.unwrap_or(tests.layer),
+                Err(fault) => return refused(tests, fault),
+            },
+            MatchWay::Udp => match udp_at(alloc, object, path, member) {
+                Ok(layer) => tests.layer = layer.unwrap_or(tests.layer),
+                Err(fault) => return refused(tests, fault),
+            },
+            MatchWay::Icmp => match icmp_at(alloc, object, path, member) {
+                Ok(layer) => tests.layer = layer.unwrap_or(tests.layer),
+                Err(fault) => return refused(tests, fault),
+            },
         }
         Ok(tests)
     }

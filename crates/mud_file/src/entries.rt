@@ -109,9 +109,18 @@ fn entry_of(
 ) -> Result<Entry, FileFault>
     ensures { Gives (λ e. e) result (done (spec.entry_of (list_head list.now) name.now tests action)) }
 {
+    let Ok(acl) = Bytes::new(alloc, list.name.as_bytes()) else {
+        drop(tests);
+        return Err(FileFault::Memory);
+    };
+    let Ok(name) = Bytes::new(alloc, name.as_bytes()) else {
+        drop(acl);
+        drop(tests);
+        return Err(FileFault::Memory);
+    };
     Ok(Entry {
-        acl: Bytes::new(alloc, list.name.as_bytes())?,
-        name: Bytes::new(alloc, name.as_bytes())?,
+        acl,
+        name,
         family: family_of(list.list_type),
         selectors: tests.selectors,
         own: tests.own,
@@ -140,8 +149,13 @@ fn entry_at(
     refuse_here_where(alloc, entries.len() >= list.room, Rule::EntriesFull, path)?;
     let name = entry_name(alloc, entries, object, path)?;
     let tests = tests_at(alloc, list.list_type, list.side, object, path)?;
-    let action = action(alloc, object, path)?;
-    entry_of(alloc, list, name, tests, action)
+    match action(alloc, object, path) {
+        Ok(action) => entry_of(alloc, list, name, tests, action),
+        Err(fault) => {
+            drop(tests);
+            Err(fault)
+        }
+    }
 }
 
 /// Reads the next entry of a list, which has this path.

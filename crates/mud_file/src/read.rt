@@ -3,13 +3,14 @@ ghost use Rattle.std.specs.Prelude.{◌≡◌, option_map, IfOk};
 ghost use Rattle.serde_json.specs.View.{view};
 ghost use Rattle.reading.specs.Reading.{Answers, Gives};
 ghost use Rattle.usage_walk.specs.Elements.{elements_view};
+ghost use Rattle.mud_file.specs.Entries.{entries_of};
 ghost use Rattle.mud_file.specs.File as spec;
 
 use crate::head::head;
 use crate::lists::entries_of;
 use crate::usage_file::{Head, UsageFile};
-use acl_model::Policy;
-use mud_base::{Bytes, Direction, Memory};
+use acl_model::{Entry, Policy};
+use mud_base::{Bytes, Direction, Listed, Memory};
 use serde_json::Value;
 use std::alloc::Global;
 use usage_walk::kinds::{list_where_there, object_at, object_here, object_where_there};
@@ -95,6 +96,21 @@ fn acls<'a>(alloc: Global, root: &'a Value) -> Result<Elements<'a>, FileFault>
     named_in(alloc, acls, path.octets(), Member::Acl)
 }
 
+/// The entries of a direction: those of the access lists of these names, which the policy of the
+/// direction has in the object at this path.
+fn entries(
+    alloc: Global,
+    side: Direction,
+    acls: &Elements<'_>,
+    names: &Elements<'_>,
+    path: &[u8],
+) -> Result<Listed<Entry>, FileFault>
+    ensures { Gives (λ e. e) result (entries_of side (spec.names_path side path.now) (elements_view acls.now) (elements_view names.now)) }
+{
+    let path = names_path(alloc, side, path)?;
+    entries_of(alloc, side, acls, names.as_slice(), path.octets())
+}
+
 /// The entries of both directions.
 #[tactic(auto, unfolding(crate::specs::File::policy_at), using(reading::proofs::Readings::answer_bind, reading::proofs::Readings::answer_done))]
 fn policy(alloc: Global, root: &Value, mud: &Value, path: &[u8]) -> Result<Policy, FileFault>
@@ -103,17 +119,14 @@ fn policy(alloc: Global, root: &Value, mud: &Value, path: &[u8]) -> Result<Polic
     let from = names(alloc, Direction::From, mud, path)?;
     let to = names(alloc, Direction::To, mud, path)?;
     let acls = acls(alloc, root)?;
-    let from_path = names_path(alloc, Direction::From, path)?;
-    let outgoing = entries_of(
-        alloc,
-        Direction::From,
-        &acls,
-        from.as_slice(),
-        from_path.octets(),
-    )?;
-    let to_path = names_path(alloc, Direction::To, path)?;
-    let incoming = entries_of(alloc, Direction::To, &acls, to.as_slice(), to_path.octets())?;
-    Ok(Policy { outgoing, incoming })
+    let outgoing = entries(alloc, Direction::From, &acls, &from, path)?;
+    match entries(alloc, Direction::To, &acls, &to, path) {
+        Ok(incoming) => Ok(Policy { outgoing, incoming }),
+        Err(fault) => {
+            drop(outgoing);
+            Err(fault)
+        }
+    }
 }
 
 /// The usage file with this head and these entries.

@@ -112,7 +112,10 @@ impl FileCache {
     {
         moment_fits(fetched);
         let change = import(self.alloc, &self.files, octets, fetched)?;
-        make_room(&mut self.files, change.edit())?;
+        let Ok(()) = make_room(&mut self.files, change.edit()) else {
+            drop(change);
+            return Err(CacheFault::Memory);
+        };
         Ok(change)
     }
 
@@ -135,7 +138,10 @@ impl FileCache {
         ensures err { IfErr result (IsRefusal (verdict_step url.now digest.now v self.old.files)) }
     {
         let change = judge(self.alloc, &self.files, url, digest, v)?;
-        make_room(&mut self.files, change.edit())?;
+        let Ok(()) = make_room(&mut self.files, change.edit()) else {
+            drop(change);
+            return Err(CacheFault::Memory);
+        };
         Ok(change)
     }
 
@@ -147,7 +153,10 @@ impl FileCache {
         ensures err { IfErr result (IsRefusal (revoke_step url.now self.old.files)) }
     {
         let change = revoke(self.alloc, &self.files, url)?;
-        make_room(&mut self.files, change.edit())?;
+        let Ok(()) = make_room(&mut self.files, change.edit()) else {
+            drop(change);
+            return Err(CacheFault::Memory);
+        };
         Ok(change)
     }
 

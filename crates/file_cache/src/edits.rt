@@ -13,7 +13,10 @@ fn kept_row(row: CachedFile) -> Option<CachedFile>
     ensures { result ≡ spec.kept_row row }
 {
     match (&row.approved, &row.candidate) {
-        (None, None) => None,
+        (None, None) => {
+            drop(row);
+            None
+        }
         _ => Some(row),
     }
 }
@@ -67,11 +70,14 @@ fn changed_row(edit: FileEdit, row: CachedFile) -> Option<CachedFile>
             approved,
             candidate,
         }),
-        FileEdit::Offered(held) => Some(CachedFile {
-            url,
-            approved,
-            candidate: Some(held),
-        }),
+        FileEdit::Offered(held) => {
+            drop(candidate);
+            Some(CachedFile {
+                url,
+                approved,
+                candidate: Some(held),
+            })
+        }
         FileEdit::CandidateFetched(moment) => Some(CachedFile {
             url,
             approved,
@@ -82,21 +88,30 @@ fn changed_row(edit: FileEdit, row: CachedFile) -> Option<CachedFile>
             approved: approved_at(approved, moment),
             candidate,
         }),
-        FileEdit::Approved(approval) => kept_row(CachedFile {
-            url,
-            approved: approved_as(candidate, approval),
-            candidate: None,
-        }),
-        FileEdit::Rejected => kept_row(CachedFile {
-            url,
-            approved,
-            candidate: None,
-        }),
-        FileEdit::Revoked => kept_row(CachedFile {
-            url,
-            approved: None,
-            candidate,
-        }),
+        FileEdit::Approved(approval) => {
+            drop(approved);
+            kept_row(CachedFile {
+                url,
+                approved: approved_as(candidate, approval),
+                candidate: None,
+            })
+        }
+        FileEdit::Rejected => {
+            drop(candidate);
+            kept_row(CachedFile {
+                url,
+                approved,
+                candidate: None,
+            })
+        }
+        FileEdit::Revoked => {
+            drop(approved);
+            kept_row(CachedFile {
+                url,
+                approved: None,
+                candidate,
+            })
+        }
     }
 }
 

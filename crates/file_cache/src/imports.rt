@@ -123,10 +123,18 @@ fn new_candidate(
     ensures { (files : List Row) → PlacesAscend url_of files → file_at row.now.url files ≡ Some row.now → Makes (step.new_candidate (held_file octets.now fetched) file files row.now) files result }
 {
     if is_outdated_by(row, &file) {
+        drop(file);
         return Err(CacheFault::Older);
     }
-    let held = Held::new(Bytes::new(alloc, octets)?, fetched, file);
-    let item = item_of(alloc, &row.url, approved_of(row), Some(Lent::of(&held)))?;
+    let Ok(copy) = Bytes::new(alloc, octets) else {
+        drop(file);
+        return Err(CacheFault::Memory);
+    };
+    let held = Held::new(copy, fetched, file);
+    let Ok(item) = item_of(alloc, &row.url, approved_of(row), Some(Lent::of(&held))) else {
+        drop(held);
+        return Err(CacheFault::Memory);
+    };
     let edit = FileEdit::Offered(held);
     let change = CacheChange::set(alloc, Word::New, row.url, edit, item)?;
     Ok(change)
@@ -147,6 +155,7 @@ fn beside_approved(
     match &row.approved {
         Some((approved, approval)) => {
             if octets == approved.octets() {
+                drop(file);
                 approved_again(alloc, row, approved, *approval, fetched)
             } else {
                 new_candidate(alloc, row, octets, fetched, file)
@@ -171,6 +180,7 @@ fn beside_candidate(
     match &row.candidate {
         Some(candidate) => {
             if octets == candidate.octets() {
+                drop(file);
                 candidate_again(alloc, row, candidate, fetched)
             } else {
                 beside_approved(alloc, row, octets, fetched, file)
@@ -193,11 +203,19 @@ fn new_url(
     ensures { Makes (step.import_cases (held_file octets.now fetched) file files.now.rows None) files.now.rows result }
 {
     if files.len() >= MOST_FILES {
+        drop(file);
         return Err(CacheFault::CacheFull);
     }
+    let Ok(copy) = Bytes::new(alloc, octets) else {
+        drop(file);
+        return Err(CacheFault::Memory);
+    };
     let url = file.url;
-    let held = Held::new(Bytes::new(alloc, octets)?, fetched, file);
-    let item = item_of(alloc, &url, None, Some(Lent::of(&held)))?;
+    let held = Held::new(copy, fetched, file);
+    let Ok(item) = item_of(alloc, &url, None, Some(Lent::of(&held))) else {
+        drop(held);
+        return Err(CacheFault::Memory);
+    };
     let edit = FileEdit::Offered(held);
     let change = CacheChange::set(alloc, Word::New, url, edit, item)?;
     Ok(change)

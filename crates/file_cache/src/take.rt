@@ -43,9 +43,13 @@ fn held_of(alloc: Global, url: &[u8], part: Part<'_>) -> Result<Option<Held>, Me
         return Ok(None);
     };
     if file.url.text() == url {
-        let octets = Bytes::new(alloc, part.octets)?;
+        let Ok(octets) = Bytes::new(alloc, part.octets) else {
+            drop(file);
+            return Err(Memory);
+        };
         Ok(Some(Held::new(octets, fetched, file)))
     } else {
+        drop(file);
         Ok(None)
     }
 }
@@ -76,6 +80,7 @@ fn approved_of(
     if may_have(&held, approval) {
         Ok(Some(held))
     } else {
+        drop(held);
         Ok(None)
     }
 }
@@ -155,8 +160,16 @@ fn both_row(
     let Some(kept) = approved_of(alloc, url, approved, approval)? else {
         return Ok(None);
     };
-    let Some(held) = held_of(alloc, url, candidate)? else {
-        return Ok(None);
+    let held = match held_of(alloc, url, candidate) {
+        Ok(Some(held)) => held,
+        Ok(None) => {
+            drop(kept);
+            return Ok(None);
+        }
+        Err(memory) => {
+            drop(kept);
+            return Err(memory);
+        }
     };
     if may_follow(&held, &kept) {
         Ok(Some(CachedFile {
@@ -165,6 +178,8 @@ fn both_row(
             candidate: Some(held),
         }))
     } else {
+        drop(kept);
+        drop(held);
         Ok(None)
     }
 }
@@ -221,9 +236,15 @@ pub fn push(files: &mut SortedRows<CachedFile>, row: CachedFile) -> Result<bool,
     ensures memory { OnErr result (files.new.rows ≡ files.old.rows) }
 {
     if has_room(files, &row) {
-        files.reserve(1)?;
-        Ok(files.push_last(row))
+        match files.reserve(1) {
+            Ok(()) => Ok(files.push_last(row)),
+            Err(memory) => {
+                drop(row);
+                Err(memory)
+            }
+        }
     } else {
+        drop(row);
         Ok(false)
     }
 }

@@ -7,5 +7,5 @@ returns-then-is_outdated_by c files ascend found _ = refused_older _ c.args.file
 
 pub returns : goal.returns
 returns c files ascend found =
-    candidate_offered files ascend c.args.row.now found _ c.args.file c.in_ok-item.item c.in_ok-change.change c.requires.own (sym c.if-is_outdated_by.ensures)
-    (rw (c.approved_of.ensures, c.of.ensures, c.new-held.ensures, c.in_ok-new.ensures) at c.in_ok-item.ensures) (rw (c.new-held.ensures, c.in_ok-new.ensures) at c.in_ok-change.ensures)
+    candidate_offered files ascend c.args.row.now found _ c.args.file c.in-Ok-item_of.item c.in_ok-change.change c.requires.own (sym c.if-is_outdated_by.ensures)
+    (rw (c.approved_of.ensures, c.of.ensures, c.new-held.ensures, c.in-Ok.ensures) at c.in-Ok-item_of.ensures) (rw (c.new-held.ensures, c.in-Ok.ensures) at c.in_ok-change.ensures)

@@ -11,5 +11,5 @@ returns-then-len-ge-MOST_FILES c _ =
 pub returns : goal.returns
 returns c =
     let room : length c.args.files.now.rows < most_files = omega arith in
-    url_offered c.args.files.now.rows _ c.args.file c.in_ok-item.item c.in_ok-change.change room c.requires.free
-    (rw (c.of.ensures, c.new-held.ensures, c.in_ok-new.ensures) at c.in_ok-item.ensures) (rw (c.new-held.ensures, c.in_ok-new.ensures) at c.in_ok-change.ensures)
+    url_offered c.args.files.now.rows _ c.args.file c.in-Ok-item_of.item c.in_ok-change.change room c.requires.free
+    (rw (c.of.ensures, c.new-held.ensures, c.in-Ok.ensures) at c.in-Ok-item_of.ensures) (rw (c.new-held.ensures, c.in-Ok.ensures) at c.in_ok-change.ensures)

@@ -15,10 +15,10 @@ returns-else-eq c =
     let other = rw c.text.ensures.value at c.if-eq.ensures in
     subst (λ (p : HeldFile). is_held c.args.url.now p ≡ false) c.part.view_is (other_url c.args.url.now (held_file c.part.inside.octets.now c.part.inside.fetched) c.in-Some-2.file (rw c.in-Some-2.is at c.in_ok-file.ensures) (sym other))
 
-pub returns-in_ok-octets : goal.returns-in_ok-octets
-returns-in_ok-octets c =
+pub returns-in-Ok : goal.returns-in-Ok
+returns-in-Ok c =
     let same = rw c.text.ensures.value at c.if-eq.ensures in
     let part : HeldFile = held_file c.part.inside.octets.now c.part.inside.fetched in (
-      (rw (c.in_ok-octets.ensures, c.in-Some.ensures.1) at c.new-then-eq-2.ensures) ∙ c.part.view_is,
+      (rw (c.in-Ok.ensures, c.in-Some.ensures.1) at c.new-then-eq-2.ensures) ∙ c.part.view_is,
       subst (λ (p : HeldFile). is_held c.args.url.now p ≡ true) c.part.view_is (held_so c.args.url.now part c.in-Some-2.file (rw c.in-Some-2.is at c.in_ok-file.ensures) (sym same) c.in-Some.ensures.0),
     )

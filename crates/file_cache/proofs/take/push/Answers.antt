@@ -7,6 +7,6 @@ use Rattle.file_cache.proofs.take.push.Goals as goal
 pub returns-else-has_room-clause-taken : goal.returns-else-has_room-clause-taken
 returns-else-has_room-clause-taken c = behind_full c.args.files.now.rows c.args.row (sym c.if-has_room.ensures)
 
-pub returns-in_ok-reserve-clause-taken : goal.returns-in_ok-reserve-clause-taken
-returns-in_ok-reserve-clause-taken c =
+pub returns-in-Ok-clause-taken : goal.returns-in-Ok-clause-taken
+returns-in-Ok-clause-taken c =
     behind_room c.args.files.now.rows c.args.row c.push_last.result (sym c.if-has_room.ensures) (c.push_last.ensures.last ∙ ap (comes_last url_of c.args.row) c.reserve.ensures.rows)

@@ -12,4 +12,4 @@ returns-clause-ok c =
     let sound = c.self.invariant in
     planned_by (import_step c.args.octets.now c.args.fetched) _ c.self.inside.files.rows _ _ c.in_ok-change.change (ap (λ (x : Files). x.files) (sym c.self.view_is)) c.make_room.ensures.rows sound
     (stays (import_step c.args.octets.now c.args.fetched c.self.inside.files.rows) (sound-import_step c.self.inside.files.rows sound c.args.octets.now c.args.fetched c.moment_fits.ensures))
-    (told-import_step c.self.inside.files.rows sound.ascend c.args.octets.now c.args.fetched) c.in_ok-change.ensures (rw c.edit.ensures at c.in_ok-make_room.ensures.room)
+    (told-import_step c.self.inside.files.rows sound.ascend c.args.octets.now c.args.fetched) c.in_ok-change.ensures (rw c.edit.ensures at c.in-Ok.ensures.room)

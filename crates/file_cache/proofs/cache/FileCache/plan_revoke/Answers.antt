@@ -12,4 +12,4 @@ returns-clause-ok c =
     let sound = c.self.invariant in
     planned_by (revoke_step c.args.url.now) _ c.self.inside.files.rows _ _ c.in_ok-change.change (ap (λ (x : Files). x.files) (sym c.self.view_is)) c.make_room.ensures.rows sound
     (stays (revoke_step c.args.url.now c.self.inside.files.rows) (sound-revoke_step c.self.inside.files.rows sound c.args.url.now))
-    (told-revoke_step c.self.inside.files.rows sound.ascend c.args.url.now) c.in_ok-change.ensures (rw c.edit.ensures at c.in_ok-make_room.ensures.room)
+    (told-revoke_step c.self.inside.files.rows sound.ascend c.args.url.now) c.in_ok-change.ensures (rw c.edit.ensures at c.in-Ok.ensures.room)

@@ -1,10 +1,10 @@
 -- Parts of the front of octets.
-use Rattle.std.proofs.Common.{◌≡◌, ℕ, ◌+◌, ◌-◌, ◌<◌, ◌≤◌, Bool, cond, ltb, List, ◌++◌, length, take, drop, Some, None, sym, ap, ◌∙◌, arith, length-drop, take-take, take_all, le_refl}
+use Rattle.std.proofs.Common.{◌≡◌, ℕ, ◌+◌, ◌-◌, ◌≤◌, Bool, List, ◌++◌, length, take, drop, None, sym, ap, ◌∙◌, arith, length-drop, take-take, take_all, le_refl}
 use Rattle.std.specs.List.{before_first, position, position_or_len}
-use Rattle.std.proofs.lemmas.Bool.{cond_both, ltb-true, ltb-false}
 use Rattle.std.proofs.lemmas.List.{take-append-le, drop-append-le}
 use Rattle.std.proofs.Math.Seq.{take-append-add}
 use Rattle.std.specs.Prelude.{slice_range}
+use Rattle.mud_base.proofs.Positions.{position_none}
 
 -- the front of a part
 pub span_front : (xs : List ℕ) (s e k : ℕ) → s + k ≤ e → slice_range xs s (s + k) ≡ take k (slice_range xs s e)
@@ -13,17 +13,6 @@ span_front xs s e k fits =
     ap (λ n. take n (drop s xs)) size ∙ sym (take-take k (e - s) (drop s xs) (omega arith))
 
 -- ---- What stands before the first that passes a test
-
--- the place that `position` answers is the length of what stands before it
-position_is : (n m : ℕ) (k : ℕ) → Some k ≡ cond (ltb n m) (Some n) None → (n ≡ k) × (k < m)
-position_is n m k =
-    cond_both (ltb n m) (Some n) None (λ o. Some k ≡ o → (n ≡ k) × (k < m)) (λ t e. let same : n ≡ k = cc in (same, omega (arith, ltb-true n m t))) (λ t e. cc)
-
-position_none : (n m : ℕ) → None ≡ cond (ltb n m) (Some n) None → m ≤ n
-position_none n m = cond_both (ltb n m) (Some n) None (λ o. None ≡ o → m ≤ n) (λ t e. cc) (λ t e. ltb-false n m t)
-
-pub before_first_found : (p : ℕ → Bool) (xs : List ℕ) (k : ℕ) → Some k ≡ position p xs → take k xs ≡ before_first p xs
-before_first_found p xs k e = ap (λ n. take n xs) (sym (position_is (position_or_len p xs) (length xs) k e).0)
 
 pub before_first_none : (p : ℕ → Bool) (xs : List ℕ) → None ≡ position p xs → take (length xs) xs ≡ before_first p xs
 before_first_none p xs e = take_all (length xs) xs (le_refl (length xs)) ∙ sym (take_all (position_or_len p xs) xs (position_none (position_or_len p xs) (length xs) e))

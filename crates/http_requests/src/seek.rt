@@ -77,7 +77,7 @@ fn first_question(target: &[u8]) -> Option<usize>
 }
 
 /// The length of the target up to its first `?`.
-#[tactic(auto, using(crate::proofs::Fronts::before_first_found, crate::proofs::Fronts::before_first_none))]
+#[tactic(auto, using(mud_base::proofs::Positions::before_first_found, crate::proofs::Fronts::before_first_none))]
 fn path_len(target: &[u8]) -> usize
     ensures value { take result target.now ≡ before_first (λ c. c == 63) target.now }
     ensures within { result ≤ length target.now }

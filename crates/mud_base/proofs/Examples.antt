@@ -1,10 +1,8 @@
 -- Texts that are written out, as they are read and written.
-use Rattle.std.specs.Prelude.{◌≡◌, ℕ, Bool, true, false, List, [], ◌∷◌, codes, Option, Some, None, option_map, refl}
+use Rattle.std.specs.Prelude.{◌≡◌, ℕ, true, false, List, [], ◌∷◌, codes, Option, Some, None, option_map, refl}
 use Rattle.std.specs.declared.cmp.Ordering.TheVariants.{Less, Greater}
-use Rattle.mud_base.specs.declared.addr.Mac.{Mac}
-use Rattle.mud_base.specs.declared.addr.Addr.{Addr}
 use Rattle.mud_base.specs.declared.addr.Addr.TheVariants.{V4, V6}
-use Rattle.mud_base.specs.Addresses.{addr_cmp, PrefixParts, prefix_holds}
+use Rattle.mud_base.specs.Addresses.{addr_cmp, prefix_holds}
 use Rattle.mud_base.specs.Reading.{mac_in, addr_in, prefix_in, moment_in}
 use Rattle.mud_base.specs.Texts.{mac_text, addr_text, prefix_text}
 use Rattle.mud_base.proofs.OnLiterals.{texts_on_literals}

@@ -53,7 +53,7 @@ pub fn number_upto(most: u64, text: &[u8]) -> Option<u64>
 }
 
 /// The decimal digits of a number, with no leading zero.
-pub fn decimal_text(alloc: Global, number: u64) -> Result<Bytes, Memory>
+pub(crate) fn decimal_text(alloc: Global, number: u64) -> Result<Bytes, Memory>
     ensures { IfOk result (λ text. text ≡ decimal number) }
 {
     let text = number.to_string(alloc)?;

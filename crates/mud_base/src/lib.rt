@@ -17,7 +17,7 @@ pub mod texts;
 
 pub use addr::{Addr, Family, Mac, addr_order, same_addr};
 pub use bytes::Bytes;
-pub use decimal::{decimal_text, number_upto};
+pub use decimal::number_upto;
 pub use listed::Listed;
 pub use memory::Memory;
 pub use moment::{End, Moment};

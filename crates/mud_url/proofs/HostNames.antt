@@ -69,12 +69,6 @@ dot_stands : (c : ℕ) → is_dot c ≡ true → is_host_octet c ≡ true
 unfolding is_host_octet
 dot_stands c e = or_right (is_label_octet c) _ e
 
-label_stands : (text : List ℕ) → list_all is_label_octet text ≡ true → list_all is_host_octet text ≡ true
-label_stands [] all = refl
-label_stands (c ∷ text) all =
-    let parts = and_parts (is_label_octet c) (list_all is_label_octet text) all in
-    and_from _ _ (label_octet_stands c parts.0) (label_stands text parts.1)
-
 label_has_label_octets : (part : List ℕ) → is_label part ≡ true → list_all is_label_octet part ≡ true
 unfolding is_label
 label_has_label_octets part e = (and_parts _ (list_all is_label_octet part) e).1

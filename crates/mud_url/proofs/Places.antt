@@ -1,22 +1,12 @@
 -- Where the parts of a URL begin and end.
-use Rattle.std.proofs.Common.{◌≡◌, ℕ, ◌+◌, ◌<◌, ◌≤◌, Bool, true, cond, ltb, List, [], length, take, drop, Some, None, position, sym, ap, arith}
+use Rattle.std.proofs.Common.{◌≡◌, ℕ, ◌+◌, ◌≤◌, Bool, true, List, [], length, drop, Some, None, position, sym, ap, arith}
 use Rattle.std.specs.List.{position_or_len, before_first, after_first}
-use Rattle.std.proofs.lemmas.Bool.{cond_both, ltb-true, ltb-false}
 use Rattle.std.proofs.lemmas.List.{take_all, drop_all, length-take}
 use Rattle.std.specs.Prelude.{bytes_eq}
 use Rattle.std.proofs.lemmas.Slice.Eq.{bytes_eq-Decides}
+pub use Rattle.mud_base.proofs.Positions.{before_first_found}
+use Rattle.mud_base.proofs.Positions.{position_is, position_none}
 use Rattle.mud_url.specs.Url.{authority}
-
--- the place that `position` answers is the length of what stands before it
-position_is : (n m : ℕ) (k : ℕ) → Some k ≡ cond (ltb n m) (Some n) None → (n ≡ k) × (k < m)
-position_is n m k =
-    cond_both (ltb n m) (Some n) None (λ o. Some k ≡ o → (n ≡ k) × (k < m)) (λ t e. let same : n ≡ k = cc in (same, omega (arith, ltb-true n m t))) (λ t e. cc)
-
-position_none : (n m : ℕ) → None ≡ cond (ltb n m) (Some n) None → m ≤ n
-position_none n m = cond_both (ltb n m) (Some n) None (λ o. None ≡ o → m ≤ n) (λ t e. cc) (λ t e. ltb-false n m t)
-
-pub before_first_found : (p : ℕ → Bool) (xs : List ℕ) (k : ℕ) → Some k ≡ position p xs → take k xs ≡ before_first p xs
-before_first_found p xs k e = ap (λ n. take n xs) (sym (position_is (position_or_len p xs) (length xs) k e).0)
 
 pub before_first_none : (p : ℕ → Bool) (xs : List ℕ) → None ≡ position p xs → xs ≡ before_first p xs
 before_first_none p xs e = sym (take_all (position_or_len p xs) xs (position_none (position_or_len p xs) (length xs) e))
@@ -26,9 +16,6 @@ after_first_found p xs k e = ap (λ n. drop (n + 1) xs) (sym (position_is (posit
 
 pub after_first_none : (p : ℕ → Bool) (xs : List ℕ) → None ≡ position p xs → [] ≡ after_first p xs
 after_first_none p xs e = let past = position_none (position_or_len p xs) (length xs) e in sym (drop_all (position_or_len p xs + 1) xs (omega (arith, past)))
-
-pub found_within : (p : ℕ → Bool) (xs : List ℕ) (k : ℕ) → Some k ≡ position p xs → k < length xs
-found_within p xs k e = (position_is (position_or_len p xs) (length xs) k e).1
 
 -- the authority stands behind the scheme
 pub authority_within : (url : List ℕ) → length (authority url) ≤ length (drop 8 url)

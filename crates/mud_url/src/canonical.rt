@@ -65,7 +65,7 @@ fn scheme() -> ShortText
 
 /// The canonical text.
 #[tactic(auto, using(crate::proofs::Bounds::canonical_fits, crate::proofs::Bounds::lengths), unfolding(crate::specs::Url::canonical))]
-pub fn canonical_text(url: &[u8]) -> ShortText
+pub(crate) fn canonical_text(url: &[u8]) -> ShortText
     requires { length url.now ≤ 255 }
     ensures { result ≡ spec.canonical url.now }
 {
@@ -91,7 +91,7 @@ fn around_slash(text: &[u8]) -> (&[u8], &[u8])
 
 /// The text without the first octet of its path.
 #[tactic(auto, using(crate::proofs::Bounds::around_slash_fits), unfolding(crate::specs::Url::without_slash))]
-pub fn without_slash(text: &[u8]) -> ShortText
+pub(crate) fn without_slash(text: &[u8]) -> ShortText
     requires { length text.now ≤ 256 }
     ensures { result ≡ spec.without_slash text.now }
 {

@@ -19,7 +19,7 @@ fn cut_scheme(url: &[u8]) -> (&[u8], &[u8])
 }
 
 /// Whether a text begins with `https://`, in either case.
-pub fn begins_with_scheme(url: &[u8]) -> bool
+pub(crate) fn begins_with_scheme(url: &[u8]) -> bool
     ensures { result ≡ spec.begins_with_scheme url.now }
 {
     let (front, _) = cut_scheme(url);
@@ -27,7 +27,7 @@ pub fn begins_with_scheme(url: &[u8]) -> bool
 }
 
 /// The place of the first octet outside 21 to 7E hex.
-pub fn first_not_graphic(url: &[u8]) -> Option<usize>
+pub(crate) fn first_not_graphic(url: &[u8]) -> Option<usize>
     ensures { result ≡ position (λ c. not (is_ascii_graphic c)) url.now }
 {
     url.iter().position(|octet| !octet.is_ascii_graphic())
@@ -62,7 +62,7 @@ pub fn authority(url: &[u8]) -> &[u8]
 
 /// What stands behind the authority.
 #[tactic(auto, using(crate::proofs::Places::authority_within), unfolding(crate::specs::Url::path_and_query))]
-pub fn path_and_query(url: &[u8]) -> &[u8]
+pub(crate) fn path_and_query(url: &[u8]) -> &[u8]
     ensures { result.now ≡ spec.path_and_query url.now }
 {
     let (_, rest) = cut_scheme(url);
@@ -102,7 +102,7 @@ pub fn host_part(url: &[u8]) -> &[u8]
 
 /// The port, behind the first `:` of the authority.
 #[tactic(auto, using(crate::proofs::Places::after_first_found, crate::proofs::Places::after_first_none), unfolding(crate::specs::Url::port_part))]
-pub fn port_part(url: &[u8]) -> &[u8]
+pub(crate) fn port_part(url: &[u8]) -> &[u8]
     ensures { result.now ≡ spec.port_part url.now }
 {
     let authority = authority(url);
@@ -114,7 +114,7 @@ pub fn port_part(url: &[u8]) -> &[u8]
 
 /// Whether a text is empty, or 1 to 65535 in decimal without a leading zero.
 #[tactic(auto, unfolding(crate::specs::Url::is_port))]
-pub fn is_port(text: &[u8]) -> bool
+pub(crate) fn is_port(text: &[u8]) -> bool
     ensures { result ≡ spec.is_port text.now }
 {
     if text.is_empty() {
@@ -127,14 +127,14 @@ pub fn is_port(text: &[u8]) -> bool
 }
 
 /// Whether there is a `#`.
-pub fn has_fragment(url: &[u8]) -> bool
+pub(crate) fn has_fragment(url: &[u8]) -> bool
     ensures { result ≡ list_any (λ c. c == 35) url.now }
 {
     url.contains(&b'#')
 }
 
 /// Whether there is an `@`.
-pub fn has_user_info(authority: &[u8]) -> bool
+pub(crate) fn has_user_info(authority: &[u8]) -> bool
     ensures { result ≡ list_any (λ c. c == 64) authority.now }
 {
     authority.contains(&b'@')
@@ -175,7 +175,7 @@ fn may_stand(octet: u8, more: &[u8]) -> bool
 
 /// The place of the first octet that can't stand in a path or a query, counted from `start`.
 #[tactic(auto, unfolding(crate::specs::Url::path_fault))]
-pub fn path_fault(start: usize, text: &[u8]) -> Option<usize>
+pub(crate) fn path_fault(start: usize, text: &[u8]) -> Option<usize>
     requires { start + length text.now < 2 ^ 64 }
     ensures { result ≡ spec.path_fault start text.now }
 {

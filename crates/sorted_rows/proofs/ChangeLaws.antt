@@ -38,6 +38,16 @@ module _ {R : Type 0} (place : R → List ℕ) where
           (λ here. record { at = q; one_of = any_first (same_place q) q qs (same_place_itself q); row = x; there = is; passes = here })
           (λ more. later (rest more)) found
 
+  any_with : (test : R → Bool) (o : Option R) (xs : List R) → list_any test xs ≡ true → list_any test (with_found o xs) ≡ true
+  any_with test None xs e = e
+  any_with test (Some x) xs e = any_later test x xs e
+
+  pub at_found : (test : R → Bool) (q : List ℕ) (row : R) (qs : List (List ℕ)) (rows : List R) → list_any (same_place q) qs ≡ true → row_at place q rows ≡ Some row → test row ≡ true → list_any test (rows_at place qs rows) ≡ true
+  at_found test q row [] rows one there e = absurd (false≢true one)
+  at_found test q row (p ∷ ps) rows one there e = any_by (same_place q) p ps
+      (λ here. subst (λ o. list_any test (with_found o (rows_at place ps rows)) ≡ true) (sym (ap (λ r. row_at place r rows) (sym (same_place_exact q p here)) ∙ there)) (any_first test row (rows_at place ps rows) e))
+      (λ later. any_with test (row_at place p rows) (rows_at place ps rows) (at_found test q row ps rows later there e)) one
+
   -- ---- The row of each place
 
   -- rows that are put in leave those of other places

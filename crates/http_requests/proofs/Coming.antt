@@ -13,14 +13,10 @@ use Rattle.http_requests.specs.Head.{IsHead}
 use Rattle.http_requests.specs.Received.{Grown, Received}
 use Rattle.http_requests.specs.Requests.{Request, Begins, IsFault, no_head, fault_in}
 use Rattle.http_requests.specs.Shapes.{IsShape, HasHead, MayGetHead}
-use Rattle.http_requests.specs.Steps.{Came, CameWhole, CameEnd, CameFault, HoldsWhole, ReadFailed, LeaveFailed}
+use Rattle.http_requests.specs.Steps.{Came, CameWhole, CameFault, HoldsWhole, ReadFailed, LeaveFailed}
 use Rattle.http_requests.proofs.Heads.{head_append, head_octets, head_unique, fault_by}
 
 -- ---- Steps of a door
-
--- nothing is taken or written
-pub came_none : (octets : List ℕ) (s : DoorState) → Came octets octets s s []
-came_none octets s = record { taken = []; held = sym (append-nil octets); left = refl; rest = sym (put_out_none s) }
 
 -- octets are taken
 pub came_received : (a b : List ℕ) (s t : DoorState) → Received a b s t → Came a b s t []
@@ -171,9 +167,6 @@ head_failed from a (o ∷ os) s t may r = record {
   holds = record { part = inr (no_head, record { cause = inl (inl (record { some = omega arith; none = may.none; is_lack = refl; nothing_written = refl })) }) };
   came = came_received a (o ∷ os) s t r;
 }
-
-pub end_came : (a b : List ℕ) (s t : DoorState) → b ≡ [] → t.left ≡ [] → Received a b s t → CameEnd a b s t
-end_came a b s t none nothing r = record { none = none; nothing_left = nothing; came = came_received a b s t r }
 
 pub fault_came : (from : MomentFrom) (fault : RequestFault) (a b : List ℕ) (s t : DoorState) → IsFault from (b ++ t.left) fault [] → Received a b s t → CameFault from fault a b s t
 fault_came from fault a b s t is r = record { pending = []; is_fault = is; came = came_received a b s t r }

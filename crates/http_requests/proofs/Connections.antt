@@ -1,5 +1,5 @@
 -- Connections that are written out.
-use Rattle.std.proofs.Common.{◌≡◌, ℕ, ◌<◌, ◌≤◌, Bool, true, false, ◌&&◌, List, [], ◌∷◌, ◌++◌, length, refl, inl, inr, lit<, lit≤, ltb-true}
+use Rattle.std.proofs.Common.{◌≡◌, ℕ, ◌<◌, ◌≤◌, Bool, true, false, List, [], ◌∷◌, ◌++◌, length, refl, inl, inr, lit<, lit≤, ltb-true}
 use Rattle.std.specs.Prelude.{codes, All, IsTrue, nat_lt}
 use Rattle.std.specs.List.{list_all}
 use Rattle.std.specs.Str.{IsUtf8}
@@ -12,15 +12,12 @@ use Rattle.http_requests.specs.declared.fault.MomentFrom.TheVariants.{Header}
 use Rattle.http_requests.specs.Requests.{Request, Begins, AreRequests, closed, broken, most_requests}
 use Rattle.http_requests.proofs.OnLiterals.{requests_on_literals}
 use Rattle.http_requests.proofs.Examples.{head_of, moment, length_of, put}
-
-both : (a b : Bool) → (a && b) ≡ true → (a ≡ true) × (b ≡ true)
-both true b e = (refl, e)
-both false b e = cc
+use Rattle.std.proofs.lemmas.Bool.{and_parts}
 
 pass : (test : ℕ → Bool) (octets : List ℕ) → list_all test octets ≡ true → AllPass test octets
 pass test [] e = All-nil (λ o. IsTrue (test o))
 pass test (o ∷ os) e =
-    let parts = both (test o) (list_all test os) e in
+    let parts = and_parts (test o) (list_all test os) e in
     All-cons (λ o. IsTrue (test o)) o os parts.0 (pass test os parts.1)
 
 ascii : (octets : List ℕ) → list_all (λ o. nat_lt o 128) octets ≡ true → IsUtf8 octets

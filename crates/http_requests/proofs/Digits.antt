@@ -1,5 +1,5 @@
 -- Decimal digits.
-use Rattle.std.proofs.Common.{◌≡◌, ℕ, zero, suc, ◌+◌, ◌-◌, ◌*◌, ◌^◌, ◌<◌, ◌≤◌, true, List, length, get_or, take, ap, ◌∙◌, subst, arith, add-zero, add-suc, add-one, le_refl}
+use Rattle.std.proofs.Common.{◌≡◌, ℕ, ◌+◌, ◌-◌, ◌*◌, ◌^◌, ◌<◌, true, List, length, get_or, take, arith, add-one}
 use Rattle.std.specs.Char.{is_ascii_digit, digit_value}
 use Rattle.std.specs.Str.Parse.{digits_value}
 use Rattle.std.proofs.Math.Nat.{pow-suc}
@@ -8,18 +8,6 @@ use Rattle.std.proofs.lemmas.Int.Digits.{digits_value_more}
 -- one digit more makes a number that is less than the next power
 pub power_step : (n d i : ℕ) → n < 10 ^ i → d < 10 → n * 10 + d < 10 ^ (i + 1)
 power_step n d i small digit = rw (add-one, pow-suc) (omega arith)
-
-power_more : (i k : ℕ) → 10 ^ i ≤ 10 ^ (i + k)
-power_more i zero = rw add-zero (le_refl (10 ^ i))
-power_more i (suc k) =
-    let next : 10 ^ (i + suc k) ≡ 10 ^ (i + k) * 10 = ap (λ n. 10 ^ n) (add-suc i k) ∙ pow-suc 10 (i + k) in
-    omega (arith, power_more i k)
-
--- a power of at most ten digits
-pub power_small : (i : ℕ) → i ≤ 10 → 10 ^ i ≤ 10000000000
-power_small i few =
-    let all : i + (10 - i) ≡ 10 = omega arith in
-    subst (λ n. 10 ^ i ≤ 10 ^ n) all (power_more i (10 - i))
 
 -- a digit's value
 pub digit_less : (c : ℕ) → is_ascii_digit c ≡ true → digit_value c ≡ c - 48

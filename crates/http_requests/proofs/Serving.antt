@@ -3,7 +3,7 @@ use Rattle.std.proofs.Common.{◌≡◌, ℕ, ◌+◌, ◌-◌, List, [], ◌∷
 use Rattle.std.proofs.Math.Seq.{take-append-add}
 use Rattle.mud_world.specs.Door.{DoorState, put_out, with_left}
 use Rattle.mud_world.specs.Whole.{WrotePart}
-use Rattle.mud_world.proofs.Doors.{put_out_none, put_out_twice}
+use Rattle.mud_world.proofs.Doors.{put_out_twice}
 use Rattle.http_requests.specs.declared.fault.RequestFault.{RequestFault}
 use Rattle.http_requests.specs.declared.fault.MomentFrom.{MomentFrom}
 use Rattle.http_requests.specs.declared.shape.RequestShape.{RequestShape}
@@ -20,18 +20,6 @@ abbrev Run : Type 1
 Run = List Request → List ℕ → Type 0
 
 -- ---- Steps
-
--- before the first octet
-pub so_far_start : (A : Run) (from : MomentFrom) (s : DoorState) → A [] [] → SoFar A from most_requests [] s s []
-so_far_start A from s run = record {
-  requests = [];
-  answers = [];
-  run = run;
-  taken = [];
-  took = refl;
-  goes_on = (refl, refl);
-  state = sym (put_out_none s);
-}
 
 -- octets came, and others were written
 pub so_far_came : (A : Run) (from : MomentFrom) (more : ℕ) (p w b c : List ℕ) (s t u : DoorState) → SoFar A from more p s t b → Came b c t u w → SoFar A from more (p ++ w) s u c

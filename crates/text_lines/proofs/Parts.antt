@@ -1,28 +1,6 @@
 -- What a writer adds that finds no memory, by what the writers that it calls add.
-use Rattle.std.proofs.Common.{◌≡◌, ℕ, List, [], ◌++◌, Result, Ok, Err, OnErr, refl, sym, ap, ◌∙◌, append_assoc, append-nil}
+use Rattle.std.proofs.Common.{◌≡◌, ℕ, List, ◌++◌, Result, Ok, Err, OnErr, sym, ap, ◌∙◌, append_assoc}
 use Rattle.text_lines.specs.Added.{AddedPart}
-
--- nothing was added
-pub none_added : (text old new : List ℕ) → new ≡ old → AddedPart text old new
-none_added text old new same = record { added = []; rest = text; split = refl; grown = same ∙ sym (append-nil old) }
-
--- a part of the front was added
-pub front_added : (front rest old new : List ℕ) → AddedPart front old new → AddedPart (front ++ rest) old new
-front_added front rest old new part = record {
-  added = part.added;
-  rest = part.rest ++ rest;
-  split = ap (λ (text : List ℕ). text ++ rest) part.split ∙ append_assoc part.added part.rest rest;
-  grown = part.grown;
-}
-
--- the front was added, and a part of the rest
-pub rest_added : (front rest old mid new : List ℕ) → mid ≡ old ++ front → AddedPart rest mid new → AddedPart (front ++ rest) old new
-rest_added front rest old mid new whole part = record {
-  added = front ++ part.added;
-  rest = part.rest;
-  split = ap (λ (text : List ℕ). front ++ text) part.split ∙ sym (append_assoc front part.added part.rest);
-  grown = part.grown ∙ ap (λ (text : List ℕ). text ++ part.added) whole ∙ append_assoc old front part.added;
-}
 
 -- the front was added, and a part of the piece behind it
 pub part_behind : (text front piece more old mid new : List ℕ) → text ≡ front ++ (piece ++ more) → mid ≡ old ++ front → AddedPart piece mid new → AddedPart text old new

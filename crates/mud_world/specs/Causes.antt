@@ -13,3 +13,8 @@ pub record Counts (failed : Bool) (before now : ℕ) : Type 0 where
   pub later : before ≤ now
   pub rose : IsTrue failed → Rose before now
   pub steady : failed ≡ false → now ≡ before
+
+-- A call failed, and it was the last one: the count stands where this failure alone leaves it, and no call came behind.
+pub record StopsAtFailure (has_failed : Bool) (before now : ℕ) : Type 0 where
+  pub last : IsTrue has_failed
+  pub once : now ≡ min (before + 1) (2 ^ 64 - 1)

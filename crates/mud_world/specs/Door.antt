@@ -60,10 +60,6 @@ with_left left s = record s { left = left }
 abbrev pub with_here : Connection → DoorState → DoorState
 with_here c s = record s { left = c.left; written = c.written }
 
--- Only the connection at which the door stands changed: what is left of it, and what was written to it.
-pub record ChangedHere (old new : DoorState) : Type 0 where
-  pub only : new ≡ with_here (connection_here new) old
-
 -- The octets were taken from the front of what was left, and nothing else changed.
 pub record Took (octets : List ℕ) (old new : DoorState) : Type 0 where
   pub left : old.left ≡ octets ++ new.left

@@ -1,5 +1,6 @@
 //! Doors: where octets come in and go out, connection by connection.
-ghost use Rattle.std.specs.Prelude.{◌≡◌, ◌<◌, ◌≤◌, ℕ, [], length, take, false, IfOk, OnOk, OnErr, is_err};
+ghost use Rattle.std.specs.Prelude.{◌≡◌, ◌<◌, ◌≤◌, ℕ, Bool, [], length, take, false, IfOk, OnOk, OnErr, is_err};
+ghost use Rattle.mud_world.specs.Calls.{counted};
 ghost use Rattle.mud_world.specs.Causes.{Counts};
 ghost use Rattle.mud_world.specs.Door.{DoorState, Reads, bound_anew, departed, gone_on, has_more, put_out};
 
@@ -10,7 +11,9 @@ use crate::fault::Failed;
 /// `next` that didn't answer true.
 ///
 /// It counts its failures: those of `bind` and `next` together, those of `read`, and those of
-/// `write`. No count ever falls, and a count that has reached the last u64 stays there.
+/// `write`. A failure raises its count by one, no count ever falls, and a count that has reached the
+/// last u64 stays there. It tells too whether its last call failed: so a run that says that it ended
+/// at a failure says that no call came behind it.
 pub trait Door {
     /// Whether it tells its connections.
     ghost tells: { Type 0 };
@@ -27,11 +30,16 @@ pub trait Door {
     /// How often `write` has failed.
     ghost writes: { Self → ℕ };
 
+    /// Whether the last of its calls has failed.
+    ghost failed: { Self → Bool };
+
     /// Binds the port, so that connections to it come by `next`.
     fn bind(&mut self, port: u16) -> Result<(), Failed>
         ensures ok { tells → OnOk result (state self.new ≡ bound_anew port (state self.old)) }
         ensures err { tells → OnErr result (state self.new ≡ state self.old) }
         ensures cause { Counts (is_err result) (turns self.old) (turns self.new) }
+        ensures count { turns self.new ≡ counted (is_err result) (turns self.old) }
+        ensures last { failed self.new ≡ is_err result }
         ensures reads { reads self.new ≡ reads self.old }
         ensures writes { writes self.new ≡ writes self.old };
 
@@ -42,6 +50,8 @@ pub trait Door {
             × (state self.new ≡ gone_on (state self.old) (state self.old).ahead)) }
         ensures err { tells → OnErr result (state self.new ≡ departed (state self.old)) }
         ensures cause { Counts (is_err result) (turns self.old) (turns self.new) }
+        ensures count { turns self.new ≡ counted (is_err result) (turns self.old) }
+        ensures last { failed self.new ≡ is_err result }
         ensures reads { reads self.new ≡ reads self.old }
         ensures writes { writes self.new ≡ writes self.old };
 
@@ -54,6 +64,8 @@ pub trait Door {
         ensures nowhere { tells → (state self.old).stands ≡ false → IfOk result (λ n. n ≡ 0) }
         ensures err { tells → OnErr result (state self.new ≡ state self.old) }
         ensures cause { Counts (is_err result) (reads self.old) (reads self.new) }
+        ensures count { reads self.new ≡ counted (is_err result) (reads self.old) }
+        ensures last { failed self.new ≡ is_err result }
         ensures turns { turns self.new ≡ turns self.old }
         ensures writes { writes self.new ≡ writes self.old };
 
@@ -67,6 +79,8 @@ pub trait Door {
         ensures nowhere { tells → (state self.old).stands ≡ false → OnOk result (piece.now ≡ []) }
         ensures err { tells → OnErr result (state self.new ≡ state self.old) }
         ensures cause { Counts (is_err result) (writes self.old) (writes self.new) }
+        ensures count { writes self.new ≡ counted (is_err result) (writes self.old) }
+        ensures last { failed self.new ≡ is_err result }
         ensures turns { turns self.new ≡ turns self.old }
         ensures reads { reads self.new ≡ reads self.old };
 }
@@ -82,6 +96,8 @@ impl<D: Door> Door for &mut D {
     ghost reads = { λ door. D.reads door.now };
 
     ghost writes = { λ door. D.writes door.now };
+
+    ghost failed = { λ door. D.failed door.now };
 
     fn bind(&mut self, port: u16) -> Result<(), Failed> {
         (**self).bind(port)

@@ -47,6 +47,7 @@ pub struct MemoryDoor {
     at: usize,
     room: usize,
     wires: Vec<Wire>,
+    failed: bool,
     ghost wire_each: { length wires.items ≡ length inputs },
     ghost within: { at ≤ length wires.items },
     ghost stands_within: { stands ≡ true → at < length wires.items },
@@ -88,6 +89,7 @@ impl MemoryDoor {
             at: 0,
             room,
             wires,
+            failed: false,
         })
     }
 
@@ -163,11 +165,14 @@ impl Door for MemoryDoor {
 
     ghost writes = { λ door. door.write_count };
 
+    ghost failed = { λ door. door.failed };
+
     fn bind(&mut self, port: u16) -> Result<(), Failed>
         ensures ok { OnOk result (memory_state self.new ≡ bound_anew port (memory_state self.old)) }
         ensures err { OnErr result (memory_state self.new ≡ memory_state self.old) }
         ensures fails { is_err result ≡ bind_fails self.old }
         ensures count { self.new.turn_count ≡ counted (is_err result) self.old.turn_count }
+        ensures last { self.new.failed ≡ is_err result }
         ensures reads { self.new.read_count ≡ self.old.read_count }
         ensures writes { self.new.write_count ≡ self.old.write_count }
         ensures calls { self.new.calls ≡ record self.old.calls { bind = next_call self.old.calls.bind } }
@@ -176,8 +181,10 @@ impl Door for MemoryDoor {
     {
         if is_to_fail(&self.failing_bind, &mut self.calls.bind) {
             raise(&mut self.turn_count);
+            self.failed = true;
             return Err(Failed);
         }
+        self.failed = false;
         self.bound = Some(port);
         self.stands = false;
         Ok(())
@@ -190,6 +197,7 @@ impl Door for MemoryDoor {
         ensures err { OnErr result (memory_state self.new ≡ departed (memory_state self.old)) }
         ensures fails { is_err result ≡ next_fails self.old }
         ensures count { self.new.turn_count ≡ counted (is_err result) self.old.turn_count }
+        ensures last { self.new.failed ≡ is_err result }
         ensures reads { self.new.read_count ≡ self.old.read_count }
         ensures writes { self.new.write_count ≡ self.old.write_count }
         ensures calls { self.new.calls ≡ record self.old.calls { next = next_call self.old.calls.next } }
@@ -200,8 +208,10 @@ impl Door for MemoryDoor {
         self.stands = false;
         if is_to_fail(&self.failing_next, &mut self.calls.next) {
             raise(&mut self.turn_count);
+            self.failed = true;
             return Err(Failed);
         }
+        self.failed = false;
         self.stands = self.at < self.wires.len();
         Ok(self.stands)
     }
@@ -214,6 +224,7 @@ impl Door for MemoryDoor {
         ensures piece { IfOk result (λ n. n ≡ min (length buf.new) (length (piece_left self.old))) }
         ensures fails { is_err result ≡ read_fails self.old }
         ensures count { self.new.read_count ≡ counted (is_err result) self.old.read_count }
+        ensures last { self.new.failed ≡ is_err result }
         ensures turns { self.new.turn_count ≡ self.old.turn_count }
         ensures writes { self.new.write_count ≡ self.old.write_count }
         ensures calls { self.new.calls ≡ record self.old.calls { read = next_call self.old.calls.read } }
@@ -222,8 +233,10 @@ impl Door for MemoryDoor {
     {
         if is_to_fail(&self.failing_read, &mut self.calls.read) {
             raise(&mut self.read_count);
+            self.failed = true;
             return Err(Failed);
         }
+        self.failed = false;
         if !self.stands {
             return Ok(0);
         }
@@ -241,6 +254,7 @@ impl Door for MemoryDoor {
         ensures room { IfOk result (λ n. n ≡ min (length piece.now) (room_left self.old)) }
         ensures fails { is_err result ≡ write_fails self.old piece.now }
         ensures count { self.new.write_count ≡ counted (is_err result) self.old.write_count }
+        ensures last { self.new.failed ≡ is_err result }
         ensures turns { self.new.turn_count ≡ self.old.turn_count }
         ensures reads { self.new.read_count ≡ self.old.read_count }
         ensures calls { self.new.calls ≡ record self.old.calls { write = next_call self.old.calls.write } }
@@ -251,8 +265,10 @@ impl Door for MemoryDoor {
         let count = piece.len().min(self.room_left());
         if listed || (count == 0 && !piece.is_empty()) {
             raise(&mut self.write_count);
+            self.failed = true;
             return Err(Failed);
         }
+        self.failed = false;
         if self.stands {
             self.wires[self.at].write(&piece[..count]);
         }

@@ -1,6 +1,6 @@
 //! Whole lines written to a door, and whole connections read of one.
-ghost use Rattle.std.specs.Prelude.{◌≡◌, ℕ, ◌+◌, ◌<◌, ◌≤◌, [], ◌++◌, length, take, false, IfOk, OnOk, OnErr, is_err};
-ghost use Rattle.mud_world.specs.Causes.{Counts};
+ghost use Rattle.std.specs.Prelude.{◌≡◌, ℕ, ◌+◌, ◌<◌, ◌≤◌, [], ◌++◌, length, take, false, IfOk, OnOk, OnErr, IsTrue, is_err};
+ghost use Rattle.mud_world.specs.Causes.{Counts, StopsAtFailure};
 ghost use Rattle.mud_world.specs.Door.{Reads, put_out};
 ghost use Rattle.mud_world.specs.Whole.{ReadWhole, TookPart, WrotePart, has_failed};
 
@@ -44,6 +44,7 @@ pub fn say<D: Door>(door: &mut D, line: &[u8]) -> Result<(), Failed>
     ensures part { D.tells → OnErr result (WrotePart line.now (D.state door.old) (D.state door.new)) }
     ensures nowhere { D.tells → (D.state door.old).stands ≡ false → OnOk result (line.now ≡ []) }
     ensures cause { Counts (is_err result) (D.writes door.old) (D.writes door.new) }
+    ensures stop { OnErr result (StopsAtFailure (D.failed door.new) (D.writes door.old) (D.writes door.new)) }
     ensures turns { D.turns door.new ≡ D.turns door.old }
     ensures reads { D.reads door.new ≡ D.reads door.old }
 {
@@ -62,6 +63,7 @@ pub fn read_whole<D: Door>(alloc: Global, door: &mut D, most: usize) -> Result<B
     ensures within { IfOk result (λ octets. length octets ≤ most + 1) }
     ensures part { D.tells → OnErr result (TookPart (most + 1) (D.state door.old) (D.state door.new)) }
     ensures cause { Counts (has_failed result) (D.reads door.old) (D.reads door.new) }
+    ensures stop { IsTrue (has_failed result) → StopsAtFailure (D.failed door.new) (D.reads door.old) (D.reads door.new) }
     ensures turns { D.turns door.new ≡ D.turns door.old }
     ensures writes { D.writes door.new ≡ D.writes door.old }
 {
@@ -98,6 +100,7 @@ fn read_on<D: Door>(door: &mut D, buffer: &mut [u8], text: &mut Bytes) -> Result
     ensures text { IfOk result (λ n. text.new ≡ text.old ++ take n buffer.new) }
     ensures part { D.tells → OnErr result (TookPart (length buffer.new) (D.state door.old) (D.state door.new)) }
     ensures cause { Counts (has_failed result) (D.reads door.old) (D.reads door.new) }
+    ensures stop { IsTrue (has_failed result) → StopsAtFailure (D.failed door.new) (D.reads door.old) (D.reads door.new) }
     ensures turns { D.turns door.new ≡ D.turns door.old }
     ensures writes { D.writes door.new ≡ D.writes door.old }
 {

@@ -3,6 +3,7 @@
 //! the writer and the client that it is made of.
 ghost use Rattle.std.specs.Prelude.{◌≡◌, ◌≢◌, ◌<◌, ◌≤◌, false, true, [], length, IfOk, OnOk, OnErr, Ok, None, Some, is_some, is_err};
 ghost use Rattle.std.specs.Io.KnownBytes.{ReadConsumes, WriteAppends};
+ghost use Rattle.mud_world.specs.Calls.{counted as count_after};
 ghost use Rattle.mud_world.specs.Causes.{Counts};
 ghost use Rattle.mud_world.specs.Door.{DoorState};
 ghost use Rattle.real_world.specs.Real.{left_of, port_of, reads_of, stands_of, turns_of, writes_of, written_of};
@@ -35,6 +36,7 @@ pub struct RealDoor<I: Read + Drop, O: Write + Drop, N: Net + Drop> {
     turns: u64,
     reads: u64,
     writes: u64,
+    failed: bool,
 }
 
 impl<I: Read + Drop, O: Write + Drop, N: Net + Drop> RealDoor<I, O, N> {
@@ -57,16 +59,20 @@ impl<I: Read + Drop, O: Write + Drop, N: Net + Drop> RealDoor<I, O, N> {
             turns: 0,
             reads: 0,
             writes: 0,
+            failed: false,
         }
     }
 }
 
-/// The answer of a call of a door, counted where the call failed.
-fn counted<T>(answer: io::Result<T>, failures: &mut u64) -> Result<T, Failed>
+/// The answer of a call of a door, counted where the call failed, and noted as the last one.
+fn counted<T>(answer: io::Result<T>, failures: &mut u64, failed: &mut bool) -> Result<T, Failed>
     ensures ok { IfOk answer (λ value. result ≡ Ok value) }
     ensures err { OnErr answer (is_err result ≡ true) }
     ensures cause { Counts (is_err result) failures.old failures.new }
+    ensures count { failures.new ≡ count_after (is_err result) failures.old }
+    ensures last { failed.new ≡ is_err result }
 {
+    *failed = answer.is_err();
     match answer {
         Ok(value) => Ok(value),
         Err(_) => {
@@ -87,6 +93,8 @@ impl<I: Read + Drop, O: Write + Drop, N: Net + Drop> Door for RealDoor<I, O, N> 
 
     ghost writes = { λ door. door.writes };
 
+    ghost failed = { λ door. door.failed };
+
     /// It listens on the port of 127.0.0.1 alone, so clients on this machine alone can come.
     fn bind(&mut self, port: u16) -> Result<(), Failed>
         ensures ok { OnOk result ((port_of self.new ≡ Some port) × (stands_of self.new ≡ false)) }
@@ -94,10 +102,16 @@ impl<I: Read + Drop, O: Write + Drop, N: Net + Drop> Door for RealDoor<I, O, N> 
         ensures input { self.new.input ≡ self.old.input }
         ensures output { self.new.output ≡ self.old.output }
         ensures cause { Counts (is_err result) (turns_of self.old) (turns_of self.new) }
+        ensures count { turns_of self.new ≡ count_after (is_err result) (turns_of self.old) }
+        ensures last { self.new.failed ≡ is_err result }
         ensures reads { reads_of self.new ≡ reads_of self.old }
         ensures writes { writes_of self.new ≡ writes_of self.old }
     {
-        let port = counted(Port::listen(&self.net, port), &mut self.turns)?;
+        let port = counted(
+            Port::listen(&self.net, port),
+            &mut self.turns,
+            &mut self.failed,
+        )?;
         self.place = Place::Bound(port);
         Ok(())
     }
@@ -112,16 +126,19 @@ impl<I: Read + Drop, O: Write + Drop, N: Net + Drop> Door for RealDoor<I, O, N> 
         ensures input { self.new.input ≡ self.old.input }
         ensures output { self.new.output ≡ self.old.output }
         ensures cause { Counts (is_err result) (turns_of self.old) (turns_of self.new) }
+        ensures count { turns_of self.new ≡ count_after (is_err result) (turns_of self.old) }
+        ensures last { self.new.failed ≡ is_err result }
         ensures reads { reads_of self.new ≡ reads_of self.old }
         ensures writes { writes_of self.new ≡ writes_of self.old }
     {
         match &mut self.place {
             Place::Bound(port) => {
-                counted(port.go_on(), &mut self.turns)?;
+                counted(port.go_on(), &mut self.turns, &mut self.failed)?;
                 Ok(true)
             }
             _ => {
                 self.place = Place::Left;
+                self.failed = false;
                 Ok(false)
             }
         }
@@ -138,6 +155,8 @@ impl<I: Read + Drop, O: Write + Drop, N: Net + Drop> Door for RealDoor<I, O, N> 
         ensures stands { stands_of self.new ≡ stands_of self.old }
         ensures port { port_of self.new ≡ port_of self.old }
         ensures cause { Counts (is_err result) (reads_of self.old) (reads_of self.new) }
+        ensures count { reads_of self.new ≡ count_after (is_err result) (reads_of self.old) }
+        ensures last { self.new.failed ≡ is_err result }
         ensures turns { turns_of self.new ≡ turns_of self.old }
         ensures writes { writes_of self.new ≡ writes_of self.old }
     {
@@ -146,7 +165,7 @@ impl<I: Read + Drop, O: Write + Drop, N: Net + Drop> Door for RealDoor<I, O, N> 
             Place::Left => Ok(0),
             Place::Bound(port) => port.read(buf),
         };
-        counted(answer, &mut self.reads)
+        counted(answer, &mut self.reads, &mut self.failed)
     }
 
     /// It writes once to where it stands. A writer or a client that takes nothing has failed, and so
@@ -161,9 +180,12 @@ impl<I: Read + Drop, O: Write + Drop, N: Net + Drop> Door for RealDoor<I, O, N> 
         ensures stands { stands_of self.new ≡ stands_of self.old }
         ensures port { port_of self.new ≡ port_of self.old }
         ensures cause { Counts (is_err result) (writes_of self.old) (writes_of self.new) }
+        ensures count { writes_of self.new ≡ count_after (is_err result) (writes_of self.old) }
+        ensures last { self.new.failed ≡ is_err result }
         ensures turns { turns_of self.new ≡ turns_of self.old }
         ensures reads { reads_of self.new ≡ reads_of self.old }
     {
+        self.failed = false;
         if piece.is_empty() {
             return Ok(0);
         }
@@ -176,6 +198,7 @@ impl<I: Read + Drop, O: Write + Drop, N: Net + Drop> Door for RealDoor<I, O, N> 
             Ok(count) if count > 0 => Ok(count),
             _ => {
                 self.writes = self.writes.saturating_add(1);
+                self.failed = true;
                 Err(Failed)
             }
         }

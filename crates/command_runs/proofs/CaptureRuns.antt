@@ -6,10 +6,11 @@ use Rattle.mud_world.specs.Door.{DoorState, Took, with_left, put_out}
 use Rattle.mud_world.proofs.Doors.{put_out_twice, put_out_none}
 use Rattle.pcap_read.specs.declared.fault.CapFault.{CapFault}
 use Rattle.pcap_read.specs.declared.fault.CapFault.TheVariants.{ReadFault}
-use Rattle.pcap_read.specs.Packets.{Packet, Packets, whole, packets_of}
-use Rattle.pcap_read.specs.Parts.{with_next}
-use Rattle.pcap_read.specs.Reading.{Follows, EndsIn}
-use Rattle.pcap_read.specs.Taken.{Taken, AtEnd, HasRead, at_start, to_come, with_all}
+use Rattle.packet_buffer.specs.Packets.{Packet, whole, with_next, with_all}
+use Rattle.pcap_read.specs.Packets.{Packets, packets_of}
+use Rattle.packet_buffer.specs.Reading.{Follows}
+use Rattle.pcap_read.specs.Reading.{EndsIn}
+use Rattle.pcap_read.specs.Taken.{Taken, AtEnd, HasRead, at_start, to_come}
 use Rattle.pcap_read.proofs.Runs.{has_read_none, has_read_more, has_read_taken}
 use Rattle.command_runs.specs.Capture.{cap_fault_line, end_line, capture_text, due_of_capture, status_at, WritesTaken}
 use Rattle.command_runs.specs.Due.{WritesDue, WritesPart, WroteFront}

@@ -2,7 +2,8 @@
 use Rattle.std.specs.Prelude.{◌≡◌, ℕ, List, [], ◌++◌, codes, Option, Some, None}
 use Rattle.mud_world.specs.Door.{DoorState, with_left, put_out}
 use Rattle.pcap_read.specs.Fault as cap_fault
-use Rattle.pcap_read.specs.Packets.{Packet, Packets, packets_of}
+use Rattle.packet_buffer.specs.Packets.{Packet}
+use Rattle.pcap_read.specs.Packets.{Packets, packets_of}
 use Rattle.pcap_read.specs.declared.fault.CapFault.{CapFault}
 use Rattle.text_lines.specs.Numbers.{place_text}
 use Rattle.command_runs.specs.Due.{Due}

@@ -1,6 +1,6 @@
 //! The lines of a capture as it streams.
 ghost use Rattle.std.specs.Prelude.{◌≡◌, ◌≢◌, ◌⊎◌, ◌++◌, [], false, OnOk, OnErr, is_err};
-ghost use Rattle.mud_world.specs.Causes.{Counts, Rose};
+ghost use Rattle.mud_world.specs.Causes.{Counts, EndsAtFailure, Rose, StopsAtFailure};
 ghost use Rattle.mud_world.specs.Door.{put_out};
 ghost use Rattle.mud_world.specs.Whole.{WrotePart};
 ghost use Rattle.pcap_read.specs.Captured.{packet_of};
@@ -18,7 +18,7 @@ use text_lines::append_place;
 
 /// What writes the line of each packet of a capture, and may keep a state from packet to packet.
 pub trait PacketLines {
-    ghost use Rattle.pcap_read.specs.Packets.{Packet};
+    ghost use Rattle.packet_buffer.specs.Packets.{Packet};
     ghost use Rattle.command_runs.specs.Fold.{LineStep};
 
     /// What it keeps from packet to packet.
@@ -63,6 +63,7 @@ fn write_out<D: Door>(door: &mut D, lines: &mut Bytes) -> Result<(), Failed>
     ensures empty { OnOk result (lines.new ≡ []) }
     ensures part { D.tells → OnErr result (WrotePart lines.old (D.state door.old) (D.state door.new)) }
     ensures cause { Counts (is_err result) (D.writes door.old) (D.writes door.new) }
+    ensures stop { OnErr result (StopsAtFailure (D.failed door.new) (D.writes door.old) (D.writes door.new)) }
     ensures turns { D.turns door.new ≡ D.turns door.old }
     ensures reads { D.reads door.new ≡ D.reads door.old }
 {
@@ -78,6 +79,7 @@ fn write_before<D: Door>(door: &mut D, lines: &mut Bytes, is_ready: bool) -> Res
     ensures unready { is_ready ≡ false → OnOk result (lines.new ≡ []) }
     ensures part { D.tells → OnErr result (WrotePart lines.old (D.state door.old) (D.state door.new)) }
     ensures cause { Counts (is_err result) (D.writes door.old) (D.writes door.new) }
+    ensures stop { OnErr result (StopsAtFailure (D.failed door.new) (D.writes door.old) (D.writes door.new)) }
     ensures turns { D.turns door.new ≡ D.turns door.old }
     ensures reads { D.reads door.new ≡ D.reads door.old }
 {
@@ -91,6 +93,7 @@ fn write_before<D: Door>(door: &mut D, lines: &mut Bytes, is_ready: bool) -> Res
 fn finish<D: Door>(door: &mut D, lines: &[u8]) -> Status
     ensures statuses { (status_number result ≡ 0) ⊎ (status_number result ≡ 4) }
     ensures fault { status_number result ≡ 4 → Rose (D.writes door.old) (D.writes door.new) }
+    ensures stop { status_number result ≡ 4 → StopsAtFailure (D.failed door.new) (D.writes door.old) (D.writes door.new) }
     ensures steady { status_number result ≢ 4 → D.writes door.new ≡ D.writes door.old }
     ensures done { D.tells → status_number result ≡ 0 → D.state door.new ≡ put_out lines.now (D.state door.old) }
     ensures part { D.tells → status_number result ≡ 4 → WroteFirst lines.now (D.state door.old) (D.state door.new) }
@@ -107,6 +110,7 @@ fn finish<D: Door>(door: &mut D, lines: &[u8]) -> Status
 fn refuse<D: Door>(door: &mut D, lines: &mut Bytes, fault: CapFault) -> Status
     ensures statuses { (status_number result ≡ 3) ⊎ ((status_number result ≡ 4) ⊎ (status_number result ≡ 5)) }
     ensures fault { status_number result ≡ 4 → Rose (D.writes door.old) (D.writes door.new) }
+    ensures stop { status_number result ≡ 4 → StopsAtFailure (D.failed door.new) (D.writes door.old) (D.writes door.new) }
     ensures steady { status_number result ≢ 4 → D.writes door.new ≡ D.writes door.old }
     ensures done { D.tells → status_number result ≡ 3 → D.state door.new ≡ put_out (lines.old ++ cap_fault_line fault) (D.state door.old) }
     ensures part { D.tells → (status_number result ≡ 4) ⊎ (status_number result ≡ 5) →
@@ -128,6 +132,7 @@ fn refuse<D: Door>(door: &mut D, lines: &mut Bytes, fault: CapFault) -> Status
 pub fn write_capture<D: Door, L: PacketLines>(alloc: Global, door: &mut D, writer: &mut L) -> Status
     ensures statuses { (status_number result ≡ 0) ⊎ ((status_number result ≡ 3) ⊎ ((status_number result ≡ 4) ⊎ (status_number result ≡ 5))) }
     ensures fault { status_number result ≡ 4 → Rose (D.reads door.old) (D.reads door.new) ⊎ Rose (D.writes door.old) (D.writes door.new) }
+    ensures stop { status_number result ≡ 4 → EndsAtFailure (D.failed door.new) (D.reads door.old) (D.reads door.new) (D.writes door.old) (D.writes door.new) }
     ensures steady { status_number result ≢ 4 → (D.reads door.new ≡ D.reads door.old) × (D.writes door.new ≡ D.writes door.old) }
     // From whatever the writer is said to keep, the lines are those of the packets in their order,
     ensures done { (s : L.State) → L.keeps writer.old s → D.tells → (status_number result ≡ 0) ⊎ (status_number result ≡ 3) →

@@ -1,6 +1,6 @@
 -- The line that `judge` writes for each packet of a capture. It ends with a line feed.
 use Rattle.std.specs.Prelude.{◌≡◌, List, ℕ, ◌++◌, codes, decimal}
-use Rattle.pcap_read.specs.Packets.{Packet}
+use Rattle.packet_buffer.specs.Packets.{Packet}
 use Rattle.packet_judge.specs.declared.verdict.Verdict.{Verdict}
 use Rattle.command_runs.specs.Fold.{LineStep}
 use Rattle.text_lines.specs.Numbers.{number_text}

@@ -1,6 +1,6 @@
 //! Octets of a door, behind those that are kept.
 ghost use Rattle.std.specs.Prelude.{◌≡◌, ◌+◌, ◌-◌, ◌<◌, ◌≤◌, [], All, length, take, drop, slice_range, IfOk, OnErr, is_err};
-ghost use Rattle.mud_world.specs.Causes.{Counts};
+ghost use Rattle.mud_world.specs.Causes.{Counts, StopsAtFailure};
 ghost use Rattle.mud_world.specs.Door.{Took};
 
 use mud_base::Memory;
@@ -39,6 +39,7 @@ fn read_behind<D: Door>(door: &mut D, octets: &mut [u8], at: usize) -> Result<us
         × (n ≡ 0 → (D.state door.old).left ≡ [])) }
     ensures err { D.tells → OnErr result (D.state door.new ≡ D.state door.old) }
     ensures cause { Counts (is_err result) (D.reads door.old) (D.reads door.new) }
+    ensures stop { OnErr result (StopsAtFailure (D.failed door.new) (D.reads door.old) (D.reads door.new)) }
     ensures turns { D.turns door.new ≡ D.turns door.old }
     ensures writes { D.writes door.new ≡ D.writes door.old }
 {
@@ -65,6 +66,7 @@ pub fn refill<D: Door>(
         × (n ≡ 0 → (D.state door.old).left ≡ [])) }
     ensures err { D.tells → OnErr result (D.state door.new ≡ D.state door.old) }
     ensures cause { Counts (is_err result) (D.reads door.old) (D.reads door.new) }
+    ensures stop { OnErr result (StopsAtFailure (D.failed door.new) (D.reads door.old) (D.reads door.new)) }
     ensures turns { D.turns door.new ≡ D.turns door.old }
     ensures writes { D.writes door.new ≡ D.writes door.old }
 {

@@ -1,7 +1,8 @@
 -- What captures hold, computed by the definition.
 use Rattle.std.specs.Prelude.{◌≡◌, ℕ, List, [], ◌∷◌, ◌++◌, take, replicate, Some, None, refl}
 use Rattle.pcap_read.specs.declared.fault.CapFault.TheVariants as faults
-use Rattle.pcap_read.specs.Packets.{Packet, whole, broken, packets_of}
+use Rattle.packet_buffer.specs.Packets.{Packet, whole, broken}
+use Rattle.pcap_read.specs.Packets.{packets_of}
 use Rattle.pcap_read.proofs.OnLiterals.{captures_on_literals}
 
 -- the header of a capture in microseconds, with the least significant octet first

@@ -7,11 +7,13 @@ use Rattle.pcap_read.specs.declared.fault.CapFault.{CapFault}
 use Rattle.pcap_read.specs.declared.fault.CapFault.TheVariants as faults
 use Rattle.pcap_read.specs.declared.head.Head.{Head}
 use Rattle.pcap_read.specs.declared.stage.Cursor.{Cursor}
-use Rattle.pcap_read.specs.Packets.{Packet, Packets, broken, seconds_of, captured_len, packets_from, header_of, packets_of}
+use Rattle.packet_buffer.specs.Packets.{Packet, broken}
+use Rattle.pcap_read.specs.Packets.{Packets, seconds_of, captured_len, packets_from, header_of, packets_of}
 use Rattle.std.specs.Prelude.{IsTrue}
 use Rattle.pcap_read.specs.Parts.{is_decided, body_from, packets_at, behind_head, behind_packet}
-use Rattle.pcap_read.specs.Reading.{Fetched, Follows, EndsIn, behind}
-use Rattle.pcap_read.proofs.Readings.{follows, follows_more, ends, ends_more}
+use Rattle.packet_buffer.specs.Reading.{Fetched, Follows, behind}
+use Rattle.pcap_read.specs.Reading.{EndsIn}
+use Rattle.packet_buffer.proofs.Readings.{follows, follows_more, ends, ends_more}
 use Rattle.pcap_read.proofs.Steps.{header_short, header_read, header_refused, head_many, head_short, head_long, head_whole, head_lacks, body_whole, body_short, decided_whole}
 
 all_of : Packets → List Packet

@@ -1,7 +1,6 @@
 mod Examples
 pub mod Exits
 pub mod OnLiterals
-pub mod Readings
 pub mod Runs
 pub mod Stages
 pub mod Steps

@@ -4,10 +4,11 @@ use Rattle.mud_world.specs.Door.{DoorState, Took}
 use Rattle.mud_world.proofs.Doors.{took_none, took_more}
 use Rattle.pcap_read.specs.declared.fault.CapFault.{CapFault}
 use Rattle.pcap_read.specs.declared.fault.CapFault.TheVariants.{ReadFault}
-use Rattle.pcap_read.specs.Packets.{Packet, Packets, with_packet, packets_of}
-use Rattle.pcap_read.specs.Parts.{with_next}
-use Rattle.pcap_read.specs.Reading.{Follows, EndsIn}
-use Rattle.pcap_read.specs.Taken.{Taken, AtEnd, HasRead, at_start, to_come, with_all}
+use Rattle.packet_buffer.specs.Packets.{Packet, with_packet, with_next, with_all}
+use Rattle.pcap_read.specs.Packets.{Packets, packets_of}
+use Rattle.packet_buffer.specs.Reading.{Follows}
+use Rattle.pcap_read.specs.Reading.{EndsIn}
+use Rattle.pcap_read.specs.Taken.{Taken, AtEnd, HasRead, at_start, to_come}
 
 all_of : Packets → List Packet
 all_of packets = packets.all

@@ -8,10 +8,12 @@ use Rattle.pcap_read.specs.declared.fault.CapFault.{CapFault}
 use Rattle.pcap_read.specs.declared.stage.Stage.{Stage}
 use Rattle.pcap_read.specs.declared.stage.Stage.TheVariants.{Start, Reading, Failed}
 use Rattle.pcap_read.specs.declared.stage.Progress.{Progress}
-use Rattle.pcap_read.specs.Packets.{Packet, Packets, whole, packets_of}
+use Rattle.packet_buffer.specs.Packets.{Packet, whole}
+use Rattle.pcap_read.specs.Packets.{Packets, packets_of}
 use Rattle.pcap_read.specs.Parts.{packets_at, coming, coming_at}
 use Rattle.pcap_read.proofs.Steps.{head_none}
-use Rattle.pcap_read.specs.Reading.{Follows, EndsIn, behind, fails}
+use Rattle.packet_buffer.specs.Reading.{Follows, behind}
+use Rattle.pcap_read.specs.Reading.{EndsIn, fails}
 
 at_stage : Progress → List ℕ → Stage → Packets
 at_stage progress octets stage = coming_at stage progress.count progress.place octets

@@ -1,6 +1,5 @@
 pub mod Captured
 pub mod Fault
-pub mod Held
 pub mod Next
 pub mod Packets
 pub mod Parts

@@ -1,15 +1,16 @@
 -- What `next` answers, and where it leaves a capture.
-use Rattle.std.specs.Prelude.{◌≡◌, ◌<◌, ℕ, false, is_some, IsTrue, Option, Some, None, Result, Err, IfOk, IfErr, OnOk, OnErr}
-use Rattle.mud_world.specs.Causes.{Counts}
+use Rattle.std.specs.Prelude.{◌≡◌, ◌<◌, ℕ, Bool, false, is_some, IsTrue, Option, Some, None, Result, Err, IfOk, IfErr, OnOk, OnErr}
+use Rattle.mud_world.specs.Causes.{Counts, StopsAtFailure}
 use Rattle.mud_world.specs.Door.{DoorState}
 use Rattle.pcap_read.specs.declared.fault.CapFault.{CapFault}
 use Rattle.pcap_read.specs.declared.reader.Captured.{Captured}
 use Rattle.pcap_read.specs.declared.stage.Stage.TheVariants.{Failed}
 use Rattle.pcap_read.specs.Captured.{packet_of}
 use Rattle.pcap_read.specs.Fault.{has_failed}
-use Rattle.pcap_read.specs.Packets.{Packet}
-use Rattle.pcap_read.specs.Parts.{is_broken, most_to_come, with_next}
-use Rattle.pcap_read.specs.Reading.{Follows, EndsIn, fails}
+use Rattle.packet_buffer.specs.Packets.{Packet, with_next}
+use Rattle.pcap_read.specs.Parts.{is_broken, most_to_come}
+use Rattle.packet_buffer.specs.Reading.{Follows}
+use Rattle.pcap_read.specs.Reading.{EndsIn, fails}
 use Rattle.pcap_read.specs.Taken.{Taken, AtEnd, is_ready, to_come}
 
 -- the packet that was found, if any
@@ -18,8 +19,9 @@ packet_found None = None
 packet_found (Some packet) = Some (packet_of packet)
 
 -- What was found, and where the source and what is kept beside it stand then: clause by clause as `advance` says it. A source that
--- tells its octets has a state; and it counts its failed reads and writes, and those of its turns.
-pub record WentOn {S : Type 0} (tells : Type 0) (state : S → DoorState) (reads turns writes : S → ℕ) (old : S × Taken) (result : Result (Option Captured) CapFault) (new : S × Taken) : Type 0 where
+-- tells its octets has a state; and it counts its failed reads and writes, and
+-- those of its turns, and tells whether its last call failed.
+pub record WentOn {S : Type 0} (tells : Type 0) (state : S → DoorState) (reads turns writes : S → ℕ) (ended : S → Bool) (old : S × Taken) (result : Result (Option Captured) CapFault) (new : S × Taken) : Type 0 where
   pub found : IfOk result (λ found. packet_found found ≡ new.1.packet)
   pub going : OnOk result (is_broken new.1.progress.stage ≡ false)
   pub fewer : IfOk result (λ found. IsTrue (is_some found) → most_to_come new.1.progress < most_to_come old.1.progress)
@@ -31,5 +33,6 @@ pub record WentOn {S : Type 0} (tells : Type 0) (state : S → DoorState) (reads
   pub again : (fault : CapFault) → old.1.progress.stage ≡ Failed fault → (result ≡ Err fault) × (new.0 ≡ old.0)
   pub ready : IsTrue (is_ready old.1) → new.0 ≡ old.0
   pub cause : Counts (fails old.1.progress.stage (has_failed result)) (reads old.0) (reads new.0)
+  pub stop : IsTrue (fails old.1.progress.stage (has_failed result)) → StopsAtFailure (ended new.0) (reads old.0) (reads new.0)
   pub turns_kept : turns new.0 ≡ turns old.0
   pub writes_kept : writes new.0 ≡ writes old.0

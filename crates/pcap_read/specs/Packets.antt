@@ -4,29 +4,13 @@ use Rattle.mud_base.specs.Faults.{row, unless}
 use Rattle.octet_fields.specs.Numbers.{number_16, number_32}
 use Rattle.octet_fields.specs.declared.number.ByteOrder.{ByteOrder}
 use Rattle.octet_fields.specs.declared.number.ByteOrder.TheVariants.{Big, Little}
+use Rattle.packet_buffer.specs.Packets.{Told, whole, broken, with_packet}
 use Rattle.pcap_read.specs.declared.fault.CapFault.{CapFault}
 use Rattle.pcap_read.specs.declared.fault.CapFault.TheVariants as faults
 
--- a packet: its number, counted from 1, the place of its head, its seconds and its octets
-pub record Packet : Type 0 where
-  pub number : ℕ
-  pub place : ℕ
-  pub seconds : ℕ
-  pub octets : List ℕ
-
--- the packets of a capture, and the fault that ends them, where they don't end with the octets
-pub record Packets : Type 0 where
-  pub all : List Packet
-  pub fault : Option CapFault
-
-abbrev pub whole : Packets
-whole = record { all = []; fault = None }
-
-abbrev pub broken : CapFault → Packets
-broken fault = record { all = []; fault = Some fault }
-
-abbrev pub with_packet : Packet → Packets → Packets
-with_packet first later = record { all = first ∷ later.all; fault = later.fault }
+-- the packets of a capture, and why they end
+abbrev pub Packets : Type 0
+Packets = Told CapFault
 
 -- The header has 24 octets (section 4): the magic number, the version in two numbers, two reserved ones, the snap length and the
 -- link type. The magic number tells the order of the octets of all numbers. Here the places of those that are read:

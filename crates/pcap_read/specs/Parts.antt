@@ -9,7 +9,8 @@ use Rattle.pcap_read.specs.declared.stage.Cursor.{Cursor}
 use Rattle.pcap_read.specs.declared.stage.Progress.{Progress}
 use Rattle.pcap_read.specs.declared.stage.Current.{Current}
 use Rattle.pcap_read.specs.declared.stage.Next.{Next}
-use Rattle.pcap_read.specs.Packets.{Packet, Packets, broken, with_packet, head_len, captured_len, packets_from, packets_of}
+use Rattle.packet_buffer.specs.Packets.{Packet, broken, with_next, with_packet}
+use Rattle.pcap_read.specs.Packets.{Packets, head_len, captured_len, packets_from, packets_of}
 
 -- behind the head of a packet: its octets, and the packets that come then
 unfoldable pub body_from : ByteOrder → ℕ → ℕ → ℕ → ℕ → List ℕ → Packets
@@ -47,10 +48,6 @@ coming progress octets = coming_at progress.stage progress.count progress.place 
 abbrev pub packet_in : Option Current → List ℕ → Option Packet
 packet_in None given = None
 packet_in (Some current) given = Some (record { number = current.number; place = current.at; seconds = current.seconds; octets = given })
-
-abbrev pub with_next : Option Packet → Packets → Packets
-with_next None later = later
-with_next (Some first) later = with_packet first later
 
 -- with the packet that was given, if any
 abbrev pub coming_next : Next → List ℕ → List ℕ → Packets

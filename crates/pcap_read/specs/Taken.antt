@@ -3,7 +3,8 @@ use Rattle.std.specs.Prelude.{◌≡◌, ℕ, Bool, List, [], ◌++◌, Option, 
 use Rattle.mud_world.specs.Door.{DoorState, Took}
 use Rattle.pcap_read.specs.declared.stage.Stage.TheVariants.{Start}
 use Rattle.pcap_read.specs.declared.stage.Progress.{Progress}
-use Rattle.pcap_read.specs.Packets.{Packet, Packets, whole, packets_of}
+use Rattle.packet_buffer.specs.Packets.{Packet, whole, with_all}
+use Rattle.pcap_read.specs.Packets.{Packets, packets_of}
 use Rattle.pcap_read.specs.Parts.{coming, is_ready_at}
 
 -- where it stands, the octets that it took of the source and didn't hand out, and the packet at which it stands
@@ -14,6 +15,10 @@ pub record Taken : Type 0 where
 
 abbrev pub at_start : Taken
 at_start = record { progress = record { stage = Start; count = 0; place = 0 }; held = []; packet = None }
+
+-- the same with octets that were taken of the source before
+abbrev pub at_start_holding : List ℕ → Taken
+at_start_holding octets = record at_start { held = octets }
 
 -- The packets that are to come, and their end, where these octets come behind those held.
 abbrev pub to_come : Taken → List ℕ → Packets
@@ -28,10 +33,6 @@ pub record AtEnd (taken : Taken) (source : DoorState) : Type 0 where
   pub held : taken.held ≡ []
   pub left : source.left ≡ []
   pub ended : to_come taken [] ≡ whole
-
--- with packets in front of those
-abbrev pub with_all : List Packet → Packets → Packets
-with_all packets later = record { all = packets ++ later.all; fault = later.fault }
 
 -- For callers that read packet after packet: these packets were read since the source stood at the first of the two states. They
 -- are the first packets of the octets taken since then, however the source goes on, and the others are to come.

@@ -1,15 +1,18 @@
 //! A capture, read packet by packet.
 ghost use Rattle.std.specs.Prelude.{◌≡◌, ◌≢◌, IfSome, ◌<◌, ◌≤◌, ℕ, [], length, take, false, true, is_some, IsSome, IsTrue, IfOk, IfErr, OnOk, OnErr, is_err, Ok, Err, Some, None};
-ghost use Rattle.mud_world.specs.Causes.{Counts};
+ghost use Rattle.mud_world.specs.Causes.{Counts, StopsAtFailure};
 ghost use Rattle.mud_world.specs.Door.{put_out};
 ghost use Rattle.pcap_read.specs.declared.fault.CapFault.{CapFault};
 ghost use Rattle.pcap_read.specs.declared.stage.Stage.TheVariants.{Failed as HasFailed};
 ghost use Rattle.pcap_read.specs.declared.fault.CapFault.TheVariants.{ReadFault};
 ghost use Rattle.pcap_read.specs.Captured.{packet_of};
 ghost use Rattle.pcap_read.specs.Fault.{has_failed};
-ghost use Rattle.pcap_read.specs.Packets.{Packets, whole, broken, with_packet};
-ghost use Rattle.pcap_read.specs.Parts.{is_broken, most_to_come, with_next};
-ghost use Rattle.pcap_read.specs.Reading.{Follows, EndsIn, fails};
+ghost use Rattle.packet_buffer.specs.Packets.{whole, broken, with_packet};
+ghost use Rattle.pcap_read.specs.Packets.{Packets};
+ghost use Rattle.packet_buffer.specs.Packets.{with_next};
+ghost use Rattle.pcap_read.specs.Parts.{is_broken, most_to_come};
+ghost use Rattle.packet_buffer.specs.Reading.{Follows};
+ghost use Rattle.pcap_read.specs.Reading.{EndsIn, fails};
 ghost use Rattle.pcap_read.specs.Taken as spec;
 ghost use Rattle.pcap_read.specs.Taken.{AtEnd, at_start, to_come};
 
@@ -69,6 +72,7 @@ impl<S: Door> Capture<S> {
         ensures again { (fault : CapFault) → self.old.1.progress.stage ≡ HasFailed fault → (result ≡ Err fault) × (self.new.0 ≡ self.old.0) }
         ensures ready { IsTrue (spec.is_ready self.old.1) → self.new.0 ≡ self.old.0 }
         ensures cause { Counts (fails self.old.1.progress.stage (has_failed result)) (S.reads self.old.0) (S.reads self.new.0) }
+        ensures stop { IsTrue (fails self.old.1.progress.stage (has_failed result)) → StopsAtFailure (S.failed self.new.0) (S.reads self.old.0) (S.reads self.new.0) }
         ensures turns { S.turns self.new.0 ≡ S.turns self.old.0 }
         ensures writes { S.writes self.new.0 ≡ S.writes self.old.0 }
     {
@@ -93,7 +97,7 @@ impl<S: Door> Capture<S> {
     /// `advance` leaves it.
     pub fn next(&mut self) -> Result<Option<Captured<'_>>, CapFault>
         ensures* stands { sem 𝓛 (Rests (the_row S.row) self.entry
-            (WentOn S.tells S.state S.reads S.turns S.writes self.old result)) }
+            (WentOn S.tells S.state S.reads S.turns S.writes S.failed self.old result)) }
         ensures found { S.tells → IfOk result (λ found. IfSome found (λ packet.
             (later : Packets) × (to_come self.old.1 (S.state self.old.0).left ≡ with_packet (packet_of packet) later))) }
         ensures end { S.tells → IfOk result (λ found. found ≡ None → to_come self.old.1 (S.state self.old.0).left ≡ whole) }

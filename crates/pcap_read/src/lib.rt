@@ -2,7 +2,6 @@
 //! packet through one buffer.
 #![tactic(auto)]
 
-mod buffer;
 pub mod capture;
 pub mod fault;
 mod head;

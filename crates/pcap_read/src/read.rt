@@ -3,28 +3,33 @@ ghost use Rattle.std.specs.Prelude.{◌≡◌, ℕ, ◌+◌, ◌-◌, ◌<◌, �
 ghost use Rattle.std.specs.Option.{ForSome};
 ghost use Rattle.pcap_read.specs.declared.fault.CapFault.{CapFault};
 ghost use Rattle.pcap_read.specs.declared.stage.Stage.TheVariants.{Reading, Failed};
-ghost use Rattle.mud_world.specs.Causes.{Counts};
+ghost use Rattle.mud_world.specs.Causes.{Counts, StopsAtFailure};
 ghost use Rattle.pcap_read.specs.Fault.{has_failed};
 ghost use Rattle.pcap_read.specs.Packets.{packets_of, packets_from};
 ghost use Rattle.pcap_read.specs.Parts.{packets_at, behind_head, behind_packet, coming, coming_next, is_decided, is_broken, is_ready_at, most_to_come};
-ghost use Rattle.pcap_read.specs.Packets.{whole};
-ghost use Rattle.pcap_read.specs.Reading.{Follows, EndsIn, IsWithin, behind, fails};
+ghost use Rattle.packet_buffer.specs.Packets.{whole};
+ghost use Rattle.packet_buffer.specs.Reading.{Follows, behind};
+ghost use Rattle.pcap_read.specs.Reading.{EndsIn, IsWithin, fails};
 
-use crate::buffer::{Buffer, fetch};
 use crate::fault::CapFault;
 use crate::head::{HEAD_LEN, Head, MOST_OCTETS, MOST_PACKETS, head_in};
 use crate::header::{HEADER_LEN, header_of};
 use crate::stage::{Current, Cursor, Next, Progress, Stage};
 use mud_world::Door;
 use octet_fields::ByteOrder;
+use packet_buffer::{Buffer, fetch};
 
 /// Reads the header.
-fn read_header<D: Door>(source: &mut D, buffer: &mut Buffer) -> Result<ByteOrder, CapFault>
+fn read_header<D: Door>(
+    source: &mut D,
+    buffer: &mut Buffer<MOST_OCTETS>,
+) -> Result<ByteOrder, CapFault>
     ensures ok { D.tells → IfOk result (λ order.
         Follows (behind packets_of buffer.old.held) (behind (packets_from order 0 0 24) buffer.new.held) (D.state source.old) (D.state source.new)) }
     ensures err { D.tells → IfErr result (λ fault.
         EndsIn fault (behind packets_of buffer.old.held) (D.state source.old) (D.state source.new)) }
     ensures cause { Counts (has_failed result) (D.reads source.old) (D.reads source.new) }
+    ensures stop { IsTrue (has_failed result) → StopsAtFailure (D.failed source.new) (D.reads source.old) (D.reads source.new) }
     ensures turns { D.turns source.new ≡ D.turns source.old }
     ensures writes { D.writes source.new ≡ D.writes source.old }
 {
@@ -50,7 +55,7 @@ fn wanted_behind(count: u32) -> usize
 /// Reads the head of the next packet. There is none where the octets end between two packets.
 fn read_head<D: Door>(
     source: &mut D,
-    buffer: &mut Buffer,
+    buffer: &mut Buffer<MOST_OCTETS>,
     cursor: Cursor,
 ) -> Result<Option<Head>, CapFault>
     ensures ok { D.tells → IfOk result (λ head.
@@ -63,6 +68,7 @@ fn read_head<D: Door>(
     ensures err { D.tells → IfErr result (λ fault.
         EndsIn fault (behind (packets_at cursor) buffer.old.held) (D.state source.old) (D.state source.new)) }
     ensures cause { Counts (has_failed result) (D.reads source.old) (D.reads source.new) }
+    ensures stop { IsTrue (has_failed result) → StopsAtFailure (D.failed source.new) (D.reads source.old) (D.reads source.new) }
     ensures turns { D.turns source.new ≡ D.turns source.old }
     ensures writes { D.writes source.new ≡ D.writes source.old }
 {
@@ -90,7 +96,7 @@ fn read_head<D: Door>(
 /// packets.
 fn read_packet<D: Door>(
     source: &mut D,
-    buffer: &mut Buffer,
+    buffer: &mut Buffer<MOST_OCTETS>,
     cursor: Cursor,
 ) -> Result<Option<Head>, CapFault>
     ensures ok { D.tells → IfOk result (λ head.
@@ -101,6 +107,7 @@ fn read_packet<D: Door>(
     ensures err { D.tells → IfErr result (λ fault.
         EndsIn fault (behind (packets_at cursor) buffer.old.held) (D.state source.old) (D.state source.new)) }
     ensures cause { Counts (has_failed result) (D.reads source.old) (D.reads source.new) }
+    ensures stop { IsTrue (has_failed result) → StopsAtFailure (D.failed source.new) (D.reads source.old) (D.reads source.new) }
     ensures turns { D.turns source.new ≡ D.turns source.old }
     ensures writes { D.writes source.new ≡ D.writes source.old }
 {
@@ -117,7 +124,7 @@ fn read_packet<D: Door>(
 /// The place between two packets at which a reader stands, once the header is read.
 fn begin<D: Door>(
     source: &mut D,
-    buffer: &mut Buffer,
+    buffer: &mut Buffer<MOST_OCTETS>,
     progress: Progress,
 ) -> Result<Cursor, CapFault>
     requires { IsWithin progress }
@@ -132,6 +139,7 @@ fn begin<D: Door>(
     ensures err { D.tells → IfErr result (λ fault.
         EndsIn fault (behind (coming progress) buffer.old.held) (D.state source.old) (D.state source.new)) }
     ensures cause { Counts (fails progress.stage (has_failed result)) (D.reads source.old) (D.reads source.new) }
+    ensures stop { IsTrue (fails progress.stage (has_failed result)) → StopsAtFailure (D.failed source.new) (D.reads source.old) (D.reads source.new) }
     ensures turns { D.turns source.new ≡ D.turns source.old }
     ensures writes { D.writes source.new ≡ D.writes source.old }
 {
@@ -192,7 +200,7 @@ fn next_of(cursor: Cursor, found: Option<Head>) -> Next
 /// Goes on to the next packet, and hands out its octets.
 pub(crate) fn step<D: Door>(
     source: &mut D,
-    buffer: &mut Buffer,
+    buffer: &mut Buffer<MOST_OCTETS>,
     progress: Progress,
 ) -> Result<Next, CapFault>
     requires { IsWithin progress }
@@ -208,6 +216,7 @@ pub(crate) fn step<D: Door>(
     ensures err { D.tells → IfErr result (λ fault.
         EndsIn fault (behind (coming progress) buffer.old.held) (D.state source.old) (D.state source.new)) }
     ensures cause { Counts (fails progress.stage (has_failed result)) (D.reads source.old) (D.reads source.new) }
+    ensures stop { IsTrue (fails progress.stage (has_failed result)) → StopsAtFailure (D.failed source.new) (D.reads source.old) (D.reads source.new) }
     ensures turns { D.turns source.new ≡ D.turns source.old }
     ensures writes { D.writes source.new ≡ D.writes source.old }
 {

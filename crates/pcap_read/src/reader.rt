@@ -1,21 +1,23 @@
 //! Where a reader of a capture stands, beside the source that it is lent at each call.
-ghost use Rattle.std.specs.Prelude.{◌≡◌, ◌<◌, false, true, is_some, IsSome, IsTrue, IfOk, IfErr, OnOk, OnErr, Err, Some, None};
-ghost use Rattle.mud_world.specs.Causes.{Counts};
+ghost use Rattle.std.specs.Prelude.{◌≡◌, ◌<◌, ◌≤◌, length, false, true, is_some, IsSome, IsTrue, IfOk, IfErr, OnOk, OnErr, Err, Some, None};
+ghost use Rattle.mud_world.specs.Causes.{Counts, StopsAtFailure};
 ghost use Rattle.pcap_read.specs.declared.fault.CapFault.{CapFault};
 ghost use Rattle.pcap_read.specs.declared.stage.Stage.TheVariants.{Failed as HasFailed};
 ghost use Rattle.pcap_read.specs.Fault.{has_failed};
-ghost use Rattle.pcap_read.specs.Parts.{is_broken, most_to_come, with_next};
-ghost use Rattle.pcap_read.specs.Reading.{Follows, EndsIn, fails};
+ghost use Rattle.packet_buffer.specs.Packets.{with_next};
+ghost use Rattle.pcap_read.specs.Parts.{is_broken, most_to_come};
+ghost use Rattle.packet_buffer.specs.Reading.{Follows};
+ghost use Rattle.pcap_read.specs.Reading.{EndsIn, fails};
 ghost use Rattle.pcap_read.specs.Taken as spec;
-ghost use Rattle.pcap_read.specs.Taken.{AtEnd, at_start, to_come};
+ghost use Rattle.pcap_read.specs.Taken.{AtEnd, at_start, at_start_holding, to_come};
 
-use crate::buffer::Buffer;
 use crate::fault::CapFault;
-use crate::head::is_decided;
+use crate::head::{MOST_OCTETS, is_decided};
 use crate::read::step;
 use crate::stage::{Current, Progress, Stage};
 use mud_base::Memory;
 use mud_world::Door;
+use packet_buffer::Buffer;
 use std::alloc::Global;
 use std::marker::Model;
 
@@ -36,7 +38,7 @@ pub struct Captured<'a> {
 /// same connection.
 #[derive(Drop)]
 pub struct Reader {
-    buffer: Buffer,
+    buffer: Buffer<MOST_OCTETS>,
     progress: Progress,
     current: Option<Current>,
 }
@@ -63,8 +65,23 @@ impl Reader {
     pub fn new(alloc: Global) -> Result<Reader, Memory>
         ensures { IfOk result (λ reader. reader ≡ at_start) }
     {
-        let buffer = Buffer::new(alloc)?;
-        Ok(Reader {
+        Ok(Reader::over(Buffer::new(alloc)?))
+    }
+
+    /// A reader that begins with octets which were taken of the source before. It takes memory as
+    /// `new` does.
+    pub fn holding(alloc: Global, octets: &[u8]) -> Result<Reader, Memory>
+        requires { length octets.now ≤ 262144 }
+        ensures { IfOk result (λ reader. reader ≡ at_start_holding octets.now) }
+    {
+        Ok(Reader::over(Buffer::holding(alloc, octets)?))
+    }
+
+    /// A reader that has read nothing but what the buffer holds.
+    fn over(buffer: Buffer<MOST_OCTETS>) -> Reader
+        ensures { result ≡ at_start_holding buffer.held }
+    {
+        Reader {
             buffer,
             progress: Progress {
                 stage: Stage::Start,
@@ -72,7 +89,7 @@ impl Reader {
                 place: 0,
             },
             current: None,
-        })
+        }
     }
 
     /// Goes on to the next packet. It answers false exactly at the end of the octets between two
@@ -91,6 +108,7 @@ impl Reader {
         ensures again { (fault : CapFault) → self.old.progress.stage ≡ HasFailed fault → (result ≡ Err fault) × (source.new ≡ source.old) }
         ensures ready { IsTrue (spec.is_ready self.old) → source.new ≡ source.old }
         ensures cause { Counts (fails self.old.progress.stage (has_failed result)) (D.reads source.old) (D.reads source.new) }
+        ensures stop { IsTrue (fails self.old.progress.stage (has_failed result)) → StopsAtFailure (D.failed source.new) (D.reads source.old) (D.reads source.new) }
         ensures turns { D.turns source.new ≡ D.turns source.old }
         ensures writes { D.writes source.new ≡ D.writes source.old }
     {

@@ -7,7 +7,7 @@ use Rattle.mud_base.specs.declared.packet.Transport.TheVariants.{Tcp, Udp, Icmp,
 use Rattle.frame_view.specs.Frame.{frame_of}
 use Rattle.frame_view.specs.declared.views.Frame.{Frame}
 use Rattle.frame_view.specs.declared.views.Frame.TheVariants as frame
-use Rattle.pcap_read.specs.Packets.{Packet}
+use Rattle.packet_buffer.specs.Packets.{Packet}
 use Rattle.command_runs.specs.Fold.{LineStep}
 use Rattle.text_lines.specs.Numbers.{number_text}
 use Rattle.verdict_lines.specs.Verdicts.{unreadable_text}

@@ -21,6 +21,7 @@ returns-then-branch g c =
           again = λ fault e. let same = (said.again fault e).0 in cc;
           ready = said.ready;
           cause = said.cause;
+          stop = said.stop;
           turns_kept = said.turns;
           writes_kept = said.writes;
         },

@@ -1,9 +1,9 @@
 use Rattle.std.proofs.Common.{◌≡◌, ◌+◌, ◌-◌, ◌++◌, length, take, drop, ap, ◌∙◌, rules}
 use Rattle.std.specs.Prelude.{slice_range}
 use Rattle.std.proofs.lemmas.List.{places}
-use Rattle.pcap_read.specs.Held.{Holding}
+use Rattle.packet_buffer.specs.Held.{Holding}
 use Rattle.octet_buffer.proofs.Buffers.{part_grown}
-use Rattle.pcap_read.proofs.buffer.Buffer.fill.Goals as goal
+use Rattle.packet_buffer.proofs.buffer.Buffer.fill.Goals as goal
 
 pub returns-clause-octets : goal.returns-clause-octets
 returns-clause-octets g c = λ t.

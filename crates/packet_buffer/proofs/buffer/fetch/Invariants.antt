@@ -1,6 +1,6 @@
 use Rattle.std.proofs.Common.{◌≡◌, ◌≤◌, ◌-◌, length}
-use Rattle.pcap_read.specs.Reading.{Fetched}
-use Rattle.pcap_read.proofs.buffer.fetch.Given as goal
+use Rattle.packet_buffer.specs.Reading.{Fetched}
+use Rattle.packet_buffer.proofs.buffer.fetch.Given as goal
 
 abbrev pub invariant-more : goal.invariant-more
 invariant-more g l =

@@ -1,28 +1,35 @@
 //! The one buffer between a source and the packets.
 ghost use Rattle.std.specs.Prelude.{◌≡◌, ◌+◌, ◌<◌, ◌≤◌, [], length, take, drop, IfOk, OnErr, is_err, nat_le, false};
-ghost use Rattle.mud_world.specs.Causes.{Counts};
-ghost use Rattle.pcap_read.specs.Reading.{Fetched};
+ghost use Rattle.mud_world.specs.Causes.{Counts, StopsAtFailure};
+ghost use Rattle.packet_buffer.specs.Reading.{Fetched};
 
-use crate::head::MOST_OCTETS;
 use mud_base::Memory;
 use mud_world::{Door, Failed};
 use octet_buffer::{refill, zeros};
 use std::alloc::Global;
 use std::marker::Model;
 
-/// The octets that were taken of a source: those handed out last from `from` to `start`, and those
-/// behind them up to `end`, which are held.
+/// The octets that were taken of a source, `SIZE` at most at once: those handed out last from `from`
+/// to `start`, and those behind them up to `end`, which are held.
 #[derive(Drop)]
-pub(crate) struct Buffer {
+pub struct Buffer<const SIZE: usize> {
     octets: Vec<u8>,
     from: usize,
     start: usize,
     end: usize,
 }
 
-impl Model for Buffer {
+/// Copies octets to the front of the room.
+fn copy_to_front(room: &mut [u8], octets: &[u8])
+    requires { length octets.now ≤ length room.old }
+    ensures { take (length octets.now) room.new ≡ octets.now }
+{
+    room[..octets.len()].copy_from_slice(octets);
+}
+
+impl<const SIZE: usize> Model for Buffer<SIZE> {
     ghost use Rattle.std.specs.Prelude.{◌≡◌, ◌≤◌, length, slice_range};
-    ghost use Rattle.pcap_read.specs.Held.{Holding};
+    ghost use Rattle.packet_buffer.specs.Held.{Holding};
 
     ghost Value = { Holding };
 
@@ -31,40 +38,55 @@ impl Model for Buffer {
       held = slice_range b.octets.items b.start b.end;
     } };
 
-    ghost invariant = { λ b. (b.from ≤ b.start) × (b.start ≤ b.end) × (b.end ≤ length b.octets.items) × (length b.octets.items ≡ 262144) };
+    ghost invariant = { λ b. (b.from ≤ b.start) × (b.start ≤ b.end) × (b.end ≤ length b.octets.items) × (length b.octets.items ≡ SIZE) };
 }
 
-impl Buffer {
-    ghost use Rattle.pcap_read.specs.Held.{Holding};
+impl<const SIZE: usize> Buffer<SIZE> {
+    ghost use Rattle.packet_buffer.specs.Held.{Holding};
 
-    /// A buffer that holds nothing.
-    pub(crate) fn new(alloc: Global) -> Result<Buffer, Memory>
+    /// A buffer that holds nothing. It takes memory for `SIZE` octets, and no other call takes any.
+    pub fn new(alloc: Global) -> Result<Buffer<SIZE>, Memory>
         ensures { IfOk result (λ buffer. buffer ≡ record { given = []; held = [] }) }
     {
         Ok(Buffer {
-            octets: zeros(alloc, MOST_OCTETS)?,
+            octets: zeros(alloc, SIZE)?,
             from: 0,
             start: 0,
             end: 0,
         })
     }
 
+    /// A buffer that holds these octets, which were taken of the source before.
+    pub fn holding(alloc: Global, octets: &[u8]) -> Result<Buffer<SIZE>, Memory>
+        requires { length octets.now ≤ SIZE }
+        ensures { IfOk result (λ buffer. buffer ≡ record { given = []; held = octets.now }) }
+    {
+        let mut room = zeros(alloc, SIZE)?;
+        copy_to_front(room.as_mut_slice(), octets);
+        Ok(Buffer {
+            octets: room,
+            from: 0,
+            start: 0,
+            end: octets.len(),
+        })
+    }
+
     /// The octets that are held.
-    pub(crate) fn held(&self) -> &[u8]
+    pub fn held(&self) -> &[u8]
         ensures { result.now ≡ self.now.held }
     {
         &self.octets[self.start..self.end]
     }
 
     /// The octets that were handed out last.
-    pub(crate) fn given(&self) -> &[u8]
+    pub fn given(&self) -> &[u8]
         ensures { result.now ≡ self.now.given }
     {
         &self.octets[self.from..self.start]
     }
 
     /// Hands out the first octets of those held.
-    pub(crate) fn hand_out(&mut self, count: usize)
+    pub fn hand_out(&mut self, count: usize)
         requires { count ≤ length self.old.held }
         ensures given { self.new.given ≡ take count self.old.held }
         ensures held { self.new.held ≡ drop count self.old.held }
@@ -75,8 +97,8 @@ impl Buffer {
 
     /// Reads once of the source, as much as the read gives, and answers how many octets that were:
     /// 0 only at the end.
-    pub(crate) fn fill<D: Door>(&mut self, source: &mut D) -> Result<usize, Failed>
-        requires { length self.old.held < 262144 }
+    pub fn fill<D: Door>(&mut self, source: &mut D) -> Result<usize, Failed>
+        requires { length self.old.held < SIZE }
         ensures grown { IfOk result (λ n. length self.new.held ≡ length self.old.held + n) }
         ensures octets { D.tells → IfOk result (λ _.
             Fetched self.old.held self.new.held (D.state source.old) (D.state source.new)) }
@@ -84,6 +106,7 @@ impl Buffer {
         ensures kept { OnErr result (self.new.held ≡ self.old.held) }
         ensures err { D.tells → OnErr result (D.state source.new ≡ D.state source.old) }
         ensures cause { Counts (is_err result) (D.reads source.old) (D.reads source.new) }
+        ensures stop { OnErr result (StopsAtFailure (D.failed source.new) (D.reads source.old) (D.reads source.new)) }
         ensures turns { D.turns source.new ≡ D.turns source.old }
         ensures writes { D.writes source.new ≡ D.writes source.old }
     {
@@ -99,18 +122,19 @@ impl Buffer {
 
 /// Reads of the source until the buffer holds so many octets, or the source is at its end. It
 /// answers whether so many are held. Where they were before, nothing is read.
-pub(crate) fn fetch<D: Door>(
+pub fn fetch<D: Door, const SIZE: usize>(
     source: &mut D,
-    buffer: &mut Buffer,
+    buffer: &mut Buffer<SIZE>,
     count: usize,
 ) -> Result<bool, Failed>
-    requires { count ≤ 262144 }
+    requires { count ≤ SIZE }
     ensures enough { IfOk result (λ enough. enough ≡ nat_le count (length buffer.new.held)) }
     ensures end { D.tells → IfOk result (λ enough. enough ≡ false → (D.state source.new).left ≡ []) }
     ensures short { OnErr result (length buffer.new.held < count) }
     ensures octets { D.tells → Fetched buffer.old.held buffer.new.held (D.state source.old) (D.state source.new) }
     ensures untouched { count ≤ length buffer.old.held → (source.new ≡ source.old) × (buffer.new.held ≡ buffer.old.held) }
     ensures cause { Counts (is_err result) (D.reads source.old) (D.reads source.new) }
+    ensures stop { OnErr result (StopsAtFailure (D.failed source.new) (D.reads source.old) (D.reads source.new)) }
     ensures turns { D.turns source.new ≡ D.turns source.old }
     ensures writes { D.writes source.new ≡ D.writes source.old }
 {

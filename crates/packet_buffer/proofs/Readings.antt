@@ -2,10 +2,8 @@
 use Rattle.std.proofs.Common.{◌≡◌, ◌≢◌, ℕ, List, [], ◌++◌, sym, ap, ◌∙◌, append_assoc, append-nil}
 use Rattle.mud_world.specs.Door.{DoorState}
 use Rattle.mud_world.proofs.Doors.{took_none, took_more}
-use Rattle.pcap_read.specs.declared.fault.CapFault.{CapFault}
-use Rattle.pcap_read.specs.declared.fault.CapFault.TheVariants.{ReadFault}
-use Rattle.pcap_read.specs.Packets.{Packet, Packets, broken}
-use Rattle.pcap_read.specs.Reading.{Fetched, Follows, EndsIn, behind}
+use Rattle.packet_buffer.specs.Packets.{Packet, Told, broken}
+use Rattle.packet_buffer.specs.Reading.{Fetched, Follows, EndsIn, behind}
 
 pub fetched_none : (held : List ℕ) (s : DoorState) → Fetched held held s s
 fetched_none held s = record { octets = []; took = took_none s; held = sym (append-nil held) }
@@ -17,18 +15,18 @@ fetched_more h k m s t u p q = record {
   held = q.held ∙ ap (λ held. held ++ q.octets) p.held ∙ append_assoc h p.octets q.octets;
 }
 
-all_of : Packets → List Packet
+all_of : {F : Type 0} → Told F → List Packet
 all_of packets = packets.all
 
 -- what follows from the octets that are held now
-pub follows : (before after : List ℕ → Packets) (h k : List ℕ) (s t : DoorState) → Fetched h k s t → ((more : List ℕ) → before (k ++ more) ≡ after more) → Follows (behind before h) after s t
+pub follows : {F : Type 0} (before after : List ℕ → Told F) (h k : List ℕ) (s t : DoorState) → Fetched h k s t → ((more : List ℕ) → before (k ++ more) ≡ after more) → Follows (behind before h) after s t
 follows before after h k s t f same = record {
   octets = f.octets;
   took = f.took;
   same = λ more. ap before (sym (append_assoc h f.octets more) ∙ ap (λ held. held ++ more) (sym f.held)) ∙ same more;
 }
 
-pub follows_more : (f g h : List ℕ → Packets) (s t u : DoorState) → Follows f g s t → Follows g h t u → Follows f h s u
+pub follows_more : {F : Type 0} (f g h : List ℕ → Told F) (s t u : DoorState) → Follows f g s t → Follows g h t u → Follows f h s u
 follows_more f g h s t u p q = record {
   octets = p.octets ++ q.octets;
   took = took_more p.octets q.octets s t u p.took q.took;
@@ -36,8 +34,8 @@ follows_more f g h s t u p q = record {
 }
 
 -- the end that follows from the octets that are held now
-pub ends : (fault : CapFault) (before : List ℕ → Packets) (h k : List ℕ) (s t : DoorState) → Fetched h k s t
-    → (before k).all ≡ [] → (fault ≢ ReadFault → before (k ++ t.left) ≡ broken fault) → EndsIn fault (behind before h) s t
+pub ends : {F : Type 0} {read_fault : F} (fault : F) (before : List ℕ → Told F) (h k : List ℕ) (s t : DoorState) → Fetched h k s t
+    → (before k).all ≡ [] → (fault ≢ read_fault → before (k ++ t.left) ≡ broken fault) → EndsIn read_fault fault (behind before h) s t
 unfolding all_of
 ends fault before h k s t f none end = record {
   octets = f.octets;
@@ -46,7 +44,7 @@ ends fault before h k s t f none end = record {
   broken = λ other. ap before (sym (append_assoc h f.octets t.left) ∙ ap (λ held. held ++ t.left) (sym f.held)) ∙ end other;
 }
 
-pub ends_more : (fault : CapFault) (f g : List ℕ → Packets) (s t u : DoorState) → Follows f g s t → EndsIn fault g t u → EndsIn fault f s u
+pub ends_more : {F : Type 0} {read_fault : F} (fault : F) (f g : List ℕ → Told F) (s t u : DoorState) → Follows f g s t → EndsIn read_fault fault g t u → EndsIn read_fault fault f s u
 unfolding all_of
 ends_more fault f g s t u p q = record {
   octets = p.octets ++ q.octets;

@@ -8,6 +8,7 @@ pub mod Lookups
 pub mod Opens
 pub mod Parts
 pub mod Readings
+pub mod Reopens
 pub mod Schemas
 pub mod Selects
 pub mod Steps

@@ -2,6 +2,7 @@ pub mod Batches
 pub mod Faults
 pub mod Files
 pub mod Paths
+pub mod Reopened
 pub mod Rows
 pub mod Selections
 pub mod Table

@@ -1,8 +1,13 @@
 -- A keeper over a path, as contracts see it.
-use Rattle.std.specs.Prelude.{ℕ, Bool, Option, option_map, is_some}
+use Rattle.std.specs.Prelude.{ℕ, Bool, String, Option, option_map, is_some}
+use Rattle.std.specs.declared.alloc.Global.{Global}
 use Rattle.sqlite.specs.Held.{Held}
 use Rattle.keep_sqlite.specs.Telling.{KeeperView}
 use Rattle.keep_sqlite.specs.declared.path_keeper.PathKeeper.{PathKeeper}
+
+-- the path that it was made for
+abbrev pub path_of : PathKeeper → String Global
+path_of keeper = keeper.path
 
 -- whether an `open` has answered Ok
 abbrev pub has_opened : PathKeeper → Bool

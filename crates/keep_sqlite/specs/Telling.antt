@@ -1,5 +1,5 @@
 -- What a keeper over a connection tells.
-use Rattle.std.specs.Prelude.{ℕ, Bool, List, IsTrue, refl}
+use Rattle.std.specs.Prelude.{◌⊎◌, ℕ, Bool, List, IsTrue, refl}
 use Rattle.std.specs.Coded.{Coded, code_by, coded×, coded_bool, coded_ℕ}
 use Rattle.sqlite_trees.specs.declared.store.Store.{Ghosts}
 use Rattle.sqlite_trees.specs.Tree.{Trees}
@@ -46,6 +46,11 @@ module _ {S : Type 0} (g : Ghosts S) where
   -- Whatever a crash leaves at this moment are the trees of these items.
   abbrev pub Leaves : KeeperView S → List Item → Type 0
   Leaves keeper items = (trees : Trees) → (state g keeper.connection).may_leave trees → AreTreesOf items trees
+
+  -- Whatever a crash leaves at this moment are the trees of the one items or of the other.
+  abbrev pub LeavesEither : KeeperView S → List Item → List Item → Type 0
+  LeavesEither keeper one other =
+      (trees : Trees) → (state g keeper.connection).may_leave trees → AreTreesOf one trees ⊎ AreTreesOf other trees
 
   -- After a call a crash leaves what it could leave before, or the trees of these items, whole. Only a fault shuts the connection.
   abbrev pub MayLeave : KeeperView S → KeeperView S → List Item → Type 0

@@ -1,16 +1,23 @@
 //! Laws of what keepers tell, on functions that do nothing, or no more than to make or open one.
-ghost use Rattle.std.specs.Prelude.{◌≡◌, [], IsTrue, IfOk};
+ghost use Rattle.std.specs.Prelude.{◌≡◌, ◌≤◌, ◌⊎◌, List, [], IsTrue, IfOk, OnOk};
+ghost use Rattle.mud_world.specs.declared.item.Item.{Item};
+ghost use Rattle.mud_world.specs.Items.{is_batch, put_all};
+ghost use Rattle.sqlite_trees.specs.View.{doubt, IsClean};
+ghost use Rattle.sqlite.specs.Files.{over_files};
+ghost use Rattle.sqlite.specs.FileStore.{view};
 ghost use Rattle.sqlite.specs.Held.{state};
 ghost use Rattle.sqlite.specs.State.{HasCleanDisk};
 ghost use Rattle.sqlite.specs.Steps.{over_memory};
 ghost use Rattle.keep_sqlite.specs.Table.{no_schema};
 ghost use Rattle.keep_sqlite.specs.Rows.{held_items, items_of, HoldsItems};
-ghost use Rattle.keep_sqlite.specs.Telling.{told, IsUp, Tells};
+ghost use Rattle.keep_sqlite.specs.Reopened.{IsFoundNext};
+ghost use Rattle.keep_sqlite.specs.Telling.{database, told, IsUp, Leaves, LeavesEither, Tells};
 
 use crate::SqliteKeeper;
 use mud_base::Listed;
-use mud_world::{Item, KeepFault, Keeper};
-use sqlite::{Alter, Connection, MemStore};
+use mud_world::{Item, KeepFault, Keeper, Put};
+use sqlite::{Alter, Connection, FileStore, MemStore};
+use sqlite_disk::Disk;
 use std::alloc::Global;
 
 /// A keeper over a store in memory tells its items from the first `open` on that answered Ok: such
@@ -45,4 +52,33 @@ pub fn first_open_finds<S: Alter + Drop>(
     let mut keeper = unopened_keepers_tell(connection);
     let items = keeper.open(alloc)?;
     Ok((keeper, items))
+}
+
+/// The store of a keeper. Whatever a crash leaves at this moment, the next first opening finds.
+pub fn leave<D: Disk + Drop>(keeper: SqliteKeeper<FileStore<D>>) -> FileStore<D>
+    ensures clean { doubt (state over_files keeper.connection).is_clean ≤ doubt (view result).is_clean }
+    ensures found { IsClean (view result) → (items : List Item) → Leaves over_files keeper items
+        → IsFoundNext result (λ list. list ≡ items) }
+    ensures either { IsClean (view result) → (one other : List Item) → LeavesEither over_files keeper one other
+        → IsFoundNext result (λ list. (list ≡ one) ⊎ (list ≡ other)) }
+{
+    keeper.give_back().into_store()
+}
+
+/// The last batch of a run, and what is left of the store. Where the run left the items that it told,
+/// the next first opening finds them or those after the batch, and after Ok those after the batch.
+pub fn keep_last<D: Disk + Drop>(
+    mut keeper: SqliteKeeper<FileStore<D>>,
+    batch: &[Put],
+) -> (Result<(), KeepFault>, FileStore<D>)
+    requires opened { IsTrue keeper.has_opened }
+    requires batch { IsTrue (is_batch batch.now) }
+    ensures either { IsClean (view result.1) → Leaves over_files keeper (items_of (database over_files keeper))
+        → IsFoundNext result.1 (λ list. (list ≡ items_of (database over_files keeper))
+        ⊎ (list ≡ put_all (items_of (database over_files keeper)) batch.now)) }
+    ensures kept { IsClean (view result.1)
+        → OnOk result.0 (IsFoundNext result.1 (λ list. list ≡ put_all (told over_files keeper) batch.now)) }
+{
+    let answer = keeper.keep(batch);
+    (answer, leave(keeper))
 }

@@ -3,6 +3,7 @@
 
 mod batch;
 mod fault;
+pub mod first_opening;
 pub mod laws;
 mod listing;
 mod opening;
@@ -10,6 +11,7 @@ pub mod path_keeper;
 mod schema;
 pub mod sqlite_keeper;
 
+pub use first_opening::open_at;
 pub use path_keeper::PathKeeper;
 pub use sqlite_keeper::SqliteKeeper;
 

@@ -1,14 +1,16 @@
 //! A keeper over the database file at a path.
-ghost use Rattle.std.specs.Prelude.{◌≡◌, ◌↔◌, true, false, IsTrue, IsNone, IfOk, OnOk, OnErr, is_some};
+ghost use Rattle.std.specs.Prelude.{◌≡◌, ◌↔◌, true, false, IsTrue, IsNone, IfOk, OnOk, OnErr, is_some, option_map};
 ghost use Rattle.std.specs.Option.{ForSome};
 ghost use Rattle.mud_world.specs.Items.{is_batch, put_all};
-ghost use Rattle.keep_sqlite.specs.Files.{file_items, FileTells};
+ghost use Rattle.keep_sqlite.specs.Files.{file_items, found_items, FileTells, FoundTells};
+ghost use Rattle.keep_sqlite.specs.Telling.{told, Tells};
 
 use crate::SqliteKeeper;
-use crate::fault::{count, fault_of};
+use crate::fault::count;
+use crate::first_opening::open_at;
 use mud_base::Listed;
 use mud_world::{Item, KeepFault, Keeper, Put};
-use sqlite::{Connection, File, FileStore};
+use sqlite::{Alter, Connection, File, FileStore, Unknown};
 use std::alloc::Global;
 
 /// A keeper over the file at a path. Each `open` opens the file, until one answers Ok: from then on
@@ -28,10 +30,11 @@ pub struct PathKeeper {
 }
 
 impl PathKeeper {
-    ghost use Rattle.keep_sqlite.specs.Paths.{connection_of, fault_count, has_opened};
+    ghost use Rattle.keep_sqlite.specs.Paths.{connection_of, fault_count, has_opened, path_of};
 
     /// A keeper over the file at this path. It opens nothing and takes no memory.
     pub fn over(rt: &HostRuntime, path: String) -> PathKeeper
+        ensures path { path_of result ≡ path }
         ensures unopened { has_opened result ≡ false }
         ensures faults { fault_count result ≡ 0 }
     {
@@ -48,8 +51,15 @@ impl PathKeeper {
         ensures none { IsNone result ↔ (has_opened self ≡ false) }
         ensures connection { result ≡ connection_of self }
     {
-        self.keeper.map(SqliteKeeper::give_back)
+        connection_in(self.keeper)
     }
+}
+
+/// The connection of a keeper, if there is one.
+fn connection_in<S: Alter + Drop>(keeper: Option<SqliteKeeper<S>>) -> Option<Connection<S>>
+    ensures { result ≡ option_map (λ opened. opened.connection) keeper }
+{
+    keeper.map(SqliteKeeper::give_back)
 }
 
 /// The items of the file at the path: [`Keeper::open`].
@@ -69,37 +79,69 @@ fn read_path(
     ensures still { OnErr result (is_some keeper.new ≡ is_some keeper.old) }
 {
     match keeper {
+        Some(_) => read_found(alloc, keeper),
+        None => keep_first(open_at(alloc, rt, path, Unknown), keeper),
+    }
+}
+
+/// The items of a keeper that was opened.
+fn read_found<S: Alter + Drop>(
+    alloc: Global,
+    keeper: &mut Option<SqliteKeeper<S>>,
+) -> Result<Listed<Item>, KeepFault>
+    requires some { IsTrue (is_some keeper.old) }
+    requires each { ForSome keeper.old (λ opened. IsTrue opened.has_opened) }
+    ensures items { FoundTells S.Store keeper.new
+        → IfOk result (λ list. list ≡ found_items S.Store keeper.new) }
+    ensures same { FoundTells S.Store keeper.old → FoundTells S.Store keeper.new
+        → found_items S.Store keeper.new ≡ found_items S.Store keeper.old }
+    ensures told { FoundTells S.Store keeper.new → OnErr result (FoundTells S.Store keeper.old) }
+    ensures each { ForSome keeper.new (λ opened. IsTrue opened.has_opened) }
+    ensures opened { is_some keeper.new ≡ true }
+{
+    match keeper {
         Some(keeper) => keeper.read(alloc),
-        None => {
-            let mut opened = connect(rt, path)?;
-            let items = opened.read(alloc)?;
+        None => unreachable!(),
+    }
+}
+
+/// Takes the keeper of a first opening, where it answered Ok, and answers the items.
+fn keep_first<S: Alter + Drop>(
+    answer: Result<(SqliteKeeper<S>, Listed<Item>), KeepFault>,
+    keeper: &mut Option<SqliteKeeper<S>>,
+) -> Result<Listed<Item>, KeepFault>
+    requires none { is_some keeper.old ≡ false }
+    requires items { IfOk answer (λ opened. Tells S.Store opened.0 → opened.1 ≡ told S.Store opened.0) }
+    requires opened { IfOk answer (λ opened. opened.0.has_opened ≡ true) }
+    ensures items { FoundTells S.Store keeper.new
+        → IfOk result (λ list. list ≡ found_items S.Store keeper.new) }
+    ensures each { ForSome keeper.new (λ opened. IsTrue opened.has_opened) }
+    ensures opened { OnOk result (is_some keeper.new ≡ true) }
+    ensures still { OnErr result (is_some keeper.new ≡ false) }
+{
+    match answer {
+        Ok((opened, items)) => {
             *keeper = Some(opened);
             Ok(items)
         }
+        Err(fault) => Err(fault),
     }
 }
 
-/// A keeper of the file at the path.
-fn connect(rt: &HostRuntime, path: &str) -> Result<SqliteKeeper<FileStore<File>>, KeepFault> {
-    match Connection::open(rt, path) {
-        Ok(connection) => Ok(SqliteKeeper::adopt(connection)),
-        Err(error) => Err(fault_of(error)),
-    }
-}
-
-/// Does the puts in the file: [`Keeper::apply`].
-fn keep_path(
-    keeper: &mut Option<SqliteKeeper<FileStore<File>>>,
+/// Does the puts in the store of a keeper that was opened: [`Keeper::apply`].
+fn keep_found<S: Alter + Drop>(
+    keeper: &mut Option<SqliteKeeper<S>>,
     batch: &[Put],
 ) -> Result<(), KeepFault>
     requires opened { IsTrue (is_some keeper.old) }
     requires each { ForSome keeper.old (λ opened. IsTrue opened.has_opened) }
     requires batch { IsTrue (is_batch batch.now) }
     ensures each { ForSome keeper.new (λ opened. IsTrue opened.has_opened) }
-    ensures told { FileTells keeper.new → FileTells keeper.old }
-    ensures ok { FileTells keeper.new
-        → OnOk result (file_items keeper.new ≡ put_all (file_items keeper.old) batch.now) }
-    ensures err { FileTells keeper.new → OnErr result (file_items keeper.new ≡ file_items keeper.old) }
+    ensures told { FoundTells S.Store keeper.new → FoundTells S.Store keeper.old }
+    ensures ok { FoundTells S.Store keeper.new
+        → OnOk result (found_items S.Store keeper.new ≡ put_all (found_items S.Store keeper.old) batch.now) }
+    ensures err { FoundTells S.Store keeper.new
+        → OnErr result (found_items S.Store keeper.new ≡ found_items S.Store keeper.old) }
     ensures opened { is_some keeper.new ≡ is_some keeper.old }
 {
     match keeper {
@@ -126,7 +168,7 @@ impl Keeper for PathKeeper {
 
     #[tactic(auto, using(crate::proofs::Lookups::items_ascend))]
     fn apply(&mut self, batch: &[Put]) -> Result<(), KeepFault> {
-        let answer = keep_path(&mut self.keeper, batch);
+        let answer = keep_found(&mut self.keeper, batch);
         count(&answer, &mut self.faults);
         answer
     }

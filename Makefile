@@ -1,6 +1,8 @@
 # make            proves and builds the program
 # make test       runs the merge gate and the repository's own checks
-# make checks     runs those of the own checks that use the built program
+# make checks     runs the own checks of the pages and of the built program, with those that take minutes
+# make proofs     prints each clause of each public call, with the comment beside it
+# make trusted    prints the definitions that the contract of the program rests on, by chapter
 # make limits     runs into the limits that take minutes to reach
 # make memory     runs the program with each allocation failing in turn
 # make plants     has the prover refuse the wrong bodies in plants/, of all crates (hours) or of
@@ -15,7 +17,7 @@ PREFIX ?= /usr/local
 MINUTES ?= 1
 CRATES ?=
 
-.PHONY: build test checks limits memory plants fuzz bench hostile install clean
+.PHONY: build test checks proofs trusted limits memory plants fuzz bench hostile install clean
 build:
 	sh ./build
 
@@ -23,6 +25,8 @@ test:
 	bash .ci/run
 
 checks: build
+	bash checks/pages
+	checks/definitions
 	bash checks/examples
 	bash checks/program
 	bash checks/sessions
@@ -34,6 +38,12 @@ checks: build
 	checks/failures
 	checks/differential crates/mud/out/mud 1 10000
 	checks/differential crates/mud/out/mud 2 10000 200
+
+proofs:
+	@bash checks/proofs
+
+trusted:
+	@checks/definitions --print
 
 limits: build
 	bash checks/limits

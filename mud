@@ -8,7 +8,7 @@ program=$here/crates/mud/out/mud
 if [ ! -x "$program" ] || [ -n "$(find "$here/crates" "$here/crates.txt" -name out -prune -o \
     -type f \( -name '*.rt' -o -name '*.antt' -o -name crates.txt \) -newer "$program" -print | head -n 1)" ]; then
   if ! command -v rt >/dev/null 2>&1; then
-    echo "mud: the program has to be built first, and there is no command 'rt': install the Rattle toolchain, put the folder with its 'rt' on the PATH, and run this again (README.md, 'First run')" >&2
+    echo "mud: the program has to be built first, and there is no command 'rt': install the Rattle toolchain, put the folder with its 'rt' on the PATH, and run this again (README.md, 'What you need')" >&2
     exit 127
   fi
   sh "$here/build" || exit 126

@@ -1,7 +1,30 @@
-# The clauses of the public calls in a source file of rt fmt's layout: a line 'FILE CALL CLAUSE' for
-# each, with tabs between them, where FILE is the variable 'file', and a clause without a name is '·'.
-# A call is a 'pub fn', a method of a 'pub trait', or a method of a trait's impl that has clauses of
-# its own; a method is written 'Type::name'. What stands under #[cfg(test)] is left out.
+# The clauses of the public calls in source files of rt fmt's layout: a line for each, with the crate, the
+# file below its src/, the call, the clause's name ('·' where it has none), the comment beside it and its
+# text, and tabs between them. A call is a 'pub fn', a method of a 'pub trait', or a method of a trait's
+# impl that has clauses of its own; a method is written 'Type::name'. What stands under #[cfg(test)] in
+# a file is left out.
+
+# what is known of a clause, once it ends
+function put_clause() {
+  if (clause == "") return
+  sub(/ *[{] */, "", text)
+  sub(/ *[}]$/, "", text)
+  print crate "\t" file "\t" call "\t" clause "\t" said "\t" text
+  clause = ""
+  said = ""
+}
+
+FNR == 1 {
+  put_clause()
+  file = FILENAME
+  sub(/^crates\//, "", file)
+  crate = file
+  sub(/\/.*/, "", crate)
+  sub(/^[^\/]*\/src\//, "", file)
+  owner = ""
+  is_public = in_contract = in_head = in_tests = tests_next = 0
+}
+END { put_clause() }
 
 # the text without the generic parameters at its front
 function behind_generics(text,    depth, place, sign) {
@@ -45,8 +68,16 @@ function enter(head,    of_type) {
 tests_next { tests_next = 0; if ($0 ~ /^(pub(\([a-z]+\))? )?mod .*[{]$/) in_tests = 1 }
 in_tests { if ($0 ~ /^[}]/) in_tests = 0; next }
 
-# a comment
-/^ *\/\// { next }
+# a comment: one that stands in a contract is of the clause behind it
+/^ *\/\// {
+  if (in_contract) {
+    put_clause()
+    line = $0
+    sub(/^ *\/+ */, "", line)
+    said = said (said == "" ? "" : " ") line
+  }
+  next
+}
 
 # the head of an impl or a trait, on one line or more
 /^(impl|(pub )?trait )/ { head = ""; in_head = 1 }
@@ -57,10 +88,12 @@ in_head {
   if (line ~ /[{][}]?$/) { in_head = 0; enter(head) }
   next
 }
-/^[}]/ { owner = ""; is_public = 0; in_contract = 0; next }
+/^[}]/ { put_clause(); owner = ""; is_public = 0; in_contract = 0; next }
 
 # a function begins
 /^(    )?(pub(\([a-z]+\))? )?(const )?fn / {
+  put_clause()
+  said = ""
   indent = ($0 ~ /^ /) ? "    " : ""
   call = $0
   sub(/^.*fn /, "", call)
@@ -72,11 +105,21 @@ in_head {
 !in_contract { next }
 
 # its body begins
-$0 == indent "{" || $0 == indent "{}" || ($0 ~ ("^" indent "[)]") && $0 ~ /[{]$/) { in_contract = 0; next }
+$0 == indent "{" || $0 == indent "{}" || ($0 ~ ("^" indent "[)]") && $0 ~ /[{]$/) { put_clause(); in_contract = 0; next }
 
+/^ *requires/ { put_clause(); said = ""; next }
 /^ *ensures/ {
+  put_clause()
   clause = $0
   sub(/^ *ensures[*]? */, "", clause)
+  text = clause
   sub(/ *[{].*$/, "", clause)
-  print file "\t" call "\t" (clause == "" ? "·" : clause)
+  text = substr(text, length(clause) + 1)
+  if (clause == "") clause = "·"
+  next
+}
+clause != "" {
+  line = $0
+  sub(/^ +/, "", line)
+  text = text " " line
 }

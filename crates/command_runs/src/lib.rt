@@ -5,8 +5,6 @@
 pub mod capture;
 pub mod status;
 pub mod stop;
-#[cfg(test)]
-mod tests;
 
 pub use capture::{PacketLines, write_capture};
 pub use status::Status;

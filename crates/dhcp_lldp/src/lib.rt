@@ -15,6 +15,3 @@ mod tlvs;
 pub use dhcp::read_dhcp;
 pub use heard::{HearFault, Heard};
 pub use lldp::read_lldp;
-
-#[cfg(test)]
-mod tests;

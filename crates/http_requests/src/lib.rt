@@ -22,6 +22,3 @@ pub use parts::{RequestParts, parts_of};
 pub use seek::{HeadStep, look};
 pub use shape::RequestShape;
 pub use stop::{MOST_REQUESTS, Stop, stop_of};
-
-#[cfg(test)]
-mod tests;

@@ -12,6 +12,3 @@ pub use connections::serve_connections;
 pub use end::ConnectionEnd;
 pub use serve::serve_connection;
 pub use service::Service;
-
-#[cfg(test)]
-mod tests;

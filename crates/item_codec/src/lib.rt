@@ -13,6 +13,3 @@ pub use fault::CodecFault;
 pub use reader::FieldReader;
 pub use word::Word;
 pub use writer::FieldWriter;
-
-#[cfg(test)]
-mod tests;

@@ -138,6 +138,3 @@ pub fn moment_of(text: &[u8]) -> Option<Moment>
 {
     Moment::new(number_upto(Moment::LAST, text)?)
 }
-
-#[cfg(test)]
-mod tests;

@@ -31,6 +31,3 @@ pub use memory_keeper::{KeeperCalls, MemoryKeeper};
 pub use memory_spool::{MemorySpool, SpoolCalls};
 pub use spool::{MOST_READ, Spool};
 pub use whole::{ReadFault, read_whole, say};
-
-#[cfg(test)]
-mod tests;

@@ -8,6 +8,3 @@ mod place;
 
 pub use number::{ByteOrder, big_16, big_32, big_128, number_16, number_32};
 pub use place::{is_group_at, mac_at, octets_at};
-
-#[cfg(test)]
-mod tests;

@@ -13,6 +13,3 @@ mod stage;
 pub use capture::Capture;
 pub use fault::CapFault;
 pub use reader::{Captured, Reader};
-
-#[cfg(test)]
-mod tests;

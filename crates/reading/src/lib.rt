@@ -7,6 +7,3 @@ pub mod refusal;
 
 pub use checks::{refuse_where, wanted};
 pub use refusal::Refusal;
-
-#[cfg(test)]
-mod tests;

@@ -13,6 +13,3 @@ pub use clock::RealClock;
 pub use door::RealDoor;
 pub use port::{LONGEST_WAIT, Port};
 pub use spool::RealSpool;
-
-#[cfg(test)]
-mod tests;

@@ -62,6 +62,3 @@ pub trait HoldsRow<R: Placed> {
     fn into_row(self) -> R
         ensures { result ≡ row_of self };
 }
-
-#[cfg(test)]
-mod tests;

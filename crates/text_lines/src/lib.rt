@@ -6,8 +6,6 @@ pub mod addresses;
 pub mod faults;
 pub mod numbers;
 pub mod paths;
-#[cfg(test)]
-mod tests;
 
 pub use addresses::{append_addr, append_mac, append_prefix};
 pub use faults::{append_url, append_url_fault, append_url_part};

@@ -1,4 +1,5 @@
-use super::*;
+//! The fields of items, written and read, octet for octet.
+use item_codec::{CodecFault, FieldReader, FieldWriter, Word};
 use std::test::Fail;
 
 /// A version, a string, a list of two ends and the last field of eight octets.

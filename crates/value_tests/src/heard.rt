@@ -1,5 +1,5 @@
 //! Messages and frames that are written out, and what is heard in each.
-use crate::{HearFault, Heard, read_dhcp, read_lldp};
+use dhcp_lldp::{HearFault, Heard, read_dhcp, read_lldp};
 use mud_base::{Addr, Mac};
 use mud_url::{UrlFault, mud_url};
 use std::alloc::{AllocError, Global};

@@ -1,7 +1,8 @@
 //! Rows of RFC 4291 and RFC 5952, read and written by the code.
-use super::*;
-use crate::addr::{addr_order, same_addr};
-use crate::texts::{addr_text, mac_text, prefix_text};
+use mud_base::{
+    Moment, Prefix, addr_of, addr_order, addr_text, mac_of, mac_text, moment_of, prefix_of,
+    prefix_text, same_addr,
+};
 use std::alloc::Global;
 use std::cmp::Ordering;
 use std::process::Abort;

@@ -1,8 +1,8 @@
 //! Fields of a few octets, by hand.
-use crate::{
+use mud_base::Mac;
+use octet_fields::{
     ByteOrder, big_16, big_32, big_128, is_group_at, mac_at, number_16, number_32, octets_at,
 };
-use mud_base::Mac;
 
 const OCTETS: [u8; 18] = [
     0x01, 0x02, 0x03, 0x04, 0x05, 0x06, 0x07, 0x08, 0x09, 0x0A, 0x0B, 0x0C, 0x0D, 0x0E, 0x0F, 0x10,

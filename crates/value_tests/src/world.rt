@@ -1,11 +1,11 @@
 //! Each call once with ample memory, and one read, write and change that fail where they are listed.
 ghost use Rattle.std.specs.Prelude.{◌≡◌, IfOk};
 
-use crate::{
+use mud_base::{Bytes, Listed, Memory, Moment};
+use mud_world::{
     Clock, Door, Failed, Item, KeepFault, Keeper, MemoryClock, MemoryDoor, MemoryKeeper,
     MemorySpool, Put, Spool, SpoolFault, keep, open_box, read_whole, say,
 };
-use mud_base::{Bytes, Listed, Memory, Moment};
 use std::alloc::Global;
 use std::process::Abort;
 use std::test::Fail;

@@ -1,11 +1,11 @@
 //! Each writer once with ample memory, behind a text that stands.
-use crate::{
-    append_addr, append_decimal, append_end, append_mac, append_number, append_path_part,
-    append_place, append_prefix, append_signed, append_url, append_url_fault, append_url_part,
-};
 use mud_base::{Addr, Bytes, End, Mac, Prefix};
 use mud_url::{UrlFault, mud_url};
 use std::test::Fail;
+use text_lines::{
+    append_addr, append_decimal, append_end, append_mac, append_number, append_path_part,
+    append_place, append_prefix, append_signed, append_url, append_url_fault, append_url_part,
+};
 
 #[test]
 fn adds_numbers(rt: HostRuntime) -> Result<(), Fail> {

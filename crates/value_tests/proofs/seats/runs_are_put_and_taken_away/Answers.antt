@@ -1,6 +1,6 @@
 use Rattle.std.proofs.Common.{◌≡◌, refl, subst, ◌∙◌}
 use Rattle.std.specs.Option.{IfSome}
-use Rattle.sorted_rows.proofs.placed.tests.runs_are_put_and_taken_away.Goals as goal
+use Rattle.value_tests.proofs.seats.runs_are_put_and_taken_away.Goals as goal
 
 pub put_run_at-requires-clause-found : goal.put_run_at-requires-clause-found
 put_run_at-requires-clause-found g c =

@@ -1,5 +1,5 @@
 //! A capture whose lines depend on the packets before.
-use crate::{PacketLines, Status, write_capture};
+use command_runs::{PacketLines, Status, write_capture};
 use mud_base::{Bytes, Listed, Memory};
 use mud_world::MemoryDoor;
 use pcap_read::Captured;

@@ -1,7 +1,7 @@
 //! What no clause says of the real ones: that a client is served, and what a clock shows.
-use crate::{RealClock, RealDoor};
 use mud_base::Moment;
 use mud_world::{Clock, Door, Failed};
+use real_world::{RealClock, RealDoor};
 use std::io::{Read, Write};
 use std::net::{TcpListener, TcpStream};
 use std::test::Fail;

@@ -3,10 +3,10 @@ ghost use Rattle.std.specs.Prelude.{◌≡◌, ◌+◌, ◌-◌, ◌*◌, ◌^�
 ghost use Rattle.sorted_rows.specs.Placed.{index_in};
 ghost use Rattle.sorted_rows.specs.Ledgers.{IsBlankOf};
 
-use super::*;
-use crate::steps::Steps;
 use mud_base::Listed;
+use sorted_rows::{Change, HoldsRow, KeyOf, Placed, PrefixOf, SortedRows, Steps};
 use std::alloc::Global;
+use std::cmp::Ordering;
 use std::marker::Brand;
 use std::process::Abort;
 use std::sync::ledger::{Blank, Ledger};

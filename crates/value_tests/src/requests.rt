@@ -1,5 +1,7 @@
 //! Connections over a door in memory, in pieces and with failing calls.
-use crate::{DoorFault, FramingFault, MomentFrom, Next, RequestBuffer, next_request, parts_of};
+use http_requests::{
+    DoorFault, FramingFault, MomentFrom, Next, RequestBuffer, next_request, parts_of,
+};
 use mud_base::{Bytes, Listed, Memory};
 use mud_world::MemoryDoor;
 use std::alloc::Global;

@@ -1,6 +1,6 @@
 //! A reading of two members of a record, at a fault of its own.
-use super::*;
 use mud_base::Memory;
+use reading::{Refusal, refuse_where, wanted};
 use std::test::Fail;
 
 /// What is wrong with a pair.

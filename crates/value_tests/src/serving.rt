@@ -1,8 +1,8 @@
 //! A small service over a door in memory.
 ghost use Rattle.std.specs.Prelude.{◌≡◌, slice_index};
 
-use crate::{ConnectionEnd, Service, serve_connection, serve_connections};
 use http_requests::{MomentFrom, RequestBuffer, RequestFault, RequestParts};
+use http_serving::{ConnectionEnd, Service, serve_connection, serve_connections};
 use mud_base::{Bytes, Listed, Memory};
 use mud_world::MemoryDoor;
 use std::alloc::Global;

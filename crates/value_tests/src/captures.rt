@@ -1,7 +1,7 @@
 //! Each call once with ample memory, over a source whose second read fails.
-use crate::{CapFault, Capture};
 use mud_base::{Bytes, Listed, Memory};
 use mud_world::MemoryDoor;
+use pcap_read::{CapFault, Capture};
 use std::alloc::Global;
 use std::process::Abort;
 use std::test::Fail;

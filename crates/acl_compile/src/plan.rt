@@ -8,6 +8,7 @@ ghost use Rattle.acl_compile.specs.Compiled.{UrlsApart, compiled_state};
 ghost use Rattle.acl_compile.specs.Places.{ArePlacesOf};
 ghost use Rattle.acl_compile.specs.Plans as spec;
 ghost use Rattle.acl_compile.specs.Plans.{slot_set, IsMemberPlan, IsPolicyPlan, IsPlaceFor, CanBeCounted, held_for, others_held, policy_reads, policy_steps};
+ghost use Rattle.row_shelves.specs.Shelves.{HasRoom};
 ghost use Rattle.row_changes.specs.Steps.{least_steps, HaveKeys, PolicyKeys, place_steps};
 
 use crate::places::{UrlPlace, find_held};
@@ -159,6 +160,26 @@ fn held_policy(alloc: Global, url: &MudUrl, policy: Option<&Policy>) -> Result<O
     }
 }
 
+/// Makes room for a policy in the table, for its place, and for the rows of these edits.
+fn make_slot_room(
+    alloc: Global,
+    slots: &mut Vec<Option<Held>>,
+    places: &mut SortedRows<UrlPlace>,
+    rows: &mut RowShelves,
+    edits: &SortedRows<Edit<Row>>,
+) -> Result<(), Memory>
+    ensures slots { slots.new.items ≡ slots.old.items }
+    ensures places { places.new.rows ≡ places.old.rows }
+    ensures rows { rows.new.rows ≡ rows.old.rows }
+    ensures slot_room { OnOk result (1 ≤ vec_capacity slots.new - vec_len slots.new) }
+    ensures place_room { OnOk result (1 ≤ places.new.room) }
+    ensures row_room { OnOk result (HasRoom edits.now.rows rows.new.room) }
+{
+    slots.reserve(1)?;
+    places.reserve(1)?;
+    rows.make_room(alloc, edits)
+}
+
 /// Plans that this policy is held for the URL, or none.
 pub(crate) fn plan_slot<L: Ledger>(
     alloc: Global,
@@ -186,7 +207,7 @@ pub(crate) fn plan_slot<L: Ledger>(
 {
     let place = place_for(slots.as_slice(), places, url);
     let held = held_policy(alloc, url, policy)?;
-    let edits = slot_rows(
+    let Ok(edits) = slot_rows(
         alloc,
         slots.as_slice(),
         bindings,
@@ -194,10 +215,15 @@ pub(crate) fn plan_slot<L: Ledger>(
         place as u16,
         &held,
         steps,
-    )?;
-    slots.reserve(1)?;
-    places.reserve(1)?;
-    rows.make_room(alloc, &edits)?;
+    ) else {
+        drop(held);
+        return Err(Memory);
+    };
+    let Ok(()) = make_slot_room(alloc, slots, places, rows, &edits) else {
+        drop(edits);
+        drop(held);
+        return Err(Memory);
+    };
     Ok(RowPlan {
         rows: edits,
         bindings: SortedRows::new(alloc),

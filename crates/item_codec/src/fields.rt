@@ -44,7 +44,7 @@ pub fn number_at(octets: &[u8], width: u8) -> Result<(u64, &[u8]), CodecFault>
 
 /// A string.
 #[tactic(auto, unfolding(crate::specs::Reading::string_at))]
-pub fn string_at(octets: &[u8]) -> Result<(&[u8], &[u8]), CodecFault>
+pub(crate) fn string_at(octets: &[u8]) -> Result<(&[u8], &[u8]), CodecFault>
     ensures { spec.Gives (λ x. (x.0.now, x.1.now)) result (spec.string_at octets.now) }
 {
     let (len, rest) = number_at(octets, 4)?;

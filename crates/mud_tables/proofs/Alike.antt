@@ -16,20 +16,17 @@ use Rattle.mud_tables.specs.Ends.{for_ever}
 use Rattle.mud_tables.specs.Tables.{Tables, meets, ruling_of}
 use Rattle.mud_tables.specs.Bindings.{bindings_of, key_met, selector_met, members_met, matches_by_bindings, ruling_by_bindings}
 use Rattle.mud_tables.proofs.Members.{has_live-host, has_live-model, has_live-class, has_live-mine, has_live-name}
-
-and_true : (b : Bool) → (b && true) ≡ b
-and_true true = refl
-and_true false = refl
+use Rattle.std.proofs.Math.Bool.{and-true}
 
 -- a selector is met in the tables where its key is met by a binding, and where it is met as a near selector
 pub met_by_binding : (tables : Tables) (now : ℕ) (url : List ℕ) → now < for_ever → (a : Addr) (s : Selector) → (selector_met (bindings_of tables) url a now s && near_met tables.locals a s) ≡ meets tables now url s a
 unfolding selector_met key_of key_met near_met meets
-met_by_binding tables now url h a (asks.Controller uri) = and_true _ ∙ has_live-class tables uri a now h
-met_by_binding tables now url h a asks.MyController = and_true _ ∙ has_live-mine tables url a now h
-met_by_binding tables now url h a (asks.Manufacturer host) = and_true _ ∙ has_live-host tables host a now
-met_by_binding tables now url h a asks.SameManufacturer = and_true _ ∙ has_live-host tables (host_of url) a now
-met_by_binding tables now url h a (asks.Model other) = and_true _ ∙ has_live-model tables other a now
-met_by_binding tables now url h a (asks.Name name) = and_true _ ∙ has_live-name tables name a now
+met_by_binding tables now url h a (asks.Controller uri) = and-true _ ∙ has_live-class tables uri a now h
+met_by_binding tables now url h a asks.MyController = and-true _ ∙ has_live-mine tables url a now h
+met_by_binding tables now url h a (asks.Manufacturer host) = and-true _ ∙ has_live-host tables host a now
+met_by_binding tables now url h a asks.SameManufacturer = and-true _ ∙ has_live-host tables (host_of url) a now
+met_by_binding tables now url h a (asks.Model other) = and-true _ ∙ has_live-model tables other a now
+met_by_binding tables now url h a (asks.Name name) = and-true _ ∙ has_live-name tables name a now
 met_by_binding tables now url h a asks.LocalNetworks = refl
 met_by_binding tables now url h a (asks.Network prefix) = refl
 

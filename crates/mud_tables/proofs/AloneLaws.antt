@@ -1,6 +1,6 @@
 -- An address stays in the leases of one Thing, whatever is done.
 use Rattle.std.proofs.Common.{◌≡◌, ℕ, Bool, true, false, cond, not, List, [], ◌∷◌, Option, Some, None, refl, sym, ap, subst, ◌∙◌}
-use Rattle.std.specs.List.{list_any, filter}
+use Rattle.std.specs.List.{list_any}
 use Rattle.std.specs.Option.{option_map}
 use Rattle.std.specs.declared.cmp.Ordering.{Ordering}
 use Rattle.std.specs.declared.cmp.Ordering.TheVariants.{Less, Equal, Greater}
@@ -16,26 +16,9 @@ use Rattle.mud_tables.specs.declared.thing.Thing.{Thing}
 use Rattle.mud_tables.specs.Ends.{Ends, has_address, end_of, with_end, without_address, live_rows, is_live}
 use Rattle.mud_tables.specs.Things.{IsAlone, mac_of, set_thing, without_thing, new_thing, holds, with_leases, released, without_lease}
 use Rattle.mud_tables.proofs.RowSets.{same_addr_exact, any_first, any_later, any_by, row_at-map}
+pub use Rattle.sorted_rows.proofs.ListTests.{any_kept, any_without}
 
 -- ---- Which addresses rows of addresses have
-
--- what passes a test among those that are left passes it among all
-kept_first : {A : Type 0} (p q : A → Bool) (x : A) (xs : List A) → (list_any p (filter q xs) ≡ true → list_any p xs ≡ true) → (b : Bool) → list_any p (cond b (x ∷ filter q xs) (filter q xs)) ≡ true → list_any p (x ∷ xs) ≡ true
-kept_first p q x xs rest true e = any_by p x (filter q xs) (any_first p x xs) (λ later. any_later p x xs (rest later)) e
-kept_first p q x xs rest false e = any_later p x xs (rest e)
-
-pub any_kept : {A : Type 0} (p q : A → Bool) (xs : List A) → list_any p (filter q xs) ≡ true → list_any p xs ≡ true
-any_kept p q [] e = e
-any_kept p q (x ∷ xs) e = kept_first p q x xs (any_kept p q xs) (q x) e
-
-none_first : {A : Type 0} (p : A → Bool) (x : A) (xs : List A) → (list_any p (filter (λ y. not (p y)) xs) ≡ true → ⊥) → (b : Bool) → p x ≡ b → list_any p (cond (not b) (x ∷ filter (λ y. not (p y)) xs) (filter (λ y. not (p y)) xs)) ≡ true → ⊥
-none_first p x xs rest true is e = rest e
-none_first p x xs rest false is e = any_by p x (filter (λ y. not (p y)) xs) (λ here. false≢true (sym is ∙ here)) rest e
-
--- what passes the test isn't among those without it
-pub any_without : {A : Type 0} (p : A → Bool) (xs : List A) → list_any p (filter (λ y. not (p y)) xs) ≡ true → ⊥
-any_without p [] e = false≢true e
-any_without p (x ∷ xs) e = none_first p x xs (any_without p xs) (p x) refl e
 
 pub without_address_none : (a : Addr) (rows : Ends) → has_address a (without_address a rows) ≡ true → ⊥
 unfolding has_address without_address
@@ -111,7 +94,7 @@ released_before a things q u (Some old) found e = record {
   had = λ b h. without_address_less a b old.leases (ap (λ t. has_address b t.leases) (same_Some (released a old) u e) ∙ h);
 }
 
-keeps_mac : (a : Addr) (t : Thing) → mac_of (released a t) ≡ mac_of t
+pub keeps_mac : (a : Addr) (t : Thing) → mac_of (released a t) ≡ mac_of t
 unfolding mac_of released with_leases
 keeps_mac a t = refl
 

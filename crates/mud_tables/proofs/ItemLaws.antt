@@ -1,6 +1,6 @@
 -- What is kept in an item is read back from it, and nothing else reads.
 use Rattle.std.proofs.Common.{◌≡◌, ℕ, ◌+◌, ◌*◌, ◌/◌, ◌%◌, ◌^◌, ◌<◌, ◌≤◌, leb, Bool, true, false, ◌&&◌, cond, eqb, List, [], ◌∷◌, ◌++◌, length, Option, Some, None, refl, sym, ap, subst, ◌∙◌, append_assoc, arith, inl, inr, lit<, lit≤, ◌⊎◌}
-use Rattle.std.proofs.lemmas.Bool.{eqb-true, eqb-false, cases_lt, leb-true, le-leb}
+use Rattle.std.proofs.lemmas.Bool.{eqb-true, eqb-false, cases_lt, leb-true, le-leb, and_parts}
 use Rattle.std.proofs.lemmas.List.{append-nil, nil_from_length}
 use Rattle.mud_base.specs.declared.addr.Addr.{Addr}
 use Rattle.mud_base.specs.declared.addr.Addr.TheVariants.{V4, V6}
@@ -122,10 +122,6 @@ network_form =
     make_prefix (λ (p : Prefix). p.addr) (λ (p : Prefix). p.len) (λ _. refl) (λ _ _. refl) (λ _ _. refl) address_form octet_form
 
 -- ---- Items of one kind
-
-both_true : (a b : Bool) → (a && b) ≡ true → (a ≡ true) × (b ≡ true)
-both_true true b e = (refl, e)
-both_true false b e = absurd cc
 
 same_item : (item : Item) (kind : ℕ) (key body : List ℕ) → item.kind ≡ kind → item.key ≡ key → item.body ≡ body → item ≡ record { kind = kind; key = key; body = body }
 same_item item kind key body p q r = λ i. record { kind = p i; key = q i; body = r i }
@@ -277,7 +273,7 @@ pub thing_alone : (item : Item) (thing : Thing) → IsOctets item.body → thing
 unfolding thing_in if_sound_thing
 thing_alone item thing octets e =
     let form = pass_some (eqb item.kind 1 && eqb (length item.key) 6) thing (thing_of item.key item.body >>= if_sound_thing) e in
-    let tests = both_true (eqb item.kind 1) (eqb (length item.key) 6) form.0 in
+    let tests = and_parts (eqb item.kind 1) (eqb (length item.key) 6) form.0 in
     let t = bind_some (thing_of item.key item.body) if_sound_thing thing form.1 in
     let s = pass_some (is_sound_thing t.0) thing (Some t.0) t.2 in
     let read = thing_of_alone item.key item.body t.0 (eqb-true (length item.key) 6 tests.1) octets t.1 in
@@ -327,7 +323,7 @@ pub locals_alone : (item : Item) (locals : List Prefix) → IsOctets item.body �
 unfolding locals_in locals_item if_sound_locals
 locals_alone item locals octets e =
     let form = pass_some (eqb item.kind 4 && eqb (length item.key) 0) locals (list_body_in network_in item.body >>= if_sound_locals) e in
-    let tests = both_true (eqb item.kind 4) (eqb (length item.key) 0) form.0 in
+    let tests = and_parts (eqb item.kind 4) (eqb (length item.key) 0) form.0 in
     let l = bind_some (list_body_in network_in item.body) if_sound_locals locals form.1 in
     let s = pass_some (are_locals l.0) locals (Some l.0) l.2 in
     let body = list_body_alone network IsNetwork network_in network_form item.body l.0 octets l.1 in
@@ -377,7 +373,7 @@ pub stamp_alone : (item : Item) (moment : ℕ) → IsOctets item.body → stamp_
 unfolding stamp_in stamp_item if_moment
 stamp_alone item moment octets e =
     let form = pass_some (eqb item.kind 6 && eqb (length item.key) 0) moment (moment_of_body item.body >>= if_moment) e in
-    let tests = both_true (eqb item.kind 6) (eqb (length item.key) 0) form.0 in
+    let tests = and_parts (eqb item.kind 6) (eqb (length item.key) 0) form.0 in
     let m = bind_some (moment_of_body item.body) if_moment moment form.1 in
     let s = pass_some (leb m.0 253402300799) moment (Some m.0) m.2 in
     let same : m.0 ≡ moment = some_is m.0 moment s.1 in (

@@ -17,6 +17,7 @@ pub mod ToldThings
 pub mod SoundLaws
 pub mod ReadLaws
 pub mod TakenLaws
+pub mod TypeFacts
 mod TakenExamples
 mod SamePrefixes
 pub mod MacOrder

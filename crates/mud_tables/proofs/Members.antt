@@ -1,5 +1,5 @@
 -- The bindings of the tables tell exactly which addresses meet a member selector.
-use Rattle.std.proofs.Common.{◌≡◌, ℕ, ◌<◌, Bool, true, false, ◌&&◌, ◌||◌, List, [], ◌∷◌, ◌++◌, map, refl, ap, ◌∙◌}
+use Rattle.std.proofs.Common.{◌≡◌, ℕ, ◌<◌, Bool, true, false, ◌&&◌, ◌||◌, List, [], ◌∷◌, ◌++◌, refl, ap, ◌∙◌}
 use Rattle.std.specs.Prelude.{bytes_eq, flat_map}
 use Rattle.std.specs.List.{list_any}
 use Rattle.std.proofs.lemmas.Bool.{lt-ltb}
@@ -20,6 +20,8 @@ use Rattle.mud_tables.specs.Ends.{is_live, for_ever, has_live}
 use Rattle.mud_tables.specs.Binds.{key_of_class, same_class, has_addr}
 use Rattle.mud_tables.specs.Tables.{Tables, has_lease, has_host, has_url, is_leased, is_bound, is_named}
 use Rattle.mud_tables.specs.Bindings.{bindings_of_lease, thing_bindings, member_key, class_binding, class_bindings, name_binding, name_bindings, things_bindings, classes_bindings, names_bindings, bindings_of, is_met_by, has_live_binding}
+use Rattle.sorted_rows.proofs.ListTests.{any-flat_map, any-map}
+use Rattle.std.proofs.Math.Bool.{and-true, or-false}
 
 -- ---- Some element passes a test
 
@@ -30,18 +32,6 @@ any_same p q same (x ∷ xs) = rw (same x, any_same p q same xs) refl
 any_none : {A : Type 0} (p : A → Bool) → ((x : A) → p x ≡ false) → (xs : List A) → list_any p xs ≡ false
 any_none p none [] = refl
 any_none p none (x ∷ xs) = rw (none x, any_none p none xs) refl
-
-any-map : {A B : Type 0} (p : B → Bool) (f : A → B) (xs : List A) → list_any p (map f xs) ≡ list_any (λ x. p (f x)) xs
-any-map p f [] = refl
-any-map p f (x ∷ xs) = rw (any-map p f xs) refl
-
-any-flat_map : {A B : Type 0} (p : B → Bool) (f : A → List B) (xs : List A) → list_any p (flat_map f xs) ≡ list_any (λ x. list_any p (f x)) xs
-any-flat_map p f [] = refl
-any-flat_map p f (x ∷ xs) = rw (list_any-append p (f x) (flat_map f xs), any-flat_map p f xs) refl
-
-or_false : (b : Bool) → (b || false) ≡ b
-or_false true = refl
-or_false false = refl
 
 -- a test that asks the same of every element
 any_and : {A : Type 0} (c : Bool) (p : A → Bool) (xs : List A) → list_any (λ x. c && p x) xs ≡ (c && list_any p xs)
@@ -55,11 +45,11 @@ live_at a now r = same_addr r.0 a && is_live r.1 now
 
 lease_host : (h : List ℕ) (a : Addr) (now : ℕ) (t : Thing) (r : Addr × ℕ) → list_any (is_met_by (of_key.Host h) a now) (bindings_of_lease t r) ≡ (bytes_eq (host_of t.url) h && live_at a now r)
 unfolding is_met_by bindings_of_lease same_key live_at
-lease_host h a now t r = or_false (bytes_eq (host_of t.url) h && (same_addr r.0 a && is_live r.1 now))
+lease_host h a now t r = or-false (bytes_eq (host_of t.url) h && (same_addr r.0 a && is_live r.1 now))
 
 lease_model : (u : List ℕ) (a : Addr) (now : ℕ) (t : Thing) (r : Addr × ℕ) → list_any (is_met_by (of_key.Model u) a now) (bindings_of_lease t r) ≡ (bytes_eq t.url u && live_at a now r)
 unfolding is_met_by bindings_of_lease same_key live_at
-lease_model u a now t r = or_false (bytes_eq t.url u && (same_addr r.0 a && is_live r.1 now))
+lease_model u a now t r = or-false (bytes_eq t.url u && (same_addr r.0 a && is_live r.1 now))
 
 -- the test asks of each lease of a Thing what it asks of the Thing, and that the lease is live at the address
 thing_met : (key : MemberKey) (a : Addr) (now : ℕ) (t : Thing) (c : Bool) → ((r : Addr × ℕ) → list_any (is_met_by key a now) (bindings_of_lease t r) ≡ (c && live_at a now r))
@@ -98,10 +88,6 @@ live_for_ever : (now : ℕ) → now < for_ever → is_live for_ever now ≡ true
 unfolding is_live
 live_for_ever now h = lt-ltb now for_ever h
 
-and_true : (b : Bool) → (b && true) ≡ b
-and_true true = refl
-and_true false = refl
-
 of_uri : (uri : List ℕ) (c : Class) → same_key (member_key c) (of_key.Class uri) ≡ same_class c (class.Uri uri)
 unfolding same_key member_key same_class key_of_class
 of_uri uri (class.Uri x) = refl
@@ -114,7 +100,7 @@ of_mine url (class.Mine x) = refl
 
 address_met : (key : MemberKey) (a : Addr) (now : ℕ) → now < for_ever → (row : ClassRow) (b : Addr) → is_met_by key a now (class_binding row b) ≡ (same_key (member_key row.class) key && same_addr b a)
 unfolding is_met_by class_binding
-address_met key a now h row b = rw (live_for_ever now h, and_true (same_addr b a)) refl
+address_met key a now h row b = rw (live_for_ever now h, and-true (same_addr b a)) refl
 
 class_met : (key : MemberKey) (c : Class) (a : Addr) (now : ℕ) → now < for_ever → ((d : Class) → same_key (member_key d) key ≡ same_class d c) → (row : ClassRow) → list_any (is_met_by key a now) (class_bindings row) ≡ (same_class row.class c && has_addr a row.addrs)
 unfolding class_bindings has_addr
@@ -174,28 +160,28 @@ unfolding member_key same_key
 has_live-host tables host a now =
     parts tables (of_key.Host host) a now _ false false (host_met host a now tables.things)
     (no_class (of_key.Host host) a now (elim [ class.Uri x ↦ refl | class.Mine x ↦ refl ]) tables.classes) (no_name (of_key.Host host) a now (λ _. refl) tables.names)
-    ∙ or_false _ ∙ or_false _
+    ∙ or-false _ ∙ or-false _
 
 pub has_live-model : (tables : Tables) (url : List ℕ) (a : Addr) (now : ℕ) → has_live_binding (bindings_of tables) (of_key.Model url) a now ≡ is_leased (has_url url) a now tables.things
 unfolding member_key same_key
 has_live-model tables url a now =
     parts tables (of_key.Model url) a now _ false false (model_met url a now tables.things)
     (no_class (of_key.Model url) a now (elim [ class.Uri x ↦ refl | class.Mine x ↦ refl ]) tables.classes) (no_name (of_key.Model url) a now (λ _. refl) tables.names)
-    ∙ or_false _ ∙ or_false _
+    ∙ or-false _ ∙ or-false _
 
 pub has_live-class : (tables : Tables) (uri : List ℕ) (a : Addr) (now : ℕ) → now < for_ever → has_live_binding (bindings_of tables) (of_key.Class uri) a now ≡ is_bound (class.Uri uri) a tables.classes
 unfolding same_key is_met_by bindings_of_lease
 has_live-class tables uri a now h =
     parts tables (of_key.Class uri) a now false _ false (no_lease (of_key.Class uri) a now (λ _ _. refl) tables.things)
     (classes_met (of_key.Class uri) (class.Uri uri) a now h (of_uri uri) tables.classes) (no_name (of_key.Class uri) a now (λ _. refl) tables.names)
-    ∙ or_false _
+    ∙ or-false _
 
 pub has_live-mine : (tables : Tables) (url : List ℕ) (a : Addr) (now : ℕ) → now < for_ever → has_live_binding (bindings_of tables) (of_key.Mine url) a now ≡ is_bound (class.Mine url) a tables.classes
 unfolding same_key is_met_by bindings_of_lease
 has_live-mine tables url a now h =
     parts tables (of_key.Mine url) a now false _ false (no_lease (of_key.Mine url) a now (λ _ _. refl) tables.things)
     (classes_met (of_key.Mine url) (class.Mine url) a now h (of_mine url) tables.classes) (no_name (of_key.Mine url) a now (λ _. refl) tables.names)
-    ∙ or_false _
+    ∙ or-false _
 
 pub has_live-name : (tables : Tables) (name : List ℕ) (a : Addr) (now : ℕ) → has_live_binding (bindings_of tables) (of_key.Name name) a now ≡ is_named name a now tables.names
 unfolding member_key same_key is_met_by bindings_of_lease

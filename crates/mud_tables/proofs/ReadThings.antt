@@ -56,9 +56,6 @@ before_other [] t u last there = none-some u there
 before_other (x ∷ xs) t u last there = before_other xs t u (right_of (is_lt (place_cmp (mac_of x) (mac_of t))) (comes_last mac_of t xs) last)
     (sym (ap (λ b. cond b (Some x) (row_at mac_of (mac_of t) xs)) (same_place-cmp (mac_of x) (mac_of t) Less (less_from_is_lt (place_cmp (mac_of x) (mac_of t)) (left_of (is_lt (place_cmp (mac_of x) (mac_of t))) (comes_last mac_of t xs) last)))) ∙ there)
 
-some_held : (a : Addr) (t : Thing) (r : Addr × ℕ) → same_addr r.0 a ≡ true → holds a t ≡ true → holds r.0 t ≡ true
-some_held a t r at h = subst (λ b. holds b t ≡ true) (sym (same_addr_exact r.0 a at)) h
-
 -- one of the leases is of an address that one before it has
 pub record Taking (xs : List Thing) (t : Thing) : Type 0 where
   pub addr : Addr

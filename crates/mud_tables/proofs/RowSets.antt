@@ -1,30 +1,18 @@
 -- What the rows of two lists have in common, told by the rows at their places.
-use Rattle.std.proofs.Common.{◌≡◌, ℕ, ◌<◌, Bool, true, false, cond, not, ◌&&◌, ◌||◌, List, [], ◌∷◌, ◌++◌, length, map, Option, Some, None, refl, sym, ap, subst, ◌∙◌, arith}
+use Rattle.std.proofs.Common.{◌≡◌, ℕ, get_or, take, ◌+◌, ◌<◌, Bool, true, false, cond, ◌&&◌, List, [], ◌∷◌, ◌++◌, length, map, Option, Some, None, refl, sym, ap, subst, ◌∙◌, arith}
 use Rattle.std.specs.Ordering.{is_lt}
 use Rattle.std.specs.declared.cmp.Ordering.TheVariants.{Less}
 use Rattle.std.specs.List.{list_any, AllByRecursion}
 use Rattle.std.specs.Option.{option_map}
 use Rattle.std.proofs.lemmas.Bool.{false≢true}
+use Rattle.std.proofs.lemmas.List.{take_more}
 use Rattle.std.proofs.lemmas.Option.{same_Some, none-some}
-use Rattle.mud_base.specs.Addresses.{same_addr}
-use Rattle.mud_base.specs.declared.addr.Addr.{Addr}
-use Rattle.sorted_rows.specs.Addresses.{addr_place}
-use Rattle.sorted_rows.proofs.AddressLaws.{same_addr-place, addr_place_exact}
 use Rattle.sorted_rows.specs.Placed.{place_cmp, same_place, PlacesAbove, PlacesAscend, row_at, comes_last}
 use Rattle.sorted_rows.proofs.PlacedLaws.{same_place_exact, same_place_itself, row_at_above}
+pub use Rattle.sorted_rows.proofs.ListTests.{left_of, right_of, both, not_true, is_not, any_first, any_later, any_by, any_more}
+pub use Rattle.acl_model.proofs.BindingLaws.{same_addr_exact, same_addr_itself}
 
 -- ---- Tests
-
-pub left_of : (b c : Bool) → (b && c) ≡ true → b ≡ true
-left_of true c e = refl
-left_of false c e = absurd (false≢true e)
-
-pub right_of : (b c : Bool) → (b && c) ≡ true → c ≡ true
-right_of true c e = e
-right_of false c e = absurd (false≢true e)
-
-pub both : (b c : Bool) → b ≡ true → c ≡ true → (b && c) ≡ true
-both b c e f = ap (λ x. x && c) e ∙ f
 
 pub first_of_three : (b c d : Bool) → (b && c && d) ≡ true → b ≡ true
 first_of_three true true true e = e
@@ -32,46 +20,7 @@ first_of_three true true false e = refl
 first_of_three true false d e = refl
 first_of_three false c d e = e
 
-pub not_true : (b : Bool) → (b ≡ true → ⊥) → not b ≡ true
-not_true true no_way = absurd (no_way refl)
-not_true false no_way = refl
-
-pub is_not : (b : Bool) → not b ≡ true → b ≡ true → ⊥
-is_not true e f = false≢true e
-is_not false e f = false≢true f
-
--- ---- Addresses that are the same are one
-
-pub same_addr_exact : (a b : Addr) → same_addr a b ≡ true → a ≡ b
-same_addr_exact a b e = addr_place_exact a b (same_place_exact (addr_place a) (addr_place b) (sym (same_addr-place a b) ∙ e))
-
-pub same_addr_itself : (a : Addr) → same_addr a a ≡ true
-same_addr_itself a = same_addr-place a a ∙ same_place_itself (addr_place a)
-
 -- ---- Some element passes a test
-
-pub any_first : {A : Type 0} (p : A → Bool) (x : A) (xs : List A) → p x ≡ true → list_any p (x ∷ xs) ≡ true
-any_first p x xs e = ap (λ b. b || list_any p xs) e
-
-or_right : (b c : Bool) → c ≡ true → (b || c) ≡ true
-or_right true c e = refl
-or_right false c e = e
-
-pub any_later : {A : Type 0} (p : A → Bool) (x : A) (xs : List A) → list_any p xs ≡ true → list_any p (x ∷ xs) ≡ true
-any_later p x xs e = or_right (p x) (list_any p xs) e
-
--- by the first element, or by the others
-pub any_by : {A : Type 0} {P : Type 0} (p : A → Bool) (x : A) (xs : List A) → (p x ≡ true → P) → (list_any p xs ≡ true → P) → list_any p (x ∷ xs) ≡ true → P
-any_by {P = P} p x xs here later e = any_by_first (p x) refl
-  where
-    any_by_first : (b : Bool) → p x ≡ b → P
-    any_by_first true is = here is
-    any_by_first false is = later (sym (ap (λ c. c || list_any p xs) is) ∙ e)
-
--- where the elements that pass one test pass another
-pub any_more : {A : Type 0} (p q : A → Bool) (xs : List A) → ((x : A) → p x ≡ true → q x ≡ true) → list_any p xs ≡ true → list_any q xs ≡ true
-any_more p q [] more e = e
-any_more p q (x ∷ xs) more e = any_by p x xs (λ is. any_first q x xs (more x is)) (λ rest. any_later q x xs (any_more p q xs more rest)) e
 
 module _ {R : Type 0} (place : R → List ℕ) where
   -- a row that passes the test, found at its place
@@ -132,6 +81,9 @@ all_push P (y ∷ ys) x all new = (all.0, all_push P ys x all.1 new)
 pub all_behind : {A : Type 0} (P : A → Type 0) (xs : List A) (x : A) (ys : List A) → AllByRecursion P (xs ++ x ∷ ys) → P x
 all_behind P [] x ys all = all.0
 all_behind P (y ∷ xs) x ys all = all_behind P xs x ys all.1
+
+pub take_one : {A : Type 0} (xs : List A) (i : ℕ) (x : A) → i < length xs → x ≡ get_or xs i x → take (i + 1) xs ≡ take i xs ++ x ∷ []
+take_one xs i x within is = take_more xs i x within ∙ ap (λ y. take i xs ++ y ∷ []) (sym is)
 
 pub map_push : {A B : Type 0} (f : A → B) (xs : List A) (x : A) → map f (xs ++ x ∷ []) ≡ map f xs ++ f x ∷ []
 map_push f [] x = refl

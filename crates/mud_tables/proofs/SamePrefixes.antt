@@ -2,10 +2,7 @@
 use Rattle.std.proofs.Common.{◌≡◌, ℕ, zero, suc, ◌+◌, ◌<◌, Bool, true, false, ◌&&◌, List, [], ◌∷◌, length, drop, get_or, refl, sym, ap, subst, ◌∙◌, arith}
 use Rattle.mud_base.specs.declared.prefix.Prefix.{Prefix}
 use Rattle.mud_tables.specs.Binds.{same_prefix, same_prefixes}
-
-and_false : (b : Bool) → (b && false) ≡ false
-and_false true = refl
-and_false false = refl
+use Rattle.std.proofs.Math.Bool.{and-false}
 
 -- the prefixes that were compared are those in front
 same_front : (x y a b : Prefix) (t : Bool) → x ≡ a → y ≡ b → same_prefix x y ≡ t → same_prefix a b ≡ t
@@ -17,7 +14,7 @@ unfolding same_prefixes
 other_lengths [] [] apart = absurd (apart refl)
 other_lengths [] (y ∷ ys) apart = refl
 other_lengths (x ∷ xs) [] apart = refl
-other_lengths (x ∷ xs) (y ∷ ys) apart = ap (λ b. same_prefix x y && b) (other_lengths xs ys (λ e. apart (omega arith))) ∙ and_false (same_prefix x y)
+other_lengths (x ∷ xs) (y ∷ ys) apart = ap (λ b. same_prefix x y && b) (other_lengths xs ys (λ e. apart (omega arith))) ∙ and-false (same_prefix x y)
 
 -- lists of one length, behind their ends
 pub at_end : (xs ys : List Prefix) → length xs ≡ length ys → same_prefixes (drop (length xs) xs) (drop (length xs) ys) ≡ true
@@ -33,7 +30,7 @@ unfolding same_prefixes
 others_there [] ys i x y h k e f g = absurd (omega arith)
 others_there (a ∷ xs) [] i x y h k e f g = absurd (omega arith)
 others_there (a ∷ xs) (b ∷ ys) zero x y h k e f g = ap (λ t. t && same_prefixes xs ys) (same_front x y a b false e f g)
-others_there (a ∷ xs) (b ∷ ys) (suc i) x y h k e f g = ap (λ t. same_prefix a b && t) (others_there xs ys i x y (omega arith) (omega arith) e f g) ∙ and_false (same_prefix a b)
+others_there (a ∷ xs) (b ∷ ys) (suc i) x y h k e f g = ap (λ t. same_prefix a b && t) (others_there xs ys i x y (omega arith) (omega arith) e f g) ∙ and-false (same_prefix a b)
 
 more_there : (xs ys : List Prefix) (i : ℕ) (x y : Prefix) → i < length xs → i < length ys → x ≡ get_or xs i x → y ≡ get_or ys i y → same_prefix x y ≡ true → same_prefixes (drop (suc i) xs) (drop (suc i) ys) ≡ true → same_prefixes (drop i xs) (drop i ys) ≡ true
 unfolding same_prefixes

@@ -97,7 +97,7 @@ sound_networks : (locals : List Prefix) → AllByRecursion IsKeptNetwork locals 
 sound_networks [] kept = tt
 sound_networks (p ∷ ps) kept = (kept.0.sound, sound_networks ps kept.1)
 
-fitting_networks : (locals : List Prefix) → AllByRecursion IsKeptNetwork locals → AllByRecursion IsNetwork locals
+pub fitting_networks : (locals : List Prefix) → AllByRecursion IsKeptNetwork locals → AllByRecursion IsNetwork locals
 fitting_networks [] kept = tt
 fitting_networks (p ∷ ps) kept = (kept.0.fits, fitting_networks ps kept.1)
 
@@ -149,11 +149,11 @@ locals_taken (p ∷ ps) item after octets e = absurd (none-some after e)
 abbrev the_binds : List ClassRow → List Prefix → List NameRow → Binds
 the_binds classes locals names = record { classes = classes; locals = locals; names = names }
 
-mapped_some : {A B : Type 0} (f : A → B) (o : Option A) (y : B) → option_map f o ≡ Some y → (x : A) × (o ≡ Some x) × (f x ≡ y)
+pub mapped_some : {A B : Type 0} (f : A → B) (o : Option A) (y : B) → option_map f o ≡ Some y → (x : A) × (o ≡ Some x) × (f x ≡ y)
 mapped_some f (Some x) y e = (x, refl, some_is (f x) y e)
 mapped_some f None y e = absurd (none-some y e)
 
-nothing_there : {A : Type 0} (xs : List A) → is_empty xs ≡ true → xs ≡ []
+pub nothing_there : {A : Type 0} (xs : List A) → is_empty xs ≡ true → xs ≡ []
 nothing_there xs e = nil_from_length xs (eqb-true (length xs) 0 e)
 
 -- no local network and no name
@@ -247,7 +247,7 @@ binds_taken binds (item ∷ items) after sound octets e =
 
 -- ---- The items of sound lists are taken
 
-all_taken-append : {T : Type 0} (take : T → Item → Option T) (before : T) (xs ys : List Item) (middle : T) → all_taken take before xs ≡ Some middle → all_taken take before (xs ++ ys) ≡ all_taken take middle ys
+pub all_taken-append : {T : Type 0} (take : T → Item → Option T) (before : T) (xs ys : List Item) (middle : T) → all_taken take before xs ≡ Some middle → all_taken take before (xs ++ ys) ≡ all_taken take middle ys
 all_taken-append take before [] ys middle e = ap (λ (t : _). all_taken take t ys) (some_is before middle e)
 all_taken-append take before (x ∷ xs) ys middle e =
     let b = bind_some (take before x) (λ next. all_taken take next xs) middle e in

@@ -38,7 +38,7 @@ pub fn without_addr(alloc: Global, addr: Addr, addrs: &[Addr]) -> Result<Listed<
 
 /// Whether the addresses are in their order, each once.
 #[tactic(auto, unfolding(crate::specs::Binds::are_addrs))]
-pub fn are_addrs(addrs: &[Addr]) -> bool
+pub(crate) fn are_addrs(addrs: &[Addr]) -> bool
     ensures { result ≡ spec.are_addrs addrs.now }
 {
     lists::is_ascending(addrs)
@@ -86,7 +86,7 @@ pub fn same_prefixes(first: &[Prefix], second: &[Prefix]) -> bool
 
 /// Whether the prefixes are in their order, each once.
 #[tactic(auto, unfolding(crate::specs::Binds::are_prefixes))]
-pub fn are_prefixes(prefixes: &[Prefix]) -> bool
+pub(crate) fn are_prefixes(prefixes: &[Prefix]) -> bool
     ensures { result ≡ spec.are_prefixes prefixes.now }
 {
     lists::is_ascending(prefixes)

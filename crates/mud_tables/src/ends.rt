@@ -19,7 +19,7 @@ pub fn is_live(until: End, now: Moment) -> bool
 
 /// Whether an end is for ever, or below 2^40 seconds.
 #[tactic(auto, unfolding(crate::specs::Ends::is_end))]
-pub fn is_end(until: End) -> bool
+pub(crate) fn is_end(until: End) -> bool
     ensures { result ≡ spec.is_end until }
 {
     until.0 == End::NEVER || until.0 < LAST_END
@@ -104,7 +104,7 @@ pub fn live_count(now: Moment, rows: &[(Addr, End)]) -> usize
 
 /// Whether the rows are in the order of the addresses, each address once.
 #[tactic(auto, unfolding(crate::specs::Ends::are_ascending))]
-pub fn are_ascending(rows: &[(Addr, End)]) -> bool
+pub(crate) fn are_ascending(rows: &[(Addr, End)]) -> bool
     ensures { result ≡ spec.are_ascending rows.now }
 {
     lists::is_ascending(rows)
@@ -112,7 +112,7 @@ pub fn are_ascending(rows: &[(Addr, End)]) -> bool
 
 /// Whether each end is for ever, or below 2^40 seconds.
 #[tactic(auto, unfolding(crate::specs::Ends::have_ends))]
-pub fn have_ends(rows: &[(Addr, End)]) -> bool
+pub(crate) fn have_ends(rows: &[(Addr, End)]) -> bool
     ensures { result ≡ spec.have_ends rows.now }
 {
     rows.iter().all(|row| is_end(row.1))

@@ -12,12 +12,8 @@ use Rattle.sorted_rows.proofs.PlacedLaws.{same_place_exact, same_place_itself, r
 use Rattle.sorted_rows.proofs.RowLaws.{same_rows, ascend-filter, ascend-map, place_row_at}
 use Rattle.mud_tables.specs.declared.thing.Thing.{Thing}
 use Rattle.mud_tables.specs.Ends.{Ends, has_address, end_of, without_address}
-use Rattle.mud_tables.specs.Things.{mac_of, holds, released, with_leases, set_thing, without_lease, IsSoundThings}
-use Rattle.mud_tables.specs.Tables.{Tables}
-use Rattle.mud_tables.specs.Bindings.{thing_bindings, bindings_of}
-use Rattle.sorted_rows.specs.Changes.{are_apart, RowChange, changed, places_of, is_plain}
-use Rattle.acl_model.specs.Changes.{IsBindingChange}
-use Rattle.mud_tables.specs.BindingChanges.{gone_of, come_of}
+use Rattle.mud_tables.specs.Things.{mac_of, holds, released, with_leases, set_thing, without_lease}
+use Rattle.sorted_rows.specs.Changes.{are_apart, changed, places_of, is_plain}
 use Rattle.mud_tables.specs.ThingChanges.{released_holders, leased, new_lease_change, end_change}
 use Rattle.sorted_rows.proofs.ListTests.{left_of, right_of, any_by, any-map}
 use Rattle.sorted_rows.proofs.RowSets.{Passing, found_passing}
@@ -26,7 +22,7 @@ use Rattle.sorted_rows.proofs.ListTests.{apart-append}
 use Rattle.table_laws.proofs.Apart.{apart-ascend}
 use Rattle.sorted_rows.proofs.ListTests.{or_first, or_second, not_false}
 use Rattle.sorted_rows.proofs.ChangeLaws.{turned}
-use Rattle.table_laws.proofs.BookChanges.{thing_book_change}
+use Rattle.mud_tables.proofs.AloneLaws.{keeps_mac}
 
 pub or_else : {A : Type 0} → Option A → Option A → Option A
 or_else None o = o
@@ -103,10 +99,6 @@ stays_itself : (a : Addr) (t : Thing) → holds a t ≡ false → released a t �
 unfolding holds has_address released with_leases without_address
 stays_itself a t e = λ i. record t { leases = stays_all (λ r. same_addr r.0 a) t.leases e i }
 
-keeps_mac : (a : Addr) (t : Thing) → mac_of (released a t) ≡ mac_of t
-unfolding mac_of released with_leases
-keeps_mac a t = refl
-
 module _ (a : Addr) (things : List Thing) (up : PlacesAscend mac_of things) where
   set_rows-released : set_rows mac_of (released_holders a things) things ≡ without_lease a things
   unfolding released_holders without_lease
@@ -174,24 +166,3 @@ module _ (a : Addr) (things : List Thing) (up : PlacesAscend mac_of things) wher
       ∙ apart-append same_place same_place_itself (map mac_of (released_holders a things)) (mac_of (leased a until now thing) ∷ [])
       (apart-ascend mac_of (released_holders a things) holders_up) refl
       (λ p here last. no_holder thing there (not_held thing none) (subst (λ q. list_any (same_place q) (map mac_of (released_holders a things)) ≡ true) (last_one until now thing p last) here))
-
--- ---- The bindings
-
-pub end_binds : (tables : Tables) (a : Addr) → IsSoundThings tables.things → IsSoundThings (without_lease a tables.things)
-    → IsBindingChange (bindings_of tables) (bindings_of (record tables { things = without_lease a tables.things })) (gone_of mac_of thing_bindings (end_change a tables.things) tables.things) (come_of mac_of thing_bindings (end_change a tables.things) tables.things)
-end_binds tables a old new =
-    let c : RowChange Thing = end_change a tables.things in
-    let is : changed mac_of c tables.things ≡ without_lease a tables.things = end_changed a tables.things old.ascend in
-    subst (λ ts. IsBindingChange (bindings_of tables) (bindings_of (record tables { things = ts })) (gone_of mac_of thing_bindings c tables.things) (come_of mac_of thing_bindings c tables.things)) is
-    (thing_book_change tables c old (subst IsSoundThings (sym is) new) (end_plain a tables.things old.ascend))
-
-pub new_lease_binds : (tables : Tables) (a : Addr) (until now : ℕ) (thing : Thing) → IsSoundThings tables.things → IsSoundThings (set_thing (leased a until now thing) (without_lease a tables.things))
-    → row_at mac_of (mac_of thing) tables.things ≡ Some thing → end_of a thing.leases ≡ None
-    → IsBindingChange (bindings_of tables) (bindings_of (record tables { things = set_thing (leased a until now thing) (without_lease a tables.things) }))
-    (gone_of mac_of thing_bindings (new_lease_change a until now tables.things thing) tables.things) (come_of mac_of thing_bindings (new_lease_change a until now tables.things thing) tables.things)
-new_lease_binds tables a until now thing old new there none =
-    let c : RowChange Thing = new_lease_change a until now tables.things thing in
-    let after : List Thing = set_thing (leased a until now thing) (without_lease a tables.things) in
-    let is : changed mac_of c tables.things ≡ after = new_lease_changed a tables.things old.ascend until now thing in
-    subst (λ ts. IsBindingChange (bindings_of tables) (bindings_of (record tables { things = ts })) (gone_of mac_of thing_bindings c tables.things) (come_of mac_of thing_bindings c tables.things)) is
-    (thing_book_change tables c old (subst IsSoundThings (sym is) new) (new_lease_plain a tables.things old.ascend until now thing there none))

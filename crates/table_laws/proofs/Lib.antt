@@ -7,6 +7,7 @@ pub mod BookChanges
 mod ChangeExamples
 pub mod Differences
 pub mod EndRows
+pub mod KeptClasses
 pub mod LeaseChanges
 pub mod LeaseStep
 pub mod RowChanges

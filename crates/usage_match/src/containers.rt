@@ -114,7 +114,7 @@ impl Reads for MudWay {
 
 /// Nothing is asked of the peer by `ietf-mud:mud`.
 #[tactic(auto, unfolding(crate::specs::Containers::no_mud_tests))]
-pub fn no_mud_tests() -> MudTests
+pub(crate) fn no_mud_tests() -> MudTests
     ensures { result ≡ spec.no_mud_tests }
 {
     MudTests {
@@ -129,7 +129,7 @@ pub fn no_mud_tests() -> MudTests
 
 /// What a container `ietf-mud:mud` asks of the peer (RFC 8520, 4).
 #[tactic(auto, unfolding(crate::specs::Containers::mud_tests_of))]
-pub fn mud_tests_of(alloc: Global, container: &Value, path: &[u8]) -> Result<MudTests, FileFault>
+pub(crate) fn mud_tests_of(alloc: Global, container: &Value, path: &[u8]) -> Result<MudTests, FileFault>
     ensures { Gives (λ t. t) result (spec.mud_tests_of path.now (view container.now)) }
 {
     read_table(alloc, container, path, &mud_rows(), no_mud_tests())
@@ -285,7 +285,7 @@ impl Reads for IpWay {
 
 /// Nothing is asked by `ipv4` or `ipv6`.
 #[tactic(auto, unfolding(crate::specs::Containers::no_ip_tests))]
-pub fn no_ip_tests() -> IpTests
+pub(crate) fn no_ip_tests() -> IpTests
     ensures { result ≡ spec.no_ip_tests }
 {
     IpTests {
@@ -303,7 +303,7 @@ pub fn no_ip_tests() -> IpTests
 
 /// What a container `ipv4` or `ipv6` asks (RFC 8519, 4.2; RFC 8520, 8), in a list of a direction.
 #[tactic(auto, unfolding(crate::specs::Containers::ip_tests_of))]
-pub fn ip_tests_of(
+pub(crate) fn ip_tests_of(
     alloc: Global,
     list_type: ListType,
     side: Direction,
@@ -390,7 +390,7 @@ fn tcp_layer(tests: TcpTests) -> Layer
 
 /// What a container `tcp` asks of the header (RFC 8519, 4.2; RFC 8520, 4.8).
 #[tactic(auto, unfolding(crate::specs::Containers::tcp_of, crate::specs::Containers::no_tcp_tests), using(reading::proofs::Readings::answer_bind, reading::proofs::Readings::answer_done))]
-pub fn tcp_of(alloc: Global, container: &Value, path: &[u8]) -> Result<Layer, FileFault>
+pub(crate) fn tcp_of(alloc: Global, container: &Value, path: &[u8]) -> Result<Layer, FileFault>
     ensures { Gives (λ l. l) result (spec.tcp_of path.now (view container.now)) }
 {
     let nothing = TcpTests {
@@ -468,7 +468,7 @@ impl Reads for UdpWay {
 
 /// What a container `udp` asks of the header (RFC 8519, 4.2).
 #[tactic(auto, unfolding(crate::specs::Containers::udp_of, crate::specs::Containers::no_udp_tests, crate::specs::Containers::udp_layer), using(reading::proofs::Readings::answer_bind, reading::proofs::Readings::answer_done))]
-pub fn udp_of(alloc: Global, container: &Value, path: &[u8]) -> Result<Layer, FileFault>
+pub(crate) fn udp_of(alloc: Global, container: &Value, path: &[u8]) -> Result<Layer, FileFault>
     ensures { Gives (λ l. l) result (spec.udp_of path.now (view container.now)) }
 {
     let nothing = UdpTests {
@@ -531,7 +531,7 @@ impl Reads for IcmpWay {
 
 /// What a container `icmp` asks of the header (RFC 8519, 4.2): its type and its code.
 #[tactic(auto, unfolding(crate::specs::Containers::icmp_of, crate::specs::Containers::no_icmp_tests, crate::specs::Containers::icmp_layer), using(reading::proofs::Readings::answer_bind, reading::proofs::Readings::answer_done))]
-pub fn icmp_of(alloc: Global, container: &Value, path: &[u8]) -> Result<Layer, FileFault>
+pub(crate) fn icmp_of(alloc: Global, container: &Value, path: &[u8]) -> Result<Layer, FileFault>
     ensures { Gives (λ l. l) result (spec.icmp_of path.now (view container.now)) }
 {
     let nothing = IcmpTests {

@@ -200,7 +200,7 @@ fn as_flags(alloc: Global, path: &[u8], member: Member, text: &str) -> Result<u8
 
 /// An octet of flags, where it is there.
 #[tactic(auto, unfolding(crate::specs::Flags::flags_where_there), using(reading::proofs::Readings::answer_bind, reading::proofs::Readings::answer_absent, reading::proofs::Readings::answer_there))]
-pub fn flags_where_there(
+pub(crate) fn flags_where_there(
     alloc: Global,
     object: &Value,
     path: &[u8],

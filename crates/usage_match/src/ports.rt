@@ -224,7 +224,7 @@ fn port_test_of(alloc: Global, object: &Value, path: &[u8]) -> Result<PortTest, 
 
 /// The test of a port container in the object at this path. Where there is none, every port passes.
 #[tactic(auto, unfolding(crate::specs::Ports::port_where_there), using(reading::proofs::Readings::answer_bind, reading::proofs::Readings::answer_done, reading::proofs::Readings::answer_absent, reading::proofs::Readings::answer_there))]
-pub fn port_where_there(
+pub(crate) fn port_where_there(
     alloc: Global,
     object: &Value,
     path: &[u8],

@@ -35,7 +35,7 @@ fn as_octet(
 
 /// The number of two octets that this is, from 0 to 65535.
 #[tactic(auto, unfolding(crate::specs::Texts::as_upto), using(reading::proofs::Readings::answer_bind, reading::proofs::Readings::answer_done, reading::proofs::Readings::answer_passed, reading::proofs::Readings::answer_refused))]
-pub fn as_two_octets(
+pub(crate) fn as_two_octets(
     alloc: Global,
     path: &[u8],
     member: Member,
@@ -51,7 +51,7 @@ pub fn as_two_octets(
 
 /// A number from 0 to `most`, where it is there.
 #[tactic(auto, unfolding(crate::specs::Texts::octet_where_there), using(reading::proofs::Readings::answer_bind, reading::proofs::Readings::answer_absent, reading::proofs::Readings::answer_there))]
-pub fn octet_where_there(
+pub(crate) fn octet_where_there(
     alloc: Global,
     most: u8,
     object: &Value,
@@ -68,7 +68,7 @@ pub fn octet_where_there(
 
 /// A length in octets, from 0 to 65535, where it is there.
 #[tactic(auto, unfolding(crate::specs::Texts::length_where_there), using(reading::proofs::Readings::answer_bind, reading::proofs::Readings::answer_absent, reading::proofs::Readings::answer_there))]
-pub fn length_where_there(
+pub(crate) fn length_where_there(
     alloc: Global,
     object: &Value,
     path: &[u8],
@@ -95,7 +95,7 @@ fn as_host(alloc: Global, path: &[u8], member: Member, text: &str) -> Result<Byt
 
 /// A host name, where it is there, in lower case and without a trailing dot.
 #[tactic(auto, unfolding(crate::specs::Texts::host_where_there), using(reading::proofs::Readings::answer_bind, reading::proofs::Readings::answer_absent, reading::proofs::Readings::answer_there))]
-pub fn host_where_there(
+pub(crate) fn host_where_there(
     alloc: Global,
     object: &Value,
     path: &[u8],
@@ -122,7 +122,7 @@ fn as_model(alloc: Global, path: &[u8], member: Member, text: &str) -> Result<Mu
 
 /// A MUD URL, where it is there.
 #[tactic(auto, unfolding(crate::specs::Texts::model_where_there), using(reading::proofs::Readings::answer_bind, reading::proofs::Readings::answer_absent, reading::proofs::Readings::answer_there))]
-pub fn model_where_there(
+pub(crate) fn model_where_there(
     alloc: Global,
     object: &Value,
     path: &[u8],
@@ -170,7 +170,7 @@ fn as_uri(alloc: Global, path: &[u8], member: Member, text: &str) -> Result<Byte
 
 /// The URI of a class, where it is there.
 #[tactic(auto, unfolding(crate::specs::Texts::uri_where_there), using(reading::proofs::Readings::answer_bind, reading::proofs::Readings::answer_absent, reading::proofs::Readings::answer_there))]
-pub fn uri_where_there(
+pub(crate) fn uri_where_there(
     alloc: Global,
     object: &Value,
     path: &[u8],
@@ -226,7 +226,7 @@ fn as_network(
 
 /// A network of the IP version of a list, where it is there.
 #[tactic(auto, unfolding(crate::specs::Texts::network_where_there), using(reading::proofs::Readings::answer_bind, reading::proofs::Readings::answer_absent, reading::proofs::Readings::answer_there))]
-pub fn network_where_there(
+pub(crate) fn network_where_there(
     alloc: Global,
     list_type: ListType,
     object: &Value,
@@ -273,7 +273,7 @@ fn as_direction(
 
 /// A direction, where it is there.
 #[tactic(auto, unfolding(crate::specs::Texts::direction_where_there), using(reading::proofs::Readings::answer_bind, reading::proofs::Readings::answer_absent, reading::proofs::Readings::answer_there))]
-pub fn direction_where_there(
+pub(crate) fn direction_where_there(
     alloc: Global,
     object: &Value,
     path: &[u8],
@@ -325,7 +325,7 @@ fn as_operator(
 
 /// An operator, where it is there.
 #[tactic(auto, unfolding(crate::specs::Texts::operator_where_there), using(reading::proofs::Readings::answer_bind, reading::proofs::Readings::answer_absent, reading::proofs::Readings::answer_there))]
-pub fn operator_where_there(
+pub(crate) fn operator_where_there(
     alloc: Global,
     object: &Value,
     path: &[u8],

@@ -1,18 +1,13 @@
 -- The JSON object that a body is (RFC 8259), and its members.
 use Rattle.std.specs.Prelude.{ℕ, List, Option, Some, None, is_some, option_and_then, Result, Ok, Err, if◌then◌else◌}
-use Rattle.std.specs.Str.{is_utf8}
 use Rattle.serde_json.specs.Data.{Data}
-use Rattle.serde_json.specs.Read.{read}
 use Rattle.serde_json.specs.Find.{get, as_number, as_u64, as_str, as_object}
+use Rattle.usage_walk.specs.Json.{value_in}
 use Rattle.reading.specs.Reading.{and_then}
 use Rattle.body_members.specs.declared.fault.BodyFault.{BodyFault}
 use Rattle.body_members.specs.declared.fault.BodyFault.TheVariants.{Json}
 use Rattle.body_members.specs.declared.member.Member.{Member}
 use Rattle.body_members.specs.Members.{name_of}
-
--- the JSON value of the octets, and None where they have no reading. Of two members with one name the last counts.
-unfoldable pub value_in : List ℕ → Option Data
-value_in octets = if is_utf8 octets then read octets else None
 
 abbrev pub as_json : Option Data → Result Data BodyFault
 as_json None = Err Json

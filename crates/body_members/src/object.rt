@@ -1,6 +1,7 @@
 //! The object that a body is.
 ghost use Rattle.std.specs.Prelude.{◌≡◌, Ok, Err, option_map};
 ghost use Rattle.serde_json.specs.View.{view};
+ghost use Rattle.usage_walk.specs.Json as json;
 ghost use Rattle.reading.specs.Reading.{Answers};
 ghost use Rattle.body_members.specs.Objects as spec;
 
@@ -10,9 +11,9 @@ use serde_json::Value;
 use std::alloc::Global;
 
 /// The JSON value of these octets (RFC 8259).
-#[tactic(auto, using(crate::proofs::JsonValues::value_some, crate::proofs::JsonValues::value_none))]
+#[tactic(auto, using(usage_walk::proofs::JsonValues::value_some, usage_walk::proofs::JsonValues::value_none))]
 fn value_in(alloc: Global, octets: &[u8]) -> Result<Value, Unread>
-    ensures { Answers view result (spec.as_json (spec.value_in octets.now)) }
+    ensures { Answers view result (spec.as_json (json.value_in octets.now)) }
 {
     match Value::from_slice(alloc, octets) {
         Ok(value) => Ok(value),

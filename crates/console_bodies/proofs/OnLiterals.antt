@@ -9,7 +9,8 @@ use Rattle.dhcp_lldp.specs.Lldp.{lldp_of}
 use Rattle.reading.specs.Reading.{answer, done, ◌>>=◌, refused_where, wanted, over}
 use Rattle.mud_tables.specs.Binds.{is_class_uri}
 use Rattle.body_members.specs.Members.{name_of}
-use Rattle.body_members.specs.Objects.{value_in, object_of, member_in, text_in, number_in}
+use Rattle.usage_walk.specs.Json.{value_in}
+use Rattle.body_members.specs.Objects.{object_of, member_in, text_in, number_in}
 use Rattle.body_members.specs.Values.{meant, mac_at, address_at, url_at, name_at, is_digest, digest_at, number_at, next_prefix, prefixes_of, list_at, prefixes_at}
 use Rattle.console_bodies.specs.Statements.{uri_at, uri_class, own_class, only_own, own_alone, class_at, text_of, verdict_in, verdict_at, move_thing, remove_thing, hold_thing, release_thing, lease_address, end_lease, state_verdict, revoke_file, bind_address, unbind_address, set_locals, observe_name, command_at}
 use Rattle.console_bodies.specs.Bodies.{heard_command, stated, stated_body, body_of}

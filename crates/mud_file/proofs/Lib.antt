@@ -2,5 +2,4 @@ pub mod Bounds
 pub mod Elements
 pub mod Members
 pub mod OnLiterals
-pub mod Values
 mod Examples

@@ -1,17 +1,16 @@
 -- Usage files (RFC 8520): what one means, or the first rule that it breaks.
 use Rattle.std.specs.Prelude.{ℕ, nat_lt, List, [], length, Option, Some, None, Result, Ok, Err, if◌then◌else◌}
-use Rattle.std.specs.Str.{is_utf8}
 use Rattle.mud_base.specs.declared.packet.Direction.{Direction}
 use Rattle.mud_base.specs.declared.packet.Direction.TheVariants.{From, To}
 use Rattle.acl_model.specs.declared.entry.Policy.{Policy}
 use Rattle.serde_json.specs.Data.{Data}
-use Rattle.serde_json.specs.Read.{read}
 use Rattle.usage_walk.specs.declared.fault.Broken.{Broken}
 use Rattle.usage_walk.specs.declared.fault.Rule.TheVariants as rule
 use Rattle.usage_walk.specs.declared.member.Member.{Member}
 use Rattle.usage_walk.specs.declared.member.Member.TheVariants as members
 use Rattle.reading.specs.Reading.{answer, and_then, done, ◌>>=◌}
 use Rattle.usage_walk.specs.Reading.{Reading, under, fault_at}
+use Rattle.usage_walk.specs.Json.{value_in}
 use Rattle.usage_walk.specs.Kinds.{object_of, object_at, object_where_there, list_where_there}
 use Rattle.usage_walk.specs.Named.{Element, elements_of}
 use Rattle.mud_file.specs.declared.usage_file.Head.{Head}
@@ -87,10 +86,6 @@ file_at d = do
   root ← object_of [] d
   mud ← object_at [] members.Mud root
   mud_at root (under [] members.Mud) mud
-
--- the JSON value of the octets (RFC 8259), and None where they have no reading
-unfoldable pub value_in : List ℕ → Option Data
-value_in octets = if is_utf8 octets then read octets else None
 
 abbrev pub as_json : Option Data → Result Data Broken
 as_json None = Err (fault_at rule.Json [])

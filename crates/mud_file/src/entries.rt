@@ -190,7 +190,7 @@ fn next_entry(
 
 /// The entries that these values are.
 #[tactic(auto, unfolding(crate::specs::Entries::entries_in), using(reading::proofs::Readings::over_taken, reading::proofs::Readings::over_refused, reading::proofs::Readings::over_past))]
-pub fn entries_in(
+pub(crate) fn entries_in(
     alloc: Global,
     list: &AccessList<'_>,
     values: &[Value],

@@ -1,6 +1,7 @@
 //! A usage file, as it is read (RFC 8520).
 ghost use Rattle.std.specs.Prelude.{◌≡◌, option_map, IfOk};
 ghost use Rattle.serde_json.specs.View.{view};
+ghost use Rattle.usage_walk.specs.Json as json;
 ghost use Rattle.reading.specs.Reading.{Answers, Gives};
 ghost use Rattle.usage_walk.specs.Elements.{elements_view};
 ghost use Rattle.mud_file.specs.Entries.{entries_of};
@@ -167,9 +168,9 @@ fn file(alloc: Global, value: &Value) -> Result<UsageFile, FileFault>
 }
 
 /// The JSON value of these octets (RFC 8259).
-#[tactic(auto, using(crate::proofs::Values::value_some, crate::proofs::Values::value_none))]
+#[tactic(auto, using(usage_walk::proofs::JsonValues::value_some, usage_walk::proofs::JsonValues::value_none))]
 fn value_in(alloc: Global, octets: &[u8]) -> Result<Value, FileFault>
-    ensures { Answers view result (spec.as_json (spec.value_in octets.now)) }
+    ensures { Answers view result (spec.as_json (json.value_in octets.now)) }
 {
     match Value::from_slice(alloc, octets) {
         Ok(value) => Ok(value),

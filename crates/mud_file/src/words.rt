@@ -58,7 +58,7 @@ fn type_named(name: &[u8]) -> Option<ListType>
 
 /// The type of access lists that a text names.
 #[tactic(auto, unfolding(crate::specs::Entries::type_in))]
-pub fn type_in(text: &[u8]) -> Option<ListType>
+pub(crate) fn type_in(text: &[u8]) -> Option<ListType>
     ensures { result ≡ spec.type_in text.now }
 {
     type_named(without_module(text))
@@ -66,7 +66,7 @@ pub fn type_in(text: &[u8]) -> Option<ListType>
 
 /// The IP version that the entries of a type are for.
 #[tactic(auto, unfolding(crate::specs::Entries::family_of))]
-pub fn family_of(list_type: ListType) -> Family
+pub(crate) fn family_of(list_type: ListType) -> Family
     ensures { result ≡ spec.family_of list_type }
 {
     match list_type {
@@ -118,7 +118,7 @@ fn action_named(name: &[u8]) -> Option<Action>
 
 /// What becomes of a packet, as a text names it.
 #[tactic(auto, unfolding(crate::specs::Entries::action_in))]
-pub fn action_in(text: &[u8]) -> Option<Action>
+pub(crate) fn action_in(text: &[u8]) -> Option<Action>
     ensures { result ≡ spec.action_in text.now }
 {
     action_named(without_module(text))

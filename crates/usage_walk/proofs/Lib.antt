@@ -4,3 +4,4 @@ pub mod Always
 pub mod OnLiterals
 pub mod Written
 mod Examples
+pub mod JsonValues

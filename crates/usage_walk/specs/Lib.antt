@@ -1,6 +1,7 @@
 pub mod Members
 pub mod Names
 pub mod Reading
+pub mod Json
 pub mod Kinds
 pub mod Named
 pub mod Elements

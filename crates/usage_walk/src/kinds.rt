@@ -13,7 +13,7 @@ use std::alloc::Global;
 
 /// The member that has to be there, of the object at this path.
 #[tactic(auto, unfolding(crate::specs::Kinds::member_at), using(reading::proofs::Readings::answer_wanted, reading::proofs::Readings::answer_unwanted))]
-pub fn member_at<'a>(
+pub(crate) fn member_at<'a>(
     alloc: Global,
     object: &'a Value,
     path: &[u8],

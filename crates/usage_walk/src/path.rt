@@ -81,7 +81,7 @@ pub fn refusal(alloc: Global, rule: Rule, path: &[u8], member: Member) -> FileFa
 }
 
 /// The refusal that names this path itself.
-pub fn refusal_here(alloc: Global, rule: Rule, path: &[u8]) -> FileFault
+pub(crate) fn refusal_here(alloc: Global, rule: Rule, path: &[u8]) -> FileFault
     ensures { Refuses result (fault_at rule path.now) }
 {
     match Bytes::new(alloc, path) {

@@ -4,7 +4,7 @@ use Rattle.std.specs.Str.{is_utf8, IsUtf8}
 use Rattle.std.proofs.lemmas.Str.{is_utf8-from_IsUtf8, IsUtf8-from_is_utf8}
 use Rattle.serde_json.specs.Data.{Data}
 use Rattle.serde_json.specs.Read.{read}
-use Rattle.mud_file.specs.File.{value_in}
+use Rattle.usage_walk.specs.Json.{value_in}
 
 pub value_some : (octets : List ℕ) (d : Data) → IsUtf8 octets → read octets ≡ Some d → value_in octets ≡ Some d
 unfolding value_in

@@ -8,3 +8,4 @@ pub mod Imports
 pub mod Policies
 pub mod Due
 pub mod FileItems
+pub mod Words

@@ -1,4 +1,6 @@
 //! What the operator says of usage files.
+ghost use Rattle.std.specs.Prelude.{◌≡◌};
+ghost use Rattle.file_tables.specs.Words.{approval_word};
 
 /// How a file was approved.
 #[derive(Clone, Copy, Debug, PartialEq, Eq)]
@@ -7,6 +9,19 @@ pub enum Approval {
     Verified,
     /// The operator approved it without that.
     Waived,
+}
+
+impl Approval {
+    /// The word for it.
+    #[tactic(auto, unfolding(crate::specs::Words::approval_word))]
+    pub fn word(self) -> &'static [u8]
+        ensures { result.now ≡ approval_word self }
+    {
+        match self {
+            Approval::Verified => b"verified",
+            Approval::Waived => b"waived",
+        }
+    }
 }
 
 /// What the operator says of a candidate.

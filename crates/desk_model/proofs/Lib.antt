@@ -10,7 +10,6 @@ pub mod Batches
 pub mod Anew
 pub mod FirstBad
 pub mod Passing
-pub mod TypeFacts
 pub mod Sessions
 mod Examples
 mod ItemExamples

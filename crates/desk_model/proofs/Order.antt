@@ -16,6 +16,7 @@ use Rattle.file_tables.specs.FileItems.{file_item, file_items}
 use Rattle.desk_model.specs.DeskTables.{DeskTables, IsSound}
 use Rattle.desk_model.specs.Items.{items_of}
 use Rattle.desk_model.proofs.ReadBack.{each_item, all-append, all_bind_items}
+use Rattle.file_tables.proofs.EditLaws.{are_file_items}
 
 -- ---- The kinds of items
 
@@ -72,10 +73,6 @@ things_of : AreItemsOf mac_of 1 thing_item
 unfolding thing_item mac_of
 things_of row = refl
 
-files_of : AreItemsOf url_of 2 file_item
-unfolding file_item url_of
-files_of row = refl
-
 ordered-stamp : (stamp : Option ℕ) → IsOrdered (stamp_items stamp)
 unfolding stamp_items
 ordered-stamp None = tt
@@ -103,7 +100,7 @@ module _ (desk : DeskTables) (sound : IsSound desk) where
 
   in_order_files : IsOrdered (file_items desk.files)
   unfolding file_items
-  in_order_files = ordered-items url_of 2 file_item files_of desk.files sound.files.ascend
+  in_order_files = ordered-items url_of 2 file_item are_file_items desk.files sound.files.ascend
 
   pub ordered-items_of : IsOrdered (items_of desk)
   unfolding items_of

@@ -1,9 +1,9 @@
 -- Items that are read are those of a sound desk, but for Things of version 1, which say the same as its own.
-use Rattle.std.proofs.Common.{◌≡◌, ℕ, ◌<◌, ◌≤◌, Bool, true, false, cond, ◌&&◌, ◌==◌, List, [], ◌∷◌, ◌++◌, length, map, Option, Some, None, Result, Ok, Err, refl, sym, ap, subst, ◌∙◌, append_assoc, arith, inl, inr}
+use Rattle.std.proofs.Common.{◌≡◌, ℕ, ◌<◌, ◌≤◌, Bool, true, false, cond, ◌&&◌, ◌==◌, List, [], ◌∷◌, ◌++◌, map, Option, Some, None, Result, Ok, Err, refl, sym, ap, subst, ◌∙◌, append_assoc, arith, inl, inr}
 use Rattle.std.specs.Prelude.{option_map, nat_lt, is_none}
 use Rattle.std.specs.List.{AllByRecursion}
 use Rattle.std.proofs.lemmas.Bool.{eqb-true, ltb-true}
-use Rattle.std.proofs.lemmas.List.{append-nil, nil_from_length}
+use Rattle.std.proofs.lemmas.List.{append-nil}
 use Rattle.mud_world.specs.declared.item.Item.{Item}
 use Rattle.item_codec.specs.Spelling.{IsOctets}
 use Rattle.item_codec.specs.Records.{◌>>=◌}
@@ -18,7 +18,7 @@ use Rattle.mud_tables.specs.BindItems.{class_items, locals_items, name_items, st
 use Rattle.mud_tables.specs.TakenItems.{all_taken, no_binds, is_empty, bind_items, have_none, with_bind_item, with_item}
 use Rattle.mud_tables.proofs.ItemLaws.{stamp_alone}
 use Rattle.mud_tables.proofs.RowSets.{map_push}
-use Rattle.mud_tables.proofs.TakenLaws.{things_taken, bind_taken, no_things, sound_no_binds}
+use Rattle.mud_tables.proofs.TakenLaws.{things_taken, bind_taken, no_things, sound_no_binds, mapped_some, nothing_there}
 use Rattle.file_tables.specs.declared.cached_file.CachedFile.{CachedFile}
 use Rattle.file_tables.specs.Files.{IsSoundFiles, entry_count}
 use Rattle.file_tables.specs.FileItems.{file_item, file_items, file_in, IsFileItem, may_stand_behind, with_file_item}
@@ -36,13 +36,6 @@ push_behind low own after rest item e none =
     ap (λ r. low ++ (after ++ r)) none ∙ ap (λ a. low ++ a) (append-nil after ∙ e) ∙ sym (append_assoc low own (item ∷ []))
     ∙ ap (λ o. (low ++ o) ++ item ∷ []) (sym (append-nil own)) ∙ ap (λ r. (low ++ (own ++ r)) ++ item ∷ []) (sym none)
 
-map_some : {A B : Type 0} (f : A → B) (o : Option A) (y : B) → option_map f o ≡ Some y → (x : A) × (o ≡ Some x) × (f x ≡ y)
-map_some f (Some x) y e = (x, refl, some_is (f x) y e)
-map_some f None y e = absurd cc
-
-emptied : {A : Type 0} (xs : List A) → is_empty xs ≡ true → xs ≡ []
-emptied xs e = nil_from_length xs (eqb-true (length xs) 0 e)
-
 no_stamp : (stamp : Option ℕ) → is_none stamp ≡ true → stamp ≡ None
 no_stamp None e = refl
 no_stamp (Some moment) e = absurd cc
@@ -53,16 +46,16 @@ no_stamp_items stamp e = rw (no_stamp stamp e) refl
 
 no_file_items : (files : List CachedFile) → is_empty files ≡ true → file_items files ≡ []
 unfolding file_items
-no_file_items files e = rw (emptied files e) refl
+no_file_items files e = rw (nothing_there files e) refl
 
 no_bind_items : (binds : Binds) → have_none binds ≡ true → bind_items binds ≡ []
 unfolding have_none bind_items class_items locals_items name_items
 no_bind_items binds e =
     let both : (is_empty binds.classes && is_empty binds.locals) ≡ true = left_of (is_empty binds.classes && is_empty binds.locals) (is_empty binds.names) e in
     rw (
-      emptied binds.classes (left_of (is_empty binds.classes) (is_empty binds.locals) both),
-      emptied binds.locals (right_of (is_empty binds.classes) (is_empty binds.locals) both),
-      emptied binds.names (right_of (is_empty binds.classes && is_empty binds.locals) (is_empty binds.names) e),
+      nothing_there binds.classes (left_of (is_empty binds.classes) (is_empty binds.locals) both),
+      nothing_there binds.locals (right_of (is_empty binds.classes) (is_empty binds.locals) both),
+      nothing_there binds.names (right_of (is_empty binds.classes && is_empty binds.locals) (is_empty binds.names) e),
     )
     refl
 
@@ -169,7 +162,7 @@ module _ (kept : KeptDesk) (item : Item) (sound : IsSound (desk_of kept)) (octet
   of_thing : (o : Option KeptDesk) (after : KeptDesk) → is_thing ≡ true → option_map (λ (things : List Thing). record kept { things = things }) (with_thing_item kept.things item) ≡ Some after → IsOneMore kept item after
   unfolding is_thing
   of_thing o after b e =
-      let m = map_some (λ (things : List Thing). record kept { things = things }) (with_thing_item kept.things item) after e in
+      let m = mapped_some (λ (things : List Thing). record kept { things = things }) (with_thing_item kept.things item) after e in
       let three : (item.kind == 1 && is_empty kept.files && have_none kept.binds) ≡ true = left_of (item.kind == 1 && is_empty kept.files && have_none kept.binds) (is_none kept.stamp) b in
       let two : (item.kind == 1 && is_empty kept.files) ≡ true = left_of (item.kind == 1 && is_empty kept.files) (have_none kept.binds) three in
       subst (λ k. IsOneMore kept item k) m.2
@@ -178,7 +171,7 @@ module _ (kept : KeptDesk) (item : Item) (sound : IsSound (desk_of kept)) (octet
   of_file : (after : KeptDesk) → is_file ≡ true → option_map (λ (files : List CachedFile). record kept { files = files }) (with_file_item kept.files item) ≡ Some after → IsOneMore kept item after
   unfolding is_file
   of_file after b e =
-      let m = map_some (λ (files : List CachedFile). record kept { files = files }) (with_file_item kept.files item) after e in
+      let m = mapped_some (λ (files : List CachedFile). record kept { files = files }) (with_file_item kept.files item) after e in
       let two : (item.kind == 2 && have_none kept.binds) ≡ true = left_of (item.kind == 2 && have_none kept.binds) (is_none kept.stamp) b in
       let kind : item.kind ≡ 2 = eqb-true item.kind 2 (left_of (item.kind == 2) (have_none kept.binds) two) in
       subst (λ k. IsOneMore kept item k) m.2
@@ -187,7 +180,7 @@ module _ (kept : KeptDesk) (item : Item) (sound : IsSound (desk_of kept)) (octet
   of_bind : (after : KeptDesk) → is_bind ≡ true → option_map (λ (binds : Binds). record kept { binds = binds }) (with_bind_item kept.binds item) ≡ Some after → IsOneMore kept item after
   unfolding is_bind
   of_bind after b e =
-      let m = map_some (λ (binds : Binds). record kept { binds = binds }) (with_bind_item kept.binds item) after e in
+      let m = mapped_some (λ (binds : Binds). record kept { binds = binds }) (with_bind_item kept.binds item) after e in
       let two : (nat_lt 2 item.kind && nat_lt item.kind 6) ≡ true = left_of (nat_lt 2 item.kind && nat_lt item.kind 6) (is_none kept.stamp) b in
       let low : 2 < item.kind = ltb-true 2 item.kind (left_of (nat_lt 2 item.kind) (nat_lt item.kind 6) two) in
       subst (λ k. IsOneMore kept item k) m.2
@@ -196,7 +189,7 @@ module _ (kept : KeptDesk) (item : Item) (sound : IsSound (desk_of kept)) (octet
   of_stamp : (after : KeptDesk) → is_last ≡ true → option_map (λ (moment : ℕ). record kept { stamp = Some moment }) (with_stamp_item kept.stamp item) ≡ Some after → IsOneMore kept item after
   unfolding is_last
   of_stamp after b e =
-      let m = map_some (λ (moment : ℕ). record kept { stamp = Some moment }) (with_stamp_item kept.stamp item) after e in
+      let m = mapped_some (λ (moment : ℕ). record kept { stamp = Some moment }) (with_stamp_item kept.stamp item) after e in
       let kind : item.kind ≡ 6 = eqb-true item.kind 6 b in
       subst (λ k. IsOneMore kept item k) m.2 (stamp_more m.0 (unequal item.kind 1 (λ f. omega (arith, kind, f)) (item.kind == 1) refl) m.1)
 

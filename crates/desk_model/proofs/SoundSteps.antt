@@ -21,7 +21,7 @@ use Rattle.desk_model.specs.DeskTables.{DeskTables, IsSound, with_things, with_f
 use Rattle.desk_model.specs.Commands.{IsCommand, stamped, by_things, by_files, by_binds, command_step}
 use Rattle.desk_model.proofs.SoundClasses.{sound-unbind_any}
 
-sound_stamped : (changes : Bool) (now : ℕ) (desk : DeskTables) → now ≤ last_moment → IsSound desk → IsSound (stamped changes now desk)
+pub sound_stamped : (changes : Bool) (now : ℕ) (desk : DeskTables) → now ≤ last_moment → IsSound desk → IsSound (stamped changes now desk)
 unfolding stamped
 sound_stamped true now desk early sound = record { tables = sound.tables; files = sound.files; stamp = early }
 sound_stamped false now desk early sound = sound

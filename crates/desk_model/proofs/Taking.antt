@@ -1,5 +1,5 @@
 -- Items that are taken one after the other.
-use Rattle.std.proofs.Common.{◌≡◌, ℕ, ◌<◌, Bool, true, false, ◌==◌, List, [], ◌∷◌, ◌++◌, Option, Some, None, Result, Ok, Err, refl, ap, ◌∙◌, arith}
+use Rattle.std.proofs.Common.{◌≡◌, ℕ, ◌<◌, Bool, true, false, ◌==◌, List, [], ◌∷◌, Option, Some, None, Result, Ok, Err, refl, ap, ◌∙◌, arith}
 use Rattle.std.specs.Prelude.{option_map, nat_lt}
 use Rattle.std.specs.List.{AllByRecursion}
 use Rattle.std.proofs.lemmas.Bool.{eqb-true, lt-ltb}
@@ -14,6 +14,7 @@ use Rattle.mud_tables.specs.TakenItems.{all_taken, no_binds, have_none, with_bin
 use Rattle.file_tables.specs.declared.cached_file.CachedFile.{CachedFile}
 use Rattle.file_tables.specs.FileItems.{with_file_item}
 use Rattle.desk_model.specs.Items.{KeptDesk, with_desk_item, kept_in}
+pub use Rattle.mud_tables.proofs.TakenLaws.{all_taken-append}
 
 -- ---- All items are taken where none of them is the first that can't be
 
@@ -39,12 +40,6 @@ after_one item items after again None e = absurd cc
 pub taken_by_kept : (kept : KeptDesk) (items : List Item) (after : KeptDesk) → kept_in kept items ≡ Ok after → all_taken with_desk_item kept items ≡ Some after
 taken_by_kept kept [] after e = ap (λ (k : KeptDesk). Some k) (ok_is kept after e)
 taken_by_kept kept (item ∷ items) after e = after_one item items after (λ next f. taken_by_kept next items after f) (with_desk_item kept item) e
-
-pub all_taken-append : {T : Type 0} (take : T → Item → Option T) (before : T) (xs ys : List Item) (middle : T) → all_taken take before xs ≡ Some middle → all_taken take before (xs ++ ys) ≡ all_taken take middle ys
-all_taken-append take before [] ys middle e = ap (λ (t : _). all_taken take t ys) (some_is before middle e)
-all_taken-append take before (x ∷ xs) ys middle e =
-    let b = bind_some (take before x) (λ next. all_taken take next xs) middle e in
-    ap (λ (o : Option _). o >>= λ next. all_taken take next (xs ++ ys)) b.1 ∙ all_taken-append take b.0 xs ys middle b.2
 
 -- what is taken of items into one part is taken of them into the whole
 pub taken_within : {A : Type 0} (put : A → KeptDesk) (take : A → Item → Option A) (items : List Item) → AllByRecursion (λ item. (a : A) → with_desk_item (put a) item ≡ option_map put (take a item)) items → (a b : A) → all_taken take a items ≡ Some b → all_taken with_desk_item (put a) items ≡ Some (put b)

@@ -4,7 +4,7 @@ use Rattle.std.proofs.lemmas.List.{take_all}
 use Rattle.mud_base.specs.declared.prefix.Prefix.{Prefix}
 use Rattle.mud_tables.specs.Binds.{IsKeptNetwork}
 use Rattle.mud_tables.proofs.RowSets.{all_push}
-use Rattle.desk_model.proofs.TypeFacts.{take_one}
+use Rattle.mud_tables.proofs.RowSets.{take_one}
 use Rattle.desk_model.proofs.types.prefixes_fit.Goals as goal
 
 pub loop-prefix-preserved : goal.loop-prefix-preserved

@@ -3,7 +3,7 @@ use Rattle.std.proofs.Common.{◌≡◌, ℕ, ◌≤◌, Bool, true, false, ◌&
 use Rattle.std.specs.Prelude.{bytes_eq, nat_le, IsErr, IfOk, OnErr}
 use Rattle.std.specs.Option.{option_map_or}
 use Rattle.std.specs.Result.{result_ok}
-use Rattle.std.proofs.lemmas.Bool.{le-leb, leb-true, eqb-true, false≢true}
+use Rattle.std.proofs.lemmas.Bool.{le-leb, leb-true, eqb-true, false≢true, false_from_ne_true}
 use Rattle.sorted_rows.specs.Placed.{comes_last}
 use Rattle.usage_walk.specs.declared.fault.Broken.{Broken}
 use Rattle.mud_file.specs.declared.usage_file.UsageFile.{UsageFile}
@@ -20,19 +20,12 @@ use Rattle.item_codec.proofs.RecordLaws.{some_is, bind_some, pass_some}
 use Rattle.file_tables.proofs.Tests.{left_of, bytes_same}
 use Rattle.file_tables.proofs.SoundFiles.{file_usage}
 use Rattle.file_tables.proofs.ReadFiles.{sound-push}
-
-and_false : (b : Bool) → (b && false) ≡ false
-and_false true = refl
-and_false false = refl
-
-not_true : (b : Bool) → (b ≡ true → ⊥) → b ≡ false
-not_true true no_way = absurd (no_way refl)
-not_true false no_way = refl
+use Rattle.std.proofs.Math.Bool.{and-false}
 
 module _ (url : List ℕ) (held : HeldFile) where
   pub late : (held.fetched ≤ last_moment → ⊥) → is_held url held ≡ false
   unfolding is_held
-  late after = ap (λ b. is_usage_of url held && b) (not_true (nat_le held.fetched last_moment) (λ e. after (leb-true held.fetched last_moment e))) ∙ and_false (is_usage_of url held)
+  late after = ap (λ b. is_usage_of url held && b) (false_from_ne_true (nat_le held.fetched last_moment) (λ e. after (leb-true held.fetched last_moment e))) ∙ and-false (is_usage_of url held)
 
   no_usage : (r : Result UsageFile Broken) → IsErr r → result_ok r ≡ None
   no_usage (Ok file) bad = absurd (false≢true bad)
@@ -116,7 +109,7 @@ no_files url = refl
 module _ (item : Item) where
   pub other_kind : (item.kind ≡ 2 → ⊥) → None ≡ file_in item
   unfolding file_in
-  other_kind other = sym (ap (λ b. cond b (row_of item.key item.body >>= if_sound_file) None) (not_true (eqb item.kind 2) (λ e. other (eqb-true item.kind 2 e))))
+  other_kind other = sym (ap (λ b. cond b (row_of item.key item.body >>= if_sound_file) None) (false_from_ne_true (eqb item.kind 2) (λ e. other (eqb-true item.kind 2 e))))
 
   pub formless : item.kind ≡ 2 → row_of item.key item.body ≡ None → None ≡ file_in item
   unfolding file_in
@@ -131,7 +124,7 @@ module _ (item : Item) where
 module _ (files : List CachedFile) (row : CachedFile) where
   pub behind_full : has_room files row ≡ false → false ≡ may_stand_behind files row
   unfolding may_stand_behind
-  behind_full full = sym (ap (λ b. comes_last url_of row files && b) full ∙ and_false (comes_last url_of row files))
+  behind_full full = sym (ap (λ b. comes_last url_of row files && b) full ∙ and-false (comes_last url_of row files))
 
   and_true : (b : Bool) → b ≡ (b && true)
   and_true true = refl

@@ -33,7 +33,7 @@ fn read_file(alloc: Global, octets: &[u8]) -> Result<UsageFile, CacheFault>
 
 /// Whether a file was generated before a held one, by the `last-update` of both (RFC 8520, 3.4).
 #[tactic(auto, unfolding(file_tables::specs::Files::is_older))]
-pub fn is_older(file: &UsageFile, held: &Held) -> bool
+pub(crate) fn is_older(file: &UsageFile, held: &Held) -> bool
     ensures { result ≡ files_spec.is_older file.now held.now }
 {
     file.update < held.file().update

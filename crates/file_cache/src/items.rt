@@ -59,7 +59,7 @@ impl<'a> Lent<'a> {
 }
 
 /// The approved file of a row.
-pub fn approved_of(row: &CachedFile) -> Option<(Lent<'_>, Approval)>
+pub(crate) fn approved_of(row: &CachedFile) -> Option<(Lent<'_>, Approval)>
     ensures { result ≡ row.now.approved }
 {
     match &row.approved {
@@ -69,7 +69,7 @@ pub fn approved_of(row: &CachedFile) -> Option<(Lent<'_>, Approval)>
 }
 
 /// The candidate of a row.
-pub fn candidate_of(row: &CachedFile) -> Option<Lent<'_>>
+pub(crate) fn candidate_of(row: &CachedFile) -> Option<Lent<'_>>
     ensures { result ≡ row.now.candidate }
 {
     match &row.candidate {

@@ -143,7 +143,7 @@ fn is_at_end(reader: &mut FieldReader<'_>) -> bool
 
 /// Both files that the body of an item says, where it has the form of one, with nothing left.
 #[tactic(auto, using(crate::proofs::ReadLaws::row_rules))]
-pub fn parts_in(body: &[u8]) -> Option<Parts<'_>>
+pub(crate) fn parts_in(body: &[u8]) -> Option<Parts<'_>>
     ensures { (key : List ℕ) → MatchOption result (spec.row_of key body.now ≡ None) (λ parts. spec.row_of key body.now ≡ Some (spec.file_row key parts.0 parts.1)) }
 {
     let mut reader = FieldReader::new(body);

@@ -206,7 +206,7 @@ fn row_of(
 }
 
 /// The row that an item keeps, where it keeps one.
-pub fn row_in(alloc: Global, item: &Item) -> Result<Option<CachedFile>, Memory>
+pub(crate) fn row_in(alloc: Global, item: &Item) -> Result<Option<CachedFile>, Memory>
     ensures { IfOk result (λ row. row ≡ file_in item.now) }
 {
     if item.kind != FILE_KIND {

@@ -20,7 +20,7 @@ use std::alloc::Global;
 
 /// Whether a file has a `mud-signature` (RFC 8520, 13).
 #[tactic(auto, unfolding(file_tables::specs::Files::is_signed))]
-pub fn is_signed(held: &Held) -> bool
+pub(crate) fn is_signed(held: &Held) -> bool
     ensures { result ≡ files_spec.is_signed held.now }
 {
     held.file().signature.is_some()

@@ -33,8 +33,8 @@ keys_fit slots s b k keys owner held holds side n entry stands =
     let more : length (member_keys held.url entry) * b ≤ s * b = mul-le-mul_right b few in
     omega arith
 
--- the steps of the places, and of the bindings
-pub member_cost : (start middle end q c s b k : ℕ) → middle ≤ start + q * (s * b + k) → end ≤ middle + c * b → end ≤ start + (c + q) * place_steps s b k
+-- the steps of the bindings, and of the places
+pub member_cost : (start middle end q c s b k : ℕ) → middle ≤ start + c * b → end ≤ middle + q * (s * b + k) → end ≤ start + (c + q) * place_steps s b k
 member_cost start middle end q c s b k first second =
     let place : s * b + k ≤ place_steps s b k = omega arith in
     let one : b ≤ place_steps s b k = omega arith in
@@ -45,13 +45,14 @@ member_cost start middle end q c s b k first second =
     sum : (u : ℕ) → q * (s * b + k) ≤ q * u → c * b ≤ c * u → end ≤ start + (c + q) * u
     sum u places bindings = omega arith
 
+-- the bindings are planned first, and then the rows
 pub member_most : (slots : Slots) (bindings : List Binding) (rows : List Row) (gone come : List Binding) (start middle end : ℕ)
-    → ((b k u : ℕ) → length bindings < 2 ^ b → length rows < 2 ^ k → AllHeld slots (λ h. HolderFits h b k u) → middle ≤ start + length (touches slots (gone ++ come)) * u)
-    → ((b : ℕ) → length bindings < 2 ^ b → end ≤ middle + (length gone + length come) * b)
+    → ((b : ℕ) → length bindings < 2 ^ b → middle ≤ start + (length gone + length come) * b)
+    → ((b k u : ℕ) → length bindings < 2 ^ b → length rows < 2 ^ k → AllHeld slots (λ h. HolderFits h b k u) → end ≤ middle + length (touches slots (gone ++ come)) * u)
     → (s b k : ℕ) → HaveKeys s slots → length bindings + length come < 2 ^ b → length rows < 2 ^ k → end ≤ start + (length gone + length come + length (touches slots (gone ++ come))) * place_steps s b k
 member_most slots bindings rows gone come start middle end first second s b k keys few fits =
     let fewer : length bindings < 2 ^ b = omega arith in
-    member_cost start middle end (length (touches slots (gone ++ come))) (length gone + length come) s b k (first b k (s * b + k) fewer fits (keys_fit slots s b k keys)) (second b fewer)
+    member_cost start middle end (length (touches slots (gone ++ come))) (length gone + length come) s b k (first b fewer) (second b k (s * b + k) fewer fits (keys_fit slots s b k keys))
 
 -- ---- A plan of members
 

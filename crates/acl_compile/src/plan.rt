@@ -78,10 +78,10 @@ pub(crate) fn plan_change<L: Ledger>(
     ensures most { (s b k : ℕ) → HaveKeys s slots.now → length bindings.old.rows + length come.now < 2 ^ b → length rows.old.rows < 2 ^ k
         → steps.new ≤ steps.old + (length gone.now + length come.now + length (touches slots.now (gone.now ++ come.now))) * place_steps s b k }
 {
-    let change = Change::new(slots, bindings, rows, gone, come);
+    let binding_edits = edits_of(alloc, bindings, gone, come, steps)?;
+    let change = Change::new(slots, bindings, rows, gone, come, &binding_edits);
     let holding = Holding::of_defaults(defaults);
     let row_edits = change.plan(alloc, &holding, steps)?;
-    let binding_edits = edits_of(alloc, bindings, gone, come, steps)?;
     rows.make_room(alloc, &row_edits)?;
     bindings.make_room(alloc, &binding_edits)?;
     Ok(RowPlan {

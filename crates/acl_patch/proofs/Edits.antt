@@ -18,12 +18,12 @@ use Rattle.row_shelves.specs.Shelves.{AreFoundBeside}
 use Rattle.acl_rows.specs.declared.row.Owner.{Owner}
 use Rattle.acl_rows.specs.declared.row.Row.{Row}
 use Rattle.acl_rows.specs.declared.row.RowKey.{RowKey}
-use Rattle.acl_rows.specs.Places.{place_at, row_place}
+use Rattle.acl_rows.specs.Places.{place_at, row_place, row_key_place}
 use Rattle.acl_rows.specs.ByAddress.{index_beside}
 use Rattle.acl_rows.specs.Rows.{row, Slots, rows_of, end_at}
 use Rattle.acl_rows.proofs.Coordinates.{AreSame, same_coordinates}
 use Rattle.acl_patch.specs.Patch.{edit_end, end_for, IsPatch}
-use Rattle.acl_patch.specs.Touched.{touches, same_end, edit_of, changed_edits, row_key_place, key_end, with_edit, with_edits}
+use Rattle.acl_patch.specs.Touched.{touches, same_end, edit_of, changed_edits, key_end, with_edit, with_edits}
 use Rattle.acl_patch.proofs.Untouched.{touches_at, untouched}
 
 same_end_exact : (o w : Option ℕ) → same_end o w ≡ true → o ≡ w

@@ -28,14 +28,14 @@ use Rattle.acl_model.proofs.KeyLaws.{same_key-Decides}
 use Rattle.acl_rows.specs.declared.row.Owner.{Owner}
 use Rattle.acl_rows.specs.declared.row.Owner.TheVariants.{Url, Default}
 use Rattle.acl_rows.specs.declared.row.Row.{Row}
-use Rattle.acl_rows.specs.Places.{owner_class, owner_number, owner_place, side_place, peer_place, place_at, row_place}
+use Rattle.acl_rows.specs.Places.{owner_class, owner_number, owner_place, side_place, peer_place, place_at, row_place, row_key_place}
 use Rattle.acl_rows.specs.Rows.{never, member_keys, entry_end, row, numbered, Slots, held_by, entry_at, held_end, end_at, rows_of}
 use Rattle.acl_rows.proofs.Coordinates.{AreSame, same_coordinates}
 use Rattle.acl_rows.proofs.Lists.{any_first, any_second, any_flat_map}
 use Rattle.acl_rows.proofs.Sound.{HasKeys, has_keys, IsBound, first_bound, HasEnd, has_end, IsHeld, is_held, any_entry}
 use Rattle.acl_rows.proofs.AtPlaces.{row_at-rows_of}
 use Rattle.acl_patch.specs.Patch.{end_for, IsPatch}
-use Rattle.acl_patch.specs.Touched.{row_key_place, with_edits}
+use Rattle.acl_patch.specs.Touched.{with_edits}
 use Rattle.acl_patch.specs.PolicyTouched.{bound_under, bound_key, first_key_touches, entry_touches, side_policy_touches, new_touches, owner_rows, key_of_row, is_left, left_touches, policy_touches, IsSlotChange}
 use Rattle.acl_patch.proofs.Untouched.{touches_at}
 use Rattle.acl_patch.proofs.Edits.{patch_of}

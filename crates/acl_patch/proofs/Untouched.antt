@@ -23,11 +23,11 @@ use Rattle.acl_model.specs.Changes.{is_bound_to, bound_until, replaced}
 use Rattle.acl_model.proofs.BindingLaws.{same_addr_exact}
 use Rattle.acl_rows.specs.declared.row.Owner.{Owner}
 use Rattle.acl_rows.specs.declared.row.RowKey.{RowKey}
-use Rattle.acl_rows.specs.Places.{place_at}
+use Rattle.acl_rows.specs.Places.{place_at, row_key_place}
 use Rattle.acl_rows.specs.Rows.{never, member_keys, least_end, entry_end, numbered, Holder, holders_from, Slots, held_by, entry_at, held_end, end_at}
 use Rattle.acl_rows.proofs.Lists.{any_first, any_second, any_flat_map}
 use Rattle.acl_rows.proofs.Sound.{held_complete, any_entry}
-use Rattle.acl_patch.specs.Touched.{row_key, row_key_place, entry_touch, side_touches, holder_touches, binding_touches, touches}
+use Rattle.acl_patch.specs.Touched.{row_key, entry_touch, side_touches, holder_touches, binding_touches, touches}
 use Rattle.acl_patch.proofs.Bound.{any_none_implied, bound_until-untouched}
 
 first_true : (b c : Bool) → (b && c) ≡ true → b ≡ true

@@ -15,7 +15,7 @@ use Rattle.row_edits.specs.Edits.{edit_place}
 use Rattle.acl_rows.specs.declared.row.Owner.{Owner}
 use Rattle.acl_rows.specs.declared.row.Row.{Row}
 use Rattle.acl_rows.specs.declared.row.RowKey.{RowKey}
-use Rattle.acl_rows.specs.Places.{place_at, row_place}
+use Rattle.acl_rows.specs.Places.{row_place, row_key_place}
 use Rattle.acl_rows.specs.ByAddress.{index_beside}
 use Rattle.acl_rows.specs.Rows.{Slots, Holder, row, rows_of, numbered, holders_from, end_at}
 
@@ -59,9 +59,6 @@ changed_edits key found old new edits = if same_end new old then edits else set_
 
 unfoldable pub key_end : Slots → List Binding → RowKey → Option ℕ
 key_end slots bindings key = end_at slots bindings key.owner key.side key.addr key.entry
-
-unfoldable pub row_key_place : RowKey → List ℕ
-row_key_place key = place_at key.owner key.side key.addr key.entry
 
 unfoldable pub with_edit : Slots → List Binding → Slots → List Binding → RowKey → List (Edit Row) → List (Edit Row)
 with_edit slots bindings slots' bindings' key edits = changed_edits key (index_beside key.owner key.side key.addr (row_key_place key) (rows_of slots bindings)) (key_end slots bindings key) (key_end slots' bindings' key) edits

@@ -2,6 +2,7 @@
 use Rattle.std.proofs.Common.{◌≡◌, ℕ, suc, ◌≤◌, Bool, true, false, cond, List, [], ◌∷◌, ◌++◌, length, Option, Some, refl, sym, ap, subst, ◌∙◌, arith, append-nil}
 use Rattle.std.specs.Prelude.{filter, nat_lt}
 use Rattle.std.specs.List.{AllByRecursion, slice_get}
+use Rattle.std.specs.Map.{values_of}
 use Rattle.std.specs.declared.cmp.Ordering.TheVariants.{Less}
 use Rattle.std.proofs.lemmas.Bool.{false≢true, lt-ltb}
 use Rattle.std.proofs.lemmas.List.Elements.{filter-append}
@@ -18,7 +19,7 @@ use Rattle.acl_rows.specs.declared.row.Row.{Row}
 use Rattle.acl_rows.specs.Places.{row_place}
 use Rattle.acl_rows.specs.View.{is_at}
 use Rattle.acl_rows.specs.ByAddress.{room_at, rows_of_peer, IsRowAt, grouped, AreGroups}
-use Rattle.acl_rows.specs.Groups.{Groups, group_place, part_of, part_at, room_in, IsGroup, AreGrouped, AreKept, HaveSameRows}
+use Rattle.acl_rows.specs.Groups.{Groups, group_place, part_of, part_at, room_in, IsGroup, AreGrouped, HaveSameRows}
 use Rattle.acl_rows.proofs.GroupPlaces.{row_less, IsOwn, peer_rows, is_at-place}
 
 -- a group of an address
@@ -239,11 +240,8 @@ module _ (owner : Owner) (side : Direction) where
 
   -- ---- Before anything stands there
 
-  pub nothing_kept : (gs : Groups) (none : List Row) → gs ≡ [] → none ≡ [] → AreKept owner side gs none
-  nothing_kept gs none empty none_is = record {
-    grouped_are = record { ascend = subst (PlacesAscend group_place) (sym empty) tt; each = subst (AllByRecursion (IsGroup owner side)) (sym empty) tt };
-    none_is = none_is;
-  }
+  pub none_grouped : (gs : Groups) → gs ≡ [] → AreGrouped owner side gs
+  none_grouped gs empty = record { ascend = subst (PlacesAscend group_place) (sym empty) tt; each = subst (AllByRecursion (IsGroup owner side)) (sym empty) tt }
 
 pub grouped_none : (gs : Groups) → gs ≡ [] → grouped gs ≡ []
 unfolding grouped
@@ -275,3 +273,14 @@ room_all a (g ∷ gs) =
 pub room_is : (a : Addr) (gs : Groups) → room_at a (room_in gs) ≡ (part_at a gs).room
 unfolding part_at
 room_is a gs = room_all a gs
+
+-- ---- The rows of groups, without their addresses
+
+abbrev pub rows_together : List (RowsAndRoom Row) → List Row
+rows_together [] = []
+rows_together (g ∷ gs) = g.rows ++ rows_together gs
+
+pub together_grouped : (gs : List (Addr × RowsAndRoom Row)) → rows_together (values_of gs) ≡ grouped gs
+unfolding grouped
+together_grouped [] = refl
+together_grouped (g ∷ gs) = ap (λ rs. g.1.rows ++ rs) (together_grouped gs)

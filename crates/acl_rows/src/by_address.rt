@@ -1,20 +1,18 @@
 //! Rows of one owner and side, those of each address by themselves.
-ghost use Rattle.std.specs.Prelude.{◌≡◌, ◌+◌, ◌<◌, ◌≤◌, ℕ, List, [], filter, length, take, drop, false, OnOk};
+ghost use Rattle.std.specs.Prelude.{◌≡◌, ◌+◌, ◌^◌, ◌<◌, ◌≤◌, ℕ, List, [], filter, min, length, take, drop, false, OnOk};
 ghost use Rattle.std.specs.List.{AllByRecursion};
 ghost use Rattle.mud_base.specs.Addresses.{same_addr};
 ghost use Rattle.mud_base.specs.declared.addr.Addr.{Addr as AddrValue};
-ghost use Rattle.mud_base.specs.declared.packet.Direction.{Direction as DirectionValue};
-ghost use Rattle.sorted_rows.specs.Placed.{PlacesAscend};
-ghost use Rattle.row_edits.specs.Edits.{edited, AreFound};
-ghost use Rattle.acl_rows.specs.declared.row.Owner.{Owner as OwnerValue};
-ghost use Rattle.acl_rows.specs.Places.{row_place};
+ghost use Rattle.sorted_rows.specs.Placed.{index_in, PlacesAscend};
+ghost use Rattle.row_edits.specs.Edits.{edited};
+ghost use Rattle.acl_rows.specs.Places.{row_place, row_key_place};
 ghost use Rattle.acl_rows.specs.View.{is_at};
-ghost use Rattle.acl_rows.specs.ByAddress.{room_at, rows_of_peer, index_beside, IsRowAt, IsEditAt, IsRoomier, AreGroups};
-ghost use Rattle.acl_rows.specs.Groups.{part_at, group_place, AreGrouped, HaveSameRows, AreRoomier, IsEdited};
+ghost use Rattle.acl_rows.specs.ByAddress.{room_at, index_beside, until_of_row, IsRowAt, IsEditAt, IsRoomier, AreGroups};
 
-use crate::row::{Owner, Row};
+use crate::groups::GroupedRows;
+use crate::row::{FoundRow, Owner, Row, RowKey};
 use mud_base::{Addr, Direction, Memory};
-use row_edits::{Edit, make_edits_from};
+use row_edits::Edit;
 use sorted_rows::{SortedRows, Steps};
 use std::alloc::Global;
 use std::collections::BTreeMap;
@@ -28,24 +26,23 @@ use std::sync::ledger::Ledger;
 /// An address whose last row went, or that was made room for in vain, stays until there are twice as
 /// many addresses as were left when those without rows went the last time, and at least 16; then
 /// `clear` takes those without rows away.
-#[derive(Drop, Debug)]
+#[derive(Drop)]
 pub struct AddressRows {
     owner: Owner,
     side: Direction,
-    groups: BTreeMap<Addr, SortedRows<Row>>,
-    none: SortedRows<Row>,
+    groups: GroupedRows,
     limit: usize,
 }
 
 impl Model for AddressRows {
     ghost use Rattle.acl_rows.specs.ByAddress.{SideRows, grouped};
-    ghost use Rattle.acl_rows.specs.Groups.{room_in, AreKept};
+    ghost use Rattle.acl_rows.specs.Groups.{room_in, AreGrouped};
 
     ghost Value = { SideRows };
 
-    ghost view = { λ s. record { owner = s.owner; side = s.side; rows = grouped s.groups.entries; room = room_in s.groups.entries } };
+    ghost view = { λ s. record { owner = s.owner; side = s.side; rows = grouped s.groups; room = room_in s.groups } };
 
-    ghost invariant = { λ s. AreKept s.owner s.side s.groups.entries s.none.rows };
+    ghost invariant = { λ s. AreGrouped s.owner s.side s.groups };
 }
 
 impl AddressRows {
@@ -58,8 +55,7 @@ impl AddressRows {
         AddressRows {
             owner,
             side,
-            groups: BTreeMap::new(alloc),
-            none: SortedRows::new(alloc),
+            groups: GroupedRows::new(alloc),
             limit: 16,
         }
     }
@@ -72,23 +68,31 @@ impl AddressRows {
         let _kept = &self.groups;
     }
 
-    /// The rows of an address, in the order of their entries.
-    pub fn at(&self, addr: Addr) -> &SortedRows<Row>
-        ensures rows { result.now.rows ≡ filter (is_at addr) self.now.rows }
-        ensures peer { result.now.rows ≡ rows_of_peer self.now.owner self.now.side addr self.now.rows }
-        ensures few { length result.now.rows ≤ length self.now.rows }
+    /// The rows of an address, in the order of their entries. Each of them is one step.
+    pub fn rows_at<L: Ledger>(&self, addr: Addr, steps: &mut Steps<L>) -> &[Row]
+        ensures rows { result.now ≡ filter (is_at addr) self.now.rows }
+        ensures counted { steps.new ≡ steps.old + length result.now }
     {
-        match self.groups.get(&addr) {
-            Some(rows) => rows,
-            None => &self.none,
-        }
+        self.groups.rows_at(addr, steps)
     }
 
-    /// The rows in groups, those of each address by themselves.
-    pub fn groups(&self) -> &BTreeMap<Addr, SortedRows<Row>>
-        ensures { AreGroups result.now.entries self.now.rows }
+    /// Looks for a row among those of its address. There is at least one step where there are such
+    /// rows, and there are no more than their number has binary digits.
+    pub fn find_counted<L: Ledger>(&self, key: &RowKey, steps: &mut Steps<L>) -> FoundRow
+        ensures index { result.index ≡ index_in row_place (row_key_place key.now) (filter (is_at key.now.addr) self.now.rows) }
+        ensures until { result.until ≡ until_of_row (row_key_place key.now) (filter (is_at key.now.addr) self.now.rows) }
+        ensures least { steps.old + min 1 (length (filter (is_at key.now.addr) self.now.rows)) ≤ steps.new }
+        ensures most { (b : ℕ) → length self.now.rows < 2 ^ b → steps.new ≤ steps.old + b }
     {
-        &self.groups
+        self.groups.find_counted(key, steps)
+    }
+
+    /// All rows in groups, those of each address by themselves. Each row is one step.
+    pub fn all_rows<L: Ledger>(&self, steps: &mut Steps<L>) -> &BTreeMap<Addr, SortedRows<Row>>
+        ensures groups { AreGroups result.now.entries self.now.rows }
+        ensures counted { steps.new ≡ steps.old + length self.now.rows }
+    {
+        self.groups.all_rows(steps)
     }
 
     /// Where many addresses have no rows any more, they are forgotten, and with them their room.
@@ -97,7 +101,7 @@ impl AddressRows {
         ensures side { self.new.side ≡ self.old.side }
         ensures rows { self.new.rows ≡ self.old.rows }
     {
-        self.limit = clear_groups(&mut self.groups, self.limit);
+        self.limit = self.groups.clear(self.limit);
     }
 
     /// Makes room for as many rows more at an address. The rows stay, also where there is no memory
@@ -106,7 +110,7 @@ impl AddressRows {
         ensures kept { IsRoomier self.old self.new }
         ensures ok { OnOk result (more ≤ room_at addr self.new.room) }
     {
-        reserve_group(alloc, &mut self.groups, addr, more)
+        self.groups.reserve(alloc, addr, more)
     }
 
     /// Makes each of these edits from index `start` on, all of which are at this address, from the
@@ -130,59 +134,6 @@ impl AddressRows {
         ensures others { (a : AddrValue) → same_addr a addr ≡ false → room_at a self.new.room ≡ room_at a self.old.room }
         ensures counted { steps.new + start ≡ steps.old + length edits.old.rows }
     {
-        edit_group(&mut self.groups, addr, edits, start, steps);
-    }
-}
-
-/// Where there are as many groups as this, those that are empty go. The answer is the number of
-/// groups at which to do so next: twice as many as are left.
-fn clear_groups(groups: &mut BTreeMap<Addr, SortedRows<Row>>, limit: usize) -> usize
-    ensures { (owner : OwnerValue) (side : DirectionValue) → AreGrouped owner side groups.old.entries → HaveSameRows owner side groups.old.entries groups.new.entries }
-{
-    if groups.len() < limit {
-        return limit;
-    }
-    groups.retain(|_, rows| rows.len() > 0);
-    groups.len().saturating_mul(2).max(16)
-}
-
-/// Makes room for as many rows more in the group of an address, which is added where there is none.
-fn reserve_group(
-    alloc: Global,
-    groups: &mut BTreeMap<Addr, SortedRows<Row>>,
-    addr: Addr,
-    more: usize,
-) -> Result<(), Memory>
-    ensures kept { (owner : OwnerValue) (side : DirectionValue) → AreGrouped owner side groups.old.entries → AreRoomier owner side groups.old.entries groups.new.entries }
-    ensures ok { OnOk result (more ≤ (part_at addr groups.new.entries).room) }
-{
-    if let Some(rows) = groups.get_mut(&addr) {
-        return rows.reserve(more);
-    }
-    let mut rows = SortedRows::new(alloc);
-    rows.reserve(more)?;
-    groups.insert(addr, rows)?;
-    Ok(())
-}
-
-/// Makes each of these edits from index `start` on in the group of an address.
-fn edit_group<L: Ledger>(
-    groups: &mut BTreeMap<Addr, SortedRows<Row>>,
-    addr: Addr,
-    edits: &mut SortedRows<Edit<Row>>,
-    start: usize,
-    steps: &mut Steps<L>,
-)
-    requires ascend { PlacesAscend group_place groups.old.entries }
-    requires some { start < length edits.old.rows }
-    requires room { length edits.old.rows ≤ (part_at addr groups.old.entries).room + start }
-    requires found { AreFound row_place (part_at addr groups.old.entries).rows (drop start edits.old.rows) }
-    ensures group { IsEdited addr (drop start edits.old.rows) groups.old.entries groups.new.entries }
-    ensures left { edits.new.rows ≡ take start edits.old.rows }
-    ensures counted { steps.new + start ≡ steps.old + length edits.old.rows }
-{
-    match groups.get_mut(&addr) {
-        Some(rows) => make_edits_from(rows, edits, start, steps),
-        None => unreachable!(),
+        self.groups.make_edits(addr, edits, start, steps);
     }
 }

@@ -1,19 +1,21 @@
 //! What a ruling reads: views that lend entries and rows.
-ghost use Rattle.std.specs.Prelude.{◌≡◌, ℕ, ◌+◌, ◌-◌, ◌^◌, ◌<◌, ◌≤◌, length, slice_get, Some};
+ghost use Rattle.std.specs.Prelude.{◌≡◌, ◌+◌, ◌-◌, ◌≤◌, length, slice_get, Some};
+ghost use Rattle.acl_rows.specs.ByAddress.{AreGroups};
 ghost use Rattle.acl_rows.specs.View as view;
 
 use crate::by_address::AddressRows;
 use crate::row::Row;
 use acl_model::Entry;
 use mud_base::{Addr, Direction};
-use sorted_rows::Steps;
+use sorted_rows::{SortedRows, Steps};
+use std::collections::BTreeMap;
 use std::marker::Model;
 use std::sync::ledger::Ledger;
 
 /// The entries of one side of a file or of the defaults, and the rows that say which addresses meet
 /// their member selectors. Contracts see the rows of all addresses, and how many rows those of one are
 /// found among.
-#[derive(Drop, Debug)]
+#[derive(Drop)]
 pub struct RulePart<'a> {
     side: Direction,
     entries: &'a [Entry],
@@ -95,22 +97,28 @@ impl<'a> RulePart<'a> {
         self.wide
     }
 
-    /// The rows of an address, in the order of their entries. Each of them is one step, and there
-    /// are no more others than the number of the rows that they are found among has binary digits.
+    /// The rows of an address, in the order of their entries. Each of them is one step.
     pub fn rows_at<L: Ledger>(&self, addr: Addr, steps: &mut Steps<L>) -> &'a [Row]
         ensures rows { result.now ≡ view.rows_at self.now addr }
-        ensures least { steps.old + length result.now ≤ steps.new }
-        ensures most { (b : ℕ) → self.now.among < 2 ^ b → steps.new ≤ steps.old + length result.now + b }
+        ensures counted { steps.new ≡ steps.old + length result.now }
     {
-        let rows = self.rows.at(addr);
-        steps.add(rows.len() as u64);
-        rows.rows()
+        let rows = self.rows;
+        rows.rows_at(addr, steps)
+    }
+
+    /// All its rows in groups, those of each address by themselves. Each row is one step.
+    pub fn rows<L: Ledger>(&self, steps: &mut Steps<L>) -> &'a BTreeMap<Addr, SortedRows<Row>>
+        ensures rows { AreGroups result.now.entries self.now.rows }
+        ensures counted { steps.new ≡ steps.old + length self.now.rows }
+    {
+        let rows = self.rows;
+        rows.all_rows(steps)
     }
 }
 
 /// What a ruling reads of a URL and a side: the entries of the URL's file, where one is approved,
 /// and the default entries.
-#[derive(Drop, Debug)]
+#[derive(Drop)]
 pub struct RuleView<'a> {
     side: Direction,
     file: Option<RulePart<'a>>,

@@ -1,5 +1,5 @@
 -- The steps of a ruling: the rows of the peer that are read, the search for them, and the wide entries that are tested.
-use Rattle.std.specs.Prelude.{ℕ, ◌+◌, ◌^◌, ◌<◌, List, filter, length, Option, Some, None}
+use Rattle.std.specs.Prelude.{ℕ, ◌+◌, ◌^◌, ◌<◌, Bool, if◌then◌else◌, List, [], ◌∷◌, filter, length, Option, Some, None}
 use Rattle.std.specs.Option.{option_map_or}
 use Rattle.mud_base.specs.declared.addr.Addr.{Addr}
 use Rattle.mud_base.specs.declared.packet.Direction.{Direction}
@@ -9,7 +9,7 @@ use Rattle.acl_rows.specs.declared.row.Owner.TheVariants.{Default}
 use Rattle.acl_rows.specs.declared.row.Row.{Row}
 use Rattle.acl_rows.specs.Rows.{Slots, Holder, default_held}
 use Rattle.acl_rows.specs.View.{Part, View, wide_from, rows_of_side, is_at, holder_from}
-use Rattle.packet_judge.specs.ByRows.{Asked, peer_rows}
+use Rattle.packet_judge.specs.ByRows.{Asked, passes_at, peer_rows}
 
 -- the rows of the peer that the file has
 unfoldable pub file_rows : Asked → Option Part → ℕ
@@ -18,6 +18,19 @@ file_rows asked (Some part) = length (peer_rows asked part)
 
 unfoldable pub least_steps : Asked → View → ℕ
 least_steps asked view = file_rows asked view.file
+
+-- how many of these are tested: up to the first that passes, or all
+unfoldable pub tested : (ℕ → Bool) → List ℕ → ℕ
+tested test [] = 0
+tested test (n ∷ ns) = if test n then 1 else tested test ns + 1
+
+-- the wide entries that are tested: those of a part, and those of the file
+unfoldable pub wide_tested : Asked → Part → ℕ
+wide_tested asked part = tested (passes_at asked part) part.wide
+
+unfoldable pub file_tested : Asked → Option Part → ℕ
+file_tested asked None = 0
+file_tested asked (Some part) = wide_tested asked part
 
 -- those of one part, where the search takes no more than `b`
 unfoldable pub part_steps : Asked → ℕ → Part → ℕ

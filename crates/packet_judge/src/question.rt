@@ -1,7 +1,7 @@
 //! What a ruling asks of the entries of a view.
 ghost use Rattle.std.specs.Prelude.{◌≡◌, ℕ, ◌+◌, ◌^◌, ◌<◌, ◌≤◌, length};
 ghost use Rattle.packet_judge.specs.ByRows as by;
-ghost use Rattle.packet_judge.specs.RuleSteps.{part_steps};
+ghost use Rattle.packet_judge.specs.RuleSteps.{wide_tested, part_steps};
 
 use acl_model::{near_matches, peer_of, rest_matches};
 use acl_rows::{Row, RulePart};
@@ -72,14 +72,11 @@ impl<'a> Question<'a> {
         self.moment.seconds() < row.until.0 && self.passes(part, row.entry)
     }
 
-    /// The number of the first row of the peer that passes. Each row of the peer is one step, and
-    /// there are no more others than the number of rows that they are found among has binary
-    /// digits.
+    /// The number of the first row of the peer that passes. Each row of the peer is one step.
     #[tactic(auto, unfolding(crate::specs::ByRows::first_row, crate::specs::ByRows::number_of, crate::specs::ByRows::peer_rows))]
     fn first_row<L: Ledger>(&self, part: &RulePart<'_>, steps: &mut Steps<L>) -> Option<u16>
         ensures value { result ≡ by.first_row self.now part.now }
-        ensures least { steps.old + length (by.peer_rows self.now part.now) ≤ steps.new }
-        ensures most { (b : ℕ) → part.now.among < 2 ^ b → steps.new ≤ steps.old + length (by.peer_rows self.now part.now) + b }
+        ensures counted { steps.new ≡ steps.old + length (by.peer_rows self.now part.now) }
     {
         let rows = part.rows_at(peer_of(part.side(), &self.fields), steps);
         rows.iter()
@@ -91,7 +88,7 @@ impl<'a> Question<'a> {
     #[tactic(auto, unfolding(crate::specs::ByRows::first_wide))]
     fn first_wide<L: Ledger>(&self, part: &RulePart<'_>, steps: &mut Steps<L>) -> Option<u16>
         ensures value { result ≡ by.first_wide self.now part.now }
-        ensures least { steps.old ≤ steps.new }
+        ensures counted { steps.new ≡ steps.old + wide_tested self.now part.now }
         ensures most { steps.new ≤ steps.old + length part.now.wide }
     {
         let wide = part.wide();
@@ -113,7 +110,7 @@ impl<'a> Question<'a> {
         steps: &mut Steps<L>,
     ) -> Option<u16>
         ensures value { result ≡ by.first_in self.now part.now }
-        ensures least { steps.old + length (by.peer_rows self.now part.now) ≤ steps.new }
+        ensures least { steps.old + length (by.peer_rows self.now part.now) + wide_tested self.now part.now ≤ steps.new }
         ensures most { (b : ℕ) → part.now.among < 2 ^ b → steps.new ≤ steps.old + part_steps self.now b part.now }
     {
         let row = self.first_row(part, steps);

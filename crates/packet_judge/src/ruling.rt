@@ -53,14 +53,14 @@ fn default_ruling<L: Ledger>(
 }
 
 /// The ruling by the rows of a view: that of the file's first entry, and else that of the defaults.
-#[tactic(auto, unfolding(crate::specs::ByRows::ruling_by_rows, crate::specs::ByRows::ruling_in, crate::specs::ByRows::ruling_at, crate::specs::RuleSteps::file_rows, crate::specs::RuleSteps::least_steps, crate::specs::RuleSteps::file_steps))]
+#[tactic(auto, unfolding(crate::specs::ByRows::ruling_by_rows, crate::specs::ByRows::ruling_in, crate::specs::ByRows::ruling_at, crate::specs::RuleSteps::file_rows, crate::specs::RuleSteps::file_tested, crate::specs::RuleSteps::least_steps, crate::specs::RuleSteps::file_steps))]
 fn rule_by_rows<L: Ledger>(
     view: &RuleView<'_>,
     question: &Question<'_>,
     steps: &mut Steps<L>,
 ) -> Ruling
     ensures value { result ≡ by.ruling_by_rows question.now view.now }
-    ensures least { steps.old + count.least_steps question.now view.now ≤ steps.new }
+    ensures least { steps.old + count.least_steps question.now view.now + count.file_tested question.now view.now.file ≤ steps.new }
     ensures most { (b : ℕ) → count.FitsRows b view.now → steps.new ≤ steps.old + count.most_steps question.now b view.now }
 {
     match view.file_part() {
@@ -98,6 +98,9 @@ pub fn rule<L: Ledger>(
         → result ≡ ruling_of tables now url policy side packet.now.fields begun }
     // Each row of the peer that the file has is one step.
     ensures least { steps.old + count.least_steps (by.asked locals.now now packet.now.fields begun) view.entry ≤ steps.new }
+    // So is each wide entry of the file that is tested, up to the first that passes.
+    ensures tested { steps.old + count.least_steps (by.asked locals.now now packet.now.fields begun) view.entry
+        + count.file_tested (by.asked locals.now now packet.now.fields begun) view.entry.file ≤ steps.new }
     // There is no step more than the rows of the peer, of the file and of the defaults, the binary
     // digits of the numbers of rows among which they are found, and the wide entries.
     ensures most { (b : ℕ) → count.FitsRows b view.entry

@@ -127,7 +127,7 @@ fn put<L: Ledger>(
 {
     let addr = row.addr.addr();
     rows.reserve(alloc, addr, 1)?;
-    let found = rows.at(addr).find(&row);
+    let found = rows.find_counted(&row.key(), steps).index;
     let mut edits = SortedRows::new(alloc);
     plan_edit(&mut edits, row, true, found)?;
     rows.make_edits_at(addr, &mut edits, 0, steps);

@@ -25,12 +25,12 @@ use Rattle.row_edits.specs.Edits.{edit, edit_place}
 use Rattle.acl_rows.specs.declared.row.Owner.{Owner}
 use Rattle.acl_rows.specs.declared.row.Row.{Row}
 use Rattle.acl_rows.specs.declared.row.RowKey.{RowKey}
-use Rattle.acl_rows.specs.Places.{row_place}
+use Rattle.acl_rows.specs.Places.{row_place, row_key_place}
 use Rattle.acl_rows.specs.ByAddress.{rows_of_peer, index_beside}
 use Rattle.acl_rows.specs.Rows.{Slots, row, rows_of, member_keys, held_by, entry_at, entry_end}
 use Rattle.acl_rows.proofs.Lists.{any_first, any_second}
 use Rattle.acl_rows.proofs.Sound.{end_at-entry}
-use Rattle.acl_patch.specs.Touched.{row_key, row_key_place, key_end, changed_edits}
+use Rattle.acl_patch.specs.Touched.{row_key, key_end, changed_edits}
 use Rattle.acl_patch.specs.PolicyTouched.{bound_under, bound_key, first_key_touches}
 use Rattle.key_index.specs.Keys.{key_parts}
 use Rattle.row_changes.specs.Change.{ChangeState, after, end_of_row}

@@ -114,6 +114,3 @@ pub one_group : (all new : List Row) (group : RowsAndRoom Row) (gs : List (RowsA
 one_group all new group gs own edits after is peers made =
     left_edits-append all new group.rows (rows_in gs) edits
     ∙ ap (left_edits all new (rows_in gs)) (ap (λ (rs : List Row). left_edits all new rs edits) (sym is) ∙ sym (made (subst (λ (rs : List Row). AreOfPeer rs all) (sym is) peers.0)))
-
-pub one_count : (group : RowsAndRoom Row) (gs groups : List (RowsAndRoom Row)) (own : List Row) → own ≡ group.rows → groups ≡ group ∷ gs → length (rows_in groups) ≡ length own + length (rows_in gs)
-one_count group gs groups own is first = ap (λ (xs : List (RowsAndRoom Row)). length (rows_in xs)) first ∙ length-append group.rows (rows_in gs) ∙ ap (λ (rs : List Row). length rs + length (rows_in gs)) (sym is)

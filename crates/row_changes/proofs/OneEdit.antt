@@ -13,14 +13,14 @@ use Rattle.row_edits.specs.declared.edit.Edit.{Edit}
 use Rattle.acl_rows.specs.declared.row.Owner.{Owner}
 use Rattle.acl_rows.specs.declared.row.Row.{Row}
 use Rattle.acl_rows.specs.declared.row.RowKey.{RowKey}
-use Rattle.acl_rows.specs.Places.{row_place, place_at}
+use Rattle.acl_rows.specs.Places.{row_place, place_at, row_key_place}
 use Rattle.acl_model.specs.declared.binding.Binding.{Binding}
 use Rattle.acl_rows.specs.ByAddress.{rows_of_peer, index_beside}
 use Rattle.acl_rows.specs.Rows.{Slots, row, held_by, entry_at, entry_end, end_at, rows_of}
 use Rattle.acl_rows.proofs.Sound.{end_at-entry}
 use Rattle.acl_rows.proofs.AtPlaces.{row_at-rows_of}
 use Rattle.row_shelves.proofs.Beside.{row_of_peer}
-use Rattle.acl_patch.specs.Touched.{row_key, row_key_place, key_end, changed_edits, with_edit, with_edits}
+use Rattle.acl_patch.specs.Touched.{row_key, key_end, changed_edits, with_edit, with_edits}
 use Rattle.row_changes.specs.Change.{ChangeState, after, one_edit, more_edits, end_of_row}
 
 -- ---- One edit
@@ -55,37 +55,6 @@ module _ (c : ChangeState) (kept : c.rows ≡ rows_of c.slots c.bindings) (owner
       → changed_edits (row_key owner side a n) (index_beside owner side a (row_key_place (row_key owner side a n)) c.rows) (end_of_row (row_at row_place (row_key_place (row_key owner side a n)) c.rows)) until edits ≡ more_edits c (row_key owner side a n ∷ []) edits
   unfolding key_end
   entry_edit_is held entry until edits h e is = edit_is c kept (row_key owner side a n) until edits (is ∙ sym (end_at-entry c.slots (after c) owner side a n held entry h e))
-
--- ---- The row that is kept, by its index among those of its owner, side and address
-
-module _ (c : ChangeState) (group : List Row) (key : RowKey) (same : group ≡ rows_of_peer key.owner key.side key.addr c.rows) (up : PlacesAscend row_place group) where
-  abbrev old_row : Option Row
-  old_row = row_at row_place (row_key_place key) c.rows
-
-  beside : index_in row_place (row_key_place key) group ≡ index_beside key.owner key.side key.addr (row_key_place key) c.rows
-  unfolding index_beside
-  beside = ap (index_in row_place (row_key_place key)) same
-
-  old_beside : row_at row_place (row_key_place key) group ≡ old_row
-  unfolding row_key_place
-  old_beside = ap (row_at row_place (row_key_place key)) same ∙ row_of_peer key.owner key.side key.addr key.entry c.rows
-
-  pub kept_within : (i : ℕ) → (let r : Result ℕ ℕ = Ok i in r ≡ index_in row_place (row_key_place key) group) → i < length group
-  kept_within i is = found_within row_place (row_key_place key) group i (sym is)
-
-  pub kept_edits : (i : ℕ) (row : Row) (until : Option ℕ) (edits : List (Edit Row)) → (let r : Result ℕ ℕ = Ok i in r ≡ index_in row_place (row_key_place key) group) → slice_get group i ≡ Some row
-      → changed_edits key (Ok i) (Some row.until) until edits ≡ changed_edits key (index_beside key.owner key.side key.addr (row_key_place key) c.rows) (end_of_row old_row) until edits
-  unfolding end_of_row
-  kept_edits i row until edits is read =
-      let old : Some row ≡ old_row = sym (row_at_found row_place (row_key_place key) group i up (sym is) ∙ read) ∙ old_beside in
-      (λ j. changed_edits key ((is ∙ beside) j) (end_of_row (old j)) until edits)
-
-  pub new_edits : (i : ℕ) (until : Option ℕ) (edits : List (Edit Row)) → (let r : Result ℕ ℕ = Err i in r ≡ index_in row_place (row_key_place key) group)
-      → changed_edits key (Err i) None until edits ≡ changed_edits key (index_beside key.owner key.side key.addr (row_key_place key) c.rows) (end_of_row old_row) until edits
-  unfolding end_of_row
-  new_edits i until edits is =
-      let old : None ≡ old_row = sym (row_at_missed row_place (row_key_place key) group i up (sym is)) ∙ old_beside in
-      (λ j. changed_edits key ((is ∙ beside) j) (end_of_row (old j)) until edits)
 
 -- ---- An edit that is asked for by another table
 

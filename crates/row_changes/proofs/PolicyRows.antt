@@ -26,7 +26,7 @@ use Rattle.acl_rows.specs.declared.row.Owner.{Owner}
 use Rattle.acl_rows.specs.declared.row.Owner.TheVariants.{Url, Default}
 use Rattle.acl_rows.specs.declared.row.Row.{Row}
 use Rattle.acl_rows.specs.declared.row.RowKey.{RowKey}
-use Rattle.acl_rows.specs.Places.{side_place, place_at, row_place}
+use Rattle.acl_rows.specs.Places.{side_place, place_at, row_place, row_key_place}
 use Rattle.acl_rows.specs.View.{rows_of_side}
 use Rattle.acl_rows.specs.ByAddress.{index_beside}
 use Rattle.row_shelves.proofs.Beside.{side_is, owner_split}
@@ -34,7 +34,7 @@ use Rattle.acl_rows.specs.Rows.{Slots, Holder, row, rows_of, member_keys, defaul
 use Rattle.acl_rows.proofs.Coordinates.{AreSame, same_coordinates}
 use Rattle.acl_rows.proofs.AtPlaces.{row_at-rows_of, ascend-rows_of}
 use Rattle.acl_patch.specs.Patch.{end_for, IsPatch}
-use Rattle.acl_patch.specs.Touched.{row_key, row_key_place, key_end, same_end, edit_of, changed_edits, with_edit, with_edits}
+use Rattle.acl_patch.specs.Touched.{row_key, key_end, same_end, edit_of, changed_edits, with_edit, with_edits}
 use Rattle.acl_patch.specs.PolicyTouched.{new_touches, owner_rows, key_of_row, is_left, left_touches, policy_touches, IsSlotChange}
 use Rattle.acl_patch.proofs.Untouched.{touches_at}
 use Rattle.acl_patch.proofs.Patches.{all-row_at}

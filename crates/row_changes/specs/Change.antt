@@ -1,5 +1,5 @@
 -- A change of bindings, over what is kept.
-use Rattle.std.specs.Prelude.{ℕ, List, [], min, Option, Some, None}
+use Rattle.std.specs.Prelude.{◌≡◌, ℕ, List, [], min, Option, Some, None}
 use Rattle.std.specs.Option.{option_map}
 use Rattle.sorted_rows.specs.Placed.{row_at}
 use Rattle.mud_base.specs.declared.addr.Addr.{Addr}
@@ -9,10 +9,11 @@ use Rattle.acl_model.specs.Policies.{UrlPolicy}
 use Rattle.acl_model.specs.Places.{binding_place}
 use Rattle.acl_model.specs.Changes.{until_of, bound_until, replaced}
 use Rattle.row_edits.specs.declared.edit.Edit.{Edit}
+use Rattle.row_edits.specs.Edits.{edited}
 use Rattle.acl_rows.specs.declared.row.Owner.TheVariants.{Url}
 use Rattle.acl_rows.specs.declared.row.Row.{Row}
 use Rattle.acl_rows.specs.declared.row.RowKey.{RowKey}
-use Rattle.acl_rows.specs.Rows.{Slots}
+use Rattle.acl_rows.specs.Rows.{Slots, rows_of}
 use Rattle.acl_patch.specs.Touched.{holder_touches, with_edit, with_edits}
 
 pub record ChangeState : Type 0 where
@@ -24,6 +25,11 @@ pub record ChangeState : Type 0 where
 
 abbrev pub change_state : Slots → List Binding → List Row → List Binding → List Binding → ChangeState
 change_state slots bindings rows gone come = record { slots = slots; bindings = bindings; rows = rows; gone = gone; come = come }
+
+-- the rows that are kept are those of the policies and bindings, and with these edits the bindings have gone and come
+pub record IsOver (slots : Slots) (bindings : List Binding) (rows : List Row) (gone come : List Binding) (edits : List (Edit Binding)) : Type 0 where
+  pub kept : rows ≡ rows_of slots bindings
+  pub made : edited binding_place edits bindings ≡ replaced gone come bindings
 
 -- the bindings after the change
 unfoldable pub after : ChangeState → List Binding

@@ -1,19 +1,19 @@
 //! The edits of rows that a change of bindings leads to.
-ghost use Rattle.std.specs.Prelude.{◌≡◌, ℕ, ◌+◌, ◌*◌, ◌^◌, ◌<◌, ◌≤◌, length, min, List, OnOk, Some, slice_get, IfOk, ◌++◌, ◌∷◌, [], is_some, unwrap_or, true};
+ghost use Rattle.std.specs.Prelude.{◌≡◌, ℕ, ◌+◌, ◌*◌, ◌^◌, ◌<◌, ◌≤◌, length, min, OnOk, Some, slice_get, IfOk, ◌++◌, ◌∷◌, [], is_some, true};
 ghost use Rattle.std.specs.Option.{option_map};
-ghost use Rattle.std.specs.List.{list_any, filter_map};
-ghost use Rattle.sorted_rows.specs.Placed.{same_place, row_at, set_rows};
+ghost use Rattle.std.specs.List.{filter_map};
+ghost use Rattle.sorted_rows.specs.Placed.{row_at};
 ghost use Rattle.mud_url.specs.Url.{host_of};
-ghost use Rattle.acl_model.specs.declared.binding.Binding.{Binding as BindingValue};
 ghost use Rattle.acl_model.specs.Keys.{key_of};
 ghost use Rattle.acl_model.specs.Places.{binding_place, key_place};
-ghost use Rattle.acl_model.specs.Changes.{until_of};
+ghost use Rattle.acl_model.specs.Changes.{until_of, replaced};
 ghost use Rattle.acl_model.specs.FirstMatch.{entries_of};
-ghost use Rattle.acl_rows.specs.Places.{row_place};
+ghost use Rattle.row_edits.specs.Edits.{edited, row_after};
+ghost use Rattle.acl_rows.specs.Places.{row_place, row_key_place};
 ghost use Rattle.acl_rows.specs.ByAddress.{index_beside};
 ghost use Rattle.acl_rows.specs.Rows as spec;
 ghost use Rattle.acl_patch.specs.Patch.{IsPatch};
-ghost use Rattle.acl_patch.specs.Touched.{changed_edits, row_key, row_key_place};
+ghost use Rattle.acl_patch.specs.Touched.{changed_edits, row_key};
 ghost use Rattle.key_index.specs.Spots.{policy_spots};
 ghost use Rattle.acl_patch.specs.Touched as touched;
 ghost use Rattle.row_changes.specs.Keys.{place_of_text};
@@ -21,18 +21,18 @@ ghost use Rattle.row_changes.specs.Change.{end_in, met_end, end_of_row, after, m
 ghost use Rattle.row_changes.specs.Steps.{key_steps, least_step, least_steps, EntriesFit, HolderFits};
 ghost use Rattle.row_changes.specs.Policies.{HasCounts, AllHeld, url_policy};
 
-use crate::keys::is_bound;
 use crate::policies::{Held, HeldDefaults};
 use acl_model::{Binding, BoundKey, Entry, MemberKey, Policy, Selector, is_in_family};
-use acl_rows::{Owner, PackedAddr, Row, RowKey};
+use acl_rows::{FoundRow, Owner, PackedAddr, Row, RowKey};
 use binding_shelves::BindingShelves;
 use key_index::{EntrySpot, KeyIndex, selector_key};
 use mud_base::{Addr, Direction, End, Memory};
 use mud_url::MudUrl;
 use row_edits::{Edit, plan_edit};
 use row_shelves::RowShelves;
-use sorted_rows::{SortedRows, Steps};
+use sorted_rows::{KeyOf, SortedRows, Steps};
 use std::alloc::Global;
+use std::cmp::Ordering;
 use std::marker::Model;
 use std::sync::ledger::Ledger;
 
@@ -75,7 +75,7 @@ impl<'a> Model for Holding<'a> {
     ghost invariant = { λ h. HasItsKeys h.url.now h.host.now h.policy.now h.keys.now };
 }
 
-/// A change of bindings, over what is kept.
+/// A change of bindings, over what is kept, and the edits by which the bindings go and come.
 #[derive(Drop)]
 pub struct Change<'a> {
     pub(crate) slots: &'a [Option<Held>],
@@ -83,44 +83,49 @@ pub struct Change<'a> {
     pub(crate) rows: &'a RowShelves,
     gone: &'a [Binding],
     come: &'a [Binding],
+    edits: &'a SortedRows<Edit<Binding>>,
 }
 
 impl<'a> Model for Change<'a> {
-    ghost use Rattle.std.specs.Prelude.{◌≡◌};
-    ghost use Rattle.acl_rows.specs.Rows.{rows_of};
-    ghost use Rattle.row_changes.specs.Change.{ChangeState};
+    ghost use Rattle.row_changes.specs.Change.{ChangeState, IsOver};
 
     ghost Value = { ChangeState };
 
     ghost view = { λ c. record { slots = c.slots.now; bindings = c.bindings.now.rows; rows = c.rows.now.rows; gone = c.gone.now; come = c.come.now } };
 
-    ghost invariant = { λ c. c.rows.now.rows ≡ rows_of c.slots.now c.bindings.now.rows };
+    ghost invariant = { λ c. IsOver c.slots.now c.bindings.now.rows c.rows.now.rows c.gone.now c.come.now c.edits.now.rows };
 }
 
-/// The end at a place after these bindings came, one after the other, where it was `end` before.
-fn came_end(come: &[Binding], key: &BoundKey<'_>, end: Option<End>) -> Option<End>
-    ensures { (bindings : List BindingValue)
-        → end ≡ end_in (place_of_text key.entry.now.key.kind key.entry.now.key.text.now key.entry.now.addr) bindings
-        → result ≡ end_in (place_of_text key.entry.now.key.kind key.entry.now.key.text.now key.entry.now.addr) (set_rows binding_place come.now bindings) }
-{
-    let mut last = end;
-    for binding in come {
-        if is_bound(key, binding) {
-            last = Some(binding.until);
-        }
+/// What the edit of a binding is found by.
+#[derive(Clone, Copy)]
+struct OfBound<'a>(BoundKey<'a>);
+
+impl KeyOf<Edit<Binding>> for OfBound<'_> {
+    ghost use Rattle.row_changes.specs.Keys.{place_of_text};
+
+    ghost place = { λ of. place_of_text of.0.key.kind of.0.key.text.now of.0.addr };
+
+    #[tactic(auto, unfolding(row_edits::specs::Edits::edit_place))]
+    fn order_to(&self, edit: &Edit<Binding>) -> Ordering {
+        self.0.order_to(&edit.row)
     }
-    last
 }
 
-/// Whether one of these bindings is of the key and address.
-fn is_gone(gone: &[Binding], key: &BoundKey<'_>) -> bool
-    ensures { result ≡ list_any (λ b. same_place (binding_place b) (place_of_text key.entry.now.key.kind key.entry.now.key.text.now key.entry.now.addr)) gone.now }
+/// The end of the binding of an edit's place once the edit is made.
+#[tactic(auto, unfolding(row_edits::specs::Edits::row_after, acl_model::specs::Changes::until_of))]
+fn end_after(edit: &Edit<Binding>) -> Option<End>
+    ensures { result ≡ option_map until_of (row_after edit.now) }
 {
-    gone.iter().any(|binding| is_bound(key, binding))
+    if edit.comes {
+        Some(edit.row.until)
+    } else {
+        None
+    }
 }
 
 impl<'a> Change<'a> {
-    /// The end of the binding of a key and an address after the change.
+    /// The end of the binding of a key and an address after the change. Its edit is looked up
+    /// first: the edits are the call's own, so that is no step.
     fn bound_end<L: Ledger>(&self, key: &BoundKey<'_>, steps: &mut Steps<L>) -> Option<End>
         ensures value { result ≡ end_in (place_of_text key.entry.now.key.kind key.entry.now.key.text.now key.entry.now.addr) (after self.now) }
         ensures least { steps.old ≤ steps.new }
@@ -128,11 +133,10 @@ impl<'a> Change<'a> {
     {
         let bindings = self.bindings;
         bindings.tell_order();
-        if is_gone(self.gone, key) {
-            return came_end(self.come, key, None);
+        match self.edits.get(&OfBound(*key)) {
+            Some(edit) => end_after(edit),
+            None => kept_end(bindings, key, steps),
         }
-        let end = kept_end(bindings, key, steps);
-        came_end(self.come, key, end)
     }
 
     /// The lesser of an end and that of the binding of a selector's key after the change. None where
@@ -218,12 +222,9 @@ impl<'a> Change<'a> {
         ensures least { steps.old + least_step self.now.rows key ≤ steps.new }
         ensures most { (b : ℕ) → length self.now.rows < 2 ^ b → steps.new ≤ steps.old + b }
     {
-        let group = self.rows.at(key.owner, key.side, key.addr);
-        let kept = group.rows();
-        match group.find_counted(&key, steps) {
-            Ok(index) => plan_kept(edits, key, index, row_of(kept, index).until, until),
-            Err(index) => plan_new(edits, key, index, until),
-        }
+        let rows = self.rows;
+        let found = rows.find_counted(&key, steps);
+        plan_found(edits, key, found, until)
     }
 
     /// The edit of an entry at an address.
@@ -384,15 +385,17 @@ impl<'a> Change<'a> {
 }
 
 impl<'a> Change<'a> {
-    /// A change of bindings over these.
+    /// A change of bindings over these, and the edits by which they go and come.
     pub fn new(
         slots: &'a [Option<Held>],
         bindings: &'a BindingShelves,
         rows: &'a RowShelves,
         gone: &'a [Binding],
         come: &'a [Binding],
+        edits: &'a SortedRows<Edit<Binding>>,
     ) -> Change<'a>
-        requires { rows.now.rows ≡ spec.rows_of slots.now bindings.now.rows }
+        requires kept { rows.now.rows ≡ spec.rows_of slots.now bindings.now.rows }
+        requires made { edited binding_place edits.now.rows bindings.now.rows ≡ replaced gone.now come.now bindings.now.rows }
         ensures { result ≡ change_state slots.now bindings.now.rows rows.now.rows gone.now come.now }
     {
         Change {
@@ -401,6 +404,7 @@ impl<'a> Change<'a> {
             rows,
             gone,
             come,
+            edits,
         }
     }
 }
@@ -489,14 +493,6 @@ impl<'a> Holding<'a> {
     }
 }
 
-/// The row of an index.
-fn row_of(rows: &[Row], index: usize) -> &Row
-    requires { index < length rows.now }
-    ensures { slice_get rows.now index ≡ Some result.now }
-{
-    &rows[index]
-}
-
 /// The row of a key with this end.
 #[tactic(auto, unfolding(acl_rows::specs::Rows::row))]
 pub(crate) fn row_until(key: RowKey, until: End) -> Row
@@ -511,37 +507,23 @@ pub(crate) fn row_until(key: RowKey, until: End) -> Row
     }
 }
 
-/// Plans that the row of this key and index gets the new end, or goes where there is none.
+/// Plans that the row of this key, which was looked for, has the new end, or that it goes where there
+/// is none: where that changes it.
 #[tactic(auto, unfolding(acl_patch::specs::Touched::changed_edits, acl_patch::specs::Touched::same_end, acl_patch::specs::Touched::edit_of))]
-fn plan_kept(
+fn plan_found(
     edits: &mut SortedRows<Edit<Row>>,
     key: RowKey,
-    index: usize,
-    old: End,
+    found: FoundRow,
     new: Option<End>,
 ) -> Result<(), Memory>
-    ensures { OnOk result (edits.new.rows ≡ changed_edits key (Ok index) (Some old) new edits.old.rows) }
+    ensures { OnOk result (edits.new.rows ≡ changed_edits key found.index found.until new edits.old.rows) }
 {
-    match new {
-        Some(end) if end.0 == old.0 => Ok(()),
-        Some(end) => plan_edit(edits, row_until(key, end), true, Ok(index)),
-        None => plan_edit(edits, row_until(key, old), false, Ok(index)),
-    }
-}
-
-/// Plans that the row of this key comes with the new end, where there is one, at this index.
-#[tactic(auto, unfolding(acl_patch::specs::Touched::changed_edits, acl_patch::specs::Touched::same_end, acl_patch::specs::Touched::edit_of))]
-fn plan_new(
-    edits: &mut SortedRows<Edit<Row>>,
-    key: RowKey,
-    index: usize,
-    new: Option<End>,
-) -> Result<(), Memory>
-    ensures { OnOk result (edits.new.rows ≡ changed_edits key (Err index) None new edits.old.rows) }
-{
-    match new {
-        Some(end) => plan_edit(edits, row_until(key, end), true, Err(index)),
-        None => Ok(()),
+    match (found.until, new) {
+        (None, None) => Ok(()),
+        (None, Some(end)) => plan_edit(edits, row_until(key, end), true, found.index),
+        (Some(old), None) => plan_edit(edits, row_until(key, old), false, found.index),
+        (Some(old), Some(end)) if end.0 == old.0 => Ok(()),
+        (Some(_), Some(end)) => plan_edit(edits, row_until(key, end), true, found.index),
     }
 }
 

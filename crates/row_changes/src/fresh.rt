@@ -263,18 +263,12 @@ fn put_fresh(rows: &mut SortedRows<Row>, key: RowKey, until: End) -> Result<(), 
 }
 
 /// Plans that those of these rows go whose places aren't among the new rows. They are all rows of
-/// one owner, side and address. Each is one step.
-pub(crate) fn plan_left<L: Ledger>(
-    own: &[Row],
-    fresh: &mut FreshRows,
-    steps: &mut Steps<L>,
-) -> Result<(), Memory>
+/// one owner, side and address.
+pub(crate) fn plan_left(own: &[Row], fresh: &mut FreshRows) -> Result<(), Memory>
     requires { PlacesAscend row_place own.now }
     ensures rows { fresh.new.rows ≡ fresh.old.rows }
     ensures ok { OnOk result ((all : List RowValue) → AreOfPeer own.now all → fresh.new.edits ≡ left_edits all fresh.old.rows own.now fresh.old.edits) }
-    ensures counted { steps.new ≡ steps.old + length own.now }
 {
-    steps.add(own.len() as u64);
     let mut index = 0;
     for row in own {
         if !fresh.rows.contains(row) {

@@ -142,19 +142,18 @@ impl CompiledPolicy {
     pub fn part<'a>(&'a self, owner: Owner, side: Direction, rows: &'a RowShelves) -> RulePart<'a>
         ensures { IsPartOf rows.now.rows side owner self.now result }
     {
-        let shelf = rows.shelf(owner, side);
         match side {
-            Direction::From => RulePart::new(
+            Direction::From => rows.part(
+                owner,
                 side,
                 self.policy.outgoing.as_slice(),
                 self.wide_outgoing.as_slice(),
-                shelf,
             ),
-            Direction::To => RulePart::new(
+            Direction::To => rows.part(
+                owner,
                 side,
                 self.policy.incoming.as_slice(),
                 self.wide_incoming.as_slice(),
-                shelf,
             ),
         }
     }

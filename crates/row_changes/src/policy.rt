@@ -33,12 +33,11 @@ fn plan_side<L: Ledger>(
 ) -> Result<(), Memory>
     ensures rows { fresh.new.rows ≡ fresh.old.rows }
     ensures ok { OnOk result (fresh.new.edits ≡ left_edits rows.now.rows fresh.old.rows (rows_of_side owner side rows.now.rows) fresh.old.edits) }
-    ensures read { OnOk result (steps.new ≡ steps.old + length (rows_of_side owner side rows.now.rows)) }
-    ensures most { steps.new ≤ steps.old + length (rows_of_side owner side rows.now.rows) }
+    ensures counted { steps.new ≡ steps.old + length (rows_of_side owner side rows.now.rows) }
 {
-    let groups = rows.shelf(owner, side).groups();
+    let groups = rows.all_rows(owner, side, steps);
     for group in groups.values() {
-        plan_left(group.rows(), fresh, steps)?;
+        plan_left(group.rows(), fresh)?;
     }
     Ok(())
 }
@@ -99,7 +98,8 @@ pub fn slot_rows<L: Ledger>(
         → steps.new ≤ steps.old + length (owner_rows (owner_of.Url index) rows.now.rows) + (policy_count held.now + length (new_touches bindings.now.rows (owner_of.Url index) held.now) + 1) * place_steps s b k }
 {
     let owner = Owner::Url(index);
-    let change = Change::new(slots, bindings, rows, &[], &[]);
+    let unchanged = SortedRows::new(alloc);
+    let change = Change::new(slots, bindings, rows, &[], &[], &unchanged);
     let mut fresh = fresh_rows(alloc, &change, owner, held, steps)?;
     plan_own(rows, owner, &mut fresh, steps)?;
     let FreshRows { edits, rows: _ } = fresh;

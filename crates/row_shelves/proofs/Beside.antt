@@ -1,6 +1,6 @@
 -- The rows of an owner and side among all rows, and those of an address among these.
 use Rattle.std.proofs.Common.{◌≡◌, ℕ, zero, suc, ◌<◌, ◌≤◌, Bool, true, false, cond, ◌&&◌, List, [], ◌∷◌, ◌++◌, length, Some, refl, sym, ap, ◌∙◌, arith}
-use Rattle.std.specs.Prelude.{nat_eq, filter}
+use Rattle.std.specs.Prelude.{nat_eq, filter, option_map}
 use Rattle.std.specs.List.{slice_get}
 use Rattle.std.specs.declared.cmp.Ordering.TheVariants.{Less, Greater}
 use Rattle.std.proofs.lemmas.Bool.{and_parts}
@@ -14,9 +14,10 @@ use Rattle.mud_base.specs.declared.packet.Direction.TheVariants.{From, To}
 use Rattle.acl_model.proofs.BindingLaws.{same_addr_exact, same_addr_itself}
 use Rattle.acl_rows.specs.declared.row.Owner.{Owner}
 use Rattle.acl_rows.specs.declared.row.Row.{Row}
-use Rattle.acl_rows.specs.Places.{owner_class, owner_number, side_number, owner_place, side_place, peer_place, place_at, row_place}
+use Rattle.acl_rows.specs.declared.row.RowKey.{RowKey}
+use Rattle.acl_rows.specs.Places.{owner_class, owner_number, side_number, owner_place, side_place, peer_place, place_at, row_place, row_key_place}
 use Rattle.acl_rows.specs.View.{rows_of_side, is_at}
-use Rattle.acl_rows.specs.ByAddress.{rows_of_peer, IsRowAt}
+use Rattle.acl_rows.specs.ByAddress.{rows_of_peer, until_of_row, IsRowAt}
 use Rattle.acl_rows.proofs.Coordinates.{AreSame, same_coordinates}
 use Rattle.acl_rows.proofs.Parts.{under_peer, rows_under-peer}
 use Rattle.row_shelves.specs.Shelves.{shelf_number}
@@ -122,6 +123,16 @@ few_by x n ys false few = omega arith
 filter_few : (t : Row → Bool) (rows : List Row) → length (filter t rows) ≤ length rows
 filter_few t [] = omega arith
 filter_few t (x ∷ xs) = few_by x (length xs) (filter t xs) (t x) (filter_few t xs)
+
+-- the rows of an address on the shelf of an owner and side
+pub shelf_at : (o : Owner) (s : Direction) (a : Addr) (shelf rows : List Row) → shelf ≡ rows_of_side o s rows → filter (is_at a) shelf ≡ rows_of_peer o s a rows
+unfolding rows_of_peer
+shelf_at o s a shelf rows is = ap (filter (is_at a)) is ∙ sym (rows_under-peer o s a rows)
+
+-- the end of a row is the one among the rows of its owner, side and address
+pub until_of_peer : (key : RowKey) (rows : List Row) → until_of_row (row_key_place key) (rows_of_peer key.owner key.side key.addr rows) ≡ until_of_row (row_key_place key) rows
+unfolding until_of_row row_key_place
+until_of_peer key rows = ap (option_map (λ (row : Row). row.until)) (row_of_peer key.owner key.side key.addr key.entry rows)
 
 pub side_few : (o : Owner) (s : Direction) (rows : List Row) → length (rows_of_side o s rows) ≤ length rows
 unfolding rows_of_side

@@ -12,39 +12,37 @@ use Rattle.row_changes.proofs.Planned.{most_moved}
 use Rattle.acl_compile.proofs.PlanLaws.{member_most, member_plan}
 use Rattle.acl_compile.proofs.plan.plan_change.Goals as goal
 
+pub new-change-requires-clause-made : goal.new-change-requires-clause-made
+new-change-requires-clause-made g c = c.in_ok-binding_edits.ensures.ok.made
+
 pub plan-requires-clause-default_held : goal.plan-requires-clause-default_held
 unfolding default_held
 plan-requires-clause-default_held g c = ap (url_policy _) (sym c.requires.default) ∙ sym c.of_defaults-holding.ensures.held
 
-pub returns-in_err-row_edits-clause-most : goal.returns-in_err-row_edits-clause-most
-returns-in_err-row_edits-clause-most g c =
-    member_most c.args.slots.now c.args.bindings.now.rows c.args.rows.now.rows c.args.gone.now c.args.come.now c.args.steps.now c.plan.new.steps c.plan.new.steps
-    (most_moved c.new-change.result (change_state c.args.slots.now c.args.bindings.now.rows c.args.rows.now.rows c.args.gone.now c.args.come.now) c.new-change.ensures c.args.steps.now c.plan.new.steps c.plan.ensures.most)
-    (λ b few. omega arith)
-
 pub returns-in_err-binding_edits-clause-most : goal.returns-in_err-binding_edits-clause-most
 returns-in_err-binding_edits-clause-most g c =
-    member_most c.args.slots.now c.args.bindings.now.rows c.args.rows.now.rows c.args.gone.now c.args.come.now c.args.steps.now c.plan.new.steps c.edits_of.new.steps
-    (most_moved c.new-change.result (change_state c.args.slots.now c.args.bindings.now.rows c.args.rows.now.rows c.args.gone.now c.args.come.now) c.new-change.ensures c.args.steps.now c.plan.new.steps c.plan.ensures.most)
-    c.edits_of.ensures.most
+    member_most c.args.slots.now c.args.bindings.now.rows c.args.rows.now.rows c.args.gone.now c.args.come.now c.args.steps.now c.edits_of.new.steps c.edits_of.new.steps c.edits_of.ensures.most
+    (λ b k u few rows fit. omega arith)
+
+pub returns-in_err-row_edits-clause-most : goal.returns-in_err-row_edits-clause-most
+returns-in_err-row_edits-clause-most g c =
+    member_most c.args.slots.now c.args.bindings.now.rows c.args.rows.now.rows c.args.gone.now c.args.come.now c.args.steps.now c.edits_of.new.steps c.plan.new.steps c.edits_of.ensures.most
+    (most_moved c.new-change.result (change_state c.args.slots.now c.args.bindings.now.rows c.args.rows.now.rows c.args.gone.now c.args.come.now) c.new-change.ensures c.edits_of.new.steps c.plan.new.steps c.plan.ensures.most)
 
 pub returns-in_err-make_room-clause-most : goal.returns-in_err-make_room-clause-most
 returns-in_err-make_room-clause-most g c =
-    member_most c.args.slots.now c.args.bindings.now.rows c.args.rows.now.rows c.args.gone.now c.args.come.now c.args.steps.now c.plan.new.steps c.edits_of.new.steps
-    (most_moved c.new-change.result (change_state c.args.slots.now c.args.bindings.now.rows c.args.rows.now.rows c.args.gone.now c.args.come.now) c.new-change.ensures c.args.steps.now c.plan.new.steps c.plan.ensures.most)
-    c.edits_of.ensures.most
+    member_most c.args.slots.now c.args.bindings.now.rows c.args.rows.now.rows c.args.gone.now c.args.come.now c.args.steps.now c.edits_of.new.steps c.plan.new.steps c.edits_of.ensures.most
+    (most_moved c.new-change.result (change_state c.args.slots.now c.args.bindings.now.rows c.args.rows.now.rows c.args.gone.now c.args.come.now) c.new-change.ensures c.edits_of.new.steps c.plan.new.steps c.plan.ensures.most)
 
 pub returns-in_err-make_room-2-clause-most : goal.returns-in_err-make_room-2-clause-most
 returns-in_err-make_room-2-clause-most g c =
-    member_most c.args.slots.now c.args.bindings.now.rows c.args.rows.now.rows c.args.gone.now c.args.come.now c.args.steps.now c.plan.new.steps c.edits_of.new.steps
-    (most_moved c.new-change.result (change_state c.args.slots.now c.args.bindings.now.rows c.args.rows.now.rows c.args.gone.now c.args.come.now) c.new-change.ensures c.args.steps.now c.plan.new.steps c.plan.ensures.most)
-    c.edits_of.ensures.most
+    member_most c.args.slots.now c.args.bindings.now.rows c.args.rows.now.rows c.args.gone.now c.args.come.now c.args.steps.now c.edits_of.new.steps c.plan.new.steps c.edits_of.ensures.most
+    (most_moved c.new-change.result (change_state c.args.slots.now c.args.bindings.now.rows c.args.rows.now.rows c.args.gone.now c.args.come.now) c.new-change.ensures c.edits_of.new.steps c.plan.new.steps c.plan.ensures.most)
 
 pub returns-clause-most : goal.returns-clause-most
 returns-clause-most g c =
-    member_most c.args.slots.now c.args.bindings.now.rows c.args.rows.now.rows c.args.gone.now c.args.come.now c.args.steps.now c.plan.new.steps c.edits_of.new.steps
-    (most_moved c.new-change.result (change_state c.args.slots.now c.args.bindings.now.rows c.args.rows.now.rows c.args.gone.now c.args.come.now) c.new-change.ensures c.args.steps.now c.plan.new.steps c.plan.ensures.most)
-    c.edits_of.ensures.most
+    member_most c.args.slots.now c.args.bindings.now.rows c.args.rows.now.rows c.args.gone.now c.args.come.now c.args.steps.now c.edits_of.new.steps c.plan.new.steps c.edits_of.ensures.most
+    (most_moved c.new-change.result (change_state c.args.slots.now c.args.bindings.now.rows c.args.rows.now.rows c.args.gone.now c.args.come.now) c.new-change.ensures c.edits_of.new.steps c.plan.new.steps c.plan.ensures.most)
 
 pub returns-clause-ok : goal.returns-clause-ok
 unfolding after
@@ -58,5 +56,5 @@ returns-clause-ok g c =
 
 pub returns-clause-read : goal.returns-clause-read
 returns-clause-read g c =
-    let read = subst (λ (s : ChangeState). c.args.steps.now + least_steps s.rows (touches s.slots (s.gone ++ s.come)) ≤ c.plan.new.steps) c.new-change.ensures c.in_ok-row_edits.ensures.read in
+    let read = subst (λ (s : ChangeState). c.edits_of.new.steps + least_steps s.rows (touches s.slots (s.gone ++ s.come)) ≤ c.plan.new.steps) c.new-change.ensures c.in_ok-row_edits.ensures.read in
     omega (arith, read, c.edits_of.ensures.least)

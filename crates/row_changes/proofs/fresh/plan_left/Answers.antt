@@ -10,7 +10,7 @@ use Rattle.row_changes.proofs.fresh.plan_left.Goals as goal
 use Rattle.row_changes.proofs.fresh.plan_left.Goals.{then-not-contains+in_ok-plan_edit, else-not-contains}
 
 pub loop-row-preserved : goal.loop-row-preserved
-loop-row-preserved g c =
+loop-row-preserved c =
     let there = c.contains.ensures ∙ ap (λ (rows : List Row). is_some (row_at row_place (row_place c.row-item.result) rows)) c.loop-row.invariant.rows in
     record {
       index = omega (arith, c.loop-row.invariant.index);
@@ -31,5 +31,5 @@ loop-row-preserved g c =
 
 pub returns-clause-ok : goal.returns-clause-ok
 unfolding left_edits
-returns-clause-ok g c = λ all peer.
+returns-clause-ok c = λ all peer.
     sym (c.loop-row.invariant.edits all peer ∙ ap (λ (rs : List Row). left_edits all c.args.fresh.now.rows rs c.loop-row.fresh-inside.edits.rows) (drop_all c.loop-row.row-index c.args.own.now c.loop-row-test.false))

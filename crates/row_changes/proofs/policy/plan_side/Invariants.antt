@@ -1,4 +1,4 @@
-use Rattle.std.proofs.Common.{◌≡◌, ◌+◌, length}
+use Rattle.std.proofs.Common.{◌≡◌}
 use Rattle.std.specs.List.{AllByRecursion}
 use Rattle.sorted_rows.specs.Placed.{RowsAndRoom}
 use Rattle.acl_rows.specs.declared.row.Row.{Row}
@@ -13,5 +13,4 @@ invariant-loop-group g l = record {
   rows : l.fresh.rows ≡ l.fn.fresh.rows;
   peers : AllByRecursion (λ (x : RowsAndRoom Row). AreOfPeer x.rows l.fn.rows.rows) l.group-iterator;
   edits : left_edits l.fn.rows.rows l.fn.fresh.rows (rows_of_side l.fn.owner l.fn.side l.fn.rows.rows) l.fn.fresh.edits ≡ left_edits l.fn.rows.rows l.fn.fresh.rows (rows_in l.group-iterator) l.fresh.edits;
-  counted : l.steps + length (rows_in l.group-iterator) ≡ l.fn.steps + length (rows_of_side l.fn.owner l.fn.side l.fn.rows.rows);
 }

@@ -1,9 +1,9 @@
 use Rattle.std.proofs.Common.{◌≡◌, Some, None, ap, subst, ◌∙◌}
 use Rattle.sorted_rows.specs.Placed.{row_at, set_row}
-use Rattle.acl_rows.specs.Places.{row_place}
+use Rattle.acl_rows.specs.Places.{row_place, row_key_place}
 use Rattle.acl_rows.specs.ByAddress.{index_beside}
 use Rattle.acl_rows.specs.Rows.{row, rows_of}
-use Rattle.acl_patch.specs.Touched.{row_key_place, changed_edits}
+use Rattle.acl_patch.specs.Touched.{changed_edits}
 use Rattle.row_changes.specs.Change.{ChangeState, end_of_row}
 use Rattle.row_changes.specs.Fresh.{Fresh, fresh_of}
 use Rattle.row_changes.proofs.FreshLaws.{on_ok_map, fresh_some, fresh_none}
@@ -11,7 +11,7 @@ use Rattle.row_changes.proofs.change.Change.plan_fresh.Goals as goal
 
 pub returns-in_ok-plan_row-in-Some-clause-ok : goal.returns-in_ok-plan_row-in-Some-clause-ok
 returns-in_ok-plan_row-in-Some-clause-ok g c =
-    let kept = subst (λ (s : ChangeState). s.rows ≡ rows_of s.slots s.bindings) c.self.view_is c.self.invariant in
+    let kept = subst (λ (s : ChangeState). s.rows ≡ rows_of s.slots s.bindings) c.self.view_is c.self.invariant.kept in
     let edits = ap (λ (s : Fresh). s.edits) c.fresh.view_is in
     let rows = ap (λ (s : Fresh). s.rows) c.fresh.view_is in
     let key = c.args.key in
@@ -24,7 +24,7 @@ returns-in_ok-plan_row-in-Some-clause-ok g c =
 
 pub returns-in-None-clause-ok : goal.returns-in-None-clause-ok
 returns-in-None-clause-ok g c =
-    let kept = subst (λ (s : ChangeState). s.rows ≡ rows_of s.slots s.bindings) c.self.view_is c.self.invariant in
+    let kept = subst (λ (s : ChangeState). s.rows ≡ rows_of s.slots s.bindings) c.self.view_is c.self.invariant.kept in
     let edits = ap (λ (s : Fresh). s.edits) c.fresh.view_is in
     let rows = ap (λ (s : Fresh). s.rows) c.fresh.view_is in
     let key = c.args.key in

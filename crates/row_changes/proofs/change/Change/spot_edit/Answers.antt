@@ -12,7 +12,7 @@ use Rattle.row_changes.proofs.change.Change.spot_edit.Goals as goal
 
 pub returns-clause-ok : goal.returns-clause-ok
 returns-clause-ok g c =
-    let kept = subst (λ (s : ChangeState). s.rows ≡ rows_of s.slots s.bindings) c.self.view_is c.self.invariant in
+    let kept = subst (λ (s : ChangeState). s.rows ≡ rows_of s.slots s.bindings) c.self.view_is c.self.invariant.kept in
     let holds = ap (held_by c.args.self.now.slots) c.owner.ensures ∙ c.requires.held in
     let made = entry_edit_is c.args.self.now kept c.owner.result c.args.spot.now.side c.args.addr c.args.spot.now.number c.args.holding.now.1 c.entry-entry.result.now c.entry_end-until.result c.args.edits.now.rows holds c.entry-entry.ensures
     (c.entry_end-until.ensures.value ∙ (λ i. entry_end (after c.args.self.now) (c.url.ensures i) c.entry-entry.result.now c.args.addr)) in

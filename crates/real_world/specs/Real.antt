@@ -1,7 +1,6 @@
 -- Where a real door stands and what can be read and written there, and how often its calls have failed.
 use Rattle.std.specs.Prelude.{ℕ, Bool, true, false, List, [], Option, Some, None}
 use Rattle.real_world.specs.Ports.{client_octets, is_served}
-use Rattle.real_world.specs.declared.port.Port.{Port}
 use Rattle.real_world.specs.declared.door.Place.{Place}
 use Rattle.real_world.specs.declared.door.Place.TheVariants.{Standard, Left, Bound}
 use Rattle.real_world.specs.declared.door.RealDoor.{RealDoor}

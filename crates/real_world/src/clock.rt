@@ -1,9 +1,11 @@
 //! The machine's clock. What it shows is outside what is proved, so it tells no moments.
-ghost use Rattle.std.specs.Prelude.{◌≡◌, ◌≤◌, []};
+ghost use Rattle.std.specs.Prelude.{◌≡◌, ◌≤◌, ◌/◌, [], min, IfOk, OnErr};
+ghost use Rattle.std.specs.Time.{system_time_nanos};
 ghost use Rattle.real_world.specs.Real.{last_of};
 
 use mud_base::Moment;
 use mud_world::Clock;
+use std::io;
 use std::time::SystemTime;
 
 /// The machine's clock, cut to the range of moments. It never goes back: where the machine's clock
@@ -27,9 +29,13 @@ impl<R: std::rt::Clock + Drop> RealClock<R> {
     }
 }
 
-/// The moment that the machine's clock shows, or 0 where it can't be read.
-fn shown<R: std::rt::Clock>(runtime: &R) -> Moment {
-    let Ok(time) = SystemTime::now(runtime) else {
+/// The moment of a time that a clock gave: its whole seconds since 1970, cut to the range of moments,
+/// or 0 where the clock couldn't be read.
+fn shown(time: io::Result<SystemTime>) -> Moment
+    ensures time { IfOk time (λ t. result ≡ min (system_time_nanos t / 1000000000) 253402300799) }
+    ensures unread { OnErr time (result ≡ 0) }
+{
+    let Ok(time) = time else {
         return Moment::at_most_last(0);
     };
     match time.duration_since(SystemTime::UNIX_EPOCH) {
@@ -48,7 +54,7 @@ impl<R: std::rt::Clock + Drop> Clock for RealClock<R> {
         ensures never_back { last_of self.old ≤ result }
         ensures kept { last_of self.new ≡ result }
     {
-        let shown = shown(&self.runtime);
+        let shown = shown(SystemTime::now(&self.runtime));
         if self.last.seconds() < shown.seconds() {
             self.last = shown;
         }

@@ -1,14 +1,18 @@
 //! The real spool: the files of one folder. What a folder holds is outside what is proved, so it
-//! tells nothing of its files. Its counts and bounds are proved.
-ghost use Rattle.std.specs.Prelude.{◌≡◌, ◌≤◌, ◌+◌, [], length, IfOk};
+//! tells nothing of its files. Its counts and bounds are proved, and what it makes of the octets that
+//! a file gives.
+ghost use Rattle.std.specs.Prelude.{◌≡◌, ◌≤◌, ◌<◌, ◌++◌, ◌∷◌, [], length, take, Err, None, IfErr, IfOk, IfSome, OnOk};
+ghost use Rattle.std.specs.Fs.{dir_entry_name};
+ghost use Rattle.std.specs.Io.KnownBytes.{Consumes, IsAtEnd};
 ghost use Rattle.mud_world.specs.Causes.{Counts};
 ghost use Rattle.mud_world.specs.Files.{has_failed};
 ghost use Rattle.real_world.specs.Real.{faults_of};
+ghost use Rattle.real_world.specs.Errors.{name_fault_of, spool_fault_of};
 
 use mud_base::{Bytes, Listed, Memory};
 use mud_world::{MOST_READ, Spool, SpoolFault};
 use std::alloc::Global;
-use std::fs;
+use std::fs::{self, DirEntry};
 use std::io::{self, ErrorKind, Read};
 use std::rt::Files;
 
@@ -37,11 +41,44 @@ impl<R: Files + AllocGlobal + Clone + Drop> RealSpool<R> {
 }
 
 /// An error of the system as a fault of a spool.
-fn fault_of(error: &io::Error) -> SpoolFault {
-    if error.kind() == ErrorKind::OutOfMemory {
-        SpoolFault::Memory
-    } else {
-        SpoolFault::Failed
+fn fault_of(error: &io::Error) -> SpoolFault
+    ensures { result ≡ spool_fault_of error.now }
+{
+    match error.kind() {
+        ErrorKind::OutOfMemory => SpoolFault::Memory,
+        _ => SpoolFault::Failed,
+    }
+}
+
+/// What becomes of an entry that can't be read: None where its name isn't UTF-8, else the fault.
+fn name_fault(error: &io::Error) -> Option<SpoolFault>
+    ensures { result ≡ name_fault_of error.now }
+{
+    match error.kind() {
+        ErrorKind::InvalidFilename => None,
+        _ => Some(fault_of(error)),
+    }
+}
+
+/// Adds the name of an entry to those of the folder. An entry whose name isn't UTF-8 has none.
+fn add_name<R: Files + Drop>(
+    entry: io::Result<DirEntry<R>>,
+    names: &mut Listed<Bytes>,
+    alloc: Global,
+) -> Result<(), SpoolFault>
+    ensures listed { IfOk entry (λ e. OnOk result (names.new ≡ names.old ++ dir_entry_name e ∷ [])) }
+    ensures unlisted { IfErr entry (λ error. name_fault_of error ≡ None → names.new ≡ names.old) }
+    ensures failed { IfErr entry (λ error. IfSome (name_fault_of error) (λ fault. result ≡ Err fault)) }
+{
+    match entry {
+        Ok(entry) => {
+            names.push(Bytes::new(alloc, entry.file_name().as_bytes())?)?;
+            Ok(())
+        }
+        Err(error) => match name_fault(&error) {
+            Some(fault) => Err(fault),
+            None => Ok(()),
+        },
     }
 }
 
@@ -57,11 +94,7 @@ fn names_in<R: Files + AllocGlobal + Clone + Drop>(
     };
     let mut names = Listed::new(alloc);
     for entry in entries {
-        match entry {
-            Ok(entry) => names.push(Bytes::new(alloc, entry.file_name().as_bytes())?)?,
-            Err(error) if error.kind() == ErrorKind::InvalidFilename => {}
-            Err(error) => return Err(fault_of(&error)),
-        }
+        add_name(entry, &mut names, alloc)?;
     }
     Ok(names)
 }
@@ -69,7 +102,10 @@ fn names_in<R: Files + AllocGlobal + Clone + Drop>(
 /// Reads a piece of a file behind the text, of at most so many octets. The answer is how many came,
 /// 0 at the end of the file.
 fn read_on<F: Read>(file: &mut F, buffer: &mut [u8], text: &mut Bytes) -> Result<usize, SpoolFault>
-    ensures ok { IfOk result (λ n. (length text.new ≡ length text.old + n) × (n ≤ length buffer.new)) }
+    ensures within { IfOk result (λ n. n ≤ length buffer.new) }
+    ensures octets { IfOk result (λ n. Consumes (F.remaining file.old) (F.remaining file.new) (take n buffer.new)) }
+    ensures end { IfOk result (λ n. n ≡ 0 → 0 < length buffer.new → IsAtEnd (F.remaining file.new)) }
+    ensures text { IfOk result (λ n. text.new ≡ text.old ++ take n buffer.new) }
 {
     match file.read(buffer) {
         Ok(count) => {
@@ -80,16 +116,20 @@ fn read_on<F: Read>(file: &mut F, buffer: &mut [u8], text: &mut Bytes) -> Result
     }
 }
 
-/// The first octets of a file, up to [`MOST_READ`].
+/// How many octets are read at once.
+const BUFFER: usize = 4096;
+
+/// The first octets of a file, up to [`MOST_READ`], or all of them where it has fewer.
 fn first_octets<F: Read>(file: &mut F, alloc: Global) -> Result<Bytes, SpoolFault>
-    ensures { IfOk result (λ octets. length octets ≤ 262145) }
+    ensures within { IfOk result (λ octets. length octets ≤ 262145) }
+    ensures octets { IfOk result (λ octets. IfSome (F.remaining file.old) (λ content. octets ≡ take 262145 content)) }
 {
     let mut text = Bytes::empty(alloc);
-    let mut buffer = [0; 4096];
-    while text.len() < MOST_READ {
-        let most = (MOST_READ - text.len()).min(4096);
-        if read_on(file, &mut buffer[..most], &mut text)? == 0 {
-            break;
+    let mut buffer = [0; BUFFER];
+    'more: while text.len() < MOST_READ {
+        let room = (MOST_READ - text.len()).min(BUFFER);
+        if read_on(file, &mut buffer[..room], &mut text)? == 0 {
+            return Ok(text);
         }
     }
     Ok(text)

@@ -1,5 +1,5 @@
 -- A database that is found is the one that the files held.
-use Rattle.std.proofs.Common.{◌≡◌, ◌⊎◌, arith, inl, inr, ℕ, ◌≤◌, Ok, Err, Result, IfOk, IfErr, OnOk, List, [], IsTrue, refl, sym, ap, subst, ◌∙◌}
+use Rattle.std.proofs.Common.{◌≡◌, ◌⊎◌, arith, inl, inr, ℕ, ◌≤◌, Ok, Err, Result, IfOk, IfErr, OnOk, List, IsTrue, refl, sym, ap, subst, ◌∙◌}
 use Rattle.std.proofs.Math.Logic.{∥∥₁_map}
 use Rattle.sqlite_disk.specs.declared.Disk.{Ghosts}
 use Rattle.sqlite_catalog.specs.Listing.{Lists}
@@ -13,7 +13,7 @@ use Rattle.sqlite.specs.Effect.{Database, IsDatabase}
 use Rattle.sqlite.specs.State.{HasCleanDisk}
 use Rattle.sqlite.specs.Held.{state, AreDatabases, Held}
 use Rattle.sqlite.specs.Recovery.{Image}
-use Rattle.sqlite.specs.Files.{file_state, over_files, HoldsDatabase, IsOpened}
+use Rattle.sqlite.specs.Files.{file_state, over_files, IsOpened}
 use Rattle.sqlite.specs.Start.{FindsIn}
 use Rattle.sqlite.proofs.Theorems.{opens_again}
 use Rattle.mud_world.specs.declared.item.Item.{Item}

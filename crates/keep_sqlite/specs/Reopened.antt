@@ -1,14 +1,13 @@
 -- What the first opening of a path finds in the file, and what a store leaves for the next one.
 use Rattle.std.specs.Prelude.{◌≡◌, List}
 use Rattle.sqlite_disk.specs.declared.Disk.{Ghosts}
-use Rattle.sqlite_trees.specs.Tree.{Trees}
 use Rattle.sqlite.specs.declared.FileStore.{FileStore}
 use Rattle.sqlite.specs.FileStore.{state}
 use Rattle.sqlite.specs.Recovery.{Image}
 use Rattle.sqlite.specs.Files.{HoldsDatabase}
 use Rattle.sqlite.specs.Effect.{Database, IsDatabase}
 use Rattle.mud_world.specs.declared.item.Item.{Item}
-use Rattle.keep_sqlite.specs.Rows.{held_items, AreTreesOf, MayMake}
+use Rattle.keep_sqlite.specs.Rows.{held_items, MayMake}
 
 -- The files held this database.
 abbrev pub HeldDatabase : Image → Database → Type 0

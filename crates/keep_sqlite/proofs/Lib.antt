@@ -11,6 +11,7 @@ pub mod Readings
 pub mod Reopens
 pub mod Schemas
 pub mod Selects
+pub mod Sorting
 pub mod Steps
 pub mod Tellings
 pub mod Texts

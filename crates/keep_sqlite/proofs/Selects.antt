@@ -1,7 +1,7 @@
 -- What the selections answer.
 use Rattle.std.proofs.Common.{◌≡◌, ℕ, List, [], ◌∷◌, map, true, refl, sym, ap, subst, ◌∙◌}
 use Rattle.std.specs.List.{filter}
-use Rattle.std.specs.List.Sorted.{IsPermutation}
+use Rattle.std.specs.List.Sorted.{IsPermutation, IsSorted}
 use Rattle.std.proofs.lemmas.List.Sorted.{IsPermutation-map}
 use Rattle.sqlite.specs.declared.types.Value.TheVariants.{Null}
 use Rattle.sqlite_value.specs.Order.{Row}
@@ -13,10 +13,11 @@ use Rattle.sqlite.specs.State.{State, HasCleanDisk, Shown, ShowsRows, IsUnchange
 use Rattle.sqlite.specs.Clock.{timed}
 use Rattle.sqlite.proofs.Callers.{IsPlain, reads_as, never_commits}
 use Rattle.keep_sqlite.specs.Table.{item_schema}
-use Rattle.keep_sqlite.specs.Selections.{shown_row, shown_id}
+use Rattle.keep_sqlite.specs.Selections.{shown_cmp, shown_row, shown_id}
 use Rattle.keep_sqlite.proofs.Texts.{select_text, select_query, select_is, select_plain, ids_text, ids_query, ids_is, ids_plain}
 use Rattle.keep_sqlite.proofs.Crashes.{survives_as}
 use Rattle.keep_sqlite.proofs.Parts.{one_table, map_map}
+use Rattle.keep_sqlite.proofs.Sorting.{in_order}
 
 all_pass : (rows : List Row) → filter (λ _. true) rows ≡ rows
 all_pass [] = refl
@@ -26,11 +27,17 @@ shown_in_order : (db : Trees) (q : Query) (rows kept : List Row) (all ordered : 
 shown_in_order db q rows kept all ordered same front back =
     subst (IsPermutation kept) (sym back) (subst (λ k. IsPermutation k (map (λ (o : Output). o.1) ordered)) front (IsPermutation-map (λ (o : Output). o.1) all ordered same))
 
+select_kept : (db : Trees) (rows : List Row) (a : IsAnswer select_query (overlay db []) [] rows) → a.kept ≡ map (λ r. output select_query ([] ∷ r ∷ [])) (db 0)
+select_kept db rows a =
+    let staged : a.staged ≡ map (λ r. [] ∷ r ∷ []) (db 0) = a.grouped ∙ one_table [] (λ _. true) (db 0) ∙ ap (map (λ r. [] ∷ r ∷ [])) (all_pass (db 0)) in
+    a.distinct ∙ ap (map (output select_query)) staged ∙ map_map (λ r. [] ∷ r ∷ []) (output select_query) (db 0)
+
 select_answer : (db : Trees) (rows : List Row) → IsAnswer select_query (overlay db []) [] rows → IsPermutation (map shown_row (db 0)) rows
 select_answer db rows a =
-    let staged : a.staged ≡ map (λ r. [] ∷ r ∷ []) (db 0) = a.grouped ∙ one_table [] (λ _. true) (db 0) ∙ ap (map (λ r. [] ∷ r ∷ [])) (all_pass (db 0)) in
-    let kept : a.kept ≡ map (λ r. output select_query ([] ∷ r ∷ [])) (db 0) = a.distinct ∙ ap (map (output select_query)) staged ∙ map_map (λ r. [] ∷ r ∷ []) (output select_query) (db 0) in
-    shown_in_order db select_query rows (map shown_row (db 0)) a.kept a.ordered a.same (ap (map (λ (o : Output). o.1)) kept ∙ map_map (λ r. output select_query ([] ∷ r ∷ [])) (λ (o : Output). o.1) (db 0)) a.shown
+    shown_in_order db select_query rows (map shown_row (db 0)) a.kept a.ordered a.same (ap (map (λ (o : Output). o.1)) (select_kept db rows a) ∙ map_map (λ r. output select_query ([] ∷ r ∷ [])) (λ (o : Output). o.1) (db 0)) a.shown
+
+select_order : (db : Trees) (rows : List Row) → IsAnswer select_query (overlay db []) [] rows → IsSorted shown_cmp rows
+select_order db rows a = in_order (db 0) a.kept a.ordered rows (select_kept db rows a) a.same a.sorted a.shown
 
 ids_answer : (db : Trees) (rows : List Row) → IsAnswer ids_query (overlay db []) [] rows → IsPermutation (map shown_id (db 0)) rows
 ids_answer db rows a =
@@ -51,6 +58,9 @@ module _ (old new : State) (rows : List Row) (has : old.now.schema ≡ item_sche
     select_answer old.now.trees rows ((reads_as select_text [] old new item_schema has _ select_is.0 select_plain select_is.1 rows h).answer Null),
     unchanged select_text [] old new rows (subst (λ s. IsPlain (understood s select_text)) (sym has) select_plain) h,
   )
+
+  pub selects_in_order : Shown select_text [] old new rows → IsSorted shown_cmp rows
+  selects_in_order h = select_order old.now.trees rows ((reads_as select_text [] old new item_schema has _ select_is.0 select_plain select_is.1 rows h).answer Null)
 
   pub selects_ids : Shown ids_text [] old new rows → IsPermutation (map shown_id (old.now.trees 0)) rows × IsUnchanged old new
   selects_ids h = (

@@ -3,6 +3,10 @@ use Rattle.std.specs.Prelude.{◌≡◌, ◌^◌, ◌<◌, ℤ, pos, List, [], �
 use Rattle.std.specs.List.{AllByRecursion}
 use Rattle.sqlite.specs.declared.types.Value.TheVariants.{Int, Blob}
 use Rattle.sqlite_value.specs.Order.{Row, column}
+use Rattle.sqlite_value.specs.Keys.{ascending}
+use Rattle.sqlite.specs.Collation.TheVariants.{Binary}
+use Rattle.sqlite.specs.Query.{key_cmp}
+use Rattle.std.specs.declared.cmp.Ordering.{Ordering}
 use Rattle.sqlite.specs.Edit.{id_in}
 use Rattle.mud_world.specs.declared.item.Item.{Item}
 use Rattle.keep_sqlite.specs.Rows.{kind_in, octets_in, AreDistinct}
@@ -17,6 +21,10 @@ shown_row row = column row 1 ∷ column row 2 ∷ column row 3 ∷ []
 
 abbrev pub shown_id : Row → Row
 shown_id row = column row 0 ∷ []
+
+-- how ORDER BY compares two rows of the answer that show items: by the kind, and then by the name
+abbrev pub shown_cmp : Row → Row → Ordering
+shown_cmp = key_cmp 0 (ascending Binary ∷ ascending Binary ∷ [])
 
 -- the number in a row that shows a rowid
 abbrev pub number_shown : Row → ℤ

@@ -1,7 +1,7 @@
 //! The items that the table holds.
 ghost use Rattle.std.specs.Prelude.{◌≡◌, ◌≤◌, IsTrue, IfOk, IfSome, OnOk, map};
 ghost use Rattle.std.specs.List.{AllByRecursion};
-ghost use Rattle.std.specs.List.Sorted.{IsPermutation};
+ghost use Rattle.std.specs.List.Sorted.{IsPermutation, IsSorted};
 ghost use Rattle.mud_world.specs.Items.{IsOrdered};
 ghost use Rattle.sqlite_trees.specs.Tree.{Trees};
 ghost use Rattle.sqlite_trees.specs.View.{doubt};
@@ -10,7 +10,7 @@ ghost use Rattle.sqlite.specs.State.{HasCleanDisk, IsUnchanged, Survives};
 ghost use Rattle.keep_sqlite.specs.Table.{item_schema};
 ghost use Rattle.keep_sqlite.specs.Rows.{items_of};
 ghost use Rattle.keep_sqlite.specs.Telling.{IsUp};
-ghost use Rattle.keep_sqlite.specs.Selections.{item_shown, number_shown, shown_id, shown_row, AreUnequal, HaveIds, HaveItems, ShowsId, ShowsItem};
+ghost use Rattle.keep_sqlite.specs.Selections.{item_shown, number_shown, shown_cmp, shown_id, shown_row, AreUnequal, HaveIds, HaveItems, ShowsId, ShowsItem};
 ghost use Rattle.keep_sqlite.specs.Batches.{LeavesNothing, Stays};
 
 use crate::fault::fault_of;
@@ -63,6 +63,8 @@ fn select<S: Alter>(connection: &mut Connection<S>) -> Result<Vec<Row>, Error>
     ensures ok { HasCleanDisk (state S.Store connection.new)
         → IfOk result (λ rows. IsUnchanged (state S.Store connection.old) (state S.Store connection.new)
         × IsPermutation (map shown_row ((state S.Store connection.old).now.trees 0)) rows.items) }
+    ensures ordered { HasCleanDisk (state S.Store connection.new)
+        → IfOk result (λ rows. IsSorted shown_cmp rows.items) }
 {
     let rows = connection.query_all("SELECT kind, name, body FROM item ORDER BY kind, name", &[])?;
     Ok(rows)

@@ -66,6 +66,13 @@ impl<S: Alter + Drop> SqliteKeeper<S> {
         self.connection
     }
 
+    /// How often a call has failed. A count that has reached the last u64 stays there.
+    pub fn faults(&self) -> u64
+        ensures { result ≡ self.now.faults }
+    {
+        self.faults
+    }
+
     /// Whether an `open` has answered Ok. Where the connection is up, the database then holds items.
     pub(crate) fn has_opened(&self) -> bool
         ensures value { result ≡ self.now.has_opened }

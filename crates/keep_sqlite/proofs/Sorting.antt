@@ -1,0 +1,52 @@
+-- The order in which the rows of the selection come.
+use Rattle.std.proofs.Common.{◌≡◌, ℕ, zero, suc, ◌+◌, ◌<◌, List, [], ◌∷◌, map, length, slice_index_or, false, refl, sym, ap, subst}
+use Rattle.std.specs.List.{AllByRecursion}
+use Rattle.std.specs.List.Sorted.{IsPermutation, IsSorted}
+use Rattle.std.specs.Ordering.{is_lt}
+use Rattle.std.specs.declared.cmp.Ordering.{Ordering}
+use Rattle.std.proofs.lemmas.List.Elements.{All-from_recursion, recursion_from_All}
+use Rattle.std.proofs.lemmas.List.Sorted.{All-permutation}
+use Rattle.sqlite_value.specs.Order.{Row, column}
+use Rattle.sqlite.specs.Query.{output, output_cmp, Output}
+use Rattle.keep_sqlite.specs.Selections.{shown_cmp}
+use Rattle.keep_sqlite.proofs.Texts.{select_query}
+
+index_map : {X Y : Type 0} (f : X → Y) (xs : List X) (k : ℕ) (d : X) → slice_index_or (map f xs) k (f d) ≡ f (slice_index_or xs k d)
+index_map f [] k d = refl
+index_map f (x ∷ xs) zero d = refl
+index_map f (x ∷ xs) (suc k) d = index_map f xs k d
+
+length_map : {X Y : Type 0} (f : X → Y) (xs : List X) → length (map f xs) ≡ length xs
+length_map f [] = refl
+length_map f (x ∷ xs) = ap suc (length_map f xs)
+
+sorted_unmap : {X Y : Type 0} (f : X → Y) (cmp : Y → Y → Ordering) (xs : List X) → IsSorted cmp (map f xs) → IsSorted (λ a b. cmp (f a) (f b)) xs
+sorted_unmap f cmp xs sorted k d low below =
+    let there = sorted k (f d) low (subst (λ n. k + 1 < n) (sym (length_map f xs)) below) in
+    let next = subst (λ y. is_lt (cmp y (slice_index_or (map f xs) k (f d))) ≡ false) (index_map f xs (k + 1) d) there in
+    subst (λ y. is_lt (cmp (f (slice_index_or xs (k + 1) d)) y) ≡ false) (index_map f xs k d) next
+
+-- what a row is sorted by stands in it
+keyed : Row → Output
+keyed row = (column row 0 ∷ column row 1 ∷ [], row)
+
+abbrev IsKeyed : Output → Type 0
+IsKeyed o = o ≡ keyed o.1
+
+all_keyed : (rows : List Row) → AllByRecursion IsKeyed (map (λ r. output select_query ([] ∷ r ∷ [])) rows)
+unfolding keyed
+all_keyed [] = tt
+all_keyed (r ∷ rs) = (refl, all_keyed rs)
+
+are_keyed : (outputs : List Output) → AllByRecursion IsKeyed outputs → outputs ≡ map keyed (map (λ (o : Output). o.1) outputs)
+are_keyed [] all = refl
+are_keyed (o ∷ os) all = λ i. all.0 i ∷ are_keyed os all.1 i
+
+pub in_order : (table : List Row) (kept ordered : List Output) (rows : List Row) → kept ≡ map (λ r. output select_query ([] ∷ r ∷ [])) table → IsPermutation kept ordered
+    → IsSorted (output_cmp select_query) ordered → rows ≡ map (λ (o : Output). o.1) ordered → IsSorted shown_cmp rows
+unfolding keyed
+in_order table kept ordered rows front same sorted back =
+    let all = subst (AllByRecursion IsKeyed) (sym front) (all_keyed table) in
+    let each = recursion_from_All IsKeyed ordered (All-permutation IsKeyed kept ordered same (All-from_recursion IsKeyed kept all)) in
+    let seen = subst (IsSorted (output_cmp select_query)) (are_keyed ordered each) sorted in
+    sorted_unmap keyed (output_cmp select_query) rows (subst (λ rs. IsSorted (output_cmp select_query) (map keyed rs)) (sym back) seen)

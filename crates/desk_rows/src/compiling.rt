@@ -59,9 +59,16 @@ fn compile_counted<L: Ledger>(
 {
     let mut steps = Steps::<L>::new(blank);
     let come = list_bindings(alloc, things, classes, names)?;
-    let mut compiled = bind(alloc, come.as_slice(), &mut steps)?;
-    add_policies(&mut compiled, files, &mut steps)?;
-    Ok(compiled)
+    let bound = bind(alloc, come.as_slice(), &mut steps);
+    drop(come);
+    let mut compiled = bound?;
+    match add_policies(&mut compiled, files, &mut steps) {
+        Ok(()) => Ok(compiled),
+        Err(memory) => {
+            drop(compiled);
+            Err(memory)
+        }
+    }
 }
 
 /// No policies, these bindings, and the rows of the default entries.
@@ -75,9 +82,16 @@ fn bind<L: Ledger>(
     ensures kept { IfOk result HasItsRows }
 {
     let mut compiled = Compiled::new(alloc)?;
-    let plan = compiled.plan_member(&[], come, steps)?;
-    compiled.commit(plan, steps);
-    Ok(compiled)
+    match compiled.plan_member(&[], come, steps) {
+        Ok(plan) => {
+            compiled.commit(plan, steps);
+            Ok(compiled)
+        }
+        Err(memory) => {
+            drop(compiled);
+            Err(memory)
+        }
+    }
 }
 
 /// Adds the policies of the approved files, where none is held yet.

@@ -98,12 +98,14 @@ fn list_in<T: Element>(alloc: Global, body: &[u8]) -> Result<Option<Listed<T>>, 
     let mut left = count;
     while left > 0 {
         let Some(element) = T::read(&mut reader) else {
+            drop(list);
             return Ok(None);
         };
         list.push(element)?;
         left -= 1;
     }
     if reader.finish().is_err() {
+        drop(list);
         return Ok(None);
     }
     Ok(Some(list))

@@ -69,7 +69,7 @@ impl Status {
 
     /// The phrase of the status.
     #[tactic(auto, using(crate::proofs::Phrases::phrase_is))]
-    pub fn phrase(self) -> &'static str
+    pub(crate) fn phrase(self) -> &'static str
         ensures { result.now ≡ spec.phrase_of self }
     {
         match registered(self.number()) {

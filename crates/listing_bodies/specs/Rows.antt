@@ -13,9 +13,10 @@ use Rattle.mud_tables.specs.declared.bind.ClassRow.{ClassRow}
 use Rattle.mud_tables.specs.declared.bind.NameRow.{NameRow}
 use Rattle.file_tables.specs.Held.{HeldFile, usage_in, digest_of}
 use Rattle.file_tables.specs.declared.approval.Approval.{Approval}
-use Rattle.file_tables.specs.declared.approval.Approval.TheVariants.{Verified, Waived}
 use Rattle.file_tables.specs.declared.cached_file.CachedFile.{CachedFile}
-use Rattle.listing_bodies.specs.Texts.{truth_text, until_text, url_text}
+use Rattle.file_tables.specs.Words.{approval_word}
+use Rattle.answer_buffer.specs.Texts.{url_text}
+use Rattle.listing_bodies.specs.Texts.{truth_text, until_text}
 use Rattle.listing_bodies.specs.Lists.{list_text, listing_body}
 
 -- ---- Addresses
@@ -107,10 +108,6 @@ file_text held (Some file) = fetched_text held file ++ digest_text held file
 -- the object without its end
 unfoldable pub held_text : HeldFile → List ℕ
 held_text held = file_text held (usage_in held.octets)
-
-unfoldable pub approval_word : Approval → List ℕ
-approval_word Verified = codes "verified"
-approval_word Waived = codes "waived"
 
 unfoldable pub approved_text : Option (HeldFile × Approval) → List ℕ
 approved_text None = codes "null"

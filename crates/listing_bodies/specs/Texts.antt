@@ -1,6 +1,5 @@
 -- JSON texts (RFC 8259) of values in listings.
-use Rattle.std.specs.Prelude.{ℕ, ◌-◌, ◌^◌, ◌==◌, Bool, List, codes, decimal, Option, Some, None, if◌then◌else◌}
-use Rattle.json.specs.Print.{quoted}
+use Rattle.std.specs.Prelude.{ℕ, ◌-◌, ◌^◌, ◌==◌, Bool, List, codes, decimal, if◌then◌else◌}
 
 unfoldable pub truth_text : Bool → List ℕ
 truth_text truth = if truth then codes "true" else codes "false"
@@ -8,7 +7,3 @@ truth_text truth = if truth then codes "true" else codes "false"
 -- the seconds of an end; null for what never ends
 unfoldable pub until_text : ℕ → List ℕ
 until_text end = if end == 2 ^ 64 - 1 then codes "null" else decimal end
-
-unfoldable pub url_text : Option (List ℕ) → List ℕ
-url_text None = codes "null"
-url_text (Some url) = quoted url

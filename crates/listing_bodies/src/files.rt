@@ -59,17 +59,6 @@ fn append_held(body: &mut Bytes, held: &Held) -> Result<(), Memory>
     append_digest(body, held, file)
 }
 
-/// The word for how a file was approved.
-#[tactic(auto, unfolding(crate::specs::Rows::approval_word))]
-fn approval_word(approval: Approval) -> &'static [u8]
-    ensures { result.now ≡ spec.approval_word approval }
-{
-    match approval {
-        Approval::Verified => b"verified",
-        Approval::Waived => b"waived",
-    }
-}
-
 /// Adds an approved file, or null.
 #[tactic(auto, unfolding(crate::specs::Rows::approved_text))]
 fn append_approved(body: &mut Bytes, approved: &Option<(Held, Approval)>) -> Result<(), Memory>
@@ -80,7 +69,7 @@ fn append_approved(body: &mut Bytes, approved: &Option<(Held, Approval)>) -> Res
         Some((held, approval)) => {
             append_held(body, held)?;
             body.append(b",\"verdict\":")?;
-            append_quoted(body, approval_word(*approval))?;
+            append_quoted(body, approval.word())?;
             body.append(b"}")
         }
     }

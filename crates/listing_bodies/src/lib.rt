@@ -6,7 +6,7 @@ pub mod binds;
 pub mod files;
 pub mod lists;
 pub mod refusals;
-pub mod texts;
+mod texts;
 pub mod things;
 pub mod why;
 

@@ -55,7 +55,11 @@ fn append_items<T: JsonRow>(alloc: Global, body: &mut Bytes, rows: &[T]) -> Resu
 
 /// Adds a list.
 #[tactic(auto, unfolding(crate::specs::Lists::list_text))]
-pub fn append_list<T: JsonRow>(alloc: Global, body: &mut Bytes, rows: &[T]) -> Result<(), Memory>
+pub(crate) fn append_list<T: JsonRow>(
+    alloc: Global,
+    body: &mut Bytes,
+    rows: &[T],
+) -> Result<(), Memory>
     ensures { OnOk result (body.new ≡ body.old ++ spec.list_text T.text rows.now) }
 {
     body.append(b"[")?;
@@ -65,7 +69,11 @@ pub fn append_list<T: JsonRow>(alloc: Global, body: &mut Bytes, rows: &[T]) -> R
 
 /// The object whose one member, of this name, is the list of these rows.
 #[tactic(auto, unfolding(crate::specs::Lists::listing_body))]
-pub fn listing_body<T: JsonRow>(alloc: Global, name: &[u8], rows: &[T]) -> Result<Bytes, Memory>
+pub(crate) fn listing_body<T: JsonRow>(
+    alloc: Global,
+    name: &[u8],
+    rows: &[T],
+) -> Result<Bytes, Memory>
     ensures { IfOk result (λ body. body ≡ spec.listing_body T.text name.now rows.now) }
 {
     let mut body = Bytes::new(alloc, b"{")?;

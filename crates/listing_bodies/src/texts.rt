@@ -2,6 +2,7 @@
 ghost use Rattle.std.specs.Prelude.{◌≡◌, ◌++◌, OnOk};
 ghost use Rattle.json.specs.Print.{escape, escape_byte, quoted};
 ghost use Rattle.mud_base.specs.Texts as of;
+ghost use Rattle.answer_buffer.specs.Texts.{url_text};
 ghost use Rattle.listing_bodies.specs.Texts as spec;
 
 use answer_buffer::texts::{escape_letter, hex_digit};
@@ -44,7 +45,7 @@ fn append_escapes(body: &mut Bytes, text: &[u8]) -> Result<(), Memory>
 
 /// Adds a JSON string (RFC 8259, 7): in quotes, and with a short escape where an octet has one.
 #[tactic(auto, using(crate::proofs::Joins::in_quotes))]
-pub fn append_quoted(body: &mut Bytes, text: &[u8]) -> Result<(), Memory>
+pub(crate) fn append_quoted(body: &mut Bytes, text: &[u8]) -> Result<(), Memory>
     ensures { OnOk result (body.new ≡ body.old ++ quoted text.now) }
 {
     body.push(b'"')?;
@@ -54,7 +55,7 @@ pub fn append_quoted(body: &mut Bytes, text: &[u8]) -> Result<(), Memory>
 
 /// Adds a truth value.
 #[tactic(auto, unfolding(crate::specs::Texts::truth_text))]
-pub fn append_truth(body: &mut Bytes, truth: bool) -> Result<(), Memory>
+pub(crate) fn append_truth(body: &mut Bytes, truth: bool) -> Result<(), Memory>
     ensures { OnOk result (body.new ≡ body.old ++ spec.truth_text truth) }
 {
     if truth {
@@ -65,7 +66,7 @@ pub fn append_truth(body: &mut Bytes, truth: bool) -> Result<(), Memory>
 
 /// Adds an end: its seconds, or null for what never ends.
 #[tactic(auto, unfolding(crate::specs::Texts::until_text))]
-pub fn append_until(body: &mut Bytes, until: End) -> Result<(), Memory>
+pub(crate) fn append_until(body: &mut Bytes, until: End) -> Result<(), Memory>
     ensures { OnOk result (body.new ≡ body.old ++ spec.until_text until) }
 {
     if until.0 == End::NEVER {
@@ -75,7 +76,7 @@ pub fn append_until(body: &mut Bytes, until: End) -> Result<(), Memory>
 }
 
 /// Adds the text of a hardware address.
-pub fn append_mac(alloc: Global, body: &mut Bytes, mac: Mac) -> Result<(), Memory>
+pub(crate) fn append_mac(alloc: Global, body: &mut Bytes, mac: Mac) -> Result<(), Memory>
     ensures { OnOk result (body.new ≡ body.old ++ quoted (of.mac_text mac)) }
 {
     let text = mac_text(alloc, mac)?;
@@ -83,7 +84,7 @@ pub fn append_mac(alloc: Global, body: &mut Bytes, mac: Mac) -> Result<(), Memor
 }
 
 /// Adds the text of an IP address.
-pub fn append_address(alloc: Global, body: &mut Bytes, address: Addr) -> Result<(), Memory>
+pub(crate) fn append_address(alloc: Global, body: &mut Bytes, address: Addr) -> Result<(), Memory>
     ensures { OnOk result (body.new ≡ body.old ++ quoted (of.addr_text address)) }
 {
     let text = addr_text(alloc, address)?;
@@ -91,7 +92,7 @@ pub fn append_address(alloc: Global, body: &mut Bytes, address: Addr) -> Result<
 }
 
 /// Adds the text of a prefix.
-pub fn append_prefix(alloc: Global, body: &mut Bytes, prefix: Prefix) -> Result<(), Memory>
+pub(crate) fn append_prefix(alloc: Global, body: &mut Bytes, prefix: Prefix) -> Result<(), Memory>
     ensures { OnOk result (body.new ≡ body.old ++ quoted (of.prefix_text prefix)) }
 {
     let text = prefix_text(alloc, prefix)?;
@@ -99,9 +100,9 @@ pub fn append_prefix(alloc: Global, body: &mut Bytes, prefix: Prefix) -> Result<
 }
 
 /// Adds a URL, or null where there is none.
-#[tactic(auto, unfolding(crate::specs::Texts::url_text))]
-pub fn append_url(body: &mut Bytes, url: &Option<MudUrl>) -> Result<(), Memory>
-    ensures { OnOk result (body.new ≡ body.old ++ spec.url_text url.now) }
+#[tactic(auto, unfolding(answer_buffer::specs::Texts::url_text))]
+pub(crate) fn append_url(body: &mut Bytes, url: &Option<MudUrl>) -> Result<(), Memory>
+    ensures { OnOk result (body.new ≡ body.old ++ url_text url.now) }
 {
     match url {
         None => body.append(b"null"),

@@ -23,7 +23,7 @@ fn append_until_end(body: &mut Bytes, until: End) -> Result<(), Memory>
 
 /// Adds the member that is a URL, as the last one.
 #[tactic(auto, unfolding(crate::specs::Rows::url_end))]
-pub fn append_url_end(body: &mut Bytes, url: &MudUrl) -> Result<(), Memory>
+pub(crate) fn append_url_end(body: &mut Bytes, url: &MudUrl) -> Result<(), Memory>
     ensures { OnOk result (body.new ≡ body.old ++ spec.url_end url.now) }
 {
     body.append(b",\"url\":")?;

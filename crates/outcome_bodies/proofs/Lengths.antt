@@ -11,7 +11,8 @@ use Rattle.answer_buffer.proofs.KeptLemmas.{kept_short, short_quoted}
 use Rattle.console_routes.specs.declared.action.Statement.{Statement}
 use Rattle.console_routes.specs.declared.action.Statement.TheVariants as statement
 use Rattle.desk_model.specs.declared.reply.Outcome.{Outcome}
-use Rattle.outcome_bodies.specs.Outcomes.{rule_body, until_text, url_text, result_body, until_body, url_body, stated_body, EndFits, UrlFits}
+use Rattle.answer_buffer.specs.Texts.{url_text}
+use Rattle.outcome_bodies.specs.Outcomes.{rule_body, until_text, result_body, until_body, url_body, stated_body, EndFits, UrlFits}
 use Rattle.outcome_bodies.specs.Heards.{nothing_body}
 
 short_word : (word : done_word.Word) → length (text_of word) ≤ 9

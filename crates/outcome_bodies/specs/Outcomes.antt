@@ -1,6 +1,7 @@
 -- The JSON bodies (RFC 8259) of answers that may take no memory: the members by the octets of their names, and no space.
 use Rattle.std.specs.Prelude.{ℕ, ◌-◌, ◌^◌, ◌<◌, ◌≤◌, ◌==◌, List, ◌++◌, length, codes, decimal, Option, Some, None, if◌then◌else◌}
 use Rattle.json.specs.Print.{quoted}
+use Rattle.answer_buffer.specs.Texts.{url_text}
 use Rattle.item_codec.specs.declared.word.Word as done_word
 use Rattle.item_codec.specs.Word.{text_of}
 use Rattle.console_routes.specs.declared.action.Statement.{Statement}
@@ -15,10 +16,6 @@ rule_body rule = codes "{\"rule\":" ++ quoted rule ++ codes "}"
 unfoldable pub until_text : Option ℕ → List ℕ
 until_text None = codes "null"
 until_text (Some end) = if end == 2 ^ 64 - 1 then codes "null" else decimal end
-
-unfoldable pub url_text : Option (List ℕ) → List ℕ
-url_text None = codes "null"
-url_text (Some url) = quoted url
 
 unfoldable pub result_body : done_word.Word → List ℕ
 result_body word = codes "{\"result\":" ++ quoted (text_of word) ++ codes "}"

@@ -3,6 +3,7 @@ ghost use Rattle.std.specs.Prelude.{◌≡◌, ◌++◌, option_map};
 ghost use Rattle.json.specs.Print.{quoted};
 ghost use Rattle.item_codec.specs.Word.{text_of};
 ghost use Rattle.answer_buffer.specs.Kept.{kept};
+ghost use Rattle.answer_buffer.specs.Texts.{url_text};
 ghost use Rattle.outcome_bodies.specs.Outcomes as spec;
 
 use answer_buffer::AnswerBuffer;
@@ -12,7 +13,7 @@ use mud_base::End;
 use mud_url::MudUrl;
 
 /// Adds the word for what a command did.
-pub fn put_word(buffer: &mut AnswerBuffer, word: Word)
+pub(crate) fn put_word(buffer: &mut AnswerBuffer, word: Word)
     ensures { buffer.new ≡ kept (buffer.old ++ quoted (text_of word)) }
 {
     put_quoted(buffer, word.text().as_bytes());
@@ -20,7 +21,7 @@ pub fn put_word(buffer: &mut AnswerBuffer, word: Word)
 
 /// Adds an end: its seconds, or null for what never ends and where there is none.
 #[tactic(auto, unfolding(crate::specs::Outcomes::until_text))]
-pub fn put_until(buffer: &mut AnswerBuffer, until: Option<End>)
+pub(crate) fn put_until(buffer: &mut AnswerBuffer, until: Option<End>)
     ensures { buffer.new ≡ kept (buffer.old ++ spec.until_text until) }
 {
     match until {
@@ -31,9 +32,9 @@ pub fn put_until(buffer: &mut AnswerBuffer, until: Option<End>)
 }
 
 /// Adds a URL, or null where there is none.
-#[tactic(auto, unfolding(crate::specs::Outcomes::url_text))]
-pub fn put_url(buffer: &mut AnswerBuffer, url: &Option<MudUrl>)
-    ensures { buffer.new ≡ kept (buffer.old ++ spec.url_text url.now) }
+#[tactic(auto, unfolding(answer_buffer::specs::Texts::url_text))]
+pub(crate) fn put_url(buffer: &mut AnswerBuffer, url: &Option<MudUrl>)
+    ensures { buffer.new ≡ kept (buffer.old ++ url_text url.now) }
 {
     match url {
         None => buffer.put(b"null"),

@@ -23,7 +23,7 @@ fn put_numbered(buffer: &mut AnswerBuffer, word: &[u8], number: u16)
 
 /// Adds a ruling inside a JSON string, as far as it fits.
 #[tactic(auto, unfolding(verdict_lines::specs::Verdicts::ruling_text))]
-pub fn put_ruling(buffer: &mut AnswerBuffer, ruling: Ruling)
+pub(crate) fn put_ruling(buffer: &mut AnswerBuffer, ruling: Ruling)
     ensures { buffer.new ≡ kept (buffer.old ++ escape (line.ruling_text ruling)) }
 {
     match ruling {

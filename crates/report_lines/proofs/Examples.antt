@@ -11,7 +11,8 @@ use Rattle.file_tables.specs.Held.{HeldFile}
 use Rattle.file_tables.specs.declared.approval.Approval.TheVariants.{Verified, Waived}
 use Rattle.file_tables.specs.declared.cached_file.CachedFile.{CachedFile}
 use Rattle.text_lines.specs.Numbers.{end_text}
-use Rattle.report_lines.specs.Rows.{word_part, ending_part, pending_word, hold_word, thing_line, lease_line, thing_lines, approval_word, approved_word, candidate_word, file_line, class_part, class_line, class_lines, local_line, name_line, name_lines, due_line}
+use Rattle.report_lines.specs.Rows.{word_part, ending_part, pending_word, hold_word, thing_line, lease_line, thing_lines, approved_word, candidate_word, file_line, class_part, class_line, class_lines, local_line, name_line, name_lines, due_line}
+use Rattle.file_tables.specs.Words.{approval_word}
 
 unfoldable lines_compute : ⊤
 unfolding texts_on_literals end_text word_part ending_part pending_word hold_word thing_line lease_line thing_lines approval_word approved_word candidate_word file_line class_part class_line class_lines local_line name_line name_lines due_line

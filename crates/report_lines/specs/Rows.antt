@@ -11,8 +11,8 @@ use Rattle.mud_tables.specs.declared.bind.ClassRow.{ClassRow}
 use Rattle.mud_tables.specs.declared.bind.NameRow.{NameRow}
 use Rattle.file_tables.specs.Held.{HeldFile}
 use Rattle.file_tables.specs.declared.approval.Approval.{Approval}
-use Rattle.file_tables.specs.declared.approval.Approval.TheVariants.{Verified, Waived}
 use Rattle.file_tables.specs.declared.cached_file.CachedFile.{CachedFile}
+pub use Rattle.file_tables.specs.Words.{approval_word}
 use Rattle.text_lines.specs.Numbers.{end_text}
 
 -- a space and the word
@@ -45,11 +45,6 @@ unfoldable pub thing_lines : Thing → List ℕ
 thing_lines thing = thing_line thing ++ flat_map (lease_line thing.mac) thing.leases
 
 -- ---- Files
-
--- how a file was approved
-unfoldable pub approval_word : Approval → List ℕ
-approval_word Verified = codes "verified"
-approval_word Waived = codes "waived"
 
 -- how the approved file of a URL was approved, where there is one
 unfoldable pub approved_word : Option (HeldFile × Approval) → List ℕ

@@ -9,24 +9,13 @@ use mud_url::MudUrl;
 use std::alloc::Global;
 use text_lines::append_url;
 
-/// The word for how a file was approved.
-#[tactic(auto, unfolding(crate::specs::Rows::approval_word))]
-fn approval_word(approval: Approval) -> &'static [u8]
-    ensures { result.now ≡ spec.approval_word approval }
-{
-    match approval {
-        Approval::Verified => b"verified",
-        Approval::Waived => b"waived",
-    }
-}
-
 /// The word for how the approved file of a URL was approved, where there is one.
 #[tactic(auto, unfolding(crate::specs::Rows::approved_word))]
 fn approved_word(approved: &Option<(Held, Approval)>) -> &'static [u8]
     ensures { result.now ≡ spec.approved_word approved.now }
 {
     match approved {
-        Some((_, approval)) => approval_word(*approval),
+        Some((_, approval)) => approval.word(),
         None => b"-",
     }
 }

@@ -132,7 +132,11 @@ fn made_row(edit: FileEdit, url: MudUrl) -> Option<CachedFile>
 
 /// The row of a URL after an edit.
 #[tactic(auto, unfolding(file_tables::specs::FileEdits::edited_row))]
-pub(crate) fn edited_row(edit: FileEdit, url: MudUrl, found: Option<CachedFile>) -> Option<CachedFile>
+pub(crate) fn edited_row(
+    edit: FileEdit,
+    url: MudUrl,
+    found: Option<CachedFile>,
+) -> Option<CachedFile>
     ensures { result ≡ spec.edited_row edit url found }
 {
     match found {

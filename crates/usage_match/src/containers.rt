@@ -129,7 +129,11 @@ pub(crate) fn no_mud_tests() -> MudTests
 
 /// What a container `ietf-mud:mud` asks of the peer (RFC 8520, 4).
 #[tactic(auto, unfolding(crate::specs::Containers::mud_tests_of))]
-pub(crate) fn mud_tests_of(alloc: Global, container: &Value, path: &[u8]) -> Result<MudTests, FileFault>
+pub(crate) fn mud_tests_of(
+    alloc: Global,
+    container: &Value,
+    path: &[u8],
+) -> Result<MudTests, FileFault>
     ensures { Gives (λ t. t) result (spec.mud_tests_of path.now (view container.now)) }
 {
     read_table(alloc, container, path, &mud_rows(), no_mud_tests())

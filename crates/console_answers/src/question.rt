@@ -1,6 +1,5 @@
 //! What a request asks for.
 ghost use Rattle.std.specs.Prelude.{◌≡◌, IfOk, option_and_then};
-ghost use Rattle.console_routes.specs.Routes as routes;
 ghost use Rattle.console_routes.specs.Actions as actions;
 ghost use Rattle.reading.specs.Reading.{Answers};
 ghost use Rattle.console_bodies.specs.Bodies.{body_of};
@@ -10,7 +9,7 @@ ghost use Rattle.console_answers.specs.Asks as spec;
 use body_members::{BodyFault, Unread};
 use console_bodies::laws::bodies_ask_rightly;
 use console_bodies::{Asked, read_body};
-use console_routes::{Action, Route, action_of, method_of, route_of};
+use console_routes::{Action, Route, Routes, action_of, method_of};
 use mud_base::Moment;
 use reading::Refusal;
 use std::alloc::Global;
@@ -82,6 +81,7 @@ fn question_to(
 #[tactic(auto, unfolding(crate::specs::Asks::question_of, crate::specs::Asks::by_route))]
 pub fn question_of(
     alloc: Global,
+    routes: &Routes,
     method: &[u8],
     path: &[u8],
     body: &[u8],
@@ -91,7 +91,7 @@ pub fn question_of(
     // A command that is asked for may be given.
     ensures asked { IfOk result (λ q. AsksRightly q.asked) }
 {
-    match route_of(path) {
+    match routes.route_of(path) {
         Some(route) => question_to(alloc, route, method, body, now),
         None => Err(Unasked::Broken(NoQuestion::NoRoute)),
     }

@@ -15,6 +15,7 @@ ghost use Rattle.console_replies.specs.Runs.{LeadsOn};
 use crate::replies::reply_to;
 use answer_buffer::AnswerBuffer;
 use console_answers::BodyText;
+use console_routes::Routes;
 use http_answers::{Status, body_part, write_head};
 use http_requests::{FramingFault, RequestFault, RequestParts, is_head};
 use mud_base::{Memory, Moment};
@@ -23,9 +24,10 @@ use std::alloc::Global;
 use std::marker::Model;
 
 /// The octets of an answer: its head, and what of its body is shown. Contracts see it as the list of
-/// these octets.
+/// these octets. The routes by which requests are told apart are made once, beside them.
 #[derive(Drop, Debug)]
 pub struct Answer {
+    routes: Routes,
     head: AnswerBuffer,
     body: BodyText,
     by_head: bool,
@@ -48,14 +50,16 @@ fn body_len(body: &BodyText) -> usize
 }
 
 impl Answer {
-    /// No octets. The memory of all short answers is taken here.
+    /// No octets. The memory of all short answers and of the routes is taken here.
     #[tactic(auto, unfolding(http_answers::specs::Heads::shown))]
     pub fn new(alloc: Global) -> Result<Answer, Memory>
         ensures { IfOk result (λ answer. answer ≡ []) }
     {
         let head = AnswerBuffer::new(alloc)?;
         let body = BodyText::new(alloc)?;
+        let routes = Routes::new(alloc)?;
         Ok(Answer {
+            routes,
             head,
             body,
             by_head: false,
@@ -123,7 +127,14 @@ pub fn answer_request(
     ensures cause { Counts (is_unavailable result) (faults_of Keeper-dyn desk.old.keeper) (faults_of Keeper-dyn desk.new.keeper) }
     ensures same_box { IsSameBox desk.old.keeper desk.new.keeper }
 {
-    let reply = reply_to(alloc, desk, &mut answer.body, request, given);
+    let reply = reply_to(
+        alloc,
+        &answer.routes,
+        desk,
+        &mut answer.body,
+        request,
+        given,
+    );
     let by_head = is_head(request.method);
     let len = body_len(&answer.body);
     write_head(&mut answer.head, reply.status, reply.allow, len, closes);

@@ -22,6 +22,7 @@ use crate::session::later;
 use crate::why::answer_why;
 use console_answers::{BodyText, Question, question_of};
 use console_bodies::Asked;
+use console_routes::Routes;
 use http_answers::Status;
 use http_requests::RequestParts;
 use mud_base::Moment;
@@ -63,6 +64,7 @@ fn answer_question(
 /// Replies to a request: it is refused where it asks for nothing, and else carried out.
 pub(crate) fn reply_to(
     alloc: Global,
+    routes: &Routes,
     desk: &mut Desk,
     body: &mut BodyText,
     request: &RequestParts<'_>,
@@ -78,7 +80,14 @@ pub(crate) fn reply_to(
     ensures same_box { IsSameBox desk.old.keeper desk.new.keeper }
 {
     let now = later(desk.moment(), given);
-    match question_of(alloc, request.method, request.path, request.body, now) {
+    match question_of(
+        alloc,
+        routes,
+        request.method,
+        request.path,
+        request.body,
+        now,
+    ) {
         Ok(question) => { plain(answer_question(alloc, desk, body, question, request.body, given)) }
         Err(unasked) => refuse_unasked(alloc, body, unasked),
     }

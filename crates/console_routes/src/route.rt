@@ -1,5 +1,5 @@
 //! The routes of the console.
-ghost use Rattle.std.specs.Prelude.{◌≡◌, position};
+ghost use Rattle.std.specs.Prelude.{◌≡◌};
 ghost use Rattle.console_routes.specs.Routes as spec;
 
 /// A route of the console, by its path.
@@ -35,24 +35,6 @@ pub enum Route {
     Why,
 }
 
-/// All routes.
-const ROUTES: [Route; 14] = [
-    Route::Classes,
-    Route::Due,
-    Route::Files,
-    Route::HearDhcp,
-    Route::HearLldp,
-    Route::Holds,
-    Route::Leases,
-    Route::Locals,
-    Route::Names,
-    Route::Packets,
-    Route::Revokes,
-    Route::Things,
-    Route::Verdicts,
-    Route::Why,
-];
-
 impl Route {
     /// The path of the route.
     #[tactic(auto, unfolding(crate::specs::Routes::text_of))]
@@ -76,35 +58,4 @@ impl Route {
             Route::Why => "/why",
         }
     }
-}
-
-/// The place of the first `?`.
-fn first_question_mark(target: &[u8]) -> Option<usize>
-    ensures { result ≡ position spec.is_question_mark target.now }
-{
-    target.iter().position(|octet| *octet == b'?')
-}
-
-/// The path of a target: what stands before its first `?`.
-#[tactic(auto, using(mud_url::proofs::Places::before_first_found, mud_url::proofs::Places::before_first_none), unfolding(crate::specs::Routes::path_in))]
-fn path_in(target: &[u8]) -> &[u8]
-    ensures { result.now ≡ spec.path_in target.now }
-{
-    match first_question_mark(target) {
-        Some(end) => target.split_at(end).0,
-        None => target,
-    }
-}
-
-/// The route of a target: the one whose path stands before the first `?`, octet for octet. None
-/// exactly where no route has that path. It takes no memory.
-#[tactic(auto, unfolding(crate::specs::Routes::route_of))]
-pub fn route_of(target: &[u8]) -> Option<Route>
-    ensures { result ≡ spec.route_of target.now }
-{
-    let path = path_in(target);
-    ROUTES
-        .iter()
-        .copied()
-        .find(|route| route.path().as_bytes() == path)
 }

@@ -33,7 +33,7 @@ use Rattle.mud_tables.specs.declared.bind_fault.BindFault.{BindFault}
 use Rattle.bind_book.specs.Book.{Book, IsRefusal}
 use Rattle.bind_book.specs.Plans.{Plan, IsPlanned, changed_binds, HasRoomFor, same_plan, class_plan}
 use Rattle.bind_book.proofs.BookItems.{one_difference, binds_told, class_of_kind, classes_reach}
-use Rattle.bind_book.proofs.KeptClasses.{unbind_sound}
+use Rattle.table_laws.proofs.KeptClasses.{unbind_sound}
 use Rattle.bind_book.proofs.Plans.{empty_as_told, bind_puts, same_planned, good_sets}
 
 -- ---- The bindings

@@ -9,7 +9,6 @@ use Rattle.acl_model.specs.Changes.{IsBindingChange}
 use Rattle.mud_tables.specs.declared.bind_fault.BindFault.{BindFault}
 use Rattle.mud_tables.specs.Limits.{most_locals}
 use Rattle.mud_tables.specs.Fits.{FitsLocals}
-use Rattle.mud_tables.specs.ItemFields.{IsNetwork}
 use Rattle.mud_tables.specs.Binds.{Binds, IsKeptNetwork, IsSoundLocals, IsSoundBinds}
 use Rattle.mud_tables.specs.BindSteps.{LocalsAfter, LocalStep, locals_step, is_change, with_locals}
 use Rattle.mud_tables.specs.BindItems.{class_items, locals_item, locals_items, name_items}
@@ -23,6 +22,7 @@ use Rattle.bind_book.specs.Book.{Book, IsRefusal}
 use Rattle.bind_book.specs.Plans.{Plan, IsSetLocals, IsPlanned, changed_binds, HasRoomFor, same_plan, locals_put, locals_plan}
 use Rattle.bind_book.proofs.BookItems.{one_difference, binds_told, locals_reach}
 use Rattle.bind_book.proofs.Plans.{empty_as_told, no_binding_change, same_planned}
+use Rattle.mud_tables.proofs.TakenLaws.{fitting_networks}
 
 -- ---- The put
 
@@ -116,12 +116,8 @@ module _ (prefixes : List Prefix) where
 few_fit : (n : ℕ) → n ≤ most_locals → n < 2 ^ 16
 few_fit n few = omega (arith, few)
 
-all_fit : (locals : List Prefix) → AllByRecursion IsKeptNetwork locals → AllByRecursion IsNetwork locals
-all_fit [] all = tt
-all_fit (p ∷ ps) all = (all.0.fits, all_fit ps all.1)
-
 sound_fit : (locals : List Prefix) → IsSoundLocals locals → FitsLocals locals
-sound_fit locals sound = record { few = few_fit (length locals) sound.few; each = all_fit locals sound.each }
+sound_fit locals sound = record { few = few_fit (length locals) sound.few; each = fitting_networks locals sound.each }
 
 -- the local networks fit their item
 pub locals_fit : (prefixes : List Prefix) (step : LocalStep) (found : Option (List Prefix)) (locals : List Prefix) → found ≡ Some locals → OfLocals IsSoundLocals step → IsOkAnd step (λ after. MatchOption found (after.word ≡ Same) (λ set. (after.word ≡ Set) × (set ≡ after.locals))) → FitsLocals locals

@@ -1,5 +1,5 @@
 -- What is read of bodies, element after element, and which items are of no row.
-use Rattle.std.proofs.Common.{◌≡◌, ℕ, zero, suc, ◌+◌, ◌<◌, Bool, true, false, ◌&&◌, cond, List, [], ◌∷◌, ◌++◌, length, get_or, Option, Some, None, Result, Ok, Err, refl, sym, ap, subst, ◌∙◌, append_assoc, arith}
+use Rattle.std.proofs.Common.{◌≡◌, ℕ, zero, suc, ◌+◌, ◌<◌, Bool, true, false, ◌&&◌, cond, List, [], ◌∷◌, ◌++◌, length, Option, Some, None, Result, Ok, Err, refl, sym, ap, subst, ◌∙◌, append_assoc, arith}
 use Rattle.std.specs.Prelude.{option_map, IfSome, ◌==◌, nat_lt, nat_le}
 use Rattle.mud_tables.specs.Limits.{most_locals}
 use Rattle.std.specs.List.{list_all}
@@ -86,17 +86,6 @@ module _ {A : Type 0} (value : Reading A) where
   unfolding end_in
   more_behind octets list left rest (Ok x) e is end bad = absurd cc
   more_behind octets list left rest (Err fault) e is end bad = ended octets list rest (subst (λ n. IsRest octets list n rest) e is) ∙ ap (λ r. result_ok r >>= λ _. Some list) end
-
--- ---- Tests of all elements
-
-and_false : (b : Bool) → (b && false) ≡ false
-and_false true = refl
-and_false false = refl
-
-pub not_all : {A : Type 0} (p : A → Bool) (xs : List A) (i : ℕ) (x : A) → i < length xs → x ≡ get_or xs i x → p x ≡ false → list_all p xs ≡ false
-not_all p [] i x within is fails = absurd (omega arith)
-not_all p (y ∷ ys) zero x within is fails = ap (λ b. b && list_all p ys) (ap p (sym is) ∙ fails)
-not_all p (y ∷ ys) (suc i) x within is fails = ap (λ b. p y && b) (not_all p ys i x (omega arith) is fails) ∙ and_false (p y)
 
 -- ---- Items of no row
 

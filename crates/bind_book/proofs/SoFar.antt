@@ -1,22 +1,12 @@
 -- What loops have made so far, with one element more.
-use Rattle.std.proofs.Common.{◌≡◌, ℕ, ◌+◌, ◌<◌, ◌≤◌, List, [], ◌∷◌, ◌++◌, length, map, take, get_or, Option, Some, None, refl, sym, ap, ◌∙◌, append_assoc}
-use Rattle.std.proofs.lemmas.List.{take_more, take_all}
-use Rattle.sorted_rows.specs.Changes.{with_found}
-
-pub take_one : {A : Type 0} (xs : List A) (i : ℕ) (x : A) → i < length xs → x ≡ get_or xs i x → take (i + 1) xs ≡ take i xs ++ x ∷ []
-take_one xs i x within is = take_more xs i x within ∙ ap (λ y. take i xs ++ y ∷ []) (sym is)
-
-map-push : {A B : Type 0} (f : A → B) (xs : List A) (x : A) → map f (xs ++ x ∷ []) ≡ map f xs ++ f x ∷ []
-map-push f [] x = refl
-map-push f (y ∷ ys) x = ap (λ zs. f y ∷ zs) (map-push f ys x)
+use Rattle.std.proofs.Common.{◌≡◌, ℕ, ◌+◌, ◌<◌, ◌≤◌, List, [], ◌∷◌, ◌++◌, length, map, take, get_or, sym, ap, ◌∙◌, append_assoc}
+use Rattle.std.proofs.lemmas.List.{take_all}
+pub use Rattle.mud_tables.proofs.RowSets.{take_one}
+use Rattle.mud_tables.proofs.RowSets.{map_push}
+pub use Rattle.binding_changes.proofs.OldRows.{found_before}
 
 pub map-take : {A B : Type 0} (f : A → B) (xs : List A) (i : ℕ) (x : A) → i < length xs → x ≡ get_or xs i x → map f (take (i + 1) xs) ≡ map f (take i xs) ++ f x ∷ []
-map-take f xs i x within is = ap (map f) (take_one xs i x within is) ∙ map-push f (take i xs) x
-
--- what was found, in front of others
-pub found_before : {A : Type 0} (o : Option A) (xs ys : List A) → with_found o xs ++ ys ≡ with_found o (xs ++ ys)
-found_before None xs ys = refl
-found_before (Some x) xs ys = refl
+map-take f xs i x within is = ap (map f) (take_one xs i x within is) ∙ map_push f (take i xs) x
 
 -- ---- Lists that grow behind a front
 

@@ -1,16 +1,13 @@
 -- The bindings of the rows at the places that a change touches, one place after the other.
 use Rattle.std.proofs.Common.{◌≡◌, ℕ, ◌+◌, ◌<◌, List, [], ◌∷◌, ◌++◌, length, map, take, get_or, Option, Some, None, refl, sym, ap, ◌∙◌, append_assoc}
 use Rattle.std.specs.Prelude.{flat_map}
-use Rattle.std.proofs.lemmas.List.{take_more}
 use Rattle.std.proofs.lemmas.Grind.{flat_map-append}
 use Rattle.sorted_rows.specs.Placed.{row_at}
 use Rattle.sorted_rows.specs.Changes.{with_found, gone_row, rows_at}
-
-take_one : {A : Type 0} (xs : List A) (i : ℕ) (x : A) → i < length xs → x ≡ get_or xs i x → take (i + 1) xs ≡ take i xs ++ x ∷ []
-take_one xs i x within is = take_more xs i x within ∙ ap (λ y. take i xs ++ y ∷ []) (sym is)
+use Rattle.mud_tables.proofs.RowSets.{take_one}
 
 -- what was found, in front of others
-found_before : {A : Type 0} (o : Option A) (xs ys : List A) → with_found o xs ++ ys ≡ with_found o (xs ++ ys)
+pub found_before : {A : Type 0} (o : Option A) (xs ys : List A) → with_found o xs ++ ys ≡ with_found o (xs ++ ys)
 found_before None xs ys = refl
 found_before (Some x) xs ys = refl
 

@@ -1,8 +1,7 @@
 -- Where a binding stands among others, and those that stand nowhere among them.
 use Rattle.std.proofs.Common.{◌≡◌, ℕ, suc, ◌+◌, ◌<◌, Bool, true, false, cond, not, ◌&&◌, ◌||◌, List, [], ◌∷◌, ◌++◌, length, map, take, drop, get_or, Option, Some, None, ltb, refl, sym, ap, ◌∙◌, arith}
-use Rattle.std.specs.Prelude.{is_some, IfSome, position}
+use Rattle.std.specs.Prelude.{is_some, position}
 use Rattle.std.specs.List.{list_any, filter, prefix_len}
-use Rattle.std.proofs.lemmas.Bool.{ltb-true}
 use Rattle.std.proofs.lemmas.Bool.Decides.{nat_tests}
 use Rattle.std.proofs.lemmas.List.{take_more, map-append, append-nil, take-append-drop}
 use Rattle.std.proofs.lemmas.List.Elements.{filter-append}
@@ -38,13 +37,6 @@ is_some-cond false n = refl
 -- some element passes it exactly where one stands
 pub is_some-position : {A : Type 0} (p : A → Bool) (xs : List A) → is_some (position p xs) ≡ list_any p xs
 is_some-position p xs = is_some-cond (ltb (prefix_len (λ x. not (p x)) xs) (length xs)) (prefix_len (λ x. not (p x)) xs) ∙ below p xs
-
-within : (b : Bool) (n m : ℕ) → ltb n m ≡ b → IfSome (cond b (Some n) None) (λ i. i < m)
-within true n m e = ltb-true n m e
-within false n m e = tt
-
-pub position_within : {A : Type 0} (p : A → Bool) (xs : List A) → IfSome (position p xs) (λ i. i < length xs)
-position_within p xs = within (ltb (prefix_len (λ x. not (p x)) xs) (length xs)) (prefix_len (λ x. not (p x)) xs) (length xs) refl
 
 -- ---- Among lent bindings
 

@@ -74,14 +74,6 @@ ahead_at bound false at cs h = refl
 ahead_at bound true at [] h = absurd (omega (arith, h refl))
 ahead_at bound true at (c ∷ cs) h = ap (λ (s : DoorState). s.ahead) (state_standing bound at (c ∷ cs) c (h refl))
 
--- a door that goes on from before a place
-pub gone_on-before : (bound : Option ℕ) (at : ℕ) (cs : List Connection) → at < length cs → gone_on (state_at bound false at cs) (drop at cs) ≡ state_at bound true at cs
-gone_on-before bound at [] h = absurd (omega arith)
-gone_on-before bound at (c ∷ cs) h =
-    ap (gone_on (state_at bound false at (c ∷ cs))) (drop_more (c ∷ cs) at c h)
-    ∙ ap (λ (front : List Connection). entered bound front (get_or (c ∷ cs) at c ∷ drop (at + 1) (c ∷ cs))) (append-nil (take at (c ∷ cs)))
-    ∙ sym (state_standing bound at (c ∷ cs) c h)
-
 -- whether there is a connection from a place on
 pub has_more_at : (at : ℕ) (cs : List Connection) → has_more (drop at cs) ≡ ltb at (length cs)
 has_more_at at cs =

@@ -3,7 +3,7 @@ use Rattle.std.proofs.Common.{◌≡◌, ℕ, ◌+◌, ◌-◌, ◌≤◌, List,
 use Rattle.std.specs.Prelude.{slice_range, All, replicate}
 use Rattle.std.specs.List.{copy_within}
 use lib.Seq.{paste}
-use Rattle.std.proofs.lemmas.List.{take-take, drop-take, drop-drop, drop-append-le, take-append-le, drop_all, take_all}
+use Rattle.std.proofs.lemmas.List.{drop-take, drop-drop, drop-append-le, take-append-le, drop_all, take_all}
 use Rattle.std.proofs.lemmas.List.Edits.{take-paste}
 use Rattle.std.proofs.lemmas.List.Elements.{All-replicate}
 use Rattle.mud_world.proofs.Doors.{take_further}
@@ -13,12 +13,6 @@ zeros_alone len = All-replicate (λ (octet : ℕ). octet ≡ 0) len 0 refl
 
 pub length-part : (xs : List ℕ) (a b : ℕ) → a ≤ b → b ≤ length xs → length (slice_range xs a b) ≡ b - a
 length-part xs a b ordered within = length-take-le (b - a) (drop a xs) (omega (arith, length-drop a xs))
-
--- the front of a part
-pub part_front : (xs : List ℕ) (a b n : ℕ) → a + n ≤ b → slice_range xs a (a + n) ≡ take n (slice_range xs a b)
-part_front xs a b n fits =
-    let size : a + n - a ≡ n = omega arith in
-    ap (λ k. take k (drop a xs)) size ∙ sym (take-take n (b - a) (drop a xs) (omega arith))
 
 -- what stands behind the front of a part
 pub part_rest : (xs : List ℕ) (a b n : ℕ) → a + n ≤ b → slice_range xs (a + n) b ≡ drop n (slice_range xs a b)

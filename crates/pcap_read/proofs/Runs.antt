@@ -1,14 +1,13 @@
 -- What a caller knows who reads packet after packet: those read so far are the first ones of the capture, and the others are to come.
-use Rattle.std.proofs.Common.{◌≡◌, ◌≢◌, ℕ, List, [], ◌∷◌, ◌++◌, Option, Some, None, refl, sym, ap, ◌∙◌, append_assoc, append-nil}
+use Rattle.std.proofs.Common.{◌≡◌, ◌≢◌, ℕ, List, [], ◌∷◌, ◌++◌, Option, Some, refl, sym, ap, ◌∙◌, append_assoc, append-nil}
 use Rattle.mud_world.specs.Door.{DoorState, Took}
 use Rattle.mud_world.proofs.Doors.{took_none, took_more}
 use Rattle.pcap_read.specs.declared.fault.CapFault.{CapFault}
-use Rattle.pcap_read.specs.declared.fault.CapFault.TheVariants.{ReadFault}
 use Rattle.packet_buffer.specs.Packets.{Packet, with_packet, with_next, with_all}
 use Rattle.pcap_read.specs.Packets.{Packets, packets_of}
 use Rattle.packet_buffer.specs.Reading.{Follows}
 use Rattle.pcap_read.specs.Reading.{EndsIn}
-use Rattle.pcap_read.specs.Taken.{Taken, AtEnd, HasRead, at_start, to_come}
+use Rattle.pcap_read.specs.Taken.{Taken, HasRead, at_start, to_come}
 
 all_of : Packets → List Packet
 all_of packets = packets.all
@@ -30,25 +29,6 @@ has_read_more packets packet old new first s t p q is = record {
       ∙ ap (with_all packets) (q.same more ∙ ap (λ (next : Option Packet). with_next next (to_come new more)) is)
       ∙ ap (all_behind (to_come new more).fault) (sym (append_assoc packets (packet ∷ []) (to_come new more).all));
 }
-
--- at the end, they are all packets that the source told
-pub has_read_all : (packets : List Packet) (old new : Taken) (first s t : DoorState) → HasRead packets old first s
-    → Follows (to_come old) (λ more. with_next new.packet (to_come new more)) s t → new.packet ≡ None → AtEnd new t
-    → packets_of first.left ≡ record { all = packets; fault = None }
-unfolding all_behind
-has_read_all packets old new first s t p q is e =
-    ap packets_of (p.took.left ∙ ap (λ (left : List ℕ). p.octets ++ left) (q.took.left ∙ ap (λ (left : List ℕ). q.octets ++ left) e.left))
-    ∙ p.same (q.octets ++ [])
-    ∙ ap (with_all packets) (q.same [] ∙ ap (λ (next : Option Packet). with_next next (to_come new [])) is ∙ e.ended)
-    ∙ ap (all_behind None) (append-nil packets)
-
--- at a fault of the octets, they are all packets that the source told, and the fault ends them
-pub has_read_broken : (packets : List Packet) (fault : CapFault) (old : Taken) (first s t : DoorState) → HasRead packets old first s
-    → EndsIn fault (to_come old) s t → fault ≢ ReadFault → packets_of first.left ≡ record { all = packets; fault = Some fault }
-unfolding all_behind
-has_read_broken packets fault old first s t p q other =
-    ap packets_of (p.took.left ∙ ap (λ (left : List ℕ). p.octets ++ left) q.took.left)
-    ∙ p.same (q.octets ++ t.left) ∙ ap (with_all packets) (q.broken other) ∙ ap (all_behind (Some fault)) (append-nil packets)
 
 -- at any fault, they are all packets of the octets that were taken
 pub has_read_taken : (packets : List Packet) (fault : CapFault) (old : Taken) (first s t : DoorState) → HasRead packets old first s

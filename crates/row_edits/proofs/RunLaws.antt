@@ -8,7 +8,7 @@ use Rattle.sorted_rows.proofs.RowLaws.{ascend-map}
 use Rattle.sorted_rows.proofs.RunLaws.{AllBelongAt, above_run, put_front, taken_front, ascend-drop}
 use Rattle.row_edits.specs.declared.edit.Edit.{Edit}
 use Rattle.row_edits.specs.Edits.{edit_place, edit_made, edited, AreFound}
-use Rattle.row_edits.specs.Runs.{found_next, GoesOn, GoOn, AreRun, AreMade}
+use Rattle.row_edits.specs.Runs.{found_next, AreRun, AreMade}
 use Rattle.row_edits.proofs.EditLaws.{ascend-edited, found_kept, last_split, below_last}
 
 -- ---- Lists
@@ -40,11 +40,6 @@ run_last [] n long = absurd (omega arith)
 run_last (e ∷ []) zero long = (tt, tt)
 run_last (e ∷ (f ∷ es)) zero long = absurd (omega arith)
 run_last (e ∷ es) (suc n) long = run_last es n (omega arith)
-
-pub run_more : {R : Type 0} (es : List (Edit R)) (n : ℕ) (e f : Edit R) → n + 1 < length es → e ≡ get_or es n e → f ≡ get_or es (n + 1) f → GoesOn e f → AreRun (drop (n + 1) es) → AreRun (drop n es)
-run_more es n e f lt here next goes run =
-    let rest : drop (n + 1) es ≡ f ∷ drop (n + 1 + 1) es = first_is es (n + 1) f lt next in
-    subst AreRun (sym (first_is es n e (omega arith) here)) (subst (GoOn e) (sym rest) goes, run)
 
 module _ {R : Type 0} (place : R → List ℕ) where
   above_left : (p : List ℕ) (xs ys : List R) → PlacesAbove place p (xs ++ ys) → PlacesAbove place p xs

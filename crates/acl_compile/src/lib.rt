@@ -9,6 +9,3 @@ mod plan;
 
 pub use compiled::Compiled;
 pub use plan::RowPlan;
-
-#[cfg(test)]
-mod tests;

@@ -19,6 +19,3 @@ pub use entry::{Action, Entry, Layer, Policy, PortTest, Selector};
 pub use matching::{is_in_family, near_matches, peer_of, rest_matches, same_direction};
 pub use place::{BoundKey, KeyText, order_keys};
 pub use ruling::{DefaultRule, Ruling, Why};
-
-#[cfg(test)]
-mod tests;

@@ -23,8 +23,3 @@ pub use bind_fault::BindFault;
 pub use segment::{Endpoint, Segment};
 pub use thing::Thing;
 pub use thing_fault::ThingFault;
-
-#[cfg(test)]
-mod row_tests;
-#[cfg(test)]
-mod tests;

@@ -1,5 +1,6 @@
-use super::*;
+//! Things, classes and names in their order, and the numbers and names of refusals.
 use mud_base::{Addr, Bytes, Listed, Mac};
+use mud_tables::{BindFault, Class, ClassRow, NameKey, NameRow, Thing, ThingFault};
 use mud_url::mud_url;
 use sorted_rows::{KeyOf, Placed};
 use std::alloc::Global;

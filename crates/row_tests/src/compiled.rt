@@ -2,7 +2,7 @@
 //! Each entry allows the Things of the maker; the bulb's file has one for its server before it.
 ghost use Rattle.std.specs.Prelude.{◌≡◌, ◌<◌};
 
-use super::*;
+use acl_compile::Compiled;
 use acl_model::{Binding, DefaultRule, Entry, MemberKey, Policy, Selector, default_entry};
 use acl_rows::{Owner, PackedAddr, Row};
 use mud_base::{Addr, Bytes, Direction, End, Listed, Memory};

@@ -1,11 +1,11 @@
 //! Addresses with ends, plain addresses, prefixes, and the fields in which they are kept.
-use crate::addrs::{has_addr, prefix_of_parts, prefixes_in_order, with_addr, without_addr};
-use crate::ends::{end_of, has_address, live_count, live_rows, with_end, without_address};
-use crate::fields::{read_ending, read_network, write_ending, write_network};
-use crate::segment::segment_of;
-use crate::sound::{are_leases, are_locals};
 use item_codec::{FieldReader, FieldWriter};
 use mud_base::{Addr, End, Fields, Moment, Prefix, Transport};
+use mud_tables::addrs::{has_addr, prefix_of_parts, prefixes_in_order, with_addr, without_addr};
+use mud_tables::ends::{end_of, has_address, live_count, live_rows, with_end, without_address};
+use mud_tables::fields::{read_ending, read_network, write_ending, write_network};
+use mud_tables::segment::segment_of;
+use mud_tables::sound::{are_leases, are_locals};
 use std::test::Fail;
 
 /// 192.0.2.10

@@ -3,7 +3,7 @@
 ghost use Rattle.std.specs.Prelude.{◌≡◌, ◌<◌};
 
 use super::{change, hold, release};
-use crate::Compiled;
+use acl_compile::Compiled;
 use acl_model::{Binding, DefaultRule, Entry, MemberKey, Policy, Selector, default_entry};
 use acl_rows::{Row, RulePart};
 use mud_base::{Addr, Bytes, Direction, End, Family, Listed, Memory};

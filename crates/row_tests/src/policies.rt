@@ -1,5 +1,8 @@
 //! What takes memory, with enough of it.
-use super::*;
+use acl_model::{
+    Action, Binding, DefaultRule, Entry, Layer, MemberKey, Policy, Selector, default_entry,
+    those_not_in,
+};
 use mud_base::{Addr, Bytes, Direction, End, Family, Listed, Memory};
 use sorted_rows::SortedRows;
 use std::alloc::Global;

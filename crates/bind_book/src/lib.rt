@@ -16,6 +16,3 @@ pub use book::BindBook;
 pub use change::BindChange;
 pub use item_codec::Word;
 pub use mud_tables::{BindFault, Class, ClassRow, NameRow};
-
-#[cfg(test)]
-mod tests;

@@ -11,6 +11,3 @@ pub use acl_model::{DefaultRule, Ruling, Why};
 pub use judging::{Arbiter, judge};
 pub use ruling::rule;
 pub use verdict::{Verdict, forwarded, noted_fields};
-
-#[cfg(test)]
-mod tests;

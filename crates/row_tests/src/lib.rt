@@ -1,7 +1,9 @@
-//! Tests of what the tables mean: policies, rows and what is compiled of them, and the tables
-//! themselves. No other crate stands on it.
+//! Tests of what the tables mean: policies, rows and what is compiled of them, the books of Things
+//! and bindings, and the verdicts on packets. No other crate stands on it.
 #![tactic(auto)]
 
+#[cfg(test)]
+mod binds;
 #[cfg(test)]
 mod compiled;
 #[cfg(test)]
@@ -10,5 +12,11 @@ mod endings;
 mod policies;
 #[cfg(test)]
 mod tables;
+#[cfg(test)]
+mod things;
+#[cfg(test)]
+mod verdict_texts;
+#[cfg(test)]
+mod verdicts;
 #[cfg(test)]
 mod views;

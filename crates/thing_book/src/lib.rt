@@ -18,6 +18,3 @@ pub use book::ThingBook;
 pub use change::ThingChange;
 pub use item_codec::Word;
 pub use mud_tables::{Thing, ThingFault};
-
-#[cfg(test)]
-mod tests;

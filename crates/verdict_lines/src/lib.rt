@@ -6,6 +6,3 @@ pub mod words;
 
 pub use verdict::{append_ruling, append_unreadable, append_verdict};
 pub use words::{default_name, part_name, passing, why_name};
-
-#[cfg(test)]
-mod tests;

@@ -6,7 +6,7 @@ use Rattle.row_edits.specs.Edits.{edit, edit_place}
 use Rattle.acl_rows.specs.declared.row.Row.{Row}
 use Rattle.acl_rows.specs.Places.{row_place}
 use Rattle.acl_rows.specs.ByAddress.{SideRows, index_beside}
-use Rattle.packet_judge.proofs.tests.put.Goals as goal
+use Rattle.row_tests.proofs.verdicts.put.Goals as goal
 
 pub make_edits_at-requires-clause-found : goal.make_edits_at-requires-clause-found
 unfolding index_beside

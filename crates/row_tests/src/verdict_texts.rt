@@ -1,10 +1,10 @@
 //! The texts of verdicts.
-use crate::append_verdict;
 use acl_model::{DefaultRule, Ruling, Why};
 use frame_view::Part;
 use mud_base::Bytes;
 use packet_judge::Verdict;
 use std::test::Fail;
+use verdict_lines::append_verdict;
 
 const VERDICTS: [(Verdict, &str); 10] = [
     (Verdict::Unmanaged, "pass unmanaged"),

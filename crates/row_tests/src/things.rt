@@ -2,12 +2,12 @@
 ghost use Rattle.std.specs.Prelude.{IfOk};
 ghost use Rattle.thing_book.specs.Planned.{IsReady};
 
-use super::*;
 use mud_base::{Addr, Bytes, Mac, Memory, Moment};
 use mud_url::{MudUrl, mud_url};
 use mud_world::Item;
 use std::alloc::Global;
 use std::process::Abort;
+use thing_book::{ThingBook, ThingChange, ThingFault, Word};
 
 const BULB: Mac = Mac([2, 0, 0, 0, 0, 1]);
 

@@ -2,13 +2,13 @@
 //! 1 of its file; and the ruling on its question to a DNS server where it has no file.
 ghost use Rattle.std.specs.Prelude.{◌≡◌, ◌<◌};
 
-use super::*;
-use acl_model::default_entry;
+use acl_model::{DefaultRule, Ruling, Why, default_entry};
 use acl_rows::{AddressRows, Owner, PackedAddr, Row, RulePart, RuleView};
 use frame_view::{Frame, PacketView, Part, view};
 use mud_base::{Addr, Direction, End, Listed, Mac, Moment};
 use mud_tables::Thing;
 use mud_url::mud_url;
+use packet_judge::{Arbiter, Verdict, forwarded, judge, noted_fields, rule};
 use row_edits::plan_edit;
 use sorted_rows::{SortedRows, Steps};
 use std::alloc::Global;

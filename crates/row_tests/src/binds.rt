@@ -3,7 +3,7 @@ ghost use Rattle.std.specs.Prelude.{IsTrue};
 ghost use Rattle.mud_tables.specs.Binds.{is_class, IsSoundBinds};
 ghost use Rattle.bind_book.specs.Plans.{changed_binds, HasRoomFor};
 
-use crate::{BindBook, BindChange, BindFault, Class, Word};
+use bind_book::{BindBook, BindChange, BindFault, Class, Word};
 use mud_base::{Addr, Bytes, Moment, Prefix};
 use mud_tables::sound::{is_class_uri, is_name};
 use mud_world::Item;
@@ -33,7 +33,7 @@ fn keeps(rt: &impl Abort, book: &BindBook, want: [usize; 3]) {
     assert!(rt; kept == want);
 }
 
-#[tactic(auto, using(crate::proofs::Plans::commits))]
+#[tactic(auto, using(bind_book::proofs::Plans::commits))]
 fn bind(book: &mut BindBook, class: &Class, addr: Addr) -> Result<Word, BindFault>
     requires { IsTrue (is_class class.now) }
 {
@@ -41,19 +41,19 @@ fn bind(book: &mut BindBook, class: &Class, addr: Addr) -> Result<Word, BindFaul
     Ok(committed(book, change))
 }
 
-#[tactic(auto, using(crate::proofs::Plans::commits))]
+#[tactic(auto, using(bind_book::proofs::Plans::commits))]
 fn unbind(book: &mut BindBook, class: &Class, addr: Addr) -> Result<Word, BindFault> {
     let change = book.plan_unbind(class, addr)?;
     Ok(committed(book, change))
 }
 
-#[tactic(auto, using(crate::proofs::Plans::commits))]
+#[tactic(auto, using(bind_book::proofs::Plans::commits))]
 fn set(book: &mut BindBook, prefixes: &[Prefix]) -> Result<Word, BindFault> {
     let change = book.plan_locals(prefixes)?;
     Ok(committed(book, change))
 }
 
-#[tactic(auto, using(crate::proofs::Plans::commits))]
+#[tactic(auto, using(bind_book::proofs::Plans::commits))]
 fn observe(rt: &impl Abort, book: &mut BindBook, name: &[u8]) -> Result<Word, BindFault> {
     assert!(rt; is_name(name));
     let change = book.plan_observe(name, DNS, 60, Moment::at_most_last(1000))?;

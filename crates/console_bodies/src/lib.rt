@@ -10,6 +10,3 @@ pub mod statements;
 
 pub use asked::{Asked, heard_command};
 pub use read::read_body;
-
-#[cfg(test)]
-mod tests;

@@ -6,6 +6,3 @@ mod parts;
 pub mod read;
 
 pub use read::seconds_of;
-
-#[cfg(test)]
-mod tests;

@@ -12,6 +12,3 @@ pub mod types;
 
 pub use command::Command;
 pub use reply::{Outcome, Refusal, Reply};
-
-#[cfg(test)]
-mod tests;

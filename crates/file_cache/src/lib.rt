@@ -18,6 +18,3 @@ pub use due::is_due;
 pub use file_tables::{
     Approval, CacheFault, CachedFile, FileEdit, Held, OperatorVerdict, PolicyChange,
 };
-
-#[cfg(test)]
-mod tests;

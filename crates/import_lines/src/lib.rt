@@ -6,6 +6,3 @@ pub mod name;
 
 pub use line::{append_reply, append_skipped};
 pub use name::fetched_in;
-
-#[cfg(test)]
-mod tests;

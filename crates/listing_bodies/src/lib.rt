@@ -15,6 +15,3 @@ pub use files::files_body;
 pub use refusals::{body_fault_body, refusal_body, refusal_status};
 pub use things::things_body;
 pub use why::{RuledEnd, why_body};
-
-#[cfg(test)]
-mod tests;

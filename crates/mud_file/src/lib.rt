@@ -13,6 +13,3 @@ mod words;
 pub use read::read_usage;
 pub use usage_file::{Head, UsageFile};
 pub use usage_walk::{Broken, FileFault, Rule};
-
-#[cfg(test)]
-mod tests;

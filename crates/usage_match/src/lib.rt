@@ -8,8 +8,6 @@ mod flags;
 pub mod matches;
 mod ports;
 mod tcp_flag;
-#[cfg(test)]
-mod tests;
 mod texts;
 mod ways;
 

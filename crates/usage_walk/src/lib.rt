@@ -16,6 +16,3 @@ pub use member::Member;
 pub use named::{Element, Elements};
 pub use row::Row;
 pub use table::Reads;
-
-#[cfg(test)]
-mod tests;

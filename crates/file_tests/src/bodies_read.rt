@@ -1,5 +1,5 @@
 //! A body from its octets.
-use super::*;
+use console_bodies::read_body;
 use console_routes::{Action, Statement};
 use mud_base::Moment;
 

@@ -1,9 +1,9 @@
 //! Bodies as they go out.
-use super::*;
 use acl_model::Ruling;
 use body_members::{BodyFault, Member};
 use desk_model::Refusal;
 use dhcp_lldp::HearFault;
+use listing_bodies::{RuledEnd, body_fault_body, due_body, refusal_body, things_body, why_body};
 use mud_base::{Addr, Bytes, End, Listed, Mac};
 use mud_tables::{Thing, ThingFault};
 use mud_url::{MudUrl, UrlFault, mud_url};

@@ -1,13 +1,13 @@
 //! What takes memory, with enough of it.
-use super::kinds::*;
-use super::*;
-use named::elements_of;
-use others::all_known;
-use path::{at_place, refuse_where, under_name};
 use serde_json::Value;
 use std::alloc::Global;
 use std::process::Abort;
 use std::test::Fail;
+use usage_walk::kinds::{list_where_there, number_at};
+use usage_walk::named::elements_of;
+use usage_walk::others::all_known;
+use usage_walk::path::{at_place, refuse_where, under_name};
+use usage_walk::{FileFault, Member, Row, Rule};
 
 /// Asserts that the fault is this rule at this path.
 fn breaks(rt: &impl Abort, fault: Option<FileFault>, rule: Rule, path: &[u8]) {

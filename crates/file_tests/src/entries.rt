@@ -1,10 +1,10 @@
 //! An entry with a selector of each kind, and one that breaks a rule, with ample memory.
-use super::*;
 use mud_base::Direction;
 use serde_json::Value;
 use std::alloc::Global;
 use std::process::Abort;
 use std::test::Fail;
+use usage_match::{ListType, tests_at};
 use usage_walk::FileFault;
 
 const ENTRY: &str =

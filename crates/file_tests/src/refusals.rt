@@ -1,5 +1,5 @@
 //! Refusals, as they are written.
-use crate::reply::{Refusal, Reply};
+use desk_model::{Refusal, Reply};
 use file_tables::CacheFault;
 use mud_tables::{BindFault, ThingFault};
 use std::test::Fail;

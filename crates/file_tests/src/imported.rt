@@ -1,7 +1,7 @@
 //! Names of files, and what is written of them.
-use crate::{append_reply, append_skipped, fetched_in};
 use desk_model::{Outcome, Refusal, Reply};
 use file_tables::CacheFault;
+use import_lines::{append_reply, append_skipped, fetched_in};
 use item_codec::Word;
 use mud_base::Bytes;
 use mud_file::{Broken, Rule};

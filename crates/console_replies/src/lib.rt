@@ -14,6 +14,3 @@ mod session;
 mod why;
 
 pub use answer::{Answer, answer_request};
-
-#[cfg(test)]
-mod tests;

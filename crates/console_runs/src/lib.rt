@@ -6,8 +6,6 @@ mod no_clock;
 pub mod replay;
 mod room;
 pub mod serve;
-#[cfg(test)]
-mod tests;
 
 pub use replay::replay_store;
 pub use serve::serve_store;

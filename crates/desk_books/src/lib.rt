@@ -12,6 +12,3 @@ mod rows;
 
 pub use books::DeskBooks;
 pub use change::{BookChange, DeskChange};
-
-#[cfg(test)]
-mod tests;

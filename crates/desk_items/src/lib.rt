@@ -11,6 +11,3 @@ pub mod taken;
 pub use fault::OpenFault;
 pub use opening::open_items;
 pub use taken::{Taken, take_all};
-
-#[cfg(test)]
-mod tests;

@@ -5,8 +5,6 @@
 pub mod judging;
 pub mod refusing;
 pub mod store;
-#[cfg(test)]
-mod tests;
 
 pub use judging::{JudgedLines, judge_capture};
 pub use refusing::refuse_store;

@@ -5,7 +5,5 @@
 mod file;
 pub mod folder;
 mod names;
-#[cfg(test)]
-mod tests;
 
 pub use folder::import_files;

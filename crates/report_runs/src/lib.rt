@@ -4,8 +4,6 @@
 mod rows;
 pub mod store;
 pub mod table;
-#[cfg(test)]
-mod tests;
 
 pub use store::report_store;
 pub use table::report_desk;

@@ -1,6 +1,6 @@
 //! A run over a store that keeps nothing, and the line of an item that is no record.
-use crate::{judge_store, refuse_store};
 use command_runs::Status;
+use desk_runs::{judge_store, refuse_store};
 use mud_base::{Bytes, Listed};
 use mud_desk::{OpenFault, Taken};
 use mud_world::{Keeper, MemoryDoor, MemoryKeeper};

@@ -1,4 +1,4 @@
-use Rattle.desk_tests.proofs.tests.alike_from_nothing.Given as goal
+use Rattle.desk_tests.proofs.openings.alike_from_nothing.Given as goal
 
 abbrev pub ghosts-openings_alike : goal.ghosts-openings_alike
 ghosts-openings_alike a = record { name = a.blank.name; parts = a.blank.parts }

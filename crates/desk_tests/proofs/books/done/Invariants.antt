@@ -1,4 +1,4 @@
-use Rattle.desk_books.proofs.tests.done.Given as goal
+use Rattle.desk_tests.proofs.books.done.Given as goal
 
 abbrev pub ghosts-counted : goal.ghosts-counted
 ghosts-counted a = record { name = a.blank.name; parts = a.blank.parts }

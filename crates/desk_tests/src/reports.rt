@@ -1,10 +1,10 @@
 //! The table of the Things of a store that keeps one in the first version.
-use crate::report_store;
 use command_runs::Status;
 use command_words::ReportKind;
 use mud_base::{Bytes, Listed, Moment};
 use mud_desk::Taken;
 use mud_world::{Item, Keeper, MemoryClock, MemoryDoor, MemoryKeeper};
+use report_runs::report_store;
 use std::alloc::Global;
 use std::process::Abort;
 use std::test::Fail;

@@ -1,6 +1,6 @@
 //! Folders imported into an empty desk, with lines and statuses as the formats state them.
-use crate::import_files;
 use command_runs::Status;
+use import_runs::import_files;
 use mud_base::{Bytes, Listed, Moment};
 use mud_desk::{Desk, Taken};
 use mud_world::{Keeper, MemoryClock, MemoryDoor, MemoryKeeper, MemorySpool};

@@ -1,6 +1,6 @@
 //! Two requests on one connection, where each single read and each single write of the door fails.
-use crate::replay_store;
 use command_runs::Status;
+use console_runs::replay_store;
 use mud_base::{Bytes, Listed};
 use mud_desk::Taken;
 use mud_world::{Keeper, MemoryDoor, MemoryKeeper};

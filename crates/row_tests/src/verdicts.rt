@@ -127,6 +127,7 @@ fn put<L: Ledger>(
 {
     let addr = row.addr.addr();
     rows.reserve(alloc, addr, 1)?;
+    rows.tell_order();
     let found = rows.find_counted(&row.key(), steps).index;
     let mut edits = SortedRows::new(alloc);
     plan_edit(&mut edits, row, true, found)?;

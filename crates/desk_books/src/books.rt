@@ -113,7 +113,13 @@ impl DeskBooks {
         moment_fits(now);
         let change = self.lists.plan(command, now)?;
         let rows = row_plan(&self.lists.files, &mut self.compiled, &change, steps);
-        let rows = or_memory(rows)?;
+        let rows = match or_memory(rows) {
+            Ok(rows) => rows,
+            Err(refusal) => {
+                drop(change);
+                return Err(refusal);
+            }
+        };
         or_memory(DeskChange::made(self.alloc, change, rows, self.stamp, now))
     }
 

@@ -102,7 +102,11 @@ impl DeskChange {
         let outcome = change.outcome();
         let puts = change.take_puts();
         let stamp = stamp_after(&puts, stamp, now);
-        let batch = batch_of(alloc, puts, now)?;
+        let Ok(batch) = batch_of(alloc, puts, now) else {
+            drop(change);
+            drop(rows);
+            return Err(Memory);
+        };
         Ok(DeskChange {
             outcome,
             change,

@@ -17,18 +17,18 @@ invariant_of-self g c =
 pub returns-in_err-change-clause-same : goal.returns-in_err-change-clause-same
 returns-in_err-change-clause-same g c = c.plan.ensures.same c.self.inside.stamp ∙ ap (λ (b : Books). desk_of b) c.self.view_is
 
-pub invariant_of-self-in_err-rows : goal.invariant_of-self-in_err-rows
-invariant_of-self-in_err-rows g c =
+pub invariant_of-self-in-Err : goal.invariant_of-self-in-Err
+invariant_of-self-in-Err g c =
     let old : Lists = c.self.inside.lists in
     let new : Lists = c.plan.new.self in
     let stamp : Option ℕ = c.self.inside.stamp in
     kept_after old new c.self.inside.compiled c.row_plan-rows.new.compiled stamp (c.plan.ensures.same stamp) c.row_plan-rows.ensures.kept c.self.invariant
 
-pub returns-in_err-rows-clause-same : goal.returns-in_err-rows-clause-same
-returns-in_err-rows-clause-same g c = c.plan.ensures.same c.self.inside.stamp ∙ ap (λ (b : Books). desk_of b) c.self.view_is
+pub returns-in-Err-clause-same : goal.returns-in-Err-clause-same
+returns-in-Err-clause-same g c = c.plan.ensures.same c.self.inside.stamp ∙ ap (λ (b : Books). desk_of b) c.self.view_is
 
-pub returns-in_err-rows-clause-steps : goal.returns-in_err-rows-clause-steps
-returns-in_err-rows-clause-steps g c =
+pub returns-in-Err-clause-steps : goal.returns-in-Err-clause-steps
+returns-in-Err-clause-steps g c =
     let old : Lists = c.self.inside.lists in
     let new : Lists = c.plan.new.self in
     let stamp : Option ℕ = c.self.inside.stamp in
@@ -52,9 +52,9 @@ returns-clause-ok g c =
     let new : Lists = c.plan.new.self in
     let stamp : Option ℕ = c.self.inside.stamp in
     let after : Books = books_with new c.row_plan-rows.new.compiled stamp in
-    let change : PlannedChange = change_of c.args.now stamp c.in_ok-change.change c.in_ok-rows.rows in
-    let rows = planned_rows c.row_plan-rows.result c.in_ok-rows.rows (IsRowPlan c.in_ok-change.change new.files.files c.row_plan-rows.new.compiled) c.in_ok-rows.ensures.ok c.row_plan-rows.ensures.ok in
-    let planned = planned_after old new c.self.inside.compiled c.row_plan-rows.new.compiled stamp (c.plan.ensures.same stamp) c.row_plan-rows.ensures.kept c.self.invariant c.args.now c.moment_fits.ensures c.args.command c.in_ok-change.change c.in_ok-rows.rows (c.in_ok-change.ensures.planned stamp) rows in
+    let change : PlannedChange = change_of c.args.now stamp c.in_ok-change.change c.in-Ok.rows in
+    let rows = planned_rows c.row_plan-rows.result c.in-Ok.rows (IsRowPlan c.in_ok-change.change new.files.files c.row_plan-rows.new.compiled) c.in-Ok.ensures.ok c.row_plan-rows.ensures.ok in
+    let planned = planned_after old new c.self.inside.compiled c.row_plan-rows.new.compiled stamp (c.plan.ensures.same stamp) c.row_plan-rows.ensures.kept c.self.invariant c.args.now c.moment_fits.ensures c.args.command c.in_ok-change.change c.in-Ok.rows (c.in_ok-change.ensures.planned stamp) rows in
     made_change c.made.result c.or_memory-2.result change (λ (x : PlannedChange). IsOkAnd (command_step (desk_of c.args.self.now) c.args.now c.args.command) (λ (step : DeskAfter). IsPlanned step after x)) c.or_memory-2.ensures.ok c.made.ensures
     (subst (λ (b : Books). IsOkAnd (command_step (desk_of b) c.args.now c.args.command) (λ (step : DeskAfter). IsPlanned step after change)) c.self.view_is planned)
 

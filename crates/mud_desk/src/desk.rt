@@ -91,7 +91,8 @@ impl Desk {
         requires { IsKept Keeper-dyn self.keeper (tables_of self.state) }
         ensures { result ≡ self.keeper }
     {
-        let Desk { keeper, state: _ } = self;
+        let Desk { keeper, state } = self;
+        drop(state);
         keeper
     }
 
@@ -136,8 +137,14 @@ impl Desk {
         };
         match keep_batch(&mut self.keeper, change.batch()) {
             Ok(()) => (),
-            Err(KeepFault::Failed) => return Reply::Keeper,
-            Err(KeepFault::Memory) => return Reply::Memory,
+            Err(KeepFault::Failed) => {
+                drop(change);
+                return Reply::Keeper;
+            }
+            Err(KeepFault::Memory) => {
+                drop(change);
+                return Reply::Memory;
+            }
         }
         let outcome = change.outcome();
         self.state.commit(change, now, steps);

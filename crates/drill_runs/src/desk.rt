@@ -98,8 +98,10 @@ fn write_lines<D: Door>(
     let files = desk.files().len() as u64;
     let (keeper, mut state) = desk.into_parts();
     let Ok(lines) = lines_of(alloc, things, files, packets, &mut state) else {
+        drop(state);
         return (Status::NoMemory, keeper);
     };
+    drop(state);
     match say(door, lines.octets()) {
         Ok(()) => (Status::Done, keeper),
         Err(Failed) => (Status::DoorFailed, keeper),

@@ -107,5 +107,6 @@ pub fn judge_capture<D: Door>(alloc: Global, desk: Desk, door: &mut D) -> (Statu
     let (keeper, state) = desk.into_parts();
     let mut lines = JudgedLines { state };
     let status = write_capture(alloc, door, &mut lines);
+    drop(lines);
     (status, keeper)
 }

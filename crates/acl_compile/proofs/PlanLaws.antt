@@ -7,7 +7,7 @@ use Rattle.acl_model.specs.Places.{binding_place}
 use Rattle.acl_model.specs.Changes.{replaced}
 use Rattle.row_edits.specs.declared.edit.Edit.{Edit}
 use Rattle.row_edits.specs.Edits.{edited}
-use Rattle.row_shelves.specs.Shelves.{Shelves, AreFoundBeside, HasRoom}
+use Rattle.row_shelves.specs.Shelves.{Shelves, HasRoom}
 use Rattle.binding_shelves.specs.Shelves.{KeptBindings, HasRoomByKey}
 use Rattle.acl_rows.specs.declared.row.Row.{Row}
 use Rattle.acl_rows.specs.Places.{row_place}
@@ -85,9 +85,6 @@ pub record IsCommitted (c : CompiledState) (plan : Plan) (slots : Slots) (bindin
   pub bindings_are : bindings ≡ bindings_after plan c
   pub rows_are : rows ≡ rows_of slots bindings
   pub few : length plan.rows ≤ rows_apart c.rows rows
-
-pub found_rows : (c : CompiledState) (plan : Plan) → Fits plan c → c.rows ≡ rows_of c.slots c.bindings → AreFoundBeside c.rows plan.rows
-found_rows c plan fits kept = subst (λ (rows : List Row). AreFoundBeside rows plan.rows) (sym kept) fits.patch.found
 
 pub committed : (c : CompiledState) (plan : Plan) (slots : Slots) (bindings : List Binding) (rows : List Row) (defaults : Policy) (places : List UrlPlace) → Fits plan c → IsSound c.slots c.bindings c.rows defaults
     → slots ≡ slots_with plan.slot c.slots → bindings ≡ edited binding_place plan.bindings c.bindings → rows ≡ edited row_place plan.rows c.rows → ArePlacesOf slots places → IsCommitted c plan slots bindings rows defaults places

@@ -36,10 +36,6 @@ differ_turned p q other = by (same_place q p) refl
     by false is = refl
     by true is = absurd (false≢true (sym other ∙ subst (λ (r : List ℕ). same_place r q ≡ true) (same_place_exact q p is) (same_place_itself q)))
 
-group_place_is : (g : Group) → group_place g ≡ addr_place g.0
-unfolding group_place
-group_place_is g = refl
-
 kept_few : (r : Row) (n : ℕ) (rs : List Row) (b : Bool) → length rs ≤ n → length (cond b (r ∷ rs) rs) ≤ suc n
 kept_few r n rs true few = omega arith
 kept_few r n rs false few = omega arith

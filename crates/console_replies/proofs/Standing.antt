@@ -84,12 +84,6 @@ heard_asked (Url mac url) command is = subst IsAsked (same_Some (HearUrl mac url
 heard_asked (Lease mac address seconds) command is = subst IsAsked (same_Some (HearLease mac address seconds) command is) tt
 heard_asked Nothing command is = absurd (none-some command is)
 
--- the moment was raised
-pub raise_is : (h : List Segment) (before after : DeskState) (given moment : ℕ) → after ≡ record before { moment = moment } → moment ≡ max before.moment given → session_of h after ≡ raised (session_of h before) given
-unfolding session_of raised later tables_of
-raise_is h before after given moment is later_is =
-    ap (session_of h) is ∙ (λ i. record { desk = tables_of before; history = h; moment = later_is i })
-
 listed_here : (listing : Listing) (h : List Segment) (before : DeskState) (given : ℕ) → listing_text listing (tables_of before) (max before.moment given) ≡ listing_text listing (session_of h before).desk (later (session_of h before) given)
 unfolding session_of later
 listed_here listing h before given = refl

@@ -1,10 +1,10 @@
 -- The change that is made of that of a book and its rows is the step of the desk.
-use Rattle.std.proofs.Common.{◌≡◌, ℕ, ◌≤◌, Bool, true, false, cond, not, ◌&&◌, List, [], ◌∷◌, length, Option, Some, None, Ok, Err, refl, sym, ap, subst, ◌∙◌, bytes_eq, arith}
+use Rattle.std.proofs.Common.{◌≡◌, ℕ, ◌≤◌, Bool, true, false, cond, List, [], ◌∷◌, length, Option, Some, None, Ok, Err, refl, sym, ap, subst, ◌∙◌, bytes_eq, arith}
 use Rattle.std.specs.Prelude.{IsOkAnd, ◌↔◌}
 use Rattle.std.proofs.lemmas.Bool.{false≢true}
 use Rattle.mud_world.specs.declared.item.Put.{Put}
 use Rattle.acl_model.specs.declared.binding.Binding.{Binding}
-use Rattle.acl_model.specs.Changes.{has_binding, IsBindingChange}
+use Rattle.acl_model.specs.Changes.{IsBindingChange}
 use Rattle.item_codec.specs.declared.word.Word.{Word}
 use Rattle.acl_compile.specs.Compiled.{CompiledState}
 use Rattle.acl_compile.specs.Plans.{Plan, Fits, IsMemberPlan}
@@ -41,6 +41,8 @@ use Rattle.desk_books.specs.Changes.{with_change, with_stamp, desk_after, batch_
 use Rattle.desk_books.specs.Planned.{CanCommit, IsCommitted, IsBatchOf, HasFewEdits, IsPlanned}
 use Rattle.desk_books.specs.RowPlans.{IsFileRows}
 use Rattle.desk_books.proofs.Desks.{compiled_alike, member_compiled, policy_compiled}
+use Rattle.desk_model.proofs.SoundSteps.{sound_stamped}
+use Rattle.bind_book.proofs.Plans.{no_binding_change}
 
 -- ---- The stamp
 
@@ -53,11 +55,6 @@ pub stamped_files : (changes : Bool) (now : ℕ) (desk : DeskTables) → (stampe
 unfolding stamped
 stamped_files true now desk = refl
 stamped_files false now desk = refl
-
-stamped_sound : (changes : Bool) (now : ℕ) (desk : DeskTables) → now ≤ last_moment → IsSound desk → IsSound (stamped changes now desk)
-unfolding stamped
-stamped_sound true now desk late sound = record { tables = sound.tables; files = sound.files; stamp = late }
-stamped_sound false now desk late sound = sound
 
 -- whether there are puts is whether a list changes
 stamp_leads : (desk : DeskTables) (stamp : Option ℕ) (now : ℕ) (puts : List Put) (changes : Bool) → desk.stamp ≡ stamp → (puts ≡ []) ↔ (changes ≡ false) → with_stamp (stamp_after now stamp puts) desk ≡ stamped changes now desk
@@ -78,20 +75,6 @@ outcome_alike : (word word' : Word) (until until' : Option ℕ) (url url' : Opti
 outcome_alike word word' until until' url url' w u l = ap (λ (x : Word). outcome x until url) w ∙ ap (λ (x : Option ℕ). outcome word' x url) u ∙ ap (λ (x : Option (List ℕ)). outcome word' until' x) l
 
 -- ---- The parts of a plan
-
-none_differ : (b : Bool) → false ≡ (b && not b)
-none_differ true = refl
-none_differ false = refl
-
--- no binding goes or comes where they are the same
-no_change : (bindings : List Binding) → IsBindingChange bindings bindings [] []
-unfolding has_binding
-no_change bindings = record {
-  went = λ b. none_differ (has_binding b bindings);
-  came = λ b. none_differ (has_binding b bindings);
-  gone_once = refl;
-  come_once = refl;
-}
 
 -- a policy that stays
 stays : (url u : List ℕ) (files : List CachedFile) (b : Bool) → bytes_eq url u ≡ b → cond b (policy_of files url) (policy_of files u) ≡ policy_of files u
@@ -131,7 +114,7 @@ module _ (books : Books) (kept : AreKept books) (now : ℕ) (late : now ≤ last
         ready = record {
           lists = l.can;
           fits = l.fits;
-          sound = subst IsSound (sym leads) (stamped_sound changes now lists late l.sound);
+          sound = subst IsSound (sym leads) (sound_stamped changes now lists late l.sound);
           compiled = λ c made. subst (λ (d : DeskTables). IsCompiledOf d c) (sym leads) (compiled_alike lists (stamped changes now lists) c (stamped_tables changes now lists) (stamped_files changes now lists) (l.compiled c made));
         };
         edits = record { gone = l.few.gone; come = l.few.come; change = change_stamped (desk_of books) lists changes now l.few.gone l.few.come l.few.change; few = l.few.few };
@@ -220,7 +203,7 @@ module _ (books : Books) (kept : AreKept books) (now : ℕ) (late : now ≤ last
       let lists : DeskTables = with_files files desk in
       let sound' : IsSound lists = record { tables = kept.sound.tables; files = sound; stamp = kept.sound.stamp } in
       let same : (u : List ℕ) → policy_of files u ≡ policy_of books.files.files u = λ u. policies u ∙ stays url u books.files.files (bytes_eq url u) refl in
-      let none : IsBindingChange (desk_bindings desk) (desk_bindings lists) [] [] = no_change (desk_bindings desk) in
+      let none : IsBindingChange (desk_bindings desk) (desk_bindings lists) [] [] = no_binding_change (desk_bindings desk) in
       record {
         fits = m.fits;
         compiled = λ c made. member_compiled desk lists kept.sound sound' same [] [] none books.compiled c plan kept.compiled m made;
@@ -232,7 +215,7 @@ module _ (books : Books) (kept : AreKept books) (now : ℕ) (late : now ≤ last
       record {
         fits = p.fits;
         compiled = λ c made. policy_compiled desk lists url (policy_after Comes books.files.files url) refl policies books.compiled c plan kept.compiled p made;
-        few = record { gone = []; come = []; change = no_change (desk_bindings desk); few = no_edits plan p.bindings };
+        few = record { gone = []; come = []; change = no_binding_change (desk_bindings desk); few = no_edits plan p.bindings };
       }
   file_rows files sound url Goes plan policies p =
       let desk : DeskTables = desk_of books in
@@ -240,7 +223,7 @@ module _ (books : Books) (kept : AreKept books) (now : ℕ) (late : now ≤ last
       record {
         fits = p.fits;
         compiled = λ c made. policy_compiled desk lists url (policy_after Goes books.files.files url) refl policies books.compiled c plan kept.compiled p made;
-        few = record { gone = []; come = []; change = no_change (desk_bindings desk); few = no_edits plan p.bindings };
+        few = record { gone = []; come = []; change = no_binding_change (desk_bindings desk); few = no_edits plan p.bindings };
       }
 
   files_lists : (after : FilesAfter) (change : PlannedFile) (plan : Plan) → file.IsPlanned after books.files change → IsFileRows (policy_change change.edit) change.url books.files.files books.compiled plan

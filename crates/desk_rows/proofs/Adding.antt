@@ -2,7 +2,7 @@
 use Rattle.std.proofs.Common.{◌≡◌, ℕ, zero, suc, ◌+◌, ◌≤◌, ◌<◌, Bool, true, false, cond, List, [], ◌∷◌, ◌++◌, length, set, take, drop, get_or, Option, Some, None, refl, sym, ap, subst, ◌∙◌, arith, add-one}
 use Rattle.std.specs.Prelude.{bytes_eq, filter, nat_lt, option_map, option_and_then}
 use Rattle.std.specs.declared.cmp.Ordering.TheVariants.{Less, Greater}
-use Rattle.std.proofs.lemmas.List.{take_more, take_all, take-append-drop}
+use Rattle.std.proofs.lemmas.List.{take_more, take-append-drop}
 use Rattle.std.proofs.Math.Seq.{drop-cons}
 use Rattle.sorted_rows.specs.Placed.{place_cmp, row_at, PlacesAbove, PlacesAscend}
 use Rattle.sorted_rows.proofs.PlacedLaws.{same_place_exact, same_place-cmp, place_cmp_turned}
@@ -171,6 +171,3 @@ none_held files slots u e = ap (λ s. policy_held s u) e
 pub no_others : (slots : Slots) (u : List ℕ) → slots ≡ [] → others_held u slots ≤ 0
 unfolding others_held
 no_others slots u e = subst (λ s. others_held u s ≤ 0) (sym e) (omega arith)
-
-pub all_files : (files : List CachedFile) (i : ℕ) (u : List ℕ) → length files ≤ i → policy_of (take i files) u ≡ policy_of files u
-all_files files i u past = ap (λ fs. policy_of fs u) (take_all i files past)

@@ -44,11 +44,6 @@ unfolding first_of
 first_some p None keys is = absurd (none-some p (sym is))
 first_some p (Some key) keys is = is
 
-pub first_none : (o : Option MemberKey) (keys : List MemberKey) → (let q : Option (ℕ × List ℕ) = None in q ≡ option_map key_parts o) → first_of (cons_option o keys) ≡ first_of keys
-unfolding first_of
-first_none None keys is = refl
-first_none (Some key) keys is = absurd (none-some (key_parts key) is)
-
 -- ---- One more place
 
 module _ (slots : Slots) (bindings : List Binding) (new : Slots) where

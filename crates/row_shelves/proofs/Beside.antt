@@ -76,11 +76,6 @@ at_under o s a n x e =
     let same : AreSame x.owner o x.side s x.addr a x.entry n = same_coordinates x.owner o x.side s x.addr a x.entry n (same_place_exact (row_place x) (place_at o s a n) e) in
     ap (λ (p : List ℕ). is_under row_place p x) (λ i. side_place (sym same.owner i) (sym same.side i)) ∙ under_itself x
 
--- the row of a place is among those of its owner and side
-pub row_beside : (o : Owner) (s : Direction) (a : Addr) (n : ℕ) (rows : List Row) → row_at row_place (place_at o s a n) (rows_of_side o s rows) ≡ row_at row_place (place_at o s a n) rows
-unfolding rows_of_side
-row_beside o s a n rows = row_kept (is_under row_place (side_place o s)) (place_at o s a n) (at_under o s a n) rows
-
 -- ---- The rows of one address
 
 -- a row under the place of an owner, side and address is of these

@@ -14,6 +14,3 @@ pub mod sqlite_keeper;
 pub use first_opening::open_at;
 pub use path_keeper::PathKeeper;
 pub use sqlite_keeper::SqliteKeeper;
-
-#[cfg(test)]
-mod tests;

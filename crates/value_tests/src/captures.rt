@@ -1,7 +1,8 @@
-//! Each call once with ample memory, over a source whose second read fails.
+//! Each call of the reader of captures with ample memory: over a source whose second read fails, over a
+//! capture that is cut, and over octets that were taken before.
 use mud_base::{Bytes, Listed, Memory};
 use mud_world::MemoryDoor;
-use pcap_read::{CapFault, Capture};
+use pcap_read::{CapFault, Capture, Reader};
 use std::alloc::Global;
 use std::process::Abort;
 use std::test::Fail;
@@ -51,5 +52,53 @@ fn packets_and_a_failed_read(rt: HostRuntime) -> Result<(), Fail> {
     hands_out(&rt, &mut capture, 2);
     assert!(rt; capture.write(b"done") == Ok(4));
     assert!(rt; capture.advance() == Err(CapFault::ReadFault));
+    Ok(())
+}
+
+/// Asserts that the next packet is this fault.
+fn ends_with(rt: &impl Abort, capture: &mut Capture<&mut MemoryDoor>, want: CapFault) {
+    match capture.next() {
+        Err(fault) => assert!(rt; fault == want),
+        Ok(_) => assert!(rt; false, "no fault"),
+    }
+}
+
+#[test]
+fn a_fault_is_answered_again(rt: HostRuntime) -> Result<(), Fail> {
+    let mut door = door(rt.alloc())?;
+    let mut capture = Capture::new(rt.alloc(), &mut door)?;
+    hands_out(&rt, &mut capture, 1);
+    hands_out(&rt, &mut capture, 2);
+    ends_with(&rt, &mut capture, CapFault::ReadFault);
+    ends_with(&rt, &mut capture, CapFault::ReadFault);
+    drop(capture);
+    assert_eq!(rt; door.calls.read, 2);
+    assert_eq!(rt; door.read_count, 1);
+    Ok(())
+}
+
+#[test]
+fn a_cut_packet_is_a_fault(rt: HostRuntime) -> Result<(), Fail> {
+    let octets = Bytes::new(rt.alloc(), &CAPTURE[..59])?;
+    let pieces = Listed::from_vec(vec![in rt.alloc(); octets]?);
+    let inputs = Listed::from_vec(vec![in rt.alloc(); pieces]?);
+    let mut door = MemoryDoor::new(rt.alloc(), inputs, 0)?;
+    let mut capture = Capture::new(rt.alloc(), &mut door)?;
+    hands_out(&rt, &mut capture, 1);
+    ends_with(&rt, &mut capture, CapFault::Cut(42));
+    ends_with(&rt, &mut capture, CapFault::Cut(42));
+    Ok(())
+}
+
+/// A reader that begins with octets which were taken before goes on with the source behind them.
+#[test]
+fn octets_taken_before_are_read_first(rt: HostRuntime) -> Result<(), Fail> {
+    let octets = Bytes::new(rt.alloc(), &CAPTURE[4..])?;
+    let pieces = Listed::from_vec(vec![in rt.alloc(); octets]?);
+    let inputs = Listed::from_vec(vec![in rt.alloc(); pieces]?);
+    let mut door = MemoryDoor::new(rt.alloc(), inputs, 0)?;
+    let mut reader = Reader::holding(rt.alloc(), &CAPTURE[..4])?;
+    assert!(rt; reader.advance(&mut door) == Ok(true));
+    assert!(rt; reader.packet().at == 24);
     Ok(())
 }

@@ -1,9 +1,12 @@
-//! What no clause says of the real ones: that a client is served, and what a clock shows.
-use mud_base::Moment;
-use mud_world::{Clock, Door, Failed};
-use real_world::{RealClock, RealDoor};
+//! What no clause says of the real ones: that a client is served, what a clock shows, and what is read of
+//! the files of a folder.
+use mud_base::{Bytes, Moment};
+use mud_world::{Clock, Door, Failed, MOST_READ, Spool, SpoolFault};
+use real_world::{RealClock, RealDoor, RealSpool};
+use std::fs;
 use std::io::{Read, Write};
 use std::net::{TcpListener, TcpStream};
+use std::process::Abort;
 use std::test::Fail;
 use std::time::Duration;
 
@@ -53,5 +56,40 @@ fn a_real_clock_shows_the_moment(rt: HostRuntime) -> Result<(), Fail> {
         RealClock::new(&Stopped(u64::MAX >> 2)).now(),
         Moment::at_most_last(u64::MAX)
     );
+    Ok(())
+}
+
+/// Asserts that the file has so many octets, all of them spaces but the last.
+fn is_read(rt: &impl Abort, answer: Result<Bytes, SpoolFault>, len: usize, last: u8) {
+    match answer {
+        Ok(octets) => {
+            assert!(rt; octets.len() == len);
+            assert!(rt; octets.octets().last() == Some(&last));
+            assert!(rt;
+                octets.octets()[..len - 1]
+                    .iter()
+                    .all(|octet| *octet == b' ')
+            );
+        }
+        Err(_) => assert!(rt; false, "not read"),
+    }
+}
+
+/// One file has an octet more than is read of it, and the last one that is read is marked.
+#[test]
+fn files_of_a_folder_are_read_up_to_the_most(rt: HostRuntime) -> Result<(), Fail> {
+    let alloc = rt.alloc();
+    let mut long = vec![in alloc; b' '; MOST_READ + 1]?;
+    long[MOST_READ - 1] = b'!';
+    fs::create_dir(&rt, "folder")?;
+    fs::write(&rt, "folder/long", long)?;
+    fs::write(&rt, "folder/short", b" in".as_slice())?;
+    let mut spool = RealSpool::new(rt, format!(in alloc; "folder")?);
+    assert!(rt; matches!(spool.list(alloc), Ok(names) if names.len() == 2));
+    is_read(&rt, spool.read(alloc, b"long"), MOST_READ, b'!');
+    assert!(rt;
+        matches!(spool.read(alloc, b"short"), Ok(octets) if octets.octets() == b" in".as_slice())
+    );
+    assert!(rt; matches!(spool.read(alloc, b"none"), Err(SpoolFault::Failed)));
     Ok(())
 }

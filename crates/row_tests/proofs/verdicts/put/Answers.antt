@@ -17,8 +17,10 @@ unfolding index_beside row_place row_key_place
 make_edits_at-requires-clause-found g c =
     let v : SideRows = c.reserve.new.self in
     let Found : List (Edit Row) → Type 0 = λ es. AllByRecursion (λ e. e.found ≡ index_beside v.owner v.side c.addr-addr.result (row_place e.row) v.rows) (drop 0 es) in
-    subst Found (sym (c.in_ok-plan_edit.ensures ∙ ap (set_row (edit_place row_place) (edit c.args.row true c.find_counted-found.result.index)) c.new-edits.ensures.rows))
-    (c.find_counted-found.ensures.index
-    ∙ (λ i. index_in row_place (row_key_place (c.key.ensures i)) (filter (is_at (c.key.ensures i).addr) v.rows))
-    ∙ ap (index_in row_place (row_place c.args.row)) (sym (peer_rows v.owner v.side c.args.row.addr v.rows c.tell_order.ensures.own))
-    ∙ ap (λ (a : Addr). index_in row_place (row_place c.args.row) (rows_of_peer v.owner v.side a v.rows)) (sym c.addr-addr.ensures), tt)
+    subst Found (sym (c.in_ok-plan_edit.ensures ∙ ap (set_row (edit_place row_place) (edit c.args.row true c.find_counted-found.result.index)) c.new-edits.ensures.rows)) (
+      c.find_counted-found.ensures.index
+          ∙ (λ i. index_in row_place (row_key_place (c.key.ensures i)) (filter (is_at (c.key.ensures i).addr) v.rows))
+          ∙ ap (index_in row_place (row_place c.args.row)) (sym (peer_rows v.owner v.side c.args.row.addr v.rows c.tell_order.ensures.own))
+          ∙ ap (λ (a : Addr). index_in row_place (row_place c.args.row) (rows_of_peer v.owner v.side a v.rows)) (sym c.addr-addr.ensures),
+      tt,
+    )

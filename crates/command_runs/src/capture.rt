@@ -1,6 +1,6 @@
 //! The lines of a capture as it streams.
 ghost use Rattle.std.specs.Prelude.{◌≡◌, ◌≢◌, ◌⊎◌, ◌++◌, [], false, OnOk, OnErr, is_err};
-ghost use Rattle.mud_world.specs.Causes.{Counts, EndsAtFailure, Rose, StopsAtFailure};
+ghost use Rattle.mud_world.specs.Causes.{Counts, EndsAtFailure, StopsAtFailure};
 ghost use Rattle.mud_world.specs.Door.{put_out};
 ghost use Rattle.mud_world.specs.Whole.{WrotePart};
 ghost use Rattle.pcap_read.specs.Captured.{packet_of};
@@ -92,8 +92,7 @@ fn write_before<D: Door>(door: &mut D, lines: &mut Bytes, is_ready: bool) -> Res
 /// Writes the last lines of a capture that was read to its end.
 fn finish<D: Door>(door: &mut D, lines: &[u8]) -> Status
     ensures statuses { (status_number result ≡ 0) ⊎ (status_number result ≡ 4) }
-    ensures fault { status_number result ≡ 4 → Rose (D.writes door.old) (D.writes door.new) }
-    ensures stop { status_number result ≡ 4 → StopsAtFailure (D.failed door.new) (D.writes door.old) (D.writes door.new) }
+    ensures fault { status_number result ≡ 4 → StopsAtFailure (D.failed door.new) (D.writes door.old) (D.writes door.new) }
     ensures steady { status_number result ≢ 4 → D.writes door.new ≡ D.writes door.old }
     ensures done { D.tells → status_number result ≡ 0 → D.state door.new ≡ put_out lines.now (D.state door.old) }
     ensures part { D.tells → status_number result ≡ 4 → WroteFirst lines.now (D.state door.old) (D.state door.new) }
@@ -109,8 +108,7 @@ fn finish<D: Door>(door: &mut D, lines: &[u8]) -> Status
 /// Writes the last lines of a capture, and behind them that of the fault that ends it.
 fn refuse<D: Door>(door: &mut D, lines: &mut Bytes, fault: CapFault) -> Status
     ensures statuses { (status_number result ≡ 3) ⊎ ((status_number result ≡ 4) ⊎ (status_number result ≡ 5)) }
-    ensures fault { status_number result ≡ 4 → Rose (D.writes door.old) (D.writes door.new) }
-    ensures stop { status_number result ≡ 4 → StopsAtFailure (D.failed door.new) (D.writes door.old) (D.writes door.new) }
+    ensures fault { status_number result ≡ 4 → StopsAtFailure (D.failed door.new) (D.writes door.old) (D.writes door.new) }
     ensures steady { status_number result ≢ 4 → D.writes door.new ≡ D.writes door.old }
     ensures done { D.tells → status_number result ≡ 3 → D.state door.new ≡ put_out (lines.old ++ cap_fault_line fault) (D.state door.old) }
     ensures part { D.tells → (status_number result ≡ 4) ⊎ (status_number result ≡ 5) →
@@ -131,8 +129,7 @@ fn refuse<D: Door>(door: &mut D, lines: &mut Bytes, fault: CapFault) -> Status
 /// The line of each packet is written before more of the capture is read.
 pub fn write_capture<D: Door, L: PacketLines>(alloc: Global, door: &mut D, writer: &mut L) -> Status
     ensures statuses { (status_number result ≡ 0) ⊎ ((status_number result ≡ 3) ⊎ ((status_number result ≡ 4) ⊎ (status_number result ≡ 5))) }
-    ensures fault { status_number result ≡ 4 → Rose (D.reads door.old) (D.reads door.new) ⊎ Rose (D.writes door.old) (D.writes door.new) }
-    ensures stop { status_number result ≡ 4 → EndsAtFailure (D.failed door.new) (D.reads door.old) (D.reads door.new) (D.writes door.old) (D.writes door.new) }
+    ensures fault { status_number result ≡ 4 → EndsAtFailure (D.failed door.new) (D.reads door.old) (D.reads door.new) (D.writes door.old) (D.writes door.new) }
     ensures steady { status_number result ≢ 4 → (D.reads door.new ≡ D.reads door.old) × (D.writes door.new ≡ D.writes door.old) }
     // From whatever the writer is said to keep, the lines are those of the packets in their order,
     ensures done { (s : L.State) → L.keeps writer.old s → D.tells → (status_number result ≡ 0) ⊎ (status_number result ≡ 3) →

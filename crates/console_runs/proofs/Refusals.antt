@@ -1,11 +1,11 @@
 -- What is done where no connection is served.
-use Rattle.std.proofs.Common.{◌≡◌, ◌≢◌, ℕ, ◌⊎◌, inl, inr, List, [], take, Result, Ok, refl, sym, ap, ap₂, subst, ◌∙◌, arith}
+use Rattle.std.proofs.Common.{◌≡◌, ◌≢◌, ℕ, Bool, ◌⊎◌, inl, inr, List, [], take, Result, Ok, refl, sym, ap, ap₂, subst, ◌∙◌, arith}
 use Rattle.std.specs.declared.dyn_box.DynBox.{DynBox}
 use Rattle.std.specs.declared.alloc.Global.{Global}
 use Rattle.mud_world.specs.declared.keeper.Keeper.{Ghosts}
 use Rattle.mud_world.specs.declared.item.Item.{Item}
 use Rattle.mud_world.specs.Boxed.{faults_of, Tells, kept_items}
-use Rattle.mud_world.specs.Causes.{Counts, Rose}
+use Rattle.mud_world.specs.Causes.{Counts, Rose, StopsAtFailure}
 use Rattle.mud_world.specs.Door.{DoorState, put_out}
 use Rattle.mud_world.proofs.Doors.{put_out_none}
 use Rattle.command_runs.specs.Due.{WroteFirst}
@@ -70,6 +70,10 @@ module _ (old new : DoorState) (status : ℕ) where
 
 -- ---- The run
 
+-- a failure at which a run stopped was counted
+pub rose_at_failure : (has_failed : Bool) (before now : ℕ) → StopsAtFailure has_failed before now → Rose before now
+rose_at_failure has_failed before now stop = omega (arith, stop.once)
+
 pub box_of : {X : Type 0} {F : X → Type 0} (keeper after returned : DynBox X Global F) → IsSameBox keeper after → returned ≡ after → IsSameBox keeper returned
 box_of {X} {F} keeper after returned box same = subst (λ (b : DynBox X Global F). IsSameBox keeper b) (sym same) box
 
@@ -79,7 +83,7 @@ module _ {X : Type 0} {F : X → Type 0} (members : (v : (x : X) × F x) → Gho
       → (Tells members keeper → Tells members after → IsLeft (kept_items members keeper) (kept_items members after) fault)
       → Counts (is_fault_of_keeper fault) (faults_of members keeper) (faults_of members after) → IsSameBox keeper after
       → IsRefusal fault status
-      → (status ≡ 4 → Rose old.writes new.writes)
+      → (status ≡ 4 → StopsAtFailure new.failed old.writes new.writes)
       → (status ≢ 4 → new.writes ≡ old.writes)
       → (tells → status ≡ 6 → new.state ≡ put_out (refusal_text fault) old.state)
       → (tells → (status ≡ 4) ⊎ (status ≡ 5) → WroteFirst (refusal_text fault) old.state new.state)

@@ -20,6 +20,7 @@ use Rattle.console.specs.States.{MayTake, IsAt, begun}
 use Rattle.console_runs.specs.Store.{NoneFailed, ServesNone}
 use Rattle.console_runs.specs.Replay.{ReplaysConnection, ReplaysStore, status_at}
 use Rattle.console_runs.proofs.Left.{begun_with, left_as, served_as, leaves}
+use Rattle.console_runs.proofs.Refusals.{rose_at_failure}
 
 -- ---- Statuses
 
@@ -101,7 +102,7 @@ module _ {X : Type 0} {F : X → Type 0} (members : (v : (x : X) × F x) → Gho
     pub replays_none : ServesNone members tells keeper returned old new status → IsSameBox keeper returned → ReplaysStore members tells keeper returned old new status
     replays_none p box = record {
       statuses = inr (inr p.statuses);
-      fault = λ four. inr (p.fault four);
+      fault = λ four. inr (rose_at_failure new.failed old.writes new.writes (p.fault four));
       steady = λ other. (p.same_reads, p.steady other);
       keeper_fault = p.keeper_fault;
       runs = inr p;
@@ -112,7 +113,7 @@ module _ {X : Type 0} {F : X → Type 0} (members : (v : (x : X) × F x) → Gho
     }
       where
         none_complete : NoneFailed (faults_of members keeper) (faults_of members returned) old new → (status ≡ 4) ⊎ ((status ≡ 5) ⊎ ((status ≡ 6) ⊎ (status ≡ 7))) → IsComplete status
-        none_complete none (inl four) = absurd (none.writes (p.fault four))
+        none_complete none (inl four) = absurd (none.writes (rose_at_failure new.failed old.writes new.writes (p.fault four)))
         none_complete none (inr (inl five)) = inr (inr (inl five))
         none_complete none (inr (inr (inl six))) = inr (inr (inr six))
         none_complete none (inr (inr (inr seven))) = absurd (none.keeper (p.keeper_fault seven))

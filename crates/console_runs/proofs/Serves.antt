@@ -21,6 +21,7 @@ use Rattle.console.proofs.Takes.{at_first}
 use Rattle.console_runs.specs.Store.{NoneFailed, LeavesDesk, ServesNone}
 use Rattle.console_runs.specs.Serve.{Listening, ClockRun, clock_run, ServesConnections, ServesStore}
 use Rattle.console_runs.proofs.Left.{begun_with, left_as, in_turn_as, leaves}
+use Rattle.console_runs.proofs.Refusals.{rose_at_failure}
 
 -- ---- Statuses
 
@@ -106,7 +107,7 @@ module _ {X : Type 0} {F : X → Type 0} (members : (v : (x : X) × F x) → Gho
         → ServesStore members tells clock_tells keeper returned at clock old new status
     serves_none p box unasked = record {
       statuses = inr p.statuses;
-      fault = λ four. inr (p.fault four);
+      fault = λ four. inr (rose_at_failure new.failed old.writes new.writes (p.fault four));
       steady = λ other. p.same_turns;
       keeper_fault = p.keeper_fault;
       runs = inr (p, unasked);
@@ -116,7 +117,7 @@ module _ {X : Type 0} {F : X → Type 0} (members : (v : (x : X) × F x) → Gho
     }
       where
         none_complete : NoneFailed (faults_of members keeper) (faults_of members returned) old new → (status ≡ 4) ⊎ ((status ≡ 5) ⊎ ((status ≡ 6) ⊎ (status ≡ 7))) → IsComplete status
-        none_complete none (inl four) = absurd (none.writes (p.fault four))
+        none_complete none (inl four) = absurd (none.writes (rose_at_failure new.failed old.writes new.writes (p.fault four)))
         none_complete none (inr (inl five)) = inr (inl five)
         none_complete none (inr (inr (inl six))) = inr (inr six)
         none_complete none (inr (inr (inr seven))) = absurd (none.keeper (p.keeper_fault seven))

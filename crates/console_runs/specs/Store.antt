@@ -5,7 +5,7 @@ use Rattle.std.specs.declared.alloc.Global.{Global}
 use Rattle.mud_world.specs.declared.keeper.Keeper.{Ghosts}
 use Rattle.mud_world.specs.declared.item.Item.{Item}
 use Rattle.mud_world.specs.Boxed.{faults_of, Tells, kept_items}
-use Rattle.mud_world.specs.Causes.{Rose}
+use Rattle.mud_world.specs.Causes.{Rose, StopsAtFailure}
 use Rattle.mud_world.specs.Door.{DoorState, put_out}
 use Rattle.command_runs.specs.Due.{WroteFirst}
 use Rattle.command_runs.specs.View.{DoorView}
@@ -59,8 +59,9 @@ module _ {X : Type 0} {F : X → Type 0} (members : (v : (x : X) × F x) → Gho
   -- connections.
   pub record ServesNone (tells : Type 0) (keeper returned : DynBox X Global F) (old new : DoorView) (status : ℕ) : Type 0 where
     pub statuses : (status ≡ 4) ⊎ ((status ≡ 5) ⊎ ((status ≡ 6) ⊎ (status ≡ 7)))
-    -- It is 4 only where a write failed in this call, and 7 only where the keeper did. Nothing else failed.
-    pub fault : status ≡ 4 → Rose old.writes new.writes
+    -- It is 4 only where a write failed in this call, as the last call of the door, and 7 only where the keeper did. Nothing else
+    -- failed.
+    pub fault : status ≡ 4 → StopsAtFailure new.failed old.writes new.writes
     pub steady : status ≢ 4 → new.writes ≡ old.writes
     pub keeper_fault : status ≡ 7 → Rose (faults_of members keeper) (faults_of members returned)
     pub keeper_steady : status ≢ 7 → faults_of members returned ≡ faults_of members keeper

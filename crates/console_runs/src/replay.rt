@@ -43,8 +43,8 @@ fn replay_desk<D: Door>(
     requires { IsKept Keeper-dyn desk.keeper (tables_of desk.state) }
     ensures replays { (tables : DeskTables) → IsBegun tables desk.state
         → ReplaysConnection Keeper-dyn D.tells tables (faults_of Keeper-dyn desk.keeper) result.1
-        (viewed (D.state door.old) (D.turns door.old) (D.reads door.old) (D.writes door.old))
-        (viewed (D.state door.new) (D.turns door.new) (D.reads door.new) (D.writes door.new))
+        (viewed (D.state door.old) (D.turns door.old) (D.reads door.old) (D.writes door.old) (D.failed door.old))
+        (viewed (D.state door.new) (D.turns door.new) (D.reads door.new) (D.writes door.new) (D.failed door.new))
         (status_number result.0) }
     ensures told { Tells Keeper-dyn result.1 → Tells Keeper-dyn desk.keeper }
     ensures same_box { IsSameBox desk.keeper result.1 }
@@ -93,8 +93,8 @@ pub fn replay_store<D: Door>(
 ) -> (Status, Box<dyn Keeper>)
     requires { kept_of nothing ≡ none_kept }
     ensures replayed { ReplaysStore Keeper-dyn D.tells keeper result.1
-        (viewed (D.state door.old) (D.turns door.old) (D.reads door.old) (D.writes door.old))
-        (viewed (D.state door.new) (D.turns door.new) (D.reads door.new) (D.writes door.new))
+        (viewed (D.state door.old) (D.turns door.old) (D.reads door.old) (D.writes door.old) (D.failed door.old))
+        (viewed (D.state door.new) (D.turns door.new) (D.reads door.new) (D.writes door.new) (D.failed door.new))
         (status_number result.0) }
     // Where the keeper failed in the opening, the door isn't called at all.
     ensures untouched { status_number result.0 ≡ 7 → door.new ≡ door.old }

@@ -46,8 +46,8 @@ fn serve_desk<D: Door, C: Clock>(
     ensures serves { (tables : DeskTables) → IsBegun tables desk.state
         → ServesConnections Keeper-dyn D.tells C.tells tables (faults_of Keeper-dyn desk.keeper) result.1
         (listening port count) (clock_run (C.moments clock.old) (C.moments clock.new))
-        (viewed (D.state door.old) (D.turns door.old) (D.reads door.old) (D.writes door.old))
-        (viewed (D.state door.new) (D.turns door.new) (D.reads door.new) (D.writes door.new))
+        (viewed (D.state door.old) (D.turns door.old) (D.reads door.old) (D.writes door.old) (D.failed door.old))
+        (viewed (D.state door.new) (D.turns door.new) (D.reads door.new) (D.writes door.new) (D.failed door.new))
         (status_number result.0) }
     ensures told { Tells Keeper-dyn result.1 → Tells Keeper-dyn desk.keeper }
     ensures same_box { IsSameBox desk.keeper result.1 }
@@ -104,8 +104,8 @@ pub fn serve_store<D: Door, C: Clock>(
     requires { kept_of nothing ≡ none_kept }
     ensures served { ServesStore Keeper-dyn D.tells C.tells keeper result.1
         (listening port count) (clock_run (C.moments clock.old) (C.moments clock.new))
-        (viewed (D.state door.old) (D.turns door.old) (D.reads door.old) (D.writes door.old))
-        (viewed (D.state door.new) (D.turns door.new) (D.reads door.new) (D.writes door.new))
+        (viewed (D.state door.old) (D.turns door.old) (D.reads door.old) (D.writes door.old) (D.failed door.old))
+        (viewed (D.state door.new) (D.turns door.new) (D.reads door.new) (D.writes door.new) (D.failed door.new))
         (status_number result.0) }
     // Where the keeper failed in the opening, the door isn't called at all, and the clock isn't either.
     ensures untouched { status_number result.0 ≡ 7 → (door.new ≡ door.old) × (clock.new ≡ clock.old) }

@@ -5,7 +5,7 @@ use Rattle.std.specs.declared.alloc.Global.{Global}
 use Rattle.mud_world.specs.declared.keeper.Keeper.{Ghosts}
 use Rattle.mud_world.specs.declared.item.Item.{Item}
 use Rattle.mud_world.specs.Boxed.{faults_of, Tells, kept_items}
-use Rattle.mud_world.specs.Causes.{Counts, Rose}
+use Rattle.mud_world.specs.Causes.{Counts, EndsAtFailure, Rose, StopsAtFailure}
 use Rattle.mud_world.specs.Door.{put_out}
 use Rattle.command_runs.specs.Capture.{WritesTaken, due_of_capture}
 use Rattle.command_runs.specs.Due.{WritesDue, WritesPart, WroteFirst}
@@ -75,7 +75,7 @@ module _ {X : Type 0} {F : X → Type 0} (members : (v : (x : X) × F x) → Gho
       → (Tells members keeper → Tells members after → tables_in (kept_items members keeper) ≡ Ok tables)
       → IsSound tables → IsKept members after tables → faults_of members after ≡ faults_of members keeper → IsSameBox keeper after
       → IsOfCapture status
-      → (status ≡ 4 → Rose old.reads new.reads ⊎ Rose old.writes new.writes)
+      → (status ≡ 4 → EndsAtFailure new.failed old.reads new.reads old.writes new.writes)
       → (status ≢ 4 → (new.reads ≡ old.reads) × (new.writes ≡ old.writes))
       → (tells → (status ≡ 0) ⊎ (status ≡ 3) → WritesDue (due_of_capture judged_step (opened tables) old.state.left) old.state new.state status)
       → (tells → (status ≡ 4) ⊎ (status ≡ 5) → WritesPart (due_of_capture judged_step (opened tables) old.state.left) old.state new.state)
@@ -102,7 +102,7 @@ module _ {X : Type 0} {F : X → Type 0} (members : (v : (x : X) × F x) → Gho
       → (Tells members keeper → Tells members after → IsLeft (kept_items members keeper) (kept_items members after) fault)
       → Counts (is_fault_of_keeper fault) (faults_of members keeper) (faults_of members after) → IsSameBox keeper after
       → IsRefusal fault status
-      → (status ≡ 4 → Rose old.writes new.writes)
+      → (status ≡ 4 → StopsAtFailure new.failed old.writes new.writes)
       → (status ≢ 4 → new.writes ≡ old.writes)
       → (tells → status ≡ 6 → new.state ≡ put_out (refusal_text fault) old.state)
       → (tells → (status ≡ 4) ⊎ (status ≡ 5) → WroteFirst (refusal_text fault) old.state new.state)
@@ -110,7 +110,7 @@ module _ {X : Type 0} {F : X → Type 0} (members : (v : (x : X) × F x) → Gho
       → new.turns ≡ old.turns → new.reads ≡ old.reads → JudgesStore members tells keeper after old new status
   refused_run fault bad left counts same_box is failed steady done part untouched turns reads = record {
     statuses = of_refusal fault status is;
-    fault = λ four. inr (failed four);
+    fault = λ four. inr (failed four, reads);
     steady = λ other. (reads, steady other);
     keeper_fault = rose_of fault status (faults_of members keeper) (faults_of members after) is counts;
     keeper_steady = steady_of fault status (faults_of members keeper) (faults_of members after) is counts;

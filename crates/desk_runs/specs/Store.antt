@@ -5,7 +5,7 @@ use Rattle.std.specs.declared.alloc.Global.{Global}
 use Rattle.mud_world.specs.declared.keeper.Keeper.{Ghosts}
 use Rattle.mud_world.specs.declared.item.Item.{Item}
 use Rattle.mud_world.specs.Boxed.{faults_of, Tells, kept_items}
-use Rattle.mud_world.specs.Causes.{Rose}
+use Rattle.mud_world.specs.Causes.{EndsAtFailure, Rose}
 use Rattle.command_runs.specs.Capture.{WritesTaken, due_of_capture}
 use Rattle.command_runs.specs.Due.{Due, WritesDue, WritesPart}
 use Rattle.command_runs.specs.View.{DoorView}
@@ -41,10 +41,10 @@ module _ {X : Type 0} {F : X → Type 0} (members : (v : (x : X) × F x) → Gho
 
   -- A run of `judge`. `tells` says that the door tells its connections.
   pub record JudgesStore (tells : Type 0) (keeper returned : DynBox X Global F) (old new : DoorView) (status : ℕ) : Type 0 where
-    -- The status is 0 or 3 to 7. It is 4 only where a read or a write of the door failed in this call, and where it isn't, none
-    -- failed. So it is with 7 and a failure of the keeper.
+    -- The status is 0 or 3 to 7. It is 4 only where one read or write of the door failed in this call, and then the door isn't
+    -- called again; where it isn't 4, none failed. So it is with 7 and a failure of the keeper.
     pub statuses : (status ≡ 0) ⊎ ((status ≡ 3) ⊎ ((status ≡ 4) ⊎ ((status ≡ 5) ⊎ ((status ≡ 6) ⊎ (status ≡ 7)))))
-    pub fault : status ≡ 4 → Rose old.reads new.reads ⊎ Rose old.writes new.writes
+    pub fault : status ≡ 4 → EndsAtFailure new.failed old.reads new.reads old.writes new.writes
     pub steady : status ≢ 4 → (new.reads ≡ old.reads) × (new.writes ≡ old.writes)
     pub keeper_fault : status ≡ 7 → Rose (faults_of members keeper) (faults_of members returned)
     pub keeper_steady : status ≢ 7 → faults_of members returned ≡ faults_of members keeper

@@ -1,6 +1,6 @@
 //! The verdict on each packet of a capture.
 ghost use Rattle.std.specs.Prelude.{◌≡◌, ◌≢◌, ◌⊎◌, ◌++◌, ◌<◌, IfOk, OnOk, OnErr};
-ghost use Rattle.mud_world.specs.Causes.{Rose};
+ghost use Rattle.mud_world.specs.Causes.{EndsAtFailure};
 ghost use Rattle.pcap_read.specs.Captured.{packet_of};
 ghost use Rattle.command_runs.specs.Capture.{WritesTaken, due_of_capture};
 ghost use Rattle.command_runs.specs.Due.{WritesDue, WritesPart};
@@ -92,7 +92,7 @@ impl PacketLines for JudgedLines {
 pub fn judge_capture<D: Door>(alloc: Global, desk: Desk, door: &mut D) -> (Status, Box<dyn Keeper>)
     requires { IsKept Keeper-dyn desk.keeper (tables_of desk.state) }
     ensures statuses { (status_number result.0 ≡ 0) ⊎ ((status_number result.0 ≡ 3) ⊎ ((status_number result.0 ≡ 4) ⊎ (status_number result.0 ≡ 5))) }
-    ensures fault { status_number result.0 ≡ 4 → Rose (D.reads door.old) (D.reads door.new) ⊎ Rose (D.writes door.old) (D.writes door.new) }
+    ensures fault { status_number result.0 ≡ 4 → EndsAtFailure (D.failed door.new) (D.reads door.old) (D.reads door.new) (D.writes door.old) (D.writes door.new) }
     ensures steady { status_number result.0 ≢ 4 → (D.reads door.new ≡ D.reads door.old) × (D.writes door.new ≡ D.writes door.old) }
     // In whatever session the desk is, the lines are those of the packets in their order.
     ensures done { (s : Session) → IsIn s desk.state → D.tells → (status_number result.0 ≡ 0) ⊎ (status_number result.0 ≡ 3) →

@@ -1,6 +1,6 @@
 //! What a run writes whose store can't be opened.
 ghost use Rattle.std.specs.Prelude.{◌≡◌, ◌≢◌, ◌⊎◌, ◌++◌, IfOk, OnOk};
-ghost use Rattle.mud_world.specs.Causes.{Rose};
+ghost use Rattle.mud_world.specs.Causes.{StopsAtFailure};
 ghost use Rattle.mud_world.specs.Door.{put_out};
 ghost use Rattle.command_runs.specs.Due.{WroteFirst};
 ghost use Rattle.command_runs.specs.Status.{status_number};
@@ -41,7 +41,7 @@ fn item_line(alloc: Global, kind: u8, key: &[u8]) -> Result<Bytes, Memory>
 /// Writes the line that names an item.
 fn name_item<D: Door>(alloc: Global, door: &mut D, kind: u8, key: &[u8]) -> Status
     ensures statuses { (status_number result ≡ 6) ⊎ ((status_number result ≡ 4) ⊎ (status_number result ≡ 5)) }
-    ensures fault { status_number result ≡ 4 → Rose (D.writes door.old) (D.writes door.new) }
+    ensures fault { status_number result ≡ 4 → StopsAtFailure (D.failed door.new) (D.writes door.old) (D.writes door.new) }
     ensures steady { status_number result ≢ 4 → D.writes door.new ≡ D.writes door.old }
     ensures done { D.tells → status_number result ≡ 6 → D.state door.new ≡ put_out (bad_item_line kind key.now) (D.state door.old) }
     ensures part { D.tells → (status_number result ≡ 4) ⊎ (status_number result ≡ 5) →
@@ -62,7 +62,7 @@ fn name_item<D: Door>(alloc: Global, door: &mut D, kind: u8, key: &[u8]) -> Stat
 /// is written; else nothing is. The door isn't read.
 pub fn refuse_store<D: Door>(alloc: Global, door: &mut D, fault: OpenFault) -> Status
     ensures statuses { IsRefusal fault (status_number result) }
-    ensures fault { status_number result ≡ 4 → Rose (D.writes door.old) (D.writes door.new) }
+    ensures fault { status_number result ≡ 4 → StopsAtFailure (D.failed door.new) (D.writes door.old) (D.writes door.new) }
     ensures steady { status_number result ≢ 4 → D.writes door.new ≡ D.writes door.old }
     ensures done { D.tells → status_number result ≡ 6 → D.state door.new ≡ put_out (refusal_text fault) (D.state door.old) }
     ensures part { D.tells → (status_number result ≡ 4) ⊎ (status_number result ≡ 5) →

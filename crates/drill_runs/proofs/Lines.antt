@@ -5,7 +5,7 @@ use Rattle.std.specs.declared.dyn_box.DynBox.{DynBox}
 use Rattle.std.specs.declared.alloc.Global.{Global}
 use Rattle.mud_world.specs.declared.keeper.Keeper.{Ghosts}
 use Rattle.mud_world.specs.Boxed.{faults_of}
-use Rattle.mud_world.specs.Causes.{Rose}
+use Rattle.mud_world.specs.Causes.{StopsAtFailure}
 use Rattle.mud_world.specs.Door.{DoorState, put_out}
 use Rattle.mud_world.specs.Whole.{WrotePart}
 use Rattle.mud_world.proofs.Doors.{put_out_none}
@@ -70,7 +70,7 @@ module _ {X : Type 0} {F : X → Type 0} (members : (v : (x : X) × F x) → Gho
   -- all commands ran, and the lines were written, or not
   pub lines_run : RanAll members (drill_commands packets) keeper before after state
       → IsOfLines status
-      → (status ≡ 4 → Rose old.writes new.writes)
+      → (status ≡ 4 → StopsAtFailure new.failed old.writes new.writes)
       → (status ≢ 4 → new.writes ≡ old.writes)
       → ((z : Session) → IsIn z state → tells → status ≡ 0 → new.state ≡ put_out (lines_in packets z) old.state)
       → ((z : Session) → IsIn z state → tells → (status ≡ 4) ⊎ (status ≡ 5) → WroteFirst (lines_in packets z) old.state new.state)

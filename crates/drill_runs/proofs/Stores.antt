@@ -8,7 +8,7 @@ use Rattle.mud_base.specs.declared.prefix.Prefix.{Prefix}
 use Rattle.mud_world.specs.declared.keeper.Keeper.{Ghosts}
 use Rattle.mud_world.specs.declared.item.Item.{Item}
 use Rattle.mud_world.specs.Boxed.{faults_of, Tells, kept_items}
-use Rattle.mud_world.specs.Causes.{Counts, Rose}
+use Rattle.mud_world.specs.Causes.{Counts, Rose, StopsAtFailure}
 use Rattle.mud_world.specs.Door.{DoorState, put_out}
 use Rattle.mud_tables.specs.declared.thing.Thing.{Thing}
 use Rattle.mud_tables.specs.declared.bind.ClassRow.{ClassRow}
@@ -141,7 +141,7 @@ module _ {X : Type 0} {F : X → Type 0} (members : (v : (x : X) × F x) → Gho
 
   pub full_run : holds_nothing tables ≡ false → IsSound tables → IsKept members begun tables
       → (status ≡ 3) ⊎ (status ≡ 4)
-      → (status ≡ 4 → Rose old.writes new.writes)
+      → (status ≡ 4 → StopsAtFailure new.failed old.writes new.writes)
       → (status ≢ 4 → new.writes ≡ old.writes)
       → (tells → status ≡ 3 → new.state ≡ put_out not_empty_line old.state)
       → (tells → status ≡ 4 → WroteFirst not_empty_line old.state new.state)
@@ -197,7 +197,7 @@ module _ {X : Type 0} {F : X → Type 0} (members : (v : (x : X) × F x) → Gho
       → (Tells members keeper → Tells members after → IsLeft (kept_items members keeper) (kept_items members after) fault)
       → Counts (is_fault_of_keeper fault) (faults_of members keeper) (faults_of members after) → IsSameBox keeper after
       → IsRefusal fault status
-      → (status ≡ 4 → Rose old.writes new.writes)
+      → (status ≡ 4 → StopsAtFailure new.failed old.writes new.writes)
       → (status ≢ 4 → new.writes ≡ old.writes)
       → (tells → status ≡ 6 → new.state ≡ put_out (refusal_text fault) old.state)
       → (tells → (status ≡ 4) ⊎ (status ≡ 5) → WroteFirst (refusal_text fault) old.state new.state)

@@ -5,7 +5,7 @@ use Rattle.std.specs.declared.alloc.Global.{Global}
 use Rattle.mud_world.specs.declared.keeper.Keeper.{Ghosts}
 use Rattle.mud_world.specs.declared.item.Item.{Item}
 use Rattle.mud_world.specs.Boxed.{faults_of, Tells, kept_items}
-use Rattle.mud_world.specs.Causes.{Rose}
+use Rattle.mud_world.specs.Causes.{Rose, StopsAtFailure}
 use Rattle.mud_world.specs.Door.{put_out}
 use Rattle.mud_tables.specs.TakenItems.{is_empty}
 use Rattle.command_runs.specs.Due.{WroteFirst}
@@ -53,7 +53,7 @@ module _ {X : Type 0} {F : X → Type 0} (members : (v : (x : X) × F x) → Gho
     pub part : tells → (status ≡ 4) ⊎ (status ≡ 5) → WroteFirst (lines_in packets (session_after session (drill_commands packets))) old.state new.state
     pub none : status ≡ 7 → new.state ≡ old.state
     -- The status is 4 exactly where a write failed in this call, and 7 exactly where the keeper did.
-    pub fault : status ≡ 4 → Rose old.writes new.writes
+    pub fault : status ≡ 4 → StopsAtFailure new.failed old.writes new.writes
     pub steady : status ≢ 4 → new.writes ≡ old.writes
     pub keeper_fault : status ≡ 7 → Rose (faults_of members keeper) (faults_of members returned)
     pub keeper_steady : status ≢ 7 → faults_of members returned ≡ faults_of members keeper
@@ -100,7 +100,7 @@ module _ {X : Type 0} {F : X → Type 0} (members : (v : (x : X) × F x) → Gho
   pub record DrillsStore (tells : Type 0) (packets : ℕ) (keeper returned : DynBox X Global F) (old new : DoorView) (status : ℕ) : Type 0 where
     pub statuses : (status ≡ 0) ⊎ ((status ≡ 3) ⊎ ((status ≡ 4) ⊎ ((status ≡ 5) ⊎ ((status ≡ 6) ⊎ (status ≡ 7)))))
     -- It is 4 exactly where a write failed in this call, and 7 exactly where the keeper did.
-    pub fault : status ≡ 4 → Rose old.writes new.writes
+    pub fault : status ≡ 4 → StopsAtFailure new.failed old.writes new.writes
     pub steady : status ≢ 4 → new.writes ≡ old.writes
     pub keeper_fault : status ≡ 7 → Rose (faults_of members keeper) (faults_of members returned)
     pub keeper_steady : status ≢ 7 → faults_of members returned ≡ faults_of members keeper

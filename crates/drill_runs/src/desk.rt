@@ -1,6 +1,6 @@
 //! A drill over a desk that is opened.
 ghost use Rattle.std.specs.Prelude.{◌≡◌, ◌≢◌, ◌⊎◌, IfOk};
-ghost use Rattle.mud_world.specs.Causes.{Rose};
+ghost use Rattle.mud_world.specs.Causes.{StopsAtFailure};
 ghost use Rattle.mud_world.specs.Door.{put_out};
 ghost use Rattle.command_runs.specs.Due.{WroteFirst};
 ghost use Rattle.command_runs.specs.Status.{status_number};
@@ -43,7 +43,7 @@ pub(crate) fn holds_nothing(desk: &Desk) -> bool
 pub(crate) fn refuse_full<D: Door>(desk: Desk, door: &mut D) -> (Status, Box<dyn Keeper>)
     requires { IsKept Keeper-dyn desk.keeper (tables_of desk.state) }
     ensures statuses { (status_number result.0 ≡ 3) ⊎ (status_number result.0 ≡ 4) }
-    ensures fault { status_number result.0 ≡ 4 → Rose (D.writes door.old) (D.writes door.new) }
+    ensures fault { status_number result.0 ≡ 4 → StopsAtFailure (D.failed door.new) (D.writes door.old) (D.writes door.new) }
     ensures steady { status_number result.0 ≢ 4 → D.writes door.new ≡ D.writes door.old }
     ensures done { D.tells → status_number result.0 ≡ 3 → D.state door.new ≡ put_out not_empty_line (D.state door.old) }
     ensures part { D.tells → status_number result.0 ≡ 4 → WroteFirst not_empty_line (D.state door.old) (D.state door.new) }
@@ -84,7 +84,7 @@ fn write_lines<D: Door>(
 ) -> (Status, Box<dyn Keeper>)
     requires { IsKept Keeper-dyn desk.keeper (tables_of desk.state) }
     ensures statuses { (status_number result.0 ≡ 0) ⊎ ((status_number result.0 ≡ 4) ⊎ (status_number result.0 ≡ 5)) }
-    ensures fault { status_number result.0 ≡ 4 → Rose (D.writes door.old) (D.writes door.new) }
+    ensures fault { status_number result.0 ≡ 4 → StopsAtFailure (D.failed door.new) (D.writes door.old) (D.writes door.new) }
     ensures steady { status_number result.0 ≢ 4 → D.writes door.new ≡ D.writes door.old }
     ensures done { (s : Session) → IsIn s desk.state → D.tells → status_number result.0 ≡ 0 →
         D.state door.new ≡ put_out (lines_in packets s) (D.state door.old) }
@@ -118,8 +118,8 @@ pub(crate) fn drill_desk<D: Door>(
 ) -> (Status, Box<dyn Keeper>)
     requires { IsKept Keeper-dyn desk.keeper (tables_of desk.state) }
     ensures drilled { (s : Session) → IsIn s desk.state → DrillsFrom Keeper-dyn D.tells packets s desk.keeper result.1
-        (viewed (D.state door.old) (D.turns door.old) (D.reads door.old) (D.writes door.old))
-        (viewed (D.state door.new) (D.turns door.new) (D.reads door.new) (D.writes door.new))
+        (viewed (D.state door.old) (D.turns door.old) (D.reads door.old) (D.writes door.old) (D.failed door.old))
+        (viewed (D.state door.new) (D.turns door.new) (D.reads door.new) (D.writes door.new) (D.failed door.new))
         (status_number result.0) }
     ensures untouched { status_number result.0 ≡ 7 → door.new ≡ door.old }
 {

@@ -34,8 +34,8 @@ pub fn run_drill<D: Door>(
 ) -> (Status, Box<dyn Keeper>)
     requires { kept_of nothing ≡ none_kept }
     ensures drilled { DrillsStore Keeper-dyn D.tells packets keeper result.1
-        (viewed (D.state door.old) (D.turns door.old) (D.reads door.old) (D.writes door.old))
-        (viewed (D.state door.new) (D.turns door.new) (D.reads door.new) (D.writes door.new))
+        (viewed (D.state door.old) (D.turns door.old) (D.reads door.old) (D.writes door.old) (D.failed door.old))
+        (viewed (D.state door.new) (D.turns door.new) (D.reads door.new) (D.writes door.new) (D.failed door.new))
         (status_number result.0) }
     // Where the keeper failed, the door isn't called at all.
     ensures untouched { status_number result.0 ≡ 7 → door.new ≡ door.old }

@@ -1,8 +1,8 @@
 //! One name of a folder.
-ghost use Rattle.std.specs.Prelude.{◌≡◌, ◌==◌, ◌⊎◌, ℕ, false, List, [], ◌∷◌, Err, IfOk, OnOk, OnErr};
+ghost use Rattle.std.specs.Prelude.{◌≡◌, ◌==◌, ◌⊎◌, ℕ, false, List, [], ◌∷◌, Err, IfOk, OnOk, OnErr, IsTrue};
 ghost use Rattle.mud_tables.specs.declared.segment.Segment.{Segment as SegmentValue};
 ghost use Rattle.mud_world.specs.Boxed.{faults_of};
-ghost use Rattle.mud_world.specs.Causes.{Counts, Rose};
+ghost use Rattle.mud_world.specs.Causes.{Counts, Rose, StopsAtFailure};
 ghost use Rattle.mud_world.specs.Clock.{later_moments};
 ghost use Rattle.mud_world.specs.Door.{put_out};
 ghost use Rattle.mud_desk.specs.Boxed.{IsKept};
@@ -91,6 +91,7 @@ fn say_line<D: Door>(
     ensures ok { D.tells → OnOk result (D.state door.new ≡ put_out (entries.line_with name.now reply.now) (D.state door.old)) }
     ensures part { D.tells → OnErr result (WroteFirst (entries.line_with name.now reply.now) (D.state door.old) (D.state door.new)) }
     ensures cause { Counts (has_failed result) (D.writes door.old) (D.writes door.new) }
+    ensures stop { IsTrue (has_failed result) → StopsAtFailure (D.failed door.new) (D.writes door.old) (D.writes door.new) }
     ensures turns { D.turns door.new ≡ D.turns door.old }
     ensures reads { D.reads door.new ≡ D.reads door.old }
 {
@@ -132,7 +133,7 @@ pub(crate) fn import_file<L: Ledger, D: Door, P: Spool, C: Clock>(
         (scene h desk.new.state (C.moments clock.new) (D.state door.new) (faults_of Keeper-dyn desk.new.keeper))) }
     ensures statuses { IfOk result (λ status. (status_number status ≡ 0) ⊎ ((status_number status ≡ 3) ⊎ (status_number status ≡ 7))) }
     ensures keeper { IfOk result (λ status. Counts (status_number status == 7) (faults_of Keeper-dyn desk.old.keeper) (faults_of Keeper-dyn desk.new.keeper)) }
-    ensures failed { result ≡ Err Stop.Failed → Rose (D.writes door.old) (D.writes door.new) ⊎ Rose (P.faults spool.old) (P.faults spool.new) }
+    ensures failed { result ≡ Err Stop.Failed → StopsAtFailure (D.failed door.new) (D.writes door.old) (D.writes door.new) ⊎ Rose (P.faults spool.old) (P.faults spool.new) }
     ensures steady { has_failed result ≡ false → (D.writes door.new ≡ D.writes door.old) × (P.faults spool.new ≡ P.faults spool.old) }
     ensures same { P.tells → P.files spool.new ≡ P.files spool.old }
     ensures turns { D.turns door.new ≡ D.turns door.old }

@@ -6,7 +6,7 @@ use Rattle.mud_tables.specs.declared.segment.Segment.{Segment}
 use Rattle.mud_world.specs.declared.keeper.Keeper.{Ghosts}
 use Rattle.mud_world.specs.declared.item.Item.{Item}
 use Rattle.mud_world.specs.Boxed.{faults_of, Tells, kept_items}
-use Rattle.mud_world.specs.Causes.{Counts, Rose}
+use Rattle.mud_world.specs.Causes.{Counts, Rose, StopsAtFailure}
 use Rattle.mud_world.specs.Door.{DoorState, put_out}
 use Rattle.mud_world.specs.Files.{names_of}
 use Rattle.mud_world.proofs.Doors.{put_out_none}
@@ -68,7 +68,7 @@ module _ {X : Type 0} {F : X → Type 0} (members : (v : (x : X) × F x) → Gho
       → IsSound (tables_of state) → IsBegun (tables_of state) state → faults_of members begun ≡ faults_of members keeper → IsSameBox keeper begun
       → StaysKept members begun state after ended
       → IsOfImport status
-      → (status ≡ 4 → Rose old.door.writes new.door.writes ⊎ Rose old.spool.faults new.spool.faults)
+      → (status ≡ 4 → StopsAtFailure new.door.failed old.door.writes new.door.writes ⊎ Rose old.spool.faults new.spool.faults)
       → (status ≢ 4 → (new.door.writes ≡ old.door.writes) × (new.spool.faults ≡ old.spool.faults))
       → (status ≡ 7 → Rose (faults_of members begun) (faults_of members after))
       → ((status ≡ 0) ⊎ (status ≡ 3) → faults_of members after ≡ faults_of members begun)
@@ -162,7 +162,7 @@ module _ {X : Type 0} {F : X → Type 0} (members : (v : (x : X) × F x) → Gho
       → (Tells members keeper → Tells members after → IsLeft (kept_items members keeper) (kept_items members after) fault)
       → Counts (is_fault_of_keeper fault) (faults_of members keeper) (faults_of members after) → IsSameBox keeper after
       → IsRefusal fault status
-      → (status ≡ 4 → Rose old.door.writes new.door.writes)
+      → (status ≡ 4 → StopsAtFailure new.door.failed old.door.writes new.door.writes)
       → (status ≢ 4 → new.door.writes ≡ old.door.writes)
       → (tells → status ≡ 6 → new.door.state ≡ put_out (refusal_text fault) old.door.state)
       → (tells → (status ≡ 4) ⊎ (status ≡ 5) → WroteFirst (refusal_text fault) old.door.state new.door.state)

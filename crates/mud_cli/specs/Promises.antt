@@ -1,6 +1,6 @@
 -- What the commands promise that read their input from the door and write what it says.
 use Rattle.std.specs.Prelude.{◌≡◌, ◌≢◌, ℕ, ◌≤◌, ◌⊎◌, List, ◌++◌, length, Option, Some}
-use Rattle.mud_world.specs.Causes.{Rose}
+use Rattle.mud_world.specs.Causes.{EndsAtFailure}
 use Rattle.mud_world.specs.Door.{DoorState}
 use Rattle.command_runs.specs.Capture.{WritesTaken}
 use Rattle.command_runs.specs.Due.{WritesDue, WritesPart}
@@ -18,9 +18,10 @@ pub record ReadUpTo (most : ℕ) (old new : DoorState) : Type 0 where
 
 -- `tells` says that the door tells its connections.
 pub record Promises (tells : Type 0) (command : Command) (old new : DoorView) (status : ℕ) : Type 0 where
-  -- The status is 0, 3, 4 or 5. It is 4 only where a read or a write failed in this call, and where it isn't, none failed.
+  -- The status is 0, 3, 4 or 5. It is 4 only where one read or write failed in this call, and then the door isn't called again;
+  -- where it isn't 4, none failed.
   pub statuses : (status ≡ 0) ⊎ ((status ≡ 3) ⊎ ((status ≡ 4) ⊎ (status ≡ 5)))
-  pub fault : status ≡ 4 → Rose old.reads new.reads ⊎ Rose old.writes new.writes
+  pub fault : status ≡ 4 → EndsAtFailure new.failed old.reads new.reads old.writes new.writes
   pub steady : status ≢ 4 → (new.reads ≡ old.reads) × (new.writes ≡ old.writes)
   -- With 0 and 3 all that is due was written, with 4 and 5 a first part of it.
   pub done : tells → (status ≡ 0) ⊎ (status ≡ 3) → WritesDue (due_of command old.state.left) old.state new.state status

@@ -1,6 +1,6 @@
 //! Commands that read an input as a whole before they answer.
 ghost use Rattle.std.specs.Prelude.{◌≡◌, ◌≢◌, ◌⊎◌, ◌+◌, IfOk};
-ghost use Rattle.mud_world.specs.Causes.{Rose};
+ghost use Rattle.mud_world.specs.Causes.{EndsAtFailure};
 ghost use Rattle.command_runs.specs.Due.{WritesDue, WritesPart};
 ghost use Rattle.command_runs.specs.Status.{status_number};
 ghost use Rattle.mud_cli.specs.Answers.{answer_to, due_of_input};
@@ -67,7 +67,7 @@ fn status_of(answer: &Answer) -> Status
 /// Reads a whole input and writes what it says.
 pub fn answer_input<D: Door>(alloc: Global, input: Input, door: &mut D) -> Status
     ensures statuses { (status_number result ≡ 0) ⊎ ((status_number result ≡ 3) ⊎ ((status_number result ≡ 4) ⊎ (status_number result ≡ 5))) }
-    ensures fault { status_number result ≡ 4 → Rose (D.reads door.old) (D.reads door.new) ⊎ Rose (D.writes door.old) (D.writes door.new) }
+    ensures fault { status_number result ≡ 4 → EndsAtFailure (D.failed door.new) (D.reads door.old) (D.reads door.new) (D.writes door.old) (D.writes door.new) }
     ensures steady { status_number result ≢ 4 → (D.reads door.new ≡ D.reads door.old) × (D.writes door.new ≡ D.writes door.old) }
     ensures done { D.tells → (status_number result ≡ 0) ⊎ (status_number result ≡ 3) → WritesDue (due_of_input input (D.state door.old).left) (D.state door.old) (D.state door.new) (status_number result) }
     ensures part { D.tells → (status_number result ≡ 4) ⊎ (status_number result ≡ 5) → WritesPart (due_of_input input (D.state door.old).left) (D.state door.old) (D.state door.new) }

@@ -5,7 +5,7 @@ use Rattle.std.specs.declared.alloc.Global.{Global}
 use Rattle.mud_world.specs.declared.keeper.Keeper.{Ghosts}
 use Rattle.mud_world.specs.declared.item.Item.{Item}
 use Rattle.mud_world.specs.Boxed.{faults_of, Tells, kept_items}
-use Rattle.mud_world.specs.Causes.{Counts, Rose}
+use Rattle.mud_world.specs.Causes.{Counts, StopsAtFailure}
 use Rattle.mud_world.specs.Door.{DoorState, put_out}
 use Rattle.command_words.specs.declared.command.ReportKind.{ReportKind}
 use Rattle.command_runs.specs.Due.{WroteFirst}
@@ -128,7 +128,7 @@ module _ {X : Type 0} {F : X → Type 0} (members : (v : (x : X) × F x) → Gho
       → (Tells members keeper → Tells members after → tables_in (kept_items members keeper) ≡ Ok tables)
       → IsSound tables → IsKept members after tables → faults_of members after ≡ faults_of members keeper → IsSameBox keeper after
       → IsOfTable status
-      → (status ≡ 4 → Rose old.writes new.writes)
+      → (status ≡ 4 → StopsAtFailure new.failed old.writes new.writes)
       → (status ≢ 4 → new.writes ≡ old.writes)
       → (tells → WritesReport kind clock_tells moments (Ok tables) old.state new.state status)
       → new.turns ≡ old.turns → new.reads ≡ old.reads → (returned : DynBox X Global F) → returned ≡ after
@@ -154,7 +154,7 @@ module _ {X : Type 0} {F : X → Type 0} (members : (v : (x : X) × F x) → Gho
       → (Tells members keeper → Tells members after → IsLeft (kept_items members keeper) (kept_items members after) fault)
       → Counts (is_fault_of_keeper fault) (faults_of members keeper) (faults_of members after) → IsSameBox keeper after
       → IsRefusal fault status
-      → (status ≡ 4 → Rose old.writes new.writes)
+      → (status ≡ 4 → StopsAtFailure new.failed old.writes new.writes)
       → (status ≢ 4 → new.writes ≡ old.writes)
       → (tells → status ≡ 6 → new.state ≡ put_out (refusal_text fault) old.state)
       → (tells → (status ≡ 4) ⊎ (status ≡ 5) → WroteFirst (refusal_text fault) old.state new.state)

@@ -5,7 +5,7 @@ use Rattle.std.specs.declared.alloc.Global.{Global}
 use Rattle.mud_world.specs.declared.keeper.Keeper.{Ghosts}
 use Rattle.mud_world.specs.declared.item.Item.{Item}
 use Rattle.mud_world.specs.Boxed.{faults_of, Tells, kept_items}
-use Rattle.mud_world.specs.Causes.{Rose}
+use Rattle.mud_world.specs.Causes.{Rose, StopsAtFailure}
 use Rattle.mud_world.specs.Door.{DoorState, put_out}
 use Rattle.command_words.specs.declared.command.ReportKind.{ReportKind}
 use Rattle.command_runs.specs.Due.{Due, WroteFirst}
@@ -37,10 +37,10 @@ module _ {X : Type 0} {F : X → Type 0} (members : (v : (x : X) × F x) → Gho
   -- A run of `report`. `tells` says that the door tells its connections, and `clock_tells` that the clock tells its moments, which
   -- are these.
   pub record ReportsStore (kind : ReportKind) (tells clock_tells : Type 0) (moments : List ℕ) (keeper returned : DynBox X Global F) (old new : DoorView) (status : ℕ) : Type 0 where
-    -- The status is 0 or 4 to 7. It is 4 only where a write of the door failed in this call, and where it isn't, none failed. So it
-    -- is with 7 and a failure of the keeper.
+    -- The status is 0 or 4 to 7. It is 4 only where one write of the door failed in this call, and then the door isn't called
+    -- again; where it isn't 4, none failed. So it is with 7 and a failure of the keeper.
     pub statuses : (status ≡ 0) ⊎ ((status ≡ 4) ⊎ ((status ≡ 5) ⊎ ((status ≡ 6) ⊎ (status ≡ 7))))
-    pub fault : status ≡ 4 → Rose old.writes new.writes
+    pub fault : status ≡ 4 → StopsAtFailure new.failed old.writes new.writes
     pub steady : status ≢ 4 → new.writes ≡ old.writes
     pub keeper_fault : status ≡ 7 → Rose (faults_of members keeper) (faults_of members returned)
     pub keeper_steady : status ≢ 7 → faults_of members returned ≡ faults_of members keeper

@@ -1,6 +1,6 @@
 //! Rows written one after the other: the lines of each are written as soon as they are made.
-ghost use Rattle.std.specs.Prelude.{◌≡◌, IfOk, OnOk, OnErr, flat_map};
-ghost use Rattle.mud_world.specs.Causes.{Counts};
+ghost use Rattle.std.specs.Prelude.{◌≡◌, IfOk, OnOk, OnErr, flat_map, IsTrue};
+ghost use Rattle.mud_world.specs.Causes.{Counts, StopsAtFailure};
 ghost use Rattle.mud_world.specs.Door.{put_out};
 ghost use Rattle.command_runs.specs.Due.{WroteFirst};
 ghost use Rattle.command_runs.specs.Stops.{has_failed};
@@ -19,6 +19,7 @@ fn write_row<D: Door, R: ReportRow>(alloc: Global, door: &mut D, row: &R) -> Res
     ensures ok { D.tells → OnOk result (D.state door.new ≡ put_out (R.text row.now) (D.state door.old)) }
     ensures part { D.tells → OnErr result (WroteFirst (R.text row.now) (D.state door.old) (D.state door.new)) }
     ensures cause { Counts (has_failed result) (D.writes door.old) (D.writes door.new) }
+    ensures stop { IsTrue (has_failed result) → StopsAtFailure (D.failed door.new) (D.writes door.old) (D.writes door.new) }
     ensures turns { D.turns door.new ≡ D.turns door.old }
     ensures reads { D.reads door.new ≡ D.reads door.old }
 {
@@ -37,6 +38,7 @@ pub(crate) fn write_rows<D: Door, R: ReportRow>(
     ensures ok { D.tells → OnOk result (D.state door.new ≡ put_out (flat_map R.text rows.now) (D.state door.old)) }
     ensures part { D.tells → OnErr result (WroteFirst (flat_map R.text rows.now) (D.state door.old) (D.state door.new)) }
     ensures cause { Counts (has_failed result) (D.writes door.old) (D.writes door.new) }
+    ensures stop { IsTrue (has_failed result) → StopsAtFailure (D.failed door.new) (D.writes door.old) (D.writes door.new) }
     ensures turns { D.turns door.new ≡ D.turns door.old }
     ensures reads { D.reads door.new ≡ D.reads door.old }
 {
@@ -68,6 +70,7 @@ fn write_due_row<D: Door>(
     ensures ok { D.tells → OnOk result (D.state door.new ≡ put_out (due_part now row.now) (D.state door.old)) }
     ensures part { D.tells → OnErr result (WroteFirst (due_part now row.now) (D.state door.old) (D.state door.new)) }
     ensures cause { Counts (has_failed result) (D.writes door.old) (D.writes door.new) }
+    ensures stop { IsTrue (has_failed result) → StopsAtFailure (D.failed door.new) (D.writes door.old) (D.writes door.new) }
     ensures turns { D.turns door.new ≡ D.turns door.old }
     ensures reads { D.reads door.new ≡ D.reads door.old }
 {
@@ -86,6 +89,7 @@ pub(crate) fn write_due<D: Door>(
     ensures ok { D.tells → OnOk result (D.state door.new ≡ put_out (flat_map (due_part now) files.now) (D.state door.old)) }
     ensures part { D.tells → OnErr result (WroteFirst (flat_map (due_part now) files.now) (D.state door.old) (D.state door.new)) }
     ensures cause { Counts (has_failed result) (D.writes door.old) (D.writes door.new) }
+    ensures stop { IsTrue (has_failed result) → StopsAtFailure (D.failed door.new) (D.writes door.old) (D.writes door.new) }
     ensures turns { D.turns door.new ≡ D.turns door.old }
     ensures reads { D.reads door.new ≡ D.reads door.old }
 {

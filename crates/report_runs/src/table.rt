@@ -1,6 +1,6 @@
 //! One of the tables of a desk, written to a door.
-ghost use Rattle.std.specs.Prelude.{◌≡◌, ◌≢◌, ◌⊎◌, false, Ok, OnOk, OnErr};
-ghost use Rattle.mud_world.specs.Causes.{Counts, Rose};
+ghost use Rattle.std.specs.Prelude.{◌≡◌, ◌≢◌, ◌⊎◌, false, Ok, OnOk, OnErr, IsTrue};
+ghost use Rattle.mud_world.specs.Causes.{Counts, StopsAtFailure};
 ghost use Rattle.mud_world.specs.Door.{put_out};
 ghost use Rattle.mud_desk.specs.Boxed.{IsKept};
 ghost use Rattle.mud_desk.specs.DeskState.{tables_of};
@@ -69,6 +69,7 @@ fn write_table<D: Door>(
     ensures ok { D.tells → OnOk result (D.state door.new ≡ put_out (table_text kind clock (tables_of desk.now.state)) (D.state door.old)) }
     ensures part { D.tells → OnErr result (WroteFirst (table_text kind clock (tables_of desk.now.state)) (D.state door.old) (D.state door.new)) }
     ensures cause { Counts (has_failed result) (D.writes door.old) (D.writes door.new) }
+    ensures stop { IsTrue (has_failed result) → StopsAtFailure (D.failed door.new) (D.writes door.old) (D.writes door.new) }
     ensures turns { D.turns door.new ≡ D.turns door.old }
     ensures reads { D.reads door.new ≡ D.reads door.old }
 {
@@ -91,7 +92,7 @@ fn report_table<D: Door>(
     door: &mut D,
 ) -> Status
     ensures statuses { (status_number result ≡ 0) ⊎ ((status_number result ≡ 4) ⊎ (status_number result ≡ 5)) }
-    ensures fault { status_number result ≡ 4 → Rose (D.writes door.old) (D.writes door.new) }
+    ensures fault { status_number result ≡ 4 → StopsAtFailure (D.failed door.new) (D.writes door.old) (D.writes door.new) }
     ensures steady { status_number result ≢ 4 → D.writes door.new ≡ D.writes door.old }
     ensures done { D.tells → status_number result ≡ 0 → D.state door.new ≡ put_out (table_text kind clock (tables_of desk.now.state)) (D.state door.old) }
     ensures part { D.tells → (status_number result ≡ 4) ⊎ (status_number result ≡ 5) →
@@ -122,7 +123,7 @@ pub fn report_desk<D: Door, C: Clock>(
 ) -> (Status, Box<dyn Keeper>)
     requires { IsKept Keeper-dyn desk.keeper (tables_of desk.state) }
     ensures statuses { (status_number result.0 ≡ 0) ⊎ ((status_number result.0 ≡ 4) ⊎ (status_number result.0 ≡ 5)) }
-    ensures fault { status_number result.0 ≡ 4 → Rose (D.writes door.old) (D.writes door.new) }
+    ensures fault { status_number result.0 ≡ 4 → StopsAtFailure (D.failed door.new) (D.writes door.old) (D.writes door.new) }
     ensures steady { status_number result.0 ≢ 4 → D.writes door.new ≡ D.writes door.old }
     ensures writes { D.tells → WritesReport kind C.tells (C.moments clock.old) (Ok (tables_of desk.state)) (D.state door.old) (D.state door.new) (status_number result.0) }
     ensures turns { D.turns door.new ≡ D.turns door.old }

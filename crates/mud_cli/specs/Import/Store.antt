@@ -5,7 +5,7 @@ use Rattle.std.specs.declared.alloc.Global.{Global}
 use Rattle.mud_world.specs.declared.keeper.Keeper.{Ghosts}
 use Rattle.mud_world.specs.declared.item.Item.{Item}
 use Rattle.mud_world.specs.Boxed.{faults_of, Tells, kept_items}
-use Rattle.mud_world.specs.Causes.{Rose}
+use Rattle.mud_world.specs.Causes.{Rose, StopsAtFailure}
 use Rattle.mud_world.specs.Door.{put_out}
 use Rattle.mud_world.specs.Files.{names_of}
 use Rattle.command_runs.specs.Due.{WroteFirst}
@@ -89,10 +89,10 @@ module _ {X : Type 0} {F : X → Type 0} (members : (v : (x : X) × F x) → Gho
 
   -- A run of `import`. `tells` says that the door, the spool and the clock tell.
   pub record ImportsStore (tells : Type 0) (keeper returned : DynBox X Global F) (old new : OutsideView) (status : ℕ) : Type 0 where
-    -- The status is 0 or 3 to 7. It is 4 only where a write of the door or a call of the spool failed in this call, and where it
-    -- isn't, none failed. It is 7 only where the keeper failed, and where it is 0, 3 or 6 the keeper didn't fail.
+    -- The status is 0 or 3 to 7. It is 4 only where a write of the door failed in this call, and then the door isn't called again, or
+    -- where a call of the spool did; where it isn't 4, none failed. It is 7 only where the keeper failed, and where it is 0, 3 or 6 the keeper didn't fail.
     pub statuses : (status ≡ 0) ⊎ ((status ≡ 3) ⊎ ((status ≡ 4) ⊎ ((status ≡ 5) ⊎ ((status ≡ 6) ⊎ (status ≡ 7)))))
-    pub fault : status ≡ 4 → Rose old.door.writes new.door.writes ⊎ Rose old.spool.faults new.spool.faults
+    pub fault : status ≡ 4 → StopsAtFailure new.door.failed old.door.writes new.door.writes ⊎ Rose old.spool.faults new.spool.faults
     pub steady : status ≢ 4 → (new.door.writes ≡ old.door.writes) × (new.spool.faults ≡ old.spool.faults)
     pub keeper_fault : status ≡ 7 → Rose (faults_of members keeper) (faults_of members returned)
     pub keeper_steady : (status ≡ 0) ⊎ ((status ≡ 3) ⊎ (status ≡ 6)) → faults_of members returned ≡ faults_of members keeper

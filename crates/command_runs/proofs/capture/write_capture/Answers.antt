@@ -103,7 +103,6 @@ returns-in-Err g c =
     record {
       statuses = inr c.refuse.ensures.statuses;
       fault = search rules;
-      stop = search rules;
       steady = search rules;
       done = λ from keeps tells e.
           let now = c.packets.invariant.gathered from keeps tells in

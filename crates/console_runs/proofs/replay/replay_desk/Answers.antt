@@ -14,7 +14,7 @@ returns-clause-replays g c = λ tables is.
     let after = c.serve_connection-end.new.console.desk in
     let run = c.serve_connection-end.ensures in
     replayed (goal.Keeper-dyn g) door.tells tables desk.state after.state (faults_of (goal.Keeper-dyn g) desk.keeper) after.keeper c.close.result c.serve_connection-end.result
-    (viewed (door.state old) (door.turns old) (door.reads old) (door.writes old))
-    (viewed (door.state new) (door.turns new) (door.reads new) (door.writes new))
+    (viewed (door.state old) (door.turns old) (door.reads old) (door.writes old) (door.failed old))
+    (viewed (door.state new) (door.turns new) (door.reads new) (door.writes new) (door.failed new))
     (status_number c.status_of.result)
     is run.kept c.close.ensures c.status_of.ensures (run.left [] is.forwarded) (λ told. run.served told [] is.forwarded) run.reads run.writes run.turns

@@ -15,8 +15,8 @@ returns-in-Ok-new-clause-replayed g c =
     let store = c.in-Ok.ensures in
     let run = c.replay_desk.ensures in
     replays_opened (goal.Keeper-dyn g) door.tells c.args.keeper c.replay_desk.result.1
-    (viewed (door.state old) (door.turns old) (door.reads old) (door.writes old))
-    (viewed (door.state new) (door.turns new) (door.reads new) (door.writes new))
+    (viewed (door.state old) (door.turns old) (door.reads old) (door.writes old) (door.failed old))
+    (viewed (door.state new) (door.turns new) (door.reads new) (door.writes new) (door.failed new))
     (status_number c.replay_desk.result.0)
     (tables_of desk.state) desk.keeper store.tables store.sound store.steady store.same_box
     (run.replays (tables_of desk.state) store.begun) run.told run.same_box
@@ -28,11 +28,11 @@ returns-in-Err-new-clause-replayed g c =
     let desk = c.in-Ok.desk in
     let store = c.in-Ok.ensures in
     replays_none (goal.Keeper-dyn g) door.tells c.args.keeper c.close.result
-    (viewed (door.state old) (door.turns old) (door.reads old) (door.writes old))
-    (viewed (door.state old) (door.turns old) (door.reads old) (door.writes old))
+    (viewed (door.state old) (door.turns old) (door.reads old) (door.writes old) (door.failed old))
+    (viewed (door.state old) (door.turns old) (door.reads old) (door.writes old) (door.failed old))
     5
     (memory_none (goal.Keeper-dyn g) c.args.keeper desk.keeper door.tells
-    (viewed (door.state old) (door.turns old) (door.reads old) (door.writes old))
+    (viewed (door.state old) (door.turns old) (door.reads old) (door.writes old) (door.failed old))
     (tables_of desk.state) store.tables store.sound store.kept store.steady c.close.result c.close.ensures)
     (box_of c.args.keeper desk.keeper c.close.result store.same_box c.close.ensures)
 
@@ -44,12 +44,12 @@ returns-in-Err-clause-replayed g c =
     let store = c.in-Err.ensures in
     let run = c.refuse_store.ensures in
     replays_none (goal.Keeper-dyn g) door.tells c.args.keeper c.in-Err.keeper
-    (viewed (door.state old) (door.turns old) (door.reads old) (door.writes old))
-    (viewed (door.state new) (door.turns new) (door.reads new) (door.writes new))
+    (viewed (door.state old) (door.turns old) (door.reads old) (door.writes old) (door.failed old))
+    (viewed (door.state new) (door.turns new) (door.reads new) (door.writes new) (door.failed new))
     (status_number c.refuse_store.result)
     (refused_none (goal.Keeper-dyn g) c.args.keeper c.in-Err.keeper door.tells
-    (viewed (door.state old) (door.turns old) (door.reads old) (door.writes old))
-    (viewed (door.state new) (door.turns new) (door.reads new) (door.writes new))
+    (viewed (door.state old) (door.turns old) (door.reads old) (door.writes old) (door.failed old))
+    (viewed (door.state new) (door.turns new) (door.reads new) (door.writes new) (door.failed new))
     (status_number c.refuse_store.result)
     c.in-Err.fault store.bad store.left store.cause store.handed_back
     run.statuses run.fault run.steady run.done run.part (λ call. ap door.state (run.untouched call)) run.turns run.reads)

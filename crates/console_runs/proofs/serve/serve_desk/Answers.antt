@@ -17,8 +17,8 @@ returns-in_default-clause-serves g c = λ tables is.
     let run = c.in_default.ensures in
     unbound (goal.Keeper-dyn g) door.tells clock.tells tables desk.state is c.close.result (listening c.args.port c.args.count)
     desk.keeper (clock.moments c.args.clock.now)
-    (viewed (door.state old) (door.turns old) (door.reads old) (door.writes old))
-    (viewed (door.state new) (door.turns new) (door.reads new) (door.writes new))
+    (viewed (door.state old) (door.turns old) (door.reads old) (door.writes old) (door.failed old))
+    (viewed (door.state new) (door.turns new) (door.reads new) (door.writes new) (door.failed new))
     4
     c.requires c.close.ensures refl run.cause run.err run.reads run.writes
 
@@ -36,15 +36,15 @@ returns-clause-serves g c = λ tables is.
     let ended : c.clock-1.given.0 ≡ after.clock.now = first_of (search rules, cc) in
     subst (λ (moments : List ℕ). ServesConnections (goal.Keeper-dyn g) door.tells clock.tells tables (faults_of (goal.Keeper-dyn g) desk.keeper) c.close-2.result
     (listening c.args.port c.args.count) (clock_run (clock.moments c.args.clock.now) moments)
-    (viewed (door.state old) (door.turns old) (door.reads old) (door.writes old))
-    (viewed (door.state new) (door.turns new) (door.reads new) (door.writes new))
+    (viewed (door.state old) (door.turns old) (door.reads old) (door.writes old) (door.failed old))
+    (viewed (door.state new) (door.turns new) (door.reads new) (door.writes new) (door.failed new))
     (status_number c.status_of.result)) (sym (ap clock.moments ended))
     (served_here (goal.Keeper-dyn g) door.tells clock.tells tables desk.state is c.close-2.result (listening c.args.port c.args.count)
     after.desk.state (faults_of (goal.Keeper-dyn g) desk.keeper) after.desk.keeper (is_err c.serve_connections-served.result)
     (clock.moments c.args.clock.now) (clock.moments after.clock.now)
-    (viewed (door.state old) (door.turns old) (door.reads old) (door.writes old))
-    (viewed (door.state mid) (door.turns mid) (door.reads mid) (door.writes mid))
-    (viewed (door.state new) (door.turns new) (door.reads new) (door.writes new))
+    (viewed (door.state old) (door.turns old) (door.reads old) (door.writes old) (door.failed old))
+    (viewed (door.state mid) (door.turns mid) (door.reads mid) (door.writes mid) (door.failed mid))
+    (viewed (door.state new) (door.turns new) (door.reads new) (door.writes new) (door.failed new))
     (status_number c.status_of.result)
     run.kept c.close-2.ensures c.status_of.ensures bound.ok bound.cause bound.reads bound.writes
     (run.left [] is.forwarded) (λ told. run.served told [] is.forwarded) run.turns run.reads run.writes)

@@ -18,8 +18,8 @@ returns-in-Ok-clause-judged g c =
     let tables = tables_of desk.state in
     let is_in = in_begun tables desk.state store.begun in
     opened_run (goal.Keeper-dyn g) c.args.keeper desk.keeper door.tells
-    (viewed (door.state old) (door.turns old) (door.reads old) (door.writes old))
-    (viewed (door.state new) (door.turns new) (door.reads new) (door.writes new))
+    (viewed (door.state old) (door.turns old) (door.reads old) (door.writes old) (door.failed old))
+    (viewed (door.state new) (door.turns new) (door.reads new) (door.writes new) (door.failed new))
     (status_number c.judge_capture.result.0)
     tables store.tables store.sound store.kept store.steady store.same_box
     run.statuses run.fault run.steady (run.done (opened tables) is_in) (run.part (opened tables) is_in) (run.taken (opened tables) is_in) run.turns
@@ -33,8 +33,8 @@ returns-in-Err-clause-judged g c =
     let store = c.in-Err.ensures in
     let run = c.refuse_store.ensures in
     refused_run (goal.Keeper-dyn g) c.args.keeper c.in-Err.keeper door.tells
-    (viewed (door.state old) (door.turns old) (door.reads old) (door.writes old))
-    (viewed (door.state new) (door.turns new) (door.reads new) (door.writes new))
+    (viewed (door.state old) (door.turns old) (door.reads old) (door.writes old) (door.failed old))
+    (viewed (door.state new) (door.turns new) (door.reads new) (door.writes new) (door.failed new))
     (status_number c.refuse_store.result)
     c.in-Err.fault store.bad store.left store.cause store.handed_back
     run.statuses run.fault run.steady run.done run.part (λ call. ap door.state (run.untouched call)) run.turns run.reads

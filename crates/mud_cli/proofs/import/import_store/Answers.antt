@@ -17,9 +17,9 @@ returns-in-Ok g c =
     let store = c.in-Ok.ensures in
     let run = c.import_files-status.ensures in
     imported_run (goal.Keeper-dyn g) c.args.keeper after.keeper (door.tells × (spool.tells × clock.tells))
-    (outside (viewed (door.state old) (door.turns old) (door.reads old) (door.writes old))
+    (outside (viewed (door.state old) (door.turns old) (door.reads old) (door.writes old) (door.failed old))
     (spool_viewed (spool.files c.args.spool.now) (spool.faults c.args.spool.now)) (clock.moments c.args.clock.now))
-    (outside (viewed (door.state new) (door.turns new) (door.reads new) (door.writes new))
+    (outside (viewed (door.state new) (door.turns new) (door.reads new) (door.writes new) (door.failed new))
     (spool_viewed (spool.files c.import_files-status.new.spool) (spool.faults c.import_files-status.new.spool)) (clock.moments c.import_files-status.new.clock))
     (status_number c.import_files-status.result)
     desk.keeper desk.state after.state store.tables store.sound store.begun store.steady store.same_box
@@ -37,9 +37,9 @@ returns-in-Err g c =
     let store = c.in-Err.ensures in
     let run = c.refuse_store.ensures in
     refused_import (goal.Keeper-dyn g) c.args.keeper c.in-Err.keeper (door.tells × (spool.tells × clock.tells))
-    (outside (viewed (door.state old) (door.turns old) (door.reads old) (door.writes old))
+    (outside (viewed (door.state old) (door.turns old) (door.reads old) (door.writes old) (door.failed old))
     (spool_viewed (spool.files c.args.spool.now) (spool.faults c.args.spool.now)) (clock.moments c.args.clock.now))
-    (outside (viewed (door.state new) (door.turns new) (door.reads new) (door.writes new))
+    (outside (viewed (door.state new) (door.turns new) (door.reads new) (door.writes new) (door.failed new))
     (spool_viewed (spool.files c.args.spool.now) (spool.faults c.args.spool.now)) (clock.moments c.args.clock.now))
     (status_number c.refuse_store.result)
     c.in-Err.fault store.bad store.left store.cause store.handed_back

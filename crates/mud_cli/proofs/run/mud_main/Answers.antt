@@ -14,8 +14,8 @@ returns-clause-replayed g c = λ named.
     let new = c.run_command-status.new.door in
     subst
     (λ (status : ℕ). ReplaysStore (goal.Keeper-dyn g) door.tells c.args.keeper c.run_command-status.result.1
-    (viewed (door.state old) (door.turns old) (door.reads old) (door.writes old))
-    (viewed (door.state new) (door.turns new) (door.reads new) (door.writes new)) status)
+    (viewed (door.state old) (door.turns old) (door.reads old) (door.writes old) (door.failed old))
+    (viewed (door.state new) (door.turns new) (door.reads new) (door.writes new) (door.failed new)) status)
     (sym c.number-2.ensures)
     (c.run_command-status.ensures.replayed (same_command c.in-Some.command Replay (sym c.in-Some.is ∙ c.command_of.ensures ∙ named)))
 
@@ -28,8 +28,8 @@ returns-clause-served g c = λ port count named.
     subst
     (λ (status : ℕ). ServesStore (goal.Keeper-dyn g) door.tells clock.tells c.args.keeper c.run_command-status.result.1
     (listening port count) (clock_run (clock.moments c.args.clock.now) (clock.moments c.run_command-status.new.clock))
-    (viewed (door.state old) (door.turns old) (door.reads old) (door.writes old))
-    (viewed (door.state new) (door.turns new) (door.reads new) (door.writes new)) status)
+    (viewed (door.state old) (door.turns old) (door.reads old) (door.writes old) (door.failed old))
+    (viewed (door.state new) (door.turns new) (door.reads new) (door.writes new) (door.failed new)) status)
     (sym c.number-2.ensures)
     (c.run_command-status.ensures.served port count (same_command c.in-Some.command (Serve port count) (sym c.in-Some.is ∙ c.command_of.ensures ∙ named)))
 
@@ -41,7 +41,7 @@ returns-clause-reported g c = λ kind named.
     let new = c.run_command-status.new.door in
     subst
     (λ (status : ℕ). ReportsStore (goal.Keeper-dyn g) kind door.tells clock.tells (clock.moments c.args.clock.now) c.args.keeper c.run_command-status.result.1
-    (viewed (door.state old) (door.turns old) (door.reads old) (door.writes old))
-    (viewed (door.state new) (door.turns new) (door.reads new) (door.writes new)) status)
+    (viewed (door.state old) (door.turns old) (door.reads old) (door.writes old) (door.failed old))
+    (viewed (door.state new) (door.turns new) (door.reads new) (door.writes new) (door.failed new)) status)
     (sym c.number-2.ensures)
     (c.run_command-status.ensures.reported kind (same_command c.in-Some.command (Report kind) (sym c.in-Some.is ∙ c.command_of.ensures ∙ named)))

@@ -22,8 +22,8 @@ returns-in-Hear-clause-answers g c = λ reads.
     let a = c.answer_input.ensures in
     promised_of
     (λ (named : Command). Promises door.tells named
-    (viewed (door.state old) (door.turns old) (door.reads old) (door.writes old))
-    (viewed (door.state new) (door.turns new) (door.reads new) (door.writes new))
+    (viewed (door.state old) (door.turns old) (door.reads old) (door.writes old) (door.failed old))
+    (viewed (door.state new) (door.turns new) (door.reads new) (door.writes new) (door.failed new))
     (status_number c.answer_input.result))
     c.args.command (Hear c.in-Hear.message) c.in-Hear.is
     (record {
@@ -46,8 +46,8 @@ returns-in-Check-clause-answers g c = λ reads.
     let a = c.answer_input-in-Check.ensures in
     promised_of
     (λ (named : Command). Promises door.tells named
-    (viewed (door.state old) (door.turns old) (door.reads old) (door.writes old))
-    (viewed (door.state new) (door.turns new) (door.reads new) (door.writes new))
+    (viewed (door.state old) (door.turns old) (door.reads old) (door.writes old) (door.failed old))
+    (viewed (door.state new) (door.turns new) (door.reads new) (door.writes new) (door.failed new))
     (status_number c.answer_input-in-Check.result))
     c.args.command Check c.in-Check.is
     (record {
@@ -69,8 +69,8 @@ returns-in-Frames-clause-answers g c = λ reads.
     let a = c.write_capture.ensures in
     promised_of
     (λ (named : Command). Promises door.tells named
-    (viewed (door.state old) (door.turns old) (door.reads old) (door.writes old))
-    (viewed (door.state new) (door.turns new) (door.reads new) (door.writes new))
+    (viewed (door.state old) (door.turns old) (door.reads old) (door.writes old) (door.failed old))
+    (viewed (door.state new) (door.turns new) (door.reads new) (door.writes new) (door.failed new))
     (status_number c.write_capture.result))
     c.args.command Frames c.in-Frames.is
     (record {
@@ -93,8 +93,8 @@ returns-in-Serve-clause-served g c = λ port count named.
     served_of
     (λ (p n : ℕ). ServesStore (goal.Keeper-dyn g) door.tells clock.tells c.args.keeper c.serve_store.result.1
     (listening p n) (clock_run (clock.moments c.args.clock.now) (clock.moments c.serve_store.new.clock))
-    (viewed (door.state old) (door.turns old) (door.reads old) (door.writes old))
-    (viewed (door.state new) (door.turns new) (door.reads new) (door.writes new))
+    (viewed (door.state old) (door.turns old) (door.reads old) (door.writes old) (door.failed old))
+    (viewed (door.state new) (door.turns new) (door.reads new) (door.writes new) (door.failed new))
     (status_number c.serve_store.result.0))
     c.args.command c.in-Serve.port c.in-Serve.count port count c.in-Serve.is named c.serve_store.ensures.served
 
@@ -106,8 +106,8 @@ returns-in-Report-clause-reported g c = λ kind named.
     let new = c.report_store.new.door in
     reported_of
     (λ (k : ReportKind). ReportsStore (goal.Keeper-dyn g) k door.tells clock.tells (clock.moments c.args.clock.now) c.args.keeper c.report_store.result.1
-    (viewed (door.state old) (door.turns old) (door.reads old) (door.writes old))
-    (viewed (door.state new) (door.turns new) (door.reads new) (door.writes new))
+    (viewed (door.state old) (door.turns old) (door.reads old) (door.writes old) (door.failed old))
+    (viewed (door.state new) (door.turns new) (door.reads new) (door.writes new) (door.failed new))
     (status_number c.report_store.result.0))
     c.args.command c.in-Report.kind kind c.in-Report.is named c.report_store.ensures.reported
 
@@ -127,7 +127,7 @@ returns-in-Drill-clause-drilled g c = λ packets named.
     let new = c.run_drill.new.door in
     drilled_of
     (λ (n : ℕ). DrillsStore (goal.Keeper-dyn g) door.tells n c.args.keeper c.run_drill.result.1
-    (viewed (door.state old) (door.turns old) (door.reads old) (door.writes old))
-    (viewed (door.state new) (door.turns new) (door.reads new) (door.writes new))
+    (viewed (door.state old) (door.turns old) (door.reads old) (door.writes old) (door.failed old))
+    (viewed (door.state new) (door.turns new) (door.reads new) (door.writes new) (door.failed new))
     (status_number c.run_drill.result.0))
     c.args.command c.in-Drill.packets packets c.in-Drill.is named c.run_drill.ensures.drilled

@@ -1,5 +1,5 @@
 -- What a run of `import` over a store and a folder does.
-use Rattle.std.specs.Prelude.{◌≡◌, ◌≢◌, ℕ, ◌⊎◌, List, [], Result, Ok, Err}
+use Rattle.std.specs.Prelude.{◌≡◌, ◌≢◌, ℕ, ◌⊎◌, List, Result, Ok, Err}
 use Rattle.std.specs.declared.dyn_box.DynBox.{DynBox}
 use Rattle.std.specs.declared.alloc.Global.{Global}
 use Rattle.mud_world.specs.declared.keeper.Keeper.{Ghosts}
@@ -14,7 +14,7 @@ use Rattle.desk_model.specs.DeskTables.{DeskTables, IsSound}
 use Rattle.desk_model.specs.Items.{items_of, tables_in}
 use Rattle.desk_model.specs.Sessions.{Session, opened}
 use Rattle.mud_desk.specs.Boxed.{IsKept, IsSameBox}
-use Rattle.desk_runs.specs.Refused.{bad_item_line}
+use Rattle.console_runs.specs.Store.{line_of_bad}
 use Rattle.import_runs.specs.Order.{in_order}
 use Rattle.import_runs.specs.Runs.{Scene, ImportsPart, ImportsAll}
 
@@ -49,11 +49,6 @@ pub record ImportsFolder (tables : DeskTables) (session : Session) (faults fault
   pub part : (status ≡ 4) ⊎ (status ≡ 5) → ImportsPart old.spool.files (in_order (names_of old.spool.files)) (scene_in (opened tables) old faults) (scene_in session new faults_after)
 
 -- ---- A store that isn't opened
-
--- the line of the first item that is no record
-abbrev pub line_of_bad : Result DeskTables Item → List ℕ
-line_of_bad (Ok tables) = []
-line_of_bad (Err item) = bad_item_line item.kind item.key
 
 -- Where an item is no record, its line was written whole with 6, and a first part of it with 4 and 5. With 7 nothing was written.
 -- The folder isn't listed, and the clock isn't asked.

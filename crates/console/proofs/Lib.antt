@@ -1,2 +1,9 @@
+pub mod Boxes
+pub mod Replying
+pub mod Standing
+pub mod Carrying
+pub mod Faults
+pub mod Paths
+pub mod Answered
 pub mod Takes
 pub mod Beside

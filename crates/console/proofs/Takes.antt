@@ -13,7 +13,7 @@ use Rattle.http_serving.specs.Asked.{Asked, asked_by}
 use Rattle.http_serving.specs.Visits.{CountsOf}
 use Rattle.console_answers.specs.Replies.{is_unavailable}
 use Rattle.console_answers.specs.Answers.{MayAnswer}
-use Rattle.console_replies.specs.Runs.{LeadsOn}
+use Rattle.console.specs.Runs.{LeadsOn}
 use Rattle.console.specs.States.{ConsoleState, begun, counted, TakesMoment, MayTake, IsAt}
 use Rattle.console.specs.Beside.{MayIf, IsAtIf}
 

@@ -1,2 +1,5 @@
+pub mod Runs
+pub mod Origins
+pub mod Refused
 pub mod States
 pub mod Beside

@@ -2,7 +2,7 @@
 ghost use Rattle.std.specs.Prelude.{◌≡◌, ◌++◌};
 ghost use Rattle.console.specs.States.{TakesMoment};
 
-use console_replies::{Answer, answer_request};
+use crate::{Answer, answer_request};
 use http_requests::{RequestFault, RequestParts};
 use http_serving::Service;
 use mud_base::Moment;

@@ -2,9 +2,19 @@
 //! session and at its moment, and the answers are written in order.
 #![tactic(auto)]
 
+pub mod answer;
+mod commands;
 pub mod console;
+mod heard;
+mod listings;
+mod packets;
+mod refusals;
+mod replies;
 pub mod serve;
+mod session;
+mod why;
 
+pub use answer::{Answer, answer_request};
 pub use console::Console;
 pub use http_serving::ConnectionEnd;
 pub use serve::{serve_connection, serve_connections};

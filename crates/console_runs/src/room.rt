@@ -1,5 +1,5 @@
 //! The memory that connections are served with.
-use console_replies::Answer;
+use console::Answer;
 use http_requests::RequestBuffer;
 use mud_base::Memory;
 use std::alloc::Global;

@@ -11,6 +11,8 @@ mod commands;
 #[cfg(test)]
 mod folders;
 #[cfg(test)]
+mod imported;
+#[cfg(test)]
 mod items;
 #[cfg(test)]
 mod judged;

@@ -3,7 +3,7 @@ ghost use Rattle.std.specs.Prelude.{IfOk};
 ghost use Rattle.mud_desk.specs.Boxed.{IsKept};
 ghost use Rattle.mud_desk.specs.DeskState.{tables_of};
 
-use console_replies::{Answer, answer_request};
+use console::{Answer, answer_request};
 use http_requests::{FramingFault, RequestFault, RequestParts};
 use mud_base::{Listed, Moment};
 use mud_desk::{Desk, Taken};

@@ -1,3 +1,9 @@
+pub mod Bounds
+pub mod Counted
+mod Examples
+pub mod Joins
+pub mod Names
+pub mod Rounds
 pub mod Lines
 pub mod Packets
 pub mod RanLaws

@@ -17,9 +17,9 @@ use Rattle.desk_model.specs.Sessions.{Session}
 use Rattle.mud_desk.specs.Boxed.{IsKept}
 use Rattle.mud_desk.specs.DeskState.{DeskState, session_of, tables_of}
 use Rattle.desk_runs.specs.Judged.{IsIn}
-use Rattle.drill_model.specs.Commands.{drill_commands}
-use Rattle.drill_model.specs.Counts.{count_lines, verdict_counts}
-use Rattle.drill_model.specs.Drill.{lines_in, numbers_to, session_after, verdicts_on}
+use Rattle.drill_runs.specs.Commands.{drill_commands}
+use Rattle.drill_runs.specs.Counts.{count_lines, verdict_counts}
+use Rattle.drill_runs.specs.Drill.{lines_in, numbers_to, session_after, verdicts_on}
 use Rattle.drill_runs.specs.declared.stop.Stop.{Stop}
 use Rattle.drill_runs.specs.declared.stop.Stop.TheVariants.{Keeper, Memory}
 use Rattle.drill_runs.specs.Stops.{status_at}

@@ -4,13 +4,13 @@ use Rattle.packet_judge.specs.declared.verdict.Verdict.{Verdict}
 use Rattle.desk_model.specs.Sessions.{Session, frame_in}
 use Rattle.mud_desk.specs.DeskState.{DeskState}
 use Rattle.desk_runs.specs.Judged.{IsIn}
-use Rattle.drill_model.specs.declared.counts.VerdictCounts.{VerdictCounts}
-use Rattle.drill_model.specs.Packets.{packet_frame, packet_moment}
-use Rattle.drill_model.specs.Counts.{AreAtMost, ruling_counts, verdict_counts, with_verdict}
-use Rattle.drill_model.specs.Drill.{numbers_to, session_behind, verdicts_on}
-use Rattle.drill_model.proofs.Bounds.{verdict_more, wider}
-use Rattle.drill_model.proofs.Counted.{counts_push}
-use Rattle.drill_model.proofs.Rounds.{behind_push, numbers_push, verdicts_push}
+use Rattle.drill_runs.specs.declared.counts.VerdictCounts.{VerdictCounts}
+use Rattle.drill_runs.specs.Packets.{packet_frame, packet_moment}
+use Rattle.drill_runs.specs.Counts.{AreAtMost, ruling_counts, verdict_counts, with_verdict}
+use Rattle.drill_runs.specs.Drill.{numbers_to, session_behind, verdicts_on}
+use Rattle.drill_runs.proofs.Bounds.{verdict_more, wider}
+use Rattle.drill_runs.proofs.Counted.{counts_push}
+use Rattle.drill_runs.proofs.Rounds.{behind_push, numbers_push, verdicts_push}
 
 module _ (packets before : ℕ) (s : Session) where
   abbrev here : Session

@@ -19,12 +19,12 @@ use Rattle.mud_desk.specs.Answers.{is_of_keeper}
 use Rattle.mud_desk.specs.Boxed.{IsKept, IsSameBox}
 use Rattle.mud_desk.specs.DeskState.{DeskState, session_of, tables_of, HasForwarded}
 use Rattle.desk_runs.specs.Judged.{IsIn}
-use Rattle.drill_model.specs.declared.commands.Round.TheVariants.{Announcements, Leases, Files, Hosts}
-use Rattle.drill_model.specs.Network.{thing_count, file_count, url_text}
-use Rattle.drill_model.specs.Usage.{usage_text}
-use Rattle.drill_model.specs.Commands.{approval, binding, command_moment, commands_of, drill_commands, fetched_file, round_commands}
-use Rattle.drill_model.specs.Drill.{session_after}
-use Rattle.drill_model.proofs.Rounds.{session_further}
+use Rattle.drill_runs.specs.declared.commands.Round.TheVariants.{Announcements, Leases, Files, Hosts}
+use Rattle.drill_runs.specs.Network.{thing_count, file_count, url_text}
+use Rattle.drill_runs.specs.Usage.{usage_text}
+use Rattle.drill_runs.specs.Commands.{approval, binding, command_moment, commands_of, drill_commands, fetched_file, round_commands}
+use Rattle.drill_runs.specs.Drill.{session_after}
+use Rattle.drill_runs.proofs.Rounds.{session_further}
 use Rattle.drill_runs.specs.declared.stop.Stop.{Stop}
 use Rattle.drill_runs.specs.declared.stop.Stop.TheVariants.{Keeper, Memory}
 use Rattle.drill_runs.specs.Stops.{has_keeper_failed, stop_of}

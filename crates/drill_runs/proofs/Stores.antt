@@ -28,8 +28,8 @@ use Rattle.desk_runs.specs.Refused.{IsRefusal, bad_item_line, refusal_text}
 use Rattle.desk_runs.specs.Store.{JudgesStore}
 use Rattle.desk_runs.proofs.Runs.{refused_run}
 use Rattle.desk_runs.proofs.Stores.{kept_tables}
-use Rattle.drill_model.specs.Commands.{drill_commands}
-use Rattle.drill_model.specs.Drill.{drill_text, lines_in, prepared, session_after}
+use Rattle.drill_runs.specs.Commands.{drill_commands}
+use Rattle.drill_runs.specs.Drill.{drill_text, lines_in, prepared, session_after}
 use Rattle.drill_runs.specs.Store.{DrillsFrom, Drills, DrillsStore, Leaves, holds_nothing, not_empty_line, refusal_line}
 use Rattle.drill_runs.proofs.Lines.{wrote_none}
 

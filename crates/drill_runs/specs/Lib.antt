@@ -1,3 +1,9 @@
+pub mod Commands
+pub mod Counts
+pub mod Drill
+pub mod Network
+pub mod Packets
+pub mod Usage
 pub mod Runs
 pub mod Stops
 pub mod Store

@@ -10,7 +10,7 @@ use Rattle.desk_model.specs.Sessions.{Session}
 use Rattle.mud_desk.specs.Boxed.{IsKept, IsSameBox}
 use Rattle.mud_desk.specs.DeskState.{DeskState, tables_of}
 use Rattle.desk_runs.specs.Judged.{IsIn}
-use Rattle.drill_model.specs.Drill.{session_after}
+use Rattle.drill_runs.specs.Drill.{session_after}
 use Rattle.drill_runs.specs.declared.stop.Stop.{Stop}
 use Rattle.drill_runs.specs.Stops.{has_keeper_failed}
 

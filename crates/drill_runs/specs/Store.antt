@@ -16,8 +16,8 @@ use Rattle.desk_model.specs.Items.{items_of, tables_in}
 use Rattle.desk_model.specs.Sessions.{Session, opened}
 use Rattle.mud_desk.specs.Boxed.{IsKept, IsSameBox}
 use Rattle.desk_runs.specs.Refused.{bad_item_line}
-use Rattle.drill_model.specs.Commands.{drill_commands}
-use Rattle.drill_model.specs.Drill.{session_after, lines_in, drill_text}
+use Rattle.drill_runs.specs.Commands.{drill_commands}
+use Rattle.drill_runs.specs.Drill.{session_after, lines_in, drill_text}
 
 -- none of the five lists has a row, and nothing was ever changed
 unfoldable pub holds_nothing : DeskTables → Bool

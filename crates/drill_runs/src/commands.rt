@@ -1,118 +1,108 @@
-//! The commands of a drill, one after the other.
-ghost use Rattle.std.specs.Prelude.{◌≡◌, ◌<◌, ℕ, List, [], ◌∷◌, IfErr, OnOk};
-ghost use Rattle.mud_tables.specs.declared.segment.Segment.{Segment as SegmentValue};
-ghost use Rattle.mud_world.specs.Boxed.{faults_of, Tells};
-ghost use Rattle.mud_world.specs.Causes.{Counts};
+//! The commands that set the network of a drill up, all at one moment.
+ghost use Rattle.std.specs.Prelude.{◌≡◌, IfOk};
 ghost use Rattle.desk_model.specs.Commands.{IsAsked};
-ghost use Rattle.desk_model.specs.Sessions.{MayAnswer};
-ghost use Rattle.mud_desk.specs.Answers.{is_of_keeper};
-ghost use Rattle.mud_desk.specs.Boxed.{IsKept, IsSameBox};
-ghost use Rattle.mud_desk.specs.DeskState.{session_of, tables_of};
-ghost use Rattle.drill_model.specs.Commands.{command_moment, commands_of, drill_commands, round_commands};
-ghost use Rattle.drill_runs.specs.Runs.{RanAll, RanPart};
-ghost use Rattle.drill_runs.specs.Stops.{stop_of};
+ghost use Rattle.file_tables.specs.Held.{digest_of};
+ghost use Rattle.drill_runs.specs.Commands as spec;
+ghost use Rattle.drill_runs.specs.Network.{url_text};
 
-use crate::stop::Stop;
-use desk_model::{Command, Reply};
-use drill_model::{
-    Round, announcement, approval, binding, command_moment, fetched_file, file_count, lease,
-    observation, thing_count, usage_text,
-};
-use mud_desk::Desk;
-use sorted_rows::Steps;
+use crate::network::{append_host, host_address, lease_of, mac_of, url_of};
+use desk_model::Command;
+use file_tables::OperatorVerdict;
+use file_tables::held::digest_of;
+use mud_base::{Addr, Bytes, Memory, Moment};
+use mud_tables::Class;
 use std::alloc::Global;
-use std::marker::Brand;
-use std::sync::ledger::{Blank, Ledger};
 
-/// What a command answers.
-fn reply_to<L: Ledger>(desk: &mut Desk, command: Command, blank: Blank) -> Reply
-    requires name { blank.name ≡ L.name }
-    requires parts { blank.parts ≡ L.parts }
-    requires some { 0 < L.parts }
-    requires kept { IsKept Keeper-dyn desk.old.keeper (tables_of desk.old.state) }
-    requires asked { IsAsked command }
-    ensures answer { (h : List SegmentValue) → MayAnswer (session_of h desk.old.state) command_moment command result (session_of h desk.new.state) }
-    ensures flows { desk.new.state.flows ≡ desk.old.state.flows }
-    ensures kept { IsKept Keeper-dyn desk.new.keeper (tables_of desk.new.state) }
-    ensures told { Tells Keeper-dyn desk.new.keeper → Tells Keeper-dyn desk.old.keeper }
-    ensures cause { Counts (is_of_keeper result) (faults_of Keeper-dyn desk.old.keeper) (faults_of Keeper-dyn desk.new.keeper) }
-    ensures same_box { IsSameBox desk.old.keeper desk.new.keeper }
-{
-    let mut steps = Steps::<L>::new(blank);
-    desk.command(command, command_moment(), &mut steps)
+/// The moment of the commands, in seconds.
+const COMMAND_SECONDS: u64 = 1000;
+
+/// The seconds of a lease: a day.
+const LEASE_SECONDS: u32 = 86_400;
+
+/// For so many seconds the address of a host's name is kept: an hour.
+const HOST_SECONDS: u32 = 3600;
+
+/// The IPv4 address of the DNS server: 192.0.2.53.
+pub(crate) const DNS_ADDRESS: u32 = 0xC000_0235;
+
+/// The class of DNS servers (RFC 8520, 4.6).
+const DNS_CLASS: &[u8] = b"urn:ietf:params:mud:dns";
+
+/// A round of commands over the Things.
+#[derive(Clone, Copy, Debug, PartialEq, Eq)]
+pub enum Round {
+    /// Each Thing announces its MUD URL.
+    Announcements,
+    /// Each gets its address.
+    Leases,
+    /// The usage file of its model is fetched, and then approved.
+    Files,
+    /// The host with which it speaks is observed.
+    Hosts,
 }
 
-/// What a reply means for the drill, which goes on where the command is refused.
-fn unless_stopped(reply: Reply) -> Result<(), Stop>
-    ensures { result ≡ stop_of reply }
+/// The moment of every command.
+pub fn command_moment() -> Moment
+    ensures { result ≡ spec.command_moment }
 {
-    match reply {
-        Reply::Done(_) | Reply::Refused(_) => Ok(()),
-        Reply::Keeper => Err(Stop::Keeper),
-        Reply::Memory => Err(Stop::Memory),
-    }
+    Moment::at_most_last(COMMAND_SECONDS)
 }
 
-/// Runs a command. One that is refused changes nothing.
-fn run(desk: &mut Desk, command: Command) -> Result<(), Stop>
-    requires kept { IsKept Keeper-dyn desk.old.keeper (tables_of desk.old.state) }
-    requires asked { IsAsked command }
-    ensures all { OnOk result (RanAll Keeper-dyn (command ∷ []) desk.old.keeper desk.old.state desk.new.keeper desk.new.state) }
-    ensures part { IfErr result (λ stop. RanPart Keeper-dyn stop (command ∷ []) desk.old.keeper desk.old.state desk.new.keeper desk.new.state) }
+/// The Thing announces the URL of its model.
+#[tactic(auto, unfolding(crate::specs::Commands::announcement))]
+pub fn announcement(alloc: Global, thing: u16) -> Result<Command, Memory>
+    ensures made { IfOk result (λ command. command ≡ spec.announcement thing) }
+    ensures asked { IfOk result (λ command. IsAsked command) }
 {
-    unless_stopped(reply_to::<Brand>(desk, command, Blank::new(1)))
+    let url = url_of(alloc, thing)?;
+    Ok(Command::HearUrl(mac_of(thing), url))
 }
 
-/// The usage file of a Thing's model is fetched, and approved.
-fn run_files(alloc: Global, desk: &mut Desk, thing: u16) -> Result<(), Stop>
-    requires kept { IsKept Keeper-dyn desk.old.keeper (tables_of desk.old.state) }
-    ensures all { OnOk result (RanAll Keeper-dyn (commands_of Round.Files thing) desk.old.keeper desk.old.state desk.new.keeper desk.new.state) }
-    ensures part { IfErr result (λ stop. RanPart Keeper-dyn stop (commands_of Round.Files thing) desk.old.keeper desk.old.state desk.new.keeper desk.new.state) }
+/// A DHCP server gives the Thing its address.
+#[tactic(auto, unfolding(crate::specs::Commands::lease))]
+pub fn lease(thing: u16) -> Command
+    ensures made { result ≡ spec.lease thing }
+    ensures asked { IsAsked result }
 {
-    let file = usage_text(alloc, thing)?;
-    let approved = approval(alloc, thing, file.octets())?;
-    run(desk, fetched_file(file))?;
-    run(desk, approved)
+    Command::HearLease(mac_of(thing), Addr::V4(lease_of(thing)), LEASE_SECONDS)
 }
 
-/// What a round does for one Thing.
-fn run_for(alloc: Global, desk: &mut Desk, round: Round, thing: u16) -> Result<(), Stop>
-    requires kept { IsKept Keeper-dyn desk.old.keeper (tables_of desk.old.state) }
-    ensures all { OnOk result (RanAll Keeper-dyn (commands_of round thing) desk.old.keeper desk.old.state desk.new.keeper desk.new.state) }
-    ensures part { IfErr result (λ stop. RanPart Keeper-dyn stop (commands_of round thing) desk.old.keeper desk.old.state desk.new.keeper desk.new.state) }
+/// The octets, which are a usage file of the drill, are fetched.
+pub fn fetched_file(file: Bytes) -> Command
+    ensures made { result ≡ Command.Import file spec.command_moment }
+    ensures asked { IsAsked result }
 {
-    match round {
-        Round::Announcements => run(desk, announcement(alloc, thing)?),
-        Round::Leases => run(desk, lease(thing)),
-        Round::Files => run_files(alloc, desk, thing),
-        Round::Hosts => run(desk, observation(alloc, thing)?),
-    }
+    Command::Import(file, command_moment())
 }
 
-/// A round over the Things from 1 on, so many.
-fn run_round(alloc: Global, desk: &mut Desk, round: Round, count: u16) -> Result<(), Stop>
-    requires kept { IsKept Keeper-dyn desk.old.keeper (tables_of desk.old.state) }
-    ensures all { OnOk result (RanAll Keeper-dyn (round_commands round count) desk.old.keeper desk.old.state desk.new.keeper desk.new.state) }
-    ensures part { IfErr result (λ stop. RanPart Keeper-dyn stop (round_commands round count) desk.old.keeper desk.old.state desk.new.keeper desk.new.state) }
+/// The usage file of the Thing's model, which has these octets, is approved without a signature.
+pub fn approval(alloc: Global, thing: u16, file: &[u8]) -> Result<Command, Memory>
+    ensures made { IfOk result (λ command. command ≡ Command.Verdict (url_text thing) (digest_of file.now) OperatorVerdict.Waived) }
+    ensures asked { IfOk result (λ command. IsAsked command) }
 {
-    for before in 0..count {
-        run_for(alloc, desk, round, before + 1)?;
-    }
-    Ok(())
+    let url = url_of(alloc, thing)?;
+    let digest = Bytes::new(alloc, &digest_of(file))?;
+    Ok(Command::Verdict(url, digest, OperatorVerdict::Waived))
 }
 
-/// All commands of a drill with so many packets.
-pub(crate) fn run_commands(alloc: Global, desk: &mut Desk, packets: u32) -> Result<(), Stop>
-    requires kept { IsKept Keeper-dyn desk.old.keeper (tables_of desk.old.state) }
-    ensures all { OnOk result (RanAll Keeper-dyn (drill_commands packets) desk.old.keeper desk.old.state desk.new.keeper desk.new.state) }
-    ensures part { IfErr result (λ stop. RanPart Keeper-dyn stop (drill_commands packets) desk.old.keeper desk.old.state desk.new.keeper desk.new.state) }
+/// The DNS server is bound to its class.
+#[tactic(auto, unfolding(crate::specs::Commands::binding, mud_tables::specs::Binds::is_class, mud_tables::specs::Binds::is_class_uri))]
+pub fn binding(alloc: Global) -> Result<Command, Memory>
+    ensures made { IfOk result (λ command. command ≡ spec.binding) }
+    ensures asked { IfOk result (λ command. IsAsked command) }
 {
-    let things = thing_count(packets);
-    let files = file_count(packets);
-    let bound = binding(alloc)?;
-    run_round(alloc, desk, Round::Announcements, things)?;
-    run_round(alloc, desk, Round::Leases, things)?;
-    run_round(alloc, desk, Round::Files, files)?;
-    run(desk, bound)?;
-    run_round(alloc, desk, Round::Hosts, files)
+    let class = Class::Uri(Bytes::new(alloc, DNS_CLASS)?);
+    Ok(Command::Bind(class, Addr::V4(DNS_ADDRESS)))
+}
+
+/// The host with which the Thing speaks is observed at its address.
+#[tactic(auto, using(crate::proofs::Names::host_is_name), unfolding(crate::specs::Commands::observation))]
+pub fn observation(alloc: Global, thing: u16) -> Result<Command, Memory>
+    ensures made { IfOk result (λ command. command ≡ spec.observation thing) }
+    ensures asked { IfOk result (λ command. IsAsked command) }
+{
+    let mut name = Bytes::empty(alloc);
+    append_host(&mut name, thing)?;
+    let address = Addr::V4(host_address(thing));
+    Ok(Command::Observe(name, address, HOST_SECONDS))
 }

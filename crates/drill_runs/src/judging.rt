@@ -2,10 +2,10 @@
 ghost use Rattle.std.specs.Prelude.{◌≡◌, ◌<◌, IfOk, OnOk};
 ghost use Rattle.desk_model.specs.Sessions.{Session, frame_in};
 ghost use Rattle.desk_runs.specs.Judged.{IsIn};
-ghost use Rattle.drill_model.specs.Counts.{verdict_counts};
-ghost use Rattle.drill_model.specs.Drill.{numbers_to, verdicts_on};
+ghost use Rattle.drill_runs.specs.Counts.{verdict_counts};
+ghost use Rattle.drill_runs.specs.Drill.{numbers_to, verdicts_on};
 
-use drill_model::{VerdictCounts, packet_moment, write_packet};
+use crate::{VerdictCounts, packet_moment, write_packet};
 use mud_base::{Bytes, Memory, Moment};
 use mud_desk::{State, Verdict};
 use sorted_rows::Steps;

@@ -2,10 +2,22 @@
 //! judged, and the counts of the verdicts are written.
 #![tactic(auto)]
 
-mod commands;
+pub mod commands;
+pub mod counts;
 mod desk;
 mod judging;
+pub mod network;
+pub mod packets;
+mod running;
 mod stop;
 pub mod store;
+pub mod usage;
 
+pub use commands::{
+    Round, announcement, approval, binding, command_moment, fetched_file, lease, observation,
+};
+pub use counts::{RulingCounts, VerdictCounts, append_counts};
+pub use network::{file_count, thing_count};
+pub use packets::{packet_moment, write_packet};
 pub use store::run_drill;
+pub use usage::usage_text;

@@ -15,8 +15,6 @@ mod dates;
 #[cfg(test)]
 mod entries;
 #[cfg(test)]
-mod imported;
-#[cfg(test)]
 mod members;
 #[cfg(test)]
 mod refusals;

@@ -8,7 +8,7 @@ use Rattle.mud_desk.specs.DeskState.{DeskState, session_of}
 use Rattle.desk_model.specs.declared.command.Command.TheVariants.{Import}
 use Rattle.desk_model.specs.declared.reply.Reply.{Reply}
 use Rattle.desk_model.specs.Sessions.{MayAnswer}
-use Rattle.import_lines.specs.Names.{fetched_in}
+use Rattle.import_runs.specs.Names.{fetched_in}
 use Rattle.import_runs.specs.Entries.{is_of_memory}
 use Rattle.import_runs.specs.Imports.{MayLead, octets_of, standing}
 

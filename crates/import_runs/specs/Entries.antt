@@ -3,7 +3,7 @@ use Rattle.std.specs.Prelude.{ℕ, ◌+◌, max, Bool, true, false, if◌then◌
 use Rattle.desk_model.specs.declared.reply.Reply.{Reply}
 use Rattle.desk_model.specs.declared.reply.Reply.TheVariants.{Done, Refused, Keeper, Memory}
 use Rattle.mud_desk.specs.Answers.{is_of_keeper}
-use Rattle.import_lines.specs.Lines.{reply_line, skipped_line}
+use Rattle.import_runs.specs.Lines.{reply_line, skipped_line}
 
 -- a name, and what was replied to the import of its file; none where the name has another form and is skipped
 pub record Entry : Type 0 where

@@ -8,7 +8,7 @@ use Rattle.desk_model.specs.declared.reply.Reply.{Reply}
 use Rattle.desk_model.specs.Sessions.{Session, MayAnswer}
 use Rattle.mud_tables.specs.declared.segment.Segment.{Segment}
 use Rattle.mud_desk.specs.DeskState.{DeskState, session_of}
-use Rattle.import_lines.specs.Names.{fetched_in}
+use Rattle.import_runs.specs.Names.{fetched_in}
 use Rattle.import_runs.specs.Entries.{Entry, is_of_memory}
 
 -- the octets that a read of the file gives

@@ -1,3 +1,5 @@
+pub mod Names
+pub mod Lines
 pub mod Entries
 pub mod Imports
 pub mod Order

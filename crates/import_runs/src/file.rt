@@ -15,9 +15,9 @@ ghost use Rattle.import_runs.specs.Imports.{MayLead, standing};
 ghost use Rattle.import_runs.specs.Runs.{ImportsPart, ImportsAll, StaysKept, scene};
 ghost use Rattle.command_runs.specs.Stops.{has_failed};
 
+use crate::{append_reply, append_skipped, fetched_in};
 use command_runs::{Status, Stop};
 use desk_model::{Command, Reply};
-use import_lines::{append_reply, append_skipped, fetched_in};
 use mud_base::{Bytes, Memory};
 use mud_desk::Desk;
 use mud_world::{Clock, Door, Spool, say};

@@ -4,6 +4,10 @@
 
 mod file;
 pub mod folder;
+pub mod line;
+pub mod name;
 mod names;
 
 pub use folder::import_files;
+pub use line::{append_reply, append_skipped};
+pub use name::fetched_in;

@@ -7,7 +7,7 @@ use Rattle.file_tables.specs.Due.{is_due, due_files, due_urls}
 use Rattle.command_words.specs.declared.command.ReportKind.{ReportKind}
 use Rattle.command_words.specs.declared.command.ReportKind.TheVariants.{Due}
 use Rattle.desk_model.specs.DeskTables.{DeskTables}
-use Rattle.report_lines.specs.Rows.{due_line}
+use Rattle.report_runs.specs.Rows.{due_line}
 use Rattle.report_runs.specs.Tables.{due_moment, due_part, table_text}
 
 due_step : (now : ℕ) (row : CachedFile) (files : List CachedFile) (b : Bool) → is_due now row ≡ b → flat_map (due_part now) files ≡ flat_map due_line (due_urls now files)

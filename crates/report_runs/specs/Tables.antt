@@ -6,7 +6,7 @@ use Rattle.command_words.specs.declared.command.ReportKind.TheVariants.{Things, 
 use Rattle.file_tables.specs.declared.cached_file.CachedFile.{CachedFile}
 use Rattle.file_tables.specs.Due.{is_due, due_urls}
 use Rattle.desk_model.specs.DeskTables.{DeskTables}
-use Rattle.report_lines.specs.Rows.{thing_lines, file_line, class_lines, local_line, name_lines, due_line}
+use Rattle.report_runs.specs.Rows.{thing_lines, file_line, class_lines, local_line, name_lines, due_line}
 
 -- ---- The clock
 

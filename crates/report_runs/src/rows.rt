@@ -6,12 +6,12 @@ ghost use Rattle.command_runs.specs.Due.{WroteFirst};
 ghost use Rattle.command_runs.specs.Stops.{has_failed};
 ghost use Rattle.report_runs.specs.Tables.{due_part};
 
+use crate::{ReportRow, append_due};
 use command_runs::Stop;
 use file_cache::is_due;
 use file_tables::CachedFile;
 use mud_base::{Bytes, Memory, Moment};
 use mud_world::{Door, say};
-use report_lines::{ReportRow, append_due};
 use std::alloc::Global;
 
 /// Writes the lines of a row.

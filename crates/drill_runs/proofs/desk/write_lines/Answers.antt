@@ -2,7 +2,7 @@ use Rattle.std.proofs.Common.{◌≡◌, List, ℕ, length, ap, sym, subst, ◌�
 use Rattle.desk_model.specs.Sessions.{Session}
 use Rattle.mud_desk.specs.DeskState.{DeskState}
 use Rattle.desk_runs.specs.Judged.{IsIn}
-use Rattle.drill_model.specs.Drill.{lines_in}
+use Rattle.drill_runs.specs.Drill.{lines_in}
 use Rattle.drill_runs.proofs.Lines.{first_same, lines_of_desk, wrote_same}
 use Rattle.drill_runs.proofs.desk.write_lines.Goals as goal
 

@@ -1,4 +1,4 @@
-use Rattle.drill_model.specs.Drill.{numbers_to, session_behind}
+use Rattle.drill_runs.specs.Drill.{numbers_to, session_behind}
 use Rattle.drill_runs.proofs.Packets.{counted_next, none_counted, reached_next, small_next}
 use Rattle.drill_runs.proofs.judging.judge_packets.Goals as goal
 

@@ -1,8 +1,8 @@
 use Rattle.std.proofs.Common.{◌≡◌, ◌*◌}
 use Rattle.desk_model.specs.Sessions.{Session}
 use Rattle.desk_runs.specs.Judged.{IsIn}
-use Rattle.drill_model.specs.Counts.{AreAtMost, verdict_counts}
-use Rattle.drill_model.specs.Drill.{numbers_to, session_behind, verdicts_on}
+use Rattle.drill_runs.specs.Counts.{AreAtMost, verdict_counts}
+use Rattle.drill_runs.specs.Drill.{numbers_to, session_behind, verdicts_on}
 use Rattle.drill_runs.proofs.judging.judge_packets.Given as goal
 
 abbrev pub invariant-loop-before : goal.invariant-loop-before

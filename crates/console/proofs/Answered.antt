@@ -1,0 +1,103 @@
+-- A reply is answered.
+use Rattle.std.proofs.Common.{◌≡◌, ℕ, Bool, List, refl, sym, ap, ◌∙◌, subst, inl, inr}
+use Rattle.std.specs.Prelude.{Result, Ok, Err, Option, None, length, max, ◌++◌}
+use Rattle.console_routes.specs.declared.route.Route.{Route}
+use Rattle.http_answers.specs.Heads.{head_of, shown, answer_of}
+use Rattle.http_requests.specs.Requests.{Request}
+use Rattle.http_requests.specs.declared.fault.MomentFrom.{MomentFrom}
+use Rattle.http_requests.specs.declared.parts.RequestParts.{RequestParts}
+use Rattle.http_requests.specs.Parts.{AreParts}
+use Rattle.http_answers.specs.declared.status.Status.{Status}
+use Rattle.mud_tables.specs.declared.segment.Segment.{Segment}
+use Rattle.desk_model.specs.Sessions.{Session, later}
+use Rattle.console_routes.specs.Routes.{route_of}
+use Rattle.mud_desk.specs.DeskState.{DeskState, session_of, HasForwarded}
+use Rattle.console_answers.specs.declared.question.Question.{Question}
+use Rattle.console_answers.specs.declared.question.NoQuestion.{NoQuestion}
+use Rattle.console_answers.specs.Replies.{Reply, reply, replied, no_storage, IsOrWanted, MayStand}
+use Rattle.console_answers.specs.Asks.{question_of, by_route, refusal_of}
+use Rattle.console_answers.specs.Requests.{question_in, by_result, reply_in, MayFailBy, MayFail, MayReply, by_question, ChangesBy, command_asked}
+use Rattle.http_requests.specs.Framing.{is_head}
+use Rattle.console_answers.specs.Answers.{octets_of, MayAnswer}
+use Rattle.reading.specs.declared.refusal.Refusal.{Refusal}
+use Rattle.reading.specs.declared.refusal.Refusal.TheVariants.{Memory, Broken}
+use Rattle.reading.specs.Reading.{Fails}
+use Rattle.console.specs.Refused.{IsRefusalOf}
+use Rattle.console.specs.Runs.{LeadsOn}
+use Rattle.console.specs.declared.refusals.ReplyHead.{ReplyHead}
+use Rattle.console.proofs.Paths.{route_again}
+
+-- what the parts of a request ask for is what the request asks for
+pub question_here : (from : MomentFrom) (r : Request) (parts : RequestParts) (now : ℕ) → AreParts from r parts → question_of parts.method.now parts.path.now parts.body.now now ≡ question_of r.head.method r.head.target r.body now
+unfolding question_of
+question_here from r parts now are =
+    (λ i. by_route (route_of (are.path i)) (are.method i) (are.body i) now)
+    ∙ ap (λ route. by_route route r.head.method r.body now) (route_again r.head)
+
+-- what stands for the question stands for the request
+module _ (session after : Session) (given : ℕ) (r : Request) (reply : Reply) where
+  pub asked : (question : Question) → question_in session given r ≡ Ok question
+      → MayStand (ChangesBy session given (command_asked question.asked)) session (by_question session given r.body question.action question.asked) reply after → MayReply session given r reply after
+  unfolding reply_in MayFail
+  asked question is stands =
+      subst (λ (q : Result Question NoQuestion). MayStand (MayFailBy session given q) session (by_result session given r.body q) reply after) (sym is) stands
+
+  pub refused : (nothing : NoQuestion) → question_in session given r ≡ Err nothing → IsOrWanted (refusal_of nothing) reply → after ≡ session → MayReply session given r reply after
+  unfolding reply_in MayFail
+  refused nothing is or same =
+      subst (λ (q : Result Question NoQuestion). MayStand (MayFailBy session given q) session (by_result session given r.body q) reply after) (sym is)
+      (elim or.one [ inl said ↦ record { one = inl (inl (λ i. replied (sym said i) (sym same i))) } | inr want ↦ record { one = inl (inr (want, same)) } ])
+
+  pub wanted : reply ≡ no_storage → after ≡ session → MayReply session given r reply after
+  wanted is same = record { one = inl (inr (is, same)) }
+
+-- a reply is answered by its octets
+pub answered : (h : List Segment) (before after : DeskState) (given : ℕ) (r : Request) (closes : Bool) (reply : Reply) (octets method : List ℕ) → method ≡ r.head.method → octets ≡ octets_of method closes reply
+    → LeadsOn h before after (λ s t. MayReply s given r reply t) → LeadsOn h before after (λ s t. MayAnswer s given r closes reply.status octets t)
+answered h before after given r closes reply octets method is octets_are leads = record {
+  next = leads.next;
+  leads = record { reply = reply; may = leads.leads; status_is = refl; octets_are = octets_are ∙ ap (λ (m : List ℕ). octets_of m closes reply) is };
+  forwarded = leads.forwarded;
+}
+
+-- the octets in two pieces
+pub octets_are : (head body : List ℕ) (len : ℕ) (by_head closes : Bool) (status : Status) (allow : Option Route) (method : List ℕ) → head ≡ head_of status allow len closes → len ≡ length body → by_head ≡ is_head method
+    → head ++ shown by_head body ≡ octets_of method closes (record { status = status; allow = allow; body = body })
+unfolding octets_of answer_of
+octets_are head body len by_head closes status allow method head_is len_is is =
+    λ i. (head_is ∙ ap (λ n. head_of status allow n closes) len_is) i ++ shown (is i) body
+
+-- ---- What stands for a request, by the question that its parts ask
+
+module _ (from : MomentFrom) (r : Request) (parts : RequestParts) (are : AreParts from r parts) (h : List Segment) (before : DeskState) (given now : ℕ) (is : now ≡ max before.moment given) where
+  -- the question is taken at the later moment
+  asked_at : question_in (session_of h before) given r ≡ question_of parts.method.now parts.path.now parts.body.now now
+  unfolding question_in session_of later
+  asked_at = sym (question_here from r parts now are ∙ ap (λ n. question_of r.head.method r.head.target r.body n) is)
+
+  pub leads_asked : (after : DeskState) (reply : Reply) (question : Question) → question_of parts.method.now parts.path.now parts.body.now now ≡ Ok question
+      → LeadsOn h before after (λ s t. MayStand (ChangesBy s given (command_asked question.asked)) s (by_question s given parts.body.now question.action question.asked) reply t)
+      → LeadsOn h before after (λ s t. MayReply s given r reply t)
+  leads_asked after reply question says leads = record {
+    next = leads.next;
+    leads = asked (session_of h before) (session_of leads.next after) given r reply question (asked_at ∙ says)
+        (subst (λ (body : List ℕ). MayStand (ChangesBy (session_of h before) given (command_asked question.asked)) (session_of h before) (by_question (session_of h before) given body question.action question.asked) reply (session_of leads.next after)) are.body leads.leads);
+    forwarded = leads.forwarded;
+  }
+
+  pub leads_refused : (reply : Reply) (nothing : NoQuestion) → question_of parts.method.now parts.path.now parts.body.now now ≡ Err nothing → IsOrWanted (refusal_of nothing) reply → HasForwarded h before
+      → LeadsOn h before before (λ s t. MayReply s given r reply t)
+  leads_refused reply nothing says or forwarded = record { next = h; leads = refused (session_of h before) (session_of h before) given r reply nothing (asked_at ∙ says) or refl; forwarded = forwarded }
+
+  pub leads_wanted : (reply : Reply) → reply ≡ no_storage → HasForwarded h before → LeadsOn h before before (λ s t. MayReply s given r reply t)
+  leads_wanted reply is_wanted forwarded = record { next = h; leads = wanted (session_of h before) (session_of h before) given r reply is_wanted refl; forwarded = forwarded }
+
+  pub leads_unasked : (reply : Reply) (unasked : Refusal NoQuestion) → Fails unasked (question_of parts.method.now parts.path.now parts.body.now now) → IsRefusalOf unasked reply → HasForwarded h before
+      → LeadsOn h before before (λ s t. MayReply s given r reply t)
+  leads_unasked reply Memory says is_refusal forwarded = leads_wanted reply is_refusal forwarded
+  leads_unasked reply (Broken nothing) says is_refusal forwarded = leads_refused reply nothing says is_refusal forwarded
+
+-- a reply that names no methods
+pub plain_is : (head : ReplyHead) (status : Status) (body : List ℕ) → head ≡ record { status = status; allow = None } → ◌≡◌ {A = Reply} (record { status = head.status; allow = head.allow; body = body }) (reply status body)
+unfolding reply
+plain_is head status body is = ap (λ (h : ReplyHead). record { status = h.status; allow = h.allow; body = body }) is

@@ -1,0 +1,53 @@
+-- Replies as they are written.
+use Rattle.std.proofs.Common.{◌≡◌, ℕ, false, List, None, Result, Ok, Err, refl, sym, ap, ◌∙◌, subst, inl, inr}
+use Rattle.std.specs.Prelude.{IfOk}
+use Rattle.mud_base.specs.declared.memory.Memory as want
+use Rattle.http_answers.specs.declared.status.Status.{Status}
+use Rattle.file_tables.specs.declared.cache_fault.CacheFault.{CacheFault}
+use Rattle.file_tables.specs.declared.cache_fault.CacheFault.TheVariants as file
+use Rattle.desk_model.specs.declared.reply.Refusal.{Refusal}
+use Rattle.desk_model.specs.declared.reply.Refusal.TheVariants.{Things, Files, Binds}
+use Rattle.listing_bodies.specs.Refusals.{refusal_status, files_status}
+use Rattle.body_members.specs.declared.fault.BodyFault.{BodyFault}
+use Rattle.listing_bodies.specs.Refusals.{body_fault_body}
+use Rattle.http_answers.specs.declared.status.Status.TheVariants.{BadRequest}
+use Rattle.console_answers.specs.declared.question.NoQuestion.{NoQuestion}
+use Rattle.console_answers.specs.declared.question.NoQuestion.TheVariants.{BadBody}
+use Rattle.console_answers.specs.Asks.{refusal_of}
+use Rattle.console.specs.declared.refusals.ReplyHead.{ReplyHead}
+use Rattle.console_answers.specs.Replies.{Reply, reply, made_reply, is_unavailable, IsOrWanted}
+
+pub defined : (given is : Reply) → given ≡ is → IsOrWanted is given
+defined given is same = record { one = inl same }
+
+-- a body that was made, or for which there was no memory
+pub made : (status : Status) (text : List ℕ) (body : Result (List ℕ) want.Memory) (given : Reply) → IfOk body (λ b. b ≡ text) → given ≡ made_reply status body → IsOrWanted (reply status text) given
+unfolding made_reply
+made status text (Ok b) given is same = record { one = inl (same ∙ ap (reply status) is) }
+made status text (Err memory) given is same = record { one = inr same }
+
+files_known : (fault : CacheFault) → is_unavailable (files_status fault) ≡ false
+files_known (file.File broken) = refl
+files_known file.Memory = refl
+files_known file.Older = refl
+files_known file.CacheFull = refl
+files_known file.NoCandidate = refl
+files_known file.Digest = refl
+files_known file.NoSignature = refl
+files_known file.NotApproved = refl
+files_known file.PolicyFull = refl
+
+pub refusal_known : (refusal : Refusal) → is_unavailable (refusal_status refusal) ≡ false
+unfolding refusal_status
+refusal_known (Things fault) = refl
+refusal_known (Files fault) = files_known fault
+refusal_known (Binds fault) = refl
+
+-- a body that breaks a rule
+pub bad_body : (nothing : NoQuestion) (fault : BodyFault) (head : ReplyHead) (status : Status) (text : List ℕ) (body : Result (List ℕ) want.Memory) → nothing ≡ BadBody fault → head ≡ record { status = status; allow = None }
+    → IfOk body (λ b. b ≡ body_fault_body fault) → reply status text ≡ made_reply BadRequest body → IsOrWanted (refusal_of nothing) (record { status = head.status; allow = head.allow; body = text })
+unfolding refusal_of reply
+bad_body nothing fault head status text body is head_is text_is reply_is =
+    subst (λ (n : NoQuestion). IsOrWanted (refusal_of n) (record { status = head.status; allow = head.allow; body = text })) (sym is)
+    (subst (λ (h : ReplyHead). IsOrWanted (refusal_of (BadBody fault)) (record { status = h.status; allow = h.allow; body = text })) (sym head_is)
+    (made BadRequest (body_fault_body fault) body (reply status text) text_is reply_is))

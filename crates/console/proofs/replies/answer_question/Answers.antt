@@ -1,0 +1,33 @@
+use Rattle.console_bodies.specs.declared.asked.Asked.TheVariants as asked
+use Rattle.console_answers.specs.Replies.{reply}
+use Rattle.console_answers.specs.Requests.{by_question, command_asked}
+use Rattle.console.specs.Origins.{said_of}
+use Rattle.console.proofs.Standing.{as_asked, told}
+use Rattle.console.proofs.replies.answer_question.Goals as goal
+
+pub returns-in-Command-clause-reply : goal.returns-in-Command-clause-reply
+unfolding by_question command_asked said_of
+returns-in-Command-clause-reply g c = λ h forwarded.
+    as_asked h c.args.desk.now.state c.answer_command.new.desk.state c.args.given c.args.octets.now c.args.question.action c.args.question.asked (asked.Command c.in-Command.command) (reply c.answer_command.result c.answer_command.new.body) c.in-Command.is (c.answer_command.ensures.reply h forwarded)
+
+pub returns-in-Heard-clause-reply : goal.returns-in-Heard-clause-reply
+unfolding by_question command_asked
+returns-in-Heard-clause-reply g c = λ h forwarded.
+    as_asked h c.args.desk.now.state c.answer_heard.new.desk.state c.args.given c.args.octets.now c.args.question.action c.args.question.asked (asked.Heard c.in-Heard.heard) (reply c.answer_heard.result c.answer_heard.new.body) c.in-Heard.is (c.answer_heard.ensures.reply h forwarded)
+
+pub returns-in-List-clause-reply : goal.returns-in-List-clause-reply
+unfolding by_question command_asked
+returns-in-List-clause-reply g c = λ h forwarded.
+    as_asked h c.args.desk.now.state c.answer_listing.new.desk.state c.args.given c.args.octets.now c.args.question.action c.args.question.asked (asked.List c.in-List.listing) (reply c.answer_listing.result c.answer_listing.new.body) c.in-List.is (c.answer_listing.ensures.reply h forwarded)
+
+pub returns-in-Judge-clause-reply : goal.returns-in-Judge-clause-reply
+unfolding by_question command_asked
+returns-in-Judge-clause-reply g c = λ h forwarded.
+    as_asked h c.args.desk.now.state c.answer_frame.new.desk.state c.args.given c.args.octets.now c.args.question.action c.args.question.asked asked.Judge (reply c.answer_frame.result c.answer_frame.new.body) c.in-Judge.is (c.answer_frame.ensures.reply h forwarded)
+
+pub returns-in-Why-clause-reply : goal.returns-in-Why-clause-reply
+unfolding by_question command_asked
+returns-in-Why-clause-reply g c = λ h forwarded.
+    let written = reply c.answer_why.result c.answer_why.new.body in
+    as_asked h c.args.desk.now.state c.args.desk.now.state c.args.given c.args.octets.now c.args.question.action c.args.question.asked asked.Why written c.in-Why.is
+    (told c.args.octets.now h c.args.desk.now.state c.args.given written (c.answer_why.ensures.reply h forwarded) forwarded)

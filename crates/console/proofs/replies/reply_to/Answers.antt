@@ -1,0 +1,21 @@
+use Rattle.std.proofs.Common.{ap, subst, sym, ◌∙◌}
+use Rattle.std.specs.Prelude.{max}
+use Rattle.console_answers.specs.Replies.{Reply, reply}
+use Rattle.console_answers.specs.Requests.{MayReply}
+use Rattle.console.specs.Runs.{LeadsOn}
+use Rattle.console.proofs.Answered.{plain_is, leads_asked, leads_unasked}
+use Rattle.console.proofs.replies.reply_to.Goals as goal
+
+pub returns-in-Ok-clause-reply : goal.returns-in-Ok-clause-reply
+returns-in-Ok-clause-reply g c = λ from r parts h forwarded.
+    let before = c.args.desk.now.state in
+    let after = c.answer_question.new.desk.state in
+    let said = reply c.answer_question.result c.answer_question.new.body in
+    subst (λ (w : Reply). LeadsOn h before after (λ s t. MayReply s c.args.given r w t)) (sym (plain_is c.plain.result c.answer_question.result c.answer_question.new.body c.plain.ensures))
+    (leads_asked from r c.args.request.now parts h before c.args.given c.later-now.result (c.later-now.ensures ∙ ap (λ m. max m c.args.given) c.moment.ensures) after said
+    c.in-Ok.question c.in-Ok.ensures.question (c.answer_question.ensures.reply h forwarded))
+
+pub returns-in-Err-clause-reply : goal.returns-in-Err-clause-reply
+returns-in-Err-clause-reply g c = λ from r parts h forwarded.
+    leads_unasked from r c.args.request.now parts h c.args.desk.now.state c.args.given c.later-now.result (c.later-now.ensures ∙ ap (λ m. max m c.args.given) c.moment.ensures)
+    (record { status = c.refuse_unasked.result.status; allow = c.refuse_unasked.result.allow; body = c.refuse_unasked.new.body }) c.in-Err.unasked c.in-Err.ensures.question c.refuse_unasked.ensures.reply forwarded

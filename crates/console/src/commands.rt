@@ -1,0 +1,155 @@
+//! Commands: what an operator states, a usage file that was fetched, and what was heard.
+ghost use Rattle.std.specs.Prelude.{◌≡◌, ◌<◌, false, ℕ, List};
+ghost use Rattle.mud_world.specs.Boxed.{faults_of, Tells};
+ghost use Rattle.mud_world.specs.Causes.{Counts};
+ghost use Rattle.mud_tables.specs.declared.segment.Segment.{Segment as SegmentValue};
+ghost use Rattle.desk_model.specs.Commands.{IsAsked};
+ghost use Rattle.desk_model.specs.Sessions.{MayAnswer, command_in};
+ghost use Rattle.mud_desk.specs.DeskState.{tables_of, session_of, HasForwarded};
+ghost use Rattle.mud_desk.specs.Boxed.{IsKept, IsSameBox};
+ghost use Rattle.mud_desk.specs.Answers.{is_of_keeper};
+ghost use Rattle.console_answers.specs.Replies.{reply, is_unavailable, IsOrWanted, MayStand};
+ghost use Rattle.console_answers.specs.Requests.{Changes, by_command, outcome_body};
+ghost use Rattle.listing_bodies.specs.Refusals as refusals;
+ghost use Rattle.console.specs.Runs.{LeadsOn};
+ghost use Rattle.console.specs.Origins.{said_of, HasTexts, IsWritten};
+
+use crate::refusals::want_memory;
+use console_answers::BodyText;
+use console_routes::Action;
+use desk_model::{Command, Outcome, Refusal, Reply};
+use dhcp_lldp::Heard;
+use http_answers::Status;
+use listing_bodies::{refusal_body, refusal_status};
+use mud_base::Moment;
+use mud_desk::Desk;
+use outcome_bodies::HeardTexts;
+use sorted_rows::Steps;
+use std::alloc::Global;
+use std::marker::Brand;
+use std::sync::ledger::{Blank, Ledger};
+
+/// Where a command comes from, which decides what its answer tells.
+#[derive(Drop, Debug)]
+pub(crate) enum Origin {
+    /// The operator states it, or a usage file was fetched.
+    Asked(Action),
+    /// It was heard, and these are the texts of its addresses.
+    Heard(Heard, HeardTexts),
+}
+
+/// Runs a command, and counts its steps for nobody.
+fn run_counted<L: Ledger>(desk: &mut Desk, command: Command, given: Moment, blank: Blank) -> Reply
+    requires name { blank.name ≡ L.name }
+    requires parts { blank.parts ≡ L.parts }
+    requires some { 0 < L.parts }
+    requires kept { IsKept Keeper-dyn desk.old.keeper (tables_of desk.old.state) }
+    requires asked { IsAsked command }
+    ensures answer { (h : List SegmentValue) → MayAnswer (session_of h desk.old.state) given command result (session_of h desk.new.state) }
+    ensures flows { desk.new.state.flows ≡ desk.old.state.flows }
+    ensures kept { IsKept Keeper-dyn desk.new.keeper (tables_of desk.new.state) }
+    ensures told { Tells Keeper-dyn desk.new.keeper → Tells Keeper-dyn desk.old.keeper }
+    ensures cause { Counts (is_of_keeper result) (faults_of Keeper-dyn desk.old.keeper) (faults_of Keeper-dyn desk.new.keeper) }
+    ensures same_box { IsSameBox desk.old.keeper desk.new.keeper }
+{
+    let mut steps = Steps::<L>::new(blank);
+    desk.command(command, given, &mut steps)
+}
+
+/// Runs a command.
+fn run(desk: &mut Desk, command: Command, given: Moment) -> Reply
+    requires kept { IsKept Keeper-dyn desk.old.keeper (tables_of desk.old.state) }
+    requires asked { IsAsked command }
+    ensures answer { (h : List SegmentValue) → MayAnswer (session_of h desk.old.state) given command result (session_of h desk.new.state) }
+    ensures flows { desk.new.state.flows ≡ desk.old.state.flows }
+    ensures kept { IsKept Keeper-dyn desk.new.keeper (tables_of desk.new.state) }
+    ensures told { Tells Keeper-dyn desk.new.keeper → Tells Keeper-dyn desk.old.keeper }
+    ensures cause { Counts (is_of_keeper result) (faults_of Keeper-dyn desk.old.keeper) (faults_of Keeper-dyn desk.new.keeper) }
+    ensures same_box { IsSameBox desk.old.keeper desk.new.keeper }
+{
+    run_counted::<Brand>(desk, command, given, Blank::new(1))
+}
+
+/// Writes what is told of a command that was asked for and carried out.
+#[tactic(auto, unfolding(console_answers::specs::Requests::outcome_body))]
+fn write_asked(body: &mut BodyText, action: Action, outcome: &Outcome)
+    ensures { body.new ≡ outcome_body action outcome.now }
+{
+    match action {
+        Action::State(statement) => body.write_stated(statement, outcome),
+        Action::HearDhcp
+        | Action::HearLldp
+        | Action::List(_)
+        | Action::Import
+        | Action::Judge
+        | Action::Why => body.write_file(outcome),
+    }
+}
+
+/// Writes what is told of a command that was carried out. It takes no memory.
+#[tactic(auto, unfolding(crate::specs::Origins::said_of))]
+fn write_outcome(body: &mut BodyText, origin: &Origin, outcome: &Outcome)
+    requires { HasTexts origin.now }
+    ensures { body.new ≡ said_of origin.now outcome.now }
+{
+    match origin {
+        Origin::Asked(action) => write_asked(body, *action, outcome),
+        Origin::Heard(heard, texts) => body.write_heard(heard, texts, outcome),
+    }
+}
+
+/// Writes why a command is refused.
+#[tactic(auto, using(crate::proofs::Replying::made, crate::proofs::Replying::refusal_known))]
+fn write_refusal(alloc: Global, body: &mut BodyText, refusal: &Refusal) -> Status
+    ensures reply { IsOrWanted (reply (refusals.refusal_status refusal.now) (refusals.refusal_body refusal.now)) (reply result body.new) }
+    ensures known { is_unavailable result ≡ false }
+{
+    body.take(refusal_status(refusal), refusal_body(alloc, refusal))
+}
+
+/// Writes what a command answered.
+#[tactic(auto, unfolding(console_answers::specs::Requests::command_reply, console_answers::specs::Replies::unavailable))]
+fn write_reply(alloc: Global, body: &mut BodyText, origin: &Origin, answered: Reply) -> Status
+    requires { HasTexts origin.now }
+    ensures reply { IsWritten (said_of origin.now) answered (reply result body.new) }
+    ensures cause { is_unavailable result ≡ is_of_keeper answered }
+{
+    match answered {
+        Reply::Done(outcome) => {
+            write_outcome(body, origin, &outcome);
+            Status::Done
+        }
+        Reply::Refused(refusal) => write_refusal(alloc, body, &refusal),
+        Reply::Keeper => {
+            body.write_rule(b"keeper");
+            Status::Unavailable
+        }
+        Reply::Memory => want_memory(body),
+    }
+}
+
+/// Carries a command out. What it changes is kept before it is answered, and the answer of a command
+/// that was carried out takes no memory.
+#[tactic(auto, using(crate::proofs::Carrying::stands))]
+pub(crate) fn answer_command(
+    alloc: Global,
+    desk: &mut Desk,
+    body: &mut BodyText,
+    origin: Origin,
+    command: Command,
+    given: Moment,
+) -> Status
+    requires kept { IsKept Keeper-dyn desk.old.keeper (tables_of desk.old.state) }
+    requires asked { IsAsked command }
+    requires texts { HasTexts origin }
+    ensures reply { (h : List SegmentValue) → HasForwarded h desk.old.state
+        → LeadsOn h desk.old.state desk.new.state (λ session after. MayStand (Changes session given command) session
+        (by_command (said_of origin) (command_in session given command)) (reply result body.new) after) }
+    ensures kept { IsKept Keeper-dyn desk.new.keeper (tables_of desk.new.state) }
+    ensures told { Tells Keeper-dyn desk.new.keeper → Tells Keeper-dyn desk.old.keeper }
+    ensures cause { Counts (is_unavailable result) (faults_of Keeper-dyn desk.old.keeper) (faults_of Keeper-dyn desk.new.keeper) }
+    ensures same_box { IsSameBox desk.old.keeper desk.new.keeper }
+{
+    let answered = run(desk, command, given);
+    write_reply(alloc, body, &origin, answered)
+}

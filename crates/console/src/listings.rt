@@ -1,0 +1,64 @@
+//! Listings.
+ghost use Rattle.std.specs.Prelude.{◌≡◌, ℕ, List, IfOk};
+ghost use Rattle.mud_world.specs.Boxed.{faults_of, Tells};
+ghost use Rattle.mud_world.specs.Causes.{Counts};
+ghost use Rattle.mud_tables.specs.declared.segment.Segment.{Segment as SegmentValue};
+ghost use Rattle.desk_model.specs.Sessions.{later, raised};
+ghost use Rattle.mud_desk.specs.DeskState.{tables_of, HasForwarded};
+ghost use Rattle.mud_desk.specs.Boxed.{IsKept, IsSameBox};
+ghost use Rattle.console_answers.specs.Listings as spec;
+ghost use Rattle.console_answers.specs.Replies.{reply, replied, is_unavailable, MayStand};
+ghost use Rattle.console.specs.Runs.{LeadsOn};
+
+use crate::refusals::want_memory;
+use crate::session::{later, raise};
+use console_answers::{BodyText, due_text};
+use console_routes::Listing;
+use http_answers::Status;
+use listing_bodies::{classes_body, files_body, locals_body, names_body, things_body};
+use mud_base::{Bytes, Memory, Moment};
+use mud_desk::Desk;
+use std::alloc::Global;
+
+/// The rows of a desk at a moment.
+#[tactic(auto, unfolding(console_answers::specs::Listings::listing_text))]
+fn listing_text(alloc: Global, desk: &Desk, listing: Listing, now: Moment) -> Result<Bytes, Memory>
+    ensures { IfOk result (λ text. text ≡ spec.listing_text listing (tables_of desk.now.state) now) }
+{
+    match listing {
+        Listing::Things => things_body(alloc, desk.things()),
+        Listing::Files => files_body(alloc, desk.files()),
+        Listing::Classes => classes_body(alloc, desk.classes()),
+        Listing::Locals => locals_body(alloc, desk.locals()),
+        Listing::Names => names_body(alloc, desk.names()),
+        Listing::Due => due_text(alloc, desk.files(), now),
+    }
+}
+
+/// Lists rows, which raises the moment of the session.
+pub(crate) fn answer_listing(
+    alloc: Global,
+    desk: &mut Desk,
+    body: &mut BodyText,
+    listing: Listing,
+    given: Moment,
+) -> Status
+    requires kept { IsKept Keeper-dyn desk.old.keeper (tables_of desk.old.state) }
+    ensures reply { (h : List SegmentValue) → HasForwarded h desk.old.state
+        → LeadsOn h desk.old.state desk.new.state (λ session after. MayStand ⊥ session
+        (replied (reply Status.Done (spec.listing_text listing session.desk (later session given))) (raised session given)) (reply result body.new) after) }
+    ensures kept { IsKept Keeper-dyn desk.new.keeper (tables_of desk.new.state) }
+    ensures told { Tells Keeper-dyn desk.new.keeper → Tells Keeper-dyn desk.old.keeper }
+    ensures cause { Counts (is_unavailable result) (faults_of Keeper-dyn desk.old.keeper) (faults_of Keeper-dyn desk.new.keeper) }
+    ensures same_box { IsSameBox desk.old.keeper desk.new.keeper }
+{
+    let now = later(desk.moment(), given);
+    match listing_text(alloc, desk, listing, now) {
+        Ok(text) => {
+            body.keep(text);
+            raise(desk, given);
+            Status::Done
+        }
+        Err(Memory) => want_memory(body),
+    }
+}

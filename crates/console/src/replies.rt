@@ -1,0 +1,94 @@
+//! The reply to a request: its status, and its body as it is held.
+ghost use Rattle.std.specs.Prelude.{◌≡◌, ℕ, List};
+ghost use Rattle.mud_world.specs.Boxed.{faults_of, Tells};
+ghost use Rattle.mud_world.specs.Causes.{Counts};
+ghost use Rattle.mud_tables.specs.declared.segment.Segment.{Segment as SegmentValue};
+ghost use Rattle.http_requests.specs.declared.fault.MomentFrom.{MomentFrom};
+ghost use Rattle.http_requests.specs.Requests.{Request};
+ghost use Rattle.http_requests.specs.Parts.{AreParts};
+ghost use Rattle.console_bodies.specs.Laws.{AsksRightly};
+ghost use Rattle.mud_desk.specs.DeskState.{tables_of, HasForwarded};
+ghost use Rattle.mud_desk.specs.Boxed.{IsKept, IsSameBox};
+ghost use Rattle.console_answers.specs.Replies.{reply, is_unavailable, MayStand};
+ghost use Rattle.console_answers.specs.Requests.{ChangesBy, by_question, command_asked, MayReply};
+ghost use Rattle.console.specs.Runs.{LeadsOn};
+
+use crate::commands::{Origin, answer_command};
+use crate::heard::answer_heard;
+use crate::listings::answer_listing;
+use crate::packets::answer_frame;
+use crate::refusals::{ReplyHead, plain, refuse_unasked};
+use crate::session::later;
+use crate::why::answer_why;
+use console_answers::{BodyText, Question, question_of};
+use console_bodies::Asked;
+use console_routes::Routes;
+use http_answers::Status;
+use http_requests::RequestParts;
+use mud_base::Moment;
+use mud_desk::Desk;
+use std::alloc::Global;
+
+/// Carries out what is asked for, with the octets of the body.
+#[tactic(auto, unfolding(console_answers::specs::Requests::by_question, console_answers::specs::Requests::command_asked, crate::specs::Origins::said_of))]
+fn answer_question(
+    alloc: Global,
+    desk: &mut Desk,
+    body: &mut BodyText,
+    question: Question,
+    octets: &[u8],
+    given: Moment,
+) -> Status
+    requires kept { IsKept Keeper-dyn desk.old.keeper (tables_of desk.old.state) }
+    requires asked { AsksRightly question.asked }
+    ensures reply { (h : List SegmentValue) → HasForwarded h desk.old.state
+        → LeadsOn h desk.old.state desk.new.state (λ session after. MayStand (ChangesBy session given (command_asked question.asked)) session
+        (by_question session given octets.now question.action question.asked) (reply result body.new) after) }
+    ensures kept { IsKept Keeper-dyn desk.new.keeper (tables_of desk.new.state) }
+    ensures told { Tells Keeper-dyn desk.new.keeper → Tells Keeper-dyn desk.old.keeper }
+    ensures cause { Counts (is_unavailable result) (faults_of Keeper-dyn desk.old.keeper) (faults_of Keeper-dyn desk.new.keeper) }
+    ensures same_box { IsSameBox desk.old.keeper desk.new.keeper }
+{
+    let Question { action, asked } = question;
+    match asked {
+        Asked::Command(command) => {
+            answer_command(alloc, desk, body, Origin::Asked(action), command, given)
+        }
+        Asked::Heard(heard) => answer_heard(alloc, desk, body, &heard, given),
+        Asked::List(listing) => answer_listing(alloc, desk, body, listing, given),
+        Asked::Judge => answer_frame(desk, body, octets, given),
+        Asked::Why => answer_why(alloc, desk, body, octets, given),
+    }
+}
+
+/// Replies to a request: it is refused where it asks for nothing, and else carried out.
+pub(crate) fn reply_to(
+    alloc: Global,
+    routes: &Routes,
+    desk: &mut Desk,
+    body: &mut BodyText,
+    request: &RequestParts<'_>,
+    given: Moment,
+) -> ReplyHead
+    requires kept { IsKept Keeper-dyn desk.old.keeper (tables_of desk.old.state) }
+    ensures reply { (from : MomentFrom) (r : Request) → AreParts from r request.now
+        → (h : List SegmentValue) → HasForwarded h desk.old.state
+        → LeadsOn h desk.old.state desk.new.state (λ session after. MayReply session given r (record { status = result.status; allow = result.allow; body = body.new }) after) }
+    ensures kept { IsKept Keeper-dyn desk.new.keeper (tables_of desk.new.state) }
+    ensures told { Tells Keeper-dyn desk.new.keeper → Tells Keeper-dyn desk.old.keeper }
+    ensures cause { Counts (is_unavailable result.status) (faults_of Keeper-dyn desk.old.keeper) (faults_of Keeper-dyn desk.new.keeper) }
+    ensures same_box { IsSameBox desk.old.keeper desk.new.keeper }
+{
+    let now = later(desk.moment(), given);
+    match question_of(
+        alloc,
+        routes,
+        request.method,
+        request.path,
+        request.body,
+        now,
+    ) {
+        Ok(question) => { plain(answer_question(alloc, desk, body, question, request.body, given)) }
+        Err(unasked) => refuse_unasked(alloc, body, unasked),
+    }
+}

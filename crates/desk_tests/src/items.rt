@@ -4,6 +4,7 @@ ghost use Rattle.std.specs.Prelude.{◌≡◌, IsTrue};
 use crate::bulb::BULB;
 use desk_items::{OpenFault, Taken, open_items};
 use mud_base::{Bytes, Listed, Memory};
+use mud_desk::Desk;
 use mud_world::{Item, Keeper, MemoryKeeper, Put, keep};
 use std::alloc::Global;
 use std::process::Abort;
@@ -144,4 +145,24 @@ fn a_failure_is_told_once(rt: HostRuntime) -> Result<(), Fail> {
     }
     open_items(alloc, &mut keeper, Taken::new(alloc))?;
     check_bodies(&rt, alloc, &mut keeper, SECOND, STAMP)
+}
+
+/// Each change behind the two that filled the store fails, and a desk is opened over it all the same.
+#[test]
+fn an_opening_of_the_present_version_writes_nothing(rt: HostRuntime) -> Result<(), Fail> {
+    let alloc = rt.alloc();
+    let mut failing = MemoryKeeper::new(alloc, Listed::new(alloc));
+    for call in 3..64 {
+        failing.failing_apply.push(call)?;
+    }
+    let mut keeper: Box<dyn Keeper> = Box::new(alloc, failing)?;
+    keeper.open(alloc)?;
+    add(alloc, &mut keeper, 1, MAC, SECOND)?;
+    add(alloc, &mut keeper, 6, b"", STAMP)?;
+    let Ok(desk) = Desk::open(alloc, keeper, Taken::new(alloc)) else {
+        return Err("not opened".into());
+    };
+    assert_eq!(rt; desk.things().len(), 1);
+    assert_eq!(rt; desk.stamp().map(|moment| moment.seconds()), Some(1000));
+    Ok(())
 }

@@ -5,6 +5,6 @@ pub mod Joins
 pub mod Names
 pub mod Rounds
 pub mod Lines
-pub mod Packets
+pub mod PacketCounts
 pub mod RanLaws
 pub mod Stores

@@ -12,7 +12,7 @@ use Rattle.mud_tables.specs.declared.bind.NameRow.{NameRow}
 use Rattle.file_tables.specs.Held.{HeldFile}
 use Rattle.file_tables.specs.declared.approval.Approval.{Approval}
 use Rattle.file_tables.specs.declared.cached_file.CachedFile.{CachedFile}
-pub use Rattle.file_tables.specs.Words.{approval_word}
+use Rattle.file_tables.specs.Words.{approval_word}
 use Rattle.text_lines.specs.Numbers.{end_text}
 
 -- a space and the word

@@ -1,5 +1,5 @@
 use Rattle.drill_runs.specs.Drill.{numbers_to, session_behind}
-use Rattle.drill_runs.proofs.Packets.{counted_next, none_counted, reached_next, small_next}
+use Rattle.drill_runs.proofs.PacketCounts.{counted_next, none_counted, reached_next, small_next}
 use Rattle.drill_runs.proofs.judging.judge_packets.Goals as goal
 
 pub loop-before-init : goal.loop-before-init

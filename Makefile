@@ -10,8 +10,8 @@
 # make fuzz       runs it on inputs that were changed at random, for MINUTES=1 or another number
 # make bench      measures how fast the program is
 # make hostile    measures what the slowest inputs cost
-# make install    puts the program into PREFIX/bin and its manual page into PREFIX/share/man/man1;
-#                 both under DESTDIR, where it is given
+# make install    puts the program into PREFIX/bin, its manual page into PREFIX/share/man/man1, and the
+#                 guide and what contrib/ has into PREFIX/share/mud; all under DESTDIR, where it is given
 # make clean      takes away all that was built
 PREFIX ?= /usr/local
 MINUTES ?= 1
@@ -34,6 +34,7 @@ checks: build
 	bash checks/store
 	bash checks/tour
 	bash checks/views
+	bash checks/contrib
 	bash checks/strangers
 	checks/failures
 	checks/differential crates/mud/out/mud 1 10000
@@ -75,6 +76,11 @@ install: build
 	install -m 755 crates/mud/out/mud "$(DESTDIR)$(PREFIX)/bin/mud"
 	install -d "$(DESTDIR)$(PREFIX)/share/man/man1"
 	install -m 644 man/mud.1 "$(DESTDIR)$(PREFIX)/share/man/man1/mud.1"
+	install -d "$(DESTDIR)$(PREFIX)/share/mud"
+	install -m 755 contrib/announce contrib/dnsmasq-script contrib/feed contrib/listen "$(DESTDIR)$(PREFIX)/share/mud"
+	install -m 644 docs/GUIDE.md docs/REFERENCE.md contrib/README.md "$(DESTDIR)$(PREFIX)/share/mud"
+	sed 's|/usr/local/|$(PREFIX)/|' contrib/mud.service >"$(DESTDIR)$(PREFIX)/share/mud/mud.service"
+	chmod 644 "$(DESTDIR)$(PREFIX)/share/mud/mud.service"
 
 clean:
 	rm -rf crates/*/out

@@ -35,6 +35,7 @@ checks: build
 	bash checks/tour
 	bash checks/views
 	bash checks/contrib
+	bash checks/network
 	bash checks/strangers
 	checks/failures
 	checks/differential crates/mud/out/mud 1 10000

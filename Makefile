@@ -12,12 +12,13 @@
 # make hostile    measures what the slowest inputs cost
 # make install    puts the program into PREFIX/bin, its manual page into PREFIX/share/man/man1, and the
 #                 guide and what contrib/ has into PREFIX/share/mud; all under DESTDIR, where it is given
+# make deb        puts the same into a Debian package, out/gonnavir_VERSION_ARCHITECTURE.deb
 # make clean      takes away all that was built
 PREFIX ?= /usr/local
 MINUTES ?= 1
 CRATES ?=
 
-.PHONY: build test checks proofs trusted limits memory plants fuzz bench hostile install clean
+.PHONY: build test checks proofs trusted limits memory plants fuzz bench hostile install deb clean
 build:
 	sh ./build
 
@@ -83,5 +84,8 @@ install: build
 	sed 's|/usr/local/|$(PREFIX)/|' contrib/mud.service >"$(DESTDIR)$(PREFIX)/share/mud/mud.service"
 	chmod 644 "$(DESTDIR)$(PREFIX)/share/mud/mud.service"
 
+deb: build
+	@sh packaging/deb
+
 clean:
-	rm -rf crates/*/out
+	rm -rf crates/*/out out

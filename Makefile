@@ -81,8 +81,10 @@ install: build
 	install -d "$(DESTDIR)$(PREFIX)/share/mud"
 	install -m 755 contrib/announce contrib/dnsmasq-script contrib/feed contrib/listen "$(DESTDIR)$(PREFIX)/share/mud"
 	install -m 644 docs/GUIDE.md docs/REFERENCE.md contrib/README.md "$(DESTDIR)$(PREFIX)/share/mud"
-	sed 's|/usr/local/|$(PREFIX)/|' contrib/mud.service >"$(DESTDIR)$(PREFIX)/share/mud/mud.service"
-	chmod 644 "$(DESTDIR)$(PREFIX)/share/mud/mud.service"
+	for unit in mud.service mud-listen@.service; do \
+	  sed 's|/usr/local/|$(PREFIX)/|' "contrib/$$unit" >"$(DESTDIR)$(PREFIX)/share/mud/$$unit" || exit 1; \
+	  chmod 644 "$(DESTDIR)$(PREFIX)/share/mud/$$unit"; \
+	done
 
 deb: build
 	@sh packaging/deb

@@ -26,7 +26,8 @@ use Rattle.desk_runs.proofs.Runs.{refused_run}
 use Rattle.import_runs.specs.Imports.{standing}
 use Rattle.import_runs.specs.Order.{in_order}
 use Rattle.import_runs.specs.Runs.{Scene, ImportsPart, ImportsAll, StaysKept, scene}
-use Rattle.mud_cli.specs.Import.Store.{OutsideView, SpoolView, ImportsFolder, ImportsStore, IsRefused, OpensAndImports, RefusesStore, line_of_bad, scene_in}
+use Rattle.console_runs.specs.Store.{line_of_bad}
+use Rattle.mud_cli.specs.Import.Store.{OutsideView, SpoolView, ImportsFolder, ImportsStore, IsRefused, OpensAndImports, RefusesStore, scene_in}
 
 -- ---- Statuses
 

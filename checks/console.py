@@ -7,6 +7,9 @@
                                      what comes back
   console.py unread PORT FILE        sends the octets of FILE at once and goes away with a reset,
                                      without reading an octet
+  console.py stalled PORT            asks for the list of Things again and again, and takes no answer,
+                                     until the server takes no more requests; then another client asks.
+                                     Writes after how many seconds that one is answered, and its status
 """
 
 import http.client
@@ -14,6 +17,7 @@ import socket
 import struct
 import sys
 import threading
+import time
 
 
 def by_http_client(port, folder, run):
@@ -58,6 +62,31 @@ def without_reading(port, name):
     connection.close()
 
 
+def without_taking(port):
+    requests = b"GET /things HTTP/1.1\r\n\r\n" * 4096
+    stalled = socket.socket()
+    # what it has room for is little, so that the server's answers fill it soon
+    stalled.setsockopt(socket.SOL_SOCKET, socket.SO_RCVBUF, 4096)
+    stalled.connect(("127.0.0.1", port))
+    stalled.settimeout(5)
+    try:
+        while True:
+            stalled.sendall(requests)
+    except TimeoutError:
+        began = time.monotonic()
+    with socket.create_connection(("127.0.0.1", port), timeout=300) as other:
+        other.sendall(b"GET /things HTTP/1.1\r\nConnection: close\r\n\r\n")
+        answer = other.recv(65536)
+    print(int(time.monotonic() - began), answer.split(b" ")[1].decode())
+    stalled.close()
+
+
 if __name__ == "__main__":
     way, port, *words = sys.argv[1:]
-    {"http": by_http_client, "octets": by_octets, "unread": without_reading}[way](int(port), *words)
+    ways = {
+        "http": by_http_client,
+        "octets": by_octets,
+        "unread": without_reading,
+        "stalled": without_taking,
+    }
+    ways[way](int(port), *words)

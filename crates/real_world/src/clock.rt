@@ -1,5 +1,5 @@
 //! The machine's clock. What it shows is outside what is proved, so it tells no moments.
-ghost use Rattle.std.specs.Prelude.{◌≡◌, ◌≤◌, ◌/◌, [], min, IfOk, OnErr};
+ghost use Rattle.std.specs.Prelude.{◌≡◌, ◌≤◌, ◌/◌, [], min, max, IfOk, OnErr};
 ghost use Rattle.std.specs.Time.{system_time_nanos};
 ghost use Rattle.real_world.specs.Real.{last_of};
 
@@ -44,6 +44,17 @@ fn shown(time: io::Result<SystemTime>) -> Moment
     }
 }
 
+/// The later of two moments.
+fn later(last: Moment, shown: Moment) -> Moment
+    ensures { result ≡ max last shown }
+{
+    if last.seconds() < shown.seconds() {
+        shown
+    } else {
+        last
+    }
+}
+
 impl<R: std::rt::Clock + Drop> Clock for RealClock<R> {
     ghost tells = { ⊥ };
 
@@ -54,10 +65,7 @@ impl<R: std::rt::Clock + Drop> Clock for RealClock<R> {
         ensures never_back { last_of self.old ≤ result }
         ensures kept { last_of self.new ≡ result }
     {
-        let shown = shown(SystemTime::now(&self.runtime));
-        if self.last.seconds() < shown.seconds() {
-            self.last = shown;
-        }
+        self.last = later(self.last, shown(SystemTime::now(&self.runtime)));
         self.last
     }
 }

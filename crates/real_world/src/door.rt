@@ -50,6 +50,7 @@ impl<I: Read + Drop, O: Write + Drop, N: Net + Drop> RealDoor<I, O, N> {
         ensures turns { ⟦<RealDoor<I, O, N> as Door>⟧.turns result ≡ 0 }
         ensures reads { ⟦<RealDoor<I, O, N> as Door>⟧.reads result ≡ 0 }
         ensures writes { ⟦<RealDoor<I, O, N> as Door>⟧.writes result ≡ 0 }
+        ensures failed { ⟦<RealDoor<I, O, N> as Door>⟧.failed result ≡ false }
     {
         RealDoor {
             input,

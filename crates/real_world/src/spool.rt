@@ -1,7 +1,7 @@
 //! The real spool: the files of one folder. What a folder holds is outside what is proved, so it
 //! tells nothing of its files. Its counts and bounds are proved, and what it makes of the octets that
 //! a file gives.
-ghost use Rattle.std.specs.Prelude.{◌≡◌, ◌≤◌, ◌<◌, ◌++◌, ◌∷◌, [], length, take, Err, None, IfErr, IfOk, IfSome, OnOk};
+ghost use Rattle.std.specs.Prelude.{◌≡◌, ◌≤◌, ◌<◌, ◌++◌, ◌∷◌, [], codes, length, take, false, string_bytes, Err, None, IfErr, IfOk, IfSome, OnOk, is_err};
 ghost use Rattle.std.specs.Fs.{dir_entry_name};
 ghost use Rattle.std.specs.Io.KnownBytes.{Consumes, IsAtEnd};
 ghost use Rattle.mud_world.specs.Causes.{Counts};
@@ -67,6 +67,7 @@ fn add_name<R: Files + Drop>(
     alloc: Global,
 ) -> Result<(), SpoolFault>
     ensures listed { IfOk entry (λ e. OnOk result (names.new ≡ names.old ++ dir_entry_name e ∷ [])) }
+    ensures passed { IfErr entry (λ error. name_fault_of error ≡ None → is_err result ≡ false) }
     ensures unlisted { IfErr entry (λ error. name_fault_of error ≡ None → names.new ≡ names.old) }
     ensures failed { IfErr entry (λ error. IfSome (name_fault_of error) (λ fault. result ≡ Err fault)) }
 {
@@ -135,8 +136,22 @@ fn first_octets<F: Read>(file: &mut F, alloc: Global) -> Result<Bytes, SpoolFaul
     Ok(text)
 }
 
+/// The first octets of a file that was opened, or the fault where it couldn't be.
+fn octets_in<F: Read + Drop>(opened: io::Result<F>, alloc: Global) -> Result<Bytes, SpoolFault>
+    ensures within { IfOk result (λ octets. length octets ≤ 262145) }
+    ensures octets { IfOk opened (λ file. IfOk result (λ octets. IfSome (F.remaining file) (λ content. octets ≡ take 262145 content))) }
+    ensures failed { IfErr opened (λ error. result ≡ Err (spool_fault_of error)) }
+{
+    match opened {
+        Ok(mut file) => first_octets(&mut file, alloc),
+        Err(error) => Err(fault_of(&error)),
+    }
+}
+
 /// The path of a file of the folder.
-fn path_of(folder: &str, name: &str, alloc: Global) -> Result<String, SpoolFault> {
+fn path_of(folder: &str, name: &str, alloc: Global) -> Result<String, SpoolFault>
+    ensures { IfOk result (λ path. string_bytes path ≡ folder.now ++ codes "/" ++ name.now) }
+{
     match format!(in alloc; "{folder}/{name}") {
         Ok(path) => Ok(path),
         Err(_) => Err(SpoolFault::Memory),
@@ -156,10 +171,7 @@ fn octets_of<R: Files>(
         return Err(SpoolFault::Failed);
     };
     let path = path_of(folder, name, alloc)?;
-    match fs::open(runtime, path.as_str()) {
-        Ok(mut file) => first_octets(&mut file, alloc),
-        Err(error) => Err(fault_of(&error)),
-    }
+    octets_in(fs::open(runtime, path.as_str()), alloc)
 }
 
 /// The answer, counted where the spool itself failed.

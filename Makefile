@@ -28,6 +28,8 @@ test:
 checks: build
 	bash checks/pages
 	checks/definitions
+	checks/definitions --print >/dev/null
+	checks/proofs >/dev/null
 	bash checks/examples
 	bash checks/program
 	bash checks/sessions

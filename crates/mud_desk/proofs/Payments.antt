@@ -1,10 +1,14 @@
--- The steps of a command: those of one plan, and of one commit where it is done.
+-- The steps of a command: those of one plan, and of one commit where it is done; and what stays where it isn't.
 use Rattle.std.proofs.Common.{◌≡◌, ℕ, ◌+◌, ◌-◌, ◌≤◌, List, length, Ok, Err, refl, sym, subst, inl, inr, arith}
 use Rattle.std.specs.Prelude.{max, IsOkAnd}
 use Rattle.acl_model.specs.Changes.{IsBindingChange}
 use Rattle.acl_rows.specs.declared.row.Row.{Row}
 use Rattle.acl_patch.specs.Patch.{rows_apart}
+use Rattle.acl_compile.specs.Compiled.{CompiledState}
+use Rattle.acl_compile.specs.Plans.{IsKept}
 use Rattle.desk_model.specs.declared.command.Command.{Command}
+use Rattle.desk_model.specs.declared.reply.Reply.{Reply}
+use Rattle.desk_model.specs.declared.reply.Reply.TheVariants.{Done, Refused, Keeper, Memory}
 use Rattle.desk_model.specs.DeskTables.{DeskTables}
 use Rattle.desk_model.specs.Commands.{DeskStep, command_step}
 use Rattle.desk_model.specs.Verdicts.{desk_bindings}
@@ -12,7 +16,14 @@ use Rattle.desk_books.specs.Books.{Books, desk_of}
 use Rattle.desk_books.specs.Changes.{PlannedChange, desk_after}
 use Rattle.desk_books.specs.Planned.{IsPlanned, IsPaid, HasFewEdits}
 use Rattle.mud_desk.specs.DeskState.{DeskState, tables_of}
-use Rattle.mud_desk.specs.Answers.{PaysForCommit, IsPaidOnce}
+use Rattle.mud_desk.specs.Answers.{StaysUnlessDone, PaysForCommit, IsPaidOnce}
+
+-- what stays, stays whatever is replied
+pub undone : (reply : Reply) (before after : CompiledState) → IsKept before after → StaysUnlessDone reply before after
+undone (Done outcome) before after kept = tt
+undone (Refused refusal) before after kept = kept
+undone Keeper before after kept = kept
+undone Memory before after kept = kept
 
 step_edits : (books : Books) (change : PlannedChange) (step : DeskStep) → IsOkAnd step (λ s. IsPlanned s books change) → HasFewEdits (desk_of books) (desk_after change (desk_of books)) change.rows
 step_edits books change (Ok s) planned = subst (λ (desk : DeskTables). HasFewEdits (desk_of books) desk change.rows) (sym planned.leads) planned.edits

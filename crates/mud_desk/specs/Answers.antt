@@ -3,6 +3,8 @@ use Rattle.std.specs.Prelude.{◌≡◌, ℕ, ◌+◌, ◌≤◌, Bool, true, fa
 use Rattle.acl_model.specs.declared.binding.Binding.{Binding}
 use Rattle.acl_model.specs.Changes.{IsBindingChange}
 use Rattle.acl_patch.specs.Patch.{rows_apart}
+use Rattle.acl_compile.specs.Compiled.{CompiledState}
+use Rattle.acl_compile.specs.Plans.{IsKept}
 use Rattle.desk_model.specs.declared.reply.Reply.{Reply}
 use Rattle.desk_model.specs.declared.reply.Reply.TheVariants.{Done, Refused, Keeper, Memory}
 use Rattle.desk_model.specs.Commands.{DeskStep}
@@ -21,6 +23,13 @@ is_of_keeper (Done outcome) = false
 is_of_keeper (Refused refusal) = false
 is_of_keeper Keeper = true
 is_of_keeper Memory = false
+
+-- the policies, bindings and rows are as before, but where the command was carried out
+abbrev pub StaysUnlessDone : Reply → CompiledState → CompiledState → Type 0
+StaysUnlessDone (Done outcome) before after = Unit {0}
+StaysUnlessDone (Refused refusal) before after = IsKept before after
+StaysUnlessDone Keeper before after = IsKept before after
+StaysUnlessDone Memory before after = IsKept before after
 
 -- the fault is that the keeper failed
 abbrev pub is_fault_of_keeper : OpenFault → Bool

@@ -16,7 +16,7 @@ ghost use Rattle.desk_items.specs.Opening.{IsFaultOf};
 ghost use Rattle.desk_judge.specs.Grounds.{rows_read, ruling_steps};
 ghost use Rattle.mud_desk.specs.DeskState.{tables_of, session_of, HasForwarded, IsBegun, IsJudged, AreRulesOf};
 ghost use Rattle.mud_desk.specs.Boxed.{IsKept, IsSameBox};
-ghost use Rattle.mud_desk.specs.Answers.{is_of_keeper, is_fault_of_keeper, IsLeft, IsPaidOnce};
+ghost use Rattle.mud_desk.specs.Answers.{is_of_keeper, is_fault_of_keeper, StaysUnlessDone, IsLeft, IsPaidOnce};
 
 use crate::keeping::keep_batch;
 use crate::state::{State, later};
@@ -107,6 +107,14 @@ impl Desk {
         (keeper, state)
     }
 
+    /// The lists are sound, whatever was asked of the desk.
+    #[tactic(auto, unfolding(crate::specs::DeskState::tables_of))]
+    pub fn lists_are_sound(&self)
+        ensures { IsSound (tables_of self.now.state) }
+    {
+        let _compiled = self.state.books().compiled();
+    }
+
     /// A command, at the later of the session's moment and this one. What it changes is kept by one
     /// batch, with the moment of the change, before it is made; where nothing changes the keeper
     /// isn't called. `Done` makes that the moment of the session; after any other reply all is as it
@@ -123,6 +131,8 @@ impl Desk {
         requires asked { IsAsked command }
         ensures answer { (h : List SegmentValue) → MayAnswer (session_of h self.old.state) now command result (session_of h self.new.state) }
         ensures flows { self.new.state.flows ≡ self.old.state.flows }
+        // What is compiled of the lists isn't made anew for a refusal, a failure of the keeper or want of memory.
+        ensures compiled { StaysUnlessDone result self.old.state.books.compiled self.new.state.books.compiled }
         ensures kept { IsKept Keeper-dyn self.new.keeper (tables_of self.new.state) }
         ensures told { Tells Keeper-dyn self.new.keeper → Tells Keeper-dyn self.old.keeper }
         ensures cause { Counts (is_of_keeper result) (faults_of Keeper-dyn self.old.keeper) (faults_of Keeper-dyn self.new.keeper) }

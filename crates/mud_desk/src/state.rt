@@ -2,6 +2,7 @@
 ghost use Rattle.std.specs.Prelude.{◌≡◌, ℕ, ◌+◌, ◌-◌, ◌^◌, ◌<◌, ◌≤◌, max, false, List, Err, IsTrue, IfOk, IfErr, IsOkAnd, length};
 ghost use Rattle.std.specs.Prelude.{unwrap_or};
 ghost use Rattle.acl_patch.specs.Patch.{rows_apart};
+ghost use Rattle.acl_compile.specs.Plans.{IsKept};
 ghost use Rattle.mud_tables.specs.declared.segment.Segment.{Segment as SegmentValue};
 ghost use Rattle.mud_tables.specs.Things.{thing_at};
 ghost use Rattle.frame_view.specs.Frame.{frame_of};
@@ -104,7 +105,7 @@ impl State {
     ) -> Result<DeskChange, Refusal>
         requires { IsAsked command }
         ensures same { tables_of self.new ≡ tables_of self.old }
-        ensures rows { self.new.books.compiled.rows ≡ self.old.books.compiled.rows }
+        ensures compiled { IsKept self.old.books.compiled self.new.books.compiled }
         ensures flows { self.new.flows ≡ self.old.flows }
         ensures moment { self.new.moment ≡ self.old.moment }
         ensures ok { IfOk result (λ change. IsOkAnd (command_step (tables_of self.old) now command) (λ after. IsPlanned after self.new.books change)) }

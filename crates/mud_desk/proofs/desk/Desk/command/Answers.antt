@@ -13,7 +13,7 @@ use Rattle.mud_desk.specs.DeskState.{tables_of, session_of}
 use Rattle.mud_desk.specs.Answers.{is_of_keeper}
 use Rattle.mud_desk.proofs.Sessions.{reaches, done, refused, failed, wanted, never_of_keeper}
 use Rattle.mud_desk.proofs.Boxes.{kept_after}
-use Rattle.mud_desk.proofs.Payments.{paid, planned_only}
+use Rattle.mud_desk.proofs.Payments.{paid, planned_only, undone}
 use Rattle.mud_desk.proofs.desk.Desk.command.Goals as goal
 
 pub returns-in-Err-clause-answer : goal.returns-in-Err-clause-answer
@@ -27,6 +27,9 @@ pub returns-in-Err-clause-cause : goal.returns-in-Err-clause-cause
 returns-in-Err-clause-cause g c =
     let count = faults_of (goal.Keeper-dyn g) c.args.self.now.keeper in
     subst (λ (r : Reply). Counts (is_of_keeper r) count count) (sym c.into_reply.ensures) (never_of_keeper c.in-Err.refusal count)
+
+pub returns-in-Err-clause-compiled : goal.returns-in-Err-clause-compiled
+returns-in-Err-clause-compiled g c = undone c.into_reply.result c.args.self.now.state.books.compiled c.plan.new.self.books.compiled c.in-Err.ensures.compiled
 
 pub returns-in-Err-Failed-clause-answer : goal.returns-in-Err-Failed-clause-answer
 returns-in-Err-Failed-clause-answer g c = λ h.
@@ -45,13 +48,13 @@ pub returns-in-Err-Failed-clause-steps : goal.returns-in-Err-Failed-clause-steps
 returns-in-Err-Failed-clause-steps g c =
     let before = c.args.self.now.state in
     let is : c.later-now.result ≡ max before.moment c.args.now = c.later-now.ensures ∙ ap (λ m. max m c.args.now) c.moment.ensures in
-    planned_only before c.plan.new.self c.args.command c.later-now.result c.args.now is c.in-Ok.ensures.same c.in-Ok.ensures.rows c.args.steps.now c.plan.new.steps c.in-Ok.ensures.steps
+    planned_only before c.plan.new.self c.args.command c.later-now.result c.args.now is c.in-Ok.ensures.same c.in-Ok.ensures.compiled.rows c.args.steps.now c.plan.new.steps c.in-Ok.ensures.steps
 
 pub returns-in-Err-Memory-clause-steps : goal.returns-in-Err-Memory-clause-steps
 returns-in-Err-Memory-clause-steps g c =
     let before = c.args.self.now.state in
     let is : c.later-now.result ≡ max before.moment c.args.now = c.later-now.ensures ∙ ap (λ m. max m c.args.now) c.moment.ensures in
-    planned_only before c.plan.new.self c.args.command c.later-now.result c.args.now is c.in-Ok.ensures.same c.in-Ok.ensures.rows c.args.steps.now c.plan.new.steps c.in-Ok.ensures.steps
+    planned_only before c.plan.new.self c.args.command c.later-now.result c.args.now is c.in-Ok.ensures.same c.in-Ok.ensures.compiled.rows c.args.steps.now c.plan.new.steps c.in-Ok.ensures.steps
 
 pub returns-clause-answer : goal.returns-clause-answer
 returns-clause-answer g c = λ h.
@@ -74,5 +77,5 @@ pub returns-clause-steps : goal.returns-clause-steps
 returns-clause-steps g c =
     let before = c.args.self.now.state in
     let is : c.later-now.result ≡ max before.moment c.args.now = c.later-now.ensures ∙ ap (λ m. max m c.args.now) c.moment.ensures in
-    paid before c.plan.new.self c.args.command c.later-now.result c.args.now is c.in-Ok.ensures.same c.in-Ok.ensures.rows c.commit.new.self c.in-Ok.change c.in-Ok.ensures.ok c.commit.ensures.desk
+    paid before c.plan.new.self c.args.command c.later-now.result c.args.now is c.in-Ok.ensures.same c.in-Ok.ensures.compiled.rows c.commit.new.self c.in-Ok.change c.in-Ok.ensures.ok c.commit.ensures.desk
     c.args.steps.now c.plan.new.steps c.commit.new.steps c.in-Ok.ensures.steps c.commit.ensures.counted c.commit.ensures.most

@@ -1,0 +1,4 @@
+pub mod Captures
+pub mod Fault
+pub mod First
+pub mod Reading

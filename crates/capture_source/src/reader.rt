@@ -1,0 +1,90 @@
+//! The reader of a capture in whichever format.
+ghost use Rattle.std.specs.Prelude.{◌≡◌, ◌<◌, [], length, false, true, is_some, IsSome, IsTrue, IfOk, IfErr, OnOk, OnErr, Err, Some, None};
+ghost use Rattle.mud_world.specs.Causes.{Counts, StopsAtFailure};
+ghost use Rattle.mud_world.specs.Whole as whole;
+ghost use Rattle.mud_world.specs.Whole.{TookPart};
+ghost use Rattle.packet_buffer.specs.Packets.{with_next};
+ghost use Rattle.packet_buffer.specs.Reading.{Follows};
+ghost use Rattle.pcap_read.specs.Captured.{packet_of};
+ghost use Rattle.capture_source.specs.declared.fault.CaptureFault.{CaptureFault};
+ghost use Rattle.capture_source.specs.Fault.{has_failed};
+ghost use Rattle.capture_source.specs.Reading as spec;
+ghost use Rattle.capture_source.specs.Reading.{AtEnd, EndsIn, HasRead, StandsBehind, fails, is_broken, most_to_come, packet_at, to_come};
+
+use crate::fault::CaptureFault;
+use crate::first::read_first;
+use mud_world::{Door, ReadFault};
+use pcap_read::{Captured, Reader};
+use std::alloc::Global;
+
+/// A reader of a capture. Its source is lent at each call, and all calls want the same one, at the
+/// same connection.
+#[derive(Drop)]
+pub enum CaptureReader {
+    /// The capture is in the classic format of libpcap.
+    Classic(Reader),
+}
+
+impl CaptureReader {
+    /// Begins to read the capture that the door's connection is. The first four octets say in which
+    /// format it is; where there are fewer, it is read as one in the classic format. It takes memory
+    /// for 262,144 octets behind them, and no other call takes any. Where it fails, at most those
+    /// four are taken.
+    pub fn begin<D: Door>(alloc: Global, door: &mut D) -> Result<CaptureReader, ReadFault>
+        ensures begun { D.tells → IfOk result (λ reader. HasRead [] reader (D.state door.old) (D.state door.new)) }
+        ensures going { IfOk result (λ reader. is_broken reader ≡ false) }
+        ensures part { D.tells → OnErr result (TookPart 4 (D.state door.old) (D.state door.new)) }
+        ensures cause { Counts (whole.has_failed result) (D.reads door.old) (D.reads door.new) }
+        ensures stop { IsTrue (whole.has_failed result) → StopsAtFailure (D.failed door.new) (D.reads door.old) (D.reads door.new) }
+        ensures turns { D.turns door.new ≡ D.turns door.old }
+        ensures writes { D.writes door.new ≡ D.writes door.old }
+    {
+        let first = read_first(door)?;
+        let reader = Reader::holding(alloc, first.octets())?;
+        Ok(CaptureReader::Classic(reader))
+    }
+
+    /// Goes on to the next packet. It answers false exactly at the end of the octets between two
+    /// packets, and reads the source only where the octets held don't tell what comes next. After a
+    /// fault it answers the same fault again, and reads nothing.
+    pub fn advance<D: Door>(&mut self, source: &mut D) -> Result<bool, CaptureFault>
+        ensures more { IfOk result (λ more. more ≡ is_some (packet_at self.new)) }
+        ensures going { OnOk result (is_broken self.new ≡ false) }
+        ensures fewer { IfOk result (λ more. more ≡ true → most_to_come self.new < most_to_come self.old) }
+        ensures next { D.tells → OnOk result (
+            Follows (to_come self.old) (λ octets. with_next (packet_at self.new) (to_come self.new octets)) (D.state source.old) (D.state source.new)) }
+        ensures end { D.tells → IfOk result (λ more. more ≡ false → AtEnd self.new (D.state source.new)) }
+        ensures fault { D.tells → IfErr result (λ fault. EndsIn fault (to_come self.old) (D.state source.old) (D.state source.new)) }
+        ensures failed { IfErr result (λ fault. StandsBehind fault self.new) }
+        ensures none { OnErr result (packet_at self.new ≡ None) }
+        ensures again { (fault : CaptureFault) → StandsBehind fault self.old → (result ≡ Err fault) × (source.new ≡ source.old) }
+        ensures ready { IsTrue (spec.is_ready self.old) → source.new ≡ source.old }
+        ensures cause { Counts (fails self.old (has_failed result)) (D.reads source.old) (D.reads source.new) }
+        ensures stop { IsTrue (fails self.old (has_failed result)) → StopsAtFailure (D.failed source.new) (D.reads source.old) (D.reads source.new) }
+        ensures turns { D.turns source.new ≡ D.turns source.old }
+        ensures writes { D.writes source.new ≡ D.writes source.old }
+    {
+        match self {
+            CaptureReader::Classic(reader) => Ok(reader.advance(source)?),
+        }
+    }
+
+    /// The packet to which the last `advance` went on.
+    pub fn packet(&self) -> Captured<'_>
+        requires { IsSome (packet_at self.now) }
+        ensures { packet_at self.now ≡ Some (packet_of result) }
+    {
+        match self {
+            CaptureReader::Classic(reader) => reader.packet(),
+        }
+    }
+
+    /// Whether the next `advance` answers without a read.
+    pub fn is_ready(&self) -> bool
+        ensures { result ≡ spec.is_ready self.now }
+    {
+        match self {
+            CaptureReader::Classic(reader) => reader.is_ready(),
+        }
+    }
+}

@@ -1,0 +1,85 @@
+-- What is due to a command that reads a capture, and what it has written where it ends.
+use Rattle.std.proofs.Common.{◌≡◌, ℕ, ◌+◌, ◌≤◌, List, [], ◌++◌, length, take, Option, refl, sym, ap, ◌∙◌, append_assoc, append-nil, subst, add-zero}
+use Rattle.std.proofs.lemmas.List.{take-append-le}
+use Rattle.std.proofs.Math.Seq.{take-append-add}
+use Rattle.mud_world.specs.Door.{DoorState, with_left, put_out}
+use Rattle.mud_world.proofs.Doors.{put_out_twice, took_none}
+use Rattle.packet_buffer.specs.Packets.{Packet}
+use Rattle.capture_source.specs.declared.fault.CaptureFault.{CaptureFault}
+use Rattle.capture_source.specs.declared.reader.CaptureReader.{CaptureReader}
+use Rattle.command_runs.specs.Due.{Due, WritesDue, WritesPart, WroteFirst}
+use Rattle.capture_runs.specs.Capture.{due_behind, end_line, status_at}
+use Rattle.capture_runs.specs.Runs.{HasAll, HasDone, WroteSome}
+use Rattle.capture_runs.proofs.Done.{wrote_none}
+
+take_front : (front behind : List ℕ) → take (length front) (front ++ behind) ≡ front
+take_front front behind = ap (λ (n : ℕ). take n (front ++ behind)) (sym (add-zero (length front))) ∙ take-append-add front behind 0 ∙ append-nil front
+
+-- a first part of the text is one of what is due, where that begins with the text
+pub part_of_some : (due : Due) (text more : List ℕ) (first now : DoorState) → WroteSome text first now → due.text ≡ text ++ more → WritesPart due first now
+part_of_some due text more first now w is = record {
+  read = w.read;
+  count = w.count;
+  left_is = w.left_is;
+  door_is = w.door_is ∙ ap (λ (wrote : List ℕ). put_out wrote (with_left now.left first)) (sym (ap (take w.count) is ∙ take-append-le w.count text more w.within));
+}
+
+-- so it is behind each packet
+pub part_of_done : (due : Due) (packets : List Packet) (text more : List ℕ) (reader : CaptureReader) (first now : DoorState) (lines : List ℕ) → HasDone packets text reader first now lines
+    → due.text ≡ text ++ more → WritesPart due first now
+part_of_done due packets text more reader first now lines p is =
+    part_of_some due text more first now (wrote_none packets text reader first now now lines p [] (took_none now)) is
+
+module _ (packets : List Packet) (text : List ℕ) (end : Option CaptureFault) (first s : DoorState) (lines : List ℕ) (p : HasAll packets text end first s lines) where
+  due_text : (due_behind text end).text ≡ p.written ++ (lines ++ end_line end)
+  due_text = ap (λ (front : List ℕ). front ++ end_line end) p.split ∙ append_assoc p.written lines (end_line end)
+
+  left_here : (wrote : List ℕ) → first.left ≡ p.read ++ (put_out wrote s).left
+  left_here wrote = p.left_is
+
+  -- all of it was written
+  due_here : WritesDue (due_behind text end) first (put_out (lines ++ end_line end) s) (status_at end)
+  due_here = record {
+    read = p.read;
+    status_is = refl;
+    left_is = p.left_is;
+    door_is = ap (put_out (lines ++ end_line end)) p.wrote
+        ∙ put_out_twice p.written (lines ++ end_line end) (with_left s.left first)
+        ∙ ap (λ (wrote : List ℕ). put_out wrote (with_left s.left first)) (sym due_text);
+  }
+
+  pub due_of_all : (t : DoorState) → t ≡ put_out (lines ++ end_line end) s → WritesDue (due_behind text end) first t (status_at end)
+  due_of_all t wrote = rw wrote due_here
+
+  -- a first part of it was written
+  part_here : (count : ℕ) → count ≤ length (lines ++ end_line end) → WritesPart (due_behind text end) first (put_out (take count (lines ++ end_line end)) s)
+  part_here count within = record {
+    read = p.read;
+    count = length p.written + count;
+    left_is = p.left_is;
+    door_is = ap (put_out (take count (lines ++ end_line end))) p.wrote
+        ∙ put_out_twice p.written (take count (lines ++ end_line end)) (with_left s.left first)
+        ∙ ap (λ (wrote : List ℕ). put_out wrote (with_left s.left first))
+        (sym (ap (take (length p.written + count)) due_text ∙ take-append-add p.written (lines ++ end_line end) count));
+  }
+
+  -- nothing more was written, and more may be due
+  pub part_of_none : (more : List ℕ) → WritesPart (due_behind (text ++ more) end) first s
+  part_of_none more =
+      let behind : List ℕ = lines ++ more ++ end_line end in
+      let due : (due_behind (text ++ more) end).text ≡ p.written ++ behind =
+      ap (λ (front : List ℕ). front ++ more ++ end_line end) p.split
+      ∙ ap (λ (front : List ℕ). front ++ end_line end) (append_assoc p.written lines more)
+      ∙ append_assoc p.written (lines ++ more) (end_line end) in
+      record {
+        read = p.read;
+        count = length p.written;
+        left_is = p.left_is;
+        door_is = p.wrote ∙ ap (λ (wrote : List ℕ). put_out wrote (with_left s.left first)) (sym (ap (take (length p.written)) due ∙ take_front p.written behind));
+      }
+
+  pub part_here_none : WritesPart (due_behind text end) first s
+  part_here_none = subst (λ (whole : List ℕ). WritesPart (due_behind whole end) first s) (append-nil text) (part_of_none [])
+
+  pub part_of_all : (t : DoorState) → WroteFirst (lines ++ end_line end) s t → WritesPart (due_behind text end) first t
+  part_of_all t w = rw w.wrote (part_here w.count w.within)

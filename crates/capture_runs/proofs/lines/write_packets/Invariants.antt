@@ -1,0 +1,25 @@
+use Rattle.std.proofs.Common.{◌≡◌, [], false}
+use Rattle.mud_world.specs.Door.{DoorState}
+use Rattle.capture_source.specs.Reading.{is_broken, most_to_come}
+use Rattle.capture_runs.specs.Fold.{IsLeftBy}
+use Rattle.capture_runs.specs.Runs.{HasDone}
+use Rattle.capture_runs.proofs.Folded.{HasWritten}
+use Rattle.capture_runs.proofs.lines.write_packets.Given as goal
+
+abbrev pub invariant-packets : goal.invariant-packets
+invariant-packets g l =
+    let door = g.D.Door in
+    let writer = g.L.PacketLines in
+    record {
+      left : (s : writer.State) → writer.keeps l.initial.writer s → IsLeftBy (writer.keeps l.writer) writer.step s;
+      written : (s : writer.State) → (first : DoorState) → writer.keeps l.initial.writer s → door.tells
+          → HasDone [] [] l.initial.reader first (door.state l.initial.door) l.initial.lines
+          → HasWritten (writer.keeps l.writer) writer.step s l.reader first (door.state l.door) l.lines;
+      going : is_broken l.reader ≡ false;
+      writes : door.writes l.door ≡ door.writes l.initial.door;
+      turns : door.turns l.door ≡ door.turns l.initial.door;
+      reads : door.reads l.door ≡ door.reads l.initial.door;
+    }
+
+abbrev pub decreases-packets : goal.decreases-packets
+decreases-packets g l = most_to_come l.reader

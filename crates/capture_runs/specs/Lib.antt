@@ -1,0 +1,3 @@
+pub mod Capture
+pub mod Fold
+pub mod Runs

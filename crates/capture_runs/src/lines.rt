@@ -1,0 +1,147 @@
+//! The lines of a capture as it streams, each by a step over a state.
+ghost use Rattle.std.specs.Prelude.{◌≡◌, ◌≢◌, ◌⊎◌, ◌++◌, [], ℕ, List, false, OnOk, OnErr};
+ghost use Rattle.mud_world.specs.Causes.{EndsAtFailure, StopsAtFailure};
+ghost use Rattle.mud_world.specs.Door.{DoorState};
+ghost use Rattle.packet_buffer.specs.Packets.{Packet};
+ghost use Rattle.pcap_read.specs.Captured.{packet_of};
+ghost use Rattle.capture_source.specs.Reading.{is_broken};
+ghost use Rattle.command_runs.specs.Due.{WritesDue, WritesPart};
+ghost use Rattle.command_runs.specs.Status.{status_number};
+ghost use Rattle.capture_runs.specs.Capture.{WritesTaken, due_behind, due_of_capture};
+ghost use Rattle.capture_runs.specs.Fold.{IsLeftBy};
+ghost use Rattle.capture_runs.specs.Runs.{HasAll, HasDone};
+
+use crate::run::{Way, end_capture, go_on};
+use capture_source::{CaptureFault, CaptureReader};
+use command_runs::Status;
+use mud_base::{Bytes, Memory};
+use mud_world::{Door, ReadFault};
+use pcap_read::Captured;
+use std::alloc::Global;
+
+/// What writes the line of each packet of a capture, and may keep a state from packet to packet.
+pub trait PacketLines {
+    ghost use Rattle.std.specs.Prelude.{ℕ, List};
+    ghost use Rattle.packet_buffer.specs.Packets.{Packet};
+    ghost use Rattle.capture_runs.specs.Fold.{LineStep};
+
+    /// What it keeps from packet to packet.
+    ghost State: { Type 0 };
+
+    /// Whether this is what it keeps now.
+    ghost keeps: { Self → State → Type 0 };
+
+    /// The line of a packet, and what it keeps behind it.
+    ghost step: { State → Packet → LineStep State };
+
+    /// The lines at the end of the packets.
+    ghost ending: { State → List ℕ };
+
+    /// Adds the line of the next packet, with a line feed at its end. Without memory it keeps what it
+    /// kept, or what it would keep behind the packet.
+    fn append_line(
+        &mut self,
+        alloc: Global,
+        lines: &mut Bytes,
+        packet: &Captured<'_>,
+    ) -> Result<(), Memory>
+        ensures line { (s : State) → keeps self.old s → OnOk result (lines.new ≡ lines.old ++ (step s (packet_of packet.now)).line) }
+        ensures next { (s : State) → keeps self.old s → OnOk result (keeps self.new (step s (packet_of packet.now)).next) }
+        ensures err { (s : State) → keeps self.old s → OnErr result (keeps self.new s ⊎ keeps self.new (step s (packet_of packet.now)).next) };
+
+    /// Adds the lines at the end of the packets, each with a line feed at its end.
+    fn append_last(&self, alloc: Global, lines: &mut Bytes) -> Result<(), Memory>
+        ensures { (s : State) → keeps self.now s → OnOk result (lines.new ≡ lines.old ++ ending s) };
+}
+
+/// Writes what is left to be written of a capture that was read to its end, or to the fault that ends
+/// it.
+fn finish<D: Door, L: PacketLines>(
+    alloc: Global,
+    door: &mut D,
+    writer: &L,
+    lines: &mut Bytes,
+    fault: Option<CaptureFault>,
+) -> Status
+    ensures statuses { (status_number result ≡ 0) ⊎ ((status_number result ≡ 3) ⊎ ((status_number result ≡ 4) ⊎ (status_number result ≡ 5))) }
+    ensures fault { status_number result ≡ 4 → StopsAtFailure (D.failed door.new) (D.writes door.old) (D.writes door.new) }
+    ensures steady { status_number result ≢ 4 → D.writes door.new ≡ D.writes door.old }
+    ensures done { (s : L.State) (packets : List Packet) (text : List ℕ) (first : DoorState) → L.keeps writer.now s → D.tells
+        → HasAll packets text fault first (D.state door.old) lines.old
+        → (status_number result ≡ 0) ⊎ (status_number result ≡ 3)
+        → WritesDue (due_behind (text ++ L.ending s) fault) first (D.state door.new) (status_number result) }
+    ensures part { (s : L.State) (packets : List Packet) (text : List ℕ) (first : DoorState) → L.keeps writer.now s → D.tells
+        → HasAll packets text fault first (D.state door.old) lines.old
+        → (status_number result ≡ 4) ⊎ (status_number result ≡ 5)
+        → WritesPart (due_behind (text ++ L.ending s) fault) first (D.state door.new) }
+    ensures turns { D.turns door.new ≡ D.turns door.old }
+    ensures reads { D.reads door.new ≡ D.reads door.old }
+{
+    if writer.append_last(alloc, lines).is_err() {
+        return Status::NoMemory;
+    }
+    end_capture(door, lines, fault)
+}
+
+/// Writes the lines of the packets that are to come, then those at their end, and then that of the
+/// fault that ends them.
+fn write_packets<D: Door, L: PacketLines>(
+    alloc: Global,
+    door: &mut D,
+    reader: &mut CaptureReader,
+    writer: &mut L,
+    lines: &mut Bytes,
+) -> Status
+    requires { is_broken reader.old ≡ false }
+    ensures statuses { (status_number result ≡ 0) ⊎ ((status_number result ≡ 3) ⊎ ((status_number result ≡ 4) ⊎ (status_number result ≡ 5))) }
+    ensures fault { status_number result ≡ 4 → EndsAtFailure (D.failed door.new) (D.reads door.old) (D.reads door.new) (D.writes door.old) (D.writes door.new) }
+    ensures steady { status_number result ≢ 4 → (D.reads door.new ≡ D.reads door.old) × (D.writes door.new ≡ D.writes door.old) }
+    ensures done { (s : L.State) (first : DoorState) → L.keeps writer.old s → D.tells → HasDone [] [] reader.old first (D.state door.old) lines.old
+        → (status_number result ≡ 0) ⊎ (status_number result ≡ 3)
+        → WritesDue (due_of_capture L.step L.ending s first.left) first (D.state door.new) (status_number result) }
+    ensures part { (s : L.State) (first : DoorState) → L.keeps writer.old s → D.tells → HasDone [] [] reader.old first (D.state door.old) lines.old
+        → (status_number result ≡ 4) ⊎ (status_number result ≡ 5)
+        → WritesPart (due_of_capture L.step L.ending s first.left) first (D.state door.new) }
+    ensures taken { (s : L.State) (first : DoorState) → L.keeps writer.old s → D.tells → HasDone [] [] reader.old first (D.state door.old) lines.old
+        → D.reads door.new ≢ D.reads door.old → WritesTaken L.step s first (D.state door.new) }
+    ensures left { (s : L.State) → L.keeps writer.old s → IsLeftBy (L.keeps writer.new) L.step s }
+    ensures turns { D.turns door.new ≡ D.turns door.old }
+{
+    'packets: loop {
+        match go_on(door, reader, lines) {
+            Way::Packet => {}
+            Way::Ended => return finish(alloc, door, writer, lines, None),
+            Way::Broken(fault) => return finish(alloc, door, writer, lines, Some(fault)),
+            Way::Failed => return Status::DoorFailed,
+        }
+        if writer.append_line(alloc, lines, &reader.packet()).is_err() {
+            return Status::NoMemory;
+        }
+    }
+}
+
+/// Reads a capture, and writes the lines of its packets, then those at their end, and then that of
+/// the fault that ends them. The line of each packet is written before more of the capture is read.
+pub fn write_capture<D: Door, L: PacketLines>(alloc: Global, door: &mut D, writer: &mut L) -> Status
+    ensures statuses { (status_number result ≡ 0) ⊎ ((status_number result ≡ 3) ⊎ ((status_number result ≡ 4) ⊎ (status_number result ≡ 5))) }
+    ensures fault { status_number result ≡ 4 → EndsAtFailure (D.failed door.new) (D.reads door.old) (D.reads door.new) (D.writes door.old) (D.writes door.new) }
+    ensures steady { status_number result ≢ 4 → (D.reads door.new ≡ D.reads door.old) × (D.writes door.new ≡ D.writes door.old) }
+    // From whatever the writer is said to keep, the lines are those of the packets in their order,
+    ensures done { (s : L.State) → L.keeps writer.old s → D.tells → (status_number result ≡ 0) ⊎ (status_number result ≡ 3) →
+        WritesDue (due_of_capture L.step L.ending s (D.state door.old).left) (D.state door.old) (D.state door.new) (status_number result) }
+    ensures part { (s : L.State) → L.keeps writer.old s → D.tells → (status_number result ≡ 4) ⊎ (status_number result ≡ 5) →
+        WritesPart (due_of_capture L.step L.ending s (D.state door.old).left) (D.state door.old) (D.state door.new) }
+    ensures taken { (s : L.State) → L.keeps writer.old s → D.tells → D.reads door.new ≢ D.reads door.old →
+        WritesTaken L.step s (D.state door.old) (D.state door.new) }
+    // and it keeps what some packets leave behind that; which packets, no clause says.
+    ensures left { (s : L.State) → L.keeps writer.old s → IsLeftBy (L.keeps writer.new) L.step s }
+    ensures turns { D.turns door.new ≡ D.turns door.old }
+{
+    let mut reader = match CaptureReader::begin(alloc, door) {
+        Ok(reader) => reader,
+        Err(ReadFault::Failed) => return Status::DoorFailed,
+        Err(ReadFault::Memory) => return Status::NoMemory,
+    };
+    let mut lines = Bytes::empty(alloc);
+    write_packets(alloc, door, &mut reader, writer, &mut lines)
+}

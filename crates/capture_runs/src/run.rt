@@ -1,0 +1,137 @@
+//! The door's half of a command that reads a capture, whatever it makes of the packets.
+ghost use Rattle.std.specs.Prelude.{◌≡◌, ◌≢◌, ◌⊎◌, ◌<◌, ◌++◌, [], ℕ, List, false, IsSome, IsTrue, OnOk, OnErr, is_err};
+ghost use Rattle.mud_world.specs.Causes.{Counts, EndsAtFailure, StopsAtFailure};
+ghost use Rattle.mud_world.specs.Door.{DoorState, put_out};
+ghost use Rattle.mud_world.specs.Whole.{WrotePart};
+ghost use Rattle.packet_buffer.specs.Packets.{Packet};
+ghost use Rattle.capture_source.specs.Reading.{is_broken, most_to_come, packet_at};
+ghost use Rattle.command_runs.specs.Due.{WritesDue, WritesPart, WroteFirst, WroteFront};
+ghost use Rattle.command_runs.specs.Status.{status_number};
+ghost use Rattle.capture_runs.specs.Capture.{due_behind, end_line, fault_line};
+ghost use Rattle.capture_runs.specs.Runs.{HasAll, HasDone, LedTo, WroteTaken, has_failed};
+ghost use Rattle.capture_runs.specs.declared.run.Way.TheVariants as way;
+
+use capture_source::{CaptureFault, CaptureReader};
+use command_runs::Status;
+use mud_base::{Bytes, Memory};
+use mud_world::{Door, Failed, say};
+use text_lines::append_place;
+
+/// Lines of more octets than these are written although the next packet is held.
+const MOST_GATHERED: usize = 65_536;
+
+/// Where a run stands that went on.
+#[derive(Clone, Copy, Debug, PartialEq, Eq)]
+pub enum Way {
+    /// At the next packet.
+    Packet,
+    /// At the end of the capture.
+    Ended,
+    /// At the fault that ends the capture. It isn't that of a source that failed.
+    Broken(CaptureFault),
+    /// A read or a write of the door failed.
+    Failed,
+}
+
+/// Adds the line of a fault of a capture: `fault`, the rule's name, and its place where it has one.
+#[tactic(auto, unfolding(crate::specs::Capture::fault_line))]
+fn append_fault(lines: &mut Bytes, fault: CaptureFault) -> Result<(), Memory>
+    ensures { OnOk result (lines.new ≡ lines.old ++ fault_line fault) }
+{
+    lines.append(b"fault ")?;
+    lines.append(fault.name().as_bytes())?;
+    append_place(lines, fault.place())?;
+    lines.append(b"\n")
+}
+
+/// Writes the lines gathered, and empties their text.
+fn write_out<D: Door>(door: &mut D, lines: &mut Bytes) -> Result<(), Failed>
+    ensures ok { D.tells → OnOk result (D.state door.new ≡ put_out lines.old (D.state door.old)) }
+    ensures empty { OnOk result (lines.new ≡ []) }
+    ensures part { D.tells → OnErr result (WrotePart lines.old (D.state door.old) (D.state door.new)) }
+    ensures cause { Counts (is_err result) (D.writes door.old) (D.writes door.new) }
+    ensures stop { OnErr result (StopsAtFailure (D.failed door.new) (D.writes door.old) (D.writes door.new)) }
+    ensures turns { D.turns door.new ≡ D.turns door.old }
+    ensures reads { D.reads door.new ≡ D.reads door.old }
+{
+    say(door, lines.octets())?;
+    lines.clear();
+    Ok(())
+}
+
+/// Writes the lines gathered where more is to be read next, or where they are many. Where they
+/// aren't written they stay.
+fn write_before<D: Door>(door: &mut D, lines: &mut Bytes, is_ready: bool) -> Result<(), Failed>
+    ensures ok { D.tells → OnOk result (WroteFront lines.old lines.new (D.state door.old) (D.state door.new)) }
+    ensures unready { is_ready ≡ false → OnOk result (lines.new ≡ []) }
+    ensures part { D.tells → OnErr result (WrotePart lines.old (D.state door.old) (D.state door.new)) }
+    ensures cause { Counts (is_err result) (D.writes door.old) (D.writes door.new) }
+    ensures stop { OnErr result (StopsAtFailure (D.failed door.new) (D.writes door.old) (D.writes door.new)) }
+    ensures turns { D.turns door.new ≡ D.turns door.old }
+    ensures reads { D.reads door.new ≡ D.reads door.old }
+{
+    if is_ready && lines.len() <= MOST_GATHERED {
+        return Ok(());
+    }
+    write_out(door, lines)
+}
+
+/// Writes the lines gathered where more of the capture is to be read, and goes on to the next packet.
+/// So whatever was made of the packets read so far is written before a read.
+pub fn go_on<D: Door>(door: &mut D, reader: &mut CaptureReader, lines: &mut Bytes) -> Way
+    requires { is_broken reader.old ≡ false }
+    ensures led { (packets : List Packet) (text : List ℕ) (first : DoorState) → D.tells
+        → HasDone packets text reader.old first (D.state door.old) lines.old
+        → LedTo result packets text reader.new first (D.state door.new) lines.new }
+    ensures taken { (packets : List Packet) (text : List ℕ) (first : DoorState) → D.tells
+        → HasDone packets text reader.old first (D.state door.old) lines.old
+        → D.reads door.new ≢ D.reads door.old → WroteTaken packets text first (D.state door.new) }
+    ensures fault { IsTrue (has_failed result) → EndsAtFailure (D.failed door.new) (D.reads door.old) (D.reads door.new) (D.writes door.old) (D.writes door.new) }
+    ensures steady { has_failed result ≡ false → (D.reads door.new ≡ D.reads door.old) × (D.writes door.new ≡ D.writes door.old) }
+    ensures turns { D.turns door.new ≡ D.turns door.old }
+    ensures here { result ≡ way.Packet → IsSome (packet_at reader.new) }
+    ensures going { result ≡ way.Packet → is_broken reader.new ≡ false }
+    ensures fewer { result ≡ way.Packet → most_to_come reader.new < most_to_come reader.old }
+{
+    if write_before(door, lines, reader.is_ready()).is_err() {
+        return Way::Failed;
+    }
+    match reader.advance(door) {
+        Ok(true) => Way::Packet,
+        Ok(false) => Way::Ended,
+        Err(fault) => {
+            if fault.is_read_fault() {
+                Way::Failed
+            } else {
+                Way::Broken(fault)
+            }
+        }
+    }
+}
+
+/// Writes the last lines of a capture, and behind them that of the fault that ends it, where one does.
+pub fn end_capture<D: Door>(door: &mut D, lines: &mut Bytes, fault: Option<CaptureFault>) -> Status
+    ensures statuses { (status_number result ≡ 0) ⊎ ((status_number result ≡ 3) ⊎ ((status_number result ≡ 4) ⊎ (status_number result ≡ 5))) }
+    ensures fault { status_number result ≡ 4 → StopsAtFailure (D.failed door.new) (D.writes door.old) (D.writes door.new) }
+    ensures steady { status_number result ≢ 4 → D.writes door.new ≡ D.writes door.old }
+    ensures done { (packets : List Packet) (text : List ℕ) (first : DoorState) → D.tells → HasAll packets text fault first (D.state door.old) lines.old
+        → (status_number result ≡ 0) ⊎ (status_number result ≡ 3)
+        → WritesDue (due_behind text fault) first (D.state door.new) (status_number result) }
+    ensures part { (packets : List Packet) (text : List ℕ) (first : DoorState) → D.tells → HasAll packets text fault first (D.state door.old) lines.old
+        → (status_number result ≡ 4) ⊎ (status_number result ≡ 5)
+        → WritesPart (due_behind text fault) first (D.state door.new) }
+    ensures turns { D.turns door.new ≡ D.turns door.old }
+    ensures reads { D.reads door.new ≡ D.reads door.old }
+{
+    let mut status = Status::Done;
+    if let Some(fault) = fault {
+        if append_fault(lines, fault).is_err() {
+            return Status::NoMemory;
+        }
+        status = Status::Refused;
+    }
+    match say(door, lines.octets()) {
+        Ok(()) => status,
+        Err(Failed) => Status::DoorFailed,
+    }
+}

@@ -7,6 +7,8 @@ mod addresses;
 #[cfg(test)]
 mod captures;
 #[cfg(test)]
+mod dns;
+#[cfg(test)]
 mod fields;
 #[cfg(test)]
 mod frames;

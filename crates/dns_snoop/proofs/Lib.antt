@@ -1,0 +1,8 @@
+mod Examples
+pub mod NameLaws
+pub mod ObservedLaws
+pub mod OnLiterals
+pub mod RowLaws
+pub mod RowWalks
+pub mod Runs
+pub mod Walks

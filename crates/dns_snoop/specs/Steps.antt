@@ -1,0 +1,40 @@
+-- What the first octets do to a run, and a run to the name that is read.
+use Rattle.std.specs.Prelude.{◌≡◌, ℕ, ◌+◌, ◌≤◌, List, [], ◌∷◌, ◌++◌, length, Result, Ok, Err}
+use Rattle.mud_base.specs.Faults.{row_at, unless}
+use Rattle.dns_snoop.specs.declared.fault.DnsFault.{DnsFault}
+use Rattle.dns_snoop.specs.declared.fault.DnsFault.TheVariants as faults
+use Rattle.dns_snoop.specs.declared.label.Step.{Step}
+use Rattle.dns_snoop.specs.declared.label.Step.TheVariants as step
+use Rattle.dns_snoop.specs.declared.name.RunEnd.{RunEnd}
+use Rattle.dns_snoop.specs.declared.name.RunEnd.TheVariants.{End, Pointer}
+use Rattle.dns_snoop.specs.Names.{Run, Chain, ended, with_label, run_from, first_beyond, text_of}
+
+abbrev pub IsStep : ℕ → List ℕ → Step → Type 0
+IsStep place octets (step.Fault fault) = run_from 0 place octets ≡ ended (Err fault)
+IsStep place octets step.End = (1 ≤ length octets) × (run_from 0 place octets ≡ ended (Ok (End (place + 1))))
+IsStep place octets (step.Pointer target) = (2 ≤ length octets) × (run_from 0 place octets ≡ ended (Ok (Pointer place target)))
+IsStep place octets (step.Label label rest) =
+    (length label.now ≤ 63)
+    × (length rest.now + (1 + length label.now) ≡ length octets)
+    × (run_from 0 place octets ≡ with_label (record { place = place; text = label.now }) (run_from 0 (place + (1 + length label.now)) rest.now))
+
+-- the text of the labels up to the end of a run, and that end
+pub record RunRead : Type 0 where
+  pub text : List ℕ
+  pub end : RunEnd
+
+abbrev pub with_end : List ℕ → Result RunEnd DnsFault → Result RunRead DnsFault
+with_end text (Ok end) = Ok (record { text = text; end = end })
+with_end text (Err fault) = Err fault
+
+abbrev pub with_text : List ℕ → Result (Unit {0}) DnsFault → Result (List ℕ) DnsFault
+with_text text (Ok done) = Ok text
+with_text text (Err fault) = Err fault
+
+-- what a run makes of the text before it
+unfoldable pub run_answer : List ℕ → Run → Result RunRead DnsFault
+run_answer text run = unless (row_at faults.NameLong (first_beyond (1 + length text) run.labels) ∷ []) (with_end (text ++ text_of run.labels) run.end)
+
+-- what a chain makes of the text before it
+unfoldable pub chain_answer : List ℕ → Chain → Result (List ℕ) DnsFault
+chain_answer text chain = unless (row_at faults.NameLong (first_beyond (1 + length text) chain.labels) ∷ chain.fault ∷ []) (Ok (text ++ text_of chain.labels))

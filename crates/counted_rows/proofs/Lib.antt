@@ -1,0 +1,7 @@
+mod CountLaws
+mod FirstLaws
+pub mod FirstRows
+mod KeptLaws
+mod LeftLaws
+pub mod NumberLaws
+pub mod RowSteps

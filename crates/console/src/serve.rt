@@ -1,7 +1,7 @@
 //! Serving connections by a desk.
-ghost use Rattle.std.specs.Prelude.{◌≡◌, ◌≤◌, List, is_err};
+ghost use Rattle.std.specs.Prelude.{◌≡◌, ◌≤◌, List, IsTrue, OnErr, is_err};
 ghost use Rattle.mud_world.specs.Boxed.{faults_of, Tells};
-ghost use Rattle.mud_world.specs.Causes.{Counts};
+ghost use Rattle.mud_world.specs.Causes.{Counts, StopsAtFailure};
 ghost use Rattle.mud_tables.specs.declared.segment.Segment.{Segment as SegmentValue};
 ghost use Rattle.mud_desk.specs.DeskState.{tables_of, session_of, HasForwarded};
 ghost use Rattle.mud_desk.specs.Boxed.{IsKept, IsSameBox};
@@ -49,6 +49,8 @@ pub fn serve_connection<D: Door, C: Clock>(
     ensures same_clock { console.new.clock.ghost_name ≡ console.old.clock.ghost_name }
     ensures reads { Counts (is_read_failed result) (D.reads door.old) (D.reads door.new) }
     ensures writes { Counts (is_write_failed result) (D.writes door.old) (D.writes door.new) }
+    ensures read_stop { IsTrue (is_read_failed result) → StopsAtFailure (D.failed door.new) (D.reads door.old) (D.reads door.new) }
+    ensures write_stop { IsTrue (is_write_failed result) → StopsAtFailure (D.failed door.new) (D.writes door.old) (D.writes door.new) }
     ensures turns { D.turns door.new ≡ D.turns door.old }
 {
     serve_requests(buffer, door, console, from)
@@ -86,6 +88,7 @@ pub fn serve_connections<D: Door, C: Clock>(
     // The clock stays the one that was lent.
     ensures same_clock { console.new.clock.ghost_name ≡ console.old.clock.ghost_name }
     ensures turns { Counts (is_err result) (D.turns door.old) (D.turns door.new) }
+    ensures stop { OnErr result (StopsAtFailure (D.failed door.new) (D.turns door.old) (D.turns door.new)) }
     ensures reads { D.reads door.old ≤ D.reads door.new }
     ensures writes { D.writes door.old ≤ D.writes door.new }
 {

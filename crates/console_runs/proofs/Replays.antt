@@ -1,10 +1,10 @@
 -- What a run of `replay` promises where the connection is served, and where it isn't.
-use Rattle.std.proofs.Common.{◌≡◌, ◌≢◌, ℕ, ◌⊎◌, inl, inr, [], Ok, refl, subst, ◌∙◌, arith}
+use Rattle.std.proofs.Common.{◌≡◌, ◌≢◌, ℕ, Bool, ◌⊎◌, inl, inr, IsTrue, [], Ok, refl, subst, ◌∙◌, arith}
 use Rattle.std.specs.declared.dyn_box.DynBox.{DynBox}
 use Rattle.std.specs.declared.alloc.Global.{Global}
 use Rattle.mud_world.specs.declared.keeper.Keeper.{Ghosts}
 use Rattle.mud_world.specs.Boxed.{faults_of, Tells, kept_items}
-use Rattle.mud_world.specs.Causes.{Counts, Rose}
+use Rattle.mud_world.specs.Causes.{Counts, Rose, StopsAtFailure, EndsAtFailure}
 use Rattle.command_runs.specs.View.{DoorView}
 use Rattle.desk_model.specs.DeskTables.{DeskTables, IsSound}
 use Rattle.desk_model.specs.Items.{tables_in}
@@ -47,14 +47,15 @@ at_most_four ReadFailed status is which = absurd (grind arith)
 at_most_four WriteFailed status is which = absurd (grind arith)
 
 module _ (status read_before read_now write_before write_now : ℕ) where
-  fault_at : (end : ConnectionEnd) → status ≡ status_at end → Counts (is_read_failed end) read_before read_now → Counts (is_write_failed end) write_before write_now
-      → status ≡ 4 → Rose read_before read_now ⊎ Rose write_before write_now
-  fault_at Ended is reads writes four = absurd (omega (arith, is, four))
-  fault_at Closed is reads writes four = absurd (omega (arith, is, four))
-  fault_at Broken is reads writes four = absurd (omega (arith, is, four))
-  fault_at Spent is reads writes four = absurd (omega (arith, is, four))
-  fault_at ReadFailed is reads writes four = inl (reads.rose refl)
-  fault_at WriteFailed is reads writes four = inr (writes.rose refl)
+  fault_at : (has_failed : Bool) (end : ConnectionEnd) → status ≡ status_at end → Counts (is_read_failed end) read_before read_now → Counts (is_write_failed end) write_before write_now
+      → (IsTrue (is_read_failed end) → StopsAtFailure has_failed read_before read_now) → (IsTrue (is_write_failed end) → StopsAtFailure has_failed write_before write_now)
+      → status ≡ 4 → EndsAtFailure has_failed read_before read_now write_before write_now
+  fault_at has_failed Ended is reads writes read write four = absurd (omega (arith, is, four))
+  fault_at has_failed Closed is reads writes read write four = absurd (omega (arith, is, four))
+  fault_at has_failed Broken is reads writes read write four = absurd (omega (arith, is, four))
+  fault_at has_failed Spent is reads writes read write four = absurd (omega (arith, is, four))
+  fault_at has_failed ReadFailed is reads writes read write four = inl (read refl, writes.steady refl)
+  fault_at has_failed WriteFailed is reads writes read write four = inr (write refl, reads.steady refl)
 
   steady_at : (end : ConnectionEnd) → status ≡ status_at end → Counts (is_read_failed end) read_before read_now → Counts (is_write_failed end) write_before write_now
       → status ≢ 4 → (read_now ≡ read_before) × (write_now ≡ write_before)
@@ -81,9 +82,11 @@ module _ {X : Type 0} {F : X → Type 0} (members : (v : (x : X) × F x) → Gho
       → IsBegun tables state → IsKept members after (tables_of ended) → returned ≡ after → status ≡ status_at end
       → IsLeftBy (MayTake (Unit {0})) (IsAt (Unit {0}) ended [] faults (faults_of members after)) (begun (session_of [] state) [])
       → (tells → IsServed (MayTake (Unit {0})) fault_answer Header (IsAt (Unit {0}) ended [] faults (faults_of members after)) end (begun (session_of [] state) []) old.state new.state)
-      → Counts (is_read_failed end) old.reads new.reads → Counts (is_write_failed end) old.writes new.writes → new.turns ≡ old.turns
+      → Counts (is_read_failed end) old.reads new.reads → Counts (is_write_failed end) old.writes new.writes
+      → (IsTrue (is_read_failed end) → StopsAtFailure new.failed old.reads new.reads) → (IsTrue (is_write_failed end) → StopsAtFailure new.failed old.writes new.writes)
+      → new.turns ≡ old.turns
       → ReplaysConnection members tells tables faults returned old new status
-  replayed tells tables state ended faults after returned end old new status is kept same status_is left served reads writes turns =
+  replayed tells tables state ended faults after returned end old new status is kept same status_is left served reads writes read_stop write_stop turns =
       let first = begun_with tables state [] is in
       let then = leaves members (Unit {0}) after returned ended [] faults kept same in
       record {
@@ -93,6 +96,8 @@ module _ {X : Type 0} {F : X → Type 0} (members : (v : (x : X) × F x) → Gho
         served = λ told. served_as (Unit {0}) _ _ then _ _ first Header end old.state new.state (served told);
         reads = reads;
         writes = writes;
+        read_stop = read_stop;
+        write_stop = write_stop;
         same_turns = turns;
       }
 
@@ -102,7 +107,7 @@ module _ {X : Type 0} {F : X → Type 0} (members : (v : (x : X) × F x) → Gho
     pub replays_none : ServesNone members tells keeper returned old new status → IsSameBox keeper returned → ReplaysStore members tells keeper returned old new status
     replays_none p box = record {
       statuses = inr (inr p.statuses);
-      fault = λ four. inr (rose_at_failure new.failed old.writes new.writes (p.fault four));
+      fault = λ four. inr (p.fault four, p.same_reads);
       steady = λ other. (p.same_reads, p.steady other);
       keeper_fault = p.keeper_fault;
       runs = inr p;
@@ -126,7 +131,7 @@ module _ {X : Type 0} {F : X → Type 0} (members : (v : (x : X) × F x) → Gho
         → ReplaysStore members tells keeper returned old new status
     replays_opened tables begins read sound same_count box run told same_box = record {
       statuses = statuses_at run.end status run.status_is;
-      fault = fault_at status old.reads new.reads old.writes new.writes run.end run.status_is run.reads run.writes;
+      fault = fault_at status old.reads new.reads old.writes new.writes new.failed run.end run.status_is run.reads run.writes run.read_stop run.write_stop;
       steady = steady_at status old.reads new.reads old.writes new.writes run.end run.status_is run.reads run.writes;
       keeper_fault = λ seven. at_most_four run.end status run.status_is (inr (inr seven));
       runs = inl (record {

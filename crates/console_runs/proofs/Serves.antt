@@ -1,10 +1,12 @@
 -- What a run of `serve` promises where connections are served, and where they aren't.
-use Rattle.std.proofs.Common.{◌≡◌, ◌≢◌, ℕ, ◌≤◌, ◌⊎◌, inl, inr, Bool, true, false, cond, List, [], Ok, refl, subst, ◌∙◌, arith}
+use Rattle.std.proofs.Common.{◌≡◌, ◌≢◌, ℕ, ◌≤◌, ◌⊎◌, inl, inr, Bool, true, false, IsTrue, cond, List, [], Result, Ok, Err, OnErr, refl, subst, ◌∙◌, arith}
+use Rattle.std.proofs.lemmas.Bool.{false≢true}
+use Rattle.std.specs.Prelude.{is_err}
 use Rattle.std.specs.declared.dyn_box.DynBox.{DynBox}
 use Rattle.std.specs.declared.alloc.Global.{Global}
 use Rattle.mud_world.specs.declared.keeper.Keeper.{Ghosts}
 use Rattle.mud_world.specs.Boxed.{faults_of, Tells, kept_items}
-use Rattle.mud_world.specs.Causes.{Counts, Rose}
+use Rattle.mud_world.specs.Causes.{Counts, Rose, StopsAtFailure}
 use Rattle.mud_world.specs.Door.{DoorState, bound_anew}
 use Rattle.command_runs.specs.View.{DoorView}
 use Rattle.desk_model.specs.DeskTables.{DeskTables, IsSound}
@@ -39,13 +41,18 @@ at_most_four : {A : Type 0} (failed : Bool) (status : ℕ) → status ≡ status
 at_most_four true status is which = absurd (grind arith)
 at_most_four false status is which = absurd (grind arith)
 
-fault_by : (failed : Bool) (status before now : ℕ) → status ≡ status_by failed → Counts failed before now → status ≡ 4 → Rose before now
-fault_by true status before now is turns four = turns.rose refl
-fault_by false status before now is turns four = absurd (omega (arith, is, four))
+fault_by : (failed last : Bool) (status before now : ℕ) → status ≡ status_by failed → (IsTrue failed → StopsAtFailure last before now) → status ≡ 4 → StopsAtFailure last before now
+fault_by true last status before now is stop four = stop refl
+fault_by false last status before now is stop four = absurd (omega (arith, is, four))
 
 steady_by : (failed : Bool) (status before now : ℕ) → status ≡ status_by failed → Counts failed before now → status ≢ 4 → now ≡ before
 steady_by true status before now is turns other = absurd (other is)
 steady_by false status before now is turns other = turns.steady refl
+
+-- what holds of an error
+pub when_err : {A E : Type 0} (r : Result A E) (P : Type 0) → OnErr r P → IsTrue (is_err r) → P
+when_err (Ok value) P p is = absurd (false≢true is)
+when_err (Err error) P p is = p
 
 complete_by : (failed : Bool) (status before now : ℕ) → status ≡ status_by failed → Counts failed before now → ¬ (Rose before now) → IsComplete status
 complete_by true status before now is turns no_turn = absurd (no_turn (turns.rose refl))
@@ -56,9 +63,9 @@ module _ {X : Type 0} {F : X → Type 0} (members : (v : (x : X) × F x) → Gho
     -- ---- The port couldn't be bound
 
     pub unbound : (begins : DynBox X Global F) (moments : List ℕ) (old new : DoorView) (status : ℕ) → IsKept members begins (tables_of state) → returned ≡ begins → status ≡ 4
-        → Counts true old.turns new.turns → (tells → new.state ≡ old.state) → new.reads ≡ old.reads → new.writes ≡ old.writes
+        → Counts true old.turns new.turns → StopsAtFailure new.failed old.turns new.turns → (tells → new.state ≡ old.state) → new.reads ≡ old.reads → new.writes ≡ old.writes
         → ServesConnections members tells clock_tells tables (faults_of members begins) returned at (clock_run moments moments) old new status
-    unbound begins moments old new status kept same status_is turns untouched reads writes =
+    unbound begins moments old new status kept same status_is turns stop untouched reads writes =
         let first = begun_with tables state moments is in
         let then = leaves members clock_tells begins returned state moments (faults_of members begins) kept same in
         let leaves_first : LeavesDesk members clock_tells (faults_of members begins) returned moments (begun (session_of [] state) moments) =
@@ -68,6 +75,7 @@ module _ {X : Type 0} {F : X → Type 0} (members : (v : (x : X) × F x) → Gho
           failed = true;
           status_is = status_is;
           turns = turns;
+          stop = λ failed. stop;
           left = record { all = []; next = begun (opened tables) moments; kept = leaves_begun; leads = refl };
           served = λ told. inl (record { has_failed = refl; kept = leaves_begun; same_state = untouched told; same_reads = reads; same_writes = writes });
           reads = omega (arith, reads);
@@ -82,15 +90,16 @@ module _ {X : Type 0} {F : X → Type 0} (members : (v : (x : X) × F x) → Gho
         → IsLeftBy (MayTake clock_tells) (IsAt clock_tells ended moments_after faults (faults_of members after)) (begun (session_of [] state) moments)
         → (tells → ServedInTurn (MayTake clock_tells) fault_answer Clock (IsAt clock_tells ended moments_after faults (faults_of members after)) failed at.count (begun (session_of [] state) moments)
         mid.state new.state mid.reads new.reads mid.writes new.writes)
-        → Counts failed mid.turns new.turns → mid.reads ≤ new.reads → mid.writes ≤ new.writes
+        → Counts failed mid.turns new.turns → (IsTrue failed → StopsAtFailure new.failed mid.turns new.turns) → mid.reads ≤ new.reads → mid.writes ≤ new.writes
         → ServesConnections members tells clock_tells tables faults returned at (clock_run moments moments_after) old new status
-    served_here ended faults after failed moments moments_after old mid new status kept same status_is binds bound same_reads same_writes left served turns reads writes =
+    served_here ended faults after failed moments moments_after old mid new status kept same status_is binds bound same_reads same_writes left served turns stop reads writes =
         let first = begun_with tables state moments is in
         let then = leaves members clock_tells after returned ended moments_after faults kept same in
         record {
           failed = failed;
           status_is = status_is;
           turns = subst (λ (n : ℕ). Counts failed n new.turns) (bound.steady refl) turns;
+          stop = subst (λ (n : ℕ). IsTrue failed → StopsAtFailure new.failed n new.turns) (bound.steady refl) stop;
           left = left_as clock_tells _ _ then _ _ first left;
           served = λ told. inr (in_turn_as clock_tells _ _ then _ _ first Clock failed at.count (bound_anew at.port old.state) new.state old.reads new.reads old.writes new.writes
               (subst (λ (n : ℕ). ServedInTurn (MayTake clock_tells) fault_answer Clock (IsAt clock_tells ended moments_after faults (faults_of members after)) failed at.count (begun (session_of [] state) moments) (bound_anew at.port old.state) new.state old.reads new.reads n new.writes) same_writes
@@ -107,7 +116,7 @@ module _ {X : Type 0} {F : X → Type 0} (members : (v : (x : X) × F x) → Gho
         → ServesStore members tells clock_tells keeper returned at clock old new status
     serves_none p box unasked = record {
       statuses = inr p.statuses;
-      fault = λ four. inr (rose_at_failure new.failed old.writes new.writes (p.fault four));
+      fault = λ four. inr (p.fault four);
       steady = λ other. p.same_turns;
       keeper_fault = p.keeper_fault;
       runs = inr (p, unasked);
@@ -130,7 +139,7 @@ module _ {X : Type 0} {F : X → Type 0} (members : (v : (x : X) × F x) → Gho
         → ServesStore members tells clock_tells keeper returned at clock old new status
     serves_opened tables begins read sound same_count box run told same_box = record {
       statuses = statuses_by run.failed status run.status_is;
-      fault = λ four. inl (fault_by run.failed status old.turns new.turns run.status_is run.turns four);
+      fault = λ four. inl (fault_by run.failed new.failed status old.turns new.turns run.status_is run.stop four);
       steady = steady_by run.failed status old.turns new.turns run.status_is run.turns;
       keeper_fault = λ seven. at_most_four run.failed status run.status_is (inr (inr seven));
       runs = inl (record {

@@ -1,10 +1,10 @@
 -- What a run of `replay` over a store and a connection does.
-use Rattle.std.specs.Prelude.{◌≡◌, ◌≢◌, ℕ, ◌⊎◌, []}
+use Rattle.std.specs.Prelude.{◌≡◌, ◌≢◌, ℕ, ◌⊎◌, IsTrue, []}
 use Rattle.std.specs.declared.dyn_box.DynBox.{DynBox}
 use Rattle.std.specs.declared.alloc.Global.{Global}
 use Rattle.mud_world.specs.declared.keeper.Keeper.{Ghosts}
 use Rattle.mud_world.specs.Boxed.{faults_of}
-use Rattle.mud_world.specs.Causes.{Counts, Rose}
+use Rattle.mud_world.specs.Causes.{Counts, Rose, StopsAtFailure, EndsAtFailure}
 use Rattle.command_runs.specs.View.{DoorView}
 use Rattle.desk_model.specs.DeskTables.{DeskTables}
 use Rattle.desk_model.specs.Sessions.{opened}
@@ -40,6 +40,9 @@ module _ {X : Type 0} {F : X → Type 0} (members : (v : (x : X) × F x) → Gho
     pub served : tells → IsServed (MayTake (Unit {0})) fault_answer Header (LeavesDesk members (Unit {0}) faults returned []) end (begun (opened tables) []) old.state new.state
     pub reads : Counts (is_read_failed end) old.reads new.reads
     pub writes : Counts (is_write_failed end) old.writes new.writes
+    -- a read or a write that failed was the last call of the door
+    pub read_stop : IsTrue (is_read_failed end) → StopsAtFailure new.failed old.reads new.reads
+    pub write_stop : IsTrue (is_write_failed end) → StopsAtFailure new.failed old.writes new.writes
     pub same_turns : new.turns ≡ old.turns
 
   -- A desk is opened and the connection served by it.
@@ -50,10 +53,10 @@ module _ {X : Type 0} {F : X → Type 0} (members : (v : (x : X) × F x) → Gho
 
   -- A run of `replay`. `tells` says that the door tells its connections.
   pub record ReplaysStore (tells : Type 0) (keeper returned : DynBox X Global F) (old new : DoorView) (status : ℕ) : Type 0 where
-    -- The status is 0 or 3 to 7. It is 4 only where a read or a write of the door failed in this call, and where it isn't, none
-    -- failed. It is 7 only where the keeper failed in the opening.
+    -- The status is 0 or 3 to 7. It is 4 only where a read or a write of the door failed in this call, as its last call of the door,
+    -- and where it isn't, none failed. It is 7 only where the keeper failed in the opening.
     pub statuses : (status ≡ 0) ⊎ ((status ≡ 3) ⊎ ((status ≡ 4) ⊎ ((status ≡ 5) ⊎ ((status ≡ 6) ⊎ (status ≡ 7)))))
-    pub fault : status ≡ 4 → Rose old.reads new.reads ⊎ Rose old.writes new.writes
+    pub fault : status ≡ 4 → EndsAtFailure new.failed old.reads new.reads old.writes new.writes
     pub steady : status ≢ 4 → (new.reads ≡ old.reads) × (new.writes ≡ old.writes)
     pub keeper_fault : status ≡ 7 → Rose (faults_of members keeper) (faults_of members returned)
     -- The connection is served, or the store is refused, or memory is wanted before the connection is read.

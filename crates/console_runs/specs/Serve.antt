@@ -4,7 +4,7 @@ use Rattle.std.specs.declared.dyn_box.DynBox.{DynBox}
 use Rattle.std.specs.declared.alloc.Global.{Global}
 use Rattle.mud_world.specs.declared.keeper.Keeper.{Ghosts}
 use Rattle.mud_world.specs.Boxed.{faults_of}
-use Rattle.mud_world.specs.Causes.{Counts, Rose}
+use Rattle.mud_world.specs.Causes.{Counts, Rose, StopsAtFailure}
 use Rattle.mud_world.specs.Door.{bound_anew}
 use Rattle.command_runs.specs.View.{DoorView}
 use Rattle.desk_model.specs.DeskTables.{DeskTables}
@@ -49,6 +49,8 @@ module _ {X : Type 0} {F : X → Type 0} (members : (v : (x : X) × F x) → Gho
     pub failed : Bool
     pub status_is : status ≡ (if failed then 4 else 0)
     pub turns : Counts failed old.turns new.turns
+    -- that call was the last one of the door
+    pub stop : IsTrue failed → StopsAtFailure new.failed old.turns new.turns
     -- Whatever the door, some requests lead from the tables to what is left. Where it tells, they are those of the connections, one
     -- after the other, and what was written to each are the answers to its own. A connection whose read or write fails is over.
     pub left : IsLeftBy (MayTake clock_tells) (LeavesDesk members clock_tells faults returned clock.after) (begun (opened tables) clock.before)
@@ -67,9 +69,9 @@ module _ {X : Type 0} {F : X → Type 0} (members : (v : (x : X) × F x) → Gho
   -- A run of `serve`. `tells` says that the door tells its connections, and `clock_tells` that the clock tells its moments.
   pub record ServesStore (tells clock_tells : Type 0) (keeper returned : DynBox X Global F) (at : Listening) (clock : ClockRun) (old new : DoorView) (status : ℕ) : Type 0 where
     -- The status is 0 or 4 to 7. It is 4 only where the door failed in this call to bind the port or to go on to a connection, or to
-    -- write the line of an item that is no record. It is 7 only where the keeper failed in the opening.
+    -- write the line of an item that is no record, as its last call of the door. It is 7 only where the keeper failed in the opening.
     pub statuses : (status ≡ 0) ⊎ ((status ≡ 4) ⊎ ((status ≡ 5) ⊎ ((status ≡ 6) ⊎ (status ≡ 7))))
-    pub fault : status ≡ 4 → Rose old.turns new.turns ⊎ Rose old.writes new.writes
+    pub fault : status ≡ 4 → StopsAtFailure new.failed old.turns new.turns ⊎ StopsAtFailure new.failed old.writes new.writes
     pub steady : status ≢ 4 → new.turns ≡ old.turns
     pub keeper_fault : status ≡ 7 → Rose (faults_of members keeper) (faults_of members returned)
     -- The connections are served; or the store is refused, or memory is wanted before the port is bound, and the clock isn't asked.

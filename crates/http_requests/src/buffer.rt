@@ -1,6 +1,6 @@
 //! The one buffer for the heads and bodies of requests.
 ghost use Rattle.std.specs.Prelude.{◌≡◌, ◌+◌, ◌<◌, ◌≤◌, [], length, drop, IfOk, OnErr, is_err};
-ghost use Rattle.mud_world.specs.Causes.{Counts};
+ghost use Rattle.mud_world.specs.Causes.{Counts, StopsAtFailure};
 ghost use Rattle.http_requests.specs.Received.{Grown, Received};
 
 use mud_base::Memory;
@@ -79,6 +79,7 @@ impl RequestBuffer {
         ensures kept { OnErr result (self.new ≡ self.old) }
         ensures err { D.tells → OnErr result (D.state door.new ≡ D.state door.old) }
         ensures cause { Counts (is_err result) (D.reads door.old) (D.reads door.new) }
+        ensures stop { OnErr result (StopsAtFailure (D.failed door.new) (D.reads door.old) (D.reads door.new)) }
         ensures turns { D.turns door.new ≡ D.turns door.old }
         ensures writes { D.writes door.new ≡ D.writes door.old }
     {

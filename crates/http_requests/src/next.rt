@@ -1,7 +1,7 @@
 //! The next request of a connection.
 ghost use Rattle.std.specs.Prelude.{◌≡◌, ◌≢◌, ℕ, ◌+◌, ◌<◌, ◌≤◌, List, [], ◌++◌, length, false, nat_le, if◌then◌else◌, IfOk, OnErr, is_err};
 ghost use Rattle.httparse.specs.Grammar.{RequestHead};
-ghost use Rattle.mud_world.specs.Causes.{Counts};
+ghost use Rattle.mud_world.specs.Causes.{Counts, StopsAtFailure};
 ghost use Rattle.http_requests.specs.declared.fault.RequestFault.{RequestFault};
 ghost use Rattle.http_requests.specs.declared.fault.MomentFrom.{MomentFrom};
 ghost use Rattle.http_requests.specs.declared.shape.RequestShape.{RequestShape};
@@ -59,6 +59,7 @@ fn next_head<D: Door>(
     ensures received { D.tells → Received buffer.old buffer.new (D.state door.old) (D.state door.new) }
     ensures untouched { (head : RequestHead) (rest : List ℕ) → IsHead buffer.old head rest → buffer.new ≡ buffer.old }
     ensures cause { Counts (is_err result) (D.reads door.old) (D.reads door.new) }
+    ensures stop { OnErr result (StopsAtFailure (D.failed door.new) (D.reads door.old) (D.reads door.new)) }
     ensures turns { D.turns door.new ≡ D.turns door.old }
     ensures writes { D.writes door.new ≡ D.writes door.old }
 {
@@ -94,6 +95,7 @@ fn next_body<D: Door>(buffer: &mut RequestBuffer, door: &mut D, len: usize) -> R
     ensures received { D.tells → Received buffer.old buffer.new (D.state door.old) (D.state door.new) }
     ensures untouched { len ≤ length buffer.old → buffer.new ≡ buffer.old }
     ensures cause { Counts (is_err result) (D.reads door.old) (D.reads door.new) }
+    ensures stop { OnErr result (StopsAtFailure (D.failed door.new) (D.reads door.old) (D.reads door.new)) }
     ensures turns { D.turns door.new ≡ D.turns door.old }
     ensures writes { D.writes door.new ≡ D.writes door.old }
 {
@@ -144,6 +146,7 @@ fn take_body<D: Door>(
     ensures received { D.tells → Received buffer.old buffer.new (D.state door.old) (D.state door.new) }
     ensures untouched { shape.head_len + shape.body_len ≤ length buffer.old → buffer.new ≡ buffer.old }
     ensures cause { Counts (is_err result) (D.reads door.old) (D.reads door.new) }
+    ensures stop { OnErr result (StopsAtFailure (D.failed door.new) (D.reads door.old) (D.reads door.new)) }
     ensures turns { D.turns door.new ≡ D.turns door.old }
     ensures writes { D.writes door.new ≡ D.writes door.old }
 {
@@ -179,6 +182,8 @@ fn finish<D: Door>(
     ensures untouched { shape.head_len + shape.body_len ≤ length buffer.old → buffer.new ≡ buffer.old }
     ensures reads { Counts (is_read_failed result) (D.reads door.old) (D.reads door.new) }
     ensures writes { Counts (is_write_failed result) (D.writes door.old) (D.writes door.new) }
+    ensures read_stop { result ≡ Err DoorFault.Read → StopsAtFailure (D.failed door.new) (D.reads door.old) (D.reads door.new) }
+    ensures write_stop { result ≡ Err DoorFault.Write → StopsAtFailure (D.failed door.new) (D.writes door.old) (D.writes door.new) }
     ensures turns { D.turns door.new ≡ D.turns door.old }
 {
     match say(door, leave_for(&shape)) {
@@ -214,6 +219,8 @@ pub fn next_request<D: Door>(
         → buffer.new ≡ buffer.old }
     ensures reads { Counts (is_read_failed result) (D.reads door.old) (D.reads door.new) }
     ensures writes { Counts (is_write_failed result) (D.writes door.old) (D.writes door.new) }
+    ensures read_stop { result ≡ Err DoorFault.Read → StopsAtFailure (D.failed door.new) (D.reads door.old) (D.reads door.new) }
+    ensures write_stop { result ≡ Err DoorFault.Write → StopsAtFailure (D.failed door.new) (D.writes door.old) (D.writes door.new) }
     ensures turns { D.turns door.new ≡ D.turns door.old }
 {
     match next_head(buffer, door, from) {

@@ -1,6 +1,6 @@
 //! Serving connection after connection.
-ghost use Rattle.std.specs.Prelude.{◌≡◌, ◌≤◌, is_err};
-ghost use Rattle.mud_world.specs.Causes.{Counts};
+ghost use Rattle.std.specs.Prelude.{◌≡◌, ◌≤◌, OnErr, is_err};
+ghost use Rattle.mud_world.specs.Causes.{Counts, StopsAtFailure};
 ghost use Rattle.http_serving.specs.Runs.{IsLeftBy};
 ghost use Rattle.http_serving.specs.Visits.{ServedInTurn};
 
@@ -30,6 +30,7 @@ pub fn serve_connections<D: Door, S: Service>(
         (D.state door.old) (D.state door.new)
         (D.reads door.old) (D.reads door.new) (D.writes door.old) (D.writes door.new) }
     ensures turns { Counts (is_err result) (D.turns door.old) (D.turns door.new) }
+    ensures stop { OnErr result (StopsAtFailure (D.failed door.new) (D.turns door.old) (D.turns door.new)) }
     ensures reads { D.reads door.old ≤ D.reads door.new }
     ensures writes { D.writes door.old ≤ D.writes door.new }
 {

@@ -1,6 +1,6 @@
 //! Serving one connection.
-ghost use Rattle.std.specs.Prelude.{◌≡◌, ◌≢◌, ◌+◌, ◌≤◌, ℕ, List, [], length, Option, Some, None, OnOk, OnErr, is_err};
-ghost use Rattle.mud_world.specs.Causes.{Counts};
+ghost use Rattle.std.specs.Prelude.{◌≡◌, ◌≢◌, ◌+◌, ◌≤◌, ℕ, List, [], length, Option, Some, None, OnOk, OnErr, IsTrue, is_err};
+ghost use Rattle.mud_world.specs.Causes.{Counts, StopsAtFailure};
 ghost use Rattle.mud_world.specs.Door.{put_out};
 ghost use Rattle.mud_world.specs.Whole.{WrotePart};
 ghost use Rattle.http_requests.specs.Framing.{closes};
@@ -25,6 +25,7 @@ fn say_answer<D: Door, S: Service>(door: &mut D, service: &S) -> Result<(), Fail
     ensures part { D.tells → OnErr result
         (WrotePart (S.held service.now) (D.state door.old) (D.state door.new)) }
     ensures cause { Counts (is_err result) (D.writes door.old) (D.writes door.new) }
+    ensures stop { OnErr result (StopsAtFailure (D.failed door.new) (D.writes door.old) (D.writes door.new)) }
     ensures turns { D.turns door.new ≡ D.turns door.old }
     ensures reads { D.reads door.new ≡ D.reads door.old }
 {
@@ -74,6 +75,7 @@ fn answer_first<D: Door, S: Service>(
     ensures spent { result ≡ Ok (Some Stop.Spent) → (request : Request)
         → shape.now.closes ≡ closes request.head → stop_after more request ≡ Some spent }
     ensures cause { Counts (is_err result) (D.writes door.old) (D.writes door.new) }
+    ensures stop { OnErr result (StopsAtFailure (D.failed door.new) (D.writes door.old) (D.writes door.new)) }
     ensures turns { D.turns door.new ≡ D.turns door.old }
     ensures reads { D.reads door.new ≡ D.reads door.old }
 {
@@ -97,6 +99,7 @@ fn answer_fault<D: Door, S: Service>(
     ensures part { D.tells → OnErr result
         (WrotePart (S.refusal fault) (D.state door.old) (D.state door.new)) }
     ensures cause { Counts (is_err result) (D.writes door.old) (D.writes door.new) }
+    ensures stop { OnErr result (StopsAtFailure (D.failed door.new) (D.writes door.old) (D.writes door.new)) }
     ensures turns { D.turns door.new ≡ D.turns door.old }
     ensures reads { D.reads door.new ≡ D.reads door.old }
 {
@@ -124,6 +127,10 @@ pub fn serve_connection<D: Door, S: Service>(
         (D.state door.old) (D.state door.new) }
     ensures reads { Counts (is_read_failed result) (D.reads door.old) (D.reads door.new) }
     ensures writes { Counts (is_write_failed result) (D.writes door.old) (D.writes door.new) }
+
+    // A read or a write that failed was the last call of the door.
+    ensures read_stop { IsTrue (is_read_failed result) → StopsAtFailure (D.failed door.new) (D.reads door.old) (D.reads door.new) }
+    ensures write_stop { IsTrue (is_write_failed result) → StopsAtFailure (D.failed door.new) (D.writes door.old) (D.writes door.new) }
     ensures turns { D.turns door.new ≡ D.turns door.old }
 {
     buffer.clear();

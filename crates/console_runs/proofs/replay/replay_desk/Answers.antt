@@ -17,4 +17,4 @@ returns-clause-replays g c = λ tables is.
     (viewed (door.state old) (door.turns old) (door.reads old) (door.writes old) (door.failed old))
     (viewed (door.state new) (door.turns new) (door.reads new) (door.writes new) (door.failed new))
     (status_number c.status_of.result)
-    is run.kept c.close.ensures c.status_of.ensures (run.left [] is.forwarded) (λ told. run.served told [] is.forwarded) run.reads run.writes run.turns
+    is run.kept c.close.ensures c.status_of.ensures (run.left [] is.forwarded) (λ told. run.served told [] is.forwarded) run.reads run.writes run.read_stop run.write_stop run.turns

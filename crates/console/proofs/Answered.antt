@@ -8,6 +8,7 @@ use Rattle.http_requests.specs.declared.fault.MomentFrom.{MomentFrom}
 use Rattle.http_requests.specs.declared.parts.RequestParts.{RequestParts}
 use Rattle.http_requests.specs.Parts.{AreParts}
 use Rattle.http_answers.specs.declared.status.Status.{Status}
+use Rattle.http_answers.specs.declared.status.Status.TheVariants as status
 use Rattle.mud_tables.specs.declared.segment.Segment.{Segment}
 use Rattle.desk_model.specs.Sessions.{Session, later}
 use Rattle.console_routes.specs.Routes.{route_of}
@@ -16,7 +17,7 @@ use Rattle.console_answers.specs.declared.question.Question.{Question}
 use Rattle.console_answers.specs.declared.question.NoQuestion.{NoQuestion}
 use Rattle.console_answers.specs.Replies.{Reply, reply, replied, no_storage, IsOrWanted, MayStand}
 use Rattle.console_answers.specs.Asks.{question_of, by_route, refusal_of}
-use Rattle.console_answers.specs.Requests.{question_in, by_result, reply_in, MayFailBy, MayFail, MayReply, by_question, ChangesBy, command_asked}
+use Rattle.console_answers.specs.Requests.{question_in, by_result, reply_in, MayFailBy, MayFail, MayReply, MayWant, by_question, ChangesBy, command_asked}
 use Rattle.http_requests.specs.Framing.{is_head}
 use Rattle.console_answers.specs.Answers.{octets_of, MayAnswer}
 use Rattle.reading.specs.declared.refusal.Refusal.{Refusal}
@@ -26,6 +27,7 @@ use Rattle.console.specs.Refused.{IsRefusalOf}
 use Rattle.console.specs.Runs.{LeadsOn}
 use Rattle.console.specs.declared.refusals.ReplyHead.{ReplyHead}
 use Rattle.console.proofs.Paths.{route_again}
+use Rattle.console.proofs.Replying.{told_of}
 
 -- what the parts of a request ask for is what the request asks for
 pub question_here : (from : MomentFrom) (r : Request) (parts : RequestParts) (now : ℕ) → AreParts from r parts → question_of parts.method.now parts.path.now parts.body.now now ≡ question_of r.head.method r.head.target r.body now
@@ -53,10 +55,11 @@ module _ (session after : Session) (given : ℕ) (r : Request) (reply : Reply) w
 
 -- a reply is answered by its octets
 pub answered : (h : List Segment) (before after : DeskState) (given : ℕ) (r : Request) (closes : Bool) (reply : Reply) (octets method : List ℕ) → method ≡ r.head.method → octets ≡ octets_of method closes reply
+    → (reply.status ≡ status.NoStorage → MayWant (session_of h before) given r)
     → LeadsOn h before after (λ s t. MayReply s given r reply t) → LeadsOn h before after (λ s t. MayAnswer s given r closes reply.status octets t)
-answered h before after given r closes reply octets method is octets_are leads = record {
+answered h before after given r closes reply octets method is octets_are wanted leads = record {
   next = leads.next;
-  leads = record { reply = reply; may = leads.leads; status_is = refl; octets_are = octets_are ∙ ap (λ (m : List ℕ). octets_of m closes reply) is };
+  leads = record { reply = reply; may = leads.leads; status_is = refl; octets_are = octets_are ∙ ap (λ (m : List ℕ). octets_of m closes reply) is; wanted = wanted };
   forwarded = leads.forwarded;
 }
 
@@ -95,7 +98,7 @@ module _ (from : MomentFrom) (r : Request) (parts : RequestParts) (are : ArePart
   pub leads_unasked : (reply : Reply) (unasked : Refusal NoQuestion) → Fails unasked (question_of parts.method.now parts.path.now parts.body.now now) → IsRefusalOf unasked reply → HasForwarded h before
       → LeadsOn h before before (λ s t. MayReply s given r reply t)
   leads_unasked reply Memory says is_refusal forwarded = leads_wanted reply is_refusal forwarded
-  leads_unasked reply (Broken nothing) says is_refusal forwarded = leads_refused reply nothing says is_refusal forwarded
+  leads_unasked reply (Broken nothing) says is_refusal forwarded = leads_refused reply nothing says (told_of nothing reply is_refusal) forwarded
 
 -- a reply that names no methods
 pub plain_is : (head : ReplyHead) (status : Status) (body : List ℕ) → head ≡ record { status = status; allow = None } → ◌≡◌ {A = Reply} (record { status = head.status; allow = head.allow; body = body }) (reply status body)

@@ -5,5 +5,6 @@ pub mod Carrying
 pub mod Faults
 pub mod Paths
 pub mod Answered
+pub mod Wants
 pub mod Takes
 pub mod Beside

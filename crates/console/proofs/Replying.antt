@@ -12,10 +12,11 @@ use Rattle.body_members.specs.declared.fault.BodyFault.{BodyFault}
 use Rattle.listing_bodies.specs.Refusals.{body_fault_body}
 use Rattle.http_answers.specs.declared.status.Status.TheVariants.{BadRequest}
 use Rattle.console_answers.specs.declared.question.NoQuestion.{NoQuestion}
-use Rattle.console_answers.specs.declared.question.NoQuestion.TheVariants.{BadBody}
+use Rattle.console_answers.specs.declared.question.NoQuestion.TheVariants.{NoRoute, NoMethod, BadBody}
 use Rattle.console_answers.specs.Asks.{refusal_of}
 use Rattle.console.specs.declared.refusals.ReplyHead.{ReplyHead}
 use Rattle.console_answers.specs.Replies.{Reply, reply, made_reply, is_unavailable, IsOrWanted}
+use Rattle.console.specs.Refused.{IsToldOf}
 
 pub defined : (given is : Reply) → given ≡ is → IsOrWanted is given
 defined given is same = record { one = inl same }
@@ -45,9 +46,16 @@ refusal_known (Binds fault) = refl
 
 -- a body that breaks a rule
 pub bad_body : (nothing : NoQuestion) (fault : BodyFault) (head : ReplyHead) (status : Status) (text : List ℕ) (body : Result (List ℕ) want.Memory) → nothing ≡ BadBody fault → head ≡ record { status = status; allow = None }
-    → IfOk body (λ b. b ≡ body_fault_body fault) → reply status text ≡ made_reply BadRequest body → IsOrWanted (refusal_of nothing) (record { status = head.status; allow = head.allow; body = text })
+    → IfOk body (λ b. b ≡ body_fault_body fault) → reply status text ≡ made_reply BadRequest body → IsToldOf nothing (record { status = head.status; allow = head.allow; body = text })
 unfolding refusal_of reply
 bad_body nothing fault head status text body is head_is text_is reply_is =
-    subst (λ (n : NoQuestion). IsOrWanted (refusal_of n) (record { status = head.status; allow = head.allow; body = text })) (sym is)
+    subst (λ (n : NoQuestion). IsToldOf n (record { status = head.status; allow = head.allow; body = text })) (sym is)
     (subst (λ (h : ReplyHead). IsOrWanted (refusal_of (BadBody fault)) (record { status = h.status; allow = h.allow; body = text })) (sym head_is)
     (made BadRequest (body_fault_body fault) body (reply status text) text_is reply_is))
+
+-- what is told of a request that asks for nothing
+pub told_of : (nothing : NoQuestion) (given : Reply) → IsToldOf nothing given → IsOrWanted (refusal_of nothing) given
+unfolding refusal_of
+told_of NoRoute given told = defined given _ told
+told_of (NoMethod route) given told = defined given _ told
+told_of (BadBody fault) given told = told

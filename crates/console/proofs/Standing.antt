@@ -17,7 +17,7 @@ use Rattle.desk_model.specs.declared.command.Command.TheVariants.{HearUrl, HearL
 use Rattle.desk_model.specs.Commands.{IsAsked}
 use Rattle.console_routes.specs.declared.action.Listing.{Listing}
 use Rattle.frame_view.specs.Frame.{frame_of}
-use Rattle.desk_model.specs.Sessions.{Session, MayJudge, frame_in, verdict_in, raised, later}
+use Rattle.desk_model.specs.Sessions.{Session, MayJudge, frame_in, verdict_in, raised, later, IsNoted}
 use Rattle.http_answers.specs.declared.status.Status.TheVariants as status
 use Rattle.outcome_bodies.specs.Verdicts.{verdict_body}
 use Rattle.mud_desk.specs.DeskState.{DeskState, tables_of, session_of, HasForwarded, IsJudged}
@@ -76,6 +76,10 @@ module _ (h : List Segment) (before after : DeskState) (now : ℕ) (frame : List
   pub judged_not : (memory : want.Memory) → IsJudged h before now frame (Err memory) after → given ≡ no_storage
       → LeadsOn h before after (λ s t. MayStand ⊥ s (by_verdict (frame_in s now frame)) given t)
   judged_not memory judged is = record { next = judged.next; leads = record { one = inl (inr (is, judged.may.verdict_is.1)) }; forwarded = judged.forwarded }
+
+-- memory was wanted for a frame
+pub noted : (h : List Segment) (before after : DeskState) (now : ℕ) (frame : List ℕ) (memory : want.Memory) → IsJudged h before now frame (Err memory) after → IsNoted (session_of h before) now frame
+noted h before after now frame memory judged = judged.may.verdict_is.0
 
 -- the command for what was heard may be given
 pub heard_asked : (heard : Heard) (command : Command) → heard_command heard ≡ Some command → IsAsked command

@@ -1,5 +1,5 @@
 -- One request more.
-use Rattle.std.proofs.Common.{◌≡◌, ℕ, Bool, true, false, List, Option, Some, None, refl, sym, ap, ◌∙◌, subst, arith}
+use Rattle.std.proofs.Common.{◌≡◌, ℕ, ◌+◌, ◌-◌, Bool, true, false, List, Option, Some, None, refl, sym, ap, ◌∙◌, subst, arith}
 use Rattle.mud_world.specs.Causes.{Counts}
 use Rattle.mud_world.specs.Clock.{next_moment, later_moments}
 use Rattle.mud_tables.specs.declared.segment.Segment.{Segment}
@@ -49,9 +49,12 @@ counts_next false count a b c p q =
 pub counts_none : (a : ℕ) → CountsOf 0 a a
 counts_none a = record { later = omega arith; rose = omega arith; steady = λ none. refl }
 
+still : (risen before now next : ℕ) → now ≡ before + risen → next ≡ now → next - before ≡ risen
+still risen before now next is same = omega (arith, is, same)
+
 -- the first state
 pub at_first : (tells : Type 0) (desk : DeskState) (moments : List ℕ) (faults : ℕ) (h : List Segment) → HasForwarded h desk → IsAt tells desk moments faults faults (begun (session_of h desk) moments)
-at_first tells desk moments faults h forwarded = record { history = h; session = refl; forwarded = forwarded; clock = λ t. refl; paid = counts_none faults }
+at_first tells desk moments faults h forwarded = record { history = h; session = refl; forwarded = forwarded; clock = λ t. refl; paid = counts_none faults; risen = omega arith }
 
 -- What was carried out, and the state behind it.
 pub record Carried (tells : Type 0) (desk : DeskState) (moments : List ℕ) (before now : ℕ) (s : Option ConsoleState) (what : Asked) (octets : List ℕ) : Type 0 where
@@ -66,7 +69,7 @@ module _ (tells : Type 0) (desk desk' : DeskState) (ms ms' : List ℕ) (before n
   carried None at = record { next = None; may = refl; at = at }
   carried (Some s) at =
       let on = leads at.history at.forwarded in
-      let next : ConsoleState = record { session = session_of on.next desk'; moments = after own s.moments; unavailable = counted (is_unavailable status) s.unavailable } in
+      let next : ConsoleState = record { session = session_of on.next desk'; moments = after own s.moments; unavailable = counted (is_unavailable status) s.unavailable; risen = now' - before } in
       record {
         next = Some next;
         may = (
@@ -78,6 +81,8 @@ module _ (tells : Type 0) (desk desk' : DeskState) (ms ms' : List ℕ) (before n
             moment = subst (λ (o : Option ℕ). TakesMoment tells o given s.moments (after own s.moments)) is (took tells own given ms ms' s.moments takes at.clock);
             may = subst (λ (session : Session). MayAnswer session given request is_last status octets (session_of on.next desk')) (sym at.session) on.leads;
             count = refl;
+            rises = omega (arith, at.risen, cause.later);
+            steady = λ other. still s.risen before now now' at.risen (cause.steady other);
           },
         );
         at = record {
@@ -86,5 +91,6 @@ module _ (tells : Type 0) (desk desk' : DeskState) (ms ms' : List ℕ) (before n
           forwarded = on.forwarded;
           clock = left_then tells own given ms ms' s.moments takes at.clock;
           paid = counts_next (is_unavailable status) s.unavailable before now now' at.paid cause;
+          risen = omega (arith, at.risen, cause.later);
         };
       }

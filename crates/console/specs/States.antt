@@ -1,5 +1,5 @@
 -- The states of the console, and what a whole request makes of them.
-use Rattle.std.specs.Prelude.{◌≡◌, ℕ, ◌+◌, Bool, true, false, List, Option, Some, None}
+use Rattle.std.specs.Prelude.{◌≡◌, ℕ, ◌+◌, ◌≤◌, Bool, true, false, List, Option, Some, None}
 use Rattle.mud_world.specs.Clock.{next_moment, later_moments}
 use Rattle.mud_tables.specs.declared.segment.Segment.{Segment}
 use Rattle.desk_model.specs.Sessions.{Session}
@@ -10,15 +10,17 @@ use Rattle.http_serving.specs.Visits.{CountsOf}
 use Rattle.console_answers.specs.Replies.{is_unavailable}
 use Rattle.console_answers.specs.Answers.{MayAnswer}
 
--- the session of the desk, the moments that the clock will give, and how many requests were answered with 503
+-- the session of the desk, the moments that the clock will give, how many requests were answered with 503, and by how much the
+-- keeper's count of failures has risen
 pub record ConsoleState : Type 0 where
   pub session : Session
   pub moments : List ℕ
   pub unavailable : ℕ
+  pub risen : ℕ
 
 -- nothing was answered yet
 abbrev pub begun : Session → List ℕ → ConsoleState
-begun session moments = record { session = session; moments = moments; unavailable = 0 }
+begun session moments = record { session = session; moments = moments; unavailable = 0; risen = 0 }
 
 abbrev pub counted : Bool → ℕ → ℕ
 counted true count = count + 1
@@ -33,19 +35,22 @@ MomentBy tells None given before after = tells → (given ≡ next_moment before
 pub record TakesMoment (tells : Type 0) (own : Option ℕ) (given : ℕ) (before after : List ℕ) : Type 0 where
   pub moment : MomentBy tells own given before after
 
--- What may be answered to a whole request, and the state behind it.
+-- What may be answered to a whole request, and the state behind it. The keeper's count rises with a 503 and with nothing else.
 pub record MayTake (tells : Type 0) (s : ConsoleState) (what : Asked) (answer : List ℕ) (t : ConsoleState) : Type 0 where
   pub given : ℕ
   pub status : Status
   pub moment : TakesMoment tells what.given given s.moments t.moments
   pub may : MayAnswer s.session given what.request what.is_last status answer t.session
   pub count : t.unavailable ≡ counted (is_unavailable status) s.unavailable
+  pub rises : s.risen ≤ t.risen
+  pub steady : is_unavailable status ≡ false → t.risen ≡ s.risen
 
--- The console is in the state: the desk is in its session, the clock will give its moments, and of the keeper's count, as it was
--- before and is now, it rose with each 503 and with nothing else.
+-- The console is in the state: the desk is in its session, the clock will give its moments, and the keeper's count has risen by as
+-- much as the state says since it was so before: at least once for each 503, where it doesn't stand at its last value.
 pub record IsAt (tells : Type 0) (desk : DeskState) (moments : List ℕ) (before now : ℕ) (s : ConsoleState) : Type 0 where
   pub history : List Segment
   pub session : s.session ≡ session_of history desk
   pub forwarded : HasForwarded history desk
   pub clock : tells → moments ≡ s.moments
   pub paid : CountsOf s.unavailable before now
+  pub risen : now ≡ before + s.risen

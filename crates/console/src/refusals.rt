@@ -1,8 +1,7 @@
 //! Replies to requests that ask for nothing, and to those for which there is no memory.
 ghost use Rattle.std.specs.Prelude.{◌≡◌, false, None};
-ghost use Rattle.console_answers.specs.Replies.{reply, no_storage, is_unavailable, IsOrWanted};
-ghost use Rattle.console_answers.specs.Asks.{refusal_of};
-ghost use Rattle.console.specs.Refused.{IsRefusalOf};
+ghost use Rattle.console_answers.specs.Replies.{reply, no_storage, is_unavailable};
+ghost use Rattle.console.specs.Refused.{IsToldOf, IsRefusalOf};
 
 use console_answers::{BodyText, NoQuestion, Unasked};
 use console_routes::Route;
@@ -37,10 +36,10 @@ pub(crate) fn plain(status: Status) -> ReplyHead
     }
 }
 
-/// Replies to a request that asks for nothing.
+/// Replies to a request that asks for nothing. Memory is taken only to say what is wrong with a body.
 #[tactic(auto, unfolding(console_answers::specs::Asks::refusal_of, console_answers::specs::Replies::no_route, console_answers::specs::Replies::no_method, console_answers::specs::Replies::reply), using(crate::proofs::Replying::defined, crate::proofs::Replying::made))]
 fn refuse(alloc: Global, body: &mut BodyText, nothing: NoQuestion) -> ReplyHead
-    ensures reply { IsOrWanted (refusal_of nothing) (record { status = result.status; allow = result.allow; body = body.new }) }
+    ensures reply { IsToldOf nothing (record { status = result.status; allow = result.allow; body = body.new }) }
     ensures known { is_unavailable result.status ≡ false }
 {
     match nothing {

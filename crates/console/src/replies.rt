@@ -7,10 +7,11 @@ ghost use Rattle.http_requests.specs.declared.fault.MomentFrom.{MomentFrom};
 ghost use Rattle.http_requests.specs.Requests.{Request};
 ghost use Rattle.http_requests.specs.Parts.{AreParts};
 ghost use Rattle.console_bodies.specs.Laws.{AsksRightly};
-ghost use Rattle.mud_desk.specs.DeskState.{tables_of, HasForwarded};
+ghost use Rattle.mud_desk.specs.DeskState.{tables_of, session_of, HasForwarded};
 ghost use Rattle.mud_desk.specs.Boxed.{IsKept, IsSameBox};
 ghost use Rattle.console_answers.specs.Replies.{reply, is_unavailable, MayStand};
-ghost use Rattle.console_answers.specs.Requests.{ChangesBy, by_question, command_asked, MayReply};
+ghost use Rattle.console_answers.specs.Requests.{ChangesBy, by_question, command_asked, MayReply, MayWant};
+ghost use Rattle.console.specs.Refused.{MayWantAsked};
 ghost use Rattle.console.specs.Runs.{LeadsOn};
 
 use crate::commands::{Origin, answer_command};
@@ -44,6 +45,8 @@ fn answer_question(
     ensures reply { (h : List SegmentValue) → HasForwarded h desk.old.state
         → LeadsOn h desk.old.state desk.new.state (λ session after. MayStand (ChangesBy session given (command_asked question.asked)) session
         (by_question session given octets.now question.action question.asked) (reply result body.new) after) }
+    ensures wanted { (h : List SegmentValue) → HasForwarded h desk.old.state → result ≡ Status.NoStorage
+        → MayWantAsked (session_of h desk.old.state) given octets.now question.asked }
     ensures kept { IsKept Keeper-dyn desk.new.keeper (tables_of desk.new.state) }
     ensures told { Tells Keeper-dyn desk.new.keeper → Tells Keeper-dyn desk.old.keeper }
     ensures cause { Counts (is_unavailable result) (faults_of Keeper-dyn desk.old.keeper) (faults_of Keeper-dyn desk.new.keeper) }
@@ -74,6 +77,8 @@ pub(crate) fn reply_to(
     ensures reply { (from : MomentFrom) (r : Request) → AreParts from r request.now
         → (h : List SegmentValue) → HasForwarded h desk.old.state
         → LeadsOn h desk.old.state desk.new.state (λ session after. MayReply session given r (record { status = result.status; allow = result.allow; body = body.new }) after) }
+    ensures wanted { (from : MomentFrom) (r : Request) → AreParts from r request.now
+        → (h : List SegmentValue) → HasForwarded h desk.old.state → result.status ≡ Status.NoStorage → MayWant (session_of h desk.old.state) given r }
     ensures kept { IsKept Keeper-dyn desk.new.keeper (tables_of desk.new.state) }
     ensures told { Tells Keeper-dyn desk.new.keeper → Tells Keeper-dyn desk.old.keeper }
     ensures cause { Counts (is_unavailable result.status) (faults_of Keeper-dyn desk.old.keeper) (faults_of Keeper-dyn desk.new.keeper) }

@@ -6,24 +6,25 @@ use Rattle.http_requests.specs.declared.fault.FramingFault.TheVariants.{Head, Co
 use Rattle.http_requests.specs.declared.fault.RequestFault.{RequestFault}
 use Rattle.http_requests.specs.Framing.{is_head, rule_of}
 use Rattle.http_answers.specs.declared.status.Status.{Status}
-use Rattle.http_answers.specs.declared.status.Status.TheVariants.{BadRequest, LengthRequired, TooLarge, NotImplemented}
+use Rattle.http_answers.specs.declared.status.Status.TheVariants.{BadRequest, LengthRequired, NoStorage, TooLarge, NotImplemented}
 use Rattle.http_answers.specs.Heads.{answer_of}
 use Rattle.outcome_bodies.specs.Outcomes.{rule_body}
 use Rattle.desk_model.specs.Sessions.{Session}
 use Rattle.console_answers.specs.Replies.{Reply}
-use Rattle.console_answers.specs.Requests.{MayReply}
+use Rattle.console_answers.specs.Requests.{MayReply, MayWant}
 
 -- the octets of a reply to a request by this method, behind which the connection may end: the head alone where it is HEAD
 unfoldable pub octets_of : List ℕ → Bool → Reply → List ℕ
 octets_of method closes reply = answer_of reply.status reply.allow closes (is_head method) reply.body
 
 -- What may be answered to a request that is given this moment, behind which the connection may end: the status, the octets,
--- and the session after it.
+-- and the session after it. It is 507 only where memory may be wanted.
 pub record MayAnswer (session : Session) (given : ℕ) (request : Request) (closes : Bool) (status : Status) (octets : List ℕ) (after : Session) : Type 0 where
   pub reply : Reply
   pub may : MayReply session given request reply after
   pub status_is : status ≡ reply.status
   pub octets_are : octets ≡ octets_of request.head.method closes reply
+  pub wanted : status ≡ NoStorage → MayWant session given request
 
 -- ---- Faults that end a connection
 

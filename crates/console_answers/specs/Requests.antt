@@ -1,7 +1,7 @@
 -- What the console answers to a request in a session, and the session after it.
 use Rattle.std.specs.Prelude.{◌≡◌, ℕ, true, List, Option, Some, None, Result, Ok, Err, IsOkAnd}
 use Rattle.console_routes.specs.declared.action.Action.{Action}
-use Rattle.console_routes.specs.declared.action.Action.TheVariants.{State}
+use Rattle.console_routes.specs.declared.action.Action.TheVariants.{State, Judge}
 use Rattle.console_bodies.specs.declared.asked.Asked.{Asked}
 use Rattle.console_bodies.specs.declared.asked.Asked.TheVariants as asked
 use Rattle.console_bodies.specs.Bodies.{heard_command}
@@ -11,7 +11,7 @@ use Rattle.desk_model.specs.declared.reply.Outcome.{Outcome}
 use Rattle.desk_model.specs.declared.reply.Reply as desk
 use Rattle.desk_model.specs.declared.reply.Reply.TheVariants.{Done, Refused, Keeper, Memory}
 use Rattle.desk_model.specs.Commands.{command_step}
-use Rattle.desk_model.specs.Sessions.{Session, later, raised, Answered, command_in, Judged, frame_in, verdict_in}
+use Rattle.desk_model.specs.Sessions.{Session, later, raised, Answered, command_in, Judged, frame_in, verdict_in, IsNoted}
 use Rattle.http_answers.specs.declared.status.Status.TheVariants as status
 use Rattle.http_requests.specs.Requests.{Request}
 use Rattle.outcome_bodies.specs.Outcomes.{stated_body, file_body}
@@ -21,7 +21,7 @@ use Rattle.listing_bodies.specs.Refusals.{refusal_status, refusal_body}
 use Rattle.console_answers.specs.Replies.{Reply, reply, Replied, replied, unavailable, no_storage, MayStand}
 use Rattle.console_answers.specs.declared.question.Question.{Question}
 use Rattle.console_answers.specs.declared.question.NoQuestion.{NoQuestion}
-use Rattle.console_answers.specs.Asks.{question_of, refusal_of}
+use Rattle.console_answers.specs.Asks.{question_of, action_at, refusal_of}
 use Rattle.console_answers.specs.Listings.{listing_text}
 use Rattle.console_answers.specs.Why.{why_text}
 
@@ -100,3 +100,15 @@ MayFail session given request = MayFailBy session given (question_in session giv
 -- what may be replied, and the session after it
 abbrev pub MayReply : Session → ℕ → Request → Reply → Session → Type 0
 MayReply session given request reply after = MayStand (MayFail session given request) session (reply_in session given request) reply after
+
+-- ---- Want of memory
+
+-- Memory may be wanted for what a request does: for the verdict on a frame only where the frame is added to the history. None is
+-- wanted to say that no route has the path of the target, or that the route has not the method.
+abbrev pub MayWantFor : Session → ℕ → List ℕ → Option Action → Type 0
+MayWantFor session given body None = ⊥
+MayWantFor session given body (Some Judge) = IsNoted session given body
+MayWantFor session given body (Some _) = Unit {0}
+
+unfoldable pub MayWant : Session → ℕ → Request → Type 0
+MayWant session given request = MayWantFor session given request.body (action_at request.head.method request.head.target)

@@ -1,8 +1,9 @@
 //! What a request asks for.
-ghost use Rattle.std.specs.Prelude.{◌≡◌, IfOk, option_and_then};
+ghost use Rattle.std.specs.Prelude.{◌≡◌, true, Err, IfOk, option_and_then};
 ghost use Rattle.console_routes.specs.Actions as actions;
 ghost use Rattle.reading.specs.Reading.{Answers};
-ghost use Rattle.console_bodies.specs.Bodies.{body_of};
+ghost use Rattle.reading.specs.declared.refusal.Refusal.TheVariants.{Memory};
+ghost use Rattle.console_bodies.specs.Bodies.{body_of, takes_memory};
 ghost use Rattle.console_bodies.specs.Laws.{AsksRightly};
 ghost use Rattle.console_answers.specs.Asks as spec;
 
@@ -47,6 +48,7 @@ fn action_by(route: Route, method: &[u8]) -> Option<Action>
 #[tactic(auto, unfolding(crate::specs::Asks::by_body))]
 fn question_by(alloc: Global, action: Action, body: &[u8], now: Moment) -> Result<Question, Unasked>
     ensures question { Answers (λ q. q) result (spec.by_body action (body_of action body.now now)) }
+    ensures wanted { result ≡ Err Memory → takes_memory action ≡ true }
     ensures asked { IfOk result (λ q. AsksRightly q.asked) }
 {
     bodies_ask_rightly();
@@ -68,6 +70,7 @@ fn question_to(
 ) -> Result<Question, Unasked>
     ensures asked { IfOk result (λ q. AsksRightly q.asked) }
     ensures question { Answers (λ q. q) result (spec.by_action route (option_and_then (actions.action_of route) (actions.method_of method.now)) body.now now) }
+    ensures wanted { result ≡ Err Memory → spec.reads_with_memory (option_and_then (actions.action_of route) (actions.method_of method.now)) ≡ true }
 {
     match action_by(route, method) {
         Some(action) => question_by(alloc, action, body, now),
@@ -78,7 +81,7 @@ fn question_to(
 /// What a request by this method asks for with this body, taken at this moment: the first thing that
 /// is wrong with it is its path, to which no route belongs, its method, which the route has not, or
 /// its body. The path may be the target as well. Memory is taken for what the body means.
-#[tactic(auto, unfolding(crate::specs::Asks::question_of, crate::specs::Asks::by_route))]
+#[tactic(auto, unfolding(crate::specs::Asks::question_of, crate::specs::Asks::by_route, crate::specs::Asks::action_at))]
 pub fn question_of(
     alloc: Global,
     routes: &Routes,
@@ -88,6 +91,8 @@ pub fn question_of(
     now: Moment,
 ) -> Result<Question, Unasked>
     ensures question { Answers (λ q. q) result (spec.question_of method.now path.now body.now now) }
+    // None is taken to say that no route has the path, or that the route has not the method.
+    ensures wanted { result ≡ Err Memory → spec.reads_with_memory (spec.action_at method.now path.now) ≡ true }
     // A command that is asked for may be given.
     ensures asked { IfOk result (λ q. AsksRightly q.asked) }
 {

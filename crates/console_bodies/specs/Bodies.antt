@@ -1,5 +1,5 @@
 -- What a request asks for by its body, or what is wrong with the body.
-use Rattle.std.specs.Prelude.{ℕ, List, Option, Some, None, Result, Ok, Err}
+use Rattle.std.specs.Prelude.{ℕ, Bool, true, false, List, Option, Some, None, Result, Ok, Err}
 use Rattle.reading.specs.Reading.{answer, and_then}
 use Rattle.dhcp_lldp.specs.declared.heard.Heard.{Heard}
 use Rattle.dhcp_lldp.specs.declared.heard.Heard.TheVariants as message
@@ -45,3 +45,13 @@ body_of (State statement) octets now = stated_body statement octets
 body_of Import octets now = Ok (asked.Command (command.Import octets now))
 body_of Judge octets now = Ok asked.Judge
 body_of Why octets now = Ok asked.Why
+
+-- memory is taken to read a body as JSON, and to keep its octets
+unfoldable pub takes_memory : Action → Bool
+takes_memory HearDhcp = false
+takes_memory HearLldp = false
+takes_memory (ListRows listing) = false
+takes_memory (State statement) = true
+takes_memory Import = true
+takes_memory Judge = false
+takes_memory Why = false

@@ -1,6 +1,7 @@
 //! The bodies of requests.
-ghost use Rattle.std.specs.Prelude.{◌≡◌};
+ghost use Rattle.std.specs.Prelude.{◌≡◌, ◌≢◌, true, Err};
 ghost use Rattle.reading.specs.Reading.{Answers};
+ghost use Rattle.reading.specs.declared.refusal.Refusal.TheVariants.{Memory};
 ghost use Rattle.console_bodies.specs.Bodies as spec;
 
 use crate::asked::Asked;
@@ -14,7 +15,8 @@ use std::alloc::Global;
 
 /// What a message says, or why it is refused.
 fn heard(message: Result<Heard, HearFault>) -> Result<Asked, Unread>
-    ensures { Answers (λ a. a) result (spec.heard_body message) }
+    ensures heard { Answers (λ a. a) result (spec.heard_body message) }
+    ensures known { result ≢ Err Memory }
 {
     match message {
         Ok(heard) => Ok(Asked::Heard(heard)),
@@ -44,9 +46,10 @@ fn stated_body(alloc: Global, statement: Statement, octets: &[u8]) -> Result<Ask
 /// kind, or outside its grammar or range, or a message's own fault. A usage file is fetched at the
 /// moment of the request; whether it is one, the command says. Memory is taken for a JSON text, and
 /// for what the command keeps.
-#[tactic(auto, unfolding(crate::specs::Bodies::body_of))]
+#[tactic(auto, unfolding(crate::specs::Bodies::body_of, crate::specs::Bodies::takes_memory))]
 pub fn read_body(alloc: Global, action: Action, octets: &[u8], now: Moment) -> Result<Asked, Unread>
-    ensures { Answers (λ a. a) result (spec.body_of action octets.now now) }
+    ensures asked { Answers (λ a. a) result (spec.body_of action octets.now now) }
+    ensures wanted { result ≡ Err Memory → spec.takes_memory action ≡ true }
 {
     match action {
         Action::HearDhcp => heard(read_dhcp(octets)),

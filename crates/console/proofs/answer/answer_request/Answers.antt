@@ -10,4 +10,5 @@ returns-clause-answer g c = λ from r parts h forwarded.
     answered h c.args.desk.now.state c.reply_to-reply.new.desk.state c.args.given r c.args.closes (record { status = reply.status; allow = reply.allow; body = body })
     (c.write_head.new.head ++ shown c.is_head-by_head.result body) c.args.request.now.method.now parts.method
     (octets_are c.write_head.new.head body c.body_len-len.result c.is_head-by_head.result c.args.closes reply.status reply.allow c.args.request.now.method.now c.write_head.ensures c.body_len-len.ensures c.is_head-by_head.ensures)
+    (c.reply_to-reply.ensures.wanted from r parts h forwarded)
     (c.reply_to-reply.ensures.reply from r parts h forwarded)

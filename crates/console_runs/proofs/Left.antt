@@ -64,5 +64,6 @@ module _ {X : Type 0} {F : X → Type 0} (members : (v : (x : X) × F x) → Gho
         kept = subst (λ (desk : DeskTables). IsKept members after desk) (sym (ap (λ (session : Session). session.desk) at.session ∙ desk_of_session at.history state)) kept;
         clock = at.clock;
         paid = at.paid;
+        risen = at.risen;
         answered = none_where_steady s.unavailable faults (faults_of members after) at.paid;
       })

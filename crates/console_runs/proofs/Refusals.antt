@@ -103,6 +103,7 @@ module _ {X : Type 0} {F : X → Type 0} (members : (v : (x : X) × F x) → Gho
         only_writes = λ told. only_item old.state new.state status fault is (done told) (part told) untouched;
         same_tables = run.same_tables;
         same_items = run.same_items;
+        kept = run.kept;
       }
 
   -- a desk was opened, and there was no memory to serve with
@@ -123,6 +124,7 @@ module _ {X : Type 0} {F : X → Type 0} (members : (v : (x : X) × F x) → Gho
         only_writes = λ told. nothing_written view.state view.state refl;
         same_tables = λ before now. kept_tables members after tables sound kept now ∙ sym (read before now);
         same_items = λ six before now. absurd (omega (arith, six));
+        kept = inl (record { tables = tables; sound = sound; kept = kept });
       })
     where
       nothing_said : (store : Result DeskTables Item) → SaysItem store view.state view.state 5

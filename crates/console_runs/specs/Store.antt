@@ -1,5 +1,5 @@
 -- What `replay` and `serve` make of their store: what a served desk leaves, and what is done where no connection is served.
-use Rattle.std.specs.Prelude.{◌≡◌, ◌≢◌, ℕ, ◌⊎◌, List, [], Result, Ok, Err}
+use Rattle.std.specs.Prelude.{◌≡◌, ◌≢◌, ℕ, ◌+◌, ◌⊎◌, List, [], Result, Ok, Err}
 use Rattle.std.specs.declared.dyn_box.DynBox.{DynBox}
 use Rattle.std.specs.declared.alloc.Global.{Global}
 use Rattle.mud_world.specs.declared.keeper.Keeper.{Ghosts}
@@ -13,6 +13,7 @@ use Rattle.desk_model.specs.DeskTables.{DeskTables, IsSound}
 use Rattle.desk_model.specs.Items.{tables_in}
 use Rattle.mud_desk.specs.Boxed.{IsKept}
 use Rattle.desk_runs.specs.Refused.{bad_item_line}
+use Rattle.desk_runs.specs.Store.{KeepsTables, IsUnopened}
 use Rattle.http_serving.specs.Visits.{CountsOf}
 use Rattle.console.specs.States.{ConsoleState}
 
@@ -47,12 +48,14 @@ module _ {X : Type 0} {F : X → Type 0} (members : (v : (x : X) × F x) → Gho
     pub sound : IsSound tables
     pub were_kept : Tells members keeper → Tells members returned → tables_in (kept_items members keeper) ≡ Ok tables
 
-  -- What requests leave, whose state is this: the box keeps the tables of the session, the clock will give its moments, and at most
-  -- as many requests were answered with 503 as the keeper's count rose: none where it didn't rise.
+  -- What requests leave, whose state is this: the box keeps the tables of the session, the clock will give its moments, and the
+  -- keeper's count rose with the requests that were answered with 503 and with no other. At most as many were as it rose: none
+  -- where it didn't rise.
   pub record LeavesDesk (clock_tells : Type 0) (faults : ℕ) (returned : DynBox X Global F) (moments : List ℕ) (s : ConsoleState) : Type 0 where
     pub kept : IsKept members returned s.session.desk
     pub clock : clock_tells → moments ≡ s.moments
     pub paid : CountsOf s.unavailable faults (faults_of members returned)
+    pub risen : faults_of members returned ≡ faults + s.risen
     pub answered : ¬ (Rose faults (faults_of members returned)) → s.unavailable ≡ 0
 
   -- No connection is served: no desk is opened, or there is no memory to serve with. `tells` says that the door tells its
@@ -73,3 +76,5 @@ module _ {X : Type 0} {F : X → Type 0} (members : (v : (x : X) × F x) → Gho
     pub only_writes : tells → OnlyWrites old.state new.state
     pub same_tables : Tells members keeper → Tells members returned → tables_in (kept_items members returned) ≡ tables_in (kept_items members keeper)
     pub same_items : status ≡ 6 → Tells members keeper → Tells members returned → kept_items members returned ≡ kept_items members keeper
+    -- The items of sound tables are kept, but where no desk was opened.
+    pub kept : KeepsTables members returned ⊎ IsUnopened members keeper returned status

@@ -21,7 +21,7 @@ use Rattle.mud_desk.specs.Boxed.{IsKept, IsSameBox}
 use Rattle.desk_runs.specs.Judged.{judged_step}
 use Rattle.desk_runs.specs.Refused.{IsRefusal, refusal_text}
 use Rattle.desk_runs.specs.Store.{JudgesStore, WritesOfStore}
-use Rattle.desk_runs.proofs.Stores.{IsOfCapture, kept_tables, left_tables, no_six, no_seven, writes_opened, writes_refused}
+use Rattle.desk_runs.proofs.Stores.{IsOfCapture, kept_tables, left_tables, no_six, no_seven, unopened, writes_opened, writes_refused}
 
 abbrev IsOfStore : ℕ → Type 0
 IsOfStore status = (status ≡ 0) ⊎ ((status ≡ 3) ⊎ ((status ≡ 4) ⊎ ((status ≡ 5) ⊎ ((status ≡ 6) ⊎ (status ≡ 7)))))
@@ -40,11 +40,6 @@ of_refusal Memory status is = inr (inr (inr (inl is)))
 of_refusal (BadItem kind key) status (inl six) = inr (inr (inr (inr (inl six))))
 of_refusal (BadItem kind key) status (inr (inl four)) = inr (inr (inl four))
 of_refusal (BadItem kind key) status (inr (inr five)) = inr (inr (inr (inl five)))
-
-not_capture : {A : Type 0} (fault : OpenFault) (status : ℕ) → IsRefusal fault status → (status ≡ 0) ⊎ (status ≡ 3) → A
-not_capture Keeper status is which = absurd (grind arith)
-not_capture Memory status is which = absurd (grind arith)
-not_capture (BadItem kind key) status is which = absurd (grind arith)
 
 of_call : (fault : OpenFault) (status : ℕ) → IsRefusal fault status → status ≡ 7 → IsOfCall fault
 of_call Keeper status is seven = tt
@@ -92,7 +87,7 @@ module _ {X : Type 0} {F : X → Type 0} (members : (v : (x : X) × F x) → Gho
         (writes_opened tables old new status is (done told) (part told) (taken told));
     same_tables = λ before now. kept_tables members after tables sound kept now ∙ sym (read before now);
     same_items = λ six before now. no_six status is six;
-    kept = λ which. record { tables = tables; sound = sound; kept = kept };
+    kept = inl (record { tables = tables; sound = sound; kept = kept });
     same_box = same_box;
     same_turns = turns;
   })
@@ -117,7 +112,7 @@ module _ {X : Type 0} {F : X → Type 0} (members : (v : (x : X) × F x) → Gho
     writes = λ told tell. writes_refused old new status (kept_items members after) fault (bad tell) is (done told) (part told) untouched reads;
     same_tables = λ before now. left_tables (kept_items members keeper) (kept_items members after) fault (left before now);
     same_items = λ six before now. same_items_of (kept_items members keeper) (kept_items members after) fault status is (left before now) six;
-    kept = λ which. not_capture fault status is which;
+    kept = inr (unopened members keeper after status fault bad left is);
     same_box = same_box;
     same_turns = turns;
   }

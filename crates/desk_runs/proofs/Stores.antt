@@ -1,5 +1,5 @@
 -- What a run over a store comes to where the desk is opened, and where it isn't.
-use Rattle.std.proofs.Common.{◌≡◌, ◌≢◌, ℕ, ◌⊎◌, inl, inr, List, [], take, Result, Ok, Err, refl, sym, ap, ap₂, subst, ◌∙◌, arith}
+use Rattle.std.proofs.Common.{◌≡◌, ◌≢◌, ℕ, ◌⊎◌, inl, inr, List, [], take, Result, Ok, Err, IsOk, IsErr, refl, sym, ap, ap₂, subst, ◌∙◌, arith}
 use Rattle.std.specs.declared.dyn_box.DynBox.{DynBox}
 use Rattle.std.specs.declared.alloc.Global.{Global}
 use Rattle.mud_world.specs.declared.keeper.Keeper.{Ghosts}
@@ -21,7 +21,7 @@ use Rattle.mud_desk.specs.Answers.{IsLeft}
 use Rattle.mud_desk.specs.Boxed.{IsKept}
 use Rattle.desk_runs.specs.Judged.{judged_step}
 use Rattle.desk_runs.specs.Refused.{IsRefusal, bad_item_line, refusal_text}
-use Rattle.desk_runs.specs.Store.{WritesOfStore, due_of_store}
+use Rattle.desk_runs.specs.Store.{IsUnopened, WritesOfStore, due_of_store}
 
 -- ---- Statuses
 
@@ -129,3 +129,40 @@ left_tables before now Memory (inr tables) = tables.same
 module _ {X : Type 0} {F : X → Type 0} (members : (v : (x : X) × F x) → Ghosts (F v.0)) (keeper : DynBox X Global F) where
   pub kept_tables : (desk : DeskTables) → IsSound desk → IsKept members keeper desk → Tells members keeper → tables_in (kept_items members keeper) ≡ Ok desk
   kept_tables desk sound kept tells = ap tables_in (kept.items tells) ∙ desk_again desk sound
+
+-- ---- A store that isn't opened
+
+not_both : {A : Type 0} (store : Result DeskTables Item) → IsOk store → IsErr store → A
+not_both (Ok tables) ok err = absurd (cc)
+not_both (Err item) ok err = absurd (cc)
+
+-- where an item is no record, all items are as they were
+same_where_bad : (before now : List Item) (fault : OpenFault) → IsLeft before now fault → IsErr (tables_in now) → now ≡ before
+same_where_bad before now (BadItem kind key) same bad = same
+same_where_bad before now Keeper (inl same) bad = same
+same_where_bad before now Keeper (inr anew) bad = not_both (tables_in before) anew.good (subst (λ (store : Result DeskTables Item). IsErr store) anew.same bad)
+same_where_bad before now Memory (inl same) bad = same
+same_where_bad before now Memory (inr tables) bad = not_both (tables_in before) tables.good (subst (λ (store : Result DeskTables Item). IsErr store) tables.same bad)
+
+refusal_status : (fault : OpenFault) (status : ℕ) → IsRefusal fault status → (status ≡ 4) ⊎ ((status ≡ 5) ⊎ ((status ≡ 6) ⊎ (status ≡ 7)))
+refusal_status Keeper status is = inr (inr (inr is))
+refusal_status Memory status is = inr (inl is)
+refusal_status (BadItem kind key) status (inl six) = inr (inr (inl six))
+refusal_status (BadItem kind key) status (inr (inl four)) = inl four
+refusal_status (BadItem kind key) status (inr (inr five)) = inr (inl five)
+
+bad_where_told : (items : List Item) (fault : OpenFault) (status : ℕ) → IsFaultOf items fault → IsRefusal fault status → (status ≡ 4) ⊎ (status ≡ 6) → IsErr (tables_in items)
+bad_where_told items Keeper status of is which = absurd (grind arith)
+bad_where_told items Memory status of is which = absurd (grind arith)
+bad_where_told items (BadItem kind key) status of is which = subst (λ (store : Result DeskTables Item). IsErr store) (sym of.bad) refl
+
+module _ {X : Type 0} {F : X → Type 0} (members : (v : (x : X) × F x) → Ghosts (F v.0)) (keeper after : DynBox X Global F) (status : ℕ) (fault : OpenFault) where
+  pub unopened : (Tells members after → IsFaultOf (kept_items members after) fault)
+      → (Tells members keeper → Tells members after → IsLeft (kept_items members keeper) (kept_items members after) fault)
+      → IsRefusal fault status → IsUnopened members keeper after status
+  unopened named left is = record {
+    statuses = refusal_status fault status is;
+    bad = λ which tell. bad_where_told (kept_items members after) fault status (named tell) is which;
+    same_tables = λ before now. left_tables (kept_items members keeper) (kept_items members after) fault (left before now);
+    same_items = λ before now bad. same_where_bad (kept_items members keeper) (kept_items members after) fault (left before now) bad;
+  }

@@ -1,5 +1,5 @@
 -- What a run of `judge` over a store does.
-use Rattle.std.specs.Prelude.{◌≡◌, ◌≢◌, ℕ, ◌⊎◌, List, Result, Ok, Err, IsOkAnd}
+use Rattle.std.specs.Prelude.{◌≡◌, ◌≢◌, ℕ, ◌⊎◌, List, Result, Ok, Err, IsErr, IsOkAnd}
 use Rattle.std.specs.declared.dyn_box.DynBox.{DynBox}
 use Rattle.std.specs.declared.alloc.Global.{Global}
 use Rattle.mud_world.specs.declared.keeper.Keeper.{Ghosts}
@@ -39,6 +39,14 @@ module _ {X : Type 0} {F : X → Type 0} (members : (v : (x : X) × F x) → Gho
     pub sound : IsSound tables
     pub kept : IsKept members keeper tables
 
+  -- No desk was opened: the tables of the items are those that were kept before, and where an item is no record all items are as
+  -- they were. The status is 4 or 6 only where an item is no record.
+  pub record IsUnopened (keeper returned : DynBox X Global F) (status : ℕ) : Type 0 where
+    pub statuses : (status ≡ 4) ⊎ ((status ≡ 5) ⊎ ((status ≡ 6) ⊎ (status ≡ 7)))
+    pub bad : (status ≡ 4) ⊎ (status ≡ 6) → Tells members returned → IsErr (tables_in (kept_items members returned))
+    pub same_tables : Tells members keeper → Tells members returned → tables_in (kept_items members returned) ≡ tables_in (kept_items members keeper)
+    pub same_items : Tells members keeper → Tells members returned → IsErr (tables_in (kept_items members returned)) → kept_items members returned ≡ kept_items members keeper
+
   -- A run of `judge`. `tells` says that the door tells its connections.
   pub record JudgesStore (tells : Type 0) (keeper returned : DynBox X Global F) (old new : DoorView) (status : ℕ) : Type 0 where
     -- The status is 0 or 3 to 7. It is 4 only where one read or write of the door failed in this call, and then the door isn't
@@ -53,7 +61,8 @@ module _ {X : Type 0} {F : X → Type 0} (members : (v : (x : X) × F x) → Gho
     pub writes : tells → Tells members returned → WritesOfStore (tables_in (kept_items members returned)) old new status
     pub same_tables : Tells members keeper → Tells members returned → tables_in (kept_items members returned) ≡ tables_in (kept_items members keeper)
     pub same_items : status ≡ 6 → Tells members keeper → Tells members returned → kept_items members returned ≡ kept_items members keeper
-    pub kept : (status ≡ 0) ⊎ (status ≡ 3) → KeepsTables returned
+    -- Whatever the status, the items of sound tables are kept, but where no desk was opened.
+    pub kept : KeepsTables returned ⊎ IsUnopened keeper returned status
     -- The box that comes back is the one that was handed in. No port is bound, and the connection isn't left.
     pub same_box : IsSameBox keeper returned
     pub same_turns : new.turns ≡ old.turns

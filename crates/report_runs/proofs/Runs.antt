@@ -51,11 +51,6 @@ of_refusal (BadItem kind key) status (inl six) = inr (inr (inr (inl six)))
 of_refusal (BadItem kind key) status (inr (inl four)) = inr (inl four)
 of_refusal (BadItem kind key) status (inr (inr five)) = inr (inr (inl five))
 
-pub not_zero : {A : Type 0} (fault : OpenFault) (status : ℕ) → IsRefusal fault status → status ≡ 0 → A
-not_zero Keeper status is zero = absurd (grind arith)
-not_zero Memory status is zero = absurd (grind arith)
-not_zero (BadItem kind key) status is zero = absurd (grind arith)
-
 not_done : {A : Type 0} (status : ℕ) → (status ≡ 5) ⊎ (status ≡ 7) → (status ≡ 0) ⊎ (status ≡ 6) → A
 not_done status is which = absurd (grind arith)
 
@@ -143,7 +138,7 @@ module _ {X : Type 0} {F : X → Type 0} (members : (v : (x : X) × F x) → Gho
         subst (λ (store : Result DeskTables Item). WritesReport kind clock_tells moments store old.state new.state status) (sym (kept_tables members after tables sound kept tell)) (writes told);
     same_tables = λ before now. kept_tables members after tables sound kept now ∙ sym (read before now);
     same_items = λ six before now. no_six status is six;
-    kept = λ zero. record { tables = tables; sound = sound; kept = kept };
+    kept = inl (record { tables = tables; sound = sound; kept = kept });
     same_box = same_box;
     same_turns = turns;
     same_reads = reads;
@@ -173,7 +168,7 @@ module _ {X : Type 0} {F : X → Type 0} (members : (v : (x : X) × F x) → Gho
         writes = λ told tell. writes_refused kind clock_tells moments old.state new.state status (kept_items members after) fault (bad tell) is (done told) (part told) untouched;
         same_tables = run.same_tables;
         same_items = run.same_items;
-        kept = λ zero. not_zero fault status is zero;
+        kept = run.kept;
         same_box = same_box;
         same_turns = turns;
         same_reads = reads;

@@ -14,7 +14,7 @@ use Rattle.desk_model.specs.DeskTables.{DeskTables}
 use Rattle.desk_model.specs.Items.{tables_in}
 use Rattle.mud_desk.specs.Boxed.{IsSameBox}
 use Rattle.desk_runs.specs.Refused.{bad_item_line}
-use Rattle.desk_runs.specs.Store.{KeepsTables}
+use Rattle.desk_runs.specs.Store.{KeepsTables, IsUnopened}
 use Rattle.report_runs.specs.Tables.{clock_for, table_text}
 
 -- What is due to a store: the table of this kind. Where an item is no record, the line of the first such item is due, and the
@@ -49,7 +49,8 @@ module _ {X : Type 0} {F : X → Type 0} (members : (v : (x : X) × F x) → Gho
     pub writes : tells → Tells members returned → WritesReport kind clock_tells moments (tables_in (kept_items members returned)) old.state new.state status
     pub same_tables : Tells members keeper → Tells members returned → tables_in (kept_items members returned) ≡ tables_in (kept_items members keeper)
     pub same_items : status ≡ 6 → Tells members keeper → Tells members returned → kept_items members returned ≡ kept_items members keeper
-    pub kept : status ≡ 0 → KeepsTables members returned
+    -- Whatever the status, the items of sound tables are kept, but where no desk was opened.
+    pub kept : KeepsTables members returned ⊎ IsUnopened members keeper returned status
     -- The box that comes back is the one that was handed in. No port is bound, the connection isn't left, and no read fails.
     pub same_box : IsSameBox keeper returned
     pub same_turns : new.turns ≡ old.turns

@@ -12,7 +12,7 @@ use Rattle.mud_world.proofs.Doors.{put_out_none}
 use Rattle.command_runs.specs.Due.{WroteFirst}
 use Rattle.command_runs.specs.View.{DoorView}
 use Rattle.desk_model.specs.declared.command.Command.{Command}
-use Rattle.desk_model.specs.DeskTables.{DeskTables}
+use Rattle.desk_model.specs.DeskTables.{DeskTables, IsSound}
 use Rattle.desk_model.specs.Sessions.{Session}
 use Rattle.mud_desk.specs.Boxed.{IsKept}
 use Rattle.mud_desk.specs.DeskState.{DeskState, session_of, tables_of}
@@ -66,7 +66,7 @@ no_seven : {A : Type 0} (status : ℕ) → IsOfLines status → status ≡ 7 →
 no_seven status is seven = absurd (grind arith)
 
 module _ {X : Type 0} {F : X → Type 0} (members : (v : (x : X) × F x) → Ghosts (F v.0)) (tells : Type 0) (packets : ℕ) (s : Session)
-    (keeper : DynBox X Global F) (before : DeskState) (after : DynBox X Global F) (state : DeskState) (is_in : IsIn s before) (old new : DoorView) (status : ℕ) where
+    (keeper : DynBox X Global F) (before : DeskState) (after : DynBox X Global F) (state : DeskState) (is_in : IsIn s before) (sound : IsSound (tables_of state)) (old new : DoorView) (status : ℕ) where
   -- all commands ran, and the lines were written, or not
   pub lines_run : RanAll members (drill_commands packets) keeper before after state
       → IsOfLines status
@@ -85,6 +85,7 @@ module _ {X : Type 0} {F : X → Type 0} (members : (v : (x : X) × F x) → Gho
         split = sym (append-nil (drill_commands packets));
         all = λ which. refl;
         more = λ seven. no_seven status is seven;
+        sound = subst IsSound (tables_in_session (session_after s (drill_commands packets)) state reached) sound;
         kept = subst (λ (desk : DeskTables). IsKept members after desk) (tables_in_session (session_after s (drill_commands packets)) state reached) ran.kept;
         told = ran.told;
         same_box = ran.same_box;
@@ -110,6 +111,7 @@ module _ {X : Type 0} {F : X → Type 0} (members : (v : (x : X) × F x) → Gho
         split = ran.split;
         all = λ which. absurd (grind arith);
         more = λ seven. ran.more refl;
+        sound = subst IsSound (tables_in_session (session_after s ran.ran) state (ran.session s is_in)) sound;
         kept = subst (λ (desk : DeskTables). IsKept members after desk) (tables_in_session (session_after s ran.ran) state (ran.session s is_in)) ran.kept;
         told = ran.told;
         same_box = ran.same_box;
@@ -131,6 +133,7 @@ module _ {X : Type 0} {F : X → Type 0} (members : (v : (x : X) × F x) → Gho
         split = ran.split;
         all = λ which. absurd (grind arith);
         more = λ seven. absurd (omega (arith, is, seven));
+        sound = subst IsSound (tables_in_session (session_after s ran.ran) state (ran.session s is_in)) sound;
         kept = subst (λ (desk : DeskTables). IsKept members after desk) (tables_in_session (session_after s ran.ran) state (ran.session s is_in)) ran.kept;
         told = ran.told;
         same_box = ran.same_box;

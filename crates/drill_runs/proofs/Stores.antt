@@ -133,7 +133,7 @@ module _ {X : Type 0} {F : X → Type 0} (members : (v : (x : X) × F x) → Gho
           part = λ which. subst (λ (text : List ℕ). WroteFirst text old.state new.state) (text_of packets) (run.part told which);
           none = run.none;
         });
-        kept = λ which. record { tables = (session_after (opened empty_desk) run.ran).desk; kept = run.kept };
+        kept = inl (record { tables = (session_after (opened empty_desk) run.ran).desk; sound = run.sound; kept = run.kept });
         same_box = record { object = run.same_box.object ∙ same_box.object; place = run.same_box.place ∙ same_box.place };
         same_turns = run.same_turns;
         same_reads = run.same_reads;
@@ -155,7 +155,7 @@ module _ {X : Type 0} {F : X → Type 0} (members : (v : (x : X) × F x) → Gho
         keeper_fault = λ seven. is_seven_not status is seven;
         keeper_steady = λ other. same_count;
         runs = λ told tell. inr (left told tell);
-        kept = λ which. record { tables = tables; kept = kept };
+        kept = inl (record { tables = tables; sound = sound; kept = kept });
         same_box = same_box;
         same_turns = turns;
         same_reads = reads;
@@ -213,7 +213,7 @@ module _ {X : Type 0} {F : X → Type 0} (members : (v : (x : X) × F x) → Gho
         keeper_steady = run.keeper_steady;
         runs = λ told tell. inr (leaves fault is (bad tell) (done told) (part told) untouched
             (λ before. run.same_tables before tell) (λ six before. run.same_items six before tell));
-        kept = λ which. record { tables = (run.kept which).tables; kept = (run.kept which).kept };
+        kept = run.kept;
         same_box = same_box;
         same_turns = turns;
         same_reads = reads;

@@ -11,11 +11,12 @@ use Rattle.mud_tables.specs.TakenItems.{is_empty}
 use Rattle.command_runs.specs.Due.{WroteFirst}
 use Rattle.command_runs.specs.View.{DoorView}
 use Rattle.desk_model.specs.declared.command.Command.{Command}
-use Rattle.desk_model.specs.DeskTables.{DeskTables, empty_desk}
+use Rattle.desk_model.specs.DeskTables.{DeskTables, IsSound, empty_desk}
 use Rattle.desk_model.specs.Items.{items_of, tables_in}
 use Rattle.desk_model.specs.Sessions.{Session, opened}
 use Rattle.mud_desk.specs.Boxed.{IsKept, IsSameBox}
 use Rattle.desk_runs.specs.Refused.{bad_item_line}
+use Rattle.desk_runs.specs.Store.{KeepsTables, IsUnopened}
 use Rattle.drill_runs.specs.Commands.{drill_commands}
 use Rattle.drill_runs.specs.Drill.{session_after, lines_in, drill_text}
 
@@ -44,7 +45,8 @@ module _ {X : Type 0} {F : X → Type 0} (members : (v : (x : X) × F x) → Gho
     pub split : drill_commands packets ≡ ran ++ rest
     pub all : (status ≡ 0) ⊎ (status ≡ 4) → rest ≡ []
     pub more : status ≡ 7 → 0 < length rest
-    -- The lists behind them are kept in the same box.
+    -- The lists behind them are sound, and kept in the same box.
+    pub sound : IsSound (session_after session ran).desk
     pub kept : IsKept members returned (session_after session ran).desk
     pub told : Tells members returned → Tells members keeper
     pub same_box : IsSameBox keeper returned
@@ -91,11 +93,6 @@ module _ {X : Type 0} {F : X → Type 0} (members : (v : (x : X) × F x) → Gho
     pub part : (status ≡ 4) ⊎ (status ≡ 5) → WroteFirst (refusal_line (tables_in (kept_items members returned))) old.state new.state
     pub none : status ≡ 7 → new.state ≡ old.state
 
-  -- the keeper is open, and the items that it tells are those of some tables
-  pub record KeepsSome (keeper : DynBox X Global F) : Type 0 where
-    pub tables : DeskTables
-    pub kept : IsKept members keeper tables
-
   -- A run of `drill`. `tells` says that the door tells its connections.
   pub record DrillsStore (tells : Type 0) (packets : ℕ) (keeper returned : DynBox X Global F) (old new : DoorView) (status : ℕ) : Type 0 where
     pub statuses : (status ≡ 0) ⊎ ((status ≡ 3) ⊎ ((status ≡ 4) ⊎ ((status ≡ 5) ⊎ ((status ≡ 6) ⊎ (status ≡ 7)))))
@@ -106,7 +103,8 @@ module _ {X : Type 0} {F : X → Type 0} (members : (v : (x : X) × F x) → Gho
     pub keeper_steady : status ≢ 7 → faults_of members returned ≡ faults_of members keeper
     -- The store held nothing and was drilled, or it was left as it was.
     pub runs : tells → Tells members returned → Drills packets keeper returned old new status ⊎ Leaves keeper returned old new status
-    pub kept : (status ≡ 0) ⊎ (status ≡ 3) → KeepsSome returned
+    -- Whatever the status, the items of sound tables are kept, but where no desk was opened.
+    pub kept : KeepsTables members returned ⊎ IsUnopened members keeper returned status
     -- The box that comes back is the one that was handed in. The door isn't read, no port is bound, and the connection isn't left.
     pub same_box : IsSameBox keeper returned
     pub same_turns : new.turns ≡ old.turns

@@ -124,7 +124,9 @@ pub(crate) fn drill_desk<D: Door>(
     ensures untouched { status_number result.0 ≡ 7 → door.new ≡ door.old }
 {
     let mut desk = desk;
-    match run_commands(alloc, &mut desk, packets) {
+    let ran = run_commands(alloc, &mut desk, packets);
+    desk.lists_are_sound();
+    match ran {
         Ok(()) => write_lines(alloc, desk, packets, door),
         Err(stop) => (stop.status(), desk.close()),
     }

@@ -10,8 +10,8 @@ returns-in-Ok-clause-drilled g c = λ s is_in.
     let old = c.args.door.now in
     let new = c.write_lines.new.door in
     let run = c.write_lines.ensures in
-    let after = c.run_commands.new.desk in
-    lines_run (goal.Keeper-dyn g) door.tells c.args.packets s c.args.desk.keeper c.args.desk.state after.keeper after.state is_in
+    let after = c.run_commands-ran.new.desk in
+    lines_run (goal.Keeper-dyn g) door.tells c.args.packets s c.args.desk.keeper c.args.desk.state after.keeper after.state is_in c.lists_are_sound.ensures
     (viewed (door.state old) (door.turns old) (door.reads old) (door.writes old) (door.failed old))
     (viewed (door.state new) (door.turns new) (door.reads new) (door.writes new) (door.failed new))
     (status_number c.write_lines.result.0)
@@ -21,8 +21,8 @@ pub returns-in-Err-clause-drilled : goal.returns-in-Err-clause-drilled
 returns-in-Err-clause-drilled g c = λ s is_in.
     let door = g.D.Door in
     let old = c.args.door.now in
-    let after = c.run_commands.new.desk in
-    stopped_run (goal.Keeper-dyn g) door.tells c.args.packets s c.args.desk.keeper c.args.desk.state after.keeper after.state is_in
+    let after = c.run_commands-ran.new.desk in
+    stopped_run (goal.Keeper-dyn g) door.tells c.args.packets s c.args.desk.keeper c.args.desk.state after.keeper after.state is_in c.lists_are_sound.ensures
     (viewed (door.state old) (door.turns old) (door.reads old) (door.writes old) (door.failed old))
     (viewed (door.state old) (door.turns old) (door.reads old) (door.writes old) (door.failed old))
     (status_number c.status.result)

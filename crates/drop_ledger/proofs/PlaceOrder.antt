@@ -1,0 +1,110 @@
+-- How the places of rows stand to one another, field by field.
+use Rattle.std.proofs.Common.{◌≡◌, ℕ, zero, suc, ◌+◌, min, List, [], ◌∷◌, ◌++◌, length, take, Option, refl, sym, ap, ◌∙◌, arith, length-append, length-take}
+use Rattle.std.specs.Ordering.{nat_cmp, ordering_then}
+use Rattle.std.specs.declared.cmp.Ordering.{Ordering}
+use Rattle.std.specs.declared.cmp.Ordering.TheVariants.{Less, Equal, Greater}
+use Rattle.mud_base.specs.Addresses.{addr_cmp}
+use Rattle.mud_base.specs.declared.addr.Addr.{Addr}
+use Rattle.mud_base.specs.declared.addr.Addr.TheVariants.{V4, V6}
+use Rattle.mud_base.specs.declared.addr.Mac.{Mac}
+use Rattle.mud_base.specs.declared.packet.Direction.{Direction}
+use Rattle.acl_model.specs.declared.ruling.Ruling.{Ruling}
+use Rattle.sorted_rows.specs.Placed.{place_cmp, prefix_cmp}
+use Rattle.sorted_rows.specs.Addresses.{addr_place}
+use Rattle.sorted_rows.proofs.AddressLaws.{addr_cmp-place}
+use Rattle.drop_ledger.specs.Places.{six, side_number, thing_place, ruling_class, entry_number, ruling_place, port_number, peer_place}
+
+-- ---- One order after the other
+
+then_equal : (o : Ordering) → ordering_then o Equal ≡ o
+then_equal Less = refl
+then_equal Equal = refl
+then_equal Greater = refl
+
+then_assoc : (o p q : Ordering) → ordering_then (ordering_then o p) q ≡ ordering_then o (ordering_then p q)
+then_assoc Less p q = refl
+then_assoc Equal p q = refl
+then_assoc Greater p q = refl
+
+-- places of one length decide before what follows them
+pub place_cmp-front : (xs ys us vs : List ℕ) → length xs ≡ length ys → place_cmp (xs ++ us) (ys ++ vs) ≡ ordering_then (place_cmp xs ys) (place_cmp us vs)
+place_cmp-front [] [] us vs long = refl
+place_cmp-front [] (y ∷ ys) us vs long = absurd (omega arith)
+place_cmp-front (x ∷ xs) [] us vs long = absurd (omega arith)
+place_cmp-front (x ∷ xs) (y ∷ ys) us vs long = ap (ordering_then (nat_cmp x y)) (place_cmp-front xs ys us vs (omega arith)) ∙ sym (then_assoc (nat_cmp x y) (place_cmp xs ys) (place_cmp us vs))
+
+-- a beginning stands to a place as it does to that place's own beginning
+prefix_cmp-front : (xs ys vs : List ℕ) → length xs ≡ length ys → prefix_cmp xs (ys ++ vs) ≡ place_cmp xs ys
+prefix_cmp-front [] [] vs long = refl
+prefix_cmp-front [] (y ∷ ys) vs long = absurd (omega arith)
+prefix_cmp-front (x ∷ xs) [] vs long = absurd (omega arith)
+prefix_cmp-front (x ∷ xs) (y ∷ ys) vs long = ap (ordering_then (nat_cmp x y)) (prefix_cmp-front xs ys vs (omega arith))
+
+one_number : (m n : ℕ) → place_cmp (m ∷ []) (n ∷ []) ≡ nat_cmp m n
+one_number m n = then_equal (nat_cmp m n)
+
+two_numbers : (m n k l : ℕ) → place_cmp (m ∷ n ∷ []) (k ∷ l ∷ []) ≡ ordering_then (nat_cmp m k) (nat_cmp n l)
+two_numbers m n k l = ap (ordering_then (nat_cmp m k)) (then_equal (nat_cmp n l))
+
+-- ---- Lengths
+
+pub length-six : (octets : List ℕ) → length (six octets) ≡ 6
+unfolding six
+length-six octets = length-take 6 (octets ++ 0 ∷ 0 ∷ 0 ∷ 0 ∷ 0 ∷ 0 ∷ []) ∙ least (length octets) (length (octets ++ 0 ∷ 0 ∷ 0 ∷ 0 ∷ 0 ∷ 0 ∷ [])) (length-append octets (0 ∷ 0 ∷ 0 ∷ 0 ∷ 0 ∷ 0 ∷ []))
+  where
+    least : (n m : ℕ) → m ≡ n + 6 → min 6 m ≡ 6
+    least n m is = omega arith
+
+-- six octets are all of a list that has just as many
+pub six_all : (octets : List ℕ) → length octets ≡ 6 → six octets ≡ octets
+unfolding six
+six_all octets all = front 6 octets (0 ∷ 0 ∷ 0 ∷ 0 ∷ 0 ∷ 0 ∷ []) all
+  where
+    front : (n : ℕ) (xs ys : List ℕ) → length xs ≡ n → take n (xs ++ ys) ≡ xs
+    front zero [] ys is = refl
+    front zero (x ∷ xs) ys is = absurd (omega (arith, is))
+    front (suc n) [] ys is = absurd (omega (arith, is))
+    front (suc n) (x ∷ xs) ys is = ap (λ l. x ∷ l) (front n xs ys (omega (arith, is)))
+
+pub length-thing_place : (mac : Mac) (side : Direction) → length (thing_place mac side) ≡ 7
+unfolding thing_place
+length-thing_place mac side = length-append (six mac.0) (side_number side ∷ []) ∙ ap (λ n. n + 1) (length-six mac.0)
+
+same_length : (m n : Mac) (s t : Direction) → length (thing_place m s) ≡ length (thing_place n t)
+same_length m n s t = length-thing_place m s ∙ sym (length-thing_place n t)
+
+length-addr_place : (a : Addr) → length (addr_place a) ≡ 2
+unfolding addr_place
+length-addr_place (V4 n) = refl
+length-addr_place (V6 n) = refl
+
+-- ---- Parts of places
+
+pub thing_place-cmp : (m n : Mac) (s t : Direction) → ordering_then (place_cmp (six m.0) (six n.0)) (nat_cmp (side_number s) (side_number t)) ≡ place_cmp (thing_place m s) (thing_place n t)
+unfolding thing_place
+thing_place-cmp m n s t =
+    ap (ordering_then (place_cmp (six m.0) (six n.0))) (sym (one_number (side_number s) (side_number t)))
+    ∙ sym (place_cmp-front (six m.0) (six n.0) (side_number s ∷ []) (side_number t ∷ []) (length-six m.0 ∙ sym (length-six n.0)))
+
+pub ruling_place-cmp : (r q : Ruling) → ordering_then (nat_cmp (ruling_class r) (ruling_class q)) (nat_cmp (entry_number r) (entry_number q)) ≡ place_cmp (ruling_place r) (ruling_place q)
+unfolding ruling_place
+ruling_place-cmp r q = sym (two_numbers (ruling_class r) (entry_number r) (ruling_class q) (entry_number q))
+
+pub peer_place-cmp : (a b : Addr) (k l : ℕ) (p q : Option ℕ) → ordering_then (ordering_then (addr_cmp a b) (nat_cmp k l)) (nat_cmp (port_number p) (port_number q)) ≡ place_cmp (peer_place a k p) (peer_place b l q)
+unfolding peer_place
+peer_place-cmp a b k l p q =
+    then_assoc (addr_cmp a b) (nat_cmp k l) (nat_cmp (port_number p) (port_number q))
+    ∙ (λ i. ordering_then (addr_cmp-place a b i) (sym (two_numbers k (port_number p) l (port_number q)) i))
+    ∙ sym (place_cmp-front (addr_place a) (addr_place b) (k ∷ port_number p ∷ []) (l ∷ port_number q ∷ []) (length-addr_place a ∙ sym (length-addr_place b)))
+
+pub ruleset place_rules = (thing_place-cmp, ruling_place-cmp, peer_place-cmp)
+
+-- ---- Places of rows
+
+pub behind_thing : (m n : Mac) (s t : Direction) (us vs : List ℕ) → ordering_then (place_cmp (thing_place m s) (thing_place n t)) (place_cmp us vs) ≡ place_cmp (thing_place m s ++ us) (thing_place n t ++ vs)
+behind_thing m n s t us vs = sym (place_cmp-front (thing_place m s) (thing_place n t) us vs (same_length m n s t))
+
+pub thing_begins : (m n : Mac) (s t : Direction) (vs : List ℕ) → place_cmp (thing_place m s) (thing_place n t) ≡ prefix_cmp (thing_place m s) (thing_place n t ++ vs)
+thing_begins m n s t vs = sym (prefix_cmp-front (thing_place m s) (thing_place n t) vs (same_length m n s t))
+
+pub ruleset row_rules = (behind_thing, thing_begins)

@@ -1,0 +1,123 @@
+//! How the parts of places stand to one another.
+ghost use Rattle.std.specs.Prelude.{◌≡◌};
+ghost use Rattle.std.specs.Ordering.{nat_cmp};
+ghost use Rattle.sorted_rows.specs.Placed.{place_cmp};
+ghost use Rattle.drop_ledger.specs.Places as spec;
+
+use acl_model::{DefaultRule, Ruling, Why};
+use mud_base::{Addr, Direction, Mac, addr_order};
+use std::cmp::Ordering;
+
+/// A Thing, and the side of packets that it is on.
+#[derive(Clone, Copy, Debug, PartialEq, Eq)]
+pub struct ThingSide {
+    pub mac: Mac,
+    pub side: Direction,
+}
+
+/// The other end of packets, and how they come there.
+#[derive(Clone, Copy, Debug, PartialEq, Eq)]
+pub struct Peer {
+    /// The address at the other side.
+    pub addr: Addr,
+    /// The IP protocol number.
+    pub protocol: u8,
+    /// The port at the other side, where there are ports.
+    pub port: Option<u16>,
+}
+
+/// How two hardware addresses stand to one another: the first octet that differs decides.
+fn mac_order(own: &Mac, other: &Mac) -> Ordering
+    ensures { result ≡ place_cmp (spec.six own.now.0) (spec.six other.now.0) }
+{
+    let mut n = 0;
+    while n < own.0.len() {
+        if own.0[n] != other.0[n] {
+            return own.0[n].cmp(&other.0[n]);
+        }
+        n += 1;
+    }
+    Ordering::Equal
+}
+
+/// What the Thing sends comes before what is sent to it.
+#[tactic(auto, unfolding(crate::specs::Places::side_number))]
+fn side_order(own: Direction, other: Direction) -> Ordering
+    ensures { result ≡ nat_cmp (spec.side_number own) (spec.side_number other) }
+{
+    match (own, other) {
+        (Direction::From, Direction::To) => Ordering::Less,
+        (Direction::To, Direction::From) => Ordering::Greater,
+        (Direction::From, Direction::From) => Ordering::Equal,
+        (Direction::To, Direction::To) => Ordering::Equal,
+    }
+}
+
+/// By the hardware address, and then the side.
+#[tactic(auto, using(crate::proofs::PlaceOrder::place_rules))]
+pub fn thing_order(own: &ThingSide, other: &ThingSide) -> Ordering
+    ensures { result ≡ place_cmp (spec.thing_place own.now.mac own.now.side) (spec.thing_place other.now.mac other.now.side) }
+{
+    mac_order(&own.mac, &other.mac).then(side_order(own.side, other.side))
+}
+
+/// The class of a ruling, in the order in which rulings are written.
+#[tactic(auto, unfolding(crate::specs::Places::ruling_class))]
+fn ruling_class(ruling: Ruling) -> u8
+    ensures { result ≡ spec.ruling_class ruling }
+{
+    match ruling {
+        Ruling::Accept(_) => 0,
+        Ruling::Drop(_) => 1,
+        Ruling::AcceptDefault(DefaultRule::Dns) => 2,
+        Ruling::AcceptDefault(DefaultRule::Ntp) => 3,
+        Ruling::DropDefault(Why::NoFile) => 4,
+        Ruling::DropDefault(Why::NoMatch) => 5,
+        Ruling::DropHeld => 6,
+    }
+}
+
+/// The number of the entry that rules, or 0 where no entry of a file does.
+#[tactic(auto, unfolding(crate::specs::Places::entry_number))]
+fn entry_number(ruling: Ruling) -> u16
+    ensures { result ≡ spec.entry_number ruling }
+{
+    match ruling {
+        Ruling::Accept(entry) => entry,
+        Ruling::Drop(entry) => entry,
+        Ruling::AcceptDefault(_) => 0,
+        Ruling::DropDefault(_) => 0,
+        Ruling::DropHeld => 0,
+    }
+}
+
+/// By the class, and then the number of the entry.
+#[tactic(auto, using(crate::proofs::PlaceOrder::place_rules))]
+pub fn ruling_order(own: Ruling, other: Ruling) -> Ordering
+    ensures { result ≡ place_cmp (spec.ruling_place own) (spec.ruling_place other) }
+{
+    ruling_class(own)
+        .cmp(&ruling_class(other))
+        .then(entry_number(own).cmp(&entry_number(other)))
+}
+
+/// A port's place among ports: a missing one comes first.
+#[tactic(auto, unfolding(crate::specs::Places::port_number))]
+fn port_number(port: Option<u16>) -> u32
+    ensures { result ≡ spec.port_number port }
+{
+    match port {
+        None => 0,
+        Some(port) => u32::from(port) + 1,
+    }
+}
+
+/// By the address, then the protocol, then the port.
+#[tactic(auto, using(crate::proofs::PlaceOrder::place_rules))]
+pub fn peer_order(own: &Peer, other: &Peer) -> Ordering
+    ensures { result ≡ place_cmp (spec.peer_place own.now.addr own.now.protocol own.now.port) (spec.peer_place other.now.addr other.now.protocol other.now.port) }
+{
+    addr_order(own.addr, other.addr)
+        .then(own.protocol.cmp(&other.protocol))
+        .then(port_number(own.port).cmp(&port_number(other.port)))
+}

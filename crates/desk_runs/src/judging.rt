@@ -23,7 +23,7 @@ use text_lines::append_decimal;
 use verdict_lines::append_verdict;
 
 /// The seconds of a packet as a moment. No number of 32 bits is after the last moment.
-fn moment_of(packet: &Captured<'_>) -> Moment
+pub fn moment_of(packet: &Captured<'_>) -> Moment
     ensures { result ≡ packet.now.seconds }
 {
     Moment::at_most_last(u64::from(packet.seconds))
@@ -31,7 +31,7 @@ fn moment_of(packet: &Captured<'_>) -> Moment
 
 /// The verdict on a packet, at its seconds or at the session's moment where that is later. Without
 /// memory the session stays as it was.
-fn judge_packet<L: Ledger>(
+pub fn judge_packet<L: Ledger>(
     state: &mut State,
     packet: &Captured<'_>,
     blank: Blank,

@@ -6,6 +6,6 @@ pub mod judging;
 pub mod refusing;
 pub mod store;
 
-pub use judging::{JudgedLines, judge_capture};
+pub use judging::{JudgedLines, judge_capture, judge_packet, moment_of};
 pub use refusing::refuse_store;
 pub use store::judge_store;

@@ -1,7 +1,6 @@
 -- A tally with one packet more.
 use Rattle.std.proofs.Common.{◌≡◌, ℕ, ◌+◌, ◌≤◌, ◌<◌, ◌⊎◌, inl, inr, Bool, true, false, cond, not, List, [], ◌∷◌, ◌++◌, length, Option, Some, None, refl, sym, ap, subst, ◌∙◌, arith, length-append}
 use Rattle.std.specs.Prelude.{IfSome, option_to_list, option_map}
-use Rattle.std.specs.List.{AllByRecursion}
 use Rattle.mud_base.specs.declared.packet.Direction.TheVariants.{From, To}
 use Rattle.acl_model.specs.declared.ruling.Ruling.{Ruling}
 use Rattle.packet_judge.specs.declared.verdict.Verdict.{Verdict}
@@ -13,7 +12,7 @@ use Rattle.drop_ledger.specs.declared.rows.OtherRow.{OtherRow}
 use Rattle.drop_ledger.specs.declared.seen.Seen.{Seen}
 use Rattle.drop_ledger.specs.declared.seen.Ruled.{Ruled}
 use Rattle.drop_ledger.specs.declared.totals.Totals.{Totals}
-use Rattle.drop_ledger.specs.Seen.{hour_of, mac_on, ruling_on, ruled, ruled_on, rulings, is_unmanaged, is_link, is_unreadable, is_governed, has_both, passes, drops, verdicts, totals_in, AreSums, HasFields, is_ruled}
+use Rattle.drop_ledger.specs.Seen.{hour_of, mac_on, ruling_on, ruled, ruled_on, rulings, is_unmanaged, is_link, is_unreadable, is_governed, has_both, passes, drops, verdicts, totals_in, AreSums, is_ruled}
 use Rattle.drop_ledger.specs.Steps.{governed_after, totals_after}
 use Rattle.drop_ledger.specs.Ledger.{counts_of, AreDenied, TallyState, hour_in, StandsFor, MayFollow, times_ruled}
 use Rattle.drop_ledger.proofs.LedgerLaws.{append_nil, verdicts_first, no_verdicts, rulings_more, ruled_few, received_few}
@@ -127,10 +126,6 @@ hour_more latest s hour is may =
 
 -- ---- A packet
 
-fields_more : (all : List Seen) (s : Seen) → AllByRecursion HasFields all → HasFields s → AllByRecursion HasFields (all ++ s ∷ [])
-fields_more [] s have has = (has, tt)
-fields_more (x ∷ all) s have has = (have.0, fields_more all s have.1 has)
-
 -- how often the Thing at an end was ruled on before is below the number of packets
 sent_fits : (o : Option Ruled) (all : List Seen) (n : ℕ) → length all ≤ n → n < 18446744073709551615 → IfSome o (λ r. times_ruled r.mac r.side (rulings all) + 1 < 18446744073709551616)
 sent_fits None all n less few = tt
@@ -185,5 +180,4 @@ module _ (all latest : List Seen) (t : TallyState) (stands : StandsFor all lates
       counts = counts_noted one t'.counts.rows counts_first counts_second;
       denied = denied_noted first t'.denied.rows firsts t'.others.rows denied_first denied_second;
       few = let more = length-append all (s ∷ []) in let more' = length-append latest (s ∷ []) in let less = stands.few in omega arith;
-      fields = fields_more all s stands.fields may.fields;
     }

@@ -1,6 +1,6 @@
 -- The rows of a tally, told from the list of the packets, and what a tally stands for.
 use Rattle.std.specs.Prelude.{◌≡◌, ℕ, ◌+◌, ◌-◌, ◌^◌, ◌<◌, ◌≤◌, List, [], ◌∷◌, length, map, Option, Some, None, ◌⊎◌, if◌then◌else◌}
-use Rattle.std.specs.List.{filter_map, AllByRecursion}
+use Rattle.std.specs.List.{filter_map}
 use Rattle.mud_base.specs.declared.addr.Mac.{Mac}
 use Rattle.mud_base.specs.declared.packet.Direction.{Direction}
 use Rattle.mud_base.specs.declared.packet.Direction.TheVariants.{From, To}
@@ -20,7 +20,7 @@ use Rattle.drop_ledger.specs.declared.seen.Seen.{Seen}
 use Rattle.drop_ledger.specs.declared.seen.Ruled.{Ruled}
 use Rattle.drop_ledger.specs.declared.totals.Totals.{Totals}
 use Rattle.drop_ledger.specs.Places.{thing_place, thing_len, place_of_count, place_of_denied, place_of_other, denied_count, other_count, with_count, with_denied, with_other}
-use Rattle.drop_ledger.specs.Seen.{hour_of, is_ruled, rulings, totals_in, HasFields}
+use Rattle.drop_ledger.specs.Seen.{hour_of, is_ruled, rulings, totals_in}
 
 -- ---- Counts of rulings
 
@@ -105,13 +105,11 @@ pub record StandsFor (all latest : List Seen) (t : TallyState) : Type 0 where
   pub counts : t.counts.rows ≡ counts_of (rulings latest)
   pub denied : AreDenied (rulings all) t.denied.rows t.others.rows
   pub few : length latest ≤ length all
-  pub fields : AllByRecursion HasFields all
 
 -- the packet may be noted next
 pub record MayFollow (t : TallyState) (s : Seen) : Type 0 where
   pub hour : (t.hour ≡ None) ⊎ (t.hour ≡ Some (hour_of s))
   pub few : t.totals.packets < 2 ^ 64 - 1
-  pub fields : HasFields s
 
 -- there is room for all that a packet may add
 pub record HasRooms (t : TallyState) : Type 0 where

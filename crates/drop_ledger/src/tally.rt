@@ -1,6 +1,7 @@
 //! The tally of packets that were judged.
-ghost use Rattle.std.specs.Prelude.{◌≡◌, ◌+◌, ◌++◌, ◌∷◌, [], List, length, IfOk, ◌↔◌, None, Some, if◌then◌else◌};
-ghost use Rattle.drop_ledger.specs.Seen.{AreSums, hour_of, is_ruled, rulings};
+ghost use Rattle.std.specs.Prelude.{◌≡◌, ◌+◌, ◌-◌, ◌^◌, ◌≤◌, ◌++◌, ◌∷◌, [], List, length, IfOk, IsOk, IsTrue, ◌↔◌, None, Some, if◌then◌else◌};
+ghost use Rattle.std.specs.List.{AllByRecursion};
+ghost use Rattle.drop_ledger.specs.Seen.{AreSums, HasFields, hour_of, is_ruled, rulings};
 ghost use Rattle.drop_ledger.specs.Ledger.{StandsFor, MayFollow, HasRooms, IsSameTally, IsClosed, times_of, denied_times, no_match};
 ghost use Rattle.counted_rows.specs.Counted.{total};
 ghost use Rattle.drop_ledger.specs.Places.{count_of_row};
@@ -65,14 +66,23 @@ impl Tally {
 
     /// Makes room for all that a packet may add. Nothing else changes, also where there is no memory
     /// for it.
-    fn reserve(&mut self) -> Result<(), Memory>
+    pub fn make_room(&mut self) -> Result<(), Memory>
         ensures same { IsSameTally self.old self.new }
         ensures ok { IfOk result (λ _. HasRooms self.new) }
+        // Where there is room already, no memory is wanted.
+        ensures sure { HasRooms self.old → IsOk result }
     {
         self.counts.reserve(2)?;
         self.denied.reserve(2)?;
         self.others.reserve(2)?;
         Ok(())
+    }
+
+    /// Whether as many packets were noted as can be counted.
+    pub fn is_full(&self) -> bool
+        ensures { IsTrue result ↔ (2 ^ 64 - 1 ≤ self.now.totals.packets) }
+    {
+        self.totals.packets == u64::MAX
     }
 
     /// Makes room for a packet that was judged at this moment, with its hardware addresses and, where
@@ -91,8 +101,10 @@ impl Tally {
         ensures plan { IfOk result (λ plan. seen_planned plan ≡ record { moment = moment; verdict = verdict.now; source = source; destination = destination; fields = fields }) }
         ensures ready { IfOk result (λ plan. MayFollow self.new (seen_planned plan)) }
         ensures rooms { IfOk result (λ _. HasRooms self.new) }
+        // Where there is room already, no memory is wanted.
+        ensures sure { HasRooms self.old → IsOk result }
     {
-        self.reserve()?;
+        self.make_room()?;
         Ok(TallyPlan {
             seen: Seen {
                 moment,
@@ -156,7 +168,7 @@ impl Tally {
     /// are as many packets as had that ruling.
     pub fn denied(&self) -> &[DeniedRow]
         ensures value { result.now ≡ self.now.denied.rows }
-        ensures sum { (all latest : List SeenValue) (mac : MacValue) (side : DirectionValue) → StandsFor all latest self.now
+        ensures sum { (all latest : List SeenValue) (mac : MacValue) (side : DirectionValue) → AllByRecursion HasFields all → StandsFor all latest self.now
             → denied_times mac side result.now self.now.others.rows ≡ times_of mac side no_match (rulings all) }
     {
         self.denied.rows()

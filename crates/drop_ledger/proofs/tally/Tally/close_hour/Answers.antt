@@ -22,5 +22,4 @@ returns-clause-stands c = λ all latest stands.
       counts = c.take_run_at.ensures.rows ∙ dropped c.len-len.result c.self.inside.counts.rows c.len-len.ensures;
       denied = same.denied;
       few = omega arith;
-      fields = same.fields;
     }

@@ -6,6 +6,6 @@ use Rattle.drop_ledger.proofs.tally.Tally.denied.Goals as goal
 
 pub returns-clause-sum : goal.returns-clause-sum
 unfolding denied_times
-returns-clause-sum c = λ all latest mac side stands.
+returns-clause-sum c = λ all latest mac side have stands.
     (λ i. denied_times mac side ((c.rows.ensures.rows ∙ ap (λ (t : TallyState). t.denied.rows) c.self.view_is ∙ stands.denied.rows) i) (stands.denied.others i))
-    ∙ denied_sum mac side (rulings all) (rulings_have all stands.fields)
+    ∙ denied_sum mac side (rulings all) (rulings_have all have)

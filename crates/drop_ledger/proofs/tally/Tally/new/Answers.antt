@@ -12,5 +12,4 @@ returns c = record {
   counts = c.new.ensures.rows;
   denied = record { rows = c.new-2.ensures.rows; others = c.new-3.ensures.rows };
   few = omega arith;
-  fields = tt;
 }

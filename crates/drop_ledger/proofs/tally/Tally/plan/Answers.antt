@@ -10,7 +10,6 @@ may_still : (before after : TallyState) (s : Seen) → IsSameTally before after 
 may_still before after s same may = record {
   hour = subst (λ (h : Option ℕ). (h ≡ None) ⊎ (h ≡ Some (hour_of s))) (sym same.hour) may.hour;
   few = subst (λ (t : Totals). t.packets < 18446744073709551615) (sym same.totals) may.few;
-  fields = may.fields;
 }
 
 pub returns-clause-plan : goal.returns-clause-plan
@@ -19,4 +18,4 @@ returns-clause-plan c = refl
 
 pub returns-clause-ready : goal.returns-clause-ready
 unfolding seen_planned
-returns-clause-ready c = may_still c.args.self.now c.reserve.new.self _ c.reserve.ensures.same c.requires
+returns-clause-ready c = may_still c.args.self.now c.make_room.new.self _ c.make_room.ensures.same c.requires

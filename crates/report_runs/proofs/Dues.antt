@@ -8,7 +8,8 @@ use Rattle.command_words.specs.declared.command.ReportKind.{ReportKind}
 use Rattle.command_words.specs.declared.command.ReportKind.TheVariants.{Due}
 use Rattle.desk_model.specs.DeskTables.{DeskTables}
 use Rattle.report_runs.specs.Rows.{due_line}
-use Rattle.report_runs.specs.Tables.{due_moment, due_part, table_text}
+use Rattle.listing_runs.specs.Moments.{listing_moment}
+use Rattle.report_runs.specs.Tables.{due_part, table_text}
 
 due_step : (now : ℕ) (row : CachedFile) (files : List CachedFile) (b : Bool) → is_due now row ≡ b → flat_map (due_part now) files ≡ flat_map due_line (due_urls now files)
     → flat_map (due_part now) (row ∷ files) ≡ flat_map due_line (due_urls now (row ∷ files))
@@ -26,7 +27,7 @@ due_lines now [] = due_none now
 due_lines now (row ∷ files) = due_step now row files (is_due now row) refl (due_lines now files)
 
 -- they are the table of the URLs that are due
-pub due_table : (kind : ReportKind) (clock : Option ℕ) (desk : DeskTables) (now : ℕ) (files : List CachedFile) → kind ≡ Due → now ≡ due_moment desk.stamp clock → files ≡ desk.files
+pub due_table : (kind : ReportKind) (clock : Option ℕ) (desk : DeskTables) (now : ℕ) (files : List CachedFile) → kind ≡ Due → now ≡ listing_moment desk.stamp clock → files ≡ desk.files
     → flat_map (due_part now) files ≡ table_text kind clock desk
 unfolding table_text
 due_table kind clock desk now files is at same =

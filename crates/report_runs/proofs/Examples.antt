@@ -11,10 +11,11 @@ use Rattle.text_lines.specs.Numbers.{end_text}
 use Rattle.desk_model.specs.DeskTables.{DeskTables, empty_desk}
 use Rattle.command_words.specs.declared.command.ReportKind.TheVariants.{Things, Files, Classes, Locals, Names, Due}
 use Rattle.report_runs.specs.Rows.{word_part, ending_part, pending_word, hold_word, thing_line, lease_line, thing_lines, approved_word, candidate_word, file_line, class_part, class_line, class_lines, local_line, name_line, name_lines, due_line}
-use Rattle.report_runs.specs.Tables.{clock_for, moments_after, due_moment, table_text}
+use Rattle.listing_runs.specs.Moments.{listing_moment}
+use Rattle.report_runs.specs.Tables.{clock_for, moments_after, table_text}
 
 unfoldable tables_compute : ⊤
-unfolding texts_on_literals end_text word_part ending_part pending_word hold_word thing_line lease_line thing_lines approval_word approved_word candidate_word file_line class_part class_line class_lines local_line name_line name_lines due_line clock_for moments_after due_moment table_text empty_desk
+unfolding texts_on_literals end_text word_part ending_part pending_word hold_word thing_line lease_line thing_lines approval_word approved_word candidate_word file_line class_part class_line class_lines local_line name_line name_lines due_line clock_for moments_after listing_moment table_text empty_desk
 tables_compute = tt
 
 -- A bulb with a lease, its approved file, the DNS server and an address of the maker's server, all told at 1000.
@@ -53,15 +54,15 @@ names held = refl
 -- ---- The clock
 
 -- a clock that is behind the last change doesn't count
-clock_behind : due_moment (Some 1000) (Some 999) ≡ 1000
+clock_behind : listing_moment (Some 1000) (Some 999) ≡ 1000
 unfolding tables_compute
 clock_behind = refl
 
-clock_ahead : due_moment (Some 1000) (Some 1001) ≡ 1001
+clock_ahead : listing_moment (Some 1000) (Some 1001) ≡ 1001
 unfolding tables_compute
 clock_ahead = refl
 
-nothing_changed : due_moment None (Some 5) ≡ 5
+nothing_changed : listing_moment None (Some 5) ≡ 5
 unfolding tables_compute
 nothing_changed = refl
 

@@ -1,5 +1,4 @@
 pub mod RowExamples
-pub mod Written
 pub mod Dues
 pub mod Runs
 pub mod Examples

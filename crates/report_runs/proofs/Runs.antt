@@ -23,7 +23,7 @@ use Rattle.desk_runs.proofs.Runs.{refused_run}
 use Rattle.desk_runs.proofs.Stores.{kept_tables}
 use Rattle.report_runs.specs.Store.{ReportsStore, WritesReport}
 use Rattle.report_runs.specs.Tables.{clock_for, table_text}
-use Rattle.report_runs.proofs.Written.{wrote_none}
+use Rattle.listing_runs.proofs.Written.{wrote_none}
 
 -- ---- Statuses
 

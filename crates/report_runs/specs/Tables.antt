@@ -1,6 +1,7 @@
 -- The tables that `report` writes, and of which one the clock is asked.
-use Rattle.std.specs.Prelude.{ℕ, max, Bool, true, false, if◌then◌else◌, List, [], flat_map, Option, Some, None, unwrap_or}
+use Rattle.std.specs.Prelude.{ℕ, Bool, true, false, if◌then◌else◌, List, [], flat_map, Option, Some, None}
 use Rattle.mud_world.specs.Clock.{next_moment, later_moments}
+use Rattle.listing_runs.specs.Moments.{listing_moment}
 use Rattle.command_words.specs.declared.command.ReportKind.{ReportKind}
 use Rattle.command_words.specs.declared.command.ReportKind.TheVariants.{Things, Files, Classes, Locals, Names, Due}
 use Rattle.file_tables.specs.declared.cached_file.CachedFile.{CachedFile}
@@ -29,10 +30,6 @@ moments_after kind moments = if asks_clock kind then later_moments moments else 
 
 -- ---- The tables
 
--- the later of the moment of the last change and of that which the clock gave; 0 in place of one that isn't there
-unfoldable pub due_moment : Option ℕ → Option ℕ → ℕ
-due_moment stamp clock = max (unwrap_or stamp 0) (unwrap_or clock 0)
-
 -- the lines of the rows of a table, in the order in which they are kept
 unfoldable pub table_text : ReportKind → Option ℕ → DeskTables → List ℕ
 table_text Things clock desk = flat_map thing_lines desk.tables.things
@@ -40,7 +37,7 @@ table_text Files clock desk = flat_map file_line desk.files
 table_text Classes clock desk = flat_map class_lines desk.tables.classes
 table_text Locals clock desk = flat_map local_line desk.tables.locals
 table_text Names clock desk = flat_map name_lines desk.tables.names
-table_text Due clock desk = flat_map due_line (due_urls (due_moment desk.stamp clock) desk.files)
+table_text Due clock desk = flat_map due_line (due_urls (listing_moment desk.stamp clock) desk.files)
 
 -- the line of the URL of a row, where its file is to be fetched again
 unfoldable pub due_part : ℕ → CachedFile → List ℕ

@@ -10,8 +10,9 @@ use crate::{ReportRow, append_due};
 use command_runs::Stop;
 use file_cache::is_due;
 use file_tables::CachedFile;
+use listing_runs::write_text;
 use mud_base::{Bytes, Memory, Moment};
-use mud_world::{Door, say};
+use mud_world::Door;
 use std::alloc::Global;
 
 /// Writes the lines of a row.
@@ -25,8 +26,7 @@ fn write_row<D: Door, R: ReportRow>(alloc: Global, door: &mut D, row: &R) -> Res
 {
     let mut lines = Bytes::empty(alloc);
     row.append_lines(alloc, &mut lines)?;
-    say(door, lines.octets())?;
-    Ok(())
+    write_text(door, lines.octets())
 }
 
 /// Writes the lines of rows, in their order.
@@ -75,8 +75,7 @@ fn write_due_row<D: Door>(
     ensures reads { D.reads door.new ≡ D.reads door.old }
 {
     let line = due_line(alloc, row, now)?;
-    say(door, line.octets())?;
-    Ok(())
+    write_text(door, line.octets())
 }
 
 /// Writes the lines of the URLs whose file is to be fetched again at a moment, in their order.

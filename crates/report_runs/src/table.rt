@@ -14,6 +14,7 @@ ghost use Rattle.report_runs.specs.Tables as spec;
 use crate::rows::{write_due, write_rows};
 use command_runs::{Status, Stop};
 use command_words::ReportKind;
+use listing_runs::listing_moment;
 use mud_base::Moment;
 use mud_desk::Desk;
 use mud_world::{Clock, Door, Keeper};
@@ -47,16 +48,6 @@ fn ask_clock<C: Clock>(kind: ReportKind, clock: &mut C) -> Option<Moment>
     }
 }
 
-/// The later of the moment of the last change and of that which the clock gave, at which the URLs
-/// that are due are asked for.
-#[tactic(auto, unfolding(crate::specs::Tables::due_moment))]
-fn due_moment(stamp: Option<Moment>, clock: Option<Moment>) -> Moment
-    ensures { result ≡ spec.due_moment stamp clock }
-{
-    let first = Moment::at_most_last(0);
-    stamp.unwrap_or(first).max(clock.unwrap_or(first))
-}
-
 /// Writes a table of the desk, a row after the other.
 #[tactic(auto, unfolding(crate::specs::Tables::table_text))]
 fn write_table<D: Door>(
@@ -79,7 +70,12 @@ fn write_table<D: Door>(
         ReportKind::Classes => write_rows(alloc, door, desk.classes()),
         ReportKind::Locals => write_rows(alloc, door, desk.locals()),
         ReportKind::Names => write_rows(alloc, door, desk.names()),
-        ReportKind::Due => write_due(alloc, door, desk.files(), due_moment(desk.stamp(), clock)),
+        ReportKind::Due => write_due(
+            alloc,
+            door,
+            desk.files(),
+            listing_moment(desk.stamp(), clock),
+        ),
     }
 }
 

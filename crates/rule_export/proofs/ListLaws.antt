@@ -33,7 +33,11 @@ use Rattle.acl_rows.specs.declared.row.Owner.TheVariants.{Url, Default}
 use Rattle.acl_rows.specs.declared.row.Row.{Row}
 use Rattle.acl_rows.specs.Rows.{never, numbered, entry_at, held_by, slot_policy, default_held, Slots, Holder, rows_of}
 use Rattle.acl_rows.specs.View.{Part, View, rows_of_side, in_slot, holder_from, IsPartOf, IsFilePart}
-use Rattle.mud_tables.specs.Bindings.{selector_met, members_met, matches_by_bindings, ruling_by_bindings}
+use Rattle.acl_model.specs.Changes.{HaveSame}
+use Rattle.mud_tables.specs.Tables.{Tables, ruling_of}
+use Rattle.table_laws.proofs.Stores.{tests_alike}
+use Rattle.packet_judge.proofs.OverTables.{over_tables}
+use Rattle.mud_tables.specs.Bindings.{bindings_of, selector_met, members_met, matches_by_bindings, ruling_by_bindings}
 use Rattle.packet_judge.specs.ByRows.{policy_held, IsViewOver}
 use Rattle.packet_judge.proofs.Rulings.{IsRest, all_rest, rest_next, rest_first}
 use Rattle.rule_export.specs.declared.item.RuleNumber.{RuleNumber}
@@ -197,3 +201,12 @@ list_alike slots bindings url policy side view w fields begun is small one of =
     whole_by slots bindings is.ascend w small one view fields begun of url (holder_from url 0 slots) view.file refl refl file defaults
     ∙ ap (λ p. number_of (ruling_by (matched slots bindings is.ascend w small one view fields begun of url) view.side p)) is.held)
     is.lends.file is.lends.defaults
+
+-- Where the bindings are those of tables, it is the ruling over the tables.
+pub list_as_tables : (slots : Slots) (bindings : List Binding) (tables : Tables) (url : List ℕ) (policy : Option Policy) (side : Direction) (view : View) (w : Wanted) (fields : Fields) (begun : Option Direction)
+    → IsViewOver slots bindings url policy side view → HaveSame bindings (bindings_of tables) → w.locals ≡ tables.locals → w.moment < never → w.family ≢ family.Both → family_matches w.family fields ≡ true
+    → resolved_ruling view (resolved_of w view) fields begun ≡ number_of (ruling_of tables w.moment url policy side fields begun)
+list_as_tables slots bindings tables url policy side view w fields begun is same locals small one of =
+    list_alike slots bindings url policy side view w fields begun is small one of
+    ∙ ap (λ (ps : List Prefix). number_of (ruling_by_bindings bindings ps w.moment url policy side fields begun)) locals
+    ∙ ap number_of (over_tables tables bindings (tests_alike bindings (bindings_of tables) same) w.moment url policy side fields begun small)

@@ -1,6 +1,6 @@
 -- The text of the items of resolved lists, and of all lists of a Thing, in the exchange form of access lists (RFC 8519, 4.1;
 -- RFC 7951): compact JSON.
-use Rattle.std.specs.Prelude.{ℕ, List, [], ◌++◌, codes, decimal}
+use Rattle.std.specs.Prelude.{ℕ, List, [], ◌∷◌, ◌++◌, flat_map, codes, decimal}
 use Rattle.std.specs.Option.{option_map_or}
 use Rattle.mud_base.specs.declared.addr.Family.{Family}
 use Rattle.acl_model.specs.declared.ruling.DefaultRule.TheVariants.{Dns, Ntp}
@@ -29,3 +29,13 @@ item_text view family item entry = entry_text family view.side item.network (ite
 -- nothing where the item's rule names no entry of the view
 unfoldable pub resolved_text : View → Family → Resolved → List ℕ
 resolved_text view family item = option_map_or (item_text view family item) (entry_of view item.rule) []
+
+-- ---- Items, one behind the other
+
+unfoldable pub behind_comma : View → Family → Resolved → List ℕ
+behind_comma view family item = codes "," ++ resolved_text view family item
+
+-- with commas between them
+unfoldable pub items_text : View → Family → List Resolved → List ℕ
+items_text view family [] = []
+items_text view family (first ∷ later) = resolved_text view family first ++ flat_map (behind_comma view family) later

@@ -8,6 +8,6 @@ pub mod ruling;
 pub mod text;
 
 pub use item::{Resolved, RuleNumber};
-pub use list::export_list;
+pub use list::{export_list, list_of};
 pub use ruling::resolved_ruling;
 pub use text::{append_resolved, resolved_text};

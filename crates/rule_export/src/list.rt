@@ -269,6 +269,29 @@ fn push_file<L: Ledger>(
 /// The resolved list of a view for one IP version, by these local networks, at this moment. Each row of
 /// the view is one step.
 #[tactic(auto, unfolding(crate::specs::Resolved::resolved_of, crate::specs::Resolved::rule_in))]
+pub fn list_of<L: Ledger>(
+    alloc: Global,
+    view: &RuleView<'_>,
+    locals: &[Prefix],
+    family: Family,
+    m: Moment,
+    steps: &mut Steps<L>,
+) -> Result<Listed<Resolved>, Memory>
+    ensures list { IfOk result (λ list. list ≡ spec.resolved_of (spec.wanted locals.now m family) view.now) }
+    ensures most { steps.new ≤ steps.old + spec.file_count view.now.file + length view.now.defaults.rows }
+{
+    let w = Wants {
+        locals,
+        moment: m,
+        family,
+    };
+    let mut list = Listed::new(alloc);
+    push_file(alloc, &mut list, &w, view.file_part(), steps)?;
+    push_of(alloc, &mut list, &w, true, &view.default_part(), steps)?;
+    Ok(list)
+}
+
+/// The same of a view that is handed over.
 pub fn export_list<L: Ledger>(
     alloc: Global,
     view: RuleView<'_>,
@@ -280,13 +303,5 @@ pub fn export_list<L: Ledger>(
     ensures list { IfOk result (λ list. list ≡ spec.resolved_of (spec.wanted locals.now m family) view.entry) }
     ensures most { steps.new ≤ steps.old + spec.file_count view.entry.file + length view.entry.defaults.rows }
 {
-    let w = Wants {
-        locals,
-        moment: m,
-        family,
-    };
-    let mut list = Listed::new(alloc);
-    push_file(alloc, &mut list, &w, view.file_part(), steps)?;
-    push_of(alloc, &mut list, &w, true, &view.default_part(), steps)?;
-    Ok(list)
+    list_of(alloc, &view, locals, family, m, steps)
 }

@@ -2,7 +2,7 @@ use Rattle.std.proofs.Common.{◌≡◌, ℕ, List, Option, OnOk, OnErr, ap, sub
 use Rattle.mud_world.specs.Door.{put_out}
 use Rattle.mud_desk.specs.DeskState.{tables_of}
 use Rattle.command_runs.specs.Due.{WroteFirst}
-use Rattle.report_runs.specs.Tables.{due_moment}
+use Rattle.listing_runs.specs.Moments.{listing_moment}
 use Rattle.report_runs.proofs.Dues.{due_table}
 use Rattle.report_runs.proofs.table.write_table.Goals as goal
 
@@ -11,8 +11,8 @@ returns-in-Due-clause-ok g c = λ tells.
     let old = g.D.Door.state c.args.door.now in
     let new = g.D.Door.state c.write_due.new.door in
     subst (λ (text : List ℕ). OnOk c.write_due.result (new ≡ put_out text old))
-    (due_table c.args.kind c.args.clock (tables_of c.args.desk.now.state) c.due_moment.result c.files-in-Due.result.now c.in-Due.is
-    (c.due_moment.ensures ∙ ap (λ (stamp : Option ℕ). due_moment stamp c.args.clock) c.stamp.ensures) c.files-in-Due.ensures)
+    (due_table c.args.kind c.args.clock (tables_of c.args.desk.now.state) c.listing_moment.result c.files-in-Due.result.now c.in-Due.is
+    (c.listing_moment.ensures ∙ ap (λ (stamp : Option ℕ). listing_moment stamp c.args.clock) c.stamp.ensures) c.files-in-Due.ensures)
     (c.write_due.ensures.ok tells)
 
 pub returns-in-Due-clause-part : goal.returns-in-Due-clause-part
@@ -20,6 +20,6 @@ returns-in-Due-clause-part g c = λ tells.
     let old = g.D.Door.state c.args.door.now in
     let new = g.D.Door.state c.write_due.new.door in
     subst (λ (text : List ℕ). OnErr c.write_due.result (WroteFirst text old new))
-    (due_table c.args.kind c.args.clock (tables_of c.args.desk.now.state) c.due_moment.result c.files-in-Due.result.now c.in-Due.is
-    (c.due_moment.ensures ∙ ap (λ (stamp : Option ℕ). due_moment stamp c.args.clock) c.stamp.ensures) c.files-in-Due.ensures)
+    (due_table c.args.kind c.args.clock (tables_of c.args.desk.now.state) c.listing_moment.result c.files-in-Due.result.now c.in-Due.is
+    (c.listing_moment.ensures ∙ ap (λ (stamp : Option ℕ). listing_moment stamp c.args.clock) c.stamp.ensures) c.files-in-Due.ensures)
     (c.write_due.ensures.part tells)

@@ -1,4 +1,4 @@
--- The lines of rows, written one row after the other.
+-- Texts of many parts, written one part after the other.
 use Rattle.std.proofs.Common.{◌≡◌, ℕ, ◌+◌, ◌<◌, ◌≤◌, List, [], ◌∷◌, ◌++◌, length, take, drop, get_or, sym, ap, ◌∙◌, arith, append-nil, length-append, Result, Ok, Err, OnErr}
 use Rattle.std.specs.Prelude.{flat_map}
 use Rattle.std.proofs.lemmas.List.{take_more, take_all, drop_more, take-append-le, take-append-drop}
@@ -70,3 +70,26 @@ module _ {A : Type 0} (text : A → List ℕ) (rows : List A) where
               ∙ put_out_twice front (take part.count (text row)) first
               ∙ ap (λ (lines : List ℕ). put_out lines first) (sym taken);
         }
+
+-- ---- Two texts, one behind the other
+
+pub then_wrote : (a b : List ℕ) (first now after : DoorState) → now ≡ put_out a first → after ≡ put_out b now → after ≡ put_out (a ++ b) first
+then_wrote a b first now after one two = two ∙ ap (put_out b) one ∙ put_out_twice a b first
+
+-- of the first one a first part was written
+pub part_of_first : (a b : List ℕ) (first now : DoorState) → WroteFirst a first now → WroteFirst (a ++ b) first now
+part_of_first a b first now part = record {
+  count = part.count;
+  within = omega (arith, part.within, length-append a b);
+  wrote = part.wrote ∙ ap (λ (text : List ℕ). put_out text first) (sym (take-append-le part.count a b part.within));
+}
+
+-- the first one was written, and of the second a first part
+pub part_of_second : (a b : List ℕ) (first now after : DoorState) → now ≡ put_out a first → WroteFirst b now after → WroteFirst (a ++ b) first after
+part_of_second a b first now after one part = record {
+  count = length a + part.count;
+  within = omega (arith, part.within, length-append a b);
+  wrote = part.wrote ∙ ap (put_out (take part.count b)) one
+      ∙ put_out_twice a (take part.count b) first
+      ∙ ap (λ (text : List ℕ). put_out text first) (sym (take-append-add a b part.count));
+}

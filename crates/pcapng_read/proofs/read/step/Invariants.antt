@@ -1,0 +1,22 @@
+use Rattle.std.proofs.Common.{◌≡◌, ◌≤◌, ◌-◌}
+use Rattle.std.specs.Prelude.{IsTrue}
+use Rattle.packet_buffer.specs.Reading.{Follows, behind}
+use Rattle.pcapng_read.specs.Parts.{IsWithin, blocks_at, is_decided}
+use Rattle.pcapng_read.proofs.read.step.Given as goal
+
+abbrev pub invariant-forward : goal.invariant-forward
+invariant-forward g l =
+    let door = g.D.Door in
+    record {
+      octets : door.tells → Follows (behind (blocks_at l.initial.standing) l.initial.buffer.held) (behind (blocks_at l.standing) l.buffer.held) (door.state l.initial.source) (door.state l.source);
+      within : IsWithin l.standing;
+      further : l.initial.standing.blocks ≤ l.standing.blocks;
+      unread : IsTrue (is_decided l.initial.standing.section.order l.initial.buffer.held)
+          → (l.source ≡ l.initial.source) × (l.buffer.held ≡ l.initial.buffer.held) × (l.standing.section.order ≡ l.initial.standing.section.order);
+      reads : door.reads l.source ≡ door.reads l.initial.source;
+      turns : door.turns l.source ≡ door.turns l.initial.source;
+      writes : door.writes l.source ≡ door.writes l.initial.source;
+    }
+
+abbrev pub decreases-forward : goal.decreases-forward
+decreases-forward g l = 100000000 - l.standing.blocks

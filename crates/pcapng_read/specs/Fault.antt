@@ -1,0 +1,65 @@
+-- The numbers, names and places of the faults of a capture.
+use Rattle.std.specs.Prelude.{ℕ, Bool, true, false, List, codes, Option, Some, None, Result, Ok, Err}
+use Rattle.pcapng_read.specs.declared.fault.NgFault.{NgFault}
+use Rattle.pcapng_read.specs.declared.fault.NgFault.TheVariants.{Magic, Version, LinkType, Cut, Long, ReadFault, Many, Length, PacketForm, Resolution, Interface, Late}
+
+unfoldable pub number_of : NgFault → ℕ
+number_of (Magic at) = 1
+number_of (Version at) = 2
+number_of (LinkType at) = 3
+number_of (Cut at) = 4
+number_of (Long at) = 5
+number_of ReadFault = 6
+number_of (Many at) = 7
+number_of (Length at) = 8
+number_of (PacketForm at) = 9
+number_of (Resolution at) = 10
+number_of (Interface at) = 11
+number_of (Late at) = 12
+
+unfoldable pub name_of : NgFault → List ℕ
+name_of (Magic at) = codes "Magic"
+name_of (Version at) = codes "Version"
+name_of (LinkType at) = codes "LinkType"
+name_of (Cut at) = codes "Cut"
+name_of (Long at) = codes "Long"
+name_of ReadFault = codes "ReadFault"
+name_of (Many at) = codes "Many"
+name_of (Length at) = codes "Length"
+name_of (PacketForm at) = codes "PacketForm"
+name_of (Resolution at) = codes "Resolution"
+name_of (Interface at) = codes "Interface"
+name_of (Late at) = codes "Late"
+
+unfoldable pub place_of : NgFault → Option ℕ
+place_of (Magic at) = Some at
+place_of (Version at) = Some at
+place_of (LinkType at) = Some at
+place_of (Cut at) = Some at
+place_of (Long at) = Some at
+place_of ReadFault = None
+place_of (Many at) = Some at
+place_of (Length at) = Some at
+place_of (PacketForm at) = Some at
+place_of (Resolution at) = Some at
+place_of (Interface at) = Some at
+place_of (Late at) = Some at
+
+abbrev pub is_read_fault : NgFault → Bool
+is_read_fault (Magic at) = false
+is_read_fault (Version at) = false
+is_read_fault (LinkType at) = false
+is_read_fault (Cut at) = false
+is_read_fault (Long at) = false
+is_read_fault ReadFault = true
+is_read_fault (Many at) = false
+is_read_fault (Length at) = false
+is_read_fault (PacketForm at) = false
+is_read_fault (Resolution at) = false
+is_read_fault (Interface at) = false
+is_read_fault (Late at) = false
+
+-- whether the source failed
+abbrev pub has_failed : {A : Type 0} → Result A NgFault → Bool
+has_failed (Ok a) = false
+has_failed (Err fault) = is_read_fault fault

@@ -1,0 +1,9 @@
+pub mod Blocks
+pub mod Fault
+pub mod Interfaces
+pub mod Next
+pub mod OptionStep
+pub mod Options
+pub mod Parts
+pub mod Reading
+pub mod Taken

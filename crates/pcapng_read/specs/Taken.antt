@@ -1,0 +1,49 @@
+-- What a capture keeps beside its source.
+use Rattle.std.specs.Prelude.{◌≡◌, ℕ, Bool, true, List, [], ◌++◌, Option, Some, None}
+use Rattle.mud_world.specs.Door.{DoorState, Took}
+use Rattle.packet_buffer.specs.Packets.{Packet, whole, with_all}
+use Rattle.pcapng_read.specs.declared.fault.NgFault.{NgFault}
+use Rattle.pcapng_read.specs.declared.standing.Standing.{Standing}
+use Rattle.pcapng_read.specs.Blocks as blocks
+use Rattle.pcapng_read.specs.Blocks.{NgPackets, ng_packets_of}
+use Rattle.pcapng_read.specs.Parts.{coming, is_decided}
+
+-- where it stands between two blocks, the fault that was answered, if any, the octets that it took of the source and didn't hand
+-- out, and the packet at which it stands
+pub record NgTaken : Type 0 where
+  pub fault : Option NgFault
+  pub standing : Standing
+  pub held : List ℕ
+  pub packet : Option Packet
+
+abbrev pub at_start : NgTaken
+at_start = record { fault = None; standing = blocks.at_start; held = []; packet = None }
+
+-- the same with octets that were taken of the source before
+abbrev pub at_start_holding : List ℕ → NgTaken
+at_start_holding octets = record at_start { held = octets }
+
+-- The packets that are to come, and their end, where these octets come behind those held.
+abbrev pub to_come : NgTaken → List ℕ → NgPackets
+to_come taken octets = coming taken.fault taken.standing (taken.held ++ octets)
+
+-- whether the next packet is known without a read
+abbrev pub is_ready_at : Option NgFault → Standing → List ℕ → Bool
+is_ready_at None at held = is_decided at.section.order held
+is_ready_at (Some fault) at held = true
+
+abbrev pub is_ready : NgTaken → Bool
+is_ready taken = is_ready_at taken.fault taken.standing taken.held
+
+-- Nothing is held, nothing is left of the source, and no packet comes.
+pub record AtEnd (taken : NgTaken) (source : DoorState) : Type 0 where
+  pub held : taken.held ≡ []
+  pub left : source.left ≡ []
+  pub ended : to_come taken [] ≡ whole
+
+-- For callers that read packet after packet: these packets were read since the source stood at the first of the two states. They
+-- are the first packets of the octets taken since then, however the source goes on, and the others are to come.
+pub record HasRead (packets : List Packet) (taken : NgTaken) (first now : DoorState) : Type 0 where
+  pub octets : List ℕ
+  pub took : Took octets first now
+  pub same : (more : List ℕ) → ng_packets_of (octets ++ more) ≡ with_all packets (to_come taken more)

@@ -10,13 +10,13 @@ use Rattle.command_runs.specs.Due.{Due}
 use Rattle.capture_runs.specs.Fold.{LineStep, lines_from, state_after}
 
 -- the fault's name, and its place where it has one
-unfoldable pub fault_line : CaptureFault → List ℕ
-fault_line fault = codes "fault " ++ capture_fault.name_of fault ++ place_text (capture_fault.place_of fault) ++ codes "\n"
+unfoldable pub capture_fault_line : CaptureFault → List ℕ
+capture_fault_line fault = codes "fault " ++ capture_fault.name_of fault ++ place_text (capture_fault.place_of fault) ++ codes "\n"
 
 -- the line of the fault, where one ends the packets
 abbrev pub end_line : Option CaptureFault → List ℕ
 end_line None = []
-end_line (Some fault) = fault_line fault
+end_line (Some fault) = capture_fault_line fault
 
 -- the status of a capture that was read to its end, or to the fault that ends it
 abbrev pub status_at : Option CaptureFault → ℕ

@@ -21,3 +21,7 @@ state_after step s (packet ∷ packets) = state_after step (step s packet).next 
 pub record IsLeftBy {S : Type 0} (keeps : S → Type 0) (step : S → Packet → LineStep S) (s : S) : Type 0 where
   pub packets : List Packet
   pub kept : keeps (state_after step s packets)
+
+-- no lines at the end of the packets
+abbrev pub no_ending : {S : Type 0} → S → List ℕ
+no_ending s = []

@@ -5,9 +5,9 @@ ghost use Rattle.mud_world.specs.Door.{DoorState, put_out};
 ghost use Rattle.mud_world.specs.Whole.{WrotePart};
 ghost use Rattle.packet_buffer.specs.Packets.{Packet};
 ghost use Rattle.capture_source.specs.Reading.{is_broken, most_to_come, packet_at};
-ghost use Rattle.command_runs.specs.Due.{WritesDue, WritesPart, WroteFirst, WroteFront};
+ghost use Rattle.command_runs.specs.Due.{WritesDue, WritesPart, WroteFront};
 ghost use Rattle.command_runs.specs.Status.{status_number};
-ghost use Rattle.capture_runs.specs.Capture.{due_behind, end_line, fault_line};
+ghost use Rattle.capture_runs.specs.Capture.{capture_fault_line, due_behind};
 ghost use Rattle.capture_runs.specs.Runs.{HasAll, HasDone, LedTo, WroteTaken, has_failed};
 ghost use Rattle.capture_runs.specs.declared.run.Way.TheVariants as way;
 
@@ -34,9 +34,9 @@ pub enum Way {
 }
 
 /// Adds the line of a fault of a capture: `fault`, the rule's name, and its place where it has one.
-#[tactic(auto, unfolding(crate::specs::Capture::fault_line))]
+#[tactic(auto, unfolding(crate::specs::Capture::capture_fault_line))]
 fn append_fault(lines: &mut Bytes, fault: CaptureFault) -> Result<(), Memory>
-    ensures { OnOk result (lines.new ≡ lines.old ++ fault_line fault) }
+    ensures { OnOk result (lines.new ≡ lines.old ++ capture_fault_line fault) }
 {
     lines.append(b"fault ")?;
     lines.append(fault.name().as_bytes())?;

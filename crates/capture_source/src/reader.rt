@@ -1,5 +1,5 @@
 //! The reader of a capture in whichever format.
-ghost use Rattle.std.specs.Prelude.{◌≡◌, ◌<◌, [], length, false, true, is_some, IsSome, IsTrue, IfOk, IfErr, OnOk, OnErr, Err, Some, None};
+ghost use Rattle.std.specs.Prelude.{◌≡◌, ◌<◌, [], false, true, is_some, IsSome, IsTrue, IfOk, IfErr, OnOk, OnErr, Err, Some, None};
 ghost use Rattle.mud_world.specs.Causes.{Counts, StopsAtFailure};
 ghost use Rattle.mud_world.specs.Whole as whole;
 ghost use Rattle.mud_world.specs.Whole.{TookPart};

@@ -1,6 +1,4 @@
-pub mod Capture
 pub mod Due
-pub mod Fold
 pub mod Status
 pub mod Stops
 pub mod View

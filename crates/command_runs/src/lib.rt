@@ -1,11 +1,9 @@
-//! How a command runs that reads the door and writes lines to it: its status, what is due, and the
-//! lines of a capture as it streams.
+//! How a run of the program ends: its status, why it ends early, what is due, and what it makes of
+//! its door.
 #![tactic(auto)]
 
-pub mod capture;
 pub mod status;
 pub mod stop;
 
-pub use capture::{PacketLines, write_capture};
 pub use status::Status;
 pub use stop::Stop;

@@ -1,4 +1,5 @@
 pub mod Building
 mod Examples
 pub mod Lists
+pub mod Named
 pub mod Passing

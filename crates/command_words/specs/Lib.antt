@@ -1,2 +1,3 @@
 pub mod Parser
+pub mod Places
 pub mod Words

@@ -7,7 +7,8 @@ use Rattle.mud_world.specs.declared.item.Item.{Item}
 use Rattle.mud_world.specs.Boxed.{faults_of, Tells, kept_items}
 use Rattle.mud_world.specs.Causes.{Counts, EndsAtFailure, Rose, StopsAtFailure}
 use Rattle.mud_world.specs.Door.{put_out}
-use Rattle.command_runs.specs.Capture.{WritesTaken, due_of_capture}
+use Rattle.capture_runs.specs.Capture.{WritesTaken, due_of_capture}
+use Rattle.capture_runs.specs.Fold.{no_ending}
 use Rattle.command_runs.specs.Due.{WritesDue, WritesPart, WroteFirst}
 use Rattle.command_runs.specs.View.{DoorView}
 use Rattle.desk_items.specs.declared.fault.OpenFault.{OpenFault}
@@ -72,8 +73,8 @@ module _ {X : Type 0} {F : X → Type 0} (members : (v : (x : X) × F x) → Gho
       → IsOfCapture status
       → (status ≡ 4 → EndsAtFailure new.failed old.reads new.reads old.writes new.writes)
       → (status ≢ 4 → (new.reads ≡ old.reads) × (new.writes ≡ old.writes))
-      → (tells → (status ≡ 0) ⊎ (status ≡ 3) → WritesDue (due_of_capture judged_step (opened tables) old.state.left) old.state new.state status)
-      → (tells → (status ≡ 4) ⊎ (status ≡ 5) → WritesPart (due_of_capture judged_step (opened tables) old.state.left) old.state new.state)
+      → (tells → (status ≡ 0) ⊎ (status ≡ 3) → WritesDue (due_of_capture judged_step no_ending (opened tables) old.state.left) old.state new.state status)
+      → (tells → (status ≡ 4) ⊎ (status ≡ 5) → WritesPart (due_of_capture judged_step no_ending (opened tables) old.state.left) old.state new.state)
       → (tells → new.reads ≢ old.reads → WritesTaken judged_step (opened tables) old.state new.state)
       → new.turns ≡ old.turns → (returned : DynBox X Global F) → returned ≡ after → JudgesStore members tells keeper returned old new status
   opened_run tables read sound kept same_count same_box is fault steady done part taken turns returned same = subst (λ (box : DynBox X Global F). JudgesStore members tells keeper box old new status) (sym same) (record {

@@ -7,7 +7,8 @@ use Rattle.mud_world.specs.declared.item.Item.{Item}
 use Rattle.mud_world.specs.Boxed.{Tells, kept_items}
 use Rattle.mud_world.specs.Door.{DoorState, with_left, put_out}
 use Rattle.mud_world.proofs.Doors.{put_out_none}
-use Rattle.command_runs.specs.Capture.{WritesTaken, due_of_capture}
+use Rattle.capture_runs.specs.Capture.{WritesTaken, due_of_capture}
+use Rattle.capture_runs.specs.Fold.{no_ending}
 use Rattle.command_runs.specs.Due.{Due, WritesDue, WritesPart, WroteFirst}
 use Rattle.command_runs.specs.View.{DoorView}
 use Rattle.desk_items.specs.declared.fault.OpenFault.{OpenFault}
@@ -66,8 +67,8 @@ ok_err : {A B C : Type 0} (a : A) (b : B) → Ok a ≡ Err b → C
 ok_err a b same = cc
 
 pub writes_opened : (tables : DeskTables) (old new : DoorView) (status : ℕ) → IsOfCapture status
-    → ((status ≡ 0) ⊎ (status ≡ 3) → WritesDue (due_of_capture judged_step (opened tables) old.state.left) old.state new.state status)
-    → ((status ≡ 4) ⊎ (status ≡ 5) → WritesPart (due_of_capture judged_step (opened tables) old.state.left) old.state new.state)
+    → ((status ≡ 0) ⊎ (status ≡ 3) → WritesDue (due_of_capture judged_step no_ending (opened tables) old.state.left) old.state new.state status)
+    → ((status ≡ 4) ⊎ (status ≡ 5) → WritesPart (due_of_capture judged_step no_ending (opened tables) old.state.left) old.state new.state)
     → (new.reads ≢ old.reads → WritesTaken judged_step (opened tables) old.state new.state)
     → WritesOfStore (Ok tables) old new status
 writes_opened tables old new status is done part taken = record {

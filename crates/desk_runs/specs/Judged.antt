@@ -2,7 +2,7 @@
 use Rattle.std.specs.Prelude.{◌≡◌, List, ℕ, ◌++◌, codes, decimal}
 use Rattle.packet_buffer.specs.Packets.{Packet}
 use Rattle.packet_judge.specs.declared.verdict.Verdict.{Verdict}
-use Rattle.command_runs.specs.Fold.{LineStep}
+use Rattle.capture_runs.specs.Fold.{LineStep}
 use Rattle.text_lines.specs.Numbers.{number_text}
 use Rattle.verdict_lines.specs.Verdicts.{verdict_text}
 use Rattle.desk_model.specs.Sessions.{Session, Judged, frame_in}

@@ -6,7 +6,8 @@ use Rattle.mud_world.specs.declared.keeper.Keeper.{Ghosts}
 use Rattle.mud_world.specs.declared.item.Item.{Item}
 use Rattle.mud_world.specs.Boxed.{faults_of, Tells, kept_items}
 use Rattle.mud_world.specs.Causes.{EndsAtFailure, Rose}
-use Rattle.command_runs.specs.Capture.{WritesTaken, due_of_capture}
+use Rattle.capture_runs.specs.Capture.{WritesTaken, due_of_capture}
+use Rattle.capture_runs.specs.Fold.{no_ending}
 use Rattle.command_runs.specs.Due.{Due, WritesDue, WritesPart}
 use Rattle.command_runs.specs.View.{DoorView}
 use Rattle.desk_model.specs.DeskTables.{DeskTables, IsSound}
@@ -19,7 +20,7 @@ use Rattle.desk_runs.specs.Refused.{bad_item_line}
 -- What is due to a capture: its lines in the session that begins with the tables of the store. Where an item is no record, the
 -- line of the first such item is due, and the status is 6.
 abbrev pub due_of_store : Result DeskTables Item → List ℕ → Due
-due_of_store (Ok tables) octets = due_of_capture judged_step (opened tables) octets
+due_of_store (Ok tables) octets = due_of_capture judged_step no_ending (opened tables) octets
 due_of_store (Err item) octets = record { text = bad_item_line item.kind item.key; status = 6 }
 
 -- What is written, by the tables of the store or its first item that is no record.

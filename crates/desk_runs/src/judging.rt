@@ -2,7 +2,8 @@
 ghost use Rattle.std.specs.Prelude.{◌≡◌, ◌≢◌, ◌⊎◌, ◌++◌, ◌<◌, IfOk, OnOk, OnErr};
 ghost use Rattle.mud_world.specs.Causes.{EndsAtFailure};
 ghost use Rattle.pcap_read.specs.Captured.{packet_of};
-ghost use Rattle.command_runs.specs.Capture.{WritesTaken, due_of_capture};
+ghost use Rattle.capture_runs.specs.Capture.{WritesTaken, due_of_capture};
+ghost use Rattle.capture_runs.specs.Fold.{no_ending};
 ghost use Rattle.command_runs.specs.Due.{WritesDue, WritesPart};
 ghost use Rattle.command_runs.specs.Status.{status_number};
 ghost use Rattle.desk_model.specs.Sessions.{Session};
@@ -10,7 +11,8 @@ ghost use Rattle.mud_desk.specs.Boxed.{IsKept};
 ghost use Rattle.mud_desk.specs.DeskState.{tables_of};
 ghost use Rattle.desk_runs.specs.Judged.{IsIn, judged_line, judged_packet, judged_step};
 
-use command_runs::{PacketLines, Status, write_capture};
+use capture_runs::{PacketLines, write_capture};
+use command_runs::Status;
 use mud_base::{Bytes, Memory, Moment};
 use mud_desk::{Desk, State, Verdict};
 use mud_world::{Door, Keeper};
@@ -67,6 +69,7 @@ pub struct JudgedLines {
 }
 
 impl PacketLines for JudgedLines {
+    ghost use Rattle.capture_runs.specs.Fold.{no_ending};
     ghost use Rattle.desk_model.specs.Sessions.{Session};
     ghost use Rattle.desk_runs.specs.Judged.{IsIn, judged_step};
 
@@ -76,6 +79,8 @@ impl PacketLines for JudgedLines {
 
     ghost step = { judged_step };
 
+    ghost ending = { no_ending };
+
     fn append_line(
         &mut self,
         _alloc: Global,
@@ -84,6 +89,10 @@ impl PacketLines for JudgedLines {
     ) -> Result<(), Memory> {
         let verdict = judge_packet::<Brand>(&mut self.state, packet, Blank::new(1))?;
         append_judged(lines, packet, &verdict)
+    }
+
+    fn append_last(&self, _alloc: Global, _lines: &mut Bytes) -> Result<(), Memory> {
+        Ok(())
     }
 }
 
@@ -96,9 +105,9 @@ pub fn judge_capture<D: Door>(alloc: Global, desk: Desk, door: &mut D) -> (Statu
     ensures steady { status_number result.0 ≢ 4 → (D.reads door.new ≡ D.reads door.old) × (D.writes door.new ≡ D.writes door.old) }
     // In whatever session the desk is, the lines are those of the packets in their order.
     ensures done { (s : Session) → IsIn s desk.state → D.tells → (status_number result.0 ≡ 0) ⊎ (status_number result.0 ≡ 3) →
-        WritesDue (due_of_capture judged_step s (D.state door.old).left) (D.state door.old) (D.state door.new) (status_number result.0) }
+        WritesDue (due_of_capture judged_step no_ending s (D.state door.old).left) (D.state door.old) (D.state door.new) (status_number result.0) }
     ensures part { (s : Session) → IsIn s desk.state → D.tells → (status_number result.0 ≡ 4) ⊎ (status_number result.0 ≡ 5) →
-        WritesPart (due_of_capture judged_step s (D.state door.old).left) (D.state door.old) (D.state door.new) }
+        WritesPart (due_of_capture judged_step no_ending s (D.state door.old).left) (D.state door.old) (D.state door.new) }
     ensures taken { (s : Session) → IsIn s desk.state → D.tells → D.reads door.new ≢ D.reads door.old →
         WritesTaken judged_step s (D.state door.old) (D.state door.new) }
     ensures turns { D.turns door.new ≡ D.turns door.old }

@@ -2,7 +2,7 @@
 //! over them.
 #![tactic(auto)]
 
-use command_words::{Command, USAGE, command_of};
+use command_words::{USAGE, command_of, folder_word, store_word};
 use keep_sqlite::PathKeeper;
 use mud_base::Listed;
 use mud_cli::{Status, mud_main};
@@ -61,14 +61,13 @@ fn words(rt: &HostRuntime) -> io::Result<Vec<String>> {
 /// The words that name the store and the folder of a command. A command without a store keeps
 /// nothing, and one without a folder lists none.
 fn places(alloc: Global, words: &[String]) -> (&str, &str) {
-    match (command_of(alloc, words), words) {
-        (Some(Command::Import), [_, store, folder]) => (store.as_str(), folder.as_str()),
-        (
-            Some(Command::Judge | Command::Replay | Command::Serve { .. } | Command::Report(_)),
-            [_, store, ..],
-        ) => (store.as_str(), ""),
-        _ => (IN_MEMORY, ""),
-    }
+    let Some(command) = command_of(alloc, words) else {
+        return (IN_MEMORY, "");
+    };
+    (
+        store_word(command, words).unwrap_or(IN_MEMORY),
+        folder_word(command, words).unwrap_or(""),
+    )
 }
 
 /// Opens a folder three times, so that each standard stream that is closed is a folder from here on,

@@ -1,7 +1,8 @@
 -- What is due to the input of each command that reads the door and writes what it says.
 use Rattle.std.specs.Prelude.{ℕ, Bool, true, false, List, [], Option, Some, None, if◌then◌else◌}
 use Rattle.mud_file.specs.File.{file_of}
-use Rattle.command_runs.specs.Capture.{due_of_capture}
+use Rattle.capture_runs.specs.Capture.{due_of_capture}
+use Rattle.capture_runs.specs.Fold.{no_ending}
 use Rattle.command_runs.specs.Due.{Due}
 use Rattle.mud_cli.specs.Check.Answer.{checking}
 use Rattle.mud_cli.specs.Frames.Lines.{frame_step}
@@ -44,7 +45,7 @@ reads_input _ = false
 abbrev pub due_of : Command → List ℕ → Due
 due_of (Hear message) octets = due_of_input (input.Message message) octets
 due_of Check octets = due_of_input input.UsageFile octets
-due_of Frames octets = due_of_capture frame_step tt octets
+due_of Frames octets = due_of_capture frame_step no_ending tt octets
 due_of _ octets = record { text = []; status = 0 }
 
 -- the most octets that it reads, where it reads its input as a whole: one more than the input has at most

@@ -2,7 +2,7 @@
 use Rattle.std.specs.Prelude.{◌≡◌, ◌≢◌, ℕ, ◌≤◌, ◌⊎◌, List, ◌++◌, length, Option, Some}
 use Rattle.mud_world.specs.Causes.{EndsAtFailure}
 use Rattle.mud_world.specs.Door.{DoorState}
-use Rattle.command_runs.specs.Capture.{WritesTaken}
+use Rattle.capture_runs.specs.Capture.{WritesTaken}
 use Rattle.command_runs.specs.Due.{WritesDue, WritesPart}
 pub use Rattle.command_runs.specs.View.{DoorView, viewed}
 use Rattle.mud_cli.specs.Answers.{due_of, most_read}

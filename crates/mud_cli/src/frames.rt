@@ -1,7 +1,7 @@
 //! The command `frames`: the line of each packet of a capture.
 mod lines;
 
-use command_runs::PacketLines;
+use capture_runs::PacketLines;
 use lines::append_packet;
 use mud_base::{Bytes, Memory};
 use pcap_read::Captured;
@@ -12,6 +12,7 @@ use std::alloc::Global;
 pub struct FrameLines;
 
 impl PacketLines for FrameLines {
+    ghost use Rattle.capture_runs.specs.Fold.{no_ending};
     ghost use Rattle.mud_cli.specs.Frames.Lines.{frame_step};
 
     ghost State = { Unit {0} };
@@ -20,6 +21,8 @@ impl PacketLines for FrameLines {
 
     ghost step = { frame_step };
 
+    ghost ending = { no_ending };
+
     fn append_line(
         &mut self,
         alloc: Global,
@@ -27,5 +30,9 @@ impl PacketLines for FrameLines {
         packet: &Captured<'_>,
     ) -> Result<(), Memory> {
         append_packet(alloc, lines, packet)
+    }
+
+    fn append_last(&self, _alloc: Global, _lines: &mut Bytes) -> Result<(), Memory> {
+        Ok(())
     }
 }

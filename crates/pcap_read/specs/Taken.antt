@@ -1,9 +1,9 @@
 -- What a capture keeps beside its source.
 use Rattle.std.specs.Prelude.{◌≡◌, ℕ, Bool, List, [], ◌++◌, Option, None}
-use Rattle.mud_world.specs.Door.{DoorState, Took}
+use Rattle.mud_world.specs.Door.{DoorState}
 use Rattle.pcap_read.specs.declared.stage.Stage.TheVariants.{Start}
 use Rattle.pcap_read.specs.declared.stage.Progress.{Progress}
-use Rattle.packet_buffer.specs.Packets.{Packet, whole, with_all}
+use Rattle.packet_buffer.specs.Packets.{Packet, whole}
 use Rattle.pcap_read.specs.Packets.{Packets, packets_of}
 use Rattle.pcap_read.specs.Parts.{coming, is_ready_at}
 
@@ -33,10 +33,3 @@ pub record AtEnd (taken : Taken) (source : DoorState) : Type 0 where
   pub held : taken.held ≡ []
   pub left : source.left ≡ []
   pub ended : to_come taken [] ≡ whole
-
--- For callers that read packet after packet: these packets were read since the source stood at the first of the two states. They
--- are the first packets of the octets taken since then, however the source goes on, and the others are to come.
-pub record HasRead (packets : List Packet) (taken : Taken) (first now : DoorState) : Type 0 where
-  pub octets : List ℕ
-  pub took : Took octets first now
-  pub same : (more : List ℕ) → packets_of (octets ++ more) ≡ with_all packets (to_come taken more)

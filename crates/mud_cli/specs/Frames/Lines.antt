@@ -8,7 +8,7 @@ use Rattle.frame_view.specs.Frame.{frame_of}
 use Rattle.frame_view.specs.declared.views.Frame.{Frame}
 use Rattle.frame_view.specs.declared.views.Frame.TheVariants as frame
 use Rattle.packet_buffer.specs.Packets.{Packet}
-use Rattle.command_runs.specs.Fold.{LineStep}
+use Rattle.capture_runs.specs.Fold.{LineStep}
 use Rattle.text_lines.specs.Numbers.{number_text}
 use Rattle.verdict_lines.specs.Verdicts.{unreadable_text}
 

@@ -1,2 +1,0 @@
-pub mod CaptureRuns
-pub mod Folds

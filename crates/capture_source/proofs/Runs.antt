@@ -1,12 +1,15 @@
 -- What a caller knows who reads packet after packet: those read so far are the first ones of the capture, and the others are to come.
-use Rattle.std.proofs.Common.{◌≡◌, ℕ, ◌≤◌, List, [], ◌∷◌, ◌++◌, length, Option, Some, sym, ap, ◌∙◌, append_assoc, append-nil, arith}
+use Rattle.std.proofs.Common.{◌≡◌, inl, inr, ℕ, ◌≤◌, List, [], ◌∷◌, ◌++◌, length, Option, Some, sym, ap, ◌∙◌, append_assoc, append-nil, arith}
+use Rattle.std.proofs.lemmas.Bool.{cases_Bool}
 use Rattle.mud_world.specs.Door.{DoorState, Took}
 use Rattle.mud_world.proofs.Doors.{took_more}
 use Rattle.packet_buffer.specs.Packets.{Packet, with_next, with_all}
 use Rattle.packet_buffer.specs.Reading.{Follows}
 use Rattle.pcap_read.specs.Packets.{Packets}
 use Rattle.pcap_read.proofs.Steps.{header_short}
-use Rattle.capture_source.specs.Captures.{Captures, captured_of}
+use Rattle.pcapng_read.specs.Blocks.{NgPackets, at_start, ng_packets_of}
+use Rattle.pcapng_read.proofs.Steps.{blocks_lack}
+use Rattle.capture_source.specs.Captures.{Captures, captured_of, is_next}
 use Rattle.capture_source.specs.Reading.{EndsIn, HasRead, packet_at, to_come}
 use Rattle.capture_source.specs.declared.fault.CaptureFault.{CaptureFault}
 use Rattle.capture_source.specs.declared.reader.CaptureReader.{CaptureReader}
@@ -47,7 +50,18 @@ has_read_taken packets fault old first s t p q = (
 classic_all : Packets → List Packet
 classic_all packets = packets.all
 
+next_all : NgPackets → List Packet
+next_all packets = packets.all
+
+none_in_head : (octets : List ℕ) → length octets ≤ 4 → (ng_packets_of octets).all ≡ []
+unfolding ng_packets_of
+none_in_head octets few = blocks_lack at_start octets (omega (arith, few))
+
 -- no packet is in so few octets
 pub none_in_few : (octets : List ℕ) → length octets ≤ 4 → (captured_of octets).all ≡ []
 unfolding classic_all
-none_in_few octets few = ap classic_all (header_short octets (omega (arith, few)))
+none_in_few octets few =
+    elim (cases_Bool (is_next octets)) [
+      | inl next ↦ rw next (none_in_head octets few)
+      | inr classic ↦ rw classic (ap classic_all (header_short octets (omega (arith, few))))
+    ]

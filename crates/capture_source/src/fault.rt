@@ -3,12 +3,15 @@ ghost use Rattle.std.specs.Prelude.{◌≡◌};
 ghost use Rattle.capture_source.specs.Fault as spec;
 
 use pcap_read::CapFault;
+use pcapng_read::NgFault;
 
 /// Why a capture is refused, or ends before its octets do.
 #[derive(Clone, Copy, Debug, PartialEq, Eq)]
 pub enum CaptureFault {
     /// The fault of a capture in the classic format.
     Classic(CapFault),
+    /// The fault of a capture in pcapng.
+    Next(NgFault),
 }
 
 impl From<CapFault> for CaptureFault {
@@ -21,6 +24,16 @@ impl From<CapFault> for CaptureFault {
     }
 }
 
+impl From<NgFault> for CaptureFault {
+    ghost use Rattle.capture_source.specs.declared.fault.CaptureFault.TheVariants.{Next};
+
+    ghost from_gives = { λ fault source. source ≡ Next fault };
+
+    fn from(fault: NgFault) -> CaptureFault {
+        CaptureFault::Next(fault)
+    }
+}
+
 impl CaptureFault {
     /// Whether the source failed.
     pub fn is_read_fault(&self) -> bool
@@ -28,6 +41,7 @@ impl CaptureFault {
     {
         match self {
             CaptureFault::Classic(fault) => matches!(fault, CapFault::ReadFault),
+            CaptureFault::Next(fault) => matches!(fault, NgFault::ReadFault),
         }
     }
 
@@ -37,6 +51,7 @@ impl CaptureFault {
     {
         match self {
             CaptureFault::Classic(fault) => fault.name(),
+            CaptureFault::Next(fault) => fault.name(),
         }
     }
 
@@ -46,6 +61,7 @@ impl CaptureFault {
     {
         match self {
             CaptureFault::Classic(fault) => fault.place(),
+            CaptureFault::Next(fault) => fault.place(),
         }
     }
 }

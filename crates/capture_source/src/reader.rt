@@ -7,6 +7,8 @@ ghost use Rattle.packet_buffer.specs.Packets.{with_next};
 ghost use Rattle.packet_buffer.specs.Reading.{Follows};
 ghost use Rattle.pcap_read.specs.Captured.{packet_of};
 ghost use Rattle.capture_source.specs.declared.fault.CaptureFault.{CaptureFault};
+ghost use Rattle.std.specs.Str.{bytes_eq};
+ghost use Rattle.capture_source.specs.Captures.{next_first};
 ghost use Rattle.capture_source.specs.Fault.{has_failed};
 ghost use Rattle.capture_source.specs.Reading as spec;
 ghost use Rattle.capture_source.specs.Reading.{AtEnd, EndsIn, HasRead, StandsBehind, fails, is_broken, most_to_come, packet_at, to_come};
@@ -15,7 +17,18 @@ use crate::fault::CaptureFault;
 use crate::first::read_first;
 use mud_world::{Door, ReadFault};
 use pcap_read::{Captured, Reader};
+use pcapng_read::NgReader;
 use std::alloc::Global;
+
+/// The first four octets of a capture in pcapng (draft-ietf-opsawg-pcapng, section 4.1).
+const NEXT_FIRST: [u8; 4] = [0x0A, 0x0D, 0x0D, 0x0A];
+
+/// Whether these are the first four octets of a capture in pcapng.
+fn is_next(first: &[u8]) -> bool
+    ensures { result ≡ bytes_eq first.now next_first }
+{
+    first == NEXT_FIRST.as_slice()
+}
 
 /// A reader of a capture. Its source is lent at each call, and all calls want the same one, at the
 /// same connection.
@@ -23,13 +36,15 @@ use std::alloc::Global;
 pub enum CaptureReader {
     /// The capture is in the classic format of libpcap.
     Classic(Reader),
+    /// The capture is in pcapng.
+    Next(NgReader),
 }
 
 impl CaptureReader {
     /// Begins to read the capture that the door's connection is. The first four octets say in which
     /// format it is; where there are fewer, it is read as one in the classic format. It takes memory
-    /// for 262,144 octets behind them, and no other call takes any. Where it fails, at most those
-    /// four are taken.
+    /// for 262,144 octets, or for 524,288 in pcapng, and no other call takes any. Where it fails, at
+    /// most those four are taken.
     pub fn begin<D: Door>(alloc: Global, door: &mut D) -> Result<CaptureReader, ReadFault>
         ensures begun { D.tells → IfOk result (λ reader. HasRead [] reader (D.state door.old) (D.state door.new)) }
         ensures going { IfOk result (λ reader. is_broken reader ≡ false) }
@@ -40,6 +55,10 @@ impl CaptureReader {
         ensures writes { D.writes door.new ≡ D.writes door.old }
     {
         let first = read_first(door)?;
+        if is_next(first.octets()) {
+            let reader = NgReader::holding(alloc, first.octets())?;
+            return Ok(CaptureReader::Next(reader));
+        }
         let reader = Reader::holding(alloc, first.octets())?;
         Ok(CaptureReader::Classic(reader))
     }
@@ -66,6 +85,7 @@ impl CaptureReader {
     {
         match self {
             CaptureReader::Classic(reader) => Ok(reader.advance(source)?),
+            CaptureReader::Next(reader) => Ok(reader.advance(source)?),
         }
     }
 
@@ -76,6 +96,7 @@ impl CaptureReader {
     {
         match self {
             CaptureReader::Classic(reader) => reader.packet(),
+            CaptureReader::Next(reader) => reader.packet(),
         }
     }
 
@@ -85,6 +106,7 @@ impl CaptureReader {
     {
         match self {
             CaptureReader::Classic(reader) => reader.is_ready(),
+            CaptureReader::Next(reader) => reader.is_ready(),
         }
     }
 }

@@ -2,3 +2,4 @@ pub mod Done
 pub mod Ends
 pub mod Folded
 pub mod Folds
+pub mod SamePackets

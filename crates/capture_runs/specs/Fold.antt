@@ -1,5 +1,5 @@
 -- The lines of packets, each by a step from the state that the packets before it left.
-use Rattle.std.specs.Prelude.{ℕ, List, [], ◌∷◌, ◌++◌}
+use Rattle.std.specs.Prelude.{◌≡◌, ℕ, List, [], ◌∷◌, ◌++◌}
 use Rattle.packet_buffer.specs.Packets.{Packet}
 
 -- what a step makes of a packet: its line, and the state behind it
@@ -25,3 +25,7 @@ pub record IsLeftBy {S : Type 0} (keeps : S → Type 0) (step : S → Packet →
 -- no lines at the end of the packets
 abbrev pub no_ending : {S : Type 0} → S → List ℕ
 no_ending s = []
+
+-- It makes the same of packets that differ in their place alone.
+abbrev pub LooksAtNoPlace : {S : Type 0} → (S → Packet → LineStep S) → Type 0
+LooksAtNoPlace {S} step = (s : S) (p q : Packet) → p.number ≡ q.number → p.seconds ≡ q.seconds → p.octets ≡ q.octets → step s p ≡ step s q

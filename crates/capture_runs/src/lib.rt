@@ -2,6 +2,7 @@
 //! before more of the capture is read.
 #![tactic(auto)]
 
+pub mod laws;
 pub mod lines;
 pub mod run;
 

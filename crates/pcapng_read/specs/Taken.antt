@@ -1,7 +1,7 @@
 -- What a capture keeps beside its source.
 use Rattle.std.specs.Prelude.{◌≡◌, ℕ, Bool, true, List, [], ◌++◌, Option, Some, None}
-use Rattle.mud_world.specs.Door.{DoorState, Took}
-use Rattle.packet_buffer.specs.Packets.{Packet, whole, with_all}
+use Rattle.mud_world.specs.Door.{DoorState}
+use Rattle.packet_buffer.specs.Packets.{Packet, whole}
 use Rattle.pcapng_read.specs.declared.fault.NgFault.{NgFault}
 use Rattle.pcapng_read.specs.declared.standing.Standing.{Standing}
 use Rattle.pcapng_read.specs.Blocks as blocks
@@ -40,10 +40,3 @@ pub record AtEnd (taken : NgTaken) (source : DoorState) : Type 0 where
   pub held : taken.held ≡ []
   pub left : source.left ≡ []
   pub ended : to_come taken [] ≡ whole
-
--- For callers that read packet after packet: these packets were read since the source stood at the first of the two states. They
--- are the first packets of the octets taken since then, however the source goes on, and the others are to come.
-pub record HasRead (packets : List Packet) (taken : NgTaken) (first now : DoorState) : Type 0 where
-  pub octets : List ℕ
-  pub took : Took octets first now
-  pub same : (more : List ℕ) → ng_packets_of (octets ++ more) ≡ with_all packets (to_come taken more)

@@ -1,5 +1,5 @@
 -- What a run of `import` promises where a desk is opened, and where none is.
-use Rattle.std.proofs.Common.{◌≡◌, ◌≢◌, ℕ, ◌⊎◌, inl, inr, List, [], Result, Ok, Err, refl, sym, ap, ap₂, subst, ◌∙◌, arith}
+use Rattle.std.proofs.Common.{◌≡◌, ◌≢◌, ℕ, ◌⊎◌, inl, inr, List, [], Result, Ok, refl, sym, ap, ap₂, subst, ◌∙◌, arith}
 use Rattle.std.specs.declared.dyn_box.DynBox.{DynBox}
 use Rattle.std.specs.declared.alloc.Global.{Global}
 use Rattle.mud_tables.specs.declared.segment.Segment.{Segment}
@@ -18,16 +18,14 @@ use Rattle.desk_model.specs.DeskTables.{DeskTables, IsSound}
 use Rattle.desk_model.specs.Items.{items_of, tables_in}
 use Rattle.desk_model.specs.Sessions.{Session, opened}
 use Rattle.mud_desk.specs.Answers.{IsLeft, is_fault_of_keeper}
-use Rattle.mud_desk.specs.Boxed.{IsKept, IsSameBox}
+use Rattle.mud_desk.specs.Boxed.{IsSameBox}
 use Rattle.mud_desk.specs.DeskState.{DeskState, IsBegun, session_of, tables_of}
 use Rattle.desk_runs.specs.Refused.{IsRefusal, bad_item_line, refusal_text}
-use Rattle.desk_runs.specs.Store.{JudgesStore}
 use Rattle.desk_runs.proofs.Runs.{refused_run}
 use Rattle.import_runs.specs.Imports.{standing}
 use Rattle.import_runs.specs.Order.{in_order}
 use Rattle.import_runs.specs.Runs.{Scene, ImportsPart, ImportsAll, StaysKept, scene}
-use Rattle.console_runs.specs.Store.{line_of_bad}
-use Rattle.mud_cli.specs.Import.Store.{OutsideView, SpoolView, ImportsFolder, ImportsStore, IsRefused, OpensAndImports, RefusesStore, scene_in}
+use Rattle.mud_cli.specs.Import.Store.{OutsideView, SpoolView, ImportsStore, RefusesStore, scene_in}
 
 -- ---- Statuses
 
@@ -67,7 +65,7 @@ module _ {X : Type 0} {F : X → Type 0} (members : (v : (x : X) × F x) → Gho
   pub imported_run : (begun : DynBox X Global F) (state ended : DeskState)
       → (Tells members keeper → Tells members begun → tables_in (kept_items members keeper) ≡ Ok (tables_of state))
       → IsSound (tables_of state) → IsBegun (tables_of state) state → faults_of members begun ≡ faults_of members keeper → IsSameBox keeper begun
-      → StaysKept members begun state after ended
+      → StaysKept members begun state after ended → IsSound (tables_of ended)
       → IsOfImport status
       → (status ≡ 4 → StopsAtFailure new.door.failed old.door.writes new.door.writes ⊎ Rose old.spool.faults new.spool.faults)
       → (status ≢ 4 → (new.door.writes ≡ old.door.writes) × (new.spool.faults ≡ old.spool.faults))
@@ -78,7 +76,7 @@ module _ {X : Type 0} {F : X → Type 0} (members : (v : (x : X) × F x) → Gho
       → (tells → new.spool.files ≡ old.spool.files)
       → new.door.turns ≡ old.door.turns → new.door.reads ≡ old.door.reads
       → (returned : DynBox X Global F) → returned ≡ after → ImportsStore members tells keeper returned old new status
-  imported_run begun state ended read sound begins same_count same_box stays is fault steady failed unfailed all part files turns reads returned same =
+  imported_run begun state ended read sound begins same_count same_box stays sound_after is fault steady failed unfailed all part files turns reads returned same =
       let first = scene_begun state old.moments old.door.state (faults_of members begun) (faults_of members keeper) begins same_count in
       let last = scene_ended ended new.moments new.door.state (faults_of members after) in
       subst (λ (box : DynBox X Global F). ImportsStore members tells keeper box old new status) (sym same) (record {
@@ -103,7 +101,7 @@ module _ {X : Type 0} {F : X → Type 0} (members : (v : (x : X) × F x) → Gho
           };
           are_kept = stays.kept.items tell ∙ ap items_of (sym (desk_of_session ended));
         });
-        kept = λ which. record { tables = tables_of ended; kept = stays.kept };
+        kept = inl (record { tables = tables_of ended; sound = sound_after; kept = stays.kept });
         same_files = files;
         same_box = record { object = stays.same_box.object ∙ same_box.object; place = stays.same_box.place ∙ same_box.place };
         same_turns = turns;
@@ -183,7 +181,7 @@ module _ {X : Type 0} {F : X → Type 0} (members : (v : (x : X) × F x) → Gho
           same_tables = λ before. run.same_tables before tell;
           same_items = λ six before. run.same_items six before tell;
         });
-        kept = λ which. record { tables = (run.kept which).tables; kept = (run.kept which).kept };
+        kept = run.kept;
         same_files = λ told. ap (λ (s : SpoolView). s.files) spool;
         same_box = same_box;
         same_turns = turns;

@@ -35,6 +35,7 @@ pub fn import_store<D: Door, P: Spool, C: Clock>(
     match Desk::open(alloc, keeper, nothing) {
         Ok(mut desk) => {
             let status = import_files(alloc, &mut desk, door, spool, clock);
+            desk.lists_are_sound();
             (status, desk.close())
         }
         Err((fault, keeper)) => (refuse_store(alloc, door, fault), keeper),

@@ -13,7 +13,8 @@ use Rattle.command_runs.specs.View.{DoorView}
 use Rattle.desk_model.specs.DeskTables.{DeskTables, IsSound}
 use Rattle.desk_model.specs.Items.{items_of, tables_in}
 use Rattle.desk_model.specs.Sessions.{Session, opened}
-use Rattle.mud_desk.specs.Boxed.{IsKept, IsSameBox}
+use Rattle.mud_desk.specs.Boxed.{IsSameBox}
+use Rattle.desk_runs.specs.Store.{KeepsTables, IsUnopened}
 use Rattle.console_runs.specs.Store.{line_of_bad}
 use Rattle.import_runs.specs.Order.{in_order}
 use Rattle.import_runs.specs.Runs.{Scene, ImportsPart, ImportsAll}
@@ -77,11 +78,6 @@ module _ {X : Type 0} {F : X → Type 0} (members : (v : (x : X) × F x) → Gho
     pub same_tables : Tells members keeper → tables_in (kept_items members returned) ≡ tables_in (kept_items members keeper)
     pub same_items : status ≡ 6 → Tells members keeper → kept_items members returned ≡ kept_items members keeper
 
-  -- the keeper is open, and the items that it tells are those of some tables
-  pub record KeepsSome (keeper : DynBox X Global F) : Type 0 where
-    pub tables : DeskTables
-    pub kept : IsKept members keeper tables
-
   -- A run of `import`. `tells` says that the door, the spool and the clock tell.
   pub record ImportsStore (tells : Type 0) (keeper returned : DynBox X Global F) (old new : OutsideView) (status : ℕ) : Type 0 where
     -- The status is 0 or 3 to 7. It is 4 only where a write of the door failed in this call, and then the door isn't called again, or
@@ -93,7 +89,8 @@ module _ {X : Type 0} {F : X → Type 0} (members : (v : (x : X) × F x) → Gho
     pub keeper_steady : (status ≡ 0) ⊎ ((status ≡ 3) ⊎ (status ≡ 6)) → faults_of members returned ≡ faults_of members keeper
     -- A desk is opened and the folder imported into it, or the store is refused.
     pub runs : tells → Tells members returned → OpensAndImports keeper returned old new status ⊎ IsRefused keeper returned old new status
-    pub kept : (status ≡ 0) ⊎ (status ≡ 3) → KeepsSome returned
+    -- Whatever the status, the items of sound tables are kept, but where no desk was opened.
+    pub kept : KeepsTables members returned ⊎ IsUnopened members keeper returned status
     pub same_files : tells → new.spool.files ≡ old.spool.files
     -- The box that comes back is the one that was handed in. The door isn't read, no port is bound, and the connection isn't left.
     pub same_box : IsSameBox keeper returned

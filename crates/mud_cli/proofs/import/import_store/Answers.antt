@@ -23,7 +23,7 @@ returns-in-Ok g c =
     (spool_viewed (spool.files c.import_files-status.new.spool) (spool.faults c.import_files-status.new.spool)) (clock.moments c.import_files-status.new.clock))
     (status_number c.import_files-status.result)
     desk.keeper desk.state after.state store.tables store.sound store.begun store.steady store.same_box
-    run.stays run.statuses run.fault run.steady run.keeper run.keeper_steady
+    run.stays c.lists_are_sound.ensures run.statuses run.fault run.steady run.keeper run.keeper_steady
     (λ told. run.done told.0 told.1.0 told.1.1) (λ told. run.part told.0 told.1.0 told.1.1) (λ told. run.same told.1.0) run.turns run.reads
     c.close.result c.close.ensures
 

@@ -1,9 +1,11 @@
-use Rattle.std.proofs.Common.{◌≡◌, ℕ, Some, sym, ◌∙◌, subst}
+use Rattle.std.proofs.Common.{ℕ, sym, ◌∙◌, subst}
 use Rattle.command_runs.specs.View.{viewed}
-use Rattle.command_words.specs.declared.command.Command.TheVariants.{Replay, Serve, Report}
+use Rattle.command_words.specs.declared.command.Command.TheVariants.{Drill, Import, Replay, Serve, Report}
 use Rattle.console_runs.specs.Replay.{ReplaysStore}
 use Rattle.console_runs.specs.Serve.{ServesStore, listening, clock_run}
+use Rattle.drill_runs.specs.Store.{DrillsStore}
 use Rattle.report_runs.specs.Store.{ReportsStore}
+use Rattle.mud_cli.specs.Import.Store.{ImportsStore, outside, spool_viewed}
 use Rattle.mud_cli.proofs.Promised.{same_command}
 use Rattle.mud_cli.proofs.run.mud_main.Goals as goal
 
@@ -45,3 +47,31 @@ returns-clause-reported g c = λ kind named.
     (viewed (door.state new) (door.turns new) (door.reads new) (door.writes new) (door.failed new)) status)
     (sym c.number-2.ensures)
     (c.run_command-status.ensures.reported kind (same_command c.in-Some.command (Report kind) (sym c.in-Some.is ∙ c.command_of.ensures ∙ named)))
+
+pub returns-clause-imported : goal.returns-clause-imported
+returns-clause-imported g c = λ named.
+    let door = g.D.Door in
+    let spool = g.P.Spool in
+    let clock = g.C.Clock in
+    let old = c.args.door.now in
+    let new = c.run_command-status.new.door in
+    subst
+    (λ (status : ℕ). ImportsStore (goal.Keeper-dyn g) (door.tells × (spool.tells × clock.tells)) c.args.keeper c.run_command-status.result.1
+    (outside (viewed (door.state old) (door.turns old) (door.reads old) (door.writes old) (door.failed old))
+    (spool_viewed (spool.files c.args.spool.now) (spool.faults c.args.spool.now)) (clock.moments c.args.clock.now))
+    (outside (viewed (door.state new) (door.turns new) (door.reads new) (door.writes new) (door.failed new))
+    (spool_viewed (spool.files c.run_command-status.new.spool) (spool.faults c.run_command-status.new.spool)) (clock.moments c.run_command-status.new.clock)) status)
+    (sym c.number-2.ensures)
+    (c.run_command-status.ensures.imported (same_command c.in-Some.command Import (sym c.in-Some.is ∙ c.command_of.ensures ∙ named)))
+
+pub returns-clause-drilled : goal.returns-clause-drilled
+returns-clause-drilled g c = λ packets named.
+    let door = g.D.Door in
+    let old = c.args.door.now in
+    let new = c.run_command-status.new.door in
+    subst
+    (λ (status : ℕ). DrillsStore (goal.Keeper-dyn g) door.tells packets c.args.keeper c.run_command-status.result.1
+    (viewed (door.state old) (door.turns old) (door.reads old) (door.writes old) (door.failed old))
+    (viewed (door.state new) (door.turns new) (door.reads new) (door.writes new) (door.failed new)) status)
+    (sym c.number-2.ensures)
+    (c.run_command-status.ensures.drilled packets (same_command c.in-Some.command (Drill packets) (sym c.in-Some.is ∙ c.command_of.ensures ∙ named)))

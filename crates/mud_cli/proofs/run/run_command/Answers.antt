@@ -1,4 +1,4 @@
-use Rattle.std.proofs.Common.{◌≡◌, ℕ, refl}
+use Rattle.std.proofs.Common.{ℕ, refl}
 use Rattle.command_runs.specs.Status.{status_number}
 use Rattle.mud_cli.specs.Answers.{most_of}
 use Rattle.command_runs.specs.View.{viewed}

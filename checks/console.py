@@ -10,9 +10,12 @@
   console.py stalled PORT            asks for the list of Things again and again, and takes no answer,
                                      until the server takes no more requests; then another client asks.
                                      Writes after how many seconds that one is answered, and its status
+  console.py dripping PORT           sends an octet of a head each second, until the connection is
+                                     closed, and writes after how many seconds that was
 """
 
 import http.client
+import itertools
 import socket
 import struct
 import sys
@@ -81,6 +84,22 @@ def without_taking(port):
     stalled.close()
 
 
+def without_haste(port):
+    began = time.monotonic()
+    with socket.create_connection(("127.0.0.1", port), timeout=1) as connection:
+        octets = itertools.chain(b"GET /", itertools.repeat(ord("a"), 300))
+        for octet in octets:
+            try:
+                connection.sendall(bytes([octet]))
+                if not connection.recv(65536):
+                    break
+            except TimeoutError:
+                continue
+            except ConnectionError:
+                break
+    print(int(time.monotonic() - began))
+
+
 if __name__ == "__main__":
     way, port, *words = sys.argv[1:]
     ways = {
@@ -88,5 +107,6 @@ if __name__ == "__main__":
         "octets": by_octets,
         "unread": without_reading,
         "stalled": without_taking,
+        "dripping": without_haste,
     }
     ways[way](int(port), *words)

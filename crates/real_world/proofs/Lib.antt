@@ -1,1 +1,2 @@
 pub mod FirstOctets
+pub mod Folders

@@ -1,3 +1,5 @@
 pub mod Errors
+pub mod Failures
+pub mod Folders
 pub mod Ports
 pub mod Real

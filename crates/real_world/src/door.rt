@@ -1,17 +1,20 @@
 //! The real door. What a pipe, a terminal or a client gives and takes is outside what is proved, so
 //! it tells nothing of content. Its counts and bounds are proved, and what it does with the reader,
 //! the writer and the client that it is made of.
-ghost use Rattle.std.specs.Prelude.{◌≡◌, ◌≢◌, ◌<◌, ◌≤◌, false, true, [], length, IfOk, OnOk, OnErr, Ok, None, Some, is_some, is_err};
+ghost use Rattle.std.specs.Prelude.{◌≡◌, ◌≢◌, ◌<◌, ◌≤◌, false, true, [], length, IfErr, IfOk, OnOk, OnErr, Ok, None, Some, is_some, is_err};
 ghost use Rattle.std.specs.Io.KnownBytes.{ReadConsumes, WriteAppends};
 ghost use Rattle.mud_world.specs.Calls.{counted as count_after};
 ghost use Rattle.mud_world.specs.Causes.{Counts};
 ghost use Rattle.mud_world.specs.Door.{DoorState};
+ghost use Rattle.real_world.specs.Failures.{Notes};
 ghost use Rattle.real_world.specs.Real.{left_of, port_of, reads_of, stands_of, turns_of, writes_of, written_of};
 
+use crate::failure::{Call, Failure};
 use crate::port::Port;
 use mud_world::{Door, Failed};
-use std::io::{self, Read, Write};
+use std::io::{self, ErrorKind, Read, Write};
 use std::net::Net;
+use std::rt::Clock;
 
 /// Where a door has its connection.
 #[derive(Drop)]
@@ -26,9 +29,9 @@ pub enum Place<N: Net> {
 
 /// A door over standard input and output, or over any reader and writer, until it is bound: one
 /// connection, at which it stands from the start. Once it is bound it is over the connections of the
-/// clients of a port of this machine.
+/// clients of a port of this machine. It keeps which call failed last, and why.
 #[derive(Drop)]
-pub struct RealDoor<I: Read + Drop, O: Write + Drop, N: Net + Drop> {
+pub struct RealDoor<I: Read + Drop, O: Write + Drop, N: Net + Clock + Drop> {
     pub input: I,
     pub output: O,
     net: N,
@@ -37,11 +40,13 @@ pub struct RealDoor<I: Read + Drop, O: Write + Drop, N: Net + Drop> {
     reads: u64,
     writes: u64,
     failed: bool,
+    /// The call that failed last, if one did.
+    pub failure: Option<Failure>,
 }
 
-impl<I: Read + Drop, O: Write + Drop, N: Net + Drop> RealDoor<I, O, N> {
+impl<I: Read + Drop, O: Write + Drop, N: Net + Clock + Drop> RealDoor<I, O, N> {
     /// A door that reads of the one and writes to the other, and takes its clients by this network
-    /// once it is bound. No call has failed yet.
+    /// once it is bound; the time of a client goes by the clock of the same. No call has failed yet.
     pub fn new(input: I, output: O, net: N) -> RealDoor<I, O, N>
         ensures input { result.input ≡ input }
         ensures output { result.output ≡ output }
@@ -51,6 +56,7 @@ impl<I: Read + Drop, O: Write + Drop, N: Net + Drop> RealDoor<I, O, N> {
         ensures reads { ⟦<RealDoor<I, O, N> as Door>⟧.reads result ≡ 0 }
         ensures writes { ⟦<RealDoor<I, O, N> as Door>⟧.writes result ≡ 0 }
         ensures failed { ⟦<RealDoor<I, O, N> as Door>⟧.failed result ≡ false }
+        ensures failure { result.failure ≡ None }
     {
         RealDoor {
             input,
@@ -61,29 +67,50 @@ impl<I: Read + Drop, O: Write + Drop, N: Net + Drop> RealDoor<I, O, N> {
             reads: 0,
             writes: 0,
             failed: false,
+            failure: None,
         }
     }
 }
 
 /// The answer of a call of a door, counted where the call failed, and noted as the last one.
-fn counted<T>(answer: io::Result<T>, failures: &mut u64, failed: &mut bool) -> Result<T, Failed>
+fn counted<T>(
+    answer: io::Result<T>,
+    call: Call,
+    failures: &mut u64,
+    failed: &mut bool,
+    failure: &mut Option<Failure>,
+) -> Result<T, Failed>
     ensures ok { IfOk answer (λ value. result ≡ Ok value) }
     ensures err { OnErr answer (is_err result ≡ true) }
     ensures cause { Counts (is_err result) failures.old failures.new }
     ensures count { failures.new ≡ count_after (is_err result) failures.old }
     ensures last { failed.new ≡ is_err result }
+    ensures noted { Notes (is_err result) call failure.old failure.new }
+    ensures error { IfErr answer (λ error. failure.new ≡ Some (record { call = call; error = error })) }
 {
     *failed = answer.is_err();
     match answer {
         Ok(value) => Ok(value),
-        Err(_) => {
+        Err(error) => {
             *failures = failures.saturating_add(1);
+            *failure = Some(Failure { call, error });
             Err(Failed)
         }
     }
 }
 
-impl<I: Read + Drop, O: Write + Drop, N: Net + Drop> Door for RealDoor<I, O, N> {
+/// The answer of a write of some octets. One that took none has failed.
+fn taken(answer: io::Result<usize>) -> io::Result<usize>
+    ensures ok { IfOk result (λ n. (answer ≡ Ok n) × (0 < n)) }
+    ensures err { IfErr result (λ _. IfOk answer (λ n. n ≡ 0)) }
+{
+    match answer {
+        Ok(0) => Err(ErrorKind::WriteZero.into()),
+        answer => answer,
+    }
+}
+
+impl<I: Read + Drop, O: Write + Drop, N: Net + Clock + Drop> Door for RealDoor<I, O, N> {
     ghost tells = { ⊥ };
 
     ghost state = { λ door. record { bound = port_of door; stands = stands_of door; past = []; left = []; written = []; ahead = [] } };
@@ -105,13 +132,16 @@ impl<I: Read + Drop, O: Write + Drop, N: Net + Drop> Door for RealDoor<I, O, N> 
         ensures cause { Counts (is_err result) (turns_of self.old) (turns_of self.new) }
         ensures count { turns_of self.new ≡ count_after (is_err result) (turns_of self.old) }
         ensures last { self.new.failed ≡ is_err result }
+        ensures noted { Notes (is_err result) (Call.Bind port) self.old.failure self.new.failure }
         ensures reads { reads_of self.new ≡ reads_of self.old }
         ensures writes { writes_of self.new ≡ writes_of self.old }
     {
         let port = counted(
             Port::listen(&self.net, port),
+            Call::Bind(port),
             &mut self.turns,
             &mut self.failed,
+            &mut self.failure,
         )?;
         self.place = Place::Bound(port);
         Ok(())
@@ -129,12 +159,19 @@ impl<I: Read + Drop, O: Write + Drop, N: Net + Drop> Door for RealDoor<I, O, N> 
         ensures cause { Counts (is_err result) (turns_of self.old) (turns_of self.new) }
         ensures count { turns_of self.new ≡ count_after (is_err result) (turns_of self.old) }
         ensures last { self.new.failed ≡ is_err result }
+        ensures noted { Notes (is_err result) Call.Next self.old.failure self.new.failure }
         ensures reads { reads_of self.new ≡ reads_of self.old }
         ensures writes { writes_of self.new ≡ writes_of self.old }
     {
         match &mut self.place {
             Place::Bound(port) => {
-                counted(port.go_on(), &mut self.turns, &mut self.failed)?;
+                counted(
+                    port.go_on(),
+                    Call::Next,
+                    &mut self.turns,
+                    &mut self.failed,
+                    &mut self.failure,
+                )?;
                 Ok(true)
             }
             _ => {
@@ -158,15 +195,22 @@ impl<I: Read + Drop, O: Write + Drop, N: Net + Drop> Door for RealDoor<I, O, N> 
         ensures cause { Counts (is_err result) (reads_of self.old) (reads_of self.new) }
         ensures count { reads_of self.new ≡ count_after (is_err result) (reads_of self.old) }
         ensures last { self.new.failed ≡ is_err result }
+        ensures noted { Notes (is_err result) Call.Read self.old.failure self.new.failure }
         ensures turns { turns_of self.new ≡ turns_of self.old }
         ensures writes { writes_of self.new ≡ writes_of self.old }
     {
         let answer = match &mut self.place {
             Place::Standard => self.input.read(buf),
             Place::Left => Ok(0),
-            Place::Bound(port) => port.read(buf),
+            Place::Bound(port) => port.read(&self.net, buf),
         };
-        counted(answer, &mut self.reads, &mut self.failed)
+        counted(
+            answer,
+            Call::Read,
+            &mut self.reads,
+            &mut self.failed,
+            &mut self.failure,
+        )
     }
 
     /// It writes once to where it stands. A writer or a client that takes nothing has failed, and so
@@ -183,6 +227,7 @@ impl<I: Read + Drop, O: Write + Drop, N: Net + Drop> Door for RealDoor<I, O, N> 
         ensures cause { Counts (is_err result) (writes_of self.old) (writes_of self.new) }
         ensures count { writes_of self.new ≡ count_after (is_err result) (writes_of self.old) }
         ensures last { self.new.failed ≡ is_err result }
+        ensures noted { Notes (is_err result) Call.Write self.old.failure self.new.failure }
         ensures turns { turns_of self.new ≡ turns_of self.old }
         ensures reads { reads_of self.new ≡ reads_of self.old }
     {
@@ -195,13 +240,12 @@ impl<I: Read + Drop, O: Write + Drop, N: Net + Drop> Door for RealDoor<I, O, N> 
             Place::Left => Ok(0),
             Place::Bound(port) => port.write(piece),
         };
-        match answer {
-            Ok(count) if count > 0 => Ok(count),
-            _ => {
-                self.writes = self.writes.saturating_add(1);
-                self.failed = true;
-                Err(Failed)
-            }
-        }
+        counted(
+            taken(answer),
+            Call::Write,
+            &mut self.writes,
+            &mut self.failed,
+            &mut self.failure,
+        )
     }
 }

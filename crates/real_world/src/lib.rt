@@ -5,11 +5,13 @@
 pub mod client;
 pub mod clock;
 pub mod door;
+pub mod failure;
 pub mod port;
 pub mod spool;
 
-pub use client::Client;
+pub use client::{Client, LONGEST_WAIT};
 pub use clock::RealClock;
 pub use door::RealDoor;
-pub use port::{LONGEST_WAIT, Port};
+pub use failure::{Call, Failure};
+pub use port::Port;
 pub use spool::RealSpool;

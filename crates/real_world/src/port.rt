@@ -5,14 +5,11 @@ ghost use Rattle.std.specs.Io.{ReadsAtMost, WritesAtMost};
 ghost use Rattle.std.specs.Io.KnownBytes.{ReadConsumes, WriteAppends};
 ghost use Rattle.real_world.specs.Ports.{client_octets, is_served, localhost, octets_of};
 
-use crate::client::Client;
-use std::io::{self, Read, Write};
+use crate::client::{Client, LONGEST_WAIT};
+use std::io;
 use std::net::{IpAddr, Ipv4Addr, Net, OpenListener, OpenStream, SocketAddr};
-use std::time::Duration;
-
-/// How many seconds a read or a write waits for a client that sends or takes nothing. Then it has
-/// failed.
-pub const LONGEST_WAIT: u64 = 60;
+use std::rt::Clock;
+use std::time::{Duration, Instant};
 
 /// A port of 127.0.0.1, so one that clients on this machine alone can reach.
 #[derive(Drop)]
@@ -55,7 +52,10 @@ impl<N: Net> Port<N> {
         stream.set_read_timeout(limit)?;
         stream.set_write_timeout(limit)?;
         stream.set_nodelay(true)?;
-        Ok(Client { stream })
+        Ok(Client {
+            stream,
+            since: None,
+        })
     }
 
     /// Leaves the client, whose connection is closed, and waits for a further one.
@@ -69,8 +69,9 @@ impl<N: Net> Port<N> {
         Ok(())
     }
 
-    /// Reads once of the client. Where no client is served, it answers 0.
-    pub fn read(&mut self, buf: &mut [u8]) -> io::Result<usize>
+    /// Reads once of the client, whose time goes by this clock. Where no client is served, it
+    /// answers 0.
+    pub fn read<C: Clock>(&mut self, clock: &C, buf: &mut [u8]) -> io::Result<usize>
         ensures within { ReadsAtMost result buf.new }
         ensures octets { ReadConsumes (client_octets N.Stream.remaining self.old.client) (client_octets N.Stream.remaining self.new.client) result buf.new }
         ensures nowhere { is_served self.old ≡ false → result ≡ Ok 0 }
@@ -78,7 +79,7 @@ impl<N: Net> Port<N> {
         ensures number { self.new.number ≡ self.old.number }
     {
         match &mut self.client {
-            Some(client) => client.stream.read(buf),
+            Some(client) => client.read(Instant::now(clock)?, buf),
             None => Ok(0),
         }
     }
@@ -92,7 +93,7 @@ impl<N: Net> Port<N> {
         ensures number { self.new.number ≡ self.old.number }
     {
         match &mut self.client {
-            Some(client) => client.stream.write(piece),
+            Some(client) => client.write(piece),
             None => Ok(0),
         }
     }

@@ -1,14 +1,17 @@
 //! The real spool: the files of one folder. What a folder holds is outside what is proved, so it
 //! tells nothing of its files. Its counts and bounds are proved, and what it makes of the octets that
 //! a file gives.
-ghost use Rattle.std.specs.Prelude.{◌≡◌, ◌≤◌, ◌<◌, ◌++◌, ◌∷◌, [], codes, length, take, false, string_bytes, Err, None, IfErr, IfOk, IfSome, OnOk, is_err};
-ghost use Rattle.std.specs.Fs.{dir_entry_name};
+ghost use Rattle.std.specs.Prelude.{◌≡◌, ◌≤◌, ◌<◌, ◌++◌, ◌∷◌, ◌⊎◌, [], codes, length, take, false, string_bytes, Err, None, Ok, Some, IfErr, IfOk, IfSome, OnOk, is_err};
+ghost use Rattle.std.specs.Iterator.{Drains, IsFinite};
 ghost use Rattle.std.specs.Io.KnownBytes.{Consumes, IsAtEnd};
 ghost use Rattle.mud_world.specs.Causes.{Counts};
 ghost use Rattle.mud_world.specs.Files.{has_failed};
 ghost use Rattle.real_world.specs.Real.{faults_of};
-ghost use Rattle.real_world.specs.Errors.{name_fault_of, spool_fault_of};
+ghost use Rattle.real_world.specs.Errors.{fault_of, name_trouble_of, trouble_of};
+ghost use Rattle.real_world.specs.Failures.{Notes};
+ghost use Rattle.real_world.specs.Folders.{names_of, ArePassed, HasTrouble, StopsAt};
 
+use crate::failure::{Call, Failure};
 use mud_base::{Bytes, Listed, Memory};
 use mud_world::{MOST_READ, Spool, SpoolFault};
 use std::alloc::Global;
@@ -16,12 +19,15 @@ use std::fs::{self, DirEntry};
 use std::io::{self, ErrorKind, Read};
 use std::rt::Files;
 
-/// A folder of files. A file whose name isn't UTF-8 isn't listed.
+/// A folder of files. A file whose name isn't UTF-8 isn't listed. It keeps which call failed last,
+/// and why.
 #[derive(Drop)]
 pub struct RealSpool<R: Files + AllocGlobal + Clone + Drop> {
     runtime: R,
     folder: String,
     faults: u64,
+    /// The call that failed last, if one did.
+    pub failure: Option<Failure>,
 }
 
 impl<R: Files + AllocGlobal + Clone + Drop> RealSpool<R> {
@@ -31,32 +37,54 @@ impl<R: Files + AllocGlobal + Clone + Drop> RealSpool<R> {
         ensures runtime { result.runtime ≡ runtime }
         ensures folder { result.folder ≡ folder }
         ensures faults { faults_of result ≡ 0 }
+        ensures failure { result.failure ≡ None }
     {
         RealSpool {
             runtime,
             folder,
             faults: 0,
+            failure: None,
         }
     }
 }
 
-/// An error of the system as a fault of a spool.
-fn fault_of(error: &io::Error) -> SpoolFault
-    ensures { result ≡ spool_fault_of error.now }
-{
-    match error.kind() {
-        ErrorKind::OutOfMemory => SpoolFault::Memory,
-        _ => SpoolFault::Failed,
+/// Why a call didn't succeed.
+#[derive(Clone, Copy)]
+pub enum Trouble {
+    /// Memory was wanted and there was none.
+    Memory,
+    /// An error of the system.
+    System(io::Error),
+}
+
+impl From<Memory> for Trouble {
+    ghost use Rattle.real_world.specs.declared.spool.Trouble.TheVariants.{Memory};
+
+    ghost from_gives = { λ _ trouble. trouble ≡ Memory };
+
+    fn from(_memory: Memory) -> Trouble {
+        Trouble::Memory
     }
 }
 
-/// What becomes of an entry that can't be read: None where its name isn't UTF-8, else the fault.
-fn name_fault(error: &io::Error) -> Option<SpoolFault>
-    ensures { result ≡ name_fault_of error.now }
+/// What an error of the system says.
+fn trouble_of(error: io::Error) -> Trouble
+    ensures { result ≡ trouble_of error }
+{
+    match error.kind() {
+        ErrorKind::OutOfMemory => Trouble::Memory,
+        _ => Trouble::System(error),
+    }
+}
+
+/// What becomes of an entry that can't be read: None where its name isn't UTF-8, else what its error
+/// says.
+fn name_trouble(error: io::Error) -> Option<Trouble>
+    ensures { result ≡ name_trouble_of error }
 {
     match error.kind() {
         ErrorKind::InvalidFilename => None,
-        _ => Some(fault_of(error)),
+        _ => Some(trouble_of(error)),
     }
 }
 
@@ -65,22 +93,40 @@ fn add_name<R: Files + Drop>(
     entry: io::Result<DirEntry<R>>,
     names: &mut Listed<Bytes>,
     alloc: Global,
-) -> Result<(), SpoolFault>
-    ensures listed { IfOk entry (λ e. OnOk result (names.new ≡ names.old ++ dir_entry_name e ∷ [])) }
-    ensures passed { IfErr entry (λ error. name_fault_of error ≡ None → is_err result ≡ false) }
-    ensures unlisted { IfErr entry (λ error. name_fault_of error ≡ None → names.new ≡ names.old) }
-    ensures failed { IfErr entry (λ error. IfSome (name_fault_of error) (λ fault. result ≡ Err fault)) }
+) -> Result<(), Trouble>
+    ensures names { OnOk result (names.new ≡ names.old ++ names_of (entry ∷ [])) }
+    ensures passed { OnOk result (ArePassed (entry ∷ [])) }
+    ensures stopped { IfErr result (λ trouble. (trouble ≡ Trouble.Memory) ⊎ HasTrouble entry trouble) }
 {
     match entry {
         Ok(entry) => {
             names.push(Bytes::new(alloc, entry.file_name().as_bytes())?)?;
             Ok(())
         }
-        Err(error) => match name_fault(&error) {
-            Some(fault) => Err(fault),
+        Err(error) => match name_trouble(error) {
+            Some(trouble) => Err(trouble),
             None => Ok(()),
         },
     }
+}
+
+/// The names of these entries, in their order. An entry whose name isn't UTF-8 has none, and the
+/// first other one that can't be read ends it.
+fn names_of<R: Files + Drop, I: Iterator<Item = io::Result<DirEntry<R>>> + Drop>(
+    entries: I,
+    alloc: Global,
+) -> Result<Listed<Bytes>, Trouble>
+    requires can { I.can_next entries }
+    requires ends { IsFinite (I.remaining entries) }
+    ensures names { IfOk result (λ names. ((taken : _) × Drains I.next_gives entries taken
+        × ArePassed taken × (names ≡ names_of taken))) }
+    ensures stopped { IfErr result (λ trouble. (trouble ≡ Trouble.Memory) ⊎ StopsAt I.next_gives entries trouble) }
+{
+    let mut names = Listed::new(alloc);
+    'entries: for entry in entries {
+        add_name(entry, &mut names, alloc)?;
+    }
+    Ok(names)
 }
 
 /// The names of the files of a folder, as the system gives them.
@@ -88,21 +134,16 @@ fn names_in<R: Files + AllocGlobal + Clone + Drop>(
     runtime: &R,
     folder: &str,
     alloc: Global,
-) -> Result<Listed<Bytes>, SpoolFault> {
-    let entries = match fs::read_dir(runtime, folder) {
-        Ok(entries) => entries,
-        Err(error) => return Err(fault_of(&error)),
-    };
-    let mut names = Listed::new(alloc);
-    for entry in entries {
-        add_name(entry, &mut names, alloc)?;
+) -> Result<Listed<Bytes>, Trouble> {
+    match fs::read_dir(runtime, folder) {
+        Ok(entries) => names_of(entries, alloc),
+        Err(error) => Err(trouble_of(error)),
     }
-    Ok(names)
 }
 
 /// Reads a piece of a file behind the text, of at most so many octets. The answer is how many came,
 /// 0 at the end of the file.
-fn read_on<F: Read>(file: &mut F, buffer: &mut [u8], text: &mut Bytes) -> Result<usize, SpoolFault>
+fn read_on<F: Read>(file: &mut F, buffer: &mut [u8], text: &mut Bytes) -> Result<usize, Trouble>
     ensures within { IfOk result (λ n. n ≤ length buffer.new) }
     ensures octets { IfOk result (λ n. Consumes (F.remaining file.old) (F.remaining file.new) (take n buffer.new)) }
     ensures end { IfOk result (λ n. n ≡ 0 → 0 < length buffer.new → IsAtEnd (F.remaining file.new)) }
@@ -113,7 +154,7 @@ fn read_on<F: Read>(file: &mut F, buffer: &mut [u8], text: &mut Bytes) -> Result
             text.append(&buffer[..count])?;
             Ok(count)
         }
-        Err(error) => Err(fault_of(&error)),
+        Err(error) => Err(trouble_of(error)),
     }
 }
 
@@ -121,7 +162,7 @@ fn read_on<F: Read>(file: &mut F, buffer: &mut [u8], text: &mut Bytes) -> Result
 const BUFFER: usize = 4096;
 
 /// The first octets of a file, up to [`MOST_READ`], or all of them where it has fewer.
-fn first_octets<F: Read>(file: &mut F, alloc: Global) -> Result<Bytes, SpoolFault>
+fn first_octets<F: Read>(file: &mut F, alloc: Global) -> Result<Bytes, Trouble>
     ensures within { IfOk result (λ octets. length octets ≤ 262145) }
     ensures octets { IfOk result (λ octets. IfSome (F.remaining file.old) (λ content. octets ≡ take 262145 content)) }
 {
@@ -136,25 +177,25 @@ fn first_octets<F: Read>(file: &mut F, alloc: Global) -> Result<Bytes, SpoolFaul
     Ok(text)
 }
 
-/// The first octets of a file that was opened, or the fault where it couldn't be.
-fn octets_in<F: Read + Drop>(opened: io::Result<F>, alloc: Global) -> Result<Bytes, SpoolFault>
+/// The first octets of a file that was opened, or what the error says where it couldn't be.
+fn octets_in<F: Read + Drop>(opened: io::Result<F>, alloc: Global) -> Result<Bytes, Trouble>
     ensures within { IfOk result (λ octets. length octets ≤ 262145) }
     ensures octets { IfOk opened (λ file. IfOk result (λ octets. IfSome (F.remaining file) (λ content. octets ≡ take 262145 content))) }
-    ensures failed { IfErr opened (λ error. result ≡ Err (spool_fault_of error)) }
+    ensures failed { IfErr opened (λ error. result ≡ Err (trouble_of error)) }
 {
     match opened {
         Ok(mut file) => first_octets(&mut file, alloc),
-        Err(error) => Err(fault_of(&error)),
+        Err(error) => Err(trouble_of(error)),
     }
 }
 
 /// The path of a file of the folder.
-fn path_of(folder: &str, name: &str, alloc: Global) -> Result<String, SpoolFault>
+fn path_of(folder: &str, name: &str, alloc: Global) -> Result<String, Trouble>
     ensures { IfOk result (λ path. string_bytes path ≡ folder.now ++ codes "/" ++ name.now) }
 {
     match format!(in alloc; "{folder}/{name}") {
         Ok(path) => Ok(path),
-        Err(_) => Err(SpoolFault::Memory),
+        Err(_) => Err(Trouble::Memory),
     }
 }
 
@@ -164,25 +205,38 @@ fn octets_of<R: Files>(
     folder: &str,
     alloc: Global,
     name: &[u8],
-) -> Result<Bytes, SpoolFault>
+) -> Result<Bytes, Trouble>
     ensures { IfOk result (λ octets. length octets ≤ 262145) }
 {
     let Ok(name) = str::from_utf8(name) else {
-        return Err(SpoolFault::Failed);
+        return Err(Trouble::System(ErrorKind::InvalidFilename.into()));
     };
     let path = path_of(folder, name, alloc)?;
     octets_in(fs::open(runtime, path.as_str()), alloc)
 }
 
-/// The answer, counted where the spool itself failed.
-fn counted<T>(answer: Result<T, SpoolFault>, faults: &mut u64) -> Result<T, SpoolFault>
-    ensures same { result ≡ answer }
+/// The answer, counted where the spool itself failed, and noted then.
+fn counted<T>(
+    answer: Result<T, Trouble>,
+    call: Call,
+    faults: &mut u64,
+    failure: &mut Option<Failure>,
+) -> Result<T, SpoolFault>
+    ensures ok { IfOk answer (λ value. result ≡ Ok value) }
+    ensures err { IfErr answer (λ trouble. result ≡ Err (fault_of trouble)) }
     ensures cause { Counts (has_failed result) faults.old faults.new }
+    ensures noted { Notes (has_failed result) call failure.old failure.new }
+    ensures error { (error : _) → answer ≡ Err (Trouble.System error) → failure.new ≡ Some (record { call = call; error = error }) }
 {
-    if let Err(SpoolFault::Failed) = answer {
-        *faults = faults.saturating_add(1);
+    match answer {
+        Ok(value) => Ok(value),
+        Err(Trouble::Memory) => Err(SpoolFault::Memory),
+        Err(Trouble::System(error)) => {
+            *faults = faults.saturating_add(1);
+            *failure = Some(Failure { call, error });
+            Err(SpoolFault::Failed)
+        }
     }
-    answer
 }
 
 impl<R: Files + AllocGlobal + Clone + Drop> Spool for RealSpool<R> {
@@ -194,17 +248,19 @@ impl<R: Files + AllocGlobal + Clone + Drop> Spool for RealSpool<R> {
 
     fn list(&mut self, alloc: Global) -> Result<Listed<Bytes>, SpoolFault>
         ensures cause { Counts (has_failed result) (faults_of self.old) (faults_of self.new) }
+        ensures noted { Notes (has_failed result) Call.List self.old.failure self.new.failure }
     {
         let answer = names_in(&self.runtime, self.folder.as_str(), alloc);
-        counted(answer, &mut self.faults)
+        counted(answer, Call::List, &mut self.faults, &mut self.failure)
     }
 
     /// A file that can't be opened or read counts as a failure too.
     fn read(&mut self, alloc: Global, name: &[u8]) -> Result<Bytes, SpoolFault>
         ensures within { IfOk result (λ octets. length octets ≤ 262145) }
         ensures cause { Counts (has_failed result) (faults_of self.old) (faults_of self.new) }
+        ensures noted { Notes (has_failed result) Call.ReadFile self.old.failure self.new.failure }
     {
         let answer = octets_of(&self.runtime, self.folder.as_str(), alloc, name);
-        counted(answer, &mut self.faults)
+        counted(answer, Call::ReadFile, &mut self.faults, &mut self.failure)
     }
 }

@@ -1,8 +1,8 @@
 pub mod Batches
-pub mod Faults
 pub mod Files
 pub mod Paths
 pub mod Reopened
+pub mod Refusals
 pub mod Rows
 pub mod Selections
 pub mod Table

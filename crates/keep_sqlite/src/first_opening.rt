@@ -4,14 +4,14 @@ ghost use Rattle.sqlite.specs.Files.{file_state, over_files, IsOpened};
 ghost use Rattle.sqlite.specs.Start.{FindsIn};
 ghost use Rattle.sqlite.specs.State.{HasCleanDisk};
 ghost use Rattle.sqlite.specs.WalFiles.{image_at};
-ghost use Rattle.keep_sqlite.specs.Faults.{fault_of};
+ghost use Rattle.keep_sqlite.specs.Refusals.{refusal_of};
 ghost use Rattle.keep_sqlite.specs.Reopened.{LeavesFile, ReadsFile};
 ghost use Rattle.keep_sqlite.specs.Telling.{database, told, IsUp, Tells};
 
 use crate::SqliteKeeper;
-use crate::fault::fault_of;
+use crate::refusal::{Refusal, refusal_of};
 use mud_base::Listed;
-use mud_world::{Item, KeepFault};
+use mud_world::Item;
 use sqlite::{Connection, Error, FileFrom, FileStore, Leftover, Start};
 use std::alloc::Global;
 
@@ -22,7 +22,7 @@ pub fn open_at<S: Start>(
     rt: &HostRuntime,
     path: &str,
     start: S,
-) -> Result<(SqliteKeeper<FileStore<FileFrom<S>>>, Listed<Item>), KeepFault>
+) -> Result<(SqliteKeeper<FileStore<FileFrom<S>>>, Listed<Item>), Refusal>
     ensures found { IfOk result (λ opened. HasCleanDisk (file_state opened.0.connection)
         → ReadsFile (image_at S.Start) opened.1) }
     // The file keeps the database that it held, or has the table where there was none.
@@ -44,7 +44,7 @@ fn connect<S: Start>(
     rt: &HostRuntime,
     path: &str,
     start: S,
-) -> Result<Connection<FileStore<FileFrom<S>>>, KeepFault>
+) -> Result<Connection<FileStore<FileFrom<S>>>, Refusal>
     ensures opened { IfOk result (λ c. HasCleanDisk (file_state c) → IsOpened c) }
     ensures found { IfOk result (λ c. HasCleanDisk (file_state c)
         → FindsIn (image_at S.Start) (file_state c)) }
@@ -53,12 +53,12 @@ fn connect<S: Start>(
 }
 
 /// What an answer of the database says: the connection, or how its error is told.
-fn connected<C, L: Drop>(answer: Result<C, (Error, L)>) -> Result<C, KeepFault>
+fn connected<C, L: Drop>(answer: Result<C, (Error, L)>) -> Result<C, Refusal>
     ensures ok { IfOk answer (λ connection. result ≡ Ok connection) }
-    ensures err { IfErr answer (λ failed. result ≡ Err (fault_of failed.0)) }
+    ensures err { IfErr answer (λ failed. result ≡ Err (refusal_of failed.0)) }
 {
     match answer {
         Ok(connection) => Ok(connection),
-        Err((error, _left)) => Err(fault_of(error)),
+        Err((error, _left)) => Err(refusal_of(error)),
     }
 }

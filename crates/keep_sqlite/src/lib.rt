@@ -2,15 +2,16 @@
 #![tactic(auto)]
 
 mod batch;
-mod fault;
 pub mod first_opening;
 pub mod laws;
 mod listing;
 mod opening;
 pub mod path_keeper;
+pub mod refusal;
 mod schema;
 pub mod sqlite_keeper;
 
 pub use first_opening::open_at;
 pub use path_keeper::PathKeeper;
+pub use refusal::Refusal;
 pub use sqlite_keeper::SqliteKeeper;

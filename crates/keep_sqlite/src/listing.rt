@@ -13,9 +13,9 @@ ghost use Rattle.keep_sqlite.specs.Telling.{IsUp};
 ghost use Rattle.keep_sqlite.specs.Selections.{item_shown, number_shown, shown_cmp, shown_id, shown_row, AreUnequal, HaveIds, HaveItems, ShowsId, ShowsItem};
 ghost use Rattle.keep_sqlite.specs.Batches.{LeavesNothing, Stays};
 
-use crate::fault::fault_of;
+use crate::refusal::{Refusal, refusal_of};
 use mud_base::{Bytes, Listed};
-use mud_world::{Item, KeepFault};
+use mud_world::Item;
 use sorted_rows::Placed;
 use sqlite::types::ValueRef;
 use sqlite::{Alter, Connection, Error, Row};
@@ -25,7 +25,7 @@ use std::alloc::Global;
 pub(crate) fn list<S: Alter>(
     alloc: Global,
     connection: &mut Connection<S>,
-) -> Result<Listed<Item>, KeepFault>
+) -> Result<Listed<Item>, Refusal>
     requires { IsUp S.Store connection.old → (state S.Store connection.old).now.schema ≡ item_schema }
     ensures clean { doubt (state S.Store connection.old).is_clean
         ≤ doubt (state S.Store connection.new).is_clean }
@@ -41,11 +41,11 @@ pub(crate) fn list<S: Alter>(
 {
     let rows = match select(connection) {
         Ok(rows) => rows,
-        Err(error) => return Err(fault_of(error)),
+        Err(error) => return Err(refusal_of(error)),
     };
     let items = items_in(alloc, rows.as_slice())?;
     if !are_ordered(items.as_slice()) {
-        return Err(KeepFault::Failed);
+        return Err(Refusal::NoStore);
     }
     Ok(items)
 }
@@ -71,7 +71,7 @@ fn select<S: Alter>(connection: &mut Connection<S>) -> Result<Vec<Row>, Error>
 }
 
 /// The items that rows show.
-fn items_in(alloc: Global, rows: &[Row]) -> Result<Listed<Item>, KeepFault>
+fn items_in(alloc: Global, rows: &[Row]) -> Result<Listed<Item>, Refusal>
     ensures items { IfOk result (λ items. items ≡ map item_shown rows.now) }
     ensures shown { OnOk result (AllByRecursion ShowsItem rows.now) }
 {
@@ -84,21 +84,21 @@ fn items_in(alloc: Global, rows: &[Row]) -> Result<Listed<Item>, KeepFault>
 }
 
 /// The item that a row shows. A kind that is no octet is a failure.
-fn item_in(alloc: Global, row: &Row) -> Result<Item, KeepFault>
+fn item_in(alloc: Global, row: &Row) -> Result<Item, Refusal>
     ensures { IfOk result (λ item. (item ≡ item_shown row.now) × ShowsItem row.now) }
 {
     let kind = match row.get_ref(0) {
         Ok(ValueRef::Int(number)) => match u8::try_from(number) {
             Ok(kind) => kind,
-            Err(_) => return Err(KeepFault::Failed),
+            Err(_) => return Err(Refusal::NoStore),
         },
-        _ => return Err(KeepFault::Failed),
+        _ => return Err(Refusal::NoStore),
     };
     let Ok(ValueRef::Blob(key)) = row.get_ref(1) else {
-        return Err(KeepFault::Failed);
+        return Err(Refusal::NoStore);
     };
     let Ok(ValueRef::Blob(body)) = row.get_ref(2) else {
-        return Err(KeepFault::Failed);
+        return Err(Refusal::NoStore);
     };
     let key = Bytes::new(alloc, key)?;
     let body = Bytes::new(alloc, body)?;
@@ -117,7 +117,7 @@ fn are_ordered(items: &[Item]) -> bool
 pub(crate) fn test_rowids<S: Alter>(
     alloc: Global,
     connection: &mut Connection<S>,
-) -> Result<(), KeepFault>
+) -> Result<(), Refusal>
     requires { IsUp S.Store connection.old → (state S.Store connection.old).now.schema ≡ item_schema }
     ensures clean { doubt (state S.Store connection.old).is_clean
         ≤ doubt (state S.Store connection.new).is_clean }
@@ -132,11 +132,11 @@ pub(crate) fn test_rowids<S: Alter>(
 {
     let rows = match select_rowids(connection) {
         Ok(rows) => rows,
-        Err(error) => return Err(fault_of(error)),
+        Err(error) => return Err(refusal_of(error)),
     };
     let ids = rowids_in(alloc, rows.as_slice())?;
     if !are_rising(ids.as_slice()) {
-        return Err(KeepFault::Failed);
+        return Err(Refusal::NoStore);
     }
     Ok(())
 }
@@ -160,14 +160,14 @@ fn select_rowids<S: Alter>(connection: &mut Connection<S>) -> Result<Vec<Row>, E
 }
 
 /// The rowids that rows show.
-fn rowids_in(alloc: Global, rows: &[Row]) -> Result<Listed<i64>, KeepFault>
+fn rowids_in(alloc: Global, rows: &[Row]) -> Result<Listed<i64>, Refusal>
     ensures ids { IfOk result (λ ids. ids ≡ map number_shown rows.now) }
     ensures shown { OnOk result (AllByRecursion ShowsId rows.now) }
 {
     let mut ids = Listed::new(alloc);
     'rows: for row in rows {
         let Some(id) = rowid_in(row) else {
-            return Err(KeepFault::Failed);
+            return Err(Refusal::NoStore);
         };
         ids.push(id)?;
     }

@@ -6,11 +6,11 @@ ghost use Rattle.keep_sqlite.specs.Table.{item_schema, no_schema};
 ghost use Rattle.keep_sqlite.specs.Rows.{items_of, AreTreesOf, HoldsItems};
 ghost use Rattle.keep_sqlite.specs.Batches.{Makes, Stays};
 
-use crate::fault::fault_of;
 use crate::listing::{list, test_rowids};
+use crate::refusal::{Refusal, refusal_of};
 use crate::schema::{is_blank, is_ours};
 use mud_base::Listed;
-use mud_world::{Item, KeepFault};
+use mud_world::Item;
 use sqlite::{Alter, Connection, Error};
 use std::alloc::Global;
 
@@ -19,7 +19,7 @@ use std::alloc::Global;
 pub(crate) fn find<S: Alter>(
     alloc: Global,
     connection: &mut Connection<S>,
-) -> Result<Listed<Item>, KeepFault>
+) -> Result<Listed<Item>, Refusal>
     requires autocommit { (state S.Store connection.old).in_transaction ≡ false }
     requires settled { IsTrue (state S.Store connection.old).is_open
         → (state S.Store connection.old).now ≡ (state S.Store connection.old).committed }
@@ -33,10 +33,10 @@ pub(crate) fn find<S: Alter>(
         × (items ≡ items_of (state S.Store connection.new).now)) }
 {
     if let Err(error) = create_if_blank(connection) {
-        return Err(fault_of(error));
+        return Err(refusal_of(error));
     }
     if !is_ours(alloc, connection.schema())? {
-        return Err(KeepFault::Failed);
+        return Err(Refusal::NoStore);
     }
     test_rowids(alloc, connection)?;
     list(alloc, connection)

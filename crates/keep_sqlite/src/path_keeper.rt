@@ -2,19 +2,21 @@
 ghost use Rattle.std.specs.Prelude.{◌≡◌, ◌↔◌, true, false, IsTrue, IsNone, IfOk, OnOk, OnErr, is_some, option_map};
 ghost use Rattle.std.specs.Option.{ForSome};
 ghost use Rattle.mud_world.specs.Items.{is_batch, put_all};
+ghost use Rattle.keep_sqlite.specs.Refusals.{refused, told_of};
 ghost use Rattle.keep_sqlite.specs.Files.{file_items, found_items, FileTells, FoundTells};
 ghost use Rattle.keep_sqlite.specs.Telling.{told, Tells};
 
 use crate::SqliteKeeper;
-use crate::fault::count;
 use crate::first_opening::open_at;
+use crate::refusal::{Refusal, count, fault_of};
 use mud_base::Listed;
 use mud_world::{Item, KeepFault, Keeper, Put};
 use sqlite::{Alter, Connection, File, FileStore, Unknown};
 use std::alloc::Global;
 
 /// A keeper over the file at a path. Each `open` opens the file, until one answers Ok: from then on
-/// its connection is used.
+/// its connection is used. Why a call failed is told on standard error, in a line with the path; where
+/// one fails for the same cause as the one before, no second time.
 ///
 /// The database speaks here of a file that is empty when it is opened. What is proved of a file that
 /// holds items is said of [`SqliteKeeper`], of whose calls the calls here are one each.
@@ -26,6 +28,8 @@ pub struct PathKeeper {
     keeper: Option<SqliteKeeper<FileStore<File>>>,
     /// How often a call has failed.
     faults: u64,
+    /// What standard error was told since the last call that answered Ok.
+    said: Option<Refusal>,
     ghost opened: { ForSome keeper (λ opened. IsTrue opened.has_opened) },
 }
 
@@ -43,6 +47,7 @@ impl PathKeeper {
             path,
             keeper: None,
             faults: 0,
+            said: None,
         }
     }
 
@@ -68,7 +73,7 @@ fn read_path(
     rt: &HostRuntime,
     path: &str,
     keeper: &mut Option<SqliteKeeper<FileStore<File>>>,
-) -> Result<Listed<Item>, KeepFault>
+) -> Result<Listed<Item>, Refusal>
     requires { ForSome keeper.old (λ opened. IsTrue opened.has_opened) }
     ensures items { FileTells keeper.new → IfOk result (λ list. list ≡ file_items keeper.new) }
     ensures same { FileTells keeper.old → FileTells keeper.new
@@ -88,7 +93,7 @@ fn read_path(
 fn read_found<S: Alter + Drop>(
     alloc: Global,
     keeper: &mut Option<SqliteKeeper<S>>,
-) -> Result<Listed<Item>, KeepFault>
+) -> Result<Listed<Item>, Refusal>
     requires some { IsTrue (is_some keeper.old) }
     requires each { ForSome keeper.old (λ opened. IsTrue opened.has_opened) }
     ensures items { FoundTells S.Store keeper.new
@@ -107,9 +112,9 @@ fn read_found<S: Alter + Drop>(
 
 /// Takes the keeper of a first opening, where it answered Ok, and answers the items.
 fn keep_first<S: Alter + Drop>(
-    answer: Result<(SqliteKeeper<S>, Listed<Item>), KeepFault>,
+    answer: Result<(SqliteKeeper<S>, Listed<Item>), Refusal>,
     keeper: &mut Option<SqliteKeeper<S>>,
-) -> Result<Listed<Item>, KeepFault>
+) -> Result<Listed<Item>, Refusal>
     requires none { is_some keeper.old ≡ false }
     requires items { IfOk answer (λ opened. Tells S.Store opened.0 → opened.1 ≡ told S.Store opened.0) }
     requires opened { IfOk answer (λ opened. opened.0.has_opened ≡ true) }
@@ -132,7 +137,7 @@ fn keep_first<S: Alter + Drop>(
 fn keep_found<S: Alter + Drop>(
     keeper: &mut Option<SqliteKeeper<S>>,
     batch: &[Put],
-) -> Result<(), KeepFault>
+) -> Result<(), Refusal>
     requires opened { IsTrue (is_some keeper.old) }
     requires each { ForSome keeper.old (λ opened. IsTrue opened.has_opened) }
     requires batch { IsTrue (is_batch batch.now) }
@@ -150,6 +155,31 @@ fn keep_found<S: Alter + Drop>(
     }
 }
 
+/// What a keeper answers. Standard error is told why a call failed, unless it was told that last.
+fn told<T>(
+    answer: Result<T, Refusal>,
+    rt: &HostRuntime,
+    path: &str,
+    said: &mut Option<Refusal>,
+) -> Result<T, KeepFault>
+    ensures answer { result ≡ told_of answer }
+    ensures said { said.new ≡ refused answer }
+{
+    match answer {
+        Ok(value) => {
+            *said = None;
+            Ok(value)
+        }
+        Err(refusal) => {
+            if *said != Some(refusal) {
+                let _printed = eprint!(rt; "mud: {}: {}\n", path, refusal.text());
+            }
+            *said = Some(refusal);
+            Err(fault_of(refusal))
+        }
+    }
+}
+
 impl Keeper for PathKeeper {
     ghost tells = { λ keeper. FileTells keeper.keeper };
 
@@ -163,13 +193,13 @@ impl Keeper for PathKeeper {
     fn open(&mut self, alloc: Global) -> Result<Listed<Item>, KeepFault> {
         let answer = read_path(alloc, &self.rt, self.path.as_str(), &mut self.keeper);
         count(&answer, &mut self.faults);
-        answer
+        told(answer, &self.rt, self.path.as_str(), &mut self.said)
     }
 
     #[tactic(auto, using(crate::proofs::Lookups::items_ascend))]
     fn apply(&mut self, batch: &[Put]) -> Result<(), KeepFault> {
         let answer = keep_found(&mut self.keeper, batch);
         count(&answer, &mut self.faults);
-        answer
+        told(answer, &self.rt, self.path.as_str(), &mut self.said)
     }
 }

@@ -1,16 +1,18 @@
 //! A keeper over a connection.
 ghost use Rattle.std.specs.Prelude.{◌≡◌, [], true, false, IsTrue, IfOk, OnOk, OnErr};
 ghost use Rattle.mud_world.specs.Causes.{Counts};
-ghost use Rattle.mud_world.specs.Items.{has_failed, is_batch, put_all, IsOrdered};
+ghost use Rattle.mud_world.specs.Items as items;
+ghost use Rattle.mud_world.specs.Items.{is_batch, put_all, IsOrdered};
 ghost use Rattle.sqlite.specs.Held.{state};
 ghost use Rattle.sqlite.specs.State.{HasCleanDisk};
+ghost use Rattle.keep_sqlite.specs.Refusals.{has_failed};
 ghost use Rattle.keep_sqlite.specs.Rows.{items_of, HoldsItems, MayMake};
 ghost use Rattle.keep_sqlite.specs.Telling.{database, told, IsUp, Leaves, MayLeave, Tells};
 
 use crate::batch;
-use crate::fault::{count, fault_of};
 use crate::listing::list;
 use crate::opening::find;
+use crate::refusal::{Refusal, count, fault_of, refusal_of};
 use mud_base::Listed;
 use mud_world::{Item, KeepFault, Keeper, Put};
 use sqlite::{Alter, Connection};
@@ -83,7 +85,7 @@ impl<S: Alter + Drop> SqliteKeeper<S> {
     }
 
     /// The items: [`Keeper::open`].
-    pub(crate) fn read(&mut self, alloc: Global) -> Result<Listed<Item>, KeepFault>
+    pub(crate) fn read(&mut self, alloc: Global) -> Result<Listed<Item>, Refusal>
         ensures items { Tells S.Store self.new → IfOk result (λ list. list ≡ told S.Store self.new) }
         ensures same { Tells S.Store self.new → told S.Store self.new ≡ told S.Store self.old }
         ensures told { Tells S.Store self.new → Tells S.Store self.old }
@@ -105,7 +107,7 @@ impl<S: Alter + Drop> SqliteKeeper<S> {
     }
 
     /// The items, with no failure counted.
-    fn list_items(&mut self, alloc: Global) -> Result<Listed<Item>, KeepFault>
+    fn list_items(&mut self, alloc: Global) -> Result<Listed<Item>, Refusal>
         ensures items { HasCleanDisk (state S.Store self.new.connection)
             → IfOk result (λ list. HoldsItems (database S.Store self.new)
             × (list ≡ items_of (database S.Store self.new))) }
@@ -125,7 +127,7 @@ impl<S: Alter + Drop> SqliteKeeper<S> {
     {
         // Within a transaction the items would be some that aren't committed.
         if !self.connection.is_autocommit() {
-            return Err(KeepFault::Failed);
+            return Err(Refusal::Other);
         }
         if self.has_opened {
             return list(alloc, &mut self.connection);
@@ -137,7 +139,7 @@ impl<S: Alter + Drop> SqliteKeeper<S> {
 
     /// Does the puts in order, all of them or, after an error, none, also over a crash:
     /// [`Keeper::apply`].
-    pub fn keep(&mut self, batch: &[Put]) -> Result<(), KeepFault>
+    pub fn keep(&mut self, batch: &[Put]) -> Result<(), Refusal>
         requires opened { IsTrue self.old.has_opened }
         requires batch { IsTrue (is_batch batch.now) }
         ensures told { Tells S.Store self.new → Tells S.Store self.old }
@@ -160,7 +162,7 @@ impl<S: Alter + Drop> SqliteKeeper<S> {
     }
 
     /// Does the puts of a batch, with no failure counted.
-    fn put_in(&mut self, batch: &[Put]) -> Result<(), KeepFault>
+    fn put_in(&mut self, batch: &[Put]) -> Result<(), Refusal>
         requires opened { IsTrue self.old.has_opened }
         requires batch { IsTrue (is_batch batch.now) }
         ensures opens { IsUp S.Store self.new.connection → IsUp S.Store self.old.connection }
@@ -179,7 +181,7 @@ impl<S: Alter + Drop> SqliteKeeper<S> {
     {
         match batch::keep(&mut self.connection, batch) {
             Ok(()) => Ok(()),
-            Err(error) => Err(fault_of(error)),
+            Err(error) => Err(refusal_of(error)),
         }
     }
 }
@@ -203,7 +205,7 @@ impl<S: Alter + Drop> Keeper for SqliteKeeper<S> {
         ensures opened { OnOk result (self.new.has_opened ≡ true) }
         ensures still { OnErr result (self.new.has_opened ≡ self.old.has_opened) }
         ensures opens { IsUp S.Store self.new.connection → IsUp S.Store self.old.connection }
-        ensures cause { Counts (has_failed result) self.old.faults self.new.faults }
+        ensures cause { Counts (items.has_failed result) self.old.faults self.new.faults }
         // An Ok says that the database has our table and no other, and that each row is an item.
         ensures table { Tells S.Store self.new → OnOk result (HoldsItems (database S.Store self.new)) }
         // Whatever it answers, it made the table in a database with no table, or changed nothing.
@@ -215,7 +217,10 @@ impl<S: Alter + Drop> Keeper for SqliteKeeper<S> {
         ensures after { Tells S.Store self.new
             → OnOk result (Leaves S.Store self.new (told S.Store self.new)) }
     {
-        self.read(alloc)
+        match self.read(alloc) {
+            Ok(items) => Ok(items),
+            Err(refusal) => Err(fault_of(refusal)),
+        }
     }
 
     #[tactic(auto, using(crate::proofs::Lookups::items_ascend))]
@@ -230,11 +235,14 @@ impl<S: Alter + Drop> Keeper for SqliteKeeper<S> {
         ensures err { Tells S.Store self.new
             → OnErr result (told S.Store self.new ≡ told S.Store self.old) }
         ensures opened { self.new.has_opened ≡ self.old.has_opened }
-        ensures cause { Counts (has_failed result) self.old.faults self.new.faults }
+        ensures cause { Counts (items.has_failed result) self.old.faults self.new.faults }
         ensures crash { MayLeave S.Store self.old self.new (put_all (items_of (database S.Store self.old)) batch.now) }
         ensures after { Tells S.Store self.new
             → OnOk result (Leaves S.Store self.new (told S.Store self.new)) }
     {
-        self.keep(batch)
+        match self.keep(batch) {
+            Ok(()) => Ok(()),
+            Err(refusal) => Err(fault_of(refusal)),
+        }
     }
 }

@@ -1,0 +1,9 @@
+use Rattle.export_runs.specs.Lists.{list_text}
+use Rattle.listing_runs.proofs.Written.{on_err, part_of}
+use Rattle.export_runs.proofs.Results.{one_there}
+use Rattle.export_runs.proofs.writing.write_named.Goals as goal
+
+pub returns-in_err-write_list-clause-part : goal.returns-in_err-write_list-clause-part
+returns-in_err-write_list-clause-part g c = λ tells. on_err c.from_residual.result
+    (part_of (list_text c.args.sources.now) c.args.names.now c.lists.list-index _ (g.D.Door.state c.args.door.now) (g.D.Door.state c.lists.door) (g.D.Door.state c.write_list.new.door)
+    c.lists-test.true (one_there c.args.names.now c.lists.list-index _ c.lists-test.true) (c.lists.invariant.written tells) (c.in_err-write_list.ensures.part tells))

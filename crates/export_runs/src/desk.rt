@@ -1,0 +1,139 @@
+//! The lists of a Thing of a desk, written to a door.
+ghost use Rattle.std.specs.Prelude.{◌≡◌, ◌≢◌, ◌⊎◌, Some, Ok, codes, option_map};
+ghost use Rattle.mud_world.specs.Causes.{StopsAtFailure};
+ghost use Rattle.mud_world.specs.Clock.{later_moments};
+ghost use Rattle.mud_world.specs.Door.{put_out};
+ghost use Rattle.mud_tables.specs.Things.{thing_at};
+ghost use Rattle.mud_desk.specs.Boxed.{IsKept};
+ghost use Rattle.mud_desk.specs.DeskState.{tables_of};
+ghost use Rattle.command_runs.specs.Due.{WroteFirst};
+ghost use Rattle.command_runs.specs.Status.{status_number};
+ghost use Rattle.export_runs.specs.Exported.{is_held, WritesLists};
+ghost use Rattle.export_runs.specs.Lists.{lists_text};
+ghost use Rattle.export_runs.specs.Store.{IsOfDesk, WritesExport};
+
+use crate::sources::{Sources, held_of, sources_of};
+use crate::writing::write_lists;
+use command_runs::Status;
+use listing_runs::{listing_moment, write_text};
+use mud_base::{Mac, Moment};
+use mud_desk::Desk;
+use mud_world::{Clock, Door, Keeper};
+use std::alloc::Global;
+
+/// Writes that there is no such Thing.
+fn refuse_thing<D: Door>(door: &mut D) -> Status
+    ensures statuses { (status_number result ≡ 3) ⊎ ((status_number result ≡ 4) ⊎ (status_number result ≡ 5)) }
+    ensures fault { status_number result ≡ 4 → StopsAtFailure (D.failed door.new) (D.writes door.old) (D.writes door.new) }
+    ensures steady { status_number result ≢ 4 → D.writes door.new ≡ D.writes door.old }
+    ensures done { D.tells → status_number result ≡ 3 → D.state door.new ≡ put_out (codes "fault NoThing\n") (D.state door.old) }
+    ensures part { D.tells → (status_number result ≡ 4) ⊎ (status_number result ≡ 5) →
+        WroteFirst (codes "fault NoThing\n") (D.state door.old) (D.state door.new) }
+    ensures turns { D.turns door.new ≡ D.turns door.old }
+    ensures reads { D.reads door.new ≡ D.reads door.old }
+{
+    match write_text(door, b"fault NoThing\n") {
+        Ok(()) => Status::Refused,
+        Err(stop) => stop.status(),
+    }
+}
+
+/// Writes the four lists. The answer says how that ended.
+fn export_lists<D: Door>(alloc: Global, sources: &Option<Sources<'_>>, door: &mut D) -> Status
+    ensures statuses { (status_number result ≡ 0) ⊎ ((status_number result ≡ 4) ⊎ (status_number result ≡ 5)) }
+    ensures fault { status_number result ≡ 4 → StopsAtFailure (D.failed door.new) (D.writes door.old) (D.writes door.new) }
+    ensures steady { status_number result ≢ 4 → D.writes door.new ≡ D.writes door.old }
+    ensures done { D.tells → status_number result ≡ 0 → D.state door.new ≡ put_out (lists_text sources.now) (D.state door.old) }
+    ensures part { D.tells → (status_number result ≡ 4) ⊎ (status_number result ≡ 5) →
+        WroteFirst (lists_text sources.now) (D.state door.old) (D.state door.new) }
+    ensures turns { D.turns door.new ≡ D.turns door.old }
+    ensures reads { D.reads door.new ≡ D.reads door.old }
+{
+    match write_lists(alloc, door, sources) {
+        Ok(()) => Status::Done,
+        Err(stop) => stop.status(),
+    }
+}
+
+/// Writes the lists of a Thing at the later of the moment of the last change and of that which the
+/// clock gave; empty ones where the operator holds it. Its rules aren't asked for then.
+fn export_thing<D: Door>(
+    alloc: Global,
+    desk: &Desk,
+    mac: Mac,
+    held: bool,
+    clock: Moment,
+    door: &mut D,
+) -> Status
+    requires { Some held ≡ option_map is_held (thing_at mac (tables_of desk.now.state).tables.things) }
+    ensures statuses { (status_number result ≡ 0) ⊎ ((status_number result ≡ 4) ⊎ (status_number result ≡ 5)) }
+    ensures fault { status_number result ≡ 4 → StopsAtFailure (D.failed door.new) (D.writes door.old) (D.writes door.new) }
+    ensures steady { status_number result ≢ 4 → D.writes door.new ≡ D.writes door.old }
+    ensures writes { D.tells → WritesLists (tables_of desk.now.state) mac clock (D.state door.old) (D.state door.new) (status_number result) }
+    ensures turns { D.turns door.new ≡ D.turns door.old }
+    ensures reads { D.reads door.new ≡ D.reads door.old }
+{
+    if held {
+        return export_lists(alloc, &None, door);
+    }
+    let moment = listing_moment(desk.stamp(), Some(clock));
+    let sources = sources_of(desk, mac, moment);
+    export_lists(alloc, &sources, door)
+}
+
+/// The same of a hardware address, at the moment of the clock, which is asked once where there is such a
+/// Thing. Else a line says that there is none.
+fn export_mac<D: Door, C: Clock>(
+    alloc: Global,
+    desk: &Desk,
+    mac: Mac,
+    door: &mut D,
+    clock: &mut C,
+) -> Status
+    ensures statuses { IsOfDesk (status_number result) }
+    ensures fault { status_number result ≡ 4 → StopsAtFailure (D.failed door.new) (D.writes door.old) (D.writes door.new) }
+    ensures steady { status_number result ≢ 4 → D.writes door.new ≡ D.writes door.old }
+    ensures writes { D.tells → WritesExport mac C.tells (C.moments clock.old) (Ok (tables_of desk.now.state)) (D.state door.old) (D.state door.new) (status_number result) }
+    ensures turns { D.turns door.new ≡ D.turns door.old }
+    ensures reads { D.reads door.new ≡ D.reads door.old }
+    ensures later { C.tells → status_number result ≡ 0 → C.moments clock.new ≡ later_moments (C.moments clock.old) }
+    ensures once { C.tells → (C.moments clock.new ≡ C.moments clock.old) ⊎ (C.moments clock.new ≡ later_moments (C.moments clock.old)) }
+    ensures unasked { status_number result ≡ 3 → clock.new ≡ clock.old }
+{
+    match held_of(desk.things(), mac) {
+        None => refuse_thing(door),
+        Some(held) => export_thing(alloc, desk, mac, held, clock.now(), door),
+    }
+}
+
+/// Writes the lists of a Thing of the desk, each item as soon as its text is made, and hands the keeper
+/// back, which isn't called. The clock is asked once, and not where there is no such Thing.
+///
+/// | Status | It comes |
+/// |---|---|
+/// | 0 | the lists were written |
+/// | 3 | no Thing has this hardware address, and a line says so |
+/// | 4 | a write of the door failed: a first part was written |
+/// | 5 | want of memory: a first part was written, and no line says so |
+pub fn export_desk<D: Door, C: Clock>(
+    alloc: Global,
+    desk: Desk,
+    mac: Mac,
+    door: &mut D,
+    clock: &mut C,
+) -> (Status, Box<dyn Keeper>)
+    requires { IsKept Keeper-dyn desk.keeper (tables_of desk.state) }
+    ensures statuses { IsOfDesk (status_number result.0) }
+    ensures fault { status_number result.0 ≡ 4 → StopsAtFailure (D.failed door.new) (D.writes door.old) (D.writes door.new) }
+    ensures steady { status_number result.0 ≢ 4 → D.writes door.new ≡ D.writes door.old }
+    ensures writes { D.tells → WritesExport mac C.tells (C.moments clock.old) (Ok (tables_of desk.state)) (D.state door.old) (D.state door.new) (status_number result.0) }
+    ensures turns { D.turns door.new ≡ D.turns door.old }
+    ensures reads { D.reads door.new ≡ D.reads door.old }
+    ensures later { C.tells → status_number result.0 ≡ 0 → C.moments clock.new ≡ later_moments (C.moments clock.old) }
+    ensures once { C.tells → (C.moments clock.new ≡ C.moments clock.old) ⊎ (C.moments clock.new ≡ later_moments (C.moments clock.old)) }
+    ensures unasked { status_number result.0 ≡ 3 → clock.new ≡ clock.old }
+    ensures keeper { result.1 ≡ desk.keeper }
+{
+    let status = export_mac(alloc, &desk, mac, door, clock);
+    (status, desk.close())
+}

@@ -1,0 +1,48 @@
+//! The command `export`, from the opening of its store to its status.
+ghost use Rattle.std.specs.Prelude.{◌≡◌, ◌⊎◌};
+ghost use Rattle.command_runs.specs.Status.{status_number};
+ghost use Rattle.command_runs.specs.View.{viewed};
+ghost use Rattle.mud_world.specs.Clock.{later_moments};
+ghost use Rattle.desk_items.specs.Taken.{kept_of};
+ghost use Rattle.desk_model.specs.Items.{none_kept};
+ghost use Rattle.export_runs.specs.Store.{ExportsStore};
+
+use crate::desk::export_desk;
+use command_runs::Status;
+use desk_runs::refuse_store;
+use mud_base::Mac;
+use mud_desk::{Desk, Taken};
+use mud_world::{Clock, Door, Keeper};
+use std::alloc::Global;
+
+/// Opens a desk over the keeper, and then writes what the Thing of a hardware address may do, as four
+/// access lists with addresses alone (RFC 8519): at the later of the moment of the last change and of
+/// the one that the clock gives. Nothing is read of the door. The clock is asked once, where the store
+/// was opened and there is such a Thing. The box is handed back. Nothing was taken before, as
+/// [`Desk::open`] wants it: [`Taken::new`].
+pub fn export_store<D: Door, C: Clock>(
+    alloc: Global,
+    keeper: Box<dyn Keeper>,
+    nothing: Taken,
+    mac: Mac,
+    door: &mut D,
+    clock: &mut C,
+) -> (Status, Box<dyn Keeper>)
+    requires { kept_of nothing ≡ none_kept }
+    ensures exported { ExportsStore Keeper-dyn mac D.tells C.tells (C.moments clock.old) keeper result.1
+        (viewed (D.state door.old) (D.turns door.old) (D.reads door.old) (D.writes door.old) (D.failed door.old))
+        (viewed (D.state door.new) (D.turns door.new) (D.reads door.new) (D.writes door.new) (D.failed door.new))
+        (status_number result.0) }
+    // Where the keeper failed, the door isn't called at all.
+    ensures untouched { status_number result.0 ≡ 7 → door.new ≡ door.old }
+    // The clock is asked once where lists were written, at most once else, and not where the store can't
+    // be opened.
+    ensures asked { C.tells → status_number result.0 ≡ 0 → C.moments clock.new ≡ later_moments (C.moments clock.old) }
+    ensures once { C.tells → (C.moments clock.new ≡ C.moments clock.old) ⊎ (C.moments clock.new ≡ later_moments (C.moments clock.old)) }
+    ensures unasked { (status_number result.0 ≡ 3) ⊎ ((status_number result.0 ≡ 6) ⊎ (status_number result.0 ≡ 7)) → clock.new ≡ clock.old }
+{
+    match Desk::open(alloc, keeper, nothing) {
+        Ok(desk) => export_desk(alloc, desk, mac, door, clock),
+        Err((fault, keeper)) => (refuse_store(alloc, door, fault), keeper),
+    }
+}

@@ -1,0 +1,196 @@
+//! The lists, written: each item as soon as its text is made.
+ghost use Rattle.std.specs.Prelude.{◌≡◌, ◌++◌, IfOk, OnOk, OnErr, flat_map, IsTrue};
+ghost use Rattle.mud_world.specs.Causes.{Counts, StopsAtFailure};
+ghost use Rattle.mud_world.specs.Door.{put_out};
+ghost use Rattle.command_runs.specs.Due.{WroteFirst};
+ghost use Rattle.command_runs.specs.Stops.{has_failed};
+ghost use Rattle.rule_export.specs.Text.{resolved_text, behind_comma, items_text};
+ghost use Rattle.export_runs.specs.Lists.{list_text, lists_text, empty_lists};
+ghost use Rattle.export_runs.specs.Lists as spec;
+
+use crate::lists::{ListName, all_lists, back_of, family_of, front_of};
+use crate::sources::Sources;
+use acl_rows::RuleView;
+use command_runs::Stop;
+use listing_runs::write_text;
+use mud_base::{Bytes, Family, Memory};
+use mud_world::Door;
+use rule_export::{Resolved, append_resolved};
+use std::alloc::Global;
+
+/// The text of an item, behind these octets.
+fn item_behind(
+    alloc: Global,
+    before: &[u8],
+    view: &RuleView<'_>,
+    family: Family,
+    item: &Resolved,
+) -> Result<Bytes, Memory>
+    ensures { IfOk result (λ text. text ≡ before.now ++ resolved_text view.now family item.now) }
+{
+    let mut text = Bytes::new(alloc, before)?;
+    append_resolved(alloc, &mut text, view, family, item)?;
+    Ok(text)
+}
+
+/// Writes an item, behind these octets.
+fn write_item<D: Door>(
+    alloc: Global,
+    door: &mut D,
+    before: &[u8],
+    view: &RuleView<'_>,
+    family: Family,
+    item: &Resolved,
+) -> Result<(), Stop>
+    ensures ok { D.tells → OnOk result (D.state door.new ≡ put_out (before.now ++ resolved_text view.now family item.now) (D.state door.old)) }
+    ensures part { D.tells → OnErr result (WroteFirst (before.now ++ resolved_text view.now family item.now) (D.state door.old) (D.state door.new)) }
+    ensures cause { Counts (has_failed result) (D.writes door.old) (D.writes door.new) }
+    ensures stop { IsTrue (has_failed result) → StopsAtFailure (D.failed door.new) (D.writes door.old) (D.writes door.new) }
+    ensures turns { D.turns door.new ≡ D.turns door.old }
+    ensures reads { D.reads door.new ≡ D.reads door.old }
+{
+    let text = item_behind(alloc, before, view, family, item)?;
+    write_text(door, text.octets())
+}
+
+/// Writes items, each behind a comma.
+fn write_later<D: Door>(
+    alloc: Global,
+    door: &mut D,
+    view: &RuleView<'_>,
+    family: Family,
+    items: &[Resolved],
+) -> Result<(), Stop>
+    ensures ok { D.tells → OnOk result (D.state door.new ≡ put_out (flat_map (behind_comma view.now family) items.now) (D.state door.old)) }
+    ensures part { D.tells → OnErr result (WroteFirst (flat_map (behind_comma view.now family) items.now) (D.state door.old) (D.state door.new)) }
+    ensures cause { Counts (has_failed result) (D.writes door.old) (D.writes door.new) }
+    ensures stop { IsTrue (has_failed result) → StopsAtFailure (D.failed door.new) (D.writes door.old) (D.writes door.new) }
+    ensures turns { D.turns door.new ≡ D.turns door.old }
+    ensures reads { D.reads door.new ≡ D.reads door.old }
+{
+    'items: for item in items {
+        write_item(alloc, door, b",", view, family, item)?;
+    }
+    Ok(())
+}
+
+/// Writes items, with commas between them.
+#[tactic(auto, unfolding(rule_export::specs::Text::items_text))]
+fn write_items<D: Door>(
+    alloc: Global,
+    door: &mut D,
+    view: &RuleView<'_>,
+    family: Family,
+    items: &[Resolved],
+) -> Result<(), Stop>
+    ensures ok { D.tells → OnOk result (D.state door.new ≡ put_out (items_text view.now family items.now) (D.state door.old)) }
+    ensures part { D.tells → OnErr result (WroteFirst (items_text view.now family items.now) (D.state door.old) (D.state door.new)) }
+    ensures cause { Counts (has_failed result) (D.writes door.old) (D.writes door.new) }
+    ensures stop { IsTrue (has_failed result) → StopsAtFailure (D.failed door.new) (D.writes door.old) (D.writes door.new) }
+    ensures turns { D.turns door.new ≡ D.turns door.old }
+    ensures reads { D.reads door.new ≡ D.reads door.old }
+{
+    let Some((first, later)) = items.split_first() else {
+        return Ok(());
+    };
+    write_item(alloc, door, b"", view, family, first)?;
+    write_later(alloc, door, view, family, later)
+}
+
+/// Writes items, with commas between them, between these octets.
+fn write_between<D: Door>(
+    alloc: Global,
+    door: &mut D,
+    front: &[u8],
+    view: &RuleView<'_>,
+    family: Family,
+    items: &[Resolved],
+    back: &[u8],
+) -> Result<(), Stop>
+    ensures ok { D.tells → OnOk result (D.state door.new ≡ put_out (front.now ++ (items_text view.now family items.now ++ back.now)) (D.state door.old)) }
+    ensures part { D.tells → OnErr result (WroteFirst (front.now ++ (items_text view.now family items.now ++ back.now)) (D.state door.old) (D.state door.new)) }
+    ensures cause { Counts (has_failed result) (D.writes door.old) (D.writes door.new) }
+    ensures stop { IsTrue (has_failed result) → StopsAtFailure (D.failed door.new) (D.writes door.old) (D.writes door.new) }
+    ensures turns { D.turns door.new ≡ D.turns door.old }
+    ensures reads { D.reads door.new ≡ D.reads door.old }
+{
+    write_text(door, front)?;
+    write_items(alloc, door, view, family, items)?;
+    write_text(door, back)
+}
+
+/// Writes a list. Its items are made first.
+#[tactic(auto, unfolding(crate::specs::Lists::list_text))]
+fn write_list<D: Door>(
+    alloc: Global,
+    door: &mut D,
+    sources: &Sources<'_>,
+    name: &ListName,
+) -> Result<(), Stop>
+    ensures ok { D.tells → OnOk result (D.state door.new ≡ put_out (list_text sources.now name.now) (D.state door.old)) }
+    ensures part { D.tells → OnErr result (WroteFirst (list_text sources.now name.now) (D.state door.old) (D.state door.new)) }
+    ensures cause { Counts (has_failed result) (D.writes door.old) (D.writes door.new) }
+    ensures stop { IsTrue (has_failed result) → StopsAtFailure (D.failed door.new) (D.writes door.old) (D.writes door.new) }
+    ensures turns { D.turns door.new ≡ D.turns door.old }
+    ensures reads { D.reads door.new ≡ D.reads door.old }
+{
+    let name = *name;
+    let items = sources.items(alloc, name)?;
+    write_between(
+        alloc,
+        door,
+        front_of(name),
+        sources.view_for(name),
+        family_of(name),
+        items.as_slice(),
+        back_of(name),
+    )
+}
+
+/// Writes the lists of these names.
+fn write_named<D: Door>(
+    alloc: Global,
+    door: &mut D,
+    sources: &Sources<'_>,
+    names: &[ListName],
+) -> Result<(), Stop>
+    ensures ok { D.tells → OnOk result (D.state door.new ≡ put_out (flat_map (list_text sources.now) names.now) (D.state door.old)) }
+    ensures part { D.tells → OnErr result (WroteFirst (flat_map (list_text sources.now) names.now) (D.state door.old) (D.state door.new)) }
+    ensures cause { Counts (has_failed result) (D.writes door.old) (D.writes door.new) }
+    ensures stop { IsTrue (has_failed result) → StopsAtFailure (D.failed door.new) (D.writes door.old) (D.writes door.new) }
+    ensures turns { D.turns door.new ≡ D.turns door.old }
+    ensures reads { D.reads door.new ≡ D.reads door.old }
+{
+    'lists: for list in names {
+        write_list(alloc, door, sources, list)?;
+    }
+    Ok(())
+}
+
+/// Four empty lists.
+#[tactic(auto, unfolding(crate::specs::Lists::empty_lists, crate::specs::Lists::all_lists, crate::specs::Lists::front_of, crate::specs::Lists::back_of))]
+fn empty_lists() -> &'static [u8]
+    ensures { result.now ≡ spec.empty_lists }
+{
+    b"{\"ietf-access-control-list:acls\":{\"acl\":[{\"aces\":{\"ace\":[]},\"name\":\"from-v4\",\"type\":\"ipv4-acl-type\"},{\"aces\":{\"ace\":[]},\"name\":\"from-v6\",\"type\":\"ipv6-acl-type\"},{\"aces\":{\"ace\":[]},\"name\":\"to-v4\",\"type\":\"ipv4-acl-type\"},{\"aces\":{\"ace\":[]},\"name\":\"to-v6\",\"type\":\"ipv6-acl-type\"}]}}\n"
+}
+
+/// Writes the four lists; empty ones without sources.
+#[tactic(auto, unfolding(crate::specs::Lists::lists_text))]
+pub(crate) fn write_lists<D: Door>(
+    alloc: Global,
+    door: &mut D,
+    sources: &Option<Sources<'_>>,
+) -> Result<(), Stop>
+    ensures ok { D.tells → OnOk result (D.state door.new ≡ put_out (lists_text sources.now) (D.state door.old)) }
+    ensures part { D.tells → OnErr result (WroteFirst (lists_text sources.now) (D.state door.old) (D.state door.new)) }
+    ensures cause { Counts (has_failed result) (D.writes door.old) (D.writes door.new) }
+    ensures stop { IsTrue (has_failed result) → StopsAtFailure (D.failed door.new) (D.writes door.old) (D.writes door.new) }
+    ensures turns { D.turns door.new ≡ D.turns door.old }
+    ensures reads { D.reads door.new ≡ D.reads door.old }
+{
+    match sources {
+        None => write_text(door, empty_lists()),
+        Some(sources) => write_named(alloc, door, sources, &all_lists()),
+    }
+}

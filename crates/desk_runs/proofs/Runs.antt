@@ -6,22 +6,18 @@ use Rattle.mud_world.specs.declared.keeper.Keeper.{Ghosts}
 use Rattle.mud_world.specs.declared.item.Item.{Item}
 use Rattle.mud_world.specs.Boxed.{faults_of, Tells, kept_items}
 use Rattle.mud_world.specs.Causes.{Counts, EndsAtFailure, Rose, StopsAtFailure}
-use Rattle.mud_world.specs.Door.{put_out}
-use Rattle.capture_runs.specs.Capture.{WritesTaken, due_of_capture}
-use Rattle.capture_runs.specs.Fold.{no_ending}
-use Rattle.command_runs.specs.Due.{WritesDue, WritesPart, WroteFirst}
+use Rattle.mud_world.specs.Door.{DoorState, put_out}
+use Rattle.command_runs.specs.Due.{Due, WritesDue, WritesPart, WroteFirst}
 use Rattle.command_runs.specs.View.{DoorView}
 use Rattle.desk_items.specs.declared.fault.OpenFault.{OpenFault}
 use Rattle.desk_items.specs.declared.fault.OpenFault.TheVariants.{Keeper, Memory, BadItem}
 use Rattle.desk_items.specs.Opening.{IsFaultOf, IsOfCall}
 use Rattle.desk_model.specs.DeskTables.{DeskTables, IsSound}
 use Rattle.desk_model.specs.Items.{tables_in}
-use Rattle.desk_model.specs.Sessions.{opened}
 use Rattle.mud_desk.specs.Answers.{IsLeft, is_fault_of_keeper}
 use Rattle.mud_desk.specs.Boxed.{IsKept, IsSameBox}
-use Rattle.desk_runs.specs.Judged.{judged_step}
 use Rattle.desk_runs.specs.Refused.{IsRefusal, refusal_text}
-use Rattle.desk_runs.specs.Store.{JudgesStore, WritesOfStore}
+use Rattle.desk_runs.specs.Store.{JudgesStore, ReadsByStore, WritesOfStore, judged_due, judged_taken}
 use Rattle.desk_runs.proofs.Stores.{IsOfCapture, kept_tables, left_tables, no_six, no_seven, unopened, writes_opened, writes_refused}
 
 abbrev IsOfStore : ℕ → Type 0
@@ -67,32 +63,59 @@ pub seven_untouched : (fault : OpenFault) (status : ℕ) (P : Type 0) → IsRefu
 seven_untouched fault status P is untouched seven = untouched (of_call fault status is seven)
 
 module _ {X : Type 0} {F : X → Type 0} (members : (v : (x : X) × F x) → Ghosts (F v.0)) (keeper after : DynBox X Global F) (tells : Type 0) (old new : DoorView) (status : ℕ) where
-  pub opened_run : (tables : DeskTables)
-      → (Tells members keeper → Tells members after → tables_in (kept_items members keeper) ≡ Ok tables)
-      → IsSound tables → IsKept members after tables → faults_of members after ≡ faults_of members keeper → IsSameBox keeper after
-      → IsOfCapture status
-      → (status ≡ 4 → EndsAtFailure new.failed old.reads new.reads old.writes new.writes)
-      → (status ≢ 4 → (new.reads ≡ old.reads) × (new.writes ≡ old.writes))
-      → (tells → (status ≡ 0) ⊎ (status ≡ 3) → WritesDue (due_of_capture judged_step no_ending (opened tables) old.state.left) old.state new.state status)
-      → (tells → (status ≡ 4) ⊎ (status ≡ 5) → WritesPart (due_of_capture judged_step no_ending (opened tables) old.state.left) old.state new.state)
-      → (tells → new.reads ≢ old.reads → WritesTaken judged_step (opened tables) old.state new.state)
-      → new.turns ≡ old.turns → (returned : DynBox X Global F) → returned ≡ after → JudgesStore members tells keeper returned old new status
-  opened_run tables read sound kept same_count same_box is fault steady done part taken turns returned same = subst (λ (box : DynBox X Global F). JudgesStore members tells keeper box old new status) (sym same) (record {
-    statuses = of_capture status is;
-    fault = fault;
-    steady = steady;
-    keeper_fault = λ seven. no_seven status is seven;
-    keeper_steady = λ other. same_count;
-    writes = λ told tell.
-        subst (λ (store : Result DeskTables Item). WritesOfStore store old new status) (sym (kept_tables members after tables sound kept tell))
-        (writes_opened tables old new status is (done told) (part told) (taken told));
-    same_tables = λ before now. kept_tables members after tables sound kept now ∙ sym (read before now);
-    same_items = λ six before now. no_six status is six;
-    kept = inl (record { tables = tables; sound = sound; kept = kept });
-    same_box = same_box;
-    same_turns = turns;
-  })
+  module _ (due : DeskTables → List ℕ → Due) (taken : DeskTables → DoorState → DoorState → Type 0) where
+    pub opened_over : (tables : DeskTables)
+        → (Tells members keeper → Tells members after → tables_in (kept_items members keeper) ≡ Ok tables)
+        → IsSound tables → IsKept members after tables → faults_of members after ≡ faults_of members keeper → IsSameBox keeper after
+        → IsOfCapture status
+        → (status ≡ 4 → EndsAtFailure new.failed old.reads new.reads old.writes new.writes)
+        → (status ≢ 4 → (new.reads ≡ old.reads) × (new.writes ≡ old.writes))
+        → (tells → (status ≡ 0) ⊎ (status ≡ 3) → WritesDue (due tables old.state.left) old.state new.state status)
+        → (tells → (status ≡ 4) ⊎ (status ≡ 5) → WritesPart (due tables old.state.left) old.state new.state)
+        → (tells → new.reads ≢ old.reads → taken tables old.state new.state)
+        → new.turns ≡ old.turns → (returned : DynBox X Global F) → returned ≡ after → ReadsByStore members due taken tells keeper returned old new status
+    opened_over tables read sound kept same_count same_box is fault steady done part gone turns returned same = subst (λ (box : DynBox X Global F). ReadsByStore members due taken tells keeper box old new status) (sym same) (record {
+      statuses = of_capture status is;
+      fault = fault;
+      steady = steady;
+      keeper_fault = λ seven. no_seven status is seven;
+      keeper_steady = λ other. same_count;
+      writes = λ told tell.
+          subst (λ (store : Result DeskTables Item). WritesOfStore due taken store old new status) (sym (kept_tables members after tables sound kept tell))
+          (writes_opened due taken tables old new status is (done told) (part told) (gone told));
+      same_tables = λ before now. kept_tables members after tables sound kept now ∙ sym (read before now);
+      same_items = λ six before now. no_six status is six;
+      kept = inl (record { tables = tables; sound = sound; kept = kept });
+      same_box = same_box;
+      same_turns = turns;
+    })
 
+    pub refused_over : (fault : OpenFault)
+        → (Tells members after → IsFaultOf (kept_items members after) fault)
+        → (Tells members keeper → Tells members after → IsLeft (kept_items members keeper) (kept_items members after) fault)
+        → Counts (is_fault_of_keeper fault) (faults_of members keeper) (faults_of members after) → IsSameBox keeper after
+        → IsRefusal fault status
+        → (status ≡ 4 → StopsAtFailure new.failed old.writes new.writes)
+        → (status ≢ 4 → new.writes ≡ old.writes)
+        → (tells → status ≡ 6 → new.state ≡ put_out (refusal_text fault) old.state)
+        → (tells → (status ≡ 4) ⊎ (status ≡ 5) → WroteFirst (refusal_text fault) old.state new.state)
+        → (IsOfCall fault → new.state ≡ old.state)
+        → new.turns ≡ old.turns → new.reads ≡ old.reads → ReadsByStore members due taken tells keeper after old new status
+    refused_over fault bad left counts same_box is failed steady done part untouched turns reads = record {
+      statuses = of_refusal fault status is;
+      fault = λ four. inr (failed four, reads);
+      steady = λ other. (reads, steady other);
+      keeper_fault = rose_of fault status (faults_of members keeper) (faults_of members after) is counts;
+      keeper_steady = steady_of fault status (faults_of members keeper) (faults_of members after) is counts;
+      writes = λ told tell. writes_refused due taken old new status (kept_items members after) fault (bad tell) is (done told) (part told) untouched reads;
+      same_tables = λ before now. left_tables (kept_items members keeper) (kept_items members after) fault (left before now);
+      same_items = λ six before now. same_items_of (kept_items members keeper) (kept_items members after) fault status is (left before now) six;
+      kept = inr (unopened members keeper after status fault bad left is);
+      same_box = same_box;
+      same_turns = turns;
+    }
+
+  -- the same of `judge`
   pub refused_run : (fault : OpenFault)
       → (Tells members after → IsFaultOf (kept_items members after) fault)
       → (Tells members keeper → Tells members after → IsLeft (kept_items members keeper) (kept_items members after) fault)
@@ -104,16 +127,4 @@ module _ {X : Type 0} {F : X → Type 0} (members : (v : (x : X) × F x) → Gho
       → (tells → (status ≡ 4) ⊎ (status ≡ 5) → WroteFirst (refusal_text fault) old.state new.state)
       → (IsOfCall fault → new.state ≡ old.state)
       → new.turns ≡ old.turns → new.reads ≡ old.reads → JudgesStore members tells keeper after old new status
-  refused_run fault bad left counts same_box is failed steady done part untouched turns reads = record {
-    statuses = of_refusal fault status is;
-    fault = λ four. inr (failed four, reads);
-    steady = λ other. (reads, steady other);
-    keeper_fault = rose_of fault status (faults_of members keeper) (faults_of members after) is counts;
-    keeper_steady = steady_of fault status (faults_of members keeper) (faults_of members after) is counts;
-    writes = λ told tell. writes_refused old new status (kept_items members after) fault (bad tell) is (done told) (part told) untouched reads;
-    same_tables = λ before now. left_tables (kept_items members keeper) (kept_items members after) fault (left before now);
-    same_items = λ six before now. same_items_of (kept_items members keeper) (kept_items members after) fault status is (left before now) six;
-    kept = inr (unopened members keeper after status fault bad left is);
-    same_box = same_box;
-    same_turns = turns;
-  }
+  refused_run = refused_over judged_due judged_taken

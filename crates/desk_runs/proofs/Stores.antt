@@ -7,8 +7,6 @@ use Rattle.mud_world.specs.declared.item.Item.{Item}
 use Rattle.mud_world.specs.Boxed.{Tells, kept_items}
 use Rattle.mud_world.specs.Door.{DoorState, with_left, put_out}
 use Rattle.mud_world.proofs.Doors.{put_out_none}
-use Rattle.capture_runs.specs.Capture.{WritesTaken, due_of_capture}
-use Rattle.capture_runs.specs.Fold.{no_ending}
 use Rattle.command_runs.specs.Due.{Due, WritesDue, WritesPart, WroteFirst}
 use Rattle.command_runs.specs.View.{DoorView}
 use Rattle.desk_items.specs.declared.fault.OpenFault.{OpenFault}
@@ -16,11 +14,9 @@ use Rattle.desk_items.specs.declared.fault.OpenFault.TheVariants.{Keeper, Memory
 use Rattle.desk_items.specs.Opening.{IsFaultOf, IsOfCall}
 use Rattle.desk_model.specs.DeskTables.{DeskTables, IsSound}
 use Rattle.desk_model.specs.Items.{tables_in}
-use Rattle.desk_model.specs.Sessions.{opened}
 use Rattle.desk_model.proofs.ReadBack.{desk_again}
 use Rattle.mud_desk.specs.Answers.{IsLeft}
 use Rattle.mud_desk.specs.Boxed.{IsKept}
-use Rattle.desk_runs.specs.Judged.{judged_step}
 use Rattle.desk_runs.specs.Refused.{IsRefusal, bad_item_line, refusal_text}
 use Rattle.desk_runs.specs.Store.{IsUnopened, WritesOfStore, due_of_store}
 
@@ -66,57 +62,58 @@ due_none due old new same = record { read = []; count = 0; left_is = sym (ap (λ
 ok_err : {A B C : Type 0} (a : A) (b : B) → Ok a ≡ Err b → C
 ok_err a b same = cc
 
-pub writes_opened : (tables : DeskTables) (old new : DoorView) (status : ℕ) → IsOfCapture status
-    → ((status ≡ 0) ⊎ (status ≡ 3) → WritesDue (due_of_capture judged_step no_ending (opened tables) old.state.left) old.state new.state status)
-    → ((status ≡ 4) ⊎ (status ≡ 5) → WritesPart (due_of_capture judged_step no_ending (opened tables) old.state.left) old.state new.state)
-    → (new.reads ≢ old.reads → WritesTaken judged_step (opened tables) old.state new.state)
-    → WritesOfStore (Ok tables) old new status
-writes_opened tables old new status is done part taken = record {
-  done = λ which. elim which [ inl zero ↦ done (inl zero) | inr later ↦ elim later [ inl three ↦ done (inr three) | inr six ↦ no_six status is six ] ];
-  part = part;
-  taken = taken;
-  unread = λ item bad. ok_err tables item bad;
-}
-
-module _ (old new : DoorView) (status : ℕ) where
-  -- the fault names this item, which is the first that is no record
-  writes_named : (store : Result DeskTables Item) (item : Item) → store ≡ Err item → (status ≡ 6) ⊎ ((status ≡ 4) ⊎ (status ≡ 5))
-      → (status ≡ 6 → new.state ≡ put_out (bad_item_line item.kind item.key) old.state)
-      → ((status ≡ 4) ⊎ (status ≡ 5) → WroteFirst (bad_item_line item.kind item.key) old.state new.state)
-      → new.reads ≡ old.reads → WritesOfStore store old new status
-  writes_named store item bad is done part reads = subst (λ (found : Result DeskTables Item). WritesOfStore found old new status) (sym bad) (record {
-    done = λ which. subst (λ (n : ℕ). WritesDue (due_of_store (Err item) old.state.left) old.state new.state n) (sym (six_of status which is)) (due_whole (due_of_store (Err item) old.state.left) old.state new.state (done (six_of status which is)));
-    part = λ which. due_part (due_of_store (Err item) old.state.left) old.state new.state (part which);
-    taken = λ changed. absurd (changed reads);
-    unread = λ other same. left_of is;
-  })
-    where
-      left_of : (status ≡ 6) ⊎ ((status ≡ 4) ⊎ (status ≡ 5)) → new.state.left ≡ old.state.left
-      left_of (inl six) = ap (λ (s : DoorState). s.left) (done six)
-      left_of (inr first) = ap (λ (s : DoorState). s.left) (part first).wrote
-
-  pub writes_refused : (items : List Item) (fault : OpenFault) → IsFaultOf items fault → IsRefusal fault status
-      → (status ≡ 6 → new.state ≡ put_out (refusal_text fault) old.state)
-      → ((status ≡ 4) ⊎ (status ≡ 5) → WroteFirst (refusal_text fault) old.state new.state)
-      → (IsOfCall fault → new.state ≡ old.state) → new.reads ≡ old.reads → WritesOfStore (tables_in items) old new status
-  writes_refused items Keeper of is done part untouched reads = record {
-    done = λ which. not_done status (inr is) which;
-    part = λ which. not_part status is which;
-    taken = λ changed. absurd (changed reads);
-    unread = λ item bad. ap (λ (s : DoorState). s.left) (untouched tt);
+module _ (due : DeskTables → List ℕ → Due) (taken : DeskTables → DoorState → DoorState → Type 0) where
+  pub writes_opened : (tables : DeskTables) (old new : DoorView) (status : ℕ) → IsOfCapture status
+      → ((status ≡ 0) ⊎ (status ≡ 3) → WritesDue (due tables old.state.left) old.state new.state status)
+      → ((status ≡ 4) ⊎ (status ≡ 5) → WritesPart (due tables old.state.left) old.state new.state)
+      → (new.reads ≢ old.reads → taken tables old.state new.state)
+      → WritesOfStore due taken (Ok tables) old new status
+  writes_opened tables old new status is done part gone = record {
+    done = λ which. elim which [ inl zero ↦ done (inl zero) | inr later ↦ elim later [ inl three ↦ done (inr three) | inr six ↦ no_six status is six ] ];
+    part = part;
+    read = gone;
+    unread = λ item bad. ok_err tables item bad;
   }
-  writes_refused items Memory of is done part untouched reads = record {
-    done = λ which. not_done status (inl is) which;
-    part = λ which. due_none (due_of_store (tables_in items) old.state.left) old.state new.state (untouched tt);
-    taken = λ changed. absurd (changed reads);
-    unread = λ item bad. ap (λ (s : DoorState). s.left) (untouched tt);
-  }
-  writes_refused items (BadItem kind key) of is done part untouched reads =
-      let text : bad_item_line kind key ≡ bad_item_line of.item.kind of.item.key = ap₂ bad_item_line (sym of.kind_is) (sym of.key_is) in
-      writes_named (tables_in items) of.item of.bad is
-      (λ six. done six ∙ ap (λ (line : List ℕ). put_out line old.state) text)
-      (λ first. subst (λ (line : List ℕ). WroteFirst line old.state new.state) text (part first))
-      reads
+
+  module _ (old new : DoorView) (status : ℕ) where
+    -- the fault names this item, which is the first that is no record
+    writes_named : (store : Result DeskTables Item) (item : Item) → store ≡ Err item → (status ≡ 6) ⊎ ((status ≡ 4) ⊎ (status ≡ 5))
+        → (status ≡ 6 → new.state ≡ put_out (bad_item_line item.kind item.key) old.state)
+        → ((status ≡ 4) ⊎ (status ≡ 5) → WroteFirst (bad_item_line item.kind item.key) old.state new.state)
+        → new.reads ≡ old.reads → WritesOfStore due taken store old new status
+    writes_named store item bad is done part reads = subst (λ (found : Result DeskTables Item). WritesOfStore due taken found old new status) (sym bad) (record {
+      done = λ which. subst (λ (n : ℕ). WritesDue (due_of_store due taken (Err item) old.state.left) old.state new.state n) (sym (six_of status which is)) (due_whole (due_of_store due taken (Err item) old.state.left) old.state new.state (done (six_of status which is)));
+      part = λ which. due_part (due_of_store due taken (Err item) old.state.left) old.state new.state (part which);
+      read = λ changed. absurd (changed reads);
+      unread = λ other same. left_of is;
+    })
+      where
+        left_of : (status ≡ 6) ⊎ ((status ≡ 4) ⊎ (status ≡ 5)) → new.state.left ≡ old.state.left
+        left_of (inl six) = ap (λ (s : DoorState). s.left) (done six)
+        left_of (inr first) = ap (λ (s : DoorState). s.left) (part first).wrote
+
+    pub writes_refused : (items : List Item) (fault : OpenFault) → IsFaultOf items fault → IsRefusal fault status
+        → (status ≡ 6 → new.state ≡ put_out (refusal_text fault) old.state)
+        → ((status ≡ 4) ⊎ (status ≡ 5) → WroteFirst (refusal_text fault) old.state new.state)
+        → (IsOfCall fault → new.state ≡ old.state) → new.reads ≡ old.reads → WritesOfStore due taken (tables_in items) old new status
+    writes_refused items Keeper of is done part untouched reads = record {
+      done = λ which. not_done status (inr is) which;
+      part = λ which. not_part status is which;
+      read = λ changed. absurd (changed reads);
+      unread = λ item bad. ap (λ (s : DoorState). s.left) (untouched tt);
+    }
+    writes_refused items Memory of is done part untouched reads = record {
+      done = λ which. not_done status (inl is) which;
+      part = λ which. due_none (due_of_store due taken (tables_in items) old.state.left) old.state new.state (untouched tt);
+      read = λ changed. absurd (changed reads);
+      unread = λ item bad. ap (λ (s : DoorState). s.left) (untouched tt);
+    }
+    writes_refused items (BadItem kind key) of is done part untouched reads =
+        let text : bad_item_line kind key ≡ bad_item_line of.item.kind of.item.key = ap₂ bad_item_line (sym of.kind_is) (sym of.key_is) in
+        writes_named (tables_in items) of.item of.bad is
+        (λ six. done six ∙ ap (λ (line : List ℕ). put_out line old.state) text)
+        (λ first. subst (λ (line : List ℕ). WroteFirst line old.state new.state) text (part first))
+        reads
 
 -- ---- What is kept
 

@@ -6,6 +6,7 @@ use Rattle.mud_world.specs.declared.keeper.Keeper.{Ghosts}
 use Rattle.mud_world.specs.declared.item.Item.{Item}
 use Rattle.mud_world.specs.Boxed.{faults_of, Tells, kept_items}
 use Rattle.mud_world.specs.Causes.{EndsAtFailure, Rose}
+use Rattle.mud_world.specs.Door.{DoorState}
 use Rattle.capture_runs.specs.Capture.{WritesTaken, due_of_capture}
 use Rattle.capture_runs.specs.Fold.{no_ending}
 use Rattle.command_runs.specs.Due.{Due, WritesDue, WritesPart}
@@ -17,21 +18,30 @@ use Rattle.mud_desk.specs.Boxed.{IsKept, IsSameBox}
 use Rattle.desk_runs.specs.Judged.{judged_step}
 use Rattle.desk_runs.specs.Refused.{bad_item_line}
 
--- What is due to a capture: its lines in the session that begins with the tables of the store. Where an item is no record, the
--- line of the first such item is due, and the status is 6.
-abbrev pub due_of_store : Result DeskTables Item → List ℕ → Due
-due_of_store (Ok tables) octets = due_of_capture judged_step no_ending (opened tables) octets
-due_of_store (Err item) octets = record { text = bad_item_line item.kind item.key; status = 6 }
+-- What a command makes of a capture by the tables of its store: what is due to the octets of a connection, and what was written
+-- of it where a read failed.
+module _ (due : DeskTables → List ℕ → Due) (taken : DeskTables → DoorState → DoorState → Type 0) where
+  -- What is due to a capture. Where an item is no record, the line of the first such item is due, and the status is 6.
+  abbrev pub due_of_store : Result DeskTables Item → List ℕ → Due
+  due_of_store (Ok tables) octets = due tables octets
+  due_of_store (Err item) octets = record { text = bad_item_line item.kind item.key; status = 6 }
 
--- What is written, by the tables of the store or its first item that is no record.
-pub record WritesOfStore (store : Result DeskTables Item) (old new : DoorView) (status : ℕ) : Type 0 where
-  -- With 0, 3 and 6 all that is due was written, with 4 and 5 a first part of it.
-  pub done : (status ≡ 0) ⊎ ((status ≡ 3) ⊎ (status ≡ 6)) → WritesDue (due_of_store store old.state.left) old.state new.state status
-  pub part : (status ≡ 4) ⊎ (status ≡ 5) → WritesPart (due_of_store store old.state.left) old.state new.state
-  -- Where a read failed, the lines of the packets in the octets that were read were written.
-  pub taken : new.reads ≢ old.reads → IsOkAnd store (λ tables. WritesTaken judged_step (opened tables) old.state new.state)
-  -- Where an item is no record, the capture isn't read.
-  pub unread : (item : Item) → store ≡ Err item → new.state.left ≡ old.state.left
+  -- What is written, by the tables of the store or its first item that is no record.
+  pub record WritesOfStore (store : Result DeskTables Item) (old new : DoorView) (status : ℕ) : Type 0 where
+    -- With 0, 3 and 6 all that is due was written, with 4 and 5 a first part of it.
+    pub done : (status ≡ 0) ⊎ ((status ≡ 3) ⊎ (status ≡ 6)) → WritesDue (due_of_store store old.state.left) old.state new.state status
+    pub part : (status ≡ 4) ⊎ (status ≡ 5) → WritesPart (due_of_store store old.state.left) old.state new.state
+    -- Where a read failed, what was made of the octets that were read was written.
+    pub read : new.reads ≢ old.reads → IsOkAnd store (λ tables. taken tables old.state new.state)
+    -- Where an item is no record, the capture isn't read.
+    pub unread : (item : Item) → store ≡ Err item → new.state.left ≡ old.state.left
+
+-- of `judge`: the lines of the packets, in the session that begins with the tables of the store
+abbrev pub judged_due : DeskTables → List ℕ → Due
+judged_due tables octets = due_of_capture judged_step no_ending (opened tables) octets
+
+abbrev pub judged_taken : DeskTables → DoorState → DoorState → Type 0
+judged_taken tables old new = WritesTaken judged_step (opened tables) old new
 
 module _ {X : Type 0} {F : X → Type 0} (members : (v : (x : X) × F x) → Ghosts (F v.0)) where
   -- the keeper is open, and the items that it tells are those of sound tables
@@ -48,8 +58,8 @@ module _ {X : Type 0} {F : X → Type 0} (members : (v : (x : X) × F x) → Gho
     pub same_tables : Tells members keeper → Tells members returned → tables_in (kept_items members returned) ≡ tables_in (kept_items members keeper)
     pub same_items : Tells members keeper → Tells members returned → IsErr (tables_in (kept_items members returned)) → kept_items members returned ≡ kept_items members keeper
 
-  -- A run of `judge`. `tells` says that the door tells its connections.
-  pub record JudgesStore (tells : Type 0) (keeper returned : DynBox X Global F) (old new : DoorView) (status : ℕ) : Type 0 where
+  -- A run over a store that reads a capture. `tells` says that the door tells its connections.
+  pub record ReadsByStore (due : DeskTables → List ℕ → Due) (taken : DeskTables → DoorState → DoorState → Type 0) (tells : Type 0) (keeper returned : DynBox X Global F) (old new : DoorView) (status : ℕ) : Type 0 where
     -- The status is 0 or 3 to 7. It is 4 only where one read or write of the door failed in this call, and then the door isn't
     -- called again; where it isn't 4, none failed. So it is with 7 and a failure of the keeper.
     pub statuses : (status ≡ 0) ⊎ ((status ≡ 3) ⊎ ((status ≡ 4) ⊎ ((status ≡ 5) ⊎ ((status ≡ 6) ⊎ (status ≡ 7)))))
@@ -59,7 +69,7 @@ module _ {X : Type 0} {F : X → Type 0} (members : (v : (x : X) × F x) → Gho
     pub keeper_steady : status ≢ 7 → faults_of members returned ≡ faults_of members keeper
     -- The items that are kept when the run ends say what is due. Their tables are those that were kept when it began, and
     -- where an item is no record all items are as they were.
-    pub writes : tells → Tells members returned → WritesOfStore (tables_in (kept_items members returned)) old new status
+    pub writes : tells → Tells members returned → WritesOfStore due taken (tables_in (kept_items members returned)) old new status
     pub same_tables : Tells members keeper → Tells members returned → tables_in (kept_items members returned) ≡ tables_in (kept_items members keeper)
     pub same_items : status ≡ 6 → Tells members keeper → Tells members returned → kept_items members returned ≡ kept_items members keeper
     -- Whatever the status, the items of sound tables are kept, but where no desk was opened.
@@ -67,3 +77,7 @@ module _ {X : Type 0} {F : X → Type 0} (members : (v : (x : X) × F x) → Gho
     -- The box that comes back is the one that was handed in. No port is bound, and the connection isn't left.
     pub same_box : IsSameBox keeper returned
     pub same_turns : new.turns ≡ old.turns
+
+  -- a run of `judge`
+  abbrev pub JudgesStore : Type 0 → DynBox X Global F → DynBox X Global F → DoorView → DoorView → ℕ → Type 0
+  JudgesStore tells keeper returned old new status = ReadsByStore judged_due judged_taken tells keeper returned old new status

@@ -4,7 +4,8 @@ use Rattle.command_runs.specs.View.{viewed}
 use Rattle.desk_model.specs.Sessions.{opened}
 use Rattle.mud_desk.specs.DeskState.{tables_of}
 use Rattle.desk_runs.proofs.JudgedPackets.{in_begun}
-use Rattle.desk_runs.proofs.Runs.{opened_run, refused_run}
+use Rattle.desk_runs.proofs.Runs.{opened_over, refused_run}
+use Rattle.desk_runs.specs.Store.{judged_due, judged_taken}
 use Rattle.desk_runs.proofs.store.judge_store.Goals as goal
 
 pub returns-in-Ok-clause-judged : goal.returns-in-Ok-clause-judged
@@ -17,10 +18,10 @@ returns-in-Ok-clause-judged g c =
     let run = c.judge_capture.ensures in
     let tables = tables_of desk.state in
     let is_in = in_begun tables desk.state store.begun in
-    opened_run (goal.Keeper-dyn g) c.args.keeper desk.keeper door.tells
+    opened_over (goal.Keeper-dyn g) c.args.keeper desk.keeper door.tells
     (viewed (door.state old) (door.turns old) (door.reads old) (door.writes old) (door.failed old))
     (viewed (door.state new) (door.turns new) (door.reads new) (door.writes new) (door.failed new))
-    (status_number c.judge_capture.result.0)
+    (status_number c.judge_capture.result.0) judged_due judged_taken
     tables store.tables store.sound store.kept store.steady store.same_box
     run.statuses run.fault run.steady (run.done (opened tables) is_in) (run.part (opened tables) is_in) (run.taken (opened tables) is_in) run.turns
     c.judge_capture.result.1 run.keeper

@@ -1,14 +1,15 @@
 -- Lines that are written out, and the commands that they are.
 use Rattle.std.specs.Prelude.{◌≡◌, ⊤, [], ◌∷◌, codes, Some, None, refl}
 use Rattle.mud_base.specs.Decimal.{digits_upto, has_numeral_front, number_upto}
-use Rattle.command_words.specs.declared.command.Command.TheVariants.{Hear, Check, Frames, Judge, Import, Replay, Serve, Report, Drill}
+use Rattle.mud_base.proofs.OnLiterals.{texts_on_literals}
+use Rattle.command_words.specs.declared.command.Command.TheVariants.{Hear, Check, Frames, Judge, Import, Replay, Serve, Report, Export, Drill}
 use Rattle.command_words.specs.declared.command.Message.TheVariants.{Dhcp, Lldp}
 use Rattle.command_words.specs.declared.command.ReportKind.TheVariants.{Things, Files, Classes, Locals, Names, Due}
 use Rattle.command_words.specs.Words.{begins_with_dash, is_path, count_in, message_in, kind_in, one_word, two_words, three_words, four_words, line_in, command_in}
 
 -- what a proof unfolds to compute with lines that are written out
 unfoldable lines_on_literals : ⊤
-unfolding digits_upto has_numeral_front number_upto begins_with_dash is_path count_in message_in kind_in one_word two_words three_words four_words line_in command_in
+unfolding texts_on_literals digits_upto has_numeral_front number_upto begins_with_dash is_path count_in message_in kind_in one_word two_words three_words four_words line_in command_in
 lines_on_literals = tt
 
 -- ---- each line
@@ -72,6 +73,14 @@ report_locals = refl
 report_names : command_in (codes "report" ∷ codes "a" ∷ codes "names" ∷ []) ≡ Some (Report Names)
 unfolding lines_on_literals
 report_names = refl
+
+export_of_a_thing : command_in (codes "export" ∷ codes "a" ∷ codes "02:00:00:00:00:0A" ∷ []) ≡ Some (Export (record { 0 = 2 ∷ 0 ∷ 0 ∷ 0 ∷ 0 ∷ 10 ∷ [] }))
+unfolding lines_on_literals
+export_of_a_thing = refl
+
+export_of_no_address : command_in (codes "export" ∷ codes "a" ∷ codes "02:00:00:00:00" ∷ []) ≡ None
+unfolding lines_on_literals
+export_of_no_address = refl
 
 report_due : command_in (codes "report" ∷ codes "a" ∷ codes "due" ∷ []) ≡ Some (Report Due)
 unfolding lines_on_literals

@@ -174,6 +174,21 @@ report_clear u v p q =
 report : (u v : List ℕ) → IsPlain u → IsPlain v → Passes (codes "report" ∷ u ∷ v ∷ [])
 report u v p q = passes_by _ report_leaf (u ∷ v ∷ []) (report_enters u v) (report_clear u v p q)
 
+abbrev export_leaf : Shape
+export_leaf = leaf_of (line_of_three (codes "export") (codes "STORE") (codes "MAC"))
+
+export_enters : (u v : List ℕ) → Enters (codes "export" ∷ u ∷ v ∷ []) export_leaf (u ∷ v ∷ [])
+unfolding clap_on_literals
+export_enters u v below = refl
+
+export_clear : (u v : List ℕ) → IsPlain u → IsPlain v → leaf_fault export_leaf (u ∷ v ∷ []) ≡ []
+unfolding defaults_fault
+export_clear u v p q =
+    line_is_clear export_leaf (u ∷ v ∷ []) _ (reads_more export_leaf nothing_held 1 u (v ∷ []) _ p refl refl (reads_more export_leaf _ 2 v [] _ q refl refl (reads_none export_leaf _ 3))) refl
+
+export : (u v : List ℕ) → IsPlain u → IsPlain v → Passes (codes "export" ∷ u ∷ v ∷ [])
+export u v p q = passes_by _ export_leaf (u ∷ v ∷ []) (export_enters u v) (export_clear u v p q)
+
 abbrev replay_leaf : Shape
 replay_leaf = leaf_of (line_of_two (codes "replay") (codes "STORE"))
 
@@ -271,7 +286,10 @@ three_pass first second third command p q given =
       | inl h ↦ at_word first (codes "import") _ (left_of_both _ _ h.0) (import_folder second third p q)
       | inr h ↦ elim (chosen (bytes_eq first (codes "report") && _) _ _ command h.1) [
         | inl k ↦ at_word first (codes "report") _ (left_of_both _ _ k.0) (report second third p q)
-        | inr k ↦ none_is_some command k.1
+        | inr k ↦ elim (chosen (bytes_eq first (codes "export") && _) _ _ command k.1) [
+          | inl l ↦ at_word first (codes "export") _ (left_of_both _ _ l.0) (export second third p q)
+          | inr l ↦ none_is_some command l.1
+        ]
       ]
     ]
 

@@ -42,7 +42,9 @@ abbrev pub with_input_lines : App → App
 with_input_lines program = with_line (with_line (with_line program (line_of_two (codes "hear") (codes "MESSAGE"))) (new_app (codes "check"))) (new_app (codes "frames"))
 
 abbrev pub with_store_lines : App → App
-with_store_lines program = with_line (with_line (with_line program (line_of_two (codes "judge") (codes "STORE"))) (line_of_three (codes "import") (codes "STORE") (codes "FOLDER"))) (line_of_three (codes "report") (codes "STORE") (codes "KIND"))
+with_store_lines program =
+    with_line (with_line (with_line (with_line program (line_of_two (codes "judge") (codes "STORE"))) (line_of_three (codes "import") (codes "STORE") (codes "FOLDER"))) (line_of_three (codes "report") (codes "STORE") (codes "KIND")))
+    (line_of_three (codes "export") (codes "STORE") (codes "MAC"))
 
 abbrev pub with_session_lines : App → App
 with_session_lines program = with_line (with_line (with_line program (line_of_two (codes "replay") (codes "STORE"))) (line_of_four (codes "serve") (codes "STORE") (codes "PORT") (codes "COUNT"))) (line_of_two (codes "drill") (codes "N"))

@@ -5,8 +5,9 @@ use Rattle.std.specs.String.{string_bytes}
 use Rattle.std.specs.declared.alloc.Global.{Global}
 use Rattle.std.specs.declared.string.String.{String}
 use Rattle.mud_base.specs.Decimal.{number_upto}
+use Rattle.mud_base.specs.Reading.{mac_in}
 use Rattle.command_words.specs.declared.command.Command.{Command}
-use Rattle.command_words.specs.declared.command.Command.TheVariants.{Hear, Check, Frames, Judge, Import, Replay, Serve, Report, Drill}
+use Rattle.command_words.specs.declared.command.Command.TheVariants.{Hear, Check, Frames, Judge, Import, Replay, Serve, Report, Export, Drill}
 use Rattle.command_words.specs.declared.command.Message.{Message}
 use Rattle.command_words.specs.declared.command.Message.TheVariants.{Dhcp, Lldp}
 use Rattle.command_words.specs.declared.command.ReportKind.{ReportKind}
@@ -61,12 +62,13 @@ two_words first second =
     else (if bytes_eq first (codes "drill") then option_map Drill (count_in 100000 second)
     else None)))
 
--- `import STORE FOLDER`, and `report STORE KIND`
+-- `import STORE FOLDER`, `report STORE KIND`, and `export STORE MAC`
 unfoldable pub three_words : List ℕ → List ℕ → List ℕ → Option Command
 three_words first second third =
     if bytes_eq first (codes "import") && is_path second then over_path Import third
     else (if bytes_eq first (codes "report") && is_path second then option_map Report (kind_in third)
-    else None)
+    else (if bytes_eq first (codes "export") && is_path second then option_map Export (mac_in third)
+    else None))
 
 -- `serve STORE PORT COUNT`, where PORT is 1 to 65,535 and COUNT 1 to 1,000,000
 unfoldable pub four_words : List ℕ → List ℕ → List ℕ → List ℕ → Option Command

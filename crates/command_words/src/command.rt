@@ -1,4 +1,5 @@
 //! The commands of the program.
+use mud_base::Mac;
 
 /// What `hear` reads.
 #[derive(Clone, Copy, Debug, PartialEq, Eq)]
@@ -52,6 +53,9 @@ pub enum Command {
     },
     /// `report STORE KIND`: writes a table of what the store keeps.
     Report(ReportKind),
+    /// `export STORE MAC`: writes what the Thing of this hardware address may do now, as access lists with
+    /// addresses alone.
+    Export(Mac),
     /// `drill N`: runs a made network with so many packets, from 1 to 100,000, and writes its counts.
     Drill(u32),
 }

@@ -133,7 +133,8 @@ fn with_store_lines<'a>(alloc: Global, program: Parser<'a>) -> Result<Parser<'a>
 {
     let judging = with_line_of_two(alloc, program, "judge", "STORE")?;
     let importing = with_line_of_three(alloc, judging, "import", "STORE", "FOLDER")?;
-    with_line_of_three(alloc, importing, "report", "STORE", "KIND")
+    let reporting = with_line_of_three(alloc, importing, "report", "STORE", "KIND")?;
+    with_line_of_three(alloc, reporting, "export", "STORE", "MAC")
 }
 
 /// The lines of the commands that run a session.

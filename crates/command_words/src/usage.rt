@@ -13,12 +13,14 @@ usage: mud COMMAND
   judge STORE             a capture                   what becomes of each packet, and why
   import STORE FOLDER     nothing                     what became of each usage file there
   report STORE KIND       nothing                     a table of what the store keeps
+  export STORE MAC        nothing                     what a Thing may do now, as access lists
   replay STORE            a connection's requests     the answers to them
   serve STORE PORT COUNT  nothing                     nothing: COUNT connections are answered
   drill N                 nothing                     the counts of N packets in a made network
 
 STORE is :memory: or the path of a database file, which is made where there is none.
 KIND is things, files, classes, locals, names or due.
+MAC is six pairs of hex digits with colons between them.
 PORT is 1 to 65535, COUNT 1 to 1000000 and N 1 to 100000, without a zero in front.
 No word begins with a dash.
 

@@ -7,7 +7,7 @@ ghost use Rattle.command_words.specs.Words as spec;
 
 use crate::command::{Command, Message, ReportKind};
 use crate::parser::is_refused;
-use mud_base::number_upto;
+use mud_base::{mac_of, number_upto};
 use std::alloc::Global;
 
 /// The last port of TCP, whose ports are numbers of 16 bits (RFC 9293, 3.1).
@@ -149,6 +149,9 @@ fn three_words(first: &str, second: &str, third: &str) -> Option<Command>
     }
     if first == "report" && is_path(second) {
         return Some(Command::Report(kind_in(third)?));
+    }
+    if first == "export" && is_path(second) {
+        return Some(Command::Export(mac_of(third.as_bytes())?));
     }
     None
 }

@@ -8,4 +8,6 @@ returns c =
     let import = line_of_three (codes "import") (codes "STORE") (codes "FOLDER") in
     let report = line_of_three (codes "report") (codes "STORE") (codes "KIND") in
     let two = c.in_ok-importing.ensures ∙ ap (λ program. with_line program import) c.in_ok-judging.ensures in
-    onto report c.with_line_of_three-2.result two c.with_line_of_three-2.ensures
+    let export = line_of_three (codes "export") (codes "STORE") (codes "MAC") in
+    let three = c.in_ok-reporting.ensures ∙ ap (λ program. with_line program report) two in
+    onto export c.with_line_of_three-3.result three c.with_line_of_three-3.ensures

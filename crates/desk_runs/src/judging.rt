@@ -51,7 +51,11 @@ pub fn judge_packet<L: Ledger>(
 
 /// Adds the line of a packet: its number, its seconds, and the verdict on it.
 #[tactic(auto, unfolding(crate::specs::Judged::judged_line, text_lines::specs::Numbers::number_text))]
-fn append_judged(lines: &mut Bytes, packet: &Captured<'_>, verdict: &Verdict) -> Result<(), Memory>
+pub fn append_judged(
+    lines: &mut Bytes,
+    packet: &Captured<'_>,
+    verdict: &Verdict,
+) -> Result<(), Memory>
     ensures { OnOk result (lines.new ≡ lines.old ++ judged_line (packet_of packet.now) verdict.now) }
 {
     append_decimal(lines, u64::from(packet.number))?;

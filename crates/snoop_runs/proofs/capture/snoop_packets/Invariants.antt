@@ -1,0 +1,30 @@
+use Rattle.std.proofs.Common.{◌≡◌, [], false}
+use Rattle.mud_world.specs.Boxed.{faults_of}
+use Rattle.mud_world.specs.Causes.{Counts}
+use Rattle.mud_world.specs.Door.{DoorState}
+use Rattle.capture_source.specs.Reading.{is_broken, most_to_come}
+use Rattle.capture_runs.specs.Runs.{HasDone}
+use Rattle.desk_model.specs.Sessions.{Session}
+use Rattle.desk_runs.specs.Judged.{IsIn}
+use Rattle.snoop_runs.specs.Stays.{StaysKept}
+use Rattle.snoop_runs.proofs.Snooped.{HasSnooped}
+use Rattle.snoop_runs.proofs.capture.snoop_packets.Given as goal
+
+abbrev pub invariant-packets : goal.invariant-packets
+invariant-packets g l =
+    let door = g.D.Door in
+    let members = goal.Keeper-dyn g in
+    record {
+      stays : StaysKept members l.initial.desk.keeper l.desk.keeper l.desk.state;
+      snooped : (s : Session) → (first : DoorState) → IsIn s l.initial.desk.state → door.tells
+          → HasDone [] [] l.initial.reader first (door.state l.initial.door) l.initial.lines
+          → HasSnooped s first (faults_of members l.initial.desk.keeper) l.desk.state (door.state l.door) (faults_of members l.desk.keeper) l.reader l.lines l.failed;
+      keeper : Counts l.failed (faults_of members l.initial.desk.keeper) (faults_of members l.desk.keeper);
+      going : is_broken l.reader ≡ false;
+      writes : door.writes l.door ≡ door.writes l.initial.door;
+      turns : door.turns l.door ≡ door.turns l.initial.door;
+      reads : door.reads l.door ≡ door.reads l.initial.door;
+    }
+
+abbrev pub decreases-packets : goal.decreases-packets
+decreases-packets g l = most_to_come l.reader

@@ -1,0 +1,37 @@
+use Rattle.std.proofs.Common.{ap}
+use Rattle.command_runs.specs.Status.{status_number}
+use Rattle.command_runs.specs.View.{viewed}
+use Rattle.snoop_runs.proofs.Stored.{snooped_run, refused_snoop}
+use Rattle.snoop_runs.proofs.store.snoop_store.Goals as goal
+
+pub returns-in-Ok : goal.returns-in-Ok
+returns-in-Ok g c =
+    let door = g.D.Door in
+    let old = c.args.door.now in
+    let new = c.snoop_capture-status.new.door in
+    let desk = c.in-Ok.desk in
+    let after = c.snoop_capture-status.new.desk in
+    let store = c.in-Ok.ensures in
+    let run = c.snoop_capture-status.ensures in
+    snooped_run (goal.Keeper-dyn g) c.args.keeper after.keeper door.tells
+    (viewed (door.state old) (door.turns old) (door.reads old) (door.writes old) (door.failed old))
+    (viewed (door.state new) (door.turns new) (door.reads new) (door.writes new) (door.failed new))
+    (status_number c.snoop_capture-status.result)
+    desk.keeper desk.state after.state store.tables store.sound store.begun store.steady store.same_box
+    run.stays run.statuses run.fault run.steady run.keeper run.keeper_steady
+    run.done run.part run.taken run.turns
+    c.close.result c.close.ensures
+
+pub returns-in-Err : goal.returns-in-Err
+returns-in-Err g c =
+    let door = g.D.Door in
+    let old = c.args.door.now in
+    let new = c.refuse_store.new.door in
+    let store = c.in-Err.ensures in
+    let run = c.refuse_store.ensures in
+    refused_snoop (goal.Keeper-dyn g) c.args.keeper c.in-Err.keeper door.tells
+    (viewed (door.state old) (door.turns old) (door.reads old) (door.writes old) (door.failed old))
+    (viewed (door.state new) (door.turns new) (door.reads new) (door.writes new) (door.failed new))
+    (status_number c.refuse_store.result)
+    c.in-Err.fault store.bad store.left store.cause store.handed_back
+    run.statuses run.fault run.steady run.done run.part (λ call. ap door.state (run.untouched call)) run.turns run.reads

@@ -1,0 +1,9 @@
+pub mod Entries
+pub mod Leads
+pub mod Learning
+pub mod Learnt
+pub mod Lines
+pub mod Packets
+pub mod Runs
+pub mod Stays
+pub mod Store

@@ -1,0 +1,159 @@
+//! A capture, packet by packet.
+ghost use Rattle.std.specs.Prelude.{◌≡◌, ◌≢◌, ◌==◌, ◌⊎◌, ◌<◌, [], false, true};
+ghost use Rattle.mud_world.specs.Boxed.{faults_of};
+ghost use Rattle.mud_world.specs.Causes.{Counts, EndsAtFailure, Rose, StopsAtFailure};
+ghost use Rattle.mud_world.specs.Door.{DoorState};
+ghost use Rattle.packet_buffer.specs.Packets.{Packet};
+ghost use Rattle.capture_source.specs.Reading.{is_broken};
+ghost use Rattle.capture_runs.specs.Capture.{due_behind};
+ghost use Rattle.capture_runs.specs.Runs.{HasAll, HasDone};
+ghost use Rattle.command_runs.specs.Due.{WritesDue, WritesPart};
+ghost use Rattle.command_runs.specs.Status.{status_number};
+ghost use Rattle.desk_model.specs.Sessions.{Session};
+ghost use Rattle.desk_runs.specs.Judged.{IsIn};
+ghost use Rattle.mud_desk.specs.Boxed.{IsKept};
+ghost use Rattle.mud_desk.specs.DeskState.{tables_of};
+ghost use Rattle.snoop_runs.specs.Leads.{LeadsToAll, LeadsToPart, LeadsToTaken};
+ghost use Rattle.snoop_runs.specs.Stays.{StaysKept};
+
+use crate::observing::either;
+use crate::packet::snoop_packet;
+use capture_runs::{Way, end_capture, go_on};
+use capture_source::{CaptureFault, CaptureReader};
+use command_runs::Status;
+use mud_base::{Bytes, Memory};
+use mud_desk::Desk;
+use mud_world::{Door, ReadFault};
+use sorted_rows::Steps;
+use std::alloc::Global;
+use std::marker::Brand;
+use std::sync::ledger::{Blank, Ledger};
+
+/// The status, or 7 in place of 0 and 3 where the keeper failed.
+fn with_failure(status: Status, failed: bool) -> Status
+    ensures kept { failed ≡ false → result ≡ status }
+    ensures early { (status_number status ≡ 4) ⊎ (status_number status ≡ 5) → result ≡ status }
+    ensures failed { failed ≡ true → (status_number status ≡ 0) ⊎ (status_number status ≡ 3) → status_number result ≡ 7 }
+{
+    match status {
+        Status::Done | Status::Refused if failed => Status::KeeperFailed,
+        status => status,
+    }
+}
+
+/// Judges the packets that are to come, and learns from each.
+fn snoop_packets<L: Ledger, D: Door>(
+    alloc: Global,
+    desk: &mut Desk,
+    door: &mut D,
+    reader: &mut CaptureReader,
+    lines: &mut Bytes,
+    steps: &mut Steps<L>,
+) -> Status
+    requires going { is_broken reader.old ≡ false }
+    requires kept { IsKept Keeper-dyn desk.old.keeper (tables_of desk.old.state) }
+    ensures statuses { (status_number result ≡ 0) ⊎ ((status_number result ≡ 3) ⊎ ((status_number result ≡ 4) ⊎ ((status_number result ≡ 5) ⊎ (status_number result ≡ 7)))) }
+    ensures fault { status_number result ≡ 4 → EndsAtFailure (D.failed door.new) (D.reads door.old) (D.reads door.new) (D.writes door.old) (D.writes door.new) }
+    ensures steady { status_number result ≢ 4 → (D.reads door.new ≡ D.reads door.old) × (D.writes door.new ≡ D.writes door.old) }
+    ensures stays { StaysKept Keeper-dyn desk.old.keeper desk.new.keeper desk.new.state }
+    ensures done { (s : Session) (first : DoorState) → IsIn s desk.old.state → D.tells → HasDone [] [] reader.old first (D.state door.old) lines.old
+        → (status_number result ≡ 0) ⊎ ((status_number result ≡ 3) ⊎ (status_number result ≡ 7))
+        → LeadsToAll s first (faults_of Keeper-dyn desk.old.keeper) desk.new.state (D.state door.new) (faults_of Keeper-dyn desk.new.keeper) (status_number result) }
+    ensures part { (s : Session) (first : DoorState) → IsIn s desk.old.state → D.tells → HasDone [] [] reader.old first (D.state door.old) lines.old
+        → (status_number result ≡ 4) ⊎ (status_number result ≡ 5)
+        → LeadsToPart s first (faults_of Keeper-dyn desk.old.keeper) desk.new.state (D.state door.new) (faults_of Keeper-dyn desk.new.keeper) }
+    ensures taken { (s : Session) (first : DoorState) → IsIn s desk.old.state → D.tells → HasDone [] [] reader.old first (D.state door.old) lines.old
+        → D.reads door.new ≢ D.reads door.old
+        → LeadsToTaken s first (faults_of Keeper-dyn desk.old.keeper) desk.new.state (D.state door.new) (faults_of Keeper-dyn desk.new.keeper) }
+    ensures keeper { status_number result ≡ 7 → Rose (faults_of Keeper-dyn desk.old.keeper) (faults_of Keeper-dyn desk.new.keeper) }
+    ensures keeper_steady { (status_number result ≡ 0) ⊎ (status_number result ≡ 3) → faults_of Keeper-dyn desk.new.keeper ≡ faults_of Keeper-dyn desk.old.keeper }
+    ensures turns { D.turns door.new ≡ D.turns door.old }
+{
+    let mut failed = false;
+    'packets: loop {
+        match go_on(door, reader, lines) {
+            Way::Packet => {}
+            Way::Ended => return with_failure(end_capture(door, lines, None), failed),
+            Way::Broken(fault) => {
+                return with_failure(end_capture(door, lines, Some(fault)), failed);
+            }
+            Way::Failed => return Status::DoorFailed,
+        }
+        match snoop_packet(alloc, desk, lines, &reader.packet(), steps) {
+            Ok(one) => failed = either(failed, one),
+            Err(Memory) => return Status::NoMemory,
+        }
+    }
+}
+
+/// Judges the packets that are to come, and learns from each. The steps are counted on this blank.
+fn snoop_counted<L: Ledger, D: Door>(
+    alloc: Global,
+    desk: &mut Desk,
+    door: &mut D,
+    reader: &mut CaptureReader,
+    blank: Blank,
+) -> Status
+    requires going { is_broken reader.old ≡ false }
+    requires name { blank.name ≡ L.name }
+    requires parts { blank.parts ≡ L.parts }
+    requires some { 0 < L.parts }
+    requires kept { IsKept Keeper-dyn desk.old.keeper (tables_of desk.old.state) }
+    ensures statuses { (status_number result ≡ 0) ⊎ ((status_number result ≡ 3) ⊎ ((status_number result ≡ 4) ⊎ ((status_number result ≡ 5) ⊎ (status_number result ≡ 7)))) }
+    ensures fault { status_number result ≡ 4 → EndsAtFailure (D.failed door.new) (D.reads door.old) (D.reads door.new) (D.writes door.old) (D.writes door.new) }
+    ensures steady { status_number result ≢ 4 → (D.reads door.new ≡ D.reads door.old) × (D.writes door.new ≡ D.writes door.old) }
+    ensures stays { StaysKept Keeper-dyn desk.old.keeper desk.new.keeper desk.new.state }
+    ensures done { (s : Session) (first : DoorState) → IsIn s desk.old.state → D.tells → HasDone [] [] reader.old first (D.state door.old) []
+        → (status_number result ≡ 0) ⊎ ((status_number result ≡ 3) ⊎ (status_number result ≡ 7))
+        → LeadsToAll s first (faults_of Keeper-dyn desk.old.keeper) desk.new.state (D.state door.new) (faults_of Keeper-dyn desk.new.keeper) (status_number result) }
+    ensures part { (s : Session) (first : DoorState) → IsIn s desk.old.state → D.tells → HasDone [] [] reader.old first (D.state door.old) []
+        → (status_number result ≡ 4) ⊎ (status_number result ≡ 5)
+        → LeadsToPart s first (faults_of Keeper-dyn desk.old.keeper) desk.new.state (D.state door.new) (faults_of Keeper-dyn desk.new.keeper) }
+    ensures taken { (s : Session) (first : DoorState) → IsIn s desk.old.state → D.tells → HasDone [] [] reader.old first (D.state door.old) []
+        → D.reads door.new ≢ D.reads door.old
+        → LeadsToTaken s first (faults_of Keeper-dyn desk.old.keeper) desk.new.state (D.state door.new) (faults_of Keeper-dyn desk.new.keeper) }
+    ensures keeper { status_number result ≡ 7 → Rose (faults_of Keeper-dyn desk.old.keeper) (faults_of Keeper-dyn desk.new.keeper) }
+    ensures keeper_steady { (status_number result ≡ 0) ⊎ (status_number result ≡ 3) → faults_of Keeper-dyn desk.new.keeper ≡ faults_of Keeper-dyn desk.old.keeper }
+    ensures turns { D.turns door.new ≡ D.turns door.old }
+{
+    let mut lines = Bytes::empty(alloc);
+    let mut steps = Steps::<L>::new(blank);
+    snoop_packets(alloc, desk, door, reader, &mut lines, &mut steps)
+}
+
+/// Reads a capture, and writes for each packet the verdict on it, in the session that the desk is in,
+/// and then what is learnt of it: where a packet of a Thing is forwarded and came by UDP from port 53
+/// of an address of the class of DNS servers, each address that it answers is observed under the name
+/// that was asked for, at the moment of the session. In the end the line of the fault that ends the
+/// packets is written. All lines of a packet are written before more of the capture is read.
+///
+/// | Status | It comes |
+/// |---|---|
+/// | 0 | the capture was read to its end |
+/// | 3 | a fault of the capture ended it |
+/// | 4 | a read or a write of the door failed: the run ends there |
+/// | 5 | want of memory: the run ends there, and no line says so |
+/// | 7 | the keeper failed at a name; the capture was read as with 0 or 3 |
+pub fn snoop_capture<D: Door>(alloc: Global, desk: &mut Desk, door: &mut D) -> Status
+    requires kept { IsKept Keeper-dyn desk.old.keeper (tables_of desk.old.state) }
+    ensures statuses { (status_number result ≡ 0) ⊎ ((status_number result ≡ 3) ⊎ ((status_number result ≡ 4) ⊎ ((status_number result ≡ 5) ⊎ (status_number result ≡ 7)))) }
+    ensures fault { status_number result ≡ 4 → EndsAtFailure (D.failed door.new) (D.reads door.old) (D.reads door.new) (D.writes door.old) (D.writes door.new) }
+    ensures steady { status_number result ≢ 4 → (D.reads door.new ≡ D.reads door.old) × (D.writes door.new ≡ D.writes door.old) }
+    ensures stays { StaysKept Keeper-dyn desk.old.keeper desk.new.keeper desk.new.state }
+    ensures done { (s : Session) → IsIn s desk.old.state → D.tells → (status_number result ≡ 0) ⊎ ((status_number result ≡ 3) ⊎ (status_number result ≡ 7))
+        → LeadsToAll s (D.state door.old) (faults_of Keeper-dyn desk.old.keeper) desk.new.state (D.state door.new) (faults_of Keeper-dyn desk.new.keeper) (status_number result) }
+    ensures part { (s : Session) → IsIn s desk.old.state → D.tells → (status_number result ≡ 4) ⊎ (status_number result ≡ 5)
+        → LeadsToPart s (D.state door.old) (faults_of Keeper-dyn desk.old.keeper) desk.new.state (D.state door.new) (faults_of Keeper-dyn desk.new.keeper) }
+    ensures taken { (s : Session) → IsIn s desk.old.state → D.tells → D.reads door.new ≢ D.reads door.old
+        → LeadsToTaken s (D.state door.old) (faults_of Keeper-dyn desk.old.keeper) desk.new.state (D.state door.new) (faults_of Keeper-dyn desk.new.keeper) }
+    ensures keeper { status_number result ≡ 7 → Rose (faults_of Keeper-dyn desk.old.keeper) (faults_of Keeper-dyn desk.new.keeper) }
+    ensures keeper_steady { (status_number result ≡ 0) ⊎ (status_number result ≡ 3) → faults_of Keeper-dyn desk.new.keeper ≡ faults_of Keeper-dyn desk.old.keeper }
+    ensures turns { D.turns door.new ≡ D.turns door.old }
+{
+    let mut reader = match CaptureReader::begin(alloc, door) {
+        Ok(reader) => reader,
+        Err(ReadFault::Failed) => return Status::DoorFailed,
+        Err(ReadFault::Memory) => return Status::NoMemory,
+    };
+    snoop_counted::<Brand, D>(alloc, desk, door, &mut reader, Blank::new(1))
+}

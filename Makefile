@@ -43,6 +43,7 @@ checks: build
 	checks/failures
 	checks/differential crates/mud/out/mud 1 10000
 	checks/differential crates/mud/out/mud 2 10000 200
+	checks/lists
 
 proofs:
 	@bash checks/proofs
@@ -81,7 +82,7 @@ install: build
 	install -d "$(DESTDIR)$(PREFIX)/share/man/man1"
 	install -m 644 man/mud.1 "$(DESTDIR)$(PREFIX)/share/man/man1/mud.1"
 	install -d "$(DESTDIR)$(PREFIX)/share/mud"
-	install -m 755 contrib/announce contrib/dnsmasq-script contrib/feed contrib/listen "$(DESTDIR)$(PREFIX)/share/mud"
+	install -m 755 contrib/announce contrib/dnsmasq-script contrib/feed contrib/listen contrib/nft-rules "$(DESTDIR)$(PREFIX)/share/mud"
 	install -m 644 docs/GUIDE.md docs/REFERENCE.md contrib/README.md "$(DESTDIR)$(PREFIX)/share/mud"
 	for unit in mud.service mud-listen@.service; do \
 	  sed 's|/usr/local/|$(PREFIX)/|' "contrib/$$unit" >"$(DESTDIR)$(PREFIX)/share/mud/$$unit" || exit 1; \

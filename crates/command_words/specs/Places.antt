@@ -1,7 +1,7 @@
 -- The words of a line that name what its command works on.
 use Rattle.std.specs.Prelude.{ℕ, Bool, true, false, List, ◌∷◌, Option, Some, None}
 use Rattle.command_words.specs.declared.command.Command.{Command}
-use Rattle.command_words.specs.declared.command.Command.TheVariants.{Hear, Check, Frames, Judge, Import, Replay, Serve, Report, Drill}
+use Rattle.command_words.specs.declared.command.Command.TheVariants.{Hear, Check, Frames, Judge, Import, Replay, Serve, Report, Export, Drill}
 
 -- whether a command's line names a store
 abbrev pub has_store : Command → Bool
@@ -13,6 +13,7 @@ has_store Import = true
 has_store Replay = true
 has_store (Serve port count) = true
 has_store (Report kind) = true
+has_store (Export mac) = true
 has_store (Drill packets) = false
 
 -- whether it names a folder
@@ -25,6 +26,7 @@ has_folder Import = true
 has_folder Replay = false
 has_folder (Serve port count) = false
 has_folder (Report kind) = false
+has_folder (Export mac) = false
 has_folder (Drill packets) = false
 
 abbrev pub second_of : List (List ℕ) → Option (List ℕ)

@@ -35,7 +35,8 @@ impl Command {
             | Command::Import
             | Command::Replay
             | Command::Serve { .. }
-            | Command::Report(_) => true,
+            | Command::Report(_)
+            | Command::Export(_) => true,
             Command::Hear(_) | Command::Check | Command::Frames | Command::Drill(_) => false,
         }
     }
@@ -53,6 +54,7 @@ impl Command {
             | Command::Replay
             | Command::Serve { .. }
             | Command::Report(_)
+            | Command::Export(_)
             | Command::Drill(_) => false,
         }
     }

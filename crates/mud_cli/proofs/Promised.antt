@@ -4,7 +4,8 @@ use Rattle.std.proofs.lemmas.Bool.{false≢true}
 use Rattle.mud_world.specs.Door.{DoorState}
 use Rattle.mud_cli.specs.Promises.{ReadUpTo}
 use Rattle.command_words.specs.declared.command.Command.{Command}
-use Rattle.command_words.specs.declared.command.Command.TheVariants.{Frames, Serve, Report, Drill}
+use Rattle.command_words.specs.declared.command.Command.TheVariants.{Frames, Serve, Report, Export, Drill}
+use Rattle.mud_base.specs.declared.addr.Mac.{Mac}
 use Rattle.command_words.specs.declared.command.ReportKind.{ReportKind}
 
 pub promised : (P : Command → Type 0) (a b : Command) → Some a ≡ Some b → P a → P b
@@ -39,6 +40,9 @@ served_of P command a b port count is named holds =
 
 pub reported_of : (P : ReportKind → Type 0) (command : Command) (a kind : ReportKind) → command ≡ Report a → command ≡ Report kind → P a → P kind
 reported_of P command a kind is named holds = let same : a ≡ kind = cc in subst P same holds
+
+pub exported_of : (P : Mac → Type 0) (command : Command) (a mac : Mac) → command ≡ Export a → command ≡ Export mac → P a → P mac
+exported_of P command a mac is named holds = let same : a ≡ mac = cc in subst P same holds
 
 pub drilled_of : (P : ℕ → Type 0) (command : Command) (a packets : ℕ) → command ≡ Drill a → command ≡ Drill packets → P a → P packets
 drilled_of P command a packets is named holds = let same : a ≡ packets = cc in subst P same holds

@@ -5,3 +5,4 @@ pub mod Hear
 pub mod Import
 pub mod Promises
 pub mod Report
+pub mod Export

@@ -8,13 +8,16 @@ ghost use Rattle.mud_cli.specs.Import.Store.{ImportsStore, outside, spool_viewed
 ghost use Rattle.mud_cli.specs.Promises.{LeavesRest, Promises};
 ghost use Rattle.command_words.specs.Words.{command_in, words_of};
 ghost use Rattle.command_words.specs.declared.command.Command.{Command};
-ghost use Rattle.command_words.specs.declared.command.Command.TheVariants.{Judge, Import, Replay, Serve, Report, Drill};
+ghost use Rattle.command_words.specs.declared.command.Command.TheVariants.{Judge, Import, Replay, Serve, Report, Export, Drill};
 ghost use Rattle.command_words.specs.declared.command.ReportKind.{ReportKind};
 ghost use Rattle.console_runs.specs.Replay.{ReplaysStore};
 ghost use Rattle.console_runs.specs.Serve.{ServesStore, listening, clock_run};
 ghost use Rattle.drill_runs.specs.Store.{DrillsStore};
 ghost use Rattle.report_runs.specs.Store.{ReportsStore};
 ghost use Rattle.mud_cli.specs.Report.{AsksClock};
+ghost use Rattle.export_runs.specs.Store.{ExportsStore};
+ghost use Rattle.mud_base.specs.declared.addr.Mac.{Mac};
+ghost use Rattle.mud_cli.specs.Export.{AsksClockOnce};
 
 use crate::answer::{Input, answer_input};
 use crate::frames::FrameLines;
@@ -25,6 +28,7 @@ use command_words::{Command, command_of};
 use console_runs::{replay_store, serve_store};
 use desk_runs::judge_store;
 use drill_runs::run_drill;
+use export_runs::export_store;
 use mud_desk::Taken;
 use mud_world::{Clock, Door, Keeper, Spool};
 use report_runs::report_store;
@@ -78,6 +82,14 @@ fn run_command<D: Door, P: Spool, C: Clock>(
     ensures report_silent { (kind : ReportKind) → command ≡ Report kind → status_number result.0 ≡ 7 → door.new ≡ door.old }
     ensures report_clock { (kind : ReportKind) → command ≡ Report kind → AsksClock C.tells C.moments kind clock.old clock.new (status_number result.0) }
     ensures report_apart { (kind : ReportKind) → command ≡ Report kind → spool.new ≡ spool.old }
+    ensures exported { (mac : Mac) → command ≡ Export mac →
+        ExportsStore Keeper-dyn mac D.tells C.tells (C.moments clock.old) keeper result.1
+        (viewed (D.state door.old) (D.turns door.old) (D.reads door.old) (D.writes door.old) (D.failed door.old))
+        (viewed (D.state door.new) (D.turns door.new) (D.reads door.new) (D.writes door.new) (D.failed door.new))
+        (status_number result.0) }
+    ensures export_silent { (mac : Mac) → command ≡ Export mac → status_number result.0 ≡ 7 → door.new ≡ door.old }
+    ensures export_clock { (mac : Mac) → command ≡ Export mac → AsksClockOnce C.tells C.moments clock.old clock.new (status_number result.0) }
+    ensures export_apart { (mac : Mac) → command ≡ Export mac → spool.new ≡ spool.old }
     ensures drilled { (packets : ℕ) → command ≡ Drill packets →
         DrillsStore Keeper-dyn D.tells packets keeper result.1
         (viewed (D.state door.old) (D.turns door.old) (D.reads door.old) (D.writes door.old) (D.failed door.old))
@@ -97,6 +109,7 @@ fn run_command<D: Door, P: Spool, C: Clock>(
             serve_store(alloc, keeper, Taken::new(alloc), door, clock, port, count)
         }
         Command::Report(kind) => report_store(alloc, keeper, Taken::new(alloc), kind, door, clock),
+        Command::Export(mac) => export_store(alloc, keeper, Taken::new(alloc), mac, door, clock),
         Command::Drill(packets) => run_drill(alloc, keeper, Taken::new(alloc), packets, door),
     }
 }
@@ -107,9 +120,9 @@ fn run_command<D: Door, P: Spool, C: Clock>(
 ///
 /// | Status | It comes |
 /// |---|---|
-/// | 0 | the input was read to its end, or each file of the folder was imported or skipped; of `replay`, the connection ended between two requests or by a request that closes it; of `serve`, the connections were served; of `report` and `drill`, all was written |
+/// | 0 | the input was read to its end, or each file of the folder was imported or skipped; of `replay`, the connection ended between two requests or by a request that closes it; of `serve`, the connections were served; of `report`, `export` and `drill`, all was written |
 /// | 2 | exactly where the words are no listed line; then nothing is read or written |
-/// | 3 | the input breaks a rule of its reader, and the line that says so was written; or an imported file is refused, and the keeper didn't fail; of `replay`, a fault of the framing or the last request of a connection ended it; of `drill`, the store isn't empty |
+/// | 3 | the input breaks a rule of its reader, and the line that says so was written; or an imported file is refused, and the keeper didn't fail; of `replay`, a fault of the framing or the last request of a connection ended it; of `export`, exactly where no Thing has the hardware address, and the line that says so was written; of `drill`, the store isn't empty |
 /// | 4 | exactly where a read or a write of the door, or a call of the spool, failed in this call; of `serve`, only where the port couldn't be bound, a further connection couldn't be taken, or the line of 6 couldn't be written |
 /// | 5 | want of memory; of `replay` and `serve`, before a connection is read |
 /// | 6 | an item of the store is no record, and the line that names it was written; where it wasn't written whole it is 4 or 5 |
@@ -173,6 +186,15 @@ pub fn mud_main<D: Door, P: Spool, C: Clock>(
     ensures report_silent { (kind : ReportKind) → command_in (words_of words.now) ≡ Some (Report kind) → result.0 ≡ 7 → door.new ≡ door.old }
     ensures report_clock { (kind : ReportKind) → command_in (words_of words.now) ≡ Some (Report kind) → AsksClock C.tells C.moments kind clock.old clock.new result.0 }
     ensures report_apart { (kind : ReportKind) → command_in (words_of words.now) ≡ Some (Report kind) → spool.new ≡ spool.old }
+    // Of `export`: what it does with the door and the keeper, when it asks the clock, and that it touches nothing else.
+    ensures exported { (mac : Mac) → command_in (words_of words.now) ≡ Some (Export mac) →
+        ExportsStore Keeper-dyn mac D.tells C.tells (C.moments clock.old) keeper result.1
+        (viewed (D.state door.old) (D.turns door.old) (D.reads door.old) (D.writes door.old) (D.failed door.old))
+        (viewed (D.state door.new) (D.turns door.new) (D.reads door.new) (D.writes door.new) (D.failed door.new))
+        result.0 }
+    ensures export_silent { (mac : Mac) → command_in (words_of words.now) ≡ Some (Export mac) → result.0 ≡ 7 → door.new ≡ door.old }
+    ensures export_clock { (mac : Mac) → command_in (words_of words.now) ≡ Some (Export mac) → AsksClockOnce C.tells C.moments clock.old clock.new result.0 }
+    ensures export_apart { (mac : Mac) → command_in (words_of words.now) ≡ Some (Export mac) → spool.new ≡ spool.old }
     // Of `drill`: what it does with the door and the keeper, and that it touches nothing else.
     ensures drilled { (packets : ℕ) → command_in (words_of words.now) ≡ Some (Drill packets) →
         DrillsStore Keeper-dyn D.tells packets keeper result.1

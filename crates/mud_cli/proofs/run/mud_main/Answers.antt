@@ -1,6 +1,6 @@
 use Rattle.std.proofs.Common.{ℕ, sym, ◌∙◌, subst}
 use Rattle.command_runs.specs.View.{viewed}
-use Rattle.command_words.specs.declared.command.Command.TheVariants.{Drill, Import, Replay, Serve, Report}
+use Rattle.command_words.specs.declared.command.Command.TheVariants.{Drill, Import, Replay, Serve, Report, Export}
 use Rattle.console_runs.specs.Replay.{ReplaysStore}
 use Rattle.console_runs.specs.Serve.{ServesStore, listening, clock_run}
 use Rattle.drill_runs.specs.Store.{DrillsStore}
@@ -8,6 +8,7 @@ use Rattle.report_runs.specs.Store.{ReportsStore}
 use Rattle.mud_cli.specs.Import.Store.{ImportsStore, outside, spool_viewed}
 use Rattle.mud_cli.proofs.Promised.{same_command}
 use Rattle.mud_cli.proofs.run.mud_main.Goals as goal
+use Rattle.export_runs.specs.Store.{ExportsStore}
 
 pub returns-clause-replayed : goal.returns-clause-replayed
 returns-clause-replayed g c = λ named.
@@ -47,6 +48,19 @@ returns-clause-reported g c = λ kind named.
     (viewed (door.state new) (door.turns new) (door.reads new) (door.writes new) (door.failed new)) status)
     (sym c.number-2.ensures)
     (c.run_command-status.ensures.reported kind (same_command c.in-Some.command (Report kind) (sym c.in-Some.is ∙ c.command_of.ensures ∙ named)))
+
+pub returns-clause-exported : goal.returns-clause-exported
+returns-clause-exported g c = λ mac named.
+    let door = g.D.Door in
+    let clock = g.C.Clock in
+    let old = c.args.door.now in
+    let new = c.run_command-status.new.door in
+    subst
+    (λ (status : ℕ). ExportsStore (goal.Keeper-dyn g) mac door.tells clock.tells (clock.moments c.args.clock.now) c.args.keeper c.run_command-status.result.1
+    (viewed (door.state old) (door.turns old) (door.reads old) (door.writes old) (door.failed old))
+    (viewed (door.state new) (door.turns new) (door.reads new) (door.writes new) (door.failed new)) status)
+    (sym c.number-2.ensures)
+    (c.run_command-status.ensures.exported mac (same_command c.in-Some.command (Export mac) (sym c.in-Some.is ∙ c.command_of.ensures ∙ named)))
 
 pub returns-clause-imported : goal.returns-clause-imported
 returns-clause-imported g c = λ named.

@@ -8,9 +8,11 @@ use Rattle.command_words.specs.declared.command.Command.TheVariants.{Hear, Check
 use Rattle.command_words.specs.declared.command.ReportKind.{ReportKind}
 use Rattle.console_runs.specs.Serve.{ServesStore, listening, clock_run}
 use Rattle.report_runs.specs.Store.{ReportsStore}
+use Rattle.mud_base.specs.declared.addr.Mac.{Mac}
+use Rattle.export_runs.specs.Store.{ExportsStore}
 use Rattle.drill_runs.specs.Store.{DrillsStore}
 use Rattle.mud_cli.specs.Report.{AsksClock}
-use Rattle.mud_cli.proofs.Promised.{drilled_of, no_most, not_capture, promised_of, read_up_to, reported_of, served_of}
+use Rattle.mud_cli.proofs.Promised.{drilled_of, exported_of, no_most, not_capture, promised_of, read_up_to, reported_of, served_of}
 use Rattle.mud_cli.proofs.run.run_command.Goals as goal
 
 pub returns-in-Hear-clause-answers : goal.returns-in-Hear-clause-answers
@@ -119,6 +121,25 @@ returns-in-Report-clause-report_clock g c = λ kind named.
     (λ (k : ReportKind). AsksClock clock.tells clock.moments k c.args.clock.now c.report_store.new.clock (status_number c.report_store.result.0))
     c.args.command c.in-Report.kind kind c.in-Report.is named
     (record { asked = asks.asked; once = asks.once; unasked = asks.unasked; unopened = asks.unopened })
+
+pub returns-in-Export-clause-exported : goal.returns-in-Export-clause-exported
+returns-in-Export-clause-exported g c = λ mac named.
+    let door = g.D.Door in
+    let clock = g.C.Clock in
+    let old = c.args.door.now in
+    let new = c.export_store.new.door in
+    exported_of
+    (λ (m : Mac). ExportsStore (goal.Keeper-dyn g) m door.tells clock.tells (clock.moments c.args.clock.now) c.args.keeper c.export_store.result.1
+    (viewed (door.state old) (door.turns old) (door.reads old) (door.writes old) (door.failed old))
+    (viewed (door.state new) (door.turns new) (door.reads new) (door.writes new) (door.failed new))
+    (status_number c.export_store.result.0))
+    c.args.command c.in-Export.mac mac c.in-Export.is named c.export_store.ensures.exported
+
+pub returns-in-Export-clause-export_clock : goal.returns-in-Export-clause-export_clock
+returns-in-Export-clause-export_clock g c = λ mac named.
+    let clock = g.C.Clock in
+    let asks = c.export_store.ensures in
+    record { asked = asks.asked; once = asks.once; unasked = asks.unasked }
 
 pub returns-in-Drill-clause-drilled : goal.returns-in-Drill-clause-drilled
 returns-in-Drill-clause-drilled g c = λ packets named.

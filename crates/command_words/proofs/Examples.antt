@@ -2,7 +2,7 @@
 use Rattle.std.specs.Prelude.{◌≡◌, ⊤, [], ◌∷◌, codes, Some, None, refl}
 use Rattle.mud_base.specs.Decimal.{digits_upto, has_numeral_front, number_upto}
 use Rattle.mud_base.proofs.OnLiterals.{texts_on_literals}
-use Rattle.command_words.specs.declared.command.Command.TheVariants.{Hear, Check, Frames, Judge, Import, Replay, Serve, Report, Export, Drill}
+use Rattle.command_words.specs.declared.command.Command.TheVariants.{Hear, Check, Frames, Judge, Snoop, Import, Replay, Serve, Report, Export, Drill}
 use Rattle.command_words.specs.declared.command.Message.TheVariants.{Dhcp, Lldp}
 use Rattle.command_words.specs.declared.command.ReportKind.TheVariants.{Things, Files, Classes, Locals, Names, Due}
 use Rattle.command_words.specs.Words.{begins_with_dash, is_path, count_in, message_in, kind_in, one_word, two_words, three_words, four_words, line_in, command_in}
@@ -33,6 +33,10 @@ frames = refl
 judge : command_in (codes "judge" ∷ codes "desk.db" ∷ []) ≡ Some Judge
 unfolding lines_on_literals
 judge = refl
+
+snoop : command_in (codes "snoop" ∷ codes "desk.db" ∷ []) ≡ Some Snoop
+unfolding lines_on_literals
+snoop = refl
 
 import_folder : command_in (codes "import" ∷ codes ":memory:" ∷ codes "folder" ∷ []) ≡ Some Import
 unfolding lines_on_literals

@@ -144,6 +144,21 @@ judge_clear u p =
 judge : (u : List ℕ) → IsPlain u → Passes (codes "judge" ∷ u ∷ [])
 judge u p = passes_by _ judge_leaf (u ∷ []) (judge_enters u) (judge_clear u p)
 
+abbrev snoop_leaf : Shape
+snoop_leaf = leaf_of (line_of_two (codes "snoop") (codes "STORE"))
+
+snoop_enters : (u : List ℕ) → Enters (codes "snoop" ∷ u ∷ []) snoop_leaf (u ∷ [])
+unfolding clap_on_literals
+snoop_enters u below = refl
+
+snoop_clear : (u : List ℕ) → IsPlain u → leaf_fault snoop_leaf (u ∷ []) ≡ []
+unfolding defaults_fault
+snoop_clear u p =
+    line_is_clear snoop_leaf (u ∷ []) _ (reads_more snoop_leaf nothing_held 1 u [] _ p refl refl (reads_none snoop_leaf _ 2)) refl
+
+snoop : (u : List ℕ) → IsPlain u → Passes (codes "snoop" ∷ u ∷ [])
+snoop u p = passes_by _ snoop_leaf (u ∷ []) (snoop_enters u) (snoop_clear u p)
+
 abbrev import_folder_leaf : Shape
 import_folder_leaf = leaf_of (line_of_three (codes "import") (codes "STORE") (codes "FOLDER"))
 
@@ -269,11 +284,14 @@ two_pass first second command p given =
       | inl h ↦ at_word first (codes "hear") _ h.0 (hear second p)
       | inr h ↦ elim (chosen (bytes_eq first (codes "judge")) _ _ command h.1) [
         | inl k ↦ at_word first (codes "judge") _ k.0 (judge second p)
-        | inr k ↦ elim (chosen (bytes_eq first (codes "replay")) _ _ command k.1) [
-          | inl l ↦ at_word first (codes "replay") _ l.0 (replay second p)
-          | inr l ↦ elim (chosen (bytes_eq first (codes "drill")) _ _ command l.1) [
-            | inl m ↦ at_word first (codes "drill") _ m.0 (drill second p)
-            | inr m ↦ none_is_some command m.1
+        | inr k ↦ elim (chosen (bytes_eq first (codes "snoop")) _ _ command k.1) [
+          | inl l ↦ at_word first (codes "snoop") _ l.0 (snoop second p)
+          | inr l ↦ elim (chosen (bytes_eq first (codes "replay")) _ _ command l.1) [
+            | inl m ↦ at_word first (codes "replay") _ m.0 (replay second p)
+            | inr m ↦ elim (chosen (bytes_eq first (codes "drill")) _ _ command m.1) [
+              | inl n ↦ at_word first (codes "drill") _ n.0 (drill second p)
+              | inr n ↦ none_is_some command n.1
+            ]
           ]
         ]
       ]

@@ -38,6 +38,9 @@ pub enum Command {
     Frames,
     /// `judge STORE`: reads a capture and writes the verdict on each packet, by what the store keeps.
     Judge,
+    /// `snoop STORE`: reads a capture and writes the verdict on each packet, as `judge` does, and learns
+    /// names from the answers of DNS servers in it.
+    Snoop,
     /// `import STORE FOLDER`: imports the usage files of a folder into the store, and writes a line
     /// for each.
     Import,

@@ -132,7 +132,8 @@ fn with_store_lines<'a>(alloc: Global, program: Parser<'a>) -> Result<Parser<'a>
     ensures { IfOk result (λ wider. app_of wider ≡ spec.with_store_lines (app_of program.entry)) }
 {
     let judging = with_line_of_two(alloc, program, "judge", "STORE")?;
-    let importing = with_line_of_three(alloc, judging, "import", "STORE", "FOLDER")?;
+    let snooping = with_line_of_two(alloc, judging, "snoop", "STORE")?;
+    let importing = with_line_of_three(alloc, snooping, "import", "STORE", "FOLDER")?;
     let reporting = with_line_of_three(alloc, importing, "report", "STORE", "KIND")?;
     with_line_of_three(alloc, reporting, "export", "STORE", "MAC")
 }

@@ -32,6 +32,7 @@ impl Command {
     {
         match self {
             Command::Judge
+            | Command::Snoop
             | Command::Import
             | Command::Replay
             | Command::Serve { .. }
@@ -51,6 +52,7 @@ impl Command {
             | Command::Check
             | Command::Frames
             | Command::Judge
+            | Command::Snoop
             | Command::Replay
             | Command::Serve { .. }
             | Command::Report(_)

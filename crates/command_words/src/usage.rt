@@ -11,6 +11,7 @@ usage: mud COMMAND
   check                   a usage file                what it allows, or the rule that it breaks
   frames                  a capture                   what each packet is
   judge STORE             a capture                   what becomes of each packet, and why
+  snoop STORE             a capture                   the same, and the names that DNS answers teach
   import STORE FOLDER     nothing                     what became of each usage file there
   report STORE KIND       nothing                     a table of what the store keeps
   export STORE MAC        nothing                     what a Thing may do now, as access lists

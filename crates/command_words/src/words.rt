@@ -130,6 +130,9 @@ fn two_words(first: &str, second: &str) -> Option<Command>
     if first == "judge" {
         return over_path(Command::Judge, second);
     }
+    if first == "snoop" {
+        return over_path(Command::Snoop, second);
+    }
     if first == "replay" {
         return over_path(Command::Replay, second);
     }

@@ -24,3 +24,5 @@ mod replays;
 mod replies;
 #[cfg(test)]
 mod reports;
+#[cfg(test)]
+mod snooped;

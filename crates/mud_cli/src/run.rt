@@ -8,12 +8,13 @@ ghost use Rattle.mud_cli.specs.Import.Store.{ImportsStore, outside, spool_viewed
 ghost use Rattle.mud_cli.specs.Promises.{LeavesRest, Promises};
 ghost use Rattle.command_words.specs.Words.{command_in, words_of};
 ghost use Rattle.command_words.specs.declared.command.Command.{Command};
-ghost use Rattle.command_words.specs.declared.command.Command.TheVariants.{Judge, Import, Replay, Serve, Report, Export, Drill};
+ghost use Rattle.command_words.specs.declared.command.Command.TheVariants.{Judge, Snoop, Import, Replay, Serve, Report, Export, Drill};
 ghost use Rattle.command_words.specs.declared.command.ReportKind.{ReportKind};
 ghost use Rattle.console_runs.specs.Replay.{ReplaysStore};
 ghost use Rattle.console_runs.specs.Serve.{ServesStore, listening, clock_run};
 ghost use Rattle.drill_runs.specs.Store.{DrillsStore};
 ghost use Rattle.report_runs.specs.Store.{ReportsStore};
+ghost use Rattle.snoop_runs.specs.Store.{SnoopsStore};
 ghost use Rattle.mud_cli.specs.Report.{AsksClock};
 ghost use Rattle.export_runs.specs.Store.{ExportsStore};
 ghost use Rattle.mud_base.specs.declared.addr.Mac.{Mac};
@@ -32,6 +33,7 @@ use export_runs::export_store;
 use mud_desk::Taken;
 use mud_world::{Clock, Door, Keeper, Spool};
 use report_runs::report_store;
+use snoop_runs::snoop_store;
 use std::alloc::Global;
 
 /// Runs a command.
@@ -55,6 +57,11 @@ fn run_command<D: Door, P: Spool, C: Clock>(
         (status_number result.0) }
     ensures silent { command ≡ Judge → status_number result.0 ≡ 7 → door.new ≡ door.old }
     ensures apart { command ≡ Judge → (spool.new ≡ spool.old) × (clock.new ≡ clock.old) }
+    ensures snooped { command ≡ Snoop → SnoopsStore Keeper-dyn D.tells keeper result.1
+        (viewed (D.state door.old) (D.turns door.old) (D.reads door.old) (D.writes door.old) (D.failed door.old))
+        (viewed (D.state door.new) (D.turns door.new) (D.reads door.new) (D.writes door.new) (D.failed door.new))
+        (status_number result.0) }
+    ensures snoop_apart { command ≡ Snoop → (spool.new ≡ spool.old) × (clock.new ≡ clock.old) }
     ensures imported { command ≡ Import → ImportsStore Keeper-dyn (D.tells × (P.tells × C.tells)) keeper result.1
         (outside (viewed (D.state door.old) (D.turns door.old) (D.reads door.old) (D.writes door.old) (D.failed door.old))
         (spool_viewed (P.files spool.old) (P.faults spool.old)) (C.moments clock.old))
@@ -103,6 +110,7 @@ fn run_command<D: Door, P: Spool, C: Clock>(
         Command::Check => (answer_input(alloc, Input::UsageFile, door), keeper),
         Command::Frames => (write_capture(alloc, door, &mut FrameLines), keeper),
         Command::Judge => judge_store(alloc, keeper, Taken::new(alloc), door),
+        Command::Snoop => snoop_store(alloc, keeper, Taken::new(alloc), door),
         Command::Import => import_store(alloc, keeper, Taken::new(alloc), door, spool, clock),
         Command::Replay => replay_store(alloc, keeper, Taken::new(alloc), door),
         Command::Serve { port, count } => {
@@ -126,7 +134,7 @@ fn run_command<D: Door, P: Spool, C: Clock>(
 /// | 4 | exactly where a read or a write of the door, or a call of the spool, failed in this call; of `serve`, only where the port couldn't be bound, a further connection couldn't be taken, or the line of 6 couldn't be written |
 /// | 5 | want of memory; of `replay` and `serve`, before a connection is read |
 /// | 6 | an item of the store is no record, and the line that names it was written; where it wasn't written whole it is 4 or 5 |
-/// | 7 | only where the keeper failed in this call: of `import` and `drill` in any call, else in the opening |
+/// | 7 | only where the keeper failed in this call: of `import`, `drill` and `snoop` in any call, else in the opening |
 pub fn mud_main<D: Door, P: Spool, C: Clock>(
     alloc: Global,
     words: &[String],
@@ -154,6 +162,12 @@ pub fn mud_main<D: Door, P: Spool, C: Clock>(
         result.0 }
     ensures silent { command_in (words_of words.now) ≡ Some Judge → result.0 ≡ 7 → door.new ≡ door.old }
     ensures apart { command_in (words_of words.now) ≡ Some Judge → (spool.new ≡ spool.old) × (clock.new ≡ clock.old) }
+    // Of `snoop`: what it does with the door and the keeper, and that it touches nothing else.
+    ensures snooped { command_in (words_of words.now) ≡ Some Snoop → SnoopsStore Keeper-dyn D.tells keeper result.1
+        (viewed (D.state door.old) (D.turns door.old) (D.reads door.old) (D.writes door.old) (D.failed door.old))
+        (viewed (D.state door.new) (D.turns door.new) (D.reads door.new) (D.writes door.new) (D.failed door.new))
+        result.0 }
+    ensures snoop_apart { command_in (words_of words.now) ≡ Some Snoop → (spool.new ≡ spool.old) × (clock.new ≡ clock.old) }
     // Of `import`: what it does with the door, the keeper, the spool and the clock.
     ensures imported { command_in (words_of words.now) ≡ Some Import →
         ImportsStore Keeper-dyn (D.tells × (P.tells × C.tells)) keeper result.1

@@ -1,5 +1,5 @@
 use Rattle.std.proofs.Common.{◌∙◌, ap, codes}
-use Rattle.command_words.specs.Parser.{line_of_three, with_line}
+use Rattle.command_words.specs.Parser.{line_of_two, line_of_three, with_line}
 use Rattle.command_words.proofs.Building.{onto}
 use Rattle.command_words.proofs.parser.with_store_lines.Goals as goal
 
@@ -7,7 +7,9 @@ pub returns : goal.returns
 returns c =
     let import = line_of_three (codes "import") (codes "STORE") (codes "FOLDER") in
     let report = line_of_three (codes "report") (codes "STORE") (codes "KIND") in
-    let two = c.in_ok-importing.ensures ∙ ap (λ program. with_line program import) c.in_ok-judging.ensures in
+    let snoop = line_of_two (codes "snoop") (codes "STORE") in
     let export = line_of_three (codes "export") (codes "STORE") (codes "MAC") in
-    let three = c.in_ok-reporting.ensures ∙ ap (λ program. with_line program report) two in
-    onto export c.with_line_of_three-3.result three c.with_line_of_three-3.ensures
+    let two = c.in_ok-snooping.ensures ∙ ap (λ program. with_line program snoop) c.in_ok-judging.ensures in
+    let three = c.in_ok-importing.ensures ∙ ap (λ program. with_line program import) two in
+    let four = c.in_ok-reporting.ensures ∙ ap (λ program. with_line program report) three in
+    onto export c.with_line_of_three-3.result four c.with_line_of_three-3.ensures

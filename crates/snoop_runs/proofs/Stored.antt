@@ -23,6 +23,7 @@ use Rattle.desk_runs.specs.Judged.{IsIn}
 use Rattle.desk_runs.specs.Refused.{IsRefusal, bad_item_line, refusal_text}
 use Rattle.desk_runs.proofs.JudgedPackets.{in_begun}
 use Rattle.desk_runs.proofs.Runs.{refused_run}
+use Rattle.desk_runs.proofs.Stores.{unopened}
 use Rattle.snoop_runs.specs.Leads.{LeadsToAll, LeadsToPart, LeadsToTaken}
 use Rattle.snoop_runs.specs.Stays.{StaysKept}
 use Rattle.snoop_runs.specs.Store.{line_of_bad, LeavesAll, LeavesPart, LeavesTaken, IsRefused, OpensAndSnoops, RefusesStore, SnoopsStore}
@@ -97,7 +98,7 @@ module _ {X : Type 0} {F : X → Type 0} (members : (v : (x : X) × F x) → Gho
                 (taken (opened (tables_of state)) in_session told other);
           };
         });
-        kept = λ which. record { tables = tables_of ended; kept = stays.kept };
+        kept = inl (record { tables = tables_of ended; kept = stays.kept });
         same_box = record { object = stays.same_box.object ∙ same_box.object; place = stays.same_box.place ∙ same_box.place };
         same_turns = turns;
       })
@@ -168,7 +169,7 @@ module _ {X : Type 0} {F : X → Type 0} (members : (v : (x : X) × F x) → Gho
           same_tables = λ before. run.same_tables before tell;
           same_items = λ six before. run.same_items six before tell;
         });
-        kept = λ which. record { tables = (run.kept which).tables; kept = (run.kept which).kept };
+        kept = inr (unopened members keeper after status fault bad left is);
         same_box = same_box;
         same_turns = turns;
       }

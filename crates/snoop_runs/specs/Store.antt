@@ -13,6 +13,7 @@ use Rattle.desk_model.specs.DeskTables.{DeskTables, IsSound}
 use Rattle.desk_model.specs.Items.{items_of, tables_in}
 use Rattle.desk_model.specs.Sessions.{Session, opened}
 use Rattle.desk_runs.specs.Refused.{bad_item_line}
+use Rattle.desk_runs.specs.Store.{IsUnopened}
 use Rattle.mud_desk.specs.Boxed.{IsKept, IsSameBox}
 use Rattle.snoop_runs.specs.Runs.{scene, SnoopsAll, SnoopsPart, SnoopsTaken}
 
@@ -89,7 +90,8 @@ module _ {X : Type 0} {F : X → Type 0} (members : (v : (x : X) × F x) → Gho
     pub keeper_steady : (status ≡ 0) ⊎ ((status ≡ 3) ⊎ (status ≡ 6)) → faults_of members returned ≡ faults_of members keeper
     -- A desk is opened and learns from the capture, or the store is refused.
     pub runs : tells → Tells members returned → OpensAndSnoops keeper returned old new status ⊎ IsRefused keeper returned old new status
-    pub kept : (status ≡ 0) ⊎ (status ≡ 3) → KeepsSome returned
+    -- Whatever the status, the items of some tables are kept, but where no desk was opened.
+    pub kept : KeepsSome returned ⊎ IsUnopened members keeper returned status
     -- The box that comes back is the one that was handed in. No port is bound, and the connection isn't left.
     pub same_box : IsSameBox keeper returned
     pub same_turns : new.turns ≡ old.turns

@@ -11,5 +11,5 @@ entries-preserved g c = (
 pub returns-in_err-add_name-clause-stopped : goal.returns-in_err-add_name-clause-stopped
 returns-in_err-add_name-clause-stopped g c =
     let stopped = stops-behind g.I.Iterator.next_gives _ c.entries.yielded _ c.in-Some.entry _ _
-        c.entries.yielded_by c.in-Some.ensures.steps c.entries.invariant.1 c.in_err-add_name.ensures.stopped in
+    c.entries.yielded_by c.in-Some.ensures.steps c.entries.invariant.1 c.in_err-add_name.ensures.stopped in
     search rules

@@ -26,27 +26,27 @@ use Rattle.drop_ledger.specs.Places.{six, side_number, thing_place, ruling_class
 use Rattle.drop_ledger.specs.Seen.{hour_of, mac_on, ruling_on, ruled_on, rulings_in, rulings, is_unmanaged, is_link, is_unreadable, is_governed, has_both, passes, drops, verdicts, totals_in}
 use Rattle.drop_ledger.specs.Ledger.{count_row, counts_of, port_of, peer_row, row_with, row_by, denied_row, denials, other_row, denied_kinds, hour_in}
 
-bulb : Mac
+unfoldable pub bulb : Mac
 bulb = record { 0 = 2 ∷ 0 ∷ 0 ∷ 0 ∷ 0 ∷ 1 ∷ [] }
 
-switch : Mac
+unfoldable pub switch : Mac
 switch = record { 0 = 2 ∷ 0 ∷ 0 ∷ 0 ∷ 0 ∷ 2 ∷ [] }
 
-gateway : Mac
+unfoldable pub gateway : Mac
 gateway = record { 0 = 2 ∷ 0 ∷ 0 ∷ 0 ∷ 0 ∷ 254 ∷ [] }
 
 -- 192.0.2.10 port 50000 to 198.51.100.7 port 443, and to 192.0.2.11 port 80; and a question to a name server at 192.0.2.53
-opening : Fields
+unfoldable pub opening : Fields
 opening = record { src = V4 3221225994; dst = V4 3325256711; protocol = 6; dscp = 0; ecn = 0; length = 40; ttl = 64; transport = Tcp 50000 443 2 }
 
-between : Fields
+unfoldable pub between : Fields
 between = record { src = V4 3221225994; dst = V4 3221225995; protocol = 6; dscp = 0; ecn = 0; length = 40; ttl = 64; transport = Tcp 50000 80 2 }
 
-asking : Fields
+unfoldable pub asking : Fields
 asking = record { src = V4 3221225994; dst = V4 3221226037; protocol = 17; dscp = 0; ecn = 0; length = 28; ttl = 64; transport = Udp 40000 53 }
 
 -- A connection is opened while the binding that allows it is live, and again at its end; between them a name is asked for.
-hour : List Seen
+unfoldable pub hour : List Seen
 hour =
     record { moment = 1059; verdict = Governed (Some (Accept 1)) None; source = bulb; destination = gateway; fields = Some opening }
     ∷ record { moment = 1060; verdict = Governed (Some (DropDefault NoMatch)) None; source = bulb; destination = gateway; fields = Some opening }
@@ -78,7 +78,7 @@ unfolding hour totals_in verdicts is_unmanaged is_link is_unreadable is_governed
 totals_of_the_hour = refl
 
 -- A packet between two Things, which the sender's file allows and the receiver's doesn't.
-crossing : List Seen
+unfoldable pub crossing : List Seen
 crossing = record { moment = 1001; verdict = Governed (Some (Accept 2)) (Some (DropDefault NoMatch)); source = bulb; destination = switch; fields = Some between } ∷ []
 
 counts_of_both : counts_of (rulings crossing) ≡

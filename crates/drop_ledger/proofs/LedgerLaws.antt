@@ -387,7 +387,7 @@ rulings_sum (s ∷ all) have =
 
 -- ---- No rulings
 
-none_ruled : (s : Seen) → is_ruled s ≡ false → rulings_in s ≡ []
+pub none_ruled : (s : Seen) → is_ruled s ≡ false → rulings_in s ≡ []
 unfolding rulings_in
 none_ruled s e = by (ruled_on s From) (ruled_on s To) e
   where

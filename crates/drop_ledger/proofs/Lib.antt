@@ -1,4 +1,4 @@
-mod Examples
+pub mod Examples
 pub mod LedgerLaws
 pub mod PlaceOrder
 pub mod TallyLaws

@@ -10,6 +10,6 @@ pub mod tally;
 pub mod totals;
 
 pub use rows::{CountRow, DeniedRow, OtherRow};
-pub use seen::Seen;
+pub use seen::{Seen, hour_at};
 pub use tally::{Tally, TallyPlan};
 pub use totals::Totals;

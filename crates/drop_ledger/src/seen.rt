@@ -1,5 +1,5 @@
 //! A packet that was judged, and the rulings in it.
-ghost use Rattle.std.specs.Prelude.{◌≡◌};
+ghost use Rattle.std.specs.Prelude.{◌≡◌, ◌/◌};
 ghost use Rattle.drop_ledger.specs.Seen as spec;
 
 use mud_base::{Direction, Fields, Mac, Moment};
@@ -50,13 +50,20 @@ fn ruling_on(verdict: &Verdict, side: Direction) -> Option<Ruling>
     }
 }
 
+/// The hour of a moment: whole hours since 1970-01-01T00:00:00Z.
+pub fn hour_at(moment: Moment) -> u64
+    ensures { result ≡ moment / 3600 }
+{
+    moment.seconds() / SECONDS_PER_HOUR
+}
+
 impl Seen {
-    /// The hour of the packet: whole hours since 1970-01-01T00:00:00Z.
+    /// The hour of the packet.
     #[tactic(auto, unfolding(crate::specs::Seen::hour_of))]
     pub fn hour(&self) -> u64
         ensures { result ≡ spec.hour_of self.now }
     {
-        self.moment.seconds() / SECONDS_PER_HOUR
+        hour_at(self.moment)
     }
 
     /// The hardware address at this side.

@@ -156,6 +156,7 @@ impl Tally {
     /// Takes the counts away. What was denied and the totals stay. It takes no memory.
     pub fn close_hour(&mut self)
         ensures closed { IsClosed self.old self.new }
+        ensures rooms { HasRooms self.old → HasRooms self.new }
         ensures stands { (all latest : List SeenValue) → StandsFor all latest self.old → StandsFor all [] self.new }
     {
         let len = self.counts.len();

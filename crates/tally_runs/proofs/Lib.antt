@@ -1,0 +1,4 @@
+mod Examples
+pub mod RulingLaws
+pub mod Stepped
+pub mod TextLaws

@@ -1,0 +1,47 @@
+use Rattle.std.proofs.Common.{◌≡◌, ℕ, List, sym, ap, subst, ◌∙◌}
+use Rattle.mud_desk.specs.DeskState.{DeskState, session_of}
+use Rattle.mud_world.specs.Door.{DoorState}
+use Rattle.capture_source.specs.Captures.{captured_of}
+use Rattle.capture_runs.specs.Capture.{due_behind}
+use Rattle.command_runs.specs.Due.{Due, WritesDue, WritesPart}
+use Rattle.command_runs.specs.Status.{status_number}
+use Rattle.desk_model.specs.Sessions.{Session}
+use Rattle.desk_runs.specs.Judged.{IsIn}
+use Rattle.tally_runs.specs.Tallied.{begun, seen_in, tally_text}
+use Rattle.tally_runs.specs.Store.{due_of_tally}
+use Rattle.tally_runs.proofs.TextLaws.{lines_told}
+use Rattle.tally_runs.proofs.store.tally_capture.Goals as goal
+
+-- the session's moment is that of the desk
+own_moment : (s : Session) (state : DeskState) → IsIn s state → state.moment ≡ s.moment
+unfolding session_of
+own_moment s state is_in = ap (λ (x : Session). x.moment) is_in.session_is
+
+told_due : (s : Session) (octets text : List ℕ) → text ≡ tally_text (seen_in s (captured_of octets).all) → due_behind text (captured_of octets).fault ≡ due_of_tally s octets
+told_due s octets text same = ap (λ (l : List ℕ). due_behind l (captured_of octets).fault) same
+
+pub returns-clause-done : goal.returns-clause-done
+returns-clause-done g c = λ s is_in tells which.
+    let old : DoorState = g.D.Door.state c.args.door.now in
+    let new : DoorState = g.D.Door.state c.write_capture-status.new.door in
+    let in_state = subst (λ (state : DeskState). IsIn s state) (sym c.into_parts-keeper.ensures.state) is_in in
+    let keeps = c.new-lines.ensures s in_state (c.moment-moment.ensures ∙ own_moment s c.args.desk.state is_in) in
+    subst (λ (due : Due). WritesDue due old new (status_number c.write_capture-status.result))
+    (told_due s old.left _ (lines_told s (captured_of old.left).all))
+    (c.write_capture-status.ensures.done (begun s) keeps tells which)
+
+pub returns-clause-part : goal.returns-clause-part
+returns-clause-part g c = λ s is_in tells which.
+    let old : DoorState = g.D.Door.state c.args.door.now in
+    let new : DoorState = g.D.Door.state c.write_capture-status.new.door in
+    let in_state = subst (λ (state : DeskState). IsIn s state) (sym c.into_parts-keeper.ensures.state) is_in in
+    let keeps = c.new-lines.ensures s in_state (c.moment-moment.ensures ∙ own_moment s c.args.desk.state is_in) in
+    subst (λ (due : Due). WritesPart due old new)
+    (told_due s old.left _ (lines_told s (captured_of old.left).all))
+    (c.write_capture-status.ensures.part (begun s) keeps tells which)
+
+pub returns-clause-taken : goal.returns-clause-taken
+returns-clause-taken g c = λ s is_in tells changed.
+    let in_state = subst (λ (state : DeskState). IsIn s state) (sym c.into_parts-keeper.ensures.state) is_in in
+    let keeps = c.new-lines.ensures s in_state (c.moment-moment.ensures ∙ own_moment s c.args.desk.state is_in) in
+    c.write_capture-status.ensures.taken (begun s) keeps tells changed

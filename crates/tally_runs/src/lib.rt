@@ -1,0 +1,12 @@
+//! How `tally` counts the packets of a capture: what was let through and what was denied, hour by
+//! hour and by each Thing.
+#![tactic(auto)]
+
+pub mod counting;
+pub mod laws;
+pub mod seeing;
+pub mod store;
+pub mod texts;
+
+pub use counting::TalliedLines;
+pub use store::tally_store;

@@ -1,0 +1,72 @@
+//! The command `tally`, from the opening of its store to its status.
+ghost use Rattle.std.specs.Prelude.{◌≡◌, ◌≢◌, ◌⊎◌};
+ghost use Rattle.mud_world.specs.Causes.{EndsAtFailure};
+ghost use Rattle.capture_runs.specs.Capture.{WritesTaken};
+ghost use Rattle.command_runs.specs.Due.{WritesDue, WritesPart};
+ghost use Rattle.command_runs.specs.Status.{status_number};
+ghost use Rattle.command_runs.specs.View.{viewed};
+ghost use Rattle.desk_items.specs.Taken.{kept_of};
+ghost use Rattle.desk_model.specs.Items.{none_kept};
+ghost use Rattle.desk_model.specs.Sessions.{Session};
+ghost use Rattle.desk_runs.specs.Judged.{IsIn};
+ghost use Rattle.mud_desk.specs.Boxed.{IsKept};
+ghost use Rattle.mud_desk.specs.DeskState.{tables_of};
+ghost use Rattle.tally_runs.specs.Store.{TalliesStore, due_of_tally};
+ghost use Rattle.tally_runs.specs.Tallied.{begun, tally_step};
+
+use crate::counting::TalliedLines;
+use capture_runs::write_capture;
+use command_runs::Status;
+use desk_runs::refuse_store;
+use mud_desk::{Desk, Taken};
+use mud_world::{Door, Keeper};
+use std::alloc::Global;
+
+/// Reads a capture, judges its packets in the desk's session, and writes how often each ruling was
+/// given, hour by hour, and at the end what was denied; then the line of the fault that ends the
+/// capture. The keeper isn't called.
+fn tally_capture<D: Door>(alloc: Global, desk: Desk, door: &mut D) -> (Status, Box<dyn Keeper>)
+    requires { IsKept Keeper-dyn desk.keeper (tables_of desk.state) }
+    ensures statuses { (status_number result.0 ≡ 0) ⊎ ((status_number result.0 ≡ 3) ⊎ ((status_number result.0 ≡ 4) ⊎ (status_number result.0 ≡ 5))) }
+    ensures fault { status_number result.0 ≡ 4 → EndsAtFailure (D.failed door.new) (D.reads door.old) (D.reads door.new) (D.writes door.old) (D.writes door.new) }
+    ensures steady { status_number result.0 ≢ 4 → (D.reads door.new ≡ D.reads door.old) × (D.writes door.new ≡ D.writes door.old) }
+    // In whatever session the desk is, the lines are those that the list of the packets tells.
+    ensures done { (s : Session) → IsIn s desk.state → D.tells → (status_number result.0 ≡ 0) ⊎ (status_number result.0 ≡ 3) →
+        WritesDue (due_of_tally s (D.state door.old).left) (D.state door.old) (D.state door.new) (status_number result.0) }
+    ensures part { (s : Session) → IsIn s desk.state → D.tells → (status_number result.0 ≡ 4) ⊎ (status_number result.0 ≡ 5) →
+        WritesPart (due_of_tally s (D.state door.old).left) (D.state door.old) (D.state door.new) }
+    ensures taken { (s : Session) → IsIn s desk.state → D.tells → D.reads door.new ≢ D.reads door.old →
+        WritesTaken tally_step (begun s) (D.state door.old) (D.state door.new) }
+    ensures turns { D.turns door.new ≡ D.turns door.old }
+    ensures keeper { result.1 ≡ desk.keeper }
+{
+    let moment = desk.moment();
+    let (keeper, state) = desk.into_parts();
+    let mut lines = TalliedLines::new(alloc, state, moment);
+    let status = write_capture(alloc, door, &mut lines);
+    drop(lines);
+    (status, keeper)
+}
+
+/// Opens a desk over the keeper, and then reads a capture and writes its tally. Where the store can't
+/// be opened, the capture isn't read. The box is handed back. Nothing was taken before, as
+/// [`Desk::open`] wants it: [`Taken::new`].
+pub fn tally_store<D: Door>(
+    alloc: Global,
+    keeper: Box<dyn Keeper>,
+    nothing: Taken,
+    door: &mut D,
+) -> (Status, Box<dyn Keeper>)
+    requires { kept_of nothing ≡ none_kept }
+    ensures tallied { TalliesStore Keeper-dyn D.tells keeper result.1
+        (viewed (D.state door.old) (D.turns door.old) (D.reads door.old) (D.writes door.old) (D.failed door.old))
+        (viewed (D.state door.new) (D.turns door.new) (D.reads door.new) (D.writes door.new) (D.failed door.new))
+        (status_number result.0) }
+    // Where the keeper failed, the door isn't called at all.
+    ensures untouched { status_number result.0 ≡ 7 → door.new ≡ door.old }
+{
+    match Desk::open(alloc, keeper, nothing) {
+        Ok(desk) => tally_capture(alloc, desk, door),
+        Err((fault, keeper)) => (refuse_store(alloc, door, fault), keeper),
+    }
+}

@@ -2,7 +2,7 @@
 use Rattle.std.specs.Prelude.{◌≡◌, ⊤, [], ◌∷◌, codes, Some, None, refl}
 use Rattle.mud_base.specs.Decimal.{digits_upto, has_numeral_front, number_upto}
 use Rattle.mud_base.proofs.OnLiterals.{texts_on_literals}
-use Rattle.command_words.specs.declared.command.Command.TheVariants.{Hear, Check, Frames, Judge, Snoop, Import, Replay, Serve, Report, Export, Drill}
+use Rattle.command_words.specs.declared.command.Command.TheVariants.{Hear, Check, Frames, Judge, Tally, Snoop, Import, Replay, Serve, Report, Export, Drill}
 use Rattle.command_words.specs.declared.command.Message.TheVariants.{Dhcp, Lldp}
 use Rattle.command_words.specs.declared.command.ReportKind.TheVariants.{Things, Files, Classes, Locals, Names, Due}
 use Rattle.command_words.specs.Words.{begins_with_dash, is_path, count_in, message_in, kind_in, one_word, two_words, three_words, four_words, line_in, command_in}
@@ -37,6 +37,9 @@ judge = refl
 snoop : command_in (codes "snoop" ∷ codes "desk.db" ∷ []) ≡ Some Snoop
 unfolding lines_on_literals
 snoop = refl
+
+tally : command_in (codes "tally" ∷ codes "desk.db" ∷ []) ≡ Some Tally
+tally = refl
 
 import_folder : command_in (codes "import" ∷ codes ":memory:" ∷ codes "folder" ∷ []) ≡ Some Import
 unfolding lines_on_literals

@@ -2,7 +2,7 @@
 use Rattle.std.proofs.Common.{◌≡◌, ℕ, Bool, true, false, cond, List, [], ◌∷◌, codes, bytes_eq, Option, Some, None, is_some, option_map, refl, sym, ap, ◌∙◌}
 use Rattle.std.specs.List.{list_any}
 use Rattle.command_words.specs.declared.command.Command.{Command}
-use Rattle.command_words.specs.declared.command.Command.TheVariants.{Hear, Check, Frames, Judge, Snoop, Replay, Drill}
+use Rattle.command_words.specs.declared.command.Command.TheVariants.{Hear, Check, Frames, Judge, Tally, Snoop, Replay, Drill}
 use Rattle.command_words.specs.declared.command.Message.{Message}
 use Rattle.command_words.specs.Places.{has_folder, has_store, second_of, third_of}
 use Rattle.command_words.specs.Words.{begins_with_dash, command_in, count_in, is_path, line_in, message_in, one_word, two_words}
@@ -47,19 +47,20 @@ of_path : (command : Command) (named : Bool) → has_folder command ≡ false �
 of_path command true e = e
 of_path command false e = refl
 
-two_of : (a b c d e : Bool) (message : Option Message) (packets : Option ℕ) (named : Bool)
-    → folders (cond a (option_map Hear message) (cond b (cond named (Some Judge) None) (cond c (cond named (Some Snoop) None) (cond d (cond named (Some Replay) None) (cond e (option_map Drill packets) None))))) ≡ false
-two_of true b c d e message packets named = of_message message
-two_of false true c d e message packets named = of_path Judge named refl
-two_of false false true d e message packets named = of_path Snoop named refl
-two_of false false false true e message packets named = of_path Replay named refl
-two_of false false false false true message packets named = of_count packets
-two_of false false false false false message packets named = refl
+two_of : (a b c d e f : Bool) (message : Option Message) (packets : Option ℕ) (named : Bool)
+    → folders (cond a (option_map Hear message) (cond b (cond named (Some Judge) None) (cond c (cond named (Some Snoop) None) (cond d (cond named (Some Tally) None) (cond e (cond named (Some Replay) None) (cond f (option_map Drill packets) None)))))) ≡ false
+two_of true b c d e f message packets named = of_message message
+two_of false true c d e f message packets named = of_path Judge named refl
+two_of false false true d e f message packets named = of_path Snoop named refl
+two_of false false false true e f message packets named = of_path Tally named refl
+two_of false false false false true f message packets named = of_path Replay named refl
+two_of false false false false false true message packets named = of_count packets
+two_of false false false false false false message packets named = refl
 
 two_lacks : (first second : List ℕ) → folders (two_words first second) ≡ false
 unfolding two_words
 two_lacks first second =
-    two_of (bytes_eq first (codes "hear")) (bytes_eq first (codes "judge")) (bytes_eq first (codes "snoop")) (bytes_eq first (codes "replay")) (bytes_eq first (codes "drill"))
+    two_of (bytes_eq first (codes "hear")) (bytes_eq first (codes "judge")) (bytes_eq first (codes "snoop")) (bytes_eq first (codes "tally")) (bytes_eq first (codes "replay")) (bytes_eq first (codes "drill"))
     (message_in second) (count_in 100000 second) (is_path second)
 
 -- ---- Listed lines

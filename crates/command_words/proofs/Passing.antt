@@ -159,6 +159,21 @@ snoop_clear u p =
 snoop : (u : List ℕ) → IsPlain u → Passes (codes "snoop" ∷ u ∷ [])
 snoop u p = passes_by _ snoop_leaf (u ∷ []) (snoop_enters u) (snoop_clear u p)
 
+abbrev tally_leaf : Shape
+tally_leaf = leaf_of (line_of_two (codes "tally") (codes "STORE"))
+
+tally_enters : (u : List ℕ) → Enters (codes "tally" ∷ u ∷ []) tally_leaf (u ∷ [])
+unfolding clap_on_literals
+tally_enters u below = refl
+
+tally_clear : (u : List ℕ) → IsPlain u → leaf_fault tally_leaf (u ∷ []) ≡ []
+unfolding defaults_fault
+tally_clear u p =
+    line_is_clear tally_leaf (u ∷ []) _ (reads_more tally_leaf nothing_held 1 u [] _ p refl refl (reads_none tally_leaf _ 2)) refl
+
+tally : (u : List ℕ) → IsPlain u → Passes (codes "tally" ∷ u ∷ [])
+tally u p = passes_by _ tally_leaf (u ∷ []) (tally_enters u) (tally_clear u p)
+
 abbrev import_folder_leaf : Shape
 import_folder_leaf = leaf_of (line_of_three (codes "import") (codes "STORE") (codes "FOLDER"))
 
@@ -286,11 +301,14 @@ two_pass first second command p given =
         | inl k ↦ at_word first (codes "judge") _ k.0 (judge second p)
         | inr k ↦ elim (chosen (bytes_eq first (codes "snoop")) _ _ command k.1) [
           | inl l ↦ at_word first (codes "snoop") _ l.0 (snoop second p)
-          | inr l ↦ elim (chosen (bytes_eq first (codes "replay")) _ _ command l.1) [
-            | inl m ↦ at_word first (codes "replay") _ m.0 (replay second p)
-            | inr m ↦ elim (chosen (bytes_eq first (codes "drill")) _ _ command m.1) [
-              | inl n ↦ at_word first (codes "drill") _ n.0 (drill second p)
-              | inr n ↦ none_is_some command n.1
+          | inr l ↦ elim (chosen (bytes_eq first (codes "tally")) _ _ command l.1) [
+            | inl m ↦ at_word first (codes "tally") _ m.0 (tally second p)
+            | inr m ↦ elim (chosen (bytes_eq first (codes "replay")) _ _ command m.1) [
+              | inl n ↦ at_word first (codes "replay") _ n.0 (replay second p)
+              | inr n ↦ elim (chosen (bytes_eq first (codes "drill")) _ _ command n.1) [
+                | inl o ↦ at_word first (codes "drill") _ o.0 (drill second p)
+                | inr o ↦ none_is_some command o.1
+              ]
             ]
           ]
         ]

@@ -43,7 +43,7 @@ with_input_lines program = with_line (with_line (with_line program (line_of_two 
 
 abbrev pub with_store_lines : App → App
 with_store_lines program =
-    with_line (with_line (with_line (with_line (with_line program (line_of_two (codes "judge") (codes "STORE"))) (line_of_two (codes "snoop") (codes "STORE"))) (line_of_three (codes "import") (codes "STORE") (codes "FOLDER"))) (line_of_three (codes "report") (codes "STORE") (codes "KIND")))
+    with_line (with_line (with_line (with_line (with_line (with_line program (line_of_two (codes "judge") (codes "STORE"))) (line_of_two (codes "snoop") (codes "STORE"))) (line_of_two (codes "tally") (codes "STORE"))) (line_of_three (codes "import") (codes "STORE") (codes "FOLDER"))) (line_of_three (codes "report") (codes "STORE") (codes "KIND")))
     (line_of_three (codes "export") (codes "STORE") (codes "MAC"))
 
 abbrev pub with_session_lines : App → App

@@ -1,7 +1,7 @@
 -- The words of a line that name what its command works on.
 use Rattle.std.specs.Prelude.{ℕ, Bool, true, false, List, ◌∷◌, Option, Some, None}
 use Rattle.command_words.specs.declared.command.Command.{Command}
-use Rattle.command_words.specs.declared.command.Command.TheVariants.{Hear, Check, Frames, Judge, Snoop, Import, Replay, Serve, Report, Export, Drill}
+use Rattle.command_words.specs.declared.command.Command.TheVariants.{Hear, Check, Frames, Judge, Tally, Snoop, Import, Replay, Serve, Report, Export, Drill}
 
 -- whether a command's line names a store
 abbrev pub has_store : Command → Bool
@@ -10,6 +10,7 @@ has_store Check = false
 has_store Frames = false
 has_store Judge = true
 has_store Snoop = true
+has_store Tally = true
 has_store Import = true
 has_store Replay = true
 has_store (Serve port count) = true
@@ -24,6 +25,7 @@ has_folder Check = false
 has_folder Frames = false
 has_folder Judge = false
 has_folder Snoop = false
+has_folder Tally = false
 has_folder Import = true
 has_folder Replay = false
 has_folder (Serve port count) = false

@@ -7,7 +7,7 @@ use Rattle.std.specs.declared.string.String.{String}
 use Rattle.mud_base.specs.Decimal.{number_upto}
 use Rattle.mud_base.specs.Reading.{mac_in}
 use Rattle.command_words.specs.declared.command.Command.{Command}
-use Rattle.command_words.specs.declared.command.Command.TheVariants.{Hear, Check, Frames, Judge, Snoop, Import, Replay, Serve, Report, Export, Drill}
+use Rattle.command_words.specs.declared.command.Command.TheVariants.{Hear, Check, Frames, Judge, Tally, Snoop, Import, Replay, Serve, Report, Export, Drill}
 use Rattle.command_words.specs.declared.command.Message.{Message}
 use Rattle.command_words.specs.declared.command.Message.TheVariants.{Dhcp, Lldp}
 use Rattle.command_words.specs.declared.command.ReportKind.{ReportKind}
@@ -53,15 +53,16 @@ one_word = meaning_in ((codes "check", Check) ∷ (codes "frames", Frames) ∷ [
 abbrev pub over_path : Command → List ℕ → Option Command
 over_path command path = if is_path path then Some command else None
 
--- `hear dhcp` and `hear lldp`, `judge STORE`, `snoop STORE`, `replay STORE`, and `drill N`, where N is 1 to 100,000
+-- `hear dhcp` and `hear lldp`, `judge STORE`, `snoop STORE`, `tally STORE`, `replay STORE`, and `drill N`, where N is 1 to 100,000
 unfoldable pub two_words : List ℕ → List ℕ → Option Command
 two_words first second =
     if bytes_eq first (codes "hear") then option_map Hear (message_in second)
     else (if bytes_eq first (codes "judge") then over_path Judge second
     else (if bytes_eq first (codes "snoop") then over_path Snoop second
+    else (if bytes_eq first (codes "tally") then over_path Tally second
     else (if bytes_eq first (codes "replay") then over_path Replay second
     else (if bytes_eq first (codes "drill") then option_map Drill (count_in 100000 second)
-    else None))))
+    else None)))))
 
 -- `import STORE FOLDER`, `report STORE KIND`, and `export STORE MAC`
 unfoldable pub three_words : List ℕ → List ℕ → List ℕ → Option Command

@@ -41,6 +41,9 @@ pub enum Command {
     /// `snoop STORE`: reads a capture and writes the verdict on each packet, as `judge` does, and learns
     /// names from the answers of DNS servers in it.
     Snoop,
+    /// `tally STORE`: reads a capture and writes how often each ruling was given, hour by hour, and
+    /// what was denied, by what the store keeps.
+    Tally,
     /// `import STORE FOLDER`: imports the usage files of a folder into the store, and writes a line
     /// for each.
     Import,

@@ -133,7 +133,8 @@ fn with_store_lines<'a>(alloc: Global, program: Parser<'a>) -> Result<Parser<'a>
 {
     let judging = with_line_of_two(alloc, program, "judge", "STORE")?;
     let snooping = with_line_of_two(alloc, judging, "snoop", "STORE")?;
-    let importing = with_line_of_three(alloc, snooping, "import", "STORE", "FOLDER")?;
+    let tallying = with_line_of_two(alloc, snooping, "tally", "STORE")?;
+    let importing = with_line_of_three(alloc, tallying, "import", "STORE", "FOLDER")?;
     let reporting = with_line_of_three(alloc, importing, "report", "STORE", "KIND")?;
     with_line_of_three(alloc, reporting, "export", "STORE", "MAC")
 }

@@ -33,6 +33,7 @@ impl Command {
         match self {
             Command::Judge
             | Command::Snoop
+            | Command::Tally
             | Command::Import
             | Command::Replay
             | Command::Serve { .. }
@@ -53,6 +54,7 @@ impl Command {
             | Command::Frames
             | Command::Judge
             | Command::Snoop
+            | Command::Tally
             | Command::Replay
             | Command::Serve { .. }
             | Command::Report(_)

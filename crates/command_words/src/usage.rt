@@ -12,6 +12,7 @@ usage: mud COMMAND
   frames                  a capture                   what each packet is
   judge STORE             a capture                   what becomes of each packet, and why
   snoop STORE             a capture                   the same, and the names that DNS answers teach
+  tally STORE             a capture                   how often each entry decided, and what was denied
   import STORE FOLDER     nothing                     what became of each usage file there
   report STORE KIND       nothing                     a table of what the store keeps
   export STORE MAC        nothing                     what a Thing may do now, as access lists

@@ -133,6 +133,9 @@ fn two_words(first: &str, second: &str) -> Option<Command>
     if first == "snoop" {
         return over_path(Command::Snoop, second);
     }
+    if first == "tally" {
+        return over_path(Command::Tally, second);
+    }
     if first == "replay" {
         return over_path(Command::Replay, second);
     }

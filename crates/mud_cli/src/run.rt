@@ -8,7 +8,7 @@ ghost use Rattle.mud_cli.specs.Import.Store.{ImportsStore, outside, spool_viewed
 ghost use Rattle.mud_cli.specs.Promises.{LeavesRest, Promises};
 ghost use Rattle.command_words.specs.Words.{command_in, words_of};
 ghost use Rattle.command_words.specs.declared.command.Command.{Command};
-ghost use Rattle.command_words.specs.declared.command.Command.TheVariants.{Judge, Snoop, Import, Replay, Serve, Report, Export, Drill};
+ghost use Rattle.command_words.specs.declared.command.Command.TheVariants.{Judge, Snoop, Tally, Import, Replay, Serve, Report, Export, Drill};
 ghost use Rattle.command_words.specs.declared.command.ReportKind.{ReportKind};
 ghost use Rattle.console_runs.specs.Replay.{ReplaysStore};
 ghost use Rattle.console_runs.specs.Serve.{ServesStore, listening, clock_run};
@@ -19,6 +19,7 @@ ghost use Rattle.mud_cli.specs.Report.{AsksClock};
 ghost use Rattle.export_runs.specs.Store.{ExportsStore};
 ghost use Rattle.mud_base.specs.declared.addr.Mac.{Mac};
 ghost use Rattle.mud_cli.specs.Export.{AsksClockOnce};
+ghost use Rattle.tally_runs.specs.Store.{TalliesStore};
 
 use crate::answer::{Input, answer_input};
 use crate::frames::FrameLines;
@@ -35,6 +36,7 @@ use mud_world::{Clock, Door, Keeper, Spool};
 use report_runs::report_store;
 use snoop_runs::snoop_store;
 use std::alloc::Global;
+use tally_runs::tally_store;
 
 /// Runs a command.
 fn run_command<D: Door, P: Spool, C: Clock>(
@@ -62,6 +64,12 @@ fn run_command<D: Door, P: Spool, C: Clock>(
         (viewed (D.state door.new) (D.turns door.new) (D.reads door.new) (D.writes door.new) (D.failed door.new))
         (status_number result.0) }
     ensures snoop_apart { command ≡ Snoop → (spool.new ≡ spool.old) × (clock.new ≡ clock.old) }
+    ensures tallied { command ≡ Tally → TalliesStore Keeper-dyn D.tells keeper result.1
+        (viewed (D.state door.old) (D.turns door.old) (D.reads door.old) (D.writes door.old) (D.failed door.old))
+        (viewed (D.state door.new) (D.turns door.new) (D.reads door.new) (D.writes door.new) (D.failed door.new))
+        (status_number result.0) }
+    ensures tally_silent { command ≡ Tally → status_number result.0 ≡ 7 → door.new ≡ door.old }
+    ensures tally_apart { command ≡ Tally → (spool.new ≡ spool.old) × (clock.new ≡ clock.old) }
     ensures imported { command ≡ Import → ImportsStore Keeper-dyn (D.tells × (P.tells × C.tells)) keeper result.1
         (outside (viewed (D.state door.old) (D.turns door.old) (D.reads door.old) (D.writes door.old) (D.failed door.old))
         (spool_viewed (P.files spool.old) (P.faults spool.old)) (C.moments clock.old))
@@ -111,6 +119,7 @@ fn run_command<D: Door, P: Spool, C: Clock>(
         Command::Frames => (write_capture(alloc, door, &mut FrameLines), keeper),
         Command::Judge => judge_store(alloc, keeper, Taken::new(alloc), door),
         Command::Snoop => snoop_store(alloc, keeper, Taken::new(alloc), door),
+        Command::Tally => tally_store(alloc, keeper, Taken::new(alloc), door),
         Command::Import => import_store(alloc, keeper, Taken::new(alloc), door, spool, clock),
         Command::Replay => replay_store(alloc, keeper, Taken::new(alloc), door),
         Command::Serve { port, count } => {
@@ -168,6 +177,14 @@ pub fn mud_main<D: Door, P: Spool, C: Clock>(
         (viewed (D.state door.new) (D.turns door.new) (D.reads door.new) (D.writes door.new) (D.failed door.new))
         result.0 }
     ensures snoop_apart { command_in (words_of words.now) ≡ Some Snoop → (spool.new ≡ spool.old) × (clock.new ≡ clock.old) }
+    // Of `tally`: what it does with the door and the keeper, and that it touches nothing else.
+    ensures tallied { command_in (words_of words.now) ≡ Some Tally →
+        TalliesStore Keeper-dyn D.tells keeper result.1
+        (viewed (D.state door.old) (D.turns door.old) (D.reads door.old) (D.writes door.old) (D.failed door.old))
+        (viewed (D.state door.new) (D.turns door.new) (D.reads door.new) (D.writes door.new) (D.failed door.new))
+        result.0 }
+    ensures tally_silent { command_in (words_of words.now) ≡ Some Tally → result.0 ≡ 7 → door.new ≡ door.old }
+    ensures tally_apart { command_in (words_of words.now) ≡ Some Tally → (spool.new ≡ spool.old) × (clock.new ≡ clock.old) }
     // Of `import`: what it does with the door, the keeper, the spool and the clock.
     ensures imported { command_in (words_of words.now) ≡ Some Import →
         ImportsStore Keeper-dyn (D.tells × (P.tells × C.tells)) keeper result.1

@@ -1,6 +1,6 @@
 use Rattle.std.proofs.Common.{ℕ, sym, ◌∙◌, subst}
 use Rattle.command_runs.specs.View.{viewed}
-use Rattle.command_words.specs.declared.command.Command.TheVariants.{Drill, Import, Replay, Serve, Report, Export, Snoop}
+use Rattle.command_words.specs.declared.command.Command.TheVariants.{Drill, Import, Replay, Serve, Report, Export, Snoop, Tally}
 use Rattle.console_runs.specs.Replay.{ReplaysStore}
 use Rattle.console_runs.specs.Serve.{ServesStore, listening, clock_run}
 use Rattle.drill_runs.specs.Store.{DrillsStore}
@@ -10,6 +10,19 @@ use Rattle.mud_cli.proofs.Promised.{same_command}
 use Rattle.mud_cli.proofs.run.mud_main.Goals as goal
 use Rattle.export_runs.specs.Store.{ExportsStore}
 use Rattle.snoop_runs.specs.Store.{SnoopsStore}
+use Rattle.tally_runs.specs.Store.{TalliesStore}
+
+pub returns-clause-tallied : goal.returns-clause-tallied
+returns-clause-tallied g c = λ named.
+    let door = g.D.Door in
+    let old = c.args.door.now in
+    let new = c.run_command-status.new.door in
+    subst
+    (λ (status : ℕ). TalliesStore (goal.Keeper-dyn g) door.tells c.args.keeper c.run_command-status.result.1
+    (viewed (door.state old) (door.turns old) (door.reads old) (door.writes old) (door.failed old))
+    (viewed (door.state new) (door.turns new) (door.reads new) (door.writes new) (door.failed new)) status)
+    (sym c.number-2.ensures)
+    (c.run_command-status.ensures.tallied (same_command c.in-Some.command Tally (sym c.in-Some.is ∙ c.command_of.ensures ∙ named)))
 
 pub returns-clause-snooped : goal.returns-clause-snooped
 returns-clause-snooped g c = λ named.

@@ -7,7 +7,7 @@ use keep_sqlite::PathKeeper;
 use mud_base::Listed;
 use mud_cli::{Status, mud_main};
 use mud_world::{Keeper, MemoryKeeper};
-use real_world::{RealClock, RealDoor, RealSpool};
+use real_world::{Call, Failure, RealClock, RealDoor, RealSpool};
 use std::alloc::{AllocError, Global};
 use std::io::ErrorKind;
 use std::process::ExitCode;
@@ -17,24 +17,16 @@ use std::{env, fs, io};
 /// The word of a store that is kept in memory alone, and is empty at the start of each run.
 const IN_MEMORY: &str = ":memory:";
 
-/// What standard error is told where the store failed.
-const STORE_FAILED: &str =
-    "mud: the store can't be opened or written: another program uses it, it is no store, it may not be written, or the disk is full.\n";
-
 fn main(rt: HostRuntime) -> ExitCode {
     ExitCode::from(run(rt))
 }
 
 /// Runs the words after the program's name, and answers the status. Where they are no listed line, it
-/// prints the usage text on standard error, and where the store failed, a sentence; whether that
-/// succeeds doesn't change the status.
+/// prints the usage text on standard error; whether that succeeds doesn't change the status.
 fn run(rt: HostRuntime) -> u8 {
     let status = status_of(rt);
     if status == Status::Unlisted.number() {
         let _printed = eprint!(rt; "{}", USAGE);
-    }
-    if status == Status::KeeperFailed.number() {
-        let _printed = eprint!(rt; "{}", STORE_FAILED);
     }
     status
 }
@@ -79,7 +71,8 @@ fn take_streams(rt: &HostRuntime) -> [io::Result<<HostRuntime as Files>::File>; 
 
 /// Runs these words. Nothing stands between standard input and the door, so no octet is taken of it
 /// that the door doesn't ask for. Neither the keeper of a store's file nor the spool of a folder
-/// opens anything before a command does.
+/// opens anything before a command does. Where a read or a write failed, standard error is told why;
+/// the keeper of a file tells it itself.
 fn run_words(rt: HostRuntime, words: &[String]) -> io::Result<u8> {
     let alloc = rt.alloc();
     let _streams = take_streams(&rt);
@@ -96,5 +89,25 @@ fn run_words(rt: HostRuntime, words: &[String]) -> io::Result<u8> {
     let mut spool = RealSpool::new(rt, String::from_str(alloc, folder)?);
     let mut clock = RealClock::new(rt);
     let (status, _keeper) = mud_main(alloc, words, keeper, &mut door, &mut spool, &mut clock);
+    if status == Status::DoorFailed.number() {
+        tell(rt, door.failure);
+        tell(rt, spool.failure);
+    }
     Ok(status)
+}
+
+/// Tells standard error which call failed and why, if one did; whether that succeeds doesn't change the
+/// status.
+fn tell(rt: HostRuntime, failure: Option<Failure>) {
+    let Some(Failure { call, error }) = failure else {
+        return;
+    };
+    let _printed = match call {
+        Call::Bind(port) => eprint!(rt; "mud: port {port} can't be listened on: {error}\n"),
+        Call::Next => eprint!(rt; "mud: no further connection can be taken: {error}\n"),
+        Call::Read => eprint!(rt; "mud: the input can't be read: {error}\n"),
+        Call::Write => eprint!(rt; "mud: the output can't be written: {error}\n"),
+        Call::List => eprint!(rt; "mud: the folder can't be read: {error}\n"),
+        Call::ReadFile => eprint!(rt; "mud: a file of the folder can't be read: {error}\n"),
+    };
 }

@@ -1,3 +1,4 @@
 pub mod JudgedPackets
 pub mod Runs
+pub mod SameCaptures
 pub mod Stores

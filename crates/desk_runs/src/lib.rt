@@ -3,6 +3,7 @@
 #![tactic(auto)]
 
 pub mod judging;
+pub mod laws;
 pub mod refusing;
 pub mod store;
 

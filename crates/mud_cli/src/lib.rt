@@ -6,6 +6,7 @@ pub mod check;
 pub mod frames;
 pub mod hear;
 pub mod import;
+pub mod laws;
 pub mod run;
 
 pub use answer::{Answer, Input};

@@ -1,0 +1,30 @@
+-- Captures that hold the same packets are judged alike.
+use Rattle.std.proofs.Common.{◌≡◌, ℕ, List, ◌++◌, Result, Ok, Err, refl, ap, ap₂, ◌∙◌}
+use Rattle.std.specs.Prelude.{codes, decimal}
+use Rattle.mud_world.specs.declared.item.Item.{Item}
+use Rattle.packet_buffer.specs.Packets.{Packet}
+use Rattle.capture_source.specs.Same.{HoldTheSame}
+use Rattle.capture_runs.specs.Fold.{LineStep, LooksAtNoPlace, no_ending}
+use Rattle.capture_runs.proofs.SamePackets.{due_same}
+use Rattle.text_lines.specs.Numbers.{number_text}
+use Rattle.verdict_lines.specs.Verdicts.{verdict_text}
+use Rattle.desk_model.specs.DeskTables.{DeskTables}
+use Rattle.desk_model.specs.Sessions.{Session, opened, frame_in}
+use Rattle.desk_runs.specs.Judged.{judged_line, judged_step}
+use Rattle.desk_runs.specs.Store.{due_of_store}
+
+made : Session → ℕ → ℕ → List ℕ → LineStep Session
+made session number seconds octets = record {
+  line = decimal number ++ number_text seconds ++ codes " " ++ verdict_text (frame_in session seconds octets).verdict ++ codes "\n";
+  next = (frame_in session seconds octets).session;
+}
+
+-- the place isn't looked at
+placeless : LooksAtNoPlace judged_step
+unfolding judged_line made
+placeless session p q number seconds octets =
+    ap (λ (n : ℕ). made session n p.seconds p.octets) number ∙ ap₂ (λ (n : ℕ) (l : List ℕ). made session q.number n l) seconds octets
+
+pub judged_alike : (store : Result DeskTables Item) (one other : List ℕ) → HoldTheSame one other → due_of_store store one ≡ due_of_store store other
+judged_alike (Ok tables) one other same = due_same judged_step no_ending placeless (opened tables) one other same
+judged_alike (Err item) one other same = refl

@@ -1,0 +1,22 @@
+-- Captures that hold the same packets have the same lines.
+use Rattle.std.proofs.Common.{◌≡◌, ℕ, List, ◌++◌, ap, ap₂, ◌∙◌}
+use Rattle.std.specs.Prelude.{codes, decimal}
+use Rattle.frame_view.specs.Frame.{frame_of}
+use Rattle.capture_source.specs.Same.{HoldTheSame}
+use Rattle.capture_runs.specs.Capture.{due_of_capture}
+use Rattle.capture_runs.specs.Fold.{LineStep, LooksAtNoPlace, no_ending}
+use Rattle.capture_runs.proofs.SamePackets.{due_same}
+use Rattle.text_lines.specs.Numbers.{number_text}
+use Rattle.mud_cli.specs.Frames.Lines.{frame_text, packet_line, frame_step}
+
+made : ℕ → ℕ → List ℕ → LineStep (Unit {0})
+made number seconds octets = record { line = decimal number ++ number_text seconds ++ frame_text (frame_of octets) ++ codes "\n"; next = tt }
+
+-- the place isn't looked at
+placeless : LooksAtNoPlace frame_step
+unfolding packet_line made
+placeless nothing p q number seconds octets =
+    ap (λ (n : ℕ). made n p.seconds p.octets) number ∙ ap₂ (λ (n : ℕ) (l : List ℕ). made q.number n l) seconds octets
+
+pub framed_alike : (one other : List ℕ) → HoldTheSame one other → due_of_capture frame_step no_ending tt one ≡ due_of_capture frame_step no_ending tt other
+framed_alike one other same = due_same frame_step no_ending placeless tt one other same

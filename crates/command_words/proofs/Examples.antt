@@ -39,6 +39,7 @@ unfolding lines_on_literals
 snoop = refl
 
 tally : command_in (codes "tally" ∷ codes "desk.db" ∷ []) ≡ Some Tally
+unfolding lines_on_literals
 tally = refl
 
 import_folder : command_in (codes "import" ∷ codes ":memory:" ∷ codes "folder" ∷ []) ≡ Some Import

@@ -11,7 +11,7 @@ use Rattle.verdict_lines.specs.Verdicts.{verdict_text}
 use Rattle.desk_model.specs.DeskTables.{DeskTables}
 use Rattle.desk_model.specs.Sessions.{Session, opened, frame_in}
 use Rattle.desk_runs.specs.Judged.{judged_line, judged_step}
-use Rattle.desk_runs.specs.Store.{due_of_store, judged_due}
+use Rattle.desk_runs.specs.Store.{due_of_store, judged_due, judged_taken}
 
 made : Session → ℕ → ℕ → List ℕ → LineStep Session
 made session number seconds octets = record {
@@ -25,6 +25,6 @@ unfolding judged_line made
 placeless session p q number seconds octets =
     ap (λ (n : ℕ). made session n p.seconds p.octets) number ∙ ap₂ (λ (n : ℕ) (l : List ℕ). made session q.number n l) seconds octets
 
-pub judged_alike : (store : Result DeskTables Item) (one other : List ℕ) → HoldTheSame one other → due_of_store judged_due store one ≡ due_of_store judged_due store other
+pub judged_alike : (store : Result DeskTables Item) (one other : List ℕ) → HoldTheSame one other → due_of_store judged_due judged_taken store one ≡ due_of_store judged_due judged_taken store other
 judged_alike (Ok tables) one other same = due_same judged_step no_ending placeless (opened tables) one other same
 judged_alike (Err item) one other same = refl

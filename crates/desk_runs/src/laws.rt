@@ -3,12 +3,12 @@ ghost use Rattle.std.specs.Prelude.{◌≡◌, ℕ, List, Result};
 ghost use Rattle.mud_world.specs.declared.item.Item.{Item};
 ghost use Rattle.capture_source.specs.Same.{HoldTheSame};
 ghost use Rattle.desk_model.specs.DeskTables.{DeskTables};
-ghost use Rattle.desk_runs.specs.Store.{due_of_store, judged_due};
+ghost use Rattle.desk_runs.specs.Store.{due_of_store, judged_due, judged_taken};
 
 /// Two whole captures whose packets have the same seconds and octets are judged alike, in whichever
 /// formats they are.
 #[tactic(auto, using(crate::proofs::SameCaptures::judged_alike))]
 pub fn captures_that_hold_the_same_are_judged_alike()
     ensures { (store : Result DeskTables Item) (one : List ℕ) (other : List ℕ) → HoldTheSame one other
-        → due_of_store judged_due store one ≡ due_of_store judged_due store other }
+        → due_of_store judged_due judged_taken store one ≡ due_of_store judged_due judged_taken store other }
 {}

@@ -24,5 +24,3 @@ mod replays;
 mod replies;
 #[cfg(test)]
 mod reports;
-#[cfg(test)]
-mod snooped;

@@ -13,6 +13,7 @@ use mud_url::{MudUrl, mud_url};
 use sorted_rows::Steps;
 use std::alloc::Global;
 use std::marker::Brand;
+use std::process::Abort;
 use std::sync::ledger::{Blank, Ledger};
 use std::test::Fail;
 use thing_book::ThingBook;
@@ -52,7 +53,11 @@ fn counted<L: Ledger>(books: &mut DeskBooks, command: Command, now: u64, blank: 
             books.commit(change, &mut steps);
             said
         }
-        Err(refusal) => (refusal.name(), 0),
+        Err(refusal) => {
+            let name = refusal.name();
+            drop(refusal);
+            (name, 0)
+        }
     }
 }
 
@@ -65,9 +70,9 @@ fn done(books: &mut DeskBooks, command: Command, now: u64) -> Said
 
 #[test]
 fn a_thing_is_heard(rt: HostRuntime) -> Result<(), Fail> {
-    let mut books = empty(rt.alloc())?;
     let bulb = Mac([2, 0, 0, 0, 0, 1]);
     let url = bulb_url()?;
+    let mut books = empty(rt.alloc())?;
     assert_eq!(rt;
         done(&mut books, Command::HearUrl(bulb, url), 70),
         ("new", 2)
@@ -78,34 +83,50 @@ fn a_thing_is_heard(rt: HostRuntime) -> Result<(), Fail> {
     );
     assert_eq!(rt; books.things().len(), 1);
     assert_eq!(rt; books.stamp(), Some(Moment::at_most_last(70)));
+    drop(books);
     Ok(())
+}
+
+/// One network.
+fn network(alloc: Global) -> Result<Listed<Prefix>, Fail> {
+    let prefix = Prefix::new(Addr::V4(0xc000_0200), 24).ok_or("prefix")?;
+    let mut prefixes = Listed::new(alloc);
+    prefixes.push(prefix)?;
+    Ok(prefixes)
 }
 
 #[test]
 fn a_network_is_set(rt: HostRuntime) -> Result<(), Fail> {
+    let prefixes = network(rt.alloc())?;
     let mut books = empty(rt.alloc())?;
-    let mut prefixes = Listed::new(rt.alloc());
-    prefixes.push(Prefix::new(Addr::V4(0xc000_0200), 24).ok_or("prefix")?)?;
     let set = Command::Locals(prefixes);
     assert_eq!(rt; done(&mut books, set, 70), ("set", 2));
     assert_eq!(rt; books.locals().len(), 1);
     assert_eq!(rt; books.stamp(), Some(Moment::at_most_last(70)));
+    drop(books);
+    Ok(())
+}
+
+/// Imports the bulb's file into the books, waives its check and revokes it.
+fn approves(rt: &impl Abort, alloc: Global, books: &mut DeskBooks) -> Result<(), Fail> {
+    let url = bulb_url()?;
+    let octets = Bytes::new(alloc, BULB.as_bytes())?;
+    let offered = Command::Import(octets, Moment::at_most_last(60));
+    assert_eq!(rt; done(books, offered, 70), ("new", 2));
+    assert!(rt; books.view(&url, Direction::From).file_part().is_none());
+    let digest = Bytes::new(alloc, BULB_DIGEST)?;
+    let verdict = Command::Verdict(url, digest, OperatorVerdict::Waived);
+    assert_eq!(rt; done(books, verdict, 71), ("approved", 2));
+    assert!(rt; books.view(&url, Direction::From).file_part().is_some());
+    assert_eq!(rt; done(books, Command::Revoke(url), 72), ("revoked", 2));
+    assert!(rt; books.view(&url, Direction::From).file_part().is_none());
     Ok(())
 }
 
 #[test]
 fn a_file_is_approved(rt: HostRuntime) -> Result<(), Fail> {
     let mut books = empty(rt.alloc())?;
-    let url = bulb_url()?;
-    let octets = Bytes::new(rt.alloc(), BULB.as_bytes())?;
-    let offered = Command::Import(octets, Moment::at_most_last(60));
-    assert_eq!(rt; done(&mut books, offered, 70), ("new", 2));
-    assert!(rt; books.view(&url, Direction::From).file_part().is_none());
-    let digest = Bytes::new(rt.alloc(), BULB_DIGEST)?;
-    let verdict = Command::Verdict(url, digest, OperatorVerdict::Waived);
-    assert_eq!(rt; done(&mut books, verdict, 71), ("approved", 2));
-    assert!(rt; books.view(&url, Direction::From).file_part().is_some());
-    assert_eq!(rt; done(&mut books, Command::Revoke(url), 72), ("revoked", 2));
-    assert!(rt; books.view(&url, Direction::From).file_part().is_none());
-    Ok(())
+    let is_approved = approves(&rt, rt.alloc(), &mut books);
+    drop(books);
+    is_approved
 }

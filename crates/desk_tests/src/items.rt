@@ -2,10 +2,10 @@
 ghost use Rattle.std.specs.Prelude.{◌≡◌, IsTrue};
 
 use crate::bulb::BULB;
+use crate::keepers::{self, desk_over};
 use desk_items::{OpenFault, Taken, open_items};
-use mud_base::{Bytes, Listed, Memory};
-use mud_desk::Desk;
-use mud_world::{Item, Keeper, MemoryKeeper, Put, keep};
+use mud_base::{Bytes, Memory};
+use mud_world::{Item, Keeper, Put, keep};
 use std::alloc::Global;
 use std::process::Abort;
 use std::test::Fail;
@@ -95,74 +95,119 @@ fn check_bodies(
     Ok(())
 }
 
-#[test]
-fn a_desk_is_read(rt: HostRuntime) -> Result<(), Fail> {
-    let alloc = rt.alloc();
-    let empty = MemoryKeeper::new(alloc, Listed::new(alloc));
-    let mut keeper: Box<dyn Keeper> = Box::new(alloc, empty)?;
+/// Keeps an item of each kind but that of the local networks.
+fn add_all(alloc: Global, keeper: &mut Box<dyn Keeper>) -> Result<(), Fail> {
     keeper.open(alloc)?;
-    add(alloc, &mut keeper, 1, MAC, FIRST)?;
+    add(alloc, keeper, 1, MAC, FIRST)?;
     let url = b"https://lighting.example.com/lightbulb2000";
-    add(alloc, &mut keeper, 2, url, file_body(alloc)?.octets())?;
-    add(alloc, &mut keeper, 3, CLASS.0, CLASS.1)?;
-    add(alloc, &mut keeper, 5, NAME.0, NAME.1)?;
-    add(alloc, &mut keeper, 6, b"", STAMP)?;
-    let taken = open_items(alloc, &mut keeper, Taken::new(alloc))?;
+    add(alloc, keeper, 2, url, file_body(alloc)?.octets())?;
+    add(alloc, keeper, 3, CLASS.0, CLASS.1)?;
+    add(alloc, keeper, 5, NAME.0, NAME.1)?;
+    add(alloc, keeper, 6, b"", STAMP)
+}
+
+/// Asserts that one item of each of these kinds was taken.
+fn has_all(rt: &impl Abort, taken: &Taken) {
     assert_eq!(rt; taken.things.things().len(), 1);
     assert_eq!(rt; taken.files.files().len(), 1);
     assert_eq!(rt; taken.binds.classes().len(), 1);
     assert_eq!(rt; taken.binds.locals().len(), 0);
     assert_eq!(rt; taken.binds.names().len(), 1);
     assert_eq!(rt; taken.stamp.map(|moment| moment.seconds()), Some(1000));
-    check_bodies(&rt, alloc, &mut keeper, SECOND, STAMP)
+}
+
+/// Asserts that all are read, and that the Thing is kept in version 2 from then on.
+fn reads_all(rt: &impl Abort, alloc: Global, keeper: &mut Box<dyn Keeper>) -> Result<(), Fail> {
+    add_all(alloc, keeper)?;
+    let taken = open_items(alloc, keeper, Taken::new(alloc))?;
+    has_all(rt, &taken);
+    drop(taken);
+    check_bodies(rt, alloc, keeper, SECOND, STAMP)
+}
+
+#[test]
+fn a_desk_is_read(rt: HostRuntime) -> Result<(), Fail> {
+    let mut keeper = keepers::empty(rt.alloc())?;
+    let is_read = reads_all(&rt, rt.alloc(), &mut keeper);
+    drop(keeper);
+    is_read
+}
+
+/// Keeps two items that are no records, behind the Thing.
+fn add_bad(alloc: Global, keeper: &mut Box<dyn Keeper>) -> Result<(), Fail> {
+    keeper.open(alloc)?;
+    add_two(alloc, keeper, 6, b"\x02")?;
+    add(alloc, keeper, 9, b"\x09", b"")
+}
+
+/// Asserts that the first of them is named, and that the Thing stays in version 1.
+fn names_first(rt: &impl Abort, alloc: Global, keeper: &mut Box<dyn Keeper>) -> Result<(), Fail> {
+    add_bad(alloc, keeper)?;
+    let answer = open_items(alloc, keeper, Taken::new(alloc));
+    assert!(rt; names_stamp(&answer));
+    drop(answer);
+    check_bodies(rt, alloc, keeper, FIRST, b"")
 }
 
 #[test]
 fn the_first_bad_item_is_named(rt: HostRuntime) -> Result<(), Fail> {
-    let alloc = rt.alloc();
-    let empty = MemoryKeeper::new(alloc, Listed::new(alloc));
-    let mut keeper: Box<dyn Keeper> = Box::new(alloc, empty)?;
+    let mut keeper = keepers::empty(rt.alloc())?;
+    let is_named = names_first(&rt, rt.alloc(), &mut keeper);
+    drop(keeper);
+    is_named
+}
+
+/// Asserts that the keeper fails.
+fn fails(rt: &impl Abort, alloc: Global, keeper: &mut Box<dyn Keeper>) {
+    let answer = open_items(alloc, keeper, Taken::new(alloc));
+    assert!(rt; matches!(&answer, Err(OpenFault::Keeper)));
+    drop(answer);
+}
+
+/// Asserts that two openings fail, and that the third one is done.
+fn fails_twice(rt: &impl Abort, alloc: Global, keeper: &mut Box<dyn Keeper>) -> Result<(), Fail> {
     keeper.open(alloc)?;
-    add_two(alloc, &mut keeper, 6, b"\x02")?;
-    add(alloc, &mut keeper, 9, b"\x09", b"")?;
-    let answer = open_items(alloc, &mut keeper, Taken::new(alloc));
-    assert!(rt; names_stamp(&answer));
-    check_bodies(&rt, alloc, &mut keeper, FIRST, b"")
+    add_two(alloc, keeper, 6, STAMP)?;
+    for _ in 0..2 {
+        fails(rt, alloc, keeper);
+    }
+    drop(open_items(alloc, keeper, Taken::new(alloc))?);
+    check_bodies(rt, alloc, keeper, SECOND, STAMP)
 }
 
 #[test]
 fn a_failure_is_told_once(rt: HostRuntime) -> Result<(), Fail> {
-    let alloc = rt.alloc();
-    let mut failing = MemoryKeeper::new(alloc, Listed::new(alloc));
-    failing.failing_open.push(2)?;
-    failing.failing_apply.push(3)?;
-    let mut keeper: Box<dyn Keeper> = Box::new(alloc, failing)?;
+    let mut keeper = keepers::failing(rt.alloc(), 2, 3..4)?;
+    let is_told = fails_twice(&rt, rt.alloc(), &mut keeper);
+    drop(keeper);
+    is_told
+}
+
+/// Keeps the Thing, in version 2, and a moment.
+fn add_second(alloc: Global, keeper: &mut Box<dyn Keeper>) -> Result<(), Fail> {
     keeper.open(alloc)?;
-    add_two(alloc, &mut keeper, 6, STAMP)?;
-    for _ in 0..2 {
-        let answer = open_items(alloc, &mut keeper, Taken::new(alloc));
-        assert!(rt; matches!(&answer, Err(OpenFault::Keeper)));
-    }
-    open_items(alloc, &mut keeper, Taken::new(alloc))?;
-    check_bodies(&rt, alloc, &mut keeper, SECOND, STAMP)
+    add(alloc, keeper, 1, MAC, SECOND)?;
+    add(alloc, keeper, 6, b"", STAMP)
+}
+
+/// Asserts that a desk over this keeper has the Thing and the moment.
+fn is_opened(rt: &impl Abort, alloc: Global, keeper: Box<dyn Keeper>) -> Result<(), Fail> {
+    let desk = desk_over(alloc, keeper)?;
+    assert_eq!(rt; desk.things().len(), 1);
+    assert_eq!(rt; desk.stamp().map(|moment| moment.seconds()), Some(1000));
+    drop(desk);
+    Ok(())
 }
 
 /// Each change behind the two that filled the store fails, and a desk is opened over it all the same.
 #[test]
 fn an_opening_of_the_present_version_writes_nothing(rt: HostRuntime) -> Result<(), Fail> {
-    let alloc = rt.alloc();
-    let mut failing = MemoryKeeper::new(alloc, Listed::new(alloc));
-    for call in 3..64 {
-        failing.failing_apply.push(call)?;
+    let mut keeper = keepers::failing(rt.alloc(), 0, 3..64)?;
+    match add_second(rt.alloc(), &mut keeper) {
+        Ok(()) => is_opened(&rt, rt.alloc(), keeper),
+        Err(failure) => {
+            drop(keeper);
+            Err(failure)
+        }
     }
-    let mut keeper: Box<dyn Keeper> = Box::new(alloc, failing)?;
-    keeper.open(alloc)?;
-    add(alloc, &mut keeper, 1, MAC, SECOND)?;
-    add(alloc, &mut keeper, 6, b"", STAMP)?;
-    let Ok(desk) = Desk::open(alloc, keeper, Taken::new(alloc)) else {
-        return Err("not opened".into());
-    };
-    assert_eq!(rt; desk.things().len(), 1);
-    assert_eq!(rt; desk.stamp().map(|moment| moment.seconds()), Some(1000));
-    Ok(())
 }

@@ -1,4 +1,4 @@
-//! Tests of whole desks, of their books and items, and of the runs over a store. No other crate stands
+//! Tests of whole desks, of their books and of the items that they are opened from. No other crate stands
 //! on it.
 #![tactic(auto)]
 
@@ -9,18 +9,8 @@ mod bulb;
 #[cfg(test)]
 mod commands;
 #[cfg(test)]
-mod folders;
-#[cfg(test)]
-mod imported;
-#[cfg(test)]
 mod items;
 #[cfg(test)]
-mod judged;
+mod keepers;
 #[cfg(test)]
 mod openings;
-#[cfg(test)]
-mod replays;
-#[cfg(test)]
-mod replies;
-#[cfg(test)]
-mod reports;

@@ -1,15 +1,16 @@
 //! Two desks are given the same commands, made by chance. The one patches its rows from the first
 //! command to the last; the other is closed and opened again every now and then, so that its rows are
 //! made anew from what its keeper has kept. Both lend the same rows.
-ghost use Rattle.std.specs.Prelude.{◌≡◌, ◌<◌, IfOk};
+ghost use Rattle.std.specs.Prelude.{◌≡◌, ◌<◌};
 ghost use Rattle.mud_desk.specs.Boxed.{IsKept};
 ghost use Rattle.mud_desk.specs.DeskState.{tables_of};
 
 use crate::commands::{ADDRS, Chance, mac_of, made_command};
+use crate::keepers::{desk_over, empty};
 use acl_rows::{Row, RulePart};
-use mud_base::{Direction, Listed};
-use mud_desk::{Desk, Taken};
-use mud_world::{Keeper, MemoryKeeper};
+use mud_base::Direction;
+use mud_desk::Desk;
+use mud_world::Keeper;
 use sorted_rows::Steps;
 use std::alloc::Global;
 use std::marker::Brand;
@@ -18,16 +19,6 @@ use std::test::Fail;
 
 /// After so many commands the second desk is opened again.
 const BATCH: usize = 16;
-
-/// A desk over a keeper.
-fn opened(alloc: Global, keeper: Box<dyn Keeper>) -> Result<Desk, Fail>
-    ensures { IfOk result (λ desk. IsKept Keeper-dyn desk.keeper (tables_of desk.state)) }
-{
-    match Desk::open(alloc, keeper, Taken::new(alloc)) {
-        Ok(desk) => Ok(desk),
-        Err(_refused) => Err("not opened".into()),
-    }
-}
 
 /// Gives a desk one command.
 fn give_one<L: Ledger>(
@@ -120,6 +111,24 @@ fn all_same<L: Ledger>(first: &Desk, second: &Desk, steps: &mut Steps<L>) -> boo
     true
 }
 
+/// Gives two desks the same commands up to the next opening.
+fn give_both<L: Ledger>(
+    alloc: Global,
+    patched: &mut Desk,
+    anew: &mut Desk,
+    chance: &mut Chance,
+    steps: &mut Steps<L>,
+) -> Result<(), Fail>
+    requires patched { IsKept Keeper-dyn patched.old.keeper (tables_of patched.old.state) }
+    requires anew { IsKept Keeper-dyn anew.old.keeper (tables_of anew.old.state) }
+    ensures patched { IsKept Keeper-dyn patched.new.keeper (tables_of patched.new.state) }
+    ensures anew { IsKept Keeper-dyn anew.new.keeper (tables_of anew.new.state) }
+{
+    let mut again = *chance;
+    give(alloc, patched, chance, steps)?;
+    give(alloc, anew, &mut again, steps)
+}
+
 /// Opens the second desk over its keeper, tells whether both lend the same rows, gives both the next
 /// commands, and closes the second desk again.
 fn compared<L: Ledger>(
@@ -132,12 +141,17 @@ fn compared<L: Ledger>(
     requires { IsKept Keeper-dyn patched.old.keeper (tables_of patched.old.state) }
     ensures { IsKept Keeper-dyn patched.new.keeper (tables_of patched.new.state) }
 {
-    let mut anew = opened(alloc, keeper)?;
+    let mut anew = desk_over(alloc, keeper)?;
     let same = all_same(patched, &anew, steps);
-    let mut again = *chance;
-    give(alloc, patched, chance, steps)?;
-    give(alloc, &mut anew, &mut again, steps)?;
-    Ok((same, anew.close()))
+    let given = give_both(alloc, patched, &mut anew, chance, steps);
+    let keeper = anew.close();
+    match given {
+        Ok(()) => Ok((same, keeper)),
+        Err(failure) => {
+            drop(keeper);
+            Err(failure)
+        }
+    }
 }
 
 /// In how many of so many openings, one after the other, the rows are the same.
@@ -168,10 +182,13 @@ fn openings_alike<L: Ledger>(
 
 /// The same, with nothing kept before.
 fn alike_from_nothing(alloc: Global, count: usize) -> Result<usize, Fail> {
-    let first: Box<dyn Keeper> = Box::new(alloc, MemoryKeeper::new(alloc, Listed::new(alloc)))?;
-    let second: Box<dyn Keeper> = Box::new(alloc, MemoryKeeper::new(alloc, Listed::new(alloc)))?;
-    let mut patched = opened(alloc, first)?;
-    openings_alike::<Brand>(alloc, &mut patched, second, count, Blank::new(1))
+    let mut patched = desk_over(alloc, empty(alloc)?)?;
+    let alike = match empty(alloc) {
+        Ok(second) => { openings_alike::<Brand>(alloc, &mut patched, second, count, Blank::new(1)) }
+        Err(memory) => Err(memory.into()),
+    };
+    drop(patched);
+    alike
 }
 
 #[test]

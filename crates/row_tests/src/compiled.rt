@@ -25,31 +25,53 @@ const BULB_URL: &[u8] = b"https://lighting.example.com/lightbulb2000";
 
 const SWITCH_URL: &[u8] = b"https://lighting.example.com/switch1";
 
+/// An entry with these selectors.
+fn entry(alloc: Global, selectors: Listed<Selector>) -> Result<Entry, Memory> {
+    match default_entry(alloc, DefaultRule::Dns, Direction::From) {
+        Ok(mut entry) => {
+            entry.selectors = selectors;
+            Ok(entry)
+        }
+        Err(memory) => {
+            drop(selectors);
+            Err(memory)
+        }
+    }
+}
+
 /// An entry with this selector alone.
-fn entry(alloc: Global, selector: Selector) -> Result<Entry, Memory> {
+fn entry_of(alloc: Global, selector: Selector) -> Result<Entry, Memory> {
     let mut selectors = Listed::new(alloc);
     selectors.push(selector)?;
-    let mut entry = default_entry(alloc, DefaultRule::Dns, Direction::From)?;
-    entry.selectors = selectors;
-    Ok(entry)
+    entry(alloc, selectors)
+}
+
+/// A policy of these entries for what its Things send.
+fn policy_of(alloc: Global, outgoing: Listed<Entry>) -> Policy {
+    let incoming = Listed::new(alloc);
+    Policy { outgoing, incoming }
 }
 
 /// The policy of the switch: the Things of the maker.
 fn switch_policy(alloc: Global) -> Result<Policy, Memory> {
-    let mut outgoing = Listed::new(alloc);
-    outgoing.push(entry(alloc, Selector::SameManufacturer)?)?;
-    let incoming = Listed::new(alloc);
-    Ok(Policy { outgoing, incoming })
+    let maker = entry_of(alloc, Selector::SameManufacturer)?;
+    let outgoing = Listed::from_vec(vec![in alloc; maker]?);
+    Ok(policy_of(alloc, outgoing))
 }
 
 /// The policy of the bulb: its server, and the Things of the maker.
 fn bulb_policy(alloc: Global) -> Result<Policy, Memory> {
-    let server = Bytes::new(alloc, b"test.example.com")?;
-    let mut outgoing = Listed::new(alloc);
-    outgoing.push(entry(alloc, Selector::Name(server))?)?;
-    outgoing.push(entry(alloc, Selector::SameManufacturer)?)?;
-    let incoming = Listed::new(alloc);
-    Ok(Policy { outgoing, incoming })
+    let name = Bytes::new(alloc, b"test.example.com")?;
+    let server = entry_of(alloc, Selector::Name(name))?;
+    let maker = match entry_of(alloc, Selector::SameManufacturer) {
+        Ok(maker) => maker,
+        Err(memory) => {
+            drop(server);
+            return Err(memory);
+        }
+    };
+    let outgoing = Listed::from_vec(vec![in alloc; server, maker]?);
+    Ok(policy_of(alloc, outgoing))
 }
 
 /// The binding of the leased address to the maker.
@@ -134,6 +156,7 @@ fn nothing_is_compiled_at_first(rt: HostRuntime) -> Result<(), Fail> {
     let view = compiled.view(&url, Direction::To);
     assert!(rt; view.file_part().is_none());
     assert_eq!(rt; view.default_part().count(), 2);
+    drop(compiled);
     Ok(())
 }
 
@@ -144,19 +167,36 @@ fn lease<L: Ledger>(
     steps: &mut Steps<L>,
 ) -> Result<(), Memory> {
     let come = [to_maker(alloc)?];
-    change(compiled, &[], &come, steps)
+    let leased = change(compiled, &[], &come, steps);
+    drop(come);
+    leased
 }
 
-/// The policies of both files are held.
-fn hold_both<L: Ledger>(
+/// The policy of the bulb is held.
+fn hold_bulb<L: Ledger>(
     alloc: Global,
     compiled: &mut Compiled,
     steps: &mut Steps<L>,
 ) -> Result<(), Fail> {
+    let url = mud_url(BULB_URL)?;
     let policy = bulb_policy(alloc)?;
-    hold(compiled, &mud_url(BULB_URL)?, &policy, steps)?;
+    let held = hold(compiled, &url, &policy, steps);
+    drop(policy);
+    held?;
+    Ok(())
+}
+
+/// The policy of the switch is held.
+fn hold_switch<L: Ledger>(
+    alloc: Global,
+    compiled: &mut Compiled,
+    steps: &mut Steps<L>,
+) -> Result<(), Fail> {
+    let url = mud_url(SWITCH_URL)?;
     let policy = switch_policy(alloc)?;
-    hold(compiled, &mud_url(SWITCH_URL)?, &policy, steps)?;
+    let held = hold(compiled, &url, &policy, steps);
+    drop(policy);
+    held?;
     Ok(())
 }
 
@@ -166,8 +206,20 @@ fn row_of<L: Ledger>(compiled: &Compiled, url: &[u8], steps: &mut Steps<L>) -> O
     first_row(compiled, &url, steps)
 }
 
-/// The first rows of the bulb and the switch, where the address is leased and both files are held,
-/// with steps on a ledger of the caller's.
+/// The first rows of the bulb and the switch, where the address is leased and both files are held.
+fn rows_in<L: Ledger>(
+    alloc: Global,
+    compiled: &mut Compiled,
+    steps: &mut Steps<L>,
+) -> Result<(Option<Row>, Option<Row>), Fail> {
+    lease(alloc, compiled, steps)?;
+    hold_bulb(alloc, compiled, steps)?;
+    hold_switch(alloc, compiled, steps)?;
+    let bulb = row_of(compiled, BULB_URL, steps);
+    Ok((bulb, row_of(compiled, SWITCH_URL, steps)))
+}
+
+/// The same, where nothing was compiled before, with steps on a ledger of the caller's.
 fn first_rows<L: Ledger>(alloc: Global, blank: Blank) -> Result<(Option<Row>, Option<Row>), Fail>
     requires name { blank.name ≡ L.name }
     requires parts { blank.parts ≡ L.parts }
@@ -175,10 +227,9 @@ fn first_rows<L: Ledger>(alloc: Global, blank: Blank) -> Result<(Option<Row>, Op
 {
     let mut steps = Steps::<L>::new(blank);
     let mut compiled = Compiled::new(alloc)?;
-    lease(alloc, &mut compiled, &mut steps)?;
-    hold_both(alloc, &mut compiled, &mut steps)?;
-    let bulb = row_of(&compiled, BULB_URL, &mut steps);
-    Ok((bulb, row_of(&compiled, SWITCH_URL, &mut steps)))
+    let rows = rows_in(alloc, &mut compiled, &mut steps);
+    drop(compiled);
+    rows
 }
 
 #[test]

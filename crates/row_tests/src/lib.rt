@@ -11,6 +11,8 @@ mod endings;
 #[cfg(test)]
 mod policies;
 #[cfg(test)]
+mod rows;
+#[cfg(test)]
 mod tables;
 #[cfg(test)]
 mod things;

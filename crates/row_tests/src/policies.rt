@@ -9,23 +9,23 @@ use std::alloc::Global;
 use std::process::Abort;
 use std::test::Fail;
 
-/// A selector of each kind whose copy takes memory, and of one more.
-fn selectors(alloc: Global) -> Result<Listed<Selector>, Memory> {
-    let mut selectors = Listed::new(alloc);
+/// Adds a selector of each kind whose copy takes memory, and one more.
+fn push_selectors(alloc: Global, selectors: &mut Listed<Selector>) -> Result<(), Memory> {
     selectors.push(Selector::Controller(Bytes::new(alloc, b"urn:example:hub")?))?;
     selectors.push(Selector::Manufacturer(Bytes::new(alloc, b"example.com")?))?;
     selectors.push(Selector::Name(Bytes::new(alloc, b"test.example.com")?))?;
-    selectors.push(Selector::LocalNetworks)?;
-    Ok(selectors)
+    selectors.push(Selector::LocalNetworks)
 }
 
-/// An entry with these selectors.
-fn entry(alloc: Global) -> Result<Entry, Memory> {
+/// An entry with no selectors.
+fn bare_entry(alloc: Global) -> Result<Entry, Memory> {
+    let acl = Bytes::new(alloc, b"v4fr")?;
+    let name = Bytes::new(alloc, b"cl0-frdev")?;
     Ok(Entry {
-        acl: Bytes::new(alloc, b"v4fr")?,
-        name: Bytes::new(alloc, b"cl0-frdev")?,
+        acl,
+        name,
         family: Family::V4,
-        selectors: selectors(alloc)?,
+        selectors: Listed::new(alloc),
         own: None,
         protocol: Some(6),
         dscp: Some(46),
@@ -37,23 +37,42 @@ fn entry(alloc: Global) -> Result<Entry, Memory> {
     })
 }
 
-/// A policy of a default entry and that one.
-fn policy(alloc: Global) -> Result<Policy, Memory> {
-    let mut outgoing = Listed::new(alloc);
-    outgoing.push(default_entry(alloc, DefaultRule::Dns, Direction::From)?)?;
-    outgoing.push(entry(alloc)?)?;
-    Ok(Policy {
-        outgoing,
-        incoming: Listed::new(alloc),
-    })
+/// An entry with these selectors.
+fn entry(alloc: Global) -> Result<Entry, Memory> {
+    let mut entry = bare_entry(alloc)?;
+    match push_selectors(alloc, &mut entry.selectors) {
+        Ok(()) => Ok(entry),
+        Err(memory) => {
+            drop(entry);
+            Err(memory)
+        }
+    }
 }
 
-#[test]
-fn a_policy_is_copied(rt: HostRuntime) -> Result<(), Fail> {
-    let policy = policy(rt.alloc())?;
+/// Adds a default entry and that one.
+fn push_entries(alloc: Global, entries: &mut Listed<Entry>) -> Result<(), Memory> {
+    entries.push(default_entry(alloc, DefaultRule::Dns, Direction::From)?)?;
+    entries.push(entry(alloc)?)
+}
+
+/// Asserts that a copy of a policy has as many entries.
+fn is_copied(rt: &impl Abort, policy: &Policy) {
     let copy = policy.copy();
     assert!(rt; matches!(&copy, Ok(copy) if copy.outgoing.len() == 2));
-    Ok(())
+    drop(copy);
+}
+
+/// A policy of a default entry and that one.
+#[test]
+fn a_policy_is_copied(rt: HostRuntime) -> Result<(), Fail> {
+    let (outgoing, incoming) = (Listed::new(rt.alloc()), Listed::new(rt.alloc()));
+    let mut policy = Policy { outgoing, incoming };
+    let filled = push_entries(rt.alloc(), &mut policy.outgoing);
+    if filled.is_ok() {
+        is_copied(&rt, &policy);
+    }
+    drop(policy);
+    Ok(filled?)
 }
 
 /// The address 192.0.2.7 of a name, up to this end.
@@ -83,10 +102,11 @@ fn is_found(rt: &impl Abort, rows: &SortedRows<Binding>, binding: &Binding) {
 
 #[test]
 fn bindings_are_rows(rt: HostRuntime) -> Result<(), Fail> {
+    let first = binding(rt.alloc(), 1060)?;
+    let other = binding(rt.alloc(), 1090)?;
     let mut rows = SortedRows::new(rt.alloc());
     rows.reserve(1)?;
-    rows.put(binding(rt.alloc(), 1060)?);
-    let other = binding(rt.alloc(), 1090)?;
+    rows.put(first);
     is_found(&rt, &rows, &other);
     Ok(())
 }

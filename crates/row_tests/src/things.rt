@@ -52,6 +52,7 @@ fn a_thing_comes_and_goes(rt: HostRuntime) {
     let removed = book.plan_remove(BULB);
     makes(&rt, &mut book, removed, Word::Removed);
     assert!(rt; book.things().is_empty());
+    drop(book);
 }
 
 /// Takes the item of a Thing with the bulb's URL: the version 1, the URL, and nothing behind it.
@@ -94,4 +95,5 @@ fn a_lease_and_a_hold(rt: HostRuntime) {
     makes(&rt, &mut book, held, Word::Held);
     let released = book.plan_release(BULB);
     makes(&rt, &mut book, released, Word::Released);
+    drop(book);
 }

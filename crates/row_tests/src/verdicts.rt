@@ -2,14 +2,14 @@
 //! 1 of its file; and the ruling on its question to a DNS server where it has no file.
 ghost use Rattle.std.specs.Prelude.{◌≡◌, ◌<◌};
 
+use crate::rows::{DNS, default_rows};
 use acl_model::{DefaultRule, Ruling, Why, default_entry};
-use acl_rows::{AddressRows, Owner, PackedAddr, Row, RulePart, RuleView};
+use acl_rows::{AddressRows, RulePart, RuleView};
 use frame_view::{Frame, PacketView, Part, view};
-use mud_base::{Addr, Direction, End, Listed, Mac, Moment};
+use mud_base::{Direction, Listed, Mac, Moment};
 use mud_tables::Thing;
 use mud_url::mud_url;
 use packet_judge::{Arbiter, Verdict, forwarded, judge, noted_fields, rule};
-use row_edits::plan_edit;
 use sorted_rows::{SortedRows, Steps};
 use std::alloc::Global;
 use std::marker::Brand;
@@ -67,11 +67,12 @@ impl Arbiter for Porter {
 }
 
 fn porter_of_bulb(alloc: Global) -> Result<Porter, Fail> {
+    let url = mud_url(b"https://lighting.example.com/lightbulb2000")?;
     let mut things = SortedRows::new(alloc);
     things.reserve(1)?;
     things.put(Thing {
         mac: Mac([2, 0, 0, 0, 0, 1]),
-        url: mud_url(b"https://lighting.example.com/lightbulb2000")?,
+        url,
         pending: None,
         leases: Listed::new(alloc),
         held: false,
@@ -101,6 +102,7 @@ fn each_kind_of_frame_has_its_verdict(rt: HostRuntime) -> Result<(), Fail> {
     for (octets, verdict) in rows {
         assert_eq!(rt; judged::<Brand>(octets, &porter, Blank::new(1)), verdict);
     }
+    drop(porter);
     Ok(())
 }
 
@@ -115,38 +117,18 @@ fn what_is_forwarded_counts_for_the_connections(rt: HostRuntime) -> Result<(), F
     Ok(())
 }
 
-/// Makes room for a row of the owner and side, and puts it in.
-fn put<L: Ledger>(
-    rows: &mut AddressRows,
+/// The ruling on the bulb's packet by these rows of the defaults.
+fn ruled_by<L: Ledger>(
     alloc: Global,
-    row: Row,
+    packet: &PacketView<'_>,
+    rows: &AddressRows,
     steps: &mut Steps<L>,
-) -> Result<(), Fail>
-    requires owner { row.owner ≡ rows.old.owner }
-    requires side { row.side ≡ rows.old.side }
-{
-    let addr = row.addr.addr();
-    rows.reserve(alloc, addr, 1)?;
-    rows.tell_order();
-    let found = rows.find_counted(&row.key(), steps).index;
-    let mut edits = SortedRows::new(alloc);
-    plan_edit(&mut edits, row, true, found)?;
-    rows.make_edits_at(addr, &mut edits, 0, steps);
-    Ok(())
-}
-
-/// The rows of the defaults for what Things send: that of entry 1 at 192.0.2.53.
-fn default_rows<L: Ledger>(alloc: Global, steps: &mut Steps<L>) -> Result<AddressRows, Fail> {
-    let row = Row {
-        owner: Owner::Default,
-        side: Direction::From,
-        addr: PackedAddr::new(Addr::V4(0xc000_0235)),
-        entry: 1,
-        until: End(End::NEVER),
-    };
-    let mut rows = AddressRows::new(alloc, Owner::Default, Direction::From);
-    put(&mut rows, alloc, row, steps)?;
-    Ok(rows)
+) -> Result<Ruling, Fail> {
+    let entries = [default_entry(alloc, DefaultRule::Dns, Direction::From)?];
+    let defaults = RulePart::new(Direction::From, entries.as_slice(), &[], rows);
+    let lent = RuleView::new(Direction::From, None, defaults);
+    let now = Moment::at_most_last(1001);
+    Ok(rule(lent, packet, None, &[], now, steps))
 }
 
 /// The ruling on the bulb's packet by the defaults, with steps on a ledger of the caller's; None
@@ -160,12 +142,10 @@ fn ruled<L: Ledger>(alloc: Global, octets: &[u8], blank: Blank) -> Result<Option
         return Ok(None);
     };
     let mut steps = Steps::<L>::new(blank);
-    let rows = default_rows(alloc, &mut steps)?;
-    let entries = [default_entry(alloc, DefaultRule::Dns, Direction::From)?];
-    let defaults = RulePart::new(Direction::From, entries.as_slice(), &[], &rows);
-    let lent = RuleView::new(Direction::From, None, defaults);
-    let now = Moment::at_most_last(1001);
-    Ok(Some(rule(lent, &packet, None, &[], now, &mut steps)))
+    let rows = default_rows(alloc, DNS, &mut steps)?;
+    let ruling = ruled_by(alloc, &packet, &rows, &mut steps);
+    drop(rows);
+    Ok(Some(ruling?))
 }
 
 #[test]

@@ -9,6 +9,8 @@ mod captures;
 #[cfg(test)]
 mod dns;
 #[cfg(test)]
+mod doors;
+#[cfg(test)]
 mod fields;
 #[cfg(test)]
 mod frames;

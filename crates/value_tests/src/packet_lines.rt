@@ -1,10 +1,12 @@
 //! A capture whose lines depend on the packets before.
+use crate::doors::door_of;
 use capture_runs::{PacketLines, write_capture};
 use command_runs::Status;
 use mud_base::{Bytes, Listed, Memory};
 use mud_world::MemoryDoor;
 use pcap_read::Captured;
 use std::alloc::Global;
+use std::process::Abort;
 use std::test::Fail;
 use text_lines::append_decimal;
 
@@ -52,47 +54,71 @@ const CAPTURE: &[u8] =
     \x23\x04\x00\x00\x00\x00\x00\x00\x03\x00\x00\x00\x03\x00\x00\x00abc\
     \x23\x04\x00\x00\x00\x00\x00\x00\x01\x00\x00\x00\x01\x00\x00\x00d\x23";
 
-/// The run over these octets, which come one by one, where the read of this number fails, counted
-/// from 1, or none.
-fn run(alloc: Global, octets: &[u8], failing: u64) -> Result<(Status, u64, MemoryDoor), Memory> {
+/// A door at which these octets come one by one.
+fn door(alloc: Global, octets: &[u8]) -> Result<MemoryDoor, Memory> {
     let mut pieces = Listed::new(alloc);
     for octet in octets {
         pieces.push(Bytes::new(alloc, &[*octet])?)?;
     }
-    let mut inputs = Listed::new(alloc);
-    inputs.push(pieces)?;
-    let mut door = MemoryDoor::new(alloc, inputs, 64)?;
+    door_of(alloc, pieces, 64)
+}
+
+/// What a run gives: its status, how many octets the packets had, and how many reads have failed.
+type Given = (Status, u64, u64);
+
+/// Asserts that the run by this door, where the read of this number fails, counted from 1, or none,
+/// gives this and writes these lines.
+fn gives(
+    rt: &impl Abort,
+    alloc: Global,
+    door: &mut MemoryDoor,
+    failing: u64,
+    given: Given,
+    lines: &[u8],
+) -> Result<(), Fail> {
     door.failing_read.push(failing)?;
     let mut sums = Sums { octets: 0 };
-    let status = write_capture(alloc, &mut door, &mut sums);
-    Ok((status, sums.octets, door))
+    let status = write_capture(alloc, door, &mut sums);
+    assert_eq!(rt; (status, sums.octets, door.read_count), given);
+    assert!(rt; door.connection_count() > 0);
+    assert_eq!(rt; door.written(0), lines);
+    Ok(())
+}
+
+/// The same, over these octets.
+fn run_gives(
+    rt: &impl Abort,
+    alloc: Global,
+    octets: &[u8],
+    failing: u64,
+    given: Given,
+    lines: &[u8],
+) -> Result<(), Fail> {
+    let mut door = door(alloc, octets)?;
+    let is_given = gives(rt, alloc, &mut door, failing, given, lines);
+    drop(door);
+    is_given
 }
 
 #[test]
 fn goes_on_from_packet_to_packet(rt: HostRuntime) -> Result<(), Fail> {
-    let (status, sum, door) = run(rt.alloc(), CAPTURE, 0)?;
-    assert_eq!(rt; status, Status::Refused);
-    assert!(rt; door.connection_count() > 0);
-    assert_eq!(rt; door.written(0), b"3\n4\nall 4\nfault Cut 60\n".as_slice());
-    assert_eq!(rt; status.number(), 3);
-    assert_eq!(rt; sum, 4);
+    let given = (Status::Refused, 4, 0);
+    let lines = b"3\n4\nall 4\nfault Cut 60\n";
+    run_gives(&rt, rt.alloc(), CAPTURE, 0, given, lines)?;
+    assert_eq!(rt; Status::Refused.number(), 3);
     Ok(())
 }
 
 #[test]
 fn first_octets_are_few_or_fail(rt: HostRuntime) -> Result<(), Fail> {
     for len in 0..6 {
-        let (status, _, door) = run(rt.alloc(), &CAPTURE[..len], 0)?;
-        assert_eq!(rt; status, Status::Refused);
-        assert!(rt; door.connection_count() > 0);
-        assert_eq!(rt; door.written(0), b"all 0\nfault Cut 0\n".as_slice());
+        let given = (Status::Refused, 0, 0);
+        let lines = b"all 0\nfault Cut 0\n";
+        run_gives(&rt, rt.alloc(), &CAPTURE[..len], 0, given, lines)?;
     }
     for failing in 1..6 {
-        let (status, _, door) = run(rt.alloc(), CAPTURE, failing)?;
-        assert_eq!(rt; status, Status::DoorFailed);
-        assert_eq!(rt; door.read_count, 1);
-        assert!(rt; door.connection_count() > 0);
-        assert_eq!(rt; door.written(0), b"".as_slice());
+        let given = (Status::DoorFailed, 0, 1);
+        run_gives(&rt, rt.alloc(), CAPTURE, failing, given, b"")?;
     }
     Ok(())
 }

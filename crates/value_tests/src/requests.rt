@@ -1,10 +1,12 @@
 //! Connections over a door in memory, in pieces and with failing calls.
+use crate::doors::{door_of, pieces_of};
 use http_requests::{
     DoorFault, FramingFault, MomentFrom, Next, RequestBuffer, next_request, parts_of,
 };
-use mud_base::{Bytes, Listed, Memory};
+use mud_base::{Bytes, Memory};
 use mud_world::MemoryDoor;
 use std::alloc::Global;
+use std::process::Abort;
 use std::test::Fail;
 
 /// A request whose client waits for leave, and one that closes the connection.
@@ -14,11 +16,7 @@ const REQUESTS: &[u8] =
 /// The octets in two pieces, the first of so many octets.
 fn door(alloc: Global, octets: &[u8], first: usize) -> Result<MemoryDoor, Memory> {
     let (front, back) = octets.split_at(first.min(octets.len()));
-    let mut pieces = Listed::new(alloc);
-    pieces.push(Bytes::new(alloc, front)?)?;
-    pieces.push(Bytes::new(alloc, back)?)?;
-    let inputs = Listed::from_vec(vec![in alloc; pieces]?);
-    MemoryDoor::new(alloc, inputs, 100)
+    door_of(alloc, pieces_of(alloc, front, back)?, 100)
 }
 
 /// The octets of the next request, with its method, path and body behind each other.
@@ -38,18 +36,93 @@ fn next_text(
     Ok(text)
 }
 
+/// Asserts that this is the text of the next request.
+fn is_next(
+    rt: &impl Abort,
+    alloc: Global,
+    buffer: &mut RequestBuffer,
+    door: &mut MemoryDoor,
+    wanted: &[u8],
+) -> Result<(), Fail> {
+    let text = next_text(alloc, buffer, door)?;
+    assert_eq!(rt; text.octets(), wanted);
+    Ok(())
+}
+
+/// Asserts that the door gives the requests and then their end, and that leave was given once.
+fn gives_requests(
+    rt: &impl Abort,
+    alloc: Global,
+    buffer: &mut RequestBuffer,
+    door: &mut MemoryDoor,
+) -> Result<(), Fail> {
+    is_next(rt, alloc, buffer, door, b"PUT/localshello")?;
+    is_next(rt, alloc, buffer, door, b"GET/things")?;
+    let end = next_request(buffer, door, MomentFrom::Header);
+    assert!(rt; matches!(end, Ok(Next::Ended)));
+    assert_eq!(rt; door.calls.write, 1);
+    Ok(())
+}
+
+/// Asserts the same of a door at which the first piece has so many octets.
+fn cut_gives_requests(
+    rt: &impl Abort,
+    alloc: Global,
+    buffer: &mut RequestBuffer,
+    first: usize,
+) -> Result<(), Fail> {
+    let mut door = door(alloc, REQUESTS, first)?;
+    let is_given = gives_requests(rt, alloc, buffer, &mut door);
+    drop(door);
+    is_given
+}
+
+/// Asserts the same of each cut.
+fn cuts_give_requests(
+    rt: &impl Abort,
+    alloc: Global,
+    buffer: &mut RequestBuffer,
+) -> Result<(), Fail> {
+    for first in 0..REQUESTS.len() {
+        cut_gives_requests(rt, alloc, buffer, first)?;
+    }
+    Ok(())
+}
+
 #[test]
 fn every_cut_gives_the_requests(rt: HostRuntime) -> Result<(), Fail> {
     let mut buffer = RequestBuffer::new(rt.alloc())?;
-    for first in 0..REQUESTS.len() {
-        let mut door = door(rt.alloc(), REQUESTS, first)?;
-        let put = next_text(rt.alloc(), &mut buffer, &mut door)?;
-        assert_eq!(rt; put.octets(), b"PUT/localshello".as_slice());
-        let get = next_text(rt.alloc(), &mut buffer, &mut door)?;
-        assert_eq!(rt; get.octets(), b"GET/things".as_slice());
-        let end = next_request(&mut buffer, &mut door, MomentFrom::Header);
-        assert!(rt; matches!(end, Ok(Next::Ended)));
-        assert_eq!(rt; door.calls.write, 1);
+    let are_given = cuts_give_requests(&rt, rt.alloc(), &mut buffer);
+    drop(buffer);
+    are_given
+}
+
+/// Asserts that an end behind so many octets is a fault.
+fn end_is_fault(
+    rt: &impl Abort,
+    alloc: Global,
+    buffer: &mut RequestBuffer,
+    octets: &[u8],
+    fault: FramingFault,
+) -> Result<(), Fail> {
+    let mut door = door(alloc, octets, 3)?;
+    let end = next_request(buffer, &mut door, MomentFrom::Header);
+    drop(door);
+    assert!(rt; matches!(end, Ok(Next::Broken(found)) if found.framing == fault));
+    buffer.clear();
+    Ok(())
+}
+
+/// Asserts the same of each end.
+fn ends_are_faults(rt: &impl Abort, alloc: Global, buffer: &mut RequestBuffer) -> Result<(), Fail> {
+    for len in 1..89 {
+        let (front, _) = REQUESTS.split_at(len);
+        let fault = if len < 84 {
+            FramingFault::Head
+        } else {
+            FramingFault::Cut
+        };
+        end_is_fault(rt, alloc, buffer, front, fault)?;
     }
     Ok(())
 }
@@ -57,17 +130,7 @@ fn every_cut_gives_the_requests(rt: HostRuntime) -> Result<(), Fail> {
 #[test]
 fn every_end_is_a_fault(rt: HostRuntime) -> Result<(), Fail> {
     let mut buffer = RequestBuffer::new(rt.alloc())?;
-    for len in 1..89 {
-        let (front, _) = REQUESTS.split_at(len);
-        let mut door = door(rt.alloc(), front, 3)?;
-        let end = next_request(&mut buffer, &mut door, MomentFrom::Header);
-        let fault = if len < 84 {
-            FramingFault::Head
-        } else {
-            FramingFault::Cut
-        };
-        assert!(rt; matches!(end, Ok(Next::Broken(found)) if found.framing == fault));
-        buffer.clear();
-    }
-    Ok(())
+    let are_faults = ends_are_faults(&rt, rt.alloc(), &mut buffer);
+    drop(buffer);
+    are_faults
 }

@@ -1,11 +1,13 @@
 //! A small service over a door in memory.
 ghost use Rattle.std.specs.Prelude.{◌≡◌, slice_index};
 
+use crate::doors::piece_of;
 use http_requests::{MomentFrom, RequestBuffer, RequestFault, RequestParts};
 use http_serving::{ConnectionEnd, Service, serve_connection, serve_connections};
-use mud_base::{Bytes, Listed, Memory};
+use mud_base::{Listed, Memory};
 use mud_world::MemoryDoor;
 use std::alloc::Global;
+use std::process::Abort;
 use std::test::Fail;
 
 /// It answers the second octet of each path, and behind it a point where the connection ends, else
@@ -62,34 +64,39 @@ impl Service for Letters {
 /// Two connections: one of two requests and something that is none, and one of a request that
 /// closes it and something that isn't read.
 fn door(alloc: Global) -> Result<MemoryDoor, Memory> {
-    let mut first = Listed::new(alloc);
-    first.push(Bytes::new(
+    let first = piece_of(
         alloc,
         b"GET /a HTTP/1.1\r\n\r\nGET /b HTTP/1.1\r\n\r\nno request\r\n",
-    )?)?;
-    let mut second = Listed::new(alloc);
-    second.push(Bytes::new(alloc, b"GET /c HTTP/1.0\r\n\r\nGET /d")?)?;
+    )?;
+    let second = piece_of(alloc, b"GET /c HTTP/1.0\r\n\r\nGET /d")?;
     let inputs = Listed::from_vec(vec![in alloc; first, second]?);
     MemoryDoor::new(alloc, inputs, 64)
 }
 
-#[test]
-fn answers_in_order(rt: HostRuntime) -> Result<(), Fail> {
-    let mut buffer = RequestBuffer::new(rt.alloc())?;
-    let mut door = door(rt.alloc())?;
+/// Asserts what is answered at the connections of the door.
+fn answers(rt: &impl Abort, buffer: &mut RequestBuffer, door: &mut MemoryDoor) {
     let mut letters = Letters {
         letter: [0],
         rest: b"",
         count: 0,
     };
-    let end = serve_connection(&mut buffer, &mut door, &mut letters, MomentFrom::Clock);
+    let end = serve_connection(buffer, door, &mut letters, MomentFrom::Clock);
     assert_eq!(rt; end, ConnectionEnd::Broken);
-    let served = serve_connections(&mut buffer, &mut door, &mut letters, MomentFrom::Clock, 3);
+    let served = serve_connections(buffer, door, &mut letters, MomentFrom::Clock, 3);
     assert_eq!(rt; served, Ok(()));
     assert_eq!(rt; letters.count, 3);
     let count = door.connection_count();
     assert!(rt; count == 2);
     assert_eq!(rt; door.written(0), b"a,b,!head".as_slice());
     assert_eq!(rt; door.written(1), b"c.".as_slice());
+}
+
+#[test]
+fn answers_in_order(rt: HostRuntime) -> Result<(), Fail> {
+    let mut buffer = RequestBuffer::new(rt.alloc())?;
+    let mut door = door(rt.alloc())?;
+    answers(&rt, &mut buffer, &mut door);
+    drop(door);
+    drop(buffer);
     Ok(())
 }

@@ -1,6 +1,7 @@
 //! Each call once with ample memory, and one read, write and change that fail where they are listed.
 ghost use Rattle.std.specs.Prelude.{◌≡◌, IfOk};
 
+use crate::doors::{door_of, pieces_of};
 use mud_base::{Bytes, Listed, Memory, Moment};
 use mud_world::{
     Clock, Door, Failed, Item, KeepFault, Keeper, MemoryClock, MemoryDoor, MemoryKeeper,
@@ -10,17 +11,9 @@ use std::alloc::Global;
 use std::process::Abort;
 use std::test::Fail;
 
-/// A connection that comes in two pieces, and takes four octets. The second read and the second
-/// write fail.
+/// A connection that comes in two pieces, and takes four octets.
 fn door(alloc: Global) -> Result<MemoryDoor, Memory> {
-    let mut pieces = Listed::new(alloc);
-    pieces.push(Bytes::new(alloc, b"GET ")?)?;
-    pieces.push(Bytes::new(alloc, b"/")?)?;
-    let inputs = Listed::from_vec(vec![in alloc; pieces]?);
-    let mut door = MemoryDoor::new(alloc, inputs, 4)?;
-    door.failing_read.push(2)?;
-    door.failing_write.push(2)?;
-    Ok(door)
+    door_of(alloc, pieces_of(alloc, b"GET ", b"/")?, 4)
 }
 
 /// Asserts what the calls at its connection do.
@@ -35,10 +28,11 @@ fn reads_and_writes(rt: &impl Abort, alloc: Global, door: &mut MemoryDoor) {
     assert!(rt; say(door, b"c") == Err(Failed));
 }
 
-#[test]
-fn a_door_fails_where_it_is_listed(rt: HostRuntime) -> Result<(), Fail> {
-    let mut door = door(rt.alloc())?;
-    reads_and_writes(&rt, rt.alloc(), &mut door);
+/// Asserts that the second read and the second write fail, where they are listed.
+fn door_fails(rt: &impl Abort, alloc: Global, door: &mut MemoryDoor) -> Result<(), Fail> {
+    door.failing_read.push(2)?;
+    door.failing_write.push(2)?;
+    reads_and_writes(rt, alloc, door);
     assert_eq!(rt; door.room_left(), 2);
     assert!(rt; door.bind(80) == Ok(()));
     assert!(rt; door.next() == Ok(true));
@@ -49,6 +43,14 @@ fn a_door_fails_where_it_is_listed(rt: HostRuntime) -> Result<(), Fail> {
 }
 
 #[test]
+fn a_door_fails_where_it_is_listed(rt: HostRuntime) -> Result<(), Fail> {
+    let mut door = door(rt.alloc())?;
+    let fails = door_fails(&rt, rt.alloc(), &mut door);
+    drop(door);
+    fails
+}
+
+#[test]
 fn a_clock_gives_its_moments(rt: HostRuntime) -> Result<(), Fail> {
     let moments = vec![in rt.alloc(); Moment::at_most_last(5)]?;
     let mut clock = MemoryClock::new(Listed::from_vec(moments));
@@ -56,25 +58,32 @@ fn a_clock_gives_its_moments(rt: HostRuntime) -> Result<(), Fail> {
     Ok(())
 }
 
-/// A spool of one file. The second read fails.
+/// A spool of one file.
 fn spool(alloc: Global) -> Result<MemorySpool, Memory> {
-    let mut files = Listed::new(alloc);
-    files.push((Bytes::new(alloc, b"a")?, Bytes::new(alloc, b"text")?))?;
-    let mut spool = MemorySpool::new(alloc, files);
+    let name = Bytes::new(alloc, b"a")?;
+    let octets = Bytes::new(alloc, b"text")?;
+    let files = Listed::from_vec(vec![in alloc; (name, octets)]?);
+    Ok(MemorySpool::new(alloc, files))
+}
+
+/// Asserts that the second read fails, where it is listed.
+fn spool_fails(rt: &impl Abort, alloc: Global, spool: &mut MemorySpool) -> Result<(), Fail> {
     spool.failing_read.push(2)?;
-    Ok(spool)
+    let names = spool.list(alloc);
+    assert!(rt; matches!(&names, Ok(names) if names.len() == 1));
+    let octets = spool.read(alloc, b"a");
+    assert!(rt; matches!(&octets, Ok(octets) if octets.octets() == b"text".as_slice()));
+    let again = spool.read(alloc, b"a");
+    assert!(rt; again.err() == Some(SpoolFault::Failed));
+    Ok(())
 }
 
 #[test]
 fn a_spool_fails_where_it_is_listed(rt: HostRuntime) -> Result<(), Fail> {
     let mut spool = spool(rt.alloc())?;
-    let names = spool.list(rt.alloc());
-    assert!(rt; matches!(&names, Ok(names) if names.len() == 1));
-    let octets = spool.read(rt.alloc(), b"a");
-    assert!(rt; matches!(&octets, Ok(octets) if octets.octets() == b"text".as_slice()));
-    let again = spool.read(rt.alloc(), b"a");
-    assert!(rt; again.err() == Some(SpoolFault::Failed));
-    Ok(())
+    let fails = spool_fails(&rt, rt.alloc(), &mut spool);
+    drop(spool);
+    fails
 }
 
 fn item(alloc: Global, key: &[u8], body: &[u8]) -> Result<Item, Memory>
@@ -87,8 +96,9 @@ fn item(alloc: Global, key: &[u8], body: &[u8]) -> Result<Item, Memory>
 
 /// A keeper of nothing. The second change fails.
 fn keeper(alloc: Global) -> Result<Box<dyn Keeper>, Fail> {
+    let failing = vec![in alloc; 2]?;
     let mut keeper = MemoryKeeper::new(alloc, Listed::new(alloc));
-    keeper.failing_apply.push(2)?;
+    keeper.failing_apply = Listed::from_vec(failing);
     Ok(Box::new(alloc, keeper)?)
 }
 
@@ -98,14 +108,20 @@ fn keeps(rt: &impl Abort, alloc: Global, keeper: &mut Box<dyn Keeper>, count: us
     assert!(rt; matches!(&items, Ok(items) if items.len() == count));
 }
 
+/// Asserts that the second change fails, where it is listed.
+fn keeper_fails(rt: &impl Abort, alloc: Global, keeper: &mut Box<dyn Keeper>) -> Result<(), Fail> {
+    let put = [Put::Set(item(alloc, b"k", b"text")?)];
+    open_box(keeper, alloc)?;
+    assert!(rt; keep(keeper, &put) == Ok(()));
+    assert!(rt; keep(keeper, &put) == Err(KeepFault::Failed));
+    keeps(rt, alloc, keeper, 1);
+    Ok(())
+}
+
 #[test]
 fn a_keeper_fails_where_it_is_listed(rt: HostRuntime) -> Result<(), Fail> {
-    let alloc = rt.alloc();
-    let put = [Put::Set(item(alloc, b"k", b"text")?)];
-    let mut keeper = keeper(alloc)?;
-    open_box(&mut keeper, alloc)?;
-    assert!(rt; keep(&mut keeper, &put) == Ok(()));
-    assert!(rt; keep(&mut keeper, &put) == Err(KeepFault::Failed));
-    keeps(&rt, alloc, &mut keeper, 1);
-    Ok(())
+    let mut keeper = keeper(rt.alloc())?;
+    let fails = keeper_fails(&rt, rt.alloc(), &mut keeper);
+    drop(keeper);
+    fails
 }

@@ -2,9 +2,9 @@
 //! all pairs of an entry and an address, which are made anew from plain tables.
 ghost use Rattle.std.specs.Prelude.{◌≡◌, ◌<◌};
 
-use super::{change, hold, release};
+use super::{change, entry, hold, release};
 use acl_compile::Compiled;
-use acl_model::{Binding, DefaultRule, Entry, MemberKey, Policy, Selector, default_entry};
+use acl_model::{Binding, Entry, MemberKey, Policy, Selector};
 use acl_rows::{Row, RulePart};
 use mud_base::{Addr, Bytes, Direction, End, Family, Listed, Memory};
 use mud_url::{MudUrl, mud_url};
@@ -212,6 +212,23 @@ fn rebind(
 }
 
 /// The bindings of an address to one or two of the keys go, come or get other ends.
+fn rebind_some(
+    alloc: Global,
+    plain: &mut Plain,
+    chance: &mut Chance,
+    gone: &mut Vec<Binding>,
+    come: &mut Vec<Binding>,
+) -> Result<(), Memory> {
+    let (addr, key) = (chance.below(4), chance.below(3));
+    let until = chance.few().map(|end| end as u64);
+    rebind(alloc, plain, key, addr, until, gone, come)?;
+    if key < 2 && chance.below(2) == 0 {
+        rebind(alloc, plain, key + 1, addr, until, gone, come)?;
+    }
+    Ok(())
+}
+
+/// The same, in what is compiled too.
 fn change_bound<L: Ledger>(
     alloc: Global,
     compiled: &mut Compiled,
@@ -221,18 +238,21 @@ fn change_bound<L: Ledger>(
 ) -> Result<(), Memory> {
     let mut gone = Vec::new(alloc);
     let mut come = Vec::new(alloc);
-    let (addr, key) = (chance.below(4), chance.below(3));
-    let until = chance.few().map(|end| end as u64);
-    rebind(alloc, plain, key, addr, until, &mut gone, &mut come)?;
-    if key < 2 && chance.below(2) == 0 {
-        rebind(alloc, plain, key + 1, addr, until, &mut gone, &mut come)?;
-    }
-    change(compiled, gone.as_slice(), come.as_slice(), steps)
+    let changed = match rebind_some(alloc, plain, chance, &mut gone, &mut come) {
+        Ok(()) => change(compiled, gone.as_slice(), come.as_slice(), steps),
+        Err(memory) => Err(memory),
+    };
+    drop(gone);
+    drop(come);
+    changed
 }
 
-/// What these ask for.
-fn made_selectors(alloc: Global, asked: Asked) -> Result<Listed<Selector>, Memory> {
-    let mut selectors = Listed::new(alloc);
+/// Adds what these ask for.
+fn push_selectors(
+    alloc: Global,
+    asked: Asked,
+    selectors: &mut Listed<Selector>,
+) -> Result<(), Memory> {
     if asked.first {
         selectors.push(Selector::Manufacturer(Bytes::new(alloc, MAKERS[0])?))?;
     }
@@ -242,20 +262,60 @@ fn made_selectors(alloc: Global, asked: Asked) -> Result<Listed<Selector>, Memor
     if asked.dns {
         selectors.push(Selector::Controller(Bytes::new(alloc, DNS)?))?;
     }
-    Ok(selectors)
+    Ok(())
 }
 
-/// The entries of a file from one on.
-fn made_entries(alloc: Global, file: usize, places: [usize; 3]) -> Result<Listed<Entry>, Memory> {
-    let mut entries = Listed::new(alloc);
-    for place in places {
-        let asked = asked_of(file, place);
-        let mut entry = default_entry(alloc, DefaultRule::Dns, Direction::From)?;
-        entry.family = asked.family;
-        entry.selectors = made_selectors(alloc, asked)?;
-        entries.push(entry)?;
+/// The entry that asks for these.
+fn made_entry(alloc: Global, asked: Asked) -> Result<Entry, Memory> {
+    let mut selectors = Listed::new(alloc);
+    if let Err(memory) = push_selectors(alloc, asked, &mut selectors) {
+        drop(selectors);
+        return Err(memory);
     }
-    Ok(entries)
+    match entry(alloc, selectors) {
+        Ok(mut entry) => {
+            entry.family = asked.family;
+            Ok(entry)
+        }
+        Err(memory) => Err(memory),
+    }
+}
+
+/// Adds the entries of a file at these places.
+fn push_entries(
+    alloc: Global,
+    file: usize,
+    places: [usize; 3],
+    entries: &mut Listed<Entry>,
+) -> Result<(), Memory> {
+    for place in places {
+        entries.push(made_entry(alloc, asked_of(file, place))?)?;
+    }
+    Ok(())
+}
+
+/// Adds the entries of a file to a policy.
+fn push_both(alloc: Global, file: usize, policy: &mut Policy) -> Result<(), Memory> {
+    push_entries(alloc, file, [0, 1, 2], &mut policy.outgoing)?;
+    push_entries(alloc, file, [3, 4, 5], &mut policy.incoming)
+}
+
+/// A file is held for a URL.
+fn hold_made<L: Ledger>(
+    alloc: Global,
+    compiled: &mut Compiled,
+    url: &MudUrl,
+    file: usize,
+    steps: &mut Steps<L>,
+) -> Result<bool, Memory> {
+    let (outgoing, incoming) = (Listed::new(alloc), Listed::new(alloc));
+    let mut policy = Policy { outgoing, incoming };
+    let held = match push_both(alloc, file, &mut policy) {
+        Ok(()) => hold(compiled, url, &policy, steps),
+        Err(memory) => Err(memory),
+    };
+    drop(policy);
+    held
 }
 
 /// A file is held for one of the URLs, or none.
@@ -274,10 +334,7 @@ fn change_held<L: Ledger>(
         return Ok(release(compiled, &url, steps)?);
     }
     plain.set_file(n, Some(file))?;
-    let outgoing = made_entries(alloc, file, [0, 1, 2])?;
-    let incoming = made_entries(alloc, file, [3, 4, 5])?;
-    let policy = Policy { outgoing, incoming };
-    Ok(hold(compiled, &url, &policy, steps)?)
+    Ok(hold_made(alloc, compiled, &url, file, steps)?)
 }
 
 /// The lesser of an end and that of a binding, where one is asked for; None where there is none.
@@ -446,7 +503,36 @@ fn change_one<L: Ledger>(
     Ok(())
 }
 
+/// Makes a change by chance, and tells whether all rows are those of the tables.
+fn change_agrees<L: Ledger>(
+    alloc: Global,
+    compiled: &mut Compiled,
+    plain: &mut Plain,
+    chance: &mut Chance,
+    steps: &mut Steps<L>,
+) -> Result<bool, Fail> {
+    change_one(alloc, compiled, plain, chance, steps)?;
+    agree(alloc, compiled, plain, steps)
+}
+
 /// How many of so many changes are made until the rows aren't those of the tables.
+fn changes_agree<L: Ledger>(
+    alloc: Global,
+    compiled: &mut Compiled,
+    plain: &mut Plain,
+    count: usize,
+    steps: &mut Steps<L>,
+) -> Result<usize, Fail> {
+    let mut chance = Chance(1);
+    for made in 0..count {
+        if !change_agrees(alloc, compiled, plain, &mut chance, steps)? {
+            return Ok(made);
+        }
+    }
+    Ok(count)
+}
+
+/// The same, with nothing held and bound before.
 fn changes_made<L: Ledger>(alloc: Global, count: usize, blank: Blank) -> Result<usize, Fail>
     requires name { blank.name ≡ L.name }
     requires parts { blank.parts ≡ L.parts }
@@ -454,16 +540,12 @@ fn changes_made<L: Ledger>(alloc: Global, count: usize, blank: Blank) -> Result<
 {
     let mut steps = Steps::<L>::new(blank);
     let mut compiled = Compiled::new(alloc)?;
-    let mut chance = Chance(1);
     let (files, ends) = (Vec::new(alloc), Vec::new(alloc));
     let mut plain = Plain { files, ends };
-    for made in 0..count {
-        change_one(alloc, &mut compiled, &mut plain, &mut chance, &mut steps)?;
-        if !agree(alloc, &compiled, &plain, &mut steps)? {
-            return Ok(made);
-        }
-    }
-    Ok(count)
+    let made = changes_agree(alloc, &mut compiled, &mut plain, count, &mut steps);
+    drop(plain);
+    drop(compiled);
+    made
 }
 
 #[test]

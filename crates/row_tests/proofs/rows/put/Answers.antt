@@ -10,7 +10,7 @@ use Rattle.acl_rows.specs.Places.{row_place, row_key_place}
 use Rattle.acl_rows.specs.View.{is_at}
 use Rattle.acl_rows.specs.ByAddress.{SideRows, rows_of_peer, index_beside}
 use Rattle.acl_rows.proofs.GroupPlaces.{peer_rows}
-use Rattle.row_tests.proofs.verdicts.put.Goals as goal
+use Rattle.row_tests.proofs.rows.put.Goals as goal
 
 pub make_edits_at-requires-clause-found : goal.make_edits_at-requires-clause-found
 unfolding index_beside row_place row_key_place

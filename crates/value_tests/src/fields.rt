@@ -1,5 +1,6 @@
 //! The fields of items, written and read, octet for octet.
 use item_codec::{CodecFault, FieldReader, FieldWriter, Word};
+use mud_base::Memory;
 use std::test::Fail;
 
 /// A version, a string, a list of two ends and the last field of eight octets.
@@ -7,15 +8,20 @@ const BODY: [u8; 25] = [
     1, 0, 0, 0, 2, b'h', b'i', 0, 2, 0, 0, 0, 7, 0, 1, 0xe2, 0x40, 0, 0, 0, 0, 0, 0, 3, 0xe8,
 ];
 
-#[test]
-fn fields_are_written(rt: HostRuntime) -> Result<(), Fail> {
-    let mut writer = FieldWriter::new(rt.alloc());
+/// Writes the fields of the body.
+fn write_fields(writer: &mut FieldWriter) -> Result<(), Memory> {
     writer.number(1, 1)?;
     writer.string(b"hi")?;
     writer.number(2, 2)?;
     writer.number(4, 7)?;
     writer.number(4, 123_456)?;
-    writer.number(8, 1000)?;
+    writer.number(8, 1000)
+}
+
+#[test]
+fn fields_are_written(rt: HostRuntime) -> Result<(), Fail> {
+    let mut writer = FieldWriter::new(rt.alloc());
+    assert!(rt; write_fields(&mut writer).is_ok());
     let body = writer.into_bytes();
     assert_eq!(rt; body.octets(), BODY.as_slice());
     Ok(())

@@ -3,6 +3,7 @@
 use mud_base::{Bytes, Moment};
 use mud_world::{Clock, Door, Failed, MOST_READ, Spool, SpoolFault};
 use real_world::{RealClock, RealDoor, RealSpool};
+use std::alloc::Global;
 use std::fs;
 use std::io::{Read, Write};
 use std::net::{TcpListener, TcpStream};
@@ -16,13 +17,12 @@ fn free_port(rt: &HostRuntime) -> Result<u16, Fail> {
     Ok(listener.local_addr()?.port())
 }
 
-#[test]
-fn serves_a_client(rt: HostRuntime) -> Result<(), Fail> {
-    let mut door = RealDoor::new(b"in".as_slice(), Vec::new(rt.alloc()), rt);
-    let port = free_port(&rt)?;
-    assert_eq!(rt; door.bind(port), Ok(()));
-    assert_eq!(rt; door.bind(port), Err(Failed));
-    let mut client = TcpStream::connect(&rt, ("127.0.0.1", port))?;
+/// Asserts what the door does for a client, which sends an octet and takes one.
+fn serves(
+    rt: &impl Abort,
+    door: &mut RealDoor<&[u8], Vec<u8>, HostRuntime>,
+    client: &mut TcpStream,
+) -> Result<(), Fail> {
     let mut octet = [0];
     assert_eq!(rt; door.read(&mut octet), Ok(0));
     assert_eq!(rt; door.write(b"a"), Err(Failed));
@@ -34,6 +34,24 @@ fn serves_a_client(rt: HostRuntime) -> Result<(), Fail> {
     client.read_exact(&mut octet)?;
     assert_eq!(rt; octet, *b"a");
     Ok(())
+}
+
+#[test]
+fn serves_a_client(rt: HostRuntime) -> Result<(), Fail> {
+    let port = free_port(&rt)?;
+    let mut door = RealDoor::new(b"in".as_slice(), Vec::new(rt.alloc()), rt);
+    assert_eq!(rt; door.bind(port), Ok(()));
+    assert_eq!(rt; door.bind(port), Err(Failed));
+    let is_served = match TcpStream::connect(&rt, ("127.0.0.1", port)) {
+        Ok(mut client) => {
+            let is_served = serves(&rt, &mut door, &mut client);
+            drop(client);
+            is_served
+        }
+        Err(error) => Err(error.into()),
+    };
+    drop(door);
+    is_served
 }
 
 /// A machine's clock that shows one moment.
@@ -75,21 +93,37 @@ fn is_read(rt: &impl Abort, answer: Result<Bytes, SpoolFault>, len: usize, last:
     }
 }
 
-/// One file has an octet more than is read of it, and the last one that is read is marked.
+/// Makes a folder of two files. One has an octet more than is read of it, and the last one that is
+/// read is marked.
+fn make_folder(rt: &HostRuntime) -> Result<(), Fail> {
+    fs::create_dir(rt, "folder")?;
+    fs::write(rt, "folder/short", b" in".as_slice())?;
+    let mut long = vec![in rt.alloc(); b' '; MOST_READ + 1]?;
+    long[MOST_READ - 1] = b'!';
+    fs::write(rt, "folder/long", long)?;
+    Ok(())
+}
+
+/// Asserts what is read of the folder.
+fn reads_folder(rt: &impl Abort, alloc: Global, spool: &mut RealSpool<HostRuntime>) {
+    let names = spool.list(alloc);
+    assert!(rt; matches!(&names, Ok(names) if names.len() == 2));
+    drop(names);
+    is_read(rt, spool.read(alloc, b"long"), MOST_READ, b'!');
+    let short = spool.read(alloc, b"short");
+    assert!(rt; matches!(&short, Ok(octets) if octets.octets() == b" in".as_slice()));
+    drop(short);
+    let none = spool.read(alloc, b"none");
+    assert!(rt; matches!(&none, Err(SpoolFault::Failed)));
+    drop(none);
+}
+
 #[test]
 fn files_of_a_folder_are_read_up_to_the_most(rt: HostRuntime) -> Result<(), Fail> {
     let alloc = rt.alloc();
-    let mut long = vec![in alloc; b' '; MOST_READ + 1]?;
-    long[MOST_READ - 1] = b'!';
-    fs::create_dir(&rt, "folder")?;
-    fs::write(&rt, "folder/long", long)?;
-    fs::write(&rt, "folder/short", b" in".as_slice())?;
+    make_folder(&rt)?;
     let mut spool = RealSpool::new(rt, format!(in alloc; "folder")?);
-    assert!(rt; matches!(spool.list(alloc), Ok(names) if names.len() == 2));
-    is_read(&rt, spool.read(alloc, b"long"), MOST_READ, b'!');
-    assert!(rt;
-        matches!(spool.read(alloc, b"short"), Ok(octets) if octets.octets() == b" in".as_slice())
-    );
-    assert!(rt; matches!(spool.read(alloc, b"none"), Err(SpoolFault::Failed)));
+    reads_folder(&rt, alloc, &mut spool);
+    drop(spool);
     Ok(())
 }

@@ -2,7 +2,7 @@
 ghost use Rattle.std.specs.Prelude.{◌≡◌, ◌==◌, ◌⊎◌, ℕ, false, List, [], ◌∷◌, Err, IfOk, OnOk, OnErr, IsTrue};
 ghost use Rattle.mud_tables.specs.declared.segment.Segment.{Segment as SegmentValue};
 ghost use Rattle.mud_world.specs.Boxed.{faults_of};
-ghost use Rattle.mud_world.specs.Causes.{Counts, Rose, StopsAtFailure};
+ghost use Rattle.mud_world.specs.Causes.{Counts, StopsAtFailure};
 ghost use Rattle.mud_world.specs.Clock.{later_moments};
 ghost use Rattle.mud_world.specs.Door.{put_out};
 ghost use Rattle.mud_desk.specs.Boxed.{IsKept};
@@ -12,7 +12,7 @@ ghost use Rattle.command_runs.specs.Status.{status_number};
 ghost use Rattle.import_runs.specs.Entries.{has_keeper_failed, is_of_memory};
 ghost use Rattle.import_runs.specs.Entries as entries;
 ghost use Rattle.import_runs.specs.Imports.{MayLead, standing};
-ghost use Rattle.import_runs.specs.Runs.{ImportsPart, ImportsAll, StaysKept, scene};
+ghost use Rattle.import_runs.specs.Runs.{EndsAtDoorOrSpool, ImportsPart, ImportsAll, StaysKept, scene};
 ghost use Rattle.command_runs.specs.Stops.{has_failed};
 
 use crate::{append_reply, append_skipped, fetched_in};
@@ -58,6 +58,7 @@ fn reply_to<L: Ledger, P: Spool, C: Clock>(
     ensures clock { C.tells → OnErr result ((C.moments clock.new ≡ C.moments clock.old) ⊎ (C.moments clock.new ≡ later_moments (C.moments clock.old))) }
     ensures same { P.tells → P.files spool.new ≡ P.files spool.old }
     ensures cause { Counts (has_failed result) (P.faults spool.old) (P.faults spool.new) }
+    ensures stop { IsTrue (has_failed result) → StopsAtFailure (P.failed spool.new) (P.faults spool.old) (P.faults spool.new) }
 {
     let Some(fetched) = fetched_in(name) else {
         return Ok(None);
@@ -133,7 +134,8 @@ pub(crate) fn import_file<L: Ledger, D: Door, P: Spool, C: Clock>(
         (scene h desk.new.state (C.moments clock.new) (D.state door.new) (faults_of Keeper-dyn desk.new.keeper))) }
     ensures statuses { IfOk result (λ status. (status_number status ≡ 0) ⊎ ((status_number status ≡ 3) ⊎ (status_number status ≡ 7))) }
     ensures keeper { IfOk result (λ status. Counts (status_number status == 7) (faults_of Keeper-dyn desk.old.keeper) (faults_of Keeper-dyn desk.new.keeper)) }
-    ensures failed { result ≡ Err Stop.Failed → StopsAtFailure (D.failed door.new) (D.writes door.old) (D.writes door.new) ⊎ Rose (P.faults spool.old) (P.faults spool.new) }
+    ensures failed { result ≡ Err Stop.Failed → EndsAtDoorOrSpool
+        (D.failed door.new) (D.writes door.old) (D.writes door.new) (P.failed spool.new) (P.faults spool.old) (P.faults spool.new) }
     ensures steady { has_failed result ≡ false → (D.writes door.new ≡ D.writes door.old) × (P.faults spool.new ≡ P.faults spool.old) }
     ensures same { P.tells → P.files spool.new ≡ P.files spool.old }
     ensures turns { D.turns door.new ≡ D.turns door.old }

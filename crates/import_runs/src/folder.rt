@@ -2,13 +2,13 @@
 ghost use Rattle.std.specs.Prelude.{◌≡◌, ◌≢◌, ◌==◌, ◌⊎◌, ℕ, ◌<◌, max, false, List, [], ◌∷◌, Err, IfOk, OnErr};
 ghost use Rattle.mud_tables.specs.declared.segment.Segment.{Segment as SegmentValue};
 ghost use Rattle.mud_world.specs.Boxed.{faults_of};
-ghost use Rattle.mud_world.specs.Causes.{Counts, Rose, StopsAtFailure};
+ghost use Rattle.mud_world.specs.Causes.{Counts, Rose};
 ghost use Rattle.mud_world.specs.Files.{names_of};
 ghost use Rattle.mud_desk.specs.Boxed.{IsKept};
 ghost use Rattle.mud_desk.specs.DeskState.{tables_of};
 ghost use Rattle.command_runs.specs.Status.{status_number};
 ghost use Rattle.import_runs.specs.Order.{in_order};
-ghost use Rattle.import_runs.specs.Runs.{ImportsPart, ImportsAll, StaysKept, scene};
+ghost use Rattle.import_runs.specs.Runs.{EndsAtDoorOrSpool, ImportsPart, ImportsAll, StaysKept, scene};
 ghost use Rattle.command_runs.specs.Stops.{has_failed};
 
 use crate::file::import_file;
@@ -50,7 +50,8 @@ fn import_names<L: Ledger, D: Door, P: Spool, C: Clock>(
         (scene h desk.new.state (C.moments clock.new) (D.state door.new) (faults_of Keeper-dyn desk.new.keeper))) }
     ensures statuses { IfOk result (λ status. (status_number status ≡ 0) ⊎ ((status_number status ≡ 3) ⊎ (status_number status ≡ 7))) }
     ensures keeper { IfOk result (λ status. Counts (status_number status == 7) (faults_of Keeper-dyn desk.old.keeper) (faults_of Keeper-dyn desk.new.keeper)) }
-    ensures failed { result ≡ Err Stop.Failed → StopsAtFailure (D.failed door.new) (D.writes door.old) (D.writes door.new) ⊎ Rose (P.faults spool.old) (P.faults spool.new) }
+    ensures failed { result ≡ Err Stop.Failed → EndsAtDoorOrSpool
+        (D.failed door.new) (D.writes door.old) (D.writes door.new) (P.failed spool.new) (P.faults spool.old) (P.faults spool.new) }
     ensures steady { has_failed result ≡ false → (D.writes door.new ≡ D.writes door.old) × (P.faults spool.new ≡ P.faults spool.old) }
     ensures same { P.tells → P.files spool.new ≡ P.files spool.old }
     ensures turns { D.turns door.new ≡ D.turns door.old }
@@ -86,7 +87,8 @@ fn import_listed<L: Ledger, D: Door, P: Spool, C: Clock>(
         (scene h desk.new.state (C.moments clock.new) (D.state door.new) (faults_of Keeper-dyn desk.new.keeper))) }
     ensures statuses { IfOk result (λ status. (status_number status ≡ 0) ⊎ ((status_number status ≡ 3) ⊎ (status_number status ≡ 7))) }
     ensures keeper { IfOk result (λ status. Counts (status_number status == 7) (faults_of Keeper-dyn desk.old.keeper) (faults_of Keeper-dyn desk.new.keeper)) }
-    ensures failed { result ≡ Err Stop.Failed → StopsAtFailure (D.failed door.new) (D.writes door.old) (D.writes door.new) ⊎ Rose (P.faults spool.old) (P.faults spool.new) }
+    ensures failed { result ≡ Err Stop.Failed → EndsAtDoorOrSpool
+        (D.failed door.new) (D.writes door.old) (D.writes door.new) (P.failed spool.new) (P.faults spool.old) (P.faults spool.new) }
     ensures steady { has_failed result ≡ false → (D.writes door.new ≡ D.writes door.old) × (P.faults spool.new ≡ P.faults spool.old) }
     ensures same { P.tells → P.files spool.new ≡ P.files spool.old }
     ensures turns { D.turns door.new ≡ D.turns door.old }
@@ -128,8 +130,9 @@ pub fn import_files<D: Door, P: Spool, C: Clock>(
         (h : List SegmentValue) → ImportsPart (P.files spool.old) (in_order (names_of (P.files spool.old)))
         (scene h desk.old.state (C.moments clock.old) (D.state door.old) (faults_of Keeper-dyn desk.old.keeper))
         (scene h desk.new.state (C.moments clock.new) (D.state door.new) (faults_of Keeper-dyn desk.new.keeper)) }
-    // 4 comes exactly where a write of the door, or a call of the spool, failed in this call,
-    ensures fault { status_number result ≡ 4 → StopsAtFailure (D.failed door.new) (D.writes door.old) (D.writes door.new) ⊎ Rose (P.faults spool.old) (P.faults spool.new) }
+    // 4 comes exactly where a write of the door, or a call of the spool, failed in this call: one failed, and it isn't called again,
+    ensures fault { status_number result ≡ 4 → EndsAtDoorOrSpool
+        (D.failed door.new) (D.writes door.old) (D.writes door.new) (P.failed spool.new) (P.faults spool.old) (P.faults spool.new) }
     ensures steady { status_number result ≢ 4 → (D.writes door.new ≡ D.writes door.old) × (P.faults spool.new ≡ P.faults spool.old) }
     // and 7 only where the keeper did.
     ensures keeper { status_number result ≡ 7 → Rose (faults_of Keeper-dyn desk.old.keeper) (faults_of Keeper-dyn desk.new.keeper) }

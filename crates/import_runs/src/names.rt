@@ -1,6 +1,6 @@
 //! The names of a folder, in order.
-ghost use Rattle.std.specs.Prelude.{◌≡◌, IfOk};
-ghost use Rattle.mud_world.specs.Causes.{Counts};
+ghost use Rattle.std.specs.Prelude.{◌≡◌, IfOk, IsTrue};
+ghost use Rattle.mud_world.specs.Causes.{Counts, StopsAtFailure};
 ghost use Rattle.mud_world.specs.Files.{has_failed, names_of};
 ghost use Rattle.import_runs.specs.Order.{in_order};
 
@@ -23,6 +23,7 @@ pub(crate) fn names_in_order<P: Spool>(
     ensures names { P.tells → IfOk result (λ names. names.items ≡ in_order (names_of (P.files spool.old))) }
     ensures same { P.tells → P.files spool.new ≡ P.files spool.old }
     ensures cause { Counts (has_failed result) (P.faults spool.old) (P.faults spool.new) }
+    ensures stop { IsTrue (has_failed result) → StopsAtFailure (P.failed spool.new) (P.faults spool.old) (P.faults spool.new) }
 {
     let mut names = spool.list(alloc)?.into_vec();
     put_in_order(&mut names);

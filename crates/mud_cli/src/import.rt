@@ -27,9 +27,9 @@ pub fn import_store<D: Door, P: Spool, C: Clock>(
     requires { kept_of nothing ≡ none_kept }
     ensures { ImportsStore Keeper-dyn (D.tells × (P.tells × C.tells)) keeper result.1
         (outside (viewed (D.state door.old) (D.turns door.old) (D.reads door.old) (D.writes door.old) (D.failed door.old))
-        (spool_viewed (P.files spool.old) (P.faults spool.old)) (C.moments clock.old))
+        (spool_viewed (P.files spool.old) (P.faults spool.old) (P.failed spool.old)) (C.moments clock.old))
         (outside (viewed (D.state door.new) (D.turns door.new) (D.reads door.new) (D.writes door.new) (D.failed door.new))
-        (spool_viewed (P.files spool.new) (P.faults spool.new)) (C.moments clock.new))
+        (spool_viewed (P.files spool.new) (P.faults spool.new) (P.failed spool.new)) (C.moments clock.new))
         (status_number result.0) }
 {
     match Desk::open(alloc, keeper, nothing) {

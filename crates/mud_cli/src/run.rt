@@ -72,9 +72,9 @@ fn run_command<D: Door, P: Spool, C: Clock>(
     ensures tally_apart { command ≡ Tally → (spool.new ≡ spool.old) × (clock.new ≡ clock.old) }
     ensures imported { command ≡ Import → ImportsStore Keeper-dyn (D.tells × (P.tells × C.tells)) keeper result.1
         (outside (viewed (D.state door.old) (D.turns door.old) (D.reads door.old) (D.writes door.old) (D.failed door.old))
-        (spool_viewed (P.files spool.old) (P.faults spool.old)) (C.moments clock.old))
+        (spool_viewed (P.files spool.old) (P.faults spool.old) (P.failed spool.old)) (C.moments clock.old))
         (outside (viewed (D.state door.new) (D.turns door.new) (D.reads door.new) (D.writes door.new) (D.failed door.new))
-        (spool_viewed (P.files spool.new) (P.faults spool.new)) (C.moments clock.new))
+        (spool_viewed (P.files spool.new) (P.faults spool.new) (P.failed spool.new)) (C.moments clock.new))
         (status_number result.0) }
     ensures replayed { command ≡ Replay → ReplaysStore Keeper-dyn D.tells keeper result.1
         (viewed (D.state door.old) (D.turns door.old) (D.reads door.old) (D.writes door.old) (D.failed door.old))
@@ -189,9 +189,9 @@ pub fn mud_main<D: Door, P: Spool, C: Clock>(
     ensures imported { command_in (words_of words.now) ≡ Some Import →
         ImportsStore Keeper-dyn (D.tells × (P.tells × C.tells)) keeper result.1
         (outside (viewed (D.state door.old) (D.turns door.old) (D.reads door.old) (D.writes door.old) (D.failed door.old))
-        (spool_viewed (P.files spool.old) (P.faults spool.old)) (C.moments clock.old))
+        (spool_viewed (P.files spool.old) (P.faults spool.old) (P.failed spool.old)) (C.moments clock.old))
         (outside (viewed (D.state door.new) (D.turns door.new) (D.reads door.new) (D.writes door.new) (D.failed door.new))
-        (spool_viewed (P.files spool.new) (P.faults spool.new)) (C.moments clock.new))
+        (spool_viewed (P.files spool.new) (P.faults spool.new) (P.failed spool.new)) (C.moments clock.new))
         result.0 }
     // Of `replay`: what it does with the door and the keeper, and that it touches nothing else.
     ensures replayed { command_in (words_of words.now) ≡ Some Replay → ReplaysStore Keeper-dyn D.tells keeper result.1

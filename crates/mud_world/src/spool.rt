@@ -1,5 +1,6 @@
 //! Spools: files that wait to be read.
-ghost use Rattle.std.specs.Prelude.{◌≡◌, ◌≤◌, ℕ, List, length, None, option_map, IfOk};
+ghost use Rattle.std.specs.Prelude.{◌≡◌, ◌≤◌, ℕ, Bool, List, length, None, option_map, IfOk};
+ghost use Rattle.mud_world.specs.Calls.{counted};
 ghost use Rattle.mud_world.specs.Causes.{Counts};
 
 use crate::fault::SpoolFault;
@@ -9,8 +10,10 @@ use std::alloc::Global;
 /// The most octets that a read of a file gives: one more than the largest usage file has.
 pub const MOST_READ: usize = 262_145;
 
-/// A folder of files. It counts its failures; the count never falls, and one that has reached the
-/// last u64 stays there.
+/// A folder of files. It counts its failures: a failure raises the count by one, the count never
+/// falls, and one that has reached the last u64 stays there. Want of memory isn't counted. It tells
+/// too whether its last call failed: so a run that says that it ended at a failure says that no call
+/// came behind it.
 pub trait Spool {
     ghost use Rattle.mud_world.specs.Files.{content_of, has_failed, names_of, read_part};
 
@@ -23,11 +26,16 @@ pub trait Spool {
     /// How often a call has failed.
     ghost faults: { Self → ℕ };
 
+    /// Whether the last of its calls has failed.
+    ghost failed: { Self → Bool };
+
     /// The names of the files.
     fn list(&mut self, alloc: Global) -> Result<Listed<Bytes>, SpoolFault>
         ensures names { tells → IfOk result (λ names. names ≡ names_of (files self.old)) }
         ensures same { tells → files self.new ≡ files self.old }
-        ensures cause { Counts (has_failed result) (faults self.old) (faults self.new) };
+        ensures cause { Counts (has_failed result) (faults self.old) (faults self.new) }
+        ensures count { faults self.new ≡ counted (has_failed result) (faults self.old) }
+        ensures last { failed self.new ≡ has_failed result };
 
     /// The first 262,145 octets of the file of that name, or all of them where it has fewer. It
     /// fails where there is no such file.
@@ -37,5 +45,7 @@ pub trait Spool {
         ensures within { IfOk result (λ octets. length octets ≤ 262145) }
         ensures absent { tells → content_of (files self.old) name.now ≡ None → result ≡ Err SpoolFault.Failed }
         ensures same { tells → files self.new ≡ files self.old }
-        ensures cause { Counts (has_failed result) (faults self.old) (faults self.new) };
+        ensures cause { Counts (has_failed result) (faults self.old) (faults self.new) }
+        ensures count { faults self.new ≡ counted (has_failed result) (faults self.old) }
+        ensures last { failed self.new ≡ has_failed result };
 }

@@ -18,9 +18,9 @@ returns-in-Ok g c =
     let run = c.import_files-status.ensures in
     imported_run (goal.Keeper-dyn g) c.args.keeper after.keeper (door.tells × (spool.tells × clock.tells))
     (outside (viewed (door.state old) (door.turns old) (door.reads old) (door.writes old) (door.failed old))
-    (spool_viewed (spool.files c.args.spool.now) (spool.faults c.args.spool.now)) (clock.moments c.args.clock.now))
+    (spool_viewed (spool.files c.args.spool.now) (spool.faults c.args.spool.now) (spool.failed c.args.spool.now)) (clock.moments c.args.clock.now))
     (outside (viewed (door.state new) (door.turns new) (door.reads new) (door.writes new) (door.failed new))
-    (spool_viewed (spool.files c.import_files-status.new.spool) (spool.faults c.import_files-status.new.spool)) (clock.moments c.import_files-status.new.clock))
+    (spool_viewed (spool.files c.import_files-status.new.spool) (spool.faults c.import_files-status.new.spool) (spool.failed c.import_files-status.new.spool)) (clock.moments c.import_files-status.new.clock))
     (status_number c.import_files-status.result)
     desk.keeper desk.state after.state store.tables store.sound store.begun store.steady store.same_box
     run.stays c.lists_are_sound.ensures run.statuses run.fault run.steady run.keeper run.keeper_steady
@@ -38,9 +38,9 @@ returns-in-Err g c =
     let run = c.refuse_store.ensures in
     refused_import (goal.Keeper-dyn g) c.args.keeper c.in-Err.keeper (door.tells × (spool.tells × clock.tells))
     (outside (viewed (door.state old) (door.turns old) (door.reads old) (door.writes old) (door.failed old))
-    (spool_viewed (spool.files c.args.spool.now) (spool.faults c.args.spool.now)) (clock.moments c.args.clock.now))
+    (spool_viewed (spool.files c.args.spool.now) (spool.faults c.args.spool.now) (spool.failed c.args.spool.now)) (clock.moments c.args.clock.now))
     (outside (viewed (door.state new) (door.turns new) (door.reads new) (door.writes new) (door.failed new))
-    (spool_viewed (spool.files c.args.spool.now) (spool.faults c.args.spool.now)) (clock.moments c.args.clock.now))
+    (spool_viewed (spool.files c.args.spool.now) (spool.faults c.args.spool.now) (spool.failed c.args.spool.now)) (clock.moments c.args.clock.now))
     (status_number c.refuse_store.result)
     c.in-Err.fault store.bad store.left store.cause store.handed_back
     run.statuses run.fault run.steady (λ told. run.done told.0) (λ told. run.part told.0) (λ call. ap door.state (run.untouched call)) run.turns run.reads refl refl

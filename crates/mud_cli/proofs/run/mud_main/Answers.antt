@@ -98,9 +98,9 @@ returns-clause-imported g c = λ named.
     subst
     (λ (status : ℕ). ImportsStore (goal.Keeper-dyn g) (door.tells × (spool.tells × clock.tells)) c.args.keeper c.run_command-status.result.1
     (outside (viewed (door.state old) (door.turns old) (door.reads old) (door.writes old) (door.failed old))
-    (spool_viewed (spool.files c.args.spool.now) (spool.faults c.args.spool.now)) (clock.moments c.args.clock.now))
+    (spool_viewed (spool.files c.args.spool.now) (spool.faults c.args.spool.now) (spool.failed c.args.spool.now)) (clock.moments c.args.clock.now))
     (outside (viewed (door.state new) (door.turns new) (door.reads new) (door.writes new) (door.failed new))
-    (spool_viewed (spool.files c.run_command-status.new.spool) (spool.faults c.run_command-status.new.spool)) (clock.moments c.run_command-status.new.clock)) status)
+    (spool_viewed (spool.files c.run_command-status.new.spool) (spool.faults c.run_command-status.new.spool) (spool.failed c.run_command-status.new.spool)) (clock.moments c.run_command-status.new.clock)) status)
     (sym c.number-2.ensures)
     (c.run_command-status.ensures.imported (same_command c.in-Some.command Import (sym c.in-Some.is ∙ c.command_of.ensures ∙ named)))
 

@@ -29,7 +29,7 @@ fn moment_of_body(body: &[u8]) -> Option<u64>
 
 /// The stamp of an item, or None where the item is none of a stamp.
 #[tactic(auto, unfolding(mud_tables::specs::BindItems::stamp_in, mud_tables::specs::BindItems::if_moment))]
-pub fn stamp_in(item: &Item) -> Option<Moment>
+pub(crate) fn stamp_in(item: &Item) -> Option<Moment>
     ensures { result ≡ spec.stamp_in item.now }
 {
     if item.kind != KIND || item.key.len() != 0 {

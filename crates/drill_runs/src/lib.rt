@@ -13,11 +13,6 @@ mod stop;
 pub mod store;
 pub mod usage;
 
-pub use commands::{
-    Round, announcement, approval, binding, command_moment, fetched_file, lease, observation,
-};
-pub use counts::{RulingCounts, VerdictCounts, append_counts};
-pub use network::{file_count, thing_count};
-pub use packets::{packet_moment, write_packet};
+pub use commands::Round;
+pub use counts::{RulingCounts, VerdictCounts};
 pub use store::run_drill;
-pub use usage::usage_text;

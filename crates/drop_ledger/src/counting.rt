@@ -115,7 +115,7 @@ fn count_denied(
 }
 
 /// Counts the ruling at an end of a packet, where one was given. It takes no memory.
-pub fn count_end(
+pub(crate) fn count_end(
     counts: &mut SortedRows<CountRow>,
     denied: &mut SortedRows<DeniedRow>,
     others: &mut SortedRows<OtherRow>,

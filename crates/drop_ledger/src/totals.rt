@@ -67,7 +67,7 @@ fn with_governed(totals: Totals, passes: bool, both: bool) -> Totals
 
 /// The totals with one packet more, by its verdict.
 #[tactic(auto, unfolding(crate::specs::Steps::totals_after))]
-pub fn with_packet(totals: Totals, verdict: &Verdict) -> Totals
+pub(crate) fn with_packet(totals: Totals, verdict: &Verdict) -> Totals
     requires sums { AreSums totals }
     requires few { totals.packets < 2 ^ 64 - 1 }
     ensures { result ≡ totals_after totals verdict.now }

@@ -172,7 +172,7 @@ fn step_of(octets: &[u8], fields: &[HeaderSpan], spans: RequestSpans, from: Mome
 }
 
 /// What stands at the front of the octets of a connection.
-pub fn look(octets: &[u8], from: MomentFrom) -> HeadStep
+pub(crate) fn look(octets: &[u8], from: MomentFrom) -> HeadStep
     ensures found { (shape : RequestShape) → result ≡ HeadStep.Found shape → HasHead from octets.now shape }
     ensures wait { result ≡ HeadStep.Wait → MayGetHead octets.now }
     ensures broken { (fault : RequestFault) → result ≡ HeadStep.Broken fault → EndsBroken from octets.now fault }

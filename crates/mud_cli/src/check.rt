@@ -40,7 +40,7 @@ fn broken(alloc: Global, broken: &Broken) -> Result<Answer, Memory>
 }
 
 /// The answer to the octets of a usage file.
-pub fn checking(alloc: Global, octets: &[u8]) -> Result<Answer, Memory>
+pub(crate) fn checking(alloc: Global, octets: &[u8]) -> Result<Answer, Memory>
     ensures { IfOk result (λ answer. answer ≡ checking (file_of octets.now)) }
 {
     match read_usage(alloc, octets) {

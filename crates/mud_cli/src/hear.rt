@@ -59,7 +59,7 @@ fn hearing_within(
 
 /// The answer to the octets of a message.
 #[tactic(auto, unfolding(crate::specs::Hear::Answer::answer_of))]
-pub fn answer_of(alloc: Global, message: Message, octets: &[u8]) -> Result<Answer, Memory>
+pub(crate) fn answer_of(alloc: Global, message: Message, octets: &[u8]) -> Result<Answer, Memory>
     ensures { IfOk result (λ answer. answer ≡ answer_of message octets.now) }
 {
     match message {

@@ -11,5 +11,4 @@ pub mod run;
 
 pub use answer::{Answer, Input};
 pub use command_runs::Status;
-pub use import::import_store;
 pub use run::mud_main;

@@ -9,7 +9,5 @@ pub mod store;
 pub mod table;
 pub mod things;
 
-pub use files::append_due;
 pub use row::ReportRow;
 pub use store::report_store;
-pub use table::report_desk;

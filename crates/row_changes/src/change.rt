@@ -411,7 +411,7 @@ impl<'a> Change<'a> {
 
 impl<'a> Holding<'a> {
     /// A policy that is held, whose rows are to be this owner's.
-    pub fn of_held(owner: Owner, held: &'a Held) -> Holding<'a>
+    pub(crate) fn of_held(owner: Owner, held: &'a Held) -> Holding<'a>
         ensures owner { result.0 ≡ owner }
         ensures held { result.1 ≡ held.now }
         ensures counts { HasCounts result.1.policy }

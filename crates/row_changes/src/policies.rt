@@ -183,7 +183,7 @@ impl Held {
     }
 
     /// The entries of the policy by their keys.
-    pub fn keys(&self) -> &KeyIndex
+    pub(crate) fn keys(&self) -> &KeyIndex
         ensures { IsIndexOf self.now.url self.now.policy result.now }
     {
         &self.keys
@@ -209,7 +209,7 @@ impl HeldDefaults {
     }
 
     /// The default entries by their keys.
-    pub fn keys(&self) -> &KeyIndex
+    pub(crate) fn keys(&self) -> &KeyIndex
         ensures { IsIndexOf [] self.now result.now }
     {
         &self.keys

@@ -8,7 +8,4 @@ mod observing;
 mod packet;
 pub mod store;
 
-pub use capture::snoop_capture;
-pub use learning::heard_in;
-pub use line::{append_dns_fault, append_name};
 pub use store::snoop_store;

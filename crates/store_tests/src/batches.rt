@@ -89,7 +89,7 @@ fn name_batch(alloc: Global) -> Result<[Put; 2], Memory>
 }
 
 /// The batch of this number, from 0.
-pub fn batch(alloc: Global, number: usize) -> Result<[Put; 2], Memory>
+pub(crate) fn batch(alloc: Global, number: usize) -> Result<[Put; 2], Memory>
     ensures { IfOk result (λ batch. IsTrue (is_batch batch)) }
 {
     match number {

@@ -17,7 +17,7 @@ use std::alloc::Global;
 
 /// A keeper of the file at the path, and the items that the file held. `S` stands for what the file
 /// holds, whatever it is.
-pub(crate) fn open_at<S: Start>(
+pub fn open_at<S: Start>(
     alloc: Global,
     rt: &HostRuntime,
     path: &str,

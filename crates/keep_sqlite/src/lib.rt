@@ -11,6 +11,7 @@ pub mod refusal;
 mod schema;
 pub mod sqlite_keeper;
 
+pub use first_opening::open_at;
 pub use path_keeper::PathKeeper;
 pub use refusal::Refusal;
 pub use sqlite_keeper::SqliteKeeper;

@@ -19,22 +19,22 @@ use sorted_rows::Change;
 use std::alloc::Global;
 
 /// The kind of the items of classes.
-pub const CLASS_KIND: u8 = 3;
+pub(crate) const CLASS_KIND: u8 = 3;
 
 /// The kind of the item of the local networks.
-pub const LOCALS_KIND: u8 = 4;
+pub(crate) const LOCALS_KIND: u8 = 4;
 
 /// The kind of the items of names.
-pub const NAME_KIND: u8 = 5;
+pub(crate) const NAME_KIND: u8 = 5;
 
 /// The version of each body.
 const VERSION: u64 = 1;
 
 /// What the key of a class by URI begins with.
-pub const BY_URI: u8 = 1;
+pub(crate) const BY_URI: u8 = 1;
 
 /// What the key of a class by MUD URL begins with.
-pub const BY_URL: u8 = 2;
+pub(crate) const BY_URL: u8 = 2;
 
 /// The octets by which a class is kept.
 #[tactic(auto, unfolding(mud_tables::specs::Binds::key_of_class))]

@@ -7,7 +7,7 @@ use mud_base::Moment;
 use mud_world::Item;
 
 /// The kind of the stamp's item.
-pub const KIND: u8 = 6;
+pub(crate) const KIND: u8 = 6;
 
 /// The seconds in the body of the stamp's item, or None where the body isn't of its form.
 #[tactic(auto, unfolding(mud_tables::specs::BindItems::moment_of_body, item_codec::specs::Records::version_in, item_codec::specs::Records::number_in, item_codec::specs::Records::end_in))]

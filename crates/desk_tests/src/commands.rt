@@ -20,7 +20,7 @@ const URLS: [&[u8]; 3] = [
 ];
 
 /// The addresses: 192.0.2.1, 192.0.2.2, 2001:db8::1 and 2001:db8::2.
-pub const ADDRS: [Addr; 4] = [
+pub(crate) const ADDRS: [Addr; 4] = [
     Addr::V4(0xc000_0201),
     Addr::V4(0xc000_0202),
     Addr::V6(0x2001_0db8_0000_0000_0000_0000_0000_0001),

@@ -12,7 +12,7 @@ use mud_base::{Direction, Fields, Transport};
 use sorted_rows::SortedRows;
 
 /// So many peers, protocols and ports of a Thing and side have rows of their own.
-pub const MOST_PEERS: usize = 256;
+const MOST_PEERS: usize = 256;
 
 /// The row in which a ruling is counted.
 #[tactic(auto, unfolding(crate::specs::Ledger::count_row))]

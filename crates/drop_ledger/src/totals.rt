@@ -26,7 +26,7 @@ pub struct Totals {
 }
 
 /// No packets.
-pub const NO_PACKETS: Totals = Totals {
+pub(crate) const NO_PACKETS: Totals = Totals {
     packets: 0,
     unmanaged: 0,
     link: 0,

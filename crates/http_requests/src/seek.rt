@@ -19,7 +19,7 @@ use httparse::spans::{EMPTY_HEADER_SPAN, HeaderSpan, RequestSpans, Span, parse_r
 use httparse::{Error, Status};
 
 /// The most octets that a head may have.
-pub const MOST_HEAD: usize = 8_192;
+const MOST_HEAD: usize = 8_192;
 
 /// The most fields that a head may have.
 const MOST_FIELDS: usize = 64;

@@ -13,7 +13,7 @@ use std::alloc::Global;
 use usage_walk::{Broken, FileFault};
 
 /// The most octets that a usage file has.
-pub const LONGEST_FILE: usize = 262_144;
+pub(crate) const LONGEST_FILE: usize = 262_144;
 
 /// The lines of a usage file.
 #[tactic(auto, unfolding(crate::specs::Check::Answer::checking))]

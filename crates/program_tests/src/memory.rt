@@ -22,7 +22,7 @@ pub enum Call {
 pub type Failing = (Call, u64);
 
 /// No call is to fail.
-pub const NONE: Failing = (Call::Open, 0);
+pub(crate) const NONE: Failing = (Call::Open, 0);
 
 /// A kept item: its kind, its key, and its body.
 pub type Kept<'a> = (u8, &'a [u8], &'a [u8]);

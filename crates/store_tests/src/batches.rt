@@ -9,7 +9,7 @@ use mud_world::{Item, Put};
 use std::alloc::Global;
 
 /// How many batches there are.
-pub const BATCHES: usize = 6;
+pub(crate) const BATCHES: usize = 6;
 
 /// The usage file of the example of RFC 8520, 9, for IPv4 alone, with an entry for Things of the same maker.
 const BULB: &str =

@@ -6,12 +6,12 @@ pub mod commands;
 pub mod counts;
 mod desk;
 mod judging;
-pub mod network;
-pub mod packets;
+mod network;
+mod packets;
 mod running;
 mod stop;
 pub mod store;
-pub mod usage;
+mod usage;
 
 pub use commands::Round;
 pub use counts::{RulingCounts, VerdictCounts};

@@ -2,10 +2,10 @@
 #![tactic(auto)]
 
 pub mod answer;
-pub mod check;
+mod check;
 pub mod frames;
-pub mod hear;
-pub mod import;
+mod hear;
+mod import;
 pub mod laws;
 pub mod run;
 

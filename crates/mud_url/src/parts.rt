@@ -7,7 +7,7 @@ ghost use Rattle.mud_url.specs.Url as spec;
 use mud_base::decimal::number_upto;
 
 /// The scheme, in lower case.
-pub(crate) const SCHEME: &[u8; 8] = b"https://";
+pub const SCHEME: &[u8; 8] = b"https://";
 
 /// The octets where the scheme stands, and those behind it.
 #[tactic(auto, using(std::proofs::lemmas::List::take_min, std::proofs::lemmas::List::drop_min))]

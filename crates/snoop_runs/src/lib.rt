@@ -1,9 +1,9 @@
 //! A capture that is judged over a store, while names are learnt from the answers of its DNS servers.
 #![tactic(auto)]
 
-pub mod capture;
-pub mod learning;
-pub mod line;
+mod capture;
+mod learning;
+mod line;
 mod observing;
 mod packet;
 pub mod store;

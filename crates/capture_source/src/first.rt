@@ -39,7 +39,7 @@ impl First {
 
 /// Reads the first octets of the door's connection. It takes no memory. Where a read fails, fewer
 /// than four octets are taken.
-pub fn read_first<D: Door>(door: &mut D) -> Result<First, Failed>
+pub(crate) fn read_first<D: Door>(door: &mut D) -> Result<First, Failed>
     ensures first { D.tells → IfOk result (λ first. ReadsFirst first (D.state door.old) (D.state door.new)) }
     ensures part { D.tells → OnErr result (TookPart 3 (D.state door.old) (D.state door.new)) }
     ensures cause { Counts (is_err result) (D.reads door.old) (D.reads door.new) }

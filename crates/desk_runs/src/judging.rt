@@ -102,7 +102,11 @@ impl PacketLines for JudgedLines {
 
 /// Reads a capture, and writes the lines of its packets with the verdicts of the desk's session, and
 /// then that of the fault that ends them. The keeper isn't called.
-pub fn judge_capture<D: Door>(alloc: Global, desk: Desk, door: &mut D) -> (Status, Box<dyn Keeper>)
+pub(crate) fn judge_capture<D: Door>(
+    alloc: Global,
+    desk: Desk,
+    door: &mut D,
+) -> (Status, Box<dyn Keeper>)
     requires { IsKept Keeper-dyn desk.keeper (tables_of desk.state) }
     ensures statuses { (status_number result.0 ≡ 0) ⊎ ((status_number result.0 ≡ 3) ⊎ ((status_number result.0 ≡ 4) ⊎ (status_number result.0 ≡ 5))) }
     ensures fault { status_number result.0 ≡ 4 → EndsAtFailure (D.failed door.new) (D.reads door.old) (D.reads door.new) (D.writes door.old) (D.writes door.new) }

@@ -14,7 +14,7 @@ ghost use Rattle.drill_runs.specs.Drill.{lines_in, numbers_to, verdicts_on};
 ghost use Rattle.drill_runs.specs.Store as spec;
 ghost use Rattle.drill_runs.specs.Store.{DrillsFrom, not_empty_line};
 
-use crate::append_counts;
+use crate::counts::append_counts;
 use crate::judging::judge_packets;
 use crate::running::run_commands;
 use command_runs::Status;

@@ -115,7 +115,7 @@ fn export_mac<D: Door, C: Clock>(
 /// | 3 | no Thing has this hardware address, and a line says so |
 /// | 4 | a write of the door failed: a first part was written |
 /// | 5 | want of memory: a first part was written, and no line says so |
-pub fn export_desk<D: Door, C: Clock>(
+pub(crate) fn export_desk<D: Door, C: Clock>(
     alloc: Global,
     desk: Desk,
     mac: Mac,

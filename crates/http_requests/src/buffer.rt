@@ -10,7 +10,7 @@ use std::alloc::Global;
 use std::marker::Model;
 
 /// How many octets fit: the longest head and the longest body.
-pub const CAPACITY: usize = 532_480;
+const CAPACITY: usize = 532_480;
 
 /// The octets that were taken of a connection and not yet answered. Contracts see it as the list of
 /// them.

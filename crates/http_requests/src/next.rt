@@ -20,7 +20,7 @@ use crate::shape::RequestShape;
 use mud_world::{Door, Failed, say};
 
 /// The line that gives leave to send a body (RFC 9110, 15.2.1), and the empty line behind it.
-pub const CONTINUE: &[u8; 25] = b"HTTP/1.1 100 Continue\r\n\r\n";
+const CONTINUE: &[u8; 25] = b"HTTP/1.1 100 Continue\r\n\r\n";
 
 /// What came of the search for a head.
 enum HeadNext {

@@ -33,7 +33,7 @@ pub struct Answer {
 
 /// The most octets that an input has.
 #[tactic(auto, unfolding(crate::specs::Answers::most_of))]
-pub fn most_of(input: Input) -> usize
+fn most_of(input: Input) -> usize
     ensures { result ≡ answers.most_of input }
 {
     match input {
@@ -44,7 +44,7 @@ pub fn most_of(input: Input) -> usize
 
 /// The answer to an input.
 #[tactic(auto, unfolding(crate::specs::Answers::answer_to))]
-pub fn answer_to(alloc: Global, input: Input, octets: &[u8]) -> Result<Answer, Memory>
+fn answer_to(alloc: Global, input: Input, octets: &[u8]) -> Result<Answer, Memory>
     ensures { IfOk result (λ answer. answer ≡ answer_to input octets.now) }
 {
     match input {
@@ -65,7 +65,7 @@ fn status_of(answer: &Answer) -> Status
 }
 
 /// Reads a whole input and writes what it says.
-pub fn answer_input<D: Door>(alloc: Global, input: Input, door: &mut D) -> Status
+pub(crate) fn answer_input<D: Door>(alloc: Global, input: Input, door: &mut D) -> Status
     ensures statuses { (status_number result ≡ 0) ⊎ ((status_number result ≡ 3) ⊎ ((status_number result ≡ 4) ⊎ (status_number result ≡ 5))) }
     ensures fault { status_number result ≡ 4 → EndsAtFailure (D.failed door.new) (D.reads door.old) (D.reads door.new) (D.writes door.old) (D.writes door.new) }
     ensures steady { status_number result ≢ 4 → (D.reads door.new ≡ D.reads door.old) × (D.writes door.new ≡ D.writes door.old) }

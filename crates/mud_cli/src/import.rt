@@ -16,7 +16,7 @@ use std::alloc::Global;
 /// Opens a desk over the keeper, and then imports the usage files of the folder into it. Where the
 /// store can't be opened, the folder isn't listed. The box is handed back. Nothing was taken before,
 /// as [`Desk::open`] wants it: [`Taken::new`].
-pub fn import_store<D: Door, P: Spool, C: Clock>(
+pub(crate) fn import_store<D: Door, P: Spool, C: Clock>(
     alloc: Global,
     keeper: Box<dyn Keeper>,
     nothing: Taken,

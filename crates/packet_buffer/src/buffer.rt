@@ -97,7 +97,7 @@ impl<const SIZE: usize> Buffer<SIZE> {
 
     /// Reads once of the source, as much as the read gives, and answers how many octets that were:
     /// 0 only at the end.
-    pub fn fill<D: Door>(&mut self, source: &mut D) -> Result<usize, Failed>
+    fn fill<D: Door>(&mut self, source: &mut D) -> Result<usize, Failed>
         requires { length self.old.held < SIZE }
         ensures grown { IfOk result (λ n. length self.new.held ≡ length self.old.held + n) }
         ensures octets { D.tells → IfOk result (λ _.

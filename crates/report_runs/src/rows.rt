@@ -6,7 +6,8 @@ ghost use Rattle.command_runs.specs.Due.{WroteFirst};
 ghost use Rattle.command_runs.specs.Stops.{has_failed};
 ghost use Rattle.report_runs.specs.Tables.{due_part};
 
-use crate::{ReportRow, append_due};
+use crate::ReportRow;
+use crate::files::append_due;
 use command_runs::Stop;
 use file_cache::is_due;
 use file_tables::CachedFile;

@@ -110,7 +110,7 @@ fn report_table<D: Door>(
 /// | 0 | the table was written |
 /// | 4 | a write of the door failed: a first part was written |
 /// | 5 | want of memory: a first part was written, and no line says so |
-pub fn report_desk<D: Door, C: Clock>(
+pub(crate) fn report_desk<D: Door, C: Clock>(
     alloc: Global,
     desk: Desk,
     kind: ReportKind,

@@ -134,7 +134,7 @@ fn snoop_counted<L: Ledger, D: Door>(
 /// | 4 | a read or a write of the door failed: the run ends there |
 /// | 5 | want of memory: the run ends there, and no line says so |
 /// | 7 | the keeper failed at a name; the capture was read as with 0 or 3 |
-pub fn snoop_capture<D: Door>(alloc: Global, desk: &mut Desk, door: &mut D) -> Status
+pub(crate) fn snoop_capture<D: Door>(alloc: Global, desk: &mut Desk, door: &mut D) -> Status
     requires kept { IsKept Keeper-dyn desk.old.keeper (tables_of desk.old.state) }
     ensures statuses { (status_number result ≡ 0) ⊎ ((status_number result ≡ 3) ⊎ ((status_number result ≡ 4) ⊎ ((status_number result ≡ 5) ⊎ (status_number result ≡ 7)))) }
     ensures fault { status_number result ≡ 4 → EndsAtFailure (D.failed door.new) (D.reads door.old) (D.reads door.new) (D.writes door.old) (D.writes door.new) }

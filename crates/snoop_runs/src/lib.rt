@@ -2,6 +2,7 @@
 #![tactic(auto)]
 
 pub mod capture;
+pub mod laws;
 pub mod learning;
 pub mod line;
 mod observing;

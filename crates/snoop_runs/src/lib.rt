@@ -2,6 +2,7 @@
 #![tactic(auto)]
 
 mod capture;
+pub mod laws;
 mod learning;
 mod line;
 mod observing;

@@ -25,7 +25,8 @@ use Rattle.desk_runs.proofs.Runs.{refused_run}
 use Rattle.import_runs.specs.Imports.{standing}
 use Rattle.import_runs.specs.Order.{in_order}
 use Rattle.import_runs.specs.Runs.{EndsAtDoorOrSpool, Scene, ImportsPart, ImportsAll, StaysKept, scene}
-use Rattle.mud_cli.specs.Import.Store.{OutsideView, SpoolView, ImportsStore, RefusesStore, scene_in}
+use Rattle.mud_cli.specs.Import.Store.{ImportsStore, RefusesStore, scene_in}
+use Rattle.mud_world.specs.View.{OutsideView, SpoolView}
 
 -- ---- Statuses
 

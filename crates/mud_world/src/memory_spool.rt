@@ -57,11 +57,7 @@ impl Spool for MemorySpool {
 
     ghost tells = { Unit {0} };
 
-    ghost files = { λ spool. spool.files };
-
-    ghost faults = { λ spool. spool.count };
-
-    ghost failed = { λ spool. spool.failed };
+    ghost view = { λ spool. spool_viewed spool.files spool.count spool.failed };
 
     fn list(&mut self, alloc: Global) -> Result<Listed<Bytes>, SpoolFault>
         ensures names { IfOk result (λ names. names ≡ names_of self.old.files) }

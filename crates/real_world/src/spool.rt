@@ -251,11 +251,7 @@ fn counted<T>(
 impl<R: Files + AllocGlobal + Clone + Drop> Spool for RealSpool<R> {
     ghost tells = { ⊥ };
 
-    ghost files = { λ _. [] };
-
-    ghost faults = { λ spool. spool.faults };
-
-    ghost failed = { λ spool. spool.failed };
+    ghost view = { λ spool. spool_viewed [] spool.faults spool.failed };
 
     fn list(&mut self, alloc: Global) -> Result<Listed<Bytes>, SpoolFault>
         ensures cause { Counts (has_failed result) (faults_of self.old) (faults_of self.new) }

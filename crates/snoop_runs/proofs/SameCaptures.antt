@@ -63,6 +63,7 @@ record Likewise (before after : Session) (entries : List Entry) (qs : List Packe
 
 likewise : (count : ℕ) (before after : Session) (entries : List Entry) (qs : List Packet) → IsNumbered count (packets_of entries) → IsNumbered count qs → map seen_of (packets_of entries) ≡ map seen_of qs
     → Snoops before entries after → Likewise before after entries qs
+unfolding with_packet
 likewise count before after [] [] first other same run = record { others = []; packets = refl; lines = refl; count = refl; run = run }
 likewise count before after [] (q ∷ qs) first other same run = cc
 likewise count before after (entry ∷ entries) [] first other same run = cc
@@ -78,7 +79,6 @@ likewise count before after (entry ∷ entries) (q ∷ qs) first other same run 
   where
     behind : (entry : Entry) (q : Packet) (qs : List Packet) (entries : List Entry) (before next after : Session) → AreAlike entry.packet q → MayGo before entry next → Likewise next after entries qs
         → Likewise before after (entry ∷ entries) (q ∷ qs)
-    unfolding with_packet
     behind entry q qs entries before next after alike may more = record {
       others = with_packet q entry ∷ more.others;
       packets = ap (λ (packets : List Packet). q ∷ packets) more.packets;

@@ -9,7 +9,7 @@ use Rattle.mud_world.specs.Causes.{Rose}
 use Rattle.mud_world.specs.Door.{put_out}
 use Rattle.mud_world.specs.Files.{names_of}
 use Rattle.command_runs.specs.Due.{WroteFirst}
-use Rattle.command_runs.specs.View.{DoorView}
+use Rattle.mud_world.specs.View.{OutsideView}
 use Rattle.desk_model.specs.DeskTables.{DeskTables, IsSound}
 use Rattle.desk_model.specs.Items.{items_of, tables_in}
 use Rattle.desk_model.specs.Sessions.{Session, opened}
@@ -18,24 +18,6 @@ use Rattle.desk_runs.specs.Store.{KeepsTables, IsUnopened}
 use Rattle.console_runs.specs.Store.{line_of_bad}
 use Rattle.import_runs.specs.Order.{in_order}
 use Rattle.import_runs.specs.Runs.{EndsAtDoorOrSpool, Scene, ImportsPart, ImportsAll}
-
--- a spool at a moment: its files, where it tells them, how often its calls have failed, and whether the last one did
-pub record SpoolView : Type 0 where
-  pub files : List (List ℕ × List ℕ)
-  pub faults : ℕ
-  pub failed : Bool
-
-abbrev pub spool_viewed : List (List ℕ × List ℕ) → ℕ → Bool → SpoolView
-spool_viewed files faults failed = record { files = files; faults = faults; failed = failed }
-
--- what an import works with beside its keeper: the door, the spool, and the moments that the clock will give
-pub record OutsideView : Type 0 where
-  pub door : DoorView
-  pub spool : SpoolView
-  pub moments : List ℕ
-
-abbrev pub outside : DoorView → SpoolView → List ℕ → OutsideView
-outside door spool moments = record { door = door; spool = spool; moments = moments }
 
 -- ---- A store that is opened
 

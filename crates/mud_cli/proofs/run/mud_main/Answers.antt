@@ -1,11 +1,12 @@
 use Rattle.std.proofs.Common.{ℕ, sym, ◌∙◌, subst}
-use Rattle.command_runs.specs.View.{viewed}
+use Rattle.mud_world.specs.View.{viewed}
 use Rattle.command_words.specs.declared.command.Command.TheVariants.{Drill, Import, Replay, Serve, Report, Export, Snoop, Tally}
 use Rattle.console_runs.specs.Replay.{ReplaysStore}
 use Rattle.console_runs.specs.Serve.{ServesStore, listening, clock_run}
 use Rattle.drill_runs.specs.Store.{DrillsStore}
 use Rattle.report_runs.specs.Store.{ReportsStore}
-use Rattle.mud_cli.specs.Import.Store.{ImportsStore, outside, spool_viewed}
+use Rattle.mud_cli.specs.Import.Store.{ImportsStore}
+use Rattle.mud_world.specs.View.{outside, spool_viewed}
 use Rattle.mud_cli.proofs.Promised.{same_command}
 use Rattle.mud_cli.proofs.run.mud_main.Goals as goal
 use Rattle.export_runs.specs.Store.{ExportsStore}
@@ -19,8 +20,8 @@ returns-clause-tallied g c = λ named.
     let new = c.run_command-status.new.door in
     subst
     (λ (status : ℕ). TalliesStore (goal.Keeper-dyn g) door.tells c.args.keeper c.run_command-status.result.1
-    (viewed (door.state old) (door.turns old) (door.reads old) (door.writes old) (door.failed old))
-    (viewed (door.state new) (door.turns new) (door.reads new) (door.writes new) (door.failed new)) status)
+    (door.view old)
+    (door.view new) status)
     (sym c.number-2.ensures)
     (c.run_command-status.ensures.tallied (same_command c.in-Some.command Tally (sym c.in-Some.is ∙ c.command_of.ensures ∙ named)))
 
@@ -31,8 +32,8 @@ returns-clause-snooped g c = λ named.
     let new = c.run_command-status.new.door in
     subst
     (λ (status : ℕ). SnoopsStore (goal.Keeper-dyn g) door.tells c.args.keeper c.run_command-status.result.1
-    (viewed (door.state old) (door.turns old) (door.reads old) (door.writes old) (door.failed old))
-    (viewed (door.state new) (door.turns new) (door.reads new) (door.writes new) (door.failed new)) status)
+    (door.view old)
+    (door.view new) status)
     (sym c.number-2.ensures)
     (c.run_command-status.ensures.snooped (same_command c.in-Some.command Snoop (sym c.in-Some.is ∙ c.command_of.ensures ∙ named)))
 
@@ -43,8 +44,8 @@ returns-clause-replayed g c = λ named.
     let new = c.run_command-status.new.door in
     subst
     (λ (status : ℕ). ReplaysStore (goal.Keeper-dyn g) door.tells c.args.keeper c.run_command-status.result.1
-    (viewed (door.state old) (door.turns old) (door.reads old) (door.writes old) (door.failed old))
-    (viewed (door.state new) (door.turns new) (door.reads new) (door.writes new) (door.failed new)) status)
+    (door.view old)
+    (door.view new) status)
     (sym c.number-2.ensures)
     (c.run_command-status.ensures.replayed (same_command c.in-Some.command Replay (sym c.in-Some.is ∙ c.command_of.ensures ∙ named)))
 
@@ -57,8 +58,8 @@ returns-clause-served g c = λ port count named.
     subst
     (λ (status : ℕ). ServesStore (goal.Keeper-dyn g) door.tells clock.tells c.args.keeper c.run_command-status.result.1
     (listening port count) (clock_run (clock.moments c.args.clock.now) (clock.moments c.run_command-status.new.clock))
-    (viewed (door.state old) (door.turns old) (door.reads old) (door.writes old) (door.failed old))
-    (viewed (door.state new) (door.turns new) (door.reads new) (door.writes new) (door.failed new)) status)
+    (door.view old)
+    (door.view new) status)
     (sym c.number-2.ensures)
     (c.run_command-status.ensures.served port count (same_command c.in-Some.command (Serve port count) (sym c.in-Some.is ∙ c.command_of.ensures ∙ named)))
 
@@ -70,8 +71,8 @@ returns-clause-reported g c = λ kind named.
     let new = c.run_command-status.new.door in
     subst
     (λ (status : ℕ). ReportsStore (goal.Keeper-dyn g) kind door.tells clock.tells (clock.moments c.args.clock.now) c.args.keeper c.run_command-status.result.1
-    (viewed (door.state old) (door.turns old) (door.reads old) (door.writes old) (door.failed old))
-    (viewed (door.state new) (door.turns new) (door.reads new) (door.writes new) (door.failed new)) status)
+    (door.view old)
+    (door.view new) status)
     (sym c.number-2.ensures)
     (c.run_command-status.ensures.reported kind (same_command c.in-Some.command (Report kind) (sym c.in-Some.is ∙ c.command_of.ensures ∙ named)))
 
@@ -83,8 +84,8 @@ returns-clause-exported g c = λ mac named.
     let new = c.run_command-status.new.door in
     subst
     (λ (status : ℕ). ExportsStore (goal.Keeper-dyn g) mac door.tells clock.tells (clock.moments c.args.clock.now) c.args.keeper c.run_command-status.result.1
-    (viewed (door.state old) (door.turns old) (door.reads old) (door.writes old) (door.failed old))
-    (viewed (door.state new) (door.turns new) (door.reads new) (door.writes new) (door.failed new)) status)
+    (door.view old)
+    (door.view new) status)
     (sym c.number-2.ensures)
     (c.run_command-status.ensures.exported mac (same_command c.in-Some.command (Export mac) (sym c.in-Some.is ∙ c.command_of.ensures ∙ named)))
 
@@ -97,10 +98,10 @@ returns-clause-imported g c = λ named.
     let new = c.run_command-status.new.door in
     subst
     (λ (status : ℕ). ImportsStore (goal.Keeper-dyn g) (door.tells × (spool.tells × clock.tells)) c.args.keeper c.run_command-status.result.1
-    (outside (viewed (door.state old) (door.turns old) (door.reads old) (door.writes old) (door.failed old))
-    (spool_viewed (spool.files c.args.spool.now) (spool.faults c.args.spool.now) (spool.failed c.args.spool.now)) (clock.moments c.args.clock.now))
-    (outside (viewed (door.state new) (door.turns new) (door.reads new) (door.writes new) (door.failed new))
-    (spool_viewed (spool.files c.run_command-status.new.spool) (spool.faults c.run_command-status.new.spool) (spool.failed c.run_command-status.new.spool)) (clock.moments c.run_command-status.new.clock)) status)
+    (outside (door.view old)
+    (spool_viewed (spool.view c.args.spool.now).files (spool.view c.args.spool.now).faults (spool.view c.args.spool.now).failed) (clock.moments c.args.clock.now))
+    (outside (door.view new)
+    (spool_viewed (spool.view c.run_command-status.new.spool).files (spool.view c.run_command-status.new.spool).faults (spool.view c.run_command-status.new.spool).failed) (clock.moments c.run_command-status.new.clock)) status)
     (sym c.number-2.ensures)
     (c.run_command-status.ensures.imported (same_command c.in-Some.command Import (sym c.in-Some.is ∙ c.command_of.ensures ∙ named)))
 
@@ -111,7 +112,7 @@ returns-clause-drilled g c = λ packets named.
     let new = c.run_command-status.new.door in
     subst
     (λ (status : ℕ). DrillsStore (goal.Keeper-dyn g) door.tells packets c.args.keeper c.run_command-status.result.1
-    (viewed (door.state old) (door.turns old) (door.reads old) (door.writes old) (door.failed old))
-    (viewed (door.state new) (door.turns new) (door.reads new) (door.writes new) (door.failed new)) status)
+    (door.view old)
+    (door.view new) status)
     (sym c.number-2.ensures)
     (c.run_command-status.ensures.drilled packets (same_command c.in-Some.command (Drill packets) (sym c.in-Some.is ∙ c.command_of.ensures ∙ named)))

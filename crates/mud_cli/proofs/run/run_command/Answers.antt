@@ -1,7 +1,7 @@
 use Rattle.std.proofs.Common.{ℕ, refl}
 use Rattle.command_runs.specs.Status.{status_number}
 use Rattle.mud_cli.specs.Answers.{most_of}
-use Rattle.command_runs.specs.View.{viewed}
+use Rattle.mud_world.specs.View.{viewed}
 use Rattle.mud_cli.specs.Promises.{Promises}
 use Rattle.command_words.specs.declared.command.Command.{Command}
 use Rattle.command_words.specs.declared.command.Command.TheVariants.{Hear, Check, Frames}
@@ -24,8 +24,8 @@ returns-in-Hear-clause-answers g c = λ reads.
     let a = c.answer_input.ensures in
     promised_of
     (λ (named : Command). Promises door.tells named
-    (viewed (door.state old) (door.turns old) (door.reads old) (door.writes old) (door.failed old))
-    (viewed (door.state new) (door.turns new) (door.reads new) (door.writes new) (door.failed new))
+    (door.view old)
+    (door.view new)
     (status_number c.answer_input.result))
     c.args.command (Hear c.in-Hear.message) c.in-Hear.is
     (record {
@@ -35,7 +35,7 @@ returns-in-Hear-clause-answers g c = λ reads.
       done = a.done;
       part = a.part;
       taken = λ tells other. not_capture (Hear c.in-Hear.message) refl other;
-      within = λ tells most is. read_up_to 65536 most (door.state old) (door.state new) is (a.within tells);
+      within = λ tells most is. read_up_to 65536 most (door.view old).state (door.view new).state is (a.within tells);
       same_turns = a.turns;
     })
 
@@ -48,8 +48,8 @@ returns-in-Check-clause-answers g c = λ reads.
     let a = c.answer_input-in-Check.ensures in
     promised_of
     (λ (named : Command). Promises door.tells named
-    (viewed (door.state old) (door.turns old) (door.reads old) (door.writes old) (door.failed old))
-    (viewed (door.state new) (door.turns new) (door.reads new) (door.writes new) (door.failed new))
+    (door.view old)
+    (door.view new)
     (status_number c.answer_input-in-Check.result))
     c.args.command Check c.in-Check.is
     (record {
@@ -59,7 +59,7 @@ returns-in-Check-clause-answers g c = λ reads.
       done = a.done;
       part = a.part;
       taken = λ tells other. not_capture Check refl other;
-      within = λ tells most is. read_up_to 262145 most (door.state old) (door.state new) is (a.within tells);
+      within = λ tells most is. read_up_to 262145 most (door.view old).state (door.view new).state is (a.within tells);
       same_turns = a.turns;
     })
 
@@ -71,8 +71,8 @@ returns-in-Frames-clause-answers g c = λ reads.
     let a = c.write_capture.ensures in
     promised_of
     (λ (named : Command). Promises door.tells named
-    (viewed (door.state old) (door.turns old) (door.reads old) (door.writes old) (door.failed old))
-    (viewed (door.state new) (door.turns new) (door.reads new) (door.writes new) (door.failed new))
+    (door.view old)
+    (door.view new)
     (status_number c.write_capture.result))
     c.args.command Frames c.in-Frames.is
     (record {
@@ -95,8 +95,8 @@ returns-in-Serve-clause-served g c = λ port count named.
     served_of
     (λ (p n : ℕ). ServesStore (goal.Keeper-dyn g) door.tells clock.tells c.args.keeper c.serve_store.result.1
     (listening p n) (clock_run (clock.moments c.args.clock.now) (clock.moments c.serve_store.new.clock))
-    (viewed (door.state old) (door.turns old) (door.reads old) (door.writes old) (door.failed old))
-    (viewed (door.state new) (door.turns new) (door.reads new) (door.writes new) (door.failed new))
+    (door.view old)
+    (door.view new)
     (status_number c.serve_store.result.0))
     c.args.command c.in-Serve.port c.in-Serve.count port count c.in-Serve.is named c.serve_store.ensures.served
 
@@ -108,8 +108,8 @@ returns-in-Report-clause-reported g c = λ kind named.
     let new = c.report_store.new.door in
     reported_of
     (λ (k : ReportKind). ReportsStore (goal.Keeper-dyn g) k door.tells clock.tells (clock.moments c.args.clock.now) c.args.keeper c.report_store.result.1
-    (viewed (door.state old) (door.turns old) (door.reads old) (door.writes old) (door.failed old))
-    (viewed (door.state new) (door.turns new) (door.reads new) (door.writes new) (door.failed new))
+    (door.view old)
+    (door.view new)
     (status_number c.report_store.result.0))
     c.args.command c.in-Report.kind kind c.in-Report.is named c.report_store.ensures.reported
 
@@ -130,8 +130,8 @@ returns-in-Export-clause-exported g c = λ mac named.
     let new = c.export_store.new.door in
     exported_of
     (λ (m : Mac). ExportsStore (goal.Keeper-dyn g) m door.tells clock.tells (clock.moments c.args.clock.now) c.args.keeper c.export_store.result.1
-    (viewed (door.state old) (door.turns old) (door.reads old) (door.writes old) (door.failed old))
-    (viewed (door.state new) (door.turns new) (door.reads new) (door.writes new) (door.failed new))
+    (door.view old)
+    (door.view new)
     (status_number c.export_store.result.0))
     c.args.command c.in-Export.mac mac c.in-Export.is named c.export_store.ensures.exported
 
@@ -148,7 +148,7 @@ returns-in-Drill-clause-drilled g c = λ packets named.
     let new = c.run_drill.new.door in
     drilled_of
     (λ (n : ℕ). DrillsStore (goal.Keeper-dyn g) door.tells n c.args.keeper c.run_drill.result.1
-    (viewed (door.state old) (door.turns old) (door.reads old) (door.writes old) (door.failed old))
-    (viewed (door.state new) (door.turns new) (door.reads new) (door.writes new) (door.failed new))
+    (door.view old)
+    (door.view new)
     (status_number c.run_drill.result.0))
     c.args.command c.in-Drill.packets packets c.in-Drill.is named c.run_drill.ensures.drilled

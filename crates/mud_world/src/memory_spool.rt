@@ -3,6 +3,7 @@ ghost use Rattle.std.specs.Prelude.{◌≡◌, ◌≤◌, length, None, Some, op
 ghost use Rattle.mud_world.specs.Calls.{counted, next_call};
 ghost use Rattle.mud_world.specs.Causes.{Counts};
 ghost use Rattle.mud_world.specs.Files.{content_of, has_failed, names_of, read_part};
+ghost use Rattle.mud_world.specs.View.{spool_viewed};
 
 use crate::calls::{is_to_fail, raise};
 use crate::fault::SpoolFault;

@@ -11,6 +11,7 @@ ghost use Rattle.real_world.specs.Real.{faults_of};
 ghost use Rattle.real_world.specs.Errors.{fault_of, name_trouble_of, trouble_of};
 ghost use Rattle.real_world.specs.Failures.{Notes};
 ghost use Rattle.real_world.specs.Folders.{names_of, ArePassed, HasTrouble, StopsAt};
+ghost use Rattle.mud_world.specs.View.{spool_viewed};
 
 use crate::failure::{Call, Failure};
 use mud_base::{Bytes, Listed, Memory};

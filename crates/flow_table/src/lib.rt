@@ -7,4 +7,4 @@ pub mod table;
 
 pub use kept::Begun;
 pub use pairs::Pair;
-pub use table::{FlowPlan, FlowTable};
+pub use table::{FlowPlan, FlowTable, pass};

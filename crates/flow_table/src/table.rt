@@ -102,7 +102,7 @@ impl FlowTable {
 
     /// Whether a moment isn't before that of the last packet noted.
     #[tactic(auto, unfolding(crate::specs::Held::flows_of, crate::specs::Kept::is_since))]
-    pub(crate) fn is_since(&self, now: Moment) -> bool
+    pub fn is_since(&self, now: Moment) -> bool
         ensures { result ≡ is_since (flows_of self.now).last now }
     {
         match self.last {
@@ -171,7 +171,7 @@ fn write_place(places: &mut BTreeMap<Pair, Option<Begun>>, pair: Pair, packet: &
 
 /// Plans a packet and notes it at once.
 #[tactic(auto, using(crate::proofs::Histories::packet_more))]
-pub(crate) fn pass(table: &mut FlowTable, fields: &Fields, now: Moment) -> Result<(), Memory>
+pub fn pass(table: &mut FlowTable, fields: &Fields, now: Moment) -> Result<(), Memory>
     requires since { IsTrue (is_since (flows_of table.old).last now) }
     requires tcp { IsSome (history.segment_of fields.now now) }
     ensures ok { IfOk result (λ _. (h : List SegmentValue) → StandsFor h (flows_of table.old) → StandsFor (history.with_packet h fields.now now) (flows_of table.new)) }

@@ -27,6 +27,7 @@ use Rattle.import_runs.specs.Order.{in_order}
 use Rattle.import_runs.specs.Runs.{EndsAtDoorOrSpool, Scene, ImportsPart, ImportsAll, StaysKept, scene}
 use Rattle.mud_cli.specs.Import.Store.{ImportsStore, RefusesStore, scene_in}
 use Rattle.mud_world.specs.View.{OutsideView, SpoolView}
+use Rattle.snoop_runs.proofs.Stored.{not_seven}
 
 -- ---- Statuses
 
@@ -150,11 +151,6 @@ module _ (old new : OutsideView) (status : ℕ) (spool : new.spool ≡ old.spool
       named_statuses (inl six) = inr (inr (inl six))
       named_statuses (inr (inl four)) = inl four
       named_statuses (inr (inr five)) = inr (inl five)
-
-not_seven : (status : ℕ) → (status ≡ 0) ⊎ ((status ≡ 3) ⊎ (status ≡ 6)) → status ≢ 7
-not_seven status (inl zero) = λ seven. absurd (grind arith)
-not_seven status (inr (inl three)) = λ seven. absurd (grind arith)
-not_seven status (inr (inr six)) = λ seven. absurd (grind arith)
 
 module _ {X : Type 0} {F : X → Type 0} (members : (v : (x : X) × F x) → Ghosts (F v.0)) (keeper after : DynBox X Global F) (tells : Type 0) (old new : OutsideView) (status : ℕ) where
   pub refused_import : (fault : OpenFault)

@@ -11,17 +11,17 @@ use std::test::Fail;
 
 /// This keeper in a box. All are put into their boxes here, since each place that makes such a box is
 /// dear to prove.
-pub fn boxed(alloc: Global, keeper: MemoryKeeper) -> Result<Box<dyn Keeper>, Memory> {
+pub(crate) fn boxed(alloc: Global, keeper: MemoryKeeper) -> Result<Box<dyn Keeper>, Memory> {
     Ok(Box::new(alloc, keeper)?)
 }
 
 /// A keeper of nothing.
-pub fn empty(alloc: Global) -> Result<Box<dyn Keeper>, Memory> {
+pub(crate) fn empty(alloc: Global) -> Result<Box<dyn Keeper>, Memory> {
     boxed(alloc, MemoryKeeper::new(alloc, Listed::new(alloc)))
 }
 
 /// A desk over this keeper.
-pub fn desk_over(alloc: Global, keeper: Box<dyn Keeper>) -> Result<Desk, Fail>
+pub(crate) fn desk_over(alloc: Global, keeper: Box<dyn Keeper>) -> Result<Desk, Fail>
     ensures { IfOk result (λ desk. IsKept Keeper-dyn desk.keeper (tables_of desk.state)) }
 {
     match Desk::open(alloc, keeper, Taken::new(alloc)) {

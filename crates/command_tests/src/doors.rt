@@ -5,7 +5,7 @@ use std::alloc::Global;
 use std::process::Abort;
 
 /// A door to one connection of these pieces, with room for so many octets.
-pub fn door_of(
+pub(crate) fn door_of(
     rt: &impl Abort,
     alloc: Global,
     pieces: Listed<Bytes>,
@@ -18,7 +18,7 @@ pub fn door_of(
 }
 
 /// These octets in one piece.
-pub fn piece_of(alloc: Global, octets: &[u8]) -> Result<Listed<Bytes>, Memory> {
+pub(crate) fn piece_of(alloc: Global, octets: &[u8]) -> Result<Listed<Bytes>, Memory> {
     let octets = Bytes::new(alloc, octets)?;
     let mut pieces = Listed::new(alloc);
     pieces.push(octets)?;
@@ -26,7 +26,7 @@ pub fn piece_of(alloc: Global, octets: &[u8]) -> Result<Listed<Bytes>, Memory> {
 }
 
 /// Asserts that this was written to the connection.
-pub fn assert_written(rt: &impl Abort, door: &MemoryDoor, text: &[u8]) {
+pub(crate) fn assert_written(rt: &impl Abort, door: &MemoryDoor, text: &[u8]) {
     assert!(rt; door.connection_count() > 0);
     assert_eq!(rt; door.written(0), text);
 }

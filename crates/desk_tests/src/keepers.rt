@@ -17,7 +17,7 @@ fn boxed(alloc: Global, keeper: MemoryKeeper) -> Result<Box<dyn Keeper>, Memory>
 }
 
 /// A keeper of nothing.
-pub fn empty(alloc: Global) -> Result<Box<dyn Keeper>, Memory> {
+pub(crate) fn empty(alloc: Global) -> Result<Box<dyn Keeper>, Memory> {
     boxed(alloc, MemoryKeeper::new(alloc, Listed::new(alloc)))
 }
 
@@ -31,7 +31,11 @@ fn list_failing(keeper: &mut MemoryKeeper, open: u64, changes: Range<u64>) -> Re
 }
 
 /// A keeper of nothing, whose opening of this number and whose changes of those fail, counted from 1.
-pub fn failing(alloc: Global, open: u64, changes: Range<u64>) -> Result<Box<dyn Keeper>, Memory> {
+pub(crate) fn failing(
+    alloc: Global,
+    open: u64,
+    changes: Range<u64>,
+) -> Result<Box<dyn Keeper>, Memory> {
     let mut keeper = MemoryKeeper::new(alloc, Listed::new(alloc));
     match list_failing(&mut keeper, open, changes) {
         Ok(()) => boxed(alloc, keeper),
@@ -43,7 +47,7 @@ pub fn failing(alloc: Global, open: u64, changes: Range<u64>) -> Result<Box<dyn 
 }
 
 /// A desk over this keeper.
-pub fn desk_over(alloc: Global, keeper: Box<dyn Keeper>) -> Result<Desk, Fail>
+pub(crate) fn desk_over(alloc: Global, keeper: Box<dyn Keeper>) -> Result<Desk, Fail>
     ensures { IfOk result (λ desk. IsKept Keeper-dyn desk.keeper (tables_of desk.state)) }
 {
     match Desk::open(alloc, keeper, Taken::new(alloc)) {

@@ -10,10 +10,10 @@ use std::sync::ledger::Ledger;
 use std::test::Fail;
 
 /// 192.0.2.53
-pub const DNS: Addr = Addr::V4(0xc000_0235);
+pub(crate) const DNS: Addr = Addr::V4(0xc000_0235);
 
 /// The row of an entry at an address, up to this end.
-pub fn row(owner: Owner, side: Direction, addr: Addr, entry: u16, until: u64) -> Row
+pub(crate) fn row(owner: Owner, side: Direction, addr: Addr, entry: u16, until: u64) -> Row
     ensures owner { result.owner ≡ owner }
     ensures side { result.side ≡ side }
 {
@@ -27,7 +27,7 @@ pub fn row(owner: Owner, side: Direction, addr: Addr, entry: u16, until: u64) ->
 }
 
 /// Makes room for a row of the owner and side, and puts it in.
-pub fn put<L: Ledger>(
+pub(crate) fn put<L: Ledger>(
     rows: &mut AddressRows,
     alloc: Global,
     row: Row,
@@ -49,7 +49,7 @@ pub fn put<L: Ledger>(
 }
 
 /// The rows of the defaults for what Things send: that of entry 1 at an address, for ever.
-pub fn default_rows<L: Ledger>(
+pub(crate) fn default_rows<L: Ledger>(
     alloc: Global,
     addr: Addr,
     steps: &mut Steps<L>,

@@ -34,7 +34,7 @@ no_seven status is seven = absurd (grind arith)
 not_done : {A : Type 0} (status : ℕ) → (status ≡ 5) ⊎ (status ≡ 7) → (status ≡ 0) ⊎ ((status ≡ 3) ⊎ (status ≡ 6)) → A
 not_done status is which = absurd (grind arith)
 
-not_part : {A : Type 0} (status : ℕ) → status ≡ 7 → (status ≡ 4) ⊎ (status ≡ 5) → A
+pub not_part : {A : Type 0} (status : ℕ) → status ≡ 7 → (status ≡ 4) ⊎ (status ≡ 5) → A
 not_part status is which = absurd (grind arith)
 
 six_of : (status : ℕ) → (status ≡ 0) ⊎ ((status ≡ 3) ⊎ (status ≡ 6)) → (status ≡ 6) ⊎ ((status ≡ 4) ⊎ (status ≡ 5)) → status ≡ 6

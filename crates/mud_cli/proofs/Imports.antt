@@ -26,6 +26,7 @@ use Rattle.import_runs.specs.Imports.{standing}
 use Rattle.import_runs.specs.Order.{in_order}
 use Rattle.import_runs.specs.Runs.{Scene, ImportsPart, ImportsAll, StaysKept, scene}
 use Rattle.mud_cli.specs.Import.Store.{OutsideView, SpoolView, ImportsStore, RefusesStore, scene_in}
+use Rattle.snoop_runs.proofs.Stored.{not_seven}
 
 -- ---- Statuses
 
@@ -149,11 +150,6 @@ module _ (old new : OutsideView) (status : ℕ) (spool : new.spool ≡ old.spool
       named_statuses (inl six) = inr (inr (inl six))
       named_statuses (inr (inl four)) = inl four
       named_statuses (inr (inr five)) = inr (inl five)
-
-not_seven : (status : ℕ) → (status ≡ 0) ⊎ ((status ≡ 3) ⊎ (status ≡ 6)) → status ≢ 7
-not_seven status (inl zero) = λ seven. absurd (grind arith)
-not_seven status (inr (inl three)) = λ seven. absurd (grind arith)
-not_seven status (inr (inr six)) = λ seven. absurd (grind arith)
 
 module _ {X : Type 0} {F : X → Type 0} (members : (v : (x : X) × F x) → Ghosts (F v.0)) (keeper after : DynBox X Global F) (tells : Type 0) (old new : OutsideView) (status : ℕ) where
   pub refused_import : (fault : OpenFault)

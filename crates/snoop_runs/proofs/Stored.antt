@@ -138,7 +138,7 @@ refuses old new status items (BadItem kind key) of is done part untouched =
     named_statuses (inr (inl four)) = inl four
     named_statuses (inr (inr five)) = inr (inl five)
 
-not_seven : (status : ℕ) → (status ≡ 0) ⊎ ((status ≡ 3) ⊎ (status ≡ 6)) → status ≢ 7
+pub not_seven : (status : ℕ) → (status ≡ 0) ⊎ ((status ≡ 3) ⊎ (status ≡ 6)) → status ≢ 7
 not_seven status (inl zero) = λ seven. absurd (grind arith)
 not_seven status (inr (inl three)) = λ seven. absurd (grind arith)
 not_seven status (inr (inr six)) = λ seven. absurd (grind arith)

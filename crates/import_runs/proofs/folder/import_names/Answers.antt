@@ -1,11 +1,12 @@
 use Rattle.std.proofs.Common.{rules, refl, ◌∙◌}
 use Rattle.command_runs.specs.Status.{status_number}
 use Rattle.import_runs.proofs.Folders.{all_at, part_at, counts_seven, at_most_seven, worse_of}
-use Rattle.import_runs.proofs.Parts.{on_err, stays_further}
+use Rattle.import_runs.proofs.Parts.{stays_further}
 use Rattle.import_runs.proofs.folder.import_names.Goals as goal
+use Rattle.sorted_rows.proofs.Results.{always_on_err}
 
 pub returns-in_err-one-clause-part : goal.returns-in_err-one-clause-part
-returns-in_err-one-clause-part g c = λ d p k. on_err c.from_residual.result (λ h.
+returns-in_err-one-clause-part g c = λ d p k. always_on_err c.from_residual.result (λ h.
     part_at (g.P.Spool.files c.args.spool.now) (g.P.Spool.files c.loop-name.spool) c.args.names.now c.loop-name.name-index c.name-item.result c.octets.result.now (c.loop-name.invariant.same p) c.loop-name-test.true c.name-item.is c.octets.ensures
     _ _ _ _ (c.loop-name.invariant.all d p k h) (c.in_err-one.ensures.part d p k h))
 

@@ -16,7 +16,7 @@ use Rattle.acl_model.specs.declared.entry.Policy.{Policy}
 use Rattle.acl_model.specs.declared.binding.MemberKey.{MemberKey}
 use Rattle.acl_model.specs.declared.binding.Binding.{Binding}
 use Rattle.acl_model.specs.FirstMatch.{entries_of}
-use Rattle.acl_model.specs.Policies.{UrlPolicy}
+use Rattle.acl_model.specs.Policies.{UrlPolicy, url_policy}
 use Rattle.acl_rows.specs.declared.row.Owner.{Owner}
 use Rattle.acl_rows.specs.declared.row.Owner.TheVariants.{Url, Default}
 use Rattle.acl_rows.specs.declared.row.Row.{Row}
@@ -31,7 +31,6 @@ use Rattle.acl_patch.specs.Patch.{end_for}
 use Rattle.sorted_rows.specs.Placed.{row_at, is_under}
 use Rattle.row_changes.proofs.Groups.{all_kept, each_there}
 use Rattle.row_changes.proofs.PolicyRows.{end_was}
-use Rattle.row_changes.specs.Policies.{url_policy}
 use Rattle.acl_compile.specs.Compiled.{UrlsApart, compiled_state}
 use Rattle.row_changes.specs.Fresh.{policy_count}
 use Rattle.row_edits.specs.declared.edit.Edit.{Edit}

@@ -31,7 +31,7 @@ use Rattle.acl_rows.specs.declared.row.Owner.{Owner}
 use Rattle.acl_rows.specs.declared.row.Owner.TheVariants.{Url, Default}
 use Rattle.acl_rows.specs.declared.row.Row.{Row}
 use Rattle.acl_rows.specs.Places.{owner_class, owner_number, owner_place, side_place, peer_place, place_at, row_place, row_key_place}
-use Rattle.acl_rows.specs.Rows.{never, member_keys, entry_end, row, numbered, Slots, held_by, entry_at, held_end, end_at, rows_of}
+use Rattle.acl_rows.specs.Rows.{for_ever, member_keys, entry_end, row, numbered, Slots, held_by, entry_at, held_end, end_at, rows_of}
 use Rattle.acl_rows.proofs.Coordinates.{AreSame, same_coordinates}
 use Rattle.acl_rows.proofs.Sound.{HasKeys, has_keys, IsBound, first_bound, HasEnd, has_end, IsHeld, is_held, any_entry}
 use Rattle.acl_rows.proofs.AtPlaces.{row_at-rows_of}
@@ -138,7 +138,7 @@ unfolding entry_touches first_key_touches member_keys is_membered
 entry_touched bindings owner side a n u held entry e =
     let ends : HasEnd bindings held.url entry a u = has_end bindings held.url entry a u e in
     let keys : HasKeys (member_keys held.url entry) = has_keys held.url entry.selectors ends.membered in
-    let bound : IsBound bindings keys.key a = first_bound bindings a never u (member_keys held.url entry) keys ends.least in
+    let bound : IsBound bindings keys.key a = first_bound bindings a for_ever u (member_keys held.url entry) keys ends.least in
     subst (λ (ks : List MemberKey). list_any (touches_at owner side a n) (first_key_touches bindings owner side n ks) ≡ true) (sym keys.are) (bound_touched owner side a n keys.key bound.binding bindings bound.found)
 
 side_touched : (bindings : List Binding) (owner : Owner) (side : Direction) (a : Addr) (n u : ℕ) (held : UrlPolicy) (entry : Entry) → entry_at n (entries_of side held.policy) ≡ Some entry → entry_end bindings held.url entry a ≡ Some u → list_any (touches_at owner side a n) (side_policy_touches bindings owner held side) ≡ true

@@ -26,7 +26,7 @@ use Rattle.acl_model.proofs.BindingLaws.{same_addr_exact}
 use Rattle.acl_rows.specs.declared.row.Owner.{Owner}
 use Rattle.acl_rows.specs.declared.row.RowKey.{RowKey}
 use Rattle.acl_rows.specs.Places.{place_at, row_key_place}
-use Rattle.acl_rows.specs.Rows.{never, member_keys, least_end, entry_end, numbered, Holder, holders_from, Slots, held_by, entry_at, held_end, end_at}
+use Rattle.acl_rows.specs.Rows.{for_ever, member_keys, least_end, entry_end, numbered, Holder, holders_from, Slots, held_by, entry_at, held_end, end_at}
 use Rattle.acl_rows.proofs.Sound.{held_complete, any_entry}
 use Rattle.acl_patch.specs.Touched.{row_key, entry_touch, side_touches, holder_touches, binding_touches, touches}
 use Rattle.acl_patch.proofs.Bound.{any_none_implied, bound_until-untouched}
@@ -79,7 +79,7 @@ module _ (gone come bindings : List Binding) (up : PlacesAscend binding_place bi
 
   entry_kept : (url : List ℕ) (entry : Entry) → list_any (concerns url entry.selectors a) gone ≡ false → list_any (concerns url entry.selectors a) come ≡ false → entry_end (replaced gone come bindings) url entry a ≡ entry_end bindings url entry a
   unfolding entry_end member_keys
-  entry_kept url entry left came = ap (λ (o : Option ℕ). cond (is_membered entry && is_in_family entry.family a) o None) (least_kept never (member_keys url entry) (keys_kept url entry.selectors left came))
+  entry_kept url entry left came = ap (λ (o : Option ℕ). cond (is_membered entry && is_in_family entry.family a) o None) (least_kept for_ever (member_keys url entry) (keys_kept url entry.selectors left came))
 
 -- ---- The places that are touched
 

@@ -10,7 +10,7 @@ use Rattle.mud_world.specs.Door.{DoorState, put_out}
 use Rattle.mud_base.specs.declared.addr.Mac.{Mac}
 use Rattle.mud_world.specs.Clock.{next_moment}
 use Rattle.command_runs.specs.Due.{WroteFirst}
-use Rattle.command_runs.specs.View.{DoorView}
+use Rattle.mud_world.specs.View.{DoorView}
 use Rattle.desk_items.specs.declared.fault.OpenFault.{OpenFault}
 use Rattle.desk_items.specs.declared.fault.OpenFault.TheVariants.{Keeper, Memory, BadItem}
 use Rattle.desk_items.specs.Opening.{IsFaultOf, IsOfCall}

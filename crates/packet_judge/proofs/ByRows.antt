@@ -28,7 +28,7 @@ use Rattle.acl_rows.specs.declared.row.Owner.{Owner}
 use Rattle.acl_rows.specs.declared.row.Owner.TheVariants.{Url, Default}
 use Rattle.acl_rows.specs.declared.row.Row.{Row}
 use Rattle.acl_model.specs.Places.{binding_place}
-use Rattle.acl_rows.specs.Rows.{never, row, entry_at, end_at, held_by, slot_policy, default_held, Slots, Holder, rows_of}
+use Rattle.acl_rows.specs.Rows.{for_ever, row, entry_at, end_at, held_by, slot_policy, default_held, Slots, Holder, rows_of}
 use Rattle.acl_rows.specs.View.{Part, part, View, rows_at, rows_of_side, wide_from, in_slot, holder_from, IsPartOf, IsFilePart}
 use Rattle.acl_rows.proofs.Sound.{end_at-entry}
 use Rattle.acl_rows.proofs.AtPlaces.{row_at-rows_of, ascend-rows_of}
@@ -61,7 +61,7 @@ pub part_is : (rows : List Row) (side : Direction) (owner : Owner) (policy : Pol
 unfolding part_of
 part_is rows side owner policy p is = λ i. part (is.side_is i) (is.entries i) (is.wide i) (is.rows_are i) p.among
 
-module _ (slots : Slots) (bindings : List Binding) (ascend : PlacesAscend binding_place bindings) (asked : Asked) (small : asked.moment < never) (side : Direction) (among : ℕ) where
+module _ (slots : Slots) (bindings : List Binding) (ascend : PlacesAscend binding_place bindings) (asked : Asked) (small : asked.moment < for_ever) (side : Direction) (among : ℕ) where
   unfoldable pub own_part : Owner → UrlPolicy → Part
   own_part owner held = part_of (rows_of slots bindings) side owner held.policy among
 
@@ -180,7 +180,7 @@ holder_sound all url n (Some held ∷ slots) h tail is =
 
 -- ---- The whole ruling
 
-module _ (slots : Slots) (bindings : List Binding) (ascend : PlacesAscend binding_place bindings) (asked : Asked) (small : asked.moment < never) (side : Direction) (url : List ℕ) where
+module _ (slots : Slots) (bindings : List Binding) (ascend : PlacesAscend binding_place bindings) (asked : Asked) (small : asked.moment < for_ever) (side : Direction) (url : List ℕ) where
   abbrev rows : List Row
   rows = rows_of slots bindings
 
@@ -208,7 +208,7 @@ module _ (slots : Slots) (bindings : List Binding) (ascend : PlacesAscend bindin
       file_rules h p (default_at NoMatch (first_in asked defaults)) (holder_sound slots url 0 slots h (λ i. ap (slice_get slots) {x = 0 + i} {y = i} (omega arith)) is) file (defaults_rule NoMatch defaults rest)
 
 -- The ruling by the rows of a view is the one by the bindings, at every moment.
-pub rows_alike : (slots : Slots) (bindings : List Binding) (url : List ℕ) (policy : Option Policy) (side : Direction) (view : View) (asked : Asked) → IsViewOver slots bindings url policy side view → asked.moment < never
+pub rows_alike : (slots : Slots) (bindings : List Binding) (url : List ℕ) (policy : Option Policy) (side : Direction) (view : View) (asked : Asked) → IsViewOver slots bindings url policy side view → asked.moment < for_ever
     → ruling_by_rows asked view ≡ ruling_by_bindings bindings asked.locals asked.moment url policy side asked.fields asked.begun
 unfolding ruling_by_rows ruling_by_bindings matched
 rows_alike slots bindings url policy side view asked is small =

@@ -22,7 +22,7 @@ use Rattle.acl_model.specs.Match.{is_in_family}
 use Rattle.acl_model.proofs.KeyLaws.{same_key-Decides, is_some-key_of}
 use Rattle.acl_model.specs.Places.{bound_place, binding_place}
 use Rattle.acl_model.specs.Changes.{until_of, is_bound_to, bound_until}
-use Rattle.acl_rows.specs.Rows.{never, member_keys, least_end, entry_end}
+use Rattle.acl_rows.specs.Rows.{for_ever, member_keys, least_end, entry_end}
 use Rattle.acl_model.proofs.BindingLaws.{same_addr-Decides}
 use Rattle.mud_tables.specs.Ends.{is_live}
 use Rattle.mud_tables.specs.Bindings.{is_met_by, has_live_binding, key_met, selector_met, members_met}
@@ -160,20 +160,20 @@ both_false false true false = refl
 both_false false false true = refl
 both_false false false false = refl
 
-entry_by : (bindings : List Binding) → PlacesAscend binding_place bindings → (url : List ℕ) (entry : Entry) (a : Addr) (now : ℕ) → now < never → (p : Bool) → (p ≡ true → is_in_family entry.family a ≡ true) → (q membered : Bool) → p ≡ q → is_membered entry ≡ membered
-    → ((live_end now (cond (membered && is_in_family entry.family a) (least_end bindings a never (member_keys url entry)) None) && q) || (not membered && q)) ≡ (members_met bindings url entry a now && q)
+entry_by : (bindings : List Binding) → PlacesAscend binding_place bindings → (url : List ℕ) (entry : Entry) (a : Addr) (now : ℕ) → now < for_ever → (p : Bool) → (p ≡ true → is_in_family entry.family a ≡ true) → (q membered : Bool) → p ≡ q → is_membered entry ≡ membered
+    → ((live_end now (cond (membered && is_in_family entry.family a) (least_end bindings a for_ever (member_keys url entry)) None) && q) || (not membered && q)) ≡ (members_met bindings url entry a now && q)
 unfolding members_met member_keys is_membered live_end is_live
 entry_by bindings ascend url entry a now small p family false membered e is = both_false _ (not membered) _
 entry_by bindings ascend url entry a now small p family true true e is =
     or-false _ ∙ ap (λ (b : Bool). b && true)
-    (ap (λ (b : Bool). live_end now (cond b (least_end bindings a never (member_keys url entry)) None)) (family e)
-    ∙ live-least_end bindings ascend a now never (member_keys url entry)
-    ∙ ap (λ (b : Bool). b && list_all (has_live bindings a now) (member_keys url entry)) (lt-ltb now never small)
+    (ap (λ (b : Bool). live_end now (cond b (least_end bindings a for_ever (member_keys url entry)) None)) (family e)
+    ∙ live-least_end bindings ascend a now for_ever (member_keys url entry)
+    ∙ ap (λ (b : Bool). b && list_all (has_live bindings a now) (member_keys url entry)) (lt-ltb now for_ever small)
     ∙ keys_met bindings url a now entry.selectors)
 entry_by bindings ascend url entry a now small p family true false e is = sym (and-true _ ∙ wide_met bindings url a now entry.selectors is)
 
 -- a live end, or no member selector, is what the bindings say, where the other tests ask for the family
-pub entry_alike : (bindings : List Binding) → PlacesAscend binding_place bindings → (url : List ℕ) (entry : Entry) (a : Addr) (now : ℕ) → now < never → (p : Bool) → (p ≡ true → is_in_family entry.family a ≡ true)
+pub entry_alike : (bindings : List Binding) → PlacesAscend binding_place bindings → (url : List ℕ) (entry : Entry) (a : Addr) (now : ℕ) → now < for_ever → (p : Bool) → (p ≡ true → is_in_family entry.family a ≡ true)
     → ((live_end now (entry_end bindings url entry a) && p) || (not (is_membered entry) && p)) ≡ (members_met bindings url entry a now && p)
 unfolding entry_end
 entry_alike bindings ascend url entry a now small p family = entry_by bindings ascend url entry a now small p family p (is_membered entry) refl refl

@@ -31,7 +31,7 @@ use Rattle.acl_model.proofs.BindingLaws.{same_addr_exact, same_addr_itself}
 use Rattle.acl_rows.specs.declared.row.Owner.{Owner}
 use Rattle.acl_rows.specs.declared.row.Row.{Row}
 use Rattle.acl_rows.specs.Places.{row_place, place_at, peer_place, side_place}
-use Rattle.acl_rows.specs.Rows.{never, row, member_keys, least_end, entry_at, entry_end, held_by, Slots, rows_of}
+use Rattle.acl_rows.specs.Rows.{for_ever, row, member_keys, least_end, entry_at, entry_end, held_by, Slots, rows_of}
 use Rattle.acl_rows.specs.View.{View, rows_of_side, is_at}
 use Rattle.acl_rows.proofs.Coordinates.{AreSame, same_coordinates}
 use Rattle.acl_rows.proofs.Parts.{under_peer, placed_under}
@@ -205,7 +205,7 @@ module _ (slots : Slots) (bindings : List Binding) (w : Wanted) (o : Owner) (s :
 
 -- ---- The whole match of an entry
 
-module _ (slots : Slots) (bindings : List Binding) (ascend : PlacesAscend binding_place bindings) (w : Wanted) (small : w.moment < never) (one : w.family ≢ family.Both) (view : View) (fields : Fields) (begun : Option Direction) (of : family_matches w.family fields ≡ true) where
+module _ (slots : Slots) (bindings : List Binding) (ascend : PlacesAscend binding_place bindings) (w : Wanted) (small : w.moment < for_ever) (one : w.family ≢ family.Both) (view : View) (fields : Fields) (begun : Option Direction) (of : family_matches w.family fields ≡ true) where
   -- the match by the bindings
   unfoldable pub matched : List ℕ → Entry → Bool
   matched url e = matches_by_bindings bindings w.locals w.moment url view.side fields begun e
@@ -234,7 +234,7 @@ module _ (slots : Slots) (bindings : List Binding) (ascend : PlacesAscend bindin
   wide_by : (url : List ℕ) (e : Entry) → is_membered e ≡ false → (near e && rest e) ≡ matched url e
   unfolding matched matches_by_bindings entry_end live_end
   wide_by url e plain =
-      sym (λ i. (live_end w.moment (cond (plain i && is_in_family e.family at_peer) (least_end bindings at_peer never (member_keys url e)) None) && (near e && rest e)) || (not (plain i) && (near e && rest e)))
+      sym (λ i. (live_end w.moment (cond (plain i && is_in_family e.family at_peer) (least_end bindings at_peer for_ever (member_keys url e)) None) && (near e && rest e)) || (not (plain i) && (near e && rest e)))
       ∙ entry_alike bindings ascend url e at_peer w.moment small (near e && rest e) (of_entry e)
 
   other_version : (url : List ℕ) (e : Entry) → covers e.family w.family ≡ false → false ≡ matched url e

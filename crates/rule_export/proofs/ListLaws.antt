@@ -29,7 +29,7 @@ use Rattle.acl_model.specs.Policies.{UrlPolicy}
 use Rattle.acl_rows.specs.declared.row.Owner.{Owner}
 use Rattle.acl_rows.specs.declared.row.Owner.TheVariants.{Default}
 use Rattle.acl_rows.specs.declared.row.Row.{Row}
-use Rattle.acl_rows.specs.Rows.{never, numbered, entry_at, held_by, default_held, Slots, Holder, rows_of}
+use Rattle.acl_rows.specs.Rows.{for_ever, numbered, entry_at, held_by, default_held, Slots, Holder, rows_of}
 use Rattle.acl_rows.specs.View.{Part, View, rows_of_side, holder_from, IsPartOf, IsFilePart}
 use Rattle.acl_model.specs.Changes.{HaveSame}
 use Rattle.mud_tables.specs.Tables.{Tables, ruling_of}
@@ -85,7 +85,7 @@ append_assoc : {A : Type 0} (xs ys zs : List A) → (xs ++ ys) ++ zs ≡ xs ++ (
 append_assoc [] ys zs = refl
 append_assoc (x ∷ xs) ys zs = ap (λ l. x ∷ l) (append_assoc xs ys zs)
 
-module _ (slots : Slots) (bindings : List Binding) (ascend : PlacesAscend binding_place bindings) (w : Wanted) (small : w.moment < never) (one : w.family ≢ family.Both) (view : View) (fields : Fields) (begun : Option Direction) (of : family_matches w.family fields ≡ true) where
+module _ (slots : Slots) (bindings : List Binding) (ascend : PlacesAscend binding_place bindings) (w : Wanted) (small : w.moment < for_ever) (one : w.family ≢ family.Both) (view : View) (fields : Fields) (begun : Option Direction) (of : family_matches w.family fields ≡ true) where
   abbrev test : Resolved → Bool
   test item = item_passes view fields begun item
 
@@ -166,7 +166,7 @@ module _ (slots : Slots) (bindings : List Binding) (ascend : PlacesAscend bindin
 
 -- The list of a view names the rule that the ruling by the bindings names.
 pub list_alike : (slots : Slots) (bindings : List Binding) (url : List ℕ) (policy : Option Policy) (side : Direction) (view : View) (w : Wanted) (fields : Fields) (begun : Option Direction)
-    → IsViewOver slots bindings url policy side view → w.moment < never → w.family ≢ family.Both → family_matches w.family fields ≡ true
+    → IsViewOver slots bindings url policy side view → w.moment < for_ever → w.family ≢ family.Both → family_matches w.family fields ≡ true
     → resolved_ruling view (resolved_of w view) fields begun ≡ number_of (ruling_by_bindings bindings w.locals w.moment url policy side fields begun)
 unfolding resolved_ruling resolved_of ruling_by_bindings matched
 list_alike slots bindings url policy side view w fields begun is small one of =
@@ -180,7 +180,7 @@ list_alike slots bindings url policy side view w fields begun is small one of =
 
 -- Where the bindings are those of tables, it is the ruling over the tables.
 pub list_as_tables : (slots : Slots) (bindings : List Binding) (tables : Tables) (url : List ℕ) (policy : Option Policy) (side : Direction) (view : View) (w : Wanted) (fields : Fields) (begun : Option Direction)
-    → IsViewOver slots bindings url policy side view → HaveSame bindings (bindings_of tables) → w.locals ≡ tables.locals → w.moment < never → w.family ≢ family.Both → family_matches w.family fields ≡ true
+    → IsViewOver slots bindings url policy side view → HaveSame bindings (bindings_of tables) → w.locals ≡ tables.locals → w.moment < for_ever → w.family ≢ family.Both → family_matches w.family fields ≡ true
     → resolved_ruling view (resolved_of w view) fields begun ≡ number_of (ruling_of tables w.moment url policy side fields begun)
 list_as_tables slots bindings tables url policy side view w fields begun is same locals small one of =
     list_alike slots bindings url policy side view w fields begun is small one of

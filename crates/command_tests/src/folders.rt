@@ -24,7 +24,7 @@ fn file(alloc: Global, name: &str, octets: &str) -> Result<(Bytes, Bytes), Memor
 fn folder(alloc: Global, files: &[(&str, &str)]) -> Result<MemorySpool, Memory> {
     let mut list = Listed::new(alloc);
     for (name, octets) in files {
-        list.push(file(alloc, name, octets)?)?;
+        list.push(file(alloc, *name, *octets)?)?;
     }
     Ok(MemorySpool::new(alloc, list))
 }

@@ -22,6 +22,8 @@ use Rattle.mud_cli.specs.Export.{AsksClockOnce}
 use Rattle.mud_cli.specs.Import.Store.{ImportsStore}
 use Rattle.mud_cli.specs.Promises.{Promises}
 use Rattle.mud_cli.specs.Report.{AsksClock}
+use Rattle.command_runs.specs.Status.{Is}
+use Rattle.command_runs.specs.declared.status.Status.TheVariants.{KeeperFailed}
 
 -- The outside of the program beside its keeper: the door, the spool and the clock.
 pub record Outside (D P C : Type 0) : Type 0 where
@@ -59,7 +61,7 @@ pub record LeavesAlone {K D P C : Type 0} (command : Command) (keeper returned :
   pub same_keeper : IsTrue (reads_input command) → returned ≡ keeper
   pub same_spool : command ≢ Import → new.spool ≡ old.spool
   pub same_clock : asks_clock command ≡ false → new.clock ≡ old.clock
-  pub same_door : IsTrue (is_silent command) → status ≡ 7 → new.door ≡ old.door
+  pub same_door : IsTrue (is_silent command) → Is KeeperFailed status → new.door ≡ old.door
 
 -- ---- What is done
 
@@ -81,7 +83,7 @@ module _ {X : Type 0} {F : X → Type 0} (members : (v : (x : X) × F x) → Gho
   Does Replay = ReplaysStore members doors.tells keeper returned (doors.view old.door) (doors.view new.door) status
   Does (Serve port count) =
       ServesStore members doors.tells clocks.tells keeper returned (listening port count) (clock_run (clocks.moments old.clock) (clocks.moments new.clock)) (doors.view old.door) (doors.view new.door) status
-      × (status ≡ 7 → new.clock ≡ old.clock)
+      × (Is KeeperFailed status → new.clock ≡ old.clock)
   Does (Report kind) =
       ReportsStore members kind doors.tells clocks.tells (clocks.moments old.clock) keeper returned (doors.view old.door) (doors.view new.door) status
       × AsksClock clocks.tells clocks.moments kind old.clock new.clock status

@@ -1,6 +1,7 @@
 //! The top call of the program.
-ghost use Rattle.std.specs.Prelude.{◌≡◌, ◌≢◌, ◌↔◌, None, Some};
-ghost use Rattle.command_runs.specs.Status.{status_number};
+ghost use Rattle.std.specs.Prelude.{◌≡◌, ◌↔◌, None, Some};
+ghost use Rattle.command_runs.specs.Status.{IsNot, status_number};
+ghost use Rattle.command_runs.specs.declared.status.Status.TheVariants.{Unlisted};
 ghost use Rattle.command_words.specs.Words.{command_in, words_of};
 ghost use Rattle.command_words.specs.declared.command.Command.{Command};
 ghost use Rattle.mud_cli.specs.Runs.{Does, LeavesAlone, outside_of};
@@ -31,7 +32,7 @@ fn run_command<D: Door, P: Spool, C: Clock>(
     spool: &mut P,
     clock: &mut C,
 ) -> (Status, Box<dyn Keeper>)
-    ensures listed { status_number result.0 ≢ 2 }
+    ensures listed { IsNot Unlisted (status_number result.0) }
     ensures does { Does Keeper-dyn ⟦<D as Door>⟧ ⟦<P as Spool>⟧ ⟦<C as Clock>⟧ keeper result.1
         (outside_of door.old spool.old clock.old) (outside_of door.new spool.new clock.new) (status_number result.0) command }
     ensures alone { LeavesAlone command keeper result.1

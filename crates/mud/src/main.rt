@@ -100,7 +100,9 @@ fn run_words(rt: HostRuntime, words: &[String]) -> io::Result<u8> {
         tell(rt, spool.failure);
     }
     if is_snoop_to_the_end(alloc, words, status) && binds_no_dns_server(alloc, &mut keeper) {
-        let _printed = eprint!(rt; "mud: no name could be learnt: no address is bound to urn:ietf:params:mud:dns\n");
+        let _printed = eprint!(rt;
+            "mud: no name could be learnt: no address is bound to urn:ietf:params:mud:dns\n"
+        );
     }
     Ok(status)
 }
@@ -119,10 +121,8 @@ fn binds_no_dns_server(alloc: Global, keeper: &mut Box<dyn Keeper>) -> bool {
     let Ok(items) = keeper.open(alloc) else {
         return false;
     };
-    !items
-        .as_slice()
-        .iter()
-        .any(|item| item.kind == CLASS_KIND && item.key.octets() == DNS_CLASS_KEY)
+    !items.as_slice().iter().any(|item| item.kind == CLASS_KIND
+        && item.key.octets() == DNS_CLASS_KEY)
 }
 
 /// Tells standard error which call failed and why, if one did; whether that succeeds doesn't change the

@@ -18,7 +18,7 @@ const GIVEN: Given<'static> = Given {
 const AT_ONCE: Ends<'static> = Ends {
     status: 0,
     written: &[&[SET_HEAD, SET_BODY], &[BOUND_HEAD, BOUND_BODY]],
-    kept: &[CLASS_ITEM, LOCALS_ITEM, AT_6],
+    changed: &[CLASS_ITEM, LOCALS_ITEM, AT_6],
 };
 
 #[test]
@@ -34,18 +34,18 @@ const KEPT: &[Kept<'static>] = &[CLASS_ITEM, LOCALS_ITEM, AT_26];
 const ALL: Ends<'static> = Ends {
     status: 0,
     written: &[&[SET_HEAD, SET_BODY], &[BOUND_HEAD, BOUND_BODY]],
-    kept: KEPT,
+    changed: KEPT,
 };
 
 /// What comes of it where one call fails. A connection whose read or write fails is over, and the next
 /// one is served. The clock is asked only for a request that is whole.
-const FAILURES: [(Failing, Ends<'static>); 17] = [
+static FAILURES: [(Failing, Ends<'static>); 17] = [
     (
         (Call::Open, 1),
         Ends {
             status: 7,
             written: &[&[], &[]],
-            kept: &[],
+            changed: &[],
         },
     ),
     (
@@ -53,7 +53,7 @@ const FAILURES: [(Failing, Ends<'static>); 17] = [
         Ends {
             status: 0,
             written: &[&[UNKEPT], &[BOUND_HEAD, BOUND_BODY]],
-            kept: &[CLASS_ITEM, AT_26],
+            changed: &[CLASS_ITEM, AT_26],
         },
     ),
     (
@@ -61,7 +61,7 @@ const FAILURES: [(Failing, Ends<'static>); 17] = [
         Ends {
             status: 0,
             written: &[&[SET_HEAD, SET_BODY], &[UNKEPT]],
-            kept: &[LOCALS_ITEM, AT_25],
+            changed: &[LOCALS_ITEM, AT_25],
         },
     ),
     (
@@ -69,7 +69,7 @@ const FAILURES: [(Failing, Ends<'static>); 17] = [
         Ends {
             status: 4,
             written: &[&[], &[]],
-            kept: &[],
+            changed: &[],
         },
     ),
     (
@@ -77,7 +77,7 @@ const FAILURES: [(Failing, Ends<'static>); 17] = [
         Ends {
             status: 4,
             written: &[&[], &[]],
-            kept: &[],
+            changed: &[],
         },
     ),
     (
@@ -85,7 +85,7 @@ const FAILURES: [(Failing, Ends<'static>); 17] = [
         Ends {
             status: 4,
             written: &[&[SET_HEAD, SET_BODY], &[]],
-            kept: &[LOCALS_ITEM, AT_25],
+            changed: &[LOCALS_ITEM, AT_25],
         },
     ),
     ((Call::Next, 3), ALL),
@@ -94,7 +94,7 @@ const FAILURES: [(Failing, Ends<'static>); 17] = [
         Ends {
             status: 0,
             written: &[&[], &[BOUND_HEAD, BOUND_BODY]],
-            kept: &[CLASS_ITEM, AT_25],
+            changed: &[CLASS_ITEM, AT_25],
         },
     ),
     ((Call::Read, 2), ALL),
@@ -103,7 +103,7 @@ const FAILURES: [(Failing, Ends<'static>); 17] = [
         Ends {
             status: 0,
             written: &[&[SET_HEAD, SET_BODY], &[]],
-            kept: &[LOCALS_ITEM, AT_25],
+            changed: &[LOCALS_ITEM, AT_25],
         },
     ),
     ((Call::Read, 4), ALL),
@@ -113,7 +113,7 @@ const FAILURES: [(Failing, Ends<'static>); 17] = [
         Ends {
             status: 0,
             written: &[&[], &[BOUND_HEAD, BOUND_BODY]],
-            kept: KEPT,
+            changed: KEPT,
         },
     ),
     (
@@ -121,7 +121,7 @@ const FAILURES: [(Failing, Ends<'static>); 17] = [
         Ends {
             status: 0,
             written: &[&[SET_HEAD], &[BOUND_HEAD, BOUND_BODY]],
-            kept: KEPT,
+            changed: KEPT,
         },
     ),
     (
@@ -129,7 +129,7 @@ const FAILURES: [(Failing, Ends<'static>); 17] = [
         Ends {
             status: 0,
             written: &[&[SET_HEAD, SET_BODY], &[]],
-            kept: KEPT,
+            changed: KEPT,
         },
     ),
     (
@@ -137,7 +137,7 @@ const FAILURES: [(Failing, Ends<'static>); 17] = [
         Ends {
             status: 0,
             written: &[&[SET_HEAD, SET_BODY], &[BOUND_HEAD]],
-            kept: KEPT,
+            changed: KEPT,
         },
     ),
     ((Call::Write, 5), ALL),

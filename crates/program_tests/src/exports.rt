@@ -2,7 +2,7 @@
 //! each call of the keeper and of the door failing.
 use crate::items::{AT_1000, AT_1060, BULB_FILE, BULB_THING, CLASS_ITEM, HELD_THING, HOME, NAME};
 use crate::memory::{Call, Kept, NONE};
-use crate::runs::{Run, check_runs};
+use crate::runs::{Run, check_one, check_runs};
 
 /// What stands between the items of the lists.
 const OPENING: &[u8] = br#"{"ietf-access-control-list:acls":{"acl":[{"aces":{"ace":["#;
@@ -40,7 +40,6 @@ const LISTED: Run<'static> = Run {
     words: &["export", ":memory:", "02:00:00:00:00:01"],
     pieces: &[],
     second: 1059,
-    kept: HOME,
     failing: NONE,
     status: 0,
     written: &[
@@ -53,7 +52,7 @@ const LISTED: Run<'static> = Run {
         BY_RESOLVER,
         ENDING,
     ],
-    left: HOME,
+    changed: &[],
 };
 
 /// The lists behind it.
@@ -78,22 +77,9 @@ const NO_THING: Run<'static> = Run {
     ..LISTED
 };
 
-const RUNS: [Run<'static>; 9] = [
+static RUNS: [Run<'static>; 7] = [
     LISTED,
     ENDED,
-    // The last change is later than the clock, so the lists are those of its moment.
-    Run {
-        second: 1059,
-        kept: CHANGED_AT_1060,
-        left: CHANGED_AT_1060,
-        ..ENDED
-    },
-    Run {
-        kept: HELD,
-        written: &[OPENING, BEFORE_TO, ENDING],
-        left: HELD,
-        ..LISTED
-    },
     NO_THING,
     // What is no hardware address is no command.
     Run {
@@ -124,5 +110,27 @@ const RUNS: [Run<'static>; 9] = [
 
 #[test]
 fn the_lists_of_a_thing_are_written(rt: HostRuntime) {
-    check_runs(&rt, rt.alloc(), &RUNS);
+    check_runs(&rt, rt.alloc(), HOME, &RUNS);
+}
+
+/// The last change is later than the clock, so the lists are those of its moment.
+const LATER: Run<'static> = Run {
+    second: 1059,
+    ..ENDED
+};
+
+#[test]
+fn no_list_is_of_a_moment_before_the_last_change(rt: HostRuntime) {
+    check_one(&rt, rt.alloc(), 0, CHANGED_AT_1060, &LATER);
+}
+
+/// The lists of what is held are empty.
+const EMPTY: Run<'static> = Run {
+    written: &[OPENING, BEFORE_TO, ENDING],
+    ..LISTED
+};
+
+#[test]
+fn what_is_held_has_empty_lists(rt: HostRuntime) {
+    check_one(&rt, rt.alloc(), 0, HELD, &EMPTY);
 }

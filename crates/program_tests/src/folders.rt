@@ -44,18 +44,18 @@ const KEPT: &[Kept<'static>] = &[FROM_1001, AT_2001];
 const ALL: Ends<'static> = Ends {
     status: 0,
     written: &[&[b"1000-bulb.json new\n1001-bulb.json same\nnotes.txt skipped\n"]],
-    kept: KEPT,
+    changed: KEPT,
 };
 
 /// What comes of it where one call fails. Where the spool fails, the lines of the names before it are
 /// written and their files kept; where the keeper fails, it goes on with the next name.
-const FAILURES: [(Failing, Ends<'static>); 8] = [
+static FAILURES: [(Failing, Ends<'static>); 8] = [
     (
         (Call::Open, 1),
         Ends {
             status: 7,
             written: &[&[]],
-            kept: &[],
+            changed: &[],
         },
     ),
     (
@@ -63,7 +63,7 @@ const FAILURES: [(Failing, Ends<'static>); 8] = [
         Ends {
             status: 7,
             written: &[&[b"1000-bulb.json keeper\n1001-bulb.json new\nnotes.txt skipped\n"]],
-            kept: &[FROM_1001, AT_2001],
+            changed: &[FROM_1001, AT_2001],
         },
     ),
     (
@@ -71,7 +71,7 @@ const FAILURES: [(Failing, Ends<'static>); 8] = [
         Ends {
             status: 7,
             written: &[&[b"1000-bulb.json new\n1001-bulb.json keeper\nnotes.txt skipped\n"]],
-            kept: &[FROM_1000, AT_2000],
+            changed: &[FROM_1000, AT_2000],
         },
     ),
     ((Call::Apply, 3), ALL),
@@ -80,7 +80,7 @@ const FAILURES: [(Failing, Ends<'static>); 8] = [
         Ends {
             status: 4,
             written: &[&[]],
-            kept: &[],
+            changed: &[],
         },
     ),
     (
@@ -88,7 +88,7 @@ const FAILURES: [(Failing, Ends<'static>); 8] = [
         Ends {
             status: 4,
             written: &[&[]],
-            kept: &[],
+            changed: &[],
         },
     ),
     (
@@ -96,7 +96,7 @@ const FAILURES: [(Failing, Ends<'static>); 8] = [
         Ends {
             status: 4,
             written: &[&[b"1000-bulb.json new\n"]],
-            kept: &[FROM_1000, AT_2000],
+            changed: &[FROM_1000, AT_2000],
         },
     ),
     ((Call::ReadFile, 3), ALL),
@@ -113,7 +113,7 @@ fn each_call_fails(rt: HostRuntime) {
 const AGAIN: Ends<'static> = Ends {
     status: 0,
     written: &[&[b"1000-bulb.json same\n1001-bulb.json same\nnotes.txt skipped\n"]],
-    kept: KEPT,
+    changed: KEPT,
 };
 
 #[test]

@@ -146,14 +146,21 @@ fn item_of(rt: &impl Abort, alloc: Global, kept: &Kept<'_>) -> Item {
     Item { kind, key, body }
 }
 
-/// The items.
-fn items_of(rt: &impl Abort, alloc: Global, kept: &[Kept<'_>]) -> SortedRows<Item> {
+/// The items, by kind and key. Of those with one kind and key the last counts.
+pub fn items_of(rt: &impl Abort, alloc: Global, lists: &[&[Kept<'_>]]) -> SortedRows<Item> {
     let mut items = SortedRows::new(alloc);
-    for one in kept {
-        items.reserve(1).expect(rt, "memory");
-        items.put(item_of(rt, alloc, one));
+    for list in lists {
+        put_items(rt, alloc, &mut items, list);
     }
     items
+}
+
+/// Puts the items, each in place of that of its kind and key.
+fn put_items(rt: &impl Abort, alloc: Global, items: &mut SortedRows<Item>, list: &[Kept<'_>]) {
+    for kept in list {
+        items.reserve(1).expect(rt, "memory");
+        items.put(item_of(rt, alloc, kept));
+    }
 }
 
 /// A keeper that keeps these items.
@@ -164,7 +171,7 @@ pub fn keeper_of(
     failing: Failing,
 ) -> Box<dyn Keeper> {
     let mut keeper = MemoryKeeper::new(alloc, Listed::new(alloc));
-    keeper.items = items_of(rt, alloc, kept);
+    keeper.items = items_of(rt, alloc, &[kept]);
     keeper.failing_open = script(rt, alloc, failing, Call::Open);
     keeper.failing_apply = script(rt, alloc, failing, Call::Apply);
     Box::new(alloc, keeper).expect(rt, "memory")

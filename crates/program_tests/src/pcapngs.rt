@@ -13,11 +13,10 @@ const JUDGED: Run<'static> = Run {
     words: &["judge", ":memory:"],
     pieces: &[SECTION, INTERFACE, BLOCK_AT_1059, SYN, BLOCK_END],
     second: 2000,
-    kept: HOME,
     failing: NONE,
     status: 0,
     written: &[LINE],
-    left: HOME,
+    changed: &[],
 };
 
 /// A read failed before the block of the packet was whole.
@@ -32,7 +31,7 @@ const SIMPLE: &[u8] =
     b"\x03\x00\x00\x00\x58\x00\x00\x00\x00\x00\x00\x00\x00\x00\x00\x00\xc0\x0e\x1f\x3f\x36\x00\x00\x00\
     \x36\x00\x00\x00";
 
-const RUNS: [Run<'static>; 14] = [
+static RUNS: [Run<'static>; 14] = [
     JUDGED,
     // Without its last four octets, and then in another form.
     Run {
@@ -105,5 +104,5 @@ const RUNS: [Run<'static>; 14] = [
 
 #[test]
 fn a_capture_in_pcapng_is_judged(rt: HostRuntime) {
-    check_runs(&rt, rt.alloc(), &RUNS);
+    check_runs(&rt, rt.alloc(), HOME, &RUNS);
 }

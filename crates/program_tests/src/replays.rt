@@ -16,7 +16,7 @@ const KEPT: &[Kept<'static>] = &[CLASS_ITEM, LOCALS_ITEM, AT_6];
 const ALL: Ends<'static> = Ends {
     status: 0,
     written: WRITTEN,
-    kept: KEPT,
+    changed: KEPT,
 };
 
 /// Replays the connection of these pieces over a keeper that keeps nothing.
@@ -57,13 +57,13 @@ fn the_second_request_is_cut_anywhere(rt: HostRuntime) {
 /// What comes of it where one call fails. The request whose answer isn't written stays carried out,
 /// and none behind it is; where a read fails, what was read before is answered. Of a change that
 /// couldn't be kept nothing stays, and the next one is made again.
-const FAILURES: [(Failing, Ends<'static>); 13] = [
+static FAILURES: [(Failing, Ends<'static>); 13] = [
     (
         (Call::Open, 1),
         Ends {
             status: 7,
             written: &[&[]],
-            kept: &[],
+            changed: &[],
         },
     ),
     (
@@ -71,7 +71,7 @@ const FAILURES: [(Failing, Ends<'static>); 13] = [
         Ends {
             status: 0,
             written: &[&[UNKEPT, BOUND_HEAD, BOUND_BODY]],
-            kept: &[CLASS_ITEM, AT_6],
+            changed: &[CLASS_ITEM, AT_6],
         },
     ),
     (
@@ -79,7 +79,7 @@ const FAILURES: [(Failing, Ends<'static>); 13] = [
         Ends {
             status: 0,
             written: &[&[SET_HEAD, SET_BODY, UNKEPT]],
-            kept: &[LOCALS_ITEM, AT_5],
+            changed: &[LOCALS_ITEM, AT_5],
         },
     ),
     ((Call::Apply, 3), ALL),
@@ -88,7 +88,7 @@ const FAILURES: [(Failing, Ends<'static>); 13] = [
         Ends {
             status: 4,
             written: &[&[]],
-            kept: &[],
+            changed: &[],
         },
     ),
     (
@@ -96,7 +96,7 @@ const FAILURES: [(Failing, Ends<'static>); 13] = [
         Ends {
             status: 4,
             written: &[&[SET_HEAD, SET_BODY]],
-            kept: &[LOCALS_ITEM, AT_5],
+            changed: &[LOCALS_ITEM, AT_5],
         },
     ),
     (
@@ -104,7 +104,7 @@ const FAILURES: [(Failing, Ends<'static>); 13] = [
         Ends {
             status: 4,
             written: WRITTEN,
-            kept: KEPT,
+            changed: KEPT,
         },
     ),
     ((Call::Read, 4), ALL),
@@ -113,7 +113,7 @@ const FAILURES: [(Failing, Ends<'static>); 13] = [
         Ends {
             status: 4,
             written: &[&[]],
-            kept: &[LOCALS_ITEM, AT_5],
+            changed: &[LOCALS_ITEM, AT_5],
         },
     ),
     (
@@ -121,7 +121,7 @@ const FAILURES: [(Failing, Ends<'static>); 13] = [
         Ends {
             status: 4,
             written: &[&[SET_HEAD]],
-            kept: &[LOCALS_ITEM, AT_5],
+            changed: &[LOCALS_ITEM, AT_5],
         },
     ),
     (
@@ -129,7 +129,7 @@ const FAILURES: [(Failing, Ends<'static>); 13] = [
         Ends {
             status: 4,
             written: &[&[SET_HEAD, SET_BODY]],
-            kept: KEPT,
+            changed: KEPT,
         },
     ),
     (
@@ -137,7 +137,7 @@ const FAILURES: [(Failing, Ends<'static>); 13] = [
         Ends {
             status: 4,
             written: &[&[SET_HEAD, SET_BODY, BOUND_HEAD]],
-            kept: KEPT,
+            changed: KEPT,
         },
     ),
     ((Call::Write, 5), ALL),
@@ -154,7 +154,7 @@ fn each_call_fails(rt: HostRuntime) {
 const ANEW: Ends<'static> = Ends {
     status: 0,
     written: &[&[SET_HEAD, SET_BODY, UNKEPT, BOUND_HEAD, BOUND_BODY]],
-    kept: KEPT,
+    changed: KEPT,
 };
 
 #[test]

@@ -1,17 +1,17 @@
 //! A run of the program, and what comes of it.
-use crate::memory::{Failing, Given, Kept, Outside, keeper_of, outside_of};
+use crate::memory::{Failing, Given, Kept, Outside, items_of, keeper_of, outside_of};
 use mud_cli::mud_main;
 use mud_world::{Item, Keeper, MemoryDoor};
 use std::alloc::Global;
 use std::process::Abort;
 
 /// What comes of a run: its status, what was written to each connection, in parts, and the items that
-/// are kept.
+/// are kept behind it in place of, or beside, those that were kept before.
 #[derive(Clone, Copy, Debug)]
 pub struct Ends<'a> {
     pub status: u8,
     pub written: &'a [&'a [&'a [u8]]],
-    pub kept: &'a [Kept<'a>],
+    pub changed: &'a [Kept<'a>],
 }
 
 /// The words, as the program is given them.
@@ -67,10 +67,11 @@ fn check_written(rt: &impl Abort, number: usize, door: &MemoryDoor, written: &[&
     }
 }
 
-/// Whether it is the item.
-fn is_item(item: &Item, kept: &Kept<'_>) -> bool {
-    let (kind, key, parts) = *kept;
-    item.kind == kind && item.key.octets() == key && are_joined(item.body.octets(), parts)
+/// Whether they are one item.
+fn is_item(item: &Item, other: &Item) -> bool {
+    item.kind == other.kind
+        && item.key.octets() == other.key.octets()
+        && item.body.octets() == other.body.octets()
 }
 
 /// These items are kept.
@@ -79,7 +80,7 @@ fn check_kept(
     alloc: Global,
     number: usize,
     keeper: &mut Box<dyn Keeper>,
-    kept: &[Kept<'_>],
+    kept: &[Item],
 ) {
     let items = keeper.open(alloc).expect(rt, "the items");
     assert_eq!(rt; items.len(), kept.len(), "run {number}");
@@ -88,7 +89,8 @@ fn check_kept(
     }
 }
 
-/// Runs the program over this box so that one call fails, and this comes of it. The box is handed back.
+/// Runs the program over this box so that one call fails, and this comes of it. The number is that of
+/// the run in its table. The box is handed back.
 pub fn check_over(
     rt: &impl Abort,
     alloc: Global,
@@ -102,12 +104,12 @@ pub fn check_over(
     let (status, mut keeper) = run(rt, alloc, given.words, keeper, &mut outside);
     assert_eq!(rt; status, ends.status, "run {number}");
     check_written(rt, number, &outside.door, ends.written);
-    check_kept(rt, alloc, number, &mut keeper, ends.kept);
+    let kept = items_of(rt, alloc, &[given.kept, ends.changed]);
+    check_kept(rt, alloc, number, &mut keeper, kept.rows());
     keeper
 }
 
-/// Runs the program, with what it is given, so that one call fails, and this comes of it. The number is
-/// that of the run in its table.
+/// Runs the program over a keeper of its own.
 pub fn check(
     rt: &impl Abort,
     alloc: Global,
@@ -121,40 +123,39 @@ pub fn check(
 }
 
 /// A run with one connection and without a folder: its words, the pieces in which the octets of the
-/// connection come, the second of the clock, what is kept before, the call that fails, the status, the
-/// parts of what is written, and what is kept behind it.
+/// connection come, the second of the clock, the call that fails, the status, the parts of what is
+/// written, and the items that are kept behind it in place of, or beside, those before.
 #[derive(Clone, Copy, Debug)]
 pub struct Run<'a> {
     pub words: &'a [&'a str],
     pub pieces: &'a [&'a [u8]],
     pub second: u64,
-    pub kept: &'a [Kept<'a>],
     pub failing: Failing,
     pub status: u8,
     pub written: &'a [&'a [u8]],
-    pub left: &'a [Kept<'a>],
+    pub changed: &'a [Kept<'a>],
 }
 
-/// Runs the program so, and this comes of it.
-fn check_one(rt: &impl Abort, alloc: Global, number: usize, run: &Run<'_>) {
+/// Does the run over a store that keeps this.
+pub fn check_one(rt: &impl Abort, alloc: Global, number: usize, kept: &[Kept<'_>], run: &Run<'_>) {
     let given = Given {
         words: run.words,
         connections: &[run.pieces],
         files: &[],
         second: run.second,
-        kept: run.kept,
+        kept,
     };
     let ends = Ends {
         status: run.status,
         written: &[run.written],
-        kept: run.left,
+        changed: run.changed,
     };
     check(rt, alloc, number, &given, run.failing, &ends);
 }
 
-/// Does the runs, of each of which this comes.
-pub fn check_runs(rt: &impl Abort, alloc: Global, runs: &[Run<'_>]) {
+/// Does the runs, each over a store that keeps this.
+pub fn check_runs(rt: &impl Abort, alloc: Global, kept: &[Kept<'_>], runs: &[Run<'_>]) {
     for (number, run) in runs.iter().enumerate() {
-        check_one(rt, alloc, number, run);
+        check_one(rt, alloc, number, kept, run);
     }
 }

@@ -4,7 +4,7 @@ use crate::captures::{
     ALIAS, ANSWER, ANSWER_AT_1010, ANSWERS_AT_1010, BOTH, HEADER, LOOP, SYN_AT_1069, SYN_AT_1070,
     SYN_TO_8,
 };
-use crate::items::{AT_1010, BULB_FILE, BULB_THING, CLASS_ITEM, HOME};
+use crate::items::{AT_1010, HOME};
 use crate::memory::{Call, Kept, NONE};
 use crate::runs::{Run, check_runs};
 
@@ -65,7 +65,6 @@ const SNOOPED: Run<'static> = Run {
         SYN_TO_8,
     ],
     second: 2000,
-    kept: HOME,
     failing: NONE,
     status: 0,
     written: &[
@@ -74,14 +73,14 @@ const SNOOPED: Run<'static> = Run {
         b"2 1069 pass from=accept:1\n",
         b"3 1070 drop from=drop:no-match\n",
     ],
-    left: &[BULB_THING, BULB_FILE, CLASS_ITEM, WITH_8, AT_1010],
+    changed: &[WITH_8, AT_1010],
 };
 
 /// A read failed before the first packet was whole.
 const UNREAD: Run<'static> = Run {
     status: 4,
     written: &[],
-    left: HOME,
+    changed: &[],
     ..SNOOPED
 };
 
@@ -103,17 +102,17 @@ const BOTH_LEARNT: Run<'static> = Run {
         b"2 1069 pass from=accept:1\n",
         b"fault Cut 218\n",
     ],
-    left: &[BULB_THING, BULB_FILE, CLASS_ITEM, WITH_BOTH, AT_1010],
+    changed: &[WITH_BOTH, AT_1010],
     ..SNOOPED
 };
 
-const RUNS: [Run<'static>; 13] = [
+static RUNS: [Run<'static>; 13] = [
     SNOOPED,
     // The seconds of the alias count.
     Run {
         pieces: &[HEADER, ANSWERS_AT_1010, ALIAS],
         written: &[ANSWERED, b"name test.example.com 198.51.100.9 30 new\n"],
-        left: &[BULB_THING, BULB_FILE, CLASS_ITEM, WITH_9_TILL_1040, AT_1010],
+        changed: &[WITH_9_TILL_1040, AT_1010],
         ..SNOOPED
     },
     // A message that isn't read teaches nothing, and doesn't end the command.
@@ -124,7 +123,7 @@ const RUNS: [Run<'static>; 13] = [
             b"dns fault Pointer 34\n",
             b"2 1069 drop from=drop:no-match\n",
         ],
-        left: HOME,
+        changed: &[],
         ..SNOOPED
     },
     BOTH_LEARNT,
@@ -139,7 +138,7 @@ const RUNS: [Run<'static>; 13] = [
             b"2 1069 drop from=drop:no-match\n",
             b"fault Cut 218\n",
         ],
-        left: &[BULB_THING, BULB_FILE, CLASS_ITEM, WITH_9, AT_1010],
+        changed: &[WITH_9, AT_1010],
         ..BOTH_LEARNT
     },
     Run {
@@ -152,7 +151,7 @@ const RUNS: [Run<'static>; 13] = [
             b"2 1069 pass from=accept:1\n",
             b"fault Cut 218\n",
         ],
-        left: &[BULB_THING, BULB_FILE, CLASS_ITEM, WITH_8, AT_1010],
+        changed: &[WITH_8, AT_1010],
         ..BOTH_LEARNT
     },
     Run {
@@ -164,7 +163,7 @@ const RUNS: [Run<'static>; 13] = [
         failing: (Call::Open, 1),
         status: 7,
         written: &[],
-        left: HOME,
+        changed: &[],
         ..SNOOPED
     },
     // The first read takes four octets, and then each takes what is left of a piece.
@@ -199,5 +198,5 @@ const RUNS: [Run<'static>; 13] = [
 
 #[test]
 fn names_are_learnt(rt: HostRuntime) {
-    check_runs(&rt, rt.alloc(), &RUNS);
+    check_runs(&rt, rt.alloc(), HOME, &RUNS);
 }

@@ -1,6 +1,6 @@
 //! Runs over a store with one item, each of which ends with the status of its cause.
 use crate::memory::{Call, Kept, NONE};
-use crate::runs::{Run, check_runs};
+use crate::runs::{Run, check_one};
 
 /// A hardware address, as the key of a Thing.
 const MAC: &[u8] = b"\x02\x00\x00\x00\x00\x01";
@@ -60,155 +60,185 @@ const NESTED: &[u8] = b"[[[[[[[[[[[[[[[[[[[[[[[[[[[[[[[[[[[[[[[[[[[[[[[[[[\
 /// The line of an item that is no record.
 const BAD_ITEM: &[u8] = b"fault item 1 020000000001\n";
 
-const RUNS: [Run<'static>; 14] = [
+static RUNS: [(Kept<'static>, Run<'static>); 14] = [
     // A Thing of the first version is put anew in the second as the store is opened.
-    Run {
-        words: &["report", ":memory:", "things"],
-        pieces: &[],
-        second: 2000,
-        kept: &[FIRST],
-        failing: NONE,
-        status: 0,
-        written: &[b"thing 02:00:00:00:00:01 https://lighting.example.com/lightbulb2000 - -\n"],
-        left: &[SECOND],
-    },
-    Run {
-        words: &["report", ":memory:", "things"],
-        pieces: &[],
-        second: 2000,
-        kept: &[FIRST],
-        failing: (Call::Apply, 1),
-        status: 7,
-        written: &[],
-        left: &[FIRST],
-    },
-    Run {
-        words: &["report", ":memory:", "things"],
-        pieces: &[],
-        second: 2000,
-        kept: &[NO_HOLD],
-        failing: NONE,
-        status: 6,
-        written: &[BAD_ITEM],
-        left: &[NO_HOLD],
-    },
-    Run {
-        words: &["report", ":memory:", "things"],
-        pieces: &[],
-        second: 2000,
-        kept: &[NO_BODY],
-        failing: NONE,
-        status: 6,
-        written: &[BAD_ITEM],
-        left: &[NO_BODY],
-    },
+    (
+        FIRST,
+        Run {
+            words: &["report", ":memory:", "things"],
+            pieces: &[],
+            second: 2000,
+            failing: NONE,
+            status: 0,
+            written: &[b"thing 02:00:00:00:00:01 https://lighting.example.com/lightbulb2000 - -\n"],
+            changed: &[SECOND],
+        },
+    ),
+    (
+        FIRST,
+        Run {
+            words: &["report", ":memory:", "things"],
+            pieces: &[],
+            second: 2000,
+            failing: (Call::Apply, 1),
+            status: 7,
+            written: &[],
+            changed: &[],
+        },
+    ),
+    (
+        NO_HOLD,
+        Run {
+            words: &["report", ":memory:", "things"],
+            pieces: &[],
+            second: 2000,
+            failing: NONE,
+            status: 6,
+            written: &[BAD_ITEM],
+            changed: &[],
+        },
+    ),
+    (
+        NO_BODY,
+        Run {
+            words: &["report", ":memory:", "things"],
+            pieces: &[],
+            second: 2000,
+            failing: NONE,
+            status: 6,
+            written: &[BAD_ITEM],
+            changed: &[],
+        },
+    ),
     // Whatever opens a store says so where the keeper fails.
-    Run {
-        words: &["report", ":memory:", "due"],
-        pieces: &[],
-        second: 2000,
-        kept: &[SECOND],
-        failing: (Call::Open, 1),
-        status: 7,
-        written: &[],
-        left: &[SECOND],
-    },
-    Run {
-        words: &["judge", ":memory:"],
-        pieces: &[NINE_HEADERS],
-        second: 2000,
-        kept: &[SECOND],
-        failing: (Call::Open, 1),
-        status: 7,
-        written: &[],
-        left: &[SECOND],
-    },
-    Run {
-        words: &["replay", ":memory:"],
-        pieces: &[],
-        second: 2000,
-        kept: &[SECOND],
-        failing: (Call::Open, 1),
-        status: 7,
-        written: &[],
-        left: &[SECOND],
-    },
-    Run {
-        words: &["drill", "1"],
-        pieces: &[],
-        second: 2000,
-        kept: &[SECOND],
-        failing: (Call::Open, 1),
-        status: 7,
-        written: &[],
-        left: &[SECOND],
-    },
+    (
+        SECOND,
+        Run {
+            words: &["report", ":memory:", "due"],
+            pieces: &[],
+            second: 2000,
+            failing: (Call::Open, 1),
+            status: 7,
+            written: &[],
+            changed: &[],
+        },
+    ),
+    (
+        SECOND,
+        Run {
+            words: &["judge", ":memory:"],
+            pieces: &[NINE_HEADERS],
+            second: 2000,
+            failing: (Call::Open, 1),
+            status: 7,
+            written: &[],
+            changed: &[],
+        },
+    ),
+    (
+        SECOND,
+        Run {
+            words: &["replay", ":memory:"],
+            pieces: &[],
+            second: 2000,
+            failing: (Call::Open, 1),
+            status: 7,
+            written: &[],
+            changed: &[],
+        },
+    ),
+    (
+        SECOND,
+        Run {
+            words: &["drill", "1"],
+            pieces: &[],
+            second: 2000,
+            failing: (Call::Open, 1),
+            status: 7,
+            written: &[],
+            changed: &[],
+        },
+    ),
     // What has something isn't drilled.
-    Run {
-        words: &["drill", "1"],
-        pieces: &[],
-        second: 2000,
-        kept: &[SECOND],
-        failing: NONE,
-        status: 3,
-        written: &[b"fault NotEmpty\n"],
-        left: &[SECOND],
-    },
+    (
+        SECOND,
+        Run {
+            words: &["drill", "1"],
+            pieces: &[],
+            second: 2000,
+            failing: NONE,
+            status: 3,
+            written: &[b"fault NotEmpty\n"],
+            changed: &[],
+        },
+    ),
     // Input that is hostile.
-    Run {
-        words: &["judge", ":memory:"],
-        pieces: &[NINE_HEADERS],
-        second: 2000,
-        kept: &[SECOND],
-        failing: NONE,
-        status: 0,
-        written: &[b"1 1059 drop unreadable extension\n"],
-        left: &[SECOND],
-    },
-    Run {
-        words: &["check"],
-        pieces: &[NESTED],
-        second: 2000,
-        kept: &[FIRST],
-        failing: NONE,
-        status: 3,
-        written: &[b"fault Json\n"],
-        left: &[FIRST],
-    },
+    (
+        SECOND,
+        Run {
+            words: &["judge", ":memory:"],
+            pieces: &[NINE_HEADERS],
+            second: 2000,
+            failing: NONE,
+            status: 0,
+            written: &[b"1 1059 drop unreadable extension\n"],
+            changed: &[],
+        },
+    ),
+    (
+        FIRST,
+        Run {
+            words: &["check"],
+            pieces: &[NESTED],
+            second: 2000,
+            failing: NONE,
+            status: 3,
+            written: &[b"fault Json\n"],
+            changed: &[],
+        },
+    ),
     // Without a store the keeper isn't called.
-    Run {
-        words: &["check"],
-        pieces: &[NESTED],
-        second: 2000,
-        kept: &[FIRST],
-        failing: (Call::Read, 1),
-        status: 4,
-        written: &[],
-        left: &[FIRST],
-    },
-    Run {
-        words: &["hear", "dhcp"],
-        pieces: &[],
-        second: 2000,
-        kept: &[FIRST],
-        failing: NONE,
-        status: 3,
-        written: &[b"fault Cut 0\n"],
-        left: &[FIRST],
-    },
-    Run {
-        words: &["serve", ":memory:", "0", "1"],
-        pieces: &[],
-        second: 2000,
-        kept: &[FIRST],
-        failing: NONE,
-        status: 2,
-        written: &[],
-        left: &[FIRST],
-    },
+    (
+        FIRST,
+        Run {
+            words: &["check"],
+            pieces: &[NESTED],
+            second: 2000,
+            failing: (Call::Read, 1),
+            status: 4,
+            written: &[],
+            changed: &[],
+        },
+    ),
+    (
+        FIRST,
+        Run {
+            words: &["hear", "dhcp"],
+            pieces: &[],
+            second: 2000,
+            failing: NONE,
+            status: 3,
+            written: &[b"fault Cut 0\n"],
+            changed: &[],
+        },
+    ),
+    (
+        FIRST,
+        Run {
+            words: &["serve", ":memory:", "0", "1"],
+            pieces: &[],
+            second: 2000,
+            failing: NONE,
+            status: 2,
+            written: &[],
+            changed: &[],
+        },
+    ),
 ];
 
 #[test]
 fn each_status_has_its_cause(rt: HostRuntime) {
-    check_runs(&rt, rt.alloc(), &RUNS);
+    for (number, (kept, run)) in RUNS.iter().enumerate() {
+        check_one(&rt, rt.alloc(), number, &[*kept], run);
+    }
 }

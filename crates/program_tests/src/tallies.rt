@@ -8,7 +8,7 @@ use crate::items::{
     AT_1000, BULB_FILE, BULB_THING, CLASS_ITEM, HOME, NAME, SWITCH_FILE, SWITCH_THING,
 };
 use crate::memory::{Call, Kept, NONE};
-use crate::runs::{Run, check_runs};
+use crate::runs::{Run, check_one, check_runs};
 
 /// What a store keeps where the switch is in the same network.
 const BOTH: &[Kept<'static>] = &[
@@ -37,7 +37,6 @@ const COUNTED: Run<'static> = Run {
         QUERY,
     ],
     second: 2000,
-    kept: HOME,
     failing: NONE,
     status: 0,
     written: &[
@@ -47,7 +46,7 @@ const COUNTED: Run<'static> = Run {
         b"denied 02:00:00:00:00:01 from 198.51.100.7 6 443 1\n",
         b"packets 3 unmanaged 0 link 0 unreadable 0 pass 2 drop 1 both 0\n",
     ],
-    left: HOME,
+    changed: &[],
 };
 
 /// The last packet has an earlier second than the one before it, at whose moment it counts: in the
@@ -80,25 +79,11 @@ const UNREAD: Run<'static> = Run {
     ..TWO_HOURS
 };
 
-const RUNS: [Run<'static>; 11] = [
+static RUNS: [Run<'static>; 10] = [
     COUNTED,
     Run {
         pieces: &[HEADER],
         written: &[b"packets 0 unmanaged 0 link 0 unreadable 0 pass 0 drop 0 both 0\n"],
-        ..COUNTED
-    },
-    // A packet between two Things has two rulings, and one of them denies it.
-    Run {
-        pieces: &[HEADER, SYN_AT_1001, SYN_TO_SWITCH],
-        kept: BOTH,
-        written: &[
-            b"hour 0\n",
-            b"count 02:00:00:00:00:01 from accept:2 1\n",
-            b"count 02:00:00:00:00:02 to drop:no-match 1\n",
-            b"denied 02:00:00:00:00:02 to 192.0.2.10 6 50000 1\n",
-            b"packets 1 unmanaged 0 link 0 unreadable 0 pass 0 drop 1 both 1\n",
-        ],
-        left: BOTH,
         ..COUNTED
     },
     TWO_HOURS,
@@ -147,5 +132,23 @@ const RUNS: [Run<'static>; 11] = [
 
 #[test]
 fn what_is_allowed_and_denied_is_counted(rt: HostRuntime) {
-    check_runs(&rt, rt.alloc(), &RUNS);
+    check_runs(&rt, rt.alloc(), HOME, &RUNS);
+}
+
+/// A packet between two Things has two rulings, and one of them denies it.
+const BETWEEN: Run<'static> = Run {
+    pieces: &[HEADER, SYN_AT_1001, SYN_TO_SWITCH],
+    written: &[
+        b"hour 0\n",
+        b"count 02:00:00:00:00:01 from accept:2 1\n",
+        b"count 02:00:00:00:00:02 to drop:no-match 1\n",
+        b"denied 02:00:00:00:00:02 to 192.0.2.10 6 50000 1\n",
+        b"packets 1 unmanaged 0 link 0 unreadable 0 pass 0 drop 1 both 1\n",
+    ],
+    ..COUNTED
+};
+
+#[test]
+fn a_packet_between_two_things_counts_for_both(rt: HostRuntime) {
+    check_one(&rt, rt.alloc(), 0, BOTH, &BETWEEN);
 }

@@ -65,7 +65,7 @@ pub fn same_key(own: &MemberKey, other: &MemberKey) -> bool
 impl Selector {
     /// Whether it is a member selector with this key, in the file of this URL.
     #[tactic(auto, unfolding(crate::specs::Keys::has_key, crate::specs::Keys::key_of, crate::specs::Keys::same_key))]
-    pub fn has_key(&self, url: &MudUrl, key: &MemberKey) -> bool
+    fn has_key(&self, url: &MudUrl, key: &MemberKey) -> bool
         ensures { result ≡ spec.has_key url.now key.now self.now }
     {
         match key {

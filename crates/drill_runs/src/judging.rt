@@ -5,7 +5,8 @@ ghost use Rattle.desk_runs.specs.Judged.{IsIn};
 ghost use Rattle.drill_runs.specs.Counts.{verdict_counts};
 ghost use Rattle.drill_runs.specs.Drill.{numbers_to, verdicts_on};
 
-use crate::{VerdictCounts, packet_moment, write_packet};
+use crate::VerdictCounts;
+use crate::packets::{packet_moment, write_packet};
 use mud_base::{Bytes, Memory, Moment};
 use mud_desk::{State, Verdict};
 use sorted_rows::Steps;

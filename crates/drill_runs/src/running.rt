@@ -12,11 +12,12 @@ ghost use Rattle.drill_runs.specs.Commands.{command_moment, commands_of, drill_c
 ghost use Rattle.drill_runs.specs.Runs.{RanAll, RanPart};
 ghost use Rattle.drill_runs.specs.Stops.{stop_of};
 
-use crate::stop::Stop;
-use crate::{
-    Round, announcement, approval, binding, command_moment, fetched_file, file_count, lease,
-    observation, thing_count, usage_text,
+use crate::commands::{
+    Round, announcement, approval, binding, command_moment, fetched_file, lease, observation,
 };
+use crate::network::{file_count, thing_count};
+use crate::stop::Stop;
+use crate::usage::usage_text;
 use desk_model::{Command, Reply};
 use mud_desk::Desk;
 use sorted_rows::Steps;

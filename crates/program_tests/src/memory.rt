@@ -25,7 +25,7 @@ pub enum Call {
 pub type Failing = (Call, u64);
 
 /// No call is to fail.
-pub const NONE: Failing = (Call::Open, 0);
+pub(crate) const NONE: Failing = (Call::Open, 0);
 
 /// A kept item: its kind, its key, and its body in parts.
 pub type Kept<'a> = (u8, &'a [u8], &'a [&'a [u8]]);
@@ -127,7 +127,12 @@ fn clock_from(rt: &impl Abort, alloc: Global, second: u64) -> MemoryClock {
 }
 
 /// What stands outside of the run, beside its store.
-pub fn outside_of(rt: &impl Abort, alloc: Global, given: &Given<'_>, failing: Failing) -> Outside {
+pub(crate) fn outside_of(
+    rt: &impl Abort,
+    alloc: Global,
+    given: &Given<'_>,
+    failing: Failing,
+) -> Outside {
     Outside {
         door: door_of(rt, alloc, given.connections, failing),
         spool: spool_of(rt, alloc, given.files, failing),
@@ -147,7 +152,7 @@ fn item_of(rt: &impl Abort, alloc: Global, kept: &Kept<'_>) -> Item {
 }
 
 /// The items, by kind and key. Of those with one kind and key the last counts.
-pub fn items_of(rt: &impl Abort, alloc: Global, lists: &[&[Kept<'_>]]) -> SortedRows<Item> {
+pub(crate) fn items_of(rt: &impl Abort, alloc: Global, lists: &[&[Kept<'_>]]) -> SortedRows<Item> {
     let mut items = SortedRows::new(alloc);
     for list in lists {
         put_items(rt, alloc, &mut items, list);
@@ -164,7 +169,7 @@ fn put_items(rt: &impl Abort, alloc: Global, items: &mut SortedRows<Item>, list:
 }
 
 /// A keeper that keeps these items.
-pub fn keeper_of(
+pub(crate) fn keeper_of(
     rt: &impl Abort,
     alloc: Global,
     kept: &[Kept<'_>],

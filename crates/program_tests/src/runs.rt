@@ -91,7 +91,7 @@ fn check_kept(
 
 /// Runs the program over this box so that one call fails, and this comes of it. The number is that of
 /// the run in its table. The box is handed back.
-pub fn check_over(
+pub(crate) fn check_over(
     rt: &impl Abort,
     alloc: Global,
     number: usize,
@@ -110,7 +110,7 @@ pub fn check_over(
 }
 
 /// Runs the program over a keeper of its own.
-pub fn check(
+pub(crate) fn check(
     rt: &impl Abort,
     alloc: Global,
     number: usize,
@@ -137,7 +137,13 @@ pub struct Run<'a> {
 }
 
 /// Does the run over a store that keeps this.
-pub fn check_one(rt: &impl Abort, alloc: Global, number: usize, kept: &[Kept<'_>], run: &Run<'_>) {
+pub(crate) fn check_one(
+    rt: &impl Abort,
+    alloc: Global,
+    number: usize,
+    kept: &[Kept<'_>],
+    run: &Run<'_>,
+) {
     let given = Given {
         words: run.words,
         connections: &[run.pieces],
@@ -154,7 +160,7 @@ pub fn check_one(rt: &impl Abort, alloc: Global, number: usize, kept: &[Kept<'_>
 }
 
 /// Does the runs, each over a store that keeps this.
-pub fn check_runs(rt: &impl Abort, alloc: Global, kept: &[Kept<'_>], runs: &[Run<'_>]) {
+pub(crate) fn check_runs(rt: &impl Abort, alloc: Global, kept: &[Kept<'_>], runs: &[Run<'_>]) {
     for (number, run) in runs.iter().enumerate() {
         check_one(rt, alloc, number, kept, run);
     }

@@ -106,4 +106,4 @@ module _ (desk : DeskTables) (sound : IsSound desk) where
       in_order_things
       (ordered-append 2 (file_items desk.files) (binds ++ stamp_items desk.stamp) (file_kinds (λ item. item.kind ≤ 2) (λ item e. omega (arith, e)) desk) (binds_above 2 (lit< tt))
       in_order_files
-      (ordered-append 5 binds (stamp_items desk.stamp) (all_bind_items (λ item. item.kind ≤ 5) (λ item e f. omega (arith, f)) (binds_of desk.tables)) (above 5 (lit< tt)) (ordered-binds (binds_of desk.tables) parts desk sound) (ordered-stamp desk.stamp)))
+      (ordered-append 5 binds (stamp_items desk.stamp) (all_bind_items (λ item. item.kind ≤ 5) (λ item e f. omega (arith, f)) (binds_of desk.tables)) (above 5 (lit< tt)) (ordered-binds (binds_of desk.tables) (parts desk sound)) (ordered-stamp desk.stamp)))

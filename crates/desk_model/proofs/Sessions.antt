@@ -7,7 +7,6 @@ use Rattle.sorted_rows.proofs.ListTests.{left_of, right_of, both}
 use Rattle.sorted_rows.proofs.Lists.{all_push}
 use Rattle.item_codec.proofs.RecordLaws.{bind_some}
 use Rattle.mud_base.specs.declared.memory.Memory as want
-use Rattle.mud_base.specs.declared.packet.Transport.TheVariants as packet
 use Rattle.frame_view.specs.declared.views.Frame.{Frame}
 use Rattle.frame_view.specs.Frame.{frame_of}
 use Rattle.mud_tables.specs.declared.segment.Segment.{Segment}

@@ -1,5 +1,6 @@
 //! The verdict on each packet of a capture.
-ghost use Rattle.std.specs.Prelude.{◌≡◌, ◌≢◌, ◌⊎◌, ◌++◌, ◌<◌, IfOk, OnOk, OnErr};
+ghost use Rattle.std.specs.Prelude.{◌≡◌, ◌≢◌, ◌⊎◌, ◌++◌, IfOk, OnOk, OnErr};
+ghost use Rattle.sorted_rows.specs.Ledgers.{IsBlankOf};
 ghost use Rattle.mud_world.specs.Causes.{EndsAtFailure};
 ghost use Rattle.pcap_read.specs.Captured.{packet_of};
 ghost use Rattle.capture_runs.specs.Capture.{WritesTaken, due_of_capture};
@@ -38,9 +39,7 @@ pub fn judge_packet<L: Ledger>(
     packet: &Captured<'_>,
     blank: Blank,
 ) -> Result<Verdict, Memory>
-    requires name { blank.name ≡ L.name }
-    requires parts { blank.parts ≡ L.parts }
-    requires some { 0 < L.parts }
+    requires blank { IsBlankOf L.name L.parts blank }
     ensures verdict { (s : Session) → IsIn s state.old → IfOk result (λ verdict. verdict ≡ (judged_packet s (packet_of packet.now)).verdict) }
     ensures next { (s : Session) → IsIn s state.old → OnOk result (IsIn (judged_packet s (packet_of packet.now)).session state.new) }
     ensures err { (s : Session) → IsIn s state.old → OnErr result (IsIn s state.new) }

@@ -1,5 +1,6 @@
 //! The commands of a drill, one after the other.
-ghost use Rattle.std.specs.Prelude.{◌≡◌, ◌<◌, ℕ, List, [], ◌∷◌, IfErr, OnOk};
+ghost use Rattle.std.specs.Prelude.{◌≡◌, ℕ, List, [], ◌∷◌, IfErr, OnOk};
+ghost use Rattle.sorted_rows.specs.Ledgers.{IsBlankOf};
 ghost use Rattle.mud_tables.specs.declared.segment.Segment.{Segment as SegmentValue};
 ghost use Rattle.mud_world.specs.Boxed.{faults_of, Tells};
 ghost use Rattle.mud_world.specs.Causes.{Counts};
@@ -27,9 +28,7 @@ use std::sync::ledger::{Blank, Ledger};
 
 /// What a command answers.
 fn reply_to<L: Ledger>(desk: &mut Desk, command: Command, blank: Blank) -> Reply
-    requires name { blank.name ≡ L.name }
-    requires parts { blank.parts ≡ L.parts }
-    requires some { 0 < L.parts }
+    requires blank { IsBlankOf L.name L.parts blank }
     requires kept { IsKept Keeper-dyn desk.old.keeper (tables_of desk.old.state) }
     requires asked { IsAsked command }
     ensures answer { (h : List SegmentValue) → MayAnswer (session_of h desk.old.state) command_moment command result (session_of h desk.new.state) }

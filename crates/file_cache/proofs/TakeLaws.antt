@@ -5,6 +5,7 @@ use Rattle.std.specs.Option.{option_map_or}
 use Rattle.std.specs.Result.{result_ok}
 use Rattle.std.proofs.lemmas.Bool.{le-leb, leb-true, eqb-true, false≢true, false_from_ne_true}
 use Rattle.sorted_rows.specs.Placed.{comes_last}
+use Rattle.sorted_rows.proofs.ListTests.{left_of}
 use Rattle.usage_walk.specs.declared.fault.Broken.{Broken}
 use Rattle.mud_file.specs.declared.usage_file.UsageFile.{UsageFile}
 use Rattle.mud_file.specs.File.{file_of}
@@ -17,7 +18,6 @@ use Rattle.file_tables.specs.Limits.{last_moment}
 use Rattle.file_tables.specs.Files.{url_of, is_of_url, is_usage_of, is_held, may_have, is_approved, may_follow, are_files, is_sound_file, IsKeptFile, IsSoundFiles}
 use Rattle.file_tables.specs.FileItems.{file_row, row_of, if_sound_file, file_in, has_room, may_stand_behind, with_file_item}
 use Rattle.item_codec.proofs.RecordLaws.{some_is, bind_some, pass_some}
-use Rattle.file_tables.proofs.Tests.{left_of}
 use Rattle.file_tables.proofs.SoundFiles.{file_usage}
 use Rattle.file_tables.proofs.ReadFiles.{sound-push}
 use Rattle.std.proofs.Math.Bool.{and-false}

@@ -22,7 +22,7 @@ use Rattle.file_tables.specs.Held.{HeldFile, held_file, usage_in}
 use Rattle.file_tables.specs.Limits.{last_moment}
 use Rattle.file_tables.specs.Files.{is_of_url, is_usage_of, is_held, may_have, is_approved, may_follow, are_files, is_sound_file, IsKeptFile}
 use Rattle.file_tables.specs.FileItems.{approval_number, approval_field, held_fields, approved_fields, file_body, file_item, held_in, approval_of, approval_in, approved_in, file_row, row_of, if_sound_file, file_in, IsFileItem}
-use Rattle.file_tables.proofs.Tests.{left_of, right_of}
+use Rattle.sorted_rows.proofs.ListTests.{left_of, right_of}
 
 -- ---- Fields
 

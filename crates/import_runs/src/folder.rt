@@ -1,5 +1,6 @@
 //! All names of a folder.
 ghost use Rattle.std.specs.Prelude.{◌≡◌, ◌≢◌, ◌==◌, ◌⊎◌, ℕ, ◌<◌, max, false, List, [], ◌∷◌, Err, IfOk, OnErr};
+ghost use Rattle.sorted_rows.specs.Ledgers.{IsBlankOf};
 ghost use Rattle.mud_tables.specs.declared.segment.Segment.{Segment as SegmentValue};
 ghost use Rattle.mud_world.specs.Boxed.{faults_of};
 ghost use Rattle.mud_world.specs.Causes.{Counts, Rose};
@@ -75,9 +76,7 @@ fn import_listed<L: Ledger, D: Door, P: Spool, C: Clock>(
     blank: Blank,
 ) -> Result<Status, Stop>
     requires kept { IsKept Keeper-dyn desk.old.keeper (tables_of desk.old.state) }
-    requires name { blank.name ≡ L.name }
-    requires parts { blank.parts ≡ L.parts }
-    requires some { 0 < L.parts }
+    requires blank { IsBlankOf L.name L.parts blank }
     ensures stays { StaysKept Keeper-dyn desk.old.keeper desk.old.state desk.new.keeper desk.new.state }
     ensures all { D.tells → P.tells → C.tells → IfOk result (λ status. (h : List SegmentValue) → ImportsAll (P.view spool.old).files (in_order (names_of (P.view spool.old).files))
         (scene h desk.old.state (C.moments clock.old) (D.view door.old).state (faults_of Keeper-dyn desk.old.keeper))

@@ -7,6 +7,7 @@ use Rattle.mud_base.specs.declared.addr.Addr.{Addr}
 use Rattle.mud_base.specs.declared.addr.Addr.TheVariants.{V4, V6}
 use Rattle.mud_base.specs.declared.prefix.Prefix.{Prefix}
 use Rattle.mud_base.specs.declared.packet.Transport.{Transport}
+use Rattle.mud_base.specs.declared.packet.Transport.TheVariants as packet
 use Rattle.mud_tables.specs.ItemFields.{IsAddr}
 use Rattle.mud_tables.specs.Binds.{is_prefix, IsKeptNetwork}
 use Rattle.mud_tables.proofs.RowSets.{both, same_addr_itself}

@@ -1,10 +1,9 @@
 -- Captures that hold the same packets lead to the same.
 use Rattle.std.proofs.Common.{◌≡◌, ℕ, ◌+◌, List, [], ◌∷◌, ◌++◌, map, Option, Some, None, refl, sym, subst, ap, ap₂, ◌∙◌, append-nil}
-use Rattle.std.specs.Prelude.{codes, decimal, option_map}
+use Rattle.std.specs.Prelude.{option_map}
 use Rattle.mud_world.specs.Causes.{RoseBy}
 use Rattle.mud_world.specs.Door.{DoorState, with_left, put_out}
 use Rattle.packet_buffer.specs.Packets.{Packet}
-use Rattle.packet_judge.specs.declared.verdict.Verdict.{Verdict}
 use Rattle.capture_source.specs.Captures.{Captures, captured_of}
 use Rattle.capture_source.specs.Same.{Seen, seen_of, HoldTheSame}
 use Rattle.capture_source.specs.declared.fault.CaptureFault.{CaptureFault}
@@ -13,10 +12,9 @@ use Rattle.capture_runs.specs.Capture.{end_line, status_at}
 use Rattle.capture_runs.proofs.SamePackets.{first_same, rest_same}
 use Rattle.command_runs.specs.Due.{WritesDue}
 use Rattle.desk_model.specs.Sessions.{Session, Judged, Runs, frame_in}
-use Rattle.desk_runs.specs.Judged.{judged_line, judged_packet}
+use Rattle.desk_runs.specs.Judged.{judged_packet}
+use Rattle.desk_runs.proofs.SameCaptures.{line_alike}
 use Rattle.dns_snoop.specs.Messages.{answers_of}
-use Rattle.text_lines.specs.Numbers.{number_text}
-use Rattle.verdict_lines.specs.Verdicts.{verdict_text}
 use Rattle.snoop_runs.specs.Entries.{Entry, packets_of, calls_of, entry_lines, heard_lines, lines_of, failures, keeper_count, status_with}
 use Rattle.snoop_runs.specs.Learning.{heard_in}
 use Rattle.snoop_runs.specs.Packets.{MayGo, Snoops}
@@ -32,13 +30,10 @@ record AreAlike (p q : Packet) : Type 0 where
 with_packet : Packet → Entry → Entry
 with_packet packet entry = record { packet = packet; verdict = entry.verdict; heard = entry.heard; replies = entry.replies }
 
-line_made : Verdict → ℕ → ℕ → List ℕ
-line_made verdict number seconds = decimal number ++ number_text seconds ++ codes " " ++ verdict_text verdict ++ codes "\n"
-
-line_alike : (entry : Entry) (q : Packet) → AreAlike entry.packet q → entry_lines (with_packet q entry) ≡ entry_lines entry
-unfolding entry_lines judged_line line_made with_packet
-line_alike entry q alike =
-    sym (ap₂ (λ (number seconds : ℕ). line_made entry.verdict number seconds ++ heard_lines entry.heard entry.replies) alike.number alike.seconds)
+entry_alike : (entry : Entry) (q : Packet) → AreAlike entry.packet q → entry_lines (with_packet q entry) ≡ entry_lines entry
+unfolding entry_lines with_packet
+entry_alike entry q alike =
+    sym (ap (λ (line : List ℕ). line ++ heard_lines entry.heard entry.replies) (line_alike entry.verdict entry.packet q alike.number alike.seconds))
 
 may_alike : (before after : Session) (entry : Entry) (q : Packet) → AreAlike entry.packet q → MayGo before entry after → MayGo before (with_packet q entry) after
 unfolding with_packet
@@ -82,7 +77,7 @@ likewise count before after (entry ∷ entries) (q ∷ qs) first other same run 
     behind entry q qs entries before next after alike may more = record {
       others = with_packet q entry ∷ more.others;
       packets = ap (λ (packets : List Packet). q ∷ packets) more.packets;
-      lines = ap₂ (λ (line lines : List ℕ). line ++ lines) (line_alike entry q alike) more.lines;
+      lines = ap₂ (λ (line lines : List ℕ). line ++ lines) (entry_alike entry q alike) more.lines;
       count = ap (λ (count : ℕ). failures entry.replies + count) more.count;
       run = (next, may_alike before next entry q alike may, more.run);
     }

@@ -31,9 +31,9 @@ const BY_RESOLVER: &[u8] =
     br#"{"actions":{"forwarding":"accept"},"matches":{"ipv4":{"source-ipv4-network":"192.0.2.53/32"},"udp":{"source-port":{"operator":"eq","port":53}}},"name":"dns-1"}"#;
 
 /// What a store keeps whose last change was at 1060, and one whose bulb is held.
-const CHANGED_AT_1060: &[Kept<'static>] = &[BULB_THING, BULB_FILE, CLASS_ITEM, NAME, AT_1060];
+static CHANGED_AT_1060: [Kept<'static>; 5] = [BULB_THING, BULB_FILE, CLASS_ITEM, NAME, AT_1060];
 
-const HELD: &[Kept<'static>] = &[HELD_THING, BULB_FILE, CLASS_ITEM, NAME, AT_1000];
+static HELD: [Kept<'static>; 5] = [HELD_THING, BULB_FILE, CLASS_ITEM, NAME, AT_1000];
 
 /// The lists at the last second of the name.
 const LISTED: Run<'static> = Run {
@@ -110,27 +110,27 @@ static RUNS: [Run<'static>; 7] = [
 
 #[test]
 fn the_lists_of_a_thing_are_written(rt: HostRuntime) {
-    check_runs(&rt, rt.alloc(), HOME, &RUNS);
+    check_runs(&rt, rt.alloc(), &HOME, &RUNS);
 }
 
 /// The last change is later than the clock, so the lists are those of its moment.
-const LATER: Run<'static> = Run {
+static LATER: Run<'static> = Run {
     second: 1059,
     ..ENDED
 };
 
 #[test]
 fn no_list_is_of_a_moment_before_the_last_change(rt: HostRuntime) {
-    check_one(&rt, rt.alloc(), 0, CHANGED_AT_1060, &LATER);
+    check_one(&rt, rt.alloc(), 0, &CHANGED_AT_1060, &LATER);
 }
 
 /// The lists of what is held are empty.
-const EMPTY: Run<'static> = Run {
+static EMPTY: Run<'static> = Run {
     written: &[OPENING, BEFORE_TO, ENDING],
     ..LISTED
 };
 
 #[test]
 fn what_is_held_has_empty_lists(rt: HostRuntime) {
-    check_one(&rt, rt.alloc(), 0, HELD, &EMPTY);
+    check_one(&rt, rt.alloc(), 0, &HELD, &EMPTY);
 }

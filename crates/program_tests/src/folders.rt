@@ -6,7 +6,7 @@ use crate::runs::{Ends, check, check_over};
 
 /// The folder is imported into a store that keeps nothing. It holds one usage file under two names, and
 /// a name that is skipped.
-const GIVEN: Given<'static> = Given {
+static GIVEN: Given<'static> = Given {
     words: &["import", ":memory:", "spool"],
     connections: &[&[]],
     files: &[
@@ -116,6 +116,9 @@ const AGAIN: Ends<'static> = Ends {
     changed: KEPT,
 };
 
+/// What comes of the first run and of the second.
+static TWICE: [Ends<'static>; 2] = [ALL, AGAIN];
+
 #[test]
 fn a_folder_is_imported_twice(rt: HostRuntime) {
     let alloc = rt.alloc();
@@ -124,6 +127,6 @@ fn a_folder_is_imported_twice(rt: HostRuntime) {
         ..GIVEN
     };
     let keeper = keeper_of(&rt, alloc, GIVEN.kept, NONE);
-    let keeper = check_over(&rt, alloc, 1, keeper, &GIVEN, NONE, &ALL);
-    drop(check_over(&rt, alloc, 2, keeper, &later, NONE, &AGAIN));
+    let keeper = check_over(&rt, alloc, 1, keeper, &GIVEN, NONE, &TWICE[0]);
+    drop(check_over(&rt, alloc, 2, keeper, &later, NONE, &TWICE[1]));
 }

@@ -99,4 +99,4 @@ pub(crate) const NAME: Kept<'static> = (
 
 /// What a store keeps that was last changed at 1000: the bulb, its file, its resolver, and the name of
 /// its server.
-pub(crate) const HOME: &[Kept<'static>] = &[BULB_THING, BULB_FILE, CLASS_ITEM, NAME, AT_1000];
+pub(crate) static HOME: [Kept<'static>; 5] = [BULB_THING, BULB_FILE, CLASS_ITEM, NAME, AT_1000];

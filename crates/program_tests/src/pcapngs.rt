@@ -104,5 +104,5 @@ static RUNS: [Run<'static>; 14] = [
 
 #[test]
 fn a_capture_in_pcapng_is_judged(rt: HostRuntime) {
-    check_runs(&rt, rt.alloc(), HOME, &RUNS);
+    check_runs(&rt, rt.alloc(), &HOME, &RUNS);
 }

@@ -198,5 +198,5 @@ static RUNS: [Run<'static>; 13] = [
 
 #[test]
 fn names_are_learnt(rt: HostRuntime) {
-    check_runs(&rt, rt.alloc(), HOME, &RUNS);
+    check_runs(&rt, rt.alloc(), &HOME, &RUNS);
 }

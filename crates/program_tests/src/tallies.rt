@@ -11,7 +11,7 @@ use crate::memory::{Call, Kept, NONE};
 use crate::runs::{Run, check_one, check_runs};
 
 /// What a store keeps where the switch is in the same network.
-const BOTH: &[Kept<'static>] = &[
+static BOTH: [Kept<'static>; 7] = [
     BULB_THING,
     SWITCH_THING,
     BULB_FILE,
@@ -132,11 +132,11 @@ static RUNS: [Run<'static>; 10] = [
 
 #[test]
 fn what_is_allowed_and_denied_is_counted(rt: HostRuntime) {
-    check_runs(&rt, rt.alloc(), HOME, &RUNS);
+    check_runs(&rt, rt.alloc(), &HOME, &RUNS);
 }
 
 /// A packet between two Things has two rulings, and one of them denies it.
-const BETWEEN: Run<'static> = Run {
+static BETWEEN: Run<'static> = Run {
     pieces: &[HEADER, SYN_AT_1001, SYN_TO_SWITCH],
     written: &[
         b"hour 0\n",
@@ -150,5 +150,5 @@ const BETWEEN: Run<'static> = Run {
 
 #[test]
 fn a_packet_between_two_things_counts_for_both(rt: HostRuntime) {
-    check_one(&rt, rt.alloc(), 0, BOTH, &BETWEEN);
+    check_one(&rt, rt.alloc(), 0, &BOTH, &BETWEEN);
 }

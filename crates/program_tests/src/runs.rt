@@ -25,7 +25,7 @@ fn words_of(rt: &impl Abort, alloc: Global, words: &[&str]) -> Vec<String> {
 }
 
 /// Runs the program, and answers its status and the box.
-fn run(
+fn run_program(
     rt: &impl Abort,
     alloc: Global,
     words: &[&str],
@@ -101,7 +101,7 @@ pub(crate) fn check_over(
     ends: &Ends<'_>,
 ) -> Box<dyn Keeper> {
     let mut outside = outside_of(rt, alloc, given, failing);
-    let (status, mut keeper) = run(rt, alloc, given.words, keeper, &mut outside);
+    let (status, mut keeper) = run_program(rt, alloc, given.words, keeper, &mut outside);
     assert_eq!(rt; status, ends.status, "run {number}");
     check_written(rt, number, &outside.door, ends.written);
     let kept = items_of(rt, alloc, &[given.kept, ends.changed]);

@@ -1,15 +1,11 @@
 //! Two requests on one connection, cut at each place, and with each call of the door and of the keeper
 //! failing.
-use crate::memory::{Call, Failing, Kept, NONE, clock_from, door_of, empty_keeper, spool_of};
-use crate::requests::{
-    AT_5, AT_6, BOUND_BODY, BOUND_HEAD, CLASS, CLASS_ITEM, LOCALS, LOCALS_ITEM, SET_BODY, SET_HEAD,
-    UNKEPT,
-};
-use crate::runs::{Ends, check_run, words_of};
-use mud_world::Keeper;
+use crate::items::{AT_5, AT_6, CLASS_ITEM, LOCALS_ITEM};
+use crate::memory::{Call, Failing, Given, Kept, NONE};
+use crate::requests::{BOUND_BODY, BOUND_HEAD, CLASS, LOCALS, SET_BODY, SET_HEAD, UNKEPT};
+use crate::runs::{Ends, check};
 use std::alloc::Global;
 use std::process::Abort;
-use std::test::Fail;
 
 /// What is written and kept where both requests are carried out.
 const WRITTEN: &[&[&[u8]]] = &[&[SET_HEAD, SET_BODY, BOUND_HEAD, BOUND_BODY]];
@@ -20,53 +16,54 @@ const KEPT: &[Kept<'static>] = &[CLASS_ITEM, LOCALS_ITEM, AT_6];
 const ALL: Ends<'static> = Ends {
     status: 0,
     written: WRITTEN,
-    kept: KEPT,
+    changed: KEPT,
 };
 
 /// Replays the connection of these pieces over a keeper that keeps nothing.
 fn check_replay(
     rt: &impl Abort,
     alloc: Global,
-    words: &[String],
+    number: usize,
     pieces: &[&[u8]],
     failing: Failing,
     ends: &Ends<'_>,
-) -> Result<(), Fail> {
-    let mut door = door_of(rt, alloc, &[pieces], failing)?;
-    let mut spool = spool_of(alloc, &[], failing)?;
-    let mut clock = clock_from(rt, alloc, 1)?;
-    let keeper: Box<dyn Keeper> = Box::new(alloc, empty_keeper(alloc, failing)?)?;
-    check_run(
-        rt, alloc, words, keeper, &mut door, &mut spool, &mut clock, ends,
-    )?;
-    Ok(())
+) {
+    let given = Given {
+        words: &["replay", ":memory:"],
+        connections: &[pieces],
+        files: &[],
+        second: 1,
+        kept: &[],
+    };
+    check(rt, alloc, number, &given, failing, ends);
 }
 
 #[test]
-fn requests_are_cut_anywhere(rt: HostRuntime) -> Result<(), Fail> {
-    let alloc = rt.alloc();
-    let words = words_of(alloc, &["replay", ":memory:"])?;
+fn the_first_request_is_cut_anywhere(rt: HostRuntime) {
     for at in 0..=LOCALS.len() {
         let (first, second) = LOCALS.split_at(at);
-        check_replay(&rt, alloc, &words, &[first, second, CLASS], NONE, &ALL)?;
+        check_replay(&rt, rt.alloc(), at, &[first, second, CLASS], NONE, &ALL);
     }
+}
+
+#[test]
+fn the_second_request_is_cut_anywhere(rt: HostRuntime) {
     for at in 0..=CLASS.len() {
         let (first, second) = CLASS.split_at(at);
-        check_replay(&rt, alloc, &words, &[LOCALS, first, second], NONE, &ALL)?;
+        check_replay(&rt, rt.alloc(), at, &[LOCALS, first, second], NONE, &ALL);
     }
-    Ok(())
 }
 
 /// What comes of it where one call fails. The request whose answer isn't written stays carried out,
 /// and none behind it is; where a read fails, what was read before is answered. Of a change that
 /// couldn't be kept nothing stays, and the next one is made again.
-const FAILURES: [(Failing, Ends<'static>); 12] = [
+static FAILURES: [(Failing, Ends<'static>); 13] = [
     (
         (Call::Open, 1),
         Ends {
             status: 7,
             written: &[&[]],
-            kept: &[],
+            changed: &[],
         },
     ),
     (
@@ -74,7 +71,7 @@ const FAILURES: [(Failing, Ends<'static>); 12] = [
         Ends {
             status: 0,
             written: &[&[UNKEPT, BOUND_HEAD, BOUND_BODY]],
-            kept: &[CLASS_ITEM, AT_6],
+            changed: &[CLASS_ITEM, AT_6],
         },
     ),
     (
@@ -82,7 +79,7 @@ const FAILURES: [(Failing, Ends<'static>); 12] = [
         Ends {
             status: 0,
             written: &[&[SET_HEAD, SET_BODY, UNKEPT]],
-            kept: &[LOCALS_ITEM, AT_5],
+            changed: &[LOCALS_ITEM, AT_5],
         },
     ),
     ((Call::Apply, 3), ALL),
@@ -91,7 +88,7 @@ const FAILURES: [(Failing, Ends<'static>); 12] = [
         Ends {
             status: 4,
             written: &[&[]],
-            kept: &[],
+            changed: &[],
         },
     ),
     (
@@ -99,7 +96,7 @@ const FAILURES: [(Failing, Ends<'static>); 12] = [
         Ends {
             status: 4,
             written: &[&[SET_HEAD, SET_BODY]],
-            kept: &[LOCALS_ITEM, AT_5],
+            changed: &[LOCALS_ITEM, AT_5],
         },
     ),
     (
@@ -107,7 +104,7 @@ const FAILURES: [(Failing, Ends<'static>); 12] = [
         Ends {
             status: 4,
             written: WRITTEN,
-            kept: KEPT,
+            changed: KEPT,
         },
     ),
     ((Call::Read, 4), ALL),
@@ -116,7 +113,7 @@ const FAILURES: [(Failing, Ends<'static>); 12] = [
         Ends {
             status: 4,
             written: &[&[]],
-            kept: &[LOCALS_ITEM, AT_5],
+            changed: &[LOCALS_ITEM, AT_5],
         },
     ),
     (
@@ -124,7 +121,7 @@ const FAILURES: [(Failing, Ends<'static>); 12] = [
         Ends {
             status: 4,
             written: &[&[SET_HEAD]],
-            kept: &[LOCALS_ITEM, AT_5],
+            changed: &[LOCALS_ITEM, AT_5],
         },
     ),
     (
@@ -132,7 +129,7 @@ const FAILURES: [(Failing, Ends<'static>); 12] = [
         Ends {
             status: 4,
             written: &[&[SET_HEAD, SET_BODY]],
-            kept: KEPT,
+            changed: KEPT,
         },
     ),
     (
@@ -140,30 +137,28 @@ const FAILURES: [(Failing, Ends<'static>); 12] = [
         Ends {
             status: 4,
             written: &[&[SET_HEAD, SET_BODY, BOUND_HEAD]],
-            kept: KEPT,
+            changed: KEPT,
         },
     ),
+    ((Call::Write, 5), ALL),
 ];
 
 #[test]
-fn each_call_fails(rt: HostRuntime) -> Result<(), Fail> {
-    let alloc = rt.alloc();
-    let words = words_of(alloc, &["replay", ":memory:"])?;
-    for (failing, ends) in FAILURES {
-        check_replay(&rt, alloc, &words, &[LOCALS, CLASS], failing, &ends)?;
+fn each_call_fails(rt: HostRuntime) {
+    for (number, (failing, ends)) in FAILURES.iter().enumerate() {
+        check_replay(&rt, rt.alloc(), number, &[LOCALS, CLASS], *failing, ends);
     }
-    Ok(())
 }
 
+/// The second request is answered with 503, and once more with its answer.
+const ANEW: Ends<'static> = Ends {
+    status: 0,
+    written: &[&[SET_HEAD, SET_BODY, UNKEPT, BOUND_HEAD, BOUND_BODY]],
+    changed: KEPT,
+};
+
 #[test]
-fn a_change_is_asked_for_again(rt: HostRuntime) -> Result<(), Fail> {
-    let alloc = rt.alloc();
-    let words = words_of(alloc, &["replay", ":memory:"])?;
-    let ends = Ends {
-        status: 0,
-        written: &[&[SET_HEAD, SET_BODY, UNKEPT, BOUND_HEAD, BOUND_BODY]],
-        kept: KEPT,
-    };
+fn a_change_is_asked_for_again(rt: HostRuntime) {
     let pieces = [LOCALS, CLASS, CLASS];
-    check_replay(&rt, alloc, &words, &pieces, (Call::Apply, 2), &ends)
+    check_replay(&rt, rt.alloc(), 0, &pieces, (Call::Apply, 2), &ANEW);
 }

@@ -17,7 +17,7 @@ use Rattle.acl_model.specs.Policies.{UrlPolicy}
 use Rattle.acl_model.proofs.OnLiterals.{acl_on_literals}
 use Rattle.acl_rows.specs.declared.row.Owner.TheVariants.{Url, Default}
 use Rattle.acl_rows.specs.declared.row.Row.{Row}
-use Rattle.acl_rows.specs.Rows.{never, row, Slots, rows_of}
+use Rattle.acl_rows.specs.Rows.{for_ever, row, Slots, rows_of}
 use Rattle.acl_rows.proofs.OnLiterals.{rows_on_literals}
 use Rattle.acl_patch.specs.Patch.{same_row, is_missing, rows_apart}
 use Rattle.acl_patch.specs.Touched.{entry_touch, side_touches, holder_touches, binding_touches, touches}
@@ -57,7 +57,7 @@ abbrev lease : List Binding
 lease = record { key = of_key.Host (codes "lighting.example.com"); addr = bulb_addr; until = 87400 } ∷ (record { key = of_key.Model bulb_url; addr = bulb_addr; until = 87400 } ∷ [])
 
 abbrev bindings : List Binding
-bindings = replaced [] (record { key = of_key.Name (codes "test.example.com"); addr = test_addr; until = 1060 } ∷ (record { key = of_key.Class (codes "urn:ietf:params:mud:dns"); addr = dns_addr; until = never } ∷ lease)) []
+bindings = replaced [] (record { key = of_key.Name (codes "test.example.com"); addr = test_addr; until = 1060 } ∷ (record { key = of_key.Class (codes "urn:ietf:params:mud:dns"); addr = dns_addr; until = for_ever } ∷ lease)) []
 
 abbrev before : Slots
 before = Some bulb ∷ []
@@ -69,7 +69,7 @@ abbrev own_rows : List Row
 own_rows = row (Url 0) From bulb_addr 2 87400 ∷ (row (Url 0) From test_addr 1 1060 ∷ [])
 
 abbrev default_rows : List Row
-default_rows = row Default From dns_addr 1 never ∷ (row Default To dns_addr 1 never ∷ [])
+default_rows = row Default From dns_addr 1 for_ever ∷ (row Default To dns_addr 1 for_ever ∷ [])
 
 -- ---- The file of the switch is approved: one row comes, in one step
 

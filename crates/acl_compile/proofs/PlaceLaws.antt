@@ -17,7 +17,8 @@ use Rattle.acl_compile.specs.declared.places.UrlPlace.{UrlPlace}
 use Rattle.acl_compile.specs.Compiled.{UrlsApart}
 use Rattle.acl_compile.specs.Plans.{holder_owner, place_held}
 use Rattle.acl_compile.specs.Places.{url_of, owner_of, ArePlacesOf, places_without, places_with}
-use Rattle.acl_compile.proofs.SlotLaws.{FoundAt, found_at, unique, held_there, is_own, holder_stays, holder_gone, Url_same}
+use Rattle.acl_compile.proofs.SlotLaws.{FoundAt, found_at, unique, is_own, holder_stays, holder_gone, Url_same}
+use Rattle.row_changes.proofs.Loops.{slot_holds}
 
 -- ---- Finding
 
@@ -37,7 +38,7 @@ held_by_owner slots url place (Some g) is at =
     record {
       held = g.1;
       found = is ∙ ap Some (λ i. (own i, g.1));
-      there = ap (λ (j : ℕ). held_by slots (Url j)) (sym here) ∙ held_there slots found.place g.1 found.at;
+      there = ap (λ (j : ℕ). held_by slots (Url j)) (sym here) ∙ slot_holds slots found.place g.1 found.at;
     }
 
 not_held : (o : Option Holder) → option_map holder_owner o ≡ None → o ≡ None

@@ -1,10 +1,10 @@
 -- The table of policies, before and after a policy comes, goes or is replaced.
-use Rattle.std.proofs.Common.{◌≡◌, ℕ, zero, suc, ◌+◌, ◌*◌, ◌^◌, ◌<◌, ◌≤◌, ◌⊎◌, inl, inr, Bool, true, false, cond, ◌&&◌, List, [], ◌∷◌, ◌++◌, map, length, drop, get_or, Option, Some, None, refl, sym, ap, subst, ◌∙◌, arith, length-append}
+use Rattle.std.proofs.Common.{◌≡◌, ℕ, zero, suc, ◌+◌, ◌*◌, ◌^◌, ◌<◌, ◌≤◌, ◌⊎◌, inl, inr, Bool, true, false, cond, ◌&&◌, List, [], ◌∷◌, ◌++◌, length, drop, get_or, Option, Some, None, refl, sym, ap, subst, ◌∙◌, arith, length-append}
 use Rattle.std.specs.Prelude.{◌≢◌, bytes_eq, nat_eq, not, filter, flat_map, nat_lt, slice_set}
 use Rattle.std.specs.Option.{option_map, option_and_then, is_some}
 use Rattle.std.specs.List.{slice_get, AllByRecursion}
 use Rattle.std.proofs.Math.Seq.{drop-cons}
-use Rattle.std.proofs.lemmas.List.{drop_all}
+use Rattle.std.proofs.lemmas.List.{drop_all, length-map}
 use Rattle.std.proofs.lemmas.Bool.{false≢true, eqb-true, and_parts}
 use Rattle.std.proofs.lemmas.Bool.Decides.{eqb_tells, leb_tells}
 use Rattle.std.proofs.lemmas.Option.{same_Some, none-some, slice_get_within}
@@ -16,7 +16,7 @@ use Rattle.acl_model.specs.declared.entry.Policy.{Policy}
 use Rattle.acl_model.specs.declared.binding.MemberKey.{MemberKey}
 use Rattle.acl_model.specs.declared.binding.Binding.{Binding}
 use Rattle.acl_model.specs.FirstMatch.{entries_of}
-use Rattle.acl_model.specs.Policies.{UrlPolicy}
+use Rattle.acl_model.specs.Policies.{UrlPolicy, url_policy}
 use Rattle.acl_rows.specs.declared.row.Owner.{Owner}
 use Rattle.acl_rows.specs.declared.row.Owner.TheVariants.{Url, Default}
 use Rattle.acl_rows.specs.declared.row.Row.{Row}
@@ -26,11 +26,11 @@ use Rattle.acl_patch.specs.PolicyTouched.{bound_key, bound_under, first_key_touc
 use Rattle.acl_rows.specs.Rows.{held_end}
 use Rattle.acl_rows.specs.Places.{owner_class, owner_number, owner_place, side_place, peer_place, place_at, row_place}
 use Rattle.acl_rows.proofs.AtPlaces.{ascend-rows_of}
+use Rattle.acl_rows.proofs.Sound.{slot_by}
 use Rattle.acl_patch.specs.Patch.{end_for}
 use Rattle.sorted_rows.specs.Placed.{row_at, is_under}
 use Rattle.row_changes.proofs.Groups.{all_kept, each_there}
 use Rattle.row_changes.proofs.PolicyRows.{end_was}
-use Rattle.row_changes.specs.Policies.{url_policy}
 use Rattle.acl_compile.specs.Compiled.{UrlsApart, compiled_state}
 use Rattle.row_changes.specs.Fresh.{policy_count}
 use Rattle.row_edits.specs.declared.edit.Edit.{Edit}
@@ -42,6 +42,7 @@ use Rattle.acl_model.specs.Places.{binding_place}
 use Rattle.acl_patch.specs.Patch.{IsPatch}
 use Rattle.acl_compile.specs.Plans.{slot_set, holder_policy, holder_owner, policy_held, place_held, held_for, is_other, others_held, rows_of_owner, slots_with, slots_after, bindings_after, policy_steps, policy_reads, IsPlaceFor, IsPolicyPlan}
 use Rattle.row_changes.specs.Steps.{HaveKeys, PolicyKeys, place_steps}
+use Rattle.row_changes.proofs.Loops.{slot_holds}
 
 lt_by : (a b : ℕ) → ((nat_lt a b ≡ true) × (suc a ≤ b)) ⊎ ((nat_lt a b ≡ false) × (b < suc a)) → ((nat_lt a b ≡ true) × (a < b)) ⊎ ((nat_lt a b ≡ false) × (b ≤ a))
 lt_by a b (inl lt) = inl (lt.0, omega (arith, lt.1))
@@ -130,18 +131,9 @@ slot_count slots i new le few lt = by (ltb_tells i (length slots))
 
 -- ---- Looking up a URL
 
-held_slot : (o : Option (Option UrlPolicy)) (h : UrlPolicy) → slot_policy o ≡ Some h → o ≡ Some (Some h)
-unfolding slot_policy
-held_slot None h e = absurd (none-some h e)
-held_slot (Some slot) h e = ap Some e
-
 pub there : (slots : Slots) (j : ℕ) (h : UrlPolicy) → held_by slots (Url j) ≡ Some h → slice_get slots j ≡ Some (Some h)
 unfolding held_by
-there slots j h is = held_slot (slice_get slots j) h is
-
-pub held_there : (slots : Slots) (j : ℕ) (h : UrlPolicy) → slice_get slots j ≡ Some (Some h) → held_by slots (Url j) ≡ Some h
-unfolding held_by slot_policy
-held_there slots j h is = ap slot_policy is
+there slots j h is = slot_by (slice_get slots j) h is
 
 pub record FoundAt (url : List ℕ) (n : ℕ) (slots : Slots) (h : Holder) : Type 0 where
   pub place : ℕ
@@ -196,7 +188,7 @@ unique_by url slots j h apart holds has None is = absurd (false≢true (sym (non
 unique_by url slots j h apart holds has (Some g) is =
     let found : FoundAt url 0 slots g = found_at url 0 slots g is in
     let from_zero : 0 + found.place ≡ found.place = omega arith in
-    let held' : held_by slots (Url found.place) ≡ Some g.1 = held_there slots found.place g.1 found.at in
+    let held' : held_by slots (Url found.place) ≡ Some g.1 = slot_holds slots found.place g.1 found.at in
     let urls : g.1.url ≡ h.url = same_place_exact g.1.url url found.has_url ∙ sym (same_place_exact h.url url has) in
     let place : found.place ≡ j = apart found.place j g.1 h held' holds urls in
     let same : g.1 ≡ h = same_Some g.1 h (sym held' ∙ ap (λ (k : ℕ). held_by slots (Url k)) place ∙ holds) in
@@ -217,8 +209,8 @@ place_found url slots n h few apart is =
     let lt : n < length slots = slice_get_within slots n (Some h) at in
     record {
       within = omega arith;
-      own = λ g holds. ap (λ (x : UrlPolicy). bytes_eq x.url url) (same_Some g h (sym holds ∙ held_there slots n h at)) ∙ found.has_url;
-      only = λ j g holds has. apart j n g h holds (held_there slots n h at) (same_place_exact g.url url has ∙ sym (same_place_exact h.url url found.has_url));
+      own = λ g holds. ap (λ (x : UrlPolicy). bytes_eq x.url url) (same_Some g h (sym holds ∙ slot_holds slots n h at)) ∙ found.has_url;
+      only = λ j g holds has. apart j n g h holds (slot_holds slots n h at) (same_place_exact g.url url has ∙ sym (same_place_exact h.url url found.has_url));
       few = λ _. omega (arith, lt, few);
     }
 
@@ -261,21 +253,21 @@ module _ (slots slots' : Slots) (i : ℕ) (new : Option UrlPolicy) (change : IsS
   -- what is found in the changed place is what was put there
   found_new : (g : Holder) (found : FoundAt u 0 slots' g) → found.place ≡ i → is_own u new ≡ true
   found_new g found at =
-      ap (is_own u) (sym change.here ∙ ap (λ (m : ℕ). held_by slots' (Url m)) (sym at) ∙ held_there slots' found.place g.1 found.at) ∙ found.has_url
+      ap (is_own u) (sym change.here ∙ ap (λ (m : ℕ). held_by slots' (Url m)) (sym at) ∙ slot_holds slots' found.place g.1 found.at) ∙ found.has_url
 
   -- what is found elsewhere was there
   found_old : (g : Holder) (found : FoundAt u 0 slots' g) → found.place ≢ i → held_by slots (Url found.place) ≡ Some g.1
-  found_old g found off = sym (change.others found.place off) ∙ held_there slots' found.place g.1 found.at
+  found_old g found off = sym (change.others found.place off) ∙ slot_holds slots' found.place g.1 found.at
 
   module _ (not_new : is_own u new ≡ false) where
     module _ (not_old : is_own u (held_by slots (Url i)) ≡ false) where
       stays_at : (g : Holder) (found : FoundAt u 0 slots g) → Tells found.place i → holder_from u 0 slots' ≡ Some g
       stays_at g found (inl at) =
-          let holds : held_by slots (Url i) ≡ Some g.1 = ap (λ (m : ℕ). held_by slots (Url m)) (sym at.1) ∙ held_there slots found.place g.1 found.at in
+          let holds : held_by slots (Url i) ≡ Some g.1 = ap (λ (m : ℕ). held_by slots (Url m)) (sym at.1) ∙ slot_holds slots found.place g.1 found.at in
           absurd (false≢true (sym not_old ∙ ap (is_own u) holds ∙ found.has_url))
       stays_at g found (inr off) =
           let from_zero : found.place ≡ 0 + found.place = omega arith in
-          unique u slots' found.place g.1 apart (change.others found.place off.1 ∙ held_there slots found.place g.1 found.at) found.has_url
+          unique u slots' found.place g.1 apart (change.others found.place off.1 ∙ slot_holds slots found.place g.1 found.at) found.has_url
           ∙ ap Some (λ j. ((ap Url from_zero ∙ sym found.owner) j, g.1))
 
       not_come : holder_from u 0 slots ≡ None → (g : Holder) (found : FoundAt u 0 slots' g) → Tells found.place i → ⊥
@@ -340,8 +332,8 @@ module _ (url : List ℕ) (policy : Option Policy) (slots : Slots) (i : ℕ) (sl
   here_some p is = unique url slots' i (url_policy url p) apart_after (change.here ∙ ap (held_for url) is ∙ some_policy url p) (same_place_itself url)
 
   none_here : policy ≡ None → (g : Holder) (found : FoundAt url 0 slots' g) → Tells found.place i → ⊥
-  none_here none g found (inl at) = no_policy url g.1 (ap (held_for url) (sym none) ∙ sym change.here ∙ ap (λ (m : ℕ). held_by slots' (Url m)) (sym at.1) ∙ held_there slots' found.place g.1 found.at)
-  none_here none g found (inr off) = not_elsewhere found.place g.1 off.1 (held_there slots' found.place g.1 found.at) (same_place_exact g.1.url url found.has_url)
+  none_here none g found (inl at) = no_policy url g.1 (ap (held_for url) (sym none) ∙ sym change.here ∙ ap (λ (m : ℕ). held_by slots' (Url m)) (sym at.1) ∙ slot_holds slots' found.place g.1 found.at)
+  none_here none g found (inr off) = not_elsewhere found.place g.1 off.1 (slot_holds slots' found.place g.1 found.at) (same_place_exact g.1.url url found.has_url)
 
   here_none : policy ≡ None → (o : Option Holder) → holder_from url 0 slots' ≡ o → o ≡ None
   here_none none None is = refl
@@ -383,7 +375,7 @@ module _ (url : List ℕ) (policy : Option Policy) (slots : Slots) (i : ℕ) (sl
   place_by owner (Some g) is at =
       let found : FoundAt url 0 slots g = found_at url 0 slots g is in
       let from_zero : 0 + found.place ≡ found.place = omega arith in
-      sym (same_Some g.0 owner at) ∙ found.owner ∙ ap Url (from_zero ∙ place.only found.place g.1 (held_there slots found.place g.1 found.at) found.has_url)
+      sym (same_Some g.0 owner at) ∙ found.owner ∙ ap Url (from_zero ∙ place.only found.place g.1 (slot_holds slots found.place g.1 found.at) found.has_url)
 
   pub place_is : (owner : Owner) → place_held slots url ≡ Some owner → owner ≡ Url i
   unfolding place_held
@@ -441,7 +433,7 @@ rows_by url policy slots bindings i place None is = ap (λ (rs : List Row). leng
 rows_by url policy slots bindings i place (Some g) is =
     let found : FoundAt url 0 slots g = found_at url 0 slots g is in
     let from_zero : 0 + found.place ≡ found.place = omega arith in
-    ap (λ (o : Owner). length (owner_rows o (rows_of slots bindings))) (sym (found.owner ∙ ap Url (from_zero ∙ place.only found.place g.1 (held_there slots found.place g.1 found.at) found.has_url)))
+    ap (λ (o : Owner). length (owner_rows o (rows_of slots bindings))) (sym (found.owner ∙ ap Url (from_zero ∙ place.only found.place g.1 (slot_holds slots found.place g.1 found.at) found.has_url)))
 
 pub rows_of_place : (url : List ℕ) (slots : Slots) (bindings : List Binding) (i : ℕ) → IsPlaceFor url slots i → length (owner_rows (Url i) (rows_of slots bindings)) ≡ length (rows_of_owner (place_held slots url) (rows_of slots bindings))
 unfolding place_held
@@ -449,14 +441,10 @@ rows_of_place url slots bindings i place = rows_by url None slots bindings i pla
 
 -- ---- The places of new rows are as many whoever owns them
 
-length-map : {A B : Type 0} (f : A → B) (xs : List A) → length (map f xs) ≡ length xs
-length-map f [] = refl
-length-map f (x ∷ xs) = ap suc (length-map f xs)
-
 first_count : (bindings : List Binding) (o o' : Owner) (side : Direction) (n : ℕ) (keys : List MemberKey) → length (first_key_touches bindings o side n keys) ≡ length (first_key_touches bindings o' side n keys)
 unfolding first_key_touches
 first_count bindings o o' side n [] = refl
-first_count bindings o o' side n (key ∷ keys) = length-map (bound_key o side n) (bound_under key bindings) ∙ sym (length-map (bound_key o' side n) (bound_under key bindings))
+first_count bindings o o' side n (key ∷ keys) = length-map (bound_under key bindings) (bound_key o side n) ∙ sym (length-map (bound_under key bindings) (bound_key o' side n))
 
 side_count : (bindings : List Binding) (o o' : Owner) (held : UrlPolicy) (side : Direction) (es : List (ℕ × Entry)) → length (flat_map (entry_touches bindings o held side) es) ≡ length (flat_map (entry_touches bindings o' held side) es)
 unfolding entry_touches

@@ -1,41 +1,12 @@
 -- Texts that are read from behind stand to one another as the first octets do in which they differ.
-use Rattle.std.proofs.Common.{◌≡◌, ℕ, zero, suc, ◌+◌, ◌-◌, ◌<◌, ◌≤◌, ◌⊎◌, inl, inr, leb, true, false, List, [], ◌∷◌, reverse, take, drop, length, slice_index_or, refl, sym, ap, subst, ◌∙◌, arith}
-use Rattle.std.specs.Ordering.{nat_cmp, ordering_then, is_eq}
-use Rattle.std.specs.declared.cmp.Ordering.{Ordering}
+use Rattle.std.proofs.Common.{◌≡◌, ℕ, zero, suc, ◌+◌, ◌-◌, ◌<◌, ◌≤◌, ◌⊎◌, inl, inr, leb, true, false, List, [], ◌∷◌, reverse, take, drop, length, slice_index_or, refl, sym, ap, ◌∙◌, arith}
+use Rattle.std.specs.Ordering.{nat_cmp}
 use Rattle.std.specs.declared.cmp.Ordering.TheVariants.{Less, Equal, Greater}
-use Rattle.std.proofs.lemmas.Cmp.{nat_cmp_total, tied_itself}
-use Rattle.std.proofs.lemmas.Bool.{eqb-true}
 use Rattle.std.proofs.lemmas.Bool.Decides.{leb_tells}
 use Rattle.std.proofs.lemmas.List.{get_or-reverse, length-reverse}
-use Rattle.std.specs.Cmp.{unsigned_ties, nat_cmp_is}
+use Rattle.std.specs.Cmp.{nat_cmp_is}
 use Rattle.sorted_rows.specs.Placed.{place_cmp}
-
-decided : (o r : Ordering) → (o ≡ Equal → ⊥) → o ≡ ordering_then o r
-decided Less r apart = refl
-decided Equal r apart = absurd (apart refl)
-decided Greater r apart = refl
-
-equal_numbers : (x y : ℕ) → nat_cmp x y ≡ Equal → x ≡ y
-equal_numbers x y e = eqb-true x y (unsigned_ties x y ∙ ap is_eq e)
-
-equal_first : (n : ℕ) (xs ys : List ℕ) → n < length xs → n < length ys → slice_index_or xs n 0 ≡ slice_index_or ys n 0 → place_cmp (drop n xs) (drop n ys) ≡ place_cmp (drop (suc n) xs) (drop (suc n) ys)
-equal_first n [] ys p q e = absurd (omega (arith, p))
-equal_first n (x ∷ xs) [] p q e = absurd (omega (arith, q))
-equal_first zero (x ∷ xs) (y ∷ ys) p q e = ap (λ o. ordering_then o (place_cmp xs ys)) (subst (λ z. nat_cmp x z ≡ Equal) e (tied_itself nat_cmp_total x))
-equal_first (suc n) (x ∷ xs) (y ∷ ys) p q e = equal_first n xs ys (omega (arith, p)) (omega (arith, q)) e
-
--- where the first numbers left are the same, the others decide
-alike : (n : ℕ) (xs ys : List ℕ) → n < length xs → n < length ys → slice_index_or xs n 0 ≡ slice_index_or ys n 0 → place_cmp (drop n xs) (drop n ys) ≡ place_cmp (drop (n + 1) xs) (drop (n + 1) ys)
-alike n xs ys p q e =
-    let one_on : suc n ≡ n + 1 = omega arith
-    in subst (λ m. place_cmp (drop n xs) (drop n ys) ≡ place_cmp (drop m xs) (drop m ys)) one_on (equal_first n xs ys p q e)
-
--- where they differ, they decide
-apart : (n : ℕ) (xs ys : List ℕ) → n < length xs → n < length ys → (slice_index_or xs n 0 ≡ slice_index_or ys n 0 → ⊥) → nat_cmp (slice_index_or xs n 0) (slice_index_or ys n 0) ≡ place_cmp (drop n xs) (drop n ys)
-apart n [] ys p q e = absurd (omega (arith, p))
-apart n (x ∷ xs) [] p q e = absurd (omega (arith, q))
-apart zero (x ∷ xs) (y ∷ ys) p q e = decided (nat_cmp x y) (place_cmp xs ys) (λ same. e (equal_numbers x y same))
-apart (suc n) (x ∷ xs) (y ∷ ys) p q e = apart n xs ys (omega (arith, p)) (omega (arith, q)) e
+use Rattle.sorted_rows.proofs.Orders.{behind, apart, alike}
 
 ended_by : (a b n : ℕ) → n ≤ a → a ≤ b → (n < a → n < b → ⊥) → ((leb a n ≡ true) × (a ≤ n)) ⊎ ((leb a n ≡ false) × (n < a)) → a ≡ n
 ended_by a b n p s r (inl c) = omega (arith, p, c.1)
@@ -43,15 +14,6 @@ ended_by a b n p s r (inr c) = absurd (r c.1 (omega (arith, c.1, s)))
 
 ended : (a b n : ℕ) → n ≤ a → n ≤ b → (n < a → n < b → ⊥) → a ≤ b → a ≡ n
 ended a b n p q r s = ended_by a b n p s r (leb_tells a n)
-
--- where one of them ends, the shorter one comes first
-level : (n : ℕ) (xs ys : List ℕ) → length xs ≡ n → length ys ≡ n → place_cmp (drop n xs) (drop n ys) ≡ Equal
-level zero [] [] p q = refl
-level zero [] (y ∷ ys) p q = absurd (omega (arith, q))
-level zero (x ∷ xs) ys p q = absurd (omega (arith, p))
-level (suc n) [] ys p q = absurd (omega (arith, p))
-level (suc n) (x ∷ xs) [] p q = absurd (omega (arith, q))
-level (suc n) (x ∷ xs) (y ∷ ys) p q = level n xs ys (omega (arith, p)) (omega (arith, q))
 
 short : (n : ℕ) (xs ys : List ℕ) → length xs ≡ n → n < length ys → place_cmp (drop n xs) (drop n ys) ≡ Less
 short zero [] [] p q = absurd (omega (arith, q))
@@ -73,7 +35,7 @@ ends_by : (n : ℕ) (xs ys : List ℕ) → n ≤ length xs → n ≤ length ys �
 ends_by n xs ys p q r (inl a) (inl b) =
     let same : length xs ≡ length ys = omega (arith, a.1, b.1) in
     let at : length xs ≡ n = ended (length xs) (length ys) n p q r a.1 in
-    sym (nat_cmp_is (length xs) (length ys) Equal same) ∙ sym (level n xs ys at (sym same ∙ at))
+    sym (nat_cmp_is (length xs) (length ys) Equal same) ∙ sym (behind n xs ys at (sym same ∙ at))
 ends_by n xs ys p q r (inl a) (inr b) =
     let at : length xs ≡ n = ended (length xs) (length ys) n p q r a.1 in
     sym (nat_cmp_is (length xs) (length ys) Less b.1) ∙ sym (short n xs ys at (omega (arith, at, b.1)))

@@ -4,7 +4,7 @@ use Rattle.acl_model.specs.declared.binding.Binding.{Binding}
 use Rattle.acl_model.specs.declared.entry.Policy.{Policy}
 use Rattle.acl_model.specs.Places.{binding_place}
 use Rattle.acl_model.specs.Changes.{replaced}
-use Rattle.acl_model.specs.Policies.{UrlPolicy}
+use Rattle.acl_model.specs.Policies.{UrlPolicy, url_policy}
 use Rattle.row_edits.specs.declared.edit.Edit.{Edit}
 use Rattle.row_edits.specs.Edits.{edited}
 use Rattle.acl_rows.specs.declared.row.Owner.{Owner}
@@ -17,7 +17,7 @@ use Rattle.acl_patch.specs.PolicyTouched.{owner_rows, new_touches}
 use Rattle.row_shelves.specs.Shelves.{HasRoom}
 use Rattle.binding_shelves.specs.Shelves.{AreFoundByKey, HasRoomByKey}
 use Rattle.row_changes.specs.Fresh.{policy_count}
-use Rattle.row_changes.specs.Policies.{HasCounts, url_policy}
+use Rattle.row_changes.specs.Policies.{HasCounts}
 use Rattle.row_changes.specs.Steps.{place_steps}
 use Rattle.acl_compile.specs.Compiled.{CompiledState, UrlsApart}
 

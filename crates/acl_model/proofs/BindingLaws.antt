@@ -1,10 +1,11 @@
 -- Bindings of one key and address, and bindings that are the same.
-use Rattle.std.proofs.Common.{◌≡◌, append-nil, ◌==◌, ℕ, ◌+◌, ◌<◌, Bool, true, false, cond, not, ◌&&◌, List, [], ◌∷◌, ◌++◌, length, take, get_or, refl, sym, ap, subst, ◌∙◌}
+use Rattle.std.proofs.Common.{◌≡◌, append-nil, ◌==◌, ℕ, ◌+◌, ◌<◌, Bool, true, false, cond, not, List, [], ◌∷◌, ◌++◌, length, take, get_or, refl, sym, ap, subst, ◌∙◌}
 use Rattle.std.specs.Bool.{Decides}
 use Rattle.std.specs.List.{filter}
 use Rattle.std.proofs.lemmas.List.Elements.{filter_more}
-use Rattle.std.proofs.lemmas.Bool.{false≢true}
 use Rattle.std.proofs.lemmas.Bool.Decides.{Decides-eqb}
+use Rattle.std.specs.Cmp.{first_so, second_so}
+use Rattle.std.proofs.lemmas.Bool.{and_from}
 use Rattle.mud_base.specs.Addresses.{same_addr}
 use Rattle.mud_base.specs.declared.addr.Addr.{Addr}
 use Rattle.mud_base.specs.declared.addr.Addr.TheVariants.{V4, V6}
@@ -12,19 +13,6 @@ use Rattle.acl_model.specs.declared.binding.Binding.{Binding}
 use Rattle.acl_model.specs.Keys.{same_key}
 use Rattle.acl_model.specs.Changes.{same_spot, same_binding, has_binding, those_not_in}
 use Rattle.acl_model.proofs.KeyLaws.{same_key-Decides}
-
--- ---- Tests
-
-left_of : (b c : Bool) → (b && c) ≡ true → b ≡ true
-left_of true c e = refl
-left_of false c e = absurd (false≢true e)
-
-right_of : (b c : Bool) → (b && c) ≡ true → c ≡ true
-right_of true c e = e
-right_of false c e = absurd (false≢true e)
-
-both : (b c : Bool) → b ≡ true → c ≡ true → (b && c) ≡ true
-both b c e f = ap (λ x. x && c) e ∙ f
 
 -- ---- Addresses
 
@@ -50,13 +38,13 @@ pub record IsSameSpot (b c : Binding) : Type 0 where
 pub same_spot_exact : (b c : Binding) → same_spot b c ≡ true → IsSameSpot b c
 unfolding same_spot
 same_spot_exact b c e = record {
-  key = (same_key-Decides b.key c.key).0 (left_of (same_key b.key c.key) (same_addr b.addr c.addr) e);
-  addr = same_addr_exact b.addr c.addr (right_of (same_key b.key c.key) (same_addr b.addr c.addr) e);
+  key = (same_key-Decides b.key c.key).0 (first_so (same_key b.key c.key) (same_addr b.addr c.addr) e);
+  addr = same_addr_exact b.addr c.addr (second_so (same_key b.key c.key) (same_addr b.addr c.addr) e);
 }
 
 pub same_spot_of : (b c : Binding) → IsSameSpot b c → same_spot b c ≡ true
 unfolding same_spot
-same_spot_of b c same = both (same_key b.key c.key) (same_addr b.addr c.addr) ((same_key-Decides b.key c.key).1 same.key) ((same_addr-Decides b.addr c.addr).1 same.addr)
+same_spot_of b c same = and_from (same_key b.key c.key) (same_addr b.addr c.addr) ((same_key-Decides b.key c.key).1 same.key) ((same_addr-Decides b.addr c.addr).1 same.addr)
 
 pub same_spot_itself : (b : Binding) → same_spot b b ≡ true
 same_spot_itself b = same_spot_of b b (record { key = refl; addr = refl })
@@ -72,15 +60,15 @@ spot_shared b x c e f =
 
 pub spot_of_same : (b c : Binding) → same_binding b c ≡ true → same_spot b c ≡ true
 unfolding same_binding
-spot_of_same b c e = left_of (same_spot b c) (b.until == c.until) e
+spot_of_same b c e = first_so (same_spot b c) (b.until == c.until) e
 
 pub until_of_same : (b c : Binding) → same_binding b c ≡ true → b.until ≡ c.until
 unfolding same_binding
-until_of_same b c e = (Decides-eqb b.until c.until).0 (right_of (same_spot b c) (b.until == c.until) e)
+until_of_same b c e = (Decides-eqb b.until c.until).0 (second_so (same_spot b c) (b.until == c.until) e)
 
 pub same_binding_itself : (b : Binding) → same_binding b b ≡ true
 unfolding same_binding
-same_binding_itself b = both (same_spot b b) (b.until == b.until) (same_spot_itself b) ((Decides-eqb b.until b.until).1 refl)
+same_binding_itself b = and_from (same_spot b b) (b.until == b.until) (same_spot_itself b) ((Decides-eqb b.until b.until).1 refl)
 
 pub same_binding_exact : (b c : Binding) → same_binding b c ≡ true → b ≡ c
 same_binding_exact b c e =

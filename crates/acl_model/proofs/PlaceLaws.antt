@@ -5,26 +5,22 @@ use Rattle.std.specs.Cmp.Lexicographic.{slice_cmp}
 use Rattle.std.specs.declared.cmp.Ordering.{Ordering}
 use Rattle.std.specs.declared.cmp.Ordering.TheVariants.{Less, Equal, Greater}
 use Rattle.std.proofs.lemmas.Cmp.{ranked}
-use Rattle.sorted_rows.specs.Placed.{place_cmp, prefix_cmp, same_place}
+use Rattle.sorted_rows.specs.Placed.{place_cmp, prefix_cmp, same_place, without_row, PlacesAscend}
 use Rattle.sorted_rows.specs.Addresses.{addr_place}
 use Rattle.sorted_rows.proofs.AddressLaws.{addr_cmp-place, addr_place_exact}
 use Rattle.sorted_rows.proofs.AscendLaws.{both_ways}
-use Rattle.sorted_rows.proofs.PlacedLaws.{same_place_exact, same_place_itself}
+use Rattle.sorted_rows.proofs.PlacedLaws.{same_place_exact, same_place_itself, ascend-without_row}
+use Rattle.sorted_rows.proofs.Orders.{then_assoc}
 use Rattle.mud_base.specs.Addresses.{addr_cmp}
 use Rattle.mud_base.specs.declared.addr.Addr.{Addr}
 use Rattle.acl_model.specs.declared.binding.MemberKey.{MemberKey}
 use Rattle.acl_model.specs.declared.binding.MemberKey.TheVariants.{Host, Model, Class, Mine, Name}
 use Rattle.acl_model.specs.declared.binding.Binding.{Binding}
-use Rattle.acl_model.specs.Changes.{same_spot}
+use Rattle.acl_model.specs.Changes.{same_spot, without_bindings}
 use Rattle.acl_model.specs.Places.{key_kind, key_text, text_place, key_place, bound_place, binding_place}
 use Rattle.acl_model.proofs.BindingLaws.{IsSameSpot, same_spot_exact, same_spot_of}
 
 -- ---- Orders one after the other
-
-then_assoc : (o p q : Ordering) → ordering_then (ordering_then o p) q ≡ ordering_then o (ordering_then p q)
-then_assoc Less p q = refl
-then_assoc Equal p q = refl
-then_assoc Greater p q = refl
 
 -- lists of one length decide before what follows them
 cmp_front : (xs ys us vs : List ℕ) → length xs ≡ length ys → slice_cmp nat_cmp (xs ++ us) (ys ++ vs) ≡ ordering_then (slice_cmp nat_cmp xs ys) (slice_cmp nat_cmp us vs)
@@ -130,3 +126,10 @@ binding_place_exact b c = both_ways (same_place (binding_place b) (binding_place
     same_spot_of b c (record { key = parts.0; addr = parts.1 }))
     (λ e. let same : IsSameSpot b c = same_spot_exact b c e in
     ap (λ p. same_place (binding_place b) p) (λ i. bound_place (sym same.key i) (sym same.addr i)) ∙ same_place_itself (binding_place b))
+
+-- ---- Bindings that are taken away
+
+pub ascend-without_bindings : (gone bindings : List Binding) → PlacesAscend binding_place bindings → PlacesAscend binding_place (without_bindings gone bindings)
+unfolding without_bindings
+ascend-without_bindings [] bindings up = up
+ascend-without_bindings (b ∷ gone) bindings up = ascend-without_bindings gone (without_row binding_place (binding_place b) bindings) (ascend-without_row binding_place (binding_place b) bindings up)

@@ -51,6 +51,10 @@ is_bound_to key a b = same_key key b.key && same_addr a b.addr
 unfoldable pub until_of : Binding → ℕ
 until_of b = b.until
 
+-- the end of what lasts for ever: no end is greater
+abbrev pub for_ever : ℕ
+for_ever = 18446744073709551615
+
 -- until when the address is bound to the key
 unfoldable pub bound_until : List Binding → MemberKey → Addr → Option ℕ
 bound_until bindings key a = option_map until_of (find (is_bound_to key a) bindings)

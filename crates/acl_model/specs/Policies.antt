@@ -6,6 +6,9 @@ pub record UrlPolicy : Type 0 where
   pub url : List ℕ
   pub policy : Policy
 
+abbrev pub url_policy : List ℕ → Policy → UrlPolicy
+url_policy url policy = record { url = url; policy = policy }
+
 abbrev pub has_url : List ℕ → UrlPolicy → Bool
 has_url url held = bytes_eq held.url url
 

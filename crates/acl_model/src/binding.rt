@@ -2,7 +2,6 @@
 ghost use Rattle.std.specs.Prelude.{◌≡◌, ◌↔◌, IsTrue, IfOk};
 ghost use Rattle.acl_model.specs.Keys as spec;
 
-use crate::entry::Selector;
 use mud_base::{Addr, Bytes, End, Memory};
 use mud_url::MudUrl;
 
@@ -59,38 +58,6 @@ pub fn same_key(own: &MemberKey, other: &MemberKey) -> bool
             MemberKey::Name(other) => own.octets() == other.octets(),
             _ => false,
         },
-    }
-}
-
-impl Selector {
-    /// Whether it is a member selector with this key, in the file of this URL.
-    #[tactic(auto, unfolding(crate::specs::Keys::has_key, crate::specs::Keys::key_of, crate::specs::Keys::same_key))]
-    pub fn has_key(&self, url: &MudUrl, key: &MemberKey) -> bool
-        ensures { result ≡ spec.has_key url.now key.now self.now }
-    {
-        match key {
-            MemberKey::Class(other) => match self {
-                Selector::Controller(uri) => uri.octets() == other.octets(),
-                _ => false,
-            },
-            MemberKey::Mine(other) => match self {
-                Selector::MyController => url == other,
-                _ => false,
-            },
-            MemberKey::Host(other) => match self {
-                Selector::Manufacturer(host) => host.octets() == other.octets(),
-                Selector::SameManufacturer => url.host() == other.octets(),
-                _ => false,
-            },
-            MemberKey::Model(other) => match self {
-                Selector::Model(model) => model == other,
-                _ => false,
-            },
-            MemberKey::Name(other) => match self {
-                Selector::Name(name) => name.octets() == other.octets(),
-                _ => false,
-            },
-        }
     }
 }
 

@@ -25,7 +25,7 @@ pub fn same_binding(own: &Binding, other: &Binding) -> bool
 
 /// Whether the binding is among them, with this end.
 #[tactic(auto, unfolding(crate::specs::Changes::has_binding))]
-pub fn has_binding(binding: &Binding, bindings: &[Binding]) -> bool
+fn has_binding(binding: &Binding, bindings: &[Binding]) -> bool
     ensures { result ≡ spec.has_binding binding.now bindings.now }
 {
     bindings.iter().any(|other| same_binding(binding, other))

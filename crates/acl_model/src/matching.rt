@@ -95,7 +95,7 @@ fn header_matches(entry: &Entry, fields: &Fields) -> bool
 
 /// Whether both are the same side.
 #[tactic(auto, unfolding(crate::specs::Match::same_direction))]
-pub fn same_direction(own: Direction, other: Direction) -> bool
+fn same_direction(own: Direction, other: Direction) -> bool
     ensures { result ≡ spec.same_direction own other }
 {
     own == other

@@ -3,36 +3,19 @@ use Rattle.std.proofs.Common.{◌≡◌, ℕ, Bool, true, false, cond, ◌||◌,
 use Rattle.std.specs.Prelude.{find}
 use Rattle.std.specs.Option.{option_map}
 use Rattle.std.specs.List.{list_any}
-use Rattle.std.proofs.lemmas.Bool.{false≢true}
+use Rattle.std.proofs.lemmas.Bool.{false≢true, false_from_ne_true}
 use Rattle.sorted_rows.specs.Placed.{same_place, row_at, set_row, set_rows, without_row, PlacesAscend}
-use Rattle.sorted_rows.proofs.PlacedLaws.{same_place_itself, same_place_exact, row_at-set_row_other, row_at-without_row, ascend-set_rows, ascend-without_row}
-use Rattle.sorted_rows.proofs.AscendLaws.{both_ways}
+use Rattle.sorted_rows.proofs.PlacedLaws.{row_at-set_row_other, row_at-without_row, ascend-set_rows, ascend-without_row}
+use Rattle.sorted_rows.proofs.ListTests.{or_first, or_second}
+use Rattle.sorted_rows.proofs.ChangeLaws.{same_place_turned}
 use Rattle.mud_base.specs.declared.addr.Addr.{Addr}
 use Rattle.acl_model.specs.declared.binding.MemberKey.{MemberKey}
 use Rattle.acl_model.specs.declared.binding.Binding.{Binding}
 use Rattle.acl_model.specs.Places.{bound_place, binding_place}
 use Rattle.acl_model.specs.Changes.{same_spot, is_bound_to, until_of, bound_until, without_bindings, replaced}
-use Rattle.acl_model.proofs.PlaceLaws.{binding_place_exact}
-
-not_true : (b : Bool) → (b ≡ true → ⊥) → b ≡ false
-not_true true apart = absurd (apart refl)
-not_true false apart = refl
-
-or_first : (b c : Bool) → (b || c) ≡ false → b ≡ false
-or_first true c e = absurd (false≢true (sym e))
-or_first false c e = refl
-
-or_second : (b c : Bool) → (b || c) ≡ false → c ≡ false
-or_second true c e = absurd (false≢true (sym e))
-or_second false c e = e
+use Rattle.acl_model.proofs.PlaceLaws.{binding_place_exact, ascend-without_bindings}
 
 -- ---- A place tells the key and the address
-
-pub same_place_turned : (p q : List ℕ) → same_place p q ≡ same_place q p
-same_place_turned p q =
-    both_ways (same_place p q) (same_place q p)
-    (λ e. ap (λ (r : List ℕ). same_place r p) (sym (same_place_exact p q e)) ∙ same_place_itself p)
-    (λ e. ap (λ (r : List ℕ). same_place r q) (sym (same_place_exact q p e)) ∙ same_place_itself q)
 
 -- a binding is of a key and an address where it stands at their place
 pub at_place : (key : MemberKey) (a : Addr) (b : Binding) → same_place (binding_place b) (bound_place key a) ≡ is_bound_to key a b
@@ -50,7 +33,7 @@ find-row_at key a (b ∷ bs) = ap (λ (c : Bool). cond c (Some b) (find (is_boun
 pub any_none_implied : {A : Type 0} (p q : A → Bool) → ((x : A) → p x ≡ true → q x ≡ true) → (xs : List A) → list_any q xs ≡ false → list_any p xs ≡ false
 any_none_implied p q implied [] none = refl
 any_none_implied p q implied (x ∷ xs) none =
-    let no : p x ≡ false = not_true (p x) (λ e. false≢true (sym (or_first (q x) (list_any q xs) none) ∙ implied x e)) in
+    let no : p x ≡ false = false_from_ne_true (p x) (λ e. false≢true (sym (or_first (q x) (list_any q xs) none) ∙ implied x e)) in
     ap (λ (c : Bool). c || list_any p xs) no ∙ any_none_implied p q implied xs (or_second (q x) (list_any q xs) none)
 
 -- ---- After a change
@@ -61,11 +44,6 @@ module _ {R : Type 0} (place : R → List ℕ) (p : List ℕ) where
   row_at-set_rows_other (x ∷ xs) rows none =
       row_at-set_rows_other xs (set_row place x rows) (or_second (same_place (place x) p) (list_any (λ y. same_place (place y) p) xs) none)
       ∙ row_at-set_row_other place x rows p (or_first (same_place (place x) p) (list_any (λ y. same_place (place y) p) xs) none)
-
-pub ascend-without_bindings : (gone bindings : List Binding) → PlacesAscend binding_place bindings → PlacesAscend binding_place (without_bindings gone bindings)
-unfolding without_bindings
-ascend-without_bindings [] bindings up = up
-ascend-without_bindings (b ∷ gone) bindings up = ascend-without_bindings gone (without_row binding_place (binding_place b) bindings) (ascend-without_row binding_place (binding_place b) bindings up)
 
 pub ascend-replaced : (gone come bindings : List Binding) → PlacesAscend binding_place bindings → PlacesAscend binding_place (replaced gone come bindings)
 unfolding replaced

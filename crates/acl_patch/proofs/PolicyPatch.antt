@@ -4,10 +4,11 @@ use Rattle.std.proofs.Common.{◌≡◌, ℕ, ◌⊎◌, inl, inr, Bool, true, f
 use Rattle.std.specs.Prelude.{◌≢◌, filter, find, nat_eq, is_none}
 use Rattle.std.specs.Option.{option_map, option_and_then}
 use Rattle.std.specs.List.{list_any, starts_with}
-use Rattle.std.proofs.lemmas.Bool.{false≢true, eq-eqb}
+use Rattle.std.proofs.lemmas.Bool.{false≢true, eq-eqb, or_left, or_right}
 use Rattle.std.proofs.lemmas.Bool.Decides.{eqb_tells}
 use Rattle.std.proofs.lemmas.Option.{same_Some, none-some}
 use Rattle.std.proofs.lemmas.List.Folds.{list_any-append}
+use Rattle.std.specs.Cmp.{first_so, second_so}
 use Rattle.sorted_rows.specs.Placed.{same_place, row_at, is_under}
 use Rattle.sorted_rows.proofs.PlacedLaws.{same_place_itself, same_place_exact}
 use Rattle.mud_base.specs.Addresses.{same_addr}
@@ -15,6 +16,7 @@ use Rattle.mud_base.specs.declared.addr.Addr.{Addr}
 use Rattle.mud_base.specs.declared.packet.Direction.{Direction}
 use Rattle.mud_base.specs.declared.packet.Direction.TheVariants.{From, To}
 use Rattle.sorted_rows.specs.Addresses.{addr_place}
+use Rattle.sorted_rows.proofs.ListTests.{or_first, or_second, any-flat_map}
 use Rattle.acl_model.specs.declared.entry.Entry.{Entry}
 use Rattle.acl_model.specs.declared.binding.MemberKey.{MemberKey}
 use Rattle.acl_model.specs.declared.binding.Binding.{Binding}
@@ -29,9 +31,8 @@ use Rattle.acl_rows.specs.declared.row.Owner.{Owner}
 use Rattle.acl_rows.specs.declared.row.Owner.TheVariants.{Url, Default}
 use Rattle.acl_rows.specs.declared.row.Row.{Row}
 use Rattle.acl_rows.specs.Places.{owner_class, owner_number, owner_place, side_place, peer_place, place_at, row_place, row_key_place}
-use Rattle.acl_rows.specs.Rows.{never, member_keys, entry_end, row, numbered, Slots, held_by, entry_at, held_end, end_at, rows_of}
+use Rattle.acl_rows.specs.Rows.{for_ever, member_keys, entry_end, row, numbered, Slots, held_by, entry_at, held_end, end_at, rows_of}
 use Rattle.acl_rows.proofs.Coordinates.{AreSame, same_coordinates}
-use Rattle.acl_rows.proofs.Lists.{any_first, any_second, any_flat_map}
 use Rattle.acl_rows.proofs.Sound.{HasKeys, has_keys, IsBound, first_bound, HasEnd, has_end, IsHeld, is_held, any_entry}
 use Rattle.acl_rows.proofs.AtPlaces.{row_at-rows_of}
 use Rattle.acl_patch.specs.Patch.{end_for, IsPatch}
@@ -40,22 +41,14 @@ use Rattle.acl_patch.specs.PolicyTouched.{bound_under, bound_key, first_key_touc
 use Rattle.acl_patch.proofs.Untouched.{touches_at}
 use Rattle.acl_patch.proofs.Edits.{patch_of}
 
-first_true : (b c : Bool) → (b && c) ≡ true → b ≡ true
-first_true true c e = refl
-first_true false c e = absurd (false≢true e)
-
-second_true : (b c : Bool) → (b && c) ≡ true → c ≡ true
-second_true true c e = e
-second_true false c e = absurd (false≢true e)
-
 -- ---- Tests of the elements of a list
 
 module _ {A : Type 0} (r : A → Bool) where
   kept_by : (t : A → Bool) (x : A) (xs : List A) → (r x ≡ true → t x ≡ true) → (list_any r xs ≡ true → list_any r (filter t xs) ≡ true)
       → (b : Bool) → r x ≡ b → (b || list_any r xs) ≡ true → (c : Bool) → t x ≡ c → list_any r (cond c (x ∷ filter t xs) (filter t xs)) ≡ true
-  kept_by t x xs one rest true is any true kept = any_first (r x) _ is
+  kept_by t x xs one rest true is any true kept = or_left (r x) _ is
   kept_by t x xs one rest true is any false kept = absurd (false≢true (sym kept ∙ one is))
-  kept_by t x xs one rest false is any true kept = any_second (r x) _ (rest any)
+  kept_by t x xs one rest false is any true kept = or_right (r x) _ (rest any)
   kept_by t x xs one rest false is any false kept = rest any
 
   -- an element that passes one test passes also among those that pass another, which it passes
@@ -64,8 +57,8 @@ module _ {A : Type 0} (r : A → Bool) where
   any_filter t implied (x ∷ xs) any = kept_by t x xs (implied x) (any_filter t implied xs) (r x) refl any (t x) refl
 
   map_by : {B : Type 0} (q : B → Bool) (f : A → B) (x : A) (xs : List A) → (r x ≡ true → q (f x) ≡ true) → (list_any r xs ≡ true → list_any q (map f xs) ≡ true) → (b : Bool) → r x ≡ b → (b || list_any r xs) ≡ true → (q (f x) || list_any q (map f xs)) ≡ true
-  map_by q f x xs one rest true is any = any_first (q (f x)) _ (one is)
-  map_by q f x xs one rest false is any = any_second (q (f x)) _ (rest any)
+  map_by q f x xs one rest true is any = or_left (q (f x)) _ (one is)
+  map_by q f x xs one rest false is any = or_right (q (f x)) _ (rest any)
 
   any_map : {B : Type 0} (q : B → Bool) (f : A → B) → ((x : A) → r x ≡ true → q (f x) ≡ true) → (xs : List A) → list_any r xs ≡ true → list_any q (map f xs) ≡ true
   any_map q f implied [] any = absurd (false≢true any)
@@ -127,12 +120,12 @@ module _ (owner : Owner) (side : Direction) (a : Addr) (n : ℕ) where
   under_key : (key : MemberKey) (b : Binding) → is_bound_to key a b ≡ true → is_under binding_place (key_place key) b ≡ true
   unfolding is_bound_to binding_place bound_place
   under_key key b e =
-      let same : key ≡ b.key = (same_key-Decides key b.key).0 (first_true (same_key key b.key) (same_addr a b.addr) e) in
+      let same : key ≡ b.key = (same_key-Decides key b.key).0 (first_so (same_key key b.key) (same_addr a b.addr) e) in
       subst (λ (k : MemberKey). starts_with nat_eq (key_place k ++ addr_place b.addr) (key_place key) ≡ true) same (begins (key_place key) (addr_place b.addr))
 
   bound_here : (key : MemberKey) (b : Binding) → is_bound_to key a b ≡ true → touches_at owner side a n (bound_key owner side n b) ≡ true
   unfolding is_bound_to bound_key row_key_place
-  bound_here key b e = subst (λ (y : Addr). same_place (place_at owner side y n) (place_at owner side a n) ≡ true) (same_addr_exact a b.addr (second_true (same_key key b.key) (same_addr a b.addr) e)) (same_place_itself (place_at owner side a n))
+  bound_here key b e = subst (λ (y : Addr). same_place (place_at owner side y n) (place_at owner side a n) ≡ true) (same_addr_exact a b.addr (second_so (same_key key b.key) (same_addr a b.addr) e)) (same_place_itself (place_at owner side a n))
 
   bound_touched : (key : MemberKey) (c : Binding) (bs : List Binding) → find (is_bound_to key a) bs ≡ Some c → list_any (touches_at owner side a n) (map (bound_key owner side n) (bound_under key bs)) ≡ true
   unfolding bound_under
@@ -145,18 +138,18 @@ unfolding entry_touches first_key_touches member_keys is_membered
 entry_touched bindings owner side a n u held entry e =
     let ends : HasEnd bindings held.url entry a u = has_end bindings held.url entry a u e in
     let keys : HasKeys (member_keys held.url entry) = has_keys held.url entry.selectors ends.membered in
-    let bound : IsBound bindings keys.key a = first_bound bindings a never u (member_keys held.url entry) keys ends.least in
+    let bound : IsBound bindings keys.key a = first_bound bindings a for_ever u (member_keys held.url entry) keys ends.least in
     subst (λ (ks : List MemberKey). list_any (touches_at owner side a n) (first_key_touches bindings owner side n ks) ≡ true) (sym keys.are) (bound_touched owner side a n keys.key bound.binding bindings bound.found)
 
 side_touched : (bindings : List Binding) (owner : Owner) (side : Direction) (a : Addr) (n u : ℕ) (held : UrlPolicy) (entry : Entry) → entry_at n (entries_of side held.policy) ≡ Some entry → entry_end bindings held.url entry a ≡ Some u → list_any (touches_at owner side a n) (side_policy_touches bindings owner held side) ≡ true
 unfolding side_policy_touches
 side_touched bindings owner side a n u held entry stands e =
-    any_flat_map (touches_at owner side a n) (entry_touches bindings owner held side) (numbered 1 (entries_of side held.policy))
+    any-flat_map (touches_at owner side a n) (entry_touches bindings owner held side) (numbered 1 (entries_of side held.policy))
     ∙ any_entry (λ x. list_any (touches_at owner side a n) (entry_touches bindings owner held side x)) (entries_of side held.policy) n entry stands (entry_touched bindings owner side a n u held entry e)
 
 both_sides : (bindings : List Binding) (owner : Owner) (side : Direction) (a : Addr) (n : ℕ) (held : UrlPolicy) → list_any (touches_at owner side a n) (side_policy_touches bindings owner held side) ≡ true → list_any (touches_at owner side a n) (side_policy_touches bindings owner held From ++ side_policy_touches bindings owner held To) ≡ true
-both_sides bindings owner From a n held e = list_any-append (touches_at owner From a n) (side_policy_touches bindings owner held From) (side_policy_touches bindings owner held To) ∙ any_first _ _ e
-both_sides bindings owner To a n held e = list_any-append (touches_at owner To a n) (side_policy_touches bindings owner held From) (side_policy_touches bindings owner held To) ∙ any_second (list_any (touches_at owner To a n) (side_policy_touches bindings owner held From)) _ e
+both_sides bindings owner From a n held e = list_any-append (touches_at owner From a n) (side_policy_touches bindings owner held From) (side_policy_touches bindings owner held To) ∙ or_left _ _ e
+both_sides bindings owner To a n held e = list_any-append (touches_at owner To a n) (side_policy_touches bindings owner held From) (side_policy_touches bindings owner held To) ∙ or_right (list_any (touches_at owner To a n) (side_policy_touches bindings owner held From)) _ e
 
 pub new_by : (slots' : Slots) (bindings : List Binding) (owner : Owner) (side : Direction) (a : Addr) (n u : ℕ) (new : Option UrlPolicy) → held_by slots' owner ≡ new → end_at slots' bindings owner side a n ≡ Some u → list_any (touches_at owner side a n) (new_touches bindings owner new) ≡ true
 unfolding new_touches
@@ -167,14 +160,6 @@ new_by slots' bindings owner side a n u (Some policy) is e =
     both_sides bindings owner side a n policy (side_touched bindings owner side a n u policy held.entry (ap (λ (h : UrlPolicy). entry_at n (entries_of side h.policy)) (sym same) ∙ held.stands) (ap (λ (h : UrlPolicy). entry_end bindings h.url held.entry a) (sym same) ∙ held.ends))
 
 -- ---- What isn't touched stays
-
-or_first : (b c : Bool) → (b || c) ≡ false → b ≡ false
-or_first true c e = absurd (false≢true (sym e))
-or_first false c e = refl
-
-or_second : (b c : Bool) → (b || c) ≡ false → c ≡ false
-or_second true c e = absurd (false≢true (sym e))
-or_second false c e = e
 
 module _ (slots slots' : Slots) (bindings : List Binding) (i : ℕ) (new : Option UrlPolicy) (change : IsSlotChange slots slots' i new) where
   other_owner : (owner : Owner) (side : Direction) (a : Addr) (n : ℕ) → held_by slots' owner ≡ held_by slots owner → end_at slots' bindings owner side a n ≡ end_at slots bindings owner side a n

@@ -2,10 +2,12 @@
 use Rattle.std.proofs.Common.{◌≡◌, ℕ, Bool, true, false, cond, ◌&&◌, ◌||◌, min, List, [], ◌∷◌, ◌++◌, Option, Some, None, refl, sym, ap, subst, ◌∙◌}
 use Rattle.std.specs.Option.{option_map_or, option_and_then}
 use Rattle.std.specs.List.{list_any, filter_map, cons_option, AllByRecursion}
-use Rattle.std.proofs.lemmas.Bool.{false≢true}
 use Rattle.std.proofs.lemmas.List.Folds.{list_any-append}
+use Rattle.std.specs.Cmp.{first_so, second_so}
+use Rattle.std.proofs.lemmas.Bool.{and_from, or_left, or_right}
 use Rattle.sorted_rows.specs.Placed.{same_place, PlacesAscend}
 use Rattle.sorted_rows.proofs.PlacedLaws.{same_place_itself}
+use Rattle.sorted_rows.proofs.ListTests.{or_first, or_second, any-flat_map}
 use Rattle.mud_base.specs.Addresses.{same_addr}
 use Rattle.mud_base.specs.declared.addr.Addr.{Addr}
 use Rattle.mud_base.specs.declared.packet.Direction.{Direction}
@@ -24,27 +26,10 @@ use Rattle.acl_model.proofs.BindingLaws.{same_addr_exact}
 use Rattle.acl_rows.specs.declared.row.Owner.{Owner}
 use Rattle.acl_rows.specs.declared.row.RowKey.{RowKey}
 use Rattle.acl_rows.specs.Places.{place_at, row_key_place}
-use Rattle.acl_rows.specs.Rows.{never, member_keys, least_end, entry_end, numbered, Holder, holders_from, Slots, held_by, entry_at, held_end, end_at}
-use Rattle.acl_rows.proofs.Lists.{any_first, any_second, any_flat_map}
+use Rattle.acl_rows.specs.Rows.{for_ever, member_keys, least_end, entry_end, numbered, Holder, holders_from, Slots, held_by, entry_at, held_end, end_at}
 use Rattle.acl_rows.proofs.Sound.{held_complete, any_entry}
 use Rattle.acl_patch.specs.Touched.{row_key, entry_touch, side_touches, holder_touches, binding_touches, touches}
 use Rattle.acl_patch.proofs.Bound.{any_none_implied, bound_until-untouched}
-
-first_true : (b c : Bool) → (b && c) ≡ true → b ≡ true
-first_true true c e = refl
-first_true false c e = absurd (false≢true e)
-
-second_true : (b c : Bool) → (b && c) ≡ true → c ≡ true
-second_true true c e = e
-second_true false c e = absurd (false≢true e)
-
-or_first : (b c : Bool) → (b || c) ≡ false → b ≡ false
-or_first true c e = absurd (false≢true (sym e))
-or_first false c e = refl
-
-or_second : (b c : Bool) → (b || c) ≡ false → c ≡ false
-or_second true c e = absurd (false≢true (sym e))
-or_second false c e = e
 
 -- ---- An entry that has no key of a change at an address
 
@@ -52,17 +37,14 @@ or_second false c e = e
 abbrev concerns : List ℕ → List Selector → Addr → Binding → Bool
 concerns url ss a b = same_addr a b.addr && list_any (has_key url b.key) ss
 
-and_both : (b c : Bool) → b ≡ true → c ≡ true → (b && c) ≡ true
-and_both b c e f = ap (λ t. t && c) e ∙ f
-
 bound_concerns : (url : List ℕ) (s : Selector) (ss : List Selector) (key : MemberKey) (a : Addr) → key_of url s ≡ Some key → (b : Binding) → is_bound_to key a b ≡ true → concerns url (s ∷ ss) a b ≡ true
 unfolding is_bound_to has_key
 bound_concerns url s ss key a is b e =
-    and_both (same_addr a b.addr) _ (second_true (same_key key b.key) (same_addr a b.addr) e)
-    (any_first _ _ (ap (λ (o : Option MemberKey). option_map_or (λ own. same_key own b.key) o false) is ∙ first_true (same_key key b.key) (same_addr a b.addr) e))
+    and_from (same_addr a b.addr) _ (second_so (same_key key b.key) (same_addr a b.addr) e)
+    (or_left _ _ (ap (λ (o : Option MemberKey). option_map_or (λ own. same_key own b.key) o false) is ∙ first_so (same_key key b.key) (same_addr a b.addr) e))
 
 concerns_more : (url : List ℕ) (s : Selector) (ss : List Selector) (a : Addr) (b : Binding) → concerns url ss a b ≡ true → concerns url (s ∷ ss) a b ≡ true
-concerns_more url s ss a b e = and_both (same_addr a b.addr) _ (first_true (same_addr a b.addr) _ e) (any_second (has_key url b.key s) _ (second_true (same_addr a b.addr) _ e))
+concerns_more url s ss a b e = and_from (same_addr a b.addr) _ (first_so (same_addr a b.addr) _ e) (or_right (has_key url b.key s) _ (second_so (same_addr a b.addr) _ e))
 
 module _ (gone come bindings : List Binding) (up : PlacesAscend binding_place bindings) (a : Addr) where
   abbrev IsKept : MemberKey → Type 0
@@ -97,7 +79,7 @@ module _ (gone come bindings : List Binding) (up : PlacesAscend binding_place bi
 
   entry_kept : (url : List ℕ) (entry : Entry) → list_any (concerns url entry.selectors a) gone ≡ false → list_any (concerns url entry.selectors a) come ≡ false → entry_end (replaced gone come bindings) url entry a ≡ entry_end bindings url entry a
   unfolding entry_end member_keys
-  entry_kept url entry left came = ap (λ (o : Option ℕ). cond (is_membered entry && is_in_family entry.family a) o None) (least_kept never (member_keys url entry) (keys_kept url entry.selectors left came))
+  entry_kept url entry left came = ap (λ (o : Option ℕ). cond (is_membered entry && is_in_family entry.family a) o None) (least_kept for_ever (member_keys url entry) (keys_kept url entry.selectors left came))
 
 -- ---- The places that are touched
 
@@ -108,25 +90,25 @@ module _ (slots : Slots) (owner : Owner) (side : Direction) (a : Addr) (n : ℕ)
   entry_touched : (b : Binding) → concerns held.url entry.selectors a b ≡ true → list_any (touches_at owner side a n) (entry_touch b.key b.addr (owner, held) side (n, entry)) ≡ true
   unfolding entry_touch row_key_place
   entry_touched b e =
-      let here : b.addr ≡ a = sym (same_addr_exact a b.addr (first_true (same_addr a b.addr) _ e)) in
-      ap (λ (c : Bool). list_any (touches_at owner side a n) (cond c (row_key owner side b.addr n ∷ []) [])) (second_true (same_addr a b.addr) _ e)
-      ∙ any_first _ _ (subst (λ (x : Addr). same_place (place_at owner side x n) (place_at owner side a n) ≡ true) (sym here) (same_place_itself (place_at owner side a n)))
+      let here : b.addr ≡ a = sym (same_addr_exact a b.addr (first_so (same_addr a b.addr) _ e)) in
+      ap (λ (c : Bool). list_any (touches_at owner side a n) (cond c (row_key owner side b.addr n ∷ []) [])) (second_so (same_addr a b.addr) _ e)
+      ∙ or_left _ _ (subst (λ (x : Addr). same_place (place_at owner side x n) (place_at owner side a n) ≡ true) (sym here) (same_place_itself (place_at owner side a n)))
 
   side_touched : (b : Binding) → entry_at n (entries_of side held.policy) ≡ Some entry → concerns held.url entry.selectors a b ≡ true → list_any (touches_at owner side a n) (side_touches b.key b.addr (owner, held) side) ≡ true
   unfolding side_touches
   side_touched b stands e =
-      any_flat_map (touches_at owner side a n) (entry_touch b.key b.addr (owner, held) side) (numbered 1 (entries_of side held.policy))
+      any-flat_map (touches_at owner side a n) (entry_touch b.key b.addr (owner, held) side) (numbered 1 (entries_of side held.policy))
       ∙ any_entry (λ x. list_any (touches_at owner side a n) (entry_touch b.key b.addr (owner, held) side x)) (entries_of side held.policy) n entry stands (entry_touched b e)
 
 holder_touched : (key : MemberKey) (b a : Addr) (owner : Owner) (held : UrlPolicy) (side : Direction) (n : ℕ) → list_any (touches_at owner side a n) (side_touches key b (owner, held) side) ≡ true → list_any (touches_at owner side a n) (holder_touches key b (owner, held)) ≡ true
 unfolding holder_touches
-holder_touched key b a owner held From n e = list_any-append (touches_at owner From a n) (side_touches key b (owner, held) From) (side_touches key b (owner, held) To) ∙ any_first _ _ e
-holder_touched key b a owner held To n e = list_any-append (touches_at owner To a n) (side_touches key b (owner, held) From) (side_touches key b (owner, held) To) ∙ any_second (list_any (touches_at owner To a n) (side_touches key b (owner, held) From)) _ e
+holder_touched key b a owner held From n e = list_any-append (touches_at owner From a n) (side_touches key b (owner, held) From) (side_touches key b (owner, held) To) ∙ or_left _ _ e
+holder_touched key b a owner held To n e = list_any-append (touches_at owner To a n) (side_touches key b (owner, held) From) (side_touches key b (owner, held) To) ∙ or_right (list_any (touches_at owner To a n) (side_touches key b (owner, held) From)) _ e
 
 binding_touched : (slots : Slots) (owner : Owner) (side : Direction) (a : Addr) (n : ℕ) (held : UrlPolicy) (entry : Entry) → held_by slots owner ≡ Some held → entry_at n (entries_of side held.policy) ≡ Some entry → (b : Binding) → concerns held.url entry.selectors a b ≡ true → list_any (touches_at owner side a n) (binding_touches slots b) ≡ true
 unfolding binding_touches
 binding_touched slots owner side a n held entry holds stands b e =
-    any_flat_map (touches_at owner side a n) (holder_touches b.key b.addr) (holders_from 0 slots)
+    any-flat_map (touches_at owner side a n) (holder_touches b.key b.addr) (holders_from 0 slots)
     ∙ held_complete (λ (h : Holder). list_any (touches_at owner side a n) (holder_touches b.key b.addr h)) slots owner held holds
     (holder_touched b.key b.addr a owner held side n (side_touched slots owner side a n held holds entry b stands e))
 
@@ -135,7 +117,7 @@ not_concerned : (slots : Slots) (owner : Owner) (side : Direction) (a : Addr) (n
 unfolding touches
 not_concerned slots owner side a n held entry holds stands changed none =
     any_none_implied (concerns held.url entry.selectors a) (λ (b : Binding). list_any (touches_at owner side a n) (binding_touches slots b)) (binding_touched slots owner side a n held entry holds stands) changed
-    (sym (any_flat_map (touches_at owner side a n) (binding_touches slots) changed) ∙ none)
+    (sym (any-flat_map (touches_at owner side a n) (binding_touches slots) changed) ∙ none)
 
 module _ (slots : Slots) (gone come bindings : List Binding) (up : PlacesAscend binding_place bindings) (owner : Owner) (side : Direction) (a : Addr) (n : ℕ) (none : list_any (touches_at owner side a n) (touches slots (gone ++ come)) ≡ false) where
   untouched_entry : (held : UrlPolicy) → held_by slots owner ≡ Some held → (o : Option Entry) → entry_at n (entries_of side held.policy) ≡ o → option_and_then (λ (entry : Entry). entry_end (replaced gone come bindings) held.url entry a) o ≡ option_and_then (λ (entry : Entry). entry_end bindings held.url entry a) o

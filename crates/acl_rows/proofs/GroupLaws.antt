@@ -14,6 +14,8 @@ use Rattle.sorted_rows.proofs.AddressLaws.{addr_place_exact, same_addr-place}
 use Rattle.sorted_rows.proofs.PlacedLaws.{same_place-cmp, same_place_exact, same_place_itself, row_at-set_row, row_at_row, ascend-set_row}
 use Rattle.sorted_rows.proofs.RowLaws.{all-set_row, ascend-filter}
 use Rattle.sorted_rows.proofs.IndexLaws.{ascend-append}
+use Rattle.sorted_rows.proofs.ChangeLaws.{differ_turned}
+use Rattle.sorted_rows.proofs.Lists.{filter_few}
 use Rattle.acl_rows.specs.declared.row.Owner.{Owner}
 use Rattle.acl_rows.specs.declared.row.Row.{Row}
 use Rattle.acl_rows.specs.Places.{row_place}
@@ -29,21 +31,9 @@ Group = Addr × RowsAndRoom Row
 abbrev pub has_rows : Group → Bool
 has_rows g = nat_lt 0 (length g.1.rows)
 
-pub differ_turned : (p q : List ℕ) → same_place p q ≡ false → same_place q p ≡ false
-differ_turned p q other = by (same_place q p) refl
-  where
-    by : (b : Bool) → same_place q p ≡ b → b ≡ false
-    by false is = refl
-    by true is = absurd (false≢true (sym other ∙ subst (λ (r : List ℕ). same_place r q ≡ true) (same_place_exact q p is) (same_place_itself q)))
-
-kept_few : (r : Row) (n : ℕ) (rs : List Row) (b : Bool) → length rs ≤ n → length (cond b (r ∷ rs) rs) ≤ suc n
-kept_few r n rs true few = omega arith
-kept_few r n rs false few = omega arith
-
 -- there are no more rows of an address than rows
 pub at_few : (a : Addr) (rows : List Row) → length (filter (is_at a) rows) ≤ length rows
-at_few a [] = omega arith
-at_few a (r ∷ rs) = kept_few r (length rs) (filter (is_at a) rs) (is_at a r) (at_few a rs)
+at_few a rows = filter_few (is_at a) rows
 
 module _ (owner : Owner) (side : Direction) where
   -- ---- The rows of an address are those in its group

@@ -9,6 +9,7 @@ use Rattle.mud_base.specs.declared.prefix.Prefix.{Prefix}
 use Rattle.sorted_rows.specs.Placed.{row_at}
 use Rattle.sorted_rows.specs.Changes.{RowChange, changed}
 use Rattle.sorted_rows.proofs.PlacedLaws.{place_cmp_itself}
+use Rattle.sorted_rows.proofs.Lists.{all-append}
 use Rattle.mud_world.specs.declared.item.Item.{Item}
 use Rattle.mud_world.specs.declared.item.Put.{Put}
 use Rattle.mud_world.specs.Items.{place_of, put_one, put_all, place_of_put, is_apart, IsOrdered, IsDifference, ArePutsOf, AreOfLowerKinds, AreItemsOf, puts_of}
@@ -61,10 +62,6 @@ unfolding name_items name_item
 name_kinds P five [] = tt
 name_kinds P five (row ∷ rows) = (five, name_kinds P five rows)
 
-all_append : {A : Type 0} (P : A → Type 0) (xs ys : List A) → AllByRecursion P xs → AllByRecursion P ys → AllByRecursion P (xs ++ ys)
-all_append P [] ys all more = more
-all_append P (x ∷ xs) ys all more = (all.0, all_append P xs ys all.1 more)
-
 pub class_of_kind : AreItemsOf class_key 3 class_item
 unfolding class_item
 class_of_kind row = refl
@@ -85,7 +82,7 @@ unfolding bind_items class_items name_items
 binds_ordered binds sound =
     ordered-append 3 (map class_item binds.classes) (locals_items binds.locals ++ map name_item binds.names)
     (class_kinds (λ k. k ≤ 3) (omega arith) binds.classes)
-    (all_append (λ item. 3 < item.kind) (locals_items binds.locals) (map name_item binds.names) (locals_kinds (λ k. 3 < k) (omega arith) binds.locals) (name_kinds (λ k. 3 < k) (omega arith) binds.names))
+    (all-append (λ item. 3 < item.kind) (locals_items binds.locals) (map name_item binds.names) (locals_kinds (λ k. 3 < k) (omega arith) binds.locals) (name_kinds (λ k. 3 < k) (omega arith) binds.names))
     (ordered-items class_key 3 class_item class_of_kind binds.classes sound.classes.ascend)
     (ordered-append 4 (locals_items binds.locals) (map name_item binds.names)
     (locals_kinds (λ k. k ≤ 4) (omega arith) binds.locals) (name_kinds (λ k. 4 < k) (omega arith) binds.names)
@@ -103,12 +100,12 @@ unfolding bind_items class_items
 classes_reach binds change =
     let high : List Item = locals_items binds.locals ++ name_items binds.names in
     puts_among 3 [] (map class_item binds.classes) high (puts_of 3 class_item change) tt
-    (all_append (λ item. 3 < item.kind) (locals_items binds.locals) (name_items binds.names) (locals_kinds (λ k. 3 < k) (omega arith) binds.locals) (name_kinds (λ k. 3 < k) (omega arith) binds.names))
+    (all-append (λ item. 3 < item.kind) (locals_items binds.locals) (name_items binds.names) (locals_kinds (λ k. 3 < k) (omega arith) binds.locals) (name_kinds (λ k. 3 < k) (omega arith) binds.names))
     (puts_of_kind class_key 3 class_item class_of_kind change)
     ∙ ap (λ items. items ++ high) (puts_kept class_key 3 class_item class_of_kind change binds.classes)
 
 lower_than_names : (binds : Binds) → AreOfLowerKinds 5 (class_items binds.classes ++ locals_items binds.locals)
-lower_than_names binds = all_append (λ item. item.kind < 5) (class_items binds.classes) (locals_items binds.locals) (class_kinds (λ k. k < 5) (omega arith) binds.classes) (locals_kinds (λ k. k < 5) (omega arith) binds.locals)
+lower_than_names binds = all-append (λ item. item.kind < 5) (class_items binds.classes) (locals_items binds.locals) (class_kinds (λ k. k < 5) (omega arith) binds.classes) (locals_kinds (λ k. k < 5) (omega arith) binds.locals)
 
 -- puts of names among all items
 pub among_names : (binds : Binds) (puts : List Put) → ArePutsOf 5 puts → put_all (bind_items binds) puts ≡ (class_items binds.classes ++ locals_items binds.locals) ++ put_all (name_items binds.names) puts

@@ -1,5 +1,5 @@
 -- A plan that sets the local networks is that of the step.
-use Rattle.std.proofs.Common.{◌≡◌, ℕ, ◌≤◌, ◌<◌, ◌^◌, true, false, List, [], ◌∷◌, ◌++◌, length, Option, Some, None, Ok, Err, refl, sym, ap, subst, ◌∙◌, arith}
+use Rattle.std.proofs.Common.{◌≡◌, ◌<◌, true, false, List, [], ◌∷◌, ◌++◌, length, Option, Some, None, Ok, Err, refl, sym, ap, subst, ◌∙◌, arith}
 use Rattle.std.specs.Prelude.{IsOkAnd, MatchOption}
 use Rattle.std.specs.List.{AllByRecursion}
 use Rattle.mud_base.specs.declared.prefix.Prefix.{Prefix}
@@ -7,7 +7,6 @@ use Rattle.mud_world.specs.Items.{kind_of_put, put_one}
 use Rattle.item_codec.specs.declared.word.Word.TheVariants.{Same, Set}
 use Rattle.acl_model.specs.Changes.{IsBindingChange}
 use Rattle.mud_tables.specs.declared.bind_fault.BindFault.{BindFault}
-use Rattle.mud_tables.specs.Limits.{most_locals}
 use Rattle.mud_tables.specs.Fits.{FitsLocals}
 use Rattle.mud_tables.specs.Binds.{Binds, IsKeptNetwork, IsSoundLocals, IsSoundBinds}
 use Rattle.mud_tables.specs.BindSteps.{LocalsAfter, LocalStep, locals_step, is_change, with_locals}
@@ -22,7 +21,7 @@ use Rattle.bind_book.specs.Book.{Book, IsRefusal}
 use Rattle.bind_book.specs.Plans.{Plan, IsSetLocals, IsPlanned, changed_binds, HasRoomFor, same_plan, locals_put, locals_plan}
 use Rattle.bind_book.proofs.BookItems.{one_difference, binds_told, locals_reach}
 use Rattle.bind_book.proofs.Plans.{empty_as_told, no_binding_change, same_planned}
-use Rattle.mud_tables.proofs.TakenLaws.{fitting_networks}
+use Rattle.mud_tables.proofs.TakenLaws.{fitting_networks, few_fit}
 
 -- ---- The put
 
@@ -112,9 +111,6 @@ module _ (prefixes : List Prefix) where
   locals_same book binds e found plan is =
       let Here : Binds → Type 0 = λ b. IsSoundBinds b → AllByRecursion IsKeptNetwork prefixes → IsSetLocals prefixes b.locals found → plan ≡ same_plan None → IsOkAnd (with_locals book.binds (locals_step prefixes book.binds.locals)) (λ done. IsPlanned done book plan) in
       subst Here (sym e) (λ sound each. same_here book (locals_step prefixes book.binds.locals) found plan is sound (known book.binds sound each))
-
-few_fit : (n : ℕ) → n ≤ most_locals → n < 2 ^ 16
-few_fit n few = omega (arith, few)
 
 sound_fit : (locals : List Prefix) → IsSoundLocals locals → FitsLocals locals
 sound_fit locals sound = record { few = few_fit (length locals) sound.few; each = fitting_networks locals sound.each }

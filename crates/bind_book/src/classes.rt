@@ -46,7 +46,7 @@ fn first_address(alloc: Global, class: &Class, addr: Addr) -> Result<ClassChange
 
 /// The change by which a class gets an address; None where it has it already.
 #[tactic(auto, unfolding(mud_tables::specs::BindSteps::bind_step, mud_tables::specs::BindSteps::bind_cases, mud_tables::specs::BindRowChanges::bind_change, mud_tables::specs::BindRowChanges::bind_cases_change, mud_tables::specs::Binds::class_at))]
-pub fn bind_rows(
+pub(crate) fn bind_rows(
     alloc: Global,
     class: &Class,
     addr: Addr,
@@ -86,7 +86,7 @@ fn left_with(alloc: Global, class: &Class, addrs: Listed<Addr>) -> Result<ClassC
 
 /// The change by which an address leaves a class. A class with no address left goes.
 #[tactic(auto, unfolding(mud_tables::specs::BindSteps::unbind_step, mud_tables::specs::BindSteps::unbind_cases, mud_tables::specs::BindRowChanges::unbind_change, mud_tables::specs::BindRowChanges::unbind_cases_change, mud_tables::specs::Binds::class_at))]
-pub fn unbind_rows(
+pub(crate) fn unbind_rows(
     alloc: Global,
     class: &Class,
     addr: Addr,

@@ -19,22 +19,22 @@ use sorted_rows::Change;
 use std::alloc::Global;
 
 /// The kind of the items of classes.
-pub const CLASS_KIND: u8 = 3;
+pub(crate) const CLASS_KIND: u8 = 3;
 
 /// The kind of the item of the local networks.
-pub const LOCALS_KIND: u8 = 4;
+pub(crate) const LOCALS_KIND: u8 = 4;
 
 /// The kind of the items of names.
-pub const NAME_KIND: u8 = 5;
+pub(crate) const NAME_KIND: u8 = 5;
 
 /// The version of each body.
 const VERSION: u64 = 1;
 
 /// What the key of a class by URI begins with.
-pub const BY_URI: u8 = 1;
+pub(crate) const BY_URI: u8 = 1;
 
 /// What the key of a class by MUD URL begins with.
-pub const BY_URL: u8 = 2;
+pub(crate) const BY_URL: u8 = 2;
 
 /// The octets by which a class is kept.
 #[tactic(auto, unfolding(mud_tables::specs::Binds::key_of_class))]
@@ -106,7 +106,10 @@ fn put_of_gone_class(alloc: Global, change: &Change<Class, ClassRow>) -> Result<
 }
 
 /// The puts of a change of classes.
-pub fn class_puts(alloc: Global, change: &Change<Class, ClassRow>) -> Result<Listed<Put>, Memory>
+pub(crate) fn class_puts(
+    alloc: Global,
+    change: &Change<Class, ClassRow>,
+) -> Result<Listed<Put>, Memory>
     requires { All FitsClass change.now.sets }
     ensures { IfOk result (λ puts. puts ≡ puts_of 3 class_item change.now) }
 {
@@ -137,7 +140,7 @@ fn locals_item(alloc: Global, locals: &[Prefix]) -> Result<Item, Memory>
 
 /// The put of local networks: their item, or none of its key where there are none.
 #[tactic(auto, unfolding(crate::specs::Plans::locals_put))]
-pub fn locals_put(alloc: Global, locals: &[Prefix]) -> Result<Put, Memory>
+pub(crate) fn locals_put(alloc: Global, locals: &[Prefix]) -> Result<Put, Memory>
     requires { FitsLocals locals.now }
     ensures { IfOk result (λ put. put ≡ locals_put locals.now) }
 {
@@ -187,7 +190,10 @@ fn put_of_gone_name(
 }
 
 /// The puts of a change of names.
-pub fn name_puts(alloc: Global, change: &Change<KeptName, NameRow>) -> Result<Listed<Put>, Memory>
+pub(crate) fn name_puts(
+    alloc: Global,
+    change: &Change<KeptName, NameRow>,
+) -> Result<Listed<Put>, Memory>
     requires { All FitsName change.now.sets }
     ensures { IfOk result (λ puts. puts ≡ puts_of 5 name_item change.now) }
 {

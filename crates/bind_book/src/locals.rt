@@ -13,7 +13,7 @@ use std::alloc::Global;
 /// The local networks that these prefixes are, in order and each once; None where they are the kept
 /// ones.
 #[tactic(auto, unfolding(mud_tables::specs::BindSteps::locals_step, mud_tables::specs::BindSteps::locals_cases))]
-pub fn set_locals(
+pub(crate) fn set_locals(
     alloc: Global,
     prefixes: &[Prefix],
     locals: &[Prefix],

@@ -206,7 +206,7 @@ fn known_name(
 /// What an observation of a name at an address answers, and how the names change. The end is the
 /// moment and so many seconds.
 #[tactic(auto, unfolding(mud_tables::specs::BindSteps::observe_step, mud_tables::specs::BindSteps::observe_row, mud_tables::specs::BindSteps::observe_cases, mud_tables::specs::BindSteps::addrs_of, mud_tables::specs::Ends::end_of, mud_tables::specs::Binds::name_at, mud_tables::specs::BindRowChanges::observe_change, mud_tables::specs::BindRowChanges::observe_row_change, mud_tables::specs::BindRowChanges::observe_cases_change))]
-pub fn observe(
+pub(crate) fn observe(
     alloc: Global,
     name: &[u8],
     addr: Addr,

@@ -130,7 +130,7 @@ fn class_of_key(alloc: Global, key: &[u8]) -> Result<Option<Class>, Memory>
 
 /// The class of an item, or None where the item is of none.
 #[tactic(auto, unfolding(mud_tables::specs::BindItems::class_in, mud_tables::specs::BindItems::if_sound_class, mud_tables::specs::Binds::class_row))]
-pub fn class_in(alloc: Global, item: &Item) -> Result<Option<ClassRow>, Memory>
+pub(crate) fn class_in(alloc: Global, item: &Item) -> Result<Option<ClassRow>, Memory>
     ensures { IfOk result (λ found. found ≡ items.class_in item.now) }
 {
     if item.kind != CLASS_KIND {
@@ -151,7 +151,7 @@ pub fn class_in(alloc: Global, item: &Item) -> Result<Option<ClassRow>, Memory>
 
 /// The name of an item, or None where the item is of none.
 #[tactic(auto, unfolding(mud_tables::specs::BindItems::name_in, mud_tables::specs::BindItems::if_sound_name, mud_tables::specs::Binds::name_row))]
-pub fn name_in(alloc: Global, item: &Item) -> Result<Option<NameRow>, Memory>
+pub(crate) fn name_in(alloc: Global, item: &Item) -> Result<Option<NameRow>, Memory>
     ensures { IfOk result (λ found. found ≡ items.name_in item.now) }
 {
     if item.kind != NAME_KIND {
@@ -186,7 +186,7 @@ fn prefixes_of(alloc: Global, networks: &[Network]) -> Result<Option<Listed<Pref
 
 /// The local networks of an item, or None where the item is of none.
 #[tactic(auto, unfolding(mud_tables::specs::BindItems::locals_in, mud_tables::specs::BindItems::if_sound_locals))]
-pub fn locals_in(alloc: Global, item: &Item) -> Result<Option<Listed<Prefix>>, Memory>
+pub(crate) fn locals_in(alloc: Global, item: &Item) -> Result<Option<Listed<Prefix>>, Memory>
     ensures { IfOk result (λ found. found ≡ items.locals_in item.now) }
 {
     if item.kind != LOCALS_KIND || item.key.len() != 0 {

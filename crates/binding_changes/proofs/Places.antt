@@ -6,6 +6,7 @@ use Rattle.std.proofs.lemmas.Bool.Decides.{nat_tests}
 use Rattle.std.proofs.lemmas.List.{take_more, map-append, append-nil, take-append-drop}
 use Rattle.std.proofs.lemmas.List.Elements.{filter-append}
 use Rattle.std.proofs.lemmas.List.Folds.{list_any-append}
+use Rattle.std.proofs.Math.Bool.{or-false, or-true}
 use Rattle.acl_model.specs.declared.binding.Binding.{Binding}
 use Rattle.acl_model.specs.Changes.{same_binding, has_binding, those_not_in}
 use Rattle.binding_changes.specs.declared.lent.LentBinding.{LentBinding}
@@ -61,14 +62,6 @@ has_apart : (b : LentBinding) (others : List LentBinding) (n : ℕ)
     → has_binding (lent_binding b) (map lent_binding others) ≡ (is_some (position (is_lent b) (take n others)) || is_some (position (is_lent b) (drop n others)))
 has_apart b others n =
     ap (λ xs. has_binding (lent_binding b) (map lent_binding xs)) (sym (take-append-drop n others)) ∙ has_in_parts b (take n others) (drop n others)
-
-or-true : (b : Bool) → (b || true) ≡ true
-or-true true = refl
-or-true false = refl
-
-or-false : (b : Bool) → (b || false) ≡ b
-or-false true = refl
-or-false false = refl
 
 -- it stands from the place on
 pub found_behind : (b : LentBinding) (others : List LentBinding) (n : ℕ) (behind : Option ℕ) (place : ℕ) → behind ≡ position (is_lent b) (drop n others) → behind ≡ Some place

@@ -39,7 +39,7 @@ fn place_from(from: usize, binding: &LentBinding<'_>, others: &[LentBinding<'_>]
 /// end is another one. Each is looked for behind the last one that was found, so that in lists of
 /// one order all that stay cost one look at each of the others, and each that doesn't stay costs
 /// one more. No contract counts the looks.
-pub fn those_not_in(
+fn those_not_in(
     alloc: Global,
     others: &[LentBinding<'_>],
     bindings: &[LentBinding<'_>],

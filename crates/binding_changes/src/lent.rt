@@ -38,7 +38,7 @@ pub struct LentBinding<'a> {
 impl LentKey<'_> {
     /// The key that it is.
     #[tactic(auto, unfolding(crate::specs::Lent::lent_key))]
-    pub fn to_key(&self, alloc: Global) -> Result<MemberKey, Memory>
+    fn to_key(&self, alloc: Global) -> Result<MemberKey, Memory>
         ensures { IfOk result (λ key. key ≡ lent_key self.now) }
     {
         match self {
@@ -52,7 +52,7 @@ impl LentKey<'_> {
 
     /// Whether both are one key.
     #[tactic(auto, unfolding(crate::specs::Lent::lent_key, acl_model::specs::Keys::same_key))]
-    pub fn is_same(&self, other: &LentKey<'_>) -> bool
+    pub(crate) fn is_same(&self, other: &LentKey<'_>) -> bool
         ensures { result ≡ same_key (lent_key self.now) (lent_key other.now) }
     {
         match (self, other) {
@@ -69,7 +69,7 @@ impl LentKey<'_> {
 impl LentBinding<'_> {
     /// The binding that it is.
     #[tactic(auto, unfolding(crate::specs::Lent::lent_binding))]
-    pub fn to_binding(&self, alloc: Global) -> Result<Binding, Memory>
+    pub(crate) fn to_binding(&self, alloc: Global) -> Result<Binding, Memory>
         ensures { IfOk result (λ binding. binding ≡ lent_binding self.now) }
     {
         Ok(Binding {
@@ -82,7 +82,7 @@ impl LentBinding<'_> {
     /// Whether both are one binding: of one key, address and end. The keys, whose texts are long,
     /// are looked at last.
     #[tactic(auto, using(crate::proofs::Places::tests_in_order), unfolding(crate::specs::Lent::lent_binding, acl_model::specs::Changes::same_binding, acl_model::specs::Changes::same_spot))]
-    pub fn is_same(&self, other: &LentBinding<'_>) -> bool
+    pub(crate) fn is_same(&self, other: &LentBinding<'_>) -> bool
         ensures { result ≡ same_binding (lent_binding self.now) (lent_binding other.now) }
     {
         same_addr(self.addr, other.addr)

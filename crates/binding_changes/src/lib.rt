@@ -6,6 +6,6 @@ pub mod changes;
 pub mod lent;
 pub mod rows;
 
-pub use changes::{changed_bindings, those_not_in};
+pub use changes::changed_bindings;
 pub use lent::{LentBinding, LentKey};
 pub use rows::BindingRow;

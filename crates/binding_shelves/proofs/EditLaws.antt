@@ -11,6 +11,7 @@ use Rattle.sorted_rows.proofs.PlacedLaws.{same_place_exact, same_place_itself, s
 use Rattle.sorted_rows.proofs.RowLaws.{all-set_row, all-without_row}
 use Rattle.sorted_rows.proofs.RowSets.{same_rows_by}
 use Rattle.sorted_rows.proofs.IndexLaws.{index_in-set_row_behind, index_in-without_row_behind}
+use Rattle.sorted_rows.proofs.ChangeLaws.{same_place_turned}
 use Rattle.acl_model.specs.declared.binding.MemberKey.{MemberKey}
 use Rattle.acl_model.specs.declared.binding.Binding.{Binding}
 use Rattle.acl_model.specs.Places.{key_place, binding_place}
@@ -20,7 +21,7 @@ use Rattle.row_edits.proofs.EditLaws.{ascend-edit_made, row_at-edit_made, edited
 use Rattle.binding_shelves.specs.declared.parts.Shelf.{Shelf}
 use Rattle.binding_shelves.specs.Shelves.{KeyRoom, bindings_of_key, index_by_key, AreFoundByKey, edits_of_key, HasRoomByKey}
 use Rattle.binding_shelves.specs.Parts.{shelf_place, part_at, joined, room_in, IsOwn, AreShelved, AreRoomier, AreFoundIn, IsEdited}
-use Rattle.binding_shelves.proofs.KeyLaws.{differ_turned, tells_key, binding_place_is, places_differ}
+use Rattle.binding_shelves.proofs.KeyLaws.{tells_key, binding_place_is, places_differ}
 use Rattle.binding_shelves.proofs.PartLaws.{joined_under, row_joined, joined_ascend, part_ascend, IsShelfAt, shelf_found, part_set, shelved_set, own_read, room_is}
 
 -- ---- The shelf of the edit
@@ -144,16 +145,7 @@ edits_last key es e =
     ap length (filter-append (is_under (edit_place binding_place) (key_place key)) es (e ∷ []))
     ∙ length-append (filter (is_under (edit_place binding_place) (key_place key)) es) (filter (is_under (edit_place binding_place) (key_place key)) (e ∷ []))
     ∙ ap (λ (n : ℕ). length (filter (is_under (edit_place binding_place) (key_place key)) es) + n)
-    (one_by e (is_under binding_place (key_place key) e.row) ∙ ap (λ (b : Bool). cond b 1 0) (tells_key key e.row ∙ turned (key_place key) (key_place e.row.key)))
-  where
-    turned_by : (p q : List ℕ) (b c : Bool) → same_place p q ≡ b → same_place q p ≡ c → b ≡ c
-    turned_by p q true true is is' = refl
-    turned_by p q false false is is' = refl
-    turned_by p q true false is is' = sym is ∙ differ_turned q p is'
-    turned_by p q false true is is' = sym (differ_turned p q is) ∙ is'
-
-    turned : (p q : List ℕ) → same_place p q ≡ same_place q p
-    turned p q = turned_by p q (same_place p q) (same_place q p) refl refl
+    (one_by e (is_under binding_place (key_place key) e.row) ∙ ap (λ (b : Bool). cond b 1 0) (tells_key key e.row ∙ same_place_turned (key_place key) (key_place e.row.key)))
 
 pub room_edited : (e : Edit Binding) (es : List (Edit Binding)) (old new : List Shelf) → IsEdited e old new → HasRoomByKey (es ++ e ∷ []) (room_in old) → HasRoomByKey es (room_in new)
 room_edited e es old new is has = record {

@@ -1,11 +1,12 @@
 -- The places of keys, and how those of their bindings begin.
-use Rattle.std.proofs.Common.{◌≡◌, ℕ, Bool, true, false, ◌&&◌, List, [], ◌∷◌, ◌++◌, length, take, refl, sym, ap, subst, ◌∙◌}
+use Rattle.std.proofs.Common.{◌≡◌, ℕ, Bool, true, false, ◌&&◌, List, ◌++◌, length, take, refl, sym, ap, subst, ◌∙◌}
 use Rattle.std.specs.Prelude.{nat_eq}
 use Rattle.std.specs.Str.{bytes_eq}
 use Rattle.std.specs.Ordering.{ordering_then}
 use Rattle.std.specs.declared.cmp.Ordering.{Ordering}
 use Rattle.std.specs.declared.cmp.Ordering.TheVariants.{Less}
 use Rattle.std.proofs.lemmas.Bool.{false≢true, eqb-true}
+use Rattle.std.proofs.lemmas.List.{take_at}
 use Rattle.sorted_rows.specs.Placed.{place_cmp, same_place, is_under}
 use Rattle.sorted_rows.specs.Addresses.{addr_place}
 use Rattle.sorted_rows.proofs.PlacedLaws.{same_place_exact, same_place_itself}
@@ -22,17 +23,10 @@ pub not_same : (p q : List ℕ) (b : Bool) → same_place q p ≡ b → same_pla
 not_same p q false is other = refl
 not_same p q true is other = absurd (false≢true (sym other ∙ subst (λ (r : List ℕ). same_place r q ≡ true) (same_place_exact q p is) (same_place_itself q)))
 
-pub differ_turned : (p q : List ℕ) → same_place p q ≡ false → same_place q p ≡ false
-differ_turned p q other = not_same p q (same_place q p) refl other
-
 -- ---- What a binding's place begins with
 
-take_own : (v w : List ℕ) → take (length v) (v ++ w) ≡ v
-take_own [] w = refl
-take_own (x ∷ v) w = ap (λ (z : List ℕ). x ∷ z) (take_own v w)
-
 take_front : (u v w : List ℕ) (b : Bool) → nat_eq (length u) (length v) ≡ b → (b && bytes_eq u (take (length u) (v ++ w))) ≡ (b && bytes_eq u v)
-take_front u v w true e = ap (bytes_eq u) (ap (λ (n : ℕ). take n (v ++ w)) (eqb-true (length u) (length v) e) ∙ take_own v w)
+take_front u v w true e = ap (bytes_eq u) (ap (λ (n : ℕ). take n (v ++ w)) (eqb-true (length u) (length v) e) ∙ take_at v w _ refl)
 take_front u v w false e = refl
 
 -- the place of a binding begins with that of a key just where the binding is of the key
@@ -51,7 +45,7 @@ tells_key key b = subst (λ (t : List ℕ). is_under binding_place t b ≡ same_
 pub at_front : (t : List ℕ) (a : Addr) (x : Binding) → same_place (binding_place x) (t ++ addr_place a) ≡ true → is_under binding_place t x ≡ true
 at_front t a x e =
     ap (λ (q : List ℕ). bytes_eq t (take (length t) q)) (same_place_exact (binding_place x) (t ++ addr_place a) e)
-    ∙ ap (bytes_eq t) (take_own t (addr_place a))
+    ∙ ap (bytes_eq t) (take_at t (addr_place a) _ refl)
     ∙ same_place_itself t
 
 pub binding_place_is : (b : Binding) → binding_place b ≡ key_place b.key ++ addr_place b.addr

@@ -1,5 +1,5 @@
 -- What the shelves hold, one after the other.
-use Rattle.std.proofs.Common.{◌≡◌, ℕ, zero, suc, ◌<◌, ◌≤◌, Bool, true, false, cond, List, [], ◌∷◌, ◌++◌, length, set, get_or, Option, Some, Result, Ok, Err, OnOk, refl, sym, ap, subst, ◌∙◌, arith, append-nil}
+use Rattle.std.proofs.Common.{◌≡◌, ℕ, zero, suc, ◌<◌, ◌≤◌, Bool, true, false, cond, List, [], ◌∷◌, ◌++◌, length, set, get_or, Option, Some, Result, Ok, Err, refl, sym, ap, subst, ◌∙◌, arith, append-nil}
 use Rattle.std.specs.Prelude.{filter, nat_lt}
 use Rattle.std.specs.List.{AllByRecursion, insert, slice_get}
 use Rattle.std.specs.declared.cmp.Ordering.TheVariants.{Less}
@@ -11,6 +11,7 @@ use Rattle.sorted_rows.specs.Addresses.{addr_place}
 use Rattle.sorted_rows.proofs.PlacedLaws.{same_place-cmp, same_place_exact, same_place_itself, row_at_found, row_at_missed, place_found, row_at-set_row, set_row_found, set_row_missed, ascend-set_row, found_within, missed_within, index_in_row}
 use Rattle.sorted_rows.proofs.RowLaws.{all-set_row}
 use Rattle.sorted_rows.proofs.IndexLaws.{ascend-append}
+use Rattle.sorted_rows.proofs.ChangeLaws.{differ_turned}
 use Rattle.mud_base.specs.declared.addr.Addr.{Addr}
 use Rattle.acl_model.specs.declared.binding.MemberKey.{MemberKey}
 use Rattle.acl_model.specs.declared.binding.Binding.{Binding}
@@ -18,7 +19,7 @@ use Rattle.acl_model.specs.Places.{key_kind, key_text, text_place, key_place, bi
 use Rattle.binding_shelves.specs.declared.parts.Shelf.{Shelf}
 use Rattle.binding_shelves.specs.Shelves.{room_of_key, bindings_of_key}
 use Rattle.binding_shelves.specs.Parts.{shelf_place, nothing, part_of, part_at, joined, room_in, IsOwn, AreShelved, AreKept, AreRoomier}
-use Rattle.binding_shelves.proofs.KeyLaws.{differ_turned, at_front, key_less}
+use Rattle.binding_shelves.proofs.KeyLaws.{at_front, key_less}
 
 -- the places of bindings tell whether they are of the key with this place
 abbrev pub Tells : List ℕ → Type 0
@@ -351,10 +352,6 @@ joined_none ss empty = ap joined empty
 pub looked : (ss lent : List Shelf) (key : MemberKey) (kind : ℕ) (text : List ℕ) (r : Result ℕ ℕ) → lent ≡ ss → kind ≡ key_kind key → text ≡ key_text key → r ≡ index_in shelf_place (text_place kind text) lent → r ≡ index_in shelf_place (key_place key) ss
 unfolding key_place
 looked ss lent key kind text r same kind_is text_is is = is ∙ (λ i. index_in shelf_place (text_place (kind_is i) (text_is i)) (same i))
-
-pub on_ok_map : {A E : Type 0} (P Q : Type 0) → (P → Q) → (r : Result A E) → OnOk r P → OnOk r Q
-on_ok_map P Q f (Ok v) h = f h
-on_ok_map P Q f (Err e) h = tt
 
 -- a shelf with a key stands at the place of that key
 pub key_shelf : (s : Shelf) (key : MemberKey) → s.key ≡ key → shelf_place s ≡ key_place key

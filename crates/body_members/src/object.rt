@@ -60,7 +60,7 @@ pub fn text_in(object: &Value, member: Member) -> Option<&str>
 
 /// The whole number that a member of an object is, where it is one: from 0 on, below 2^64.
 #[tactic(auto, unfolding(crate::specs::Objects::number_in, crate::specs::Objects::member_in))]
-pub fn number_in(object: &Value, member: Member) -> Option<u64>
+pub(crate) fn number_in(object: &Value, member: Member) -> Option<u64>
     ensures { result ≡ spec.number_in member (view object.now) }
 {
     object.get(member.name()).and_then(Value::as_u64)

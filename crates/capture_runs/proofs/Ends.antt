@@ -1,6 +1,6 @@
 -- What is due to a command that reads a capture, and what it has written where it ends.
-use Rattle.std.proofs.Common.{◌≡◌, ℕ, ◌+◌, ◌≤◌, List, [], ◌++◌, length, take, Option, refl, sym, ap, ◌∙◌, append_assoc, append-nil, subst, add-zero}
-use Rattle.std.proofs.lemmas.List.{take-append-le}
+use Rattle.std.proofs.Common.{◌≡◌, ℕ, ◌+◌, ◌≤◌, List, [], ◌++◌, length, take, Option, refl, sym, ap, ◌∙◌, append_assoc, append-nil, subst}
+use Rattle.std.proofs.lemmas.List.{take-append-le, take_at}
 use Rattle.std.proofs.Math.Seq.{take-append-add}
 use Rattle.mud_world.specs.Door.{DoorState, with_left, put_out}
 use Rattle.mud_world.proofs.Doors.{put_out_twice, took_none}
@@ -11,9 +11,6 @@ use Rattle.command_runs.specs.Due.{Due, WritesDue, WritesPart, WroteFirst}
 use Rattle.capture_runs.specs.Capture.{due_behind, end_line, status_at}
 use Rattle.capture_runs.specs.Runs.{HasAll, HasDone, WroteSome}
 use Rattle.capture_runs.proofs.Done.{wrote_none}
-
-take_front : (front behind : List ℕ) → take (length front) (front ++ behind) ≡ front
-take_front front behind = ap (λ (n : ℕ). take n (front ++ behind)) (sym (add-zero (length front))) ∙ take-append-add front behind 0 ∙ append-nil front
 
 -- a first part of the text is one of what is due, where that begins with the text
 pub part_of_some : (due : Due) (text more : List ℕ) (first now : DoorState) → WroteSome text first now → due.text ≡ text ++ more → WritesPart due first now
@@ -75,7 +72,7 @@ module _ (packets : List Packet) (text : List ℕ) (end : Option CaptureFault) (
         read = p.read;
         count = length p.written;
         left_is = p.left_is;
-        door_is = p.wrote ∙ ap (λ (wrote : List ℕ). put_out wrote (with_left s.left first)) (sym (ap (take (length p.written)) due ∙ take_front p.written behind));
+        door_is = p.wrote ∙ ap (λ (wrote : List ℕ). put_out wrote (with_left s.left first)) (sym (ap (take (length p.written)) due ∙ take_at p.written behind _ refl));
       }
 
   pub part_here_none : WritesPart (due_behind text end) first s

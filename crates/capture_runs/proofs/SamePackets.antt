@@ -17,16 +17,19 @@ seen_rest : List Seen → List Seen
 seen_rest [] = []
 seen_rest (seen ∷ more) = more
 
+pub first_same : (p q : Packet) (ps qs : List Packet) → map seen_of (p ∷ ps) ≡ map seen_of (q ∷ qs) → seen_of p ≡ seen_of q
+unfolding seen_first
+first_same p q ps qs same = ap (λ (l : List Seen). seen_first l (seen_of p)) same
+
+pub rest_same : (p q : Packet) (ps qs : List Packet) → map seen_of (p ∷ ps) ≡ map seen_of (q ∷ qs) → map seen_of ps ≡ map seen_of qs
+unfolding seen_rest
+rest_same p q ps qs same = ap seen_rest same
+
 module _ {S : Type 0} (step : S → Packet → LineStep S) (ending : S → List ℕ) (placeless : LooksAtNoPlace step) where
   step_same : (s : S) (count : ℕ) (p q : Packet) (ps qs : List Packet) → p.number ≡ count + 1 → q.number ≡ count + 1 → map seen_of (p ∷ ps) ≡ map seen_of (q ∷ qs) → step s p ≡ step s q
-  unfolding seen_first
   step_same s count p q ps qs first other same =
-      let seen = ap (λ (l : List Seen). seen_first l (seen_of p)) same in
+      let seen = first_same p q ps qs same in
       placeless s p q (first ∙ sym other) (ap (λ (seen : Seen). seen.seconds) seen) (ap (λ (seen : Seen). seen.octets) seen)
-
-  rest_same : (p q : Packet) (ps qs : List Packet) → map seen_of (p ∷ ps) ≡ map seen_of (q ∷ qs) → map seen_of ps ≡ map seen_of qs
-  unfolding seen_rest
-  rest_same p q ps qs same = ap seen_rest same
 
   lines_same : (s : S) (count : ℕ) (ps qs : List Packet) → IsNumbered count ps → IsNumbered count qs → map seen_of ps ≡ map seen_of qs → lines_from step s ps ≡ lines_from step s qs
   lines_same s count [] [] first other same = refl

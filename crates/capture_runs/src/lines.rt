@@ -64,18 +64,18 @@ fn finish<D: Door, L: PacketLines>(
     fault: Option<CaptureFault>,
 ) -> Status
     ensures statuses { (status_number result ≡ 0) ⊎ ((status_number result ≡ 3) ⊎ ((status_number result ≡ 4) ⊎ (status_number result ≡ 5))) }
-    ensures fault { status_number result ≡ 4 → StopsAtFailure (D.failed door.new) (D.writes door.old) (D.writes door.new) }
-    ensures steady { status_number result ≢ 4 → D.writes door.new ≡ D.writes door.old }
+    ensures fault { status_number result ≡ 4 → StopsAtFailure (D.view door.new).failed (D.view door.old).writes (D.view door.new).writes }
+    ensures steady { status_number result ≢ 4 → (D.view door.new).writes ≡ (D.view door.old).writes }
     ensures done { (s : L.State) (packets : List Packet) (text : List ℕ) (first : DoorState) → L.keeps writer.now s → D.tells
-        → HasAll packets text fault first (D.state door.old) lines.old
+        → HasAll packets text fault first (D.view door.old).state lines.old
         → (status_number result ≡ 0) ⊎ (status_number result ≡ 3)
-        → WritesDue (due_behind (text ++ L.ending s) fault) first (D.state door.new) (status_number result) }
+        → WritesDue (due_behind (text ++ L.ending s) fault) first (D.view door.new).state (status_number result) }
     ensures part { (s : L.State) (packets : List Packet) (text : List ℕ) (first : DoorState) → L.keeps writer.now s → D.tells
-        → HasAll packets text fault first (D.state door.old) lines.old
+        → HasAll packets text fault first (D.view door.old).state lines.old
         → (status_number result ≡ 4) ⊎ (status_number result ≡ 5)
-        → WritesPart (due_behind (text ++ L.ending s) fault) first (D.state door.new) }
-    ensures turns { D.turns door.new ≡ D.turns door.old }
-    ensures reads { D.reads door.new ≡ D.reads door.old }
+        → WritesPart (due_behind (text ++ L.ending s) fault) first (D.view door.new).state }
+    ensures turns { (D.view door.new).turns ≡ (D.view door.old).turns }
+    ensures reads { (D.view door.new).reads ≡ (D.view door.old).reads }
 {
     if writer.append_last(alloc, lines).is_err() {
         return Status::NoMemory;
@@ -94,18 +94,18 @@ fn write_packets<D: Door, L: PacketLines>(
 ) -> Status
     requires { is_broken reader.old ≡ false }
     ensures statuses { (status_number result ≡ 0) ⊎ ((status_number result ≡ 3) ⊎ ((status_number result ≡ 4) ⊎ (status_number result ≡ 5))) }
-    ensures fault { status_number result ≡ 4 → EndsAtFailure (D.failed door.new) (D.reads door.old) (D.reads door.new) (D.writes door.old) (D.writes door.new) }
-    ensures steady { status_number result ≢ 4 → (D.reads door.new ≡ D.reads door.old) × (D.writes door.new ≡ D.writes door.old) }
-    ensures done { (s : L.State) (first : DoorState) → L.keeps writer.old s → D.tells → HasDone [] [] reader.old first (D.state door.old) lines.old
+    ensures fault { status_number result ≡ 4 → EndsAtFailure (D.view door.new).failed (D.view door.old).reads (D.view door.new).reads (D.view door.old).writes (D.view door.new).writes }
+    ensures steady { status_number result ≢ 4 → ((D.view door.new).reads ≡ (D.view door.old).reads) × ((D.view door.new).writes ≡ (D.view door.old).writes) }
+    ensures done { (s : L.State) (first : DoorState) → L.keeps writer.old s → D.tells → HasDone [] [] reader.old first (D.view door.old).state lines.old
         → (status_number result ≡ 0) ⊎ (status_number result ≡ 3)
-        → WritesDue (due_of_capture L.step L.ending s first.left) first (D.state door.new) (status_number result) }
-    ensures part { (s : L.State) (first : DoorState) → L.keeps writer.old s → D.tells → HasDone [] [] reader.old first (D.state door.old) lines.old
+        → WritesDue (due_of_capture L.step L.ending s first.left) first (D.view door.new).state (status_number result) }
+    ensures part { (s : L.State) (first : DoorState) → L.keeps writer.old s → D.tells → HasDone [] [] reader.old first (D.view door.old).state lines.old
         → (status_number result ≡ 4) ⊎ (status_number result ≡ 5)
-        → WritesPart (due_of_capture L.step L.ending s first.left) first (D.state door.new) }
-    ensures taken { (s : L.State) (first : DoorState) → L.keeps writer.old s → D.tells → HasDone [] [] reader.old first (D.state door.old) lines.old
-        → D.reads door.new ≢ D.reads door.old → WritesTaken L.step s first (D.state door.new) }
+        → WritesPart (due_of_capture L.step L.ending s first.left) first (D.view door.new).state }
+    ensures taken { (s : L.State) (first : DoorState) → L.keeps writer.old s → D.tells → HasDone [] [] reader.old first (D.view door.old).state lines.old
+        → (D.view door.new).reads ≢ (D.view door.old).reads → WritesTaken L.step s first (D.view door.new).state }
     ensures left { (s : L.State) → L.keeps writer.old s → IsLeftBy (L.keeps writer.new) L.step s }
-    ensures turns { D.turns door.new ≡ D.turns door.old }
+    ensures turns { (D.view door.new).turns ≡ (D.view door.old).turns }
 {
     'packets: loop {
         match go_on(door, reader, lines) {
@@ -124,18 +124,18 @@ fn write_packets<D: Door, L: PacketLines>(
 /// the fault that ends them. The line of each packet is written before more of the capture is read.
 pub fn write_capture<D: Door, L: PacketLines>(alloc: Global, door: &mut D, writer: &mut L) -> Status
     ensures statuses { (status_number result ≡ 0) ⊎ ((status_number result ≡ 3) ⊎ ((status_number result ≡ 4) ⊎ (status_number result ≡ 5))) }
-    ensures fault { status_number result ≡ 4 → EndsAtFailure (D.failed door.new) (D.reads door.old) (D.reads door.new) (D.writes door.old) (D.writes door.new) }
-    ensures steady { status_number result ≢ 4 → (D.reads door.new ≡ D.reads door.old) × (D.writes door.new ≡ D.writes door.old) }
+    ensures fault { status_number result ≡ 4 → EndsAtFailure (D.view door.new).failed (D.view door.old).reads (D.view door.new).reads (D.view door.old).writes (D.view door.new).writes }
+    ensures steady { status_number result ≢ 4 → ((D.view door.new).reads ≡ (D.view door.old).reads) × ((D.view door.new).writes ≡ (D.view door.old).writes) }
     // From whatever the writer is said to keep, the lines are those of the packets in their order,
     ensures done { (s : L.State) → L.keeps writer.old s → D.tells → (status_number result ≡ 0) ⊎ (status_number result ≡ 3) →
-        WritesDue (due_of_capture L.step L.ending s (D.state door.old).left) (D.state door.old) (D.state door.new) (status_number result) }
+        WritesDue (due_of_capture L.step L.ending s (D.view door.old).state.left) (D.view door.old).state (D.view door.new).state (status_number result) }
     ensures part { (s : L.State) → L.keeps writer.old s → D.tells → (status_number result ≡ 4) ⊎ (status_number result ≡ 5) →
-        WritesPart (due_of_capture L.step L.ending s (D.state door.old).left) (D.state door.old) (D.state door.new) }
-    ensures taken { (s : L.State) → L.keeps writer.old s → D.tells → D.reads door.new ≢ D.reads door.old →
-        WritesTaken L.step s (D.state door.old) (D.state door.new) }
+        WritesPart (due_of_capture L.step L.ending s (D.view door.old).state.left) (D.view door.old).state (D.view door.new).state }
+    ensures taken { (s : L.State) → L.keeps writer.old s → D.tells → (D.view door.new).reads ≢ (D.view door.old).reads →
+        WritesTaken L.step s (D.view door.old).state (D.view door.new).state }
     // and it keeps what some packets leave behind that; which packets, no clause says.
     ensures left { (s : L.State) → L.keeps writer.old s → IsLeftBy (L.keeps writer.new) L.step s }
-    ensures turns { D.turns door.new ≡ D.turns door.old }
+    ensures turns { (D.view door.new).turns ≡ (D.view door.old).turns }
 {
     let mut reader = match CaptureReader::begin(alloc, door) {
         Ok(reader) => reader,

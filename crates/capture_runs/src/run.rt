@@ -46,13 +46,13 @@ fn append_fault(lines: &mut Bytes, fault: CaptureFault) -> Result<(), Memory>
 
 /// Writes the lines gathered, and empties their text.
 fn write_out<D: Door>(door: &mut D, lines: &mut Bytes) -> Result<(), Failed>
-    ensures ok { D.tells → OnOk result (D.state door.new ≡ put_out lines.old (D.state door.old)) }
+    ensures ok { D.tells → OnOk result ((D.view door.new).state ≡ put_out lines.old (D.view door.old).state) }
     ensures empty { OnOk result (lines.new ≡ []) }
-    ensures part { D.tells → OnErr result (WrotePart lines.old (D.state door.old) (D.state door.new)) }
-    ensures cause { Counts (is_err result) (D.writes door.old) (D.writes door.new) }
-    ensures stop { OnErr result (StopsAtFailure (D.failed door.new) (D.writes door.old) (D.writes door.new)) }
-    ensures turns { D.turns door.new ≡ D.turns door.old }
-    ensures reads { D.reads door.new ≡ D.reads door.old }
+    ensures part { D.tells → OnErr result (WrotePart lines.old (D.view door.old).state (D.view door.new).state) }
+    ensures cause { Counts (is_err result) (D.view door.old).writes (D.view door.new).writes }
+    ensures stop { OnErr result (StopsAtFailure (D.view door.new).failed (D.view door.old).writes (D.view door.new).writes) }
+    ensures turns { (D.view door.new).turns ≡ (D.view door.old).turns }
+    ensures reads { (D.view door.new).reads ≡ (D.view door.old).reads }
 {
     say(door, lines.octets())?;
     lines.clear();
@@ -62,13 +62,13 @@ fn write_out<D: Door>(door: &mut D, lines: &mut Bytes) -> Result<(), Failed>
 /// Writes the lines gathered where more is to be read next, or where they are many. Where they
 /// aren't written they stay.
 fn write_before<D: Door>(door: &mut D, lines: &mut Bytes, is_ready: bool) -> Result<(), Failed>
-    ensures ok { D.tells → OnOk result (WroteFront lines.old lines.new (D.state door.old) (D.state door.new)) }
+    ensures ok { D.tells → OnOk result (WroteFront lines.old lines.new (D.view door.old).state (D.view door.new).state) }
     ensures unready { is_ready ≡ false → OnOk result (lines.new ≡ []) }
-    ensures part { D.tells → OnErr result (WrotePart lines.old (D.state door.old) (D.state door.new)) }
-    ensures cause { Counts (is_err result) (D.writes door.old) (D.writes door.new) }
-    ensures stop { OnErr result (StopsAtFailure (D.failed door.new) (D.writes door.old) (D.writes door.new)) }
-    ensures turns { D.turns door.new ≡ D.turns door.old }
-    ensures reads { D.reads door.new ≡ D.reads door.old }
+    ensures part { D.tells → OnErr result (WrotePart lines.old (D.view door.old).state (D.view door.new).state) }
+    ensures cause { Counts (is_err result) (D.view door.old).writes (D.view door.new).writes }
+    ensures stop { OnErr result (StopsAtFailure (D.view door.new).failed (D.view door.old).writes (D.view door.new).writes) }
+    ensures turns { (D.view door.new).turns ≡ (D.view door.old).turns }
+    ensures reads { (D.view door.new).reads ≡ (D.view door.old).reads }
 {
     if is_ready && lines.len() <= MOST_GATHERED {
         return Ok(());
@@ -81,14 +81,14 @@ fn write_before<D: Door>(door: &mut D, lines: &mut Bytes, is_ready: bool) -> Res
 pub fn go_on<D: Door>(door: &mut D, reader: &mut CaptureReader, lines: &mut Bytes) -> Way
     requires { is_broken reader.old ≡ false }
     ensures led { (packets : List Packet) (text : List ℕ) (first : DoorState) → D.tells
-        → HasDone packets text reader.old first (D.state door.old) lines.old
-        → LedTo result packets text reader.new first (D.state door.new) lines.new }
+        → HasDone packets text reader.old first (D.view door.old).state lines.old
+        → LedTo result packets text reader.new first (D.view door.new).state lines.new }
     ensures taken { (packets : List Packet) (text : List ℕ) (first : DoorState) → D.tells
-        → HasDone packets text reader.old first (D.state door.old) lines.old
-        → D.reads door.new ≢ D.reads door.old → WroteTaken packets text first (D.state door.new) }
-    ensures fault { IsTrue (has_failed result) → EndsAtFailure (D.failed door.new) (D.reads door.old) (D.reads door.new) (D.writes door.old) (D.writes door.new) }
-    ensures steady { has_failed result ≡ false → (D.reads door.new ≡ D.reads door.old) × (D.writes door.new ≡ D.writes door.old) }
-    ensures turns { D.turns door.new ≡ D.turns door.old }
+        → HasDone packets text reader.old first (D.view door.old).state lines.old
+        → (D.view door.new).reads ≢ (D.view door.old).reads → WroteTaken packets text first (D.view door.new).state }
+    ensures fault { IsTrue (has_failed result) → EndsAtFailure (D.view door.new).failed (D.view door.old).reads (D.view door.new).reads (D.view door.old).writes (D.view door.new).writes }
+    ensures steady { has_failed result ≡ false → ((D.view door.new).reads ≡ (D.view door.old).reads) × ((D.view door.new).writes ≡ (D.view door.old).writes) }
+    ensures turns { (D.view door.new).turns ≡ (D.view door.old).turns }
     ensures here { result ≡ way.Packet → IsSome (packet_at reader.new) }
     ensures going { result ≡ way.Packet → is_broken reader.new ≡ false }
     ensures fewer { result ≡ way.Packet → most_to_come reader.new < most_to_come reader.old }
@@ -112,16 +112,16 @@ pub fn go_on<D: Door>(door: &mut D, reader: &mut CaptureReader, lines: &mut Byte
 /// Writes the last lines of a capture, and behind them that of the fault that ends it, where one does.
 pub fn end_capture<D: Door>(door: &mut D, lines: &mut Bytes, fault: Option<CaptureFault>) -> Status
     ensures statuses { (status_number result ≡ 0) ⊎ ((status_number result ≡ 3) ⊎ ((status_number result ≡ 4) ⊎ (status_number result ≡ 5))) }
-    ensures fault { status_number result ≡ 4 → StopsAtFailure (D.failed door.new) (D.writes door.old) (D.writes door.new) }
-    ensures steady { status_number result ≢ 4 → D.writes door.new ≡ D.writes door.old }
-    ensures done { (packets : List Packet) (text : List ℕ) (first : DoorState) → D.tells → HasAll packets text fault first (D.state door.old) lines.old
+    ensures fault { status_number result ≡ 4 → StopsAtFailure (D.view door.new).failed (D.view door.old).writes (D.view door.new).writes }
+    ensures steady { status_number result ≢ 4 → (D.view door.new).writes ≡ (D.view door.old).writes }
+    ensures done { (packets : List Packet) (text : List ℕ) (first : DoorState) → D.tells → HasAll packets text fault first (D.view door.old).state lines.old
         → (status_number result ≡ 0) ⊎ (status_number result ≡ 3)
-        → WritesDue (due_behind text fault) first (D.state door.new) (status_number result) }
-    ensures part { (packets : List Packet) (text : List ℕ) (first : DoorState) → D.tells → HasAll packets text fault first (D.state door.old) lines.old
+        → WritesDue (due_behind text fault) first (D.view door.new).state (status_number result) }
+    ensures part { (packets : List Packet) (text : List ℕ) (first : DoorState) → D.tells → HasAll packets text fault first (D.view door.old).state lines.old
         → (status_number result ≡ 4) ⊎ (status_number result ≡ 5)
-        → WritesPart (due_behind text fault) first (D.state door.new) }
-    ensures turns { D.turns door.new ≡ D.turns door.old }
-    ensures reads { D.reads door.new ≡ D.reads door.old }
+        → WritesPart (due_behind text fault) first (D.view door.new).state }
+    ensures turns { (D.view door.new).turns ≡ (D.view door.old).turns }
+    ensures reads { (D.view door.new).reads ≡ (D.view door.old).reads }
 {
     let mut status = Status::Done;
     if let Some(fault) = fault {

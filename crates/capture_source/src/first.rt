@@ -39,13 +39,13 @@ impl First {
 
 /// Reads the first octets of the door's connection. It takes no memory. Where a read fails, fewer
 /// than four octets are taken.
-pub fn read_first<D: Door>(door: &mut D) -> Result<First, Failed>
-    ensures first { D.tells → IfOk result (λ first. ReadsFirst first (D.state door.old) (D.state door.new)) }
-    ensures part { D.tells → OnErr result (TookPart 3 (D.state door.old) (D.state door.new)) }
-    ensures cause { Counts (is_err result) (D.reads door.old) (D.reads door.new) }
-    ensures stop { OnErr result (StopsAtFailure (D.failed door.new) (D.reads door.old) (D.reads door.new)) }
-    ensures turns { D.turns door.new ≡ D.turns door.old }
-    ensures writes { D.writes door.new ≡ D.writes door.old }
+pub(crate) fn read_first<D: Door>(door: &mut D) -> Result<First, Failed>
+    ensures first { D.tells → IfOk result (λ first. ReadsFirst first (D.view door.old).state (D.view door.new).state) }
+    ensures part { D.tells → OnErr result (TookPart 3 (D.view door.old).state (D.view door.new).state) }
+    ensures cause { Counts (is_err result) (D.view door.old).reads (D.view door.new).reads }
+    ensures stop { OnErr result (StopsAtFailure (D.view door.new).failed (D.view door.old).reads (D.view door.new).reads) }
+    ensures turns { (D.view door.new).turns ≡ (D.view door.old).turns }
+    ensures writes { (D.view door.new).writes ≡ (D.view door.old).writes }
 {
     let mut octets = [0; FIRST_LEN];
     let mut len = 0;

@@ -7,5 +7,5 @@ pub mod first;
 pub mod reader;
 
 pub use fault::CaptureFault;
-pub use first::{First, read_first};
+pub use first::First;
 pub use reader::CaptureReader;

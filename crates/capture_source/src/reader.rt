@@ -46,13 +46,13 @@ impl CaptureReader {
     /// for 262,144 octets, or for 524,288 in pcapng, and no other call takes any. Where it fails, at
     /// most those four are taken.
     pub fn begin<D: Door>(alloc: Global, door: &mut D) -> Result<CaptureReader, ReadFault>
-        ensures begun { D.tells → IfOk result (λ reader. HasRead [] reader (D.state door.old) (D.state door.new)) }
+        ensures begun { D.tells → IfOk result (λ reader. HasRead [] reader (D.view door.old).state (D.view door.new).state) }
         ensures going { IfOk result (λ reader. is_broken reader ≡ false) }
-        ensures part { D.tells → OnErr result (TookPart 4 (D.state door.old) (D.state door.new)) }
-        ensures cause { Counts (whole.has_failed result) (D.reads door.old) (D.reads door.new) }
-        ensures stop { IsTrue (whole.has_failed result) → StopsAtFailure (D.failed door.new) (D.reads door.old) (D.reads door.new) }
-        ensures turns { D.turns door.new ≡ D.turns door.old }
-        ensures writes { D.writes door.new ≡ D.writes door.old }
+        ensures part { D.tells → OnErr result (TookPart 4 (D.view door.old).state (D.view door.new).state) }
+        ensures cause { Counts (whole.has_failed result) (D.view door.old).reads (D.view door.new).reads }
+        ensures stop { IsTrue (whole.has_failed result) → StopsAtFailure (D.view door.new).failed (D.view door.old).reads (D.view door.new).reads }
+        ensures turns { (D.view door.new).turns ≡ (D.view door.old).turns }
+        ensures writes { (D.view door.new).writes ≡ (D.view door.old).writes }
     {
         let first = read_first(door)?;
         if is_next(first.octets()) {
@@ -71,17 +71,17 @@ impl CaptureReader {
         ensures going { OnOk result (is_broken self.new ≡ false) }
         ensures fewer { IfOk result (λ more. more ≡ true → most_to_come self.new < most_to_come self.old) }
         ensures next { D.tells → OnOk result (
-            Follows (to_come self.old) (λ octets. with_next (packet_at self.new) (to_come self.new octets)) (D.state source.old) (D.state source.new)) }
-        ensures end { D.tells → IfOk result (λ more. more ≡ false → AtEnd self.new (D.state source.new)) }
-        ensures fault { D.tells → IfErr result (λ fault. EndsIn fault (to_come self.old) (D.state source.old) (D.state source.new)) }
+            Follows (to_come self.old) (λ octets. with_next (packet_at self.new) (to_come self.new octets)) (D.view source.old).state (D.view source.new).state) }
+        ensures end { D.tells → IfOk result (λ more. more ≡ false → AtEnd self.new (D.view source.new).state) }
+        ensures fault { D.tells → IfErr result (λ fault. EndsIn fault (to_come self.old) (D.view source.old).state (D.view source.new).state) }
         ensures failed { IfErr result (λ fault. StandsBehind fault self.new) }
         ensures none { OnErr result (packet_at self.new ≡ None) }
         ensures again { (fault : CaptureFault) → StandsBehind fault self.old → (result ≡ Err fault) × (source.new ≡ source.old) }
         ensures ready { IsTrue (spec.is_ready self.old) → source.new ≡ source.old }
-        ensures cause { Counts (fails self.old (has_failed result)) (D.reads source.old) (D.reads source.new) }
-        ensures stop { IsTrue (fails self.old (has_failed result)) → StopsAtFailure (D.failed source.new) (D.reads source.old) (D.reads source.new) }
-        ensures turns { D.turns source.new ≡ D.turns source.old }
-        ensures writes { D.writes source.new ≡ D.writes source.old }
+        ensures cause { Counts (fails self.old (has_failed result)) (D.view source.old).reads (D.view source.new).reads }
+        ensures stop { IsTrue (fails self.old (has_failed result)) → StopsAtFailure (D.view source.new).failed (D.view source.old).reads (D.view source.new).reads }
+        ensures turns { (D.view source.new).turns ≡ (D.view source.old).turns }
+        ensures writes { (D.view source.new).writes ≡ (D.view source.old).writes }
     {
         match self {
             CaptureReader::Classic(reader) => Ok(reader.advance(source)?),

@@ -1,4 +1,3 @@
 pub mod Due
 pub mod Status
 pub mod Stops
-pub mod View

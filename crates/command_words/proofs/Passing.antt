@@ -1,9 +1,11 @@
 -- `clap` lets each listed line through.
-use Rattle.std.proofs.Common.{◌≡◌, ℕ, Bool, true, false, ◌&&◌, ◌||◌, ◌⊎◌, inl, inr, List, [], ◌∷◌, refl, sym, subst, ap, ap₂, ◌∙◌, ◌+◌}
+use Rattle.std.proofs.Common.{◌≡◌, ℕ, Bool, true, false, ◌&&◌, ◌⊎◌, inl, inr, List, [], ◌∷◌, refl, sym, subst, ap, ap₂, ◌∙◌, ◌+◌}
 use Rattle.std.specs.Prelude.{Option, Some, None, bytes_eq, codes, find, fold, is_some, if◌then◌else◌}
 use Rattle.std.specs.Option.{option_map_or}
 use Rattle.std.specs.List.{list_any}
 use Rattle.std.proofs.lemmas.Slice.Eq.{bytes_eq-Decides}
+use Rattle.std.specs.Cmp.{first_so}
+use Rattle.std.proofs.lemmas.Bool.{or_parts}
 use Rattle.clap.specs.Lexer.{long_of, short_of}
 use Rattle.clap.specs.Words.{App, Shape, fault_of, kind_of}
 use Rattle.clap.specs.Faults.{check_fault, defaults_fault, level_fault, settle_fault, step_fault, turn_fault, walk_fault, word_fault}
@@ -274,10 +276,6 @@ chosen false here there command given = inr (refl, given)
 none_is_some : {A : Type 0} (command : Command) → None ≡ Some command → A
 none_is_some command given = cc
 
-left_of_both : (a b : Bool) → (a && b) ≡ true → a ≡ true
-left_of_both true b given = refl
-left_of_both false b given = given
-
 at_word : (word name : List ℕ) (rest : List (List ℕ)) → bytes_eq word name ≡ true → Passes (name ∷ rest) → Passes (word ∷ rest)
 at_word word name rest same passes = subst (λ w. Passes (w ∷ rest)) (sym ((bytes_eq-Decides word name).0 same)) passes
 
@@ -319,11 +317,11 @@ three_pass : (first second third : List ℕ) (command : Command) → IsPlain sec
 unfolding three_words
 three_pass first second third command p q given =
     elim (chosen (bytes_eq first (codes "import") && _) _ _ command given) [
-      | inl h ↦ at_word first (codes "import") _ (left_of_both _ _ h.0) (import_folder second third p q)
+      | inl h ↦ at_word first (codes "import") _ (first_so _ _ h.0) (import_folder second third p q)
       | inr h ↦ elim (chosen (bytes_eq first (codes "report") && _) _ _ command h.1) [
-        | inl k ↦ at_word first (codes "report") _ (left_of_both _ _ k.0) (report second third p q)
+        | inl k ↦ at_word first (codes "report") _ (first_so _ _ k.0) (report second third p q)
         | inr k ↦ elim (chosen (bytes_eq first (codes "export") && _) _ _ command k.1) [
-          | inl l ↦ at_word first (codes "export") _ (left_of_both _ _ l.0) (export second third p q)
+          | inl l ↦ at_word first (codes "export") _ (first_so _ _ l.0) (export second third p q)
           | inr l ↦ none_is_some command l.1
         ]
       ]
@@ -333,24 +331,20 @@ four_pass : (first second third fourth : List ℕ) (command : Command) → IsPla
 unfolding four_words
 four_pass first second third fourth command p q r given =
     elim (chosen (bytes_eq first (codes "serve") && _) _ _ command given) [
-      | inl h ↦ at_word first (codes "serve") _ (left_of_both _ _ h.0) (serve second third fourth p q r)
+      | inl h ↦ at_word first (codes "serve") _ (first_so _ _ h.0) (serve second third fourth p q r)
       | inr h ↦ none_is_some command h.1
     ]
 
 -- ---- all lines
 
-neither : (a b : Bool) → (a || b) ≡ false → (a ≡ false) × (b ≡ false)
-neither true b given = cc
-neither false b given = (refl, given)
-
 abbrev no_dash : List (List ℕ) → Type 0
 no_dash words = list_any begins_with_dash words ≡ false
 
 first_is_plain : (word : List ℕ) (rest : List (List ℕ)) → no_dash (word ∷ rest) → IsPlain word
-first_is_plain word rest given = plain_by_first word (neither (begins_with_dash word) (list_any begins_with_dash rest) given).0
+first_is_plain word rest given = plain_by_first word (or_parts (begins_with_dash word) (list_any begins_with_dash rest) given).0
 
 rest_has_none : (word : List ℕ) (rest : List (List ℕ)) → no_dash (word ∷ rest) → no_dash rest
-rest_has_none word rest given = (neither (begins_with_dash word) (list_any begins_with_dash rest) given).1
+rest_has_none word rest given = (or_parts (begins_with_dash word) (list_any begins_with_dash rest) given).1
 
 line_passes : (words : List (List ℕ)) (command : Command) → no_dash words → line_in words ≡ Some command → Passes words
 unfolding line_in

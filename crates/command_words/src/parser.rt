@@ -158,7 +158,7 @@ fn program<'a>(alloc: Global) -> Result<Parser<'a>, AllocError>
 }
 
 /// Whether `clap` refuses the words. Where it has no memory, it doesn't.
-pub fn is_refused(alloc: Global, words: &[String]) -> bool
+pub(crate) fn is_refused(alloc: Global, words: &[String]) -> bool
     ensures { result ≡ true → spec.IsRefused (words_of words.now) }
 {
     let Ok(program) = program(alloc) else {

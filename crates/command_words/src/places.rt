@@ -27,7 +27,7 @@ fn third_word(words: &[String]) -> Option<&str>
 
 impl Command {
     /// Whether the command's line names a store.
-    pub fn has_store(self) -> bool
+    fn has_store(self) -> bool
         ensures { result ≡ spec.has_store self }
     {
         match self {
@@ -44,7 +44,7 @@ impl Command {
     }
 
     /// Whether the command's line names a folder.
-    pub fn has_folder(self) -> bool
+    fn has_folder(self) -> bool
         ensures { result ≡ spec.has_folder self }
     {
         match self {

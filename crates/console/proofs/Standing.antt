@@ -3,8 +3,6 @@ use Rattle.std.specs.Prelude.{max, IfOk}
 use Rattle.std.proofs.Common.{◌≡◌, ℕ, List, Some, Result, Ok, Err, refl, sym, ap, ◌∙◌, subst, inl, inr}
 use Rattle.mud_base.specs.declared.memory.Memory as want
 use Rattle.mud_tables.specs.declared.segment.Segment.{Segment}
-use Rattle.flow_table.specs.Kept.{StandsFor}
-use Rattle.flow_table.specs.Held.{Held, flows_of}
 use Rattle.mud_tables.specs.declared.thing.Thing.{Thing}
 use Rattle.file_tables.specs.declared.cached_file.CachedFile.{CachedFile}
 use Rattle.packet_judge.specs.declared.verdict.Verdict.{Verdict}
@@ -21,6 +19,7 @@ use Rattle.desk_model.specs.Sessions.{Session, MayJudge, frame_in, verdict_in, r
 use Rattle.http_answers.specs.declared.status.Status.TheVariants as status
 use Rattle.outcome_bodies.specs.Verdicts.{verdict_body}
 use Rattle.mud_desk.specs.DeskState.{DeskState, tables_of, session_of, HasForwarded, IsJudged}
+use Rattle.mud_desk.proofs.Sessions.{flows_stay}
 use Rattle.console_answers.specs.Replies.{Reply, reply, Replied, replied, made_reply, no_storage, IsOrWanted, MayStand}
 use Rattle.console_answers.specs.Listings.{listing_text}
 use Rattle.console_answers.specs.Why.{packet_ends, ends_text, why_text}
@@ -29,10 +28,6 @@ use Rattle.console_bodies.specs.declared.asked.Asked.{Asked}
 use Rattle.console_answers.specs.Requests.{ChangesBy, by_verdict, by_question, command_asked}
 use Rattle.console.specs.Runs.{LeadsOn}
 use Rattle.console.proofs.Replying.{made}
-
--- the table of connections stays
-pub flows_stay : (h : List Segment) (before after : DeskState) → after.flows ≡ before.flows → HasForwarded h before → HasForwarded h after
-flows_stay h before after same stands = subst (λ (f : Held). StandsFor h (flows_of f)) (sym same) stands
 
 module _ (h : List Segment) (before after : DeskState) (related : Session → Session → Type 0) where
   -- the history stays where the table of connections does

@@ -1,5 +1,6 @@
 //! Commands: what an operator states, a usage file that was fetched, and what was heard.
-ghost use Rattle.std.specs.Prelude.{◌≡◌, ◌<◌, false, ℕ, List};
+ghost use Rattle.std.specs.Prelude.{◌≡◌, false, ℕ, List};
+ghost use Rattle.sorted_rows.specs.Ledgers.{IsBlankOf};
 ghost use Rattle.mud_world.specs.Boxed.{faults_of, Tells};
 ghost use Rattle.mud_world.specs.Causes.{Counts};
 ghost use Rattle.mud_tables.specs.declared.segment.Segment.{Segment as SegmentValue};
@@ -40,9 +41,7 @@ pub(crate) enum Origin {
 
 /// Runs a command, and counts its steps for nobody.
 fn run_counted<L: Ledger>(desk: &mut Desk, command: Command, given: Moment, blank: Blank) -> Reply
-    requires name { blank.name ≡ L.name }
-    requires parts { blank.parts ≡ L.parts }
-    requires some { 0 < L.parts }
+    requires blank { IsBlankOf L.name L.parts blank }
     requires kept { IsKept Keeper-dyn desk.old.keeper (tables_of desk.old.state) }
     requires asked { IsAsked command }
     ensures answer { (h : List SegmentValue) → MayAnswer (session_of h desk.old.state) given command result (session_of h desk.new.state) }

@@ -42,16 +42,16 @@ pub fn serve_connection<D: Door, C: Clock>(
         (IsAt C.tells console.new.desk.state (C.moments console.new.clock.now)
         (faults_of Keeper-dyn console.old.desk.keeper) (faults_of Keeper-dyn console.new.desk.keeper))
         result (begun (session_of h console.old.desk.state) (C.moments console.old.clock.now))
-        (D.state door.old) (D.state door.new) }
+        (D.view door.old).state (D.view door.new).state }
     ensures told { Tells Keeper-dyn console.new.desk.keeper → Tells Keeper-dyn console.old.desk.keeper }
     ensures same_box { IsSameBox console.old.desk.keeper console.new.desk.keeper }
     // The clock stays the one that was lent.
     ensures same_clock { console.new.clock.ghost_name ≡ console.old.clock.ghost_name }
-    ensures reads { Counts (is_read_failed result) (D.reads door.old) (D.reads door.new) }
-    ensures writes { Counts (is_write_failed result) (D.writes door.old) (D.writes door.new) }
-    ensures read_stop { IsTrue (is_read_failed result) → StopsAtFailure (D.failed door.new) (D.reads door.old) (D.reads door.new) }
-    ensures write_stop { IsTrue (is_write_failed result) → StopsAtFailure (D.failed door.new) (D.writes door.old) (D.writes door.new) }
-    ensures turns { D.turns door.new ≡ D.turns door.old }
+    ensures reads { Counts (is_read_failed result) (D.view door.old).reads (D.view door.new).reads }
+    ensures writes { Counts (is_write_failed result) (D.view door.old).writes (D.view door.new).writes }
+    ensures read_stop { IsTrue (is_read_failed result) → StopsAtFailure (D.view door.new).failed (D.view door.old).reads (D.view door.new).reads }
+    ensures write_stop { IsTrue (is_write_failed result) → StopsAtFailure (D.view door.new).failed (D.view door.old).writes (D.view door.new).writes }
+    ensures turns { (D.view door.new).turns ≡ (D.view door.old).turns }
 {
     serve_requests(buffer, door, console, from)
 }
@@ -81,16 +81,16 @@ pub fn serve_connections<D: Door, C: Clock>(
         (IsAt C.tells console.new.desk.state (C.moments console.new.clock.now)
         (faults_of Keeper-dyn console.old.desk.keeper) (faults_of Keeper-dyn console.new.desk.keeper))
         (is_err result) count (begun (session_of h console.old.desk.state) (C.moments console.old.clock.now))
-        (D.state door.old) (D.state door.new)
-        (D.reads door.old) (D.reads door.new) (D.writes door.old) (D.writes door.new) }
+        (D.view door.old).state (D.view door.new).state
+        (D.view door.old).reads (D.view door.new).reads (D.view door.old).writes (D.view door.new).writes }
     ensures told { Tells Keeper-dyn console.new.desk.keeper → Tells Keeper-dyn console.old.desk.keeper }
     ensures same_box { IsSameBox console.old.desk.keeper console.new.desk.keeper }
     // The clock stays the one that was lent.
     ensures same_clock { console.new.clock.ghost_name ≡ console.old.clock.ghost_name }
-    ensures turns { Counts (is_err result) (D.turns door.old) (D.turns door.new) }
-    ensures stop { OnErr result (StopsAtFailure (D.failed door.new) (D.turns door.old) (D.turns door.new)) }
-    ensures reads { D.reads door.old ≤ D.reads door.new }
-    ensures writes { D.writes door.old ≤ D.writes door.new }
+    ensures turns { Counts (is_err result) (D.view door.old).turns (D.view door.new).turns }
+    ensures stop { OnErr result (StopsAtFailure (D.view door.new).failed (D.view door.old).turns (D.view door.new).turns) }
+    ensures reads { (D.view door.old).reads ≤ (D.view door.new).reads }
+    ensures writes { (D.view door.old).writes ≤ (D.view door.new).writes }
 {
     serve_each(buffer, door, console, from, count)
 }

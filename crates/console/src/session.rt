@@ -1,5 +1,6 @@
 //! Calls of a desk as they are seen in its session.
 ghost use Rattle.std.specs.Prelude.{◌≡◌, ◌<◌, max, ℕ, List};
+ghost use Rattle.sorted_rows.specs.Ledgers.{IsBlankOf};
 ghost use Rattle.mud_world.specs.Boxed.{faults_of, Tells};
 ghost use Rattle.mud_tables.specs.declared.segment.Segment.{Segment as SegmentValue};
 ghost use Rattle.desk_model.specs.Sessions.{raised};
@@ -42,9 +43,7 @@ fn judge_counted<L: Ledger>(
     given: Moment,
     blank: Blank,
 ) -> Result<Verdict, Memory>
-    requires name { blank.name ≡ L.name }
-    requires parts { blank.parts ≡ L.parts }
-    requires some { 0 < L.parts }
+    requires blank { IsBlankOf L.name L.parts blank }
     requires kept { IsKept Keeper-dyn desk.old.keeper (tables_of desk.old.state) }
     ensures judged { (h : List SegmentValue) → HasForwarded h desk.old.state → IsJudged h desk.old.state given frame.now result desk.new.state }
     ensures kept { IsKept Keeper-dyn desk.new.keeper (tables_of desk.new.state) }

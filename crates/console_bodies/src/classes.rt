@@ -75,7 +75,7 @@ fn own_alone(object: &Value) -> Result<Class, Unread>
 
 /// The class that an object names, by `class` or by `my-controller-of`.
 #[tactic(auto, unfolding(crate::specs::Statements::class_at))]
-pub fn class(alloc: Global, object: &Value) -> Result<Class, Unread>
+pub(crate) fn class(alloc: Global, object: &Value) -> Result<Class, Unread>
     ensures { Gives (λ c. c) result (spec.class_at (view object.now)) }
 {
     match member_in(object, Member::MyControllerOf) {
@@ -97,7 +97,7 @@ fn verdict_in(word: &str) -> Option<OperatorVerdict>
 
 /// What the operator says of a candidate.
 #[tactic(auto, unfolding(crate::specs::Statements::verdict_at))]
-pub fn verdict(object: &Value) -> Result<OperatorVerdict, Unread>
+pub(crate) fn verdict(object: &Value) -> Result<OperatorVerdict, Unread>
     ensures { Gives (λ v. v) result (spec.verdict_at (view object.now)) }
 {
     let verdict = text_in(object, Member::Verdict).and_then(verdict_in);

@@ -6,7 +6,7 @@ pub mod asked;
 mod classes;
 pub mod laws;
 pub mod read;
-pub mod statements;
+mod statements;
 
 pub use asked::{Asked, heard_command};
 pub use read::read_body;

@@ -126,7 +126,11 @@ fn observe_name(alloc: Global, object: &Value) -> Result<Command, Unread>
 
 /// The command that an object states, or the first member that is wrong.
 #[tactic(auto, unfolding(crate::specs::Statements::command_at))]
-pub fn command(alloc: Global, statement: Statement, object: &Value) -> Result<Command, Unread>
+pub(crate) fn command(
+    alloc: Global,
+    statement: Statement,
+    object: &Value,
+) -> Result<Command, Unread>
     ensures { Gives (λ c. c) result (spec.command_at statement (view object.now)) }
 {
     match statement {

@@ -1,11 +1,12 @@
 -- The paths of the routes are texts without a parameter, and the router finds each by its path alone.
-use Rattle.std.proofs.Common.{◌≡◌, ℕ, ◌<◌, List, [], ◌∷◌, Some, None, Bool, true, false, cond, ◌&&◌, refl, ap, ◌∙◌, arith, ltb-true, subst}
+use Rattle.std.proofs.Common.{◌≡◌, ℕ, ◌<◌, List, [], ◌∷◌, Some, None, Bool, true, false, cond, refl, ap, ◌∙◌, arith, ltb-true, subst}
 use Rattle.std.specs.Prelude.{All, nat_lt, map, find, option_map}
 use Rattle.std.specs.List.{list_all}
 use Rattle.std.specs.Str.{IsUtf8}
 use Rattle.std.proofs.lemmas.List.Elements.{All-nil, All-cons}
 use Rattle.std.proofs.lemmas.Str.{IsUtf8-from_ascii}
 use Rattle.std.proofs.lemmas.Str.Ascii.{IsAscii-from_all}
+use Rattle.std.proofs.lemmas.Bool.{and_parts}
 use Rattle.matchit.specs.Router.{RouteOf}
 use Rattle.matchit.specs.Level.{IsText}
 use Rattle.matchit.specs.Seek.{first}
@@ -37,21 +38,17 @@ low_path Things = refl
 low_path Verdicts = refl
 low_path Why = refl
 
-both : (a b : Bool) → (a && b) ≡ true → (a ≡ true) × (b ≡ true)
-both true b e = (refl, e)
-both false b e = cc
-
 text_from : (octets : List ℕ) → list_all is_low octets ≡ true → IsText octets
 text_from [] e = tt
 text_from (o ∷ os) e =
-    let parts = both (is_low o) (list_all is_low os) e in
+    let parts = and_parts (is_low o) (list_all is_low os) e in
     let low : o < 128 = ltb-true o 128 parts.0 in
     (omega arith, text_from os parts.1)
 
 all_low : (octets : List ℕ) → list_all is_low octets ≡ true → All (λ o. o < 128) octets
 all_low [] e = All-nil (λ o. o < 128)
 all_low (o ∷ os) e =
-    let parts = both (is_low o) (list_all is_low os) e in
+    let parts = and_parts (is_low o) (list_all is_low os) e in
     All-cons (λ o. o < 128) o os (ltb-true o 128 parts.0) (all_low os parts.1)
 
 path_is_utf8 : (route : Route) → IsUtf8 (text_of route)

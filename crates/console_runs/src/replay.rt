@@ -2,7 +2,6 @@
 ghost use Rattle.std.specs.Prelude.{◌≡◌};
 ghost use Rattle.mud_world.specs.Boxed.{faults_of, Tells};
 ghost use Rattle.command_runs.specs.Status.{status_number};
-ghost use Rattle.command_runs.specs.View.{viewed};
 ghost use Rattle.desk_items.specs.Taken.{kept_of};
 ghost use Rattle.desk_model.specs.DeskTables.{DeskTables};
 ghost use Rattle.desk_model.specs.Items.{none_kept};
@@ -43,8 +42,8 @@ fn replay_desk<D: Door>(
     requires { IsKept Keeper-dyn desk.keeper (tables_of desk.state) }
     ensures replays { (tables : DeskTables) → IsBegun tables desk.state
         → ReplaysConnection Keeper-dyn D.tells tables (faults_of Keeper-dyn desk.keeper) result.1
-        (viewed (D.state door.old) (D.turns door.old) (D.reads door.old) (D.writes door.old) (D.failed door.old))
-        (viewed (D.state door.new) (D.turns door.new) (D.reads door.new) (D.writes door.new) (D.failed door.new))
+        (D.view door.old)
+        (D.view door.new)
         (status_number result.0) }
     ensures told { Tells Keeper-dyn result.1 → Tells Keeper-dyn desk.keeper }
     ensures same_box { IsSameBox desk.keeper result.1 }
@@ -93,8 +92,8 @@ pub fn replay_store<D: Door>(
 ) -> (Status, Box<dyn Keeper>)
     requires { kept_of nothing ≡ none_kept }
     ensures replayed { ReplaysStore Keeper-dyn D.tells keeper result.1
-        (viewed (D.state door.old) (D.turns door.old) (D.reads door.old) (D.writes door.old) (D.failed door.old))
-        (viewed (D.state door.new) (D.turns door.new) (D.reads door.new) (D.writes door.new) (D.failed door.new))
+        (D.view door.old)
+        (D.view door.new)
         (status_number result.0) }
     // Where the keeper failed in the opening, the door isn't called at all.
     ensures untouched { status_number result.0 ≡ 7 → door.new ≡ door.old }

@@ -3,7 +3,6 @@
 ghost use Rattle.std.specs.Prelude.{◌≡◌, is_err, if◌then◌else◌};
 ghost use Rattle.mud_world.specs.Boxed.{faults_of, Tells};
 ghost use Rattle.command_runs.specs.Status.{status_number};
-ghost use Rattle.command_runs.specs.View.{viewed};
 ghost use Rattle.desk_items.specs.Taken.{kept_of};
 ghost use Rattle.desk_model.specs.DeskTables.{DeskTables};
 ghost use Rattle.desk_model.specs.Items.{none_kept};
@@ -46,8 +45,8 @@ fn serve_desk<D: Door, C: Clock>(
     ensures serves { (tables : DeskTables) → IsBegun tables desk.state
         → ServesConnections Keeper-dyn D.tells C.tells tables (faults_of Keeper-dyn desk.keeper) result.1
         (listening port count) (clock_run (C.moments clock.old) (C.moments clock.new))
-        (viewed (D.state door.old) (D.turns door.old) (D.reads door.old) (D.writes door.old) (D.failed door.old))
-        (viewed (D.state door.new) (D.turns door.new) (D.reads door.new) (D.writes door.new) (D.failed door.new))
+        (D.view door.old)
+        (D.view door.new)
         (status_number result.0) }
     ensures told { Tells Keeper-dyn result.1 → Tells Keeper-dyn desk.keeper }
     ensures same_box { IsSameBox desk.keeper result.1 }
@@ -104,8 +103,8 @@ pub fn serve_store<D: Door, C: Clock>(
     requires { kept_of nothing ≡ none_kept }
     ensures served { ServesStore Keeper-dyn D.tells C.tells keeper result.1
         (listening port count) (clock_run (C.moments clock.old) (C.moments clock.new))
-        (viewed (D.state door.old) (D.turns door.old) (D.reads door.old) (D.writes door.old) (D.failed door.old))
-        (viewed (D.state door.new) (D.turns door.new) (D.reads door.new) (D.writes door.new) (D.failed door.new))
+        (D.view door.old)
+        (D.view door.new)
         (status_number result.0) }
     // Where the keeper failed in the opening, the door isn't called at all, and the clock isn't either.
     ensures untouched { status_number result.0 ≡ 7 → (door.new ≡ door.old) × (clock.new ≡ clock.old) }

@@ -24,7 +24,7 @@ place_turned p q = both_ways (same_place p q) (same_place q p)
 
 -- ---- Counts
 
-one_if : (b : Bool) (q : Place) → length (cond b (q ∷ []) []) ≡ cond b 1 0
+pub one_if : (b : Bool) (q : Place) → length (cond b (q ∷ []) []) ≡ cond b 1 0
 one_if true q = refl
 one_if false q = refl
 

@@ -2,12 +2,13 @@
 use Rattle.std.proofs.Common.{◌≡◌, ℕ, ◌+◌, ◌≤◌, ◌<◌, Bool, true, false, cond, ◌||◌, List, [], ◌∷◌, ◌++◌, length, take, Option, Some, None, refl, sym, ap, subst, ◌∙◌, arith, length-append}
 use Rattle.std.specs.Option.{option_map}
 use Rattle.std.proofs.lemmas.Option.{none-some}
+use Rattle.std.proofs.Math.Bool.{or-false}
 use Rattle.sorted_rows.specs.Placed.{same_place, PlacesAscend, row_at, set_row}
 use Rattle.sorted_rows.proofs.PlacedLaws.{same_place_exact, row_at-set_row}
 use Rattle.sorted_rows.proofs.RowLaws.{place_row_at}
 use Rattle.counted_rows.specs.Counted.{Place, count_of, is_of, kept_of, is_kept, total}
 use Rattle.counted_rows.proofs.CountLaws.{place_turned, count_more, count_none, positive, positive_more, positive_some, weight, total_set}
-use Rattle.counted_rows.proofs.KeptLaws.{or_false, of_own, appeared, not_appeared, kept_again, kept_new, kept_late, kept_all, again_at, late_at, kept_grown, new_at}
+use Rattle.counted_rows.proofs.KeptLaws.{of_own, appeared, not_appeared, kept_again, kept_new, kept_late, kept_all, again_at, late_at, kept_grown, new_at}
 
 -- Each row counts a place that is kept among those that begin with the same `len` numbers, and of each beginning as many
 -- rows stand there as places are kept.
@@ -92,7 +93,7 @@ module _ {R : Type 0} (place : R → Place) (count : R → ℕ) where
         or_true true = refl
         or_true false = refl
     new_by apart few one p long' false e =
-        are.at p long' ∙ (λ i. cond (sym (or_false (is_kept most (take len p) ps p)) i) (positive (plus_none (count_of p ps) i)) None)
+        are.at p long' ∙ (λ i. cond (sym (or-false (is_kept most (take len p) ps p)) i) (positive (plus_none (count_of p ps) i)) None)
       where
         plus_none : (n : ℕ) → n ≡ n + 0
         plus_none n = omega arith

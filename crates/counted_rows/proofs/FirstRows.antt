@@ -7,13 +7,14 @@ use Rattle.std.proofs.lemmas.Bool.{false≢true}
 use Rattle.std.proofs.lemmas.Option.{same_Some, none-some}
 use Rattle.sorted_rows.specs.Placed.{same_place, PlacesAscend, row_at, set_row, is_under, rows_under}
 use Rattle.sorted_rows.proofs.PlacedLaws.{same_place_exact}
+use Rattle.sorted_rows.proofs.Lists.{filter_few, length-cond}
 use Rattle.counted_rows.specs.Counted.{Place, Kinds, AreKinds, AreFirstRows, count_of, count_rows, firsts, is_of, those_of, kept_of, is_kept, is_first, first_rows, others_of, late_rows, total, sum_of, found_count, count_at}
 use Rattle.counted_rows.proofs.CountLaws.{positive, positive_some, count_none}
 use Rattle.counted_rows.proofs.KeptLaws.{own_length, of_own, is_own, appeared, not_appeared}
 use Rattle.counted_rows.proofs.FirstLaws.{AreFirstCounts, again, new, late}
 use Rattle.counted_rows.proofs.LeftLaws.{left_of, AddUp, again_adds, new_adds, late_adds}
 use Rattle.counted_rows.proofs.NumberLaws.{places_more, count_there, count_missing, SaysMore}
-use Rattle.counted_rows.proofs.RowSteps.{below_or_not, first_ascend, first_again, first_new, first_late, late_again, late_new, others_late}
+use Rattle.counted_rows.proofs.RowSteps.{below_or_not, first_ascend, first_again, first_new, first_late, late_again, late_new, others_late, either}
 
 -- ---- Numbers
 
@@ -29,22 +30,10 @@ take_none : (n : ℕ) → take n none_placed ≡ []
 take_none zero = refl
 take_none (suc n) = refl
 
-neither : {A : Type 0} (b : Bool) (a : A) → a ≡ cond b a a
-neither true a = refl
-neither false a = refl
-
 taken_few : (n : ℕ) (l : List Place) → length (take n l) ≤ n
 taken_few zero l = omega arith
 taken_few (suc n) [] = omega arith
 taken_few (suc n) (p ∷ l) = let rest = taken_few n l in omega (arith, rest)
-
-longer_by : {A : Type 0} (n : ℕ) (x : A) (l : List A) → length l ≤ n → (b : Bool) → length (cond b (x ∷ l) l) ≤ suc n
-longer_by n x l few true = omega arith
-longer_by n x l few false = omega arith
-
-filtered_few : {A : Type 0} (test : A → Bool) (l : List A) → length (filter test l) ≤ length l
-filtered_few test [] = omega arith
-filtered_few test (x ∷ l) = longer_by (length l) x (filter test l) (filtered_few test l) (test x)
 
 fewer_by : (p : Place) (l l' : List Place) → length l ≤ length l' → (b c : Bool) → (b ≡ true → c ≡ true) → length (cond b (p ∷ l) l) ≤ length (cond c (p ∷ l') l')
 fewer_by p l l' few true true both = omega arith
@@ -60,15 +49,11 @@ count_those t q (p ∷ ps) of = fewer_by p (filter (same_place q) ps) (filter (i
 
 -- ---- The rows of one beginning
 
-under_by : {R : Type 0} (x : R) (rest : List R) (b : Bool) → length (cond b (x ∷ rest) rest) ≡ cond b 1 0 + length rest
-under_by x rest true = omega arith
-under_by x rest false = omega arith
-
 under_total : {R : Type 0} (place : R → Place) (t : Place) (rows : List R) → length (rows_under place t rows) ≡ total (λ r. cond (is_of t (place r)) 1 0) rows
 unfolding total is_of
 under_total place t [] = refl
 under_total place t (x ∷ xs) =
-    under_by x (rows_under place t xs) (is_under place t x)
+    length-cond (is_under place t x) x (rows_under place t xs)
     ∙ ap (λ n. cond (is_under place t x) 1 0 + n) (under_total place t xs)
 
 pub late_rows_are : {D O : Type 0} (k : Kinds D O) (xs : List D) → late_rows k xs ≡ count_rows k.beginning k.counted_late (others_of k (map k.place xs) xs)
@@ -76,10 +61,6 @@ unfolding late_rows
 late_rows_are k xs = refl
 
 -- ---- Those that are left out, as places and as rows of their beginnings
-
-one_or : {A : Type 0} (b : Bool) (x : A) (l : List A) → length (cond b (x ∷ l) l) ≡ cond b 1 0 + length l
-one_or true x l = omega arith
-one_or false x l = omega arith
 
 alike : (one none : ℕ) (c i held here : Bool) → here ≡ i → (i ≡ true → c ≡ held) → cond (not c) (cond here one none) none ≡ cond i (cond (not held) one none) none
 alike one none c true held here is same = (λ j. cond (not (same refl j)) (cond (is j) one none) none)
@@ -96,11 +77,11 @@ module _ {D O : Type 0} (k : Kinds D O) (are : AreKinds k) (ps : List Place) (t 
   begun_by : (x : D) (ds : List D) (c : Bool) → begun (cond (not c) (x ∷ ds) ds) ≡ cond (not c) (cond (same_place t (k.beginning (k.other x))) 1 0) 0 + begun ds
   unfolding begun
   begun_by x ds true = omega arith
-  begun_by x ds false = one_or (same_place t (k.beginning (k.other x))) (k.beginning (k.other x)) (filter (same_place t) (map k.beginning (map k.other ds)))
+  begun_by x ds false = length-cond (same_place t (k.beginning (k.other x))) (k.beginning (k.other x)) (filter (same_place t) (map k.beginning (map k.other ds)))
 
   out_by : (p : Place) (l : List Place) (i : Bool) → out (cond i (p ∷ l) l) ≡ cond i (cond (not (is_kept k.most t ps p)) 1 0) 0 + out l
   unfolding out
-  out_by p l true = one_or (not (is_kept k.most t ps p)) p (filter (λ q. not (is_kept k.most t ps q)) l)
+  out_by p l true = length-cond (not (is_kept k.most t ps p)) p (filter (λ q. not (is_kept k.most t ps q)) l)
   out_by p l false = omega arith
 
   begins : (x : D) → same_place t (k.beginning (k.other x)) ≡ is_of t (k.place x)
@@ -147,7 +128,7 @@ module _ {D O : Type 0} (k : Kinds D O) (are : AreKinds k) (stays : (n : ℕ) (d
   unfolding first_rows count_of positive total sum_of left_of those_of
   says_none = record {
     first = record {
-      at = λ p long. neither (is_kept k.most (take k.len p) [] p) None;
+      at = λ p long. either (is_kept k.most (take k.len p) [] p) None;
       under = λ t at. sym (ap length (none_kept t));
     };
     add = record { at = λ t at. refl };
@@ -298,7 +279,7 @@ module _ {D O : Type 0} (k : Kinds D O) (are : AreKinds k) (stays : (n : ℕ) (d
   pub others_few : (xs : List D) (x : D) → length (those_of (own x) (places xs)) + 1 < 18446744073709551616 → count_of (k.beginning (k.other x)) (map k.beginning (others_of k (places xs) xs)) + 1 < 18446744073709551616
   others_few xs x few =
       let is : count_of (own x) (map k.beginning (others_of k (places xs) xs)) ≡ length (filter (λ p. not (is_kept k.most (own x) (places xs) p)) (those_of (own x) (places xs))) = left_count k are (places xs) (own x) (own_length k.len (k.place x) (are.long x)) xs in
-      let less : length (filter (λ p. not (is_kept k.most (own x) (places xs) p)) (those_of (own x) (places xs))) ≤ length (those_of (own x) (places xs)) = filtered_few (λ p. not (is_kept k.most (own x) (places xs) p)) (those_of (own x) (places xs)) in
+      let less : length (filter (λ p. not (is_kept k.most (own x) (places xs) p)) (those_of (own x) (places xs))) ≤ length (those_of (own x) (places xs)) = filter_few (λ p. not (is_kept k.most (own x) (places xs) p)) (those_of (own x) (places xs)) in
       subst (λ t. count_of t (map k.beginning (others_of k (places xs) xs)) + 1 < 18446744073709551616) (sym (are.own x)) (omega arith)
 
   -- ---- What adds up

@@ -4,19 +4,12 @@ use Rattle.std.specs.List.{filter, list_any}
 use Rattle.std.proofs.lemmas.Bool.{false≢true}
 use Rattle.std.proofs.lemmas.List.Elements.{filter-append}
 use Rattle.std.proofs.lemmas.List.Folds.{list_any-append}
-use Rattle.std.proofs.lemmas.List.{take-append-le}
+use Rattle.std.proofs.lemmas.List.{take-append-le, append-nil}
+use Rattle.std.proofs.Math.Bool.{or-false}
 use Rattle.sorted_rows.specs.Placed.{same_place}
 use Rattle.sorted_rows.proofs.PlacedLaws.{same_place_exact, same_place_itself}
 use Rattle.counted_rows.specs.Counted.{Place, firsts, is_of, those_of, kept_of, is_kept}
 use Rattle.counted_rows.proofs.CountLaws.{place_turned}
-
-pub or_false : (b : Bool) → (b || false) ≡ b
-or_false true = refl
-or_false false = refl
-
-pub append_nil : {A : Type 0} (xs : List A) → xs ++ [] ≡ xs
-append_nil [] = refl
-append_nil (x ∷ xs) = ap (λ l. x ∷ l) (append_nil xs)
 
 -- ---- Each place once
 
@@ -106,7 +99,7 @@ take_long (suc n) (x ∷ xs) e = let rest : n ≤ length xs = take_long n xs (om
 module _ (most : ℕ) (t q : Place) (ps : List Place) where
   pub kept_other : is_of t q ≡ false → kept_of most t (ps ++ q ∷ []) ≡ kept_of most t ps
   unfolding kept_of
-  kept_other apart = ap (λ l. take most (firsts l)) (those_more t q ps ∙ ap (λ b. those_of t ps ++ cond b (q ∷ []) []) apart ∙ append_nil (those_of t ps))
+  kept_other apart = ap (λ l. take most (firsts l)) (those_more t q ps ∙ ap (λ b. those_of t ps ++ cond b (q ∷ []) []) apart ∙ append-nil (those_of t ps))
 
   kept_by : is_of t q ≡ true → kept_of most t (ps ++ q ∷ []) ≡ take most (firsts (those_of t ps) ++ cond (list_any (same_place q) (those_of t ps)) [] (q ∷ []))
   unfolding kept_of
@@ -116,7 +109,7 @@ module _ (most : ℕ) (t q : Place) (ps : List Place) where
   unfolding is_kept kept_of
   kept_again own is =
       let seen : list_any (same_place q) (those_of t ps) ≡ true = sym (any_firsts q (those_of t ps)) ∙ take_any q most (firsts (those_of t ps)) is in
-      kept_by own ∙ ap (λ b. take most (firsts (those_of t ps) ++ cond b [] (q ∷ []))) seen ∙ ap (take most) (append_nil (firsts (those_of t ps)))
+      kept_by own ∙ ap (λ b. take most (firsts (those_of t ps) ++ cond b [] (q ∷ []))) seen ∙ ap (take most) (append-nil (firsts (those_of t ps)))
 
   pub unseen : is_of t q ≡ true → is_kept most t ps q ≡ false → length (kept_of most t ps) < most → list_any (same_place q) (those_of t ps) ≡ false
   unfolding is_kept kept_of
@@ -200,7 +193,7 @@ module _ (len most : ℕ) (ps : List Place) (q : Place) (long : len ≤ length q
     where
       by : (b : Bool) → is_of t q ≡ b → kept_of most t (ps ++ q ∷ []) ≡ kept_of most t ps ++ cond b (q ∷ []) []
       by true e = subst (λ u. kept_of most u (ps ++ q ∷ []) ≡ kept_of most u ps ++ q ∷ []) (sym (is_own len q long t at e)) grown
-      by false e = kept_other most t q ps e ∙ sym (append_nil (kept_of most t ps))
+      by false e = kept_other most t q ps e ∙ sym (append-nil (kept_of most t ps))
 
   grown_at : kept_of most own (ps ++ q ∷ []) ≡ kept_of most own ps ++ q ∷ [] → (p : Place) → len ≤ length p → is_kept most (take len p) (ps ++ q ∷ []) p ≡ (is_kept most (take len p) ps p || same_place q p)
   unfolding is_kept
@@ -213,11 +206,11 @@ module _ (len most : ℕ) (ps : List Place) (q : Place) (long : len ≤ length q
       by true e =
           let is : q ≡ p = same_place_exact q p e in
           ap (λ c. list_any (same_place p) (cond c (q ∷ []) [])) (subst (λ r. is_of (take len r) q ≡ true) is yes_own)
-          ∙ or_false (same_place p q) ∙ subst (λ r. same_place r q ≡ true) is (same_place_itself q)
+          ∙ or-false (same_place p q) ∙ subst (λ r. same_place r q ≡ true) is (same_place_itself q)
       by false e = part (is_of (take len p) q)
         where
           part : (c : Bool) → list_any (same_place p) (cond c (q ∷ []) []) ≡ false
-          part true = or_false (same_place p q) ∙ place_turned p q ∙ e
+          part true = or-false (same_place p q) ∙ place_turned p q ∙ e
           part false = refl
 
   pub new_at : is_kept most own ps q ≡ false → length (kept_of most own ps) < most → (p : Place) → len ≤ length p → is_kept most (take len p) (ps ++ q ∷ []) p ≡ (is_kept most (take len p) ps p || same_place q p)

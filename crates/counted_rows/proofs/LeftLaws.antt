@@ -5,13 +5,15 @@ use Rattle.std.specs.Option.{option_map}
 use Rattle.std.proofs.lemmas.Option.{same_Some, none-some}
 use Rattle.std.proofs.lemmas.List.Elements.{filter-append}
 use Rattle.std.proofs.lemmas.List.Folds.{list_any-append}
+use Rattle.std.proofs.Math.Bool.{or-false}
+use Rattle.std.proofs.lemmas.List.{append-nil}
 use Rattle.sorted_rows.specs.Placed.{same_place, PlacesAscend, row_at, set_row}
 use Rattle.sorted_rows.proofs.PlacedLaws.{same_place_itself}
 use Rattle.sorted_rows.proofs.RowLaws.{place_row_at}
 use Rattle.sorted_rows.proofs.ListTests.{or_first, or_second}
 use Rattle.counted_rows.specs.Counted.{Place, count_of, is_of, those_of, kept_of, is_kept, total, sum_of}
-use Rattle.counted_rows.proofs.CountLaws.{place_turned, positive, weight, total_set}
-use Rattle.counted_rows.proofs.KeptLaws.{or_false, append_nil, those_more, kept_other, kept_again, kept_new, kept_late, unseen, of_own, is_own}
+use Rattle.counted_rows.proofs.CountLaws.{place_turned, positive, weight, total_set, one_if}
+use Rattle.counted_rows.proofs.KeptLaws.{those_more, kept_other, kept_again, kept_new, kept_late, unseen, of_own, is_own}
 use Rattle.counted_rows.proofs.FirstLaws.{AreFirstCounts}
 
 -- the places that begin so and aren't kept, each as often as it appears
@@ -33,15 +35,11 @@ except_by k q x xs apart rest =
     (λ i. cond (not (differ i)) (x ∷ rest i) (rest i))
   where
     differ : (k x || same_place x q) ≡ k x
-    differ = ap (λ b. k x || b) (place_turned x q ∙ apart) ∙ or_false (k x)
+    differ = ap (λ b. k x || b) (place_turned x q ∙ apart) ∙ or-false (k x)
 
 except : (k : Place → Bool) (q : Place) (xs : List Place) → list_any (same_place q) xs ≡ false → filter (λ p. not (k p || same_place p q)) xs ≡ filter (λ p. not (k p)) xs
 except k q [] apart = refl
 except k q (x ∷ xs) apart = except_by k q x xs (or_first (same_place q x) (list_any (same_place q) xs) apart) (except k q xs (or_second (same_place q x) (list_any (same_place q) xs) apart))
-
-one_if : (b : Bool) (q : Place) → length (cond b (q ∷ []) []) ≡ cond b 1 0
-one_if true q = refl
-one_if false q = refl
 
 pub those_count : (t q : Place) (ps : List Place) → length (those_of t (ps ++ q ∷ [])) ≡ length (those_of t ps) + cond (is_of t q) 1 0
 those_count t q ps = ap length (those_more t q ps) ∙ length-append (those_of t ps) (cond (is_of t q) (q ∷ []) []) ∙ ap (λ n. length (those_of t ps) + n) (one_if (is_of t q) q)
@@ -57,7 +55,7 @@ module _ (len most : ℕ) (ps : List Place) (q : Place) (long : len ≤ length q
   unfolding left_of is_kept
   other_left t apart =
       (λ i. left_kept (λ p. list_any (same_place p) (kept_other most t q ps apart i)) (those_of t (ps ++ q ∷ [])))
-      ∙ ap (left_kept (is_kept most t ps)) (those_more t q ps ∙ ap (λ b. those_of t ps ++ cond b (q ∷ []) []) apart ∙ append_nil (those_of t ps))
+      ∙ ap (left_kept (is_kept most t ps)) (those_more t q ps ∙ ap (λ b. those_of t ps ++ cond b (q ∷ []) []) apart ∙ append-nil (those_of t ps))
 
   -- with the places that are kept as they were, the place counts where it isn't kept
   same_left : (t : Place) → is_of t q ≡ true → kept_of most t (ps ++ q ∷ []) ≡ kept_of most t ps → left_of most t (ps ++ q ∷ []) ≡ left_of most t ps ++ cond (not (is_kept most t ps q)) (q ∷ []) []
@@ -70,18 +68,18 @@ module _ (len most : ℕ) (ps : List Place) (q : Place) (long : len ≤ length q
   again_own : is_kept most own ps q ≡ true → left_of most own (ps ++ q ∷ []) ≡ left_of most own ps
   again_own kept =
       same_left own (of_own len q long) (kept_again most own q ps (of_own len q long) kept)
-      ∙ ap (λ b. left_of most own ps ++ cond (not b) (q ∷ []) []) kept ∙ append_nil (left_of most own ps)
+      ∙ ap (λ b. left_of most own ps ++ cond (not b) (q ∷ []) []) kept ∙ append-nil (left_of most own ps)
 
   new_own : is_kept most own ps q ≡ false → length (kept_of most own ps) < most → left_of most own (ps ++ q ∷ []) ≡ left_of most own ps
   unfolding left_of is_kept
   new_own apart few =
       let grown : kept_of most own (ps ++ q ∷ []) ≡ kept_of most own ps ++ q ∷ [] = kept_new most own q ps (of_own len q long) apart few in
       same_filter (λ p. not (list_any (same_place p) (kept_of most own (ps ++ q ∷ [])))) (λ p. not (is_kept most own ps p || same_place p q)) (those_of own (ps ++ q ∷ []))
-      (λ p. ap not (ap (list_any (same_place p)) grown ∙ list_any-append (same_place p) (kept_of most own ps) (q ∷ []) ∙ ap (λ b. list_any (same_place p) (kept_of most own ps) || b) (or_false (same_place p q))))
+      (λ p. ap not (ap (list_any (same_place p)) grown ∙ list_any-append (same_place p) (kept_of most own ps) (q ∷ []) ∙ ap (λ b. list_any (same_place p) (kept_of most own ps) || b) (or-false (same_place p q))))
       ∙ ap (filter (λ p. not (is_kept most own ps p || same_place p q))) (those_more own q ps ∙ ap (λ b. those_of own ps ++ cond b (q ∷ []) []) (of_own len q long))
       ∙ filter-append (λ p. not (is_kept most own ps p || same_place p q)) (those_of own ps) (q ∷ [])
       ∙ ap (λ b. filter (λ p. not (is_kept most own ps p || same_place p q)) (those_of own ps) ++ cond (not b) (q ∷ []) []) (ap (λ b. is_kept most own ps q || b) (same_place_itself q) ∙ or_true (is_kept most own ps q))
-      ∙ append_nil (filter (λ p. not (is_kept most own ps p || same_place p q)) (those_of own ps))
+      ∙ append-nil (filter (λ p. not (is_kept most own ps p || same_place p q)) (those_of own ps))
       ∙ except (is_kept most own ps) q (those_of own ps) (unseen most own q ps (of_own len q long) apart few)
     where
       or_true : (b : Bool) → (b || true) ≡ true

@@ -1,5 +1,5 @@
 -- The rows of all places, with one row more.
-use Rattle.std.proofs.Common.{◌≡◌, ℕ, ◌+◌, ◌<◌, Bool, true, false, cond, List, [], ◌∷◌, ◌++◌, length, map, Option, Some, None, refl, sym, ap, subst, ◌∙◌, arith, length-append}
+use Rattle.std.proofs.Common.{◌≡◌, ℕ, ◌+◌, ◌<◌, Bool, true, false, cond, List, [], ◌∷◌, ◌++◌, length, map, Option, Some, None, refl, sym, ap, subst, ◌∙◌, arith, length-append, add-zero}
 use Rattle.std.specs.List.{filter}
 use Rattle.std.specs.Option.{option_map}
 use Rattle.std.proofs.lemmas.Option.{same_Some, none-some}
@@ -10,9 +10,6 @@ use Rattle.sorted_rows.proofs.RowLaws.{place_row_at, ascend-map}
 use Rattle.sorted_rows.proofs.RowSets.{row_at-map, same_rows_by}
 use Rattle.counted_rows.specs.Counted.{Place, count_of, numbered, count_rows, total}
 use Rattle.counted_rows.proofs.CountLaws.{place_turned, count_more, weight, total_set}
-
-pub plus_none : (n : ℕ) → n + 0 ≡ n
-plus_none n = omega arith
 
 -- where no row stands at a place after others are put in, none did before, and none of those has it
 none_put : {R : Type 0} (place : R → Place) (p : Place) (x : R) (old : Option R) → (b : Bool) → same_place (place x) p ≡ b → cond b (Some x) old ≡ None → (same_place p (place x) ≡ false) × (old ≡ None)
@@ -63,7 +60,7 @@ module _ {R : Type 0} (place : R → Place) (counted : ℕ → R → R) (kept : 
   one_by : (ps : List Place) (x : R) (p : Place) (old : Option R) (b : Bool) → same_place (place x) p ≡ b
       → option_map (counted (count_of p ps + cond b 1 0)) (cond b (Some x) old) ≡ cond b (Some (counted (count_of (place x) ps + 1) x)) (option_map (counted (count_of p ps)) old)
   one_by ps x p old true e = ap (λ q. Some (counted (count_of q ps + 1) x)) (sym (same_place_exact (place x) p e))
-  one_by ps x p old false e = ap (λ n. option_map (counted n) old) (plus_none (count_of p ps))
+  one_by ps x p old false e = ap (λ n. option_map (counted n) old) (add-zero (count_of p ps))
 
   pub number_more : (ps : List Place) (x : R) (p : Place) (old : Option R)
       → option_map (counted (count_of p (ps ++ place x ∷ []))) (cond (same_place (place x) p) (Some x) old) ≡ cond (same_place (place x) p) (Some (counted (count_of (place x) ps + 1) x)) (option_map (counted (count_of p ps)) old)

@@ -4,13 +4,14 @@ use Rattle.std.specs.List.{filter, list_any}
 use Rattle.std.specs.Option.{option_map}
 use Rattle.std.proofs.lemmas.List.{map-append}
 use Rattle.std.proofs.lemmas.List.Elements.{filter-append}
+use Rattle.std.proofs.Math.Bool.{or-false}
 use Rattle.sorted_rows.specs.Placed.{same_place, PlacesAscend, row_at, set_row, set_rows}
 use Rattle.sorted_rows.proofs.ListTests.{or_first, or_second}
 use Rattle.sorted_rows.proofs.PlacedLaws.{same_place_exact, same_place_itself, ascend-set_row, ascend-set_rows}
 use Rattle.sorted_rows.proofs.RowLaws.{place_row_at, ascend-filter}
 use Rattle.sorted_rows.proofs.RowSets.{same_rows_by}
 use Rattle.counted_rows.specs.Counted.{Place, Kinds, AreKinds, count_of, count_rows, kept_of, is_kept, is_first, first_rows, others_of, late_rows}
-use Rattle.counted_rows.proofs.KeptLaws.{or_false, not_appeared, again_at, late_at, new_at}
+use Rattle.counted_rows.proofs.KeptLaws.{not_appeared, again_at, late_at, new_at}
 use Rattle.counted_rows.proofs.NumberLaws.{places_more, at_numbered, up_numbered, number_at, number_more, at_more, at_counted}
 
 -- ---- Lists
@@ -25,7 +26,7 @@ chosen_by : {R : Type 0} (place : R → Place) (p : Place) (x : R) (xs : List R)
 chosen_by place p x xs true = refl
 chosen_by place p x xs false = refl
 
-either : {A : Type 0} (b : Bool) (a : A) → a ≡ cond b a a
+pub either : {A : Type 0} (b : Bool) (a : A) → a ≡ cond b a a
 either true a = refl
 either false a = refl
 
@@ -181,7 +182,7 @@ module _ {D O : Type 0} (k : Kinds D O) (are : AreKinds k) (stays : (n : ℕ) (d
     unfolding others_of is_first
     late_new apart few = late_kept
         (kept_now true (new_at k.len k.most ps q long apart few q long ∙ ap (λ b. is_kept_in ps q || b) (same_place_itself q) ∙ or_true (is_kept_in ps q)) (left ps)
-        (same_but k.place q (left (ps ++ q ∷ [])) (left ps) (λ d e. ap not (new_at k.len k.most ps q long apart few (k.place d) (are.long d) ∙ ap (λ b. is_kept_in ps (k.place d) || b) e ∙ or_false (is_kept_in ps (k.place d)))) xs (not_appeared k.len k.most ps q long apart few))
+        (same_but k.place q (left (ps ++ q ∷ [])) (left ps) (λ d e. ap not (new_at k.len k.most ps q long apart few (k.place d) (are.long d) ∙ ap (λ b. is_kept_in ps (k.place d) || b) e ∙ or-false (is_kept_in ps (k.place d)))) xs (not_appeared k.len k.most ps q long apart few))
         ∙ ap (map k.other) (append_nil_of (filter (left ps) xs)))
       where
         or_true : (b : Bool) → (b || true) ≡ true

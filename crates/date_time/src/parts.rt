@@ -62,7 +62,7 @@ fn day_number(year: u16, month: u8, day: u8) -> Option<i32>
 
 /// The number of the day at the front, `YYYY-MM-DD`, counted from 1970-01-01 and negative before it.
 #[tactic(auto, unfolding(crate::specs::DateTime::day_in))]
-pub fn day_of(text: &[u8]) -> Option<i32>
+pub(crate) fn day_of(text: &[u8]) -> Option<i32>
     requires { 10 ≤ length text.now }
     ensures value { result ≡ spec.day_in text.now }
     ensures bound { IfSome result IsEpochDay }
@@ -96,7 +96,7 @@ fn minutes_of(text: &[u8]) -> Option<u16>
 
 /// The seconds since 00:00:00, from `hh:mm:ss` at the front. Second 60 counts as 59.
 #[tactic(auto, unfolding(crate::specs::DateTime::second_in))]
-pub fn second_of(text: &[u8]) -> Option<u32>
+pub(crate) fn second_of(text: &[u8]) -> Option<u32>
     requires { 8 ≤ length text.now }
     ensures value { result ≡ spec.second_in text.now }
     ensures bound { IfSome result (λ second. second < 86400) }
@@ -139,7 +139,7 @@ fn begins_fraction(text: &[u8]) -> bool
 /// What stands behind a point and one or more digits at the front, or the whole text where none
 /// stand there.
 #[tactic(auto, unfolding(crate::specs::DateTime::without_fraction))]
-pub fn without_fraction(text: &[u8]) -> &[u8]
+pub(crate) fn without_fraction(text: &[u8]) -> &[u8]
     ensures { result.now ≡ spec.without_fraction text.now }
 {
     if begins_fraction(text) {
@@ -166,7 +166,7 @@ fn signed(sign: u8, seconds: u32) -> Option<i32>
 
 /// By how many seconds the local time is ahead of UTC, from `Z` or from `hh:mm` behind a sign.
 #[tactic(auto, unfolding(crate::specs::DateTime::offset_in))]
-pub fn offset_of(zone: &[u8]) -> Option<i32>
+pub(crate) fn offset_of(zone: &[u8]) -> Option<i32>
     ensures value { result ≡ spec.offset_in zone.now }
     ensures bound { IfSome result (IsWithin 86399) }
 {

@@ -17,11 +17,11 @@ use Rattle.table_laws.proofs.Stores.{replaced_same}
 use Rattle.table_laws.proofs.TableBindings.{bindings_apart}
 use Rattle.file_tables.specs.declared.cached_file.CachedFile.{CachedFile}
 use Rattle.file_tables.specs.Policies.{policy_of}
-use Rattle.file_tables.proofs.Tests.{bytes_same}
 use Rattle.desk_model.specs.DeskTables.{DeskTables, IsSound}
 use Rattle.desk_model.specs.Verdicts.{policy_at, desk_bindings}
 use Rattle.desk_rows.specs.CompiledDesk.{IsCompiledOf}
 use Rattle.desk_books.specs.Planned.{IsCommitted}
+use Rattle.mud_url.proofs.Places.{same_octets}
 
 -- it asks for the tables and the files alone
 pub compiled_alike : (d d' : DeskTables) (c : CompiledState) → d'.tables ≡ d.tables → d'.files ≡ d.files → IsCompiledOf d c → IsCompiledOf d' c
@@ -60,7 +60,7 @@ module _ (before after : DeskTables) (sound : IsSound before) (sound' : IsSound 
 -- ---- A policy comes or goes
 
 policy_case : (url u : List ℕ) (policy : Option Policy) (slots slots' : Slots) → policy_held slots' url ≡ policy → ((x : List ℕ) → bytes_eq url x ≡ false → policy_held slots' x ≡ policy_held slots x) → (b : Bool) → bytes_eq url u ≡ b → policy_held slots' u ≡ cond b policy (policy_held slots u)
-policy_case url u policy slots slots' here others true e = subst (λ (x : List ℕ). policy_held slots' x ≡ policy) (bytes_same url u e) here
+policy_case url u policy slots slots' here others true e = subst (λ (x : List ℕ). policy_held slots' x ≡ policy) (same_octets url u e) here
 policy_case url u policy slots slots' here others false e = others u e
 
 pub policy_compiled : (before after : DeskTables) (url : List ℕ) (policy : Option Policy) → desk_bindings after ≡ desk_bindings before → ((u : List ℕ) → policy_at after u ≡ cond (bytes_eq url u) policy (policy_at before u))

@@ -8,7 +8,6 @@ use Rattle.mud_tables.specs.BindSteps.{BindStep}
 use Rattle.file_tables.specs.declared.cached_file.CachedFile.{CachedFile}
 use Rattle.file_tables.specs.FileSteps.{FilesAfter, FileStep}
 use Rattle.file_tables.specs.Policies.{policy_of, policy_change, policy_after}
-use Rattle.file_tables.proofs.Tests.{same_bytes}
 use Rattle.thing_book.specs.Planned as thing
 use Rattle.file_cache.specs.Planned as file
 use Rattle.file_cache.specs.Changes.{PlannedFile}
@@ -20,6 +19,7 @@ use Rattle.desk_books.specs.Books.{Books, desk_of}
 use Rattle.desk_books.specs.Planned.{PaysFor}
 use Rattle.desk_books.specs.RowPlans.{IsPaidByBindings, IsPaidByPolicy}
 use Rattle.desk_books.proofs.Planning.{change_stamped, stamped_files}
+use Rattle.sorted_rows.proofs.ListTests.{same_bytes}
 
 module _ (books : Books) (now : ℕ) (steps : ℕ) where
   pub things_paid : (step : ThingStep) (change : thing.PlannedThings) → thing.IsPlanOf step books.things change → IsPaidByBindings change.gone change.come books.compiled steps

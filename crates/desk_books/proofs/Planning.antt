@@ -22,7 +22,6 @@ use Rattle.file_tables.specs.Files.{IsSoundFiles}
 use Rattle.file_tables.specs.FileSteps.{FilesAfter, FileStep}
 use Rattle.file_tables.specs.Limits.{last_moment}
 use Rattle.file_tables.specs.Policies.{policy_of, policy_change, policy_after}
-use Rattle.file_tables.proofs.Tests.{bytes_same}
 use Rattle.thing_book.specs.Planned as thing
 use Rattle.file_cache.specs.Planned as file
 use Rattle.file_cache.specs.Changes.{PlannedFile}
@@ -43,6 +42,7 @@ use Rattle.desk_books.specs.RowPlans.{IsFileRows}
 use Rattle.desk_books.proofs.Desks.{compiled_alike, member_compiled, policy_compiled}
 use Rattle.desk_model.proofs.SoundSteps.{sound_stamped}
 use Rattle.bind_book.proofs.Plans.{no_binding_change}
+use Rattle.mud_url.proofs.Places.{same_octets}
 
 -- ---- The stamp
 
@@ -78,7 +78,7 @@ outcome_alike word word' until until' url url' w u l = ap (λ (x : Word). outcom
 
 -- a policy that stays
 stays : (url u : List ℕ) (files : List CachedFile) (b : Bool) → bytes_eq url u ≡ b → cond b (policy_of files url) (policy_of files u) ≡ policy_of files u
-stays url u files true e = ap (λ (x : List ℕ). policy_of files x) (bytes_same url u e)
+stays url u files true e = ap (λ (x : List ℕ). policy_of files x) (same_octets url u e)
 stays url u files false e = refl
 
 no_edits : (plan : Plan) → plan.bindings ≡ [] → length plan.bindings ≤ 0

@@ -32,7 +32,11 @@ fn stamp_put(alloc: Global, now: Moment) -> Result<Put, Memory>
 
 /// The puts of a change with that of the stamp behind them; none where there are none.
 #[tactic(auto, unfolding(crate::specs::Changes::batch_of, desk_model::specs::Items::with_stamp_put))]
-pub fn batch_of(alloc: Global, mut puts: Listed<Put>, now: Moment) -> Result<Listed<Put>, Memory>
+pub(crate) fn batch_of(
+    alloc: Global,
+    mut puts: Listed<Put>,
+    now: Moment,
+) -> Result<Listed<Put>, Memory>
     ensures { IfOk result (λ batch. batch ≡ batch_of now puts) }
 {
     if puts.len() > 0 {
@@ -43,7 +47,7 @@ pub fn batch_of(alloc: Global, mut puts: Listed<Put>, now: Moment) -> Result<Lis
 
 /// The stamp after a change with these puts: its moment, and where there are none the one that was.
 #[tactic(auto, unfolding(crate::specs::Changes::stamp_after))]
-pub fn stamp_after(puts: &Listed<Put>, stamp: Option<Moment>, now: Moment) -> Option<Moment>
+pub(crate) fn stamp_after(puts: &Listed<Put>, stamp: Option<Moment>, now: Moment) -> Option<Moment>
     ensures { result ≡ stamp_after now stamp puts.now }
 {
     match puts.len() {

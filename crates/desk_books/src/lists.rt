@@ -71,7 +71,7 @@ impl Lists {
 }
 
 /// The rows that follow from the lists of three books.
-pub fn compiled_of(
+pub(crate) fn compiled_of(
     alloc: Global,
     things: &ThingBook,
     files: &FileCache,

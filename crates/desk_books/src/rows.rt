@@ -52,7 +52,7 @@ fn file_rows<L: Ledger>(
 }
 
 /// Plans the rows of a change, over the files before it.
-pub fn row_plan<L: Ledger>(
+pub(crate) fn row_plan<L: Ledger>(
     files: &FileCache,
     compiled: &mut Compiled,
     change: &BookChange,

@@ -1,6 +1,6 @@
 -- Things of version 1 are put anew, one after the other, in the items of a desk.
-use Rattle.std.proofs.Common.{◌≡◌, ℕ, zero, suc, ◌+◌, ◌≤◌, ◌<◌, cond, ◌&&◌, ◌==◌, List, [], ◌∷◌, ◌++◌, map, length, take, drop, get_or, slice_get, Option, Some, None, Result, Ok, Err, refl, sym, ap, subst, ◌∙◌, arith, add-one, lit<, length-append, append_assoc}
-use Rattle.std.specs.Prelude.{IsOk, OnOk, OnErr, option_map}
+use Rattle.std.proofs.Common.{◌≡◌, ℕ, zero, suc, ◌+◌, ◌≤◌, ◌<◌, cond, ◌&&◌, ◌==◌, List, [], ◌∷◌, ◌++◌, map, length, take, drop, get_or, slice_get, Option, Some, None, Result, Ok, refl, sym, ap, subst, ◌∙◌, arith, add-one, lit<, length-append, append_assoc}
+use Rattle.std.specs.Prelude.{IsOk, option_map}
 use Rattle.std.specs.List.{AllByRecursion}
 use Rattle.std.proofs.Math.Seq.{drop-cons, drop-append_seam}
 use Rattle.std.proofs.lemmas.List.{take_more, take_all, take-append-drop, drop-map, map-append, length-map}
@@ -18,12 +18,13 @@ use Rattle.file_tables.specs.FileItems.{file_item, file_items}
 use Rattle.desk_model.specs.DeskTables.{DeskTables}
 use Rattle.desk_model.specs.Items.{desk_of, items_of, tables_in, in_second_version}
 use Rattle.desk_model.proofs.Anew.{place_in_second, put_anew, read_anew}
-use Rattle.desk_model.proofs.ReadBack.{each_item, all-append, all_bind_items}
+use Rattle.desk_model.proofs.ReadBack.{each_item, all_bind_items}
 use Rattle.desk_model.proofs.Taking.{unequal}
 use Rattle.desk_model.proofs.ReadSound.{desk_alone}
 use Rattle.desk_items.specs.declared.taken.Taken.{Taken}
 use Rattle.desk_items.specs.Taken.{taken_desk}
 use Rattle.desk_items.specs.Opening.{HasOctets, IsPartlyAnew, PutsAnew}
+use Rattle.sorted_rows.proofs.Lists.{all-append}
 
 abbrev no_such : Option Thing
 no_such = None
@@ -188,16 +189,6 @@ octets_all items i past = subst (AllByRecursion HasOctets) (take_all i items pas
 pub octets_at : (items : List Item) (i : ℕ) (item : Item) → i < length items → item ≡ get_or items i item → AllByRecursion HasOctets items → HasOctets item
 octets_at items i item within is octets =
     (subst (AllByRecursion HasOctets) (drop-cons items i item within ∙ ap (λ (x : Item). x ∷ drop (suc i) items) (sym is)) (all_left i items octets)).0
-
--- ---- Answers of the keeper
-
-pub on_ok : {A E P Q : Type 0} (result : Result A E) → (P → Q) → OnOk result P → OnOk result Q
-on_ok (Ok a) f p = f p
-on_ok (Err e) f p = p
-
-pub on_err : {A E P : Type 0} (result : Result A E) → P → OnErr result P
-on_err (Ok a) p = tt
-on_err (Err e) p = p
 
 -- ---- What was taken of the items
 

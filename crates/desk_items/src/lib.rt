@@ -5,7 +5,7 @@
 
 pub mod fault;
 pub mod opening;
-pub mod stamp;
+mod stamp;
 pub mod taken;
 
 pub use fault::OpenFault;

@@ -7,7 +7,7 @@ use mud_base::Moment;
 use mud_world::Item;
 
 /// The kind of the stamp's item.
-pub const KIND: u8 = 6;
+pub(crate) const KIND: u8 = 6;
 
 /// The seconds in the body of the stamp's item, or None where the body isn't of its form.
 #[tactic(auto, unfolding(mud_tables::specs::BindItems::moment_of_body, item_codec::specs::Records::version_in, item_codec::specs::Records::number_in, item_codec::specs::Records::end_in))]
@@ -29,7 +29,7 @@ fn moment_of_body(body: &[u8]) -> Option<u64>
 
 /// The stamp of an item, or None where the item is none of a stamp.
 #[tactic(auto, unfolding(mud_tables::specs::BindItems::stamp_in, mud_tables::specs::BindItems::if_moment))]
-pub fn stamp_in(item: &Item) -> Option<Moment>
+pub(crate) fn stamp_in(item: &Item) -> Option<Moment>
     ensures { result ≡ spec.stamp_in item.now }
 {
     if item.kind != KIND || item.key.len() != 0 {

@@ -10,6 +10,7 @@ use Rattle.std.proofs.lemmas.List.{append-nil}
 use Rattle.sorted_rows.specs.Placed.{place_cmp}
 use Rattle.sorted_rows.proofs.PlacedLaws.{place_cmp_exact}
 use Rattle.sorted_rows.proofs.ListTests.{left_of, right_of, both}
+use Rattle.sorted_rows.proofs.Lists.{all-append}
 use Rattle.mud_world.specs.declared.item.Item.{Item}
 use Rattle.mud_world.specs.declared.item.Put.{Put}
 use Rattle.mud_world.specs.declared.item.Put.TheVariants.{Set, Gone}
@@ -26,7 +27,7 @@ use Rattle.file_tables.specs.FileItems.{file_items}
 use Rattle.desk_model.specs.DeskTables.{DeskTables, with_things, with_files, with_desk_binds}
 use Rattle.desk_model.specs.Commands.{stamped}
 use Rattle.desk_model.specs.Items.{items_of, with_stamp_put, IsKeptBy}
-use Rattle.desk_model.proofs.ReadBack.{all-append, all_bind_items}
+use Rattle.desk_model.proofs.ReadBack.{all_bind_items}
 use Rattle.desk_model.proofs.Order.{thing_kinds, file_kinds, stamp_kinds}
 
 -- ---- Puts one behind the other

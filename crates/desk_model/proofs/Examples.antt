@@ -25,7 +25,6 @@ use Rattle.file_tables.specs.declared.cached_file.CachedFile.{CachedFile}
 use Rattle.file_tables.specs.Held.{held_file, usage_in, digest_of}
 use Rattle.file_tables.specs.Files.{url_of, file_at, set_file, without_file, new_file, with_candidate, with_approved, entries_of, approved_entries, entry_count}
 use Rattle.file_tables.specs.FileSteps.{approved_again, beside_approved, beside_candidate, import_cases, import_read, import_step, approved_row, approve, ruled, candidate_cases, is_verdict, is_ruled, verdict_cases, verdict_step, settled, left_with, approved_cases, revoke_cases, revoke_step}
-use Rattle.file_tables.proofs.Tests.{same_bytes}
 use Rattle.desk_model.specs.declared.command.Command.TheVariants.{HearUrl, HearLease, Move, Remove, Hold, Release, Lease, EndLease, Import, Verdict, Revoke, Bind, Unbind, Locals, Observe}
 use Rattle.desk_model.specs.declared.reply.Outcome.{Outcome}
 use Rattle.desk_model.specs.declared.reply.Refusal.TheVariants.{Things, Files, Binds}
@@ -33,6 +32,7 @@ use Rattle.desk_model.specs.declared.reply.Reply.TheVariants.{Done, Refused}
 use Rattle.desk_model.specs.DeskTables.{DeskTables, empty_desk, with_things, with_files, with_desk_binds}
 use Rattle.desk_model.specs.Commands.{DeskStep, stamped, by_things, by_files, by_binds, command_step}
 use Rattle.desk_model.specs.Sessions.{Session, opened, later, answered, command_in}
+use Rattle.sorted_rows.proofs.ListTests.{same_bytes}
 
 unfoldable desk_compute : Unit {0}
 unfolding things_compute binds_compute is_change with_classes with_locals with_names bind_class_step unbind_class_step set_locals_step observe_name_step binds_of with_binds url_of file_at set_file new_file with_candidate with_approved empty_desk with_things with_files with_desk_binds stamped by_things by_files by_binds command_step opened later answered command_in

@@ -11,12 +11,14 @@ use Rattle.mud_tables.specs.Tables.{binds_of}
 use Rattle.mud_tables.specs.ThingItems.{thing_item, thing_items}
 use Rattle.mud_tables.specs.BindItems.{class_item, class_items, locals_item, locals_items, name_item, name_items, stamp_item, stamp_items}
 use Rattle.mud_tables.specs.TakenItems.{bind_items}
+use Rattle.mud_tables.proofs.ItemLaws.{are_things}
 use Rattle.file_tables.specs.Files.{url_of}
 use Rattle.file_tables.specs.FileItems.{file_item, file_items}
 use Rattle.desk_model.specs.DeskTables.{DeskTables, IsSound}
 use Rattle.desk_model.specs.Items.{items_of}
-use Rattle.desk_model.proofs.ReadBack.{each_item, all-append, all_bind_items}
+use Rattle.desk_model.proofs.ReadBack.{each_item, all_bind_items, parts}
 use Rattle.file_tables.proofs.EditLaws.{are_file_items}
+use Rattle.sorted_rows.proofs.Lists.{all-append}
 
 -- ---- The kinds of items
 
@@ -69,10 +71,6 @@ module _ (binds : Binds) (sound : IsSoundBinds binds) where
       (ordered-locals binds.locals)
       (ordered-items name_of 5 name_item names_of binds.names sound.names.ascend))
 
-things_of : AreItemsOf mac_of 1 thing_item
-unfolding thing_item mac_of
-things_of row = refl
-
 ordered-stamp : (stamp : Option ℕ) → IsOrdered (stamp_items stamp)
 unfolding stamp_items
 ordered-stamp None = tt
@@ -81,10 +79,6 @@ ordered-stamp (Some moment) = (tt, tt)
 -- ---- The whole
 
 module _ (desk : DeskTables) (sound : IsSound desk) where
-  parts : IsSoundBinds (binds_of desk.tables)
-  unfolding binds_of
-  parts = record { classes = sound.tables.classes; locals = sound.tables.locals; names = sound.tables.names }
-
   above : (k : ℕ) → k < 6 → AreOfHigherKinds k (stamp_items desk.stamp)
   above k low = stamp_kinds (λ item. k < item.kind) (λ item e. omega (arith, e, low)) desk.stamp
 
@@ -96,7 +90,7 @@ module _ (desk : DeskTables) (sound : IsSound desk) where
 
   in_order_things : IsOrdered (thing_items desk.tables.things)
   unfolding thing_items
-  in_order_things = ordered-items mac_of 1 thing_item things_of desk.tables.things sound.tables.things.ascend
+  in_order_things = ordered-items mac_of 1 thing_item are_things desk.tables.things sound.tables.things.ascend
 
   in_order_files : IsOrdered (file_items desk.files)
   unfolding file_items
@@ -112,4 +106,4 @@ module _ (desk : DeskTables) (sound : IsSound desk) where
       in_order_things
       (ordered-append 2 (file_items desk.files) (binds ++ stamp_items desk.stamp) (file_kinds (λ item. item.kind ≤ 2) (λ item e. omega (arith, e)) desk) (binds_above 2 (lit< tt))
       in_order_files
-      (ordered-append 5 binds (stamp_items desk.stamp) (all_bind_items (λ item. item.kind ≤ 5) (λ item e f. omega (arith, f)) (binds_of desk.tables)) (above 5 (lit< tt)) (ordered-binds (binds_of desk.tables) parts) (ordered-stamp desk.stamp)))
+      (ordered-append 5 binds (stamp_items desk.stamp) (all_bind_items (λ item. item.kind ≤ 5) (λ item e f. omega (arith, f)) (binds_of desk.tables)) (above 5 (lit< tt)) (ordered-binds (binds_of desk.tables) (parts desk sound)) (ordered-stamp desk.stamp)))

@@ -23,6 +23,7 @@ use Rattle.file_tables.proofs.ReadFiles.{behind-sound}
 use Rattle.desk_model.specs.DeskTables.{DeskTables, IsStamp, IsSound}
 use Rattle.desk_model.specs.Items.{KeptDesk, none_kept, desk_of, with_desk_item, desk_in, items_of, tables_in}
 use Rattle.desk_model.proofs.Taking.{kept_by_taken, all_taken-append, taken_within, take_thing, take_file, take_bind, take_stamp}
+use Rattle.sorted_rows.proofs.Lists.{all-append}
 
 -- ---- Files
 
@@ -45,10 +46,6 @@ files_again files sound = files_from [] files files refl sound
 pub each_item : {R : Type 0} (f : R → Item) (P : Item → Type 0) → ((r : R) → P (f r)) → (rows : List R) → AllByRecursion P (map f rows)
 each_item f P holds [] = tt
 each_item f P holds (r ∷ rows) = (holds r, each_item f P holds rows)
-
-pub all-append : {A : Type 0} (P : A → Type 0) (xs ys : List A) → AllByRecursion P xs → AllByRecursion P ys → AllByRecursion P (xs ++ ys)
-all-append P [] ys here there = there
-all-append P (x ∷ xs) ys here there = (here.0, all-append P xs ys here.1 there)
 
 of_locals : (P : Item → Type 0) → ((item : Item) → 2 < item.kind → item.kind < 6 → P item) → (locals : List Prefix) → AllByRecursion P (locals_items locals)
 unfolding locals_items locals_item
@@ -91,7 +88,7 @@ module _ (desk : DeskTables) (sound : IsSound desk) where
       (each_item file_item (λ item. (a : List CachedFile) → with_desk_item (record { things = desk.tables.things; files = a; binds = no_binds; stamp = None }) item ≡ option_map (λ (x : List CachedFile). record { things = desk.tables.things; files = x; binds = no_binds; stamp = None }) (with_file_item a item)) (λ row. take_file (file_item row) refl desk.tables.things) desk.files)
       [] desk.files (files_again desk.files sound.files)
 
-  parts : IsSoundBinds (binds_of desk.tables)
+  pub parts : IsSoundBinds (binds_of desk.tables)
   unfolding binds_of
   parts = record { classes = sound.tables.classes; locals = sound.tables.locals; names = sound.tables.names }
 

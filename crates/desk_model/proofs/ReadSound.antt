@@ -36,7 +36,7 @@ push_behind low own after rest item e none =
     ap (λ r. low ++ (after ++ r)) none ∙ ap (λ a. low ++ a) (append-nil after ∙ e) ∙ sym (append_assoc low own (item ∷ []))
     ∙ ap (λ o. (low ++ o) ++ item ∷ []) (sym (append-nil own)) ∙ ap (λ r. (low ++ (own ++ r)) ++ item ∷ []) (sym none)
 
-no_stamp : (stamp : Option ℕ) → is_none stamp ≡ true → stamp ≡ None
+pub no_stamp : (stamp : Option ℕ) → is_none stamp ≡ true → stamp ≡ None
 no_stamp None e = refl
 no_stamp (Some moment) e = absurd cc
 

@@ -4,16 +4,14 @@ use Rattle.std.specs.Prelude.{IfOk, nat_le, unwrap_or}
 use Rattle.std.specs.List.{AllByRecursion}
 use Rattle.std.proofs.lemmas.Bool.{le-leb}
 use Rattle.sorted_rows.proofs.ListTests.{left_of, right_of, both}
-use Rattle.item_codec.proofs.RecordLaws.{some_is, bind_some}
-use Rattle.mud_base.specs.declared.addr.Addr.{Addr}
+use Rattle.sorted_rows.proofs.Lists.{all_push}
+use Rattle.item_codec.proofs.RecordLaws.{bind_some}
 use Rattle.mud_base.specs.declared.memory.Memory as want
-use Rattle.mud_base.specs.declared.packet.Transport.{Transport}
-use Rattle.mud_base.specs.declared.packet.Transport.TheVariants as packet
 use Rattle.frame_view.specs.declared.views.Frame.{Frame}
 use Rattle.frame_view.specs.Frame.{frame_of}
 use Rattle.mud_tables.specs.declared.segment.Segment.{Segment}
 use Rattle.mud_tables.specs.History.{segment_in, segment_of, with_segment, is_forward}
-use Rattle.mud_tables.proofs.RowSets.{all_push}
+use Rattle.mud_tables.proofs.TypeFacts.{segment_at}
 use Rattle.file_tables.specs.Limits.{last_moment}
 use Rattle.packet_judge.specs.declared.verdict.Verdict.{Verdict}
 use Rattle.packet_judge.specs.Verdicts.{noted_fields, noted_segment, history_after}
@@ -43,13 +41,6 @@ unfolding later
 not_before session now = omega arith
 
 -- ---- The history
-
-segment_at : (src dst : Addr) (now : ℕ) (transport : Transport) (p : Segment) → segment_in src dst now transport ≡ Some p → p.at ≡ now
-unfolding segment_in
-segment_at src dst now (packet.Tcp from to flags) p e = ap (λ (s : Segment). s.at) (sym (some_is (record { source = (src, from); destination = (dst, to); flags = flags; at = now }) p e))
-segment_at src dst now (packet.Udp from to) p e = absurd cc
-segment_at src dst now (packet.Icmp kind code) p e = absurd cc
-segment_at src dst now packet.Absent p e = absurd cc
 
 noted_at : (frame : Frame) (verdict : Verdict) (now : ℕ) (p : Segment) → noted_segment frame verdict now ≡ Some p → p.at ≡ now
 unfolding noted_segment segment_of

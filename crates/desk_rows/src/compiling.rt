@@ -1,5 +1,6 @@
 //! The policies, bindings and rows of a desk's lists.
 ghost use Rattle.std.specs.Prelude.{◌≡◌, ◌<◌, [], IfOk, OnOk};
+ghost use Rattle.sorted_rows.specs.Ledgers.{IsBlankOf};
 ghost use Rattle.sorted_rows.specs.Placed.{set_rows};
 ghost use Rattle.acl_model.specs.Places.{binding_place};
 ghost use Rattle.acl_compile.specs.Compiled.{HasItsRows};
@@ -48,9 +49,7 @@ fn compile_counted<L: Ledger>(
     files: &[CachedFile],
     blank: Blank,
 ) -> Result<Compiled, Memory>
-    requires name { blank.name ≡ L.name }
-    requires parts { blank.parts ≡ L.parts }
-    requires some { 0 < L.parts }
+    requires blank { IsBlankOf L.name L.parts blank }
     requires files { IsSoundFiles files.now }
     ensures { IfOk result (λ compiled. (desk : DeskTables) → IsSound desk
         → desk.tables.things ≡ things.now → desk.tables.classes ≡ classes.now

@@ -139,7 +139,7 @@ fn add_names(list: &mut Listed<Binding>, names: &[NameRow]) -> Result<(), Memory
 }
 
 /// The bindings of the leases, of the classes and of the names.
-pub fn list_bindings(
+pub(crate) fn list_bindings(
     alloc: Global,
     things: &[Thing],
     classes: &[ClassRow],

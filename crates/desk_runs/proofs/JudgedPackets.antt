@@ -15,7 +15,7 @@ unfolding opened
 in_begun desk state begun = record { session_is = begun.session; forwarded = begun.forwarded }
 
 -- it is in its own session
-in_own : (history : List Segment) (state : DeskState) → HasForwarded history state → IsIn (session_of history state) state
+pub in_own : (history : List Segment) (state : DeskState) → HasForwarded history state → IsIn (session_of history state) state
 unfolding session_of
 in_own history state forwarded = record { session_is = refl; forwarded = forwarded }
 

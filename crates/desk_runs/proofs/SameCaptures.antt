@@ -7,11 +7,19 @@ use Rattle.capture_source.specs.Same.{HoldTheSame}
 use Rattle.capture_runs.specs.Fold.{LineStep, LooksAtNoPlace, no_ending}
 use Rattle.capture_runs.proofs.SamePackets.{due_same}
 use Rattle.text_lines.specs.Numbers.{number_text}
+use Rattle.packet_judge.specs.declared.verdict.Verdict.{Verdict}
 use Rattle.verdict_lines.specs.Verdicts.{verdict_text}
 use Rattle.desk_model.specs.DeskTables.{DeskTables}
 use Rattle.desk_model.specs.Sessions.{Session, opened, frame_in}
 use Rattle.desk_runs.specs.Judged.{judged_line, judged_step}
 use Rattle.desk_runs.specs.Store.{due_of_store, judged_due, judged_taken}
+
+line_made : Verdict → ℕ → ℕ → List ℕ
+line_made verdict number seconds = decimal number ++ number_text seconds ++ codes " " ++ verdict_text verdict ++ codes "\n"
+
+pub line_alike : (verdict : Verdict) (p q : Packet) → p.number ≡ q.number → p.seconds ≡ q.seconds → judged_line p verdict ≡ judged_line q verdict
+unfolding judged_line line_made
+line_alike verdict p q number seconds = ap₂ (λ (n m : ℕ). line_made verdict n m) number seconds
 
 made : Session → ℕ → ℕ → List ℕ → LineStep Session
 made session number seconds octets = record {

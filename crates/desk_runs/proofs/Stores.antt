@@ -8,7 +8,7 @@ use Rattle.mud_world.specs.Boxed.{Tells, kept_items}
 use Rattle.mud_world.specs.Door.{DoorState, with_left, put_out}
 use Rattle.mud_world.proofs.Doors.{put_out_none}
 use Rattle.command_runs.specs.Due.{Due, WritesDue, WritesPart, WroteFirst}
-use Rattle.command_runs.specs.View.{DoorView}
+use Rattle.mud_world.specs.View.{DoorView}
 use Rattle.desk_items.specs.declared.fault.OpenFault.{OpenFault}
 use Rattle.desk_items.specs.declared.fault.OpenFault.TheVariants.{Keeper, Memory, BadItem}
 use Rattle.desk_items.specs.Opening.{IsFaultOf, IsOfCall}
@@ -34,7 +34,7 @@ no_seven status is seven = absurd (grind arith)
 not_done : {A : Type 0} (status : ℕ) → (status ≡ 5) ⊎ (status ≡ 7) → (status ≡ 0) ⊎ ((status ≡ 3) ⊎ (status ≡ 6)) → A
 not_done status is which = absurd (grind arith)
 
-not_part : {A : Type 0} (status : ℕ) → status ≡ 7 → (status ≡ 4) ⊎ (status ≡ 5) → A
+pub not_part : {A : Type 0} (status : ℕ) → status ≡ 7 → (status ≡ 4) ⊎ (status ≡ 5) → A
 not_part status is which = absurd (grind arith)
 
 six_of : (status : ℕ) → (status ≡ 0) ⊎ ((status ≡ 3) ⊎ (status ≡ 6)) → (status ≡ 6) ⊎ ((status ≡ 4) ⊎ (status ≡ 5)) → status ≡ 6

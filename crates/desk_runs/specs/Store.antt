@@ -10,7 +10,7 @@ use Rattle.mud_world.specs.Door.{DoorState}
 use Rattle.capture_runs.specs.Capture.{WritesTaken, due_of_capture}
 use Rattle.capture_runs.specs.Fold.{no_ending}
 use Rattle.command_runs.specs.Due.{Due, WritesDue, WritesPart}
-use Rattle.command_runs.specs.View.{DoorView}
+use Rattle.mud_world.specs.View.{DoorView}
 use Rattle.desk_model.specs.DeskTables.{DeskTables, IsSound}
 use Rattle.desk_model.specs.Items.{tables_in}
 use Rattle.desk_model.specs.Sessions.{opened}

@@ -1,5 +1,6 @@
 //! The verdict on each packet of a capture.
-ghost use Rattle.std.specs.Prelude.{◌≡◌, ◌≢◌, ◌⊎◌, ◌++◌, ◌<◌, IfOk, OnOk, OnErr};
+ghost use Rattle.std.specs.Prelude.{◌≡◌, ◌≢◌, ◌⊎◌, ◌++◌, IfOk, OnOk, OnErr};
+ghost use Rattle.sorted_rows.specs.Ledgers.{IsBlankOf};
 ghost use Rattle.mud_world.specs.Causes.{EndsAtFailure};
 ghost use Rattle.pcap_read.specs.Captured.{packet_of};
 ghost use Rattle.capture_runs.specs.Capture.{WritesTaken, due_of_capture};
@@ -38,9 +39,7 @@ pub fn judge_packet<L: Ledger>(
     packet: &Captured<'_>,
     blank: Blank,
 ) -> Result<Verdict, Memory>
-    requires name { blank.name ≡ L.name }
-    requires parts { blank.parts ≡ L.parts }
-    requires some { 0 < L.parts }
+    requires blank { IsBlankOf L.name L.parts blank }
     ensures verdict { (s : Session) → IsIn s state.old → IfOk result (λ verdict. verdict ≡ (judged_packet s (packet_of packet.now)).verdict) }
     ensures next { (s : Session) → IsIn s state.old → OnOk result (IsIn (judged_packet s (packet_of packet.now)).session state.new) }
     ensures err { (s : Session) → IsIn s state.old → OnErr result (IsIn s state.new) }
@@ -102,19 +101,23 @@ impl PacketLines for JudgedLines {
 
 /// Reads a capture, and writes the lines of its packets with the verdicts of the desk's session, and
 /// then that of the fault that ends them. The keeper isn't called.
-pub fn judge_capture<D: Door>(alloc: Global, desk: Desk, door: &mut D) -> (Status, Box<dyn Keeper>)
+pub(crate) fn judge_capture<D: Door>(
+    alloc: Global,
+    desk: Desk,
+    door: &mut D,
+) -> (Status, Box<dyn Keeper>)
     requires { IsKept Keeper-dyn desk.keeper (tables_of desk.state) }
     ensures statuses { (status_number result.0 ≡ 0) ⊎ ((status_number result.0 ≡ 3) ⊎ ((status_number result.0 ≡ 4) ⊎ (status_number result.0 ≡ 5))) }
-    ensures fault { status_number result.0 ≡ 4 → EndsAtFailure (D.failed door.new) (D.reads door.old) (D.reads door.new) (D.writes door.old) (D.writes door.new) }
-    ensures steady { status_number result.0 ≢ 4 → (D.reads door.new ≡ D.reads door.old) × (D.writes door.new ≡ D.writes door.old) }
+    ensures fault { status_number result.0 ≡ 4 → EndsAtFailure (D.view door.new).failed (D.view door.old).reads (D.view door.new).reads (D.view door.old).writes (D.view door.new).writes }
+    ensures steady { status_number result.0 ≢ 4 → ((D.view door.new).reads ≡ (D.view door.old).reads) × ((D.view door.new).writes ≡ (D.view door.old).writes) }
     // In whatever session the desk is, the lines are those of the packets in their order.
     ensures done { (s : Session) → IsIn s desk.state → D.tells → (status_number result.0 ≡ 0) ⊎ (status_number result.0 ≡ 3) →
-        WritesDue (due_of_capture judged_step no_ending s (D.state door.old).left) (D.state door.old) (D.state door.new) (status_number result.0) }
+        WritesDue (due_of_capture judged_step no_ending s (D.view door.old).state.left) (D.view door.old).state (D.view door.new).state (status_number result.0) }
     ensures part { (s : Session) → IsIn s desk.state → D.tells → (status_number result.0 ≡ 4) ⊎ (status_number result.0 ≡ 5) →
-        WritesPart (due_of_capture judged_step no_ending s (D.state door.old).left) (D.state door.old) (D.state door.new) }
-    ensures taken { (s : Session) → IsIn s desk.state → D.tells → D.reads door.new ≢ D.reads door.old →
-        WritesTaken judged_step s (D.state door.old) (D.state door.new) }
-    ensures turns { D.turns door.new ≡ D.turns door.old }
+        WritesPart (due_of_capture judged_step no_ending s (D.view door.old).state.left) (D.view door.old).state (D.view door.new).state }
+    ensures taken { (s : Session) → IsIn s desk.state → D.tells → (D.view door.new).reads ≢ (D.view door.old).reads →
+        WritesTaken judged_step s (D.view door.old).state (D.view door.new).state }
+    ensures turns { (D.view door.new).turns ≡ (D.view door.old).turns }
     ensures keeper { result.1 ≡ desk.keeper }
 {
     let (keeper, state) = desk.into_parts();

@@ -7,6 +7,6 @@ pub mod laws;
 pub mod refusing;
 pub mod store;
 
-pub use judging::{JudgedLines, append_judged, judge_capture, judge_packet, moment_of};
+pub use judging::{JudgedLines, append_judged, judge_packet, moment_of};
 pub use refusing::refuse_store;
 pub use store::judge_store;

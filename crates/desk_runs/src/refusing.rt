@@ -41,13 +41,13 @@ fn item_line(alloc: Global, kind: u8, key: &[u8]) -> Result<Bytes, Memory>
 /// Writes the line that names an item.
 fn name_item<D: Door>(alloc: Global, door: &mut D, kind: u8, key: &[u8]) -> Status
     ensures statuses { (status_number result ≡ 6) ⊎ ((status_number result ≡ 4) ⊎ (status_number result ≡ 5)) }
-    ensures fault { status_number result ≡ 4 → StopsAtFailure (D.failed door.new) (D.writes door.old) (D.writes door.new) }
-    ensures steady { status_number result ≢ 4 → D.writes door.new ≡ D.writes door.old }
-    ensures done { D.tells → status_number result ≡ 6 → D.state door.new ≡ put_out (bad_item_line kind key.now) (D.state door.old) }
+    ensures fault { status_number result ≡ 4 → StopsAtFailure (D.view door.new).failed (D.view door.old).writes (D.view door.new).writes }
+    ensures steady { status_number result ≢ 4 → (D.view door.new).writes ≡ (D.view door.old).writes }
+    ensures done { D.tells → status_number result ≡ 6 → (D.view door.new).state ≡ put_out (bad_item_line kind key.now) (D.view door.old).state }
     ensures part { D.tells → (status_number result ≡ 4) ⊎ (status_number result ≡ 5) →
-        WroteFirst (bad_item_line kind key.now) (D.state door.old) (D.state door.new) }
-    ensures turns { D.turns door.new ≡ D.turns door.old }
-    ensures reads { D.reads door.new ≡ D.reads door.old }
+        WroteFirst (bad_item_line kind key.now) (D.view door.old).state (D.view door.new).state }
+    ensures turns { (D.view door.new).turns ≡ (D.view door.old).turns }
+    ensures reads { (D.view door.new).reads ≡ (D.view door.old).reads }
 {
     let Ok(line) = item_line(alloc, kind, key) else {
         return Status::NoMemory;
@@ -62,15 +62,15 @@ fn name_item<D: Door>(alloc: Global, door: &mut D, kind: u8, key: &[u8]) -> Stat
 /// is written; else nothing is. The door isn't read.
 pub fn refuse_store<D: Door>(alloc: Global, door: &mut D, fault: OpenFault) -> Status
     ensures statuses { IsRefusal fault (status_number result) }
-    ensures fault { status_number result ≡ 4 → StopsAtFailure (D.failed door.new) (D.writes door.old) (D.writes door.new) }
-    ensures steady { status_number result ≢ 4 → D.writes door.new ≡ D.writes door.old }
-    ensures done { D.tells → status_number result ≡ 6 → D.state door.new ≡ put_out (refusal_text fault) (D.state door.old) }
+    ensures fault { status_number result ≡ 4 → StopsAtFailure (D.view door.new).failed (D.view door.old).writes (D.view door.new).writes }
+    ensures steady { status_number result ≢ 4 → (D.view door.new).writes ≡ (D.view door.old).writes }
+    ensures done { D.tells → status_number result ≡ 6 → (D.view door.new).state ≡ put_out (refusal_text fault) (D.view door.old).state }
     ensures part { D.tells → (status_number result ≡ 4) ⊎ (status_number result ≡ 5) →
-        WroteFirst (refusal_text fault) (D.state door.old) (D.state door.new) }
+        WroteFirst (refusal_text fault) (D.view door.old).state (D.view door.new).state }
     // For a failure of the keeper, and for want of memory in the opening, the door isn't called at all.
     ensures untouched { IsOfCall fault → door.new ≡ door.old }
-    ensures turns { D.turns door.new ≡ D.turns door.old }
-    ensures reads { D.reads door.new ≡ D.reads door.old }
+    ensures turns { (D.view door.new).turns ≡ (D.view door.old).turns }
+    ensures reads { (D.view door.new).reads ≡ (D.view door.old).reads }
 {
     match fault {
         OpenFault::Keeper => Status::KeeperFailed,

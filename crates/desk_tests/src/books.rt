@@ -1,5 +1,5 @@
 //! One command of each book, planned and committed, with ample memory.
-ghost use Rattle.std.specs.Prelude.{◌≡◌, ◌<◌};
+ghost use Rattle.sorted_rows.specs.Ledgers.{IsBlankOf};
 ghost use Rattle.desk_model.specs.Commands.{IsAsked};
 
 use crate::bulb::{BULB, BULB_DIGEST};
@@ -41,9 +41,7 @@ type Said = (&'static str, usize);
 #[tactic(auto, using(desk_books::proofs::Whole::ready_of))]
 fn counted<L: Ledger>(books: &mut DeskBooks, command: Command, now: u64, blank: Blank) -> Said
     requires asked { IsAsked command }
-    requires name { blank.name ≡ L.name }
-    requires parts { blank.parts ≡ L.parts }
-    requires some { 0 < L.parts }
+    requires blank { IsBlankOf L.name L.parts blank }
 {
     let mut steps = Steps::<L>::new(blank);
     match books.plan(command, Moment::at_most_last(now), &mut steps) {

@@ -20,7 +20,7 @@ const URLS: [&[u8]; 3] = [
 ];
 
 /// The addresses: 192.0.2.1, 192.0.2.2, 2001:db8::1 and 2001:db8::2.
-pub const ADDRS: [Addr; 4] = [
+pub(crate) const ADDRS: [Addr; 4] = [
     Addr::V4(0xc000_0201),
     Addr::V4(0xc000_0202),
     Addr::V6(0x2001_0db8_0000_0000_0000_0000_0000_0001),
@@ -53,7 +53,7 @@ pub struct Chance {
 
 impl Chance {
     /// The first numbers of this seed, at the first second.
-    pub fn new(seed: u64) -> Chance {
+    pub(crate) fn new(seed: u64) -> Chance {
         Chance {
             number: seed,
             seconds: 0,
@@ -61,7 +61,7 @@ impl Chance {
     }
 
     /// A number below this one.
-    pub fn below(&mut self, count: usize) -> usize
+    fn below(&mut self, count: usize) -> usize
         requires { 0 < count }
         ensures { result < count }
     {
@@ -73,14 +73,14 @@ impl Chance {
     }
 
     /// The moment of the next command.
-    pub fn moment(&mut self) -> Moment {
+    pub(crate) fn moment(&mut self) -> Moment {
         self.seconds = self.seconds.saturating_add(self.below(5) as u64);
         Moment::at_most_last(self.seconds)
     }
 }
 
 /// One of the Things.
-pub fn mac_of(n: u8) -> Mac {
+pub(crate) fn mac_of(n: u8) -> Mac {
     Mac([2, 0, 0, 0, 0, n])
 }
 
@@ -196,7 +196,7 @@ fn of_binds(alloc: Global, chance: &mut Chance) -> Result<Command, Fail>
 }
 
 /// A command, where these files are held.
-pub fn made_command(
+pub(crate) fn made_command(
     alloc: Global,
     chance: &mut Chance,
     files: &[CachedFile],

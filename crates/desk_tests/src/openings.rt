@@ -1,7 +1,8 @@
 //! Two desks are given the same commands, made by chance. The one patches its rows from the first
 //! command to the last; the other is closed and opened again every now and then, so that its rows are
 //! made anew from what its keeper has kept. Both lend the same rows.
-ghost use Rattle.std.specs.Prelude.{◌≡◌, ◌<◌, IfOk};
+ghost use Rattle.std.specs.Prelude.{IfOk};
+ghost use Rattle.sorted_rows.specs.Ledgers.{IsBlankOf};
 ghost use Rattle.mud_desk.specs.Boxed.{IsKept};
 ghost use Rattle.mud_desk.specs.DeskState.{tables_of};
 
@@ -149,9 +150,7 @@ fn openings_alike<L: Ledger>(
     blank: Blank,
 ) -> Result<usize, Fail>
     requires kept { IsKept Keeper-dyn patched.old.keeper (tables_of patched.old.state) }
-    requires name { blank.name ≡ L.name }
-    requires parts { blank.parts ≡ L.parts }
-    requires some { 0 < L.parts }
+    requires blank { IsBlankOf L.name L.parts blank }
 {
     let mut steps = Steps::<L>::new(blank);
     let mut chance = Chance::new(1);

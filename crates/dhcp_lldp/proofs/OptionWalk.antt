@@ -2,6 +2,7 @@
 use Rattle.std.proofs.Common.{◌≡◌, ◌≢◌, ◌⊎◌, inl, inr, ℕ, ◌+◌, suc, ltb, eqb, Bool, true, false, ◌||◌, List, [], ◌∷◌, length, Option, Some, None, Result, Ok, Err, refl, ap, sym, ◌∙◌, arith, lt-ltb, zero-add}
 use Rattle.std.specs.Prelude.{filter}
 use Rattle.std.proofs.lemmas.Bool.Decides.{eqb_tells}
+use Rattle.std.proofs.Math.Bool.{or-true}
 use Rattle.mud_base.specs.Faults.{row, row_at, first_row, unless_fault}
 use Rattle.dhcp_lldp.specs.declared.heard.HearFault.{HearFault}
 use Rattle.dhcp_lldp.specs.declared.heard.HearFault.TheVariants as faults
@@ -51,10 +52,6 @@ abbrev IsAnswered : List DhcpOption → Option ℕ → Type 0
 IsAnswered options cut =
     (time kind url : Option (List ℕ)) → walk (record { lease_time = time; message_type = kind; mud_url = url }) options cut ≡ answered time kind url options cut
 
-or_true : (a : Bool) → (a || true) ≡ true
-or_true true = refl
-or_true false = refl
-
 module _ (more : List DhcpOption) (cut : Option ℕ) (later : IsAnswered more cut) (content : List ℕ) where
   counted : (code : ℕ) → 1 + length (filter (has_code code) more) ≡ 0 + suc (length (filter (has_code code) more))
   counted code = omega arith
@@ -78,7 +75,7 @@ module _ (more : List DhcpOption) (cut : Option ℕ) (later : IsAnswered more cu
       later time (Some content) url
       ∙ ap (λ n. answer (is_twice time 51 more || ltb 1 n || is_twice url 161 more) cut
       (record { lease_time = after time 51 more; message_type = Some content; mud_url = after url 161 more })) (counted 53)
-  at_kind time (Some earlier) url = rw (exceeds 53, or_true (is_twice time 51 more)) refl
+  at_kind time (Some earlier) url = rw (exceeds 53, or-true (is_twice time 51 more)) refl
 
   at_url : (time kind url : Option (List ℕ)) → walk (record { lease_time = time; message_type = kind; mud_url = url }) (record { code = 161; content = content } ∷ more) cut
       ≡ answered time kind url (record { code = 161; content = content } ∷ more) cut
@@ -87,7 +84,7 @@ module _ (more : List DhcpOption) (cut : Option ℕ) (later : IsAnswered more cu
       later time kind (Some content)
       ∙ ap (λ n. answer (is_twice time 51 more || is_twice kind 53 more || ltb 1 n) cut
       (record { lease_time = after time 51 more; message_type = after kind 53 more; mud_url = Some content })) (counted 161)
-  at_url time kind (Some earlier) = rw (exceeds 161, or_true (is_twice time 51 more || is_twice kind 53 more)) refl
+  at_url time kind (Some earlier) = rw (exceeds 161, or-true (is_twice time 51 more || is_twice kind 53 more)) refl
 
   at_other : (code : ℕ) → eqb code 51 ≡ false → eqb code 53 ≡ false → eqb code 161 ≡ false → (time kind url : Option (List ℕ))
       → walk (record { lease_time = time; message_type = kind; mud_url = url }) (record { code = code; content = content } ∷ more) cut
@@ -108,7 +105,7 @@ not_twice : (before : Option (List ℕ)) → ltb 1 (count_of before + 0) ≡ fal
 not_twice None = refl
 not_twice (Some content) = refl
 
-or_none : (before : Option (List ℕ)) → or_else before None ≡ before
+pub or_none : (before : Option (List ℕ)) → or_else before None ≡ before
 or_none None = refl
 or_none (Some content) = refl
 

@@ -1,11 +1,13 @@
 -- The TLVs one after the other, as the reader meets them.
 use Rattle.std.proofs.Common.{◌≡◌, ◌⊎◌, inl, inr, ℕ, ◌+◌, suc, ltb, Bool, true, false, cond, List, [], ◌∷◌, length, drop, Option, Some, None, Result, Ok, Err, refl, ap, sym, ◌∙◌, arith, zero-add, add-zero}
 use Rattle.std.specs.Prelude.{is_some}
+use Rattle.std.proofs.lemmas.Bool.{cases_Bool}
 use Rattle.mud_base.specs.Faults.{row, first_row, unless_fault}
 use Rattle.dhcp_lldp.specs.declared.heard.HearFault.{HearFault}
 use Rattle.dhcp_lldp.specs.declared.heard.HearFault.TheVariants as faults
 use Rattle.dhcp_lldp.specs.Tlvs.{Tlv, Listing, no_more, cut_at, with_tlv, is_out_of_order, is_mud, tlv_rows, tlv_fault, mud_string_of}
 use Rattle.dhcp_lldp.specs.TlvStep.{SeenTlvs, nothing_seen, seen_in, seen_after}
+use Rattle.dhcp_lldp.proofs.OptionWalk.{or_none}
 
 abbrev pub at_end : SeenTlvs → Option ℕ → Result SeenTlvs HearFault
 at_end seen None = cond (ltb seen.count 3) (Err faults.Order) (Ok seen)
@@ -31,17 +33,9 @@ abbrev answered : ℕ → Option (List ℕ) → List Tlv → Option ℕ → Resu
 answered count string tlvs cut =
     unless_fault (first_row (tlv_rows count (is_some string) cut tlvs)) (Ok (record { count = count + length tlvs; string = or_else string (mud_string_of tlvs) }))
 
-cases : (b : Bool) → (b ≡ true) ⊎ (b ≡ false)
-cases true = inl refl
-cases false = inr refl
-
 ending : (is_short : Bool) (seen : SeenTlvs) → cond is_short (Err faults.Order) (Ok seen) ≡ unless_fault (first_row (None ∷ row is_short faults.Order ∷ [])) (Ok seen)
 ending true seen = refl
 ending false seen = refl
-
-or_none : (string : Option (List ℕ)) → or_else string None ≡ string
-or_none None = refl
-or_none (Some content) = refl
 
 abbrev IsAnswered : List Tlv → Option ℕ → Type 0
 IsAnswered tlvs cut = (count : ℕ) (string : Option (List ℕ)) → walk (record { count = count; string = string }) tlvs cut ≡ answered count string tlvs cut
@@ -64,7 +58,7 @@ unfolding mud_string_of
 walk_all [] None count string = simp (add-zero, or_none) (ending (ltb count 3) (record { count = count; string = string }))
 walk_all [] (Some place) count string = refl
 walk_all (tlv ∷ more) cut count string =
-    at_tlv tlv more cut (walk_all more cut) count string (cases (is_out_of_order count tlv)) (cases (is_mud tlv))
+    at_tlv tlv more cut (walk_all more cut) count string (cases_Bool (is_out_of_order count tlv)) (cases_Bool (is_mud tlv))
 
 pub walked_all : (l : Listing) → walked nothing_seen l ≡ unless_fault (tlv_fault l) (Ok (seen_in l.tlvs))
 unfolding walked tlv_fault seen_in

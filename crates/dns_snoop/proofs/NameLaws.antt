@@ -2,8 +2,8 @@
 use Rattle.std.proofs.Common.{◌≡◌, ℕ, List, [], ◌∷◌, ◌++◌, length, take, drop, refl, sym, ap, ap₂, ◌∙◌, arith}
 use Rattle.std.proofs.lemmas.List.{take-append-le, drop-append-le, take_all, drop_all}
 use Rattle.mud_url.specs.Host.{lowered}
+use Rattle.mud_url.proofs.Bounds.{length-lowered}
 use Rattle.dns_snoop.specs.Names.{Label, labels_of, text_of}
-use Rattle.dns_snoop.proofs.Walks.{length-lowered}
 
 take-front : (xs ys : List ℕ) (n : ℕ) → n ≡ length xs → take n (xs ++ ys) ≡ xs
 take-front xs ys n is = take-append-le n xs ys (omega arith) ∙ take_all n xs (omega arith)

@@ -1,14 +1,17 @@
 -- Each row that a message gives may be asked of a table of names.
-use Rattle.std.proofs.Common.{◌≡◌, ◌⊎◌, inl, inr, ℕ, suc, ◌<◌, ◌≤◌, Bool, true, false, ◌&&◌, List, [], ◌∷◌, ◌++◌, length, drop, Option, Some, None, Result, Ok, Err, refl, sym, subst, ap, ap₂, ◌∙◌, leb-true}
+use Rattle.std.proofs.Common.{◌≡◌, inl, inr, ℕ, ◌<◌, ◌≤◌, Bool, true, false, ◌&&◌, List, [], ◌∷◌, ◌++◌, length, drop, Option, Some, None, Result, Ok, Err, refl, sym, subst, ap, ap₂, ◌∙◌, leb-true}
 use Rattle.std.specs.Prelude.{nat_le, nat_lt, ◌==◌, ◌||◌, not, if◌then◌else◌}
 use Rattle.std.specs.List.{All}
 use Rattle.std.specs.Char.{to_ascii_lowercase}
 use Rattle.std.proofs.lemmas.List.{map-append}
 use Rattle.std.proofs.lemmas.List.Elements.{All-nil, All-cons, All-append, All-weaker}
-use Rattle.std.proofs.lemmas.Str.Ascii.{lowercase-lowercase}
+use Rattle.std.specs.Cmp.{first_so, second_so}
+use Rattle.std.proofs.lemmas.Bool.{cases_Bool}
 use Rattle.mud_base.specs.Faults.{first_row, row, unless_fault}
 use Rattle.mud_base.specs.declared.addr.Addr.{Addr}
 use Rattle.mud_url.specs.Host.{lowered, is_host}
+use Rattle.mud_url.proofs.HostNames.{lowered-lowered}
+use Rattle.mud_url.proofs.Bounds.{length-lowered}
 use Rattle.octet_fields.specs.Numbers.{big_16}
 use Rattle.dns_snoop.specs.declared.fault.DnsFault.{DnsFault}
 use Rattle.dns_snoop.specs.declared.fault.DnsFault.TheVariants as faults
@@ -21,24 +24,7 @@ use Rattle.dns_snoop.specs.Records.{records_from, is_owned, row_of, gives_row, m
 use Rattle.dns_snoop.specs.Messages.{is_answer, dots_from, dotted, question_of, question_by, asked_by, rows_if, answers_by, answers_to, answers_of}
 use Rattle.dns_snoop.specs.Observed.{MayBeObserved}
 
-cases : (b : Bool) → (b ≡ true) ⊎ (b ≡ false)
-cases true = inl refl
-cases false = inr refl
-
-and_left : (a b : Bool) → (a && b) ≡ true → a ≡ true
-and_left true b is = refl
-and_left false b is = is
-
-and_right : (a b : Bool) → (a && b) ≡ true → b ≡ true
-and_right true b is = is
-and_right false b is = cc
-
 -- ---- The name is in lower case
-
-lowered_twice : (text : List ℕ) → lowered (lowered text) ≡ lowered text
-unfolding lowered
-lowered_twice [] = refl
-lowered_twice (octet ∷ text) = ap₂ (λ (first : ℕ) (later : List ℕ). first ∷ later) (lowercase-lowercase octet) (lowered_twice text)
 
 lowered-append : (a b : List ℕ) → lowered (a ++ b) ≡ lowered a ++ lowered b
 unfolding lowered
@@ -52,11 +38,6 @@ lowered-drop (octet ∷ text) = refl
 dots_front : (front behind : List ℕ) → dots_from (length front) (front ++ behind) ≡ front ++ dots_from 0 behind
 dots_front [] behind = refl
 dots_front (octet ∷ front) behind = ap (λ (later : List ℕ). octet ∷ later) (dots_front front behind)
-
-length-lowered : (text : List ℕ) → length (lowered text) ≡ length text
-unfolding lowered
-length-lowered [] = refl
-length-lowered (octet ∷ text) = ap suc (length-lowered text)
 
 dots_label : (label : Label) (labels : List Label) → dots_from 0 (text_of (label ∷ labels)) ≡ 46 ∷ (lowered label.text ++ dots_from 0 (text_of labels))
 unfolding text_of
@@ -75,7 +56,7 @@ dots_lower (label ∷ labels) =
     let said = dots_label label labels in
     ap lowered said
     ∙ dot_lowered (lowered label.text ++ dots_from 0 (text_of labels))
-    ∙ ap (λ (later : List ℕ). 46 ∷ later) (lowered-append (lowered label.text) (dots_from 0 (text_of labels)) ∙ ap₂ (λ (a b : List ℕ). a ++ b) (lowered_twice label.text) (dots_lower labels))
+    ∙ ap (λ (later : List ℕ). 46 ∷ later) (lowered-append (lowered label.text) (dots_from 0 (text_of labels)) ∙ ap₂ (λ (a b : List ℕ). a ++ b) (lowered-lowered label.text) (dots_lower labels))
     ∙ sym said
 
 abbrev IsLower : List ℕ → Type 0
@@ -117,10 +98,10 @@ IsBound row = (0 < row.1) × (row.1 ≤ 2147483647)
 row_bound : (message : List ℕ) (kind : ℕ) (alias : List ℕ) (bound : ℕ) (r : Record) → All IsBound (row_of message kind alias bound r)
 unfolding gives_row
 row_bound message kind alias bound r =
-    elim (cases (gives_row kind alias bound r)) [
-      | inl e ↦ let front = and_left ((is_owned alias r && r.kind == kind) && nat_le 1 bound) (nat_le bound most_ttl) e in
-          let some = and_right (is_owned alias r && r.kind == kind) (nat_le 1 bound) front in
-          let few = and_right ((is_owned alias r && r.kind == kind) && nat_le 1 bound) (nat_le bound most_ttl) e in
+    elim (cases_Bool (gives_row kind alias bound r)) [
+      | inl e ↦ let front = first_so ((is_owned alias r && r.kind == kind) && nat_le 1 bound) (nat_le bound most_ttl) e in
+          let some = second_so (is_owned alias r && r.kind == kind) (nat_le 1 bound) front in
+          let few = second_so ((is_owned alias r && r.kind == kind) && nat_le 1 bound) (nat_le bound most_ttl) e in
           rw e (All-cons IsBound _ [] (leb-true 1 bound some, leb-true bound most_ttl few) (All-nil IsBound))
       | inr e ↦ rw e (All-nil IsBound)
     ]
@@ -139,8 +120,8 @@ when-some false said kind is = cc
 asked-host : (question : Question) (name : List ℕ) (kind : ℕ) → asked_by question name ≡ Some kind → is_host name ≡ true
 unfolding asked_by
 asked-host question name kind is =
-    and_right (question.class == 1) (is_host name)
-    (and_left (question.class == 1 && is_host name) (question.kind == 1 || question.kind == 28)
+    second_so (question.class == 1) (is_host name)
+    (first_so (question.class == 1 && is_host name) (question.kind == 1 || question.kind == 28)
     (when-some ((question.class == 1 && is_host name) && (question.kind == 1 || question.kind == 28)) question.kind kind is))
 
 observed : (name : List ℕ) → is_host name ≡ true → lowered name ≡ name → (row : Addr × ℕ) → IsBound row → MayBeObserved name row

@@ -1,6 +1,7 @@
 -- The rows that are read one by one are those of the definition.
-use Rattle.std.proofs.Common.{◌≡◌, ◌⊎◌, inl, inr, ℕ, ◌≤◌, Bool, true, false, List, [], ◌∷◌, ◌++◌, Option, Some, None, refl, sym, ap, ap₂, ◌∙◌, arith, append-nil, length, drop, Result, Ok, Err, le-ltb}
+use Rattle.std.proofs.Common.{◌≡◌, inl, inr, ℕ, ◌≤◌, Bool, true, false, List, [], ◌∷◌, ◌++◌, Option, Some, None, refl, sym, ap, ap₂, ◌∙◌, arith, append-nil, length, drop, Result, Ok, Err, le-ltb}
 use Rattle.std.specs.Prelude.{min}
+use Rattle.std.proofs.lemmas.Bool.{cases_Bool}
 use Rattle.mud_base.specs.declared.addr.Addr.{Addr}
 use Rattle.dns_snoop.specs.declared.answer.Record.{Record}
 use Rattle.dns_snoop.specs.Records.{is_link, links, last_alias, least, row_of, rows_behind, rows_of}
@@ -13,10 +14,6 @@ use Rattle.dns_snoop.specs.Records.{records_from}
 use Rattle.dns_snoop.specs.Messages.{is_answer, question_of, dots_from, dotted, asked_by, rows_if, answers_by, answers_of}
 use Rattle.dns_snoop.specs.Rows.{Answered, collected, rows_from, bound_with, alias_after, least_after}
 
-cases : (b : Bool) → (b ≡ true) ⊎ (b ≡ false)
-cases true = inl refl
-cases false = inr refl
-
 -- the links of one answer more
 abbrev if_link : Bool → Record → List Record
 if_link true r = r ∷ []
@@ -24,12 +21,12 @@ if_link false r = []
 
 links-next : (name : List ℕ) (before : List Record) (r : Record) → links name (before ++ r ∷ []) ≡ links name before ++ if_link (is_link (last_alias name (links name before)) r) r
 links-next name [] r =
-    elim (cases (is_link name r)) [
+    elim (cases_Bool (is_link name r)) [
       | inl e ↦ rw e refl
       | inr e ↦ rw e refl
     ]
 links-next name (a ∷ before) r =
-    elim (cases (is_link name a)) [
+    elim (cases_Bool (is_link name a)) [
       | inl e ↦ rw e (ap (λ (later : List Record). a ∷ later) (links-next a.alias before r))
       | inr e ↦ rw e (links-next name before r)
     ]
@@ -72,7 +69,7 @@ module _ (message : List ℕ) (kind : ℕ) (name : List ℕ) where
   rows-same before (r ∷ rs) alias acc is bound =
       ap₂ (λ (first later : List (Addr × ℕ)). first ++ later)
       (ap₂ (λ (a : List ℕ) (b : ℕ). row_of message kind a b r) is (bound r.ttl))
-      (elim (cases (is_link alias r)) [
+      (elim (cases_Bool (is_link alias r)) [
         | inl e ↦ rows-same (before ++ r ∷ []) rs (alias_after alias r) (least_after alias acc r) (rw e (sym (last-of r before alias is e))) (rw e (bound-of r before alias acc is bound e))
         | inr e ↦ rows-same (before ++ r ∷ []) rs (alias_after alias r) (least_after alias acc r) (rw e (is ∙ ap (last_alias name) (sym (none-of r before alias is e)))) (rw e (λ t. bound t ∙ ap (least t) (sym (none-of r before alias is e))))
       ])

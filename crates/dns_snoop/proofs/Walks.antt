@@ -1,22 +1,18 @@
 -- What a run and a chain make of the text before them.
-use Rattle.std.proofs.Common.{◌≡◌, ◌⊎◌, inl, inr, Bool, true, false, ltb, ltb-true, ltb-false, ℕ, zero, suc, ◌+◌, ◌<◌, ◌≤◌, List, [], ◌∷◌, ◌++◌, length, Option, Some, None, Result, Ok, Err, refl, sym, ap, ◌∙◌, arith, length-append, append_assoc, append-nil, le-ltb, lt-ltb}
-use Rattle.std.proofs.lemmas.List.{length-map}
+use Rattle.std.proofs.Common.{◌≡◌, inl, inr, ltb, ltb-true, ltb-false, ℕ, zero, suc, ◌+◌, ◌<◌, ◌≤◌, List, [], ◌∷◌, ◌++◌, length, Option, Some, None, Result, Ok, Err, refl, sym, ap, ◌∙◌, arith, length-append, append_assoc, append-nil, le-ltb, lt-ltb}
 use Rattle.mud_base.specs.Faults.{row_at, first_row, unless, unless_fault}
 use Rattle.dns_snoop.specs.declared.fault.DnsFault.{DnsFault}
 use Rattle.dns_snoop.specs.declared.fault.DnsFault.TheVariants as faults
 use Rattle.dns_snoop.specs.declared.name.RunEnd.{RunEnd}
 use Rattle.dns_snoop.specs.declared.name.RunEnd.TheVariants.{End, Pointer}
 use Rattle.mud_url.specs.Host.{lowered}
+use Rattle.mud_url.proofs.Bounds.{length-lowered}
 use Rattle.dns_snoop.specs.declared.name.ReadName.{ReadName}
 use Rattle.dns_snoop.specs.Names.{Label, Run, Chain, run_at, ended, with_label, broken, chained, chained_by, chain_behind, first_beyond, text_of, chain_at, name_rows, behind_run, behind_first, read_name_of}
 use Rattle.dns_snoop.specs.Steps.{RunRead, run_answer, chain_answer, with_end}
-use Rattle.std.specs.Char.{to_ascii_lowercase}
+use Rattle.std.proofs.lemmas.Bool.{cases_Bool}
 
 -- ---- Labels one after the other
-
-pub length-lowered : (text : List ℕ) → length (lowered text) ≡ length text
-unfolding lowered
-length-lowered text = length-map text to_ascii_lowercase
 
 pub text_of-append : (a b : List Label) → text_of (a ++ b) ≡ text_of a ++ text_of b
 unfolding text_of
@@ -95,10 +91,6 @@ chain_too_long : (text : List ℕ) (label : Label) (chain : Chain) → 254 < len
 unfolding chain_answer first_beyond with_first
 chain_too_long text label chain long = rw (lt-ltb 255 (1 + length text + (1 + length label.text)) (omega arith)) refl
 
-cases : (b : Bool) → (b ≡ true) ⊎ (b ≡ false)
-cases true = inl refl
-cases false = inr refl
-
 chain_fails : (text : List ℕ) (fault : DnsFault) → chain_answer text (broken fault) ≡ Err fault
 unfolding chain_answer first_beyond
 chain_fails text fault = refl
@@ -118,14 +110,14 @@ ok-at [] (Ok end) text behind read is =
     let same-read : read ≡ record { text = text; end = end } = cc in
     rw same-read refl
 ok-at (label ∷ labels) (Err fault) text behind read is =
-    elim (cases (ltb 254 (length text + 1 + length label.text))) [
+    elim (cases_Bool (ltb 254 (length text + 1 + length label.text))) [
       | inl e ↦ let no : Ok read ≡ Err (faults.NameLong label.place) = is ∙ run_too_long text label (record { labels = labels; end = Err fault }) (ltb-true 254 (length text + 1 + length label.text) e) in cc
       | inr e ↦ let fits = ltb-false 254 (length text + 1 + length label.text) e in
           chain_goes_on text label (chained_by labels (Err fault) behind) fits
           ∙ ok-at labels (Err fault) (text ++ (length label.text ∷ lowered label.text)) behind read (is ∙ run_goes_on text label (record { labels = labels; end = Err fault }) fits)
     ]
 ok-at (label ∷ labels) (Ok end) text behind read is =
-    elim (cases (ltb 254 (length text + 1 + length label.text))) [
+    elim (cases_Bool (ltb 254 (length text + 1 + length label.text))) [
       | inl e ↦ let no : Ok read ≡ Err (faults.NameLong label.place) = is ∙ run_too_long text label (record { labels = labels; end = Ok end }) (ltb-true 254 (length text + 1 + length label.text) e) in cc
       | inr e ↦ let fits = ltb-false 254 (length text + 1 + length label.text) e in
           chain_goes_on text label (chained_by labels (Ok end) behind) fits
@@ -144,7 +136,7 @@ unfolding with_first
 err-at [] (Err other) text behind fault is = chain_fails text other ∙ ap Err (sym (err_inj fault other (is ∙ run_fails text other)))
 err-at [] (Ok end) text behind fault is = err_not_ok fault (record { text = text; end = end }) (is ∙ run_ends text end)
 err-at (label ∷ labels) (Err other) text behind fault is =
-    elim (cases (ltb 254 (length text + 1 + length label.text))) [
+    elim (cases_Bool (ltb 254 (length text + 1 + length label.text))) [
       | inl e ↦ let long = ltb-true 254 (length text + 1 + length label.text) e in
           let same : Err fault ≡ Err (faults.NameLong label.place) = is ∙ run_too_long text label (record { labels = labels; end = Err other }) long in
           let this : fault ≡ faults.NameLong label.place = err_inj fault (faults.NameLong label.place) same in
@@ -154,7 +146,7 @@ err-at (label ∷ labels) (Err other) text behind fault is =
           ∙ err-at labels (Err other) (text ++ (length label.text ∷ lowered label.text)) behind fault (is ∙ run_goes_on text label (record { labels = labels; end = Err other }) fits)
     ]
 err-at (label ∷ labels) (Ok end) text behind fault is =
-    elim (cases (ltb 254 (length text + 1 + length label.text))) [
+    elim (cases_Bool (ltb 254 (length text + 1 + length label.text))) [
       | inl e ↦ let long = ltb-true 254 (length text + 1 + length label.text) e in
           let same : Err fault ≡ Err (faults.NameLong label.place) = is ∙ run_too_long text label (record { labels = labels; end = Ok end }) long in
           let this : fault ≡ faults.NameLong label.place = err_inj fault (faults.NameLong label.place) same in
@@ -186,7 +178,7 @@ most-same zero zero message start (Pointer at target) a b = refl
 most-same zero (suc other) message start (Pointer at target) a b = rw (le-ltb target start (omega arith)) refl
 most-same (suc most) zero message start (Pointer at target) a b = rw (le-ltb target start (omega arith)) refl
 most-same (suc most) (suc other) message start (Pointer at target) a b =
-    elim (cases (ltb target start)) [
+    elim (cases_Bool (ltb target start)) [
       | inl e ↦ let below = ltb-true target start e in rw e (chained-same (run_at message target).labels (run_at message target).end (chain_behind most message target) (chain_behind other message target) (λ next. most-same most other message target next (omega arith) (omega arith)))
       | inr e ↦ rw e refl
     ]

@@ -93,7 +93,7 @@ fn behind_run(end: RunEnd) -> usize
 
 /// The name at a place.
 #[tactic(auto, unfolding(crate::specs::Names::read_name_of))]
-pub fn read_name(message: &[u8], place: usize) -> Result<ReadName, DnsFault>
+pub(crate) fn read_name(message: &[u8], place: usize) -> Result<ReadName, DnsFault>
     requires { place ≤ length message.now }
     ensures read { result ≡ spec.read_name_of message.now place }
     ensures within { IfOk result (λ name. name.behind ≤ length message.now) }

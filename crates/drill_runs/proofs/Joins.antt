@@ -1,9 +1,5 @@
 -- Texts that were added one after the other.
-use Rattle.std.proofs.Common.{◌≡◌, ℕ, List, ◌++◌, Result, Ok, Err, OnOk, ap, ap₂, ◌∙◌, append_assoc}
-
-pub on_ok : {A E : Type 0} (r : Result A E) {P Q : Type 0} → (P → Q) → OnOk r P → OnOk r Q
-on_ok (Ok a) f p = f p
-on_ok (Err e) f p = tt
+use Rattle.std.proofs.Common.{◌≡◌, ℕ, List, ◌++◌, ap, ap₂, ◌∙◌, append_assoc}
 
 regroup_three : (old a b c : List ℕ) → ((old ++ a) ++ b) ++ c ≡ old ++ ((a ++ b) ++ c)
 regroup_three old a b c = simp append_assoc

@@ -8,9 +8,9 @@ use Rattle.mud_world.specs.Boxed.{faults_of}
 use Rattle.mud_world.specs.Causes.{StopsAtFailure}
 use Rattle.mud_world.specs.Door.{DoorState, put_out}
 use Rattle.mud_world.specs.Whole.{WrotePart}
-use Rattle.mud_world.proofs.Doors.{put_out_none}
 use Rattle.command_runs.specs.Due.{WroteFirst}
-use Rattle.command_runs.specs.View.{DoorView}
+use Rattle.mud_world.specs.View.{DoorView}
+use Rattle.command_runs.proofs.Dues.{wrote_none}
 use Rattle.desk_model.specs.declared.command.Command.{Command}
 use Rattle.desk_model.specs.DeskTables.{DeskTables, IsSound}
 use Rattle.desk_model.specs.Sessions.{Session}
@@ -40,9 +40,6 @@ lines_of_desk packets s state things files lines is_in counted held is =
     is ∙ ap₂ (λ (n m : ℕ). count_lines n m packets (verdict_counts (verdicts_on packets s (numbers_to packets))))
     (counted ∙ ap (λ (desk : DeskTables). length desk.tables.things) same)
     (held ∙ ap (λ (desk : DeskTables). length desk.files) same)
-
-pub wrote_none : (text : List ℕ) (old new : DoorState) → new ≡ old → WroteFirst text old new
-wrote_none text old new same = record { count = 0; within = omega arith; wrote = same ∙ sym (put_out_none old) }
 
 pub wrote_first : (text : List ℕ) (old new : DoorState) → WrotePart text old new → WroteFirst text old new
 wrote_first text old new part = record { count = part.count; within = omega (arith, part.part); wrote = part.wrote }

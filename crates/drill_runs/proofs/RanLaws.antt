@@ -2,12 +2,11 @@
 use Rattle.std.proofs.Common.{◌≡◌, ℕ, ◌<◌, ◌+◌, Bool, true, IsTrue, List, [], ◌∷◌, ◌++◌, length, Result, Ok, Err, OnOk, IfErr, refl, sym, ap, subst, ◌∙◌, arith, append_assoc, append-nil, length-append}
 use Rattle.std.specs.declared.dyn_box.DynBox.{DynBox}
 use Rattle.std.specs.declared.alloc.Global.{Global}
+use Rattle.std.proofs.lemmas.Result.{on_ok_weaker}
 use Rattle.mud_tables.specs.declared.segment.Segment.{Segment}
 use Rattle.mud_world.specs.declared.keeper.Keeper.{Ghosts}
 use Rattle.mud_world.specs.Boxed.{faults_of, Tells}
 use Rattle.mud_world.specs.Causes.{Counts}
-use Rattle.flow_table.specs.Kept.{StandsFor}
-use Rattle.flow_table.specs.Held.{Held, flows_of}
 use Rattle.file_tables.specs.declared.approval.OperatorVerdict.TheVariants.{Waived}
 use Rattle.file_tables.specs.Held.{digest_of}
 use Rattle.desk_model.specs.declared.command.Command.{Command}
@@ -17,8 +16,10 @@ use Rattle.desk_model.specs.declared.reply.Reply.TheVariants as reply
 use Rattle.desk_model.specs.Sessions.{Session, Answered, MayAnswer, command_in}
 use Rattle.mud_desk.specs.Answers.{is_of_keeper}
 use Rattle.mud_desk.specs.Boxed.{IsKept, IsSameBox}
-use Rattle.mud_desk.specs.DeskState.{DeskState, session_of, tables_of, HasForwarded}
+use Rattle.mud_desk.specs.DeskState.{DeskState, session_of, tables_of}
+use Rattle.mud_desk.proofs.Sessions.{flows_stay}
 use Rattle.desk_runs.specs.Judged.{IsIn}
+use Rattle.desk_runs.proofs.JudgedPackets.{in_own}
 use Rattle.drill_runs.specs.declared.commands.Round.TheVariants.{Announcements, Leases, Files, Hosts}
 use Rattle.drill_runs.specs.Network.{thing_count, file_count, url_text}
 use Rattle.drill_runs.specs.Usage.{usage_text}
@@ -37,16 +38,9 @@ pub record Replies (command : Command) (answer : Reply) (before after : DeskStat
   pub may : (h : List Segment) → MayAnswer (session_of h before) command_moment command answer (session_of h after)
   pub flows : after.flows ≡ before.flows
 
-stays_forwarded : (h : List Segment) (before after : DeskState) → after.flows ≡ before.flows → HasForwarded h before → HasForwarded h after
-stays_forwarded h before after same forwarded = subst (λ (flows : Held). StandsFor h (flows_of flows)) (sym same) forwarded
-
-in_own : (h : List Segment) (state : DeskState) → HasForwarded h state → IsIn (session_of h state) state
-unfolding session_of
-in_own h state forwarded = record { session_is = refl; forwarded = forwarded }
-
 module _ (command : Command) (s : Session) (before after : DeskState) (is_in : IsIn s before) where
   in_after : (answer : Reply) → Replies command answer before after → IsIn (session_of s.history after) after
-  in_after answer replies = in_own s.history after (stays_forwarded s.history before after replies.flows is_in.forwarded)
+  in_after answer replies = in_own s.history after (flows_stay s.history before after replies.flows is_in.forwarded)
 
   may_in : (answer : Reply) → Replies command answer before after → MayAnswer s command_moment command answer (session_of s.history after)
   may_in answer replies = subst (λ (x : Session). MayAnswer x command_moment command answer (session_of s.history after)) is_in.session_is (replies.may s.history)
@@ -186,17 +180,13 @@ if_err : {A E : Type 0} (r : Result A E) {P Q : E → Type 0} → ((e : E) → P
 if_err (Ok a) f p = tt
 if_err (Err e) f p = f e p
 
-on_ok : {A E : Type 0} (r : Result A E) {P Q : Type 0} → (P → Q) → OnOk r P → OnOk r Q
-on_ok (Ok a) f p = f p
-on_ok (Err e) f p = tt
-
 module _ {X : Type 0} {F : X → Type 0} (members : (v : (x : X) × F x) → Ghosts (F v.0)) (a : DynBox X Global F) (s : DeskState) (b : DynBox X Global F) (t : DeskState) (xs : List Command) (first : RanAll members xs a s b t)
     (c : DynBox X Global F) (u : DeskState) (ys zs : List Command) (is : zs ≡ xs ++ ys) where
   pub both_ran : RanAll members ys b t c u → RanAll members zs a s c u
   both_ran second = all_same members a s c u (xs ++ ys) zs is (all_further members a s b t xs first c u ys second)
 
   pub both_all : (r : Result (Unit {0}) Stop) → OnOk r (RanAll members ys b t c u) → OnOk r (RanAll members zs a s c u)
-  both_all r second = on_ok r both_ran second
+  both_all r second = on_ok_weaker r both_ran second
 
   pub both_part : (more ws : List Command) → ws ≡ zs ++ more → (stop : Stop) → RanPart members stop ys b t c u → RanPart members stop ws a s c u
   both_part more ws split stop second =

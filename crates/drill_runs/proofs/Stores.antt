@@ -1,9 +1,10 @@
 -- What a run of `drill` promises where the store holds nothing, where it holds something, and where no desk is opened.
-use Rattle.std.proofs.Common.{◌≡◌, ◌≢◌, ℕ, ◌<◌, ◌==◌, ◌&&◌, ◌⊎◌, inl, inr, Bool, true, false, List, [], ◌∷◌, length, Option, Some, None, is_none, Result, Ok, Err, IsErr, IsOkAnd, refl, sym, ap, ap₂, subst, ◌∙◌, arith}
+use Rattle.std.proofs.Common.{◌≡◌, ◌≢◌, ℕ, ◌<◌, ◌==◌, ◌⊎◌, inl, inr, true, false, List, [], ◌∷◌, length, Option, None, is_none, Result, Ok, Err, IsErr, IsOkAnd, refl, sym, ap, ap₂, subst, ◌∙◌, arith}
 use Rattle.std.specs.Prelude.{codes}
 use Rattle.std.proofs.lemmas.Bool.Decides.{Decides-eqb}
 use Rattle.std.specs.declared.dyn_box.DynBox.{DynBox}
 use Rattle.std.specs.declared.alloc.Global.{Global}
+use Rattle.std.proofs.lemmas.Bool.{and_parts}
 use Rattle.mud_base.specs.declared.prefix.Prefix.{Prefix}
 use Rattle.mud_world.specs.declared.keeper.Keeper.{Ghosts}
 use Rattle.mud_world.specs.declared.item.Item.{Item}
@@ -15,13 +16,15 @@ use Rattle.mud_tables.specs.declared.bind.ClassRow.{ClassRow}
 use Rattle.mud_tables.specs.declared.bind.NameRow.{NameRow}
 use Rattle.file_tables.specs.declared.cached_file.CachedFile.{CachedFile}
 use Rattle.command_runs.specs.Due.{WroteFirst}
-use Rattle.command_runs.specs.View.{DoorView}
+use Rattle.mud_world.specs.View.{DoorView}
+use Rattle.command_runs.proofs.Dues.{wrote_none}
 use Rattle.desk_items.specs.declared.fault.OpenFault.{OpenFault}
 use Rattle.desk_items.specs.declared.fault.OpenFault.TheVariants.{Keeper, Memory, BadItem}
 use Rattle.desk_items.specs.Opening.{IsFaultOf, IsOfCall}
 use Rattle.desk_model.specs.DeskTables.{DeskTables, IsSound, empty_desk}
 use Rattle.desk_model.specs.Items.{items_of, tables_in}
 use Rattle.desk_model.specs.Sessions.{Session, opened}
+use Rattle.desk_model.proofs.ReadSound.{no_stamp}
 use Rattle.mud_desk.specs.Answers.{IsLeft, is_fault_of_keeper}
 use Rattle.mud_desk.specs.Boxed.{IsKept, IsSameBox}
 use Rattle.desk_runs.specs.Refused.{IsRefusal, bad_item_line, refusal_text}
@@ -31,22 +34,12 @@ use Rattle.desk_runs.proofs.Stores.{kept_tables}
 use Rattle.drill_runs.specs.Commands.{drill_commands}
 use Rattle.drill_runs.specs.Drill.{drill_text, lines_in, prepared, session_after}
 use Rattle.drill_runs.specs.Store.{DrillsFrom, Drills, DrillsStore, Leaves, holds_nothing, not_empty_line, refusal_line}
-use Rattle.drill_runs.proofs.Lines.{wrote_none}
 
 -- ---- A desk that holds nothing
 
 no_rows : {A : Type 0} (xs : List A) → (length xs == 0) ≡ true → xs ≡ []
 no_rows [] is = refl
 no_rows (x ∷ xs) is = absurd (omega (arith, (Decides-eqb (length (x ∷ xs)) 0).0 is))
-
-no_stamp : (stamp : Option ℕ) → is_none stamp ≡ true → stamp ≡ None
-no_stamp None is = refl
-no_stamp (Some moment) is = absurd (cc)
-
-both : (a b : Bool) → (a && b) ≡ true → (a ≡ true) × (b ≡ true)
-both true true is = (refl, refl)
-both true false is = absurd (cc)
-both false b is = absurd (cc)
 
 abbrev desk_with : List Thing → List ClassRow → List Prefix → List NameRow → List CachedFile → Option ℕ → DeskTables
 desk_with things classes locals names files stamp = record { tables = record { things = things; classes = classes; locals = locals; names = names }; files = files; stamp = stamp }
@@ -58,11 +51,11 @@ same_desk things classes locals names files stamp a b c d e f = cc
 pub is_new : (desk : DeskTables) → holds_nothing desk ≡ true → desk ≡ empty_desk
 unfolding holds_nothing empty_desk
 is_new desk is =
-    let stamp = both _ (is_none desk.stamp) is in
-    let names = both _ (length desk.tables.names == 0) stamp.0 in
-    let locals = both _ (length desk.tables.locals == 0) names.0 in
-    let classes = both _ (length desk.tables.classes == 0) locals.0 in
-    let files = both (length desk.tables.things == 0) (length desk.files == 0) classes.0 in
+    let stamp = and_parts _ (is_none desk.stamp) is in
+    let names = and_parts _ (length desk.tables.names == 0) stamp.0 in
+    let locals = and_parts _ (length desk.tables.locals == 0) names.0 in
+    let classes = and_parts _ (length desk.tables.classes == 0) locals.0 in
+    let files = and_parts (length desk.tables.things == 0) (length desk.files == 0) classes.0 in
     same_desk desk.tables.things desk.tables.classes desk.tables.locals desk.tables.names desk.files desk.stamp
     (no_rows desk.tables.things files.0) (no_rows desk.tables.classes classes.1) (no_rows desk.tables.locals locals.1) (no_rows desk.tables.names names.1)
     (no_rows desk.files files.1) (no_stamp desk.stamp stamp.1)

@@ -42,7 +42,7 @@ pub enum Round {
 }
 
 /// The moment of every command.
-pub fn command_moment() -> Moment
+pub(crate) fn command_moment() -> Moment
     ensures { result ≡ spec.command_moment }
 {
     Moment::at_most_last(COMMAND_SECONDS)
@@ -50,7 +50,7 @@ pub fn command_moment() -> Moment
 
 /// The Thing announces the URL of its model.
 #[tactic(auto, unfolding(crate::specs::Commands::announcement))]
-pub fn announcement(alloc: Global, thing: u16) -> Result<Command, Memory>
+pub(crate) fn announcement(alloc: Global, thing: u16) -> Result<Command, Memory>
     ensures made { IfOk result (λ command. command ≡ spec.announcement thing) }
     ensures asked { IfOk result (λ command. IsAsked command) }
 {
@@ -60,7 +60,7 @@ pub fn announcement(alloc: Global, thing: u16) -> Result<Command, Memory>
 
 /// A DHCP server gives the Thing its address.
 #[tactic(auto, unfolding(crate::specs::Commands::lease))]
-pub fn lease(thing: u16) -> Command
+pub(crate) fn lease(thing: u16) -> Command
     ensures made { result ≡ spec.lease thing }
     ensures asked { IsAsked result }
 {
@@ -68,7 +68,7 @@ pub fn lease(thing: u16) -> Command
 }
 
 /// The octets, which are a usage file of the drill, are fetched.
-pub fn fetched_file(file: Bytes) -> Command
+pub(crate) fn fetched_file(file: Bytes) -> Command
     ensures made { result ≡ Command.Import file spec.command_moment }
     ensures asked { IsAsked result }
 {
@@ -76,7 +76,7 @@ pub fn fetched_file(file: Bytes) -> Command
 }
 
 /// The usage file of the Thing's model, which has these octets, is approved without a signature.
-pub fn approval(alloc: Global, thing: u16, file: &[u8]) -> Result<Command, Memory>
+pub(crate) fn approval(alloc: Global, thing: u16, file: &[u8]) -> Result<Command, Memory>
     ensures made { IfOk result (λ command. command ≡ Command.Verdict (url_text thing) (digest_of file.now) OperatorVerdict.Waived) }
     ensures asked { IfOk result (λ command. IsAsked command) }
 {
@@ -87,7 +87,7 @@ pub fn approval(alloc: Global, thing: u16, file: &[u8]) -> Result<Command, Memor
 
 /// The DNS server is bound to its class.
 #[tactic(auto, unfolding(crate::specs::Commands::binding, mud_tables::specs::Binds::is_class, mud_tables::specs::Binds::is_class_uri))]
-pub fn binding(alloc: Global) -> Result<Command, Memory>
+pub(crate) fn binding(alloc: Global) -> Result<Command, Memory>
     ensures made { IfOk result (λ command. command ≡ spec.binding) }
     ensures asked { IfOk result (λ command. IsAsked command) }
 {
@@ -97,7 +97,7 @@ pub fn binding(alloc: Global) -> Result<Command, Memory>
 
 /// The host with which the Thing speaks is observed at its address.
 #[tactic(auto, using(crate::proofs::Names::host_is_name), unfolding(crate::specs::Commands::observation))]
-pub fn observation(alloc: Global, thing: u16) -> Result<Command, Memory>
+pub(crate) fn observation(alloc: Global, thing: u16) -> Result<Command, Memory>
     ensures made { IfOk result (λ command. command ≡ spec.observation thing) }
     ensures asked { IfOk result (λ command. IsAsked command) }
 {

@@ -74,7 +74,7 @@ impl VerdictCounts {
 
     /// No verdict came yet.
     #[tactic(auto, unfolding(crate::specs::Counts::verdict_counts))]
-    pub fn none() -> VerdictCounts
+    pub(crate) fn none() -> VerdictCounts
         ensures { result ≡ verdict_counts [] }
     {
         VerdictCounts {
@@ -98,7 +98,7 @@ impl VerdictCounts {
 
     /// Counts a verdict more.
     #[tactic(auto, unfolding(crate::specs::Counts::with_verdict))]
-    pub fn add(&mut self, verdict: &Verdict)
+    pub(crate) fn add(&mut self, verdict: &Verdict)
         requires { AreAtMost (2 ^ 64 - 3) self.old }
         ensures { self.new ≡ with_verdict self.old verdict.now }
     {
@@ -155,7 +155,7 @@ fn append_frames(lines: &mut Bytes, counts: &VerdictCounts) -> Result<(), Memory
 /// Adds the lines that say how many Things, usage files and packets there were, and what came of the
 /// packets.
 #[tactic(auto, unfolding(crate::specs::Counts::count_lines))]
-pub fn append_counts(
+pub(crate) fn append_counts(
     lines: &mut Bytes,
     things: u64,
     files: u64,

@@ -4,7 +4,6 @@ ghost use Rattle.mud_world.specs.Causes.{StopsAtFailure};
 ghost use Rattle.mud_world.specs.Door.{put_out};
 ghost use Rattle.command_runs.specs.Due.{WroteFirst};
 ghost use Rattle.command_runs.specs.Status.{status_number};
-ghost use Rattle.command_runs.specs.View.{viewed};
 ghost use Rattle.desk_model.specs.Sessions.{Session};
 ghost use Rattle.mud_desk.specs.Boxed.{IsKept};
 ghost use Rattle.mud_desk.specs.DeskState.{tables_of};
@@ -14,7 +13,7 @@ ghost use Rattle.drill_runs.specs.Drill.{lines_in, numbers_to, verdicts_on};
 ghost use Rattle.drill_runs.specs.Store as spec;
 ghost use Rattle.drill_runs.specs.Store.{DrillsFrom, not_empty_line};
 
-use crate::append_counts;
+use crate::counts::append_counts;
 use crate::judging::judge_packets;
 use crate::running::run_commands;
 use command_runs::Status;
@@ -43,13 +42,13 @@ pub(crate) fn holds_nothing(desk: &Desk) -> bool
 pub(crate) fn refuse_full<D: Door>(desk: Desk, door: &mut D) -> (Status, Box<dyn Keeper>)
     requires { IsKept Keeper-dyn desk.keeper (tables_of desk.state) }
     ensures statuses { (status_number result.0 ≡ 3) ⊎ (status_number result.0 ≡ 4) }
-    ensures fault { status_number result.0 ≡ 4 → StopsAtFailure (D.failed door.new) (D.writes door.old) (D.writes door.new) }
-    ensures steady { status_number result.0 ≢ 4 → D.writes door.new ≡ D.writes door.old }
-    ensures done { D.tells → status_number result.0 ≡ 3 → D.state door.new ≡ put_out not_empty_line (D.state door.old) }
-    ensures part { D.tells → status_number result.0 ≡ 4 → WroteFirst not_empty_line (D.state door.old) (D.state door.new) }
+    ensures fault { status_number result.0 ≡ 4 → StopsAtFailure (D.view door.new).failed (D.view door.old).writes (D.view door.new).writes }
+    ensures steady { status_number result.0 ≢ 4 → (D.view door.new).writes ≡ (D.view door.old).writes }
+    ensures done { D.tells → status_number result.0 ≡ 3 → (D.view door.new).state ≡ put_out not_empty_line (D.view door.old).state }
+    ensures part { D.tells → status_number result.0 ≡ 4 → WroteFirst not_empty_line (D.view door.old).state (D.view door.new).state }
     ensures keeper { result.1 ≡ desk.keeper }
-    ensures turns { D.turns door.new ≡ D.turns door.old }
-    ensures reads { D.reads door.new ≡ D.reads door.old }
+    ensures turns { (D.view door.new).turns ≡ (D.view door.old).turns }
+    ensures reads { (D.view door.new).reads ≡ (D.view door.old).reads }
 {
     let keeper = desk.close();
     match say(door, NOT_EMPTY) {
@@ -84,15 +83,15 @@ fn write_lines<D: Door>(
 ) -> (Status, Box<dyn Keeper>)
     requires { IsKept Keeper-dyn desk.keeper (tables_of desk.state) }
     ensures statuses { (status_number result.0 ≡ 0) ⊎ ((status_number result.0 ≡ 4) ⊎ (status_number result.0 ≡ 5)) }
-    ensures fault { status_number result.0 ≡ 4 → StopsAtFailure (D.failed door.new) (D.writes door.old) (D.writes door.new) }
-    ensures steady { status_number result.0 ≢ 4 → D.writes door.new ≡ D.writes door.old }
+    ensures fault { status_number result.0 ≡ 4 → StopsAtFailure (D.view door.new).failed (D.view door.old).writes (D.view door.new).writes }
+    ensures steady { status_number result.0 ≢ 4 → (D.view door.new).writes ≡ (D.view door.old).writes }
     ensures done { (s : Session) → IsIn s desk.state → D.tells → status_number result.0 ≡ 0 →
-        D.state door.new ≡ put_out (lines_in packets s) (D.state door.old) }
+        (D.view door.new).state ≡ put_out (lines_in packets s) (D.view door.old).state }
     ensures part { (s : Session) → IsIn s desk.state → D.tells → (status_number result.0 ≡ 4) ⊎ (status_number result.0 ≡ 5) →
-        WroteFirst (lines_in packets s) (D.state door.old) (D.state door.new) }
+        WroteFirst (lines_in packets s) (D.view door.old).state (D.view door.new).state }
     ensures keeper { result.1 ≡ desk.keeper }
-    ensures turns { D.turns door.new ≡ D.turns door.old }
-    ensures reads { D.reads door.new ≡ D.reads door.old }
+    ensures turns { (D.view door.new).turns ≡ (D.view door.old).turns }
+    ensures reads { (D.view door.new).reads ≡ (D.view door.old).reads }
 {
     let things = desk.things().len() as u64;
     let files = desk.files().len() as u64;
@@ -118,8 +117,8 @@ pub(crate) fn drill_desk<D: Door>(
 ) -> (Status, Box<dyn Keeper>)
     requires { IsKept Keeper-dyn desk.keeper (tables_of desk.state) }
     ensures drilled { (s : Session) → IsIn s desk.state → DrillsFrom Keeper-dyn D.tells packets s desk.keeper result.1
-        (viewed (D.state door.old) (D.turns door.old) (D.reads door.old) (D.writes door.old) (D.failed door.old))
-        (viewed (D.state door.new) (D.turns door.new) (D.reads door.new) (D.writes door.new) (D.failed door.new))
+        (D.view door.old)
+        (D.view door.new)
         (status_number result.0) }
     ensures untouched { status_number result.0 ≡ 7 → door.new ≡ door.old }
 {

@@ -1,11 +1,13 @@
 //! The packets of a drill, one after the other.
-ghost use Rattle.std.specs.Prelude.{◌≡◌, ◌<◌, IfOk, OnOk};
+ghost use Rattle.std.specs.Prelude.{◌≡◌, IfOk, OnOk};
+ghost use Rattle.sorted_rows.specs.Ledgers.{IsBlankOf};
 ghost use Rattle.desk_model.specs.Sessions.{Session, frame_in};
 ghost use Rattle.desk_runs.specs.Judged.{IsIn};
 ghost use Rattle.drill_runs.specs.Counts.{verdict_counts};
 ghost use Rattle.drill_runs.specs.Drill.{numbers_to, verdicts_on};
 
-use crate::{VerdictCounts, packet_moment, write_packet};
+use crate::VerdictCounts;
+use crate::packets::{packet_moment, write_packet};
 use mud_base::{Bytes, Memory, Moment};
 use mud_desk::{State, Verdict};
 use sorted_rows::Steps;
@@ -20,9 +22,7 @@ fn judge_frame<L: Ledger>(
     now: Moment,
     blank: Blank,
 ) -> Result<Verdict, Memory>
-    requires name { blank.name ≡ L.name }
-    requires parts { blank.parts ≡ L.parts }
-    requires some { 0 < L.parts }
+    requires blank { IsBlankOf L.name L.parts blank }
     ensures verdict { (s : Session) → IsIn s state.old → IfOk result (λ verdict. verdict ≡ (frame_in s now frame.now).verdict) }
     ensures next { (s : Session) → IsIn s state.old → OnOk result (IsIn (frame_in s now frame.now).session state.new) }
 {

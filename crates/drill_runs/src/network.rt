@@ -23,7 +23,7 @@ const FIRST_LEASE: u32 = 0x0A00_0000;
 const FIRST_HOST: u32 = 0xC633_6400;
 
 /// How many Things there are with so many packets: as many, but at most 256.
-pub fn thing_count(packets: u32) -> u16
+pub(crate) fn thing_count(packets: u32) -> u16
     ensures value { result ≡ spec.thing_count packets }
     ensures most { result ≤ 256 }
 {
@@ -31,7 +31,7 @@ pub fn thing_count(packets: u32) -> u16
 }
 
 /// How many of the Things have a usage file of their own: all, but at most 32.
-pub fn file_count(packets: u32) -> u16
+pub(crate) fn file_count(packets: u32) -> u16
     ensures { result ≡ spec.file_count packets }
 {
     thing_count(packets).min(MODELS)

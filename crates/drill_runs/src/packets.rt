@@ -158,7 +158,7 @@ fn append_kind(frame: &mut Bytes, packets: u32, thing: u16, kind: u32) -> Result
 /// Writes the packet of this number, of so many, in place of what stands in the buffer. It takes no
 /// memory where a packet stands there.
 #[tactic(auto, unfolding(crate::specs::Packets::packet_frame))]
-pub fn write_packet(frame: &mut Bytes, packets: u32, number: u32) -> Result<(), Memory>
+pub(crate) fn write_packet(frame: &mut Bytes, packets: u32, number: u32) -> Result<(), Memory>
     requires { 0 < packets }
     ensures { OnOk result (frame.new ≡ spec.packet_frame packets number) }
 {
@@ -167,7 +167,7 @@ pub fn write_packet(frame: &mut Bytes, packets: u32, number: u32) -> Result<(), 
 }
 
 /// The moment at which the packet of this number comes.
-pub fn packet_moment(number: u32) -> Moment
+pub(crate) fn packet_moment(number: u32) -> Moment
     ensures { result ≡ spec.packet_moment number }
 {
     Moment::at_most_last(BEFORE_PACKETS + u64::from(number))

@@ -1,5 +1,6 @@
 //! The commands of a drill, one after the other.
-ghost use Rattle.std.specs.Prelude.{◌≡◌, ◌<◌, ℕ, List, [], ◌∷◌, IfErr, OnOk};
+ghost use Rattle.std.specs.Prelude.{◌≡◌, ℕ, List, [], ◌∷◌, IfErr, OnOk};
+ghost use Rattle.sorted_rows.specs.Ledgers.{IsBlankOf};
 ghost use Rattle.mud_tables.specs.declared.segment.Segment.{Segment as SegmentValue};
 ghost use Rattle.mud_world.specs.Boxed.{faults_of, Tells};
 ghost use Rattle.mud_world.specs.Causes.{Counts};
@@ -12,11 +13,12 @@ ghost use Rattle.drill_runs.specs.Commands.{command_moment, commands_of, drill_c
 ghost use Rattle.drill_runs.specs.Runs.{RanAll, RanPart};
 ghost use Rattle.drill_runs.specs.Stops.{stop_of};
 
-use crate::stop::Stop;
-use crate::{
-    Round, announcement, approval, binding, command_moment, fetched_file, file_count, lease,
-    observation, thing_count, usage_text,
+use crate::commands::{
+    Round, announcement, approval, binding, command_moment, fetched_file, lease, observation,
 };
+use crate::network::{file_count, thing_count};
+use crate::stop::Stop;
+use crate::usage::usage_text;
 use desk_model::{Command, Reply};
 use mud_desk::Desk;
 use sorted_rows::Steps;
@@ -26,9 +28,7 @@ use std::sync::ledger::{Blank, Ledger};
 
 /// What a command answers.
 fn reply_to<L: Ledger>(desk: &mut Desk, command: Command, blank: Blank) -> Reply
-    requires name { blank.name ≡ L.name }
-    requires parts { blank.parts ≡ L.parts }
-    requires some { 0 < L.parts }
+    requires blank { IsBlankOf L.name L.parts blank }
     requires kept { IsKept Keeper-dyn desk.old.keeper (tables_of desk.old.state) }
     requires asked { IsAsked command }
     ensures answer { (h : List SegmentValue) → MayAnswer (session_of h desk.old.state) command_moment command result (session_of h desk.new.state) }

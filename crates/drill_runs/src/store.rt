@@ -1,7 +1,6 @@
 //! The command `drill`, from the opening of its store to its status.
 ghost use Rattle.std.specs.Prelude.{◌≡◌};
 ghost use Rattle.command_runs.specs.Status.{status_number};
-ghost use Rattle.command_runs.specs.View.{viewed};
 ghost use Rattle.desk_items.specs.Taken.{kept_of};
 ghost use Rattle.desk_model.specs.Items.{none_kept};
 ghost use Rattle.drill_runs.specs.Store.{DrillsStore};
@@ -34,8 +33,8 @@ pub fn run_drill<D: Door>(
 ) -> (Status, Box<dyn Keeper>)
     requires { kept_of nothing ≡ none_kept }
     ensures drilled { DrillsStore Keeper-dyn D.tells packets keeper result.1
-        (viewed (D.state door.old) (D.turns door.old) (D.reads door.old) (D.writes door.old) (D.failed door.old))
-        (viewed (D.state door.new) (D.turns door.new) (D.reads door.new) (D.writes door.new) (D.failed door.new))
+        (D.view door.old)
+        (D.view door.new)
         (status_number result.0) }
     // Where the keeper failed, the door isn't called at all.
     ensures untouched { status_number result.0 ≡ 7 → door.new ≡ door.old }

@@ -24,7 +24,7 @@ const TAIL: &[u8] =
 /// The usage file of the Thing's model. It lets a connection to port 443 of the host pass that the
 /// Thing began, and all that it sends to Things of the same manufacturer.
 #[tactic(auto, unfolding(crate::specs::Usage::usage_text))]
-pub fn usage_text(alloc: Global, thing: u16) -> Result<Bytes, Memory>
+pub(crate) fn usage_text(alloc: Global, thing: u16) -> Result<Bytes, Memory>
     ensures { IfOk result (λ text. text ≡ spec.usage_text thing) }
 {
     let mut text = Bytes::new(alloc, HEAD)?;

@@ -5,8 +5,10 @@ use Rattle.std.specs.List.{filter, filter_map, cons_option, AllByRecursion}
 use Rattle.std.proofs.lemmas.Bool.{false≢true}
 use Rattle.std.proofs.lemmas.Option.{same_Some, none-some}
 use Rattle.std.proofs.lemmas.Grind.{flat_map-append}
-use Rattle.std.proofs.lemmas.List.{map-append, length-map}
+use Rattle.std.proofs.lemmas.List.{map-append, length-map, append-nil}
 use Rattle.std.proofs.lemmas.List.Elements.{filter_map-append}
+use Rattle.std.specs.Cmp.{first_so}
+use Rattle.std.proofs.Math.Bool.{and_assoc, and-false}
 use Rattle.mud_base.specs.declared.addr.Mac.{Mac}
 use Rattle.mud_base.specs.declared.packet.Direction.{Direction}
 use Rattle.mud_base.specs.declared.packet.Direction.TheVariants.{From, To}
@@ -19,6 +21,7 @@ use Rattle.packet_judge.specs.declared.verdict.Verdict.{Verdict}
 use Rattle.packet_judge.specs.declared.verdict.Verdict.TheVariants.{Unmanaged, Link, Unreadable, Governed}
 use Rattle.packet_judge.specs.Verdicts.{forwarded}
 use Rattle.sorted_rows.specs.Placed.{same_place}
+use Rattle.sorted_rows.proofs.Lists.{all-append, length-cond}
 use Rattle.counted_rows.proofs.FirstRows.{first_add_up}
 use Rattle.counted_rows.proofs.NumberLaws.{count_rows_total}
 use Rattle.counted_rows.specs.Counted.{AreKinds, count_of, count_rows, first_rows, late_rows, is_of, those_of, total, sum_of, count_at}
@@ -29,23 +32,9 @@ use Rattle.drop_ledger.specs.Places.{six, side_number, thing_place, ruling_place
 use Rattle.drop_ledger.specs.RowTypes.{count_stays, count_told, denied_stays, denied_told, other_stays, other_told}
 use Rattle.drop_ledger.specs.Seen.{hour_of, mac_on, ruling_on, ruled, ruled_on, rulings_in, rulings, is_governed, has_both, passes, drops, verdicts, HasFields, HasThing, is_ruled}
 use Rattle.drop_ledger.specs.Ledger.{count_row, counts_of, times_of, peer_row, row_with, row_by, denied_row, denials, other_row, denied_kinds, hour_in, times_ruled}
-use Rattle.drop_ledger.proofs.PlaceOrder.{length-six, length-thing_place}
-
--- ---- Lists
-
-pub append_nil : {A : Type 0} (xs : List A) → xs ++ [] ≡ xs
-append_nil [] = refl
-append_nil (x ∷ xs) = ap (λ l. x ∷ l) (append_nil xs)
+use Rattle.drop_ledger.proofs.PlaceOrder.{length-six, length-thing_place, same_length}
 
 -- ---- Places
-
-and_assoc : (a b c : Bool) → ((a && b) && c) ≡ (a && (b && c))
-and_assoc true b c = refl
-and_assoc false b c = refl
-
-and_true : (b c : Bool) → (b && c) ≡ true → b ≡ true
-and_true true c e = refl
-and_true false c e = e
 
 same_place-front : (xs ys us vs : List ℕ) → length xs ≡ length ys → same_place (xs ++ us) (ys ++ vs) ≡ (same_place xs ys && same_place us vs)
 same_place-front [] [] us vs long = refl
@@ -53,21 +42,14 @@ same_place-front [] (y ∷ ys) us vs long = absurd (omega arith)
 same_place-front (x ∷ xs) [] us vs long = absurd (omega arith)
 same_place-front (x ∷ xs) (y ∷ ys) us vs long = ap (λ b. nat_eq x y && b) (same_place-front xs ys us vs (omega arith)) ∙ sym (and_assoc (nat_eq x y) (same_place xs ys) (same_place us vs))
 
-same_thing-length : (m n : Mac) (s t : Direction) → length (thing_place m s) ≡ length (thing_place n t)
-same_thing-length m n s t = length-thing_place m s ∙ sym (length-thing_place n t)
-
-and_false : (b : Bool) → (b && false) ≡ false
-and_false true = refl
-and_false false = refl
-
 -- the two sides are never at one place
 sent_apart : (m n : Mac) → same_place (thing_place m From) (thing_place n To) ≡ false
 unfolding thing_place side_number
-sent_apart m n = same_place-front (six m.0) (six n.0) (0 ∷ []) (1 ∷ []) (length-six m.0 ∙ sym (length-six n.0)) ∙ and_false (same_place (six m.0) (six n.0))
+sent_apart m n = same_place-front (six m.0) (six n.0) (0 ∷ []) (1 ∷ []) (length-six m.0 ∙ sym (length-six n.0)) ∙ and-false (same_place (six m.0) (six n.0))
 
 received_apart : (m n : Mac) → same_place (thing_place m To) (thing_place n From) ≡ false
 unfolding thing_place side_number
-received_apart m n = same_place-front (six m.0) (six n.0) (1 ∷ []) (0 ∷ []) (length-six m.0 ∙ sym (length-six n.0)) ∙ and_false (same_place (six m.0) (six n.0))
+received_apart m n = same_place-front (six m.0) (six n.0) (1 ∷ []) (0 ∷ []) (length-six m.0 ∙ sym (length-six n.0)) ∙ and-false (same_place (six m.0) (six n.0))
 
 front : (n : ℕ) (xs ys : List ℕ) → length xs ≡ n → take n (xs ++ ys) ≡ xs
 front zero [] ys is = refl
@@ -91,13 +73,9 @@ denied_are_kinds = record {
 
 -- ---- How often a Thing's side was ruled on
 
-one_more : {A : Type 0} (b : Bool) (x : A) (l : List A) → length (cond b (x ∷ l) l) ≡ cond b 1 0 + length l
-one_more true x l = omega arith
-one_more false x l = omega arith
-
 ruled_more : (mac : Mac) (side : Direction) (r : Ruled) (rs : List Ruled) → times_ruled mac side (r ∷ rs) ≡ cond (same_place (thing_place mac side) (thing_place r.mac r.side)) 1 0 + times_ruled mac side rs
 unfolding times_ruled count_of
-ruled_more mac side r rs = one_more (same_place (thing_place mac side) (thing_place r.mac r.side)) (thing_place r.mac r.side) (filter (same_place (thing_place mac side)) (map (λ q. thing_place q.mac q.side) rs))
+ruled_more mac side r rs = length-cond (same_place (thing_place mac side) (thing_place r.mac r.side)) (thing_place r.mac r.side) (filter (same_place (thing_place mac side)) (map (λ q. thing_place q.mac q.side) rs))
 
 times_none : (mac : Mac) (side : Direction) → times_ruled mac side [] ≡ 0
 unfolding times_ruled count_of
@@ -123,8 +101,8 @@ fewer_by x l y l' few false false both = few
 
 count_begins : (r q : Ruled) → same_place (place_of_count (count_row r)) (place_of_count (count_row q)) ≡ true → same_place (thing_place r.mac r.side) (thing_place q.mac q.side) ≡ true
 unfolding place_of_count count_row
-count_begins r q e = and_true (same_place (thing_place r.mac r.side) (thing_place q.mac q.side)) (same_place (ruling_place r.ruling) (ruling_place q.ruling))
-    (sym (same_place-front (thing_place r.mac r.side) (thing_place q.mac q.side) (ruling_place r.ruling) (ruling_place q.ruling) (same_thing-length r.mac q.mac r.side q.side)) ∙ e)
+count_begins r q e = first_so (same_place (thing_place r.mac r.side) (thing_place q.mac q.side)) (same_place (ruling_place r.ruling) (ruling_place q.ruling))
+    (sym (same_place-front (thing_place r.mac r.side) (thing_place q.mac q.side) (ruling_place r.ruling) (ruling_place q.ruling) (same_length r.mac q.mac r.side q.side)) ∙ e)
 
 -- a ruling is given no more often than the Thing's side is ruled on
 pub counted_few : (r : Ruled) (done : List Ruled) → count_of (place_of_count (count_row r)) (map place_of_count (map count_row done)) ≤ times_ruled r.mac r.side done
@@ -199,7 +177,7 @@ pub rulings_more : (all : List Seen) (s : Seen) → rulings (all ++ s ∷ []) �
 unfolding rulings rulings_in
 rulings_more all s =
     flat_map-append rulings_in all (s ∷ [])
-    ∙ ap (λ l. flat_map rulings_in all ++ l) (append_nil (option_to_list (ruled_on s From) ++ option_to_list (ruled_on s To)))
+    ∙ ap (λ l. flat_map rulings_in all ++ l) (append-nil (option_to_list (ruled_on s From) ++ option_to_list (ruled_on s To)))
     ∙ sym (append_assoc (flat_map rulings_in all) (option_to_list (ruled_on s From)) (option_to_list (ruled_on s To)))
 
 times_end : (mac : Mac) (side : Direction) (o : Option Ruled) → times_ruled mac side (option_to_list o) ≤ 1
@@ -265,7 +243,7 @@ not_counted : (t : List ℕ) (m : Mac) (d : Direction) (us : List ℕ) (done : L
     → length (cond (same_place (t ++ 5 ∷ 0 ∷ []) (thing_place m d ++ us)) ((thing_place m d ++ us) ∷ filter (same_place (t ++ 5 ∷ 0 ∷ [])) (map place_of_count (map count_row done))) (filter (same_place (t ++ 5 ∷ 0 ∷ [])) (map place_of_count (map count_row done)))) ≡ length (filter (same_place (t ++ 5 ∷ 0 ∷ [])) (map place_of_count (map count_row done)))
 not_counted t m d us done seven apart =
     ap (λ b. length (cond b ((thing_place m d ++ us) ∷ filter (same_place (t ++ 5 ∷ 0 ∷ [])) (map place_of_count (map count_row done))) (filter (same_place (t ++ 5 ∷ 0 ∷ [])) (map place_of_count (map count_row done)))))
-    (same_place-front t (thing_place m d) (5 ∷ 0 ∷ []) us (seven ∙ sym (length-thing_place m d)) ∙ ap (λ b. same_place t (thing_place m d) && b) apart ∙ and_false (same_place t (thing_place m d)))
+    (same_place-front t (thing_place m d) (5 ∷ 0 ∷ []) us (seven ∙ sym (length-thing_place m d)) ∙ ap (λ b. same_place t (thing_place m d) && b) apart ∙ and-false (same_place t (thing_place m d)))
 
 no_match_by : (t : List ℕ) (m : Mac) (d : Direction) (r : Ruling) (f : Option Fields) (rows : List DeniedRow) (done : List Ruled) → IsSome f → length t ≡ 7
     → length (those_of t (map place_of_denied rows)) ≡ count_of (t ++ 5 ∷ 0 ∷ []) (map place_of_count (map count_row done))
@@ -273,9 +251,9 @@ no_match_by : (t : List ℕ) (m : Mac) (d : Direction) (r : Ruling) (f : Option 
 unfolding those_of count_of row_by row_with place_of_count count_row ruling_place ruling_class entry_number is_of
 no_match_by t m d (DropDefault NoMatch) None rows done has seven is = absurd (false≢true has)
 no_match_by t m d (DropDefault NoMatch) (Some f) rows done has seven is =
-    one_more (is_of t (place_of_denied (peer_row m d f))) (place_of_denied (peer_row m d f)) (filter (is_of t) (map place_of_denied rows))
+    length-cond (is_of t (place_of_denied (peer_row m d f))) (place_of_denied (peer_row m d f)) (filter (is_of t) (map place_of_denied rows))
     ∙ (λ i. cond (same i) 1 0 + is i)
-    ∙ sym (one_more (same_place (t ++ 5 ∷ 0 ∷ []) (thing_place m d ++ 5 ∷ 0 ∷ [])) (thing_place m d ++ 5 ∷ 0 ∷ []) (filter (same_place (t ++ 5 ∷ 0 ∷ [])) (map place_of_count (map count_row done))))
+    ∙ sym (length-cond (same_place (t ++ 5 ∷ 0 ∷ []) (thing_place m d ++ 5 ∷ 0 ∷ [])) (thing_place m d ++ 5 ∷ 0 ∷ []) (filter (same_place (t ++ 5 ∷ 0 ∷ [])) (map place_of_count (map count_row done))))
   where
     and_yes : (b : Bool) → b ≡ (b && true)
     and_yes true = refl
@@ -302,10 +280,6 @@ fields_by : (s : Seen) (side : Direction) (o : Option Ruling) → IsSome s.field
 fields_by s side None has = tt
 fields_by s side (Some ruling) has = (has, tt)
 
-both_lists : {A : Type 0} (P : A → Type 0) (xs ys : List A) → AllByRecursion P xs → AllByRecursion P ys → AllByRecursion P (xs ++ ys)
-both_lists P [] ys all all' = all'
-both_lists P (x ∷ xs) ys all all' = (all.0, both_lists P xs ys all.1 all')
-
 fields_of : (s : Seen) (v : Verdict) → s.verdict ≡ v → HasFields s → AllByRecursion (λ r. IsSome r.fields) (option_to_list (option_map (ruled s From) (ruling_on v From)) ++ option_to_list (option_map (ruled s To) (ruling_on v To)))
 unfolding ruling_on is_governed
 fields_of s Unmanaged is has = tt
@@ -313,13 +287,13 @@ fields_of s Link is has = tt
 fields_of s (Unreadable part) is has = tt
 fields_of s (Governed a b) is has =
     let there : IsSome s.fields = has (ap is_governed is) in
-    both_lists (λ r. IsSome r.fields) (option_to_list (option_map (ruled s From) a)) (option_to_list (option_map (ruled s To) b)) (fields_by s From a there) (fields_by s To b there)
+    all-append (λ r. IsSome r.fields) (option_to_list (option_map (ruled s From) a)) (option_to_list (option_map (ruled s To) b)) (fields_by s From a there) (fields_by s To b there)
 
 -- each ruling has the fields of its packet
 pub rulings_have : (all : List Seen) → AllByRecursion HasFields all → AllByRecursion (λ r. IsSome r.fields) (rulings all)
 unfolding rulings rulings_in ruled_on
 rulings_have [] have = tt
-rulings_have (s ∷ all) have = both_lists (λ r. IsSome r.fields) (rulings_in s) (flat_map rulings_in all) (fields_of s s.verdict refl have.0) (rulings_have all have.1)
+rulings_have (s ∷ all) have = all-append (λ r. IsSome r.fields) (rulings_in s) (flat_map rulings_in all) (fields_of s s.verdict refl have.0) (rulings_have all have.1)
 
 -- what is denied of a Thing's side, and the others, are as many as it was ruled so
 pub denied_sum : (mac : Mac) (side : Direction) (done : List Ruled) → AllByRecursion (λ r. IsSome r.fields) done
@@ -359,7 +333,7 @@ rulings_one s has = ruled_of s s.verdict refl has
 
 pub verdicts_first : (test : Verdict → Bool) (s : Seen) (all : List Seen) → verdicts test (s ∷ all) ≡ cond (test s.verdict) 1 0 + verdicts test all
 unfolding verdicts
-verdicts_first test s all = one_more (test s.verdict) s (filter (λ q. test q.verdict) all)
+verdicts_first test s all = length-cond (test s.verdict) s (filter (λ q. test q.verdict) all)
 
 rulings_first : (s : Seen) (all : List Seen) → length (rulings (s ∷ all)) ≡ length (rulings_in s) + length (rulings all)
 unfolding rulings

@@ -1,47 +1,18 @@
 -- How the places of rows stand to one another, field by field.
 use Rattle.std.proofs.Common.{◌≡◌, ℕ, zero, suc, ◌+◌, min, List, [], ◌∷◌, ◌++◌, length, take, Option, refl, sym, ap, ◌∙◌, arith, length-append, length-take}
 use Rattle.std.specs.Ordering.{nat_cmp, ordering_then}
-use Rattle.std.specs.declared.cmp.Ordering.{Ordering}
-use Rattle.std.specs.declared.cmp.Ordering.TheVariants.{Less, Equal, Greater}
 use Rattle.mud_base.specs.Addresses.{addr_cmp}
 use Rattle.mud_base.specs.declared.addr.Addr.{Addr}
-use Rattle.mud_base.specs.declared.addr.Addr.TheVariants.{V4, V6}
 use Rattle.mud_base.specs.declared.addr.Mac.{Mac}
 use Rattle.mud_base.specs.declared.packet.Direction.{Direction}
 use Rattle.acl_model.specs.declared.ruling.Ruling.{Ruling}
 use Rattle.sorted_rows.specs.Placed.{place_cmp, prefix_cmp}
 use Rattle.sorted_rows.specs.Addresses.{addr_place}
-use Rattle.sorted_rows.proofs.AddressLaws.{addr_cmp-place}
+use Rattle.sorted_rows.proofs.AddressLaws.{addr_cmp-place, length-addr_place}
+use Rattle.sorted_rows.proofs.Orders.{then_equal, then_assoc, place_cmp-front, prefix_cmp-front, one_number}
 use Rattle.drop_ledger.specs.Places.{six, side_number, thing_place, ruling_class, entry_number, ruling_place, port_number, peer_place}
 
 -- ---- One order after the other
-
-then_equal : (o : Ordering) → ordering_then o Equal ≡ o
-then_equal Less = refl
-then_equal Equal = refl
-then_equal Greater = refl
-
-then_assoc : (o p q : Ordering) → ordering_then (ordering_then o p) q ≡ ordering_then o (ordering_then p q)
-then_assoc Less p q = refl
-then_assoc Equal p q = refl
-then_assoc Greater p q = refl
-
--- places of one length decide before what follows them
-pub place_cmp-front : (xs ys us vs : List ℕ) → length xs ≡ length ys → place_cmp (xs ++ us) (ys ++ vs) ≡ ordering_then (place_cmp xs ys) (place_cmp us vs)
-place_cmp-front [] [] us vs long = refl
-place_cmp-front [] (y ∷ ys) us vs long = absurd (omega arith)
-place_cmp-front (x ∷ xs) [] us vs long = absurd (omega arith)
-place_cmp-front (x ∷ xs) (y ∷ ys) us vs long = ap (ordering_then (nat_cmp x y)) (place_cmp-front xs ys us vs (omega arith)) ∙ sym (then_assoc (nat_cmp x y) (place_cmp xs ys) (place_cmp us vs))
-
--- a beginning stands to a place as it does to that place's own beginning
-prefix_cmp-front : (xs ys vs : List ℕ) → length xs ≡ length ys → prefix_cmp xs (ys ++ vs) ≡ place_cmp xs ys
-prefix_cmp-front [] [] vs long = refl
-prefix_cmp-front [] (y ∷ ys) vs long = absurd (omega arith)
-prefix_cmp-front (x ∷ xs) [] vs long = absurd (omega arith)
-prefix_cmp-front (x ∷ xs) (y ∷ ys) vs long = ap (ordering_then (nat_cmp x y)) (prefix_cmp-front xs ys vs (omega arith))
-
-one_number : (m n : ℕ) → place_cmp (m ∷ []) (n ∷ []) ≡ nat_cmp m n
-one_number m n = then_equal (nat_cmp m n)
 
 two_numbers : (m n k l : ℕ) → place_cmp (m ∷ n ∷ []) (k ∷ l ∷ []) ≡ ordering_then (nat_cmp m k) (nat_cmp n l)
 two_numbers m n k l = ap (ordering_then (nat_cmp m k)) (then_equal (nat_cmp n l))
@@ -70,13 +41,8 @@ pub length-thing_place : (mac : Mac) (side : Direction) → length (thing_place 
 unfolding thing_place
 length-thing_place mac side = length-append (six mac.0) (side_number side ∷ []) ∙ ap (λ n. n + 1) (length-six mac.0)
 
-same_length : (m n : Mac) (s t : Direction) → length (thing_place m s) ≡ length (thing_place n t)
+pub same_length : (m n : Mac) (s t : Direction) → length (thing_place m s) ≡ length (thing_place n t)
 same_length m n s t = length-thing_place m s ∙ sym (length-thing_place n t)
-
-length-addr_place : (a : Addr) → length (addr_place a) ≡ 2
-unfolding addr_place
-length-addr_place (V4 n) = refl
-length-addr_place (V6 n) = refl
 
 -- ---- Parts of places
 

@@ -1,6 +1,7 @@
 -- A tally with one packet more.
-use Rattle.std.proofs.Common.{◌≡◌, ℕ, ◌+◌, ◌≤◌, ◌<◌, ◌⊎◌, inl, inr, Bool, true, false, cond, not, List, [], ◌∷◌, ◌++◌, length, Option, Some, None, refl, sym, ap, subst, ◌∙◌, arith, length-append}
+use Rattle.std.proofs.Common.{◌≡◌, ℕ, ◌+◌, ◌≤◌, ◌<◌, ◌⊎◌, inl, inr, Bool, true, false, cond, not, List, [], ◌∷◌, ◌++◌, length, Option, Some, None, refl, sym, ap, subst, ◌∙◌, arith, length-append, add-zero}
 use Rattle.std.specs.Prelude.{IfSome, option_to_list, option_map}
+use Rattle.std.proofs.lemmas.List.{append-nil}
 use Rattle.mud_base.specs.declared.packet.Direction.TheVariants.{From, To}
 use Rattle.acl_model.specs.declared.ruling.Ruling.{Ruling}
 use Rattle.packet_judge.specs.declared.verdict.Verdict.{Verdict}
@@ -15,7 +16,7 @@ use Rattle.drop_ledger.specs.declared.totals.Totals.{Totals}
 use Rattle.drop_ledger.specs.Seen.{hour_of, mac_on, ruling_on, ruled, ruled_on, rulings, is_unmanaged, is_link, is_unreadable, is_governed, has_both, passes, drops, verdicts, totals_in, AreSums, is_ruled}
 use Rattle.drop_ledger.specs.Steps.{governed_after, totals_after}
 use Rattle.drop_ledger.specs.Ledger.{counts_of, AreDenied, TallyState, hour_in, StandsFor, MayFollow, times_ruled}
-use Rattle.drop_ledger.proofs.LedgerLaws.{append_nil, verdicts_first, no_verdicts, rulings_more, ruled_few, received_few}
+use Rattle.drop_ledger.proofs.LedgerLaws.{verdicts_first, no_verdicts, rulings_more, ruled_few, received_few}
 
 -- ---- Totals
 
@@ -27,15 +28,12 @@ verdicts_more test (x ∷ all) s =
     let longer = verdicts_first test x (all ++ s ∷ []) in
     omega (arith, rest, first, longer)
 
-plus_none : (n : ℕ) → n + 0 ≡ n
-plus_none n = omega arith
-
 more_if : (b : Bool) (n : ℕ) → n + cond b 1 0 ≡ cond b (n + 1) n
 more_if true n = refl
-more_if false n = plus_none n
+more_if false n = add-zero n
 
 more_not : (b : Bool) (n : ℕ) → n + cond (not b) 1 0 ≡ cond b n (n + 1)
-more_not true n = plus_none n
+more_not true n = add-zero n
 more_not false n = refl
 
 abbrev totals : ℕ → ℕ → ℕ → ℕ → ℕ → ℕ → ℕ → Totals
@@ -46,10 +44,10 @@ counted t v = totals (t.packets + 1) (t.unmanaged + cond (is_unmanaged v) 1 0) (
 
 counted_is : (t : Totals) (v : Verdict) → counted t v ≡ totals_after t v
 unfolding totals_after governed_after is_unmanaged is_link is_unreadable is_governed has_both passes drops
-counted_is t Unmanaged = λ i. totals (t.packets + 1) (t.unmanaged + 1) (plus_none t.link i) (plus_none t.unreadable i) (plus_none t.pass i) (plus_none t.drop i) (plus_none t.both i)
-counted_is t Link = λ i. totals (t.packets + 1) (plus_none t.unmanaged i) (t.link + 1) (plus_none t.unreadable i) (plus_none t.pass i) (plus_none t.drop i) (plus_none t.both i)
-counted_is t (Unreadable part) = λ i. totals (t.packets + 1) (plus_none t.unmanaged i) (plus_none t.link i) (t.unreadable + 1) (plus_none t.pass i) (plus_none t.drop i) (plus_none t.both i)
-counted_is t (Governed a b) = λ i. totals (t.packets + 1) (plus_none t.unmanaged i) (plus_none t.link i) (plus_none t.unreadable i) (more_if (forwarded (Governed a b)) t.pass i) (more_not (forwarded (Governed a b)) t.drop i) (more_if (has_both (Governed a b)) t.both i)
+counted_is t Unmanaged = λ i. totals (t.packets + 1) (t.unmanaged + 1) (add-zero t.link i) (add-zero t.unreadable i) (add-zero t.pass i) (add-zero t.drop i) (add-zero t.both i)
+counted_is t Link = λ i. totals (t.packets + 1) (add-zero t.unmanaged i) (t.link + 1) (add-zero t.unreadable i) (add-zero t.pass i) (add-zero t.drop i) (add-zero t.both i)
+counted_is t (Unreadable part) = λ i. totals (t.packets + 1) (add-zero t.unmanaged i) (add-zero t.link i) (t.unreadable + 1) (add-zero t.pass i) (add-zero t.drop i) (add-zero t.both i)
+counted_is t (Governed a b) = λ i. totals (t.packets + 1) (add-zero t.unmanaged i) (add-zero t.link i) (add-zero t.unreadable i) (more_if (forwarded (Governed a b)) t.pass i) (more_not (forwarded (Governed a b)) t.drop i) (more_if (has_both (Governed a b)) t.both i)
 
 -- the totals count one packet more by its verdict
 pub totals_more : (all : List Seen) (s : Seen) → totals_in (all ++ s ∷ []) ≡ totals_after (totals_in all) s.verdict
@@ -87,7 +85,7 @@ totals_sums all = sums_from [] all sums_none
     sums_none = record { packets = refl; both = omega arith }
 
     sums_from : (done rest : List Seen) → AreSums (totals_in done) → AreSums (totals_in (done ++ rest))
-    sums_from done [] sums = subst (λ l. AreSums (totals_in l)) (sym (append_nil done)) sums
+    sums_from done [] sums = subst (λ l. AreSums (totals_in l)) (sym (append-nil done)) sums
     sums_from done (s ∷ rest) sums = subst (λ l. AreSums (totals_in l)) (moved done) (sums_from (done ++ s ∷ []) rest (subst AreSums (sym (totals_more done s)) (sums_after (totals_in done) s.verdict sums)))
       where
         moved : (l : List Seen) → (l ++ s ∷ []) ++ rest ≡ l ++ s ∷ rest
@@ -96,16 +94,16 @@ totals_sums all = sums_from [] all sums_none
 
 -- ---- Hours
 
-first_some : Option ℕ → Option ℕ → Option ℕ
+pub first_some : Option ℕ → Option ℕ → Option ℕ
 first_some None o = o
 first_some (Some h) o = Some h
 
-chosen : (b : Bool) (h : ℕ) (o p : Option ℕ) → cond b (Some h) (first_some o p) ≡ first_some (cond b (Some h) o) p
+pub chosen : (b : Bool) (h : ℕ) (o p : Option ℕ) → cond b (Some h) (first_some o p) ≡ first_some (cond b (Some h) o) p
 unfolding first_some
 chosen true h o p = refl
 chosen false h o p = refl
 
-hour-append : (xs ys : List Seen) → hour_in (xs ++ ys) ≡ first_some (hour_in xs) (hour_in ys)
+pub hour-append : (xs ys : List Seen) → hour_in (xs ++ ys) ≡ first_some (hour_in xs) (hour_in ys)
 unfolding hour_in first_some
 hour-append [] ys = refl
 hour-append (x ∷ xs) ys = ap (cond (is_ruled x) (Some (hour_of x))) (hour-append xs ys) ∙ chosen (is_ruled x) (hour_of x) (hour_in xs) (hour_in ys)

@@ -12,7 +12,7 @@ use mud_base::{Direction, Fields, Transport};
 use sorted_rows::SortedRows;
 
 /// So many peers, protocols and ports of a Thing and side have rows of their own.
-pub const MOST_PEERS: usize = 256;
+const MOST_PEERS: usize = 256;
 
 /// The row in which a ruling is counted.
 #[tactic(auto, unfolding(crate::specs::Ledger::count_row))]
@@ -115,7 +115,7 @@ fn count_denied(
 }
 
 /// Counts the ruling at an end of a packet, where one was given. It takes no memory.
-pub fn count_end(
+pub(crate) fn count_end(
     counts: &mut SortedRows<CountRow>,
     denied: &mut SortedRows<DeniedRow>,
     others: &mut SortedRows<OtherRow>,

@@ -55,7 +55,7 @@ fn side_order(own: Direction, other: Direction) -> Ordering
 
 /// By the hardware address, and then the side.
 #[tactic(auto, using(crate::proofs::PlaceOrder::place_rules))]
-pub fn thing_order(own: &ThingSide, other: &ThingSide) -> Ordering
+pub(crate) fn thing_order(own: &ThingSide, other: &ThingSide) -> Ordering
     ensures { result ≡ place_cmp (spec.thing_place own.now.mac own.now.side) (spec.thing_place other.now.mac other.now.side) }
 {
     mac_order(&own.mac, &other.mac).then(side_order(own.side, other.side))
@@ -93,7 +93,7 @@ fn entry_number(ruling: Ruling) -> u16
 
 /// By the class, and then the number of the entry.
 #[tactic(auto, using(crate::proofs::PlaceOrder::place_rules))]
-pub fn ruling_order(own: Ruling, other: Ruling) -> Ordering
+pub(crate) fn ruling_order(own: Ruling, other: Ruling) -> Ordering
     ensures { result ≡ place_cmp (spec.ruling_place own) (spec.ruling_place other) }
 {
     ruling_class(own)
@@ -114,7 +114,7 @@ fn port_number(port: Option<u16>) -> u32
 
 /// By the address, then the protocol, then the port.
 #[tactic(auto, using(crate::proofs::PlaceOrder::place_rules))]
-pub fn peer_order(own: &Peer, other: &Peer) -> Ordering
+pub(crate) fn peer_order(own: &Peer, other: &Peer) -> Ordering
     ensures { result ≡ place_cmp (spec.peer_place own.now.addr own.now.protocol own.now.port) (spec.peer_place other.now.addr other.now.protocol other.now.port) }
 {
     addr_order(own.addr, other.addr)

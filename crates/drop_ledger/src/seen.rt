@@ -79,7 +79,7 @@ impl Seen {
 
     /// The ruling on the Thing at this side, where one was given.
     #[tactic(auto, unfolding(crate::specs::Seen::ruled_on))]
-    pub fn ruled_on(&self, side: Direction) -> Option<Ruled>
+    pub(crate) fn ruled_on(&self, side: Direction) -> Option<Ruled>
         ensures { result ≡ spec.ruled_on self.now side }
     {
         match ruling_on(&self.verdict, side) {
@@ -94,7 +94,7 @@ impl Seen {
     }
 
     /// Whether a ruling was given.
-    pub fn is_ruled(&self) -> bool
+    pub(crate) fn is_ruled(&self) -> bool
         ensures { result ≡ spec.is_ruled self.now }
     {
         self.ruled_on(Direction::From).is_some() || self.ruled_on(Direction::To).is_some()

@@ -26,7 +26,7 @@ pub struct Totals {
 }
 
 /// No packets.
-pub const NO_PACKETS: Totals = Totals {
+pub(crate) const NO_PACKETS: Totals = Totals {
     packets: 0,
     unmanaged: 0,
     link: 0,
@@ -67,7 +67,7 @@ fn with_governed(totals: Totals, passes: bool, both: bool) -> Totals
 
 /// The totals with one packet more, by its verdict.
 #[tactic(auto, unfolding(crate::specs::Steps::totals_after))]
-pub fn with_packet(totals: Totals, verdict: &Verdict) -> Totals
+pub(crate) fn with_packet(totals: Totals, verdict: &Verdict) -> Totals
     requires sums { AreSums totals }
     requires few { totals.packets < 2 ^ 64 - 1 }
     ensures { result ≡ totals_after totals verdict.now }

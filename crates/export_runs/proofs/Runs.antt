@@ -10,7 +10,7 @@ use Rattle.mud_world.specs.Door.{DoorState, put_out}
 use Rattle.mud_base.specs.declared.addr.Mac.{Mac}
 use Rattle.mud_world.specs.Clock.{next_moment}
 use Rattle.command_runs.specs.Due.{WroteFirst}
-use Rattle.command_runs.specs.View.{DoorView}
+use Rattle.mud_world.specs.View.{DoorView}
 use Rattle.desk_items.specs.declared.fault.OpenFault.{OpenFault}
 use Rattle.desk_items.specs.declared.fault.OpenFault.TheVariants.{Keeper, Memory, BadItem}
 use Rattle.desk_items.specs.Opening.{IsFaultOf, IsOfCall}
@@ -21,7 +21,7 @@ use Rattle.mud_desk.specs.Boxed.{IsKept, IsSameBox}
 use Rattle.desk_runs.specs.Refused.{IsRefusal, bad_item_line, refusal_text}
 use Rattle.desk_runs.specs.Store.{JudgesStore}
 use Rattle.desk_runs.proofs.Runs.{refused_run}
-use Rattle.desk_runs.proofs.Stores.{kept_tables}
+use Rattle.desk_runs.proofs.Stores.{kept_tables, not_part}
 use Rattle.export_runs.specs.Exported.{WritesLists}
 use Rattle.export_runs.specs.Store.{ExportsStore, IsOfDesk, WritesExport}
 
@@ -68,9 +68,6 @@ IsWhole status = (status ≡ 0) ⊎ ((status ≡ 3) ⊎ (status ≡ 6))
 
 not_done : {A : Type 0} (status : ℕ) → (status ≡ 5) ⊎ (status ≡ 7) → IsWhole status → A
 not_done status is which = absurd (grind arith)
-
-not_part : {A : Type 0} (status : ℕ) → status ≡ 7 → (status ≡ 4) ⊎ (status ≡ 5) → A
-not_part status is which = absurd (grind arith)
 
 six_of : (status : ℕ) → IsWhole status → (status ≡ 6) ⊎ ((status ≡ 4) ⊎ (status ≡ 5)) → status ≡ 6
 six_of status which is = grind arith

@@ -11,7 +11,7 @@ use Rattle.mud_world.specs.Clock.{next_moment}
 use Rattle.mud_world.specs.Door.{DoorState, put_out}
 use Rattle.mud_tables.specs.Things.{thing_at}
 use Rattle.command_runs.specs.Due.{Due, WroteFirst}
-use Rattle.command_runs.specs.View.{DoorView}
+use Rattle.mud_world.specs.View.{DoorView}
 use Rattle.desk_model.specs.DeskTables.{DeskTables}
 use Rattle.desk_model.specs.Items.{tables_in}
 use Rattle.mud_desk.specs.Boxed.{IsSameBox}

@@ -24,13 +24,13 @@ use std::alloc::Global;
 /// Writes that there is no such Thing.
 fn refuse_thing<D: Door>(door: &mut D) -> Status
     ensures statuses { (status_number result ≡ 3) ⊎ ((status_number result ≡ 4) ⊎ (status_number result ≡ 5)) }
-    ensures fault { status_number result ≡ 4 → StopsAtFailure (D.failed door.new) (D.writes door.old) (D.writes door.new) }
-    ensures steady { status_number result ≢ 4 → D.writes door.new ≡ D.writes door.old }
-    ensures done { D.tells → status_number result ≡ 3 → D.state door.new ≡ put_out (codes "fault NoThing\n") (D.state door.old) }
+    ensures fault { status_number result ≡ 4 → StopsAtFailure (D.view door.new).failed (D.view door.old).writes (D.view door.new).writes }
+    ensures steady { status_number result ≢ 4 → (D.view door.new).writes ≡ (D.view door.old).writes }
+    ensures done { D.tells → status_number result ≡ 3 → (D.view door.new).state ≡ put_out (codes "fault NoThing\n") (D.view door.old).state }
     ensures part { D.tells → (status_number result ≡ 4) ⊎ (status_number result ≡ 5) →
-        WroteFirst (codes "fault NoThing\n") (D.state door.old) (D.state door.new) }
-    ensures turns { D.turns door.new ≡ D.turns door.old }
-    ensures reads { D.reads door.new ≡ D.reads door.old }
+        WroteFirst (codes "fault NoThing\n") (D.view door.old).state (D.view door.new).state }
+    ensures turns { (D.view door.new).turns ≡ (D.view door.old).turns }
+    ensures reads { (D.view door.new).reads ≡ (D.view door.old).reads }
 {
     match write_text(door, b"fault NoThing\n") {
         Ok(()) => Status::Refused,
@@ -41,13 +41,13 @@ fn refuse_thing<D: Door>(door: &mut D) -> Status
 /// Writes the four lists. The answer says how that ended.
 fn export_lists<D: Door>(alloc: Global, sources: &Option<Sources<'_>>, door: &mut D) -> Status
     ensures statuses { (status_number result ≡ 0) ⊎ ((status_number result ≡ 4) ⊎ (status_number result ≡ 5)) }
-    ensures fault { status_number result ≡ 4 → StopsAtFailure (D.failed door.new) (D.writes door.old) (D.writes door.new) }
-    ensures steady { status_number result ≢ 4 → D.writes door.new ≡ D.writes door.old }
-    ensures done { D.tells → status_number result ≡ 0 → D.state door.new ≡ put_out (lists_text sources.now) (D.state door.old) }
+    ensures fault { status_number result ≡ 4 → StopsAtFailure (D.view door.new).failed (D.view door.old).writes (D.view door.new).writes }
+    ensures steady { status_number result ≢ 4 → (D.view door.new).writes ≡ (D.view door.old).writes }
+    ensures done { D.tells → status_number result ≡ 0 → (D.view door.new).state ≡ put_out (lists_text sources.now) (D.view door.old).state }
     ensures part { D.tells → (status_number result ≡ 4) ⊎ (status_number result ≡ 5) →
-        WroteFirst (lists_text sources.now) (D.state door.old) (D.state door.new) }
-    ensures turns { D.turns door.new ≡ D.turns door.old }
-    ensures reads { D.reads door.new ≡ D.reads door.old }
+        WroteFirst (lists_text sources.now) (D.view door.old).state (D.view door.new).state }
+    ensures turns { (D.view door.new).turns ≡ (D.view door.old).turns }
+    ensures reads { (D.view door.new).reads ≡ (D.view door.old).reads }
 {
     match write_lists(alloc, door, sources) {
         Ok(()) => Status::Done,
@@ -67,11 +67,11 @@ fn export_thing<D: Door>(
 ) -> Status
     requires { Some held ≡ option_map is_held (thing_at mac (tables_of desk.now.state).tables.things) }
     ensures statuses { (status_number result ≡ 0) ⊎ ((status_number result ≡ 4) ⊎ (status_number result ≡ 5)) }
-    ensures fault { status_number result ≡ 4 → StopsAtFailure (D.failed door.new) (D.writes door.old) (D.writes door.new) }
-    ensures steady { status_number result ≢ 4 → D.writes door.new ≡ D.writes door.old }
-    ensures writes { D.tells → WritesLists (tables_of desk.now.state) mac clock (D.state door.old) (D.state door.new) (status_number result) }
-    ensures turns { D.turns door.new ≡ D.turns door.old }
-    ensures reads { D.reads door.new ≡ D.reads door.old }
+    ensures fault { status_number result ≡ 4 → StopsAtFailure (D.view door.new).failed (D.view door.old).writes (D.view door.new).writes }
+    ensures steady { status_number result ≢ 4 → (D.view door.new).writes ≡ (D.view door.old).writes }
+    ensures writes { D.tells → WritesLists (tables_of desk.now.state) mac clock (D.view door.old).state (D.view door.new).state (status_number result) }
+    ensures turns { (D.view door.new).turns ≡ (D.view door.old).turns }
+    ensures reads { (D.view door.new).reads ≡ (D.view door.old).reads }
 {
     if held {
         return export_lists(alloc, &None, door);
@@ -91,11 +91,11 @@ fn export_mac<D: Door, C: Clock>(
     clock: &mut C,
 ) -> Status
     ensures statuses { IsOfDesk (status_number result) }
-    ensures fault { status_number result ≡ 4 → StopsAtFailure (D.failed door.new) (D.writes door.old) (D.writes door.new) }
-    ensures steady { status_number result ≢ 4 → D.writes door.new ≡ D.writes door.old }
-    ensures writes { D.tells → WritesExport mac C.tells (C.moments clock.old) (Ok (tables_of desk.now.state)) (D.state door.old) (D.state door.new) (status_number result) }
-    ensures turns { D.turns door.new ≡ D.turns door.old }
-    ensures reads { D.reads door.new ≡ D.reads door.old }
+    ensures fault { status_number result ≡ 4 → StopsAtFailure (D.view door.new).failed (D.view door.old).writes (D.view door.new).writes }
+    ensures steady { status_number result ≢ 4 → (D.view door.new).writes ≡ (D.view door.old).writes }
+    ensures writes { D.tells → WritesExport mac C.tells (C.moments clock.old) (Ok (tables_of desk.now.state)) (D.view door.old).state (D.view door.new).state (status_number result) }
+    ensures turns { (D.view door.new).turns ≡ (D.view door.old).turns }
+    ensures reads { (D.view door.new).reads ≡ (D.view door.old).reads }
     ensures later { C.tells → status_number result ≡ 0 → C.moments clock.new ≡ later_moments (C.moments clock.old) }
     ensures once { C.tells → (C.moments clock.new ≡ C.moments clock.old) ⊎ (C.moments clock.new ≡ later_moments (C.moments clock.old)) }
     ensures unasked { status_number result ≡ 3 → clock.new ≡ clock.old }
@@ -115,7 +115,7 @@ fn export_mac<D: Door, C: Clock>(
 /// | 3 | no Thing has this hardware address, and a line says so |
 /// | 4 | a write of the door failed: a first part was written |
 /// | 5 | want of memory: a first part was written, and no line says so |
-pub fn export_desk<D: Door, C: Clock>(
+pub(crate) fn export_desk<D: Door, C: Clock>(
     alloc: Global,
     desk: Desk,
     mac: Mac,
@@ -124,11 +124,11 @@ pub fn export_desk<D: Door, C: Clock>(
 ) -> (Status, Box<dyn Keeper>)
     requires { IsKept Keeper-dyn desk.keeper (tables_of desk.state) }
     ensures statuses { IsOfDesk (status_number result.0) }
-    ensures fault { status_number result.0 ≡ 4 → StopsAtFailure (D.failed door.new) (D.writes door.old) (D.writes door.new) }
-    ensures steady { status_number result.0 ≢ 4 → D.writes door.new ≡ D.writes door.old }
-    ensures writes { D.tells → WritesExport mac C.tells (C.moments clock.old) (Ok (tables_of desk.state)) (D.state door.old) (D.state door.new) (status_number result.0) }
-    ensures turns { D.turns door.new ≡ D.turns door.old }
-    ensures reads { D.reads door.new ≡ D.reads door.old }
+    ensures fault { status_number result.0 ≡ 4 → StopsAtFailure (D.view door.new).failed (D.view door.old).writes (D.view door.new).writes }
+    ensures steady { status_number result.0 ≢ 4 → (D.view door.new).writes ≡ (D.view door.old).writes }
+    ensures writes { D.tells → WritesExport mac C.tells (C.moments clock.old) (Ok (tables_of desk.state)) (D.view door.old).state (D.view door.new).state (status_number result.0) }
+    ensures turns { (D.view door.new).turns ≡ (D.view door.old).turns }
+    ensures reads { (D.view door.new).reads ≡ (D.view door.old).reads }
     ensures later { C.tells → status_number result.0 ≡ 0 → C.moments clock.new ≡ later_moments (C.moments clock.old) }
     ensures once { C.tells → (C.moments clock.new ≡ C.moments clock.old) ⊎ (C.moments clock.new ≡ later_moments (C.moments clock.old)) }
     ensures unasked { status_number result.0 ≡ 3 → clock.new ≡ clock.old }

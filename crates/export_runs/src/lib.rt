@@ -8,6 +8,5 @@ mod sources;
 mod store;
 mod writing;
 
-pub use desk::export_desk;
 pub use lists::ListName;
 pub use store::export_store;

@@ -1,5 +1,6 @@
 //! What the lists of a Thing are made by.
-ghost use Rattle.std.specs.Prelude.{◌≡◌, ◌<◌, IfOk, option_map};
+ghost use Rattle.std.specs.Prelude.{◌≡◌, IfOk, option_map};
+ghost use Rattle.sorted_rows.specs.Ledgers.{IsBlankOf};
 ghost use Rattle.sorted_rows.specs.Placed.{same_place};
 ghost use Rattle.mud_tables.specs.Things.{mac_of, thing_at};
 ghost use Rattle.mud_desk.specs.DeskState.{tables_of};
@@ -57,9 +58,7 @@ impl<'a> Sources<'a> {
         name: ListName,
         blank: Blank,
     ) -> Result<Listed<Resolved>, Memory>
-        requires name { blank.name ≡ L.name }
-        requires parts { blank.parts ≡ L.parts }
-        requires some { 0 < L.parts }
+        requires blank { IsBlankOf L.name L.parts blank }
         ensures { IfOk result (λ items. items ≡ spec.items_of self.now name) }
     {
         let mut steps = Steps::<L>::new(blank);

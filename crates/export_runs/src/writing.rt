@@ -42,12 +42,12 @@ fn write_item<D: Door>(
     family: Family,
     item: &Resolved,
 ) -> Result<(), Stop>
-    ensures ok { D.tells → OnOk result (D.state door.new ≡ put_out (before.now ++ resolved_text view.now family item.now) (D.state door.old)) }
-    ensures part { D.tells → OnErr result (WroteFirst (before.now ++ resolved_text view.now family item.now) (D.state door.old) (D.state door.new)) }
-    ensures cause { Counts (has_failed result) (D.writes door.old) (D.writes door.new) }
-    ensures stop { IsTrue (has_failed result) → StopsAtFailure (D.failed door.new) (D.writes door.old) (D.writes door.new) }
-    ensures turns { D.turns door.new ≡ D.turns door.old }
-    ensures reads { D.reads door.new ≡ D.reads door.old }
+    ensures ok { D.tells → OnOk result ((D.view door.new).state ≡ put_out (before.now ++ resolved_text view.now family item.now) (D.view door.old).state) }
+    ensures part { D.tells → OnErr result (WroteFirst (before.now ++ resolved_text view.now family item.now) (D.view door.old).state (D.view door.new).state) }
+    ensures cause { Counts (has_failed result) (D.view door.old).writes (D.view door.new).writes }
+    ensures stop { IsTrue (has_failed result) → StopsAtFailure (D.view door.new).failed (D.view door.old).writes (D.view door.new).writes }
+    ensures turns { (D.view door.new).turns ≡ (D.view door.old).turns }
+    ensures reads { (D.view door.new).reads ≡ (D.view door.old).reads }
 {
     let text = item_behind(alloc, before, view, family, item)?;
     write_text(door, text.octets())
@@ -61,12 +61,12 @@ fn write_later<D: Door>(
     family: Family,
     items: &[Resolved],
 ) -> Result<(), Stop>
-    ensures ok { D.tells → OnOk result (D.state door.new ≡ put_out (flat_map (behind_comma view.now family) items.now) (D.state door.old)) }
-    ensures part { D.tells → OnErr result (WroteFirst (flat_map (behind_comma view.now family) items.now) (D.state door.old) (D.state door.new)) }
-    ensures cause { Counts (has_failed result) (D.writes door.old) (D.writes door.new) }
-    ensures stop { IsTrue (has_failed result) → StopsAtFailure (D.failed door.new) (D.writes door.old) (D.writes door.new) }
-    ensures turns { D.turns door.new ≡ D.turns door.old }
-    ensures reads { D.reads door.new ≡ D.reads door.old }
+    ensures ok { D.tells → OnOk result ((D.view door.new).state ≡ put_out (flat_map (behind_comma view.now family) items.now) (D.view door.old).state) }
+    ensures part { D.tells → OnErr result (WroteFirst (flat_map (behind_comma view.now family) items.now) (D.view door.old).state (D.view door.new).state) }
+    ensures cause { Counts (has_failed result) (D.view door.old).writes (D.view door.new).writes }
+    ensures stop { IsTrue (has_failed result) → StopsAtFailure (D.view door.new).failed (D.view door.old).writes (D.view door.new).writes }
+    ensures turns { (D.view door.new).turns ≡ (D.view door.old).turns }
+    ensures reads { (D.view door.new).reads ≡ (D.view door.old).reads }
 {
     'items: for item in items {
         write_item(alloc, door, b",", view, family, item)?;
@@ -83,12 +83,12 @@ fn write_items<D: Door>(
     family: Family,
     items: &[Resolved],
 ) -> Result<(), Stop>
-    ensures ok { D.tells → OnOk result (D.state door.new ≡ put_out (items_text view.now family items.now) (D.state door.old)) }
-    ensures part { D.tells → OnErr result (WroteFirst (items_text view.now family items.now) (D.state door.old) (D.state door.new)) }
-    ensures cause { Counts (has_failed result) (D.writes door.old) (D.writes door.new) }
-    ensures stop { IsTrue (has_failed result) → StopsAtFailure (D.failed door.new) (D.writes door.old) (D.writes door.new) }
-    ensures turns { D.turns door.new ≡ D.turns door.old }
-    ensures reads { D.reads door.new ≡ D.reads door.old }
+    ensures ok { D.tells → OnOk result ((D.view door.new).state ≡ put_out (items_text view.now family items.now) (D.view door.old).state) }
+    ensures part { D.tells → OnErr result (WroteFirst (items_text view.now family items.now) (D.view door.old).state (D.view door.new).state) }
+    ensures cause { Counts (has_failed result) (D.view door.old).writes (D.view door.new).writes }
+    ensures stop { IsTrue (has_failed result) → StopsAtFailure (D.view door.new).failed (D.view door.old).writes (D.view door.new).writes }
+    ensures turns { (D.view door.new).turns ≡ (D.view door.old).turns }
+    ensures reads { (D.view door.new).reads ≡ (D.view door.old).reads }
 {
     let Some((first, later)) = items.split_first() else {
         return Ok(());
@@ -107,12 +107,12 @@ fn write_between<D: Door>(
     items: &[Resolved],
     back: &[u8],
 ) -> Result<(), Stop>
-    ensures ok { D.tells → OnOk result (D.state door.new ≡ put_out (front.now ++ (items_text view.now family items.now ++ back.now)) (D.state door.old)) }
-    ensures part { D.tells → OnErr result (WroteFirst (front.now ++ (items_text view.now family items.now ++ back.now)) (D.state door.old) (D.state door.new)) }
-    ensures cause { Counts (has_failed result) (D.writes door.old) (D.writes door.new) }
-    ensures stop { IsTrue (has_failed result) → StopsAtFailure (D.failed door.new) (D.writes door.old) (D.writes door.new) }
-    ensures turns { D.turns door.new ≡ D.turns door.old }
-    ensures reads { D.reads door.new ≡ D.reads door.old }
+    ensures ok { D.tells → OnOk result ((D.view door.new).state ≡ put_out (front.now ++ (items_text view.now family items.now ++ back.now)) (D.view door.old).state) }
+    ensures part { D.tells → OnErr result (WroteFirst (front.now ++ (items_text view.now family items.now ++ back.now)) (D.view door.old).state (D.view door.new).state) }
+    ensures cause { Counts (has_failed result) (D.view door.old).writes (D.view door.new).writes }
+    ensures stop { IsTrue (has_failed result) → StopsAtFailure (D.view door.new).failed (D.view door.old).writes (D.view door.new).writes }
+    ensures turns { (D.view door.new).turns ≡ (D.view door.old).turns }
+    ensures reads { (D.view door.new).reads ≡ (D.view door.old).reads }
 {
     write_text(door, front)?;
     write_items(alloc, door, view, family, items)?;
@@ -127,12 +127,12 @@ fn write_list<D: Door>(
     sources: &Sources<'_>,
     name: &ListName,
 ) -> Result<(), Stop>
-    ensures ok { D.tells → OnOk result (D.state door.new ≡ put_out (list_text sources.now name.now) (D.state door.old)) }
-    ensures part { D.tells → OnErr result (WroteFirst (list_text sources.now name.now) (D.state door.old) (D.state door.new)) }
-    ensures cause { Counts (has_failed result) (D.writes door.old) (D.writes door.new) }
-    ensures stop { IsTrue (has_failed result) → StopsAtFailure (D.failed door.new) (D.writes door.old) (D.writes door.new) }
-    ensures turns { D.turns door.new ≡ D.turns door.old }
-    ensures reads { D.reads door.new ≡ D.reads door.old }
+    ensures ok { D.tells → OnOk result ((D.view door.new).state ≡ put_out (list_text sources.now name.now) (D.view door.old).state) }
+    ensures part { D.tells → OnErr result (WroteFirst (list_text sources.now name.now) (D.view door.old).state (D.view door.new).state) }
+    ensures cause { Counts (has_failed result) (D.view door.old).writes (D.view door.new).writes }
+    ensures stop { IsTrue (has_failed result) → StopsAtFailure (D.view door.new).failed (D.view door.old).writes (D.view door.new).writes }
+    ensures turns { (D.view door.new).turns ≡ (D.view door.old).turns }
+    ensures reads { (D.view door.new).reads ≡ (D.view door.old).reads }
 {
     let name = *name;
     let items = sources.items(alloc, name)?;
@@ -154,12 +154,12 @@ fn write_named<D: Door>(
     sources: &Sources<'_>,
     names: &[ListName],
 ) -> Result<(), Stop>
-    ensures ok { D.tells → OnOk result (D.state door.new ≡ put_out (flat_map (list_text sources.now) names.now) (D.state door.old)) }
-    ensures part { D.tells → OnErr result (WroteFirst (flat_map (list_text sources.now) names.now) (D.state door.old) (D.state door.new)) }
-    ensures cause { Counts (has_failed result) (D.writes door.old) (D.writes door.new) }
-    ensures stop { IsTrue (has_failed result) → StopsAtFailure (D.failed door.new) (D.writes door.old) (D.writes door.new) }
-    ensures turns { D.turns door.new ≡ D.turns door.old }
-    ensures reads { D.reads door.new ≡ D.reads door.old }
+    ensures ok { D.tells → OnOk result ((D.view door.new).state ≡ put_out (flat_map (list_text sources.now) names.now) (D.view door.old).state) }
+    ensures part { D.tells → OnErr result (WroteFirst (flat_map (list_text sources.now) names.now) (D.view door.old).state (D.view door.new).state) }
+    ensures cause { Counts (has_failed result) (D.view door.old).writes (D.view door.new).writes }
+    ensures stop { IsTrue (has_failed result) → StopsAtFailure (D.view door.new).failed (D.view door.old).writes (D.view door.new).writes }
+    ensures turns { (D.view door.new).turns ≡ (D.view door.old).turns }
+    ensures reads { (D.view door.new).reads ≡ (D.view door.old).reads }
 {
     'lists: for list in names {
         write_list(alloc, door, sources, list)?;
@@ -182,12 +182,12 @@ pub(crate) fn write_lists<D: Door>(
     door: &mut D,
     sources: &Option<Sources<'_>>,
 ) -> Result<(), Stop>
-    ensures ok { D.tells → OnOk result (D.state door.new ≡ put_out (lists_text sources.now) (D.state door.old)) }
-    ensures part { D.tells → OnErr result (WroteFirst (lists_text sources.now) (D.state door.old) (D.state door.new)) }
-    ensures cause { Counts (has_failed result) (D.writes door.old) (D.writes door.new) }
-    ensures stop { IsTrue (has_failed result) → StopsAtFailure (D.failed door.new) (D.writes door.old) (D.writes door.new) }
-    ensures turns { D.turns door.new ≡ D.turns door.old }
-    ensures reads { D.reads door.new ≡ D.reads door.old }
+    ensures ok { D.tells → OnOk result ((D.view door.new).state ≡ put_out (lists_text sources.now) (D.view door.old).state) }
+    ensures part { D.tells → OnErr result (WroteFirst (lists_text sources.now) (D.view door.old).state (D.view door.new).state) }
+    ensures cause { Counts (has_failed result) (D.view door.old).writes (D.view door.new).writes }
+    ensures stop { IsTrue (has_failed result) → StopsAtFailure (D.view door.new).failed (D.view door.old).writes (D.view door.new).writes }
+    ensures turns { (D.view door.new).turns ≡ (D.view door.old).turns }
+    ensures reads { (D.view door.new).reads ≡ (D.view door.old).reads }
 {
     match sources {
         None => write_text(door, empty_lists()),

@@ -6,20 +6,15 @@ use Rattle.file_tables.specs.declared.approval.Approval.{Approval}
 use Rattle.file_tables.specs.declared.approval.OperatorVerdict.{OperatorVerdict}
 use Rattle.file_tables.specs.declared.approval.OperatorVerdict.TheVariants as verdict
 use Rattle.file_tables.specs.declared.cached_file.CachedFile.{CachedFile}
-use Rattle.file_tables.specs.declared.cache_fault.CacheFault.TheVariants.{Older, CacheFull, Digest, NoSignature, PolicyFull}
+use Rattle.file_tables.specs.declared.cache_fault.CacheFault.TheVariants.{CacheFull, Digest, NoSignature, PolicyFull}
 use Rattle.file_tables.specs.Held.{HeldFile, digest_of}
 use Rattle.file_tables.specs.Files.{set_file, is_signed, entry_count}
-use Rattle.file_tables.specs.FileSteps.{is_outdated_by, new_candidate, import_cases, approved_row, approve, ruled, candidate_cases}
+use Rattle.file_tables.specs.FileSteps.{import_cases, approved_row, approve, ruled, candidate_cases}
 
 -- 128 URLs are held, and not this one
 no_room : (held : HeldFile) (file : UsageFile) (files : List CachedFile) → nat_le 128 (length files) ≡ true → import_cases held file files None ≡ Err CacheFull
 unfolding import_cases
 no_room held file files e = rw e refl
-
--- a held file was generated later
-older : (held : HeldFile) (file : UsageFile) (files : List CachedFile) (row : CachedFile) → is_outdated_by row file ≡ true → new_candidate held file files row ≡ Err Older
-unfolding new_candidate
-older held file files row e = rw e refl
 
 -- the candidate has another digest
 other_digest : (url digest : List ℕ) (v : OperatorVerdict) (files : List CachedFile) (row : CachedFile) (candidate : HeldFile) → bytes_eq (digest_of candidate.octets) digest ≡ false

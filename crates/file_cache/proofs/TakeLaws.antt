@@ -5,6 +5,7 @@ use Rattle.std.specs.Option.{option_map_or}
 use Rattle.std.specs.Result.{result_ok}
 use Rattle.std.proofs.lemmas.Bool.{le-leb, leb-true, eqb-true, false≢true, false_from_ne_true}
 use Rattle.sorted_rows.specs.Placed.{comes_last}
+use Rattle.sorted_rows.proofs.ListTests.{left_of}
 use Rattle.usage_walk.specs.declared.fault.Broken.{Broken}
 use Rattle.mud_file.specs.declared.usage_file.UsageFile.{UsageFile}
 use Rattle.mud_file.specs.File.{file_of}
@@ -17,10 +18,10 @@ use Rattle.file_tables.specs.Limits.{last_moment}
 use Rattle.file_tables.specs.Files.{url_of, is_of_url, is_usage_of, is_held, may_have, is_approved, may_follow, are_files, is_sound_file, IsKeptFile, IsSoundFiles}
 use Rattle.file_tables.specs.FileItems.{file_row, row_of, if_sound_file, file_in, has_room, may_stand_behind, with_file_item}
 use Rattle.item_codec.proofs.RecordLaws.{some_is, bind_some, pass_some}
-use Rattle.file_tables.proofs.Tests.{left_of, bytes_same}
 use Rattle.file_tables.proofs.SoundFiles.{file_usage}
 use Rattle.file_tables.proofs.ReadFiles.{sound-push}
 use Rattle.std.proofs.Math.Bool.{and-false}
+use Rattle.mud_url.proofs.Places.{same_octets}
 
 module _ (url : List ℕ) (held : HeldFile) where
   pub late : (held.fetched ≤ last_moment → ⊥) → is_held url held ≡ false
@@ -48,7 +49,7 @@ module _ (url : List ℕ) (held : HeldFile) where
   pub own_url : (file : UsageFile) → is_held url held ≡ true → usage_in held.octets ≡ Some file → file.url ≡ url
   unfolding is_held is_usage_of
   own_url file e read =
-      bytes_same file.url url (sym (ap (λ (o : Option UsageFile). option_map_or (is_of_url url) o false) read) ∙ left_of (option_map_or (is_of_url url) (usage_in held.octets) false) (nat_le held.fetched last_moment) e)
+      same_octets file.url url (sym (ap (λ (o : Option UsageFile). option_map_or (is_of_url url) o false) read) ∙ left_of (option_map_or (is_of_url url) (usage_in held.octets) false) (nat_le held.fetched last_moment) e)
 
   pub approved_held : (a : Approval) → is_approved url (held, a) ≡ true → is_held url held ≡ true
   unfolding is_approved

@@ -44,7 +44,7 @@ impl<'a> Lent<'a> {
     }
 
     /// A held file, fetched at some moment.
-    pub fn fetched_at(held: &'a Held, fetched: Moment) -> Lent<'a>
+    pub(crate) fn fetched_at(held: &'a Held, fetched: Moment) -> Lent<'a>
         ensures { result ≡ held_file held.now.octets fetched }
     {
         Lent::new(held.octets(), fetched)
@@ -143,7 +143,7 @@ fn body_of(
 
 /// The item in which these files of a URL are kept.
 #[tactic(auto, unfolding(file_tables::specs::FileItems::file_item, file_tables::specs::FileItems::file_row))]
-pub fn item_of(
+pub(crate) fn item_of(
     alloc: Global,
     url: &MudUrl,
     approved: Option<(Lent<'_>, Approval)>,

@@ -229,7 +229,7 @@ fn has_room(files: &SortedRows<CachedFile>, row: &CachedFile) -> bool
 }
 
 /// Adds a row behind all others, where it may stand there.
-pub fn push(files: &mut SortedRows<CachedFile>, row: CachedFile) -> Result<bool, Memory>
+pub(crate) fn push(files: &mut SortedRows<CachedFile>, row: CachedFile) -> Result<bool, Memory>
     requires { IsSoundFiles files.old.rows }
     ensures taken { IfOk result (λ yes. yes ≡ may_stand_behind files.old.rows row) }
     ensures rows { IfOk result (λ yes. files.new.rows ≡ (if yes then files.old.rows ++ row ∷ [] else files.old.rows)) }

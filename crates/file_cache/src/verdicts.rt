@@ -197,7 +197,7 @@ fn revoke_row(alloc: Global, row: &CachedFile) -> Result<CacheChange, CacheFault
 }
 
 /// What taking back the approval of a URL's file changes.
-pub fn revoke(
+pub(crate) fn revoke(
     alloc: Global,
     files: &SortedRows<CachedFile>,
     url: &MudUrl,

@@ -6,6 +6,7 @@ use Rattle.std.specs.Result.{result_ok}
 use Rattle.std.proofs.lemmas.Bool.{false≢true, eqb-true, leb-true, ltb-false}
 use Rattle.std.proofs.lemmas.List.{append-nil}
 use Rattle.mud_world.specs.declared.item.Item.{Item}
+use Rattle.mud_world.proofs.ItemLaws.{same_item}
 use Rattle.item_codec.specs.Spelling.{number, string, version, IsOctets}
 use Rattle.item_codec.specs.Reading as codec
 use Rattle.item_codec.specs.Records.{◌>>=◌, number_in, string_in, version_in, end_in, optional, optional_in, IsForm, OptionFits}
@@ -21,7 +22,7 @@ use Rattle.file_tables.specs.Held.{HeldFile, held_file, usage_in}
 use Rattle.file_tables.specs.Limits.{last_moment}
 use Rattle.file_tables.specs.Files.{is_of_url, is_usage_of, is_held, may_have, is_approved, may_follow, are_files, is_sound_file, IsKeptFile}
 use Rattle.file_tables.specs.FileItems.{approval_number, approval_field, held_fields, approved_fields, file_body, file_item, held_in, approval_of, approval_in, approved_in, file_row, row_of, if_sound_file, file_in, IsFileItem}
-use Rattle.file_tables.proofs.Tests.{left_of, right_of}
+use Rattle.sorted_rows.proofs.ListTests.{left_of, right_of}
 
 -- ---- Fields
 
@@ -211,9 +212,6 @@ row_of_alone key body row fits e =
 pub file_back : (row : CachedFile) → IsKeptFile row → file_in (file_item row) ≡ Some row
 unfolding file_in file_item file_row if_sound_file is_sound_file
 file_back row kept = rw (row_of_back row.url row.approved row.candidate (files_fit row.url row.approved row.candidate kept), kept) refl
-
-same_item : (item : Item) (kind : ℕ) (key body : List ℕ) → item.kind ≡ kind → item.key ≡ key → item.body ≡ body → item ≡ record { kind = kind; key = key; body = body }
-same_item item kind key body p q r = λ i. record { kind = p i; key = q i; body = r i }
 
 pub file_alone : (item : Item) (row : CachedFile) → IsOctets item.body → file_in item ≡ Some row → IsFileItem item row
 unfolding file_in file_item if_sound_file

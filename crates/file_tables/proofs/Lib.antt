@@ -1,5 +1,4 @@
 pub mod Counts
-pub mod Tests
 pub mod SoundFiles
 pub mod ToldFiles
 pub mod SoundLaws

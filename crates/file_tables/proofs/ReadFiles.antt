@@ -7,12 +7,12 @@ use Rattle.std.specs.declared.cmp.Ordering.TheVariants.{Less}
 use Rattle.std.proofs.lemmas.Bool.{ltb-true, lt-ltb, leb-true, le-leb}
 use Rattle.sorted_rows.specs.Placed.{place_cmp, PlacesAbove, PlacesAscend, comes_last}
 use Rattle.sorted_rows.proofs.PlacedLaws.{ascend-push}
+use Rattle.sorted_rows.proofs.ListTests.{left_of, right_of, both}
 use Rattle.file_tables.specs.declared.cached_file.CachedFile.{CachedFile}
 use Rattle.file_tables.specs.Limits.{most_files, most_policy_entries}
 use Rattle.file_tables.specs.Files.{url_of, approved_entries, entry_count, IsKeptFile, IsSoundFiles}
 use Rattle.file_tables.specs.FileItems.{has_room, may_stand_behind}
 use Rattle.file_tables.proofs.Counts.{entry_count-push}
-use Rattle.file_tables.proofs.Tests.{left_of, right_of, both}
 
 all_push : (files : List CachedFile) (row : CachedFile) → AllByRecursion IsKeptFile files → IsKeptFile row → AllByRecursion IsKeptFile (files ++ row ∷ [])
 all_push [] row all good = (good, tt)

@@ -14,6 +14,7 @@ use Rattle.sorted_rows.specs.Placed.{row_at, set_row}
 use Rattle.sorted_rows.proofs.PlacedLaws.{ascend-set_row, ascend-without_row}
 use Rattle.sorted_rows.proofs.RowLaws.{all-set_row, all-without_row, length-set_row, length-without_row, place_row_at}
 use Rattle.sorted_rows.proofs.IndexLaws.{set_row_length}
+use Rattle.sorted_rows.proofs.ListTests.{same_bytes, left_of, right_of, both, or_first}
 use Rattle.file_tables.specs.declared.approval.Approval.{Approval}
 use Rattle.file_tables.specs.declared.approval.Approval.TheVariants as approval
 use Rattle.file_tables.specs.declared.approval.OperatorVerdict.{OperatorVerdict}
@@ -25,7 +26,6 @@ use Rattle.file_tables.specs.Limits.{most_files, most_policy_entries, last_momen
 use Rattle.file_tables.specs.Files.{url_of, file_at, set_file, without_file, new_file, with_candidate, with_approved, is_of_url, is_usage_of, is_signed, is_older, entries_of, approved_entries, entry_count, is_held, may_have, is_approved, is_outdated, may_follow, are_files, is_sound_file, IsKeptFile, IsSoundFiles}
 use Rattle.file_tables.specs.FileSteps.{FileStep, done, left, candidate_again, approved_again, older_than_approved, older_than_candidate, is_outdated_by, new_candidate, beside_approved, beside_candidate, import_cases, import_read, import_step, settled, left_with, approved_row, approve, ruled, candidate_cases, is_ruled, verdict_cases, verdict_step, approved_cases, revoke_cases, revoke_step}
 use Rattle.file_tables.proofs.Counts.{entries_found, entry_count-set_row, entry_count-without_row}
-use Rattle.file_tables.proofs.Tests.{left_of, right_of, both, neither_left, same_bytes}
 
 -- ---- What holds of the files behind a step
 
@@ -222,7 +222,7 @@ module _ (files : List CachedFile) (sound : IsSoundFiles files) (url : List ℕ)
       let older : Bool = older_than_approved file row.approved || older_than_candidate file row.candidate in
       cond_after IsSoundFiles older (Err Older) (done New file.url (set_file new files))
       (λ _. tt)
-      (λ e. put_same files sound new row there (offered row.url row.approved row.candidate held file good fits read (neither_left (older_than_approved file row.approved) (older_than_candidate file row.candidate) e) other) (omega arith))
+      (λ e. put_same files sound new row there (offered row.url row.approved row.candidate held file good fits read (or_first (older_than_approved file row.approved) (older_than_candidate file row.candidate) e) other) (omega arith))
 
   beside_approved_sound : (held : HeldFile) (file : UsageFile) → file.url ≡ url → held.fetched ≤ last_moment → is_held row.url held ≡ true → usage_in held.octets ≡ Some file → (o : Option (HeldFile × Approval)) → row.approved ≡ o → OfAfter IsSoundFiles (beside_approved held file files row o)
   unfolding beside_approved

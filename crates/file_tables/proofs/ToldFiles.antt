@@ -10,6 +10,7 @@ use Rattle.mud_file.specs.declared.usage_file.UsageFile.{UsageFile}
 use Rattle.mud_file.specs.File.{file_of}
 use Rattle.sorted_rows.specs.Placed.{row_at, without_row, PlacesAscend}
 use Rattle.sorted_rows.proofs.PlacedLaws.{row_at-set_row_same, row_at-without_row, same_place_itself}
+use Rattle.sorted_rows.proofs.ListTests.{same_bytes}
 use Rattle.file_tables.specs.declared.approval.Approval.{Approval}
 use Rattle.file_tables.specs.declared.approval.Approval.TheVariants as approval
 use Rattle.file_tables.specs.declared.approval.OperatorVerdict.{OperatorVerdict}
@@ -20,7 +21,6 @@ use Rattle.file_tables.specs.Held.{HeldFile, held_file, digest_of}
 use Rattle.file_tables.specs.Limits.{most_files, most_policy_entries}
 use Rattle.file_tables.specs.Files.{url_of, file_at, set_file, without_file, new_file, with_candidate, with_approved, is_signed, entry_count}
 use Rattle.file_tables.specs.FileSteps.{TellsChange, FileStep, done, left, candidate_again, approved_again, older_than_approved, older_than_candidate, is_outdated_by, new_candidate, beside_approved, beside_candidate, import_cases, import_read, import_step, settled, left_with, approved_row, approve, ruled, candidate_cases, is_ruled, verdict_cases, verdict_step, approved_cases, revoke_cases, revoke_step}
-use Rattle.file_tables.proofs.Tests.{same_bytes}
 use Rattle.file_tables.proofs.SoundFiles.{at_its_place}
 
 -- the step, where it isn't refused, says truly whether these files change

@@ -3,7 +3,7 @@ use Rattle.std.specs.Prelude.{ℕ, List, Option, None}
 use Rattle.std.specs.List.{filter_map}
 use Rattle.std.specs.Option.{option_map, option_and_then}
 use Rattle.acl_model.specs.declared.entry.Policy.{Policy}
-use Rattle.acl_model.specs.Policies.{UrlPolicy}
+use Rattle.acl_model.specs.Policies.{UrlPolicy, url_policy}
 use Rattle.mud_file.specs.declared.usage_file.UsageFile.{UsageFile}
 use Rattle.file_tables.specs.declared.approval.Approval.{Approval}
 use Rattle.file_tables.specs.declared.cached_file.CachedFile.{CachedFile}
@@ -30,9 +30,6 @@ policy_in_row row = option_and_then policy_in_approved row.approved
 -- the policy of a URL: that of its approved file, and None where no file of it is approved
 unfoldable pub policy_of : List CachedFile → List ℕ → Option Policy
 policy_of files url = option_and_then policy_in_row (file_at url files)
-
-abbrev pub url_policy : List ℕ → Policy → UrlPolicy
-url_policy url policy = record { url = url; policy = policy }
 
 unfoldable pub url_policy_in : CachedFile → Option UrlPolicy
 url_policy_in row = option_map (url_policy row.url) (policy_in_row row)

@@ -5,11 +5,9 @@ use Rattle.std.specs.List.{list_any}
 use Rattle.std.proofs.lemmas.Bool.Decides.{nat_tests}
 use Rattle.mud_base.specs.declared.packet.Fields.{Fields}
 use Rattle.mud_base.specs.declared.packet.Direction.{Direction}
-use Rattle.mud_base.specs.declared.packet.Transport.{Transport}
-use Rattle.mud_base.specs.declared.packet.Transport.TheVariants as packet
-use Rattle.mud_base.specs.declared.addr.Addr.{Addr}
-use Rattle.mud_tables.specs.History.{Endpoint, Begun, segment_in, segment_of, is_between, between, opens, resets, since_opened, is_unbroken, moment_of, beginner_since, beginner_of, beginner, side_of, begun_in, begun_of, with_segment, with_packet, last_moment, is_forward, with_moment, begun_at, begun_between, is_past, MayKeep}
+use Rattle.mud_tables.specs.History.{Endpoint, Begun, segment_of, is_between, between, opens, resets, since_opened, is_unbroken, moment_of, beginner_since, beginner_of, beginner, side_of, begun_in, begun_of, with_segment, with_packet, last_moment, is_forward, with_moment, begun_at, begun_between, is_past, MayKeep}
 use Rattle.mud_tables.specs.declared.segment.Segment.{Segment}
+use Rattle.mud_tables.proofs.TypeFacts.{segment_at}
 use Rattle.flow_table.specs.Kept.{Flows, StandsFor, is_since, beginner_kept, kept_after, begun_kept_in, begun_kept, MayForget, HasNoted}
 
 -- ---- Lists with one packet more
@@ -205,21 +203,14 @@ begun_in_kept h flows side now None at s i = refl
 begun_in_kept h flows side now (Some p) at s i =
     ap (λ k. side_of side p (if opens p then Some p.source else k)) (beginner_found h flows p.source p.destination p.at s (rw (at p refl) i))
 
-at_in : (src dst : Addr) (now : ℕ) (t : Transport) (q : Segment) → segment_in src dst now t ≡ Some q → q.at ≡ now
-unfolding segment_in
-at_in src dst now (packet.Tcp from to flags) q e = cc
-at_in src dst now (packet.Udp from to) q e = cc
-at_in src dst now (packet.Icmp kind code) q e = cc
-at_in src dst now packet.Absent q e = cc
-
-at_now : (fields : Fields) (now : ℕ) (q : Segment) → segment_of fields now ≡ Some q → q.at ≡ now
+pub at_planned : (fields : Fields) (now : ℕ) (q : Segment) → segment_of fields now ≡ Some q → q.at ≡ now
 unfolding segment_of
-at_now fields now q e = at_in fields.src fields.dst now fields.transport q e
+at_planned fields now q e = segment_at fields.src fields.dst now fields.transport q e
 
 -- A look-up answers as the history does.
 pub begun_found : (h : List Segment) (flows : Flows) (side : Direction) (fields : Fields) (now : ℕ) → StandsFor h flows → IsTrue (is_since flows.last now) → begun_of h side fields now ≡ begun_kept flows side fields now
 unfolding begun_of begun_kept
-begun_found h flows side fields now s i = begun_in_kept h flows side now (segment_of fields now) (at_now fields now) s i
+begun_found h flows side fields now s i = begun_in_kept h flows side now (segment_of fields now) (at_planned fields now) s i
 
 -- ---- One packet more
 
@@ -354,6 +345,3 @@ begun_other flows side fields now p e f = rw (e, f) refl
 pub packet_more : (h : List Segment) (fields : Fields) (now : ℕ) (p : Segment) (flows : Flows) → segment_of fields now ≡ Some p → StandsFor (h ++ p ∷ []) flows → StandsFor (with_packet h fields now) flows
 unfolding with_packet with_segment
 packet_more h fields now p flows e s = rw e s
-
-pub at_planned : (fields : Fields) (now : ℕ) (p : Segment) → segment_of fields now ≡ Some p → p.at ≡ now
-at_planned fields now p e = at_now fields now p e

@@ -5,6 +5,8 @@ use Rattle.std.specs.BTreeMap.{is_at}
 use Rattle.std.specs.declared.cmp.Ordering.{Ordering}
 use Rattle.std.specs.declared.cmp.Ordering.TheVariants.{Less, Equal, Greater}
 use Rattle.std.proofs.lemmas.Cmp.{nat_cmp_total, ranked, tied_itself}
+use Rattle.std.proofs.lemmas.Bool.{and_parts, or_cases}
+use Rattle.std.specs.Cmp.{both_ways}
 use Rattle.mud_base.specs.Addresses.{addr_cmp, same_addr}
 use Rattle.mud_base.specs.declared.addr.Addr.{Addr}
 use Rattle.mud_base.specs.declared.addr.Addr.TheVariants.{V4, V6}
@@ -12,6 +14,7 @@ use Rattle.mud_base.specs.contracts.addr.AddrOrd.TheImpl as addr_ord
 use Rattle.mud_base.proofs.AddrOrder.{addr_cmp_total, same_from_tie}
 use Rattle.mud_tables.specs.History.{Endpoint, same_end, is_between}
 use Rattle.mud_tables.specs.declared.segment.Segment.{Segment}
+use Rattle.mud_tables.proofs.RowSets.{same_addr_exact, same_addr_itself}
 use Rattle.flow_table.specs.Pairs.{Pair, end_cmp, pair_cmp, pair_of}
 
 derived : (a b : Addr) → (addr_ord.ghosts).cmp a b ≡ addr_cmp a b
@@ -92,57 +95,26 @@ pair_turned a b = by (end_cmp a b) (end_cmp b a) (end_reverse a b) (end_tie a b)
     by Greater Equal e f = cc
     by Greater Greater e f = cc
 
-same_addr_is : (a b : Addr) → same_addr a b ≡ true → a ≡ b
-unfolding same_addr
-same_addr_is (V4 n) (V4 k) e = ap V4 (number n k e)
-  where
-    number : (n k : ℕ) → (n == k) ≡ true → n ≡ k
-    number n k e = search rules
-same_addr_is (V4 n) (V6 k) e = cc
-same_addr_is (V6 n) (V4 k) e = cc
-same_addr_is (V6 n) (V6 k) e = ap V6 (number n k e)
-  where
-    number : (n k : ℕ) → (n == k) ≡ true → n ≡ k
-    number n k e = search rules
-
-addr_itself : (a : Addr) → same_addr a a ≡ true
-unfolding same_addr
-addr_itself (V4 n) = eq-eqb n n refl
-addr_itself (V6 n) = eq-eqb n n refl
-
-and_true : (a b : Bool) → (a && b) ≡ true → (a ≡ true) × (b ≡ true)
-and_true true b e = (refl, e)
-and_true false b e = cc
-
-or_true : (a b : Bool) → (a || b) ≡ true → (a ≡ true) ⊎ (b ≡ true)
-or_true true b e = inl refl
-or_true false b e = inr e
-
 same_end_is : (a b : Endpoint) → same_end a b ≡ true → a ≡ b
 unfolding same_end
 same_end_is a b e =
-    let both = and_true (same_addr a.0 b.0) (a.1 == b.1) e in
-    both_parts a b (same_addr_is a.0 b.0 both.0) (number a.1 b.1 both.1)
+    let both = and_parts (same_addr a.0 b.0) (a.1 == b.1) e in
+    both_parts a b (same_addr_exact a.0 b.0 both.0) (number a.1 b.1 both.1)
   where
     number : (n k : ℕ) → (n == k) ≡ true → n ≡ k
     number n k e = search rules
 
 end_same : (a b : Endpoint) → a ≡ b → same_end a b ≡ true
 unfolding same_end
-end_same a b e = ap (λ c. same_addr a.0 c.0 && a.1 == c.1) (sym e) ∙ ap (λ c. c && a.1 == a.1) (addr_itself a.0) ∙ eq-eqb a.1 a.1 refl
-
-both_ways : (s t : Bool) → (s ≡ true → t ≡ true) → (t ≡ true → s ≡ true) → s ≡ t
-both_ways true t f g = sym (f refl)
-both_ways false true f g = g refl
-both_ways false false f g = refl
+end_same a b e = ap (λ c. same_addr a.0 c.0 && a.1 == c.1) (sym e) ∙ ap (λ c. c && a.1 == a.1) (same_addr_itself a.0) ∙ eq-eqb a.1 a.1 refl
 
 between_same : (a b : Endpoint) (p : Segment) → is_between a b p ≡ true → pair_of p.source p.destination ≡ pair_of a b
 unfolding is_between
-between_same a b p e = by (or_true (same_end p.source a && same_end p.destination b) (same_end p.source b && same_end p.destination a) e)
+between_same a b p e = by (or_cases (same_end p.source a && same_end p.destination b) (same_end p.source b && same_end p.destination a) e)
   where
     by : ((same_end p.source a && same_end p.destination b) ≡ true) ⊎ ((same_end p.source b && same_end p.destination a) ≡ true) → pair_of p.source p.destination ≡ pair_of a b
-    by (inl h) = let both = and_true (same_end p.source a) (same_end p.destination b) h in let s : p.source ≡ a = same_end_is p.source a both.0 in let d : p.destination ≡ b = same_end_is p.destination b both.1 in cc
-    by (inr h) = let both = and_true (same_end p.source b) (same_end p.destination a) h in let s : p.source ≡ b = same_end_is p.source b both.0 in let d : p.destination ≡ a = same_end_is p.destination a both.1 in let t : pair_of b a ≡ pair_of a b = pair_turned b a in cc
+    by (inl h) = let both = and_parts (same_end p.source a) (same_end p.destination b) h in let s : p.source ≡ a = same_end_is p.source a both.0 in let d : p.destination ≡ b = same_end_is p.destination b both.1 in cc
+    by (inr h) = let both = and_parts (same_end p.source b) (same_end p.destination a) h in let s : p.source ≡ b = same_end_is p.source b both.0 in let d : p.destination ≡ a = same_end_is p.destination a both.1 in let t : pair_of b a ≡ pair_of a b = pair_turned b a in cc
 
 straight : (a b : Endpoint) (p : Segment) → p.source ≡ a → p.destination ≡ b → is_between a b p ≡ true
 unfolding is_between

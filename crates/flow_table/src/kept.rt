@@ -12,7 +12,7 @@ pub type Begun = (Endpoint, Moment);
 /// Who began a connection, by what is kept of it: nobody where its last packet was more than
 /// [`MOST_PAUSE`] seconds ago.
 #[tactic(auto, unfolding(crate::specs::Kept::beginner_kept))]
-pub fn beginner_kept(kept: Option<Begun>, now: Moment) -> Option<Endpoint>
+pub(crate) fn beginner_kept(kept: Option<Begun>, now: Moment) -> Option<Endpoint>
     ensures { result ≡ spec.beginner_kept kept now }
 {
     match kept {
@@ -30,7 +30,7 @@ pub fn beginner_kept(kept: Option<Begun>, now: Moment) -> Option<Endpoint>
 /// What is kept of two ends after a packet between them: a packet that opens begins the connection
 /// anew, one that resets ends it, and each other one keeps it up.
 #[tactic(auto, unfolding(crate::specs::Kept::kept_after, mud_tables::specs::History::with_moment))]
-pub fn kept_after(packet: &Segment, kept: Option<Begun>) -> Option<Begun>
+pub(crate) fn kept_after(packet: &Segment, kept: Option<Begun>) -> Option<Begun>
     ensures { result ≡ spec.kept_after packet.now kept }
 {
     if packet.opens() {

@@ -10,7 +10,7 @@ pub type Pair = (Endpoint, Endpoint);
 
 /// The two ends in one order, whichever of them sends.
 #[tactic(auto, unfolding(crate::specs::Pairs::pair_of))]
-pub fn pair_of(a: Endpoint, b: Endpoint) -> Pair
+pub(crate) fn pair_of(a: Endpoint, b: Endpoint) -> Pair
     ensures { result ≡ spec.pair_of a b }
 {
     match a.cmp(&b) {

@@ -142,7 +142,7 @@ fn is_upkeep(fields: &Fields) -> bool
 
 /// The contents of a packet, or None where it keeps the link up.
 #[tactic(auto, unfolding(crate::specs::Ipv4::packet_of))]
-pub fn packet_of(packet: &[u8]) -> Result<Option<Contents<'_>>, Part>
+pub(crate) fn packet_of(packet: &[u8]) -> Result<Option<Contents<'_>>, Part>
     ensures { result ≡ spec.packet_of packet.now }
 {
     let fields = fields_of(packet)?;

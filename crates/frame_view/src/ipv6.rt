@@ -215,7 +215,7 @@ fn is_upkeep(hop_limit: u8, transport: Transport) -> bool
 
 /// The contents of a packet, or None where it keeps the link up.
 #[tactic(auto, unfolding(crate::specs::Ipv6::packet_of))]
-pub fn packet_of(packet: &[u8]) -> Result<Option<Contents<'_>>, Part>
+pub(crate) fn packet_of(packet: &[u8]) -> Result<Option<Contents<'_>>, Part>
     ensures { result ≡ spec.packet_of packet.now }
 {
     let contents = contents_of(packet)?;

@@ -4,7 +4,7 @@ ghost use Rattle.frame_view.specs.Traffic as spec;
 
 /// The codepoint (RFC 2474, 3), from 0 to 63.
 #[tactic(auto, unfolding(crate::specs::Traffic::codepoint))]
-pub fn codepoint(octet: u8) -> u8
+pub(crate) fn codepoint(octet: u8) -> u8
     ensures { result ≡ spec.codepoint octet }
 {
     octet / 4
@@ -12,7 +12,7 @@ pub fn codepoint(octet: u8) -> u8
 
 /// Explicit congestion notification (RFC 3168, 5), from 0 to 3.
 #[tactic(auto, unfolding(crate::specs::Traffic::congestion))]
-pub fn congestion(octet: u8) -> u8
+pub(crate) fn congestion(octet: u8) -> u8
     ensures { result ≡ spec.congestion octet }
 {
     octet % 4

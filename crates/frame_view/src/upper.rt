@@ -95,7 +95,7 @@ fn udp(octets: &[u8]) -> Result<Transport, Part>
 
 /// What a datagram of UDP holds behind its header. Of another transport nothing is said.
 #[tactic(auto, unfolding(crate::specs::Upper::payload_of))]
-pub fn payload_of(transport: Transport, octets: &[u8]) -> &[u8]
+pub(crate) fn payload_of(transport: Transport, octets: &[u8]) -> &[u8]
     ensures { result.now ≡ spec.payload_of transport octets.now }
 {
     match transport {
@@ -123,7 +123,7 @@ fn icmp(octets: &[u8]) -> Result<Transport, Part>
 
 /// The header of the upper layer by its protocol number, where ICMP has the number `icmp_number`.
 #[tactic(auto, unfolding(crate::specs::Upper::transport_of))]
-pub fn transport_of(icmp_number: u8, protocol: u8, octets: &[u8]) -> Result<Transport, Part>
+pub(crate) fn transport_of(icmp_number: u8, protocol: u8, octets: &[u8]) -> Result<Transport, Part>
     ensures { result ≡ spec.transport_of icmp_number protocol octets.now }
 {
     if protocol == TCP {

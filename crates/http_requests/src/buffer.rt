@@ -10,7 +10,7 @@ use std::alloc::Global;
 use std::marker::Model;
 
 /// How many octets fit: the longest head and the longest body.
-pub const CAPACITY: usize = 532_480;
+const CAPACITY: usize = 532_480;
 
 /// The octets that were taken of a connection and not yet answered. Contracts see it as the list of
 /// them.
@@ -73,15 +73,15 @@ impl RequestBuffer {
         requires { length self.old < 532480 }
         ensures grown { IfOk result (λ n. length self.new ≡ length self.old + n) }
         ensures octets { D.tells → IfOk result (λ _.
-            Received self.old self.new (D.state door.old) (D.state door.new)) }
-        ensures end { D.tells → IfOk result (λ n. n ≡ 0 → (D.state door.new).left ≡ []) }
+            Received self.old self.new (D.view door.old).state (D.view door.new).state) }
+        ensures end { D.tells → IfOk result (λ n. n ≡ 0 → (D.view door.new).state.left ≡ []) }
         ensures front { Grown self.old self.new }
         ensures kept { OnErr result (self.new ≡ self.old) }
-        ensures err { D.tells → OnErr result (D.state door.new ≡ D.state door.old) }
-        ensures cause { Counts (is_err result) (D.reads door.old) (D.reads door.new) }
-        ensures stop { OnErr result (StopsAtFailure (D.failed door.new) (D.reads door.old) (D.reads door.new)) }
-        ensures turns { D.turns door.new ≡ D.turns door.old }
-        ensures writes { D.writes door.new ≡ D.writes door.old }
+        ensures err { D.tells → OnErr result ((D.view door.new).state ≡ (D.view door.old).state) }
+        ensures cause { Counts (is_err result) (D.view door.old).reads (D.view door.new).reads }
+        ensures stop { OnErr result (StopsAtFailure (D.view door.new).failed (D.view door.old).reads (D.view door.new).reads) }
+        ensures turns { (D.view door.new).turns ≡ (D.view door.old).turns }
+        ensures writes { (D.view door.new).writes ≡ (D.view door.old).writes }
     {
         let (start, end) = (self.start, self.end);
         self.start = 0;

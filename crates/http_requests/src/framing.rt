@@ -11,7 +11,7 @@ use httparse::spans::HeaderSpan;
 use mud_base::{Moment, moment_of};
 
 /// The most octets that a body may have.
-pub const MOST_BODY: usize = 524_288;
+const MOST_BODY: usize = 524_288;
 
 /// What the fields of a head say of the body and the moment.
 #[derive(Clone, Copy, Debug)]

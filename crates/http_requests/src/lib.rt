@@ -19,6 +19,6 @@ pub use buffer::RequestBuffer;
 pub use fault::{FramingFault, MomentFrom, RequestFault, is_head};
 pub use next::{DoorFault, Next, next_request};
 pub use parts::{RequestParts, parts_of};
-pub use seek::{HeadStep, look};
+pub use seek::HeadStep;
 pub use shape::RequestShape;
 pub use stop::{MOST_REQUESTS, Stop, stop_of};

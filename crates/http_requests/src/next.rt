@@ -20,7 +20,7 @@ use crate::shape::RequestShape;
 use mud_world::{Door, Failed, say};
 
 /// The line that gives leave to send a body (RFC 9110, 15.2.1), and the empty line behind it.
-pub const CONTINUE: &[u8; 25] = b"HTTP/1.1 100 Continue\r\n\r\n";
+const CONTINUE: &[u8; 25] = b"HTTP/1.1 100 Continue\r\n\r\n";
 
 /// What came of the search for a head.
 enum HeadNext {
@@ -52,16 +52,16 @@ fn next_head<D: Door>(
 ) -> Result<HeadNext, Failed>
     ensures found { (shape : RequestShape) → result ≡ Ok (HeadNext.Found shape) → HasHead from buffer.new shape }
     ensures ended { result ≡ Ok HeadNext.Ended → buffer.new ≡ [] }
-    ensures end { D.tells → result ≡ Ok HeadNext.Ended → (D.state door.new).left ≡ [] }
+    ensures end { D.tells → result ≡ Ok HeadNext.Ended → (D.view door.new).state.left ≡ [] }
     ensures broken { D.tells → (fault : RequestFault) → result ≡ Ok (HeadNext.Broken fault)
-        → IsFault from (buffer.new ++ (D.state door.new).left) fault [] }
+        → IsFault from (buffer.new ++ (D.view door.new).state.left) fault [] }
     ensures failed { OnErr result (MayGetHead buffer.new) }
-    ensures received { D.tells → Received buffer.old buffer.new (D.state door.old) (D.state door.new) }
+    ensures received { D.tells → Received buffer.old buffer.new (D.view door.old).state (D.view door.new).state }
     ensures untouched { (head : RequestHead) (rest : List ℕ) → IsHead buffer.old head rest → buffer.new ≡ buffer.old }
-    ensures cause { Counts (is_err result) (D.reads door.old) (D.reads door.new) }
-    ensures stop { OnErr result (StopsAtFailure (D.failed door.new) (D.reads door.old) (D.reads door.new)) }
-    ensures turns { D.turns door.new ≡ D.turns door.old }
-    ensures writes { D.writes door.new ≡ D.writes door.old }
+    ensures cause { Counts (is_err result) (D.view door.old).reads (D.view door.new).reads }
+    ensures stop { OnErr result (StopsAtFailure (D.view door.new).failed (D.view door.old).reads (D.view door.new).reads) }
+    ensures turns { (D.view door.new).turns ≡ (D.view door.old).turns }
+    ensures writes { (D.view door.new).writes ≡ (D.view door.old).writes }
 {
     'more: loop {
         match look(buffer.octets(), from) {
@@ -89,15 +89,15 @@ fn leave_for(shape: &RequestShape) -> &'static [u8]
 fn next_body<D: Door>(buffer: &mut RequestBuffer, door: &mut D, len: usize) -> Result<bool, Failed>
     requires { len ≤ 532480 }
     ensures enough { IfOk result (λ enough. enough ≡ nat_le len (length buffer.new)) }
-    ensures end { D.tells → IfOk result (λ enough. enough ≡ false → (D.state door.new).left ≡ []) }
+    ensures end { D.tells → IfOk result (λ enough. enough ≡ false → (D.view door.new).state.left ≡ []) }
     ensures short { OnErr result (length buffer.new < len) }
     ensures grown { Grown buffer.old buffer.new }
-    ensures received { D.tells → Received buffer.old buffer.new (D.state door.old) (D.state door.new) }
+    ensures received { D.tells → Received buffer.old buffer.new (D.view door.old).state (D.view door.new).state }
     ensures untouched { len ≤ length buffer.old → buffer.new ≡ buffer.old }
-    ensures cause { Counts (is_err result) (D.reads door.old) (D.reads door.new) }
-    ensures stop { OnErr result (StopsAtFailure (D.failed door.new) (D.reads door.old) (D.reads door.new)) }
-    ensures turns { D.turns door.new ≡ D.turns door.old }
-    ensures writes { D.writes door.new ≡ D.writes door.old }
+    ensures cause { Counts (is_err result) (D.view door.old).reads (D.view door.new).reads }
+    ensures stop { OnErr result (StopsAtFailure (D.view door.new).failed (D.view door.old).reads (D.view door.new).reads) }
+    ensures turns { (D.view door.new).turns ≡ (D.view door.old).turns }
+    ensures writes { (D.view door.new).writes ≡ (D.view door.old).writes }
 {
     'more: while buffer.octets().len() < len {
         if buffer.fill(door)? == 0 {
@@ -139,16 +139,16 @@ fn take_body<D: Door>(
     ensures cut { (fault : RequestFault) → result ≡ Ok (Next.Broken fault)
         → (fault ≡ record { framing = FramingFault.Cut; is_head = shape.is_head })
         × (length buffer.new < shape.head_len + shape.body_len) }
-    ensures end { D.tells → (fault : RequestFault) → result ≡ Ok (Next.Broken fault) → (D.state door.new).left ≡ [] }
+    ensures end { D.tells → (fault : RequestFault) → result ≡ Ok (Next.Broken fault) → (D.view door.new).state.left ≡ [] }
     ensures short { result ≡ Err DoorFault.Read → length buffer.new < shape.head_len + shape.body_len }
     ensures read { OnErr result (result ≡ Err DoorFault.Read) }
     ensures grown { Grown buffer.old buffer.new }
-    ensures received { D.tells → Received buffer.old buffer.new (D.state door.old) (D.state door.new) }
+    ensures received { D.tells → Received buffer.old buffer.new (D.view door.old).state (D.view door.new).state }
     ensures untouched { shape.head_len + shape.body_len ≤ length buffer.old → buffer.new ≡ buffer.old }
-    ensures cause { Counts (is_err result) (D.reads door.old) (D.reads door.new) }
-    ensures stop { OnErr result (StopsAtFailure (D.failed door.new) (D.reads door.old) (D.reads door.new)) }
-    ensures turns { D.turns door.new ≡ D.turns door.old }
-    ensures writes { D.writes door.new ≡ D.writes door.old }
+    ensures cause { Counts (is_err result) (D.view door.old).reads (D.view door.new).reads }
+    ensures stop { OnErr result (StopsAtFailure (D.view door.new).failed (D.view door.old).reads (D.view door.new).reads) }
+    ensures turns { (D.view door.new).turns ≡ (D.view door.old).turns }
+    ensures writes { (D.view door.new).writes ≡ (D.view door.old).writes }
 {
     match next_body(buffer, door, shape.len()) {
         Ok(true) => Ok(Next::Whole(shape)),
@@ -171,20 +171,20 @@ fn finish<D: Door>(
     ensures held { (from : MomentFrom) (s : RequestShape) → HasHead from buffer.old shape
         → result ≡ Ok (Next.Whole s) → HoldsWhole from s buffer.new }
     ensures whole { D.tells → (from : MomentFrom) (s : RequestShape) → HasHead from buffer.old shape
-        → result ≡ Ok (Next.Whole s) → CameWhole from s buffer.old buffer.new (D.state door.old) (D.state door.new) }
+        → result ≡ Ok (Next.Whole s) → CameWhole from s buffer.old buffer.new (D.view door.old).state (D.view door.new).state }
     ensures unended { result ≢ Ok Next.Ended }
     ensures broken { D.tells → (from : MomentFrom) (fault : RequestFault) → HasHead from buffer.old shape
-        → result ≡ Ok (Next.Broken fault) → CameFault from fault buffer.old buffer.new (D.state door.old) (D.state door.new) }
+        → result ≡ Ok (Next.Broken fault) → CameFault from fault buffer.old buffer.new (D.view door.old).state (D.view door.new).state }
     ensures read { D.tells → (from : MomentFrom) → HasHead from buffer.old shape
-        → result ≡ Err DoorFault.Read → ReadFailed from buffer.old buffer.new (D.state door.old) (D.state door.new) }
+        → result ≡ Err DoorFault.Read → ReadFailed from buffer.old buffer.new (D.view door.old).state (D.view door.new).state }
     ensures write { D.tells → (from : MomentFrom) → HasHead from buffer.old shape
-        → result ≡ Err DoorFault.Write → LeaveFailed from buffer.old buffer.new (D.state door.old) (D.state door.new) }
+        → result ≡ Err DoorFault.Write → LeaveFailed from buffer.old buffer.new (D.view door.old).state (D.view door.new).state }
     ensures untouched { shape.head_len + shape.body_len ≤ length buffer.old → buffer.new ≡ buffer.old }
-    ensures reads { Counts (is_read_failed result) (D.reads door.old) (D.reads door.new) }
-    ensures writes { Counts (is_write_failed result) (D.writes door.old) (D.writes door.new) }
-    ensures read_stop { result ≡ Err DoorFault.Read → StopsAtFailure (D.failed door.new) (D.reads door.old) (D.reads door.new) }
-    ensures write_stop { result ≡ Err DoorFault.Write → StopsAtFailure (D.failed door.new) (D.writes door.old) (D.writes door.new) }
-    ensures turns { D.turns door.new ≡ D.turns door.old }
+    ensures reads { Counts (is_read_failed result) (D.view door.old).reads (D.view door.new).reads }
+    ensures writes { Counts (is_write_failed result) (D.view door.old).writes (D.view door.new).writes }
+    ensures read_stop { result ≡ Err DoorFault.Read → StopsAtFailure (D.view door.new).failed (D.view door.old).reads (D.view door.new).reads }
+    ensures write_stop { result ≡ Err DoorFault.Write → StopsAtFailure (D.view door.new).failed (D.view door.old).writes (D.view door.new).writes }
+    ensures turns { (D.view door.new).turns ≡ (D.view door.old).turns }
 {
     match say(door, leave_for(&shape)) {
         Ok(()) => take_body(buffer, door, shape),
@@ -204,24 +204,24 @@ pub fn next_request<D: Door>(
         → shape.head_len + shape.body_len ≤ length buffer.new }
     ensures held { (shape : RequestShape) → result ≡ Ok (Next.Whole shape) → HoldsWhole from shape buffer.new }
     ensures whole { D.tells → (shape : RequestShape) → result ≡ Ok (Next.Whole shape)
-        → CameWhole from shape buffer.old buffer.new (D.state door.old) (D.state door.new) }
+        → CameWhole from shape buffer.old buffer.new (D.view door.old).state (D.view door.new).state }
     ensures ended { D.tells → result ≡ Ok Next.Ended
-        → CameEnd buffer.old buffer.new (D.state door.old) (D.state door.new) }
+        → CameEnd buffer.old buffer.new (D.view door.old).state (D.view door.new).state }
     ensures broken { D.tells → (fault : RequestFault) → result ≡ Ok (Next.Broken fault)
-        → CameFault from fault buffer.old buffer.new (D.state door.old) (D.state door.new) }
+        → CameFault from fault buffer.old buffer.new (D.view door.old).state (D.view door.new).state }
     ensures read { D.tells → result ≡ Err DoorFault.Read
-        → ReadFailed from buffer.old buffer.new (D.state door.old) (D.state door.new) }
+        → ReadFailed from buffer.old buffer.new (D.view door.old).state (D.view door.new).state }
     ensures write { D.tells → result ≡ Err DoorFault.Write
-        → LeaveFailed from buffer.old buffer.new (D.state door.old) (D.state door.new) }
+        → LeaveFailed from buffer.old buffer.new (D.view door.old).state (D.view door.new).state }
 
     // Where a whole request is held, nothing is read.
     ensures untouched { (request : Request) (behind : List ℕ) → Begins from buffer.old request behind
         → buffer.new ≡ buffer.old }
-    ensures reads { Counts (is_read_failed result) (D.reads door.old) (D.reads door.new) }
-    ensures writes { Counts (is_write_failed result) (D.writes door.old) (D.writes door.new) }
-    ensures read_stop { result ≡ Err DoorFault.Read → StopsAtFailure (D.failed door.new) (D.reads door.old) (D.reads door.new) }
-    ensures write_stop { result ≡ Err DoorFault.Write → StopsAtFailure (D.failed door.new) (D.writes door.old) (D.writes door.new) }
-    ensures turns { D.turns door.new ≡ D.turns door.old }
+    ensures reads { Counts (is_read_failed result) (D.view door.old).reads (D.view door.new).reads }
+    ensures writes { Counts (is_write_failed result) (D.view door.old).writes (D.view door.new).writes }
+    ensures read_stop { result ≡ Err DoorFault.Read → StopsAtFailure (D.view door.new).failed (D.view door.old).reads (D.view door.new).reads }
+    ensures write_stop { result ≡ Err DoorFault.Write → StopsAtFailure (D.view door.new).failed (D.view door.old).writes (D.view door.new).writes }
+    ensures turns { (D.view door.new).turns ≡ (D.view door.old).turns }
 {
     match next_head(buffer, door, from) {
         Ok(HeadNext::Found(shape)) => finish(buffer, door, shape),

@@ -19,7 +19,7 @@ use httparse::spans::{EMPTY_HEADER_SPAN, HeaderSpan, RequestSpans, Span, parse_r
 use httparse::{Error, Status};
 
 /// The most octets that a head may have.
-pub const MOST_HEAD: usize = 8_192;
+const MOST_HEAD: usize = 8_192;
 
 /// The most fields that a head may have.
 const MOST_FIELDS: usize = 64;
@@ -172,7 +172,7 @@ fn step_of(octets: &[u8], fields: &[HeaderSpan], spans: RequestSpans, from: Mome
 }
 
 /// What stands at the front of the octets of a connection.
-pub fn look(octets: &[u8], from: MomentFrom) -> HeadStep
+pub(crate) fn look(octets: &[u8], from: MomentFrom) -> HeadStep
     ensures found { (shape : RequestShape) → result ≡ HeadStep.Found shape → HasHead from octets.now shape }
     ensures wait { result ≡ HeadStep.Wait → MayGetHead octets.now }
     ensures broken { (fault : RequestFault) → result ≡ HeadStep.Broken fault → EndsBroken from octets.now fault }

@@ -27,12 +27,12 @@ pub fn serve_connections<D: Door, S: Service>(
     ensures left { (s : S.State) → S.keeps service.old s → IsLeftBy S.may (S.keeps service.new) s }
     ensures served { D.tells → (s : S.State) → S.keeps service.old s
         → ServedInTurn S.may S.refusal from (S.keeps service.new) (is_err result) count s
-        (D.state door.old) (D.state door.new)
-        (D.reads door.old) (D.reads door.new) (D.writes door.old) (D.writes door.new) }
-    ensures turns { Counts (is_err result) (D.turns door.old) (D.turns door.new) }
-    ensures stop { OnErr result (StopsAtFailure (D.failed door.new) (D.turns door.old) (D.turns door.new)) }
-    ensures reads { D.reads door.old ≤ D.reads door.new }
-    ensures writes { D.writes door.old ≤ D.writes door.new }
+        (D.view door.old).state (D.view door.new).state
+        (D.view door.old).reads (D.view door.new).reads (D.view door.old).writes (D.view door.new).writes }
+    ensures turns { Counts (is_err result) (D.view door.old).turns (D.view door.new).turns }
+    ensures stop { OnErr result (StopsAtFailure (D.view door.new).failed (D.view door.old).turns (D.view door.new).turns) }
+    ensures reads { (D.view door.old).reads ≤ (D.view door.new).reads }
+    ensures writes { (D.view door.old).writes ≤ (D.view door.new).writes }
 {
     for i in 0..count {
         if !door.next()? {

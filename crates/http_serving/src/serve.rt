@@ -21,13 +21,13 @@ use mud_world::{Door, Failed, say};
 /// Writes the answer that the service holds, or a first part of it and then fails.
 fn say_answer<D: Door, S: Service>(door: &mut D, service: &S) -> Result<(), Failed>
     ensures ok { D.tells → OnOk result
-        (D.state door.new ≡ put_out (S.held service.now) (D.state door.old)) }
+        ((D.view door.new).state ≡ put_out (S.held service.now) (D.view door.old).state) }
     ensures part { D.tells → OnErr result
-        (WrotePart (S.held service.now) (D.state door.old) (D.state door.new)) }
-    ensures cause { Counts (is_err result) (D.writes door.old) (D.writes door.new) }
-    ensures stop { OnErr result (StopsAtFailure (D.failed door.new) (D.writes door.old) (D.writes door.new)) }
-    ensures turns { D.turns door.new ≡ D.turns door.old }
-    ensures reads { D.reads door.new ≡ D.reads door.old }
+        (WrotePart (S.held service.now) (D.view door.old).state (D.view door.new).state) }
+    ensures cause { Counts (is_err result) (D.view door.old).writes (D.view door.new).writes }
+    ensures stop { OnErr result (StopsAtFailure (D.view door.new).failed (D.view door.old).writes (D.view door.new).writes) }
+    ensures turns { (D.view door.new).turns ≡ (D.view door.old).turns }
+    ensures reads { (D.view door.new).reads ≡ (D.view door.old).reads }
 {
     let (head, body) = service.answer();
     say(door, head)?;
@@ -65,19 +65,19 @@ fn answer_first<D: Door, S: Service>(
         → (s : S.State) → S.keeps service.old s
         → CarriedOut S.may (S.keeps service.new) s (asked from more request) (S.held service.new) }
     ensures ok { D.tells → OnOk result
-        (D.state door.new ≡ put_out (S.held service.new) (D.state door.old)) }
+        ((D.view door.new).state ≡ put_out (S.held service.new) (D.view door.old).state) }
     ensures part { D.tells → OnErr result
-        (WrotePart (S.held service.new) (D.state door.old) (D.state door.new)) }
+        (WrotePart (S.held service.new) (D.view door.old).state (D.view door.new).state) }
     ensures goes_on { result ≡ Ok None → (request : Request)
         → shape.now.closes ≡ closes request.head → stop_after more request ≡ None }
     ensures closed { result ≡ Ok (Some Stop.Closed) → (request : Request)
         → shape.now.closes ≡ closes request.head → stop_after more request ≡ Some closed }
     ensures spent { result ≡ Ok (Some Stop.Spent) → (request : Request)
         → shape.now.closes ≡ closes request.head → stop_after more request ≡ Some spent }
-    ensures cause { Counts (is_err result) (D.writes door.old) (D.writes door.new) }
-    ensures stop { OnErr result (StopsAtFailure (D.failed door.new) (D.writes door.old) (D.writes door.new)) }
-    ensures turns { D.turns door.new ≡ D.turns door.old }
-    ensures reads { D.reads door.new ≡ D.reads door.old }
+    ensures cause { Counts (is_err result) (D.view door.old).writes (D.view door.new).writes }
+    ensures stop { OnErr result (StopsAtFailure (D.view door.new).failed (D.view door.old).writes (D.view door.new).writes) }
+    ensures turns { (D.view door.new).turns ≡ (D.view door.old).turns }
+    ensures reads { (D.view door.new).reads ≡ (D.view door.old).reads }
 {
     let stop = stop_of(more, shape.closes);
     carry_out_first(service, buffer.octets(), shape, stop.is_some());
@@ -95,13 +95,13 @@ fn answer_fault<D: Door, S: Service>(
     ensures ready { S.ready service.new }
     ensures state { (s : S.State) → S.keeps service.old s → S.keeps service.new s }
     ensures ok { D.tells → OnOk result
-        (D.state door.new ≡ put_out (S.refusal fault) (D.state door.old)) }
+        ((D.view door.new).state ≡ put_out (S.refusal fault) (D.view door.old).state) }
     ensures part { D.tells → OnErr result
-        (WrotePart (S.refusal fault) (D.state door.old) (D.state door.new)) }
-    ensures cause { Counts (is_err result) (D.writes door.old) (D.writes door.new) }
-    ensures stop { OnErr result (StopsAtFailure (D.failed door.new) (D.writes door.old) (D.writes door.new)) }
-    ensures turns { D.turns door.new ≡ D.turns door.old }
-    ensures reads { D.reads door.new ≡ D.reads door.old }
+        (WrotePart (S.refusal fault) (D.view door.old).state (D.view door.new).state) }
+    ensures cause { Counts (is_err result) (D.view door.old).writes (D.view door.new).writes }
+    ensures stop { OnErr result (StopsAtFailure (D.view door.new).failed (D.view door.old).writes (D.view door.new).writes) }
+    ensures turns { (D.view door.new).turns ≡ (D.view door.old).turns }
+    ensures reads { (D.view door.new).reads ≡ (D.view door.old).reads }
 {
     service.refuse(fault);
     say_answer(door, service)
@@ -124,14 +124,14 @@ pub fn serve_connection<D: Door, S: Service>(
     ensures left { (s : S.State) → S.keeps service.old s → IsLeftBy S.may (S.keeps service.new) s }
     ensures served { D.tells → (s : S.State) → S.keeps service.old s
         → IsServed S.may S.refusal from (S.keeps service.new) result s
-        (D.state door.old) (D.state door.new) }
-    ensures reads { Counts (is_read_failed result) (D.reads door.old) (D.reads door.new) }
-    ensures writes { Counts (is_write_failed result) (D.writes door.old) (D.writes door.new) }
+        (D.view door.old).state (D.view door.new).state }
+    ensures reads { Counts (is_read_failed result) (D.view door.old).reads (D.view door.new).reads }
+    ensures writes { Counts (is_write_failed result) (D.view door.old).writes (D.view door.new).writes }
 
     // A read or a write that failed was the last call of the door.
-    ensures read_stop { IsTrue (is_read_failed result) → StopsAtFailure (D.failed door.new) (D.reads door.old) (D.reads door.new) }
-    ensures write_stop { IsTrue (is_write_failed result) → StopsAtFailure (D.failed door.new) (D.writes door.old) (D.writes door.new) }
-    ensures turns { D.turns door.new ≡ D.turns door.old }
+    ensures read_stop { IsTrue (is_read_failed result) → StopsAtFailure (D.view door.new).failed (D.view door.old).reads (D.view door.new).reads }
+    ensures write_stop { IsTrue (is_write_failed result) → StopsAtFailure (D.view door.new).failed (D.view door.old).writes (D.view door.new).writes }
+    ensures turns { (D.view door.new).turns ≡ (D.view door.old).turns }
 {
     buffer.clear();
     let mut more = MOST_REQUESTS;

@@ -1,17 +1,18 @@
 -- Laws of imports: of no name, of one, and of names one after the other.
-use Rattle.std.proofs.Common.{◌≡◌, ◌≢◌, ℕ, ◌+◌, ◌<◌, ◌≤◌, ◌⊎◌, max, ◌==◌, Bool, true, false, IsTrue, if◌then◌else◌, List, [], ◌∷◌, ◌++◌, length, take, drop, get_or, Option, Some, refl, sym, subst, ap, ap₂, ◌∙◌, inl, inr, arith, append_assoc, append-nil}
+use Rattle.std.proofs.Common.{◌≡◌, ◌≢◌, ℕ, ◌+◌, ◌<◌, ◌≤◌, ◌⊎◌, max, ◌==◌, Bool, true, false, IsTrue, List, [], ◌∷◌, ◌++◌, length, take, drop, get_or, Option, Some, refl, sym, subst, ap, ap₂, ◌∙◌, inl, inr, arith, append_assoc, append-nil}
 use Rattle.std.proofs.lemmas.Bool.Decides.{Decides-eqb}
-use Rattle.std.proofs.lemmas.List.{map-append, take_more, take-append-drop}
-use Rattle.mud_world.specs.Causes.{Counts, RoseBy}
+use Rattle.std.proofs.lemmas.List.{map-append, take-append-drop}
+use Rattle.mud_world.specs.Causes.{Counts}
 use Rattle.mud_world.specs.Clock.{later_moments}
 use Rattle.mud_world.specs.Door.{put_out}
-use Rattle.mud_world.proofs.Doors.{put_out_twice, put_out_none}
+use Rattle.mud_world.proofs.Doors.{put_out_twice, put_out_none, rose_by_one}
 use Rattle.desk_model.specs.declared.reply.Reply.{Reply}
 use Rattle.desk_model.specs.declared.reply.Reply.TheVariants.{Done, Refused, Keeper, Memory}
 use Rattle.command_runs.specs.Due.{WroteFirst}
 use Rattle.import_runs.specs.Entries.{Entry, is_of_memory, name_of, names_of_entries, line_with, lines_of, status_with, status_of, has_keeper_failed, keeper_count}
 use Rattle.import_runs.specs.Imports.{Standing, MayLead, Imports}
 use Rattle.import_runs.specs.Runs.{Scene, ImportsAll, ImportsPart}
+use Rattle.mud_tables.proofs.RowSets.{take_one}
 
 abbrev pub Files : Type 0
 Files = List (List ℕ × List ℕ)
@@ -57,10 +58,6 @@ part_of_none files names before after session clock door faults = record {
 
 -- ---- One name
 
-paid_one : (failed : Bool) (a b : ℕ) → Counts failed a b → RoseBy ((if failed then 1 else 0) + 0) a b
-paid_one true a b counts = counts.rose refl
-paid_one false a b counts = omega (arith, counts.steady refl)
-
 module _ (files : Files) (name : List ℕ) (reply : Option Reply) (before after : Scene) (leads : MayLead files before.standing name reply after.standing) (counts : Counts (has_keeper_failed reply) before.faults after.faults) where
   -- its line was written
   pub all_of_one : (status : ℕ) → status ≡ status_with reply → after.door ≡ put_out (line_with name reply) before.door → ImportsAll files (name ∷ []) before after status
@@ -70,7 +67,7 @@ module _ (files : Files) (name : List ℕ) (reply : Option Reply) (before after 
     run = (after.standing, leads, refl);
     wrote = wrote ∙ ap (λ (line : List ℕ). put_out line before.door) (sym (append-nil (line_with name reply)));
     status_is = is ∙ max_none (status_with reply);
-    paid = paid_one (has_keeper_failed reply) before.faults after.faults counts;
+    paid = rose_by_one (has_keeper_failed reply) before.faults after.faults counts;
   }
     where
       max_none : (m : ℕ) → m ≡ max m 0
@@ -90,7 +87,7 @@ module _ (files : Files) (name : List ℕ) (reply : Option Reply) (before after 
     clock = inl refl;
     count = part.count;
     wrote = part.wrote ∙ ap (λ (line : List ℕ). put_out (take part.count line) before.door) (sym (append-nil (line_with name reply)));
-    paid = paid_one (has_keeper_failed reply) before.faults after.faults counts;
+    paid = rose_by_one (has_keeper_failed reply) before.faults after.faults counts;
   }
 
 -- ---- Names one after the other
@@ -140,9 +137,6 @@ module _ (files : Files) (xs : List (List ℕ)) (a b c : Scene) (m : ℕ) (first
           ∙ ap₂ (λ (p q : List (List ℕ)). p ++ (q ++ more)) e f ∙ sym (append_assoc xs ys more)
 
 -- ---- A step of a loop over the names
-
-take_one : {A : Type 0} (xs : List A) (i : ℕ) (x : A) → i < length xs → x ≡ get_or xs i x → take (i + 1) xs ≡ take i xs ++ x ∷ []
-take_one xs i x within is = take_more xs i x within ∙ ap (λ y. take i xs ++ y ∷ []) (sym is)
 
 module _ (files now : Files) (names : List (List ℕ)) (i : ℕ) (x y : List ℕ) (same : now ≡ files) (within : i < length names) (is : x ≡ get_or names i x) (octets : y ≡ x) where
   pub all_at : (a b c : Scene) (m n status : ℕ) → ImportsAll files (take i names) a b m → ImportsAll now (y ∷ []) b c n → status ≡ max m n → ImportsAll files (take (i + 1) names) a c status

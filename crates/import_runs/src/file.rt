@@ -2,7 +2,7 @@
 ghost use Rattle.std.specs.Prelude.{◌≡◌, ◌==◌, ◌⊎◌, ℕ, false, List, [], ◌∷◌, Err, IfOk, OnOk, OnErr, IsTrue};
 ghost use Rattle.mud_tables.specs.declared.segment.Segment.{Segment as SegmentValue};
 ghost use Rattle.mud_world.specs.Boxed.{faults_of};
-ghost use Rattle.mud_world.specs.Causes.{Counts, Rose, StopsAtFailure};
+ghost use Rattle.mud_world.specs.Causes.{Counts, StopsAtFailure};
 ghost use Rattle.mud_world.specs.Clock.{later_moments};
 ghost use Rattle.mud_world.specs.Door.{put_out};
 ghost use Rattle.mud_desk.specs.Boxed.{IsKept};
@@ -12,7 +12,7 @@ ghost use Rattle.command_runs.specs.Status.{status_number};
 ghost use Rattle.import_runs.specs.Entries.{has_keeper_failed, is_of_memory};
 ghost use Rattle.import_runs.specs.Entries as entries;
 ghost use Rattle.import_runs.specs.Imports.{MayLead, standing};
-ghost use Rattle.import_runs.specs.Runs.{ImportsPart, ImportsAll, StaysKept, scene};
+ghost use Rattle.import_runs.specs.Runs.{EndsAtDoorOrSpool, ImportsPart, ImportsAll, StaysKept, scene};
 ghost use Rattle.command_runs.specs.Stops.{has_failed};
 
 use crate::{append_reply, append_skipped, fetched_in};
@@ -49,15 +49,16 @@ fn reply_to<L: Ledger, P: Spool, C: Clock>(
 ) -> Result<Option<Reply>, Stop>
     requires kept { IsKept Keeper-dyn desk.old.keeper (tables_of desk.old.state) }
     ensures stays { StaysKept Keeper-dyn desk.old.keeper desk.old.state desk.new.keeper desk.new.state }
-    ensures leads { P.tells → C.tells → IfOk result (λ reply. (h : List SegmentValue) → MayLead (P.files spool.old)
+    ensures leads { P.tells → C.tells → IfOk result (λ reply. (h : List SegmentValue) → MayLead (P.view spool.old).files
         (standing h desk.old.state (C.moments clock.old)) name.now reply (standing h desk.new.state (C.moments clock.new))) }
     ensures keeper { IfOk result (λ reply. Counts (has_keeper_failed reply) (faults_of Keeper-dyn desk.old.keeper) (faults_of Keeper-dyn desk.new.keeper)) }
     ensures statuses { IfOk result (λ reply. (entries.status_with reply ≡ 0) ⊎ ((entries.status_with reply ≡ 3) ⊎ (entries.status_with reply ≡ 7))) }
     ensures still { OnErr result ((h : List SegmentValue) → session_of h desk.new.state ≡ session_of h desk.old.state) }
     ensures steady { OnErr result (faults_of Keeper-dyn desk.new.keeper ≡ faults_of Keeper-dyn desk.old.keeper) }
     ensures clock { C.tells → OnErr result ((C.moments clock.new ≡ C.moments clock.old) ⊎ (C.moments clock.new ≡ later_moments (C.moments clock.old))) }
-    ensures same { P.tells → P.files spool.new ≡ P.files spool.old }
-    ensures cause { Counts (has_failed result) (P.faults spool.old) (P.faults spool.new) }
+    ensures same { P.tells → (P.view spool.new).files ≡ (P.view spool.old).files }
+    ensures cause { Counts (has_failed result) (P.view spool.old).faults (P.view spool.new).faults }
+    ensures stop { IsTrue (has_failed result) → StopsAtFailure (P.view spool.new).failed (P.view spool.old).faults (P.view spool.new).faults }
 {
     let Some(fetched) = fetched_in(name) else {
         return Ok(None);
@@ -88,12 +89,12 @@ fn say_line<D: Door>(
     name: &[u8],
     reply: &Option<Reply>,
 ) -> Result<(), Stop>
-    ensures ok { D.tells → OnOk result (D.state door.new ≡ put_out (entries.line_with name.now reply.now) (D.state door.old)) }
-    ensures part { D.tells → OnErr result (WroteFirst (entries.line_with name.now reply.now) (D.state door.old) (D.state door.new)) }
-    ensures cause { Counts (has_failed result) (D.writes door.old) (D.writes door.new) }
-    ensures stop { IsTrue (has_failed result) → StopsAtFailure (D.failed door.new) (D.writes door.old) (D.writes door.new) }
-    ensures turns { D.turns door.new ≡ D.turns door.old }
-    ensures reads { D.reads door.new ≡ D.reads door.old }
+    ensures ok { D.tells → OnOk result ((D.view door.new).state ≡ put_out (entries.line_with name.now reply.now) (D.view door.old).state) }
+    ensures part { D.tells → OnErr result (WroteFirst (entries.line_with name.now reply.now) (D.view door.old).state (D.view door.new).state) }
+    ensures cause { Counts (has_failed result) (D.view door.old).writes (D.view door.new).writes }
+    ensures stop { IsTrue (has_failed result) → StopsAtFailure (D.view door.new).failed (D.view door.old).writes (D.view door.new).writes }
+    ensures turns { (D.view door.new).turns ≡ (D.view door.old).turns }
+    ensures reads { (D.view door.new).reads ≡ (D.view door.old).reads }
 {
     let line = line_with(alloc, name, reply)?;
     say(door, line.octets())?;
@@ -125,19 +126,20 @@ pub(crate) fn import_file<L: Ledger, D: Door, P: Spool, C: Clock>(
 ) -> Result<Status, Stop>
     requires kept { IsKept Keeper-dyn desk.old.keeper (tables_of desk.old.state) }
     ensures stays { StaysKept Keeper-dyn desk.old.keeper desk.old.state desk.new.keeper desk.new.state }
-    ensures all { D.tells → P.tells → C.tells → IfOk result (λ status. (h : List SegmentValue) → ImportsAll (P.files spool.old) (name.now ∷ [])
-        (scene h desk.old.state (C.moments clock.old) (D.state door.old) (faults_of Keeper-dyn desk.old.keeper))
-        (scene h desk.new.state (C.moments clock.new) (D.state door.new) (faults_of Keeper-dyn desk.new.keeper)) (status_number status)) }
-    ensures part { D.tells → P.tells → C.tells → OnErr result ((h : List SegmentValue) → ImportsPart (P.files spool.old) (name.now ∷ [])
-        (scene h desk.old.state (C.moments clock.old) (D.state door.old) (faults_of Keeper-dyn desk.old.keeper))
-        (scene h desk.new.state (C.moments clock.new) (D.state door.new) (faults_of Keeper-dyn desk.new.keeper))) }
+    ensures all { D.tells → P.tells → C.tells → IfOk result (λ status. (h : List SegmentValue) → ImportsAll (P.view spool.old).files (name.now ∷ [])
+        (scene h desk.old.state (C.moments clock.old) (D.view door.old).state (faults_of Keeper-dyn desk.old.keeper))
+        (scene h desk.new.state (C.moments clock.new) (D.view door.new).state (faults_of Keeper-dyn desk.new.keeper)) (status_number status)) }
+    ensures part { D.tells → P.tells → C.tells → OnErr result ((h : List SegmentValue) → ImportsPart (P.view spool.old).files (name.now ∷ [])
+        (scene h desk.old.state (C.moments clock.old) (D.view door.old).state (faults_of Keeper-dyn desk.old.keeper))
+        (scene h desk.new.state (C.moments clock.new) (D.view door.new).state (faults_of Keeper-dyn desk.new.keeper))) }
     ensures statuses { IfOk result (λ status. (status_number status ≡ 0) ⊎ ((status_number status ≡ 3) ⊎ (status_number status ≡ 7))) }
     ensures keeper { IfOk result (λ status. Counts (status_number status == 7) (faults_of Keeper-dyn desk.old.keeper) (faults_of Keeper-dyn desk.new.keeper)) }
-    ensures failed { result ≡ Err Stop.Failed → StopsAtFailure (D.failed door.new) (D.writes door.old) (D.writes door.new) ⊎ Rose (P.faults spool.old) (P.faults spool.new) }
-    ensures steady { has_failed result ≡ false → (D.writes door.new ≡ D.writes door.old) × (P.faults spool.new ≡ P.faults spool.old) }
-    ensures same { P.tells → P.files spool.new ≡ P.files spool.old }
-    ensures turns { D.turns door.new ≡ D.turns door.old }
-    ensures reads { D.reads door.new ≡ D.reads door.old }
+    ensures failed { result ≡ Err Stop.Failed → EndsAtDoorOrSpool
+        (D.view door.new).failed (D.view door.old).writes (D.view door.new).writes (P.view spool.new).failed (P.view spool.old).faults (P.view spool.new).faults }
+    ensures steady { has_failed result ≡ false → ((D.view door.new).writes ≡ (D.view door.old).writes) × ((P.view spool.new).faults ≡ (P.view spool.old).faults) }
+    ensures same { P.tells → (P.view spool.new).files ≡ (P.view spool.old).files }
+    ensures turns { (D.view door.new).turns ≡ (D.view door.old).turns }
+    ensures reads { (D.view door.new).reads ≡ (D.view door.old).reads }
 {
     let reply = reply_to(alloc, desk, spool, clock, name, steps)?;
     say_line(alloc, door, name, &reply)?;

@@ -1,14 +1,15 @@
 //! All names of a folder.
 ghost use Rattle.std.specs.Prelude.{◌≡◌, ◌≢◌, ◌==◌, ◌⊎◌, ℕ, ◌<◌, max, false, List, [], ◌∷◌, Err, IfOk, OnErr};
+ghost use Rattle.sorted_rows.specs.Ledgers.{IsBlankOf};
 ghost use Rattle.mud_tables.specs.declared.segment.Segment.{Segment as SegmentValue};
 ghost use Rattle.mud_world.specs.Boxed.{faults_of};
-ghost use Rattle.mud_world.specs.Causes.{Counts, Rose, StopsAtFailure};
+ghost use Rattle.mud_world.specs.Causes.{Counts, Rose};
 ghost use Rattle.mud_world.specs.Files.{names_of};
 ghost use Rattle.mud_desk.specs.Boxed.{IsKept};
 ghost use Rattle.mud_desk.specs.DeskState.{tables_of};
 ghost use Rattle.command_runs.specs.Status.{status_number};
 ghost use Rattle.import_runs.specs.Order.{in_order};
-ghost use Rattle.import_runs.specs.Runs.{ImportsPart, ImportsAll, StaysKept, scene};
+ghost use Rattle.import_runs.specs.Runs.{EndsAtDoorOrSpool, ImportsPart, ImportsAll, StaysKept, scene};
 ghost use Rattle.command_runs.specs.Stops.{has_failed};
 
 use crate::file::import_file;
@@ -42,19 +43,20 @@ fn import_names<L: Ledger, D: Door, P: Spool, C: Clock>(
 ) -> Result<Status, Stop>
     requires kept { IsKept Keeper-dyn desk.old.keeper (tables_of desk.old.state) }
     ensures stays { StaysKept Keeper-dyn desk.old.keeper desk.old.state desk.new.keeper desk.new.state }
-    ensures all { D.tells → P.tells → C.tells → IfOk result (λ status. (h : List SegmentValue) → ImportsAll (P.files spool.old) names.now
-        (scene h desk.old.state (C.moments clock.old) (D.state door.old) (faults_of Keeper-dyn desk.old.keeper))
-        (scene h desk.new.state (C.moments clock.new) (D.state door.new) (faults_of Keeper-dyn desk.new.keeper)) (status_number status)) }
-    ensures part { D.tells → P.tells → C.tells → OnErr result ((h : List SegmentValue) → ImportsPart (P.files spool.old) names.now
-        (scene h desk.old.state (C.moments clock.old) (D.state door.old) (faults_of Keeper-dyn desk.old.keeper))
-        (scene h desk.new.state (C.moments clock.new) (D.state door.new) (faults_of Keeper-dyn desk.new.keeper))) }
+    ensures all { D.tells → P.tells → C.tells → IfOk result (λ status. (h : List SegmentValue) → ImportsAll (P.view spool.old).files names.now
+        (scene h desk.old.state (C.moments clock.old) (D.view door.old).state (faults_of Keeper-dyn desk.old.keeper))
+        (scene h desk.new.state (C.moments clock.new) (D.view door.new).state (faults_of Keeper-dyn desk.new.keeper)) (status_number status)) }
+    ensures part { D.tells → P.tells → C.tells → OnErr result ((h : List SegmentValue) → ImportsPart (P.view spool.old).files names.now
+        (scene h desk.old.state (C.moments clock.old) (D.view door.old).state (faults_of Keeper-dyn desk.old.keeper))
+        (scene h desk.new.state (C.moments clock.new) (D.view door.new).state (faults_of Keeper-dyn desk.new.keeper))) }
     ensures statuses { IfOk result (λ status. (status_number status ≡ 0) ⊎ ((status_number status ≡ 3) ⊎ (status_number status ≡ 7))) }
     ensures keeper { IfOk result (λ status. Counts (status_number status == 7) (faults_of Keeper-dyn desk.old.keeper) (faults_of Keeper-dyn desk.new.keeper)) }
-    ensures failed { result ≡ Err Stop.Failed → StopsAtFailure (D.failed door.new) (D.writes door.old) (D.writes door.new) ⊎ Rose (P.faults spool.old) (P.faults spool.new) }
-    ensures steady { has_failed result ≡ false → (D.writes door.new ≡ D.writes door.old) × (P.faults spool.new ≡ P.faults spool.old) }
-    ensures same { P.tells → P.files spool.new ≡ P.files spool.old }
-    ensures turns { D.turns door.new ≡ D.turns door.old }
-    ensures reads { D.reads door.new ≡ D.reads door.old }
+    ensures failed { result ≡ Err Stop.Failed → EndsAtDoorOrSpool
+        (D.view door.new).failed (D.view door.old).writes (D.view door.new).writes (P.view spool.new).failed (P.view spool.old).faults (P.view spool.new).faults }
+    ensures steady { has_failed result ≡ false → ((D.view door.new).writes ≡ (D.view door.old).writes) × ((P.view spool.new).faults ≡ (P.view spool.old).faults) }
+    ensures same { P.tells → (P.view spool.new).files ≡ (P.view spool.old).files }
+    ensures turns { (D.view door.new).turns ≡ (D.view door.old).turns }
+    ensures reads { (D.view door.new).reads ≡ (D.view door.old).reads }
 {
     let mut status = Status::Done;
     for name in names {
@@ -74,23 +76,22 @@ fn import_listed<L: Ledger, D: Door, P: Spool, C: Clock>(
     blank: Blank,
 ) -> Result<Status, Stop>
     requires kept { IsKept Keeper-dyn desk.old.keeper (tables_of desk.old.state) }
-    requires name { blank.name ≡ L.name }
-    requires parts { blank.parts ≡ L.parts }
-    requires some { 0 < L.parts }
+    requires blank { IsBlankOf L.name L.parts blank }
     ensures stays { StaysKept Keeper-dyn desk.old.keeper desk.old.state desk.new.keeper desk.new.state }
-    ensures all { D.tells → P.tells → C.tells → IfOk result (λ status. (h : List SegmentValue) → ImportsAll (P.files spool.old) (in_order (names_of (P.files spool.old)))
-        (scene h desk.old.state (C.moments clock.old) (D.state door.old) (faults_of Keeper-dyn desk.old.keeper))
-        (scene h desk.new.state (C.moments clock.new) (D.state door.new) (faults_of Keeper-dyn desk.new.keeper)) (status_number status)) }
-    ensures part { D.tells → P.tells → C.tells → OnErr result ((h : List SegmentValue) → ImportsPart (P.files spool.old) (in_order (names_of (P.files spool.old)))
-        (scene h desk.old.state (C.moments clock.old) (D.state door.old) (faults_of Keeper-dyn desk.old.keeper))
-        (scene h desk.new.state (C.moments clock.new) (D.state door.new) (faults_of Keeper-dyn desk.new.keeper))) }
+    ensures all { D.tells → P.tells → C.tells → IfOk result (λ status. (h : List SegmentValue) → ImportsAll (P.view spool.old).files (in_order (names_of (P.view spool.old).files))
+        (scene h desk.old.state (C.moments clock.old) (D.view door.old).state (faults_of Keeper-dyn desk.old.keeper))
+        (scene h desk.new.state (C.moments clock.new) (D.view door.new).state (faults_of Keeper-dyn desk.new.keeper)) (status_number status)) }
+    ensures part { D.tells → P.tells → C.tells → OnErr result ((h : List SegmentValue) → ImportsPart (P.view spool.old).files (in_order (names_of (P.view spool.old).files))
+        (scene h desk.old.state (C.moments clock.old) (D.view door.old).state (faults_of Keeper-dyn desk.old.keeper))
+        (scene h desk.new.state (C.moments clock.new) (D.view door.new).state (faults_of Keeper-dyn desk.new.keeper))) }
     ensures statuses { IfOk result (λ status. (status_number status ≡ 0) ⊎ ((status_number status ≡ 3) ⊎ (status_number status ≡ 7))) }
     ensures keeper { IfOk result (λ status. Counts (status_number status == 7) (faults_of Keeper-dyn desk.old.keeper) (faults_of Keeper-dyn desk.new.keeper)) }
-    ensures failed { result ≡ Err Stop.Failed → StopsAtFailure (D.failed door.new) (D.writes door.old) (D.writes door.new) ⊎ Rose (P.faults spool.old) (P.faults spool.new) }
-    ensures steady { has_failed result ≡ false → (D.writes door.new ≡ D.writes door.old) × (P.faults spool.new ≡ P.faults spool.old) }
-    ensures same { P.tells → P.files spool.new ≡ P.files spool.old }
-    ensures turns { D.turns door.new ≡ D.turns door.old }
-    ensures reads { D.reads door.new ≡ D.reads door.old }
+    ensures failed { result ≡ Err Stop.Failed → EndsAtDoorOrSpool
+        (D.view door.new).failed (D.view door.old).writes (D.view door.new).writes (P.view spool.new).failed (P.view spool.old).faults (P.view spool.new).faults }
+    ensures steady { has_failed result ≡ false → ((D.view door.new).writes ≡ (D.view door.old).writes) × ((P.view spool.new).faults ≡ (P.view spool.old).faults) }
+    ensures same { P.tells → (P.view spool.new).files ≡ (P.view spool.old).files }
+    ensures turns { (D.view door.new).turns ≡ (D.view door.old).turns }
+    ensures reads { (D.view door.new).reads ≡ (D.view door.old).reads }
 {
     let names = names_in_order(alloc, spool)?;
     let mut steps = Steps::<L>::new(blank);
@@ -120,24 +121,25 @@ pub fn import_files<D: Door, P: Spool, C: Clock>(
     ensures statuses { (status_number result ≡ 0) ⊎ ((status_number result ≡ 3) ⊎ ((status_number result ≡ 4) ⊎ ((status_number result ≡ 5) ⊎ (status_number result ≡ 7)))) }
     // With 0, 3 and 7 every name has its line, and the desk's lists are those after all commands.
     ensures done { D.tells → P.tells → C.tells → (status_number result ≡ 0) ⊎ ((status_number result ≡ 3) ⊎ (status_number result ≡ 7)) →
-        (h : List SegmentValue) → ImportsAll (P.files spool.old) (in_order (names_of (P.files spool.old)))
-        (scene h desk.old.state (C.moments clock.old) (D.state door.old) (faults_of Keeper-dyn desk.old.keeper))
-        (scene h desk.new.state (C.moments clock.new) (D.state door.new) (faults_of Keeper-dyn desk.new.keeper)) (status_number result) }
+        (h : List SegmentValue) → ImportsAll (P.view spool.old).files (in_order (names_of (P.view spool.old).files))
+        (scene h desk.old.state (C.moments clock.old) (D.view door.old).state (faults_of Keeper-dyn desk.old.keeper))
+        (scene h desk.new.state (C.moments clock.new) (D.view door.new).state (faults_of Keeper-dyn desk.new.keeper)) (status_number result) }
     // With 4 and 5 a first part of that was done.
     ensures part { D.tells → P.tells → C.tells → (status_number result ≡ 4) ⊎ (status_number result ≡ 5) →
-        (h : List SegmentValue) → ImportsPart (P.files spool.old) (in_order (names_of (P.files spool.old)))
-        (scene h desk.old.state (C.moments clock.old) (D.state door.old) (faults_of Keeper-dyn desk.old.keeper))
-        (scene h desk.new.state (C.moments clock.new) (D.state door.new) (faults_of Keeper-dyn desk.new.keeper)) }
-    // 4 comes exactly where a write of the door, or a call of the spool, failed in this call,
-    ensures fault { status_number result ≡ 4 → StopsAtFailure (D.failed door.new) (D.writes door.old) (D.writes door.new) ⊎ Rose (P.faults spool.old) (P.faults spool.new) }
-    ensures steady { status_number result ≢ 4 → (D.writes door.new ≡ D.writes door.old) × (P.faults spool.new ≡ P.faults spool.old) }
+        (h : List SegmentValue) → ImportsPart (P.view spool.old).files (in_order (names_of (P.view spool.old).files))
+        (scene h desk.old.state (C.moments clock.old) (D.view door.old).state (faults_of Keeper-dyn desk.old.keeper))
+        (scene h desk.new.state (C.moments clock.new) (D.view door.new).state (faults_of Keeper-dyn desk.new.keeper)) }
+    // 4 comes exactly where a write of the door, or a call of the spool, failed in this call: one failed, and it isn't called again,
+    ensures fault { status_number result ≡ 4 → EndsAtDoorOrSpool
+        (D.view door.new).failed (D.view door.old).writes (D.view door.new).writes (P.view spool.new).failed (P.view spool.old).faults (P.view spool.new).faults }
+    ensures steady { status_number result ≢ 4 → ((D.view door.new).writes ≡ (D.view door.old).writes) × ((P.view spool.new).faults ≡ (P.view spool.old).faults) }
     // and 7 only where the keeper did.
     ensures keeper { status_number result ≡ 7 → Rose (faults_of Keeper-dyn desk.old.keeper) (faults_of Keeper-dyn desk.new.keeper) }
     ensures keeper_steady { (status_number result ≡ 0) ⊎ (status_number result ≡ 3) → faults_of Keeper-dyn desk.new.keeper ≡ faults_of Keeper-dyn desk.old.keeper }
     ensures stays { StaysKept Keeper-dyn desk.old.keeper desk.old.state desk.new.keeper desk.new.state }
-    ensures same { P.tells → P.files spool.new ≡ P.files spool.old }
-    ensures turns { D.turns door.new ≡ D.turns door.old }
-    ensures reads { D.reads door.new ≡ D.reads door.old }
+    ensures same { P.tells → (P.view spool.new).files ≡ (P.view spool.old).files }
+    ensures turns { (D.view door.new).turns ≡ (D.view door.old).turns }
+    ensures reads { (D.view door.new).reads ≡ (D.view door.old).reads }
 {
     match import_listed::<Brand, D, P, C>(alloc, desk, door, spool, clock, Blank::new(1)) {
         Ok(status) => status,

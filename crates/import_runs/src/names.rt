@@ -1,6 +1,6 @@
 //! The names of a folder, in order.
-ghost use Rattle.std.specs.Prelude.{◌≡◌, IfOk};
-ghost use Rattle.mud_world.specs.Causes.{Counts};
+ghost use Rattle.std.specs.Prelude.{◌≡◌, IfOk, IsTrue};
+ghost use Rattle.mud_world.specs.Causes.{Counts, StopsAtFailure};
 ghost use Rattle.mud_world.specs.Files.{has_failed, names_of};
 ghost use Rattle.import_runs.specs.Order.{in_order};
 
@@ -20,9 +20,10 @@ pub(crate) fn names_in_order<P: Spool>(
     alloc: Global,
     spool: &mut P,
 ) -> Result<Vec<Bytes>, SpoolFault>
-    ensures names { P.tells → IfOk result (λ names. names.items ≡ in_order (names_of (P.files spool.old))) }
-    ensures same { P.tells → P.files spool.new ≡ P.files spool.old }
-    ensures cause { Counts (has_failed result) (P.faults spool.old) (P.faults spool.new) }
+    ensures names { P.tells → IfOk result (λ names. names.items ≡ in_order (names_of (P.view spool.old).files)) }
+    ensures same { P.tells → (P.view spool.new).files ≡ (P.view spool.old).files }
+    ensures cause { Counts (has_failed result) (P.view spool.old).faults (P.view spool.new).faults }
+    ensures stop { IsTrue (has_failed result) → StopsAtFailure (P.view spool.new).failed (P.view spool.old).faults (P.view spool.new).faults }
 {
     let mut names = spool.list(alloc)?.into_vec();
     put_in_order(&mut names);

@@ -1,7 +1,7 @@
 -- A field that was written is read back, and nothing else reads.
 use Rattle.std.proofs.Common.{◌≡◌, ℕ, zero, suc, [], ◌+◌, ◌^◌, ◌<◌, ◌≤◌, Bool, true, false, ◌||◌, cond, ltb, eqb, List, ◌++◌, length, take, drop, Result, Ok, Err, refl, sym, ap, subst, ◌∙◌, append_assoc, arith, inl, inr, lit<, lit≤}
 use Rattle.std.proofs.Math.Dec.{eqb-suc-zero}
-use Rattle.std.proofs.lemmas.Bool.{cases_lt, ltb-false, le-ltb, eqb-false}
+use Rattle.std.proofs.lemmas.Bool.{cases_lt, ltb-false, le-ltb, eqb-false, or_parts}
 use Rattle.std.proofs.lemmas.List.{take_at, drop_at, take-append-drop, append-nil, length-append, length-take, get_or-drop, get_or-take, get_or_past}
 use Rattle.item_codec.specs.declared.fault.CodecFault.{CodecFault}
 use Rattle.item_codec.specs.declared.fault.CodecFault.TheVariants.{Short, Version}
@@ -36,11 +36,6 @@ bind_ok (Err d) f y e = absurd cc
 pub guard_ok : {A : Type 0} (b : Bool) (d : CodecFault) (x y : A) → cond b (Err d) (Ok x) ≡ Ok y → (b ≡ false) × (x ≡ y)
 guard_ok true d x y e = absurd cc
 guard_ok false d x y e = (refl, cc)
-
--- neither of two tests holds
-neither : (b c : Bool) → (b || c) ≡ false → (b ≡ false) × (c ≡ false)
-neither true c e = absurd cc
-neither false c e = (refl, e)
 
 -- ---- octets
 
@@ -129,7 +124,7 @@ version_to_read most octets value rest fits e =
     let b = bind_ok (number_at 1 octets) (λ v. cond (eqb v.0 0 || ltb most v.0) (Err Version) (Ok v)) (value, rest) e in
     let g = guard_ok (eqb b.0.0 0 || ltb most b.0.0) Version b.0 (value, rest) b.2 in
     let n = number_read 1 octets b.0.0 b.0.1 refl fits b.1 in
-    let tests = neither (eqb b.0.0 0) (ltb most b.0.0) g.0 in
+    let tests = or_parts (eqb b.0.0 0) (ltb most b.0.0) g.0 in
     subst (λ (p : ℕ × List ℕ). IsVersion most octets p.0 p.1) g.1
     (record { read = n.0; least = above_zero b.0.0 tests.0; most = ltb-false most b.0.0 tests.1 })
 

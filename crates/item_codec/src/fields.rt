@@ -33,7 +33,7 @@ fn octets_at(octets: &[u8], len: usize) -> Result<(&[u8], &[u8]), CodecFault>
 
 /// A number of so many octets.
 #[tactic(auto, using(crate::proofs::Numbers::width_le), unfolding(crate::specs::Reading::number_at))]
-pub fn number_at(octets: &[u8], width: u8) -> Result<(u64, &[u8]), CodecFault>
+pub(crate) fn number_at(octets: &[u8], width: u8) -> Result<(u64, &[u8]), CodecFault>
     requires { IsWidth width }
     ensures value { spec.Gives (λ x. (x.0, x.1.now)) result (spec.number_at width octets.now) }
     ensures range { IfOk result (λ x. x.0 < 256 ^ width) }
@@ -53,7 +53,7 @@ pub(crate) fn string_at(octets: &[u8]) -> Result<(&[u8], &[u8]), CodecFault>
 
 /// The count of a list.
 #[tactic(auto, unfolding(crate::specs::Reading::list_at))]
-pub fn list_at(octets: &[u8]) -> Result<(u16, &[u8]), CodecFault>
+pub(crate) fn list_at(octets: &[u8]) -> Result<(u16, &[u8]), CodecFault>
     ensures { spec.Gives (λ x. (x.0, x.1.now)) result (spec.list_at octets.now) }
 {
     let (count, rest) = number_at(octets, 2)?;
@@ -62,7 +62,7 @@ pub fn list_at(octets: &[u8]) -> Result<(u16, &[u8]), CodecFault>
 
 /// The version octet, which has to be from 1 to `most`.
 #[tactic(auto, unfolding(crate::specs::Reading::version_to))]
-pub fn version_to(octets: &[u8], most: u8) -> Result<(u8, &[u8]), CodecFault>
+pub(crate) fn version_to(octets: &[u8], most: u8) -> Result<(u8, &[u8]), CodecFault>
     ensures value { spec.Gives (λ x. (x.0, x.1.now)) result (spec.version_to most octets.now) }
     ensures least { IfOk result (λ x. 1 ≤ x.0) }
     ensures most { IfOk result (λ x. x.0 ≤ most) }
@@ -76,7 +76,7 @@ pub fn version_to(octets: &[u8], most: u8) -> Result<(u8, &[u8]), CodecFault>
 
 /// The version octet, which has to be 1.
 #[tactic(auto, unfolding(crate::specs::Reading::version_at))]
-pub fn version_at(octets: &[u8]) -> Result<(u8, &[u8]), CodecFault>
+pub(crate) fn version_at(octets: &[u8]) -> Result<(u8, &[u8]), CodecFault>
     ensures { spec.Gives (λ x. (x.0, x.1.now)) result (spec.version_at octets.now) }
 {
     version_to(octets, 1)

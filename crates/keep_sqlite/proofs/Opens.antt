@@ -21,6 +21,7 @@ use Rattle.sorted_rows.specs.Placed.{same_place, row_at, PlacesAscend}
 use Rattle.std.specs.declared.cmp.Ordering.TheVariants.{Less}
 use Rattle.sorted_rows.proofs.PlacedLaws.{same_place_itself, same_place_exact, same_place-cmp}
 use Rattle.sorted_rows.proofs.RowLaws.{same_rows}
+use Rattle.sorted_rows.proofs.Lists.{all-map}
 use Rattle.mud_world.specs.declared.item.Item.{Item}
 use Rattle.mud_world.specs.Items.{place_of, IsOrdered}
 use Rattle.keep_sqlite.specs.Table.{item_table, item_schema}
@@ -34,10 +35,6 @@ use Rattle.keep_sqlite.proofs.Ids.{eq_exact, int_itself}
 all_unmap : {X Y : Type 0} (P : Y → Type 0) (f : X → Y) (xs : List X) → AllByRecursion P (map f xs) → AllByRecursion (λ x. P (f x)) xs
 all_unmap P f [] all = tt
 all_unmap P f (x ∷ xs) all = (all.0, all_unmap P f xs all.1)
-
-all_map : {X Y : Type 0} (P : Y → Type 0) (f : X → Y) (xs : List X) → AllByRecursion (λ x. P (f x)) xs → AllByRecursion P (map f xs)
-all_map P f [] all = tt
-all_map P f (x ∷ xs) all = (all.0, all_map P f xs all.1)
 
 across : {X : Type 0} (P : X → Type 0) (xs ys : List X) → IsPermutation xs ys → AllByRecursion P ys → AllByRecursion P xs
 across P xs ys same all = recursion_from_All P xs (All-permutation P ys xs (IsPermutation-sym xs ys same) (All-from_recursion P ys all))
@@ -173,8 +170,8 @@ shown_items rows answer same up =
     let items = map item_shown answer in
     let each = all_unmap (λ s. row_at place_of (place_of (item_shown s)) items ≡ Some (item_shown s)) shown_row rows
     (across (λ s. row_at place_of (place_of (item_shown s)) items ≡ Some (item_shown s)) (map shown_row rows) answer same (all_unmap (λ item. row_at place_of (place_of item) items ≡ Some item) item_shown answer (first_at items up))) in
-    let back = all_map (λ item. found (place_of item) rows ≡ None → ⊥) item_shown answer
-    (across (λ s. found (place_of (item_shown s)) rows ≡ None → ⊥) answer (map shown_row rows) (IsPermutation-sym (map shown_row rows) answer same) (all_map (λ s. found (place_of (item_shown s)) rows ≡ None → ⊥) shown_row rows (found_some rows))) in
+    let back = all-map (λ item. found (place_of item) rows ≡ None → ⊥) item_shown answer
+    (across (λ s. found (place_of (item_shown s)) rows ≡ None → ⊥) answer (map shown_row rows) (IsPermutation-sym (map shown_row rows) answer same) (all-map (λ s. found (place_of (item_shown s)) rows ≡ None → ⊥) shown_row rows (found_some rows))) in
     same_rows place_of items (items_in rows) up (items_ascend rows) (λ p. same_at p rows items each back ∙ sym (item_at rows p))
 
 -- what an open has shown of a database

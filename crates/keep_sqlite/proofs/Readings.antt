@@ -1,6 +1,6 @@
 -- What the calls of an open leave.
 use Rattle.std.proofs.Common.{◌≡◌, ◌⊎◌, inl, inr, ℕ, suc, ◌+◌, ℤ, List, [], ◌∷◌, length, Option, Some, None, IsTrue, false, sym, ap, subst, ◌∙◌, arith}
-use Rattle.std.proofs.Common.{get_or, Ok, Err, Result, OnErr}
+use Rattle.std.proofs.Common.{get_or, Err}
 use Rattle.std.specs.List.{AllByRecursion, AllAdjacentBelow}
 use Rattle.std.specs.Ordering.{int_cmp}
 use Rattle.std.specs.declared.cmp.Ordering.TheVariants.{Less, Equal}
@@ -85,7 +85,3 @@ rise_from ns near = by ns (climb_from ns near)
     by : (ns : List ℤ) → Climb ns → AreUnequal ns
     by [] climb = tt
     by (n ∷ ns) climb = (apart n ns climb.0, by ns climb.1)
-
-pub on_err : {A E : Type 0} {P : Type 0} (r : Result A E) → P → OnErr r P
-on_err (Ok a) p = tt
-on_err (Err e) p = p

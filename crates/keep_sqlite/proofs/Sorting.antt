@@ -1,11 +1,12 @@
 -- The order in which the rows of the selection come.
-use Rattle.std.proofs.Common.{◌≡◌, ℕ, zero, suc, ◌+◌, ◌<◌, List, [], ◌∷◌, map, length, slice_index_or, false, refl, sym, ap, subst}
+use Rattle.std.proofs.Common.{◌≡◌, ℕ, zero, suc, ◌+◌, ◌<◌, List, [], ◌∷◌, map, slice_index_or, false, refl, sym, subst}
 use Rattle.std.specs.List.{AllByRecursion}
 use Rattle.std.specs.List.Sorted.{IsPermutation, IsSorted}
 use Rattle.std.specs.Ordering.{is_lt}
 use Rattle.std.specs.declared.cmp.Ordering.{Ordering}
 use Rattle.std.proofs.lemmas.List.Elements.{All-from_recursion, recursion_from_All}
 use Rattle.std.proofs.lemmas.List.Sorted.{All-permutation}
+use Rattle.std.proofs.lemmas.List.{length-map}
 use Rattle.sqlite_value.specs.Order.{Row, column}
 use Rattle.sqlite.specs.Query.{output, output_cmp, Output}
 use Rattle.keep_sqlite.specs.Selections.{shown_cmp}
@@ -16,13 +17,9 @@ index_map f [] k d = refl
 index_map f (x ∷ xs) zero d = refl
 index_map f (x ∷ xs) (suc k) d = index_map f xs k d
 
-length_map : {X Y : Type 0} (f : X → Y) (xs : List X) → length (map f xs) ≡ length xs
-length_map f [] = refl
-length_map f (x ∷ xs) = ap suc (length_map f xs)
-
 sorted_unmap : {X Y : Type 0} (f : X → Y) (cmp : Y → Y → Ordering) (xs : List X) → IsSorted cmp (map f xs) → IsSorted (λ a b. cmp (f a) (f b)) xs
 sorted_unmap f cmp xs sorted k d low below =
-    let there = sorted k (f d) low (subst (λ n. k + 1 < n) (sym (length_map f xs)) below) in
+    let there = sorted k (f d) low (subst (λ n. k + 1 < n) (sym (length-map xs f)) below) in
     let next = subst (λ y. is_lt (cmp y (slice_index_or (map f xs) k (f d))) ≡ false) (index_map f xs (k + 1) d) there in
     subst (λ y. is_lt (cmp (f (slice_index_or xs (k + 1) d)) y) ≡ false) (index_map f xs k d) next
 

@@ -1,5 +1,5 @@
 -- What a keeper tells before and behind an `open`.
-use Rattle.std.proofs.Common.{◌≡◌, inl, inr, Bool, true, false, List, [], Ok, Err, Result, IsTrue, OnOk, refl, sym, ap, subst, ◌∙◌}
+use Rattle.std.proofs.Common.{◌≡◌, inl, inr, Bool, true, false, List, [], IsTrue, refl, sym, ap, subst, ◌∙◌}
 use Rattle.sqlite.specs.Schema.{Schema}
 use Rattle.sqlite.specs.Effect.{Database}
 use Rattle.mud_world.specs.declared.item.Put.{Put}
@@ -32,7 +32,3 @@ held_before false is old new (inr made) kept may = inr (refl, made.0)
 -- what a batch did to the items it did to those that are told
 pub put_told : (old new : Database) (batch : List Put) → HoldsItems old → HoldsItems new → items_of new ≡ put_all (items_of old) batch → held_items new ≡ put_all (held_items old) batch
 put_told old new batch had has put = held_is new has ∙ put ∙ ap (λ items. put_all items batch) (sym (held_is old had))
-
-pub on_ok_map : {A E : Type 0} {P Q : Type 0} (r : Result A E) → OnOk r P → (P → Q) → OnOk r Q
-on_ok_map (Ok a) p f = f p
-on_ok_map (Err e) p f = tt

@@ -1,11 +1,10 @@
 -- No two rows of a database that holds items have one place, or one rowid.
 use Rattle.std.proofs.Common.{◌≡◌, inl, inr, ℤ, Bool, true, false, not, cond, ◌&&◌, ◌||◌, List, [], ◌∷◌, Some, refl, sym, ap, subst, ◌∙◌}
-use Rattle.std.proofs.lemmas.Bool.{false≢true, cases_Bool}
+use Rattle.std.proofs.lemmas.Bool.{false≢true, cases_Bool, not-true}
 use Rattle.std.proofs.lemmas.Map.Lookups.{exact_signed}
 use Rattle.std.specs.List.{filter, list_any, AllByRecursion}
 use Rattle.std.specs.Ordering.{is_ne, int_cmp}
-use Rattle.std.specs.declared.cmp.Ordering.{Ordering}
-use Rattle.std.specs.declared.cmp.Ordering.TheVariants.{Less, Equal, Greater}
+use Rattle.std.proofs.Math.Bool.{or-false, and-true}
 use Rattle.sqlite.specs.declared.types.Value.TheVariants.{Int}
 use Rattle.sqlite_value.specs.Order.{Row, value_cmp}
 use Rattle.sqlite_value.specs.Keys.{plain, first_key}
@@ -20,6 +19,7 @@ use Rattle.sqlite_rules.proofs.ListLemmas.{all_has}
 use Rattle.sqlite.specs.Effect.{Database}
 use Rattle.sorted_rows.specs.Placed.{same_place}
 use Rattle.sorted_rows.proofs.PlacedLaws.{same_place_itself, same_place_exact}
+use Rattle.sorted_rows.proofs.SearchLaws.{not_ne}
 use Rattle.mud_world.specs.declared.item.Item.{Item}
 use Rattle.mud_world.specs.Items.{place_of}
 use Rattle.keep_sqlite.specs.Table.{item_table, item_schema}
@@ -40,14 +40,6 @@ any_false p (r ∷ rs) e = by (any_false p rs) (p r) refl
     by rest true is = absurd (false≢true (sym e ∙ ap (λ c. c || list_any p rs) is))
     by rest false is = (is, rest (sym (ap (λ c. c || list_any p rs) is) ∙ e))
 
-or_false : (b : Bool) → (b || false) ≡ b
-or_false true = refl
-or_false false = refl
-
-pub and_true : (b : Bool) → (b && true) ≡ b
-and_true true = refl
-and_true false = refl
-
 -- the keys of the index agree exactly where the places are one
 agree_stored : (i j : ℤ) (a b : Item) → agree plain (1 ∷ 2 ∷ []) (stored i a) (1 ∷ 2 ∷ []) (stored j b) ≡ same_place (place_of a) (place_of b)
 unfolding first_key
@@ -58,26 +50,17 @@ agree_is r s p q =
     subst (λ x. agree plain (1 ∷ 2 ∷ []) x (1 ∷ 2 ∷ []) s ≡ same_place (place_in x) (place_in s)) (sym p.3) (subst (λ y. agree plain (1 ∷ 2 ∷ []) (stored p.0 p.1) (1 ∷ 2 ∷ []) y ≡ same_place (place_of p.1) (place_in y)) (sym q.3) (agree_stored p.0 q.0 p.1 q.1))
 
 pub conflicts_is : (new r : Row) → IsItemRow new → IsItemRow r → conflicts (Some (1 ∷ 2 ∷ [])) item_schema.indexes item_table new r ≡ same_place (place_in r) (place_in new)
-conflicts_is new r p q = or_false (agree plain (1 ∷ 2 ∷ []) r (1 ∷ 2 ∷ []) new) ∙ agree_is r new q p
+conflicts_is new r p q = or-false (agree plain (1 ∷ 2 ∷ []) r (1 ∷ 2 ∷ []) new) ∙ agree_is r new q p
 
 differ_ints : (a b : ℤ) → differ (Int a) (Int b) ≡ is_ne (int_cmp a b)
 unfolding binary
 differ_ints a b = true_of (is_ne (value_cmp (Int a) (Int b))) ∙ ap is_ne (value_cmp-Int a b)
-
-not_ne : (o : Ordering) → is_ne o ≡ false → o ≡ Equal
-not_ne Less e = absurd (false≢true (sym e))
-not_ne Equal e = refl
-not_ne Greater e = absurd (false≢true (sym e))
 
 same_id : (r s : Row) → IsItemRow r → IsItemRow s → differ (rowid r) (rowid s) ≡ false → id_of r ≡ id_of s
 same_id r s p q e =
     let it = subst (λ y. differ (rowid (stored p.0 p.1)) (rowid y) ≡ false) q.3 (subst (λ x. differ (rowid x) (rowid s) ≡ false) p.3 e) in
     let ids : p.0 ≡ q.0 = exact_signed p.0 q.0 (not_ne (int_cmp p.0 q.0) (sym (differ_ints p.0 q.0) ∙ it)) in
     ap id_of p.3 ∙ ids ∙ sym (ap id_of q.3)
-
-not_true : (b : Bool) → not b ≡ true → b ≡ false
-not_true true e = absurd (false≢true e)
-not_true false e = refl
 
 module _ (db : Database) (holds : HoldsItems db) where
   unique_rule : AllByRecursion (λ row. (not (clashes plain (1 ∷ 2 ∷ []) (db.trees 0) row) && true) ≡ true) (db.trees 0)
@@ -89,7 +72,7 @@ module _ (db : Database) (holds : HoldsItems db) where
       let rows = db.trees 0 in
       let p = all_has IsItemRow rows r holds.rows hr in
       let q = all_has IsItemRow rows s holds.rows hs in
-      let calm = not_true (clashes plain (1 ∷ 2 ∷ []) rows s) (sym (and_true (not (clashes plain (1 ∷ 2 ∷ []) rows s))) ∙ all_has (λ row. (not (clashes plain (1 ∷ 2 ∷ []) rows row) && true) ≡ true) rows s unique_rule hs) in
+      let calm = not-true (clashes plain (1 ∷ 2 ∷ []) rows s) (sym (and-true (not (clashes plain (1 ∷ 2 ∷ []) rows s))) ∙ all_has (λ row. (not (clashes plain (1 ∷ 2 ∷ []) rows row) && true) ≡ true) rows s unique_rule hs) in
       let none = all_has (λ other. (agree plain (1 ∷ 2 ∷ []) other (1 ∷ 2 ∷ []) s && differ (rowid other) (rowid s)) ≡ false) rows r (any_false (λ other. agree plain (1 ∷ 2 ∷ []) other (1 ∷ 2 ∷ []) s && differ (rowid other) (rowid s)) rows calm) hr in
       let agrees : agree plain (1 ∷ 2 ∷ []) r (1 ∷ 2 ∷ []) s ≡ true = agree_is r s p q ∙ ap (same_place (place_in r)) (sym same) ∙ same_place_itself (place_in r) in
       same_id r s p q (sym (ap (λ b. b && differ (rowid r) (rowid s)) agrees) ∙ none)

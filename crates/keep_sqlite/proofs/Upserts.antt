@@ -32,6 +32,7 @@ use Rattle.sqlite.specs.Effect.{Database}
 use Rattle.sqlite.specs.State.{State, mode_of, Executes}
 use Rattle.sqlite.proofs.Callers.{statement_of, runs_as, one_step, one_permutation}
 use Rattle.std.specs.List.Sorted.{IsPermutation}
+use Rattle.std.proofs.Math.Bool.{and-true}
 use Rattle.sorted_rows.specs.Placed.{same_place, set_row}
 use Rattle.sorted_rows.proofs.PlacedLaws.{same_place_exact}
 use Rattle.mud_world.specs.declared.item.Item.{Item}
@@ -42,7 +43,7 @@ use Rattle.keep_sqlite.proofs.Texts.{upsert_text, update_query, upsert_clause, u
 use Rattle.keep_sqlite.proofs.Lookups.{place_in, Apart, items_ascend, items-filter, items-put_row, set-without}
 use Rattle.keep_sqlite.proofs.Ids.{has_rowid_is, has_its_rowid, all-filter, all-put_row, distinct-filter, distinct-put_row}
 use Rattle.keep_sqlite.proofs.Comparisons.{equal_ints}
-use Rattle.keep_sqlite.proofs.Unique.{all_from, any_false, and_true, conflicts_is, only_one, chooses_place}
+use Rattle.keep_sqlite.proofs.Unique.{all_from, any_false, conflicts_is, only_one, chooses_place}
 use Rattle.keep_sqlite.proofs.Parts.{went, same_value, one_table}
 
 -- ---- what the columns make of the values
@@ -152,7 +153,7 @@ module _ (item : Item) (low : item.kind < 256) where
 
         test_is : (rows : List Row) → AllByRecursion IsItemRow rows → AllByRecursion (λ s. test s ≡ has_rowid (id_of r) s) rows
         test_is [] all = tt
-        test_is (s ∷ ss) all = (subst (λ x. test x ≡ is_eq (int_cmp (id_of x) (id_of r))) (sym all.0.3) (and_true _ ∙ equal_ints all.0.0 (id_of r)) ∙ sym (has_rowid_is (id_of r) s all.0), test_is ss all.1)
+        test_is (s ∷ ss) all = (subst (λ x. test x ≡ is_eq (int_cmp (id_of x) (id_of r))) (sym all.0.3) (and-true _ ∙ equal_ints all.0.0 (id_of r)) ∙ sym (has_rowid_is (id_of r) s all.0), test_is ss all.1)
 
         abbrev shown_row : Row → Row
         shown_row s = rowid s ∷ rowid s ∷ Rattle.sqlite_value.specs.Order.column s 1 ∷ Rattle.sqlite_value.specs.Order.column s 2 ∷ Blob item.body ∷ []

@@ -40,7 +40,7 @@ impl From<Memory> for Refusal {
 
 impl Refusal {
     /// What a person is told of it, behind the name of the file.
-    pub fn text(self) -> &'static str {
+    pub(crate) fn text(self) -> &'static str {
         match self {
             Refusal::Memory => "there isn't enough memory",
             Refusal::InUse => "another program uses the store",

@@ -7,6 +7,7 @@ use Rattle.std.proofs.Math.Seq.{drop-cons}
 use Rattle.std.proofs.lemmas.List.{drop_all, take_more}
 use Rattle.std.proofs.lemmas.List.Folds.{list_any-append}
 use Rattle.std.proofs.lemmas.Option.{same_Some, none-some}
+use Rattle.std.proofs.Math.Bool.{or-false}
 use Rattle.sorted_rows.specs.Placed.{same_place, row_at, set_row, without_row, PlacesAscend}
 use Rattle.sorted_rows.proofs.PlacedLaws.{same_place_exact, row_at-set_row, row_at-without_row}
 use Rattle.mud_base.specs.declared.packet.Direction.{Direction}
@@ -98,10 +99,6 @@ new_more xs url q p earlier x s is none =
     ap (λ (b : Bool). xs ++ spot_if b s) (new_by url q p earlier (same_place q p) refl none)
     ∙ ap (λ (b : Bool). xs ++ spot_if (b && not (list_any (is_keyed url p) earlier)) s) (sym is)
 
-or_false : (b : Bool) → (b || false) ≡ b
-or_false true = refl
-or_false false = refl
-
 both_spots : (xs : List EntrySpot) (a b : Bool) (s : EntrySpot) → (xs ++ spot_if a s) ++ spot_if (b && not a) s ≡ xs ++ spot_if (a || b) s
 unfolding spot_if
 both_spots xs true true s = append-nil (xs ++ s ∷ [])
@@ -116,7 +113,7 @@ any_more : (f : Selector → Bool) (xs : List Selector) (i : ℕ) (x : Selector)
 any_more f xs i x lt is =
     ap (list_any f) (take_more xs i x lt ∙ ap (λ (y : Selector). take i xs ++ y ∷ []) (sym is))
     ∙ list_any-append f (take i xs) (x ∷ [])
-    ∙ ap (λ (b : Bool). list_any f (take i xs) || b) (or_false (f x))
+    ∙ ap (λ (b : Bool). list_any f (take i xs) || b) (or-false (f x))
 
 -- so far as the selectors of an entry are read
 pub selector_more : (new old first : List EntrySpot) (url p : List ℕ) (xs earlier : List Selector) (i : ℕ) (x : Selector) (s : EntrySpot) → i < length xs → x ≡ get_or xs i x → earlier ≡ take i xs

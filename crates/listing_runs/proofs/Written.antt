@@ -12,10 +12,6 @@ pub on_err : {A E : Type 0} (r : Result A E) {P : Type 0} → P → OnErr r P
 on_err (Ok a) fact = tt
 on_err (Err e) fact = fact
 
--- nothing was written
-pub wrote_none : (text : List ℕ) (old new : DoorState) → new ≡ old → WroteFirst text old new
-wrote_none text old new same = record { count = 0; within = omega arith; wrote = same ∙ sym (put_out_none old) }
-
 module _ {A : Type 0} (text : A → List ℕ) (rows : List A) where
   pub none_yet : (first : DoorState) → first ≡ put_out (flat_map text (take 0 rows)) first
   none_yet first = sym (put_out_none first)

@@ -11,12 +11,12 @@ use mud_world::{Door, say};
 /// Writes a text whole; or a first part of it, where a write of the door fails, which is the last
 /// call of the door.
 pub fn write_text<D: Door>(door: &mut D, text: &[u8]) -> Result<(), Stop>
-    ensures ok { D.tells → OnOk result (D.state door.new ≡ put_out text.now (D.state door.old)) }
-    ensures part { D.tells → OnErr result (WroteFirst text.now (D.state door.old) (D.state door.new)) }
-    ensures cause { Counts (has_failed result) (D.writes door.old) (D.writes door.new) }
-    ensures stop { IsTrue (has_failed result) → StopsAtFailure (D.failed door.new) (D.writes door.old) (D.writes door.new) }
-    ensures turns { D.turns door.new ≡ D.turns door.old }
-    ensures reads { D.reads door.new ≡ D.reads door.old }
+    ensures ok { D.tells → OnOk result ((D.view door.new).state ≡ put_out text.now (D.view door.old).state) }
+    ensures part { D.tells → OnErr result (WroteFirst text.now (D.view door.old).state (D.view door.new).state) }
+    ensures cause { Counts (has_failed result) (D.view door.old).writes (D.view door.new).writes }
+    ensures stop { IsTrue (has_failed result) → StopsAtFailure (D.view door.new).failed (D.view door.old).writes (D.view door.new).writes }
+    ensures turns { (D.view door.new).turns ≡ (D.view door.old).turns }
+    ensures reads { (D.view door.new).reads ≡ (D.view door.old).reads }
 {
     say(door, text)?;
     Ok(())

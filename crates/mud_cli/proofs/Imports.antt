@@ -24,8 +24,10 @@ use Rattle.desk_runs.specs.Refused.{IsRefusal, bad_item_line, refusal_text}
 use Rattle.desk_runs.proofs.Runs.{refused_run}
 use Rattle.import_runs.specs.Imports.{standing}
 use Rattle.import_runs.specs.Order.{in_order}
-use Rattle.import_runs.specs.Runs.{Scene, ImportsPart, ImportsAll, StaysKept, scene}
-use Rattle.mud_cli.specs.Import.Store.{OutsideView, SpoolView, ImportsStore, RefusesStore, scene_in}
+use Rattle.import_runs.specs.Runs.{EndsAtDoorOrSpool, Scene, ImportsPart, ImportsAll, StaysKept, scene}
+use Rattle.mud_cli.specs.Import.Store.{ImportsStore, RefusesStore, scene_in}
+use Rattle.mud_world.specs.View.{OutsideView, SpoolView}
+use Rattle.snoop_runs.proofs.Stored.{not_seven}
 
 -- ---- Statuses
 
@@ -67,7 +69,7 @@ module _ {X : Type 0} {F : X → Type 0} (members : (v : (x : X) × F x) → Gho
       → IsSound (tables_of state) → IsBegun (tables_of state) state → faults_of members begun ≡ faults_of members keeper → IsSameBox keeper begun
       → StaysKept members begun state after ended → IsSound (tables_of ended)
       → IsOfImport status
-      → (status ≡ 4 → StopsAtFailure new.door.failed old.door.writes new.door.writes ⊎ Rose old.spool.faults new.spool.faults)
+      → (status ≡ 4 → EndsAtDoorOrSpool new.door.failed old.door.writes new.door.writes new.spool.failed old.spool.faults new.spool.faults)
       → (status ≢ 4 → (new.door.writes ≡ old.door.writes) × (new.spool.faults ≡ old.spool.faults))
       → (status ≡ 7 → Rose (faults_of members begun) (faults_of members after))
       → ((status ≡ 0) ⊎ (status ≡ 3) → faults_of members after ≡ faults_of members begun)
@@ -150,11 +152,6 @@ module _ (old new : OutsideView) (status : ℕ) (spool : new.spool ≡ old.spool
       named_statuses (inr (inl four)) = inl four
       named_statuses (inr (inr five)) = inr (inl five)
 
-not_seven : (status : ℕ) → (status ≡ 0) ⊎ ((status ≡ 3) ⊎ (status ≡ 6)) → status ≢ 7
-not_seven status (inl zero) = λ seven. absurd (grind arith)
-not_seven status (inr (inl three)) = λ seven. absurd (grind arith)
-not_seven status (inr (inr six)) = λ seven. absurd (grind arith)
-
 module _ {X : Type 0} {F : X → Type 0} (members : (v : (x : X) × F x) → Ghosts (F v.0)) (keeper after : DynBox X Global F) (tells : Type 0) (old new : OutsideView) (status : ℕ) where
   pub refused_import : (fault : OpenFault)
       → (Tells members after → IsFaultOf (kept_items members after) fault)
@@ -172,7 +169,7 @@ module _ {X : Type 0} {F : X → Type 0} (members : (v : (x : X) × F x) → Gho
       let run = refused_run members keeper after tells old.door new.door status fault bad left counts same_box is failed steady done part untouched turns reads in
       record {
         statuses = run.statuses;
-        fault = λ four. inl (failed four);
+        fault = λ four. inl (failed four, ap (λ (s : SpoolView). s.faults) spool);
         steady = λ other. (steady other, ap (λ (s : SpoolView). s.faults) spool);
         keeper_fault = run.keeper_fault;
         keeper_steady = λ which. run.keeper_steady (not_seven status which);

@@ -6,3 +6,4 @@ pub mod Import
 pub mod Promises
 pub mod Report
 pub mod Export
+pub mod Runs

@@ -4,7 +4,7 @@ use Rattle.mud_world.specs.Causes.{EndsAtFailure}
 use Rattle.mud_world.specs.Door.{DoorState}
 use Rattle.capture_runs.specs.Capture.{WritesTaken}
 use Rattle.command_runs.specs.Due.{WritesDue, WritesPart}
-pub use Rattle.command_runs.specs.View.{DoorView, viewed}
+pub use Rattle.mud_world.specs.View.{DoorView, viewed}
 use Rattle.mud_cli.specs.Answers.{due_of, most_read}
 use Rattle.mud_cli.specs.Frames.Lines.{frame_step}
 use Rattle.command_words.specs.declared.command.Command.{Command}
@@ -32,9 +32,3 @@ pub record Promises (tells : Type 0) (command : Command) (old new : DoorView) (s
   pub within : tells → (most : ℕ) → most_read command ≡ Some most → ReadUpTo most old.state new.state
   -- No port is bound, and the connection isn't left.
   pub same_turns : new.turns ≡ old.turns
-
--- The keeper's box that comes back is the one that was handed in, and the spool and the clock are as they were.
-pub record LeavesRest {K P C : Type 0} (keeper returned : K) (spool spool_after : P) (clock clock_after : C) : Type 0 where
-  pub same_keeper : returned ≡ keeper
-  pub same_spool : spool_after ≡ spool
-  pub same_clock : clock_after ≡ clock

@@ -33,7 +33,7 @@ pub struct Answer {
 
 /// The most octets that an input has.
 #[tactic(auto, unfolding(crate::specs::Answers::most_of))]
-pub fn most_of(input: Input) -> usize
+fn most_of(input: Input) -> usize
     ensures { result ≡ answers.most_of input }
 {
     match input {
@@ -44,7 +44,7 @@ pub fn most_of(input: Input) -> usize
 
 /// The answer to an input.
 #[tactic(auto, unfolding(crate::specs::Answers::answer_to))]
-pub fn answer_to(alloc: Global, input: Input, octets: &[u8]) -> Result<Answer, Memory>
+fn answer_to(alloc: Global, input: Input, octets: &[u8]) -> Result<Answer, Memory>
     ensures { IfOk result (λ answer. answer ≡ answer_to input octets.now) }
 {
     match input {
@@ -65,14 +65,14 @@ fn status_of(answer: &Answer) -> Status
 }
 
 /// Reads a whole input and writes what it says.
-pub fn answer_input<D: Door>(alloc: Global, input: Input, door: &mut D) -> Status
+pub(crate) fn answer_input<D: Door>(alloc: Global, input: Input, door: &mut D) -> Status
     ensures statuses { (status_number result ≡ 0) ⊎ ((status_number result ≡ 3) ⊎ ((status_number result ≡ 4) ⊎ (status_number result ≡ 5))) }
-    ensures fault { status_number result ≡ 4 → EndsAtFailure (D.failed door.new) (D.reads door.old) (D.reads door.new) (D.writes door.old) (D.writes door.new) }
-    ensures steady { status_number result ≢ 4 → (D.reads door.new ≡ D.reads door.old) × (D.writes door.new ≡ D.writes door.old) }
-    ensures done { D.tells → (status_number result ≡ 0) ⊎ (status_number result ≡ 3) → WritesDue (due_of_input input (D.state door.old).left) (D.state door.old) (D.state door.new) (status_number result) }
-    ensures part { D.tells → (status_number result ≡ 4) ⊎ (status_number result ≡ 5) → WritesPart (due_of_input input (D.state door.old).left) (D.state door.old) (D.state door.new) }
-    ensures within { D.tells → ReadUpTo (answers.most_of input + 1) (D.state door.old) (D.state door.new) }
-    ensures turns { D.turns door.new ≡ D.turns door.old }
+    ensures fault { status_number result ≡ 4 → EndsAtFailure (D.view door.new).failed (D.view door.old).reads (D.view door.new).reads (D.view door.old).writes (D.view door.new).writes }
+    ensures steady { status_number result ≢ 4 → ((D.view door.new).reads ≡ (D.view door.old).reads) × ((D.view door.new).writes ≡ (D.view door.old).writes) }
+    ensures done { D.tells → (status_number result ≡ 0) ⊎ (status_number result ≡ 3) → WritesDue (due_of_input input (D.view door.old).state.left) (D.view door.old).state (D.view door.new).state (status_number result) }
+    ensures part { D.tells → (status_number result ≡ 4) ⊎ (status_number result ≡ 5) → WritesPart (due_of_input input (D.view door.old).state.left) (D.view door.old).state (D.view door.new).state }
+    ensures within { D.tells → ReadUpTo (answers.most_of input + 1) (D.view door.old).state (D.view door.new).state }
+    ensures turns { (D.view door.new).turns ≡ (D.view door.old).turns }
 {
     let octets = match read_whole(alloc, door, most_of(input)) {
         Ok(octets) => octets,

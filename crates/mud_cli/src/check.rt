@@ -13,7 +13,7 @@ use std::alloc::Global;
 use usage_walk::{Broken, FileFault};
 
 /// The most octets that a usage file has.
-pub const LONGEST_FILE: usize = 262_144;
+pub(crate) const LONGEST_FILE: usize = 262_144;
 
 /// The lines of a usage file.
 #[tactic(auto, unfolding(crate::specs::Check::Answer::checking))]
@@ -40,7 +40,7 @@ fn broken(alloc: Global, broken: &Broken) -> Result<Answer, Memory>
 }
 
 /// The answer to the octets of a usage file.
-pub fn checking(alloc: Global, octets: &[u8]) -> Result<Answer, Memory>
+pub(crate) fn checking(alloc: Global, octets: &[u8]) -> Result<Answer, Memory>
     ensures { IfOk result (λ answer. answer ≡ checking (file_of octets.now)) }
 {
     match read_usage(alloc, octets) {

@@ -13,7 +13,7 @@ use std::alloc::Global;
 
 /// The most octets that a message has: the length of a UDP datagram is a number of 16 bits (RFC
 /// 768).
-pub const LONGEST_MESSAGE: usize = 65_535;
+pub(crate) const LONGEST_MESSAGE: usize = 65_535;
 
 /// The line of a message that was read or refused.
 #[tactic(auto, unfolding(crate::specs::Hear::Answer::hearing))]
@@ -59,7 +59,7 @@ fn hearing_within(
 
 /// The answer to the octets of a message.
 #[tactic(auto, unfolding(crate::specs::Hear::Answer::answer_of))]
-pub fn answer_of(alloc: Global, message: Message, octets: &[u8]) -> Result<Answer, Memory>
+pub(crate) fn answer_of(alloc: Global, message: Message, octets: &[u8]) -> Result<Answer, Memory>
     ensures { IfOk result (λ answer. answer ≡ answer_of message octets.now) }
 {
     match message {

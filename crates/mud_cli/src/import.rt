@@ -1,10 +1,11 @@
 //! The command `import`: the usage files of a folder, into a store.
 ghost use Rattle.std.specs.Prelude.{◌≡◌};
 ghost use Rattle.command_runs.specs.Status.{status_number};
-ghost use Rattle.command_runs.specs.View.{viewed};
+ghost use Rattle.mud_world.specs.View.{viewed};
 ghost use Rattle.desk_items.specs.Taken.{kept_of};
 ghost use Rattle.desk_model.specs.Items.{none_kept};
-ghost use Rattle.mud_cli.specs.Import.Store.{ImportsStore, outside, spool_viewed};
+ghost use Rattle.mud_cli.specs.Import.Store.{ImportsStore};
+ghost use Rattle.mud_world.specs.View.{outside};
 
 use command_runs::Status;
 use desk_runs::refuse_store;
@@ -16,7 +17,7 @@ use std::alloc::Global;
 /// Opens a desk over the keeper, and then imports the usage files of the folder into it. Where the
 /// store can't be opened, the folder isn't listed. The box is handed back. Nothing was taken before,
 /// as [`Desk::open`] wants it: [`Taken::new`].
-pub fn import_store<D: Door, P: Spool, C: Clock>(
+pub(crate) fn import_store<D: Door, P: Spool, C: Clock>(
     alloc: Global,
     keeper: Box<dyn Keeper>,
     nothing: Taken,
@@ -26,10 +27,10 @@ pub fn import_store<D: Door, P: Spool, C: Clock>(
 ) -> (Status, Box<dyn Keeper>)
     requires { kept_of nothing ≡ none_kept }
     ensures { ImportsStore Keeper-dyn (D.tells × (P.tells × C.tells)) keeper result.1
-        (outside (viewed (D.state door.old) (D.turns door.old) (D.reads door.old) (D.writes door.old) (D.failed door.old))
-        (spool_viewed (P.files spool.old) (P.faults spool.old)) (C.moments clock.old))
-        (outside (viewed (D.state door.new) (D.turns door.new) (D.reads door.new) (D.writes door.new) (D.failed door.new))
-        (spool_viewed (P.files spool.new) (P.faults spool.new)) (C.moments clock.new))
+        (outside (D.view door.old)
+        (P.view spool.old) (C.moments clock.old))
+        (outside (D.view door.new)
+        (P.view spool.new) (C.moments clock.new))
         (status_number result.0) }
 {
     match Desk::open(alloc, keeper, nothing) {

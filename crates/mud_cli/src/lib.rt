@@ -2,14 +2,13 @@
 #![tactic(auto)]
 
 pub mod answer;
-pub mod check;
+mod check;
 pub mod frames;
-pub mod hear;
-pub mod import;
+mod hear;
+mod import;
 pub mod laws;
 pub mod run;
 
 pub use answer::{Answer, Input};
 pub use command_runs::Status;
-pub use import::import_store;
 pub use run::mud_main;

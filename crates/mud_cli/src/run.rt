@@ -1,25 +1,9 @@
 //! The top call of the program.
-ghost use Rattle.std.specs.Prelude.{◌≡◌, ◌≢◌, ◌↔◌, ℕ, None, Some, IsTrue};
+ghost use Rattle.std.specs.Prelude.{◌≡◌, ◌≢◌, ◌↔◌, None, Some};
 ghost use Rattle.command_runs.specs.Status.{status_number};
-ghost use Rattle.command_runs.specs.View.{viewed};
-ghost use Rattle.desk_runs.specs.Store.{JudgesStore};
-ghost use Rattle.mud_cli.specs.Answers.{reads_input};
-ghost use Rattle.mud_cli.specs.Import.Store.{ImportsStore, outside, spool_viewed};
-ghost use Rattle.mud_cli.specs.Promises.{LeavesRest, Promises};
 ghost use Rattle.command_words.specs.Words.{command_in, words_of};
 ghost use Rattle.command_words.specs.declared.command.Command.{Command};
-ghost use Rattle.command_words.specs.declared.command.Command.TheVariants.{Judge, Snoop, Tally, Import, Replay, Serve, Report, Export, Drill};
-ghost use Rattle.command_words.specs.declared.command.ReportKind.{ReportKind};
-ghost use Rattle.console_runs.specs.Replay.{ReplaysStore};
-ghost use Rattle.console_runs.specs.Serve.{ServesStore, listening, clock_run};
-ghost use Rattle.drill_runs.specs.Store.{DrillsStore};
-ghost use Rattle.report_runs.specs.Store.{ReportsStore};
-ghost use Rattle.snoop_runs.specs.Store.{SnoopsStore};
-ghost use Rattle.mud_cli.specs.Report.{AsksClock};
-ghost use Rattle.export_runs.specs.Store.{ExportsStore};
-ghost use Rattle.mud_base.specs.declared.addr.Mac.{Mac};
-ghost use Rattle.mud_cli.specs.Export.{AsksClockOnce};
-ghost use Rattle.tally_runs.specs.Store.{TalliesStore};
+ghost use Rattle.mud_cli.specs.Runs.{Does, LeavesAlone, outside_of};
 
 use crate::answer::{Input, answer_input};
 use crate::frames::FrameLines;
@@ -48,70 +32,10 @@ fn run_command<D: Door, P: Spool, C: Clock>(
     clock: &mut C,
 ) -> (Status, Box<dyn Keeper>)
     ensures listed { status_number result.0 ≢ 2 }
-    ensures answers { IsTrue (reads_input command) → Promises D.tells command
-        (viewed (D.state door.old) (D.turns door.old) (D.reads door.old) (D.writes door.old) (D.failed door.old))
-        (viewed (D.state door.new) (D.turns door.new) (D.reads door.new) (D.writes door.new) (D.failed door.new))
-        (status_number result.0) }
-    ensures rest { IsTrue (reads_input command) → LeavesRest keeper result.1 spool.old spool.new clock.old clock.new }
-    ensures judged { command ≡ Judge → JudgesStore Keeper-dyn D.tells keeper result.1
-        (viewed (D.state door.old) (D.turns door.old) (D.reads door.old) (D.writes door.old) (D.failed door.old))
-        (viewed (D.state door.new) (D.turns door.new) (D.reads door.new) (D.writes door.new) (D.failed door.new))
-        (status_number result.0) }
-    ensures silent { command ≡ Judge → status_number result.0 ≡ 7 → door.new ≡ door.old }
-    ensures apart { command ≡ Judge → (spool.new ≡ spool.old) × (clock.new ≡ clock.old) }
-    ensures snooped { command ≡ Snoop → SnoopsStore Keeper-dyn D.tells keeper result.1
-        (viewed (D.state door.old) (D.turns door.old) (D.reads door.old) (D.writes door.old) (D.failed door.old))
-        (viewed (D.state door.new) (D.turns door.new) (D.reads door.new) (D.writes door.new) (D.failed door.new))
-        (status_number result.0) }
-    ensures snoop_apart { command ≡ Snoop → (spool.new ≡ spool.old) × (clock.new ≡ clock.old) }
-    ensures tallied { command ≡ Tally → TalliesStore Keeper-dyn D.tells keeper result.1
-        (viewed (D.state door.old) (D.turns door.old) (D.reads door.old) (D.writes door.old) (D.failed door.old))
-        (viewed (D.state door.new) (D.turns door.new) (D.reads door.new) (D.writes door.new) (D.failed door.new))
-        (status_number result.0) }
-    ensures tally_silent { command ≡ Tally → status_number result.0 ≡ 7 → door.new ≡ door.old }
-    ensures tally_apart { command ≡ Tally → (spool.new ≡ spool.old) × (clock.new ≡ clock.old) }
-    ensures imported { command ≡ Import → ImportsStore Keeper-dyn (D.tells × (P.tells × C.tells)) keeper result.1
-        (outside (viewed (D.state door.old) (D.turns door.old) (D.reads door.old) (D.writes door.old) (D.failed door.old))
-        (spool_viewed (P.files spool.old) (P.faults spool.old)) (C.moments clock.old))
-        (outside (viewed (D.state door.new) (D.turns door.new) (D.reads door.new) (D.writes door.new) (D.failed door.new))
-        (spool_viewed (P.files spool.new) (P.faults spool.new)) (C.moments clock.new))
-        (status_number result.0) }
-    ensures replayed { command ≡ Replay → ReplaysStore Keeper-dyn D.tells keeper result.1
-        (viewed (D.state door.old) (D.turns door.old) (D.reads door.old) (D.writes door.old) (D.failed door.old))
-        (viewed (D.state door.new) (D.turns door.new) (D.reads door.new) (D.writes door.new) (D.failed door.new))
-        (status_number result.0) }
-    ensures replay_silent { command ≡ Replay → status_number result.0 ≡ 7 → door.new ≡ door.old }
-    ensures replay_apart { command ≡ Replay → (spool.new ≡ spool.old) × (clock.new ≡ clock.old) }
-    ensures served { (port count : ℕ) → command ≡ Serve port count →
-        ServesStore Keeper-dyn D.tells C.tells keeper result.1 (listening port count) (clock_run (C.moments clock.old) (C.moments clock.new))
-        (viewed (D.state door.old) (D.turns door.old) (D.reads door.old) (D.writes door.old) (D.failed door.old))
-        (viewed (D.state door.new) (D.turns door.new) (D.reads door.new) (D.writes door.new) (D.failed door.new))
-        (status_number result.0) }
-    ensures serve_silent { (port count : ℕ) → command ≡ Serve port count → status_number result.0 ≡ 7 → (door.new ≡ door.old) × (clock.new ≡ clock.old) }
-    ensures serve_apart { (port count : ℕ) → command ≡ Serve port count → spool.new ≡ spool.old }
-    ensures reported { (kind : ReportKind) → command ≡ Report kind →
-        ReportsStore Keeper-dyn kind D.tells C.tells (C.moments clock.old) keeper result.1
-        (viewed (D.state door.old) (D.turns door.old) (D.reads door.old) (D.writes door.old) (D.failed door.old))
-        (viewed (D.state door.new) (D.turns door.new) (D.reads door.new) (D.writes door.new) (D.failed door.new))
-        (status_number result.0) }
-    ensures report_silent { (kind : ReportKind) → command ≡ Report kind → status_number result.0 ≡ 7 → door.new ≡ door.old }
-    ensures report_clock { (kind : ReportKind) → command ≡ Report kind → AsksClock C.tells C.moments kind clock.old clock.new (status_number result.0) }
-    ensures report_apart { (kind : ReportKind) → command ≡ Report kind → spool.new ≡ spool.old }
-    ensures exported { (mac : Mac) → command ≡ Export mac →
-        ExportsStore Keeper-dyn mac D.tells C.tells (C.moments clock.old) keeper result.1
-        (viewed (D.state door.old) (D.turns door.old) (D.reads door.old) (D.writes door.old) (D.failed door.old))
-        (viewed (D.state door.new) (D.turns door.new) (D.reads door.new) (D.writes door.new) (D.failed door.new))
-        (status_number result.0) }
-    ensures export_silent { (mac : Mac) → command ≡ Export mac → status_number result.0 ≡ 7 → door.new ≡ door.old }
-    ensures export_clock { (mac : Mac) → command ≡ Export mac → AsksClockOnce C.tells C.moments clock.old clock.new (status_number result.0) }
-    ensures export_apart { (mac : Mac) → command ≡ Export mac → spool.new ≡ spool.old }
-    ensures drilled { (packets : ℕ) → command ≡ Drill packets →
-        DrillsStore Keeper-dyn D.tells packets keeper result.1
-        (viewed (D.state door.old) (D.turns door.old) (D.reads door.old) (D.writes door.old) (D.failed door.old))
-        (viewed (D.state door.new) (D.turns door.new) (D.reads door.new) (D.writes door.new) (D.failed door.new))
-        (status_number result.0) }
-    ensures drill_silent { (packets : ℕ) → command ≡ Drill packets → status_number result.0 ≡ 7 → door.new ≡ door.old }
-    ensures drill_apart { (packets : ℕ) → command ≡ Drill packets → (spool.new ≡ spool.old) × (clock.new ≡ clock.old) }
+    ensures does { Does Keeper-dyn ⟦<D as Door>⟧ ⟦<P as Spool>⟧ ⟦<C as Clock>⟧ keeper result.1
+        (outside_of door.old spool.old clock.old) (outside_of door.new spool.new clock.new) (status_number result.0) command }
+    ensures alone { LeavesAlone command keeper result.1
+        (outside_of door.old spool.old clock.old) (outside_of door.new spool.new clock.new) (status_number result.0) }
 {
     match command {
         Command::Hear(message) => (answer_input(alloc, Input::Message(message), door), keeper),
@@ -154,86 +78,15 @@ pub fn mud_main<D: Door, P: Spool, C: Clock>(
 ) -> (u8, Box<dyn Keeper>)
     // Of every line of words: 2 says that it isn't listed, and then nothing is touched.
     ensures words { (result.0 ≡ 2) ↔ (command_in (words_of words.now) ≡ None) }
-    ensures untouched { result.0 ≡ 2 → (door.new ≡ door.old) × LeavesRest keeper result.1 spool.old spool.new clock.old clock.new }
-    // Of `hear`, `check` and `frames`: what they do with the door, and that they touch nothing else.
-    ensures answers { (command : Command) → command_in (words_of words.now) ≡ Some command → IsTrue (reads_input command) →
-        Promises D.tells command
-        (viewed (D.state door.old) (D.turns door.old) (D.reads door.old) (D.writes door.old) (D.failed door.old))
-        (viewed (D.state door.new) (D.turns door.new) (D.reads door.new) (D.writes door.new) (D.failed door.new))
-        result.0 }
-    ensures rest { (command : Command) → command_in (words_of words.now) ≡ Some command → IsTrue (reads_input command) →
-        LeavesRest keeper result.1 spool.old spool.new clock.old clock.new }
-    // Of `judge`: what it does with the door and the keeper, and that it touches nothing else.
-    ensures judged { command_in (words_of words.now) ≡ Some Judge →
-        JudgesStore Keeper-dyn D.tells keeper result.1
-        (viewed (D.state door.old) (D.turns door.old) (D.reads door.old) (D.writes door.old) (D.failed door.old))
-        (viewed (D.state door.new) (D.turns door.new) (D.reads door.new) (D.writes door.new) (D.failed door.new))
-        result.0 }
-    ensures silent { command_in (words_of words.now) ≡ Some Judge → result.0 ≡ 7 → door.new ≡ door.old }
-    ensures apart { command_in (words_of words.now) ≡ Some Judge → (spool.new ≡ spool.old) × (clock.new ≡ clock.old) }
-    // Of `snoop`: what it does with the door and the keeper, and that it touches nothing else.
-    ensures snooped { command_in (words_of words.now) ≡ Some Snoop → SnoopsStore Keeper-dyn D.tells keeper result.1
-        (viewed (D.state door.old) (D.turns door.old) (D.reads door.old) (D.writes door.old) (D.failed door.old))
-        (viewed (D.state door.new) (D.turns door.new) (D.reads door.new) (D.writes door.new) (D.failed door.new))
-        result.0 }
-    ensures snoop_apart { command_in (words_of words.now) ≡ Some Snoop → (spool.new ≡ spool.old) × (clock.new ≡ clock.old) }
-    // Of `tally`: what it does with the door and the keeper, and that it touches nothing else.
-    ensures tallied { command_in (words_of words.now) ≡ Some Tally →
-        TalliesStore Keeper-dyn D.tells keeper result.1
-        (viewed (D.state door.old) (D.turns door.old) (D.reads door.old) (D.writes door.old) (D.failed door.old))
-        (viewed (D.state door.new) (D.turns door.new) (D.reads door.new) (D.writes door.new) (D.failed door.new))
-        result.0 }
-    ensures tally_silent { command_in (words_of words.now) ≡ Some Tally → result.0 ≡ 7 → door.new ≡ door.old }
-    ensures tally_apart { command_in (words_of words.now) ≡ Some Tally → (spool.new ≡ spool.old) × (clock.new ≡ clock.old) }
-    // Of `import`: what it does with the door, the keeper, the spool and the clock.
-    ensures imported { command_in (words_of words.now) ≡ Some Import →
-        ImportsStore Keeper-dyn (D.tells × (P.tells × C.tells)) keeper result.1
-        (outside (viewed (D.state door.old) (D.turns door.old) (D.reads door.old) (D.writes door.old) (D.failed door.old))
-        (spool_viewed (P.files spool.old) (P.faults spool.old)) (C.moments clock.old))
-        (outside (viewed (D.state door.new) (D.turns door.new) (D.reads door.new) (D.writes door.new) (D.failed door.new))
-        (spool_viewed (P.files spool.new) (P.faults spool.new)) (C.moments clock.new))
-        result.0 }
-    // Of `replay`: what it does with the door and the keeper, and that it touches nothing else.
-    ensures replayed { command_in (words_of words.now) ≡ Some Replay → ReplaysStore Keeper-dyn D.tells keeper result.1
-        (viewed (D.state door.old) (D.turns door.old) (D.reads door.old) (D.writes door.old) (D.failed door.old))
-        (viewed (D.state door.new) (D.turns door.new) (D.reads door.new) (D.writes door.new) (D.failed door.new))
-        result.0 }
-    ensures replay_silent { command_in (words_of words.now) ≡ Some Replay → result.0 ≡ 7 → door.new ≡ door.old }
-    ensures replay_apart { command_in (words_of words.now) ≡ Some Replay → (spool.new ≡ spool.old) × (clock.new ≡ clock.old) }
-    // Of `serve`: what it does with the door, the keeper and the clock, and that it touches nothing else.
-    ensures served { (port count : ℕ) → command_in (words_of words.now) ≡ Some (Serve port count) →
-        ServesStore Keeper-dyn D.tells C.tells keeper result.1 (listening port count) (clock_run (C.moments clock.old) (C.moments clock.new))
-        (viewed (D.state door.old) (D.turns door.old) (D.reads door.old) (D.writes door.old) (D.failed door.old))
-        (viewed (D.state door.new) (D.turns door.new) (D.reads door.new) (D.writes door.new) (D.failed door.new))
-        result.0 }
-    ensures serve_silent { (port count : ℕ) → command_in (words_of words.now) ≡ Some (Serve port count) → result.0 ≡ 7 → (door.new ≡ door.old) × (clock.new ≡ clock.old) }
-    ensures serve_apart { (port count : ℕ) → command_in (words_of words.now) ≡ Some (Serve port count) → spool.new ≡ spool.old }
-    // Of `report`: what it does with the door and the keeper, when it asks the clock, and that it touches nothing else.
-    ensures reported { (kind : ReportKind) → command_in (words_of words.now) ≡ Some (Report kind) →
-        ReportsStore Keeper-dyn kind D.tells C.tells (C.moments clock.old) keeper result.1
-        (viewed (D.state door.old) (D.turns door.old) (D.reads door.old) (D.writes door.old) (D.failed door.old))
-        (viewed (D.state door.new) (D.turns door.new) (D.reads door.new) (D.writes door.new) (D.failed door.new))
-        result.0 }
-    ensures report_silent { (kind : ReportKind) → command_in (words_of words.now) ≡ Some (Report kind) → result.0 ≡ 7 → door.new ≡ door.old }
-    ensures report_clock { (kind : ReportKind) → command_in (words_of words.now) ≡ Some (Report kind) → AsksClock C.tells C.moments kind clock.old clock.new result.0 }
-    ensures report_apart { (kind : ReportKind) → command_in (words_of words.now) ≡ Some (Report kind) → spool.new ≡ spool.old }
-    // Of `export`: what it does with the door and the keeper, when it asks the clock, and that it touches nothing else.
-    ensures exported { (mac : Mac) → command_in (words_of words.now) ≡ Some (Export mac) →
-        ExportsStore Keeper-dyn mac D.tells C.tells (C.moments clock.old) keeper result.1
-        (viewed (D.state door.old) (D.turns door.old) (D.reads door.old) (D.writes door.old) (D.failed door.old))
-        (viewed (D.state door.new) (D.turns door.new) (D.reads door.new) (D.writes door.new) (D.failed door.new))
-        result.0 }
-    ensures export_silent { (mac : Mac) → command_in (words_of words.now) ≡ Some (Export mac) → result.0 ≡ 7 → door.new ≡ door.old }
-    ensures export_clock { (mac : Mac) → command_in (words_of words.now) ≡ Some (Export mac) → AsksClockOnce C.tells C.moments clock.old clock.new result.0 }
-    ensures export_apart { (mac : Mac) → command_in (words_of words.now) ≡ Some (Export mac) → spool.new ≡ spool.old }
-    // Of `drill`: what it does with the door and the keeper, and that it touches nothing else.
-    ensures drilled { (packets : ℕ) → command_in (words_of words.now) ≡ Some (Drill packets) →
-        DrillsStore Keeper-dyn D.tells packets keeper result.1
-        (viewed (D.state door.old) (D.turns door.old) (D.reads door.old) (D.writes door.old) (D.failed door.old))
-        (viewed (D.state door.new) (D.turns door.new) (D.reads door.new) (D.writes door.new) (D.failed door.new))
-        result.0 }
-    ensures drill_silent { (packets : ℕ) → command_in (words_of words.now) ≡ Some (Drill packets) → result.0 ≡ 7 → door.new ≡ door.old }
-    ensures drill_apart { (packets : ℕ) → command_in (words_of words.now) ≡ Some (Drill packets) → (spool.new ≡ spool.old) × (clock.new ≡ clock.old) }
+    ensures untouched { result.0 ≡ 2 → (result.1 ≡ keeper)
+        × (outside_of door.new spool.new clock.new ≡ outside_of door.old spool.old clock.old) }
+    // A listed command does what its record says, and leaves alone what isn't its own.
+    ensures does { (command : Command) → command_in (words_of words.now) ≡ Some command →
+        Does Keeper-dyn ⟦<D as Door>⟧ ⟦<P as Spool>⟧ ⟦<C as Clock>⟧ keeper result.1
+        (outside_of door.old spool.old clock.old) (outside_of door.new spool.new clock.new) result.0 command }
+    ensures alone { (command : Command) → command_in (words_of words.now) ≡ Some command →
+        LeavesAlone command keeper result.1
+        (outside_of door.old spool.old clock.old) (outside_of door.new spool.new clock.new) result.0 }
 {
     let Some(command) = command_of(alloc, words) else {
         return (Status::Unlisted.number(), keeper);

@@ -222,3 +222,7 @@ pub steps_alike : (inside state : DeskState) → inside ≡ state → (things : 
 unfolding tables_of
 steps_alike inside state same things compiled is_things is_compiled steps frame =
     λ i. steps_on (steps ((is_compiled ∙ ap (λ (s : DeskState). s.books.compiled) same) i)) ((is_things ∙ ap (λ (s : DeskState). s.books.things.things) same) i) frame
+
+-- the table of connections stays
+pub flows_stay : (h : List Segment) (before after : DeskState) → after.flows ≡ before.flows → HasForwarded h before → HasForwarded h after
+flows_stay h before after same stands = subst (λ (f : Held). StandsFor h (flows_of f)) (sym same) stands

@@ -1,6 +1,7 @@
 //! All that the desk holds beside its keeper.
 ghost use Rattle.std.specs.Prelude.{◌≡◌, ℕ, ◌+◌, ◌-◌, ◌^◌, ◌<◌, ◌≤◌, max, false, List, Err, IsTrue, IfOk, IfErr, IsOkAnd, length};
 ghost use Rattle.std.specs.Prelude.{unwrap_or};
+ghost use Rattle.sorted_rows.specs.Ledgers.{IsBlankOf};
 ghost use Rattle.acl_patch.specs.Patch.{rows_apart};
 ghost use Rattle.acl_compile.specs.Plans.{IsKept};
 ghost use Rattle.mud_tables.specs.declared.segment.Segment.{Segment as SegmentValue};
@@ -169,9 +170,7 @@ impl State {
     /// The verdict on a frame: [`desk_judge::verdict`].
     #[tactic(auto, unfolding(crate::specs::DeskState::tables_of))]
     pub(crate) fn verdict<L: Ledger>(&self, frame: &[u8], stamp: Moment, blank: Blank) -> Verdict
-        requires name { blank.name ≡ L.name }
-        requires parts { blank.parts ≡ L.parts }
-        requires some { 0 < L.parts }
+        requires blank { IsBlankOf L.name L.parts blank }
         ensures { (h : List SegmentValue) → HasForwarded h self.now → result ≡ verdict_in (session_of h self.now) stamp frame.now }
     {
         let mut steps = Steps::<L>::new(blank);

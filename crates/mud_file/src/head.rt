@@ -173,7 +173,7 @@ fn extensions(alloc: Global, mud: &Value, path: &[u8]) -> Result<Listed<Bytes>, 
 
 /// What the object at this path says of its file.
 #[tactic(auto, unfolding(crate::specs::Head::head_at), using(reading::proofs::Readings::answer_bind, reading::proofs::Readings::answer_done))]
-pub fn head(alloc: Global, mud: &Value, path: &[u8]) -> Result<Head, FileFault>
+pub(crate) fn head(alloc: Global, mud: &Value, path: &[u8]) -> Result<Head, FileFault>
     ensures { Gives (λ h. h) result (spec.head_at path.now (view mud.now)) }
 {
     version(alloc, mud, path)?;

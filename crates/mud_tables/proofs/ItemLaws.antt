@@ -6,6 +6,8 @@ use Rattle.mud_base.specs.declared.addr.Addr.{Addr}
 use Rattle.mud_base.specs.declared.addr.Addr.TheVariants.{V4, V6}
 use Rattle.mud_base.specs.declared.prefix.Prefix.{Prefix}
 use Rattle.mud_world.specs.declared.item.Item.{Item}
+use Rattle.mud_world.specs.Items.{AreItemsOf}
+use Rattle.mud_world.proofs.ItemLaws.{same_item}
 use Rattle.item_codec.specs.Spelling.{number, string, version, version_of, IsOctets}
 use Rattle.item_codec.specs.Reading.{IsRead}
 use Rattle.item_codec.specs.Records.{◌>>=◌, number_in, string_in, version_to_in, version_in, end_in, optional, optional_in, elements, elements_in, list_body, list_body_in, IsForm, OptionFits, ListFits}
@@ -18,7 +20,7 @@ use Rattle.mud_tables.specs.declared.bind.ClassRow.{ClassRow}
 use Rattle.mud_tables.specs.declared.bind.NameRow.{NameRow}
 use Rattle.mud_tables.specs.Ends.{Ends}
 use Rattle.mud_tables.specs.Fits.{FitsThing}
-use Rattle.mud_tables.specs.Things.{is_sound_thing, IsKeptThing}
+use Rattle.mud_tables.specs.Things.{is_sound_thing, IsKeptThing, mac_of}
 use Rattle.mud_tables.specs.Binds.{key_of_class, class_key, class_row, is_sound_class, name_row, is_sound_name, IsKeptClass, IsKeptName}
 use Rattle.mud_tables.specs.BindItems.{class_item, class_of_key, if_sound_class, class_in, locals_item, are_locals, if_sound_locals, locals_in, name_item, if_sound_name, name_in, stamp_item, moment_of_body, if_moment, stamp_in, IsKeptLocals, IsClassItem, IsLocalsItem, IsNameItem}
 use Rattle.mud_tables.specs.ItemFields.{address, v4_in, v6_in, address_in, IsAddr, ending, ending_in, IsEnding, network, network_in, IsNetwork}
@@ -120,11 +122,6 @@ unfolding network network_in make_prefix
 network_form =
     pair_form address IsAddr address_in (number 1) (λ n. n < 256 ^ 1) (number_in 1)
     make_prefix (λ (p : Prefix). p.addr) (λ (p : Prefix). p.len) (λ _. refl) (λ _ _. refl) (λ _ _. refl) address_form octet_form
-
--- ---- Items of one kind
-
-same_item : (item : Item) (kind : ℕ) (key body : List ℕ) → item.kind ≡ kind → item.key ≡ key → item.body ≡ body → item ≡ record { kind = kind; key = key; body = body }
-same_item item kind key body p q r = λ i. record { kind = p i; key = q i; body = r i }
 
 -- ---- Things
 
@@ -380,3 +377,7 @@ stamp_alone item moment octets e =
       same_item item 6 [] (version ++ number 8 moment) (eqb-true item.kind 6 tests.0) (nil_from_length item.key (eqb-true (length item.key) 0 tests.1)) (moment_alone item.body m.0 octets m.1 ∙ ap (λ (k : ℕ). version ++ number 8 k) same),
       subst (λ (k : ℕ). k ≤ 253402300799) same (leb-true m.0 253402300799 s.0),
     )
+
+pub are_things : AreItemsOf mac_of 1 thing_item
+unfolding mac_of thing_item
+are_things thing = refl

@@ -1,5 +1,5 @@
 -- Addresses with ends are rows by their addresses, so the laws of rows are theirs.
-use Rattle.std.proofs.Common.{◌≡◌, ℕ, ◌+◌, ◌≤◌, Bool, true, false, cond, List, [], ◌∷◌, length, Option, Some, None, Result, Ok, Err, refl, sym, ap, ◌∙◌, arith}
+use Rattle.std.proofs.Common.{◌≡◌, ℕ, ◌+◌, ◌≤◌, Bool, true, false, cond, List, [], ◌∷◌, length, Option, Some, None, Result, Ok, Err, refl, sym, ap, ◌∙◌}
 use Rattle.std.specs.List.{list_all, filter, AllByRecursion}
 use Rattle.std.proofs.lemmas.List.{length-set}
 use Rattle.std.proofs.lemmas.Option.{none-some}
@@ -50,14 +50,6 @@ all_filter p q (x ∷ xs) e = by_test (q x) (all_filter p q xs (right_of (p x) (
 pub filter_ends : (q : Addr × ℕ → Bool) (rows : Ends) → have_ends rows ≡ true → have_ends (filter q rows) ≡ true
 unfolding have_ends
 filter_ends q rows e = all_filter (λ r. is_end r.1) q rows e
-
-pub filter_fewer : {A : Type 0} (q : A → Bool) (xs : List A) → length (filter q xs) ≤ length xs
-filter_fewer q [] = omega arith
-filter_fewer q (x ∷ xs) = by_test (q x) (filter_fewer q xs)
-  where
-    by_test : (b : Bool) → length (filter q xs) ≤ length xs → length (cond b (x ∷ filter q xs) (filter q xs)) ≤ length (x ∷ xs)
-    by_test true rest = omega (arith, rest)
-    by_test false rest = omega (arith, rest)
 
 pub with_end_grown : (a : Addr) (until : ℕ) (rows : Ends) → length (with_end a until rows) ≤ length rows + 1
 unfolding with_end

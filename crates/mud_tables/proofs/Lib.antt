@@ -20,4 +20,3 @@ pub mod TakenLaws
 pub mod TypeFacts
 mod TakenExamples
 mod SamePrefixes
-pub mod MacOrder

@@ -21,6 +21,7 @@ use Rattle.mud_tables.specs.Binds.{key_of_class, same_class, has_addr}
 use Rattle.mud_tables.specs.Tables.{Tables, has_lease, has_host, has_url, is_leased, is_bound, is_named}
 use Rattle.mud_tables.specs.Bindings.{bindings_of_lease, thing_bindings, member_key, class_binding, class_bindings, name_binding, name_bindings, things_bindings, classes_bindings, names_bindings, bindings_of, is_met_by, has_live_binding}
 use Rattle.sorted_rows.proofs.ListTests.{any-flat_map, any-map}
+use Rattle.sorted_rows.proofs.Lists.{any_const}
 use Rattle.std.proofs.Math.Bool.{and-true, or-false}
 
 -- ---- Some element passes a test
@@ -32,11 +33,6 @@ any_same p q same (x ∷ xs) = rw (same x, any_same p q same xs) refl
 any_none : {A : Type 0} (p : A → Bool) → ((x : A) → p x ≡ false) → (xs : List A) → list_any p xs ≡ false
 any_none p none [] = refl
 any_none p none (x ∷ xs) = rw (none x, any_none p none xs) refl
-
--- a test that asks the same of every element
-any_and : {A : Type 0} (c : Bool) (p : A → Bool) (xs : List A) → list_any (λ x. c && p x) xs ≡ (c && list_any p xs)
-any_and true p xs = refl
-any_and false p xs = any_none (λ x. false) (λ _. refl) xs
 
 -- ---- Leases
 
@@ -58,7 +54,7 @@ unfolding thing_bindings has_lease has_live live_at
 thing_met key a now t c each =
     any-flat_map (is_met_by key a now) (bindings_of_lease t) t.leases
     ∙ any_same (λ r. list_any (is_met_by key a now) (bindings_of_lease t r)) (λ r. c && live_at a now r) each t.leases
-    ∙ any_and c (live_at a now) t.leases
+    ∙ any_const c (live_at a now) t.leases
 
 things_met : (key : MemberKey) (a : Addr) (now : ℕ) (test : Thing → Bool) → ((t : Thing) (r : Addr × ℕ) → list_any (is_met_by key a now) (bindings_of_lease t r) ≡ (test t && live_at a now r))
     → (things : List Thing) → list_any (is_met_by key a now) (flat_map thing_bindings things) ≡ is_leased test a now things
@@ -107,7 +103,7 @@ unfolding class_bindings has_addr
 class_met key c a now h same row =
     any-map (is_met_by key a now) (class_binding row) row.addrs
     ∙ any_same (λ b. is_met_by key a now (class_binding row b)) (λ b. same_class row.class c && same_addr b a) (λ b. address_met key a now h row b ∙ ap (λ k. k && same_addr b a) (same row.class)) row.addrs
-    ∙ any_and (same_class row.class c) (λ b. same_addr b a) row.addrs
+    ∙ any_const (same_class row.class c) (λ b. same_addr b a) row.addrs
 
 classes_met : (key : MemberKey) (c : Class) (a : Addr) (now : ℕ) → now < for_ever → ((d : Class) → same_key (member_key d) key ≡ same_class d c) → (classes : List ClassRow) → list_any (is_met_by key a now) (flat_map class_bindings classes) ≡ is_bound c a classes
 unfolding is_bound
@@ -128,7 +124,7 @@ row_met : (name : List ℕ) (a : Addr) (now : ℕ) (row : NameRow) → list_any 
 unfolding name_bindings name_binding is_met_by same_key has_live
 row_met name a now row =
     any-map (is_met_by (of_key.Name name) a now) (name_binding row) row.addrs
-    ∙ any_and (bytes_eq row.name name) (λ r. same_addr r.0 a && is_live r.1 now) row.addrs
+    ∙ any_const (bytes_eq row.name name) (λ r. same_addr r.0 a && is_live r.1 now) row.addrs
 
 names_met : (name : List ℕ) (a : Addr) (now : ℕ) (names : List NameRow) → list_any (is_met_by (of_key.Name name) a now) (flat_map name_bindings names) ≡ is_named name a now names
 unfolding is_named

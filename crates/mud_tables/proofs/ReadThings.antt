@@ -10,12 +10,13 @@ use Rattle.mud_base.specs.Addresses.{same_addr}
 use Rattle.mud_base.specs.declared.addr.Addr.{Addr}
 use Rattle.sorted_rows.specs.Placed.{place_cmp, same_place, PlacesAbove, PlacesAscend, row_at, comes_last}
 use Rattle.sorted_rows.proofs.PlacedLaws.{less_from_is_lt, set_row_last, same_place_itself, same_place-cmp}
+use Rattle.sorted_rows.proofs.RowSets.{Passing, found_passing, passing_found}
 use Rattle.mud_tables.specs.declared.thing.Thing.{Thing}
 use Rattle.mud_tables.specs.Limits.{most_things}
 use Rattle.mud_tables.specs.Ends.{has_address}
 use Rattle.mud_tables.specs.Things.{mac_of, holds, IsKeptThing, IsSoundThings, set_thing}
 use Rattle.mud_tables.specs.ThingItems.{is_taken, may_follow}
-use Rattle.mud_tables.proofs.RowSets.{same_addr_exact, same_addr_itself, left_of, right_of, both, not_true, is_not, any_first, any_later, any_by, any_more, Passing, found_passing, passing_found, fewer_before, behind_others}
+use Rattle.mud_tables.proofs.RowSets.{same_addr_exact, same_addr_itself, left_of, right_of, both, not_true, is_not, any_first, any_later, any_by, any_more, fewer_before, behind_others}
 use Rattle.mud_tables.proofs.AloneLaws.{IsApart}
 use Rattle.mud_tables.proofs.SoundThings.{put_new}
 

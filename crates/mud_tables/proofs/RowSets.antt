@@ -1,14 +1,12 @@
 -- What the rows of two lists have in common, told by the rows at their places.
-use Rattle.std.proofs.Common.{◌≡◌, ℕ, get_or, take, ◌+◌, ◌<◌, Bool, true, false, cond, ◌&&◌, List, [], ◌∷◌, ◌++◌, length, map, Option, Some, None, refl, sym, ap, subst, ◌∙◌, arith}
+use Rattle.std.proofs.Common.{◌≡◌, ℕ, get_or, take, ◌+◌, ◌<◌, Bool, true, false, cond, ◌&&◌, List, [], ◌∷◌, ◌++◌, length, map, Option, Some, refl, sym, ap, subst, ◌∙◌, arith}
 use Rattle.std.specs.Ordering.{is_lt}
 use Rattle.std.specs.declared.cmp.Ordering.TheVariants.{Less}
-use Rattle.std.specs.List.{list_any, AllByRecursion}
+use Rattle.std.specs.List.{AllByRecursion}
 use Rattle.std.specs.Option.{option_map}
-use Rattle.std.proofs.lemmas.Bool.{false≢true}
 use Rattle.std.proofs.lemmas.List.{take_more}
 use Rattle.std.proofs.lemmas.Option.{same_Some, none-some}
 use Rattle.sorted_rows.specs.Placed.{place_cmp, same_place, PlacesAbove, PlacesAscend, row_at, comes_last}
-use Rattle.sorted_rows.proofs.PlacedLaws.{same_place_exact, same_place_itself, row_at_above}
 pub use Rattle.sorted_rows.proofs.ListTests.{left_of, right_of, both, not_true, is_not, any_first, any_later, any_by, any_more}
 pub use Rattle.acl_model.proofs.BindingLaws.{same_addr_exact, same_addr_itself}
 
@@ -20,37 +18,9 @@ first_of_three true true false e = refl
 first_of_three true false d e = refl
 first_of_three false c d e = e
 
--- ---- Some element passes a test
+-- ---- The row at a place
 
 module _ {R : Type 0} (place : R → List ℕ) where
-  -- a row that passes the test, found at its place
-  pub record Passing (test : R → Bool) (rows : List R) : Type 0 where
-    pub at : List ℕ
-    pub row : R
-    pub there : row_at place at rows ≡ Some row
-    pub passes : test row ≡ true
-
-  pub at_later : (p : List ℕ) (x row : R) (xs : List R) → PlacesAbove place (place x) xs → row_at place p xs ≡ Some row → (b : Bool) → same_place (place x) p ≡ b → cond b (Some x) (row_at place p xs) ≡ Some row
-  at_later p x row xs above found true e = absurd (none-some row (sym (subst (λ q. row_at place q xs ≡ None) (same_place_exact (place x) p e) (row_at_above place (place x) xs above)) ∙ found))
-  at_later p x row xs above found false e = found
-
-  pub found_passing : (test : R → Bool) (rows : List R) → PlacesAscend place rows → list_any test rows ≡ true → Passing test rows
-  found_passing test [] ascend e = absurd (false≢true e)
-  found_passing test (x ∷ xs) ascend e =
-      any_by test x xs
-      (λ is. record { at = place x; row = x; there = ap (λ b. cond b (Some x) (row_at place (place x) xs)) (same_place_itself (place x)); passes = is })
-      (λ rest. let later : Passing test xs = found_passing test xs ascend.1 rest in
-      record { at = later.at; row = later.row; there = at_later later.at x later.row xs ascend.0 later.there (same_place (place x) later.at) refl; passes = later.passes })
-      e
-
-  pub passing_found : (test : R → Bool) (rows : List R) (p : List ℕ) (row : R) → row_at place p rows ≡ Some row → test row ≡ true → list_any test rows ≡ true
-  passing_found test [] p row there e = absurd (none-some row there)
-  passing_found test (x ∷ xs) p row there e = by_first (same_place (place x) p) refl (passing_found test xs p row)
-    where
-      by_first : (b : Bool) → same_place (place x) p ≡ b → (row_at place p xs ≡ Some row → test row ≡ true → list_any test xs ≡ true) → list_any test (x ∷ xs) ≡ true
-      by_first true is later = any_first test x xs (ap test (same_Some x row (sym (ap (λ b. cond b (Some x) (row_at place p xs)) is) ∙ there)) ∙ e)
-      by_first false is later = any_later test x xs (later (sym (ap (λ b. cond b (Some x) (row_at place p xs)) is) ∙ there) e)
-
   -- what holds of each row holds of the one at a place
   pub all_at : (P : R → Type 0) (rows : List R) (p : List ℕ) (x : R) → AllByRecursion P rows → row_at place p rows ≡ Some x → P x
   all_at P [] p x all found = absurd (none-some x found)
@@ -73,10 +43,6 @@ module _ {R : Type 0} (place : R → List ℕ) where
       ∙ mapped_at f p x (row_at place p xs) (same_place (place x) p)
 
 -- ---- Rows behind others
-
-pub all_push : {A : Type 0} (P : A → Type 0) (xs : List A) (x : A) → AllByRecursion P xs → P x → AllByRecursion P (xs ++ x ∷ [])
-all_push P [] x all new = (new, tt)
-all_push P (y ∷ ys) x all new = (all.0, all_push P ys x all.1 new)
 
 pub all_behind : {A : Type 0} (P : A → Type 0) (xs : List A) (x : A) (ys : List A) → AllByRecursion P (xs ++ x ∷ ys) → P x
 all_behind P [] x ys all = all.0

@@ -14,6 +14,7 @@ use Rattle.item_codec.specs.Records.{OptionFits}
 use Rattle.sorted_rows.specs.Placed.{row_at}
 use Rattle.sorted_rows.proofs.PlacedLaws.{ascend-set_row, ascend-without_row}
 use Rattle.sorted_rows.proofs.RowLaws.{all-set_row, all-without_row, ascend-map, length-set_row, length-without_row, place_row_at}
+use Rattle.sorted_rows.proofs.Lists.{filter_few}
 use Rattle.mud_tables.specs.declared.thing.Thing.{Thing}
 use Rattle.mud_tables.specs.declared.thing_fault.ThingFault.TheVariants.{ThingsFull, NoThing, NoPending, LeasesFull, NoLease}
 use Rattle.mud_tables.specs.Limits.{most_things, most_leases}
@@ -24,7 +25,7 @@ use Rattle.mud_tables.specs.Things.{mac_of, thing_at, set_thing, without_thing, 
 use Rattle.mud_tables.specs.ThingSteps.{ThingStep, done, leased_until, left, left_until, is_pending, url_cases, url_step, move_cases, move_step, remove_cases, remove_step, with_hold, hold_cases, hold_step, release_cases, release_step, end_after, kept_lease, new_lease, known_lease, stranger_lease, lease_cases, lease_step, end_step}
 use Rattle.mud_tables.proofs.RowSets.{left_of, right_of, both, first_of_three, all_at}
 use Rattle.mud_tables.proofs.AloneLaws.{IsApart, alone-set_thing, alone-without_thing, alone-without_lease, row_at-without_lease, has_none, same_leases, ended_apart, fresh_apart}
-use Rattle.mud_tables.proofs.LeaseLaws.{with_end_ascends, filter_ascends, with_end_ends, filter_ends, filter_fewer, all_kept, with_end_all, with_end_grown, with_end_long, set_row_long}
+use Rattle.mud_tables.proofs.LeaseLaws.{with_end_ascends, filter_ascends, with_end_ends, filter_ends, all_kept, with_end_all, with_end_grown, with_end_long, set_row_long}
 use Rattle.mud_tables.proofs.UrlLengths.{canonical_fits}
 
 -- ---- What holds of the Things behind a step
@@ -110,7 +111,7 @@ leases_of : (thing : Thing) → IsKeptThing thing → AreKeptLeases thing.leases
 leases_of thing kept = (parts_of thing kept).leases
 
 fewer_leases : (q : Addr × ℕ → Bool) (rows : Ends) → AreKeptLeases rows → AreKeptLeases (filter q rows)
-fewer_leases q rows s = record { ascend = filter_ascends q rows s.ascend; ends = filter_ends q rows s.ends; few = omega (arith, s.few, filter_fewer q rows); fit = all_kept IsEnding q rows s.fit }
+fewer_leases q rows s = record { ascend = filter_ascends q rows s.ascend; ends = filter_ends q rows s.ends; few = omega (arith, s.few, filter_few q rows); fit = all_kept IsEnding q rows s.fit }
 
 live_leases : (now : ℕ) (rows : Ends) → AreKeptLeases rows → AreKeptLeases (live_rows now rows)
 unfolding live_rows

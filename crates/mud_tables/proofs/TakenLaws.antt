@@ -1,5 +1,5 @@
 -- Items that are taken one after the other are those of sound lists, and the items of sound lists are taken.
-use Rattle.std.proofs.Common.{◌≡◌, ℕ, ◌≤◌, ◌<◌, ◌^◌, ◌==◌, Bool, true, cond, ◌&&◌, List, [], ◌∷◌, ◌++◌, length, map, Option, Some, None, refl, sym, ap, subst, ◌∙◌, append_assoc, arith, inl, inr}
+use Rattle.std.proofs.Common.{◌≡◌, ℕ, ◌≤◌, ◌<◌, ◌==◌, Bool, true, cond, ◌&&◌, List, [], ◌∷◌, ◌++◌, length, map, Option, Some, None, refl, sym, ap, subst, ◌∙◌, append_assoc, arith, inl, inr}
 use Rattle.std.specs.Prelude.{nat_lt, nat_le, option_map}
 use Rattle.std.specs.List.{list_all, AllByRecursion}
 use Rattle.std.proofs.lemmas.Bool.{eqb-true, ltb-true, lt-ltb, leb-true, le-leb}
@@ -8,6 +8,7 @@ use Rattle.std.proofs.lemmas.List.{append-nil, nil_from_length, length-append}
 use Rattle.mud_base.specs.declared.prefix.Prefix.{Prefix}
 use Rattle.sorted_rows.specs.Placed.{PlacesAscend, comes_last}
 use Rattle.sorted_rows.proofs.PlacedLaws.{ascend-push}
+use Rattle.sorted_rows.proofs.Lists.{all_push}
 use Rattle.mud_world.specs.declared.item.Item.{Item}
 use Rattle.item_codec.specs.Spelling.{IsOctets}
 use Rattle.item_codec.specs.Records.{◌>>=◌}
@@ -22,7 +23,7 @@ use Rattle.mud_tables.specs.Binds.{Binds, class_key, name_of, is_prefix, are_pre
 use Rattle.mud_tables.specs.ThingItems.{thing_item, thing_items, thing_in, item_anew, in_second, may_follow, with_thing_item, IsThingItem}
 use Rattle.mud_tables.specs.BindItems.{class_item, class_items, class_in, with_class_item, locals_item, locals_items, are_locals, with_locals_item, name_item, name_items, name_in, with_name_item, IsKeptLocals, IsClassItem, IsLocalsItem, IsNameItem}
 use Rattle.mud_tables.specs.TakenItems.{all_taken, no_binds, bind_items, is_empty, set_classes, set_locals, set_names, with_bind_item}
-use Rattle.mud_tables.proofs.RowSets.{left_of, right_of, both, all_push, all_behind, map_push, fewer_before, behind_others}
+use Rattle.mud_tables.proofs.RowSets.{left_of, right_of, both, all_behind, map_push, fewer_before, behind_others}
 use Rattle.mud_tables.proofs.LeaseLaws.{all_from, all_to}
 use Rattle.mud_tables.proofs.ItemLaws.{thing_back, thing_alone, class_back, class_alone, locals_back, locals_alone, name_back, name_alone}
 use Rattle.mud_tables.proofs.ReadThings.{sound-push, follows-sound}
@@ -113,6 +114,10 @@ sound_locals locals kept =
       few = leb-true (length locals) most_locals (right_of (are_prefixes locals && list_all is_prefix locals && nat_lt 0 (length locals)) (nat_le (length locals) most_locals) kept.sound);
     }
 
+-- their number fits its field
+pub few_fit : (n : ℕ) → n ≤ most_locals → n < 2 ^ 16
+few_fit n few = omega (arith, few)
+
 -- and sound ones, where there are some, have one
 kept_locals : (p : Prefix) (ps : List Prefix) → IsSoundLocals (p ∷ ps) → IsKeptLocals (p ∷ ps)
 unfolding are_locals
@@ -125,9 +130,6 @@ kept_locals p ps sound = record {
       (le-leb (length (p ∷ ps)) most_locals sound.few);
   fits = record { few = few_fit (length (p ∷ ps)) sound.few; each = fitting_networks (p ∷ ps) sound.each };
 }
-  where
-    few_fit : (n : ℕ) → n ≤ most_locals → n < 2 ^ 16
-    few_fit n few = omega (arith, few)
 
 some_locals : (locals : List Prefix) → IsKeptLocals locals → locals_items locals ≡ locals_item locals ∷ []
 unfolding locals_items are_locals

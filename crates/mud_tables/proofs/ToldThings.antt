@@ -4,7 +4,6 @@ use Rattle.std.specs.Prelude.{bytes_eq, nat_le, IfOk}
 use Rattle.std.specs.List.{list_any}
 use Rattle.std.proofs.lemmas.Bool.{false≢true}
 use Rattle.std.proofs.lemmas.Bool.Decides.{Decides-eqb}
-use Rattle.std.proofs.lemmas.Slice.Eq.{bytes_eq-Decides}
 use Rattle.std.proofs.lemmas.Option.{same_Some, none-some}
 use Rattle.mud_base.specs.declared.addr.Addr.{Addr}
 use Rattle.mud_base.specs.declared.addr.Mac.{Mac}
@@ -12,13 +11,14 @@ use Rattle.item_codec.specs.declared.word.Word as outcome
 use Rattle.item_codec.specs.declared.word.Word.TheVariants.{New, Same, Pending, Moved, Removed, Held, Released, Stranger, Renewed, Ended}
 use Rattle.sorted_rows.specs.Placed.{row_at, without_row, PlacesAscend}
 use Rattle.sorted_rows.proofs.PlacedLaws.{row_at-set_row_same, row_at-without_row, same_place_itself}
+use Rattle.sorted_rows.proofs.ListTests.{same_bytes}
+use Rattle.sorted_rows.proofs.RowSets.{Passing, found_passing}
 use Rattle.mud_tables.specs.declared.thing.Thing.{Thing}
 use Rattle.mud_tables.specs.declared.thing_fault.ThingFault.TheVariants.{ThingsFull, NoThing, NoPending, LeasesFull, NoLease}
 use Rattle.mud_tables.specs.Limits.{most_things, most_leases}
 use Rattle.mud_tables.specs.Ends.{Ends, end_of, with_end, live_rows, live_count}
 use Rattle.mud_tables.specs.Things.{mac_of, thing_at, set_thing, without_thing, holds, with_leases, without_lease, new_thing}
 use Rattle.mud_tables.specs.ThingSteps.{TellsChange, ThingStep, done, leased_until, left, left_until, is_pending, url_cases, url_step, move_cases, move_step, remove_cases, remove_step, with_hold, hold_cases, hold_step, release_cases, release_step, end_after, kept_lease, new_lease, known_lease, stranger_lease, lease_cases, lease_step, end_step}
-use Rattle.mud_tables.proofs.RowSets.{Passing, found_passing}
 use Rattle.mud_tables.proofs.AloneLaws.{left_none}
 use Rattle.mud_tables.proofs.LeaseLaws.{end_of-with_end}
 use Rattle.mud_tables.proofs.SoundThings.{at_its_place}
@@ -51,9 +51,6 @@ put_other t old things new e = new (sym (ap (row_at mac_of (mac_of t)) e) ∙ ro
 -- it takes the place of another Thing
 place_other : (t thing : Thing) (old things : List Thing) → row_at mac_of (mac_of t) things ≡ Some thing → (thing ≡ t → ⊥) → set_thing t old ≡ things → ⊥
 place_other t thing old things there other e = put_other t old things (λ is. other (same_Some thing t (sym there ∙ is))) e
-
-same_bytes : (x y : List ℕ) → x ≡ y → bytes_eq x y ≡ true
-same_bytes x y e = (bytes_eq-Decides x y).1 e
 
 waits_itself : (url : List ℕ) (pending : Option (List ℕ)) → pending ≡ Some url → is_pending url pending ≡ true
 unfolding is_pending

@@ -7,6 +7,7 @@ use Rattle.mud_base.specs.declared.addr.Addr.{Addr}
 use Rattle.sorted_rows.specs.Placed.{set_row}
 use Rattle.sorted_rows.specs.Addresses.{end_place}
 use Rattle.sorted_rows.specs.Ascending.{places_ascend}
+pub use Rattle.acl_model.specs.Changes.{for_ever}
 
 abbrev pub Ends : Type 0
 Ends = List (Addr × ℕ)
@@ -14,10 +15,6 @@ Ends = List (Addr × ℕ)
 -- what has this end counts at every moment before it, and no longer at the end itself
 unfoldable pub is_live : ℕ → ℕ → Bool
 is_live until now = nat_lt now until
-
--- the end of what lasts for ever
-abbrev pub for_ever : ℕ
-for_ever = 18446744073709551615
 
 -- an end is for ever, or below 2^40
 unfoldable pub is_end : ℕ → Bool

@@ -44,7 +44,7 @@ pub fn segment_of(fields: &Fields, now: Moment) -> Option<Segment>
 
 /// Whether both are one end.
 #[tactic(auto, unfolding(crate::specs::History::same_end))]
-pub fn same_end(a: Endpoint, b: Endpoint) -> bool
+fn same_end(a: Endpoint, b: Endpoint) -> bool
     ensures { result ≡ spec.same_end a b }
 {
     same_addr(a.0, b.0) && a.1 == b.1

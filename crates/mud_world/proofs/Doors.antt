@@ -1,7 +1,8 @@
 -- Laws of what is read of a door and written to it.
-use Rattle.std.proofs.Common.{◌≡◌, ℕ, ◌+◌, List, [], ◌++◌, take, drop, refl, sym, ap, ap₂, ◌∙◌, arith, append_assoc}
+use Rattle.std.proofs.Common.{◌≡◌, ℕ, ◌+◌, List, [], ◌++◌, take, drop, refl, sym, ap, ap₂, ◌∙◌, arith, append_assoc, Bool, true, false, if◌then◌else◌}
 use Rattle.std.proofs.lemmas.List.{append-nil, take-append-drop, take-take, drop-take}
 use Rattle.mud_world.specs.Door.{Connection, DoorState, Took, put_out, with_here, with_left}
+use Rattle.mud_world.specs.Causes.{Counts, RoseBy}
 
 -- a longer front is the front and a front of the rest
 pub take_further : (a n : ℕ) (xs : List ℕ) → take (a + n) xs ≡ take a xs ++ take n (drop a xs)
@@ -52,3 +53,9 @@ took_more a b s t u p q = record {
   left = p.left ∙ ap (λ left. a ++ left) q.left ∙ sym (append_assoc a b u.left);
   rest = q.rest ∙ ap (with_left u.left) p.rest;
 }
+
+-- ---- The failures of a keeper
+
+pub rose_by_one : (failed : Bool) (a b : ℕ) → Counts failed a b → RoseBy ((if failed then 1 else 0) + 0) a b
+rose_by_one true a b counts = counts.rose refl
+rose_by_one false a b counts = omega (arith, counts.steady refl)

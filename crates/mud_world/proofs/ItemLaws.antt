@@ -6,7 +6,7 @@ use Rattle.std.specs.Option.{option_map}
 use Rattle.std.specs.Ordering.{is_eq, nat_cmp, ordering_then}
 use Rattle.std.specs.declared.cmp.Ordering.{Ordering}
 use Rattle.std.specs.declared.cmp.Ordering.TheVariants.{Less, Equal, Greater}
-use Rattle.std.proofs.lemmas.Bool.{false≢true, lt-ltb}
+use Rattle.std.proofs.lemmas.Bool.{false≢true, lt-ltb, not-true}
 use Rattle.std.proofs.lemmas.Cmp.{nat_cmp_total, tied_itself}
 use Rattle.std.proofs.lemmas.Option.{same_Some, none-some}
 use Rattle.std.proofs.lemmas.List.{length-map}
@@ -19,7 +19,7 @@ use Rattle.sorted_rows.proofs.RowLaws.{set_row_there, without_row_absent, map-se
 use Rattle.sorted_rows.proofs.RowSets.{row_at-map}
 use Rattle.sorted_rows.proofs.ListTests.{left_of, right_of, apart-map}
 use Rattle.sorted_rows.proofs.IndexLaws.{set_row-behind, set_row-before, without_row-behind, without_row-before, ascend-append}
-use Rattle.sorted_rows.proofs.ChangeLaws.{turned}
+use Rattle.sorted_rows.proofs.ChangeLaws.{differ_turned}
 use Rattle.mud_world.specs.declared.item.Item.{Item}
 use Rattle.mud_world.specs.declared.item.Put.{Put}
 use Rattle.mud_world.specs.declared.item.Put.TheVariants.{Set, Gone}
@@ -29,10 +29,6 @@ use Rattle.mud_world.specs.Items.{place_of, put_one, put_all, place_of_put, is_a
 
 is_other : (p q : List ℕ) → not (is_eq (place_cmp p q)) ≡ not (same_place p q)
 is_other p q = ap not (sym (same_place-cmp p q (place_cmp p q) refl))
-
-not_same : (b : Bool) → not b ≡ true → b ≡ false
-not_same true e = sym e
-not_same false e = refl
 
 -- ---- One put
 
@@ -53,7 +49,7 @@ row_at-put_here : (items : List Item) (put : Put) → IsOrdered items → row_at
 row_at-put_here items put up = row_at-put_one items put (place_of_put put) up ∙ ap (λ b. cond b (item_after put) (row_at place_of (place_of_put put) items)) (same_place_itself (place_of_put put))
 
 row_at-put_other : (items : List Item) (put : Put) (p : List ℕ) → IsOrdered items → same_place p (place_of_put put) ≡ false → row_at place_of p (put_one items put) ≡ row_at place_of p items
-row_at-put_other items put p up other = row_at-put_one items put p up ∙ ap (λ b. cond b (item_after put) (row_at place_of p items)) (turned p (place_of_put put) other)
+row_at-put_other items put p up other = row_at-put_one items put p up ∙ ap (λ b. cond b (item_after put) (row_at place_of p items)) (differ_turned p (place_of_put put) other)
 
 -- a put changes nothing just where its place has what it says
 pub put_same : (items : List Item) (put : Put) → IsOrdered items → row_at place_of (place_of_put put) items ≡ item_after put → put_one items put ≡ items
@@ -70,7 +66,7 @@ row_at-put_all_apart [] items p up apart = refl
 row_at-put_all_apart (x ∷ xs) items p up apart =
     let other : not (same_place p (place_of_put x)) ≡ true = sym (is_other p (place_of_put x)) ∙ left_of (not (is_eq (place_cmp p (place_of_put x)))) (is_apart p xs) apart in
     row_at-put_all_apart xs (put_one items x) p (ordered-put_one items x up) (right_of (not (is_eq (place_cmp p (place_of_put x)))) (is_apart p xs) apart)
-    ∙ row_at-put_other items x p up (not_same (same_place p (place_of_put x)) other)
+    ∙ row_at-put_other items x p up (not-true (same_place p (place_of_put x)) other)
 
 -- each of puts about places of their own leaves what it says
 pub said-put_all : (puts : List Put) (items : List Item) → IsOrdered items → are_apart puts ≡ true → AllByRecursion (λ put. row_at place_of (place_of_put put) (put_all items puts) ≡ item_after put) puts
@@ -282,3 +278,8 @@ module _ {R : Type 0} (place : R → List ℕ) (kind : ℕ) (item : R → Item) 
     needed = All-from_recursion (IsNeeded (map item rows)) (puts_of kind item change) (puts_needed one rows up change.gone change.sets needs.gone needs.sets);
     apart = puts_apart change plain;
   }
+
+-- ---- An item is its parts
+
+pub same_item : (item : Item) (kind : ℕ) (key body : List ℕ) → item.kind ≡ kind → item.key ≡ key → item.body ≡ body → item ≡ record { kind = kind; key = key; body = body }
+same_item item kind key body p q r = λ i. record { kind = p i; key = q i; body = r i }

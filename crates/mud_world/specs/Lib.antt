@@ -10,5 +10,6 @@ pub mod MemoryConnections
 pub mod MemoryDoor
 pub mod MemoryKeeper
 pub mod MemorySpool
+pub mod View
 pub mod Whole
 pub mod Wire

@@ -2,7 +2,8 @@
 ghost use Rattle.std.specs.Prelude.{◌≡◌, ◌<◌, ◌≤◌, ℕ, Bool, [], length, take, false, IfOk, OnOk, OnErr, is_err};
 ghost use Rattle.mud_world.specs.Calls.{counted};
 ghost use Rattle.mud_world.specs.Causes.{Counts};
-ghost use Rattle.mud_world.specs.Door.{DoorState, Reads, bound_anew, departed, gone_on, has_more, put_out};
+ghost use Rattle.mud_world.specs.Door.{Reads, bound_anew, departed, gone_on, has_more, put_out};
+ghost use Rattle.mud_world.specs.View.{DoorView};
 
 use crate::fault::Failed;
 
@@ -18,56 +19,45 @@ pub trait Door {
     /// Whether it tells its connections.
     ghost tells: { Type 0 };
 
-    /// Its connections, where it tells them.
-    ghost state: { Self → DoorState };
-
-    /// How often `bind` or `next` has failed.
-    ghost turns: { Self → ℕ };
-
-    /// How often `read` has failed.
-    ghost reads: { Self → ℕ };
-
-    /// How often `write` has failed.
-    ghost writes: { Self → ℕ };
-
-    /// Whether the last of its calls has failed.
-    ghost failed: { Self → Bool };
+    /// What counts of it: its connections, where it tells them, how often `bind` or `next`, `read` and
+    /// `write` have failed, and whether the last of its calls has.
+    ghost view: { Self → DoorView };
 
     /// Binds the port, so that connections to it come by `next`.
     fn bind(&mut self, port: u16) -> Result<(), Failed>
-        ensures ok { tells → OnOk result (state self.new ≡ bound_anew port (state self.old)) }
-        ensures err { tells → OnErr result (state self.new ≡ state self.old) }
-        ensures cause { Counts (is_err result) (turns self.old) (turns self.new) }
-        ensures count { turns self.new ≡ counted (is_err result) (turns self.old) }
-        ensures last { failed self.new ≡ is_err result }
-        ensures reads { reads self.new ≡ reads self.old }
-        ensures writes { writes self.new ≡ writes self.old };
+        ensures ok { tells → OnOk result ((view self.new).state ≡ bound_anew port (view self.old).state) }
+        ensures err { tells → OnErr result ((view self.new).state ≡ (view self.old).state) }
+        ensures cause { Counts (is_err result) (view self.old).turns (view self.new).turns }
+        ensures count { (view self.new).turns ≡ counted (is_err result) (view self.old).turns }
+        ensures last { (view self.new).failed ≡ is_err result }
+        ensures reads { (view self.new).reads ≡ (view self.old).reads }
+        ensures writes { (view self.new).writes ≡ (view self.old).writes };
 
     /// Leaves the connection and goes to the next one. It answers false exactly where there is none.
     fn next(&mut self) -> Result<bool, Failed>
         ensures ok { tells → IfOk result (λ more.
-            (more ≡ has_more (state self.old).ahead)
-            × (state self.new ≡ gone_on (state self.old) (state self.old).ahead)) }
-        ensures err { tells → OnErr result (state self.new ≡ departed (state self.old)) }
-        ensures cause { Counts (is_err result) (turns self.old) (turns self.new) }
-        ensures count { turns self.new ≡ counted (is_err result) (turns self.old) }
-        ensures last { failed self.new ≡ is_err result }
-        ensures reads { reads self.new ≡ reads self.old }
-        ensures writes { writes self.new ≡ writes self.old };
+            (more ≡ has_more (view self.old).state.ahead)
+            × ((view self.new).state ≡ gone_on (view self.old).state (view self.old).state.ahead)) }
+        ensures err { tells → OnErr result ((view self.new).state ≡ departed (view self.old).state) }
+        ensures cause { Counts (is_err result) (view self.old).turns (view self.new).turns }
+        ensures count { (view self.new).turns ≡ counted (is_err result) (view self.old).turns }
+        ensures last { (view self.new).failed ≡ is_err result }
+        ensures reads { (view self.new).reads ≡ (view self.old).reads }
+        ensures writes { (view self.new).writes ≡ (view self.old).writes };
 
     /// Reads octets of the connection into the front of the buffer, and answers how many. It
     /// answers 0 only for an empty buffer, at the end of the connection's octets, or where the
     /// door stands at no connection. A read that fails takes no octet.
     fn read(&mut self, buf: &mut [u8]) -> Result<usize, Failed>
         ensures within { IfOk result (λ n. n ≤ length buf.new) }
-        ensures octets { tells → Reads (state self.old) (state self.new) result buf.new }
-        ensures nowhere { tells → (state self.old).stands ≡ false → IfOk result (λ n. n ≡ 0) }
-        ensures err { tells → OnErr result (state self.new ≡ state self.old) }
-        ensures cause { Counts (is_err result) (reads self.old) (reads self.new) }
-        ensures count { reads self.new ≡ counted (is_err result) (reads self.old) }
-        ensures last { failed self.new ≡ is_err result }
-        ensures turns { turns self.new ≡ turns self.old }
-        ensures writes { writes self.new ≡ writes self.old };
+        ensures octets { tells → Reads (view self.old).state (view self.new).state result buf.new }
+        ensures nowhere { tells → (view self.old).state.stands ≡ false → IfOk result (λ n. n ≡ 0) }
+        ensures err { tells → OnErr result ((view self.new).state ≡ (view self.old).state) }
+        ensures cause { Counts (is_err result) (view self.old).reads (view self.new).reads }
+        ensures count { (view self.new).reads ≡ counted (is_err result) (view self.old).reads }
+        ensures last { (view self.new).failed ≡ is_err result }
+        ensures turns { (view self.new).turns ≡ (view self.old).turns }
+        ensures writes { (view self.new).writes ≡ (view self.old).writes };
 
     /// Writes octets from the front of the piece to the connection, and answers how many: at least
     /// one, unless the piece is empty. A write that fails puts none out, and so does one of a piece
@@ -75,29 +65,21 @@ pub trait Door {
     fn write(&mut self, piece: &[u8]) -> Result<usize, Failed>
         ensures within { IfOk result (λ n. n ≤ length piece.now) }
         ensures some { IfOk result (λ n. 0 < length piece.now → 0 < n) }
-        ensures octets { tells → IfOk result (λ n. state self.new ≡ put_out (take n piece.now) (state self.old)) }
-        ensures nowhere { tells → (state self.old).stands ≡ false → OnOk result (piece.now ≡ []) }
-        ensures err { tells → OnErr result (state self.new ≡ state self.old) }
-        ensures cause { Counts (is_err result) (writes self.old) (writes self.new) }
-        ensures count { writes self.new ≡ counted (is_err result) (writes self.old) }
-        ensures last { failed self.new ≡ is_err result }
-        ensures turns { turns self.new ≡ turns self.old }
-        ensures reads { reads self.new ≡ reads self.old };
+        ensures octets { tells → IfOk result (λ n. (view self.new).state ≡ put_out (take n piece.now) (view self.old).state) }
+        ensures nowhere { tells → (view self.old).state.stands ≡ false → OnOk result (piece.now ≡ []) }
+        ensures err { tells → OnErr result ((view self.new).state ≡ (view self.old).state) }
+        ensures cause { Counts (is_err result) (view self.old).writes (view self.new).writes }
+        ensures count { (view self.new).writes ≡ counted (is_err result) (view self.old).writes }
+        ensures last { (view self.new).failed ≡ is_err result }
+        ensures turns { (view self.new).turns ≡ (view self.old).turns }
+        ensures reads { (view self.new).reads ≡ (view self.old).reads };
 }
 
 /// A door that is lent is a door.
 impl<D: Door> Door for &mut D {
     ghost tells = { D.tells };
 
-    ghost state = { λ door. D.state door.now };
-
-    ghost turns = { λ door. D.turns door.now };
-
-    ghost reads = { λ door. D.reads door.now };
-
-    ghost writes = { λ door. D.writes door.now };
-
-    ghost failed = { λ door. D.failed door.now };
+    ghost view = { λ door. D.view door.now };
 
     fn bind(&mut self, port: u16) -> Result<(), Failed> {
         (**self).bind(port)

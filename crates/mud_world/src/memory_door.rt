@@ -153,19 +153,12 @@ impl Door for MemoryDoor {
     ghost use Rattle.mud_world.specs.Calls.{counted, next_call};
     ghost use Rattle.mud_world.specs.Causes.{Counts};
     ghost use Rattle.mud_world.specs.Door.{Reads, bound_anew, departed, gone_on, has_more, put_out};
+    ghost use Rattle.mud_world.specs.View.{viewed};
     ghost use Rattle.mud_world.specs.MemoryDoor.{memory_state, bind_fails, next_fails, read_fails, write_fails, room_left, piece_left, SameScript};
 
     ghost tells = { Unit {0} };
 
-    ghost state = { memory_state };
-
-    ghost turns = { λ door. door.turn_count };
-
-    ghost reads = { λ door. door.read_count };
-
-    ghost writes = { λ door. door.write_count };
-
-    ghost failed = { λ door. door.failed };
+    ghost view = { λ door. viewed (memory_state door) door.turn_count door.read_count door.write_count door.failed };
 
     fn bind(&mut self, port: u16) -> Result<(), Failed>
         ensures ok { OnOk result (memory_state self.new ≡ bound_anew port (memory_state self.old)) }

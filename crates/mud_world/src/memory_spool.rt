@@ -3,6 +3,7 @@ ghost use Rattle.std.specs.Prelude.{◌≡◌, ◌≤◌, length, None, Some, op
 ghost use Rattle.mud_world.specs.Calls.{counted, next_call};
 ghost use Rattle.mud_world.specs.Causes.{Counts};
 ghost use Rattle.mud_world.specs.Files.{content_of, has_failed, names_of, read_part};
+ghost use Rattle.mud_world.specs.View.{spool_viewed};
 
 use crate::calls::{is_to_fail, raise};
 use crate::fault::SpoolFault;
@@ -31,6 +32,7 @@ pub struct MemorySpool {
     pub count: u64,
     /// How often each call was made.
     pub calls: SpoolCalls,
+    failed: bool,
 }
 
 impl MemorySpool {
@@ -46,6 +48,7 @@ impl MemorySpool {
             failing_read: Listed::new(alloc),
             count: 0,
             calls: SpoolCalls { list: 0, read: 0 },
+            failed: false,
         }
     }
 }
@@ -55,23 +58,24 @@ impl Spool for MemorySpool {
 
     ghost tells = { Unit {0} };
 
-    ghost files = { λ spool. spool.files };
-
-    ghost faults = { λ spool. spool.count };
+    ghost view = { λ spool. spool_viewed spool.files spool.count spool.failed };
 
     fn list(&mut self, alloc: Global) -> Result<Listed<Bytes>, SpoolFault>
         ensures names { IfOk result (λ names. names ≡ names_of self.old.files) }
         ensures same { self.new.files ≡ self.old.files }
         ensures fails { has_failed result ≡ list_fails self.old }
         ensures count { self.new.count ≡ counted (has_failed result) self.old.count }
+        ensures last { self.new.failed ≡ has_failed result }
         ensures calls { self.new.calls ≡ record self.old.calls { list = next_call self.old.calls.list } }
         ensures script { SameScript self.old self.new }
         ensures cause { Counts (has_failed result) self.old.count self.new.count }
     {
         if is_to_fail(&self.failing_list, &mut self.calls.list) {
             raise(&mut self.count);
+            self.failed = true;
             return Err(SpoolFault::Failed);
         }
+        self.failed = false;
         Ok(names(alloc, self.files.as_slice())?)
     }
 
@@ -83,15 +87,18 @@ impl Spool for MemorySpool {
         ensures same { self.new.files ≡ self.old.files }
         ensures fails { has_failed result ≡ read_fails self.old name.now }
         ensures count { self.new.count ≡ counted (has_failed result) self.old.count }
+        ensures last { self.new.failed ≡ has_failed result }
         ensures calls { self.new.calls ≡ record self.old.calls { read = next_call self.old.calls.read } }
         ensures script { SameScript self.old self.new }
         ensures cause { Counts (has_failed result) self.old.count self.new.count }
     {
+        self.failed = false;
         let listed = is_to_fail(&self.failing_read, &mut self.calls.read);
         match content(self.files.as_slice(), name) {
             Some(octets) if !listed => Ok(first_part(alloc, octets)?),
             _ => {
                 raise(&mut self.count);
+                self.failed = true;
                 Err(SpoolFault::Failed)
             }
         }

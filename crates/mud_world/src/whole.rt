@@ -40,13 +40,13 @@ impl From<Memory> for ReadFault {
 
 /// Writes the whole line to the connection, or a first part of it and then fails.
 pub fn say<D: Door>(door: &mut D, line: &[u8]) -> Result<(), Failed>
-    ensures ok { D.tells → OnOk result (D.state door.new ≡ put_out line.now (D.state door.old)) }
-    ensures part { D.tells → OnErr result (WrotePart line.now (D.state door.old) (D.state door.new)) }
-    ensures nowhere { D.tells → (D.state door.old).stands ≡ false → OnOk result (line.now ≡ []) }
-    ensures cause { Counts (is_err result) (D.writes door.old) (D.writes door.new) }
-    ensures stop { OnErr result (StopsAtFailure (D.failed door.new) (D.writes door.old) (D.writes door.new)) }
-    ensures turns { D.turns door.new ≡ D.turns door.old }
-    ensures reads { D.reads door.new ≡ D.reads door.old }
+    ensures ok { D.tells → OnOk result ((D.view door.new).state ≡ put_out line.now (D.view door.old).state) }
+    ensures part { D.tells → OnErr result (WrotePart line.now (D.view door.old).state (D.view door.new).state) }
+    ensures nowhere { D.tells → (D.view door.old).state.stands ≡ false → OnOk result (line.now ≡ []) }
+    ensures cause { Counts (is_err result) (D.view door.old).writes (D.view door.new).writes }
+    ensures stop { OnErr result (StopsAtFailure (D.view door.new).failed (D.view door.old).writes (D.view door.new).writes) }
+    ensures turns { (D.view door.new).turns ≡ (D.view door.old).turns }
+    ensures reads { (D.view door.new).reads ≡ (D.view door.old).reads }
 {
     let mut at = 0;
     while at < line.len() {
@@ -59,13 +59,13 @@ pub fn say<D: Door>(door: &mut D, line: &[u8]) -> Result<(), Failed>
 /// has at most `most` octets, the connection was read to its end. After an error a first part of
 /// those octets is taken.
 pub fn read_whole<D: Door>(alloc: Global, door: &mut D, most: usize) -> Result<Bytes, ReadFault>
-    ensures octets { D.tells → IfOk result (λ octets. ReadWhole octets most (D.state door.old) (D.state door.new)) }
+    ensures octets { D.tells → IfOk result (λ octets. ReadWhole octets most (D.view door.old).state (D.view door.new).state) }
     ensures within { IfOk result (λ octets. length octets ≤ most + 1) }
-    ensures part { D.tells → OnErr result (TookPart (most + 1) (D.state door.old) (D.state door.new)) }
-    ensures cause { Counts (has_failed result) (D.reads door.old) (D.reads door.new) }
-    ensures stop { IsTrue (has_failed result) → StopsAtFailure (D.failed door.new) (D.reads door.old) (D.reads door.new) }
-    ensures turns { D.turns door.new ≡ D.turns door.old }
-    ensures writes { D.writes door.new ≡ D.writes door.old }
+    ensures part { D.tells → OnErr result (TookPart (most + 1) (D.view door.old).state (D.view door.new).state) }
+    ensures cause { Counts (has_failed result) (D.view door.old).reads (D.view door.new).reads }
+    ensures stop { IsTrue (has_failed result) → StopsAtFailure (D.view door.new).failed (D.view door.old).reads (D.view door.new).reads }
+    ensures turns { (D.view door.new).turns ≡ (D.view door.old).turns }
+    ensures writes { (D.view door.new).writes ≡ (D.view door.old).writes }
 {
     let mut buffer = [0; BUFFER];
     let mut text = Bytes::empty(alloc);
@@ -96,13 +96,13 @@ fn room_for(left: usize) -> usize
 /// that were.
 fn read_on<D: Door>(door: &mut D, buffer: &mut [u8], text: &mut Bytes) -> Result<usize, ReadFault>
     ensures within { IfOk result (λ n. n ≤ length buffer.new) }
-    ensures octets { D.tells → Reads (D.state door.old) (D.state door.new) result buffer.new }
+    ensures octets { D.tells → Reads (D.view door.old).state (D.view door.new).state result buffer.new }
     ensures text { IfOk result (λ n. text.new ≡ text.old ++ take n buffer.new) }
-    ensures part { D.tells → OnErr result (TookPart (length buffer.new) (D.state door.old) (D.state door.new)) }
-    ensures cause { Counts (has_failed result) (D.reads door.old) (D.reads door.new) }
-    ensures stop { IsTrue (has_failed result) → StopsAtFailure (D.failed door.new) (D.reads door.old) (D.reads door.new) }
-    ensures turns { D.turns door.new ≡ D.turns door.old }
-    ensures writes { D.writes door.new ≡ D.writes door.old }
+    ensures part { D.tells → OnErr result (TookPart (length buffer.new) (D.view door.old).state (D.view door.new).state) }
+    ensures cause { Counts (has_failed result) (D.view door.old).reads (D.view door.new).reads }
+    ensures stop { IsTrue (has_failed result) → StopsAtFailure (D.view door.new).failed (D.view door.old).reads (D.view door.new).reads }
+    ensures turns { (D.view door.new).turns ≡ (D.view door.old).turns }
+    ensures writes { (D.view door.new).writes ≡ (D.view door.old).writes }
 {
     let count = door.read(buffer)?;
     text.append(&buffer[..count])?;

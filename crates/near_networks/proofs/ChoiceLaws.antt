@@ -3,32 +3,18 @@ use Rattle.std.proofs.Common.{◌≡◌, inl, inr, Bool, true, false, cond, ◌&
 use Rattle.std.specs.List.{filter_map, cons_option, list_any, list_all}
 use Rattle.std.specs.Option.{option_map_or, option_and_then}
 use Rattle.std.proofs.lemmas.Bool.{false≢true}
+use Rattle.std.proofs.Math.Bool.{or-false, and_comm}
 use Rattle.sorted_rows.proofs.ListTests.{any-map, any-flat_map}
+use Rattle.sorted_rows.proofs.Lists.{any_const}
 use Rattle.mud_base.specs.declared.prefix.Prefix.{Prefix}
 use Rattle.near_networks.specs.Networks.{holds_all, common_part, common_of, choices}
 use Rattle.near_networks.proofs.PrefixLaws.{IsOfPrefixes}
 
 -- ---- Tests of the elements
 
-pub and_comm : (b c : Bool) → (b && c) ≡ (c && b)
-and_comm true true = refl
-and_comm true false = refl
-and_comm false true = refl
-and_comm false false = refl
-
-pub or_false : (b : Bool) → (b || false) ≡ b
-or_false true = refl
-or_false false = refl
-
 pub any_alike : {A : Type 0} (p q : A → Bool) (xs : List A) → ((x : A) → p x ≡ q x) → list_any p xs ≡ list_any q xs
 any_alike p q [] alike = refl
 any_alike p q (x ∷ xs) alike = ap (λ b. b || list_any p xs) (alike x) ∙ ap (λ b. q x || b) (any_alike p q xs alike)
-
--- the one conjunct doesn't speak of the element
-pub any_const : {A : Type 0} (b : Bool) (q : A → Bool) (xs : List A) → list_any (λ x. b && q x) xs ≡ (b && list_any q xs)
-any_const true q xs = refl
-any_const false q [] = refl
-any_const false q (x ∷ xs) = any_const false q xs
 
 pub any_left_const : {A : Type 0} (c : Bool) (q : A → Bool) (xs : List A) → list_any (λ x. q x && c) xs ≡ (list_any q xs && c)
 any_left_const c q xs = any_alike (λ x. q x && c) (λ x. c && q x) xs (λ x. and_comm (q x) c) ∙ any_const c q xs ∙ and_comm c (list_any q xs)
@@ -72,7 +58,7 @@ by_first test ps pss =
 
 one_list : (t : Prefix → Bool) (ps : List Prefix) → some_choice t (ps ∷ []) ≡ list_any t ps
 unfolding choices common_of
-one_list t ps = by_first (of_choice t) ps [] ∙ any_alike (λ p. list_any (λ c. of_choice t (p ∷ c)) ([] ∷ [])) t ps (λ p. or_false (t p))
+one_list t ps = by_first (of_choice t) ps [] ∙ any_alike (λ p. list_any (λ c. of_choice t (p ∷ c)) ([] ∷ [])) t ps (λ p. or-false (t p))
 
 -- a choice has a prefix, so the first one's common part with the rest is one of two
 two_prefixes : (t : Prefix → Bool) (p : Prefix) (qs : List Prefix) (pss : List (List Prefix)) → list_any (λ c. of_choice t (p ∷ c)) (choices (qs ∷ pss)) ≡ some_choice (with_first t p) (qs ∷ pss)

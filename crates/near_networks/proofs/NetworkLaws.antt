@@ -3,6 +3,7 @@ use Rattle.std.proofs.Common.{◌≡◌, ℕ, suc, ◌+◌, ◌<◌, length, get
 use Rattle.std.specs.Prelude.{flat_map}
 use Rattle.std.specs.List.{filter_map, list_any, list_all, filter}
 use Rattle.std.proofs.lemmas.Bool.{false≢true}
+use Rattle.std.proofs.Math.Bool.{or-false}
 use Rattle.sorted_rows.specs.Placed.{set_row, set_rows}
 use Rattle.sorted_rows.specs.Addresses.{addr_place, prefix_place}
 use Rattle.sorted_rows.proofs.ListTests.{any-flat_map}
@@ -19,7 +20,7 @@ use Rattle.acl_model.specs.Keys.{is_member}
 use Rattle.acl_model.specs.Match.{is_in_family, is_local, near_met, near_matches}
 use Rattle.near_networks.specs.Networks.{common_part, is_local_of, named_by, is_near, has_near, in_order, near_names, near_networks, joined_with, joint_with, joint, asked_networks}
 use Rattle.near_networks.proofs.PrefixLaws.{of_address}
-use Rattle.near_networks.proofs.ChoiceLaws.{or_false, any_alike, any-filter_map, commons, with_first, one_commons, more_commons, all_lists}
+use Rattle.near_networks.proofs.ChoiceLaws.{any_alike, any-filter_map, commons, with_first, one_commons, more_commons, all_lists}
 use Rattle.near_networks.proofs.RowTests.{any-ordered, ordered_alike}
 
 -- ---- Places
@@ -91,7 +92,7 @@ module _ (family : Family) (locals : List Prefix) (a : Addr) (of_family : is_in_
   all_named (asks.Model url ∷ ss) = all_named ss
   all_named (asks.Name name ∷ ss) = all_named ss
   all_named (asks.LocalNetworks ∷ ss) = ap (λ b. b && list_all (λ ps. list_any holds ps) (names ss)) near_locals ∙ ap (λ b. is_local locals a && b) (all_named ss)
-  all_named (asks.Network p ∷ ss) = ap (λ b. b && list_all (λ ps. list_any holds ps) (names ss)) (or_false (holds p)) ∙ ap (λ b. holds p && b) (all_named ss)
+  all_named (asks.Network p ∷ ss) = ap (λ b. b && list_all (λ ps. list_any holds ps) (names ss)) (or-false (holds p)) ∙ ap (λ b. holds p && b) (all_named ss)
 
 -- ---- Whether there is a near selector
 
@@ -131,7 +132,7 @@ found [] = None
 found (ps ∷ pss) = Some (in_order (commons (ps ∷ pss)))
 
 list_one : (t : Prefix → Bool) (p : Prefix) → list_any t (p ∷ []) ≡ t p
-list_one t p = or_false (t p)
+list_one t p = or-false (t p)
 
 joined_found : (ps : List Prefix) (pss : List (List Prefix)) → in_order (flat_map (joined_with (found pss)) ps) ≡ in_order (commons (ps ∷ pss))
 unfolding found joined_with
@@ -174,10 +175,10 @@ module _ (family : Family) (locals : List Prefix) where
 
 -- ---- One local network at a time
 
-abbrev put : List Prefix → List Prefix → List Prefix
+abbrev pub put : List Prefix → List Prefix → List Prefix
 put ps rows = set_rows prefix_place ps rows
 
-put-append : (ps qs rows : List Prefix) → put (ps ++ qs) rows ≡ put qs (put ps rows)
+pub put-append : (ps qs rows : List Prefix) → put (ps ++ qs) rows ≡ put qs (put ps rows)
 put-append [] qs rows = refl
 put-append (p ∷ ps) qs rows = put-append ps qs (set_row prefix_place p rows)
 

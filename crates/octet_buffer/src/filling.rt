@@ -35,13 +35,13 @@ fn read_behind<D: Door>(door: &mut D, octets: &mut [u8], at: usize) -> Result<us
     ensures within { IfOk result (λ n. at + n ≤ length octets.new) }
     ensures front { take at octets.new ≡ take at octets.old }
     ensures octets { D.tells → IfOk result (λ n.
-        Took (take n (drop at octets.new)) (D.state door.old) (D.state door.new)
-        × (n ≡ 0 → (D.state door.old).left ≡ [])) }
-    ensures err { D.tells → OnErr result (D.state door.new ≡ D.state door.old) }
-    ensures cause { Counts (is_err result) (D.reads door.old) (D.reads door.new) }
-    ensures stop { OnErr result (StopsAtFailure (D.failed door.new) (D.reads door.old) (D.reads door.new)) }
-    ensures turns { D.turns door.new ≡ D.turns door.old }
-    ensures writes { D.writes door.new ≡ D.writes door.old }
+        Took (take n (drop at octets.new)) (D.view door.old).state (D.view door.new).state
+        × (n ≡ 0 → (D.view door.old).state.left ≡ [])) }
+    ensures err { D.tells → OnErr result ((D.view door.new).state ≡ (D.view door.old).state) }
+    ensures cause { Counts (is_err result) (D.view door.old).reads (D.view door.new).reads }
+    ensures stop { OnErr result (StopsAtFailure (D.view door.new).failed (D.view door.old).reads (D.view door.new).reads) }
+    ensures turns { (D.view door.new).turns ≡ (D.view door.old).turns }
+    ensures writes { (D.view door.new).writes ≡ (D.view door.old).writes }
 {
     let (_, room) = octets.split_at_mut(at);
     door.read(room)
@@ -62,13 +62,13 @@ pub fn refill<D: Door>(
     ensures within { IfOk result (λ n. end - start + n ≤ length octets.new) }
     ensures front { take (end - start) octets.new ≡ slice_range octets.old start end }
     ensures octets { D.tells → IfOk result (λ n.
-        Took (take n (drop (end - start) octets.new)) (D.state door.old) (D.state door.new)
-        × (n ≡ 0 → (D.state door.old).left ≡ [])) }
-    ensures err { D.tells → OnErr result (D.state door.new ≡ D.state door.old) }
-    ensures cause { Counts (is_err result) (D.reads door.old) (D.reads door.new) }
-    ensures stop { OnErr result (StopsAtFailure (D.failed door.new) (D.reads door.old) (D.reads door.new)) }
-    ensures turns { D.turns door.new ≡ D.turns door.old }
-    ensures writes { D.writes door.new ≡ D.writes door.old }
+        Took (take n (drop (end - start) octets.new)) (D.view door.old).state (D.view door.new).state
+        × (n ≡ 0 → (D.view door.old).state.left ≡ [])) }
+    ensures err { D.tells → OnErr result ((D.view door.new).state ≡ (D.view door.old).state) }
+    ensures cause { Counts (is_err result) (D.view door.old).reads (D.view door.new).reads }
+    ensures stop { OnErr result (StopsAtFailure (D.view door.new).failed (D.view door.old).reads (D.view door.new).reads) }
+    ensures turns { (D.view door.new).turns ≡ (D.view door.old).turns }
+    ensures writes { (D.view door.new).writes ≡ (D.view door.old).writes }
 {
     move_to_front(octets, start, end);
     read_behind(door, octets, end - start)

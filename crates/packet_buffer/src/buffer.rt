@@ -97,18 +97,18 @@ impl<const SIZE: usize> Buffer<SIZE> {
 
     /// Reads once of the source, as much as the read gives, and answers how many octets that were:
     /// 0 only at the end.
-    pub fn fill<D: Door>(&mut self, source: &mut D) -> Result<usize, Failed>
+    fn fill<D: Door>(&mut self, source: &mut D) -> Result<usize, Failed>
         requires { length self.old.held < SIZE }
         ensures grown { IfOk result (λ n. length self.new.held ≡ length self.old.held + n) }
         ensures octets { D.tells → IfOk result (λ _.
-            Fetched self.old.held self.new.held (D.state source.old) (D.state source.new)) }
-        ensures end { D.tells → IfOk result (λ n. n ≡ 0 → (D.state source.new).left ≡ []) }
+            Fetched self.old.held self.new.held (D.view source.old).state (D.view source.new).state) }
+        ensures end { D.tells → IfOk result (λ n. n ≡ 0 → (D.view source.new).state.left ≡ []) }
         ensures kept { OnErr result (self.new.held ≡ self.old.held) }
-        ensures err { D.tells → OnErr result (D.state source.new ≡ D.state source.old) }
-        ensures cause { Counts (is_err result) (D.reads source.old) (D.reads source.new) }
-        ensures stop { OnErr result (StopsAtFailure (D.failed source.new) (D.reads source.old) (D.reads source.new)) }
-        ensures turns { D.turns source.new ≡ D.turns source.old }
-        ensures writes { D.writes source.new ≡ D.writes source.old }
+        ensures err { D.tells → OnErr result ((D.view source.new).state ≡ (D.view source.old).state) }
+        ensures cause { Counts (is_err result) (D.view source.old).reads (D.view source.new).reads }
+        ensures stop { OnErr result (StopsAtFailure (D.view source.new).failed (D.view source.old).reads (D.view source.new).reads) }
+        ensures turns { (D.view source.new).turns ≡ (D.view source.old).turns }
+        ensures writes { (D.view source.new).writes ≡ (D.view source.old).writes }
     {
         let (start, end) = (self.start, self.end);
         self.from = 0;
@@ -129,14 +129,14 @@ pub fn fetch<D: Door, const SIZE: usize>(
 ) -> Result<bool, Failed>
     requires { count ≤ SIZE }
     ensures enough { IfOk result (λ enough. enough ≡ nat_le count (length buffer.new.held)) }
-    ensures end { D.tells → IfOk result (λ enough. enough ≡ false → (D.state source.new).left ≡ []) }
+    ensures end { D.tells → IfOk result (λ enough. enough ≡ false → (D.view source.new).state.left ≡ []) }
     ensures short { OnErr result (length buffer.new.held < count) }
-    ensures octets { D.tells → Fetched buffer.old.held buffer.new.held (D.state source.old) (D.state source.new) }
+    ensures octets { D.tells → Fetched buffer.old.held buffer.new.held (D.view source.old).state (D.view source.new).state }
     ensures untouched { count ≤ length buffer.old.held → (source.new ≡ source.old) × (buffer.new.held ≡ buffer.old.held) }
-    ensures cause { Counts (is_err result) (D.reads source.old) (D.reads source.new) }
-    ensures stop { OnErr result (StopsAtFailure (D.failed source.new) (D.reads source.old) (D.reads source.new)) }
-    ensures turns { D.turns source.new ≡ D.turns source.old }
-    ensures writes { D.writes source.new ≡ D.writes source.old }
+    ensures cause { Counts (is_err result) (D.view source.old).reads (D.view source.new).reads }
+    ensures stop { OnErr result (StopsAtFailure (D.view source.new).failed (D.view source.old).reads (D.view source.new).reads) }
+    ensures turns { (D.view source.new).turns ≡ (D.view source.old).turns }
+    ensures writes { (D.view source.new).writes ≡ (D.view source.old).writes }
 {
     'more: while buffer.held().len() < count {
         if buffer.fill(source)? == 0 {

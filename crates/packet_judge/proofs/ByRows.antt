@@ -5,6 +5,8 @@ use Rattle.std.specs.Option.{option_map, option_map_or}
 use Rattle.std.proofs.lemmas.Bool.{false≢true}
 use Rattle.std.proofs.lemmas.Option.{same_Some, none-some}
 use Rattle.std.proofs.lemmas.Slice.Eq.{bytes_eq-Decides}
+use Rattle.std.specs.Cmp.{first_so, second_so}
+use Rattle.std.proofs.Math.Bool.{and-false}
 use Rattle.sorted_rows.specs.Placed.{PlacesAscend}
 use Rattle.mud_base.specs.declared.packet.Direction.{Direction}
 use Rattle.mud_base.specs.declared.packet.Direction.TheVariants.{From, To}
@@ -26,7 +28,7 @@ use Rattle.acl_rows.specs.declared.row.Owner.{Owner}
 use Rattle.acl_rows.specs.declared.row.Owner.TheVariants.{Url, Default}
 use Rattle.acl_rows.specs.declared.row.Row.{Row}
 use Rattle.acl_model.specs.Places.{binding_place}
-use Rattle.acl_rows.specs.Rows.{never, row, entry_at, end_at, held_by, slot_policy, default_held, Slots, Holder, rows_of}
+use Rattle.acl_rows.specs.Rows.{for_ever, row, entry_at, end_at, held_by, slot_policy, default_held, Slots, Holder, rows_of}
 use Rattle.acl_rows.specs.View.{Part, part, View, rows_at, rows_of_side, wide_from, in_slot, holder_from, IsPartOf, IsFilePart}
 use Rattle.acl_rows.proofs.Sound.{end_at-entry}
 use Rattle.acl_rows.proofs.AtPlaces.{row_at-rows_of, ascend-rows_of}
@@ -37,27 +39,15 @@ use Rattle.packet_judge.proofs.Rulings.{at_number, IsRest, all_rest, rest_next, 
 use Rattle.packet_judge.proofs.LiveBindings.{live_end, entry_alike}
 use Rattle.packet_judge.proofs.FirstRow.{live_row, hit, row_test, least-peer_rows}
 
-first_true : (b c : Bool) → (b && c) ≡ true → b ≡ true
-first_true true c e = refl
-first_true false c e = absurd (false≢true e)
-
-second_true : (b c : Bool) → (b && c) ≡ true → c ≡ true
-second_true true c e = e
-second_true false c e = absurd (false≢true e)
-
-and_false : (x : Bool) → (x && false) ≡ false
-and_false true = refl
-and_false false = refl
-
 -- what passes is of the entry's family
 passes_family : (asked : Asked) (side : Direction) (e : Entry) → passes asked side e ≡ true → is_in_family e.family (peer_of side asked.fields) ≡ true
 unfolding passes rest_matches family_matches peer_of
 passes_family asked From e p =
-    second_true (is_in_family e.family asked.fields.src) (is_in_family e.family asked.fields.dst)
-    (first_true _ _ (first_true _ _ (first_true _ _ (second_true (near_matches e asked.fields.dst asked.locals) _ p))))
+    second_so (is_in_family e.family asked.fields.src) (is_in_family e.family asked.fields.dst)
+    (first_so _ _ (first_so _ _ (first_so _ _ (second_so (near_matches e asked.fields.dst asked.locals) _ p))))
 passes_family asked To e p =
-    first_true (is_in_family e.family asked.fields.src) (is_in_family e.family asked.fields.dst)
-    (first_true _ _ (first_true _ _ (first_true _ _ (second_true (near_matches e asked.fields.src asked.locals) _ p))))
+    first_so (is_in_family e.family asked.fields.src) (is_in_family e.family asked.fields.dst)
+    (first_so _ _ (first_so _ _ (first_so _ _ (second_so (near_matches e asked.fields.src asked.locals) _ p))))
 
 -- the match by the bindings, in what is asked
 unfoldable pub matched : List Binding → Asked → List ℕ → Direction → Entry → Bool
@@ -71,7 +61,7 @@ pub part_is : (rows : List Row) (side : Direction) (owner : Owner) (policy : Pol
 unfolding part_of
 part_is rows side owner policy p is = λ i. part (is.side_is i) (is.entries i) (is.wide i) (is.rows_are i) p.among
 
-module _ (slots : Slots) (bindings : List Binding) (ascend : PlacesAscend binding_place bindings) (asked : Asked) (small : asked.moment < never) (side : Direction) (among : ℕ) where
+module _ (slots : Slots) (bindings : List Binding) (ascend : PlacesAscend binding_place bindings) (asked : Asked) (small : asked.moment < for_ever) (side : Direction) (among : ℕ) where
   unfoldable pub own_part : Owner → UrlPolicy → Part
   own_part owner held = part_of (rows_of slots bindings) side owner held.policy among
 
@@ -84,7 +74,7 @@ module _ (slots : Slots) (bindings : List Binding) (ascend : PlacesAscend bindin
       → ((live_end asked.moment (end_at slots bindings owner side (peer_of side asked.fields) n) && option_map_or (passes asked side) o false) || option_map_or (λ e. not (is_membered e) && passes asked side e) o false)
       ≡ option_map_or (matched bindings asked held.url side) o false
   unfolding matched matches_by_bindings passes
-  number_by owner held h n None is = ap (λ b. b || false) (and_false _)
+  number_by owner held h n None is = ap (λ b. b || false) (and-false _)
   number_by owner held h n (Some e) is =
       ap (λ (u : Option ℕ). (live_end asked.moment u && passes asked side e) || (not (is_membered e) && passes asked side e)) (end_at-entry slots bindings owner side (peer_of side asked.fields) n held e h is)
       ∙ entry_alike bindings ascend held.url e (peer_of side asked.fields) asked.moment small (passes asked side e) (passes_family asked side e)
@@ -102,7 +92,7 @@ module _ (slots : Slots) (bindings : List Binding) (ascend : PlacesAscend bindin
 
   none_at_zero : (owner : Owner) (held : UrlPolicy) → hit owner side (peer_of side asked.fields) asked.moment (passes_at asked (own_part owner held)) (rows_of slots bindings) 0 ≡ false
   unfolding hit passes_at own_part part_of entry_at
-  none_at_zero owner held = and_false _
+  none_at_zero owner held = and-false _
 
   rows_least : (owner : Owner) (held : UrlPolicy) → IsLeastFrom 0 (hit owner side (peer_of side asked.fields) asked.moment (passes_at asked (own_part owner held)) (rows_of slots bindings)) (first_row asked (own_part owner held))
   unfolding first_row row_passes peer_rows rows_at own_part part_of row_test
@@ -171,7 +161,7 @@ pub record IsHolder (slots : Slots) (url : List ℕ) (h : Holder) : Type 0 where
   pub holds : held_by slots h.0 ≡ Some h.1
   pub named : h.1.url ≡ url
 
-abbrev IsTail : Slots → ℕ → Slots → Type 0
+abbrev pub IsTail : Slots → ℕ → Slots → Type 0
 IsTail all n slots = (i : ℕ) → slice_get all (n + i) ≡ slice_get slots i
 
 holder_by : (all : Slots) (url : List ℕ) (n : ℕ) (held : UrlPolicy) (slots : Slots) (rest : Option Holder) (h : Holder) → IsTail all n (Some held ∷ slots) → (rest ≡ Some h → IsHolder all url h) → (b : Bool) → bytes_eq held.url url ≡ b → cond b (Some (Url n, held)) rest ≡ Some h → IsHolder all url h
@@ -181,7 +171,7 @@ holder_by all url n held slots rest h tail later true e is =
     subst (IsHolder all url) (same_Some (Url n, held) h is) one
 holder_by all url n held slots rest h tail later false e is = later is
 
-holder_sound : (all : Slots) (url : List ℕ) (n : ℕ) (slots : Slots) (h : Holder) → IsTail all n slots → holder_from url n slots ≡ Some h → IsHolder all url h
+pub holder_sound : (all : Slots) (url : List ℕ) (n : ℕ) (slots : Slots) (h : Holder) → IsTail all n slots → holder_from url n slots ≡ Some h → IsHolder all url h
 unfolding holder_from in_slot
 holder_sound all url n [] h tail is = absurd (none-some h is)
 holder_sound all url n (None ∷ slots) h tail is = holder_sound all url (n + 1) slots h (λ i. subst (λ m. slice_get all m ≡ slice_get slots i) {x = n + suc i} {y = (n + 1) + i} (omega arith) (tail (suc i))) is
@@ -190,7 +180,7 @@ holder_sound all url n (Some held ∷ slots) h tail is =
 
 -- ---- The whole ruling
 
-module _ (slots : Slots) (bindings : List Binding) (ascend : PlacesAscend binding_place bindings) (asked : Asked) (small : asked.moment < never) (side : Direction) (url : List ℕ) where
+module _ (slots : Slots) (bindings : List Binding) (ascend : PlacesAscend binding_place bindings) (asked : Asked) (small : asked.moment < for_ever) (side : Direction) (url : List ℕ) where
   abbrev rows : List Row
   rows = rows_of slots bindings
 
@@ -218,7 +208,7 @@ module _ (slots : Slots) (bindings : List Binding) (ascend : PlacesAscend bindin
       file_rules h p (default_at NoMatch (first_in asked defaults)) (holder_sound slots url 0 slots h (λ i. ap (slice_get slots) {x = 0 + i} {y = i} (omega arith)) is) file (defaults_rule NoMatch defaults rest)
 
 -- The ruling by the rows of a view is the one by the bindings, at every moment.
-pub rows_alike : (slots : Slots) (bindings : List Binding) (url : List ℕ) (policy : Option Policy) (side : Direction) (view : View) (asked : Asked) → IsViewOver slots bindings url policy side view → asked.moment < never
+pub rows_alike : (slots : Slots) (bindings : List Binding) (url : List ℕ) (policy : Option Policy) (side : Direction) (view : View) (asked : Asked) → IsViewOver slots bindings url policy side view → asked.moment < for_ever
     → ruling_by_rows asked view ≡ ruling_by_bindings bindings asked.locals asked.moment url policy side asked.fields asked.begun
 unfolding ruling_by_rows ruling_by_bindings matched
 rows_alike slots bindings url policy side view asked is small =

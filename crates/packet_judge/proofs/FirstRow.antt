@@ -5,7 +5,8 @@ use Rattle.std.specs.Option.{option_map, option_map_or}
 use Rattle.std.specs.Ordering.{nat_cmp, ordering_then}
 use Rattle.std.specs.declared.cmp.Ordering.{Ordering}
 use Rattle.std.specs.declared.cmp.Ordering.TheVariants.{Less, Equal, Greater}
-use Rattle.std.proofs.lemmas.Bool.{false≢true, eqb-true, eq-eqb, lt-ltb}
+use Rattle.std.proofs.lemmas.Bool.{false≢true, eqb-true, lt-ltb, false_from_ne_true}
+use Rattle.std.specs.Cmp.{first_so, second_so}
 use Rattle.sorted_rows.specs.Placed.{place_cmp, same_place, PlacesAbove, PlacesAscend, row_at, is_under, rows_under}
 use Rattle.sorted_rows.proofs.PlacedLaws.{place_cmp_itself, same_place_itself, same_place_exact, above_trans, row_at_above}
 use Rattle.sorted_rows.specs.Addresses.{addr_place}
@@ -16,48 +17,27 @@ use Rattle.acl_rows.specs.declared.row.Row.{Row}
 use Rattle.acl_rows.specs.Places.{owner_class, owner_number, side_number, owner_place, side_place, peer_place, place_at, row_place}
 use Rattle.acl_rows.specs.View.{rows_of_side, is_at}
 use Rattle.acl_rows.proofs.PlaceOrder.{place_at-cmp}
-use Rattle.acl_rows.proofs.Parts.{under_peer, rows_under-peer}
-use Rattle.acl_model.proofs.BindingLaws.{same_addr_exact, same_addr_itself}
+use Rattle.acl_rows.proofs.Parts.{under_peer, rows_under-peer, placed_under}
+use Rattle.acl_model.proofs.BindingLaws.{same_addr_exact}
 use Rattle.acl_rows.proofs.Coordinates.{AreSame, same_coordinates}
 use Rattle.mud_tables.specs.Ends.{is_live}
 use Rattle.packet_judge.specs.ByRows.{number_of}
 use Rattle.packet_judge.proofs.Least.{IsLeastFrom, least_alike}
 
-first_true : (b c : Bool) → (b && c) ≡ true → b ≡ true
-first_true true c e = refl
-first_true false c e = absurd (false≢true e)
-
-second_true : (b c : Bool) → (b && c) ≡ true → c ≡ true
-second_true true c e = e
-second_true false c e = absurd (false≢true e)
-
 three : (a b c a' b' c' : ℕ) → (nat_eq a a' && (nat_eq b b' && (nat_eq c c' && true))) ≡ true → (a' ≡ a) × (b' ≡ b) × (c' ≡ c)
 three a b c a' b' c' h =
-    let later : (nat_eq b b' && (nat_eq c c' && true)) ≡ true = second_true (nat_eq a a') _ h in
-    let last : (nat_eq c c' && true) ≡ true = second_true (nat_eq b b') _ later in
-    (sym (eqb-true a a' (first_true (nat_eq a a') _ h)), sym (eqb-true b b' (first_true (nat_eq b b') _ later)), sym (eqb-true c c' (first_true (nat_eq c c') _ last)))
+    let later : (nat_eq b b' && (nat_eq c c' && true)) ≡ true = second_so (nat_eq a a') _ h in
+    let last : (nat_eq c c' && true) ≡ true = second_so (nat_eq b b') _ later in
+    (sym (eqb-true a a' (first_so (nat_eq a a') _ h)), sym (eqb-true b b' (first_so (nat_eq b b') _ later)), sym (eqb-true c c' (first_so (nat_eq c c') _ last)))
 
 -- a row under the place of a peer stands at that peer
 pub under_at : (o : Owner) (s : Direction) (a : Addr) (x : Row) → is_under row_place (peer_place o s a) x ≡ true → row_place x ≡ place_at o s a x.entry
 unfolding row_place place_at peer_place side_place owner_place is_at
 under_at o s a x e =
     let both : (is_under row_place (side_place o s) x && is_at a x) ≡ true = sym (under_peer o s a x) ∙ e in
-    let sides = three (owner_class o) (owner_number o) (side_number s) (owner_class x.owner) (owner_number x.owner) (side_number x.side) (first_true (is_under row_place (side_place o s) x) (is_at a x) both) in
-    let at : x.addr ≡ a = sym (same_addr_exact a x.addr (second_true (is_under row_place (side_place o s) x) (is_at a x) both)) in
+    let sides = three (owner_class o) (owner_number o) (side_number s) (owner_class x.owner) (owner_number x.owner) (side_number x.side) (first_so (is_under row_place (side_place o s) x) (is_at a x) both) in
+    let at : x.addr ≡ a = sym (same_addr_exact a x.addr (second_so (is_under row_place (side_place o s) x) (is_at a x) both)) in
     λ i. sides.0 i ∷ (sides.1 i ∷ (sides.2 i ∷ (addr_place (at i) ++ x.entry ∷ [])))
-
-itself : (n : ℕ) → nat_eq n n ≡ true
-itself n = eq-eqb n n refl
-
-under_itself : (x : Row) → is_under row_place (peer_place x.owner x.side x.addr) x ≡ true
-unfolding row_place place_at peer_place side_place owner_place is_at
-under_itself x = under_peer x.owner x.side x.addr x ∙ rw (itself (owner_class x.owner), itself (owner_number x.owner), itself (side_number x.side), same_addr_itself x.addr) refl
-
-pub at_under : (o : Owner) (s : Direction) (a : Addr) (n : ℕ) (x : Row) → same_place (row_place x) (place_at o s a n) ≡ true → is_under row_place (peer_place o s a) x ≡ true
-unfolding row_place
-at_under o s a n x e =
-    let same : AreSame x.owner o x.side s x.addr a x.entry n = same_coordinates x.owner o x.side s x.addr a x.entry n (same_place_exact (row_place x) (place_at o s a n) e) in
-    ap (λ (p : List ℕ). is_under row_place p x) (λ i. peer_place (sym same.owner i) (sym same.side i) (sym same.addr i)) ∙ under_itself x
 
 nat_less : (m n : ℕ) → m < n → nat_cmp m n ≡ Less
 nat_less m n lt = ap (λ (b : Bool). cond b Less (cond (nat_eq m n) Equal Greater)) (lt-ltb m n lt)
@@ -68,10 +48,6 @@ place_at_less o s a m n lt =
     sym (place_at-cmp o o s s a a m n)
     ∙ ap (λ (order : Ordering). ordering_then order (nat_cmp m n)) (place_cmp_itself (peer_place o s a))
     ∙ nat_less m n lt
-
-not_true : (b : Bool) → (b ≡ true → ⊥) → b ≡ false
-not_true true apart = absurd (apart refl)
-not_true false apart = refl
 
 module _ (o : Owner) (s : Direction) (a : Addr) (now : ℕ) (pass : ℕ → Bool) where
   unfoldable pub live_row : Option Row → Bool
@@ -130,7 +106,7 @@ module _ (o : Owner) (s : Direction) (a : Addr) (now : ℕ) (pass : ℕ → Bool
   by_under : (x : Row) (xs : List Row) → PlacesAscend row_place (x ∷ xs) → Least xs (found xs) → (b : Bool) → is_under row_place (peer_place o s a) x ≡ b → Least (x ∷ xs) (option_map number_of (find row_test (cond b (x ∷ filter (is_under row_place (peer_place o s a)) xs) (filter (is_under row_place (peer_place o s a)) xs))))
   by_under x xs ascend rest true e = by_test x xs ascend (under_at o s a x e) rest (row_test x) refl
   by_under x xs ascend rest false e =
-      least_alike 0 (hit xs) (hit (x ∷ xs)) (λ n. pass_over x xs n (not_true (same_place (row_place x) (place_at o s a n)) (λ same. false≢true (sym e ∙ at_under o s a n x same)))) (found xs) rest
+      least_alike 0 (hit xs) (hit (x ∷ xs)) (λ n. pass_over x xs n (false_from_ne_true (same_place (row_place x) (place_at o s a n)) (λ same. false≢true (sym e ∙ placed_under o s a n x same)))) (found xs) rest
 
   -- the first row of the peer that passes has the least number that does
   pub least-rows : (rows : List Row) → PlacesAscend row_place rows → Least rows (option_map number_of (find row_test (rows_under row_place (peer_place o s a) rows)))

@@ -1,6 +1,6 @@
 -- The least number that passes a test.
-use Rattle.std.proofs.Common.{◌≡◌, ℕ, ◌+◌, ◌≤◌, ◌<◌, ◌⊎◌, inl, inr, Bool, true, false, leb, ◌||◌, min, Option, Some, None, refl, sym, ap, subst, ◌∙◌, arith}
-use Rattle.std.proofs.lemmas.Bool.{false≢true}
+use Rattle.std.proofs.Common.{◌≡◌, ℕ, ◌+◌, ◌≤◌, ◌<◌, ◌⊎◌, inl, inr, Bool, true, false, leb, ◌||◌, min, Option, Some, None, sym, ap, subst, ◌∙◌, arith}
+use Rattle.std.proofs.lemmas.Bool.{false≢true, or_left, or_right, or_from}
 use Rattle.std.proofs.lemmas.Bool.Decides.{leb_tells}
 use Rattle.packet_judge.specs.ByRows.{lesser}
 
@@ -14,23 +14,13 @@ pub least_alike : (k : ℕ) (p q : ℕ → Bool) → ((n : ℕ) → p n ≡ q n)
 least_alike k p q same None least = λ n le. sym (same n) ∙ least n le
 least_alike k p q same (Some n) least = (least.0, sym (same n) ∙ least.1, λ m le lt. sym (same m) ∙ least.2 m le lt)
 
-neither : (b c : Bool) → b ≡ false → c ≡ false → (b || c) ≡ false
-neither b c e f = ap (λ t. t || c) e ∙ f
-
-either_first : (b c : Bool) → b ≡ true → (b || c) ≡ true
-either_first b c e = ap (λ t. t || c) e
-
-either_second : (b c : Bool) → c ≡ true → (b || c) ≡ true
-either_second true c e = refl
-either_second false c e = e
-
 least_of_two : (k : ℕ) (p q : ℕ → Bool) (m n : ℕ) → IsLeastFrom k p (Some m) → IsLeastFrom k q (Some n) → ((m ≤ n) ⊎ (n < m)) → IsLeastFrom k (λ i. p i || q i) (Some (min m n))
 least_of_two k p q m n one two (inl le) =
     let is : m ≡ min m n = omega arith in
-    subst (λ i. IsLeastFrom k (λ j. p j || q j) (Some i)) is (one.0, either_first (p m) (q m) one.1, λ i low lt. neither (p i) (q i) (one.2 i low lt) (two.2 i low (omega arith)))
+    subst (λ i. IsLeastFrom k (λ j. p j || q j) (Some i)) is (one.0, or_left (p m) (q m) one.1, λ i low lt. or_from (p i) (q i) (one.2 i low lt) (two.2 i low (omega arith)))
 least_of_two k p q m n one two (inr lt) =
     let is : n ≡ min m n = omega arith in
-    subst (λ i. IsLeastFrom k (λ j. p j || q j) (Some i)) is (two.0, either_second (p n) (q n) two.1, λ i low below. neither (p i) (q i) (one.2 i low (omega arith)) (two.2 i low below))
+    subst (λ i. IsLeastFrom k (λ j. p j || q j) (Some i)) is (two.0, or_right (p n) (q n) two.1, λ i low below. or_from (p i) (q i) (one.2 i low (omega arith)) (two.2 i low below))
 
 one_or_other : (m n : ℕ) → ((leb m n ≡ true) × (m ≤ n)) ⊎ ((leb m n ≡ false) × (n < m)) → (m ≤ n) ⊎ (n < m)
 one_or_other m n (inl le) = inl le.1
@@ -48,9 +38,9 @@ eq_or_less m n le = same_or_less m n le (le_or_gt n m)
 
 -- the lesser of two least numbers
 pub least-lesser : (k : ℕ) (p q : ℕ → Bool) (o r : Option ℕ) → IsLeastFrom k p o → IsLeastFrom k q r → IsLeastFrom k (λ n. p n || q n) (lesser o r)
-least-lesser k p q None None one two = λ n le. neither (p n) (q n) (one n le) (two n le)
-least-lesser k p q None (Some n) one two = (two.0, either_second (p n) (q n) two.1, λ m le lt. neither (p m) (q m) (one m le) (two.2 m le lt))
-least-lesser k p q (Some m) None one two = (one.0, either_first (p m) (q m) one.1, λ i le lt. neither (p i) (q i) (one.2 i le lt) (two i le))
+least-lesser k p q None None one two = λ n le. or_from (p n) (q n) (one n le) (two n le)
+least-lesser k p q None (Some n) one two = (two.0, or_right (p n) (q n) two.1, λ m le lt. or_from (p m) (q m) (one m le) (two.2 m le lt))
+least-lesser k p q (Some m) None one two = (one.0, or_left (p m) (q m) one.1, λ i le lt. or_from (p i) (q i) (one.2 i le lt) (two i le))
 least-lesser k p q (Some m) (Some n) one two = least_of_two k p q m n one two (le_or_gt m n)
 
 -- what passes first is the least

@@ -4,10 +4,13 @@ use Rattle.std.specs.Prelude.{find, not, nat_lt}
 use Rattle.std.specs.Option.{is_some, option_map, option_map_or, option_and_then}
 use Rattle.std.specs.List.{list_any, list_all, filter_map, cons_option}
 use Rattle.std.specs.declared.cmp.Ordering.TheVariants.{Less, Equal}
-use Rattle.std.proofs.lemmas.Bool.{false≢true, lt-ltb, ltb-true}
+use Rattle.std.proofs.lemmas.Bool.{false≢true, lt-ltb, ltb-true, false_from_ne_true}
+use Rattle.std.specs.Cmp.{first_so, second_so}
+use Rattle.std.proofs.Math.Bool.{or-false, and-true, and_assoc, and_comm}
 use Rattle.sorted_rows.specs.Placed.{place_cmp, PlacesAbove, PlacesAscend}
 use Rattle.sorted_rows.proofs.PlacedLaws.{place_cmp_itself}
 use Rattle.sorted_rows.proofs.AscendLaws.{both_ways}
+use Rattle.sorted_rows.proofs.ListTests.{or_first, or_second}
 use Rattle.mud_base.specs.Addresses.{same_addr}
 use Rattle.mud_base.specs.declared.addr.Addr.{Addr}
 use Rattle.acl_model.specs.declared.entry.Selector.{Selector}
@@ -19,19 +22,11 @@ use Rattle.acl_model.specs.Match.{is_in_family}
 use Rattle.acl_model.proofs.KeyLaws.{same_key-Decides, is_some-key_of}
 use Rattle.acl_model.specs.Places.{bound_place, binding_place}
 use Rattle.acl_model.specs.Changes.{until_of, is_bound_to, bound_until}
-use Rattle.acl_rows.specs.Rows.{never, member_keys, least_end, entry_end}
+use Rattle.acl_rows.specs.Rows.{for_ever, member_keys, least_end, entry_end}
 use Rattle.acl_model.proofs.BindingLaws.{same_addr-Decides}
 use Rattle.mud_tables.specs.Ends.{is_live}
 use Rattle.mud_tables.specs.Bindings.{is_met_by, has_live_binding, key_met, selector_met, members_met}
 use Rattle.packet_judge.proofs.Least.{le_or_gt}
-
-first_true : (b c : Bool) → (b && c) ≡ true → b ≡ true
-first_true true c e = refl
-first_true false c e = absurd (false≢true e)
-
-second_true : (b c : Bool) → (b && c) ≡ true → c ≡ true
-second_true true c e = e
-second_true false c e = absurd (false≢true e)
 
 -- ---- Live ends
 
@@ -41,8 +36,8 @@ live_end now o = option_map_or (λ u. is_live u now) o false
 pub bound_at : (key : MemberKey) (a : Addr) (b : Binding) → is_bound_to key a b ≡ true → binding_place b ≡ bound_place key a
 unfolding is_bound_to binding_place
 bound_at key a b e =
-    let of_key : b.key ≡ key = sym ((same_key-Decides key b.key).0 (first_true (same_key key b.key) (same_addr a b.addr) e)) in
-    let at : b.addr ≡ a = sym ((same_addr-Decides a b.addr).0 (second_true (same_key key b.key) (same_addr a b.addr) e)) in
+    let of_key : b.key ≡ key = sym ((same_key-Decides key b.key).0 (first_so (same_key key b.key) (same_addr a b.addr) e)) in
+    let at : b.addr ≡ a = sym ((same_addr-Decides a b.addr).0 (second_so (same_key key b.key) (same_addr a b.addr) e)) in
     λ i. bound_place (of_key i) (at i)
 
 key_turned : (key own : MemberKey) → same_key own key ≡ same_key key own
@@ -50,10 +45,6 @@ key_turned key own = both_ways (same_key own key) (same_key key own) (λ e. (sam
 
 addr_turned : (a b : Addr) → same_addr b a ≡ same_addr a b
 addr_turned a b = both_ways (same_addr b a) (same_addr a b) (λ e. (same_addr-Decides a b).1 (sym ((same_addr-Decides b a).0 e))) (λ e. (same_addr-Decides b a).1 (sym ((same_addr-Decides a b).0 e)))
-
-and_assoc : (x y z : Bool) → ((x && y) && z) ≡ (x && (y && z))
-and_assoc true y z = refl
-and_assoc false y z = refl
 
 met_bound : (key : MemberKey) (a : Addr) (now : ℕ) (b : Binding) → is_met_by key a now b ≡ (is_bound_to key a b && is_live b.until now)
 unfolding is_met_by is_bound_to
@@ -64,29 +55,21 @@ met_bound key a now b =
 less≢equal : Less ≡ Equal → ⊥
 less≢equal e = cc
 
-not_true : (b : Bool) → (b ≡ true → ⊥) → b ≡ false
-not_true true apart = absurd (apart refl)
-not_true false apart = refl
-
 -- above the place of a key and address there is no binding of them
 none_above : (key : MemberKey) (a : Addr) (now : ℕ) (p : List ℕ) (bs : List Binding) → p ≡ bound_place key a → PlacesAbove binding_place p bs → list_any (is_met_by key a now) bs ≡ false
 none_above key a now p [] is above = refl
 none_above key a now p (b ∷ bs) is above =
-    let no : is_met_by key a now b ≡ false = not_true (is_met_by key a now b) (λ met.
-    let bound : is_bound_to key a b ≡ true = first_true (is_bound_to key a b) (is_live b.until now) (sym (met_bound key a now b) ∙ met) in
+    let no : is_met_by key a now b ≡ false = false_from_ne_true (is_met_by key a now b) (λ met.
+    let bound : is_bound_to key a b ≡ true = first_so (is_bound_to key a b) (is_live b.until now) (sym (met_bound key a now b) ∙ met) in
     less≢equal (sym above.0 ∙ ap (place_cmp p) (bound_at key a b bound ∙ sym is) ∙ place_cmp_itself p)) in
     ap (λ c. c || list_any (is_met_by key a now) bs) no ∙ none_above key a now p bs is above.1
-
-or_false : (b : Bool) → (b || false) ≡ b
-or_false true = refl
-or_false false = refl
 
 live_by : (key : MemberKey) (a : Addr) (now : ℕ) (b : Binding) (bs : List Binding) → PlacesAbove binding_place (binding_place b) bs → list_any (is_met_by key a now) bs ≡ live_end now (option_map until_of (find (is_bound_to key a) bs))
     → (c : Bool) → is_bound_to key a b ≡ c → (is_met_by key a now b || list_any (is_met_by key a now) bs) ≡ live_end now (option_map until_of (cond c (Some b) (find (is_bound_to key a) bs)))
 unfolding live_end until_of
 live_by key a now b bs above rest true e =
     ap (λ t. is_met_by key a now b || t) (none_above key a now (binding_place b) bs (bound_at key a b e) above)
-    ∙ or_false (is_met_by key a now b)
+    ∙ or-false (is_met_by key a now b)
     ∙ met_bound key a now b
     ∙ ap (λ t. t && is_live b.until now) e
 live_by key a now b bs above rest false e =
@@ -103,14 +86,8 @@ unfolding is_live
 live_less m n now le = by (le_or_gt m now)
   where
     by : (m ≤ now) ⊎ (now < m) → nat_lt now m ≡ (nat_lt now m && nat_lt now n)
-    by (inl old) = let no : nat_lt now m ≡ false = not_true (nat_lt now m) (λ e. let lt : now < m = ltb-true now m e in absurd (omega arith)) in ap (λ (b : Bool). b) no ∙ ap (λ (b : Bool). b && nat_lt now n) (sym no)
+    by (inl old) = let no : nat_lt now m ≡ false = false_from_ne_true (nat_lt now m) (λ e. let lt : now < m = ltb-true now m e in absurd (omega arith)) in ap (λ (b : Bool). b) no ∙ ap (λ (b : Bool). b && nat_lt now n) (sym no)
     by (inr live) = lt-ltb now m live ∙ sym (ap (λ (b : Bool). b && nat_lt now n) (lt-ltb now m live) ∙ lt-ltb now n (omega arith))
-
-and_comm : (b c : Bool) → (b && c) ≡ (c && b)
-and_comm true true = refl
-and_comm true false = refl
-and_comm false true = refl
-and_comm false false = refl
 
 live-min : (m n now : ℕ) → is_live (min m n) now ≡ (is_live m now && is_live n now)
 live-min m n now = by (le_or_gt m n)
@@ -164,14 +141,6 @@ unfolding key_met
 wide_by bindings a now rest None none e = e
 wide_by bindings a now rest (Some key) none e = absurd (false≢true (sym none))
 
-or_first : (b c : Bool) → (b || c) ≡ false → b ≡ false
-or_first true c e = absurd (false≢true (sym e))
-or_first false c e = refl
-
-or_second : (b c : Bool) → (b || c) ≡ false → c ≡ false
-or_second true c e = absurd (false≢true (sym e))
-or_second false c e = e
-
 -- an entry with no member selector asks for no binding
 wide_met : (bindings : List Binding) (url : List ℕ) (a : Addr) (now : ℕ) (ss : List Selector) → list_any is_member ss ≡ false → list_all (selector_met bindings url a now) ss ≡ true
 unfolding selector_met
@@ -191,24 +160,20 @@ both_false false true false = refl
 both_false false false true = refl
 both_false false false false = refl
 
-and_true : (b : Bool) → (b && true) ≡ b
-and_true true = refl
-and_true false = refl
-
-entry_by : (bindings : List Binding) → PlacesAscend binding_place bindings → (url : List ℕ) (entry : Entry) (a : Addr) (now : ℕ) → now < never → (p : Bool) → (p ≡ true → is_in_family entry.family a ≡ true) → (q membered : Bool) → p ≡ q → is_membered entry ≡ membered
-    → ((live_end now (cond (membered && is_in_family entry.family a) (least_end bindings a never (member_keys url entry)) None) && q) || (not membered && q)) ≡ (members_met bindings url entry a now && q)
+entry_by : (bindings : List Binding) → PlacesAscend binding_place bindings → (url : List ℕ) (entry : Entry) (a : Addr) (now : ℕ) → now < for_ever → (p : Bool) → (p ≡ true → is_in_family entry.family a ≡ true) → (q membered : Bool) → p ≡ q → is_membered entry ≡ membered
+    → ((live_end now (cond (membered && is_in_family entry.family a) (least_end bindings a for_ever (member_keys url entry)) None) && q) || (not membered && q)) ≡ (members_met bindings url entry a now && q)
 unfolding members_met member_keys is_membered live_end is_live
 entry_by bindings ascend url entry a now small p family false membered e is = both_false _ (not membered) _
 entry_by bindings ascend url entry a now small p family true true e is =
-    or_false _ ∙ ap (λ (b : Bool). b && true)
-    (ap (λ (b : Bool). live_end now (cond b (least_end bindings a never (member_keys url entry)) None)) (family e)
-    ∙ live-least_end bindings ascend a now never (member_keys url entry)
-    ∙ ap (λ (b : Bool). b && list_all (has_live bindings a now) (member_keys url entry)) (lt-ltb now never small)
+    or-false _ ∙ ap (λ (b : Bool). b && true)
+    (ap (λ (b : Bool). live_end now (cond b (least_end bindings a for_ever (member_keys url entry)) None)) (family e)
+    ∙ live-least_end bindings ascend a now for_ever (member_keys url entry)
+    ∙ ap (λ (b : Bool). b && list_all (has_live bindings a now) (member_keys url entry)) (lt-ltb now for_ever small)
     ∙ keys_met bindings url a now entry.selectors)
-entry_by bindings ascend url entry a now small p family true false e is = sym (and_true _ ∙ wide_met bindings url a now entry.selectors is)
+entry_by bindings ascend url entry a now small p family true false e is = sym (and-true _ ∙ wide_met bindings url a now entry.selectors is)
 
 -- a live end, or no member selector, is what the bindings say, where the other tests ask for the family
-pub entry_alike : (bindings : List Binding) → PlacesAscend binding_place bindings → (url : List ℕ) (entry : Entry) (a : Addr) (now : ℕ) → now < never → (p : Bool) → (p ≡ true → is_in_family entry.family a ≡ true)
+pub entry_alike : (bindings : List Binding) → PlacesAscend binding_place bindings → (url : List ℕ) (entry : Entry) (a : Addr) (now : ℕ) → now < for_ever → (p : Bool) → (p ≡ true → is_in_family entry.family a ≡ true)
     → ((live_end now (entry_end bindings url entry a) && p) || (not (is_membered entry) && p)) ≡ (members_met bindings url entry a now && p)
 unfolding entry_end
 entry_alike bindings ascend url entry a now small p family = entry_by bindings ascend url entry a now small p family p (is_membered entry) refl refl

@@ -1,17 +1,16 @@
 -- The steps of a ruling on the view of a URL are those that all rows tell.
-use Rattle.std.proofs.Common.{◌≡◌, ℕ, suc, ◌+◌, ◌^◌, ◌<◌, ◌≤◌, Bool, true, false, cond, List, [], ◌∷◌, length, filter, Option, Some, None, refl, ap, arith}
+use Rattle.std.proofs.Common.{◌≡◌, ℕ, ◌+◌, ◌^◌, ◌<◌, List, length, filter, Option, Some, None, refl, ap, arith}
 use Rattle.std.specs.Option.{option_map_or}
 use Rattle.mud_base.specs.declared.packet.Direction.{Direction}
 use Rattle.acl_model.specs.Match.{peer_of}
 use Rattle.acl_model.specs.Defaults.{default_policy}
 use Rattle.acl_model.specs.declared.entry.Policy.{Policy}
-use Rattle.sorted_rows.specs.Placed.{is_under}
-use Rattle.acl_rows.specs.Places.{side_place, row_place}
 use Rattle.acl_rows.specs.declared.row.Owner.{Owner}
 use Rattle.acl_rows.specs.declared.row.Owner.TheVariants.{Default}
 use Rattle.acl_rows.specs.declared.row.Row.{Row}
 use Rattle.acl_rows.specs.Rows.{Slots, Holder, default_held}
-use Rattle.acl_rows.specs.View.{Part, View, rows_of_side, is_at, rows_at, holder_from, IsPartOf, IsFilePart, IsViewOf}
+use Rattle.acl_rows.specs.View.{Part, View, is_at, rows_at, holder_from, IsPartOf, IsFilePart, IsViewOf}
+use Rattle.acl_rows.proofs.Parts.{side_few}
 use Rattle.packet_judge.specs.ByRows.{Asked, peer_rows}
 use Rattle.packet_judge.specs.RuleSteps.{file_rows, least_steps, part_steps, file_steps, most_steps, IsFoundWithin, FitsRows, rows_of_peer, holder_rows_read, url_rows_read, holder_steps, url_steps}
 
@@ -28,19 +27,6 @@ part_steps_taken rows side asked b h part is = λ i. part_rows_read rows side as
 default_steps : (rows : List Row) (side : Direction) (asked : Asked) (b : ℕ) (part : Part) → IsPartOf rows side Default default_policy part → part_steps asked b part ≡ holder_steps rows side (peer_of side asked.fields) b (Default, default_held)
 unfolding default_held
 default_steps rows side asked b part is = part_steps_taken rows side asked b (Default, default_held) part is
-
--- the rows of a part are no more than all rows
-kept_few : (x : Row) (n : ℕ) (ys : List Row) (b : Bool) → length ys ≤ n → length (cond b (x ∷ ys) ys) ≤ suc n
-kept_few x n ys true few = omega arith
-kept_few x n ys false few = omega arith
-
-filter_few : (t : Row → Bool) (rows : List Row) → length (filter t rows) ≤ length rows
-filter_few t [] = omega arith
-filter_few t (x ∷ xs) = kept_few x (length xs) (filter t xs) (t x) (filter_few t xs)
-
-side_few : (owner : Owner) (side : Direction) (rows : List Row) → length (rows_of_side owner side rows) ≤ length rows
-unfolding rows_of_side
-side_few owner side rows = filter_few (is_under row_place (side_place owner side)) rows
 
 part_within : (rows : List Row) (side : Direction) (owner : Owner) (policy : Policy) (b : ℕ) (part : Part) → IsPartOf rows side owner policy part → length rows < 2 ^ b → part.among < 2 ^ b
 part_within rows side owner policy b part is few = omega (arith, is.among, ap length is.rows_are, side_few owner side rows)

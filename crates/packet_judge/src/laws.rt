@@ -3,7 +3,7 @@ ghost use Rattle.std.specs.Prelude.{◌≡◌, ℕ, ◌<◌, ◌^◌, List, leng
 ghost use Rattle.mud_base.specs.declared.packet.Direction.{Direction};
 ghost use Rattle.acl_model.specs.declared.binding.Binding.{Binding};
 ghost use Rattle.acl_model.specs.declared.entry.Policy.{Policy};
-ghost use Rattle.acl_rows.specs.Rows.{never, Slots};
+ghost use Rattle.acl_rows.specs.Rows.{for_ever, Slots};
 ghost use Rattle.acl_model.specs.Match.{peer_of};
 ghost use Rattle.acl_rows.specs.declared.row.Row.{Row};
 ghost use Rattle.acl_rows.specs.View.{View, IsViewOf};
@@ -16,7 +16,7 @@ ghost use Rattle.packet_judge.specs.RuleSteps.{least_steps, most_steps, FitsRows
 pub fn rows_rule_alike()
     ensures { (slots : Slots) (bindings : List Binding) (url : List ℕ) (policy : Option Policy)
         (side : Direction) (view : View) (asked : Asked)
-        → IsViewOver slots bindings url policy side view → asked.moment < never
+        → IsViewOver slots bindings url policy side view → asked.moment < for_ever
         → ruling_by_rows asked view ≡ ruling_by_bindings bindings asked.locals asked.moment url
         policy side asked.fields asked.begun }
 {}

@@ -10,10 +10,7 @@ use Rattle.pcap_read.specs.Packets.{Packets, seconds_of, captured_len, packets_f
 use Rattle.pcap_read.specs.Parts.{body_from, is_decided}
 use Rattle.std.specs.Prelude.{IsTrue}
 use Rattle.std.proofs.lemmas.Bool.Decides.{nat_tests}
-
-cases : (b : Bool) → (b ≡ true) ⊎ (b ≡ false)
-cases true = inl refl
-cases false = inr refl
+use Rattle.std.proofs.lemmas.Bool.{cases_Bool}
 
 -- The header
 
@@ -80,7 +77,7 @@ head_whole order count place (octet ∷ octets) enough few fits =
     let len = captured_len order (take 16 all) in
     let body = drop 16 all in
     let size : length all ≡ 16 + length body = omega (arith, length-drop 16 all) in
-    let test = same_test (length all) (length body) len size (cases (ltb (length body) len)) in
+    let test = same_test (length all) (length body) len size (cases_Bool (ltb (length body) len)) in
     let at : place + 1 + (15 + len) ≡ place + 16 + len = omega arith in
     let front : 15 + len ≡ 15 + len = refl in
     let later : packets_from order (15 + len) (count + 1) (place + 1) octets ≡ packets_from order 0 (count + 1) (place + 16 + len) (drop len body) =
@@ -94,7 +91,7 @@ pub head_lacks : (order : ByteOrder) (count place : ℕ) (octets : List ℕ) →
 unfolding packets_from
 head_lacks order count place [] short = refl
 head_lacks order count place (octet ∷ octets) short =
-    elim (cases (leb 100000000 count)) [
+    elim (cases_Bool (leb 100000000 count)) [
       | inl many ↦ rw many refl
       | inr few ↦ rw (few, lt-ltb (length (octet ∷ octets)) 16 short) refl
     ]

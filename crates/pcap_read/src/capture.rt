@@ -64,17 +64,17 @@ impl<S: Door> Capture<S> {
         ensures going { OnOk result (is_broken self.new.1.progress.stage ≡ false) }
         ensures fewer { IfOk result (λ more. more ≡ true → most_to_come self.new.1.progress < most_to_come self.old.1.progress) }
         ensures next { S.tells → OnOk result (
-            Follows (to_come self.old.1) (λ octets. with_next self.new.1.packet (to_come self.new.1 octets)) (S.state self.old.0) (S.state self.new.0)) }
-        ensures end { S.tells → IfOk result (λ more. more ≡ false → AtEnd self.new.1 (S.state self.new.0)) }
-        ensures fault { S.tells → IfErr result (λ fault. EndsIn fault (to_come self.old.1) (S.state self.old.0) (S.state self.new.0)) }
+            Follows (to_come self.old.1) (λ octets. with_next self.new.1.packet (to_come self.new.1 octets)) (S.view self.old.0).state (S.view self.new.0).state) }
+        ensures end { S.tells → IfOk result (λ more. more ≡ false → AtEnd self.new.1 (S.view self.new.0).state) }
+        ensures fault { S.tells → IfErr result (λ fault. EndsIn fault (to_come self.old.1) (S.view self.old.0).state (S.view self.new.0).state) }
         ensures failed { IfErr result (λ fault. self.new.1.progress.stage ≡ HasFailed fault) }
         ensures none { OnErr result (self.new.1.packet ≡ None) }
         ensures again { (fault : CapFault) → self.old.1.progress.stage ≡ HasFailed fault → (result ≡ Err fault) × (self.new.0 ≡ self.old.0) }
         ensures ready { IsTrue (spec.is_ready self.old.1) → self.new.0 ≡ self.old.0 }
-        ensures cause { Counts (fails self.old.1.progress.stage (has_failed result)) (S.reads self.old.0) (S.reads self.new.0) }
-        ensures stop { IsTrue (fails self.old.1.progress.stage (has_failed result)) → StopsAtFailure (S.failed self.new.0) (S.reads self.old.0) (S.reads self.new.0) }
-        ensures turns { S.turns self.new.0 ≡ S.turns self.old.0 }
-        ensures writes { S.writes self.new.0 ≡ S.writes self.old.0 }
+        ensures cause { Counts (fails self.old.1.progress.stage (has_failed result)) (S.view self.old.0).reads (S.view self.new.0).reads }
+        ensures stop { IsTrue (fails self.old.1.progress.stage (has_failed result)) → StopsAtFailure (S.view self.new.0).failed (S.view self.old.0).reads (S.view self.new.0).reads }
+        ensures turns { (S.view self.new.0).turns ≡ (S.view self.old.0).turns }
+        ensures writes { (S.view self.new.0).writes ≡ (S.view self.old.0).writes }
     {
         self.reader.advance(&mut self.source)
     }
@@ -97,12 +97,12 @@ impl<S: Door> Capture<S> {
     /// `advance` leaves it.
     pub fn next(&mut self) -> Result<Option<Captured<'_>>, CapFault>
         ensures* stands { sem 𝓛 (Rests (the_row S.row) self.entry
-            (WentOn S.tells S.state S.reads S.turns S.writes S.failed self.old result)) }
+            (WentOn S.tells S.view self.old result)) }
         ensures found { S.tells → IfOk result (λ found. IfSome found (λ packet.
-            (later : Packets) × (to_come self.old.1 (S.state self.old.0).left ≡ with_packet (packet_of packet) later))) }
-        ensures end { S.tells → IfOk result (λ found. found ≡ None → to_come self.old.1 (S.state self.old.0).left ≡ whole) }
+            (later : Packets) × (to_come self.old.1 (S.view self.old.0).state.left ≡ with_packet (packet_of packet) later))) }
+        ensures end { S.tells → IfOk result (λ found. found ≡ None → to_come self.old.1 (S.view self.old.0).state.left ≡ whole) }
         ensures fault { S.tells → IfErr result (λ fault.
-            fault ≢ ReadFault → to_come self.old.1 (S.state self.old.0).left ≡ broken fault) }
+            fault ≢ ReadFault → to_come self.old.1 (S.view self.old.0).state.left ≡ broken fault) }
         ensures again { (fault : CapFault) → self.old.1.progress.stage ≡ HasFailed fault → result ≡ Err fault }
     {
         if self.advance()? {
@@ -123,12 +123,12 @@ impl<S: Door> Capture<S> {
         ensures kept { self.new.1 ≡ self.old.1 }
         ensures within { IfOk result (λ n. n ≤ length piece.now) }
         ensures some { IfOk result (λ n. 0 < length piece.now → 0 < n) }
-        ensures octets { S.tells → IfOk result (λ n. S.state self.new.0 ≡ put_out (take n piece.now) (S.state self.old.0)) }
-        ensures nowhere { S.tells → (S.state self.old.0).stands ≡ false → OnOk result (piece.now ≡ []) }
-        ensures err { S.tells → OnErr result (S.state self.new.0 ≡ S.state self.old.0) }
-        ensures cause { Counts (is_err result) (S.writes self.old.0) (S.writes self.new.0) }
-        ensures turns { S.turns self.new.0 ≡ S.turns self.old.0 }
-        ensures reads { S.reads self.new.0 ≡ S.reads self.old.0 }
+        ensures octets { S.tells → IfOk result (λ n. (S.view self.new.0).state ≡ put_out (take n piece.now) (S.view self.old.0).state) }
+        ensures nowhere { S.tells → (S.view self.old.0).state.stands ≡ false → OnOk result (piece.now ≡ []) }
+        ensures err { S.tells → OnErr result ((S.view self.new.0).state ≡ (S.view self.old.0).state) }
+        ensures cause { Counts (is_err result) (S.view self.old.0).writes (S.view self.new.0).writes }
+        ensures turns { (S.view self.new.0).turns ≡ (S.view self.old.0).turns }
+        ensures reads { (S.view self.new.0).reads ≡ (S.view self.old.0).reads }
     {
         self.source.write(piece)
     }

@@ -25,13 +25,13 @@ fn read_header<D: Door>(
     buffer: &mut Buffer<MOST_OCTETS>,
 ) -> Result<ByteOrder, CapFault>
     ensures ok { D.tells → IfOk result (λ order.
-        Follows (behind packets_of buffer.old.held) (behind (packets_from order 0 0 24) buffer.new.held) (D.state source.old) (D.state source.new)) }
+        Follows (behind packets_of buffer.old.held) (behind (packets_from order 0 0 24) buffer.new.held) (D.view source.old).state (D.view source.new).state) }
     ensures err { D.tells → IfErr result (λ fault.
-        EndsIn fault (behind packets_of buffer.old.held) (D.state source.old) (D.state source.new)) }
-    ensures cause { Counts (has_failed result) (D.reads source.old) (D.reads source.new) }
-    ensures stop { IsTrue (has_failed result) → StopsAtFailure (D.failed source.new) (D.reads source.old) (D.reads source.new) }
-    ensures turns { D.turns source.new ≡ D.turns source.old }
-    ensures writes { D.writes source.new ≡ D.writes source.old }
+        EndsIn fault (behind packets_of buffer.old.held) (D.view source.old).state (D.view source.new).state) }
+    ensures cause { Counts (has_failed result) (D.view source.old).reads (D.view source.new).reads }
+    ensures stop { IsTrue (has_failed result) → StopsAtFailure (D.view source.new).failed (D.view source.old).reads (D.view source.new).reads }
+    ensures turns { (D.view source.new).turns ≡ (D.view source.old).turns }
+    ensures writes { (D.view source.new).writes ≡ (D.view source.old).writes }
 {
     if !fetch(source, buffer, HEADER_LEN)? {
         return Err(CapFault::Cut(0));
@@ -59,18 +59,18 @@ fn read_head<D: Door>(
     cursor: Cursor,
 ) -> Result<Option<Head>, CapFault>
     ensures ok { D.tells → IfOk result (λ head.
-        Follows (behind (packets_at cursor) buffer.old.held) (behind (behind_head cursor head) buffer.new.held) (D.state source.old) (D.state source.new)) }
-    ensures end { D.tells → IfOk result (λ head. head ≡ None → (buffer.new.held ≡ []) × ((D.state source.new).left ≡ [])) }
+        Follows (behind (packets_at cursor) buffer.old.held) (behind (behind_head cursor head) buffer.new.held) (D.view source.old).state (D.view source.new).state) }
+    ensures end { D.tells → IfOk result (λ head. head ≡ None → (buffer.new.held ≡ []) × ((D.view source.new).state.left ≡ [])) }
     ensures within { IfOk result (λ head. IfSome head (λ h. (h.len ≤ 262144) × (cursor.count < 100000000))) }
     ensures unread { IsTrue (is_decided cursor.order cursor.count buffer.old.held) → source.new ≡ source.old }
     ensures ready { IsTrue (is_decided cursor.order cursor.count buffer.old.held) →
         IfOk result (λ head. IfSome head (λ h. h.len ≤ length buffer.new.held)) }
     ensures err { D.tells → IfErr result (λ fault.
-        EndsIn fault (behind (packets_at cursor) buffer.old.held) (D.state source.old) (D.state source.new)) }
-    ensures cause { Counts (has_failed result) (D.reads source.old) (D.reads source.new) }
-    ensures stop { IsTrue (has_failed result) → StopsAtFailure (D.failed source.new) (D.reads source.old) (D.reads source.new) }
-    ensures turns { D.turns source.new ≡ D.turns source.old }
-    ensures writes { D.writes source.new ≡ D.writes source.old }
+        EndsIn fault (behind (packets_at cursor) buffer.old.held) (D.view source.old).state (D.view source.new).state) }
+    ensures cause { Counts (has_failed result) (D.view source.old).reads (D.view source.new).reads }
+    ensures stop { IsTrue (has_failed result) → StopsAtFailure (D.view source.new).failed (D.view source.old).reads (D.view source.new).reads }
+    ensures turns { (D.view source.new).turns ≡ (D.view source.old).turns }
+    ensures writes { (D.view source.new).writes ≡ (D.view source.old).writes }
 {
     let is_enough = fetch(source, buffer, wanted_behind(cursor.count))?;
     let held = buffer.held();
@@ -100,16 +100,16 @@ fn read_packet<D: Door>(
     cursor: Cursor,
 ) -> Result<Option<Head>, CapFault>
     ensures ok { D.tells → IfOk result (λ head.
-        Follows (behind (packets_at cursor) buffer.old.held) (behind (behind_packet cursor head buffer.new.given) buffer.new.held) (D.state source.old) (D.state source.new)) }
-    ensures end { D.tells → IfOk result (λ head. head ≡ None → (buffer.new.held ≡ []) × ((D.state source.new).left ≡ [])) }
+        Follows (behind (packets_at cursor) buffer.old.held) (behind (behind_packet cursor head buffer.new.given) buffer.new.held) (D.view source.old).state (D.view source.new).state) }
+    ensures end { D.tells → IfOk result (λ head. head ≡ None → (buffer.new.held ≡ []) × ((D.view source.new).state.left ≡ [])) }
     ensures within { IfOk result (λ head. IfSome head (λ h. (h.len ≤ 262144) × (cursor.count < 100000000))) }
     ensures unread { IsTrue (is_decided cursor.order cursor.count buffer.old.held) → source.new ≡ source.old }
     ensures err { D.tells → IfErr result (λ fault.
-        EndsIn fault (behind (packets_at cursor) buffer.old.held) (D.state source.old) (D.state source.new)) }
-    ensures cause { Counts (has_failed result) (D.reads source.old) (D.reads source.new) }
-    ensures stop { IsTrue (has_failed result) → StopsAtFailure (D.failed source.new) (D.reads source.old) (D.reads source.new) }
-    ensures turns { D.turns source.new ≡ D.turns source.old }
-    ensures writes { D.writes source.new ≡ D.writes source.old }
+        EndsIn fault (behind (packets_at cursor) buffer.old.held) (D.view source.old).state (D.view source.new).state) }
+    ensures cause { Counts (has_failed result) (D.view source.old).reads (D.view source.new).reads }
+    ensures stop { IsTrue (has_failed result) → StopsAtFailure (D.view source.new).failed (D.view source.old).reads (D.view source.new).reads }
+    ensures turns { (D.view source.new).turns ≡ (D.view source.old).turns }
+    ensures writes { (D.view source.new).writes ≡ (D.view source.old).writes }
 {
     let Some(head) = read_head(source, buffer, cursor)? else {
         return Ok(None);
@@ -129,7 +129,7 @@ fn begin<D: Door>(
 ) -> Result<Cursor, CapFault>
     requires { IsWithin progress }
     ensures ok { D.tells → IfOk result (λ cursor.
-        Follows (behind (coming progress) buffer.old.held) (behind (packets_at cursor) buffer.new.held) (D.state source.old) (D.state source.new)) }
+        Follows (behind (coming progress) buffer.old.held) (behind (packets_at cursor) buffer.new.held) (D.view source.old).state (D.view source.new).state) }
     ensures within { IfOk result (λ cursor. (cursor.count ≤ 100000000) × (cursor.place ≤ 24 + 262160 * cursor.count)) }
     ensures most { IfOk result (λ cursor. 100000000 - cursor.count ≤ most_to_come progress) }
     ensures failed { (fault : CapFault) → progress.stage ≡ Failed fault → (result ≡ Err fault) × (source.new ≡ source.old) }
@@ -137,11 +137,11 @@ fn begin<D: Door>(
     ensures ready { IsTrue (is_ready_at progress.stage progress.count buffer.old.held) →
         IfOk result (λ cursor. IsTrue (is_decided cursor.order cursor.count buffer.new.held)) }
     ensures err { D.tells → IfErr result (λ fault.
-        EndsIn fault (behind (coming progress) buffer.old.held) (D.state source.old) (D.state source.new)) }
-    ensures cause { Counts (fails progress.stage (has_failed result)) (D.reads source.old) (D.reads source.new) }
-    ensures stop { IsTrue (fails progress.stage (has_failed result)) → StopsAtFailure (D.failed source.new) (D.reads source.old) (D.reads source.new) }
-    ensures turns { D.turns source.new ≡ D.turns source.old }
-    ensures writes { D.writes source.new ≡ D.writes source.old }
+        EndsIn fault (behind (coming progress) buffer.old.held) (D.view source.old).state (D.view source.new).state) }
+    ensures cause { Counts (fails progress.stage (has_failed result)) (D.view source.old).reads (D.view source.new).reads }
+    ensures stop { IsTrue (fails progress.stage (has_failed result)) → StopsAtFailure (D.view source.new).failed (D.view source.old).reads (D.view source.new).reads }
+    ensures turns { (D.view source.new).turns ≡ (D.view source.old).turns }
+    ensures writes { (D.view source.new).writes ≡ (D.view source.old).writes }
 {
     match progress.stage {
         Stage::Start => {
@@ -205,20 +205,20 @@ pub(crate) fn step<D: Door>(
 ) -> Result<Next, CapFault>
     requires { IsWithin progress }
     ensures ok { D.tells → IfOk result (λ next.
-        Follows (behind (coming progress) buffer.old.held) (behind (coming_next next buffer.new.given) buffer.new.held) (D.state source.old) (D.state source.new)) }
+        Follows (behind (coming progress) buffer.old.held) (behind (coming_next next buffer.new.given) buffer.new.held) (D.view source.old).state (D.view source.new).state) }
     ensures end { D.tells → IfOk result (λ next. is_some next.current ≡ false →
-        (buffer.new.held ≡ []) × ((D.state source.new).left ≡ []) × (coming next.progress [] ≡ whole)) }
+        (buffer.new.held ≡ []) × ((D.view source.new).state.left ≡ []) × (coming next.progress [] ≡ whole)) }
     ensures within { IfOk result (λ next. IsWithin next.progress) }
     ensures going { IfOk result (λ next. is_broken next.progress.stage ≡ false) }
     ensures fewer { IfOk result (λ next. is_some next.current ≡ true → most_to_come next.progress < most_to_come progress) }
     ensures failed { (fault : CapFault) → progress.stage ≡ Failed fault → (result ≡ Err fault) × (source.new ≡ source.old) }
     ensures unread { IsTrue (is_ready_at progress.stage progress.count buffer.old.held) → source.new ≡ source.old }
     ensures err { D.tells → IfErr result (λ fault.
-        EndsIn fault (behind (coming progress) buffer.old.held) (D.state source.old) (D.state source.new)) }
-    ensures cause { Counts (fails progress.stage (has_failed result)) (D.reads source.old) (D.reads source.new) }
-    ensures stop { IsTrue (fails progress.stage (has_failed result)) → StopsAtFailure (D.failed source.new) (D.reads source.old) (D.reads source.new) }
-    ensures turns { D.turns source.new ≡ D.turns source.old }
-    ensures writes { D.writes source.new ≡ D.writes source.old }
+        EndsIn fault (behind (coming progress) buffer.old.held) (D.view source.old).state (D.view source.new).state) }
+    ensures cause { Counts (fails progress.stage (has_failed result)) (D.view source.old).reads (D.view source.new).reads }
+    ensures stop { IsTrue (fails progress.stage (has_failed result)) → StopsAtFailure (D.view source.new).failed (D.view source.old).reads (D.view source.new).reads }
+    ensures turns { (D.view source.new).turns ≡ (D.view source.old).turns }
+    ensures writes { (D.view source.new).writes ≡ (D.view source.old).writes }
 {
     let cursor = begin(source, buffer, progress)?;
     let found = read_packet(source, buffer, cursor)?;

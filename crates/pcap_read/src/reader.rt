@@ -100,17 +100,17 @@ impl Reader {
         ensures going { OnOk result (is_broken self.new.progress.stage ≡ false) }
         ensures fewer { IfOk result (λ more. more ≡ true → most_to_come self.new.progress < most_to_come self.old.progress) }
         ensures next { D.tells → OnOk result (
-            Follows (to_come self.old) (λ octets. with_next self.new.packet (to_come self.new octets)) (D.state source.old) (D.state source.new)) }
-        ensures end { D.tells → IfOk result (λ more. more ≡ false → AtEnd self.new (D.state source.new)) }
-        ensures fault { D.tells → IfErr result (λ fault. EndsIn fault (to_come self.old) (D.state source.old) (D.state source.new)) }
+            Follows (to_come self.old) (λ octets. with_next self.new.packet (to_come self.new octets)) (D.view source.old).state (D.view source.new).state) }
+        ensures end { D.tells → IfOk result (λ more. more ≡ false → AtEnd self.new (D.view source.new).state) }
+        ensures fault { D.tells → IfErr result (λ fault. EndsIn fault (to_come self.old) (D.view source.old).state (D.view source.new).state) }
         ensures failed { IfErr result (λ fault. self.new.progress.stage ≡ HasFailed fault) }
         ensures none { OnErr result (self.new.packet ≡ None) }
         ensures again { (fault : CapFault) → self.old.progress.stage ≡ HasFailed fault → (result ≡ Err fault) × (source.new ≡ source.old) }
         ensures ready { IsTrue (spec.is_ready self.old) → source.new ≡ source.old }
-        ensures cause { Counts (fails self.old.progress.stage (has_failed result)) (D.reads source.old) (D.reads source.new) }
-        ensures stop { IsTrue (fails self.old.progress.stage (has_failed result)) → StopsAtFailure (D.failed source.new) (D.reads source.old) (D.reads source.new) }
-        ensures turns { D.turns source.new ≡ D.turns source.old }
-        ensures writes { D.writes source.new ≡ D.writes source.old }
+        ensures cause { Counts (fails self.old.progress.stage (has_failed result)) (D.view source.old).reads (D.view source.new).reads }
+        ensures stop { IsTrue (fails self.old.progress.stage (has_failed result)) → StopsAtFailure (D.view source.new).failed (D.view source.old).reads (D.view source.new).reads }
+        ensures turns { (D.view source.new).turns ≡ (D.view source.old).turns }
+        ensures writes { (D.view source.new).writes ≡ (D.view source.old).writes }
     {
         let progress = self.progress;
         match step(source, &mut self.buffer, progress) {

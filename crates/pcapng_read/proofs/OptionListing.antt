@@ -1,13 +1,10 @@
 -- What the first octets of the options do to their listing.
-use Rattle.std.proofs.Common.{◌≡◌, ◌≢◌, ℕ, suc, zero, ◌+◌, ◌<◌, ◌≤◌, ltb, Bool, true, false, ◌||◌, List, [], ◌∷◌, length, take, drop, refl, sym, ap, ◌∙◌, arith, ne_eqb, le-ltb, lt-ltb}
+use Rattle.std.proofs.Common.{◌≡◌, ◌≢◌, ℕ, suc, zero, ◌+◌, ◌<◌, ◌≤◌, ltb, List, [], ◌∷◌, length, take, drop, refl, sym, ap, ◌∙◌, arith, ne_eqb, le-ltb, lt-ltb}
 use Rattle.std.proofs.lemmas.List.{drop-drop}
+use Rattle.std.proofs.Math.Bool.{or-true}
 use Rattle.octet_fields.specs.Numbers.{number_16}
 use Rattle.octet_fields.specs.declared.number.ByteOrder.{ByteOrder}
 use Rattle.pcapng_read.specs.Options.{options_from, no_more, beyond, with_option, filled}
-
-or_false : (b : Bool) → (b || true) ≡ true
-or_false true = refl
-or_false false = refl
 
 options_skipped : (order : ByteOrder) (skipped : ℕ) (octets : List ℕ) → options_from order skipped octets ≡ options_from order 0 (drop skipped octets)
 unfolding options_from
@@ -25,7 +22,7 @@ unfolding options_from
 end_step order [] code is end = refl
 end_step order (octet ∷ behind) code is end =
     let none : number_16 order 0 (octet ∷ behind) ≡ 0 = cc in
-    rw (none, or_false (ltb (length (octet ∷ behind)) 4)) refl
+    rw (none, or-true (ltb (length (octet ∷ behind)) 4)) refl
 
 pub beyond_step : (order : ByteOrder) (octets : List ℕ) (code len : ℕ) → 4 ≤ length octets → code ≡ number_16 order 0 octets → code ≢ 0 → len ≡ number_16 order 2 octets → length octets < 4 + len
     → options_from order 0 octets ≡ beyond

@@ -28,17 +28,17 @@ fn read_head<D: Door>(
     buffer: &mut Buffer<MOST_OCTETS>,
     standing: &Standing,
 ) -> Result<Option<Head>, NgFault>
-    ensures octets { D.tells → OnOk result (Fetched buffer.old.held buffer.new.held (D.state source.old) (D.state source.new)) }
+    ensures octets { D.tells → OnOk result (Fetched buffer.old.held buffer.new.held (D.view source.old).state (D.view source.new).state) }
     ensures begins { IfOk result (λ head. IfSome head (λ h. Begins standing.now h buffer.new.held)) }
-    ensures end { D.tells → IfOk result (λ head. head ≡ None → (buffer.new.held ≡ []) × ((D.state source.new).left ≡ [])) }
+    ensures end { D.tells → IfOk result (λ head. head ≡ None → (buffer.new.held ≡ []) × ((D.view source.new).state.left ≡ [])) }
     ensures some { 12 ≤ length buffer.old.held → IfOk result (λ head. is_some head ≡ true) }
     ensures unread { 12 ≤ length buffer.old.held → (source.new ≡ source.old) × (buffer.new.held ≡ buffer.old.held) }
     ensures err { D.tells → IfErr result (λ fault.
-        EndsIn fault (behind (blocks_at standing.now) buffer.old.held) (D.state source.old) (D.state source.new)) }
-    ensures cause { Counts (has_failed result) (D.reads source.old) (D.reads source.new) }
-    ensures stop { IsTrue (has_failed result) → StopsAtFailure (D.failed source.new) (D.reads source.old) (D.reads source.new) }
-    ensures turns { D.turns source.new ≡ D.turns source.old }
-    ensures writes { D.writes source.new ≡ D.writes source.old }
+        EndsIn fault (behind (blocks_at standing.now) buffer.old.held) (D.view source.old).state (D.view source.new).state) }
+    ensures cause { Counts (has_failed result) (D.view source.old).reads (D.view source.new).reads }
+    ensures stop { IsTrue (has_failed result) → StopsAtFailure (D.view source.new).failed (D.view source.old).reads (D.view source.new).reads }
+    ensures turns { (D.view source.new).turns ≡ (D.view source.old).turns }
+    ensures writes { (D.view source.new).writes ≡ (D.view source.old).writes }
 {
     let is_enough = fetch(source, buffer, HEAD_LEN)?;
     let held = buffer.held();
@@ -68,18 +68,18 @@ fn read_whole<D: Door>(
     requires looked_into { spec.is_read head.kind ≡ true }
     requires within { IsWithin standing.old }
     ensures ok { D.tells → IfOk result (λ current.
-        Follows (behind (blocks_at standing.old) buffer.old.held) (behind (coming_next current buffer.new.given standing.new) buffer.new.held) (D.state source.old) (D.state source.new)) }
+        Follows (behind (blocks_at standing.old) buffer.old.held) (behind (coming_next current buffer.new.given standing.new) buffer.new.held) (D.view source.old).state (D.view source.new).state) }
     ensures within { IsWithin standing.new }
     ensures further { OnOk result (standing.new.blocks ≡ standing.old.blocks + 1) }
     ensures whole { IfOk result (λ found. ForSome found (λ current. 32 + current.len ≤ length buffer.new.given)) }
     ensures packet { IfOk result (λ found. is_some found ≡ is_packet head.kind) }
     ensures unread { head.total ≤ length buffer.old.held → source.new ≡ source.old }
     ensures err { D.tells → IfErr result (λ fault.
-        EndsIn fault (behind (blocks_at standing.old) buffer.old.held) (D.state source.old) (D.state source.new)) }
-    ensures cause { Counts (has_failed result) (D.reads source.old) (D.reads source.new) }
-    ensures stop { IsTrue (has_failed result) → StopsAtFailure (D.failed source.new) (D.reads source.old) (D.reads source.new) }
-    ensures turns { D.turns source.new ≡ D.turns source.old }
-    ensures writes { D.writes source.new ≡ D.writes source.old }
+        EndsIn fault (behind (blocks_at standing.old) buffer.old.held) (D.view source.old).state (D.view source.new).state) }
+    ensures cause { Counts (has_failed result) (D.view source.old).reads (D.view source.new).reads }
+    ensures stop { IsTrue (has_failed result) → StopsAtFailure (D.view source.new).failed (D.view source.old).reads (D.view source.new).reads }
+    ensures turns { (D.view source.new).turns ≡ (D.view source.old).turns }
+    ensures writes { (D.view source.new).writes ≡ (D.view source.old).writes }
 {
     if !fetch(source, buffer, head.total)? {
         return Err(NgFault::Cut(standing.place));
@@ -101,15 +101,15 @@ fn pass<D: Door>(
     count: usize,
 ) -> Result<bool, Failed>
     ensures ok { D.tells → IfOk result (λ enough.
-        enough ≡ true → Passes count 0 buffer.old.held buffer.new.held (D.state source.old) (D.state source.new)) }
-    ensures end { D.tells → IfOk result (λ enough. enough ≡ false → (D.state source.new).left ≡ []) }
+        enough ≡ true → Passes count 0 buffer.old.held buffer.new.held (D.view source.old).state (D.view source.new).state) }
+    ensures end { D.tells → IfOk result (λ enough. enough ≡ false → (D.view source.new).state.left ≡ []) }
     ensures short { D.tells → IfOk result (λ enough.
-        enough ≡ false → FallsShort count buffer.old.held (D.state source.old) (D.state source.new)) }
-    ensures err { D.tells → OnErr result (FallsShort count buffer.old.held (D.state source.old) (D.state source.new)) }
-    ensures cause { Counts (is_err result) (D.reads source.old) (D.reads source.new) }
-    ensures stop { OnErr result (StopsAtFailure (D.failed source.new) (D.reads source.old) (D.reads source.new)) }
-    ensures turns { D.turns source.new ≡ D.turns source.old }
-    ensures writes { D.writes source.new ≡ D.writes source.old }
+        enough ≡ false → FallsShort count buffer.old.held (D.view source.old).state (D.view source.new).state) }
+    ensures err { D.tells → OnErr result (FallsShort count buffer.old.held (D.view source.old).state (D.view source.new).state) }
+    ensures cause { Counts (is_err result) (D.view source.old).reads (D.view source.new).reads }
+    ensures stop { OnErr result (StopsAtFailure (D.view source.new).failed (D.view source.old).reads (D.view source.new).reads) }
+    ensures turns { (D.view source.new).turns ≡ (D.view source.old).turns }
+    ensures writes { (D.view source.new).writes ≡ (D.view source.old).writes }
 {
     let mut left = count;
     'pieces: while left > 0 {
@@ -132,16 +132,16 @@ fn pass_to_last<D: Door>(
 ) -> Result<bool, Failed>
     requires { 12 ≤ total }
     ensures ok { D.tells → IfOk result (λ enough.
-        enough ≡ true → Passes total 4 buffer.old.held buffer.new.held (D.state source.old) (D.state source.new)) }
+        enough ≡ true → Passes total 4 buffer.old.held buffer.new.held (D.view source.old).state (D.view source.new).state) }
     ensures enough { IfOk result (λ enough. enough ≡ true → 4 ≤ length buffer.new.held) }
-    ensures end { D.tells → IfOk result (λ enough. enough ≡ false → (D.state source.new).left ≡ []) }
+    ensures end { D.tells → IfOk result (λ enough. enough ≡ false → (D.view source.new).state.left ≡ []) }
     ensures short { D.tells → IfOk result (λ enough.
-        enough ≡ false → FallsShort total buffer.old.held (D.state source.old) (D.state source.new)) }
-    ensures err { D.tells → OnErr result (FallsShort total buffer.old.held (D.state source.old) (D.state source.new)) }
-    ensures cause { Counts (is_err result) (D.reads source.old) (D.reads source.new) }
-    ensures stop { OnErr result (StopsAtFailure (D.failed source.new) (D.reads source.old) (D.reads source.new)) }
-    ensures turns { D.turns source.new ≡ D.turns source.old }
-    ensures writes { D.writes source.new ≡ D.writes source.old }
+        enough ≡ false → FallsShort total buffer.old.held (D.view source.old).state (D.view source.new).state) }
+    ensures err { D.tells → OnErr result (FallsShort total buffer.old.held (D.view source.old).state (D.view source.new).state) }
+    ensures cause { Counts (is_err result) (D.view source.old).reads (D.view source.new).reads }
+    ensures stop { OnErr result (StopsAtFailure (D.view source.new).failed (D.view source.old).reads (D.view source.new).reads) }
+    ensures turns { (D.view source.new).turns ≡ (D.view source.old).turns }
+    ensures writes { (D.view source.new).writes ≡ (D.view source.old).writes }
 {
     if !pass(source, buffer, total - LAST_LEN)? {
         return Ok(false);
@@ -161,15 +161,15 @@ fn read_over<D: Door>(
     requires looked_into { spec.is_read head.kind ≡ false }
     requires within { IsWithin standing.old }
     ensures ok { D.tells → OnOk result (
-        Follows (behind (blocks_at standing.old) buffer.old.held) (behind (blocks_at standing.new) buffer.new.held) (D.state source.old) (D.state source.new)) }
+        Follows (behind (blocks_at standing.old) buffer.old.held) (behind (blocks_at standing.new) buffer.new.held) (D.view source.old).state (D.view source.new).state) }
     ensures within { IsWithin standing.new }
     ensures further { OnOk result (standing.new.blocks ≡ standing.old.blocks + 1) }
     ensures err { D.tells → IfErr result (λ fault.
-        EndsIn fault (behind (blocks_at standing.old) buffer.old.held) (D.state source.old) (D.state source.new)) }
-    ensures cause { Counts (has_failed result) (D.reads source.old) (D.reads source.new) }
-    ensures stop { IsTrue (has_failed result) → StopsAtFailure (D.failed source.new) (D.reads source.old) (D.reads source.new) }
-    ensures turns { D.turns source.new ≡ D.turns source.old }
-    ensures writes { D.writes source.new ≡ D.writes source.old }
+        EndsIn fault (behind (blocks_at standing.old) buffer.old.held) (D.view source.old).state (D.view source.new).state) }
+    ensures cause { Counts (has_failed result) (D.view source.old).reads (D.view source.new).reads }
+    ensures stop { IsTrue (has_failed result) → StopsAtFailure (D.view source.new).failed (D.view source.old).reads (D.view source.new).reads }
+    ensures turns { (D.view source.new).turns ≡ (D.view source.old).turns }
+    ensures writes { (D.view source.new).writes ≡ (D.view source.old).writes }
 {
     if !pass_to_last(source, buffer, head.total)? {
         return Err(NgFault::Cut(standing.place));
@@ -190,19 +190,19 @@ fn read_block<D: Door>(
 ) -> Result<Met, NgFault>
     requires { IsWithin standing.old }
     ensures ok { D.tells → IfOk result (λ met.
-        Follows (behind (blocks_at standing.old) buffer.old.held) (behind (behind_met met buffer.new.given standing.new) buffer.new.held) (D.state source.old) (D.state source.new)) }
-    ensures end { D.tells → IfOk result (λ met. met ≡ End → (buffer.new.held ≡ []) × ((D.state source.new).left ≡ [])) }
+        Follows (behind (blocks_at standing.old) buffer.old.held) (behind (behind_met met buffer.new.given standing.new) buffer.new.held) (D.view source.old).state (D.view source.new).state) }
+    ensures end { D.tells → IfOk result (λ met. met ≡ End → (buffer.new.held ≡ []) × ((D.view source.new).state.left ≡ [])) }
     ensures within { IsWithin standing.new }
     ensures further { IfOk result (λ met. (met ≡ End) ⊎ (standing.new.blocks ≡ standing.old.blocks + 1)) }
     ensures whole { IfOk result (λ met. ForSome (current_met met) (λ current. 32 + current.len ≤ length buffer.new.given)) }
     ensures packet { IsTrue (is_decided standing.old.section.order buffer.old.held) → IfOk result (λ met. is_some (current_met met) ≡ true) }
     ensures unread { IsTrue (is_decided standing.old.section.order buffer.old.held) → source.new ≡ source.old }
     ensures err { D.tells → IfErr result (λ fault.
-        EndsIn fault (behind (blocks_at standing.old) buffer.old.held) (D.state source.old) (D.state source.new)) }
-    ensures cause { Counts (has_failed result) (D.reads source.old) (D.reads source.new) }
-    ensures stop { IsTrue (has_failed result) → StopsAtFailure (D.failed source.new) (D.reads source.old) (D.reads source.new) }
-    ensures turns { D.turns source.new ≡ D.turns source.old }
-    ensures writes { D.writes source.new ≡ D.writes source.old }
+        EndsIn fault (behind (blocks_at standing.old) buffer.old.held) (D.view source.old).state (D.view source.new).state) }
+    ensures cause { Counts (has_failed result) (D.view source.old).reads (D.view source.new).reads }
+    ensures stop { IsTrue (has_failed result) → StopsAtFailure (D.view source.new).failed (D.view source.old).reads (D.view source.new).reads }
+    ensures turns { (D.view source.new).turns ≡ (D.view source.old).turns }
+    ensures writes { (D.view source.new).writes ≡ (D.view source.old).writes }
 {
     let Some(head) = read_head(source, buffer, standing)? else {
         return Ok(Met::End);
@@ -223,18 +223,18 @@ pub(crate) fn step<D: Door>(
 ) -> Result<Option<Current>, NgFault>
     requires { IsWithin standing.old }
     ensures ok { D.tells → IfOk result (λ found.
-        Follows (behind (blocks_at standing.old) buffer.old.held) (behind (coming_next found buffer.new.given standing.new) buffer.new.held) (D.state source.old) (D.state source.new)) }
-    ensures end { D.tells → IfOk result (λ found. is_some found ≡ false → (buffer.new.held ≡ []) × ((D.state source.new).left ≡ [])) }
+        Follows (behind (blocks_at standing.old) buffer.old.held) (behind (coming_next found buffer.new.given standing.new) buffer.new.held) (D.view source.old).state (D.view source.new).state) }
+    ensures end { D.tells → IfOk result (λ found. is_some found ≡ false → (buffer.new.held ≡ []) × ((D.view source.new).state.left ≡ [])) }
     ensures within { IsWithin standing.new }
     ensures fewer { IfOk result (λ found. is_some found ≡ true → standing.old.blocks < standing.new.blocks) }
     ensures whole { IfOk result (λ found. ForSome found (λ current. 32 + current.len ≤ length buffer.new.given)) }
     ensures unread { IsTrue (is_decided standing.old.section.order buffer.old.held) → source.new ≡ source.old }
     ensures err { D.tells → IfErr result (λ fault.
-        EndsIn fault (behind (blocks_at standing.old) buffer.old.held) (D.state source.old) (D.state source.new)) }
-    ensures cause { Counts (has_failed result) (D.reads source.old) (D.reads source.new) }
-    ensures stop { IsTrue (has_failed result) → StopsAtFailure (D.failed source.new) (D.reads source.old) (D.reads source.new) }
-    ensures turns { D.turns source.new ≡ D.turns source.old }
-    ensures writes { D.writes source.new ≡ D.writes source.old }
+        EndsIn fault (behind (blocks_at standing.old) buffer.old.held) (D.view source.old).state (D.view source.new).state) }
+    ensures cause { Counts (has_failed result) (D.view source.old).reads (D.view source.new).reads }
+    ensures stop { IsTrue (has_failed result) → StopsAtFailure (D.view source.new).failed (D.view source.old).reads (D.view source.new).reads }
+    ensures turns { (D.view source.new).turns ≡ (D.view source.old).turns }
+    ensures writes { (D.view source.new).writes ≡ (D.view source.old).writes }
 {
     'forward: loop {
         match read_block(source, buffer, standing)? {

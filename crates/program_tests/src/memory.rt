@@ -22,7 +22,7 @@ pub enum Call {
 pub type Failing = (Call, u64);
 
 /// No call is to fail.
-pub const NONE: Failing = (Call::Open, 0);
+pub(crate) const NONE: Failing = (Call::Open, 0);
 
 /// A kept item: its kind, its key, and its body.
 pub type Kept<'a> = (u8, &'a [u8], &'a [u8]);
@@ -58,7 +58,7 @@ fn inputs_of(alloc: Global, connections: &[&[&[u8]]]) -> Result<Listed<Listed<By
 }
 
 /// A door to these connections.
-pub fn door_of(
+pub(crate) fn door_of(
     rt: &impl Abort,
     alloc: Global,
     connections: &[&[&[u8]]],
@@ -79,7 +79,7 @@ pub fn door_of(
 }
 
 /// A folder of these files, in this order.
-pub fn spool_of(
+pub(crate) fn spool_of(
     alloc: Global,
     files: &[(&str, &str)],
     failing: Failing,
@@ -98,7 +98,7 @@ pub fn spool_of(
 }
 
 /// A clock that gives this second and the one behind it.
-pub fn clock_from(rt: &impl Abort, alloc: Global, second: u64) -> Result<MemoryClock, Fail> {
+pub(crate) fn clock_from(rt: &impl Abort, alloc: Global, second: u64) -> Result<MemoryClock, Fail> {
     let mut moments = Listed::new(alloc);
     moments.push(Moment::at_most_last(second))?;
     moments.push(Moment::at_most_last(second.saturating_add(1)))?;
@@ -107,7 +107,7 @@ pub fn clock_from(rt: &impl Abort, alloc: Global, second: u64) -> Result<MemoryC
 }
 
 /// A keeper that keeps nothing.
-pub fn empty_keeper(alloc: Global, failing: Failing) -> Result<MemoryKeeper, Fail> {
+pub(crate) fn empty_keeper(alloc: Global, failing: Failing) -> Result<MemoryKeeper, Fail> {
     let opens = script(alloc, failing, Call::Open)?;
     let applies = script(alloc, failing, Call::Apply)?;
     let mut keeper = MemoryKeeper::new(alloc, Listed::new(alloc));
@@ -117,7 +117,11 @@ pub fn empty_keeper(alloc: Global, failing: Failing) -> Result<MemoryKeeper, Fai
 }
 
 /// A keeper that keeps one item.
-pub fn keeper_of(alloc: Global, item: Kept<'_>, failing: Failing) -> Result<MemoryKeeper, Fail> {
+pub(crate) fn keeper_of(
+    alloc: Global,
+    item: Kept<'_>,
+    failing: Failing,
+) -> Result<MemoryKeeper, Fail> {
     let opens = script(alloc, failing, Call::Open)?;
     let applies = script(alloc, failing, Call::Apply)?;
     let (kind, key, body) = item;

@@ -19,7 +19,7 @@ pub struct Ends<'a> {
 }
 
 /// The words, as the program is given them.
-pub fn words_of(alloc: Global, words: &[&str]) -> Result<Vec<String>, Fail> {
+pub(crate) fn words_of(alloc: Global, words: &[&str]) -> Result<Vec<String>, Fail> {
     let mut list = Vec::new(alloc);
     for word in words {
         list.push(String::from_str(alloc, word)?)?;
@@ -75,7 +75,7 @@ fn check_kept(
 }
 
 /// Runs the program so, and this comes of it. The box is handed back.
-pub fn check_run(
+pub(crate) fn check_run(
     rt: &impl Abort,
     alloc: Global,
     words: &[String],

@@ -5,7 +5,7 @@ ghost use Rattle.std.specs.Prelude.{◌≡◌, ◌≢◌, ◌<◌, ◌≤◌, fa
 ghost use Rattle.std.specs.Io.KnownBytes.{ReadConsumes, WriteAppends};
 ghost use Rattle.mud_world.specs.Calls.{counted as count_after};
 ghost use Rattle.mud_world.specs.Causes.{Counts};
-ghost use Rattle.mud_world.specs.Door.{DoorState};
+ghost use Rattle.mud_world.specs.View.{viewed};
 ghost use Rattle.real_world.specs.Failures.{Notes};
 ghost use Rattle.real_world.specs.Real.{left_of, port_of, reads_of, stands_of, turns_of, writes_of, written_of};
 
@@ -113,15 +113,7 @@ fn taken(answer: io::Result<usize>) -> io::Result<usize>
 impl<I: Read + Drop, O: Write + Drop, N: Net + Clock + Drop> Door for RealDoor<I, O, N> {
     ghost tells = { ⊥ };
 
-    ghost state = { λ door. record { bound = port_of door; stands = stands_of door; past = []; left = []; written = []; ahead = [] } };
-
-    ghost turns = { λ door. door.turns };
-
-    ghost reads = { λ door. door.reads };
-
-    ghost writes = { λ door. door.writes };
-
-    ghost failed = { λ door. door.failed };
+    ghost view = { λ door. viewed (record { bound = port_of door; stands = stands_of door; past = []; left = []; written = []; ahead = [] }) door.turns door.reads door.writes door.failed };
 
     /// It listens on the port of 127.0.0.1 alone, so clients on this machine alone can come.
     fn bind(&mut self, port: u16) -> Result<(), Failed>

@@ -31,7 +31,7 @@ fn address_of(number: u16) -> SocketAddr
 
 impl<N: Net> Port<N> {
     /// Listens on the port of this number. No client is served yet.
-    pub fn listen(net: &N, number: u16) -> io::Result<Port<N>>
+    pub(crate) fn listen(net: &N, number: u16) -> io::Result<Port<N>>
         ensures number { IfOk result (λ port. port.number ≡ number) }
         ensures client { IfOk result (λ port. is_served port ≡ false) }
     {
@@ -59,7 +59,7 @@ impl<N: Net> Port<N> {
     }
 
     /// Leaves the client, whose connection is closed, and waits for a further one.
-    pub fn go_on(&mut self) -> io::Result<()>
+    pub(crate) fn go_on(&mut self) -> io::Result<()>
         ensures ok { OnOk result (is_served self.new ≡ true) }
         ensures err { OnErr result (is_served self.new ≡ false) }
         ensures number { self.new.number ≡ self.old.number }

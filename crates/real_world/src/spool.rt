@@ -4,12 +4,14 @@
 ghost use Rattle.std.specs.Prelude.{◌≡◌, ◌≤◌, ◌<◌, ◌++◌, ◌∷◌, ◌⊎◌, [], codes, length, take, false, string_bytes, Err, None, Ok, Some, IfErr, IfOk, IfSome, OnOk, is_err};
 ghost use Rattle.std.specs.Iterator.{Drains, IsFinite};
 ghost use Rattle.std.specs.Io.KnownBytes.{Consumes, IsAtEnd};
+ghost use Rattle.mud_world.specs.Calls.{counted as count_after};
 ghost use Rattle.mud_world.specs.Causes.{Counts};
 ghost use Rattle.mud_world.specs.Files.{has_failed};
 ghost use Rattle.real_world.specs.Real.{faults_of};
 ghost use Rattle.real_world.specs.Errors.{fault_of, name_trouble_of, trouble_of};
 ghost use Rattle.real_world.specs.Failures.{Notes};
 ghost use Rattle.real_world.specs.Folders.{names_of, ArePassed, HasTrouble, StopsAt};
+ghost use Rattle.mud_world.specs.View.{spool_viewed};
 
 use crate::failure::{Call, Failure};
 use mud_base::{Bytes, Listed, Memory};
@@ -26,6 +28,7 @@ pub struct RealSpool<R: Files + AllocGlobal + Clone + Drop> {
     runtime: R,
     folder: String,
     faults: u64,
+    failed: bool,
     /// The call that failed last, if one did.
     pub failure: Option<Failure>,
 }
@@ -37,12 +40,14 @@ impl<R: Files + AllocGlobal + Clone + Drop> RealSpool<R> {
         ensures runtime { result.runtime ≡ runtime }
         ensures folder { result.folder ≡ folder }
         ensures faults { faults_of result ≡ 0 }
+        ensures failed { ⟦<RealSpool<R> as Spool>⟧.failed result ≡ false }
         ensures failure { result.failure ≡ None }
     {
         RealSpool {
             runtime,
             folder,
             faults: 0,
+            failed: false,
             failure: None,
         }
     }
@@ -215,19 +220,24 @@ fn octets_of<R: Files>(
     octets_in(fs::open(runtime, path.as_str()), alloc)
 }
 
-/// The answer, counted where the spool itself failed, and noted then.
+/// The answer of a call of a spool, counted where the spool itself failed, and noted then as the last
+/// one.
 fn counted<T>(
     answer: Result<T, Trouble>,
     call: Call,
     faults: &mut u64,
+    failed: &mut bool,
     failure: &mut Option<Failure>,
 ) -> Result<T, SpoolFault>
     ensures ok { IfOk answer (λ value. result ≡ Ok value) }
     ensures err { IfErr answer (λ trouble. result ≡ Err (fault_of trouble)) }
     ensures cause { Counts (has_failed result) faults.old faults.new }
+    ensures count { faults.new ≡ count_after (has_failed result) faults.old }
+    ensures last { failed.new ≡ has_failed result }
     ensures noted { Notes (has_failed result) call failure.old failure.new }
     ensures error { (error : _) → answer ≡ Err (Trouble.System error) → failure.new ≡ Some (record { call = call; error = error }) }
 {
+    *failed = matches!(answer, Err(Trouble::System(_)));
     match answer {
         Ok(value) => Ok(value),
         Err(Trouble::Memory) => Err(SpoolFault::Memory),
@@ -242,25 +252,39 @@ fn counted<T>(
 impl<R: Files + AllocGlobal + Clone + Drop> Spool for RealSpool<R> {
     ghost tells = { ⊥ };
 
-    ghost files = { λ _. [] };
-
-    ghost faults = { λ spool. spool.faults };
+    ghost view = { λ spool. spool_viewed [] spool.faults spool.failed };
 
     fn list(&mut self, alloc: Global) -> Result<Listed<Bytes>, SpoolFault>
         ensures cause { Counts (has_failed result) (faults_of self.old) (faults_of self.new) }
+        ensures count { faults_of self.new ≡ count_after (has_failed result) (faults_of self.old) }
+        ensures last { self.new.failed ≡ has_failed result }
         ensures noted { Notes (has_failed result) Call.List self.old.failure self.new.failure }
     {
         let answer = names_in(&self.runtime, self.folder.as_str(), alloc);
-        counted(answer, Call::List, &mut self.faults, &mut self.failure)
+        counted(
+            answer,
+            Call::List,
+            &mut self.faults,
+            &mut self.failed,
+            &mut self.failure,
+        )
     }
 
     /// A file that can't be opened or read counts as a failure too.
     fn read(&mut self, alloc: Global, name: &[u8]) -> Result<Bytes, SpoolFault>
         ensures within { IfOk result (λ octets. length octets ≤ 262145) }
         ensures cause { Counts (has_failed result) (faults_of self.old) (faults_of self.new) }
+        ensures count { faults_of self.new ≡ count_after (has_failed result) (faults_of self.old) }
+        ensures last { self.new.failed ≡ has_failed result }
         ensures noted { Notes (has_failed result) Call.ReadFile self.old.failure self.new.failure }
     {
         let answer = octets_of(&self.runtime, self.folder.as_str(), alloc, name);
-        counted(answer, Call::ReadFile, &mut self.faults, &mut self.failure)
+        counted(
+            answer,
+            Call::ReadFile,
+            &mut self.faults,
+            &mut self.failed,
+            &mut self.failure,
+        )
     }
 }

@@ -9,7 +9,8 @@ use Rattle.mud_world.specs.Causes.{Counts, StopsAtFailure}
 use Rattle.mud_world.specs.Door.{DoorState, put_out}
 use Rattle.command_words.specs.declared.command.ReportKind.{ReportKind}
 use Rattle.command_runs.specs.Due.{WroteFirst}
-use Rattle.command_runs.specs.View.{DoorView}
+use Rattle.mud_world.specs.View.{DoorView}
+use Rattle.command_runs.proofs.Dues.{wrote_none}
 use Rattle.desk_items.specs.declared.fault.OpenFault.{OpenFault}
 use Rattle.desk_items.specs.declared.fault.OpenFault.TheVariants.{Keeper, Memory, BadItem}
 use Rattle.desk_items.specs.Opening.{IsFaultOf, IsOfCall}
@@ -20,10 +21,9 @@ use Rattle.mud_desk.specs.Boxed.{IsKept, IsSameBox}
 use Rattle.desk_runs.specs.Refused.{IsRefusal, bad_item_line, refusal_text}
 use Rattle.desk_runs.specs.Store.{JudgesStore}
 use Rattle.desk_runs.proofs.Runs.{refused_run}
-use Rattle.desk_runs.proofs.Stores.{kept_tables}
+use Rattle.desk_runs.proofs.Stores.{kept_tables, not_part}
 use Rattle.report_runs.specs.Store.{ReportsStore, WritesReport}
 use Rattle.report_runs.specs.Tables.{clock_for, table_text}
-use Rattle.listing_runs.proofs.Written.{wrote_none}
 
 -- ---- Statuses
 
@@ -53,9 +53,6 @@ of_refusal (BadItem kind key) status (inr (inr five)) = inr (inr (inl five))
 
 not_done : {A : Type 0} (status : ℕ) → (status ≡ 5) ⊎ (status ≡ 7) → (status ≡ 0) ⊎ (status ≡ 6) → A
 not_done status is which = absurd (grind arith)
-
-not_part : {A : Type 0} (status : ℕ) → status ≡ 7 → (status ≡ 4) ⊎ (status ≡ 5) → A
-not_part status is which = absurd (grind arith)
 
 six_of : (status : ℕ) → (status ≡ 0) ⊎ (status ≡ 6) → (status ≡ 6) ⊎ ((status ≡ 4) ⊎ (status ≡ 5)) → status ≡ 6
 six_of status which is = grind arith

@@ -9,7 +9,7 @@ use Rattle.mud_world.specs.Causes.{Rose, StopsAtFailure}
 use Rattle.mud_world.specs.Door.{DoorState, put_out}
 use Rattle.command_words.specs.declared.command.ReportKind.{ReportKind}
 use Rattle.command_runs.specs.Due.{Due, WroteFirst}
-use Rattle.command_runs.specs.View.{DoorView}
+use Rattle.mud_world.specs.View.{DoorView}
 use Rattle.desk_model.specs.DeskTables.{DeskTables}
 use Rattle.desk_model.specs.Items.{tables_in}
 use Rattle.mud_desk.specs.Boxed.{IsSameBox}

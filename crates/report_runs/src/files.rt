@@ -48,7 +48,7 @@ impl ReportRow for CachedFile {
 
 /// Adds the line of a URL whose file is to be fetched again.
 #[tactic(auto, unfolding(crate::specs::Rows::due_line))]
-pub fn append_due(line: &mut Bytes, url: &MudUrl) -> Result<(), Memory>
+pub(crate) fn append_due(line: &mut Bytes, url: &MudUrl) -> Result<(), Memory>
     ensures { OnOk result (line.new ≡ line.old ++ spec.due_line url.now) }
 {
     line.append(b"due ")?;

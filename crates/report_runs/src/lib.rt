@@ -1,15 +1,13 @@
 //! The command `report`: it opens a store, and writes one of its tables.
 #![tactic(auto)]
 
-pub mod binds;
-pub mod files;
+mod binds;
+mod files;
 pub mod row;
 mod rows;
 pub mod store;
-pub mod table;
-pub mod things;
+mod table;
+mod things;
 
-pub use files::append_due;
 pub use row::ReportRow;
 pub use store::report_store;
-pub use table::report_desk;

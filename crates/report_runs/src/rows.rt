@@ -6,7 +6,8 @@ ghost use Rattle.command_runs.specs.Due.{WroteFirst};
 ghost use Rattle.command_runs.specs.Stops.{has_failed};
 ghost use Rattle.report_runs.specs.Tables.{due_part};
 
-use crate::{ReportRow, append_due};
+use crate::ReportRow;
+use crate::files::append_due;
 use command_runs::Stop;
 use file_cache::is_due;
 use file_tables::CachedFile;
@@ -17,12 +18,12 @@ use std::alloc::Global;
 
 /// Writes the lines of a row.
 fn write_row<D: Door, R: ReportRow>(alloc: Global, door: &mut D, row: &R) -> Result<(), Stop>
-    ensures ok { D.tells → OnOk result (D.state door.new ≡ put_out (R.text row.now) (D.state door.old)) }
-    ensures part { D.tells → OnErr result (WroteFirst (R.text row.now) (D.state door.old) (D.state door.new)) }
-    ensures cause { Counts (has_failed result) (D.writes door.old) (D.writes door.new) }
-    ensures stop { IsTrue (has_failed result) → StopsAtFailure (D.failed door.new) (D.writes door.old) (D.writes door.new) }
-    ensures turns { D.turns door.new ≡ D.turns door.old }
-    ensures reads { D.reads door.new ≡ D.reads door.old }
+    ensures ok { D.tells → OnOk result ((D.view door.new).state ≡ put_out (R.text row.now) (D.view door.old).state) }
+    ensures part { D.tells → OnErr result (WroteFirst (R.text row.now) (D.view door.old).state (D.view door.new).state) }
+    ensures cause { Counts (has_failed result) (D.view door.old).writes (D.view door.new).writes }
+    ensures stop { IsTrue (has_failed result) → StopsAtFailure (D.view door.new).failed (D.view door.old).writes (D.view door.new).writes }
+    ensures turns { (D.view door.new).turns ≡ (D.view door.old).turns }
+    ensures reads { (D.view door.new).reads ≡ (D.view door.old).reads }
 {
     let mut lines = Bytes::empty(alloc);
     row.append_lines(alloc, &mut lines)?;
@@ -35,12 +36,12 @@ pub(crate) fn write_rows<D: Door, R: ReportRow>(
     door: &mut D,
     rows: &[R],
 ) -> Result<(), Stop>
-    ensures ok { D.tells → OnOk result (D.state door.new ≡ put_out (flat_map R.text rows.now) (D.state door.old)) }
-    ensures part { D.tells → OnErr result (WroteFirst (flat_map R.text rows.now) (D.state door.old) (D.state door.new)) }
-    ensures cause { Counts (has_failed result) (D.writes door.old) (D.writes door.new) }
-    ensures stop { IsTrue (has_failed result) → StopsAtFailure (D.failed door.new) (D.writes door.old) (D.writes door.new) }
-    ensures turns { D.turns door.new ≡ D.turns door.old }
-    ensures reads { D.reads door.new ≡ D.reads door.old }
+    ensures ok { D.tells → OnOk result ((D.view door.new).state ≡ put_out (flat_map R.text rows.now) (D.view door.old).state) }
+    ensures part { D.tells → OnErr result (WroteFirst (flat_map R.text rows.now) (D.view door.old).state (D.view door.new).state) }
+    ensures cause { Counts (has_failed result) (D.view door.old).writes (D.view door.new).writes }
+    ensures stop { IsTrue (has_failed result) → StopsAtFailure (D.view door.new).failed (D.view door.old).writes (D.view door.new).writes }
+    ensures turns { (D.view door.new).turns ≡ (D.view door.old).turns }
+    ensures reads { (D.view door.new).reads ≡ (D.view door.old).reads }
 {
     'rows: for row in rows {
         write_row(alloc, door, row)?;
@@ -67,12 +68,12 @@ fn write_due_row<D: Door>(
     row: &CachedFile,
     now: Moment,
 ) -> Result<(), Stop>
-    ensures ok { D.tells → OnOk result (D.state door.new ≡ put_out (due_part now row.now) (D.state door.old)) }
-    ensures part { D.tells → OnErr result (WroteFirst (due_part now row.now) (D.state door.old) (D.state door.new)) }
-    ensures cause { Counts (has_failed result) (D.writes door.old) (D.writes door.new) }
-    ensures stop { IsTrue (has_failed result) → StopsAtFailure (D.failed door.new) (D.writes door.old) (D.writes door.new) }
-    ensures turns { D.turns door.new ≡ D.turns door.old }
-    ensures reads { D.reads door.new ≡ D.reads door.old }
+    ensures ok { D.tells → OnOk result ((D.view door.new).state ≡ put_out (due_part now row.now) (D.view door.old).state) }
+    ensures part { D.tells → OnErr result (WroteFirst (due_part now row.now) (D.view door.old).state (D.view door.new).state) }
+    ensures cause { Counts (has_failed result) (D.view door.old).writes (D.view door.new).writes }
+    ensures stop { IsTrue (has_failed result) → StopsAtFailure (D.view door.new).failed (D.view door.old).writes (D.view door.new).writes }
+    ensures turns { (D.view door.new).turns ≡ (D.view door.old).turns }
+    ensures reads { (D.view door.new).reads ≡ (D.view door.old).reads }
 {
     let line = due_line(alloc, row, now)?;
     write_text(door, line.octets())
@@ -85,12 +86,12 @@ pub(crate) fn write_due<D: Door>(
     files: &[CachedFile],
     now: Moment,
 ) -> Result<(), Stop>
-    ensures ok { D.tells → OnOk result (D.state door.new ≡ put_out (flat_map (due_part now) files.now) (D.state door.old)) }
-    ensures part { D.tells → OnErr result (WroteFirst (flat_map (due_part now) files.now) (D.state door.old) (D.state door.new)) }
-    ensures cause { Counts (has_failed result) (D.writes door.old) (D.writes door.new) }
-    ensures stop { IsTrue (has_failed result) → StopsAtFailure (D.failed door.new) (D.writes door.old) (D.writes door.new) }
-    ensures turns { D.turns door.new ≡ D.turns door.old }
-    ensures reads { D.reads door.new ≡ D.reads door.old }
+    ensures ok { D.tells → OnOk result ((D.view door.new).state ≡ put_out (flat_map (due_part now) files.now) (D.view door.old).state) }
+    ensures part { D.tells → OnErr result (WroteFirst (flat_map (due_part now) files.now) (D.view door.old).state (D.view door.new).state) }
+    ensures cause { Counts (has_failed result) (D.view door.old).writes (D.view door.new).writes }
+    ensures stop { IsTrue (has_failed result) → StopsAtFailure (D.view door.new).failed (D.view door.old).writes (D.view door.new).writes }
+    ensures turns { (D.view door.new).turns ≡ (D.view door.old).turns }
+    ensures reads { (D.view door.new).reads ≡ (D.view door.old).reads }
 {
     'rows: for row in files {
         write_due_row(alloc, door, row, now)?;

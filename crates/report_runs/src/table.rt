@@ -57,12 +57,12 @@ fn write_table<D: Door>(
     clock: Option<Moment>,
     door: &mut D,
 ) -> Result<(), Stop>
-    ensures ok { D.tells → OnOk result (D.state door.new ≡ put_out (table_text kind clock (tables_of desk.now.state)) (D.state door.old)) }
-    ensures part { D.tells → OnErr result (WroteFirst (table_text kind clock (tables_of desk.now.state)) (D.state door.old) (D.state door.new)) }
-    ensures cause { Counts (has_failed result) (D.writes door.old) (D.writes door.new) }
-    ensures stop { IsTrue (has_failed result) → StopsAtFailure (D.failed door.new) (D.writes door.old) (D.writes door.new) }
-    ensures turns { D.turns door.new ≡ D.turns door.old }
-    ensures reads { D.reads door.new ≡ D.reads door.old }
+    ensures ok { D.tells → OnOk result ((D.view door.new).state ≡ put_out (table_text kind clock (tables_of desk.now.state)) (D.view door.old).state) }
+    ensures part { D.tells → OnErr result (WroteFirst (table_text kind clock (tables_of desk.now.state)) (D.view door.old).state (D.view door.new).state) }
+    ensures cause { Counts (has_failed result) (D.view door.old).writes (D.view door.new).writes }
+    ensures stop { IsTrue (has_failed result) → StopsAtFailure (D.view door.new).failed (D.view door.old).writes (D.view door.new).writes }
+    ensures turns { (D.view door.new).turns ≡ (D.view door.old).turns }
+    ensures reads { (D.view door.new).reads ≡ (D.view door.old).reads }
 {
     match kind {
         ReportKind::Things => write_rows(alloc, door, desk.things()),
@@ -88,13 +88,13 @@ fn report_table<D: Door>(
     door: &mut D,
 ) -> Status
     ensures statuses { (status_number result ≡ 0) ⊎ ((status_number result ≡ 4) ⊎ (status_number result ≡ 5)) }
-    ensures fault { status_number result ≡ 4 → StopsAtFailure (D.failed door.new) (D.writes door.old) (D.writes door.new) }
-    ensures steady { status_number result ≢ 4 → D.writes door.new ≡ D.writes door.old }
-    ensures done { D.tells → status_number result ≡ 0 → D.state door.new ≡ put_out (table_text kind clock (tables_of desk.now.state)) (D.state door.old) }
+    ensures fault { status_number result ≡ 4 → StopsAtFailure (D.view door.new).failed (D.view door.old).writes (D.view door.new).writes }
+    ensures steady { status_number result ≢ 4 → (D.view door.new).writes ≡ (D.view door.old).writes }
+    ensures done { D.tells → status_number result ≡ 0 → (D.view door.new).state ≡ put_out (table_text kind clock (tables_of desk.now.state)) (D.view door.old).state }
     ensures part { D.tells → (status_number result ≡ 4) ⊎ (status_number result ≡ 5) →
-        WroteFirst (table_text kind clock (tables_of desk.now.state)) (D.state door.old) (D.state door.new) }
-    ensures turns { D.turns door.new ≡ D.turns door.old }
-    ensures reads { D.reads door.new ≡ D.reads door.old }
+        WroteFirst (table_text kind clock (tables_of desk.now.state)) (D.view door.old).state (D.view door.new).state }
+    ensures turns { (D.view door.new).turns ≡ (D.view door.old).turns }
+    ensures reads { (D.view door.new).reads ≡ (D.view door.old).reads }
 {
     match write_table(alloc, desk, kind, clock, door) {
         Ok(()) => Status::Done,
@@ -110,7 +110,7 @@ fn report_table<D: Door>(
 /// | 0 | the table was written |
 /// | 4 | a write of the door failed: a first part was written |
 /// | 5 | want of memory: a first part was written, and no line says so |
-pub fn report_desk<D: Door, C: Clock>(
+pub(crate) fn report_desk<D: Door, C: Clock>(
     alloc: Global,
     desk: Desk,
     kind: ReportKind,
@@ -119,11 +119,11 @@ pub fn report_desk<D: Door, C: Clock>(
 ) -> (Status, Box<dyn Keeper>)
     requires { IsKept Keeper-dyn desk.keeper (tables_of desk.state) }
     ensures statuses { (status_number result.0 ≡ 0) ⊎ ((status_number result.0 ≡ 4) ⊎ (status_number result.0 ≡ 5)) }
-    ensures fault { status_number result.0 ≡ 4 → StopsAtFailure (D.failed door.new) (D.writes door.old) (D.writes door.new) }
-    ensures steady { status_number result.0 ≢ 4 → D.writes door.new ≡ D.writes door.old }
-    ensures writes { D.tells → WritesReport kind C.tells (C.moments clock.old) (Ok (tables_of desk.state)) (D.state door.old) (D.state door.new) (status_number result.0) }
-    ensures turns { D.turns door.new ≡ D.turns door.old }
-    ensures reads { D.reads door.new ≡ D.reads door.old }
+    ensures fault { status_number result.0 ≡ 4 → StopsAtFailure (D.view door.new).failed (D.view door.old).writes (D.view door.new).writes }
+    ensures steady { status_number result.0 ≢ 4 → (D.view door.new).writes ≡ (D.view door.old).writes }
+    ensures writes { D.tells → WritesReport kind C.tells (C.moments clock.old) (Ok (tables_of desk.state)) (D.view door.old).state (D.view door.new).state (status_number result.0) }
+    ensures turns { (D.view door.new).turns ≡ (D.view door.old).turns }
+    ensures reads { (D.view door.new).reads ≡ (D.view door.old).reads }
     ensures later { C.tells → C.moments clock.new ≡ moments_after kind (C.moments clock.old) }
     ensures unasked { spec.asks_clock kind ≡ false → clock.new ≡ clock.old }
     ensures keeper { result.1 ≡ desk.keeper }

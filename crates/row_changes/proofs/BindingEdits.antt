@@ -1,6 +1,7 @@
 -- The edits of bindings that go and come.
 use Rattle.std.proofs.Common.{◌≡◌, ℕ, suc, ◌+◌, ◌<◌, Bool, true, false, List, [], ◌∷◌, map, length, drop, get_or, Result, refl, sym, ap, subst, ◌∙◌, arith}
 use Rattle.std.proofs.Math.Seq.{drop-cons}
+use Rattle.std.proofs.lemmas.List.{length-map}
 use Rattle.sorted_rows.specs.Placed.{set_row, set_rows, PlacesAscend}
 use Rattle.sorted_rows.proofs.PlacedLaws.{ascend-set_row, ascend-set_rows}
 use Rattle.sorted_rows.proofs.RowLaws.{all-set_row, length-set_rows_le}
@@ -41,10 +42,6 @@ module _ (bindings : List Binding) (up : PlacesAscend binding_place bindings) wh
       found_all comes bs (set_row (edit_place binding_place) (binding_edit bindings comes b) es)
       (all-set_row (edit_place binding_place) (λ (e : Edit Binding). e.found ≡ index_by_key e.row bindings) (binding_edit bindings comes b) es refl found)
 
-length-map : {A B : Type 0} (f : A → B) (xs : List A) → length (map f xs) ≡ length xs
-length-map f [] = refl
-length-map f (x ∷ xs) = ap suc (length-map f xs)
-
 pub are_edits : (gone come bindings : List Binding) (edits : List (Edit Binding)) → PlacesAscend binding_place bindings
     → edits ≡ set_rows (edit_place binding_place) (map (binding_edit bindings true) come) (set_rows (edit_place binding_place) (map (binding_edit bindings false) gone) []) → AreEditsOf gone come bindings edits
 unfolding replaced edited
@@ -54,7 +51,7 @@ are_edits gone come bindings edits up is =
       made =
           come_made bindings up come first (ascend-set_rows (edit_place binding_place) (map (binding_edit bindings false) gone) [] tt)
           ∙ ap (set_rows binding_place come) (gone_made bindings up gone [] tt);
-      few = omega (arith, length-set_rows_le (edit_place binding_place) (map (binding_edit bindings true) come) first, length-set_rows_le (edit_place binding_place) (map (binding_edit bindings false) gone) [], length-map (binding_edit bindings true) come, length-map (binding_edit bindings false) gone);
+      few = omega (arith, length-set_rows_le (edit_place binding_place) (map (binding_edit bindings true) come) first, length-set_rows_le (edit_place binding_place) (map (binding_edit bindings false) gone) [], length-map come (binding_edit bindings true), length-map gone (binding_edit bindings false));
       found = found_all bindings up true come first (found_all bindings up false gone [] tt);
     })
 

@@ -6,6 +6,7 @@ use Rattle.std.proofs.Math.Seq.{drop-cons}
 use Rattle.std.specs.Option.{is_some}
 use Rattle.std.proofs.Math.Nat.{mul-le-mul_right}
 use Rattle.std.proofs.lemmas.Option.{none-some, same_Some, slice_get_read}
+use Rattle.std.proofs.lemmas.Bool.{or_left, or_right}
 use Rattle.sorted_rows.specs.Placed.{row_at, set_row, rows_under, index_in, PlacesAscend}
 use Rattle.sorted_rows.proofs.PlacedLaws.{index_in_row}
 use Rattle.mud_base.specs.declared.addr.Addr.{Addr}
@@ -28,7 +29,6 @@ use Rattle.acl_rows.specs.declared.row.RowKey.{RowKey}
 use Rattle.acl_rows.specs.Places.{row_place, row_key_place}
 use Rattle.acl_rows.specs.ByAddress.{rows_of_peer, index_beside}
 use Rattle.acl_rows.specs.Rows.{Slots, row, rows_of, member_keys, held_by, entry_at, entry_end}
-use Rattle.acl_rows.proofs.Lists.{any_first, any_second}
 use Rattle.acl_rows.proofs.Sound.{end_at-entry}
 use Rattle.acl_patch.specs.Touched.{row_key, key_end, changed_edits}
 use Rattle.acl_patch.specs.PolicyTouched.{bound_under, bound_key, first_key_touches}
@@ -87,10 +87,6 @@ next_bound owner side n bs i b lt is = ap (λ (xs : List Binding). map (bound_ke
 
 -- ---- Answers that can fail
 
-pub on_ok_map : {A E : Type 0} (P Q : Type 0) → (P → Q) → (r : Result A E) → OnOk r P → OnOk r Q
-on_ok_map P Q f (Ok v) h = f h
-on_ok_map P Q f (Err e) h = tt
-
 pub on_ok_always : {A E : Type 0} (P : Type 0) → P → (r : Result A E) → OnOk r P
 on_ok_always P p (Ok v) = p
 on_ok_always P p (Err e) = tt
@@ -121,15 +117,11 @@ some_first bindings owner side n kind text (key ∷ keys) is = (λ i. map (bound
     parts : (key : MemberKey) → (let q : Option (ℕ × List ℕ) = Some (kind, text) in q ≡ Some (key_kind key, key_text key)) → (let p : ℕ × List ℕ = (kind, text) in p ≡ (key_kind key, key_text key))
     parts key is = same_Some (kind, text) (key_kind key, key_text key) is
 
-pub length-map : {A B : Type 0} (f : A → B) (xs : List A) → length (map f xs) ≡ length xs
-length-map f [] = refl
-length-map f (x ∷ xs) = ap suc (length-map f xs)
-
 member_by : (url : List ℕ) (s : Selector) (ss : List Selector) (p : ℕ × List ℕ) → ((let q : Option (ℕ × List ℕ) = Some p in q ≡ option_map key_parts (first_of (filter_map (key_of url) ss))) → list_any is_member ss ≡ true)
     → (o : Option MemberKey) → key_of url s ≡ o → (let q : Option (ℕ × List ℕ) = Some p in q ≡ option_map key_parts (first_of (cons_option o (filter_map (key_of url) ss)))) → (is_member s || list_any is_member ss) ≡ true
 unfolding first_of
-member_by url s ss p rest None is first = any_second (is_member s) _ (rest first)
-member_by url s ss p rest (Some key) is first = any_first (is_member s) _ (sym (is_some-key_of url s) ∙ ap is_some is)
+member_by url s ss p rest None is first = or_right (is_member s) _ (rest first)
+member_by url s ss p rest (Some key) is first = or_left (is_member s) _ (sym (is_some-key_of url s) ∙ ap is_some is)
 
 has_member : (url : List ℕ) (ss : List Selector) (p : ℕ × List ℕ) → (let q : Option (ℕ × List ℕ) = Some p in q ≡ option_map key_parts (first_of (filter_map (key_of url) ss))) → list_any is_member ss ≡ true
 unfolding first_of

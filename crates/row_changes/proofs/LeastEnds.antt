@@ -23,10 +23,10 @@ pub end_in-bound : (bindings : List Binding) (key : MemberKey) (a : Addr) → en
 unfolding bound_until
 end_in-bound bindings key a = ap (option_map until_of) (sym (find-row_at key a bindings))
 
-parts_by : (kind : ℕ) (text : List ℕ) (o : Option MemberKey) (bindings : List Binding) (a : Addr) (m : ℕ) (end : Option ℕ) → (let p : Option (ℕ × List ℕ) = Some (kind, text) in p ≡ option_map key_parts o) → end ≡ end_in (place_of_text kind text a) bindings → option_map (min m) end ≡ met_end bindings a m o
+pub met_some : (kind : ℕ) (text : List ℕ) (o : Option MemberKey) (bindings : List Binding) (a : Addr) (m : ℕ) (end : Option ℕ) → (let p : Option (ℕ × List ℕ) = Some (kind, text) in p ≡ option_map key_parts o) → end ≡ end_in (place_of_text kind text a) bindings → option_map (min m) end ≡ met_end bindings a m o
 unfolding met_end key_parts text_place key_place bound_place
-parts_by kind text None bindings a m end is e = absurd (none-some (kind, text) (sym is))
-parts_by kind text (Some key) bindings a m end is e =
+met_some kind text None bindings a m end is e = absurd (none-some (kind, text) (sym is))
+met_some kind text (Some key) bindings a m end is e =
     let parts : (kind, text) ≡ (key_kind key, key_text key) = same_Some (kind, text) (key_kind key, key_text key) is in
     ap (option_map (min m)) (e ∙ ap (λ (x : ℕ × List ℕ). end_in (place_of_text x.0 x.1 a) bindings) parts ∙ place key ∙ end_in-bound bindings key a)
   where
@@ -35,9 +35,6 @@ parts_by kind text (Some key) bindings a m end is e =
       where
         text_bound : (key : MemberKey) → end_in (place_of_text (key_kind key) (key_text key) a) bindings ≡ end_in (bound_place key a) bindings
         text_bound key = refl
-
-pub met_some : (kind : ℕ) (text : List ℕ) (o : Option MemberKey) (bindings : List Binding) (a : Addr) (m : ℕ) (end : Option ℕ) → (let p : Option (ℕ × List ℕ) = Some (kind, text) in p ≡ option_map key_parts o) → end ≡ end_in (place_of_text kind text a) bindings → option_map (min m) end ≡ met_end bindings a m o
-met_some = parts_by
 
 pub met_none : (o : Option MemberKey) (bindings : List Binding) (a : Addr) (m : ℕ) → (let p : Option (ℕ × List ℕ) = None in p ≡ option_map key_parts o) → Some m ≡ met_end bindings a m o
 unfolding met_end

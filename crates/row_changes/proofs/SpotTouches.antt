@@ -9,6 +9,7 @@ use Rattle.sorted_rows.specs.Placed.{same_place}
 use Rattle.sorted_rows.proofs.AscendLaws.{both_ways}
 use Rattle.sorted_rows.proofs.PlacedLaws.{same_place_itself, same_place_exact}
 use Rattle.sorted_rows.specs.Addresses.{addr_place}
+use Rattle.sorted_rows.proofs.Lists.{all-append}
 use Rattle.mud_base.specs.declared.addr.Addr.{Addr}
 use Rattle.mud_base.specs.declared.addr.Addr.TheVariants.{V4}
 use Rattle.mud_base.specs.declared.packet.Direction.{Direction}
@@ -26,7 +27,8 @@ use Rattle.acl_model.proofs.PlaceLaws.{bound_place_exact}
 use Rattle.acl_rows.specs.declared.row.Owner.{Owner}
 use Rattle.acl_rows.specs.declared.row.RowKey.{RowKey}
 use Rattle.acl_rows.specs.Rows.{numbered, entry_at, member_keys}
-use Rattle.acl_rows.proofs.Lists.{all_append, all_flat_map}
+use Rattle.acl_rows.proofs.Lists.{all_flat_map}
+use Rattle.acl_rows.proofs.Sound.{numbered_sound}
 use Rattle.acl_patch.specs.Touched.{row_key, entry_touch, side_touches, holder_touches}
 use Rattle.key_index.specs.declared.group.EntrySpot.{EntrySpot}
 use Rattle.key_index.specs.Spots.{is_keyed, spot, spot_if, entry_spots, side_spots, policy_spots}
@@ -94,14 +96,6 @@ spots_touched key a owner held =
 abbrev pub Stands : Policy → EntrySpot → Type 0
 Stands policy s = is_some (entry_at s.number (entries_of s.side policy)) ≡ true
 
-numbered_stand : (all : List Entry) (n k : ℕ) (es : List Entry) → n ≡ suc k → ((i : ℕ) → slice_get all (k + i) ≡ slice_get es i) → AllByRecursion (λ e. entry_at e.0 all ≡ Some e.1) (numbered n es)
-unfolding numbered entry_at
-numbered_stand all n k [] e from = tt
-numbered_stand all n k (x ∷ xs) e from = (
-  subst (λ m. entry_at m all ≡ Some x) (sym e) (subst (λ m. slice_get all m ≡ Some x) {x = k + 0} {y = k} (omega arith) (from 0)),
-  numbered_stand all (n + 1) (k + 1) xs (omega arith) (λ i. subst (λ m. slice_get all m ≡ slice_get xs i) {x = k + suc i} {y = (k + 1) + i} (omega arith) (from (suc i))),
-)
-
 spot_stands : (policy : Policy) (s : EntrySpot) (b : Bool) → Stands policy s → AllByRecursion (Stands policy) (spot_if b s)
 unfolding spot_if
 spot_stands policy s true stands = (stands, tt)
@@ -115,12 +109,12 @@ side_stand : (url p : List ℕ) (policy : Policy) (side : Direction) → AllByRe
 unfolding side_spots
 side_stand url p policy side =
     all_flat_map (Stands policy) (λ (e : ℕ × Entry). entry_at e.0 (entries_of side policy) ≡ Some e.1) (entry_spots url p side) (entry_stands url p policy side) (numbered 1 (entries_of side policy))
-    (numbered_stand (entries_of side policy) 1 0 (entries_of side policy) (omega arith) (λ i. ap (slice_get (entries_of side policy)) {x = 0 + i} {y = i} (omega arith)))
+    (numbered_sound (entries_of side policy) 1 0 (entries_of side policy) (omega arith) (λ i. ap (slice_get (entries_of side policy)) {x = 0 + i} {y = i} (omega arith)))
 
 all_stand : (url p : List ℕ) (policy : Policy) → AllByRecursion (Stands policy) (policy_spots url policy p)
 unfolding policy_spots
 all_stand url p policy =
-    all_append (Stands policy) (side_spots url p From (entries_of From policy)) (side_spots url p To (entries_of To policy)) (side_stand url p policy From) (side_stand url p policy To)
+    all-append (Stands policy) (side_spots url p From (entries_of From policy)) (side_spots url p To (entries_of To policy)) (side_stand url p policy From) (side_stand url p policy To)
 
 stands_within : (policy : Policy) (xs : List EntrySpot) (i : ℕ) (x : EntrySpot) → AllByRecursion (Stands policy) xs → i < length xs → x ≡ get_or xs i x → Stands policy x
 stands_within policy [] i x all lt is = absurd (omega arith)

@@ -22,9 +22,6 @@ pub record HasWide (policy : Policy) (outgoing : List ℕ) (incoming : List ℕ)
   pub outgoing_counts : length policy.outgoing ≤ 65535
   pub incoming_counts : length policy.incoming ≤ 65535
 
-abbrev pub url_policy : List ℕ → Policy → UrlPolicy
-url_policy url policy = record { url = url; policy = policy }
-
 -- it holds of each policy of the table and of the defaults
 abbrev pub AllHeld : Slots → (Holder → Type 0) → Type 0
 AllHeld slots P = (owner : Owner) (held : UrlPolicy) → held_by slots owner ≡ Some held → P (owner, held)

@@ -6,8 +6,9 @@ ghost use Rattle.sorted_rows.specs.Placed.{row_at};
 ghost use Rattle.mud_url.specs.Url.{host_of};
 ghost use Rattle.acl_model.specs.Keys.{key_of};
 ghost use Rattle.acl_model.specs.Places.{binding_place, key_place};
-ghost use Rattle.acl_model.specs.Changes.{until_of, replaced};
+ghost use Rattle.acl_model.specs.Changes.{for_ever, until_of, replaced};
 ghost use Rattle.acl_model.specs.FirstMatch.{entries_of};
+ghost use Rattle.acl_model.specs.Policies.{url_policy};
 ghost use Rattle.row_edits.specs.Edits.{edited, row_after};
 ghost use Rattle.acl_rows.specs.Places.{row_place, row_key_place};
 ghost use Rattle.acl_rows.specs.ByAddress.{index_beside};
@@ -19,7 +20,7 @@ ghost use Rattle.acl_patch.specs.Touched as touched;
 ghost use Rattle.row_changes.specs.Keys.{place_of_text};
 ghost use Rattle.row_changes.specs.Change.{end_in, met_end, end_of_row, after, more_edits, slot_touches, change_state};
 ghost use Rattle.row_changes.specs.Steps.{key_steps, least_step, least_steps, EntriesFit, HolderFits};
-ghost use Rattle.row_changes.specs.Policies.{HasCounts, AllHeld, url_policy};
+ghost use Rattle.row_changes.specs.Policies.{HasCounts, AllHeld};
 
 use crate::policies::{Held, HeldDefaults};
 use acl_model::{Binding, BoundKey, Entry, MemberKey, Policy, Selector, is_in_family};
@@ -175,7 +176,7 @@ impl<'a> Change<'a> {
         steps: &mut Steps<L>,
     ) -> Option<End>
         requires { host.now ≡ host_of url.now }
-        ensures value { result ≡ spec.least_end (after self.now) addr spec.never (filter_map (key_of url.now) selectors.now) }
+        ensures value { result ≡ spec.least_end (after self.now) addr for_ever (filter_map (key_of url.now) selectors.now) }
         ensures least { steps.old ≤ steps.new }
         ensures most { (b : ℕ) → length self.now.bindings < 2 ^ b → steps.new ≤ steps.old + length (filter_map (key_of url.now) selectors.now) * b }
     {
@@ -411,7 +412,7 @@ impl<'a> Change<'a> {
 
 impl<'a> Holding<'a> {
     /// A policy that is held, whose rows are to be this owner's.
-    pub fn of_held(owner: Owner, held: &'a Held) -> Holding<'a>
+    pub(crate) fn of_held(owner: Owner, held: &'a Held) -> Holding<'a>
         ensures owner { result.0 ≡ owner }
         ensures held { result.1 ≡ held.now }
         ensures counts { HasCounts result.1.policy }

@@ -11,7 +11,7 @@ use key_index::selector_key;
 
 /// The key of the entry's first member selector, in the file of the URL with this text and host;
 /// None where the entry has none.
-pub fn first_key<'a>(entry: &'a Entry, url: &'a [u8], host: &'a [u8]) -> Option<KeyText<'a>>
+pub(crate) fn first_key<'a>(entry: &'a Entry, url: &'a [u8], host: &'a [u8]) -> Option<KeyText<'a>>
     requires { host.now ≡ host_of url.now }
     ensures { option_map (λ k. (k.kind, k.text.now)) result ≡ option_map key_parts (first_of (member_keys url.now entry.now)) }
 {

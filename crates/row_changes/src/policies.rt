@@ -1,9 +1,10 @@
 //! Policies that are held, with what a ruling wants of them at hand.
 ghost use Rattle.std.specs.Prelude.{◌≡◌, ◌≤◌, [], IfOk, length};
 ghost use Rattle.acl_model.specs.Defaults.{default_policy, defaults_of};
+ghost use Rattle.acl_model.specs.Policies.{url_policy};
 ghost use Rattle.acl_rows.specs.View.{wide_from, IsPartOf};
 ghost use Rattle.mud_url.specs.Url.{host_of};
-ghost use Rattle.row_changes.specs.Policies.{HasCounts, url_policy, IsIndexOf};
+ghost use Rattle.row_changes.specs.Policies.{HasCounts, IsIndexOf};
 
 use acl_model::{DefaultRule, Entry, Policy, default_entry};
 use acl_rows::{Owner, RulePart};
@@ -42,8 +43,8 @@ pub struct Held {
 }
 
 impl Model for Held {
-    ghost use Rattle.acl_model.specs.Policies.{UrlPolicy};
-    ghost use Rattle.row_changes.specs.Policies.{url_policy, IsIndexOf};
+    ghost use Rattle.acl_model.specs.Policies.{UrlPolicy, url_policy};
+    ghost use Rattle.row_changes.specs.Policies.{IsIndexOf};
 
     ghost Value = { UrlPolicy };
 
@@ -183,7 +184,7 @@ impl Held {
     }
 
     /// The entries of the policy by their keys.
-    pub fn keys(&self) -> &KeyIndex
+    pub(crate) fn keys(&self) -> &KeyIndex
         ensures { IsIndexOf self.now.url self.now.policy result.now }
     {
         &self.keys
@@ -209,7 +210,7 @@ impl HeldDefaults {
     }
 
     /// The default entries by their keys.
-    pub fn keys(&self) -> &KeyIndex
+    pub(crate) fn keys(&self) -> &KeyIndex
         ensures { IsIndexOf [] self.now result.now }
     {
         &self.keys

@@ -4,9 +4,9 @@ use Rattle.std.specs.List.{slice_get}
 use Rattle.std.specs.Option.{option_map_or}
 use Rattle.std.specs.declared.cmp.Ordering.{Ordering}
 use Rattle.std.specs.declared.cmp.Ordering.TheVariants.{Less, Equal, Greater}
-use Rattle.std.proofs.lemmas.Option.{same_Some, none-some}
+use Rattle.std.proofs.lemmas.Option.{same_Some}
 use Rattle.sorted_rows.specs.Placed.{place_cmp, same_place, row_at, index_in, set_row, without_row, PlacesAbove, PlacesBelow, PlacesAscend}
-use Rattle.sorted_rows.proofs.PlacedLaws.{place_cmp_itself, place_cmp_turned, row_at-set_row, row_at-without_row, ascend-set_row, ascend-without_row}
+use Rattle.sorted_rows.proofs.PlacedLaws.{place_cmp_itself, place_cmp_turned, row_at-set_row, row_at-without_row, ascend-set_row, ascend-without_row, above_row}
 use Rattle.sorted_rows.proofs.RowLaws.{same_rows}
 use Rattle.sorted_rows.proofs.IndexLaws.{index_in-set_row_behind, index_in-without_row_behind}
 use Rattle.row_edits.specs.declared.edit.Edit.{Edit}
@@ -84,11 +84,6 @@ module _ {R : Type 0} (place : R → List ℕ) where
   found_last (x ∷ es) e rows found = found_last es e rows found.1
 
 module _ {R : Type 0} (place : R → List ℕ) where
-  above_at : (p : List ℕ) (xs : List R) (i : ℕ) (x : R) → PlacesAbove place p xs → slice_get xs i ≡ Some x → place_cmp p (place x) ≡ Less
-  above_at p [] i x above is = absurd (none-some x is)
-  above_at p (y ∷ ys) zero x above is = ap (λ (z : R). place_cmp p (place z)) (sym (same_Some y x is)) ∙ above.0
-  above_at p (y ∷ ys) (suc i) x above is = above_at p ys i x above.1 is
-
   abbrev without_first : List ℕ → R → List R → Ordering → List R
   without_first q x xs o = elim o [ Less ↦ x ∷ xs | Equal ↦ xs | Greater ↦ x ∷ without_row place q xs ]
 
@@ -102,7 +97,7 @@ module _ {R : Type 0} (place : R → List ℕ) where
   last_split (y ∷ []) (suc i) x up long is = absurd (omega arith)
   last_split (y ∷ z ∷ zs) zero x up long is = absurd (omega arith)
   last_split (y ∷ z ∷ zs) (suc i) x up long is =
-      let less : place_cmp (place y) (place x) ≡ Less = above_at (place y) (z ∷ zs) i x up.0 is in
+      let less : place_cmp (place y) (place x) ≡ Less = above_row place (place y) (z ∷ zs) i x up.0 is in
       ap (λ (ws : List R). y ∷ ws) (last_split (z ∷ zs) i x up.1 (omega arith) is)
       ∙ ap (λ (o : Ordering). without_first (place x) y (z ∷ zs) o ++ x ∷ []) (sym (place_cmp_turned (place y) (place x) Less less))
 

@@ -1,5 +1,5 @@
 -- The rows of an owner and side among all rows, and those of an address among these.
-use Rattle.std.proofs.Common.{◌≡◌, ℕ, zero, suc, ◌<◌, ◌≤◌, Bool, true, false, cond, ◌&&◌, List, [], ◌∷◌, ◌++◌, length, Some, refl, sym, ap, ◌∙◌, arith}
+use Rattle.std.proofs.Common.{◌≡◌, ℕ, zero, suc, ◌<◌, Bool, true, false, cond, ◌&&◌, List, [], ◌∷◌, ◌++◌, Some, refl, sym, ap, ◌∙◌, arith}
 use Rattle.std.specs.Prelude.{nat_eq, filter, option_map}
 use Rattle.std.specs.List.{slice_get}
 use Rattle.std.specs.declared.cmp.Ordering.TheVariants.{Less, Greater}
@@ -11,7 +11,7 @@ use Rattle.mud_base.specs.Addresses.{same_addr}
 use Rattle.mud_base.specs.declared.addr.Addr.{Addr}
 use Rattle.mud_base.specs.declared.packet.Direction.{Direction}
 use Rattle.mud_base.specs.declared.packet.Direction.TheVariants.{From, To}
-use Rattle.acl_model.proofs.BindingLaws.{same_addr_exact, same_addr_itself}
+use Rattle.acl_model.proofs.BindingLaws.{same_addr_exact}
 use Rattle.acl_rows.specs.declared.row.Owner.{Owner}
 use Rattle.acl_rows.specs.declared.row.Row.{Row}
 use Rattle.acl_rows.specs.declared.row.RowKey.{RowKey}
@@ -19,7 +19,7 @@ use Rattle.acl_rows.specs.Places.{owner_class, owner_number, side_number, owner_
 use Rattle.acl_rows.specs.View.{rows_of_side, is_at}
 use Rattle.acl_rows.specs.ByAddress.{rows_of_peer, until_of_row, IsRowAt}
 use Rattle.acl_rows.proofs.Coordinates.{AreSame, same_coordinates}
-use Rattle.acl_rows.proofs.Parts.{under_peer, rows_under-peer}
+use Rattle.acl_rows.proofs.Parts.{under_peer, rows_under-peer, placed_under, under_own}
 use Rattle.row_shelves.specs.Shelves.{shelf_number}
 use Rattle.row_shelves.specs.Parts.{row_number}
 use Rattle.row_shelves.proofs.Numbers.{AreOne, same_shelf, rows_rise, under_itself, under_on}
@@ -86,10 +86,6 @@ peer_is o s a r under =
     let one : AreOne r.owner o r.side s = side_is o s r both.0 in
     record { owner_is = one.owner; side_is = one.side; addr_is = sym (same_addr_exact a r.addr both.1) }
 
-under_own : (r : Row) → is_under row_place (peer_place r.owner r.side r.addr) r ≡ true
-unfolding is_at
-under_own r = under_peer r.owner r.side r.addr r ∙ (λ i. under_itself r i && same_addr_itself r.addr i)
-
 pub peer_under : (o : Owner) (s : Direction) (a : Addr) (r : Row) → IsRowAt o s a r → is_under row_place (peer_place o s a) r ≡ true
 peer_under o s a r is = ap (λ (p : List ℕ). is_under row_place p r) (λ i. peer_place (sym is.owner_is i) (sym is.side_is i) (sym is.addr_is i)) ∙ under_own r
 
@@ -98,26 +94,12 @@ pub peer_beside : (o : Owner) (s : Direction) (a : Addr) (rows : List Row) → r
 unfolding rows_of_peer
 peer_beside o s a rows = rows_under-peer o s a (rows_of_side o s rows) ∙ ap (filter (is_at a)) (side_again o s rows) ∙ sym (rows_under-peer o s a rows)
 
-at_peer : (o : Owner) (s : Direction) (a : Addr) (n : ℕ) (x : Row) → same_place (row_place x) (place_at o s a n) ≡ true → is_under row_place (peer_place o s a) x ≡ true
-unfolding row_place
-at_peer o s a n x e =
-    let same : AreSame x.owner o x.side s x.addr a x.entry n = same_coordinates x.owner o x.side s x.addr a x.entry n (same_place_exact (row_place x) (place_at o s a n) e) in
-    peer_under o s a x (record { owner_is = same.owner; side_is = same.side; addr_is = same.addr })
-
 -- the row of a place is among those of its owner, side and address
 pub row_of_peer : (o : Owner) (s : Direction) (a : Addr) (n : ℕ) (rows : List Row) → row_at row_place (place_at o s a n) (rows_of_peer o s a rows) ≡ row_at row_place (place_at o s a n) rows
 unfolding rows_of_peer
-row_of_peer o s a n rows = row_kept (is_under row_place (peer_place o s a)) (place_at o s a n) (at_peer o s a n) rows
+row_of_peer o s a n rows = row_kept (is_under row_place (peer_place o s a)) (place_at o s a n) (placed_under o s a n) rows
 
 -- ---- There are no more of them than rows
-
-few_by : (x : Row) (n : ℕ) (ys : List Row) (b : Bool) → length ys ≤ n → length (cond b (x ∷ ys) ys) ≤ suc n
-few_by x n ys true few = omega arith
-few_by x n ys false few = omega arith
-
-filter_few : (t : Row → Bool) (rows : List Row) → length (filter t rows) ≤ length rows
-filter_few t [] = omega arith
-filter_few t (x ∷ xs) = few_by x (length xs) (filter t xs) (t x) (filter_few t xs)
 
 -- the rows of an address on the shelf of an owner and side
 pub shelf_at : (o : Owner) (s : Direction) (a : Addr) (shelf rows : List Row) → shelf ≡ rows_of_side o s rows → filter (is_at a) shelf ≡ rows_of_peer o s a rows
@@ -128,10 +110,6 @@ shelf_at o s a shelf rows is = ap (filter (is_at a)) is ∙ sym (rows_under-peer
 pub until_of_peer : (key : RowKey) (rows : List Row) → until_of_row (row_key_place key) (rows_of_peer key.owner key.side key.addr rows) ≡ until_of_row (row_key_place key) rows
 unfolding until_of_row row_key_place
 until_of_peer key rows = ap (option_map (λ (row : Row). row.until)) (row_of_peer key.owner key.side key.addr key.entry rows)
-
-pub side_few : (o : Owner) (s : Direction) (rows : List Row) → length (rows_of_side o s rows) ≤ length rows
-unfolding rows_of_side
-side_few o s rows = filter_few (is_under row_place (side_place o s)) rows
 
 -- ---- The rows of an owner are those of its two sides
 

@@ -1,15 +1,13 @@
 -- The last of some edits that are all of one owner, side and address.
-use Rattle.std.proofs.Common.{◌≡◌, ℕ, zero, suc, ◌+◌, ◌-◌, ◌<◌, ◌≤◌, true, false, cond, nat_eq, ◌&&◌, List, [], ◌∷◌, length, get_or, take, drop, refl, sym, ap, subst, ◌∙◌, arith}
+use Rattle.std.proofs.Common.{◌≡◌, ℕ, zero, suc, ◌+◌, ◌-◌, ◌<◌, ◌≤◌, true, false, cond, List, [], ◌∷◌, length, get_or, take, drop, refl, sym, ap, subst, ◌∙◌, arith}
 use Rattle.std.specs.List.{AllByRecursion, filter}
-use Rattle.std.specs.Cmp.{unsigned_ties}
-use Rattle.std.specs.Ordering.{ordering_index, is_eq, ordering_then, nat_cmp}
+use Rattle.std.specs.Ordering.{ordering_index, is_eq}
 use Rattle.std.specs.declared.cmp.Ordering.{Ordering}
 use Rattle.std.specs.declared.cmp.Ordering.TheVariants.{Less, Equal, Greater}
 use Rattle.std.proofs.lemmas.Bool.{false≢true}
-use Rattle.std.proofs.lemmas.Cmp.{nat_cmp_total, alike_right}
 use Rattle.std.proofs.lemmas.List.{get_or_default, drop_all}
-use lib.Pointwise.{pointwise}
 use Rattle.sorted_rows.specs.Placed.{place_cmp, prefix_cmp, is_under, PlacesAbove, PlacesAscend}
+use Rattle.sorted_rows.proofs.ProbeLaws.{prefix_falls, is_eq-prefix_cmp}
 use Rattle.mud_base.specs.declared.addr.Addr.{Addr}
 use Rattle.mud_base.specs.declared.packet.Direction.{Direction}
 use Rattle.row_edits.specs.declared.edit.Edit.{Edit}
@@ -25,52 +23,8 @@ use Rattle.row_shelves.proofs.RunLaws.{edit_under}
 
 -- ---- A test of the beginning of a place is that of an order
 
-is_eq-then : (s o : Ordering) → is_eq (ordering_then s o) ≡ is_eq s && is_eq o
-is_eq-then Less o = refl
-is_eq-then Equal o = refl
-is_eq-then Greater o = refl
-
-pub is_eq-prefix_cmp : (p q : List ℕ) → pointwise nat_eq p (take (length p) q) ≡ is_eq (prefix_cmp p q)
-is_eq-prefix_cmp [] q = refl
-is_eq-prefix_cmp (n ∷ p) [] = refl
-is_eq-prefix_cmp (n ∷ p) (k ∷ q) =
-    ap (λ b. nat_eq n k && b) (is_eq-prefix_cmp p q)
-    ∙ sym (is_eq-then (nat_cmp n k) (prefix_cmp p q) ∙ ap (λ b. b && is_eq (prefix_cmp p q)) (sym (unsigned_ties n k)))
-
 pub under_is : {R : Type 0} (place : R → List ℕ) (p : List ℕ) (x : R) → is_under place p x ≡ is_eq (prefix_cmp p (place x))
 under_is place p x = is_eq-prefix_cmp p (place x)
-
--- ---- Orders to a beginning fall along ascending places
-
-le_two : (o : Ordering) → ordering_index o ≤ 2
-le_two Less = omega arith
-le_two Equal = omega arith
-le_two Greater = omega arith
-
-less≢greater : Less ≡ Greater → ⊥
-less≢greater e = cc
-
-then_falls : (s o q : Ordering) → ordering_index o ≤ ordering_index q → ordering_index (ordering_then s o) ≤ ordering_index (ordering_then s q)
-then_falls Less o q le = omega arith
-then_falls Equal o q le = le
-then_falls Greater o q le = omega arith
-
-less_then : (o q : Ordering) (n : ℕ) → o ≡ Less → ordering_index (ordering_then o q) ≤ n
-less_then o q n e = subst (λ r. ordering_index (ordering_then r q) ≤ n) (sym e) (omega arith)
-
-falls_by : (n x y : ℕ) (p a b : List ℕ) → (place_cmp a b ≡ Less → ordering_index (prefix_cmp p b) ≤ ordering_index (prefix_cmp p a)) → (o : Ordering) → nat_cmp x y ≡ o → ordering_then o (place_cmp a b) ≡ Less
-    → (s : Ordering) → nat_cmp n x ≡ s → ordering_index (ordering_then (nat_cmp n y) (prefix_cmp p b)) ≤ ordering_index (ordering_then s (prefix_cmp p a))
-falls_by n x y p a b rest Less e lt Less f = less_then (nat_cmp n y) (prefix_cmp p b) _ (nat_cmp_total.trans n x y f e)
-falls_by n x y p a b rest Less e lt Equal f = less_then (nat_cmp n y) (prefix_cmp p b) _ (nat_cmp_total.congr n x y f ∙ e)
-falls_by n x y p a b rest Less e lt Greater f = le_two (ordering_then (nat_cmp n y) (prefix_cmp p b))
-falls_by n x y p a b rest Equal e lt s f = subst (λ o. ordering_index (ordering_then o (prefix_cmp p b)) ≤ ordering_index (ordering_then s (prefix_cmp p a))) (sym f ∙ alike_right nat_cmp_total x y n e) (then_falls s (prefix_cmp p b) (prefix_cmp p a) (rest lt))
-falls_by n x y p a b rest Greater e lt s f = absurd (less≢greater (sym lt))
-
-prefix_falls : (p a b : List ℕ) → place_cmp a b ≡ Less → ordering_index (prefix_cmp p b) ≤ ordering_index (prefix_cmp p a)
-prefix_falls [] a b lt = omega arith
-prefix_falls (n ∷ p) [] b lt = le_two (prefix_cmp (n ∷ p) b)
-prefix_falls (n ∷ p) (x ∷ a) [] lt = absurd (less≢greater (sym lt))
-prefix_falls (n ∷ p) (x ∷ a) (y ∷ b) lt = falls_by n x y p a b (prefix_falls p a b) (nat_cmp x y) refl lt (nat_cmp n x) refl
 
 -- ---- In front of rows whose places begin so, and one that doesn't, there are none
 

@@ -7,6 +7,7 @@ use Rattle.std.specs.declared.cmp.Ordering.TheVariants.{Less, Equal, Greater}
 use Rattle.std.proofs.lemmas.Bool.{eqb-true, eq-eqb, lt-ltb, le-ltb, and_parts, cases_lt}
 use Rattle.sorted_rows.specs.Placed.{place_cmp, is_under}
 use Rattle.sorted_rows.specs.Addresses.{addr_place}
+use Rattle.sorted_rows.proofs.ListTests.{same_number}
 use Rattle.mud_base.specs.declared.packet.Direction.{Direction}
 use Rattle.mud_base.specs.declared.packet.Direction.TheVariants.{From, To}
 use Rattle.acl_rows.specs.declared.row.Owner.{Owner}
@@ -72,12 +73,9 @@ same_shelf (Url m) (Url n) s t e =
 
 -- ---- The rows of an owner and side are those of its shelf
 
-itself : (n : ℕ) → nat_eq n n ≡ true
-itself n = eq-eqb n n refl
-
 pub under_itself : (r : Row) → is_under row_place (side_place r.owner r.side) r ≡ true
 unfolding row_place place_at peer_place side_place owner_place
-under_itself r = rw (itself (owner_class r.owner), itself (owner_number r.owner), itself (side_number r.side)) refl
+under_itself r = rw (same_number (owner_class r.owner), same_number (owner_number r.owner), same_number (side_number r.side)) refl
 
 pub on_under : (o : Owner) (s : Direction) (r : Row) → row_number r ≡ shelf_number o s → is_under row_place (side_place o s) r ≡ true
 unfolding row_number

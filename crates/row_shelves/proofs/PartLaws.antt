@@ -12,10 +12,11 @@ use Rattle.acl_rows.specs.declared.row.Row.{Row}
 use Rattle.acl_rows.specs.Places.{side_place, row_place}
 use Rattle.acl_rows.specs.View.{rows_of_side}
 use Rattle.acl_rows.specs.ByAddress.{SideRows, rows_of_peer}
+use Rattle.acl_rows.proofs.Parts.{side_few}
 use Rattle.row_shelves.specs.Shelves.{shelf_number}
 use Rattle.row_shelves.specs.Parts.{row_number, Parts, nothing, part_at, joined, AreSorted, AreShelved}
 use Rattle.row_shelves.proofs.Numbers.{rows_rise, on_under, under_on}
-use Rattle.row_shelves.proofs.Beside.{peer_beside, side_few}
+use Rattle.row_shelves.proofs.Beside.{peer_beside}
 
 -- the rows on the shelves have their numbers, where the first one's is n
 abbrev pub On : ℕ → Parts → Type 0

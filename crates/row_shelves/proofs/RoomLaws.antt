@@ -1,5 +1,5 @@
 -- Room for each edit, and shelves for all of them.
-use Rattle.std.proofs.Common.{◌≡◌, ℕ, zero, suc, ◌+◌, ◌-◌, ◌<◌, ◌≤◌, Bool, true, false, cond, ◌⊎◌, inl, inr, List, [], ◌∷◌, ◌++◌, length, set, get_or, take, slice_get, Some, None, Result, Ok, Err, OnOk, refl, sym, ap, subst, ◌∙◌, arith}
+use Rattle.std.proofs.Common.{◌≡◌, ℕ, zero, suc, ◌+◌, ◌-◌, ◌<◌, ◌≤◌, Bool, true, false, cond, ◌⊎◌, inl, inr, List, [], ◌∷◌, ◌++◌, length, set, get_or, take, slice_get, Some, None, refl, sym, ap, subst, ◌∙◌, arith}
 use Rattle.std.specs.List.{AllByRecursion}
 use Rattle.std.specs.declared.cmp.Ordering.TheVariants.{Less, Greater}
 use Rattle.std.proofs.lemmas.Bool.{cases_eq, cases_lt}
@@ -7,6 +7,7 @@ use Rattle.std.proofs.lemmas.Option.{none-some, same_Some}
 use Rattle.std.proofs.lemmas.List.{length-set, take_more, take_all}
 use Rattle.sorted_rows.specs.Placed.{place_cmp, is_under, rows_under, PlacesAscend, PlacesAbove}
 use Rattle.sorted_rows.proofs.PlacedLaws.{place_cmp_turned}
+use Rattle.sorted_rows.proofs.Lists.{all_push}
 use Rattle.mud_base.specs.declared.addr.Addr.{Addr}
 use Rattle.mud_base.specs.declared.packet.Direction.{Direction}
 use Rattle.row_edits.specs.declared.edit.Edit.{Edit}
@@ -162,10 +163,6 @@ HaveOwnRoom edits parts i = AllByRecursion (HasOwnRoom edits parts) (take i edit
 roomier_own : (edits : List (Edit Row)) (old new : Parts) → AreRoomier old new → (e : Edit Row) → HasOwnRoom edits old e → HasOwnRoom edits new e
 roomier_own edits old new more e has = omega (arith, has, more.room (shelf_number e.row.owner e.row.side) e.row.addr)
 
-all_push : {X : Type 0} (P : X → Type 0) (xs : List X) (x : X) → AllByRecursion P xs → P x → AllByRecursion P (xs ++ x ∷ [])
-all_push P [] x all here = (here, tt)
-all_push P (y ∷ ys) x all here = (all.0, all_push P ys x all.1 here)
-
 pub next_room : (edits lent : List (Edit Row)) (old new : Parts) (i : ℕ) (e : Edit Row) → lent ≡ edits → AreRoomier old new → i < length lent → e ≡ get_or lent i e → HasOwnRoom edits new e → HaveOwnRoom edits old i → HaveOwnRoom edits new (i + 1)
 next_room edits lent old new i e is more lt read here before =
     let lt' : i < length edits = subst (λ ws. i < length ws) is lt in
@@ -280,9 +277,3 @@ shelves_to (x ∷ xs) (suc i) n e up at long lt = (omega (arith, no_later x.row 
 pub shelves_all : (edits lent : List (Edit Row)) (e : Edit Row) (number n : ℕ) → lent ≡ edits → PlacesAscend (edit_place row_place) edits → slice_get lent (length lent - 1) ≡ Some e → number ≡ shelf_number e.row.owner e.row.side → number < n → HaveShelves edits n
 shelves_all edits lent e number n is up at number_is lt =
     shelves_to edits (length edits - 1) n e up (subst (λ ws. slice_get ws (length ws - 1) ≡ Some e) is at) (omega arith) (omega (arith, row_number_is e.row, number_is, lt))
-
--- ---- Answers that can fail
-
-pub on_ok_map : {A E : Type 0} (P Q : Type 0) → (P → Q) → (r : Result A E) → OnOk r P → OnOk r Q
-on_ok_map P Q f (Ok v) h = f h
-on_ok_map P Q f (Err e) h = tt

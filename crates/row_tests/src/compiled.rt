@@ -1,6 +1,6 @@
 //! What is compiled of a light bulb and a switch of one maker, where 192.0.2.10 is leased to the bulb.
 //! Each entry allows the Things of the maker; the bulb's file has one for its server before it.
-ghost use Rattle.std.specs.Prelude.{◌≡◌, ◌<◌};
+ghost use Rattle.sorted_rows.specs.Ledgers.{IsBlankOf};
 
 use acl_compile::Compiled;
 use acl_model::{Binding, DefaultRule, Entry, MemberKey, Policy, Selector, default_entry};
@@ -169,9 +169,7 @@ fn row_of<L: Ledger>(compiled: &Compiled, url: &[u8], steps: &mut Steps<L>) -> O
 /// The first rows of the bulb and the switch, where the address is leased and both files are held,
 /// with steps on a ledger of the caller's.
 fn first_rows<L: Ledger>(alloc: Global, blank: Blank) -> Result<(Option<Row>, Option<Row>), Fail>
-    requires name { blank.name ≡ L.name }
-    requires parts { blank.parts ≡ L.parts }
-    requires some { 0 < L.parts }
+    requires blank { IsBlankOf L.name L.parts blank }
 {
     let mut steps = Steps::<L>::new(blank);
     let mut compiled = Compiled::new(alloc)?;

@@ -1,6 +1,7 @@
 //! Frames of a light bulb, 02:00:00:00:00:01 at 192.0.2.10, whose every packet is accepted by entry
 //! 1 of its file; and the ruling on its question to a DNS server where it has no file.
-ghost use Rattle.std.specs.Prelude.{◌≡◌, ◌<◌};
+ghost use Rattle.std.specs.Prelude.{◌≡◌};
+ghost use Rattle.sorted_rows.specs.Ledgers.{IsBlankOf};
 
 use acl_model::{DefaultRule, Ruling, Why, default_entry};
 use acl_rows::{AddressRows, Owner, PackedAddr, Row, RulePart, RuleView};
@@ -81,9 +82,7 @@ fn porter_of_bulb(alloc: Global) -> Result<Porter, Fail> {
 
 /// The verdict on these octets, with steps on a ledger of the caller's.
 fn judged<L: Ledger>(octets: &[u8], porter: &Porter, blank: Blank) -> Verdict
-    requires name { blank.name ≡ L.name }
-    requires parts { blank.parts ≡ L.parts }
-    requires some { 0 < L.parts }
+    requires blank { IsBlankOf L.name L.parts blank }
 {
     let mut steps = Steps::<L>::new(blank);
     judge(&view(octets), porter, &mut steps)
@@ -152,9 +151,7 @@ fn default_rows<L: Ledger>(alloc: Global, steps: &mut Steps<L>) -> Result<Addres
 /// The ruling on the bulb's packet by the defaults, with steps on a ledger of the caller's; None
 /// where the octets carry no packet.
 fn ruled<L: Ledger>(alloc: Global, octets: &[u8], blank: Blank) -> Result<Option<Ruling>, Fail>
-    requires name { blank.name ≡ L.name }
-    requires parts { blank.parts ≡ L.parts }
-    requires some { 0 < L.parts }
+    requires blank { IsBlankOf L.name L.parts blank }
 {
     let Frame::Packet(packet) = view(octets) else {
         return Ok(None);

@@ -5,6 +5,7 @@ use Rattle.std.specs.Option.{option_map, option_map_or}
 use Rattle.std.specs.List.{list_any, list_all, filter}
 use Rattle.std.proofs.Math.Nat.{div-one}
 use Rattle.std.proofs.lemmas.Bool.{false≢true, eqb-true, eq-eqb}
+use Rattle.std.proofs.Math.Bool.{or-false, and_assoc, and-false}
 use Rattle.sorted_rows.specs.Placed.{same_place, PlacesAscend, is_under}
 use Rattle.sorted_rows.proofs.PlacedLaws.{same_place_exact, same_place_itself}
 use Rattle.sorted_rows.proofs.RowSets.{tested_at}
@@ -30,16 +31,16 @@ use Rattle.acl_model.proofs.BindingLaws.{same_addr_exact, same_addr_itself}
 use Rattle.acl_rows.specs.declared.row.Owner.{Owner}
 use Rattle.acl_rows.specs.declared.row.Row.{Row}
 use Rattle.acl_rows.specs.Places.{row_place, place_at, peer_place, side_place}
-use Rattle.acl_rows.specs.Rows.{never, row, member_keys, least_end, entry_at, entry_end, held_by, Slots, rows_of}
+use Rattle.acl_rows.specs.Rows.{for_ever, row, member_keys, least_end, entry_at, entry_end, held_by, Slots, rows_of}
 use Rattle.acl_rows.specs.View.{View, rows_of_side, is_at}
 use Rattle.acl_rows.proofs.Coordinates.{AreSame, same_coordinates}
-use Rattle.acl_rows.proofs.Parts.{under_peer}
+use Rattle.acl_rows.proofs.Parts.{under_peer, placed_under}
 use Rattle.acl_rows.proofs.Sound.{end_at-entry}
 use Rattle.acl_rows.proofs.AtPlaces.{row_at-rows_of, ascend-rows_of}
 use Rattle.mud_tables.specs.Ends.{is_live}
 use Rattle.mud_tables.specs.Bindings.{members_met, matches_by_bindings}
 use Rattle.packet_judge.proofs.LiveBindings.{live_end, entry_alike}
-use Rattle.packet_judge.proofs.FirstRow.{under_at, at_under}
+use Rattle.packet_judge.proofs.FirstRow.{under_at}
 use Rattle.near_networks.specs.Networks.{is_near, has_near, near_networks}
 use Rattle.near_networks.proofs.ChoiceLaws.{any_alike}
 use Rattle.near_networks.proofs.NetworkLaws.{any-in_order, networks_hold}
@@ -47,18 +48,6 @@ use Rattle.rule_export.specs.declared.item.RuleNumber.{RuleNumber}
 use Rattle.rule_export.specs.declared.item.Resolved.{Resolved}
 use Rattle.rule_export.specs.Resolved.{Wanted, covers, is_wanted, host_network, wanted_networks, member_networks, entry_networks, items_from, entry_items}
 use Rattle.rule_export.specs.Ruling.{entry_of, network_holds, entry_passes, item_passes}
-
-and_false : (b : Bool) → (b && false) ≡ false
-and_false true = refl
-and_false false = refl
-
-and_assoc : (x y z : Bool) → ((x && y) && z) ≡ (x && (y && z))
-and_assoc true y z = refl
-and_assoc false y z = refl
-
-or_false : (b : Bool) → (b || false) ≡ b
-or_false true = refl
-or_false false = refl
 
 -- ---- The version
 
@@ -161,7 +150,7 @@ module _ (slots : Slots) (bindings : List Binding) (w : Wanted) (o : Owner) (s :
   coincide : (r : Row) → same_place (row_place r) (place_at o s a n) ≡ true → Coincide r
   unfolding row_place
   coincide r same =
-      let under : is_under row_place (peer_place o s a) r ≡ true = at_under o s a n r same in
+      let under : is_under row_place (peer_place o s a) r ≡ true = placed_under o s a n r same in
       let is : AreSame r.owner o r.side s r.addr a r.entry n = same_coordinates r.owner o r.side s r.addr a r.entry n (same_place_exact (row_place r) (place_at o s a n) same) in
       record { under = left_of (is_under row_place (side_place o s) r) (is_at a r) (sym (under_peer o s a r) ∙ under); addr = is.addr; entry = is.number }
 
@@ -216,7 +205,7 @@ module _ (slots : Slots) (bindings : List Binding) (w : Wanted) (o : Owner) (s :
 
 -- ---- The whole match of an entry
 
-module _ (slots : Slots) (bindings : List Binding) (ascend : PlacesAscend binding_place bindings) (w : Wanted) (small : w.moment < never) (one : w.family ≢ family.Both) (view : View) (fields : Fields) (begun : Option Direction) (of : family_matches w.family fields ≡ true) where
+module _ (slots : Slots) (bindings : List Binding) (ascend : PlacesAscend binding_place bindings) (w : Wanted) (small : w.moment < for_ever) (one : w.family ≢ family.Both) (view : View) (fields : Fields) (begun : Option Direction) (of : family_matches w.family fields ≡ true) where
   -- the match by the bindings
   unfoldable pub matched : List ℕ → Entry → Bool
   matched url e = matches_by_bindings bindings w.locals w.moment url view.side fields begun e
@@ -240,19 +229,19 @@ module _ (slots : Slots) (bindings : List Binding) (ascend : PlacesAscend bindin
 
   member_by : (url : List ℕ) (e : Entry) (live : Bool) → ((live && (near e && rest e)) || (not true && (near e && rest e))) ≡ (members_met bindings url e at_peer w.moment && (near e && rest e)) → ((live && near e) && rest e) ≡ matched url e
   unfolding matched matches_by_bindings
-  member_by url e live alike = and_assoc live (near e) (rest e) ∙ sym (or_false (live && (near e && rest e))) ∙ alike
+  member_by url e live alike = and_assoc live (near e) (rest e) ∙ sym (or-false (live && (near e && rest e))) ∙ alike
 
   wide_by : (url : List ℕ) (e : Entry) → is_membered e ≡ false → (near e && rest e) ≡ matched url e
   unfolding matched matches_by_bindings entry_end live_end
   wide_by url e plain =
-      sym (λ i. (live_end w.moment (cond (plain i && is_in_family e.family at_peer) (least_end bindings at_peer never (member_keys url e)) None) && (near e && rest e)) || (not (plain i) && (near e && rest e)))
+      sym (λ i. (live_end w.moment (cond (plain i && is_in_family e.family at_peer) (least_end bindings at_peer for_ever (member_keys url e)) None) && (near e && rest e)) || (not (plain i) && (near e && rest e)))
       ∙ entry_alike bindings ascend url e at_peer w.moment small (near e && rest e) (of_entry e)
 
   other_version : (url : List ℕ) (e : Entry) → covers e.family w.family ≡ false → false ≡ matched url e
   unfolding matched matches_by_bindings rest_matches
   other_version url e apart =
-      sym (and_false (members_met bindings url e at_peer w.moment))
-      ∙ ap (λ b. members_met bindings url e at_peer w.moment && b) (sym (and_false (near e)) ∙ ap (λ b. near e && b)
+      sym (and-false (members_met bindings url e at_peer w.moment))
+      ∙ ap (λ b. members_met bindings url e at_peer w.moment && b) (sym (and-false (near e)) ∙ ap (λ b. near e && b)
       (ap (λ b. ((b && own_passes e.own (own_of view.side fields)) && header_matches e fields) && layer_matches e.layer fields.transport begun) (sym (one_version w.family e.family fields one of ∙ apart))))
 
   module _ (o : Owner) (held : UrlPolicy) (holds : held_by slots o ≡ Some held) (n : ℕ) (e : Entry) (numbered : entry_at n (entries_of view.side held.policy) ≡ Some e) where

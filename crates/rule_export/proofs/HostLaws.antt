@@ -4,20 +4,18 @@ use Rattle.std.specs.List.{filter}
 use Rattle.std.specs.Prelude.{flat_map}
 use Rattle.std.proofs.lemmas.Option.{same_Some, none-some}
 use Rattle.std.proofs.Math.Nat.{div-one}
-use Rattle.std.specs.Map.{values_of}
-use Rattle.sorted_rows.specs.Placed.{RowsAndRoom, set_row, set_rows}
-use Rattle.sorted_rows.specs.Addresses.{prefix_place}
+use Rattle.std.proofs.lemmas.List.{append-nil}
+use Rattle.sorted_rows.specs.Placed.{RowsAndRoom}
 use Rattle.mud_base.specs.Addresses.{addr_bits, masked, prefix_at}
-use Rattle.mud_base.specs.declared.addr.Addr.{Addr}
 use Rattle.mud_base.specs.declared.addr.Addr.TheVariants.{V4, V6}
 use Rattle.mud_base.specs.declared.prefix.Prefix.{Prefix}
 use Rattle.acl_model.specs.declared.entry.Entry.{Entry}
 use Rattle.acl_rows.specs.declared.row.Row.{Row}
-use Rattle.acl_rows.specs.ByAddress.{grouped}
 use Rattle.acl_rows.specs.Rows.{numbered}
 use Rattle.rule_export.specs.declared.item.RuleNumber.{RuleNumber}
 use Rattle.rule_export.specs.declared.item.Resolved.{Resolved}
 use Rattle.rule_export.specs.Resolved.{Wanted, covers, is_wanted, host_network, wanted_networks, entry_networks, items_from, entry_items}
+use Rattle.near_networks.proofs.NetworkLaws.{put-append, put}
 
 whole : (n : ℕ) → n / 1 * 1 ≡ n
 whole n = let e : n / 1 ≡ n = div-one n in omega arith
@@ -31,13 +29,6 @@ unfolding prefix_at masked addr_bits
 host_v6 n = ap (λ k. Some (record { addr = V6 k; len = 128 })) (whole n)
 
 pub ruleset host_rules = (host_v4, host_v6)
-
-abbrev put : List Prefix → List Prefix → List Prefix
-put ps rows = set_rows prefix_place ps rows
-
-put-append : (ps qs rows : List Prefix) → put (ps ++ qs) rows ≡ put qs (put ps rows)
-put-append [] qs rows = refl
-put-append (p ∷ ps) qs rows = put-append ps qs (set_row prefix_place p rows)
 
 module _ (w : Wanted) (n : ℕ) (entry : Entry) where
   first_by : (row : Row) (rows : List Row) (b : Bool) → map host_network (cond b (row ∷ filter (is_wanted w n entry) rows) (filter (is_wanted w n entry) rows)) ≡ map host_network (cond b (row ∷ []) []) ++ map host_network (filter (is_wanted w n entry) rows)
@@ -80,11 +71,6 @@ abbrev pub rows_together : List (RowsAndRoom Row) → List Row
 rows_together [] = []
 rows_together (g ∷ gs) = g.rows ++ rows_together gs
 
-pub together_grouped : (gs : List (Addr × RowsAndRoom Row)) → rows_together (values_of gs) ≡ grouped gs
-unfolding grouped
-together_grouped [] = refl
-together_grouped (g ∷ gs) = ap (λ rs. g.1.rows ++ rs) (together_grouped gs)
-
 -- ---- The items of entries, one entry at a time
 
 drop_at : (es : List Entry) (n : ℕ) (e : Entry) → slice_get es n ≡ Some e → drop n es ≡ e ∷ drop (suc n) es
@@ -115,10 +101,6 @@ drop_all [] (suc n) le = refl
 drop_all (x ∷ xs) zero le = absurd (omega (arith, le))
 drop_all (x ∷ xs) (suc n) le = drop_all xs n (omega (arith, le))
 
-nil : {A : Type 0} (xs : List A) → xs ++ [] ≡ xs
-nil [] = refl
-nil (x ∷ xs) = ap (λ l. x ∷ l) (nil xs)
-
 pub no_entry : (w : Wanted) (f : ℕ → RuleNumber) (rows : List Row) (es : List Entry) (n : ℕ) (list : List Resolved) → length es ≤ n → list ≡ list ++ flat_map (entry_items w f rows) (numbered (n + 1) (drop n es))
 unfolding numbered
-no_entry w f rows es n list le = sym (ap (λ l. list ++ flat_map (entry_items w f rows) (numbered (n + 1) l)) (drop_all es n le) ∙ nil list)
+no_entry w f rows es n list le = sym (ap (λ l. list ++ flat_map (entry_items w f rows) (numbered (n + 1) l)) (drop_all es n le) ∙ append-nil list)

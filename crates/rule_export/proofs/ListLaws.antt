@@ -1,10 +1,8 @@
 -- The list names the rule that the ruling names.
-use Rattle.std.proofs.Common.{◌≡◌, ◌≢◌, ℕ, suc, ◌+◌, ◌<◌, Bool, true, false, cond, ◌||◌, List, [], ◌∷◌, ◌++◌, slice_get, Option, Some, None, refl, sym, ap, subst, ◌∙◌, arith}
-use Rattle.std.specs.Prelude.{find, flat_map, bytes_eq}
+use Rattle.std.proofs.Common.{◌≡◌, ◌≢◌, ℕ, ◌+◌, ◌<◌, Bool, true, false, cond, ◌||◌, List, [], ◌∷◌, ◌++◌, slice_get, Option, Some, None, refl, sym, ap, subst, ◌∙◌, arith}
+use Rattle.std.specs.Prelude.{find, flat_map}
 use Rattle.std.specs.Option.{option_map, option_and_then}
 use Rattle.std.specs.List.{list_any}
-use Rattle.std.proofs.lemmas.Option.{same_Some, none-some}
-use Rattle.std.proofs.lemmas.Slice.Eq.{bytes_eq-Decides}
 use Rattle.sorted_rows.specs.Placed.{PlacesAscend}
 use Rattle.mud_base.specs.declared.addr.Family.TheVariants as family
 use Rattle.mud_base.specs.declared.prefix.Prefix.{Prefix}
@@ -29,10 +27,10 @@ use Rattle.acl_model.specs.FirstMatch.{entries_of, ruled_by, first_ruling, defau
 use Rattle.acl_model.specs.Places.{binding_place}
 use Rattle.acl_model.specs.Policies.{UrlPolicy}
 use Rattle.acl_rows.specs.declared.row.Owner.{Owner}
-use Rattle.acl_rows.specs.declared.row.Owner.TheVariants.{Url, Default}
+use Rattle.acl_rows.specs.declared.row.Owner.TheVariants.{Default}
 use Rattle.acl_rows.specs.declared.row.Row.{Row}
-use Rattle.acl_rows.specs.Rows.{never, numbered, entry_at, held_by, slot_policy, default_held, Slots, Holder, rows_of}
-use Rattle.acl_rows.specs.View.{Part, View, rows_of_side, in_slot, holder_from, IsPartOf, IsFilePart}
+use Rattle.acl_rows.specs.Rows.{for_ever, numbered, entry_at, held_by, default_held, Slots, Holder, rows_of}
+use Rattle.acl_rows.specs.View.{Part, View, rows_of_side, holder_from, IsPartOf, IsFilePart}
 use Rattle.acl_model.specs.Changes.{HaveSame}
 use Rattle.mud_tables.specs.Tables.{Tables, ruling_of}
 use Rattle.table_laws.proofs.Stores.{tests_alike}
@@ -40,35 +38,13 @@ use Rattle.packet_judge.proofs.OverTables.{over_tables}
 use Rattle.mud_tables.specs.Bindings.{bindings_of, selector_met, members_met, matches_by_bindings, ruling_by_bindings}
 use Rattle.packet_judge.specs.ByRows.{policy_held, IsViewOver}
 use Rattle.packet_judge.proofs.Rulings.{IsRest, all_rest, rest_next, rest_first}
+use Rattle.packet_judge.proofs.ByRows.{holder_sound, IsHolder}
 use Rattle.rule_export.specs.declared.item.RuleNumber.{RuleNumber}
 use Rattle.rule_export.specs.declared.item.RuleNumber.TheVariants as rule
 use Rattle.rule_export.specs.declared.item.Resolved.{Resolved}
 use Rattle.rule_export.specs.Resolved.{Wanted, covers, entry_networks, items_from, entry_items, part_items, file_items, default_rule, resolved_of}
 use Rattle.rule_export.specs.Ruling.{entry_of, item_passes, rule_of, resolved_ruling, number_of}
 use Rattle.rule_export.proofs.EntryLaws.{matched, items_match}
-
--- ---- The holder of a URL
-
-pub record IsHolder (slots : Slots) (url : List ℕ) (h : Holder) : Type 0 where
-  pub holds : held_by slots h.0 ≡ Some h.1
-  pub named : h.1.url ≡ url
-
-abbrev IsTail : Slots → ℕ → Slots → Type 0
-IsTail all n slots = (i : ℕ) → slice_get all (n + i) ≡ slice_get slots i
-
-holder_by : (all : Slots) (url : List ℕ) (n : ℕ) (held : UrlPolicy) (slots : Slots) (rest : Option Holder) (h : Holder) → IsTail all n (Some held ∷ slots) → (rest ≡ Some h → IsHolder all url h) → (b : Bool) → bytes_eq held.url url ≡ b → cond b (Some (Url n, held)) rest ≡ Some h → IsHolder all url h
-unfolding held_by slot_policy
-holder_by all url n held slots rest h tail later true e is =
-    let one : IsHolder all url (Url n, held) = record { holds = ap slot_policy (subst (λ m. slice_get all m ≡ Some (Some held)) {x = n + 0} {y = n} (omega arith) (tail 0)); named = (bytes_eq-Decides held.url url).0 e } in
-    subst (IsHolder all url) (same_Some (Url n, held) h is) one
-holder_by all url n held slots rest h tail later false e is = later is
-
-holder_sound : (all : Slots) (url : List ℕ) (n : ℕ) (slots : Slots) (h : Holder) → IsTail all n slots → holder_from url n slots ≡ Some h → IsHolder all url h
-unfolding holder_from in_slot
-holder_sound all url n [] h tail is = absurd (none-some h is)
-holder_sound all url n (None ∷ slots) h tail is = holder_sound all url (n + 1) slots h (λ i. subst (λ m. slice_get all m ≡ slice_get slots i) {x = n + suc i} {y = (n + 1) + i} (omega arith) (tail (suc i))) is
-holder_sound all url n (Some held ∷ slots) h tail is =
-    holder_by all url n held slots (holder_from url (n + 1) slots) h tail (holder_sound all url (n + 1) slots h (λ i. subst (λ m. slice_get all m ≡ slice_get slots i) {x = n + suc i} {y = (n + 1) + i} (omega arith) (tail (suc i)))) (bytes_eq held.url url) refl is
 
 -- ---- The first item that passes
 
@@ -109,7 +85,7 @@ append_assoc : {A : Type 0} (xs ys zs : List A) → (xs ++ ys) ++ zs ≡ xs ++ (
 append_assoc [] ys zs = refl
 append_assoc (x ∷ xs) ys zs = ap (λ l. x ∷ l) (append_assoc xs ys zs)
 
-module _ (slots : Slots) (bindings : List Binding) (ascend : PlacesAscend binding_place bindings) (w : Wanted) (small : w.moment < never) (one : w.family ≢ family.Both) (view : View) (fields : Fields) (begun : Option Direction) (of : family_matches w.family fields ≡ true) where
+module _ (slots : Slots) (bindings : List Binding) (ascend : PlacesAscend binding_place bindings) (w : Wanted) (small : w.moment < for_ever) (one : w.family ≢ family.Both) (view : View) (fields : Fields) (begun : Option Direction) (of : family_matches w.family fields ≡ true) where
   abbrev test : Resolved → Bool
   test item = item_passes view fields begun item
 
@@ -190,7 +166,7 @@ module _ (slots : Slots) (bindings : List Binding) (ascend : PlacesAscend bindin
 
 -- The list of a view names the rule that the ruling by the bindings names.
 pub list_alike : (slots : Slots) (bindings : List Binding) (url : List ℕ) (policy : Option Policy) (side : Direction) (view : View) (w : Wanted) (fields : Fields) (begun : Option Direction)
-    → IsViewOver slots bindings url policy side view → w.moment < never → w.family ≢ family.Both → family_matches w.family fields ≡ true
+    → IsViewOver slots bindings url policy side view → w.moment < for_ever → w.family ≢ family.Both → family_matches w.family fields ≡ true
     → resolved_ruling view (resolved_of w view) fields begun ≡ number_of (ruling_by_bindings bindings w.locals w.moment url policy side fields begun)
 unfolding resolved_ruling resolved_of ruling_by_bindings matched
 list_alike slots bindings url policy side view w fields begun is small one of =
@@ -204,7 +180,7 @@ list_alike slots bindings url policy side view w fields begun is small one of =
 
 -- Where the bindings are those of tables, it is the ruling over the tables.
 pub list_as_tables : (slots : Slots) (bindings : List Binding) (tables : Tables) (url : List ℕ) (policy : Option Policy) (side : Direction) (view : View) (w : Wanted) (fields : Fields) (begun : Option Direction)
-    → IsViewOver slots bindings url policy side view → HaveSame bindings (bindings_of tables) → w.locals ≡ tables.locals → w.moment < never → w.family ≢ family.Both → family_matches w.family fields ≡ true
+    → IsViewOver slots bindings url policy side view → HaveSame bindings (bindings_of tables) → w.locals ≡ tables.locals → w.moment < for_ever → w.family ≢ family.Both → family_matches w.family fields ≡ true
     → resolved_ruling view (resolved_of w view) fields begun ≡ number_of (ruling_of tables w.moment url policy side fields begun)
 list_as_tables slots bindings tables url policy side view w fields begun is same locals small one of =
     list_alike slots bindings url policy side view w fields begun is small one of

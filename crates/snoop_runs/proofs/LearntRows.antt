@@ -4,7 +4,8 @@ use Rattle.std.specs.Prelude.{nat_lt}
 use Rattle.std.proofs.lemmas.List.{length-append, take_more, take-append-drop, take-append-le, length-take}
 use Rattle.std.proofs.Math.Seq.{take-append-add}
 use Rattle.mud_base.specs.declared.addr.Addr.{Addr}
-use Rattle.mud_world.specs.Causes.{Counts, RoseBy}
+use Rattle.mud_world.specs.Causes.{Counts}
+use Rattle.mud_world.proofs.Doors.{rose_by_one}
 use Rattle.desk_model.specs.declared.command.Command.{Command}
 use Rattle.desk_model.specs.declared.command.Command.TheVariants.{Observe}
 use Rattle.desk_model.specs.declared.reply.Reply.{Reply}
@@ -26,10 +27,6 @@ abbrev pub Rows : Type 0
 Rows = List (Addr × ℕ)
 
 -- ---- Of a result
-
-pub on_err : {A E : Type 0} (r : Result A E) {P : Type 0} → P → OnErr r P
-on_err (Ok value) fact = tt
-on_err (Err error) fact = fact
 
 pub on_err_all : {A E H : Type 0} (r : Result A E) {P : H → Type 0} {Q : Type 0} → (((h : H) → P h) → Q) → ((h : H) → OnErr r (P h)) → OnErr r Q
 on_err_all (Ok value) so facts = tt
@@ -85,10 +82,6 @@ first_none m heard a b f g still steady = record { replies = []; run = still; to
 pub learns_none : (m : ℕ) (heard : Heard) (a : Session) (lines added : List ℕ) (f g : ℕ) → g ≡ f → calls_of m heard ≡ [] → added ≡ lines ++ heard_lines heard [] → Learns m heard a a lines added f g false
 learns_none m heard a lines added f g steady none is = record { replies = []; run = subst (λ (calls : Calls). Runs a calls [] a) (sym none) refl; told = tt; added = is; failed_is = refl; paid = omega (arith, steady) }
 
-count_one : (failed : Bool) (f g : ℕ) → Counts failed f g → RoseBy ((if failed then 1 else 0) + 0) f g
-count_one true f g counts = counts.rose refl
-count_one false f g counts = omega (arith, counts.steady refl)
-
 failed_one : (failed : Bool) → failed ≡ nat_lt 0 ((if failed then 1 else 0) + 0)
 failed_one true = refl
 failed_one false = refl
@@ -101,15 +94,15 @@ module _ (m : ℕ) (n : List ℕ) (row : Addr × ℕ) (reply : Reply) (a b : Ses
     told = (told, tt);
     added = added ∙ ap (λ (line : List ℕ). old ++ line) (sym (append-nil (name_line n row reply)));
     failed_is = is ∙ failed_one (is_of_keeper reply);
-    paid = count_one (is_of_keeper reply) f g counts;
+    paid = rose_by_one (is_of_keeper reply) f g counts;
   }
 
   pub first_one : LearnsFirst m (names_of n (row ∷ [])) a b f g
-  first_one = record { replies = reply ∷ []; run = (b, may, refl); told = (told, tt); paid = count_one (is_of_keeper reply) f g counts }
+  first_one = record { replies = reply ∷ []; run = (b, may, refl); told = (told, tt); paid = rose_by_one (is_of_keeper reply) f g counts }
 
 -- ---- Addresses one after the other
 
-either_count : (j k : ℕ) → (nat_lt 0 j || nat_lt 0 k) ≡ nat_lt 0 (j + k)
+pub either_count : (j k : ℕ) → (nat_lt 0 j || nat_lt 0 k) ≡ nat_lt 0 (j + k)
 either_count zero k = ap (λ (n : ℕ). nat_lt 0 n) (unit_first k)
   where
     unit_first : (k : ℕ) → k ≡ 0 + k

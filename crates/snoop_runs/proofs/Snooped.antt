@@ -1,5 +1,5 @@
 -- How far a run is that judges packets and learns from them, and what that comes to at each way out.
-use Rattle.std.proofs.Common.{◌≡◌, ℕ, zero, suc, ◌+◌, ◌<◌, ◌≤◌, ◌⊎◌, inl, inr, Bool, true, false, ◌||◌, List, [], ◌∷◌, ◌++◌, length, take, if◌then◌else◌, Option, Some, None, refl, sym, subst, ap, ap₂, ◌∙◌, arith, append_assoc, append-nil, lt-ltb}
+use Rattle.std.proofs.Common.{◌≡◌, ℕ, ◌+◌, ◌<◌, ◌≤◌, ◌⊎◌, inl, inr, Bool, true, false, ◌||◌, List, [], ◌∷◌, ◌++◌, length, take, if◌then◌else◌, Option, Some, None, refl, sym, subst, ap, ap₂, ◌∙◌, arith, append_assoc, append-nil}
 use Rattle.std.specs.Prelude.{nat_lt}
 use Rattle.std.proofs.lemmas.List.{map-append}
 use Rattle.mud_world.specs.Causes.{RoseBy}
@@ -24,6 +24,7 @@ use Rattle.snoop_runs.specs.Entries.{Entry, packet_in, packets_of, entry_lines, 
 use Rattle.snoop_runs.specs.Packets.{MayGo, Snoops, Stops, GoesOn, StopsAt}
 use Rattle.snoop_runs.specs.Runs.{due_of_entries, tail_of, SnoopsAll, SnoopsPart, SnoopsTaken}
 use Rattle.snoop_runs.specs.Leads.{LeadsToAll, LeadsToPart, LeadsToTaken}
+use Rattle.snoop_runs.proofs.LearntRows.{either_count}
 
 -- ---- Entries one after the other
 
@@ -41,13 +42,6 @@ count_append (e ∷ es) fs = omega (arith, count_append es fs)
 snoops_append : (a : Session) (es : List Entry) (b : Session) → Snoops a es b → (e : Entry) (c : Session) → MayGo b e c → Snoops a (es ++ e ∷ []) c
 snoops_append a [] b run e c may = (c, subst (λ (s : Session). MayGo s e c) run may, refl)
 snoops_append a (d ∷ es) b run e c may = (run.0, run.1, snoops_append run.0 es b run.2 e c may)
-
-either_count : (j k : ℕ) → (nat_lt 0 j || nat_lt 0 k) ≡ nat_lt 0 (j + k)
-either_count zero k = ap (λ (n : ℕ). nat_lt 0 n) (unit_first k)
-  where
-    unit_first : (k : ℕ) → k ≡ 0 + k
-    unit_first k = omega arith
-either_count (suc j) k = rw (lt-ltb 0 (suc j) (omega arith), lt-ltb 0 (suc j + k) (omega arith)) refl
 
 -- ---- How far a run is
 

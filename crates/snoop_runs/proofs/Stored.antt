@@ -9,7 +9,7 @@ use Rattle.mud_world.specs.Causes.{Counts, EndsAtFailure, Rose, StopsAtFailure}
 use Rattle.mud_world.specs.Door.{DoorState, put_out}
 use Rattle.mud_world.proofs.Doors.{put_out_none}
 use Rattle.command_runs.specs.Due.{WroteFirst}
-use Rattle.command_runs.specs.View.{DoorView}
+use Rattle.mud_world.specs.View.{DoorView}
 use Rattle.desk_items.specs.declared.fault.OpenFault.{OpenFault}
 use Rattle.desk_items.specs.declared.fault.OpenFault.TheVariants.{Keeper, Memory, BadItem}
 use Rattle.desk_items.specs.Opening.{IsFaultOf, IsOfCall}
@@ -138,7 +138,7 @@ refuses old new status items (BadItem kind key) of is done part untouched =
     named_statuses (inr (inl four)) = inl four
     named_statuses (inr (inr five)) = inr (inl five)
 
-not_seven : (status : ℕ) → (status ≡ 0) ⊎ ((status ≡ 3) ⊎ (status ≡ 6)) → status ≢ 7
+pub not_seven : (status : ℕ) → (status ≡ 0) ⊎ ((status ≡ 3) ⊎ (status ≡ 6)) → status ≢ 7
 not_seven status (inl zero) = λ seven. absurd (grind arith)
 not_seven status (inr (inl three)) = λ seven. absurd (grind arith)
 not_seven status (inr (inr six)) = λ seven. absurd (grind arith)

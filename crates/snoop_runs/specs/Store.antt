@@ -8,7 +8,7 @@ use Rattle.mud_world.specs.Boxed.{faults_of, Tells, kept_items}
 use Rattle.mud_world.specs.Causes.{EndsAtFailure, Rose}
 use Rattle.mud_world.specs.Door.{DoorState, put_out}
 use Rattle.command_runs.specs.Due.{WroteFirst}
-use Rattle.command_runs.specs.View.{DoorView}
+use Rattle.mud_world.specs.View.{DoorView}
 use Rattle.desk_model.specs.DeskTables.{DeskTables, IsSound}
 use Rattle.desk_model.specs.Items.{items_of, tables_in}
 use Rattle.desk_model.specs.Sessions.{Session, opened}

@@ -1,5 +1,6 @@
 //! A capture, packet by packet.
-ghost use Rattle.std.specs.Prelude.{◌≡◌, ◌≢◌, ◌==◌, ◌⊎◌, ◌<◌, [], false, true};
+ghost use Rattle.std.specs.Prelude.{◌≡◌, ◌≢◌, ◌==◌, ◌⊎◌, [], false, true};
+ghost use Rattle.sorted_rows.specs.Ledgers.{IsBlankOf};
 ghost use Rattle.mud_world.specs.Boxed.{faults_of};
 ghost use Rattle.mud_world.specs.Causes.{Counts, EndsAtFailure, Rose, StopsAtFailure};
 ghost use Rattle.mud_world.specs.Door.{DoorState};
@@ -53,21 +54,21 @@ fn snoop_packets<L: Ledger, D: Door>(
     requires going { is_broken reader.old ≡ false }
     requires kept { IsKept Keeper-dyn desk.old.keeper (tables_of desk.old.state) }
     ensures statuses { (status_number result ≡ 0) ⊎ ((status_number result ≡ 3) ⊎ ((status_number result ≡ 4) ⊎ ((status_number result ≡ 5) ⊎ (status_number result ≡ 7)))) }
-    ensures fault { status_number result ≡ 4 → EndsAtFailure (D.failed door.new) (D.reads door.old) (D.reads door.new) (D.writes door.old) (D.writes door.new) }
-    ensures steady { status_number result ≢ 4 → (D.reads door.new ≡ D.reads door.old) × (D.writes door.new ≡ D.writes door.old) }
+    ensures fault { status_number result ≡ 4 → EndsAtFailure (D.view door.new).failed (D.view door.old).reads (D.view door.new).reads (D.view door.old).writes (D.view door.new).writes }
+    ensures steady { status_number result ≢ 4 → ((D.view door.new).reads ≡ (D.view door.old).reads) × ((D.view door.new).writes ≡ (D.view door.old).writes) }
     ensures stays { StaysKept Keeper-dyn desk.old.keeper desk.new.keeper desk.new.state }
-    ensures done { (s : Session) (first : DoorState) → IsIn s desk.old.state → D.tells → HasDone [] [] reader.old first (D.state door.old) lines.old
+    ensures done { (s : Session) (first : DoorState) → IsIn s desk.old.state → D.tells → HasDone [] [] reader.old first (D.view door.old).state lines.old
         → (status_number result ≡ 0) ⊎ ((status_number result ≡ 3) ⊎ (status_number result ≡ 7))
-        → LeadsToAll s first (faults_of Keeper-dyn desk.old.keeper) desk.new.state (D.state door.new) (faults_of Keeper-dyn desk.new.keeper) (status_number result) }
-    ensures part { (s : Session) (first : DoorState) → IsIn s desk.old.state → D.tells → HasDone [] [] reader.old first (D.state door.old) lines.old
+        → LeadsToAll s first (faults_of Keeper-dyn desk.old.keeper) desk.new.state (D.view door.new).state (faults_of Keeper-dyn desk.new.keeper) (status_number result) }
+    ensures part { (s : Session) (first : DoorState) → IsIn s desk.old.state → D.tells → HasDone [] [] reader.old first (D.view door.old).state lines.old
         → (status_number result ≡ 4) ⊎ (status_number result ≡ 5)
-        → LeadsToPart s first (faults_of Keeper-dyn desk.old.keeper) desk.new.state (D.state door.new) (faults_of Keeper-dyn desk.new.keeper) }
-    ensures taken { (s : Session) (first : DoorState) → IsIn s desk.old.state → D.tells → HasDone [] [] reader.old first (D.state door.old) lines.old
-        → D.reads door.new ≢ D.reads door.old
-        → LeadsToTaken s first (faults_of Keeper-dyn desk.old.keeper) desk.new.state (D.state door.new) (faults_of Keeper-dyn desk.new.keeper) }
+        → LeadsToPart s first (faults_of Keeper-dyn desk.old.keeper) desk.new.state (D.view door.new).state (faults_of Keeper-dyn desk.new.keeper) }
+    ensures taken { (s : Session) (first : DoorState) → IsIn s desk.old.state → D.tells → HasDone [] [] reader.old first (D.view door.old).state lines.old
+        → (D.view door.new).reads ≢ (D.view door.old).reads
+        → LeadsToTaken s first (faults_of Keeper-dyn desk.old.keeper) desk.new.state (D.view door.new).state (faults_of Keeper-dyn desk.new.keeper) }
     ensures keeper { status_number result ≡ 7 → Rose (faults_of Keeper-dyn desk.old.keeper) (faults_of Keeper-dyn desk.new.keeper) }
     ensures keeper_steady { (status_number result ≡ 0) ⊎ (status_number result ≡ 3) → faults_of Keeper-dyn desk.new.keeper ≡ faults_of Keeper-dyn desk.old.keeper }
-    ensures turns { D.turns door.new ≡ D.turns door.old }
+    ensures turns { (D.view door.new).turns ≡ (D.view door.old).turns }
 {
     let mut failed = false;
     'packets: loop {
@@ -95,26 +96,24 @@ fn snoop_counted<L: Ledger, D: Door>(
     blank: Blank,
 ) -> Status
     requires going { is_broken reader.old ≡ false }
-    requires name { blank.name ≡ L.name }
-    requires parts { blank.parts ≡ L.parts }
-    requires some { 0 < L.parts }
+    requires blank { IsBlankOf L.name L.parts blank }
     requires kept { IsKept Keeper-dyn desk.old.keeper (tables_of desk.old.state) }
     ensures statuses { (status_number result ≡ 0) ⊎ ((status_number result ≡ 3) ⊎ ((status_number result ≡ 4) ⊎ ((status_number result ≡ 5) ⊎ (status_number result ≡ 7)))) }
-    ensures fault { status_number result ≡ 4 → EndsAtFailure (D.failed door.new) (D.reads door.old) (D.reads door.new) (D.writes door.old) (D.writes door.new) }
-    ensures steady { status_number result ≢ 4 → (D.reads door.new ≡ D.reads door.old) × (D.writes door.new ≡ D.writes door.old) }
+    ensures fault { status_number result ≡ 4 → EndsAtFailure (D.view door.new).failed (D.view door.old).reads (D.view door.new).reads (D.view door.old).writes (D.view door.new).writes }
+    ensures steady { status_number result ≢ 4 → ((D.view door.new).reads ≡ (D.view door.old).reads) × ((D.view door.new).writes ≡ (D.view door.old).writes) }
     ensures stays { StaysKept Keeper-dyn desk.old.keeper desk.new.keeper desk.new.state }
-    ensures done { (s : Session) (first : DoorState) → IsIn s desk.old.state → D.tells → HasDone [] [] reader.old first (D.state door.old) []
+    ensures done { (s : Session) (first : DoorState) → IsIn s desk.old.state → D.tells → HasDone [] [] reader.old first (D.view door.old).state []
         → (status_number result ≡ 0) ⊎ ((status_number result ≡ 3) ⊎ (status_number result ≡ 7))
-        → LeadsToAll s first (faults_of Keeper-dyn desk.old.keeper) desk.new.state (D.state door.new) (faults_of Keeper-dyn desk.new.keeper) (status_number result) }
-    ensures part { (s : Session) (first : DoorState) → IsIn s desk.old.state → D.tells → HasDone [] [] reader.old first (D.state door.old) []
+        → LeadsToAll s first (faults_of Keeper-dyn desk.old.keeper) desk.new.state (D.view door.new).state (faults_of Keeper-dyn desk.new.keeper) (status_number result) }
+    ensures part { (s : Session) (first : DoorState) → IsIn s desk.old.state → D.tells → HasDone [] [] reader.old first (D.view door.old).state []
         → (status_number result ≡ 4) ⊎ (status_number result ≡ 5)
-        → LeadsToPart s first (faults_of Keeper-dyn desk.old.keeper) desk.new.state (D.state door.new) (faults_of Keeper-dyn desk.new.keeper) }
-    ensures taken { (s : Session) (first : DoorState) → IsIn s desk.old.state → D.tells → HasDone [] [] reader.old first (D.state door.old) []
-        → D.reads door.new ≢ D.reads door.old
-        → LeadsToTaken s first (faults_of Keeper-dyn desk.old.keeper) desk.new.state (D.state door.new) (faults_of Keeper-dyn desk.new.keeper) }
+        → LeadsToPart s first (faults_of Keeper-dyn desk.old.keeper) desk.new.state (D.view door.new).state (faults_of Keeper-dyn desk.new.keeper) }
+    ensures taken { (s : Session) (first : DoorState) → IsIn s desk.old.state → D.tells → HasDone [] [] reader.old first (D.view door.old).state []
+        → (D.view door.new).reads ≢ (D.view door.old).reads
+        → LeadsToTaken s first (faults_of Keeper-dyn desk.old.keeper) desk.new.state (D.view door.new).state (faults_of Keeper-dyn desk.new.keeper) }
     ensures keeper { status_number result ≡ 7 → Rose (faults_of Keeper-dyn desk.old.keeper) (faults_of Keeper-dyn desk.new.keeper) }
     ensures keeper_steady { (status_number result ≡ 0) ⊎ (status_number result ≡ 3) → faults_of Keeper-dyn desk.new.keeper ≡ faults_of Keeper-dyn desk.old.keeper }
-    ensures turns { D.turns door.new ≡ D.turns door.old }
+    ensures turns { (D.view door.new).turns ≡ (D.view door.old).turns }
 {
     let mut lines = Bytes::empty(alloc);
     let mut steps = Steps::<L>::new(blank);
@@ -134,21 +133,21 @@ fn snoop_counted<L: Ledger, D: Door>(
 /// | 4 | a read or a write of the door failed: the run ends there |
 /// | 5 | want of memory: the run ends there, and no line says so |
 /// | 7 | the keeper failed at a name; the capture was read as with 0 or 3 |
-pub fn snoop_capture<D: Door>(alloc: Global, desk: &mut Desk, door: &mut D) -> Status
+pub(crate) fn snoop_capture<D: Door>(alloc: Global, desk: &mut Desk, door: &mut D) -> Status
     requires kept { IsKept Keeper-dyn desk.old.keeper (tables_of desk.old.state) }
     ensures statuses { (status_number result ≡ 0) ⊎ ((status_number result ≡ 3) ⊎ ((status_number result ≡ 4) ⊎ ((status_number result ≡ 5) ⊎ (status_number result ≡ 7)))) }
-    ensures fault { status_number result ≡ 4 → EndsAtFailure (D.failed door.new) (D.reads door.old) (D.reads door.new) (D.writes door.old) (D.writes door.new) }
-    ensures steady { status_number result ≢ 4 → (D.reads door.new ≡ D.reads door.old) × (D.writes door.new ≡ D.writes door.old) }
+    ensures fault { status_number result ≡ 4 → EndsAtFailure (D.view door.new).failed (D.view door.old).reads (D.view door.new).reads (D.view door.old).writes (D.view door.new).writes }
+    ensures steady { status_number result ≢ 4 → ((D.view door.new).reads ≡ (D.view door.old).reads) × ((D.view door.new).writes ≡ (D.view door.old).writes) }
     ensures stays { StaysKept Keeper-dyn desk.old.keeper desk.new.keeper desk.new.state }
     ensures done { (s : Session) → IsIn s desk.old.state → D.tells → (status_number result ≡ 0) ⊎ ((status_number result ≡ 3) ⊎ (status_number result ≡ 7))
-        → LeadsToAll s (D.state door.old) (faults_of Keeper-dyn desk.old.keeper) desk.new.state (D.state door.new) (faults_of Keeper-dyn desk.new.keeper) (status_number result) }
+        → LeadsToAll s (D.view door.old).state (faults_of Keeper-dyn desk.old.keeper) desk.new.state (D.view door.new).state (faults_of Keeper-dyn desk.new.keeper) (status_number result) }
     ensures part { (s : Session) → IsIn s desk.old.state → D.tells → (status_number result ≡ 4) ⊎ (status_number result ≡ 5)
-        → LeadsToPart s (D.state door.old) (faults_of Keeper-dyn desk.old.keeper) desk.new.state (D.state door.new) (faults_of Keeper-dyn desk.new.keeper) }
-    ensures taken { (s : Session) → IsIn s desk.old.state → D.tells → D.reads door.new ≢ D.reads door.old
-        → LeadsToTaken s (D.state door.old) (faults_of Keeper-dyn desk.old.keeper) desk.new.state (D.state door.new) (faults_of Keeper-dyn desk.new.keeper) }
+        → LeadsToPart s (D.view door.old).state (faults_of Keeper-dyn desk.old.keeper) desk.new.state (D.view door.new).state (faults_of Keeper-dyn desk.new.keeper) }
+    ensures taken { (s : Session) → IsIn s desk.old.state → D.tells → (D.view door.new).reads ≢ (D.view door.old).reads
+        → LeadsToTaken s (D.view door.old).state (faults_of Keeper-dyn desk.old.keeper) desk.new.state (D.view door.new).state (faults_of Keeper-dyn desk.new.keeper) }
     ensures keeper { status_number result ≡ 7 → Rose (faults_of Keeper-dyn desk.old.keeper) (faults_of Keeper-dyn desk.new.keeper) }
     ensures keeper_steady { (status_number result ≡ 0) ⊎ (status_number result ≡ 3) → faults_of Keeper-dyn desk.new.keeper ≡ faults_of Keeper-dyn desk.old.keeper }
-    ensures turns { D.turns door.new ≡ D.turns door.old }
+    ensures turns { (D.view door.new).turns ≡ (D.view door.old).turns }
 {
     let mut reader = match CaptureReader::begin(alloc, door) {
         Ok(reader) => reader,

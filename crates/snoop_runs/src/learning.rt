@@ -63,7 +63,11 @@ fn is_let_through(verdict: &Verdict) -> bool
 /// UDP from port 53 of an address that is bound to the class of DNS servers. None for every other
 /// frame.
 #[tactic(auto, unfolding(crate::specs::Learning::heard_in, crate::specs::Learning::payload_if))]
-pub fn heard_in<'a>(classes: &[ClassRow], frame: &'a [u8], verdict: &Verdict) -> Option<&'a [u8]>
+pub(crate) fn heard_in<'a>(
+    classes: &[ClassRow],
+    frame: &'a [u8],
+    verdict: &Verdict,
+) -> Option<&'a [u8]>
     ensures { option_copied result ≡ spec.heard_in classes.now frame.now verdict.now }
 {
     if !is_let_through(verdict) {

@@ -12,7 +12,7 @@ use text_lines::{append_addr, append_number, append_place};
 /// Adds the line of an address that was learnt for a name, for so many seconds: `name`, all three,
 /// and what was replied to its observation.
 #[tactic(auto, unfolding(crate::specs::Lines::name_line))]
-pub fn append_name(
+pub(crate) fn append_name(
     alloc: Global,
     lines: &mut Bytes,
     name: &[u8],
@@ -33,7 +33,7 @@ pub fn append_name(
 /// Adds the line of a DNS message that isn't read: `dns fault`, the fault's name, and its place where
 /// it has one.
 #[tactic(auto, unfolding(crate::specs::Lines::dns_fault_line))]
-pub fn append_dns_fault(lines: &mut Bytes, fault: DnsFault) -> Result<(), Memory>
+pub(crate) fn append_dns_fault(lines: &mut Bytes, fault: DnsFault) -> Result<(), Memory>
     ensures { OnOk result (lines.new ≡ lines.old ++ spec.dns_fault_line fault) }
 {
     lines.append(b"dns fault ")?;

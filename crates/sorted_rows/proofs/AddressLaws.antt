@@ -1,5 +1,5 @@
 -- Two addresses, or two prefixes, are one where their places are, and stand to one another as their places do.
-use Rattle.std.proofs.Common.{◌≡◌, ℕ, [], ◌∷◌, ◌++◌, refl, sym}
+use Rattle.std.proofs.Common.{◌≡◌, ℕ, [], ◌∷◌, ◌++◌, refl, sym, length}
 use Rattle.std.proofs.Math.Bool.{and-true}
 use Rattle.std.specs.Ordering.{nat_cmp, ordering_then}
 use Rattle.std.specs.declared.cmp.Ordering.{Ordering}
@@ -10,24 +10,20 @@ use Rattle.mud_base.specs.declared.addr.Addr.TheVariants.{V4, V6}
 use Rattle.mud_base.specs.declared.prefix.Prefix.{Prefix}
 use Rattle.sorted_rows.specs.Placed.{place_cmp, same_place}
 use Rattle.sorted_rows.specs.Addresses.{addr_place, prefix_place}
-
-by_number : (o : Ordering) → ordering_then o Equal ≡ o
-by_number Less = refl
-by_number Equal = refl
-by_number Greater = refl
+use Rattle.sorted_rows.proofs.Orders.{then_equal}
 
 -- addresses stand to one another as their places do
 pub addr_cmp-place : (a b : Addr) → addr_cmp a b ≡ place_cmp (addr_place a) (addr_place b)
 unfolding addr_cmp addr_place
-addr_cmp-place (V4 n) (V4 k) = sym (by_number (nat_cmp n k))
+addr_cmp-place (V4 n) (V4 k) = sym (then_equal (nat_cmp n k))
 addr_cmp-place (V4 n) (V6 k) = refl
 addr_cmp-place (V6 n) (V4 k) = refl
-addr_cmp-place (V6 n) (V6 k) = sym (by_number (nat_cmp n k))
+addr_cmp-place (V6 n) (V6 k) = sym (then_equal (nat_cmp n k))
 
 -- what decides first, and then the length
 then_length : (o p : Ordering) → ordering_then (ordering_then o Equal) p ≡ ordering_then o (ordering_then p Equal)
 then_length Less p = refl
-then_length Equal p = sym (by_number p)
+then_length Equal p = sym (then_equal p)
 then_length Greater p = refl
 
 by_address : (a b : Addr) (l k : ℕ) → ordering_then (place_cmp (addr_place a) (addr_place b)) (nat_cmp l k) ≡ place_cmp (addr_place a ++ l ∷ []) (addr_place b ++ k ∷ [])
@@ -59,3 +55,8 @@ addr_place_exact (V6 n) (V4 k) e = absurd cc
 addr_place_exact (V6 n) (V6 k) e = cc
 
 pub ruleset place_rules = (addr_cmp-place, prefix_cmp-place, same_addr-place)
+
+pub length-addr_place : (a : Addr) → length (addr_place a) ≡ 2
+unfolding addr_place
+length-addr_place (V4 n) = refl
+length-addr_place (V6 n) = refl

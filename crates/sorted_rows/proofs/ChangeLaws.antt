@@ -2,17 +2,24 @@
 use Rattle.std.proofs.Common.{◌≡◌, ℕ, Bool, true, false, cond, not, ◌||◌, List, [], ◌∷◌, map, Option, Some, None, refl, sym, ap, subst, ◌∙◌}
 use Rattle.std.specs.List.{list_any}
 use Rattle.std.proofs.lemmas.Bool.{false≢true}
+use Rattle.std.specs.Cmp.{both_ways}
 use Rattle.sorted_rows.specs.Placed.{same_place, PlacesAscend, row_at, set_row, set_rows, without_row}
 use Rattle.sorted_rows.specs.Changes.{RowChange, without_gone, changed, with_found, places_of, rows_at, are_apart, is_plain}
 use Rattle.sorted_rows.proofs.PlacedLaws.{same_place_exact, same_place_itself, row_at-set_row_same, row_at-set_row_other, row_at-without_row}
 use Rattle.sorted_rows.proofs.ListTests.{left_of, right_of, or_first, or_second, not_false, any_first, any_later, any_by}
 
-pub turned : (p q : List ℕ) → same_place p q ≡ false → same_place q p ≡ false
-turned p q e = by_test (same_place q p) refl
+pub differ_turned : (p q : List ℕ) → same_place p q ≡ false → same_place q p ≡ false
+differ_turned p q e = by_test (same_place q p) refl
   where
     by_test : (b : Bool) → same_place q p ≡ b → same_place q p ≡ false
     by_test true is = absurd (false≢true (sym e ∙ subst (λ r. same_place p r ≡ true) (sym (same_place_exact q p is)) (same_place_itself p)))
     by_test false is = is
+
+pub same_place_turned : (p q : List ℕ) → same_place p q ≡ same_place q p
+same_place_turned p q =
+    both_ways (same_place p q) (same_place q p)
+    (λ e. ap (λ (r : List ℕ). same_place r p) (sym (same_place_exact p q e)) ∙ same_place_itself p)
+    (λ e. ap (λ (r : List ℕ). same_place r q) (sym (same_place_exact q p e)) ∙ same_place_itself q)
 
 -- ---- The rows at places
 
@@ -55,11 +62,11 @@ module _ {R : Type 0} (place : R → List ℕ) where
   row_at-set_rows_other [] rows q other = refl
   row_at-set_rows_other (x ∷ xs) rows q other =
       row_at-set_rows_other xs (set_row place x rows) q (or_second (same_place q (place x)) (list_any (same_place q) (map place xs)) other)
-      ∙ row_at-set_row_other place x rows q (turned q (place x) (or_first (same_place q (place x)) (list_any (same_place q) (map place xs)) other))
+      ∙ row_at-set_row_other place x rows q (differ_turned q (place x) (or_first (same_place q (place x)) (list_any (same_place q) (map place xs)) other))
 
   without_gone_other : (gone : Option (List ℕ)) (rows : List R) (q : List ℕ) → PlacesAscend place rows → list_any (same_place q) (with_found gone []) ≡ false → row_at place q (without_gone place gone rows) ≡ row_at place q rows
   without_gone_other None rows q up other = refl
-  without_gone_other (Some p) rows q up other = row_at-without_row place p rows q up ∙ ap (λ b. cond b None (row_at place q rows)) (turned q p (or_first (same_place q p) false other))
+  without_gone_other (Some p) rows q up other = row_at-without_row place p rows q up ∙ ap (λ b. cond b None (row_at place q rows)) (differ_turned q p (or_first (same_place q p) false other))
 
   -- which place a list with one more has not
   with_other : (gone : Option (List ℕ)) (ps : List (List ℕ)) (q : List ℕ) → list_any (same_place q) (with_found gone ps) ≡ false → (list_any (same_place q) (with_found gone []) ≡ false) × (list_any (same_place q) ps ≡ false)

@@ -71,7 +71,7 @@ module _ {R : Type 0} (place : R → List ℕ) where
   set_row-behind row [] ys below = refl
   set_row-behind row (x ∷ xs) ys below = ap (set_first row x (xs ++ ys)) (place_cmp_turned (place x) (place row) Less below.0) ∙ ap (λ zs. x ∷ zs) (set_row-behind row xs ys below.1)
 
-  put_before : (row : R) (ys : List R) → PlacesAbove place (place row) ys → set_row place row ys ≡ row ∷ ys
+  pub put_before : (row : R) (ys : List R) → PlacesAbove place (place row) ys → set_row place row ys ≡ row ∷ ys
   put_before row [] above = refl
   put_before row (y ∷ ys) above = ap (set_first row y ys) above.0
 
@@ -102,7 +102,7 @@ module _ {R : Type 0} (place : R → List ℕ) where
   without_row-before q [] ys above = none_before q ys above
   without_row-before q (x ∷ xs) ys above = without_before_first q x xs ys (without_row-before q xs ys above) (place_cmp q (place x))
 
-  above-append : (p : List ℕ) (xs ys : List R) → PlacesAbove place p xs → PlacesAbove place p ys → PlacesAbove place p (xs ++ ys)
+  pub above-append : (p : List ℕ) (xs ys : List R) → PlacesAbove place p xs → PlacesAbove place p ys → PlacesAbove place p (xs ++ ys)
   above-append p [] ys left right = right
   above-append p (x ∷ xs) ys left right = (left.0, above-append p xs ys left.1 right)
 

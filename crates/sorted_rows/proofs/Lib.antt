@@ -5,11 +5,14 @@ pub mod Digits
 pub mod IndexLaws
 pub mod MergeLaws
 mod Lent
+pub mod Lists
 pub mod ListTests
+pub mod Orders
 pub mod PlacedLaws
-mod ProbeLaws
+pub mod ProbeLaws
+pub mod Results
 pub mod RowLaws
 pub mod RunLaws
 pub mod RowSets
-mod SearchLaws
+pub mod SearchLaws
 mod IndexAmong

@@ -1,12 +1,13 @@
 -- Tests of the elements of lists, and lists of which no two elements pass a test.
-use Rattle.std.proofs.Common.{◌≡◌, Bool, true, false, cond, not, ◌||◌, List, [], ◌∷◌, ◌++◌, map, refl, sym, ap, ◌∙◌}
+use Rattle.std.proofs.Common.{◌≡◌, Bool, true, false, cond, not, ◌||◌, List, [], ◌∷◌, ◌++◌, map, refl, sym, ap, ◌∙◌, ℕ, nat_eq, bytes_eq}
 use Rattle.std.specs.Prelude.{flat_map}
 use Rattle.std.specs.List.{list_any, filter}
-use Rattle.std.proofs.lemmas.Bool.{false≢true, or_right, or_parts}
+use Rattle.std.proofs.lemmas.Bool.{false≢true, or_right, or_parts, eq-eqb}
 use Rattle.std.proofs.lemmas.List.Folds.{list_any-append}
 use Rattle.sorted_rows.specs.Changes.{are_apart}
 pub use Rattle.std.specs.Cmp.{both_ways, first_so as left_of, second_so as right_of}
 pub use Rattle.std.proofs.lemmas.Bool.{and_from as both, not-true as not_false}
+use Rattle.std.proofs.lemmas.Slice.Eq.{bytes_eq-Decides}
 
 -- ---- Tests
 
@@ -17,6 +18,12 @@ not_true false no_way = refl
 pub is_not : (b : Bool) → not b ≡ true → b ≡ true → ⊥
 is_not true e f = false≢true e
 is_not false e f = false≢true f
+
+pub same_number : (n : ℕ) → nat_eq n n ≡ true
+same_number n = eq-eqb n n refl
+
+pub same_bytes : (x y : List ℕ) → x ≡ y → bytes_eq x y ≡ true
+same_bytes x y e = (bytes_eq-Decides x y).1 e
 
 -- ---- Some element passes a test
 

@@ -74,20 +74,20 @@ and_implied false false implied = refl
 
 -- ---- Indices
 
-err≢ok : (i j : ℕ) → (let r : Result ℕ ℕ = Err i in r ≡ Ok j) → ⊥
+pub err≢ok : (i j : ℕ) → (let r : Result ℕ ℕ = Err i in r ≡ Ok j) → ⊥
 err≢ok i j e = cc
 
-zero≢suc : (i : ℕ) → 0 ≡ suc i → ⊥
+pub zero≢suc : (i : ℕ) → 0 ≡ suc i → ⊥
 zero≢suc i e = omega arith
 
-same_Ok : (i j : ℕ) → (let r : Result ℕ ℕ = Ok i in r ≡ Ok j) → i ≡ j
+pub same_Ok : (i j : ℕ) → (let r : Result ℕ ℕ = Ok i in r ≡ Ok j) → i ≡ j
 same_Ok i j e = cc
 
-one_on≢zero : (r : Result ℕ ℕ) → one_on r ≡ Ok 0 → ⊥
+pub one_on≢zero : (r : Result ℕ ℕ) → one_on r ≡ Ok 0 → ⊥
 one_on≢zero (Ok i) e = zero≢suc i (sym (same_Ok (suc i) 0 e))
 one_on≢zero (Err i) e = cc
 
-one_on_same : (r : Result ℕ ℕ) (i : ℕ) → one_on r ≡ Ok (suc i) → r ≡ Ok i
+pub one_on_same : (r : Result ℕ ℕ) (i : ℕ) → one_on r ≡ Ok (suc i) → r ≡ Ok i
 one_on_same (Ok j) i e = let same : suc j ≡ suc i = same_Ok (suc j) (suc i) e in ap Ok (omega arith)
 one_on_same (Err j) i e = cc
 
@@ -295,7 +295,7 @@ module _ {R : Type 0} (place : R → List ℕ) where
 
   -- ---- The rows themselves
 
-  above_row : (p : List ℕ) (rows : List R) (i : ℕ) (x : R) → PlacesAbove place p rows → slice_get rows i ≡ Some x → place_cmp p (place x) ≡ Less
+  pub above_row : (p : List ℕ) (rows : List R) (i : ℕ) (x : R) → PlacesAbove place p rows → slice_get rows i ≡ Some x → place_cmp p (place x) ≡ Less
   above_row p [] i x above e = absurd (none-some x e)
   above_row p (y ∷ ys) zero x above e = subst (λ z. place_cmp p (place z) ≡ Less) (same_Some y x e) above.0
   above_row p (y ∷ ys) (suc i) x above e = above_row p ys i x above.1 e

@@ -86,7 +86,7 @@ prefix_falls_by n x y p a b rest Less e lt Greater f = le_two (ordering_then (na
 prefix_falls_by n x y p a b rest Equal e lt s f = subst (λ o. ordering_index (ordering_then o (prefix_cmp p b)) ≤ ordering_index (ordering_then s (prefix_cmp p a))) (sym f ∙ alike_right nat_cmp_total x y n e) (then_falls s (prefix_cmp p b) (prefix_cmp p a) (rest lt))
 prefix_falls_by n x y p a b rest Greater e lt s f = absurd (less≢greater (sym lt))
 
-prefix_falls : (p a b : List ℕ) → place_cmp a b ≡ Less → ordering_index (prefix_cmp p b) ≤ ordering_index (prefix_cmp p a)
+pub prefix_falls : (p a b : List ℕ) → place_cmp a b ≡ Less → ordering_index (prefix_cmp p b) ≤ ordering_index (prefix_cmp p a)
 prefix_falls [] a b lt = omega arith
 prefix_falls (n ∷ p) [] b lt = le_two (prefix_cmp (n ∷ p) b)
 prefix_falls (n ∷ p) (x ∷ a) [] lt = absurd (less≢greater (sym lt))
@@ -103,7 +103,7 @@ is_eq-then Greater o = refl
 eq_then : (n k : ℕ) (o : Ordering) → is_eq (ordering_then (nat_cmp n k) o) ≡ nat_eq n k && is_eq o
 eq_then n k o = is_eq-then (nat_cmp n k) o ∙ ap (λ b. b && is_eq o) (sym (unsigned_ties n k))
 
-is_eq-prefix_cmp : (p q : List ℕ) → pointwise nat_eq p (take (length p) q) ≡ is_eq (prefix_cmp p q)
+pub is_eq-prefix_cmp : (p q : List ℕ) → pointwise nat_eq p (take (length p) q) ≡ is_eq (prefix_cmp p q)
 is_eq-prefix_cmp [] q = refl
 is_eq-prefix_cmp (n ∷ p) [] = refl
 is_eq-prefix_cmp (n ∷ p) (k ∷ q) = ap (λ b. nat_eq n k && b) (is_eq-prefix_cmp p q) ∙ sym (eq_then n k (prefix_cmp p q))

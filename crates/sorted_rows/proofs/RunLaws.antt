@@ -5,7 +5,8 @@ use Rattle.std.specs.declared.cmp.Ordering.{Ordering}
 use Rattle.std.specs.declared.cmp.Ordering.TheVariants.{Less, Equal, Greater}
 use Rattle.std.proofs.lemmas.List.{take_more, drop_more, drop-drop, same_from_push, reverse-append, take-append-drop}
 use Rattle.sorted_rows.specs.Placed.{place_cmp, index_in, one_on, set_row, without_row, PlacesAbove, PlacesAscend}
-use Rattle.sorted_rows.proofs.PlacedLaws.{above_trans, ascend-set_row}
+use Rattle.sorted_rows.proofs.PlacedLaws.{above_trans, ascend-set_row, one_on≢zero, one_on_same, err≢ok, same_Ok, zero≢suc}
+use Rattle.sorted_rows.proofs.IndexLaws.{put_before, above-append}
 
 -- ---- From the end of one list to that of another
 
@@ -33,32 +34,15 @@ image_added f ys xs n m x next more =
 
 -- ---- Indices
 
-err≢ok : (i j : ℕ) → (let r : Result ℕ ℕ = Err i in r ≡ Ok j) → ⊥
-err≢ok i j e = cc
-
 ok≢err : (i j : ℕ) → (let r : Result ℕ ℕ = Ok i in r ≡ Err j) → ⊥
 ok≢err i j e = cc
-
-same_Ok : (i j : ℕ) → (let r : Result ℕ ℕ = Ok i in r ≡ Ok j) → i ≡ j
-same_Ok i j e = cc
 
 same_Err : (i j : ℕ) → (let r : Result ℕ ℕ = Err i in r ≡ Err j) → i ≡ j
 same_Err i j e = cc
 
-zero≢suc : (i : ℕ) → 0 ≡ suc i → ⊥
-zero≢suc i e = omega arith
-
-one_on≢ok : (r : Result ℕ ℕ) → one_on r ≡ Ok 0 → ⊥
-one_on≢ok (Ok i) e = zero≢suc i (sym (same_Ok (suc i) 0 e))
-one_on≢ok (Err i) e = err≢ok (suc i) 0 e
-
 one_on≢err : (r : Result ℕ ℕ) → one_on r ≡ Err 0 → ⊥
 one_on≢err (Ok i) e = ok≢err (suc i) 0 e
 one_on≢err (Err i) e = zero≢suc i (sym (same_Err (suc i) 0 e))
-
-ok_before : (r : Result ℕ ℕ) (i : ℕ) → one_on r ≡ Ok (suc i) → r ≡ Ok i
-ok_before (Ok j) i e = let same : suc j ≡ suc i = same_Ok (suc j) (suc i) e in ap Ok (omega arith)
-ok_before (Err j) i e = absurd (err≢ok (suc j) (suc i) e)
 
 err_before : (r : Result ℕ ℕ) (i : ℕ) → one_on r ≡ Err (suc i) → r ≡ Err i
 err_before (Ok j) i e = absurd (ok≢err (suc j) (suc i) e)
@@ -75,10 +59,6 @@ module _ {R : Type 0} (place : R → List ℕ) where
   without_first p x xs o = elim o [ Less ↦ x ∷ xs | Equal ↦ xs | Greater ↦ x ∷ without_row place p xs ]
 
   -- ---- Parts of ascending rows
-
-  above-append : (p : List ℕ) (xs ys : List R) → PlacesAbove place p xs → PlacesAbove place p ys → PlacesAbove place p (xs ++ ys)
-  above-append p [] ys left right = right
-  above-append p (x ∷ xs) ys left right = (left.0, above-append p xs ys left.1 right)
 
   above-drop : (p : List ℕ) (n : ℕ) (rows : List R) → PlacesAbove place p rows → PlacesAbove place p (drop n rows)
   above-drop p zero rows above = above
@@ -101,7 +81,7 @@ module _ {R : Type 0} (place : R → List ℕ) where
   ascend-take (suc n) (x ∷ xs) up = (above-take (place x) n xs up.0, ascend-take n xs up.1)
 
   above_cut : (p : List ℕ) (i n : ℕ) (rows : List R) → PlacesAbove place p rows → PlacesAbove place p (take i rows ++ drop n (drop i rows))
-  above_cut p i n rows above = above-append p (take i rows) (drop n (drop i rows)) (above-take p i rows above) (above-drop p n (drop i rows) (above-drop p i rows above))
+  above_cut p i n rows above = above-append place p (take i rows) (drop n (drop i rows)) (above-take p i rows above) (above-drop p n (drop i rows) (above-drop p i rows above))
 
   ascend_cut : (i n : ℕ) (rows : List R) → PlacesAscend place rows → PlacesAscend place (take i rows ++ drop n (drop i rows))
   ascend_cut zero n rows up = ascend-drop n rows up
@@ -132,10 +112,6 @@ module _ {R : Type 0} (place : R → List ℕ) where
 
   -- ---- One row of a run
 
-  put_before : (row : R) (ys : List R) → PlacesAbove place (place row) ys → set_row place row ys ≡ row ∷ ys
-  put_before row [] above = refl
-  put_before row (y ∷ ys) above = ap (set_first row y ys) above.0
-
   put_by : (row x : R) (xs ys : List R) (i : ℕ) → (index_in place (place row) xs ≡ Err i → set_row place row (take i xs ++ ys) ≡ take i xs ++ row ∷ ys) → (o : Ordering) → index_first (place row) xs o ≡ Err (suc i) → set_first row x (take i xs ++ ys) o ≡ x ∷ (take i xs ++ row ∷ ys)
   put_by row x xs ys i rest Less found = absurd (zero≢suc i (same_Err 0 (suc i) found))
   put_by row x xs ys i rest Equal found = absurd (ok≢err 0 (suc i) found)
@@ -143,19 +119,19 @@ module _ {R : Type 0} (place : R → List ℕ) where
 
   -- it is put in at the index at which it belongs, in front of rows that are behind it
   pub put_front : (row : R) (rows ys : List R) (i : ℕ) → index_in place (place row) rows ≡ Err i → PlacesAbove place (place row) ys → set_row place row (take i rows ++ ys) ≡ take i rows ++ row ∷ ys
-  put_front row rows ys zero found above = put_before row ys above
-  put_front row [] ys (suc i) found above = put_before row ys above
+  put_front row rows ys zero found above = put_before place row ys above
+  put_front row [] ys (suc i) found above = put_before place row ys above
   put_front row (x ∷ xs) ys (suc i) found above = put_by row x xs ys i (λ e. put_front row xs ys i e above) (place_cmp (place row) (place x)) found
 
   taken_first : (p : List ℕ) (x : R) (xs ys : List R) → (o : Ordering) → index_first p xs o ≡ Ok 0 → without_first p x ys o ≡ ys
   taken_first p x xs ys Less found = absurd (err≢ok 0 0 found)
   taken_first p x xs ys Equal found = refl
-  taken_first p x xs ys Greater found = absurd (one_on≢ok (index_in place p xs) found)
+  taken_first p x xs ys Greater found = absurd (one_on≢zero (index_in place p xs) found)
 
   taken_by : (p : List ℕ) (x : R) (xs ys : List R) (i : ℕ) → (index_in place p xs ≡ Ok i → without_row place p (take (suc i) xs ++ ys) ≡ take i xs ++ ys) → (o : Ordering) → index_first p xs o ≡ Ok (suc i) → without_first p x (take (suc i) xs ++ ys) o ≡ x ∷ (take i xs ++ ys)
   taken_by p x xs ys i rest Less found = absurd (err≢ok 0 (suc i) found)
   taken_by p x xs ys i rest Equal found = absurd (zero≢suc i (same_Ok 0 (suc i) found))
-  taken_by p x xs ys i rest Greater found = ap (λ zs. x ∷ zs) (rest (ok_before (index_in place p xs) i found))
+  taken_by p x xs ys i rest Greater found = ap (λ zs. x ∷ zs) (rest (one_on_same (index_in place p xs) i found))
 
   -- it is taken away from its index, whatever stands behind it
   pub taken_front : (p : List ℕ) (rows ys : List R) (i : ℕ) → index_in place p rows ≡ Ok i → without_row place p (take (suc i) rows ++ ys) ≡ take i rows ++ ys
@@ -170,7 +146,7 @@ module _ {R : Type 0} (place : R → List ℕ) where
   AllBelongAt i rows run = AllByRecursion (λ row. index_in place (place row) rows ≡ Err i) run
 
   pub above_run : (p : List ℕ) (run rows : List R) (i : ℕ) → PlacesAscend place rows → PlacesAbove place p run → index_in place p rows ≡ Err i → PlacesAbove place p (run ++ drop i rows)
-  above_run p run rows i up above found = above-append p run (drop i rows) above (above_rest p rows i up found)
+  above_run p run rows i up above found = above-append place p run (drop i rows) above (above_rest p rows i up found)
 
   ascend_in : (run rows : List R) (i : ℕ) → PlacesAscend place rows → PlacesAscend place run → AllBelongAt i rows run → PlacesAscend place (take i rows ++ (run ++ drop i rows))
   ascend_in [] rows i up own found = subst (PlacesAscend place) (sym (take-append-drop i rows)) up

@@ -9,7 +9,7 @@ use mud_world::{Item, Put};
 use std::alloc::Global;
 
 /// How many batches there are.
-pub const BATCHES: usize = 6;
+pub(crate) const BATCHES: usize = 6;
 
 /// The usage file of the example of RFC 8520, 9, for IPv4 alone, with an entry for Things of the same maker.
 const BULB: &str =
@@ -89,7 +89,7 @@ fn name_batch(alloc: Global) -> Result<[Put; 2], Memory>
 }
 
 /// The batch of this number, from 0.
-pub fn batch(alloc: Global, number: usize) -> Result<[Put; 2], Memory>
+pub(crate) fn batch(alloc: Global, number: usize) -> Result<[Put; 2], Memory>
     ensures { IfOk result (λ batch. IsTrue (is_batch batch)) }
 {
     match number {

@@ -21,7 +21,7 @@ use Rattle.mud_tables.proofs.RowSets.{row_at-map}
 use Rattle.sorted_rows.proofs.ListTests.{apart-append}
 use Rattle.table_laws.proofs.Apart.{apart-ascend}
 use Rattle.sorted_rows.proofs.ListTests.{or_first, or_second, not_false}
-use Rattle.sorted_rows.proofs.ChangeLaws.{turned}
+use Rattle.sorted_rows.proofs.ChangeLaws.{differ_turned}
 use Rattle.mud_tables.proofs.AloneLaws.{keeps_mac}
 
 pub or_else : {A : Type 0} → Option A → Option A → Option A
@@ -38,7 +38,7 @@ module _ {R : Type 0} (place : R → List ℕ) where
   none_at : (p : List ℕ) (rows : List R) → list_any (same_place p) (map place rows) ≡ false → row_at place p rows ≡ None
   none_at p [] e = refl
   none_at p (x ∷ xs) e =
-      ap (λ b. cond b (Some x) (row_at place p xs)) (turned p (place x) (or_first (same_place p (place x)) (list_any (same_place p) (map place xs)) e))
+      ap (λ b. cond b (Some x) (row_at place p xs)) (differ_turned p (place x) (or_first (same_place p (place x)) (list_any (same_place p) (map place xs)) e))
       ∙ none_at p xs (or_second (same_place p (place x)) (list_any (same_place p) (map place xs)) e)
 
   row_at_more : (x : R) (p : List ℕ) (xs : List R) (o : Option R) → list_any (same_place (place x)) (map place xs) ≡ false → (b : Bool) → same_place (place x) p ≡ b → or_else (row_at place p xs) (cond b (Some x) o) ≡ or_else (cond b (Some x) (row_at place p xs)) o

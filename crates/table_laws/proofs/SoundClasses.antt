@@ -19,8 +19,9 @@ use Rattle.mud_tables.specs.Binds.{key_of_class, class_key, class_at, set_class,
 use Rattle.mud_tables.specs.ItemFields.{IsAddr}
 use Rattle.mud_tables.specs.BindSteps.{ClassStep, classes_done, bind_cases, bind_step, classes_without, unbind_cases, unbind_step}
 use Rattle.sorted_rows.proofs.ListTests.{left_of, right_of, both}
+use Rattle.sorted_rows.proofs.Lists.{filter_few}
 use Rattle.mud_tables.proofs.RowSets.{first_of_three}
-use Rattle.mud_tables.proofs.LeaseLaws.{filter_fewer, all_kept}
+use Rattle.mud_tables.proofs.LeaseLaws.{all_kept}
 use Rattle.table_laws.proofs.SoundRows.{AreSoundRows, put_new_row, put_there_row, without_sound_row}
 use Rattle.mud_tables.proofs.RowSets.{all_at}
 
@@ -151,7 +152,7 @@ module _ (c : Class) (a : Addr) (classes : List ClassRow) (sound : IsSoundClasse
   unbind_cases_sound None e is = tt
   unbind_cases_sound (Some row) e is = cond_classes IsSoundClasses (has_addr a row.addrs) (classes_done Unbound (classes_without c (without_addr a row.addrs) classes)) (Err NotBound)
       (λ _. fewer_sound row e is (without_addr a row.addrs) (without_addr_ascends a row.addrs (of_row row is).ascend)
-      (filter_fewer (λ b. not (same_addr b a)) row.addrs)
+      (filter_few (λ b. not (same_addr b a)) row.addrs)
       (without_addr_each a row.addrs (of_row row is).fit))
       (λ _. tt)
 

@@ -13,7 +13,7 @@ use Rattle.acl_model.specs.Changes.{same_spot, same_binding, has_binding, IsBind
 use Rattle.sorted_rows.proofs.ListTests.{both_ways, left_of, right_of, both, is_not, any_first, any_later, any_by, any_more, any-map}
 use Rattle.sorted_rows.proofs.RowSets.{Passing, found_passing, passing_found}
 use Rattle.sorted_rows.proofs.ListTests.{apart-map}
-use Rattle.acl_model.proofs.PlaceLaws.{binding_place_exact}
+use Rattle.acl_model.proofs.PlaceLaws.{binding_place_exact, ascend-without_bindings}
 use Rattle.acl_model.proofs.BindingLaws.{same_spot_itself, spot_of_same, spot_shared, same_binding_exact, same_binding_itself}
 use Rattle.table_laws.proofs.Differences.{spot_among}
 use Rattle.sorted_rows.proofs.ListTests.{not_false}
@@ -64,11 +64,6 @@ put_found (x ∷ xs) rows c once e = any_by (same_binding c) x xs
     (row_at-set_rows_other binding_place xs (set_row binding_place x rows) (binding_place x) (not_false (list_any (same_place (binding_place x)) (map binding_place xs)) (left_of (not (list_any (same_place (binding_place x)) (map binding_place xs))) (are_apart same_place (map binding_place xs)) once)) ∙ row_at-set_row_same binding_place x rows))
     (put_found xs (set_row binding_place x rows) c (right_of (not (list_any (same_place (binding_place x)) (map binding_place xs))) (are_apart same_place (map binding_place xs)) once)) e
 
-ascend_without : (gone rows : List Binding) → PlacesAscend binding_place rows → PlacesAscend binding_place (without_bindings gone rows)
-unfolding without_bindings
-ascend_without [] rows up = up
-ascend_without (b ∷ gone) rows up = ascend_without gone (without_row binding_place (binding_place b) rows) (ascend-without_row binding_place (binding_place b) rows up)
-
 without_at : (p : List ℕ) (gone rows : List Binding) → PlacesAscend binding_place rows → row_at binding_place p (without_bindings gone rows) ≡ cond (list_any (same_place p) (map binding_place gone)) None (row_at binding_place p rows)
 unfolding without_bindings
 without_at p [] rows up = refl
@@ -93,7 +88,7 @@ module _ (store before after gone come : List Binding) (up : PlacesAscend bindin
   store' = set_rows binding_place come (without_bindings gone store)
 
   up' : PlacesAscend binding_place store'
-  up' = ascend-set_rows binding_place come (without_bindings gone store) (ascend_without gone store up)
+  up' = ascend-set_rows binding_place come (without_bindings gone store) (ascend-without_bindings gone store up)
 
   come_places : are_apart same_place (map binding_place come) ≡ true
   come_places = apart-map same_place same_spot binding_place (λ x y e. sym (binding_place_exact x y) ∙ e) come change.come_once

@@ -1,4 +1,5 @@
 mod Examples
 pub mod RulingLaws
+pub mod SameCaptures
 pub mod Stepped
 pub mod TextLaws

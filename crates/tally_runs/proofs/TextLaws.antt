@@ -6,6 +6,7 @@ use Rattle.std.proofs.lemmas.Bool.{false≢true, eqb-true, eq-eqb}
 use Rattle.std.proofs.lemmas.Option.{same_Some, none-some}
 use Rattle.std.proofs.lemmas.Grind.{flat_map-append}
 use Rattle.std.proofs.lemmas.List.Elements.{filter-append}
+use Rattle.std.proofs.lemmas.List.{append-nil}
 use Rattle.frame_view.specs.declared.views.Frame.{Frame}
 use Rattle.frame_view.specs.declared.views.Frame.TheVariants as frame
 use Rattle.frame_view.specs.Frame.{frame_of}
@@ -18,7 +19,8 @@ use Rattle.drop_ledger.specs.declared.seen.Seen.{Seen}
 use Rattle.drop_ledger.specs.declared.seen.Ruled.{Ruled}
 use Rattle.drop_ledger.specs.Seen.{hour_of, is_ruled, rulings_in, rulings}
 use Rattle.drop_ledger.specs.Ledger.{counts_of, hour_in}
-use Rattle.drop_ledger.proofs.LedgerLaws.{append_nil, none_ruled}
+use Rattle.drop_ledger.proofs.LedgerLaws.{none_ruled}
+use Rattle.drop_ledger.proofs.TallyLaws.{hour-append, first_some}
 use Rattle.tally_runs.specs.Texts.{hour_lines}
 use Rattle.tally_runs.specs.Tallied.{Tallied, begun, seen_as, seen_of, seen_in, hours, in_hour, text_of_hour, ending_of, tally_text, is_over, closing, closed_before, latest_with, tallied, tally_step, tally_ending}
 
@@ -31,7 +33,7 @@ fold_text latest (s ∷ rest) = closed_before latest s ++ fold_text (latest_with
 -- the lines of the packets and those at the end, as a step over the list
 pub written_as : (t : Tallied) (packets : List Packet) → lines_from tally_step t packets ++ tally_ending (state_after tally_step t packets) ≡ fold_text t.latest (seen_in t.session packets) ++ ending_of (t.all ++ seen_in t.session packets)
 unfolding fold_text seen_in tally_ending tally_step tallied
-written_as t [] = ap (λ l. closing t.latest ++ ending_of l) (sym (append_nil t.all))
+written_as t [] = ap (λ l. closing t.latest ++ ending_of l) (sym (append-nil t.all))
 written_as t (packet ∷ packets) =
     let judged = judged_packet t.session packet in
     let s = seen_of judged packet in
@@ -192,7 +194,7 @@ unfolding rulings
 rulings_both l x = flat_map-append rulings_in l x
 
 first_rulings : (h : ℕ) (l x : List Seen) → One (Some h) l → Above h x → rulings (in_hour h (l ++ x)) ≡ rulings l
-first_rulings h l x one above = ap rulings (in_both h l x ∙ ap (λ m. in_hour h l ++ m) (above_rulings h x above) ∙ append_nil (in_hour h l)) ∙ own_rulings h l one
+first_rulings h l x one above = ap rulings (in_both h l x ∙ ap (λ m. in_hour h l ++ m) (above_rulings h x above) ∙ append-nil (in_hour h l)) ∙ own_rulings h l one
 
 later_rulings : (h g : ℕ) (l x : List Seen) → (g == h) ≡ false → One (Some h) l → rulings (in_hour g (l ++ x)) ≡ rulings (in_hour g x)
 later_rulings h g l x apart one = ap rulings (in_both g l x) ∙ rulings_both (in_hour g l) (in_hour g x) ∙ ap (λ m. m ++ rulings (in_hour g x)) (no_rulings_of h g l apart one)
@@ -216,24 +218,10 @@ closed_first h l x is one above =
 
 at_end : (l : List Seen) → One (hour_in l) l → (o : Option ℕ) → hour_in l ≡ o → closing l ≡ text_of_hours (l ++ [])
 unfolding Above closing hour_lines hours
-at_end l one None is = ap (λ o. hour_lines o (counts_of (rulings l))) is ∙ sym (ap (flat_map (text_of_hour (l ++ []))) (no_hours (l ++ []) (ap hour_in (append_nil l) ∙ is)))
-at_end l one (Some h) is = sym (append_nil (closing l)) ∙ closed_first h l [] is (subst (λ o. One o l) is one) tt
+at_end l one None is = ap (λ o. hour_lines o (counts_of (rulings l))) is ∙ sym (ap (flat_map (text_of_hour (l ++ []))) (no_hours (l ++ []) (ap hour_in (append-nil l) ∙ is)))
+at_end l one (Some h) is = sym (append-nil (closing l)) ∙ closed_first h l [] is (subst (λ o. One o l) is one) tt
 
 -- ---- One packet more
-
-first_some : Option ℕ → Option ℕ → Option ℕ
-first_some None o = o
-first_some (Some h) o = Some h
-
-chosen : (b : Bool) (h : ℕ) (o p : Option ℕ) → cond b (Some h) (first_some o p) ≡ first_some (cond b (Some h) o) p
-unfolding first_some
-chosen true h o p = refl
-chosen false h o p = refl
-
-hour-append : (xs ys : List Seen) → hour_in (xs ++ ys) ≡ first_some (hour_in xs) (hour_in ys)
-unfolding hour_in first_some
-hour-append [] ys = refl
-hour-append (x ∷ xs) ys = ap (cond (is_ruled x) (Some (hour_of x))) (hour-append xs ys) ∙ chosen (is_ruled x) (hour_of x) (hour_in xs) (hour_in ys)
 
 hour_one : (s : Seen) → hour_in (s ∷ []) ≡ cond (is_ruled s) (Some (hour_of s)) None
 unfolding hour_in

@@ -7,7 +7,7 @@ use Rattle.mud_world.specs.Door.{DoorState}
 use Rattle.capture_source.specs.Captures.{captured_of}
 use Rattle.capture_runs.specs.Capture.{WritesTaken, due_behind}
 use Rattle.command_runs.specs.Due.{Due}
-use Rattle.command_runs.specs.View.{DoorView}
+use Rattle.mud_world.specs.View.{DoorView}
 use Rattle.desk_model.specs.DeskTables.{DeskTables}
 use Rattle.desk_model.specs.Sessions.{Session, opened}
 use Rattle.desk_runs.specs.Store.{ReadsByStore}

@@ -1,5 +1,6 @@
 //! Laws of a tally, each on a function that does nothing.
-ghost use Rattle.std.specs.Prelude.{◌≡◌, ◌+◌, ◌++◌, List};
+ghost use Rattle.std.specs.Prelude.{◌≡◌, ℕ, ◌+◌, ◌++◌, List};
+ghost use Rattle.capture_source.specs.Same.{HoldTheSame};
 ghost use Rattle.capture_runs.specs.Fold.{lines_from, state_after};
 ghost use Rattle.desk_model.specs.Sessions.{Session};
 ghost use Rattle.counted_rows.specs.Counted.{first_rows, late_rows, total};
@@ -9,6 +10,7 @@ ghost use Rattle.drop_ledger.specs.Ledger.{counts_of, denials, denied_kinds, den
 ghost use Rattle.mud_base.specs.declared.addr.Mac.{Mac};
 ghost use Rattle.mud_base.specs.declared.packet.Direction.{Direction};
 ghost use Rattle.packet_buffer.specs.Packets.{Packet};
+ghost use Rattle.tally_runs.specs.Store.{due_of_tally};
 ghost use Rattle.tally_runs.specs.Tallied.{begun, hours, in_hour, seen_in, tally_ending, tally_step, tally_text};
 
 /// The lines that are written as packets come, and those at their end, are the lines that the list of
@@ -28,4 +30,11 @@ pub fn tally_adds_up()
     // What was denied of a Thing and side is, with the others, as much as it was ruled so in all hours.
     ensures denied { (session : Session) (packets : List Packet) (mac : Mac) (side : Direction) → let done = rulings (seen_in session packets) in
         denied_times mac side (first_rows denied_kinds (denials done)) (late_rows denied_kinds (denials done)) ≡ times_of mac side no_match done }
+{}
+
+/// Two whole captures whose packets have the same seconds and octets are counted alike, in whichever
+/// formats they are.
+#[tactic(auto, using(crate::proofs::SameCaptures::tallied_alike))]
+pub fn captures_that_hold_the_same_are_counted_alike()
+    ensures { (session : Session) (one : List ℕ) (other : List ℕ) → HoldTheSame one other → due_of_tally session one ≡ due_of_tally session other }
 {}

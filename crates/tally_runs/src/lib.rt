@@ -4,9 +4,9 @@
 
 pub mod counting;
 pub mod laws;
-pub mod seeing;
+mod seeing;
 pub mod store;
-pub mod texts;
+mod texts;
 
 pub use counting::TalliedLines;
 pub use store::tally_store;

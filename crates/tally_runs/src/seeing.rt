@@ -26,7 +26,7 @@ fn unread(moment: Moment, verdict: Verdict) -> Seen
 
 /// What is counted of a frame that was judged at this moment.
 #[tactic(auto, unfolding(crate::specs::Tallied::seen_as))]
-pub fn seen_as(moment: Moment, verdict: Verdict, octets: &[u8]) -> Seen
+pub(crate) fn seen_as(moment: Moment, verdict: Verdict, octets: &[u8]) -> Seen
     ensures { result ≡ spec.seen_as moment verdict (frame_of octets.now) }
 {
     match view(octets) {

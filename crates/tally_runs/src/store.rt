@@ -4,7 +4,6 @@ ghost use Rattle.mud_world.specs.Causes.{EndsAtFailure};
 ghost use Rattle.capture_runs.specs.Capture.{WritesTaken};
 ghost use Rattle.command_runs.specs.Due.{WritesDue, WritesPart};
 ghost use Rattle.command_runs.specs.Status.{status_number};
-ghost use Rattle.command_runs.specs.View.{viewed};
 ghost use Rattle.desk_items.specs.Taken.{kept_of};
 ghost use Rattle.desk_model.specs.Items.{none_kept};
 ghost use Rattle.desk_model.specs.Sessions.{Session};
@@ -28,16 +27,16 @@ use std::alloc::Global;
 fn tally_capture<D: Door>(alloc: Global, desk: Desk, door: &mut D) -> (Status, Box<dyn Keeper>)
     requires { IsKept Keeper-dyn desk.keeper (tables_of desk.state) }
     ensures statuses { (status_number result.0 ≡ 0) ⊎ ((status_number result.0 ≡ 3) ⊎ ((status_number result.0 ≡ 4) ⊎ (status_number result.0 ≡ 5))) }
-    ensures fault { status_number result.0 ≡ 4 → EndsAtFailure (D.failed door.new) (D.reads door.old) (D.reads door.new) (D.writes door.old) (D.writes door.new) }
-    ensures steady { status_number result.0 ≢ 4 → (D.reads door.new ≡ D.reads door.old) × (D.writes door.new ≡ D.writes door.old) }
+    ensures fault { status_number result.0 ≡ 4 → EndsAtFailure (D.view door.new).failed (D.view door.old).reads (D.view door.new).reads (D.view door.old).writes (D.view door.new).writes }
+    ensures steady { status_number result.0 ≢ 4 → ((D.view door.new).reads ≡ (D.view door.old).reads) × ((D.view door.new).writes ≡ (D.view door.old).writes) }
     // In whatever session the desk is, the lines are those that the list of the packets tells.
     ensures done { (s : Session) → IsIn s desk.state → D.tells → (status_number result.0 ≡ 0) ⊎ (status_number result.0 ≡ 3) →
-        WritesDue (due_of_tally s (D.state door.old).left) (D.state door.old) (D.state door.new) (status_number result.0) }
+        WritesDue (due_of_tally s (D.view door.old).state.left) (D.view door.old).state (D.view door.new).state (status_number result.0) }
     ensures part { (s : Session) → IsIn s desk.state → D.tells → (status_number result.0 ≡ 4) ⊎ (status_number result.0 ≡ 5) →
-        WritesPart (due_of_tally s (D.state door.old).left) (D.state door.old) (D.state door.new) }
-    ensures taken { (s : Session) → IsIn s desk.state → D.tells → D.reads door.new ≢ D.reads door.old →
-        WritesTaken tally_step (begun s) (D.state door.old) (D.state door.new) }
-    ensures turns { D.turns door.new ≡ D.turns door.old }
+        WritesPart (due_of_tally s (D.view door.old).state.left) (D.view door.old).state (D.view door.new).state }
+    ensures taken { (s : Session) → IsIn s desk.state → D.tells → (D.view door.new).reads ≢ (D.view door.old).reads →
+        WritesTaken tally_step (begun s) (D.view door.old).state (D.view door.new).state }
+    ensures turns { (D.view door.new).turns ≡ (D.view door.old).turns }
     ensures keeper { result.1 ≡ desk.keeper }
 {
     let moment = desk.moment();
@@ -59,8 +58,8 @@ pub fn tally_store<D: Door>(
 ) -> (Status, Box<dyn Keeper>)
     requires { kept_of nothing ≡ none_kept }
     ensures tallied { TalliesStore Keeper-dyn D.tells keeper result.1
-        (viewed (D.state door.old) (D.turns door.old) (D.reads door.old) (D.writes door.old) (D.failed door.old))
-        (viewed (D.state door.new) (D.turns door.new) (D.reads door.new) (D.writes door.new) (D.failed door.new))
+        (D.view door.old)
+        (D.view door.new)
         (status_number result.0) }
     // Where the keeper failed, the door isn't called at all.
     ensures untouched { status_number result.0 ≡ 7 → door.new ≡ door.old }

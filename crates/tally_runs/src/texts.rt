@@ -160,7 +160,7 @@ fn append_others(alloc: Global, lines: &mut Bytes, rows: &[OtherRow]) -> Result<
 
 /// Adds the line of an hour and those of the counts in it; nothing where there is no hour.
 #[tactic(auto, unfolding(crate::specs::Texts::hour_lines, crate::specs::Texts::hour_line))]
-pub fn append_hour(
+pub(crate) fn append_hour(
     alloc: Global,
     lines: &mut Bytes,
     hour: Option<u64>,
@@ -179,7 +179,7 @@ pub fn append_hour(
 /// Adds the lines at the end: what was denied, then the others of each Thing and side, then the
 /// totals.
 #[tactic(auto, unfolding(crate::specs::Texts::end_lines))]
-pub fn append_end(
+pub(crate) fn append_end(
     alloc: Global,
     lines: &mut Bytes,
     denied: &[DeniedRow],

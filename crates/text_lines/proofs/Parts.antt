@@ -17,3 +17,7 @@ part_behind text front piece more old mid new is whole part = record {
 pub always_on_err : {T E P : Type 0} (r : Result T E) → P → OnErr r P
 always_on_err (Ok a) holds = tt
 always_on_err (Err e) holds = holds
+
+-- one text behind another
+pub behind_both : (s a b t u : List ℕ) → t ≡ s ++ a → u ≡ t ++ b → u ≡ s ++ (a ++ b)
+behind_both s a b t u first next = next ∙ ap (λ (x : List ℕ). x ++ b) first ∙ append_assoc s a b

@@ -21,7 +21,7 @@ fn append_shown(alloc: Global, line: &mut Bytes, octet: u8) -> Result<(), Memory
 
 /// Adds a path as it is shown.
 #[tactic(auto, unfolding(crate::specs::Paths::path_text))]
-pub fn append_path(alloc: Global, line: &mut Bytes, path: &[u8]) -> Result<(), Memory>
+fn append_path(alloc: Global, line: &mut Bytes, path: &[u8]) -> Result<(), Memory>
     ensures ok { OnOk result (line.new ≡ line.old ++ spec.path_text path.now) }
     ensures part { OnErr result (AddedPart (spec.path_text path.now) line.old line.new) }
 {

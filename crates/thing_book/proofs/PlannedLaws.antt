@@ -1,9 +1,10 @@
 -- A plan that says what the step says is the step, in all that a planned change says and does.
-use Rattle.std.proofs.Common.{◌≡◌, ℕ, ◌≤◌, ◌<◌, ◌^◌, Bool, true, false, List, [], ◌∷◌, length, map, Option, Some, None, Result, Ok, Err, IsTrue, refl, sym, ap, subst, ◌∙◌, arith}
+use Rattle.std.proofs.Common.{◌≡◌, ℕ, ◌≤◌, ◌<◌, ◌^◌, Bool, List, [], ◌∷◌, length, map, Option, Some, None, Result, Ok, Err, IsTrue, refl, sym, ap, subst, ◌∙◌, arith}
 use Rattle.std.specs.Prelude.{IfOk, OnOk, IsOkAnd}
 use Rattle.std.specs.List.{AllByRecursion}
 use Rattle.std.specs.Option.{option_map}
 use Rattle.std.proofs.lemmas.Option.{same_Some}
+use Rattle.std.proofs.lemmas.Bool.{false_from_ne_true}
 use Rattle.mud_base.specs.declared.addr.Addr.{Addr}
 use Rattle.mud_base.specs.declared.addr.Mac.{Mac}
 use Rattle.mud_url.specs.Url.{is_canonical}
@@ -11,7 +12,7 @@ use Rattle.sorted_rows.specs.Placed.{row_at, set_rows, RowsAndRoom}
 use Rattle.sorted_rows.specs.Changes.{RowChange, changed, places_of, rows_at, with_found, without_gone}
 use Rattle.sorted_rows.proofs.ChangeLaws.{new_rows}
 use Rattle.mud_world.specs.declared.item.Put.{Put}
-use Rattle.mud_world.specs.Items.{place_of, place_of_put, item_after, set_put, gone_put, puts_of, IsDifference, AreItemsOf, IsOrdered}
+use Rattle.mud_world.specs.Items.{place_of, place_of_put, item_after, set_put, gone_put, puts_of, IsDifference, IsOrdered}
 use Rattle.mud_world.proofs.ItemLaws.{puts_of_kind, puts_length, ordered-items, said, put_same}
 use Rattle.acl_model.specs.Changes.{IsBindingChange}
 use Rattle.mud_tables.specs.declared.thing.Thing.{Thing}
@@ -27,7 +28,7 @@ use Rattle.mud_tables.specs.ItemFields.{IsAddr}
 use Rattle.mud_tables.proofs.SoundThings.{OfAfter, sound-url_step, sound-move_step, sound-remove_step, sound-hold_step, sound-release_step, sound-lease_step, sound-end_step}
 use Rattle.mud_tables.proofs.ToldThings.{told-url_step, told-move_step, told-remove_step, told-hold_step, told-release_step, told-lease_step, told-end_step}
 use Rattle.mud_tables.proofs.RowSets.{all_at}
-use Rattle.mud_tables.proofs.ItemLaws.{thing_back}
+use Rattle.mud_tables.proofs.ItemLaws.{thing_back, are_things}
 use Rattle.table_laws.proofs.BookChanges.{thing_book_change}
 use Rattle.thing_book.specs.declared.plan.Plan.{Plan}
 use Rattle.thing_book.specs.Planned.{Things, PlannedThings, IsPlanned, IsReady}
@@ -37,10 +38,6 @@ use Rattle.thing_book.proofs.KeptItems.{kept_differ}
 use Rattle.thing_book.proofs.StepRows.{Makes, MakesStep, all_weaker, url_step_makes, move_step_makes, remove_step_makes, hold_step_makes, release_step_makes, lease_step_makes, end_step_makes}
 
 -- ---- Items of Things
-
-are_things : AreItemsOf mac_of 1 thing_item
-unfolding mac_of thing_item
-are_things thing = refl
 
 -- two Things that can be kept and have one item are one
 one_item : (x y : Thing) → IsKeptThing x → IsKeptThing y → thing_item x ≡ thing_item y → x ≡ y
@@ -108,10 +105,6 @@ pub record IsStep (things : List Thing) (change : RowChange Thing) (step : Thing
   pub sound : IfOk step (λ after. IsSoundThings after.things)
   pub told : IfOk step (TellsChange things)
 
-is_false : (b : Bool) → (b ≡ true → ⊥) → b ≡ false
-is_false true other = absurd (other refl)
-is_false false other = refl
-
 few_leases : (thing : Thing) → IsKeptThing thing → HasFewLeases thing
 few_leases thing kept = kept.fits.leases.few
 
@@ -140,7 +133,7 @@ module _ (things : List Thing) (sound : IsSoundThings things) (change : RowChang
         kind = puts_of_kind mac_of 1 thing_item are_things plan.rows;
         few = subst (λ (rows : RowChange Thing). length (puts_of 1 thing_item rows) ≤ 2) (sym rows_is) (few_puts things sound change after.things sound' makes);
         none = (
-          λ e. is_false after.changes (λ other. told.other other (no_puts things sound change after.things sound' makes (sym (ap (puts_of 1 thing_item) rows_is) ∙ e))),
+          λ e. false_from_ne_true after.changes (λ other. told.other other (no_puts things sound change after.things sound' makes (sym (ap (puts_of 1 thing_item) rows_is) ∙ e))),
           λ e. ap (puts_of 1 thing_item) rows_is ∙ first_changes things sound change after.things sound' makes (told.same e) (puts_of 1 thing_item change) (differ things sound change after.things sound' makes),
         );
         bindings = λ tables e.

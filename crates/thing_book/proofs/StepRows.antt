@@ -19,8 +19,9 @@ use Rattle.mud_tables.specs.Ends.{end_of, with_end, live_rows, live_count}
 use Rattle.mud_tables.specs.Things.{mac_of, thing_at, set_thing, without_thing, holds, with_leases, released, without_lease, new_thing, IsAlone, IsSoundThings}
 use Rattle.mud_tables.specs.ThingSteps.{TellsChange, ThingStep, done, leased_until, left, left_until, is_pending, url_cases, url_step, move_cases, move_step, remove_cases, remove_step, with_hold, hold_cases, hold_step, release_cases, release_step, end_after, kept_lease, new_lease, known_lease, stranger_lease, lease_cases, lease_step, end_step}
 use Rattle.mud_tables.specs.ThingChanges.{puts_in, released_holders, leased, new_lease_change, end_change, kept_lease_change, known_lease_change, lease_cases_change, lease_change}
-use Rattle.mud_tables.proofs.RowSets.{Passing, found_passing, all_push, at_later}
 use Rattle.sorted_rows.proofs.ListTests.{or_first, or_second}
+use Rattle.sorted_rows.proofs.Lists.{all-map, all_push}
+use Rattle.sorted_rows.proofs.RowSets.{Passing, found_passing, at_later}
 use Rattle.mud_tables.proofs.AloneLaws.{without_address_none}
 use Rattle.mud_tables.proofs.LeaseLaws.{end_of-with_end}
 use Rattle.mud_tables.proofs.SoundThings.{at_its_place}
@@ -162,10 +163,6 @@ all_passing P q (x ∷ xs) all = by_test (q x) refl (all_passing P q xs all.1)
     by_test true is rest = ((is, all.0), rest)
     by_test false is rest = rest
 
-all_images : {A B : Type 0} (P : B → Type 0) (f : A → B) (xs : List A) → AllByRecursion (λ x. P (f x)) xs → AllByRecursion P (map f xs)
-all_images P f [] all = tt
-all_images P f (x ∷ xs) all = (all.0, all_images P f xs all.1)
-
 -- each of them stands at its place
 abbrev StandsIn : List Thing → Thing → Type 0
 StandsIn things t = row_at mac_of (mac_of t) things ≡ Some t
@@ -217,7 +214,7 @@ module _ (things : List Thing) (sound : IsSoundThings things) (a : Addr) where
 
   holders_new : AllByRecursion IsNew (released_holders a things)
   unfolding released_holders
-  holders_new = all_images IsNew (released a) (filter (holds a) things) (all_weaker (λ t. (holds a t ≡ true) × StandsIn things t) (λ t. IsNew (released a t)) (filter (holds a) things) loses_it (all_passing (StandsIn things) (holds a) things (all_stand things sound.ascend)))
+  holders_new = all-map IsNew (released a) (filter (holds a) things) (all_weaker (λ t. (holds a t ≡ true) × StandsIn things t) (λ t. IsNew (released a t)) (filter (holds a) things) loses_it (all_passing (StandsIn things) (holds a) things (all_stand things sound.ascend)))
 
   end_makes : (after : List Thing) → changed mac_of (end_change a things) things ≡ after → Makes things (end_change a things) after
   unfolding end_change places_of

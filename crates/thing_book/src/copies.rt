@@ -6,7 +6,7 @@ use mud_tables::Thing;
 use std::alloc::Global;
 
 /// An equal Thing.
-pub fn copy_of(alloc: Global, thing: &Thing) -> Result<Thing, Memory>
+pub(crate) fn copy_of(alloc: Global, thing: &Thing) -> Result<Thing, Memory>
     ensures { IfOk result (λ copy. copy ≡ thing.now) }
 {
     let leases = Vec::from_slice(alloc, thing.leases.as_slice())?;

@@ -15,7 +15,7 @@ use std::alloc::Global;
 
 /// The Thing is held from now on.
 #[tactic(auto, unfolding(mud_tables::specs::ThingSteps::hold_step, mud_tables::specs::ThingSteps::hold_cases, crate::specs::RowChanges::hold_change))]
-pub fn hold(alloc: Global, things: &SortedRows<Thing>, mac: Mac) -> Result<Plan, ThingFault>
+pub(crate) fn hold(alloc: Global, things: &SortedRows<Thing>, mac: Mac) -> Result<Plan, ThingFault>
     ensures ok { IfOk result (IsSaid (hold_step mac things.now.rows)
         (hold_change mac things.now.rows)) }
     ensures err { IfErr result (IsRefusal (hold_step mac things.now.rows)) }
@@ -41,7 +41,11 @@ fn hold_thing(alloc: Global, thing: &Thing) -> Result<Plan, Memory>
 
 /// The Thing isn't held any more.
 #[tactic(auto, unfolding(mud_tables::specs::ThingSteps::release_step, mud_tables::specs::ThingSteps::release_cases, crate::specs::RowChanges::release_change))]
-pub fn release(alloc: Global, things: &SortedRows<Thing>, mac: Mac) -> Result<Plan, ThingFault>
+pub(crate) fn release(
+    alloc: Global,
+    things: &SortedRows<Thing>,
+    mac: Mac,
+) -> Result<Plan, ThingFault>
     ensures ok { IfOk result (IsSaid (release_step mac things.now.rows)
         (release_change mac things.now.rows)) }
     ensures err { IfErr result (IsRefusal (release_step mac things.now.rows)) }

@@ -29,7 +29,7 @@ pub const VERSION: u8 = 2;
 /// The puts of a change of rows: the item of the Thing that goes, and then those of the Things that
 /// are put in.
 #[tactic(auto, unfolding(mud_world::specs::Items::puts_of, mud_world::specs::Items::set_put))]
-pub fn puts_of(alloc: Global, change: &Change<Mac, Thing>) -> Result<Listed<Put>, Memory>
+pub(crate) fn puts_of(alloc: Global, change: &Change<Mac, Thing>) -> Result<Listed<Put>, Memory>
     requires { AllByRecursion HasFewLeases change.now.sets }
     ensures { IfOk result (λ puts. puts ≡ puts_of 1 spec.thing_item change.now) }
 {
@@ -55,7 +55,7 @@ fn gone_puts(alloc: Global, gone: Option<&Mac>) -> Result<Listed<Put>, Memory>
 
 /// The item of a Thing.
 #[tactic(auto, unfolding(mud_tables::specs::ThingItems::thing_item, mud_tables::specs::ThingItems::thing_body, item_codec::specs::Spelling::version_of))]
-pub fn item_of(alloc: Global, thing: &Thing) -> Result<Item, Memory>
+pub(crate) fn item_of(alloc: Global, thing: &Thing) -> Result<Item, Memory>
     requires { HasFewLeases thing.now }
     ensures { IfOk result (λ item. item ≡ spec.thing_item thing.now) }
 {

@@ -45,7 +45,7 @@ fn end_after(now: Moment, seconds: u32) -> End
 
 /// A hardware address has an address for so many seconds from a moment on.
 #[tactic(auto, unfolding(mud_tables::specs::ThingSteps::lease_step, mud_tables::specs::ThingChanges::lease_change))]
-pub fn lease_for(
+pub(crate) fn lease_for(
     alloc: Global,
     things: &SortedRows<Thing>,
     mac: Mac,
@@ -172,7 +172,11 @@ fn leased(alloc: Global, thing: &Thing, lease: Lease) -> Result<Thing, Memory>
 }
 
 /// The operator ends the lease of an address.
-pub fn end_lease(alloc: Global, things: &SortedRows<Thing>, addr: Addr) -> Result<Plan, ThingFault>
+pub(crate) fn end_lease(
+    alloc: Global,
+    things: &SortedRows<Thing>,
+    addr: Addr,
+) -> Result<Plan, ThingFault>
     ensures ok { IfOk result (IsSaid (end_step addr things.now.rows)
         (end_change addr things.now.rows)) }
     ensures err { IfErr result (IsRefusal (end_step addr things.now.rows)) }
@@ -203,7 +207,7 @@ fn ended(alloc: Global, things: &[Thing], addr: Addr) -> Result<Plan, Memory>
 }
 
 /// Whether some Thing has the address.
-pub fn is_leased(things: &[Thing], addr: Addr) -> bool
+fn is_leased(things: &[Thing], addr: Addr) -> bool
     ensures { result ≡ list_any (holds addr) things.now }
 {
     things.iter().any(|thing| holds(thing, addr))
@@ -211,7 +215,7 @@ pub fn is_leased(things: &[Thing], addr: Addr) -> bool
 
 /// Whether one of these Things has one of the Thing's addresses.
 #[tactic(auto, unfolding(mud_tables::specs::ThingItems::is_taken))]
-pub fn is_taken(things: &[Thing], thing: &Thing) -> bool
+pub(crate) fn is_taken(things: &[Thing], thing: &Thing) -> bool
     ensures { result ≡ is_taken things.now thing.now }
 {
     thing
@@ -223,7 +227,7 @@ pub fn is_taken(things: &[Thing], thing: &Thing) -> bool
 
 /// Whether the Thing has the address, its lease live or not.
 #[tactic(auto, unfolding(mud_tables::specs::Things::holds))]
-pub fn holds(thing: &Thing, addr: Addr) -> bool
+pub(crate) fn holds(thing: &Thing, addr: Addr) -> bool
     ensures { result ≡ holds addr thing.now }
 {
     has_address(addr, thing.leases.as_slice())

@@ -21,7 +21,7 @@ pub struct Plan {
 
 impl Plan {
     /// Nothing changes. It takes no memory.
-    pub fn unchanged(alloc: Global, word: Word, until: Option<End>) -> Plan
+    pub(crate) fn unchanged(alloc: Global, word: Word, until: Option<End>) -> Plan
         ensures word { result.word ≡ word }
         ensures until { result.until ≡ until }
         ensures rows { result.rows ≡ puts_in [] }
@@ -30,7 +30,7 @@ impl Plan {
     }
 
     /// One Thing is put in.
-    pub fn putting_one(
+    pub(crate) fn putting_one(
         alloc: Global,
         thing: Thing,
         word: Word,
@@ -46,7 +46,7 @@ impl Plan {
     }
 
     /// These Things are put in, each in place of the one of its hardware address.
-    pub fn putting(things: Listed<Thing>, word: Word, until: Option<End>) -> Plan
+    pub(crate) fn putting(things: Listed<Thing>, word: Word, until: Option<End>) -> Plan
         ensures word { result.word ≡ word }
         ensures until { result.until ≡ until }
         ensures rows { result.rows ≡ puts_in things }
@@ -60,7 +60,7 @@ impl Plan {
 
     /// The Thing of this hardware address goes.
     #[tactic(auto, unfolding(crate::specs::RowChanges::remove_change))]
-    pub fn taking(alloc: Global, mac: Mac, word: Word) -> Plan
+    pub(crate) fn taking(alloc: Global, mac: Mac, word: Word) -> Plan
         ensures word { result.word ≡ word }
         ensures until { result.until ≡ None }
         ensures rows { result.rows ≡ remove_change mac }
@@ -74,7 +74,7 @@ impl Plan {
 }
 
 /// Want of memory, as the refusal of a command.
-pub fn or_memory<T>(made: Result<T, Memory>) -> Result<T, ThingFault>
+pub(crate) fn or_memory<T>(made: Result<T, Memory>) -> Result<T, ThingFault>
     ensures ok { IfOk result (λ value. made ≡ Ok value) }
     ensures err { IfErr result (λ e. e ≡ fault.Memory) }
 {

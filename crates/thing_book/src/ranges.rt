@@ -5,7 +5,7 @@ ghost use Rattle.mud_tables.specs.ItemFields.{IsAddr};
 use mud_base::{Addr, Mac, Moment};
 
 /// An address fits its 32 or 128 bits.
-pub fn addr_fits(addr: Addr)
+pub(crate) fn addr_fits(addr: Addr)
     ensures { IsAddr addr }
 {
     match addr {
@@ -15,14 +15,14 @@ pub fn addr_fits(addr: Addr)
 }
 
 /// A hardware address has six octets.
-pub fn mac_has_six_octets(mac: Mac)
+pub(crate) fn mac_has_six_octets(mac: Mac)
     ensures { length mac.0 ≡ 6 }
 {
     let _octets = mac.0;
 }
 
 /// No moment is after the last one.
-pub fn moment_is_kept(moment: Moment)
+pub(crate) fn moment_is_kept(moment: Moment)
     ensures { moment ≤ 253402300799 }
 {
     let _seconds = moment.seconds();

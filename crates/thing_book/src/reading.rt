@@ -241,7 +241,7 @@ fn thing_of_item(alloc: Global, item: &Item) -> Result<Option<Thing>, Memory>
 }
 
 /// The same, and what is read can be kept.
-pub fn kept_thing(alloc: Global, item: &Item) -> Result<Option<Thing>, Memory>
+pub(crate) fn kept_thing(alloc: Global, item: &Item) -> Result<Option<Thing>, Memory>
     ensures value { IfOk result (λ thing. thing ≡ thing_in item.now) }
     ensures kept { IfOk result (λ thing. IfSome thing IsKeptThing) }
 {

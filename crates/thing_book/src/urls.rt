@@ -20,7 +20,7 @@ use std::alloc::Global;
 
 /// A hardware address announces a URL.
 #[tactic(auto, unfolding(mud_tables::specs::ThingSteps::url_step, mud_tables::specs::ThingSteps::url_cases, crate::specs::RowChanges::url_change))]
-pub fn announce(
+pub(crate) fn announce(
     alloc: Global,
     things: &SortedRows<Thing>,
     mac: Mac,
@@ -84,7 +84,7 @@ fn is_pending(url: &MudUrl, pending: &Option<MudUrl>) -> bool
 
 /// The operator moves a Thing to the URL that waits.
 #[tactic(auto, unfolding(mud_tables::specs::ThingSteps::move_step, mud_tables::specs::ThingSteps::move_cases, crate::specs::RowChanges::move_change))]
-pub fn move_to(
+pub(crate) fn move_to(
     alloc: Global,
     things: &SortedRows<Thing>,
     mac: Mac,
@@ -131,7 +131,11 @@ fn moved(alloc: Global, thing: &Thing, url: MudUrl) -> Result<Plan, Memory>
 
 /// The operator removes a Thing.
 #[tactic(auto, unfolding(mud_tables::specs::ThingSteps::remove_step, mud_tables::specs::ThingSteps::remove_cases))]
-pub fn remove(alloc: Global, things: &SortedRows<Thing>, mac: Mac) -> Result<Plan, ThingFault>
+pub(crate) fn remove(
+    alloc: Global,
+    things: &SortedRows<Thing>,
+    mac: Mac,
+) -> Result<Plan, ThingFault>
     ensures ok { IfOk result (IsSaid (remove_step mac things.now.rows) (remove_change mac)) }
     ensures err { IfErr result (IsRefusal (remove_step mac things.now.rows)) }
 {

@@ -1,15 +1,15 @@
 -- What a run of `import` over a store and a folder does.
-use Rattle.std.specs.Prelude.{◌≡◌, ◌≢◌, ℕ, ◌⊎◌, List, Result, Ok, Err}
+use Rattle.std.specs.Prelude.{◌≡◌, ◌≢◌, ℕ, ◌⊎◌, Bool, List, Result, Ok, Err}
 use Rattle.std.specs.declared.dyn_box.DynBox.{DynBox}
 use Rattle.std.specs.declared.alloc.Global.{Global}
 use Rattle.mud_world.specs.declared.keeper.Keeper.{Ghosts}
 use Rattle.mud_world.specs.declared.item.Item.{Item}
 use Rattle.mud_world.specs.Boxed.{faults_of, Tells, kept_items}
-use Rattle.mud_world.specs.Causes.{Rose, StopsAtFailure}
+use Rattle.mud_world.specs.Causes.{Rose}
 use Rattle.mud_world.specs.Door.{put_out}
 use Rattle.mud_world.specs.Files.{names_of}
 use Rattle.command_runs.specs.Due.{WroteFirst}
-use Rattle.command_runs.specs.View.{DoorView}
+use Rattle.mud_world.specs.View.{OutsideView}
 use Rattle.desk_model.specs.DeskTables.{DeskTables, IsSound}
 use Rattle.desk_model.specs.Items.{items_of, tables_in}
 use Rattle.desk_model.specs.Sessions.{Session, opened}
@@ -17,24 +17,7 @@ use Rattle.mud_desk.specs.Boxed.{IsSameBox}
 use Rattle.desk_runs.specs.Store.{KeepsTables, IsUnopened}
 use Rattle.console_runs.specs.Store.{line_of_bad}
 use Rattle.import_runs.specs.Order.{in_order}
-use Rattle.import_runs.specs.Runs.{Scene, ImportsPart, ImportsAll}
-
--- a spool at a moment: its files, where it tells them, and how often its calls have failed
-pub record SpoolView : Type 0 where
-  pub files : List (List ℕ × List ℕ)
-  pub faults : ℕ
-
-abbrev pub spool_viewed : List (List ℕ × List ℕ) → ℕ → SpoolView
-spool_viewed files faults = record { files = files; faults = faults }
-
--- what an import works with beside its keeper: the door, the spool, and the moments that the clock will give
-pub record OutsideView : Type 0 where
-  pub door : DoorView
-  pub spool : SpoolView
-  pub moments : List ℕ
-
-abbrev pub outside : DoorView → SpoolView → List ℕ → OutsideView
-outside door spool moments = record { door = door; spool = spool; moments = moments }
+use Rattle.import_runs.specs.Runs.{EndsAtDoorOrSpool, Scene, ImportsPart, ImportsAll}
 
 -- ---- A store that is opened
 
@@ -80,10 +63,10 @@ module _ {X : Type 0} {F : X → Type 0} (members : (v : (x : X) × F x) → Gho
 
   -- A run of `import`. `tells` says that the door, the spool and the clock tell.
   pub record ImportsStore (tells : Type 0) (keeper returned : DynBox X Global F) (old new : OutsideView) (status : ℕ) : Type 0 where
-    -- The status is 0 or 3 to 7. It is 4 only where a write of the door failed in this call, and then the door isn't called again, or
-    -- where a call of the spool did; where it isn't 4, none failed. It is 7 only where the keeper failed, and where it is 0, 3 or 6 the keeper didn't fail.
+    -- The status is 0 or 3 to 7. It is 4 only where one write of the door or one call of the spool failed in this call, and then that
+    -- one isn't called again; where it isn't 4, none failed. It is 7 only where the keeper failed, and where it is 0, 3 or 6 the keeper didn't fail.
     pub statuses : (status ≡ 0) ⊎ ((status ≡ 3) ⊎ ((status ≡ 4) ⊎ ((status ≡ 5) ⊎ ((status ≡ 6) ⊎ (status ≡ 7)))))
-    pub fault : status ≡ 4 → StopsAtFailure new.door.failed old.door.writes new.door.writes ⊎ Rose old.spool.faults new.spool.faults
+    pub fault : status ≡ 4 → EndsAtDoorOrSpool new.door.failed old.door.writes new.door.writes new.spool.failed old.spool.faults new.spool.faults
     pub steady : status ≢ 4 → (new.door.writes ≡ old.door.writes) × (new.spool.faults ≡ old.spool.faults)
     pub keeper_fault : status ≡ 7 → Rose (faults_of members keeper) (faults_of members returned)
     pub keeper_steady : (status ≡ 0) ⊎ ((status ≡ 3) ⊎ (status ≡ 6)) → faults_of members returned ≡ faults_of members keeper

@@ -101,7 +101,7 @@ fn append_head(lines: &mut Bytes, file: &UsageFile) -> Result<(), Memory>
 
 /// The lines of a usage file: what it is, and its entries, those for what the Thing sends first.
 #[tactic(auto, unfolding(crate::specs::Check::Lines::file_lines))]
-pub fn file_lines(alloc: Global, file: &UsageFile) -> Result<Bytes, Memory>
+pub(crate) fn file_lines(alloc: Global, file: &UsageFile) -> Result<Bytes, Memory>
     ensures { IfOk result (λ lines. lines ≡ spec.file_lines file.now) }
 {
     let mut lines = Bytes::empty(alloc);
@@ -114,7 +114,7 @@ pub fn file_lines(alloc: Global, file: &UsageFile) -> Result<Bytes, Memory>
 /// The line of a refused usage file: `fault`, the rule's name, its path where it isn't empty, and
 /// the URL's own fault where that is the rule.
 #[tactic(auto, unfolding(crate::specs::Check::Lines::broken_line))]
-pub fn broken_line(alloc: Global, broken: &Broken) -> Result<Bytes, Memory>
+pub(crate) fn broken_line(alloc: Global, broken: &Broken) -> Result<Bytes, Memory>
     ensures { IfOk result (λ line. line ≡ spec.broken_line broken.now) }
 {
     let mut line = Bytes::new(alloc, b"fault ")?;

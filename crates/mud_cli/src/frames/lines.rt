@@ -70,7 +70,11 @@ fn append_frame(alloc: Global, line: &mut Bytes, frame: &Frame<'_>) -> Result<()
 
 /// Adds the line of a packet: its number, its seconds, and what its frame is.
 #[tactic(auto, unfolding(crate::specs::Frames::Lines::packet_line))]
-pub fn append_packet(alloc: Global, lines: &mut Bytes, packet: &Captured<'_>) -> Result<(), Memory>
+pub(crate) fn append_packet(
+    alloc: Global,
+    lines: &mut Bytes,
+    packet: &Captured<'_>,
+) -> Result<(), Memory>
     ensures { OnOk result (lines.new ≡ lines.old ++ spec.packet_line (packet_of packet.now)) }
 {
     append_decimal(lines, u64::from(packet.number))?;

@@ -48,7 +48,7 @@ fn nothing_line(alloc: Global) -> Result<Bytes, Memory>
 
 /// The line of what a message says.
 #[tactic(auto, unfolding(crate::specs::Hear::Lines::heard_line))]
-pub fn heard_line(alloc: Global, heard: &Heard) -> Result<Bytes, Memory>
+pub(crate) fn heard_line(alloc: Global, heard: &Heard) -> Result<Bytes, Memory>
     ensures { IfOk result (λ line. line ≡ spec.heard_line heard.now) }
 {
     match heard {
@@ -60,7 +60,7 @@ pub fn heard_line(alloc: Global, heard: &Heard) -> Result<Bytes, Memory>
 
 /// The line of a refused message: `fault`, the rule's name, and its place where it has one.
 #[tactic(auto, unfolding(crate::specs::Hear::Lines::fault_line))]
-pub fn fault_line(alloc: Global, fault: &HearFault) -> Result<Bytes, Memory>
+pub(crate) fn fault_line(alloc: Global, fault: &HearFault) -> Result<Bytes, Memory>
     ensures { IfOk result (λ line. line ≡ spec.fault_line fault.now) }
 {
     let mut line = Bytes::new(alloc, b"fault ")?;
@@ -73,7 +73,7 @@ pub fn fault_line(alloc: Global, fault: &HearFault) -> Result<Bytes, Memory>
 
 /// `fault Long`, for a message of more octets than a message has.
 #[tactic(auto, unfolding(crate::specs::Hear::Lines::too_long_line))]
-pub fn too_long_line(alloc: Global) -> Result<Bytes, Memory>
+pub(crate) fn too_long_line(alloc: Global) -> Result<Bytes, Memory>
     ensures { IfOk result (λ line. line ≡ spec.too_long_line) }
 {
     Bytes::new(alloc, b"fault Long\n")

@@ -1,6 +1,7 @@
 //! Changes that are made by chance, and the rows after each of them. They are compared with those of
 //! all pairs of an entry and an address, which are made anew from plain tables.
-ghost use Rattle.std.specs.Prelude.{◌≡◌, ◌<◌};
+ghost use Rattle.std.specs.Prelude.{◌<◌};
+ghost use Rattle.sorted_rows.specs.Ledgers.{IsBlankOf};
 
 use super::{change, hold, release};
 use acl_compile::Compiled;
@@ -448,9 +449,7 @@ fn change_one<L: Ledger>(
 
 /// How many of so many changes are made until the rows aren't those of the tables.
 fn changes_made<L: Ledger>(alloc: Global, count: usize, blank: Blank) -> Result<usize, Fail>
-    requires name { blank.name ≡ L.name }
-    requires parts { blank.parts ≡ L.parts }
-    requires some { 0 < L.parts }
+    requires blank { IsBlankOf L.name L.parts blank }
 {
     let mut steps = Steps::<L>::new(blank);
     let mut compiled = Compiled::new(alloc)?;

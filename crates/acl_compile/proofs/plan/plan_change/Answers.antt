@@ -1,12 +1,12 @@
 use Rattle.std.proofs.Common.{◌+◌, ◌≤◌, List, ◌++◌, sym, ap, subst, ◌∙◌, arith}
 use Rattle.acl_model.specs.declared.binding.Binding.{Binding}
 use Rattle.acl_model.specs.Changes.{replaced}
+use Rattle.acl_model.specs.Policies.{url_policy}
 use Rattle.acl_rows.specs.Rows.{default_held}
 use Rattle.acl_patch.specs.Patch.{IsPatch}
 use Rattle.acl_patch.specs.Touched.{touches}
 use Rattle.row_changes.specs.Bindings.{AreEditsOf}
 use Rattle.row_changes.specs.Change.{ChangeState, change_state, after}
-use Rattle.row_changes.specs.Policies.{url_policy}
 use Rattle.row_changes.specs.Steps.{least_steps}
 use Rattle.row_changes.proofs.Planned.{most_moved}
 use Rattle.acl_compile.proofs.PlanLaws.{member_most, member_plan}

@@ -3,9 +3,9 @@ use Rattle.std.specs.List.{AllByRecursion}
 use Rattle.std.proofs.lemmas.List.{take_all}
 use Rattle.mud_base.specs.declared.prefix.Prefix.{Prefix}
 use Rattle.mud_tables.specs.Binds.{IsKeptNetwork}
-use Rattle.mud_tables.proofs.RowSets.{all_push}
 use Rattle.bind_book.proofs.SoFar.{take_one}
 use Rattle.bind_book.proofs.laws.prefixes_fit.Goals as goal
+use Rattle.sorted_rows.proofs.Lists.{all_push}
 
 pub loop-prefix-preserved : goal.loop-prefix-preserved
 loop-prefix-preserved c =

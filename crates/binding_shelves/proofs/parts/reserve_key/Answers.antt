@@ -1,6 +1,7 @@
 use Rattle.std.proofs.Common.{List, ℕ, length, ap, ◌∙◌, arith}
+use Rattle.std.proofs.lemmas.Result.{on_ok_weaker}
 use Rattle.acl_model.specs.Places.{text_place}
-use Rattle.binding_shelves.proofs.PartLaws.{roomier_itself, on_ok_map, key_is}
+use Rattle.binding_shelves.proofs.PartLaws.{roomier_itself, key_is}
 use Rattle.binding_shelves.proofs.EditLaws.{counted_key}
 use Rattle.binding_shelves.proofs.parts.reserve_key.Goals as goal
 
@@ -16,4 +17,4 @@ returns-clause-ok c =
     let count =
     ap length c.rows_under-more.ensures
     ∙ counted_key c.args.edits.now.rows c.args.key.now t (key_is c.args.key.now c.key_text.result.kind c.key_text.result.text.now c.key_text.ensures.kind c.key_text.ensures.text) in
-    on_ok_map _ _ (λ few. omega (arith, few, count)) c.reserve_shelf.result c.reserve_shelf.ensures.ok
+    on_ok_weaker c.reserve_shelf.result (λ few. omega (arith, few, count)) c.reserve_shelf.ensures.ok

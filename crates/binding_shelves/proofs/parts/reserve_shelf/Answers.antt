@@ -1,11 +1,12 @@
 use Rattle.std.proofs.Common.{◌≤◌, refl, sym, subst, arith}
+use Rattle.std.proofs.lemmas.Result.{on_ok_weaker}
 use Rattle.sorted_rows.specs.Placed.{RowsAndRoom}
 use Rattle.sorted_rows.proofs.PlacedLaws.{found_within}
 use Rattle.acl_model.specs.declared.binding.Binding.{Binding}
 use Rattle.acl_model.specs.Places.{key_place}
 use Rattle.binding_shelves.specs.declared.parts.Shelf.{Shelf}
 use Rattle.binding_shelves.specs.Parts.{shelf_place}
-use Rattle.binding_shelves.proofs.PartLaws.{roomier_twice, roomier_set, set_part, on_ok_map, same_key_shelf}
+use Rattle.binding_shelves.proofs.PartLaws.{roomier_twice, roomier_set, set_part, same_key_shelf}
 use Rattle.binding_shelves.proofs.parts.reserve_shelf.Goals as goal
 
 pub index_mut-requires : goal.index_mut-requires
@@ -25,4 +26,4 @@ returns-clause-ok c =
     let old : Shelf = c.index_mut.result.now in
     let new : Shelf = record { key = old.key; bindings = c.reserve.new.self } in
     let at = set_part (key_place c.args.key.now) c.add_shelf.new.shelves.items c.in_ok-index.index old new c.add_shelf.ensures.kept.shelved c.in_ok-index.ensures.ok c.index_mut.ensures.value (same_key_shelf new old refl) in
-    on_ok_map _ _ (λ few. subst (λ (p : RowsAndRoom Binding). c.args.more ≤ p.room) (sym at) few) c.reserve.result c.reserve.ensures.ok
+    on_ok_weaker c.reserve.result (λ few. subst (λ (p : RowsAndRoom Binding). c.args.more ≤ p.room) (sym at) few) c.reserve.ensures.ok

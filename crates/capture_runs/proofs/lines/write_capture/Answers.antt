@@ -6,21 +6,21 @@ use Rattle.capture_runs.proofs.lines.write_capture.Goals as goal
 
 pub returns-in-Err-Failed-clause-taken : goal.returns-in-Err-Failed-clause-taken
 returns-in-Err-Failed-clause-taken g c = λ s keeps tells changed.
-    taken_at_first g.L.PacketLines.step s (g.D.Door.state c.args.door.now) (g.D.Door.state c.begin.new.door) (c.in-Err-Failed.ensures.part tells)
+    taken_at_first g.L.PacketLines.step s (g.D.Door.view c.args.door.now).state (g.D.Door.view c.begin.new.door).state (c.in-Err-Failed.ensures.part tells)
 
 pub returns-clause-part : goal.returns-clause-part
 returns-clause-part g c = λ s keeps tells which.
-    let first = g.D.Door.state c.args.door.now in
+    let first = (g.D.Door.view c.args.door.now).state in
     let empty : c.empty-lines.result ≡ [] = search rules in
-    let start : HasDone [] [] c.in-Ok.reader first (g.D.Door.state c.begin.new.door) c.empty-lines.result =
-    rw empty (has_done_none c.in-Ok.reader first (g.D.Door.state c.begin.new.door) (c.in-Ok.ensures.begun tells)) in
+    let start : HasDone [] [] c.in-Ok.reader first (g.D.Door.view c.begin.new.door).state c.empty-lines.result =
+    rw empty (has_done_none c.in-Ok.reader first (g.D.Door.view c.begin.new.door).state (c.in-Ok.ensures.begun tells)) in
     c.write_packets.ensures.part s first keeps tells start which
 
 pub returns-clause-taken : goal.returns-clause-taken
 returns-clause-taken g c = λ s keeps tells changed.
-    let first = g.D.Door.state c.args.door.now in
+    let first = (g.D.Door.view c.args.door.now).state in
     let empty : c.empty-lines.result ≡ [] = search rules in
-    let start : HasDone [] [] c.in-Ok.reader first (g.D.Door.state c.begin.new.door) c.empty-lines.result =
-    rw empty (has_done_none c.in-Ok.reader first (g.D.Door.state c.begin.new.door) (c.in-Ok.ensures.begun tells)) in
-    let steady : g.D.Door.reads c.begin.new.door ≡ g.D.Door.reads c.args.door.now = search rules in
+    let start : HasDone [] [] c.in-Ok.reader first (g.D.Door.view c.begin.new.door).state c.empty-lines.result =
+    rw empty (has_done_none c.in-Ok.reader first (g.D.Door.view c.begin.new.door).state (c.in-Ok.ensures.begun tells)) in
+    let steady : (g.D.Door.view c.begin.new.door).reads ≡ (g.D.Door.view c.args.door.now).reads = search rules in
     c.write_packets.ensures.taken s first keeps tells start (λ same. changed (same ∙ steady))

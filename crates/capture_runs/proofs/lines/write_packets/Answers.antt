@@ -9,7 +9,7 @@ pub packets-init : goal.packets-init
 packets-init g c = record {
   left = λ s keeps. left_none (g.L.PacketLines.keeps c.args.writer.now) g.L.PacketLines.step s keeps;
   written = λ s first keeps tells start.
-      has_written_none (g.L.PacketLines.keeps c.args.writer.now) g.L.PacketLines.step s c.args.reader.now first (g.D.Door.state c.args.door.now) c.args.lines.now keeps start;
+      has_written_none (g.L.PacketLines.keeps c.args.writer.now) g.L.PacketLines.step s c.args.reader.now first (g.D.Door.view c.args.door.now).state c.args.lines.now keeps start;
   going = search rules;
   writes = search rules;
   turns = search rules;
@@ -22,7 +22,7 @@ returns-in-Ended-clause-done g c = λ s first keeps tells start which.
     let now = c.packets.invariant.written s first keeps tells start in
     let text = lines_from writer.step s now.packets in
     let all = c.in-Ended.ensures.led now.packets text first tells now.done in
-    due_at_end writer.step writer.ending s now.packets None first (g.D.Door.state c.go_on.new.door) (g.D.Door.state c.finish.new.door) c.go_on.new.lines all (status_number c.finish.result)
+    due_at_end writer.step writer.ending s now.packets None first (g.D.Door.view c.go_on.new.door).state (g.D.Door.view c.finish.new.door).state c.go_on.new.lines all (status_number c.finish.result)
     (c.finish.ensures.done (state_after writer.step s now.packets) now.packets text first now.kept tells all which)
 
 pub returns-in-Ended-clause-part : goal.returns-in-Ended-clause-part
@@ -31,7 +31,7 @@ returns-in-Ended-clause-part g c = λ s first keeps tells start which.
     let now = c.packets.invariant.written s first keeps tells start in
     let text = lines_from writer.step s now.packets in
     let all = c.in-Ended.ensures.led now.packets text first tells now.done in
-    part_at_end writer.step writer.ending s now.packets None first (g.D.Door.state c.go_on.new.door) (g.D.Door.state c.finish.new.door) c.go_on.new.lines all
+    part_at_end writer.step writer.ending s now.packets None first (g.D.Door.view c.go_on.new.door).state (g.D.Door.view c.finish.new.door).state c.go_on.new.lines all
     (c.finish.ensures.part (state_after writer.step s now.packets) now.packets text first now.kept tells all which)
 
 pub returns-in-Broken-clause-done : goal.returns-in-Broken-clause-done
@@ -40,7 +40,7 @@ returns-in-Broken-clause-done g c = λ s first keeps tells start which.
     let now = c.packets.invariant.written s first keeps tells start in
     let text = lines_from writer.step s now.packets in
     let all = c.in-Broken.ensures.led now.packets text first tells now.done in
-    due_at_end writer.step writer.ending s now.packets (Some c.in-Broken.fault) first (g.D.Door.state c.go_on.new.door) (g.D.Door.state c.finish-in-Broken.new.door) c.go_on.new.lines all (status_number c.finish-in-Broken.result)
+    due_at_end writer.step writer.ending s now.packets (Some c.in-Broken.fault) first (g.D.Door.view c.go_on.new.door).state (g.D.Door.view c.finish-in-Broken.new.door).state c.go_on.new.lines all (status_number c.finish-in-Broken.result)
     (c.finish-in-Broken.ensures.done (state_after writer.step s now.packets) now.packets text first now.kept tells all which)
 
 pub returns-in-Broken-clause-part : goal.returns-in-Broken-clause-part
@@ -49,7 +49,7 @@ returns-in-Broken-clause-part g c = λ s first keeps tells start which.
     let now = c.packets.invariant.written s first keeps tells start in
     let text = lines_from writer.step s now.packets in
     let all = c.in-Broken.ensures.led now.packets text first tells now.done in
-    part_at_end writer.step writer.ending s now.packets (Some c.in-Broken.fault) first (g.D.Door.state c.go_on.new.door) (g.D.Door.state c.finish-in-Broken.new.door) c.go_on.new.lines all
+    part_at_end writer.step writer.ending s now.packets (Some c.in-Broken.fault) first (g.D.Door.view c.go_on.new.door).state (g.D.Door.view c.finish-in-Broken.new.door).state c.go_on.new.lines all
     (c.finish-in-Broken.ensures.part (state_after writer.step s now.packets) now.packets text first now.kept tells all which)
 
 pub returns-in-Failed-clause-part : goal.returns-in-Failed-clause-part
@@ -57,7 +57,7 @@ returns-in-Failed-clause-part g c = λ s first keeps tells start which.
     let writer = g.L.PacketLines in
     let now = c.packets.invariant.written s first keeps tells start in
     let text = lines_from writer.step s now.packets in
-    part_at_failure writer.step writer.ending s now.packets c.packets.reader first (g.D.Door.state c.packets.door) (g.D.Door.state c.go_on.new.door) c.packets.lines now.done
+    part_at_failure writer.step writer.ending s now.packets c.packets.reader first (g.D.Door.view c.packets.door).state (g.D.Door.view c.go_on.new.door).state c.packets.lines now.done
     (c.in-Failed.ensures.led now.packets text first tells now.done)
 
 pub returns-in-Failed-clause-taken : goal.returns-in-Failed-clause-taken
@@ -65,7 +65,7 @@ returns-in-Failed-clause-taken g c = λ s first keeps tells start changed.
     let writer = g.L.PacketLines in
     let now = c.packets.invariant.written s first keeps tells start in
     let text = lines_from writer.step s now.packets in
-    taken_at_failure writer.step s now.packets first (g.D.Door.state c.go_on.new.door)
+    taken_at_failure writer.step s now.packets first (g.D.Door.view c.go_on.new.door).state
     (c.in-Failed.ensures.taken now.packets text first tells now.done (λ same. changed (same ∙ c.packets.invariant.reads)))
 
 pub returns-then-is_err-clause-part : goal.returns-then-is_err-clause-part
@@ -73,7 +73,7 @@ returns-then-is_err-clause-part g c = λ s first keeps tells start which.
     let writer = g.L.PacketLines in
     let now = c.packets.invariant.written s first keeps tells start in
     let text = lines_from writer.step s now.packets in
-    part_at_packet writer.step writer.ending s now.packets c.packets.reader c.go_on.new.reader first (g.D.Door.state c.packets.door) (g.D.Door.state c.go_on.new.door) c.packets.lines c.go_on.new.lines now.done
+    part_at_packet writer.step writer.ending s now.packets c.packets.reader c.go_on.new.reader first (g.D.Door.view c.packets.door).state (g.D.Door.view c.go_on.new.door).state c.packets.lines c.go_on.new.lines now.done
     (c.in-Packet.ensures.led now.packets text first tells now.done)
 
 pub returns-then-is_err-clause-left : goal.returns-then-is_err-clause-left
@@ -96,7 +96,7 @@ packets-preserved g c =
           let at = state_after writer.step s now.packets in
           let longer : c.append_line.new.lines ≡ c.go_on.new.lines ++ (writer.step at packet).line =
           on_ok c.append_line.result (c.append_line.new.lines ≡ c.go_on.new.lines ++ (writer.step at packet).line) (search rules) (c.append_line.ensures.line at now.kept) in
-          has_written_more (writer.keeps c.packets.writer) (writer.keeps c.append_line.new.self) writer.step s c.packets.reader c.go_on.new.reader first (g.D.Door.state c.packets.door) (g.D.Door.state c.go_on.new.door)
+          has_written_more (writer.keeps c.packets.writer) (writer.keeps c.append_line.new.self) writer.step s c.packets.reader c.go_on.new.reader first (g.D.Door.view c.packets.door).state (g.D.Door.view c.go_on.new.door).state
           c.packets.lines c.go_on.new.lines c.append_line.new.lines packet now (c.in-Packet.ensures.led now.packets (lines_from writer.step s now.packets) first tells now.done) c.packet.ensures (next at now.kept) longer;
       going = search rules;
       writes = search rules;

@@ -13,12 +13,12 @@ invariant-packets g l =
     record {
       left : (s : writer.State) → writer.keeps l.initial.writer s → IsLeftBy (writer.keeps l.writer) writer.step s;
       written : (s : writer.State) → (first : DoorState) → writer.keeps l.initial.writer s → door.tells
-          → HasDone [] [] l.initial.reader first (door.state l.initial.door) l.initial.lines
-          → HasWritten (writer.keeps l.writer) writer.step s l.reader first (door.state l.door) l.lines;
+          → HasDone [] [] l.initial.reader first (door.view l.initial.door).state l.initial.lines
+          → HasWritten (writer.keeps l.writer) writer.step s l.reader first (door.view l.door).state l.lines;
       going : is_broken l.reader ≡ false;
-      writes : door.writes l.door ≡ door.writes l.initial.door;
-      turns : door.turns l.door ≡ door.turns l.initial.door;
-      reads : door.reads l.door ≡ door.reads l.initial.door;
+      writes : (door.view l.door).writes ≡ (door.view l.initial.door).writes;
+      turns : (door.view l.door).turns ≡ (door.view l.initial.door).turns;
+      reads : (door.view l.door).reads ≡ (door.view l.initial.door).reads;
     }
 
 abbrev pub decreases-packets : goal.decreases-packets

@@ -7,12 +7,12 @@ use Rattle.capture_runs.proofs.run.end_capture.Goals.{in-Some+else-is_err, in_de
 
 pub returns-then-is_err-clause-part : goal.returns-then-is_err-clause-part
 returns-then-is_err-clause-part g c = λ packets text first tells p which.
-    part_here_none packets text c.args.fault first (g.D.Door.state c.args.door.now) c.args.lines.now p
+    part_here_none packets text c.args.fault first (g.D.Door.view c.args.door.now).state c.args.lines.now p
 
 pub returns-in-Err-clause-part : goal.returns-in-Err-clause-part
 returns-in-Err-clause-part g c = λ packets text first tells p which.
-    let s = g.D.Door.state c.args.door.now in
-    let t = g.D.Door.state c.say.new.door in
+    let s = (g.D.Door.view c.args.door.now).state in
+    let t = (g.D.Door.view c.say.new.door).state in
     let whole : c.octets.result.now ≡ c.args.lines.now ++ end_line c.args.fault =
     elim c.match-fault.branch [ in-Some+else-is_err w ↦ search rules | in_default w ↦ search rules ] in
     let wrote : WroteFirst c.octets.result.now s t = search rules in

@@ -6,12 +6,12 @@ abbrev pub invariant-first : goal.invariant-first
 invariant-first g l =
     let door = g.D.Door in
     record {
-      took : door.tells → Took (take l.len l.octets) (door.state l.initial.door) (door.state l.door);
+      took : door.tells → Took (take l.len l.octets) (door.view l.initial.door).state (door.view l.door).state;
       within : l.len ≤ 4;
       whole : length l.octets ≡ 4;
-      reads : door.reads l.door ≡ door.reads l.initial.door;
-      turns : door.turns l.door ≡ door.turns l.initial.door;
-      writes : door.writes l.door ≡ door.writes l.initial.door;
+      reads : (door.view l.door).reads ≡ (door.view l.initial.door).reads;
+      turns : (door.view l.door).turns ≡ (door.view l.initial.door).turns;
+      writes : (door.view l.door).writes ≡ (door.view l.initial.door).writes;
     }
 
 abbrev pub decreases-first : goal.decreases-first

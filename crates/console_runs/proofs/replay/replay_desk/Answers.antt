@@ -1,6 +1,6 @@
 use Rattle.std.proofs.Common.{[]}
 use Rattle.command_runs.specs.Status.{status_number}
-use Rattle.command_runs.specs.View.{viewed}
+use Rattle.mud_world.specs.View.{viewed}
 use Rattle.mud_world.specs.Boxed.{faults_of}
 use Rattle.console_runs.proofs.Replays.{replayed}
 use Rattle.console_runs.proofs.replay.replay_desk.Goals as goal
@@ -14,7 +14,7 @@ returns-clause-replays g c = λ tables is.
     let after = c.serve_connection-end.new.console.desk in
     let run = c.serve_connection-end.ensures in
     replayed (goal.Keeper-dyn g) door.tells tables desk.state after.state (faults_of (goal.Keeper-dyn g) desk.keeper) after.keeper c.close.result c.serve_connection-end.result
-    (viewed (door.state old) (door.turns old) (door.reads old) (door.writes old) (door.failed old))
-    (viewed (door.state new) (door.turns new) (door.reads new) (door.writes new) (door.failed new))
+    (door.view old)
+    (door.view new)
     (status_number c.status_of.result)
     is run.kept c.close.ensures c.status_of.ensures (run.left [] is.forwarded) (λ told. run.served told [] is.forwarded) run.reads run.writes run.read_stop run.write_stop run.turns

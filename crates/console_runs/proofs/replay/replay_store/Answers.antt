@@ -1,6 +1,6 @@
 use Rattle.std.proofs.Common.{ap}
 use Rattle.command_runs.specs.Status.{status_number}
-use Rattle.command_runs.specs.View.{viewed}
+use Rattle.mud_world.specs.View.{viewed}
 use Rattle.mud_desk.specs.DeskState.{tables_of}
 use Rattle.console_runs.proofs.Refusals.{box_of, memory_none, refused_none}
 use Rattle.console_runs.proofs.Replays.{replays_none, replays_opened}
@@ -15,8 +15,8 @@ returns-in-Ok-new-clause-replayed g c =
     let store = c.in-Ok.ensures in
     let run = c.replay_desk.ensures in
     replays_opened (goal.Keeper-dyn g) door.tells c.args.keeper c.replay_desk.result.1
-    (viewed (door.state old) (door.turns old) (door.reads old) (door.writes old) (door.failed old))
-    (viewed (door.state new) (door.turns new) (door.reads new) (door.writes new) (door.failed new))
+    (door.view old)
+    (door.view new)
     (status_number c.replay_desk.result.0)
     (tables_of desk.state) desk.keeper store.tables store.sound store.steady store.same_box
     (run.replays (tables_of desk.state) store.begun) run.told run.same_box
@@ -28,11 +28,11 @@ returns-in-Err-new-clause-replayed g c =
     let desk = c.in-Ok.desk in
     let store = c.in-Ok.ensures in
     replays_none (goal.Keeper-dyn g) door.tells c.args.keeper c.close.result
-    (viewed (door.state old) (door.turns old) (door.reads old) (door.writes old) (door.failed old))
-    (viewed (door.state old) (door.turns old) (door.reads old) (door.writes old) (door.failed old))
+    (door.view old)
+    (door.view old)
     5
     (memory_none (goal.Keeper-dyn g) c.args.keeper desk.keeper door.tells
-    (viewed (door.state old) (door.turns old) (door.reads old) (door.writes old) (door.failed old))
+    (door.view old)
     (tables_of desk.state) store.tables store.sound store.kept store.steady c.close.result c.close.ensures)
     (box_of c.args.keeper desk.keeper c.close.result store.same_box c.close.ensures)
 
@@ -44,13 +44,13 @@ returns-in-Err-clause-replayed g c =
     let store = c.in-Err.ensures in
     let run = c.refuse_store.ensures in
     replays_none (goal.Keeper-dyn g) door.tells c.args.keeper c.in-Err.keeper
-    (viewed (door.state old) (door.turns old) (door.reads old) (door.writes old) (door.failed old))
-    (viewed (door.state new) (door.turns new) (door.reads new) (door.writes new) (door.failed new))
+    (door.view old)
+    (door.view new)
     (status_number c.refuse_store.result)
     (refused_none (goal.Keeper-dyn g) c.args.keeper c.in-Err.keeper door.tells
-    (viewed (door.state old) (door.turns old) (door.reads old) (door.writes old) (door.failed old))
-    (viewed (door.state new) (door.turns new) (door.reads new) (door.writes new) (door.failed new))
+    (door.view old)
+    (door.view new)
     (status_number c.refuse_store.result)
     c.in-Err.fault store.bad store.left store.cause store.handed_back
-    run.statuses run.fault run.steady run.done run.part (λ call. ap door.state (run.untouched call)) run.turns run.reads)
+    run.statuses run.fault run.steady run.done run.part (λ call. ap (λ d. (door.view d).state) (run.untouched call)) run.turns run.reads)
     store.handed_back

@@ -1,7 +1,7 @@
 use Rattle.std.proofs.Common.{◌≡◌, ℕ, List, [], refl, sym, ap, subst, rules}
 use Rattle.std.specs.Prelude.{is_err}
 use Rattle.command_runs.specs.Status.{status_number}
-use Rattle.command_runs.specs.View.{viewed}
+use Rattle.mud_world.specs.View.{viewed}
 use Rattle.mud_world.specs.Boxed.{faults_of}
 use Rattle.console_runs.specs.Serve.{ServesConnections, listening, clock_run}
 use Rattle.console_runs.proofs.Serves.{served_here, unbound, when_err}
@@ -17,8 +17,8 @@ returns-in_default-clause-serves g c = λ tables is.
     let run = c.in_default.ensures in
     unbound (goal.Keeper-dyn g) door.tells clock.tells tables desk.state is c.close.result (listening c.args.port c.args.count)
     desk.keeper (clock.moments c.args.clock.now)
-    (viewed (door.state old) (door.turns old) (door.reads old) (door.writes old) (door.failed old))
-    (viewed (door.state new) (door.turns new) (door.reads new) (door.writes new) (door.failed new))
+    (door.view old)
+    (door.view new)
     4
     c.requires c.close.ensures refl run.cause (record { last = run.last; once = run.count }) run.err run.reads run.writes
 
@@ -36,15 +36,15 @@ returns-clause-serves g c = λ tables is.
     let ended : c.clock-1.given.0 ≡ after.clock.now = first_of (search rules, cc) in
     subst (λ (moments : List ℕ). ServesConnections (goal.Keeper-dyn g) door.tells clock.tells tables (faults_of (goal.Keeper-dyn g) desk.keeper) c.close-2.result
     (listening c.args.port c.args.count) (clock_run (clock.moments c.args.clock.now) moments)
-    (viewed (door.state old) (door.turns old) (door.reads old) (door.writes old) (door.failed old))
-    (viewed (door.state new) (door.turns new) (door.reads new) (door.writes new) (door.failed new))
+    (door.view old)
+    (door.view new)
     (status_number c.status_of.result)) (sym (ap clock.moments ended))
     (served_here (goal.Keeper-dyn g) door.tells clock.tells tables desk.state is c.close-2.result (listening c.args.port c.args.count)
     after.desk.state (faults_of (goal.Keeper-dyn g) desk.keeper) after.desk.keeper (is_err c.serve_connections-served.result)
     (clock.moments c.args.clock.now) (clock.moments after.clock.now)
-    (viewed (door.state old) (door.turns old) (door.reads old) (door.writes old) (door.failed old))
-    (viewed (door.state mid) (door.turns mid) (door.reads mid) (door.writes mid) (door.failed mid))
-    (viewed (door.state new) (door.turns new) (door.reads new) (door.writes new) (door.failed new))
+    (door.view old)
+    (door.view mid)
+    (door.view new)
     (status_number c.status_of.result)
     run.kept c.close-2.ensures c.status_of.ensures bound.ok bound.cause bound.reads bound.writes
     (run.left [] is.forwarded) (λ told. run.served told [] is.forwarded) run.turns (when_err c.serve_connections-served.result _ run.stop) run.reads run.writes)

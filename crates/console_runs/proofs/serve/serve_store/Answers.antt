@@ -1,6 +1,6 @@
 use Rattle.std.proofs.Common.{ap, refl}
 use Rattle.command_runs.specs.Status.{status_number}
-use Rattle.command_runs.specs.View.{viewed}
+use Rattle.mud_world.specs.View.{viewed}
 use Rattle.mud_desk.specs.DeskState.{tables_of}
 use Rattle.console_runs.specs.Serve.{listening, clock_run}
 use Rattle.console_runs.proofs.Refusals.{box_of, memory_none, refused_none}
@@ -18,8 +18,8 @@ returns-in-Ok-new-clause-served g c =
     let run = c.serve_desk.ensures in
     serves_opened (goal.Keeper-dyn g) door.tells clock.tells c.args.keeper c.serve_desk.result.1
     (listening c.args.port c.args.count) (clock_run (clock.moments c.args.clock.now) (clock.moments c.serve_desk.new.clock))
-    (viewed (door.state old) (door.turns old) (door.reads old) (door.writes old) (door.failed old))
-    (viewed (door.state new) (door.turns new) (door.reads new) (door.writes new) (door.failed new))
+    (door.view old)
+    (door.view new)
     (status_number c.serve_desk.result.0)
     (tables_of desk.state) desk.keeper store.tables store.sound store.steady store.same_box
     (run.serves (tables_of desk.state) store.begun) run.told run.same_box
@@ -33,11 +33,11 @@ returns-in-Err-new-clause-served g c =
     let store = c.in-Ok.ensures in
     serves_none (goal.Keeper-dyn g) door.tells clock.tells c.args.keeper c.close.result
     (listening c.args.port c.args.count) (clock_run (clock.moments c.args.clock.now) (clock.moments c.args.clock.now))
-    (viewed (door.state old) (door.turns old) (door.reads old) (door.writes old) (door.failed old))
-    (viewed (door.state old) (door.turns old) (door.reads old) (door.writes old) (door.failed old))
+    (door.view old)
+    (door.view old)
     5
     (memory_none (goal.Keeper-dyn g) c.args.keeper desk.keeper door.tells
-    (viewed (door.state old) (door.turns old) (door.reads old) (door.writes old) (door.failed old))
+    (door.view old)
     (tables_of desk.state) store.tables store.sound store.kept store.steady c.close.result c.close.ensures)
     (box_of c.args.keeper desk.keeper c.close.result store.same_box c.close.ensures)
     refl
@@ -52,13 +52,13 @@ returns-in-Err-clause-served g c =
     let run = c.refuse_store.ensures in
     serves_none (goal.Keeper-dyn g) door.tells clock.tells c.args.keeper c.in-Err.keeper
     (listening c.args.port c.args.count) (clock_run (clock.moments c.args.clock.now) (clock.moments c.args.clock.now))
-    (viewed (door.state old) (door.turns old) (door.reads old) (door.writes old) (door.failed old))
-    (viewed (door.state new) (door.turns new) (door.reads new) (door.writes new) (door.failed new))
+    (door.view old)
+    (door.view new)
     (status_number c.refuse_store.result)
     (refused_none (goal.Keeper-dyn g) c.args.keeper c.in-Err.keeper door.tells
-    (viewed (door.state old) (door.turns old) (door.reads old) (door.writes old) (door.failed old))
-    (viewed (door.state new) (door.turns new) (door.reads new) (door.writes new) (door.failed new))
+    (door.view old)
+    (door.view new)
     (status_number c.refuse_store.result)
     c.in-Err.fault store.bad store.left store.cause store.handed_back
-    run.statuses run.fault run.steady run.done run.part (λ call. ap door.state (run.untouched call)) run.turns run.reads)
+    run.statuses run.fault run.steady run.done run.part (λ call. ap (λ d. (door.view d).state) (run.untouched call)) run.turns run.reads)
     store.handed_back refl

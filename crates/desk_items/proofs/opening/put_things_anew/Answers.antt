@@ -1,8 +1,9 @@
 use Rattle.std.proofs.Common.{IsTrue, refl, sym, subst, ◌∙◌}
 use Rattle.mud_world.specs.Boxed.{kept_items}
 use Rattle.desk_items.specs.Taken.{taken_desk}
-use Rattle.desk_items.proofs.Anew.{things_fit, thing_anew, all_put, first_anew, one_anew, partly_anew, octets_at, on_err}
+use Rattle.desk_items.proofs.Anew.{things_fit, thing_anew, all_put, first_anew, one_anew, partly_anew, octets_at}
 use Rattle.desk_items.proofs.opening.put_things_anew.Goals as goal
+use Rattle.sorted_rows.proofs.Results.{always_on_err}
 
 pub loop-place-init : goal.loop-place-init
 loop-place-init g c = record {
@@ -17,7 +18,7 @@ loop-place-init g c = record {
 
 pub returns-in_err-anew-clause-err : goal.returns-in_err-anew-clause-err
 returns-in_err-anew-clause-err g c t =
-    on_err c.from_residual.result
+    always_on_err c.from_residual.result
     (partly_anew c.args.list.now (kept_items (goal.Keeper-dyn g) c.loop-place.keeper) (taken_desk c.args.taken.now) c.bodies_fit.ensures c.requires.read c.loop-place.place (c.loop-place.invariant.items t))
 
 pub bounds-list-place : goal.bounds-list-place
@@ -35,7 +36,7 @@ put_anew-requires-clause-octets g c =
 
 pub returns-in_err-put_anew-clause-err : goal.returns-in_err-put_anew-clause-err
 returns-in_err-put_anew-clause-err g c t =
-    on_err c.from_residual-in_err-put_anew.result
+    always_on_err c.from_residual-in_err-put_anew.result
     (partly_anew c.args.list.now (kept_items (goal.Keeper-dyn g) c.put_anew.new.keeper) (taken_desk c.args.taken.now) c.bodies_fit.ensures c.requires.read c.loop-place.place (c.in_err-put_anew.ensures.err t ∙ c.loop-place.invariant.items (c.in_err-put_anew.ensures.told t)))
 
 pub loop-place-preserved : goal.loop-place-preserved

@@ -1,5 +1,4 @@
-use Rattle.std.proofs.Common.{◌≡◌, ◌<◌, Result, Ok, Err, IsSome, ap, ◌∙◌, subst, arith}
-use Rattle.std.specs.Prelude.{OnErr}
+use Rattle.std.proofs.Common.{◌≡◌, ◌<◌, IsSome, ap, ◌∙◌, subst, arith}
 use Rattle.mud_tables.specs.Ends.{for_ever}
 use Rattle.flow_table.specs.Held.{flows_of}
 use Rattle.frame_view.specs.declared.views.Frame.{Frame}
@@ -10,10 +9,7 @@ use Rattle.desk_model.specs.Verdicts.{verdict_at}
 use Rattle.desk_judge.specs.Grounds.{grounds, ruling_on}
 use Rattle.desk_judge.proofs.Verdicts.{verdicts_alike}
 use Rattle.desk_judge.proofs.judging.judge.Goals as goal
-
-on_err : {T E : Type 0} {P : Type 0} (r : Result T E) → P → OnErr r P
-on_err (Ok x) p = tt
-on_err (Err e) p = p
+use Rattle.sorted_rows.proofs.Results.{always_on_err}
 
 pub returns-clause-verdict : goal.returns-clause-verdict
 returns-clause-verdict g c = λ desk h of.
@@ -24,7 +20,7 @@ returns-clause-verdict g c = λ desk h of.
     ∙ verdicts_alike desk h k of c.args.now small c.requires.since c.args.frame.now
 
 pub returns-in_err-note-clause-wanted : goal.returns-in_err-note-clause-wanted
-returns-in_err-note-clause-wanted g c = on_err c.from_residual.result (λ desk h of.
+returns-in_err-note-clause-wanted g c = always_on_err c.from_residual.result (λ desk h of.
     let small : c.args.now < for_ever = omega (arith, c.seconds-seconds.ensures.value, c.seconds-seconds.ensures.range) in
     let k = grounds c.args.things.now.things c.args.compiled.now c.args.locals.now (flows_of c.args.flows.now) in
     let same : c.judge-verdict.result ≡ verdict_at desk h c.args.now c.args.frame.now = c.judge-verdict.ensures.verdict

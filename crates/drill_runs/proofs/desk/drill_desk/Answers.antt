@@ -1,6 +1,6 @@
 use Rattle.std.proofs.Common.{refl}
 use Rattle.command_runs.specs.Status.{status_number}
-use Rattle.command_runs.specs.View.{viewed}
+use Rattle.mud_world.specs.View.{viewed}
 use Rattle.drill_runs.proofs.Lines.{lines_run, stopped_run}
 use Rattle.drill_runs.proofs.desk.drill_desk.Goals as goal
 
@@ -12,8 +12,8 @@ returns-in-Ok-clause-drilled g c = λ s is_in.
     let run = c.write_lines.ensures in
     let after = c.run_commands-ran.new.desk in
     lines_run (goal.Keeper-dyn g) door.tells c.args.packets s c.args.desk.keeper c.args.desk.state after.keeper after.state is_in c.lists_are_sound.ensures
-    (viewed (door.state old) (door.turns old) (door.reads old) (door.writes old) (door.failed old))
-    (viewed (door.state new) (door.turns new) (door.reads new) (door.writes new) (door.failed new))
+    (door.view old)
+    (door.view new)
     (status_number c.write_lines.result.0)
     c.in-Ok.ensures.all run.statuses run.fault run.steady run.done run.part run.turns run.reads c.write_lines.result.1 run.keeper
 
@@ -23,7 +23,7 @@ returns-in-Err-clause-drilled g c = λ s is_in.
     let old = c.args.door.now in
     let after = c.run_commands-ran.new.desk in
     stopped_run (goal.Keeper-dyn g) door.tells c.args.packets s c.args.desk.keeper c.args.desk.state after.keeper after.state is_in c.lists_are_sound.ensures
-    (viewed (door.state old) (door.turns old) (door.reads old) (door.writes old) (door.failed old))
-    (viewed (door.state old) (door.turns old) (door.reads old) (door.writes old) (door.failed old))
+    (door.view old)
+    (door.view old)
     (status_number c.status.result)
     c.in-Err.stop c.in-Err.ensures.part c.status.ensures refl c.close.result c.close.ensures

@@ -6,4 +6,4 @@ pub returns-in-Ok-clause-done : goal.returns-in-Ok-clause-done
 returns-in-Ok-clause-done g c = λ told three. c.in-Ok.ensures.ok told
 
 pub returns-in-Err-clause-part : goal.returns-in-Err-clause-part
-returns-in-Err-clause-part g c = λ told four. wrote_first not_empty_line (g.D.Door.state c.args.door.now) (g.D.Door.state c.say.new.door) (c.in-Err.ensures.part told)
+returns-in-Err-clause-part g c = λ told four. wrote_first not_empty_line (g.D.Door.view c.args.door.now).state (g.D.Door.view c.say.new.door).state (c.in-Err.ensures.part told)

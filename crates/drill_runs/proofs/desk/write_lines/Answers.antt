@@ -9,7 +9,7 @@ use Rattle.drill_runs.proofs.desk.write_lines.Goals as goal
 pub returns-in-Ok-say-clause-done : goal.returns-in-Ok-say-clause-done
 returns-in-Ok-say-clause-done g c = λ s is_in told zero.
     let state_in : IsIn s c.into_parts-keeper.result.1 = subst (λ (state : DeskState). IsIn s state) (sym c.into_parts-keeper.ensures.state) is_in in
-    wrote_same (lines_in c.args.packets s) c.octets.result.now (g.D.Door.state c.args.door.now) (g.D.Door.state c.say.new.door)
+    wrote_same (lines_in c.args.packets s) c.octets.result.now (g.D.Door.view c.args.door.now).state (g.D.Door.view c.say.new.door).state
     (c.octets.ensures ∙ lines_of_desk c.args.packets s c.args.desk.state (length c.things.result.now) (length c.files.result.now) c.in-Ok.lines is_in
     (ap length c.things.ensures) (ap length c.files.ensures) (c.in-Ok.ensures s state_in))
     (c.in-Ok-say.ensures.ok told)
@@ -17,7 +17,7 @@ returns-in-Ok-say-clause-done g c = λ s is_in told zero.
 pub returns-clause-part : goal.returns-clause-part
 returns-clause-part g c = λ s is_in told which.
     let state_in : IsIn s c.into_parts-keeper.result.1 = subst (λ (state : DeskState). IsIn s state) (sym c.into_parts-keeper.ensures.state) is_in in
-    first_same (lines_in c.args.packets s) c.octets.result.now (g.D.Door.state c.args.door.now) (g.D.Door.state c.say.new.door)
+    first_same (lines_in c.args.packets s) c.octets.result.now (g.D.Door.view c.args.door.now).state (g.D.Door.view c.say.new.door).state
     (c.octets.ensures ∙ lines_of_desk c.args.packets s c.args.desk.state (length c.things.result.now) (length c.files.result.now) c.in-Ok.lines is_in
     (ap length c.things.ensures) (ap length c.files.ensures) (c.in-Ok.ensures s state_in))
     (c.in-Err.ensures.part told)

@@ -1,13 +1,14 @@
 use Rattle.std.proofs.Common.{ℕ, ◌%◌, List, ◌++◌, codes, ap, ◌∙◌}
 use Rattle.std.specs.Prelude.{decimal}
+use Rattle.std.proofs.lemmas.Result.{on_ok_weaker}
 use Rattle.drill_runs.specs.Network.{url_text}
-use Rattle.drill_runs.proofs.Joins.{on_ok, joined_four}
+use Rattle.drill_runs.proofs.Joins.{joined_four}
 use Rattle.drill_runs.proofs.network.append_url.Goals as goal
 
 pub returns : goal.returns
 unfolding url_text
 returns c =
-    on_ok c.append_decimal-2.result
+    on_ok_weaker c.append_decimal-2.result
     (λ last. joined_four c.args.text.now c.append.new.self c.append_decimal.new.line c.append-2.new.self c.append_decimal-2.new.line
     (codes "https://maker") (decimal (c.args.thing % 8)) (codes ".example.com/model") (decimal (c.args.thing % 32))
     c.in_ok-append.ensures.ok

@@ -1,6 +1,6 @@
 use Rattle.std.proofs.Common.{ap, sym, ◌∙◌}
 use Rattle.command_runs.specs.Status.{status_number}
-use Rattle.command_runs.specs.View.{viewed}
+use Rattle.mud_world.specs.View.{viewed}
 use Rattle.desk_model.specs.Sessions.{opened}
 use Rattle.mud_desk.specs.DeskState.{tables_of}
 use Rattle.desk_runs.proofs.JudgedPackets.{in_begun}
@@ -16,8 +16,8 @@ returns-in-Ok-clause-drilled g c =
     let store = c.in-Ok.ensures in
     let tables = tables_of desk.state in
     drilled_run (goal.Keeper-dyn g) c.args.keeper desk.keeper door.tells
-    (viewed (door.state old) (door.turns old) (door.reads old) (door.writes old) (door.failed old))
-    (viewed (door.state new) (door.turns new) (door.reads new) (door.writes new) (door.failed new))
+    (door.view old)
+    (door.view new)
     (status_number c.drill_desk.result.0) c.args.packets
     tables store.tables store.steady store.same_box (sym c.holds_nothing.ensures ∙ c.if-holds_nothing.true)
     c.drill_desk.result.1 (c.drill_desk.ensures.drilled (opened tables) (in_begun tables desk.state store.begun))
@@ -31,8 +31,8 @@ returns-in-Ok-2-clause-drilled g c =
     let store = c.in-Ok.ensures in
     let run = c.refuse_full.ensures in
     full_run (goal.Keeper-dyn g) c.args.keeper desk.keeper door.tells
-    (viewed (door.state old) (door.turns old) (door.reads old) (door.writes old) (door.failed old))
-    (viewed (door.state new) (door.turns new) (door.reads new) (door.writes new) (door.failed new))
+    (door.view old)
+    (door.view new)
     (status_number c.refuse_full.result.0) c.args.packets
     (tables_of desk.state) store.tables store.steady store.same_box (sym c.holds_nothing.ensures ∙ c.if-holds_nothing.false) store.sound store.kept
     run.statuses run.fault run.steady run.done run.part run.turns run.reads c.refuse_full.result.1 run.keeper
@@ -45,8 +45,8 @@ returns-in-Err-clause-drilled g c =
     let store = c.in-Err.ensures in
     let run = c.refuse_store.ensures in
     refused_drill (goal.Keeper-dyn g) c.args.keeper c.in-Err.keeper door.tells
-    (viewed (door.state old) (door.turns old) (door.reads old) (door.writes old) (door.failed old))
-    (viewed (door.state new) (door.turns new) (door.reads new) (door.writes new) (door.failed new))
+    (door.view old)
+    (door.view new)
     (status_number c.refuse_store.result) c.args.packets
     c.in-Err.fault store.bad store.left store.cause store.handed_back
-    run.statuses run.fault run.steady run.done run.part (λ call. ap door.state (run.untouched call)) run.turns run.reads
+    run.statuses run.fault run.steady run.done run.part (λ call. ap (λ d. (door.view d).state) (run.untouched call)) run.turns run.reads

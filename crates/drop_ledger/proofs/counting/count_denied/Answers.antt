@@ -1,8 +1,9 @@
 use Rattle.std.proofs.Common.{◌≡◌, ◌≤◌, length, map, take, Some, None, sym, ap, subst, ◌∙◌, arith}
+use Rattle.std.proofs.lemmas.List.{append-nil}
 use Rattle.counted_rows.specs.Counted.{AreFirstRows, those_of}
 use Rattle.drop_ledger.specs.Places.{place_of_denied, place_of_other}
 use Rattle.drop_ledger.specs.Ledger.{denied_row, denials, other_row, denied_kinds, times_ruled}
-use Rattle.drop_ledger.proofs.LedgerLaws.{append_nil, denied_are_kinds, denied_few, denials_more}
+use Rattle.drop_ledger.proofs.LedgerLaws.{denied_are_kinds, denied_few, denials_more}
 use Rattle.drop_ledger.proofs.counting.count_denied.Goals as goal
 
 pub returns-in-Some-clause-counted : goal.returns-in-Some-clause-counted
@@ -16,4 +17,4 @@ returns-in-Some-clause-counted c = λ done are few.
 pub returns-in_default-clause-counted : goal.returns-in_default-clause-counted
 returns-in_default-clause-counted c = λ done are few.
     let is : denied_row c.args.ruled.now ≡ None = sym c.denied_row.ensures ∙ c.in_default.is in
-    subst (λ rows. AreFirstRows denied_kinds rows c.args.denied.now.rows c.args.others.now.rows) (sym (denials_more done c.args.ruled.now None is ∙ append_nil (denials done))) are
+    subst (λ rows. AreFirstRows denied_kinds rows c.args.denied.now.rows c.args.others.now.rows) (sym (denials_more done c.args.ruled.now None is ∙ append-nil (denials done))) are

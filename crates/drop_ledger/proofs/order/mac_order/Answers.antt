@@ -1,6 +1,6 @@
 use Rattle.std.proofs.Common.{◌≡◌, length, refl, sym, ◌∙◌, arith}
 use Rattle.sorted_rows.specs.Placed.{place_cmp}
-use Rattle.mud_tables.proofs.MacOrder.{alike, apart, behind}
+use Rattle.sorted_rows.proofs.Orders.{alike, apart, behind}
 use Rattle.drop_ledger.proofs.PlaceOrder.{six_all}
 use Rattle.drop_ledger.proofs.order.mac_order.Goals as goal
 

@@ -14,8 +14,8 @@ pub returns-in-None-clause-writes : goal.returns-in-None-clause-writes
 returns-in-None-clause-writes g c = λ tells.
     let desk = tables_of c.args.desk.now.state in
     let moments = g.C.Clock.moments c.args.clock.now in
-    let old = g.D.Door.state c.args.door.now in
-    let new = g.D.Door.state c.refuse_thing.new.door in
+    let old = (g.D.Door.view c.args.door.now).state in
+    let new = (g.D.Door.view c.refuse_thing.new.door).state in
     let status = status_number c.refuse_thing.result in
     let run = c.refuse_thing.ensures in
     writes_desk c.args.mac g.C.Clock.tells moments old new status desk (next_moment moments) (λ told. refl) (inr run.statuses)

@@ -12,7 +12,7 @@ pub returns-then-held-clause-writes : goal.returns-then-held-clause-writes
 returns-then-held-clause-writes g c = λ tells.
     let desk = tables_of c.args.desk.now.state in
     let run = c.export_lists.ensures in
-    wrote_lists desk c.args.mac c.args.clock (g.D.Door.state c.args.door.now) (g.D.Door.state c.export_lists.new.door) (status_number c.export_lists.result)
+    wrote_lists desk c.args.mac c.args.clock (g.D.Door.view c.args.door.now).state (g.D.Door.view c.export_lists.new.door).state (status_number c.export_lists.result)
     (lists_text None)
     (due_empty desk (listing_moment desk.stamp (Some c.args.clock)) (thing_at c.args.mac desk.tables.things) (ap Some (sym c.if-held.true) ∙ c.requires))
     run.statuses (run.done tells) (run.part tells)
@@ -22,7 +22,7 @@ returns-clause-writes g c = λ tells.
     let desk = tables_of c.args.desk.now.state in
     let run = c.export_lists-2.ensures in
     let moment : c.listing_moment-moment.result ≡ listing_moment desk.stamp (Some c.args.clock) = c.listing_moment-moment.ensures ∙ ap (λ (stamp : Option ℕ). listing_moment stamp (Some c.args.clock)) c.stamp.ensures in
-    wrote_lists desk c.args.mac c.args.clock (g.D.Door.state c.args.door.now) (g.D.Door.state c.export_lists-2.new.door) (status_number c.export_lists-2.result)
+    wrote_lists desk c.args.mac c.args.clock (g.D.Door.view c.args.door.now).state (g.D.Door.view c.export_lists-2.new.door).state (status_number c.export_lists-2.result)
     (lists_text c.sources_of-sources.result)
     (due_listed desk (listing_moment desk.stamp (Some c.args.clock)) (thing_at c.args.mac desk.tables.things) c.sources_of-sources.result (ap Some (sym c.if-held.false) ∙ c.requires)
     (subst (λ (m : ℕ). AreSourcesOf desk m (thing_at c.args.mac desk.tables.things) c.sources_of-sources.result) moment c.sources_of-sources.ensures))

@@ -1,6 +1,6 @@
 use Rattle.std.proofs.Common.{ap}
 use Rattle.command_runs.specs.Status.{status_number}
-use Rattle.command_runs.specs.View.{viewed}
+use Rattle.mud_world.specs.View.{viewed}
 use Rattle.mud_desk.specs.DeskState.{tables_of}
 use Rattle.export_runs.proofs.Runs.{opened_run, refused_export}
 use Rattle.export_runs.proofs.store.export_store.Goals as goal
@@ -15,8 +15,8 @@ returns-in-Ok-clause-exported g c =
     let store = c.in-Ok.ensures in
     let run = c.export_desk.ensures in
     opened_run (goal.Keeper-dyn g) c.args.keeper desk.keeper c.args.mac door.tells clock.tells (clock.moments c.args.clock.now)
-    (viewed (door.state old) (door.turns old) (door.reads old) (door.writes old) (door.failed old))
-    (viewed (door.state new) (door.turns new) (door.reads new) (door.writes new) (door.failed new))
+    (door.view old)
+    (door.view new)
     (status_number c.export_desk.result.0)
     (tables_of desk.state) store.tables store.sound store.kept store.steady store.same_box
     run.statuses run.fault run.steady run.writes run.turns run.reads
@@ -31,8 +31,8 @@ returns-in-Err-clause-exported g c =
     let store = c.in-Err.ensures in
     let run = c.refuse_store.ensures in
     refused_export (goal.Keeper-dyn g) c.args.keeper c.in-Err.keeper c.args.mac door.tells clock.tells (clock.moments c.args.clock.now)
-    (viewed (door.state old) (door.turns old) (door.reads old) (door.writes old) (door.failed old))
-    (viewed (door.state new) (door.turns new) (door.reads new) (door.writes new) (door.failed new))
+    (door.view old)
+    (door.view new)
     (status_number c.refuse_store.result)
     c.in-Err.fault store.bad store.left store.cause store.handed_back
-    run.statuses run.fault run.steady run.done run.part (λ call. ap door.state (run.untouched call)) run.turns run.reads
+    run.statuses run.fault run.steady run.done run.part (λ call. ap (λ d. (door.view d).state) (run.untouched call)) run.turns run.reads

@@ -12,9 +12,9 @@ unfolding items_text
 returns-clause-part g c = λ tells.
     let view = c.args.view.now in
     let family = c.args.family in
-    let old = g.D.Door.state c.args.door.now in
-    let now = g.D.Door.state c.write_item.new.door in
-    let after = g.D.Door.state c.write_later.new.door in
+    let old = (g.D.Door.view c.args.door.now).state in
+    let now = (g.D.Door.view c.write_item.new.door).state in
+    let after = (g.D.Door.view c.write_later.new.door).state in
     subst (λ (items : List Resolved). OnErr c.write_later.result (WroteFirst (items_text view family items) old after)) (sym c.in-Some.ensures.cases.0)
     (err_then c.write_later.result (c.write_later.ensures.part tells)
     (part_of_second (resolved_text view family c.in-Some.first.now) (flat_map (behind_comma view family) c.in-Some.later.now) old now after (c.in_ok-write_item.ensures.ok tells)))

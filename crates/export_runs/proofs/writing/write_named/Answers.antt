@@ -5,5 +5,5 @@ use Rattle.export_runs.proofs.writing.write_named.Goals as goal
 
 pub returns-in_err-write_list-clause-part : goal.returns-in_err-write_list-clause-part
 returns-in_err-write_list-clause-part g c = λ tells. on_err c.from_residual.result
-    (part_of (list_text c.args.sources.now) c.args.names.now c.lists.list-index _ (g.D.Door.state c.args.door.now) (g.D.Door.state c.lists.door) (g.D.Door.state c.write_list.new.door)
+    (part_of (list_text c.args.sources.now) c.args.names.now c.lists.list-index _ (g.D.Door.view c.args.door.now).state (g.D.Door.view c.lists.door).state (g.D.Door.view c.write_list.new.door).state
     c.lists-test.true (one_there c.args.names.now c.lists.list-index _ c.lists-test.true) (c.lists.invariant.written tells) (c.in_err-write_list.ensures.part tells))

@@ -7,11 +7,11 @@ invariant-more g l =
     let door = g.D.Door in
     record {
       grown : Grown l.initial.buffer l.buffer;
-      received : door.tells → Received l.initial.buffer l.buffer (door.state l.initial.door) (door.state l.door);
+      received : door.tells → Received l.initial.buffer l.buffer (door.view l.initial.door).state (door.view l.door).state;
       untouched : l.len ≤ length l.initial.buffer → l.buffer ≡ l.initial.buffer;
-      reads : door.reads l.door ≡ door.reads l.initial.door;
-      turns : door.turns l.door ≡ door.turns l.initial.door;
-      writes : door.writes l.door ≡ door.writes l.initial.door;
+      reads : (door.view l.door).reads ≡ (door.view l.initial.door).reads;
+      turns : (door.view l.door).turns ≡ (door.view l.initial.door).turns;
+      writes : (door.view l.door).writes ≡ (door.view l.initial.door).writes;
     }
 
 abbrev pub decreases-more : goal.decreases-more

@@ -38,7 +38,7 @@ pub returns-in-Ok-Broken-clause-broken : goal.returns-in-Ok-Broken-clause-broken
 returns-in-Ok-Broken-clause-broken g c = λ t fault e.
     let door = g.D.Door in
     let same : c.in-Ok-Broken.fault ≡ fault = cc in
-    subst (λ f. CameFault c.args.from f c.args.buffer.now c.next_head.new.buffer (door.state c.args.door.now) (door.state c.next_head.new.door)) same
+    subst (λ f. CameFault c.args.from f c.args.buffer.now c.next_head.new.buffer (door.view c.args.door.now).state (door.view c.next_head.new.door).state) same
     (fault_came c.args.from c.in-Ok-Broken.fault _ _ _ _ (c.in-Ok-Broken.ensures.broken t c.in-Ok-Broken.fault (ap Ok c.in-Ok-Broken.field-0-is)) (c.next_head.ensures.received t))
 
 pub returns-in-Err-clause-read : goal.returns-in-Err-clause-read

@@ -10,7 +10,7 @@ loop-i-preserved g c = record {
   left = λ s k. left_further g.S.Service.may _ _ s (c.loop-i.invariant.left s k) c.serve_connection.ensures.left;
   served = λ t s k.
       let next = c.in_ok-next.ensures.ok t in
-      let more : has_more (g.D.Door.state c.loop-i.door).ahead ≡ true = cc in
+      let more : has_more (g.D.Door.view c.loop-i.door).state.ahead ≡ true = cc in
       rounds_more g.S.Service.may g.S.Service.refusal c.args.from _ _ c.serve_connection.result c.loop-i.i s _ _ _ _ _ _ _ _ _ _ _ _ (c.loop-i.invariant.served t s k)
       more next.1 (c.serve_connection.ensures.served t) c.in_ok-next.ensures.reads c.serve_connection.ensures.reads c.in_ok-next.ensures.writes c.serve_connection.ensures.writes;
   reads = omega (arith, c.loop-i.invariant.reads, c.in_ok-next.ensures.reads, c.serve_connection.ensures.reads.later);

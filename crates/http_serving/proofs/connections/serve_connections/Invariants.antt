@@ -11,9 +11,9 @@ invariant-loop-i g l =
       ready : service.ready l.service;
       left : (s : service.State) → service.keeps l.initial.service s → IsLeftBy service.may (service.keeps l.service) s;
       served : door.tells → (s : service.State) → service.keeps l.initial.service s
-          → Rounds service.may service.refusal l.from (service.keeps l.service) l.i s (door.state l.initial.door) (door.state l.door)
-          (door.reads l.initial.door) (door.reads l.door) (door.writes l.initial.door) (door.writes l.door);
-      reads : door.reads l.initial.door ≤ door.reads l.door;
-      writes : door.writes l.initial.door ≤ door.writes l.door;
-      turns : door.turns l.door ≡ door.turns l.initial.door;
+          → Rounds service.may service.refusal l.from (service.keeps l.service) l.i s (door.view l.initial.door).state (door.view l.door).state
+          (door.view l.initial.door).reads (door.view l.door).reads (door.view l.initial.door).writes (door.view l.door).writes;
+      reads : (door.view l.initial.door).reads ≤ (door.view l.door).reads;
+      writes : (door.view l.initial.door).writes ≤ (door.view l.door).writes;
+      turns : (door.view l.door).turns ≡ (door.view l.initial.door).turns;
     }

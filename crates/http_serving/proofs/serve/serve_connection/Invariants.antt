@@ -11,11 +11,11 @@ invariant-requests g l =
       ready : service.ready l.service;
       left : (s : service.State) → service.keeps l.initial.service s → IsLeftBy service.may (service.keeps l.service) s;
       progress : door.tells → (s : service.State) → service.keeps l.initial.service s
-          → Progress service.may service.refusal l.from (service.keeps l.service) l.more s (door.state l.initial.door) (door.state l.door) l.buffer;
+          → Progress service.may service.refusal l.from (service.keeps l.service) l.more s (door.view l.initial.door).state (door.view l.door).state l.buffer;
       some : 0 < l.more;
-      reads : door.reads l.door ≡ door.reads l.initial.door;
-      turns : door.turns l.door ≡ door.turns l.initial.door;
-      writes : door.writes l.door ≡ door.writes l.initial.door;
+      reads : (door.view l.door).reads ≡ (door.view l.initial.door).reads;
+      turns : (door.view l.door).turns ≡ (door.view l.initial.door).turns;
+      writes : (door.view l.door).writes ≡ (door.view l.initial.door).writes;
     }
 
 abbrev pub decreases-requests : goal.decreases-requests

@@ -3,17 +3,17 @@ use Rattle.command_runs.specs.Status.{status_number}
 use Rattle.import_runs.specs.Imports.{standing}
 use Rattle.import_runs.specs.Runs.{scene}
 use Rattle.import_runs.proofs.Folders.{part_of_none, part_of_one, all_of_one, IsOfAll}
-use Rattle.import_runs.proofs.Parts.{on_err}
 use Rattle.import_runs.proofs.file.import_file.Goals as goal
+use Rattle.sorted_rows.proofs.Results.{always_on_err}
 
 pub returns-in_err-reply-clause-part : goal.returns-in_err-reply-clause-part
 unfolding scene standing
-returns-in_err-reply-clause-part g c = λ d p k. on_err c.from_residual.result (λ h.
+returns-in_err-reply-clause-part g c = λ d p k. always_on_err c.from_residual.result (λ h.
     part_of_none _ _ _ _ (c.in_err-reply.ensures.still h) (c.in_err-reply.ensures.clock k) refl c.in_err-reply.ensures.steady)
 
 pub returns-in_err-say_line-clause-part : goal.returns-in_err-say_line-clause-part
 unfolding scene
-returns-in_err-say_line-clause-part g c = λ d p k. on_err c.from_residual-in_err-say_line.result (λ h.
+returns-in_err-say_line-clause-part g c = λ d p k. always_on_err c.from_residual-in_err-say_line.result (λ h.
     part_of_one _ _ c.in_ok-reply.reply _ _ (c.in_ok-reply.ensures.leads p k h) c.in_ok-reply.ensures.keeper (c.in_err-say_line.ensures.part d))
 
 pub returns-clause-all : goal.returns-clause-all

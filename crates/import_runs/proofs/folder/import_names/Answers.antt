@@ -1,12 +1,13 @@
 use Rattle.std.proofs.Common.{rules, refl, ◌∙◌}
 use Rattle.command_runs.specs.Status.{status_number}
 use Rattle.import_runs.proofs.Folders.{all_at, part_at, counts_seven, at_most_seven, worse_of}
-use Rattle.import_runs.proofs.Parts.{on_err, stays_further}
+use Rattle.import_runs.proofs.Parts.{stays_further}
 use Rattle.import_runs.proofs.folder.import_names.Goals as goal
+use Rattle.sorted_rows.proofs.Results.{always_on_err}
 
 pub returns-in_err-one-clause-part : goal.returns-in_err-one-clause-part
-returns-in_err-one-clause-part g c = λ d p k. on_err c.from_residual.result (λ h.
-    part_at (g.P.Spool.files c.args.spool.now) (g.P.Spool.files c.loop-name.spool) c.args.names.now c.loop-name.name-index c.name-item.result c.octets.result.now (c.loop-name.invariant.same p) c.loop-name-test.true c.name-item.is c.octets.ensures
+returns-in_err-one-clause-part g c = λ d p k. always_on_err c.from_residual.result (λ h.
+    part_at (g.P.Spool.view c.args.spool.now).files (g.P.Spool.view c.loop-name.spool).files c.args.names.now c.loop-name.name-index c.name-item.result c.octets.result.now (c.loop-name.invariant.same p) c.loop-name-test.true c.name-item.is c.octets.ensures
     _ _ _ _ (c.loop-name.invariant.all d p k h) (c.in_err-one.ensures.part d p k h))
 
 pub loop-name-preserved : goal.loop-name-preserved
@@ -19,7 +20,7 @@ loop-name-preserved g c =
       stays = stays_further (goal.Keeper-dyn g) c.args.desk.now.keeper c.args.desk.now.state c.loop-name.desk.keeper c.loop-name.desk.state
           c.import_file.new.desk.keeper c.import_file.new.desk.state c.loop-name.invariant.stays c.in_ok-one.ensures.stays;
       all = λ d p k h.
-          all_at (g.P.Spool.files c.args.spool.now) (g.P.Spool.files c.loop-name.spool) c.args.names.now c.loop-name.name-index c.name-item.result c.octets.result.now (c.loop-name.invariant.same p) c.loop-name-test.true c.name-item.is c.octets.ensures
+          all_at (g.P.Spool.view c.args.spool.now).files (g.P.Spool.view c.loop-name.spool).files c.args.names.now c.loop-name.name-index c.name-item.result c.octets.result.now (c.loop-name.invariant.same p) c.loop-name-test.true c.name-item.is c.octets.ensures
           _ _ _ before one after (c.loop-name.invariant.all d p k h) (c.in_ok-one.ensures.all d p k h) c.worse-status.ensures;
       statuses = worse_of before one after c.worse-status.ensures c.loop-name.invariant.statuses c.in_ok-one.ensures.statuses;
       keeper = counts_seven before one after c.worse-status.ensures (at_most_seven before c.loop-name.invariant.statuses) (at_most_seven one c.in_ok-one.ensures.statuses)

@@ -15,14 +15,14 @@ invariant-loop-name g l =
     let status = status_number l.status in
     record {
       stays : StaysKept members l.initial.desk.keeper l.initial.desk.state l.desk.keeper l.desk.state;
-      all : door.tells → spool.tells → clock.tells → (h : List Segment) → ImportsAll (spool.files l.initial.spool) (take l.name-index l.names)
-          (scene h l.initial.desk.state (clock.moments l.initial.clock) (door.state l.initial.door) (faults_of members l.initial.desk.keeper))
-          (scene h l.desk.state (clock.moments l.clock) (door.state l.door) (faults_of members l.desk.keeper)) status;
+      all : door.tells → spool.tells → clock.tells → (h : List Segment) → ImportsAll (spool.view l.initial.spool).files (take l.name-index l.names)
+          (scene h l.initial.desk.state (clock.moments l.initial.clock) (door.view l.initial.door).state (faults_of members l.initial.desk.keeper))
+          (scene h l.desk.state (clock.moments l.clock) (door.view l.door).state (faults_of members l.desk.keeper)) status;
       statuses : (status ≡ 0) ⊎ ((status ≡ 3) ⊎ (status ≡ 7));
       keeper : Counts (status == 7) (faults_of members l.initial.desk.keeper) (faults_of members l.desk.keeper);
-      writes : door.writes l.door ≡ door.writes l.initial.door;
-      faults : spool.faults l.spool ≡ spool.faults l.initial.spool;
-      same : spool.tells → spool.files l.spool ≡ spool.files l.initial.spool;
-      turns : door.turns l.door ≡ door.turns l.initial.door;
-      reads : door.reads l.door ≡ door.reads l.initial.door;
+      writes : (door.view l.door).writes ≡ (door.view l.initial.door).writes;
+      faults : (spool.view l.spool).faults ≡ (spool.view l.initial.spool).faults;
+      same : spool.tells → (spool.view l.spool).files ≡ (spool.view l.initial.spool).files;
+      turns : (door.view l.door).turns ≡ (door.view l.initial.door).turns;
+      reads : (door.view l.door).reads ≡ (door.view l.initial.door).reads;
     }

@@ -1,13 +1,13 @@
 use Rattle.std.proofs.Common.{◌++◌, ◌∙◌, List, ℕ, take, ap}
 use Rattle.listing_bodies.specs.Lists.{items_text, element_text}
-use Rattle.listing_bodies.proofs.Joins.{behind}
 use Rattle.listing_bodies.proofs.Elements.{items_next}
 use Rattle.listing_bodies.proofs.lists.append_items.Goals as goal
+use Rattle.text_lines.proofs.Parts.{behind_both}
 
 pub rows-preserved : goal.rows-preserved
 rows-preserved g c =
     let text = g.T.JsonRow.text in
     let rows = c.args.rows.now in
     let row = c.index-rows-index.result in
-    behind c.args.body.now (items_text text (take c.rows.index rows)) (element_text text c.rows.index row) c.rows.body c.append_element.new.body c.rows.invariant c.in_ok-append_element.ensures
+    behind_both c.args.body.now (items_text text (take c.rows.index rows)) (element_text text c.rows.index row) c.rows.body c.append_element.new.body c.rows.invariant c.in_ok-append_element.ensures
     ∙ ap (λ (x : List ℕ). c.args.body.now ++ x) (items_next text rows c.rows.index row c.rows-test.true c.index-rows-index.is)

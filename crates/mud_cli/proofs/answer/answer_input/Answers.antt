@@ -7,14 +7,14 @@ use Rattle.mud_cli.proofs.answer.answer_input.Goals as goal
 pub returns-in-Ok-say-clause-done : goal.returns-in-Ok-say-clause-done
 returns-in-Ok-say-clause-done g c = λ tells due.
     rw c.status_of.ensures
-    (writes_due c.args.input c.in-Ok-answer_to.answer c.in-Ok.octets (g.D.Door.state c.args.door.now) (g.D.Door.state c.read_whole.new.door) (g.D.Door.state c.say.new.door)
+    (writes_due c.args.input c.in-Ok-answer_to.answer c.in-Ok.octets (g.D.Door.view c.args.door.now).state (g.D.Door.view c.read_whole.new.door).state (g.D.Door.view c.say.new.door).state
     (rw c.most_of.ensures at (c.in-Ok.ensures.octets tells))
     (c.in-Ok-answer_to.ensures ∙ ap (answer_to c.args.input) c.octets-2.ensures)
-    (c.in-Ok-say.ensures.ok tells ∙ ap (λ (text : List ℕ). put_out text (g.D.Door.state c.read_whole.new.door)) c.octets-3.ensures))
+    (c.in-Ok-say.ensures.ok tells ∙ ap (λ (text : List ℕ). put_out text (g.D.Door.view c.read_whole.new.door).state) c.octets-3.ensures))
 
 pub returns-clause-part : goal.returns-clause-part
 returns-clause-part g c = λ tells due.
-    writes_part c.args.input c.in-Ok-answer_to.answer c.in-Ok.octets (g.D.Door.state c.args.door.now) (g.D.Door.state c.read_whole.new.door) (g.D.Door.state c.say.new.door)
+    writes_part c.args.input c.in-Ok-answer_to.answer c.in-Ok.octets (g.D.Door.view c.args.door.now).state (g.D.Door.view c.read_whole.new.door).state (g.D.Door.view c.say.new.door).state
     (rw c.most_of.ensures at (c.in-Ok.ensures.octets tells))
     (c.in-Ok-answer_to.ensures ∙ ap (answer_to c.args.input) c.octets-2.ensures)
     (rw c.octets-3.ensures at (c.in-Err.ensures.part tells))

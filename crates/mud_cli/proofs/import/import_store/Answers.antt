@@ -1,7 +1,7 @@
 use Rattle.std.proofs.Common.{ap, refl}
 use Rattle.command_runs.specs.Status.{status_number}
-use Rattle.command_runs.specs.View.{viewed}
-use Rattle.mud_cli.specs.Import.Store.{outside, spool_viewed}
+use Rattle.mud_world.specs.View.{viewed}
+use Rattle.mud_world.specs.View.{outside, spool_viewed}
 use Rattle.mud_cli.proofs.Imports.{imported_run, refused_import}
 use Rattle.mud_cli.proofs.import.import_store.Goals as goal
 
@@ -17,10 +17,10 @@ returns-in-Ok g c =
     let store = c.in-Ok.ensures in
     let run = c.import_files-status.ensures in
     imported_run (goal.Keeper-dyn g) c.args.keeper after.keeper (door.tells × (spool.tells × clock.tells))
-    (outside (viewed (door.state old) (door.turns old) (door.reads old) (door.writes old) (door.failed old))
-    (spool_viewed (spool.files c.args.spool.now) (spool.faults c.args.spool.now)) (clock.moments c.args.clock.now))
-    (outside (viewed (door.state new) (door.turns new) (door.reads new) (door.writes new) (door.failed new))
-    (spool_viewed (spool.files c.import_files-status.new.spool) (spool.faults c.import_files-status.new.spool)) (clock.moments c.import_files-status.new.clock))
+    (outside (door.view old)
+    (spool_viewed (spool.view c.args.spool.now).files (spool.view c.args.spool.now).faults (spool.view c.args.spool.now).failed) (clock.moments c.args.clock.now))
+    (outside (door.view new)
+    (spool_viewed (spool.view c.import_files-status.new.spool).files (spool.view c.import_files-status.new.spool).faults (spool.view c.import_files-status.new.spool).failed) (clock.moments c.import_files-status.new.clock))
     (status_number c.import_files-status.result)
     desk.keeper desk.state after.state store.tables store.sound store.begun store.steady store.same_box
     run.stays c.lists_are_sound.ensures run.statuses run.fault run.steady run.keeper run.keeper_steady
@@ -37,10 +37,10 @@ returns-in-Err g c =
     let store = c.in-Err.ensures in
     let run = c.refuse_store.ensures in
     refused_import (goal.Keeper-dyn g) c.args.keeper c.in-Err.keeper (door.tells × (spool.tells × clock.tells))
-    (outside (viewed (door.state old) (door.turns old) (door.reads old) (door.writes old) (door.failed old))
-    (spool_viewed (spool.files c.args.spool.now) (spool.faults c.args.spool.now)) (clock.moments c.args.clock.now))
-    (outside (viewed (door.state new) (door.turns new) (door.reads new) (door.writes new) (door.failed new))
-    (spool_viewed (spool.files c.args.spool.now) (spool.faults c.args.spool.now)) (clock.moments c.args.clock.now))
+    (outside (door.view old)
+    (spool_viewed (spool.view c.args.spool.now).files (spool.view c.args.spool.now).faults (spool.view c.args.spool.now).failed) (clock.moments c.args.clock.now))
+    (outside (door.view new)
+    (spool_viewed (spool.view c.args.spool.now).files (spool.view c.args.spool.now).faults (spool.view c.args.spool.now).failed) (clock.moments c.args.clock.now))
     (status_number c.refuse_store.result)
     c.in-Err.fault store.bad store.left store.cause store.handed_back
-    run.statuses run.fault run.steady (λ told. run.done told.0) (λ told. run.part told.0) (λ call. ap door.state (run.untouched call)) run.turns run.reads refl refl
+    run.statuses run.fault run.steady (λ told. run.done told.0) (λ told. run.part told.0) (λ call. ap (λ d. (door.view d).state) (run.untouched call)) run.turns run.reads refl refl

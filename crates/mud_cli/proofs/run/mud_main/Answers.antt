@@ -1,117 +1,21 @@
 use Rattle.std.proofs.Common.{ℕ, sym, ◌∙◌, subst}
-use Rattle.command_runs.specs.View.{viewed}
-use Rattle.command_words.specs.declared.command.Command.TheVariants.{Drill, Import, Replay, Serve, Report, Export, Snoop, Tally}
-use Rattle.console_runs.specs.Replay.{ReplaysStore}
-use Rattle.console_runs.specs.Serve.{ServesStore, listening, clock_run}
-use Rattle.drill_runs.specs.Store.{DrillsStore}
-use Rattle.report_runs.specs.Store.{ReportsStore}
-use Rattle.mud_cli.specs.Import.Store.{ImportsStore, outside, spool_viewed}
-use Rattle.mud_cli.proofs.Promised.{same_command}
+use Rattle.command_words.specs.declared.command.Command.{Command}
+use Rattle.mud_cli.specs.Runs.{Does, LeavesAlone, outside_of}
+use Rattle.mud_cli.proofs.Promised.{promised}
 use Rattle.mud_cli.proofs.run.mud_main.Goals as goal
-use Rattle.export_runs.specs.Store.{ExportsStore}
-use Rattle.snoop_runs.specs.Store.{SnoopsStore}
-use Rattle.tally_runs.specs.Store.{TalliesStore}
 
-pub returns-clause-tallied : goal.returns-clause-tallied
-returns-clause-tallied g c = λ named.
-    let door = g.D.Door in
-    let old = c.args.door.now in
-    let new = c.run_command-status.new.door in
-    subst
-    (λ (status : ℕ). TalliesStore (goal.Keeper-dyn g) door.tells c.args.keeper c.run_command-status.result.1
-    (viewed (door.state old) (door.turns old) (door.reads old) (door.writes old) (door.failed old))
-    (viewed (door.state new) (door.turns new) (door.reads new) (door.writes new) (door.failed new)) status)
-    (sym c.number-2.ensures)
-    (c.run_command-status.ensures.tallied (same_command c.in-Some.command Tally (sym c.in-Some.is ∙ c.command_of.ensures ∙ named)))
+pub returns-clause-does : goal.returns-clause-does
+returns-clause-does g c = λ command named.
+    let old = outside_of c.args.door.now c.args.spool.now c.args.clock.now in
+    let new = outside_of c.run_command-status.new.door c.run_command-status.new.spool c.run_command-status.new.clock in
+    let does = λ (status : ℕ) (named : Command). Does (goal.Keeper-dyn g) g.D.Door g.P.Spool g.C.Clock c.args.keeper c.run_command-status.result.1 old new status named in
+    promised (does c.number-2.result) c.in-Some.command command (sym c.in-Some.is ∙ c.command_of.ensures ∙ named)
+    (subst (λ (status : ℕ). does status c.in-Some.command) (sym c.number-2.ensures) c.run_command-status.ensures.does)
 
-pub returns-clause-snooped : goal.returns-clause-snooped
-returns-clause-snooped g c = λ named.
-    let door = g.D.Door in
-    let old = c.args.door.now in
-    let new = c.run_command-status.new.door in
-    subst
-    (λ (status : ℕ). SnoopsStore (goal.Keeper-dyn g) door.tells c.args.keeper c.run_command-status.result.1
-    (viewed (door.state old) (door.turns old) (door.reads old) (door.writes old) (door.failed old))
-    (viewed (door.state new) (door.turns new) (door.reads new) (door.writes new) (door.failed new)) status)
-    (sym c.number-2.ensures)
-    (c.run_command-status.ensures.snooped (same_command c.in-Some.command Snoop (sym c.in-Some.is ∙ c.command_of.ensures ∙ named)))
-
-pub returns-clause-replayed : goal.returns-clause-replayed
-returns-clause-replayed g c = λ named.
-    let door = g.D.Door in
-    let old = c.args.door.now in
-    let new = c.run_command-status.new.door in
-    subst
-    (λ (status : ℕ). ReplaysStore (goal.Keeper-dyn g) door.tells c.args.keeper c.run_command-status.result.1
-    (viewed (door.state old) (door.turns old) (door.reads old) (door.writes old) (door.failed old))
-    (viewed (door.state new) (door.turns new) (door.reads new) (door.writes new) (door.failed new)) status)
-    (sym c.number-2.ensures)
-    (c.run_command-status.ensures.replayed (same_command c.in-Some.command Replay (sym c.in-Some.is ∙ c.command_of.ensures ∙ named)))
-
-pub returns-clause-served : goal.returns-clause-served
-returns-clause-served g c = λ port count named.
-    let door = g.D.Door in
-    let clock = g.C.Clock in
-    let old = c.args.door.now in
-    let new = c.run_command-status.new.door in
-    subst
-    (λ (status : ℕ). ServesStore (goal.Keeper-dyn g) door.tells clock.tells c.args.keeper c.run_command-status.result.1
-    (listening port count) (clock_run (clock.moments c.args.clock.now) (clock.moments c.run_command-status.new.clock))
-    (viewed (door.state old) (door.turns old) (door.reads old) (door.writes old) (door.failed old))
-    (viewed (door.state new) (door.turns new) (door.reads new) (door.writes new) (door.failed new)) status)
-    (sym c.number-2.ensures)
-    (c.run_command-status.ensures.served port count (same_command c.in-Some.command (Serve port count) (sym c.in-Some.is ∙ c.command_of.ensures ∙ named)))
-
-pub returns-clause-reported : goal.returns-clause-reported
-returns-clause-reported g c = λ kind named.
-    let door = g.D.Door in
-    let clock = g.C.Clock in
-    let old = c.args.door.now in
-    let new = c.run_command-status.new.door in
-    subst
-    (λ (status : ℕ). ReportsStore (goal.Keeper-dyn g) kind door.tells clock.tells (clock.moments c.args.clock.now) c.args.keeper c.run_command-status.result.1
-    (viewed (door.state old) (door.turns old) (door.reads old) (door.writes old) (door.failed old))
-    (viewed (door.state new) (door.turns new) (door.reads new) (door.writes new) (door.failed new)) status)
-    (sym c.number-2.ensures)
-    (c.run_command-status.ensures.reported kind (same_command c.in-Some.command (Report kind) (sym c.in-Some.is ∙ c.command_of.ensures ∙ named)))
-
-pub returns-clause-exported : goal.returns-clause-exported
-returns-clause-exported g c = λ mac named.
-    let door = g.D.Door in
-    let clock = g.C.Clock in
-    let old = c.args.door.now in
-    let new = c.run_command-status.new.door in
-    subst
-    (λ (status : ℕ). ExportsStore (goal.Keeper-dyn g) mac door.tells clock.tells (clock.moments c.args.clock.now) c.args.keeper c.run_command-status.result.1
-    (viewed (door.state old) (door.turns old) (door.reads old) (door.writes old) (door.failed old))
-    (viewed (door.state new) (door.turns new) (door.reads new) (door.writes new) (door.failed new)) status)
-    (sym c.number-2.ensures)
-    (c.run_command-status.ensures.exported mac (same_command c.in-Some.command (Export mac) (sym c.in-Some.is ∙ c.command_of.ensures ∙ named)))
-
-pub returns-clause-imported : goal.returns-clause-imported
-returns-clause-imported g c = λ named.
-    let door = g.D.Door in
-    let spool = g.P.Spool in
-    let clock = g.C.Clock in
-    let old = c.args.door.now in
-    let new = c.run_command-status.new.door in
-    subst
-    (λ (status : ℕ). ImportsStore (goal.Keeper-dyn g) (door.tells × (spool.tells × clock.tells)) c.args.keeper c.run_command-status.result.1
-    (outside (viewed (door.state old) (door.turns old) (door.reads old) (door.writes old) (door.failed old))
-    (spool_viewed (spool.files c.args.spool.now) (spool.faults c.args.spool.now)) (clock.moments c.args.clock.now))
-    (outside (viewed (door.state new) (door.turns new) (door.reads new) (door.writes new) (door.failed new))
-    (spool_viewed (spool.files c.run_command-status.new.spool) (spool.faults c.run_command-status.new.spool)) (clock.moments c.run_command-status.new.clock)) status)
-    (sym c.number-2.ensures)
-    (c.run_command-status.ensures.imported (same_command c.in-Some.command Import (sym c.in-Some.is ∙ c.command_of.ensures ∙ named)))
-
-pub returns-clause-drilled : goal.returns-clause-drilled
-returns-clause-drilled g c = λ packets named.
-    let door = g.D.Door in
-    let old = c.args.door.now in
-    let new = c.run_command-status.new.door in
-    subst
-    (λ (status : ℕ). DrillsStore (goal.Keeper-dyn g) door.tells packets c.args.keeper c.run_command-status.result.1
-    (viewed (door.state old) (door.turns old) (door.reads old) (door.writes old) (door.failed old))
-    (viewed (door.state new) (door.turns new) (door.reads new) (door.writes new) (door.failed new)) status)
-    (sym c.number-2.ensures)
-    (c.run_command-status.ensures.drilled packets (same_command c.in-Some.command (Drill packets) (sym c.in-Some.is ∙ c.command_of.ensures ∙ named)))
+pub returns-clause-alone : goal.returns-clause-alone
+returns-clause-alone g c = λ command named.
+    let old = outside_of c.args.door.now c.args.spool.now c.args.clock.now in
+    let new = outside_of c.run_command-status.new.door c.run_command-status.new.spool c.run_command-status.new.clock in
+    let alone = λ (status : ℕ) (named : Command). LeavesAlone named c.args.keeper c.run_command-status.result.1 old new status in
+    promised (alone c.number-2.result) c.in-Some.command command (sym c.in-Some.is ∙ c.command_of.ensures ∙ named)
+    (subst (λ (status : ℕ). alone status c.in-Some.command) (sym c.number-2.ensures) c.run_command-status.ensures.alone)

@@ -1,32 +1,20 @@
-use Rattle.std.proofs.Common.{ℕ, refl}
+use Rattle.std.proofs.Common.{◌≡◌, ℕ, true, refl}
 use Rattle.command_runs.specs.Status.{status_number}
-use Rattle.mud_cli.specs.Answers.{most_of}
-use Rattle.command_runs.specs.View.{viewed}
-use Rattle.mud_cli.specs.Promises.{Promises}
 use Rattle.command_words.specs.declared.command.Command.{Command}
-use Rattle.command_words.specs.declared.command.Command.TheVariants.{Hear, Check, Frames}
-use Rattle.command_words.specs.declared.command.ReportKind.{ReportKind}
-use Rattle.console_runs.specs.Serve.{ServesStore, listening, clock_run}
-use Rattle.report_runs.specs.Store.{ReportsStore}
-use Rattle.mud_base.specs.declared.addr.Mac.{Mac}
-use Rattle.export_runs.specs.Store.{ExportsStore}
-use Rattle.drill_runs.specs.Store.{DrillsStore}
-use Rattle.mud_cli.specs.Report.{AsksClock}
-use Rattle.mud_cli.proofs.Promised.{drilled_of, exported_of, no_most, not_capture, promised_of, read_up_to, reported_of, served_of}
+use Rattle.command_words.specs.declared.command.Command.TheVariants.{Hear, Check, Frames, Judge, Snoop, Tally, Import, Replay, Serve, Report, Export, Drill}
+use Rattle.mud_cli.specs.Answers.{most_of}
+use Rattle.mud_cli.specs.Runs.{Does, LeavesAlone, outside_of}
+use Rattle.mud_cli.proofs.Promised.{asked, no_most, not_capture, promised_of, read_up_to}
 use Rattle.mud_cli.proofs.run.run_command.Goals as goal
 
-pub returns-in-Hear-clause-answers : goal.returns-in-Hear-clause-answers
+pub returns-in-Hear-clause-does : goal.returns-in-Hear-clause-does
 unfolding most_of
-returns-in-Hear-clause-answers g c = λ reads.
+returns-in-Hear-clause-does g c =
     let door = g.D.Door in
-    let old = c.args.door.now in
-    let new = c.answer_input.new.door in
     let a = c.answer_input.ensures in
     promised_of
-    (λ (named : Command). Promises door.tells named
-    (viewed (door.state old) (door.turns old) (door.reads old) (door.writes old) (door.failed old))
-    (viewed (door.state new) (door.turns new) (door.reads new) (door.writes new) (door.failed new))
-    (status_number c.answer_input.result))
+    (λ (named : Command). Does (goal.Keeper-dyn g) g.D.Door g.P.Spool g.C.Clock c.args.keeper c.args.keeper
+    (outside_of c.args.door.now c.args.spool.now c.args.clock.now) (outside_of c.answer_input.new.door c.args.spool.now c.args.clock.now) (status_number c.answer_input.result) named)
     c.args.command (Hear c.in-Hear.message) c.in-Hear.is
     (record {
       statuses = a.statuses;
@@ -35,22 +23,18 @@ returns-in-Hear-clause-answers g c = λ reads.
       done = a.done;
       part = a.part;
       taken = λ tells other. not_capture (Hear c.in-Hear.message) refl other;
-      within = λ tells most is. read_up_to 65536 most (door.state old) (door.state new) is (a.within tells);
+      within = λ tells most is. read_up_to 65536 most (door.view c.args.door.now).state (door.view c.answer_input.new.door).state is (a.within tells);
       same_turns = a.turns;
     })
 
-pub returns-in-Check-clause-answers : goal.returns-in-Check-clause-answers
+pub returns-in-Check-clause-does : goal.returns-in-Check-clause-does
 unfolding most_of
-returns-in-Check-clause-answers g c = λ reads.
+returns-in-Check-clause-does g c =
     let door = g.D.Door in
-    let old = c.args.door.now in
-    let new = c.answer_input-in-Check.new.door in
     let a = c.answer_input-in-Check.ensures in
     promised_of
-    (λ (named : Command). Promises door.tells named
-    (viewed (door.state old) (door.turns old) (door.reads old) (door.writes old) (door.failed old))
-    (viewed (door.state new) (door.turns new) (door.reads new) (door.writes new) (door.failed new))
-    (status_number c.answer_input-in-Check.result))
+    (λ (named : Command). Does (goal.Keeper-dyn g) g.D.Door g.P.Spool g.C.Clock c.args.keeper c.args.keeper
+    (outside_of c.args.door.now c.args.spool.now c.args.clock.now) (outside_of c.answer_input-in-Check.new.door c.args.spool.now c.args.clock.now) (status_number c.answer_input-in-Check.result) named)
     c.args.command Check c.in-Check.is
     (record {
       statuses = a.statuses;
@@ -59,21 +43,17 @@ returns-in-Check-clause-answers g c = λ reads.
       done = a.done;
       part = a.part;
       taken = λ tells other. not_capture Check refl other;
-      within = λ tells most is. read_up_to 262145 most (door.state old) (door.state new) is (a.within tells);
+      within = λ tells most is. read_up_to 262145 most (door.view c.args.door.now).state (door.view c.answer_input-in-Check.new.door).state is (a.within tells);
       same_turns = a.turns;
     })
 
-pub returns-in-Frames-clause-answers : goal.returns-in-Frames-clause-answers
-returns-in-Frames-clause-answers g c = λ reads.
+pub returns-in-Frames-clause-does : goal.returns-in-Frames-clause-does
+returns-in-Frames-clause-does g c =
     let door = g.D.Door in
-    let old = c.args.door.now in
-    let new = c.write_capture.new.door in
     let a = c.write_capture.ensures in
     promised_of
-    (λ (named : Command). Promises door.tells named
-    (viewed (door.state old) (door.turns old) (door.reads old) (door.writes old) (door.failed old))
-    (viewed (door.state new) (door.turns new) (door.reads new) (door.writes new) (door.failed new))
-    (status_number c.write_capture.result))
+    (λ (named : Command). Does (goal.Keeper-dyn g) g.D.Door g.P.Spool g.C.Clock c.args.keeper c.args.keeper
+    (outside_of c.args.door.now c.args.spool.now c.args.clock.now) (outside_of c.write_capture.new.door c.args.spool.now c.args.clock.now) (status_number c.write_capture.result) named)
     c.args.command Frames c.in-Frames.is
     (record {
       statuses = a.statuses;
@@ -86,69 +66,232 @@ returns-in-Frames-clause-answers g c = λ reads.
       same_turns = a.turns;
     })
 
-pub returns-in-Serve-clause-served : goal.returns-in-Serve-clause-served
-returns-in-Serve-clause-served g c = λ port count named.
-    let door = g.D.Door in
-    let clock = g.C.Clock in
-    let old = c.args.door.now in
-    let new = c.serve_store.new.door in
-    served_of
-    (λ (p n : ℕ). ServesStore (goal.Keeper-dyn g) door.tells clock.tells c.args.keeper c.serve_store.result.1
-    (listening p n) (clock_run (clock.moments c.args.clock.now) (clock.moments c.serve_store.new.clock))
-    (viewed (door.state old) (door.turns old) (door.reads old) (door.writes old) (door.failed old))
-    (viewed (door.state new) (door.turns new) (door.reads new) (door.writes new) (door.failed new))
-    (status_number c.serve_store.result.0))
-    c.args.command c.in-Serve.port c.in-Serve.count port count c.in-Serve.is named c.serve_store.ensures.served
+pub returns-in-Judge-clause-does : goal.returns-in-Judge-clause-does
+returns-in-Judge-clause-does g c =
+    promised_of
+    (λ (named : Command). Does (goal.Keeper-dyn g) g.D.Door g.P.Spool g.C.Clock c.args.keeper c.judge_store.result.1
+    (outside_of c.args.door.now c.args.spool.now c.args.clock.now) (outside_of c.judge_store.new.door c.args.spool.now c.args.clock.now) (status_number c.judge_store.result.0) named)
+    c.args.command Judge c.in-Judge.is
+    c.judge_store.ensures.judged
 
-pub returns-in-Report-clause-reported : goal.returns-in-Report-clause-reported
-returns-in-Report-clause-reported g c = λ kind named.
-    let door = g.D.Door in
-    let clock = g.C.Clock in
-    let old = c.args.door.now in
-    let new = c.report_store.new.door in
-    reported_of
-    (λ (k : ReportKind). ReportsStore (goal.Keeper-dyn g) k door.tells clock.tells (clock.moments c.args.clock.now) c.args.keeper c.report_store.result.1
-    (viewed (door.state old) (door.turns old) (door.reads old) (door.writes old) (door.failed old))
-    (viewed (door.state new) (door.turns new) (door.reads new) (door.writes new) (door.failed new))
-    (status_number c.report_store.result.0))
-    c.args.command c.in-Report.kind kind c.in-Report.is named c.report_store.ensures.reported
+pub returns-in-Snoop-clause-does : goal.returns-in-Snoop-clause-does
+returns-in-Snoop-clause-does g c =
+    promised_of
+    (λ (named : Command). Does (goal.Keeper-dyn g) g.D.Door g.P.Spool g.C.Clock c.args.keeper c.snoop_store.result.1
+    (outside_of c.args.door.now c.args.spool.now c.args.clock.now) (outside_of c.snoop_store.new.door c.args.spool.now c.args.clock.now) (status_number c.snoop_store.result.0) named)
+    c.args.command Snoop c.in-Snoop.is
+    c.snoop_store.ensures
 
-pub returns-in-Report-clause-report_clock : goal.returns-in-Report-clause-report_clock
-returns-in-Report-clause-report_clock g c = λ kind named.
-    let clock = g.C.Clock in
+pub returns-in-Tally-clause-does : goal.returns-in-Tally-clause-does
+returns-in-Tally-clause-does g c =
+    promised_of
+    (λ (named : Command). Does (goal.Keeper-dyn g) g.D.Door g.P.Spool g.C.Clock c.args.keeper c.tally_store.result.1
+    (outside_of c.args.door.now c.args.spool.now c.args.clock.now) (outside_of c.tally_store.new.door c.args.spool.now c.args.clock.now) (status_number c.tally_store.result.0) named)
+    c.args.command Tally c.in-Tally.is
+    c.tally_store.ensures.tallied
+
+pub returns-in-Import-clause-does : goal.returns-in-Import-clause-does
+returns-in-Import-clause-does g c =
+    promised_of
+    (λ (named : Command). Does (goal.Keeper-dyn g) g.D.Door g.P.Spool g.C.Clock c.args.keeper c.import_store.result.1
+    (outside_of c.args.door.now c.args.spool.now c.args.clock.now) (outside_of c.import_store.new.door c.import_store.new.spool c.import_store.new.clock) (status_number c.import_store.result.0) named)
+    c.args.command Import c.in-Import.is
+    c.import_store.ensures
+
+pub returns-in-Replay-clause-does : goal.returns-in-Replay-clause-does
+returns-in-Replay-clause-does g c =
+    promised_of
+    (λ (named : Command). Does (goal.Keeper-dyn g) g.D.Door g.P.Spool g.C.Clock c.args.keeper c.replay_store.result.1
+    (outside_of c.args.door.now c.args.spool.now c.args.clock.now) (outside_of c.replay_store.new.door c.args.spool.now c.args.clock.now) (status_number c.replay_store.result.0) named)
+    c.args.command Replay c.in-Replay.is
+    c.replay_store.ensures.replayed
+
+pub returns-in-Serve-clause-does : goal.returns-in-Serve-clause-does
+returns-in-Serve-clause-does g c =
+    promised_of
+    (λ (named : Command). Does (goal.Keeper-dyn g) g.D.Door g.P.Spool g.C.Clock c.args.keeper c.serve_store.result.1
+    (outside_of c.args.door.now c.args.spool.now c.args.clock.now) (outside_of c.serve_store.new.door c.args.spool.now c.serve_store.new.clock) (status_number c.serve_store.result.0) named)
+    c.args.command (Serve c.in-Serve.port c.in-Serve.count) c.in-Serve.is
+    (c.serve_store.ensures.served, λ failed. (c.serve_store.ensures.untouched failed).1)
+
+pub returns-in-Report-clause-does : goal.returns-in-Report-clause-does
+returns-in-Report-clause-does g c =
     let asks = c.report_store.ensures in
-    reported_of
-    (λ (k : ReportKind). AsksClock clock.tells clock.moments k c.args.clock.now c.report_store.new.clock (status_number c.report_store.result.0))
-    c.args.command c.in-Report.kind kind c.in-Report.is named
-    (record { asked = asks.asked; once = asks.once; unasked = asks.unasked; unopened = asks.unopened })
+    promised_of
+    (λ (named : Command). Does (goal.Keeper-dyn g) g.D.Door g.P.Spool g.C.Clock c.args.keeper c.report_store.result.1
+    (outside_of c.args.door.now c.args.spool.now c.args.clock.now) (outside_of c.report_store.new.door c.args.spool.now c.report_store.new.clock) (status_number c.report_store.result.0) named)
+    c.args.command (Report c.in-Report.kind) c.in-Report.is
+    (c.report_store.ensures.reported, record { asked = asks.asked; once = asks.once; unasked = asks.unasked; unopened = asks.unopened })
 
-pub returns-in-Export-clause-exported : goal.returns-in-Export-clause-exported
-returns-in-Export-clause-exported g c = λ mac named.
-    let door = g.D.Door in
-    let clock = g.C.Clock in
-    let old = c.args.door.now in
-    let new = c.export_store.new.door in
-    exported_of
-    (λ (m : Mac). ExportsStore (goal.Keeper-dyn g) m door.tells clock.tells (clock.moments c.args.clock.now) c.args.keeper c.export_store.result.1
-    (viewed (door.state old) (door.turns old) (door.reads old) (door.writes old) (door.failed old))
-    (viewed (door.state new) (door.turns new) (door.reads new) (door.writes new) (door.failed new))
-    (status_number c.export_store.result.0))
-    c.args.command c.in-Export.mac mac c.in-Export.is named c.export_store.ensures.exported
-
-pub returns-in-Export-clause-export_clock : goal.returns-in-Export-clause-export_clock
-returns-in-Export-clause-export_clock g c = λ mac named.
-    let clock = g.C.Clock in
+pub returns-in-Export-clause-does : goal.returns-in-Export-clause-does
+returns-in-Export-clause-does g c =
     let asks = c.export_store.ensures in
-    record { asked = asks.asked; once = asks.once; unasked = asks.unasked }
+    promised_of
+    (λ (named : Command). Does (goal.Keeper-dyn g) g.D.Door g.P.Spool g.C.Clock c.args.keeper c.export_store.result.1
+    (outside_of c.args.door.now c.args.spool.now c.args.clock.now) (outside_of c.export_store.new.door c.args.spool.now c.export_store.new.clock) (status_number c.export_store.result.0) named)
+    c.args.command (Export c.in-Export.mac) c.in-Export.is
+    (c.export_store.ensures.exported, record { asked = asks.asked; once = asks.once; unasked = asks.unasked })
 
-pub returns-in-Drill-clause-drilled : goal.returns-in-Drill-clause-drilled
-returns-in-Drill-clause-drilled g c = λ packets named.
-    let door = g.D.Door in
-    let old = c.args.door.now in
-    let new = c.run_drill.new.door in
-    drilled_of
-    (λ (n : ℕ). DrillsStore (goal.Keeper-dyn g) door.tells n c.args.keeper c.run_drill.result.1
-    (viewed (door.state old) (door.turns old) (door.reads old) (door.writes old) (door.failed old))
-    (viewed (door.state new) (door.turns new) (door.reads new) (door.writes new) (door.failed new))
-    (status_number c.run_drill.result.0))
-    c.args.command c.in-Drill.packets packets c.in-Drill.is named c.run_drill.ensures.drilled
+pub returns-in-Drill-clause-does : goal.returns-in-Drill-clause-does
+returns-in-Drill-clause-does g c =
+    promised_of
+    (λ (named : Command). Does (goal.Keeper-dyn g) g.D.Door g.P.Spool g.C.Clock c.args.keeper c.run_drill.result.1
+    (outside_of c.args.door.now c.args.spool.now c.args.clock.now) (outside_of c.run_drill.new.door c.args.spool.now c.args.clock.now) (status_number c.run_drill.result.0) named)
+    c.args.command (Drill c.in-Drill.packets) c.in-Drill.is
+    c.run_drill.ensures.drilled
+
+pub returns-in-Hear-clause-alone : goal.returns-in-Hear-clause-alone
+returns-in-Hear-clause-alone g c =
+    promised_of
+    (λ (named : Command). LeavesAlone named c.args.keeper c.args.keeper
+    (outside_of c.args.door.now c.args.spool.now c.args.clock.now) (outside_of c.answer_input.new.door c.args.spool.now c.args.clock.now) (status_number c.answer_input.result))
+    c.args.command (Hear c.in-Hear.message) c.in-Hear.is
+    (record {
+      same_keeper = λ reads. refl;
+      same_spool = λ other. refl;
+      same_clock = λ unasked. refl;
+      same_door = λ silent failed. absurd silent;
+    })
+
+pub returns-in-Check-clause-alone : goal.returns-in-Check-clause-alone
+returns-in-Check-clause-alone g c =
+    promised_of
+    (λ (named : Command). LeavesAlone named c.args.keeper c.args.keeper
+    (outside_of c.args.door.now c.args.spool.now c.args.clock.now) (outside_of c.answer_input-in-Check.new.door c.args.spool.now c.args.clock.now) (status_number c.answer_input-in-Check.result))
+    c.args.command Check c.in-Check.is
+    (record {
+      same_keeper = λ reads. refl;
+      same_spool = λ other. refl;
+      same_clock = λ unasked. refl;
+      same_door = λ silent failed. absurd silent;
+    })
+
+pub returns-in-Frames-clause-alone : goal.returns-in-Frames-clause-alone
+returns-in-Frames-clause-alone g c =
+    promised_of
+    (λ (named : Command). LeavesAlone named c.args.keeper c.args.keeper
+    (outside_of c.args.door.now c.args.spool.now c.args.clock.now) (outside_of c.write_capture.new.door c.args.spool.now c.args.clock.now) (status_number c.write_capture.result))
+    c.args.command Frames c.in-Frames.is
+    (record {
+      same_keeper = λ reads. refl;
+      same_spool = λ other. refl;
+      same_clock = λ unasked. refl;
+      same_door = λ silent failed. absurd silent;
+    })
+
+pub returns-in-Judge-clause-alone : goal.returns-in-Judge-clause-alone
+returns-in-Judge-clause-alone g c =
+    promised_of
+    (λ (named : Command). LeavesAlone named c.args.keeper c.judge_store.result.1
+    (outside_of c.args.door.now c.args.spool.now c.args.clock.now) (outside_of c.judge_store.new.door c.args.spool.now c.args.clock.now) (status_number c.judge_store.result.0))
+    c.args.command Judge c.in-Judge.is
+    (record {
+      same_keeper = λ reads. absurd reads;
+      same_spool = λ other. refl;
+      same_clock = λ unasked. refl;
+      same_door = λ silent failed. c.judge_store.ensures.untouched failed;
+    })
+
+pub returns-in-Snoop-clause-alone : goal.returns-in-Snoop-clause-alone
+returns-in-Snoop-clause-alone g c =
+    promised_of
+    (λ (named : Command). LeavesAlone named c.args.keeper c.snoop_store.result.1
+    (outside_of c.args.door.now c.args.spool.now c.args.clock.now) (outside_of c.snoop_store.new.door c.args.spool.now c.args.clock.now) (status_number c.snoop_store.result.0))
+    c.args.command Snoop c.in-Snoop.is
+    (record {
+      same_keeper = λ reads. absurd reads;
+      same_spool = λ other. refl;
+      same_clock = λ unasked. refl;
+      same_door = λ silent failed. absurd silent;
+    })
+
+pub returns-in-Tally-clause-alone : goal.returns-in-Tally-clause-alone
+returns-in-Tally-clause-alone g c =
+    promised_of
+    (λ (named : Command). LeavesAlone named c.args.keeper c.tally_store.result.1
+    (outside_of c.args.door.now c.args.spool.now c.args.clock.now) (outside_of c.tally_store.new.door c.args.spool.now c.args.clock.now) (status_number c.tally_store.result.0))
+    c.args.command Tally c.in-Tally.is
+    (record {
+      same_keeper = λ reads. absurd reads;
+      same_spool = λ other. refl;
+      same_clock = λ unasked. refl;
+      same_door = λ silent failed. c.tally_store.ensures.untouched failed;
+    })
+
+pub returns-in-Import-clause-alone : goal.returns-in-Import-clause-alone
+returns-in-Import-clause-alone g c =
+    promised_of
+    (λ (named : Command). LeavesAlone named c.args.keeper c.import_store.result.1
+    (outside_of c.args.door.now c.args.spool.now c.args.clock.now) (outside_of c.import_store.new.door c.import_store.new.spool c.import_store.new.clock) (status_number c.import_store.result.0))
+    c.args.command Import c.in-Import.is
+    (record {
+      same_keeper = λ reads. absurd reads;
+      same_spool = λ other. absurd (other refl);
+      same_clock = λ unasked. asked unasked;
+      same_door = λ silent failed. absurd silent;
+    })
+
+pub returns-in-Replay-clause-alone : goal.returns-in-Replay-clause-alone
+returns-in-Replay-clause-alone g c =
+    promised_of
+    (λ (named : Command). LeavesAlone named c.args.keeper c.replay_store.result.1
+    (outside_of c.args.door.now c.args.spool.now c.args.clock.now) (outside_of c.replay_store.new.door c.args.spool.now c.args.clock.now) (status_number c.replay_store.result.0))
+    c.args.command Replay c.in-Replay.is
+    (record {
+      same_keeper = λ reads. absurd reads;
+      same_spool = λ other. refl;
+      same_clock = λ unasked. refl;
+      same_door = λ silent failed. c.replay_store.ensures.untouched failed;
+    })
+
+pub returns-in-Serve-clause-alone : goal.returns-in-Serve-clause-alone
+returns-in-Serve-clause-alone g c =
+    promised_of
+    (λ (named : Command). LeavesAlone named c.args.keeper c.serve_store.result.1
+    (outside_of c.args.door.now c.args.spool.now c.args.clock.now) (outside_of c.serve_store.new.door c.args.spool.now c.serve_store.new.clock) (status_number c.serve_store.result.0))
+    c.args.command (Serve c.in-Serve.port c.in-Serve.count) c.in-Serve.is
+    (record {
+      same_keeper = λ reads. absurd reads;
+      same_spool = λ other. refl;
+      same_clock = λ unasked. asked unasked;
+      same_door = λ silent failed. (c.serve_store.ensures.untouched failed).0;
+    })
+
+pub returns-in-Report-clause-alone : goal.returns-in-Report-clause-alone
+returns-in-Report-clause-alone g c =
+    promised_of
+    (λ (named : Command). LeavesAlone named c.args.keeper c.report_store.result.1
+    (outside_of c.args.door.now c.args.spool.now c.args.clock.now) (outside_of c.report_store.new.door c.args.spool.now c.report_store.new.clock) (status_number c.report_store.result.0))
+    c.args.command (Report c.in-Report.kind) c.in-Report.is
+    (record {
+      same_keeper = λ reads. absurd reads;
+      same_spool = λ other. refl;
+      same_clock = λ unasked. asked unasked;
+      same_door = λ silent failed. c.report_store.ensures.untouched failed;
+    })
+
+pub returns-in-Export-clause-alone : goal.returns-in-Export-clause-alone
+returns-in-Export-clause-alone g c =
+    promised_of
+    (λ (named : Command). LeavesAlone named c.args.keeper c.export_store.result.1
+    (outside_of c.args.door.now c.args.spool.now c.args.clock.now) (outside_of c.export_store.new.door c.args.spool.now c.export_store.new.clock) (status_number c.export_store.result.0))
+    c.args.command (Export c.in-Export.mac) c.in-Export.is
+    (record {
+      same_keeper = λ reads. absurd reads;
+      same_spool = λ other. refl;
+      same_clock = λ unasked. asked unasked;
+      same_door = λ silent failed. c.export_store.ensures.untouched failed;
+    })
+
+pub returns-in-Drill-clause-alone : goal.returns-in-Drill-clause-alone
+returns-in-Drill-clause-alone g c =
+    promised_of
+    (λ (named : Command). LeavesAlone named c.args.keeper c.run_drill.result.1
+    (outside_of c.args.door.now c.args.spool.now c.args.clock.now) (outside_of c.run_drill.new.door c.args.spool.now c.args.clock.now) (status_number c.run_drill.result.0))
+    c.args.command (Drill c.in-Drill.packets) c.in-Drill.is
+    (record {
+      same_keeper = λ reads. absurd reads;
+      same_spool = λ other. refl;
+      same_clock = λ unasked. refl;
+      same_door = λ silent failed. c.run_drill.ensures.untouched failed;
+    })

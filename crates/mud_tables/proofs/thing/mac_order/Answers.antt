@@ -1,6 +1,6 @@
 use Rattle.std.proofs.Common.{◌≡◌, refl, sym, ◌∙◌, arith}
-use Rattle.mud_tables.proofs.MacOrder.{alike, apart, behind}
 use Rattle.mud_tables.proofs.thing.mac_order.Goals as goal
+use Rattle.sorted_rows.proofs.Orders.{alike, apart, behind}
 
 -- src/thing.rt:16:5
 pub loop-n-init : goal.loop-n-init

@@ -6,11 +6,11 @@ abbrev pub invariant-more : goal.invariant-more
 invariant-more g l =
     let door = g.D.Door in
     record {
-      took : door.tells → Took l.text (door.state l.initial.door) (door.state l.door);
+      took : door.tells → Took l.text (door.view l.initial.door).state (door.view l.door).state;
       within : length l.text ≤ l.most + 1;
-      reads : door.reads l.door ≡ door.reads l.initial.door;
-      turns : door.turns l.door ≡ door.turns l.initial.door;
-      writes : door.writes l.door ≡ door.writes l.initial.door;
+      reads : (door.view l.door).reads ≡ (door.view l.initial.door).reads;
+      turns : (door.view l.door).turns ≡ (door.view l.initial.door).turns;
+      writes : (door.view l.door).writes ≡ (door.view l.initial.door).writes;
     }
 
 abbrev pub decreases-more : goal.decreases-more

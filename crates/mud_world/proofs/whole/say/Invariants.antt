@@ -6,12 +6,12 @@ abbrev pub invariant-loop-at : goal.invariant-loop-at
 invariant-loop-at g l =
     let door = g.D.Door in
     record {
-      wrote : door.tells → door.state l.door ≡ put_out (take l.at l.line) (door.state l.initial.door);
-      nowhere : door.tells → (door.state l.initial.door).stands ≡ false → l.at ≡ 0;
+      wrote : door.tells → (door.view l.door).state ≡ put_out (take l.at l.line) (door.view l.initial.door).state;
+      nowhere : door.tells → (door.view l.initial.door).state.stands ≡ false → l.at ≡ 0;
       within : l.at ≤ length l.line;
-      writes : door.writes l.door ≡ door.writes l.initial.door;
-      turns : door.turns l.door ≡ door.turns l.initial.door;
-      reads : door.reads l.door ≡ door.reads l.initial.door;
+      writes : (door.view l.door).writes ≡ (door.view l.initial.door).writes;
+      turns : (door.view l.door).turns ≡ (door.view l.initial.door).turns;
+      reads : (door.view l.door).reads ≡ (door.view l.initial.door).reads;
     }
 
 abbrev pub decreases-loop-at : goal.decreases-loop-at

@@ -6,11 +6,11 @@ abbrev pub invariant-more : goal.invariant-more
 invariant-more g l =
     let door = g.D.Door in
     record {
-      octets : door.tells → Fetched l.initial.buffer.held l.buffer.held (door.state l.initial.source) (door.state l.source);
+      octets : door.tells → Fetched l.initial.buffer.held l.buffer.held (door.view l.initial.source).state (door.view l.source).state;
       untouched : l.count ≤ length l.initial.buffer.held → (l.source ≡ l.initial.source) × (l.buffer.held ≡ l.initial.buffer.held);
-      reads : door.reads l.source ≡ door.reads l.initial.source;
-      turns : door.turns l.source ≡ door.turns l.initial.source;
-      writes : door.writes l.source ≡ door.writes l.initial.source;
+      reads : (door.view l.source).reads ≡ (door.view l.initial.source).reads;
+      turns : (door.view l.source).turns ≡ (door.view l.initial.source).turns;
+      writes : (door.view l.source).writes ≡ (door.view l.initial.source).writes;
     }
 
 abbrev pub decreases-more : goal.decreases-more

@@ -1,7 +1,6 @@
 use Rattle.std.proofs.Common.{◌<◌, List, ap, ◌∙◌, arith}
 use Rattle.mud_base.specs.declared.packet.Fields.{Fields}
 use Rattle.mud_base.specs.declared.prefix.Prefix.{Prefix}
-use Rattle.acl_rows.specs.Rows.{never}
 use Rattle.mud_tables.specs.Ends.{for_ever}
 use Rattle.mud_tables.specs.Bindings.{bindings_of, ruling_by_bindings}
 use Rattle.packet_judge.specs.ByRows.{Asked, asked, ruling_by_rows}
@@ -12,7 +11,7 @@ use Rattle.packet_judge.proofs.ruling.rule.Goals as goal
 
 pub returns-clause-rules : goal.returns-clause-rules
 returns-clause-rules g c = λ slots bindings url policy side is.
-    let small : c.args.now < never = omega (arith, c.seconds-seconds.ensures.value, c.seconds-seconds.ensures.range) in
+    let small : c.args.now < for_ever = omega (arith, c.seconds-seconds.ensures.value, c.seconds-seconds.ensures.range) in
     c.rule_by_rows.ensures.value
     ∙ ap (λ (q : Asked). ruling_by_rows q c.args.view) (c.new-question.ensures ∙ ap (λ (f : Fields). asked c.args.locals.now c.args.now f c.args.begun) c.fields.ensures)
     ∙ rows_alike slots bindings url policy side c.args.view (asked c.args.locals.now c.args.now c.args.packet.now.fields c.args.begun) is small

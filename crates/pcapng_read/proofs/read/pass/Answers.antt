@@ -4,7 +4,7 @@ use Rattle.pcapng_read.proofs.read.pass.Goals as goal
 
 pub pieces-init : goal.pieces-init
 pieces-init g c = record {
-  octets = λ t. passes_none c.args.count c.args.buffer.now.held (g.D.Door.state c.args.source.now);
+  octets = λ t. passes_none c.args.count c.args.buffer.now.held (g.D.Door.view c.args.source.now).state;
   reads = refl;
   turns = refl;
   writes = refl;

@@ -6,10 +6,10 @@ abbrev pub invariant-pieces : goal.invariant-pieces
 invariant-pieces g l =
     let door = g.D.Door in
     record {
-      octets : door.tells → Passes l.count l.left l.initial.buffer.held l.buffer.held (door.state l.initial.source) (door.state l.source);
-      reads : door.reads l.source ≡ door.reads l.initial.source;
-      turns : door.turns l.source ≡ door.turns l.initial.source;
-      writes : door.writes l.source ≡ door.writes l.initial.source;
+      octets : door.tells → Passes l.count l.left l.initial.buffer.held l.buffer.held (door.view l.initial.source).state (door.view l.source).state;
+      reads : (door.view l.source).reads ≡ (door.view l.initial.source).reads;
+      turns : (door.view l.source).turns ≡ (door.view l.initial.source).turns;
+      writes : (door.view l.source).writes ≡ (door.view l.initial.source).writes;
     }
 
 abbrev pub decreases-pieces : goal.decreases-pieces

@@ -8,14 +8,14 @@ abbrev pub invariant-forward : goal.invariant-forward
 invariant-forward g l =
     let door = g.D.Door in
     record {
-      octets : door.tells → Follows (behind (blocks_at l.initial.standing) l.initial.buffer.held) (behind (blocks_at l.standing) l.buffer.held) (door.state l.initial.source) (door.state l.source);
+      octets : door.tells → Follows (behind (blocks_at l.initial.standing) l.initial.buffer.held) (behind (blocks_at l.standing) l.buffer.held) (door.view l.initial.source).state (door.view l.source).state;
       within : IsWithin l.standing;
       further : l.initial.standing.blocks ≤ l.standing.blocks;
       unread : IsTrue (is_decided l.initial.standing.section.order l.initial.buffer.held)
           → (l.source ≡ l.initial.source) × (l.buffer.held ≡ l.initial.buffer.held) × (l.standing.section.order ≡ l.initial.standing.section.order);
-      reads : door.reads l.source ≡ door.reads l.initial.source;
-      turns : door.turns l.source ≡ door.turns l.initial.source;
-      writes : door.writes l.source ≡ door.writes l.initial.source;
+      reads : (door.view l.source).reads ≡ (door.view l.initial.source).reads;
+      turns : (door.view l.source).turns ≡ (door.view l.initial.source).turns;
+      writes : (door.view l.source).writes ≡ (door.view l.initial.source).writes;
     }
 
 abbrev pub decreases-forward : goal.decreases-forward

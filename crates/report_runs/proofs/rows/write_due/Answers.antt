@@ -5,7 +5,7 @@ use Rattle.report_runs.proofs.rows.write_due.Goals as goal
 
 pub rows-init : goal.rows-init
 rows-init g c = record {
-  written = λ tells. none_yet (due_part c.args.now) c.args.files.now (g.D.Door.state c.args.door.now);
+  written = λ tells. none_yet (due_part c.args.now) c.args.files.now (g.D.Door.view c.args.door.now).state;
   writes = refl;
   turns = refl;
   reads = refl;
@@ -13,7 +13,7 @@ rows-init g c = record {
 
 pub rows-preserved : goal.rows-preserved
 rows-preserved g c = record {
-  written = λ tells. one_more (due_part c.args.now) c.args.files.now c.rows.row-index c.row-item.result (g.D.Door.state c.args.door.now) (g.D.Door.state c.rows.door) (g.D.Door.state c.write_due_row.new.door)
+  written = λ tells. one_more (due_part c.args.now) c.args.files.now c.rows.row-index c.row-item.result (g.D.Door.view c.args.door.now).state (g.D.Door.view c.rows.door).state (g.D.Door.view c.write_due_row.new.door).state
       c.rows-test.true c.row-item.is (c.rows.invariant.written tells) (c.in_ok-write_due_row.ensures.ok tells);
   writes = search rules;
   turns = search rules;
@@ -22,5 +22,5 @@ rows-preserved g c = record {
 
 pub returns-in_err-write_due_row-clause-part : goal.returns-in_err-write_due_row-clause-part
 returns-in_err-write_due_row-clause-part g c = λ tells. on_err c.from_residual.result
-    (part_of (due_part c.args.now) c.args.files.now c.rows.row-index c.row-item.result (g.D.Door.state c.args.door.now) (g.D.Door.state c.rows.door) (g.D.Door.state c.write_due_row.new.door)
+    (part_of (due_part c.args.now) c.args.files.now c.rows.row-index c.row-item.result (g.D.Door.view c.args.door.now).state (g.D.Door.view c.rows.door).state (g.D.Door.view c.write_due_row.new.door).state
     c.rows-test.true c.row-item.is (c.rows.invariant.written tells) (c.in_err-write_due_row.ensures.part tells))

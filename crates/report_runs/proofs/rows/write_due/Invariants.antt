@@ -8,8 +8,8 @@ abbrev pub invariant-rows : goal.invariant-rows
 invariant-rows g l =
     let door = g.D.Door in
     record {
-      written : door.tells → door.state l.door ≡ put_out (flat_map (due_part l.now) (take l.row-index l.files)) (door.state l.initial.door);
-      writes : door.writes l.door ≡ door.writes l.initial.door;
-      turns : door.turns l.door ≡ door.turns l.initial.door;
-      reads : door.reads l.door ≡ door.reads l.initial.door;
+      written : door.tells → (door.view l.door).state ≡ put_out (flat_map (due_part l.now) (take l.row-index l.files)) (door.view l.initial.door).state;
+      writes : (door.view l.door).writes ≡ (door.view l.initial.door).writes;
+      turns : (door.view l.door).turns ≡ (door.view l.initial.door).turns;
+      reads : (door.view l.door).reads ≡ (door.view l.initial.door).reads;
     }

@@ -1,5 +1,5 @@
 use Rattle.std.proofs.Common.{arith}
-use Rattle.row_changes.proofs.FreshLaws.{on_ok_map}
+use Rattle.std.proofs.lemmas.Result.{on_ok_weaker}
 use Rattle.row_changes.proofs.PolicyRows.{own_length}
 use Rattle.row_changes.proofs.policy.plan_own.Goals as goal
 
@@ -12,4 +12,4 @@ returns-clause-most g c = omega (arith, own_length c.args.owner c.args.rows.now.
 pub returns-clause-read : goal.returns-clause-read
 returns-clause-read g c =
     let all = own_length c.args.owner c.args.rows.now.rows c.requires in
-    on_ok_map _ _ (λ made. omega (arith, all, c.plan_side.ensures.counted, c.plan_side-2.ensures.counted)) c.plan_side-2.result c.plan_side-2.ensures.ok
+    on_ok_weaker c.plan_side-2.result (λ made. omega (arith, all, c.plan_side.ensures.counted, c.plan_side-2.ensures.counted)) c.plan_side-2.ensures.ok

@@ -1,6 +1,7 @@
 use Rattle.std.proofs.Common.{◌<◌, length, sym, ap, ◌∙◌, arith}
+use Rattle.std.proofs.lemmas.Result.{on_ok_weaker}
 use Rattle.acl_rows.specs.ByAddress.{IsEditAt}
-use Rattle.row_shelves.proofs.RoomLaws.{same_room, own_peer, own_within, roomier_set, reserved_room, on_ok_map}
+use Rattle.row_shelves.proofs.RoomLaws.{same_room, own_peer, own_within, roomier_set, reserved_room}
 use Rattle.row_shelves.proofs.parts.reserve_peer.Goals as goal
 
 pub returns-then-is_of-clause-ok : goal.returns-then-is_of-clause-ok
@@ -17,6 +18,4 @@ pub returns-clause-ok : goal.returns-clause-ok
 returns-clause-ok c =
     let own : IsEditAt c.peer-peer.result.owner c.peer-peer.result.side c.peer-peer.result.addr c.args.edit.now = own_peer c.args.edit.now c.key.result c.peer-peer.result c.key.ensures c.peer-peer.ensures in
     let within : c.number_of.result < length c.args.shelves.now.items = own_within c.peer-peer.result.owner c.peer-peer.result.side c.peer-peer.result.addr c.args.edit.now c.number_of.result (length c.args.shelves.now.items) own c.number_of.ensures.number (omega (arith, c.requires.shelved, c.args.shelves.now.ok.0)) in
-    on_ok_map _ _
-    (λ enough. reserved_room c.args.edits.now.rows c.args.shelves.now.items c.peer-peer.result.owner c.peer-peer.result.side c.peer-peer.result.addr c.args.edit.now c.number_of.result (length c.rows_under-more.result.now) c.reserve.new.self own c.number_of.ensures.number within (ap length c.rows_under-more.ensures) enough)
-    c.reserve.result c.reserve.ensures.ok
+    on_ok_weaker c.reserve.result (λ enough. reserved_room c.args.edits.now.rows c.args.shelves.now.items c.peer-peer.result.owner c.peer-peer.result.side c.peer-peer.result.addr c.args.edit.now c.number_of.result (length c.rows_under-more.result.now) c.reserve.new.self own c.number_of.ensures.number within (ap length c.rows_under-more.ensures) enough) c.reserve.ensures.ok

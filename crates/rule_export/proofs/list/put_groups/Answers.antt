@@ -2,8 +2,9 @@ use Rattle.std.proofs.Common.{List, ap, sym, ◌∙◌}
 use Rattle.sorted_rows.specs.Placed.{RowsAndRoom, set_rows}
 use Rattle.sorted_rows.specs.Addresses.{prefix_place}
 use Rattle.acl_rows.specs.declared.row.Row.{Row}
+use Rattle.acl_rows.proofs.GroupLaws.{together_grouped}
 use Rattle.rule_export.specs.Resolved.{wanted_networks}
-use Rattle.rule_export.proofs.HostLaws.{rows_together, together_grouped, next_group}
+use Rattle.rule_export.proofs.HostLaws.{rows_together, next_group}
 use Rattle.rule_export.proofs.list.put_groups.Goals as goal
 
 pub loop-group-init : goal.loop-group-init

@@ -18,8 +18,8 @@ returns-in-Ended-clause-done g c = λ s first in_session tells start which.
     let end = c.end_capture.ensures in
     let read = was_read c.packets.failed (status_number c.end_capture.result) (status_number c.with_failure.result) end.statuses
     (λ e. ap status_number (c.with_failure.ensures.kept e)) (λ e. ap status_number (c.with_failure.ensures.early e)) c.with_failure.ensures.failed which in
-    all_at_end s first (faults_of members c.args.desk.now.keeper) c.packets.desk.state (door.state c.packets.door) (faults_of members c.packets.desk.keeper) c.packets.reader c.packets.lines c.packets.failed now
-    None (door.state c.go_on.new.door) c.go_on.new.lines all (door.state c.end_capture.new.door) (status_number c.end_capture.result) (status_number c.with_failure.result)
+    all_at_end s first (faults_of members c.args.desk.now.keeper) c.packets.desk.state (door.view c.packets.door).state (faults_of members c.packets.desk.keeper) c.packets.reader c.packets.lines c.packets.failed now
+    None (door.view c.go_on.new.door).state c.go_on.new.lines all (door.view c.end_capture.new.door).state (status_number c.end_capture.result) (status_number c.with_failure.result)
     (end.done (packets_of now.entries) (lines_of now.entries) first tells all read)
     (λ e. ap status_number (c.with_failure.ensures.kept e)) (λ e. c.with_failure.ensures.failed e read)
 
@@ -32,8 +32,8 @@ returns-in-Ended-clause-part g c = λ s first in_session tells start which.
     let end = c.end_capture.ensures in
     let cut = was_cut c.packets.failed (status_number c.end_capture.result) (status_number c.with_failure.result) end.statuses
     (λ e. ap status_number (c.with_failure.ensures.kept e)) (λ e. ap status_number (c.with_failure.ensures.early e)) c.with_failure.ensures.failed which in
-    part_at_end s first (faults_of members c.args.desk.now.keeper) c.packets.desk.state (door.state c.packets.door) (faults_of members c.packets.desk.keeper) c.packets.reader c.packets.lines c.packets.failed now
-    None (door.state c.go_on.new.door) c.go_on.new.lines all (door.state c.end_capture.new.door)
+    part_at_end s first (faults_of members c.args.desk.now.keeper) c.packets.desk.state (door.view c.packets.door).state (faults_of members c.packets.desk.keeper) c.packets.reader c.packets.lines c.packets.failed now
+    None (door.view c.go_on.new.door).state c.go_on.new.lines all (door.view c.end_capture.new.door).state
     (end.part (packets_of now.entries) (lines_of now.entries) first tells all cut)
 
 pub returns-in-Broken-clause-done : goal.returns-in-Broken-clause-done
@@ -46,8 +46,8 @@ returns-in-Broken-clause-done g c = λ s first in_session tells start which.
     let with = c.with_failure-in-Broken in
     let read = was_read c.packets.failed (status_number c.end_capture-in-Broken.result) (status_number with.result) end.statuses
     (λ e. ap status_number (with.ensures.kept e)) (λ e. ap status_number (with.ensures.early e)) with.ensures.failed which in
-    all_at_end s first (faults_of members c.args.desk.now.keeper) c.packets.desk.state (door.state c.packets.door) (faults_of members c.packets.desk.keeper) c.packets.reader c.packets.lines c.packets.failed now
-    (Some c.in-Broken.fault) (door.state c.go_on.new.door) c.go_on.new.lines all (door.state c.end_capture-in-Broken.new.door) (status_number c.end_capture-in-Broken.result) (status_number with.result)
+    all_at_end s first (faults_of members c.args.desk.now.keeper) c.packets.desk.state (door.view c.packets.door).state (faults_of members c.packets.desk.keeper) c.packets.reader c.packets.lines c.packets.failed now
+    (Some c.in-Broken.fault) (door.view c.go_on.new.door).state c.go_on.new.lines all (door.view c.end_capture-in-Broken.new.door).state (status_number c.end_capture-in-Broken.result) (status_number with.result)
     (end.done (packets_of now.entries) (lines_of now.entries) first tells all read)
     (λ e. ap status_number (with.ensures.kept e)) (λ e. with.ensures.failed e read)
 
@@ -61,8 +61,8 @@ returns-in-Broken-clause-part g c = λ s first in_session tells start which.
     let with = c.with_failure-in-Broken in
     let cut = was_cut c.packets.failed (status_number c.end_capture-in-Broken.result) (status_number with.result) end.statuses
     (λ e. ap status_number (with.ensures.kept e)) (λ e. ap status_number (with.ensures.early e)) with.ensures.failed which in
-    part_at_end s first (faults_of members c.args.desk.now.keeper) c.packets.desk.state (door.state c.packets.door) (faults_of members c.packets.desk.keeper) c.packets.reader c.packets.lines c.packets.failed now
-    (Some c.in-Broken.fault) (door.state c.go_on.new.door) c.go_on.new.lines all (door.state c.end_capture-in-Broken.new.door)
+    part_at_end s first (faults_of members c.args.desk.now.keeper) c.packets.desk.state (door.view c.packets.door).state (faults_of members c.packets.desk.keeper) c.packets.reader c.packets.lines c.packets.failed now
+    (Some c.in-Broken.fault) (door.view c.go_on.new.door).state c.go_on.new.lines all (door.view c.end_capture-in-Broken.new.door).state
     (end.part (packets_of now.entries) (lines_of now.entries) first tells all cut)
 
 pub returns-in-Failed-clause-part : goal.returns-in-Failed-clause-part
@@ -70,16 +70,16 @@ returns-in-Failed-clause-part g c = λ s first in_session tells start which.
     let door = g.D.Door in
     let members = goal.Keeper-dyn g in
     let now = c.packets.invariant.snooped s first in_session tells start in
-    part_at_failure s first (faults_of members c.args.desk.now.keeper) c.packets.desk.state (door.state c.packets.door) (faults_of members c.packets.desk.keeper) c.packets.reader c.packets.lines c.packets.failed now
-    (door.state c.go_on.new.door) (c.in-Failed.ensures.led (packets_of now.entries) (lines_of now.entries) first tells now.done)
+    part_at_failure s first (faults_of members c.args.desk.now.keeper) c.packets.desk.state (door.view c.packets.door).state (faults_of members c.packets.desk.keeper) c.packets.reader c.packets.lines c.packets.failed now
+    (door.view c.go_on.new.door).state (c.in-Failed.ensures.led (packets_of now.entries) (lines_of now.entries) first tells now.done)
 
 pub returns-in-Failed-clause-taken : goal.returns-in-Failed-clause-taken
 returns-in-Failed-clause-taken g c = λ s first in_session tells start changed.
     let door = g.D.Door in
     let members = goal.Keeper-dyn g in
     let now = c.packets.invariant.snooped s first in_session tells start in
-    taken_at_failure s first (faults_of members c.args.desk.now.keeper) c.packets.desk.state (door.state c.packets.door) (faults_of members c.packets.desk.keeper) c.packets.reader c.packets.lines c.packets.failed now
-    (door.state c.go_on.new.door)
+    taken_at_failure s first (faults_of members c.args.desk.now.keeper) c.packets.desk.state (door.view c.packets.door).state (faults_of members c.packets.desk.keeper) c.packets.reader c.packets.lines c.packets.failed now
+    (door.view c.go_on.new.door).state
     (c.in-Failed.ensures.taken (packets_of now.entries) (lines_of now.entries) first tells now.done (λ same. changed (same ∙ c.packets.invariant.reads)))
 
 pub returns-in-Err-clause-part : goal.returns-in-Err-clause-part
@@ -87,8 +87,8 @@ returns-in-Err-clause-part g c = λ s first in_session tells start which.
     let door = g.D.Door in
     let members = goal.Keeper-dyn g in
     let now = c.packets.invariant.snooped s first in_session tells start in
-    part_at_packet s first (faults_of members c.args.desk.now.keeper) c.packets.desk.state (door.state c.packets.door) (faults_of members c.packets.desk.keeper) c.packets.reader c.packets.lines c.packets.failed now
-    c.go_on.new.reader (door.state c.go_on.new.door) c.go_on.new.lines (packet_of c.packet.result) c.snoop_packet.new.desk.state (faults_of members c.snoop_packet.new.desk.keeper)
+    part_at_packet s first (faults_of members c.args.desk.now.keeper) c.packets.desk.state (door.view c.packets.door).state (faults_of members c.packets.desk.keeper) c.packets.reader c.packets.lines c.packets.failed now
+    c.go_on.new.reader (door.view c.go_on.new.door).state c.go_on.new.lines (packet_of c.packet.result) c.snoop_packet.new.desk.state (faults_of members c.snoop_packet.new.desk.keeper)
     (c.in-Packet.ensures.led (packets_of now.entries) (lines_of now.entries) first tells now.done) c.packet.ensures (c.in-Err.ensures.part now.after now.stands)
 
 pub packets-preserved : goal.packets-preserved
@@ -99,8 +99,8 @@ packets-preserved g c =
       stays = stays_further members c.args.desk.now.keeper c.packets.desk.keeper c.packets.desk.state c.snoop_packet.new.desk.keeper c.snoop_packet.new.desk.state c.packets.invariant.stays c.in-Ok.ensures.stays;
       snooped = λ s first in_session tells start.
           let now = c.packets.invariant.snooped s first in_session tells start in
-          snooped_more s first (faults_of members c.args.desk.now.keeper) c.packets.desk.state (door.state c.packets.door) (faults_of members c.packets.desk.keeper) c.packets.reader c.packets.lines c.packets.failed now
-          c.go_on.new.reader (door.state c.go_on.new.door) c.go_on.new.lines c.snoop_packet.new.lines (packet_of c.packet.result) c.snoop_packet.new.desk.state (faults_of members c.snoop_packet.new.desk.keeper)
+          snooped_more s first (faults_of members c.args.desk.now.keeper) c.packets.desk.state (door.view c.packets.door).state (faults_of members c.packets.desk.keeper) c.packets.reader c.packets.lines c.packets.failed now
+          c.go_on.new.reader (door.view c.go_on.new.door).state c.go_on.new.lines c.snoop_packet.new.lines (packet_of c.packet.result) c.snoop_packet.new.desk.state (faults_of members c.snoop_packet.new.desk.keeper)
           c.in-Ok.one c.either-failed.result
           (c.in-Packet.ensures.led (packets_of now.entries) (lines_of now.entries) first tells now.done) c.packet.ensures (c.in-Ok.ensures.all now.after now.stands) c.either-failed.ensures;
       keeper = counts_either c.packets.failed c.in-Ok.one c.either-failed.result c.either-failed.ensures

@@ -17,13 +17,13 @@ invariant-packets g l =
     record {
       stays : StaysKept members l.initial.desk.keeper l.desk.keeper l.desk.state;
       snooped : (s : Session) → (first : DoorState) → IsIn s l.initial.desk.state → door.tells
-          → HasDone [] [] l.initial.reader first (door.state l.initial.door) l.initial.lines
-          → HasSnooped s first (faults_of members l.initial.desk.keeper) l.desk.state (door.state l.door) (faults_of members l.desk.keeper) l.reader l.lines l.failed;
+          → HasDone [] [] l.initial.reader first (door.view l.initial.door).state l.initial.lines
+          → HasSnooped s first (faults_of members l.initial.desk.keeper) l.desk.state (door.view l.door).state (faults_of members l.desk.keeper) l.reader l.lines l.failed;
       keeper : Counts l.failed (faults_of members l.initial.desk.keeper) (faults_of members l.desk.keeper);
       going : is_broken l.reader ≡ false;
-      writes : door.writes l.door ≡ door.writes l.initial.door;
-      turns : door.turns l.door ≡ door.turns l.initial.door;
-      reads : door.reads l.door ≡ door.reads l.initial.door;
+      writes : (door.view l.door).writes ≡ (door.view l.initial.door).writes;
+      turns : (door.view l.door).turns ≡ (door.view l.initial.door).turns;
+      reads : (door.view l.door).reads ≡ (door.view l.initial.door).reads;
     }
 
 abbrev pub decreases-packets : goal.decreases-packets

@@ -4,9 +4,10 @@ use Rattle.mud_base.specs.declared.addr.Addr.TheVariants.{V4}
 use Rattle.mud_world.specs.Boxed.{faults_of}
 use Rattle.mud_desk.specs.DeskState.{session_of}
 use Rattle.dns_snoop.specs.Observed.{MayBeObserved}
-use Rattle.snoop_runs.proofs.LearntRows.{on_err, learns_at, first_at, counts_either}
+use Rattle.snoop_runs.proofs.LearntRows.{learns_at, first_at, counts_either}
 use Rattle.snoop_runs.proofs.Stays.{stays_further}
 use Rattle.snoop_runs.proofs.observing.learn_rows.Goals as goal
+use Rattle.sorted_rows.proofs.Results.{always_on_err}
 
 pub learn_row-requires-clause-asked : goal.learn_row-requires-clause-asked
 learn_row-requires-clause-asked g c =
@@ -16,7 +17,7 @@ learn_row-requires-clause-asked g c =
 pub returns-in_err-one-clause-part : goal.returns-in_err-one-clause-part
 returns-in_err-one-clause-part g c = λ h.
     let within : c.loop-row.row-index < length c.args.answers.now.rows = omega (arith, c.loop-row-test.true, ap length c.as_slice-row-items.ensures) in
-    on_err c.from_residual.result
+    always_on_err c.from_residual.result
     (first_at c.args.now c.args.answers.now.name c.octets.result.now c.args.answers.now.rows c.loop-row.row-index
     (get_or c.as_slice-row-items.result.now c.loop-row.row-index (V4 0, 0)) (V4 0, 0) within
     (ap (λ (rows : List (Addr × ℕ)). get_or rows c.loop-row.row-index (V4 0, 0)) c.as_slice-row-items.ensures) c.octets.ensures

@@ -8,16 +8,17 @@ use Rattle.dns_snoop.specs.Messages.{answers_of}
 use Rattle.mud_tables.specs.declared.segment.Segment.{Segment}
 use Rattle.snoop_runs.specs.Learning.{heard_in}
 use Rattle.snoop_runs.specs.Learnt.{Learns, LearnsFirst}
-use Rattle.snoop_runs.proofs.LearntRows.{on_err, on_err_all, if_ok_all, first_none, learns_none}
+use Rattle.snoop_runs.proofs.LearntRows.{on_err_all, if_ok_all, first_none, learns_none}
 use Rattle.snoop_runs.proofs.Judging.{goes_on, stops_at}
 use Rattle.snoop_runs.proofs.packet.snoop_packet.Goals as goal
+use Rattle.sorted_rows.proofs.Results.{always_on_err}
 
 pub returns-in_err-append_judged-clause-part : goal.returns-in_err-append_judged-clause-part
 returns-in_err-append_judged-clause-part g c = λ s in_session.
     let packet = packet_of c.args.packet.now in
     let middle = c.judge_packet.new.desk.state in
     let heard = option_map answers_of (heard_in (tables_of middle).tables.classes packet.octets c.in_ok-verdict.verdict) in
-    on_err c.from_residual-in_err-append_judged.result
+    always_on_err c.from_residual-in_err-append_judged.result
     (stops_at s packet c.in_ok-verdict.verdict middle middle (c.in_ok-verdict.ensures.verdict s in_session) (c.in_ok-verdict.ensures.next s in_session) heard refl refl
     middle.moment (faults_of (goal.Keeper-dyn g) c.args.desk.now.keeper) (faults_of (goal.Keeper-dyn g) c.judge_packet.new.desk.keeper) refl
     (λ h. first_none middle.moment heard (session_of h middle) (session_of h middle) (faults_of (goal.Keeper-dyn g) c.args.desk.now.keeper) (faults_of (goal.Keeper-dyn g) c.judge_packet.new.desk.keeper)

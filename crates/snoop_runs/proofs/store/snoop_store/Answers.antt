@@ -1,6 +1,6 @@
 use Rattle.std.proofs.Common.{ap}
 use Rattle.command_runs.specs.Status.{status_number}
-use Rattle.command_runs.specs.View.{viewed}
+use Rattle.mud_world.specs.View.{viewed}
 use Rattle.snoop_runs.proofs.Stored.{snooped_run, refused_snoop}
 use Rattle.snoop_runs.proofs.store.snoop_store.Goals as goal
 
@@ -14,8 +14,8 @@ returns-in-Ok g c =
     let store = c.in-Ok.ensures in
     let run = c.snoop_capture-status.ensures in
     snooped_run (goal.Keeper-dyn g) c.args.keeper after.keeper door.tells
-    (viewed (door.state old) (door.turns old) (door.reads old) (door.writes old) (door.failed old))
-    (viewed (door.state new) (door.turns new) (door.reads new) (door.writes new) (door.failed new))
+    (door.view old)
+    (door.view new)
     (status_number c.snoop_capture-status.result)
     desk.keeper desk.state after.state store.tables store.sound store.begun store.steady store.same_box
     run.stays run.statuses run.fault run.steady run.keeper run.keeper_steady
@@ -30,8 +30,8 @@ returns-in-Err g c =
     let store = c.in-Err.ensures in
     let run = c.refuse_store.ensures in
     refused_snoop (goal.Keeper-dyn g) c.args.keeper c.in-Err.keeper door.tells
-    (viewed (door.state old) (door.turns old) (door.reads old) (door.writes old) (door.failed old))
-    (viewed (door.state new) (door.turns new) (door.reads new) (door.writes new) (door.failed new))
+    (door.view old)
+    (door.view new)
     (status_number c.refuse_store.result)
     c.in-Err.fault store.bad store.left store.cause store.handed_back
-    run.statuses run.fault run.steady run.done run.part (λ call. ap door.state (run.untouched call)) run.turns run.reads
+    run.statuses run.fault run.steady run.done run.part (λ call. ap (λ d. (door.view d).state) (run.untouched call)) run.turns run.reads

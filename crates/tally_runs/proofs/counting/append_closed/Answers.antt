@@ -1,5 +1,5 @@
 use Rattle.std.proofs.Common.{◌≡◌, ℕ, List, ◌++◌, OnOk, sym, ap, subst, ◌∙◌}
-use Rattle.drop_ledger.proofs.LedgerLaws.{append_nil}
+use Rattle.std.proofs.lemmas.List.{append-nil}
 use Rattle.tally_runs.proofs.Stepped.{closed_is, closed_not}
 use Rattle.tally_runs.proofs.counting.append_closed.Goals as goal
 
@@ -11,5 +11,5 @@ returns-then-is_over c = λ all latest s stands now_is.
 
 pub returns : goal.returns
 returns c = λ all latest s stands now_is.
-    sym (append_nil c.args.lines.now)
+    sym (append-nil c.args.lines.now)
     ∙ ap (λ (l : List ℕ). c.args.lines.now ++ l) (closed_not latest s c.hour-hour.result c.args.now (c.hour-hour.ensures.value ∙ stands.hour) now_is (sym c.is_over.ensures ∙ c.if-is_over.false))

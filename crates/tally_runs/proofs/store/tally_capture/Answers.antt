@@ -22,8 +22,8 @@ told_due s octets text same = ap (λ (l : List ℕ). due_behind l (captured_of o
 
 pub returns-clause-done : goal.returns-clause-done
 returns-clause-done g c = λ s is_in tells which.
-    let old : DoorState = g.D.Door.state c.args.door.now in
-    let new : DoorState = g.D.Door.state c.write_capture-status.new.door in
+    let old : DoorState = (g.D.Door.view c.args.door.now).state in
+    let new : DoorState = (g.D.Door.view c.write_capture-status.new.door).state in
     let in_state = subst (λ (state : DeskState). IsIn s state) (sym c.into_parts-keeper.ensures.state) is_in in
     let keeps = c.new-lines.ensures s in_state (c.moment-moment.ensures ∙ own_moment s c.args.desk.state is_in) in
     subst (λ (due : Due). WritesDue due old new (status_number c.write_capture-status.result))
@@ -32,8 +32,8 @@ returns-clause-done g c = λ s is_in tells which.
 
 pub returns-clause-part : goal.returns-clause-part
 returns-clause-part g c = λ s is_in tells which.
-    let old : DoorState = g.D.Door.state c.args.door.now in
-    let new : DoorState = g.D.Door.state c.write_capture-status.new.door in
+    let old : DoorState = (g.D.Door.view c.args.door.now).state in
+    let new : DoorState = (g.D.Door.view c.write_capture-status.new.door).state in
     let in_state = subst (λ (state : DeskState). IsIn s state) (sym c.into_parts-keeper.ensures.state) is_in in
     let keeps = c.new-lines.ensures s in_state (c.moment-moment.ensures ∙ own_moment s c.args.desk.state is_in) in
     subst (λ (due : Due). WritesPart due old new)

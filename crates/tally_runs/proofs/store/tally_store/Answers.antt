@@ -1,6 +1,6 @@
 use Rattle.std.proofs.Common.{ap}
 use Rattle.command_runs.specs.Status.{status_number}
-use Rattle.command_runs.specs.View.{viewed}
+use Rattle.mud_world.specs.View.{viewed}
 use Rattle.desk_model.specs.Sessions.{opened}
 use Rattle.mud_desk.specs.DeskState.{tables_of}
 use Rattle.desk_runs.proofs.JudgedPackets.{in_begun}
@@ -19,8 +19,8 @@ returns-in-Ok-clause-tallied g c =
     let tables = tables_of desk.state in
     let is_in = in_begun tables desk.state store.begun in
     opened_over (goal.Keeper-dyn g) c.args.keeper desk.keeper door.tells
-    (viewed (door.state old) (door.turns old) (door.reads old) (door.writes old) (door.failed old))
-    (viewed (door.state new) (door.turns new) (door.reads new) (door.writes new) (door.failed new))
+    (door.view old)
+    (door.view new)
     (status_number c.tally_capture.result.0) tallied_due tallied_taken
     tables store.tables store.sound store.kept store.steady store.same_box
     run.statuses run.fault run.steady (run.done (opened tables) is_in) (run.part (opened tables) is_in) (run.taken (opened tables) is_in) run.turns
@@ -34,8 +34,8 @@ returns-in-Err-clause-tallied g c =
     let store = c.in-Err.ensures in
     let run = c.refuse_store.ensures in
     refused_over (goal.Keeper-dyn g) c.args.keeper c.in-Err.keeper door.tells
-    (viewed (door.state old) (door.turns old) (door.reads old) (door.writes old) (door.failed old))
-    (viewed (door.state new) (door.turns new) (door.reads new) (door.writes new) (door.failed new))
+    (door.view old)
+    (door.view new)
     (status_number c.refuse_store.result) tallied_due tallied_taken
     c.in-Err.fault store.bad store.left store.cause store.handed_back
-    run.statuses run.fault run.steady run.done run.part (λ call. ap door.state (run.untouched call)) run.turns run.reads
+    run.statuses run.fault run.steady run.done run.part (λ call. ap (λ d. (door.view d).state) (run.untouched call)) run.turns run.reads

@@ -2,7 +2,7 @@ use Rattle.std.proofs.Common.{◌≡◌, ℕ, List, [], ◌++◌, sym, ap, ◌�
 use Rattle.std.proofs.lemmas.Result.{on_err_weaker}
 use Rattle.std.specs.Net.Text.{ipv4_text}
 use Rattle.mud_base.specs.Texts.{octets_v4}
-use Rattle.text_lines.proofs.Parts.{always_on_err, part_behind}
+use Rattle.text_lines.proofs.Parts.{always_on_err, part_behind, behind_both}
 use Rattle.text_lines.proofs.addresses.append_dotted.Goals as goal
 
 -- an octet in decimal, and with a dot behind it
@@ -39,9 +39,6 @@ fourth_text o = fourth_of (digits o 0) (digits o 1) (digits o 2) (digits o 3) (c
 text_by : (n : ℕ) (o text : List ℕ) → o ≡ octets_v4 n → ipv4_text o ≡ text → ipv4_text (octets_v4 n) ≡ text
 text_by n o text e h = ap ipv4_text (sym e) ∙ h
 
-two_more : (old a b mid new : List ℕ) → mid ≡ old ++ a → new ≡ mid ++ b → new ≡ old ++ (a ++ b)
-two_more old a b mid new e h = h ∙ ap (λ (line : List ℕ). line ++ b) e ∙ append_assoc old a b
-
 pub returns-in_err-append_dotted_octet-clause-part : goal.returns-in_err-append_dotted_octet-clause-part
 unfolding octets_v4
 returns-in_err-append_dotted_octet-clause-part c =
@@ -64,7 +61,7 @@ pub returns-in_err-append_dotted_octet-3-clause-part : goal.returns-in_err-appen
 unfolding octets_v4
 returns-in_err-append_dotted_octet-3-clause-part c =
     let o = c.to_be_bytes-octets.result in
-    let two = two_more c.args.line.now (dotted o 0) (dotted o 1) c.append_dotted_octet.new.line c.append_dotted_octet-2.new.line c.in_ok-append_dotted_octet.ensures.ok c.in_ok-append_dotted_octet-2.ensures.ok in
+    let two = behind_both c.args.line.now (dotted o 0) (dotted o 1) c.append_dotted_octet.new.line c.append_dotted_octet-2.new.line c.in_ok-append_dotted_octet.ensures.ok c.in_ok-append_dotted_octet-2.ensures.ok in
     always_on_err c.from_residual-in_err-append_dotted_octet-3.result
     (part_behind (ipv4_text (octets_v4 c.args.number)) (dotted o 0 ++ dotted o 1) (dotted o 2) (digits o 3) c.args.line.now c.append_dotted_octet-2.new.line c.append_dotted_octet-3.new.line
     (text_by c.args.number o _ c.to_be_bytes-octets.ensures (third_text o))
@@ -74,8 +71,8 @@ pub returns-clause-part : goal.returns-clause-part
 unfolding octets_v4
 returns-clause-part c =
     let o = c.to_be_bytes-octets.result in
-    let two = two_more c.args.line.now (dotted o 0) (dotted o 1) c.append_dotted_octet.new.line c.append_dotted_octet-2.new.line c.in_ok-append_dotted_octet.ensures.ok c.in_ok-append_dotted_octet-2.ensures.ok in
-    let three = two_more c.args.line.now (dotted o 0 ++ dotted o 1) (dotted o 2) c.append_dotted_octet-2.new.line c.append_dotted_octet-3.new.line two c.in_ok-append_dotted_octet-3.ensures.ok in
+    let two = behind_both c.args.line.now (dotted o 0) (dotted o 1) c.append_dotted_octet.new.line c.append_dotted_octet-2.new.line c.in_ok-append_dotted_octet.ensures.ok c.in_ok-append_dotted_octet-2.ensures.ok in
+    let three = behind_both c.args.line.now (dotted o 0 ++ dotted o 1) (dotted o 2) c.append_dotted_octet-2.new.line c.append_dotted_octet-3.new.line two c.in_ok-append_dotted_octet-3.ensures.ok in
     on_err_weaker c.append_decimal.result
     (λ same. record {
       added = (dotted o 0 ++ dotted o 1) ++ dotted o 2;

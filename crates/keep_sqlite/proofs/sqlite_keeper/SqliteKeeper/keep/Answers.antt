@@ -1,7 +1,8 @@
 use Rattle.std.proofs.Common.{inl, ap, subst, ◌∙◌}
+use Rattle.std.proofs.lemmas.Result.{on_ok_weaker}
 use Rattle.keep_sqlite.specs.Rows.{HoldsItems}
 use Rattle.keep_sqlite.specs.Telling.{database, told, Tells}
-use Rattle.keep_sqlite.proofs.Tellings.{on_ok_map, put_told}
+use Rattle.keep_sqlite.proofs.Tellings.{put_told}
 use Rattle.keep_sqlite.proofs.sqlite_keeper.SqliteKeeper.keep.Goals as goal
 
 pub returns-clause-told : goal.returns-clause-told
@@ -16,4 +17,4 @@ returns-clause-ok g c tells =
     let up = (subst (Tells g.S.Store) c.self.view_is tells).0 in
     let opened = ap (λ k. k.has_opened) c.self.view_is ∙ e.opened ∙ c.requires.opened in
     let holds = subst (λ k. HoldsItems (database g.S.Store k)) c.self.view_is (c.self.invariant opened tells.0) in
-    on_ok_map c.put_in-answer.result (e.ok up) (λ put. ap (told g.S.Store) c.self.view_is ∙ put_told _ _ c.args.batch.now (e.held up) holds put)
+    on_ok_weaker c.put_in-answer.result (λ put. ap (told g.S.Store) c.self.view_is ∙ put_told _ _ c.args.batch.now (e.held up) holds put) (e.ok up)

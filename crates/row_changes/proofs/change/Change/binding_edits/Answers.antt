@@ -1,5 +1,6 @@
 use Rattle.std.proofs.Common.{◌≡◌, List, ℕ, ◌+◌, ◌*◌, length, drop, slice_get, Some, OnOk, sym, ap, subst, ◌∙◌, arith}
 use Rattle.std.specs.Prelude.{flat_map}
+use Rattle.std.proofs.lemmas.Result.{on_ok_weaker}
 use Rattle.acl_rows.specs.declared.row.Owner.TheVariants.{Default}
 use Rattle.row_edits.specs.declared.edit.Edit.{Edit}
 use Rattle.acl_rows.specs.declared.row.Row.{Row}
@@ -10,7 +11,6 @@ use Rattle.row_changes.specs.Change.{ChangeState, more_edits, slot_touches}
 use Rattle.row_changes.specs.Policies.{AllHeld}
 use Rattle.row_changes.specs.Steps.{least_steps, HolderFits}
 use Rattle.row_changes.proofs.Loops.{more_edits-append, length_times, least_steps-append, next_slot, slot_there, last_holder}
-use Rattle.row_changes.proofs.FreshLaws.{on_ok_map}
 use Rattle.row_changes.proofs.change.Change.binding_edits.Goals as goal
 
 pub slot_edits-requires : goal.slot_edits-requires
@@ -87,4 +87,4 @@ returns-clause-read g c =
     let is : (Default, default_held) ≡ c.args.defaults.now = λ i. (sym c.requires.default_owner i, c.requires.default_held i) in
     let last = ap (least_steps c.args.self.now.rows) (last_holder c.args.binding.now.key c.args.binding.now.addr c.self.inside.slots.now c.loop-slot.slot-index c.args.defaults.now (omega arith) is) in
     let all = ap (λ (s : ChangeState). least_steps c.args.self.now.rows (binding_touches s.slots c.args.binding.now)) c.self.view_is in
-    on_ok_map _ _ (λ read. omega (arith, c.loop-slot.invariant.read, read, last, all)) c.holder_edits.result c.holder_edits.ensures.read
+    on_ok_weaker c.holder_edits.result (λ read. omega (arith, c.loop-slot.invariant.read, read, last, all)) c.holder_edits.ensures.read

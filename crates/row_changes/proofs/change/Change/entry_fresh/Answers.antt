@@ -1,5 +1,6 @@
 use Rattle.std.proofs.Common.{◌≡◌, ℕ, ◌+◌, ◌*◌, ◌≤◌, List, [], length, map, ap, sym, subst, ◌∙◌, arith}
 use Rattle.std.specs.Option.{option_map}
+use Rattle.std.proofs.lemmas.List.{length-map}
 use Rattle.sorted_rows.specs.Placed.{rows_under}
 use Rattle.acl_model.specs.Places.{text_place, binding_place}
 use Rattle.acl_rows.specs.declared.row.RowKey.{RowKey}
@@ -8,7 +9,7 @@ use Rattle.acl_patch.specs.PolicyTouched.{bound_key, first_key_touches, entry_to
 use Rattle.key_index.specs.Keys.{key_parts}
 use Rattle.row_changes.specs.Change.{ChangeState}
 use Rattle.row_changes.specs.Fresh.{fresh_of, first_of, more_fresh}
-use Rattle.row_changes.proofs.FreshLaws.{none-more, no_first, some_first, length-map, counts_one}
+use Rattle.row_changes.proofs.FreshLaws.{none-more, no_first, some_first, counts_one}
 use Rattle.row_changes.proofs.change.Change.entry_fresh.Goals as goal
 
 total : (start middle end l n m b u : ℕ) → l ≡ n → m ≡ 1 → middle ≤ start + l + b → end ≤ middle + l * u → end ≤ start + m * b + n * (u + 1)
@@ -46,7 +47,7 @@ returns-in_err-bound_fresh-in-Some-clause-most g c = λ b k u few rows fit.
     ap (map (bound_key c.args.holding.now.0 c.args.side c.args.n)) bound
     ∙ sym (some_first c.args.self.now.bindings c.args.holding.now.0 c.args.side c.args.n c.in-Some.key.kind c.in-Some.key.text.now (member_keys c.args.holding.now.1.url c.args.entry.now) some) in
     let long : length c.rows_under_counted-bound.result.now ≡ length (first_key_touches c.args.self.now.bindings c.args.holding.now.0 c.args.side c.args.n (member_keys c.args.holding.now.1.url c.args.entry.now)) =
-    sym (length-map (bound_key c.args.holding.now.0 c.args.side c.args.n) c.rows_under_counted-bound.result.now) ∙ ap (λ (ks : List RowKey). length ks) touched in
+    sym (length-map c.rows_under_counted-bound.result.now (bound_key c.args.holding.now.0 c.args.side c.args.n)) ∙ ap (λ (ks : List RowKey). length ks) touched in
     let one = counts_one c.args.holding.now.1.url c.args.entry.now (c.in-Some.key.kind, c.in-Some.key.text.now) some in
     let read : c.rows_under_counted-bound.new.steps ≤ c.args.steps.now + length c.rows_under_counted-bound.result.now + b = omega (arith, c.rows_under_counted-bound.ensures.counted) in
     total c.args.steps.now c.rows_under_counted-bound.new.steps c.bound_fresh.new.steps (length c.rows_under_counted-bound.result.now) _ _ b u long one read (c.bound_fresh.ensures.most b k u few rows fit)
@@ -60,7 +61,7 @@ returns-in_ok-bound_fresh-in-Some-clause-most g c = λ b k u few rows fit.
     ap (map (bound_key c.args.holding.now.0 c.args.side c.args.n)) bound
     ∙ sym (some_first c.args.self.now.bindings c.args.holding.now.0 c.args.side c.args.n c.in-Some.key.kind c.in-Some.key.text.now (member_keys c.args.holding.now.1.url c.args.entry.now) some) in
     let long : length c.rows_under_counted-bound.result.now ≡ length (first_key_touches c.args.self.now.bindings c.args.holding.now.0 c.args.side c.args.n (member_keys c.args.holding.now.1.url c.args.entry.now)) =
-    sym (length-map (bound_key c.args.holding.now.0 c.args.side c.args.n) c.rows_under_counted-bound.result.now) ∙ ap (λ (ks : List RowKey). length ks) touched in
+    sym (length-map c.rows_under_counted-bound.result.now (bound_key c.args.holding.now.0 c.args.side c.args.n)) ∙ ap (λ (ks : List RowKey). length ks) touched in
     let one = counts_one c.args.holding.now.1.url c.args.entry.now (c.in-Some.key.kind, c.in-Some.key.text.now) some in
     let read : c.rows_under_counted-bound.new.steps ≤ c.args.steps.now + length c.rows_under_counted-bound.result.now + b = omega (arith, c.rows_under_counted-bound.ensures.counted) in
     total c.args.steps.now c.rows_under_counted-bound.new.steps c.bound_fresh.new.steps (length c.rows_under_counted-bound.result.now) _ _ b u long one read (c.bound_fresh.ensures.most b k u few rows fit)
@@ -81,7 +82,7 @@ returns-in_err-bound_fresh-in-Some-clause-least g c =
     ap (map (bound_key c.args.holding.now.0 c.args.side c.args.n)) bound
     ∙ sym (some_first c.args.self.now.bindings c.args.holding.now.0 c.args.side c.args.n c.in-Some.key.kind c.in-Some.key.text.now (member_keys c.args.holding.now.1.url c.args.entry.now) some) in
     let long : length c.rows_under_counted-bound.result.now ≡ length (first_key_touches c.args.self.now.bindings c.args.holding.now.0 c.args.side c.args.n (member_keys c.args.holding.now.1.url c.args.entry.now)) =
-    sym (length-map (bound_key c.args.holding.now.0 c.args.side c.args.n) c.rows_under_counted-bound.result.now) ∙ ap (λ (ks : List RowKey). length ks) touched in
+    sym (length-map c.rows_under_counted-bound.result.now (bound_key c.args.holding.now.0 c.args.side c.args.n)) ∙ ap (λ (ks : List RowKey). length ks) touched in
     omega (arith, long, c.rows_under_counted-bound.ensures.counted, c.bound_fresh.ensures.least)
 
 pub returns-in_ok-bound_fresh-in-Some-clause-least : goal.returns-in_ok-bound_fresh-in-Some-clause-least
@@ -93,5 +94,5 @@ returns-in_ok-bound_fresh-in-Some-clause-least g c =
     ap (map (bound_key c.args.holding.now.0 c.args.side c.args.n)) bound
     ∙ sym (some_first c.args.self.now.bindings c.args.holding.now.0 c.args.side c.args.n c.in-Some.key.kind c.in-Some.key.text.now (member_keys c.args.holding.now.1.url c.args.entry.now) some) in
     let long : length c.rows_under_counted-bound.result.now ≡ length (first_key_touches c.args.self.now.bindings c.args.holding.now.0 c.args.side c.args.n (member_keys c.args.holding.now.1.url c.args.entry.now)) =
-    sym (length-map (bound_key c.args.holding.now.0 c.args.side c.args.n) c.rows_under_counted-bound.result.now) ∙ ap (λ (ks : List RowKey). length ks) touched in
+    sym (length-map c.rows_under_counted-bound.result.now (bound_key c.args.holding.now.0 c.args.side c.args.n)) ∙ ap (λ (ks : List RowKey). length ks) touched in
     omega (arith, long, c.rows_under_counted-bound.ensures.counted, c.bound_fresh.ensures.least)

@@ -1,6 +1,7 @@
 use Rattle.std.proofs.Common.{◌+◌, ◌≤◌, List, length, subst}
+use Rattle.std.proofs.lemmas.Result.{on_ok_weaker}
 use Rattle.acl_rows.specs.declared.row.RowKey.{RowKey}
-use Rattle.row_changes.proofs.FreshLaws.{on_ok_map, if_ok_map}
+use Rattle.row_changes.proofs.FreshLaws.{if_ok_map}
 use Rattle.row_changes.proofs.EntryHalves.{all_stand, side_touches, side_planned, side_most}
 use Rattle.row_changes.proofs.change.Change.side_fresh.Goals as goal
 
@@ -14,8 +15,7 @@ returns-clause-ok g c =
 
 pub returns-clause-read : goal.returns-clause-read
 returns-clause-read g c =
-    on_ok_map _ _ (λ read. subst (λ (keys : List RowKey). c.args.steps.now + length keys ≤ c.entries_fresh.new.steps) (side_touches c.args.self.now.bindings c.args.holding.now c.args.side c.entries.result.now c.entries.ensures) read)
-    c.entries_fresh.result c.entries_fresh.ensures.read
+    on_ok_weaker c.entries_fresh.result (λ read. subst (λ (keys : List RowKey). c.args.steps.now + length keys ≤ c.entries_fresh.new.steps) (side_touches c.args.self.now.bindings c.args.holding.now c.args.side c.entries.result.now c.entries.ensures) read) c.entries_fresh.ensures.read
 
 pub returns-clause-most : goal.returns-clause-most
 returns-clause-most g c = λ b k u few rows fit.

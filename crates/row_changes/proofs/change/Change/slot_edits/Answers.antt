@@ -1,4 +1,5 @@
 use Rattle.std.proofs.Common.{◌≡◌, ◌*◌, List, length, Option, Some, OnOk, sym, ap, subst, ◌∙◌, arith}
+use Rattle.std.proofs.lemmas.Result.{on_ok_weaker}
 use Rattle.acl_model.specs.Policies.{UrlPolicy}
 use Rattle.acl_rows.specs.declared.row.Owner.TheVariants.{Url}
 use Rattle.acl_rows.specs.declared.row.Row.{Row}
@@ -8,7 +9,6 @@ use Rattle.row_edits.specs.declared.edit.Edit.{Edit}
 use Rattle.row_changes.specs.Change.{more_edits, slot_touches}
 use Rattle.row_changes.specs.Steps.{least_steps, HolderFits}
 use Rattle.row_changes.proofs.Loops.{slot_holds, least_steps-none}
-use Rattle.row_changes.proofs.FreshLaws.{on_ok_map}
 use Rattle.row_changes.proofs.change.Change.slot_edits.Goals as goal
 
 pub holder_edits-requires : goal.holder_edits-requires
@@ -54,4 +54,4 @@ returns-in-Some-clause-read g c =
     let count =
     ap (λ (s : Option UrlPolicy). least_steps c.args.self.now.rows (slot_touches c.args.binding.now.key c.args.binding.now.addr c.args.n s)) c.in-Some.is
     ∙ sym (ap (λ (h : Holder). least_steps c.args.self.now.rows (holder_touches c.args.binding.now.key c.args.binding.now.addr h)) same) in
-    on_ok_map _ _ (λ read. omega (arith, read, count)) c.holder_edits.result c.holder_edits.ensures.read
+    on_ok_weaker c.holder_edits.result (λ read. omega (arith, read, count)) c.holder_edits.ensures.read

@@ -1,22 +1,55 @@
--- Lists of numbers stand to one another as the first numbers do in which they differ.
-use Rattle.std.proofs.Common.{◌≡◌, ℕ, zero, suc, ◌+◌, ◌<◌, List, [], ◌∷◌, drop, length, slice_index_or, refl, ap, subst, ◌∙◌, arith}
+-- How orders are put one after the other, and how places stand to one another part by part.
+use Rattle.std.proofs.Common.{◌≡◌, ℕ, List, [], ◌∷◌, ◌++◌, length, refl, sym, ap, ◌∙◌, arith, zero, suc, ◌<◌, drop, slice_index_or, subst, ◌+◌}
 use Rattle.std.specs.Ordering.{nat_cmp, ordering_then, is_eq}
 use Rattle.std.specs.declared.cmp.Ordering.{Ordering}
 use Rattle.std.specs.declared.cmp.Ordering.TheVariants.{Less, Equal, Greater}
-use Rattle.std.proofs.lemmas.Cmp.{nat_cmp_total, tied_itself}
 use Rattle.std.proofs.lemmas.Bool.{eqb-true}
 use Rattle.std.specs.Cmp.{unsigned_ties}
-use Rattle.sorted_rows.specs.Placed.{place_cmp}
+use Rattle.std.proofs.lemmas.Cmp.{nat_cmp_total, tied_itself}
+use Rattle.sorted_rows.specs.Placed.{place_cmp, prefix_cmp}
 
-decided : (o r : Ordering) → (o ≡ Equal → ⊥) → o ≡ ordering_then o r
+-- ---- One order after the other
+
+pub then_equal : (o : Ordering) → ordering_then o Equal ≡ o
+then_equal Less = refl
+then_equal Equal = refl
+then_equal Greater = refl
+
+pub then_assoc : (o p q : Ordering) → ordering_then (ordering_then o p) q ≡ ordering_then o (ordering_then p q)
+then_assoc Less p q = refl
+then_assoc Equal p q = refl
+then_assoc Greater p q = refl
+
+-- ---- Places part by part
+
+-- places of one length decide before what follows them
+pub place_cmp-front : (xs ys us vs : List ℕ) → length xs ≡ length ys → place_cmp (xs ++ us) (ys ++ vs) ≡ ordering_then (place_cmp xs ys) (place_cmp us vs)
+place_cmp-front [] [] us vs long = refl
+place_cmp-front [] (y ∷ ys) us vs long = absurd (omega arith)
+place_cmp-front (x ∷ xs) [] us vs long = absurd (omega arith)
+place_cmp-front (x ∷ xs) (y ∷ ys) us vs long = ap (ordering_then (nat_cmp x y)) (place_cmp-front xs ys us vs (omega arith)) ∙ sym (then_assoc (nat_cmp x y) (place_cmp xs ys) (place_cmp us vs))
+
+-- a beginning stands to a place as it does to that place's own beginning
+pub prefix_cmp-front : (xs ys vs : List ℕ) → length xs ≡ length ys → prefix_cmp xs (ys ++ vs) ≡ place_cmp xs ys
+prefix_cmp-front [] [] vs long = refl
+prefix_cmp-front [] (y ∷ ys) vs long = absurd (omega arith)
+prefix_cmp-front (x ∷ xs) [] vs long = absurd (omega arith)
+prefix_cmp-front (x ∷ xs) (y ∷ ys) vs long = ap (ordering_then (nat_cmp x y)) (prefix_cmp-front xs ys vs (omega arith))
+
+pub one_number : (m n : ℕ) → place_cmp (m ∷ []) (n ∷ []) ≡ nat_cmp m n
+one_number m n = then_equal (nat_cmp m n)
+
+-- ---- Places from a number on
+
+pub decided : (o r : Ordering) → (o ≡ Equal → ⊥) → o ≡ ordering_then o r
 decided Less r apart = refl
 decided Equal r apart = absurd (apart refl)
 decided Greater r apart = refl
 
-equal_numbers : (x y : ℕ) → nat_cmp x y ≡ Equal → x ≡ y
+pub equal_numbers : (x y : ℕ) → nat_cmp x y ≡ Equal → x ≡ y
 equal_numbers x y e = eqb-true x y (unsigned_ties x y ∙ ap is_eq e)
 
-equal_first : (n : ℕ) (xs ys : List ℕ) → n < length xs → n < length ys → slice_index_or xs n 0 ≡ slice_index_or ys n 0 → place_cmp (drop n xs) (drop n ys) ≡ place_cmp (drop (suc n) xs) (drop (suc n) ys)
+pub equal_first : (n : ℕ) (xs ys : List ℕ) → n < length xs → n < length ys → slice_index_or xs n 0 ≡ slice_index_or ys n 0 → place_cmp (drop n xs) (drop n ys) ≡ place_cmp (drop (suc n) xs) (drop (suc n) ys)
 equal_first n [] ys p q e = absurd (omega (arith, p))
 equal_first n (x ∷ xs) [] p q e = absurd (omega (arith, q))
 equal_first zero (x ∷ xs) (y ∷ ys) p q e = ap (λ o. ordering_then o (place_cmp xs ys)) (subst (λ z. nat_cmp x z ≡ Equal) e (tied_itself nat_cmp_total x))

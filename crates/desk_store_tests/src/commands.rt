@@ -15,33 +15,33 @@ use std::alloc::Global;
 use std::test::Fail;
 
 /// How many commands there are.
-pub const COMMANDS: usize = 6;
+pub(crate) const COMMANDS: usize = 6;
 
 /// Their moment, in seconds.
-pub const SECOND: u64 = 1000;
+pub(crate) const SECOND: u64 = 1000;
 
 /// The hardware address of the Thing.
-pub const MAC: Mac = Mac([2, 0, 0, 0, 0, 1]);
+pub(crate) const MAC: Mac = Mac([2, 0, 0, 0, 0, 1]);
 
 /// Its URL.
-pub const URL: &[u8] = b"https://lighting.example.com/lightbulb2000";
+pub(crate) const URL: &[u8] = b"https://lighting.example.com/lightbulb2000";
 
 /// Its address, 192.0.2.10, and the end of its lease of a day.
-pub const LEASE: Addr = Addr::V4(0xc000_020a);
+pub(crate) const LEASE: Addr = Addr::V4(0xc000_020a);
 
-pub const LEASE_END: u64 = 87_400;
+pub(crate) const LEASE_END: u64 = 87_400;
 
 /// The class, and its address 192.0.2.53.
-pub const CLASS: &[u8] = b"urn:ietf:params:mud:dns";
+pub(crate) const CLASS: &[u8] = b"urn:ietf:params:mud:dns";
 
-pub const SERVER: Addr = Addr::V4(0xc000_0235);
+pub(crate) const SERVER: Addr = Addr::V4(0xc000_0235);
 
 /// The name, its address 198.51.100.7, and the end of the minute for which it was observed.
-pub const NAME: &[u8] = b"test.example.com";
+pub(crate) const NAME: &[u8] = b"test.example.com";
 
-pub const OBSERVED: Addr = Addr::V4(0xc633_6407);
+pub(crate) const OBSERVED: Addr = Addr::V4(0xc633_6407);
 
-pub const NAME_END: u64 = 1060;
+pub(crate) const NAME_END: u64 = 1060;
 
 /// The URL of the Thing.
 fn bulb_url() -> Result<MudUrl, Fail> {
@@ -82,7 +82,7 @@ fn of_file(alloc: Global, is_verdict: bool) -> Result<Command, Fail>
 }
 
 /// The command of this number, from 0.
-pub fn command(alloc: Global, number: usize) -> Result<Command, Fail>
+pub(crate) fn command(alloc: Global, number: usize) -> Result<Command, Fail>
     ensures { IfOk result IsAsked }
 {
     match number {
@@ -96,7 +96,7 @@ pub fn command(alloc: Global, number: usize) -> Result<Command, Fail>
 }
 
 /// What each of them answers: its word, and the end that is kept, in seconds.
-pub const ANSWERS: [(&str, Option<u64>); COMMANDS] = [
+pub(crate) const ANSWERS: [(&str, Option<u64>); COMMANDS] = [
     ("new", None),
     ("new", Some(LEASE_END)),
     ("new", None),

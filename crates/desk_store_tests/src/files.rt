@@ -13,7 +13,7 @@ use std::alloc::Global;
 pub type StoppingFile = Fuse<FileInMemory>;
 
 /// New files that stop after so many calls each.
-pub fn new_files(alloc: Global, calls: u64) -> Files<StoppingFile> {
+pub(crate) fn new_files(alloc: Global, calls: u64) -> Files<StoppingFile> {
     Files {
         log: Fuse::new(FileInMemory::new(alloc), calls),
         db: Fuse::new(FileInMemory::new(alloc), calls),
@@ -21,7 +21,7 @@ pub fn new_files(alloc: Global, calls: u64) -> Files<StoppingFile> {
 }
 
 /// A keeper over the files, or the files where they can't be opened.
-pub fn keeper_over(
+pub(crate) fn keeper_over(
     alloc: Global,
     files: Files<StoppingFile>,
 ) -> Result<SqliteKeeper<FileStore<StoppingFile>>, Files<StoppingFile>> {
@@ -35,12 +35,12 @@ pub fn keeper_over(
 }
 
 /// The files of a keeper.
-pub fn files_of(keeper: SqliteKeeper<FileStore<StoppingFile>>) -> Files<StoppingFile> {
+pub(crate) fn files_of(keeper: SqliteKeeper<FileStore<StoppingFile>>) -> Files<StoppingFile> {
     keeper.give_back().into_store().close()
 }
 
 /// What a crash leaves of files. They don't stop from then on.
-pub fn after_crash(files: Files<StoppingFile>) -> Files<StoppingFile> {
+pub(crate) fn after_crash(files: Files<StoppingFile>) -> Files<StoppingFile> {
     let Files { mut log, mut db } = files;
     log.crash();
     db.crash();
@@ -49,7 +49,7 @@ pub fn after_crash(files: Files<StoppingFile>) -> Files<StoppingFile> {
 
 /// A keeper over such files, as a desk takes one. Its calls are those of [`SqliteKeeper`].
 #[derive(Drop)]
-pub struct FilesKeeper {
+struct FilesKeeper {
     inner: SqliteKeeper<FileStore<StoppingFile>>,
 }
 
@@ -72,7 +72,7 @@ impl Keeper for FilesKeeper {
 }
 
 /// The keeper in a box.
-pub fn boxed(
+pub(crate) fn boxed(
     alloc: Global,
     inner: SqliteKeeper<FileStore<StoppingFile>>,
 ) -> Result<Box<dyn Keeper>, Memory> {

@@ -78,7 +78,7 @@ fn are_names(names: &[NameRow], count: usize) -> bool {
 }
 
 /// Whether a desk has the lists after so many of the commands.
-pub fn has_lists(desk: &Desk, count: usize) -> bool {
+pub(crate) fn has_lists(desk: &Desk, count: usize) -> bool {
     let stamp = desk.stamp().map(|moment| moment.seconds());
     let locals: &[Prefix] = desk.locals();
     are_things(desk.things(), count)

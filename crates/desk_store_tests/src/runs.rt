@@ -27,7 +27,7 @@ pub struct Run {
 
 impl Run {
     /// A run that is to begin.
-    pub fn new() -> Run {
+    pub(crate) fn new() -> Run {
         Run {
             begun: 0,
             acknowledged: 0,
@@ -35,7 +35,7 @@ impl Run {
     }
 
     /// Whether a call of its keeper, or of what came before, was stopped.
-    pub fn has_stopped(&self) -> bool {
+    pub(crate) fn has_stopped(&self) -> bool {
         self.acknowledged < COMMANDS
     }
 }
@@ -140,7 +140,10 @@ fn keep_all<S: Alter + Drop, L: Ledger>(
 }
 
 /// A run over a keeper, from nothing.
-pub fn run_over<S: Alter + Drop>(alloc: Global, keeper: &mut SqliteKeeper<S>) -> Result<Run, Fail> {
+pub(crate) fn run_over<S: Alter + Drop>(
+    alloc: Global,
+    keeper: &mut SqliteKeeper<S>,
+) -> Result<Run, Fail> {
     let mut books = empty(alloc)?;
     keep_all::<S, Brand>(alloc, keeper, &mut books, Blank::new(1))
 }

@@ -3,11 +3,12 @@ ghost use Rattle.sqlite.specs.Files.{over_files};
 ghost use Rattle.keep_sqlite.specs.Telling.{told, Tells};
 
 use keep_sqlite::SqliteKeeper;
-use mud_base::{Listed, Memory};
+use mud_base::Listed;
 use mud_world::{Item, KeepFault, Keeper, Put};
 use sqlite::{Connection, FileStore, Files, Options};
 use sqlite_disk::{Crash, Fuse, Memory as FileInMemory};
 use std::alloc::Global;
+use std::test::Fail;
 
 /// A file in memory of which each call fails after so many.
 pub type StoppingFile = Fuse<FileInMemory>;
@@ -49,8 +50,18 @@ pub(crate) fn after_crash(files: Files<StoppingFile>) -> Files<StoppingFile> {
 
 /// A keeper over such files, as a desk takes one. Its calls are those of [`SqliteKeeper`].
 #[derive(Drop)]
-struct FilesKeeper {
+pub struct FilesKeeper {
     inner: SqliteKeeper<FileStore<StoppingFile>>,
+}
+
+impl FilesKeeper {
+    /// A keeper over the files.
+    pub(crate) fn over(alloc: Global, files: Files<StoppingFile>) -> Result<FilesKeeper, Fail> {
+        match keeper_over(alloc, files) {
+            Ok(inner) => Ok(FilesKeeper { inner }),
+            Err(_files) => Err("the files don't open".into()),
+        }
+    }
 }
 
 impl Keeper for FilesKeeper {
@@ -69,13 +80,4 @@ impl Keeper for FilesKeeper {
     fn apply(&mut self, batch: &[Put]) -> Result<(), KeepFault> {
         self.inner.apply(batch)
     }
-}
-
-/// The keeper in a box.
-pub(crate) fn boxed(
-    alloc: Global,
-    inner: SqliteKeeper<FileStore<StoppingFile>>,
-) -> Result<Box<dyn Keeper>, Memory> {
-    let keeper: Box<dyn Keeper> = Box::new(alloc, FilesKeeper { inner })?;
-    Ok(keeper)
 }

@@ -4,10 +4,10 @@ ghost use Rattle.mud_desk.specs.Boxed.{IsKept};
 ghost use Rattle.mud_desk.specs.DeskState.{tables_of};
 
 use crate::commands::{ANSWERS, COMMANDS, SECOND, command};
-use crate::files::{StoppingFile, after_crash, boxed, files_of, keeper_over, new_files};
+use crate::files::{FilesKeeper, StoppingFile, after_crash, files_of, keeper_over, new_files};
 use crate::lists::has_lists;
 use crate::runs::{Run, run_over};
-use mud_base::{End, Moment};
+use mud_base::Moment;
 use mud_desk::{Desk, Reply, Taken};
 use mud_world::Keeper;
 use sorted_rows::Steps;
@@ -25,14 +25,6 @@ fn opened(alloc: Global, keeper: Box<dyn Keeper>) -> Result<Desk, Fail>
     match Desk::open(alloc, keeper, Taken::new(alloc)) {
         Ok(desk) => Ok(desk),
         Err(_refused) => Err("not opened".into()),
-    }
-}
-
-/// A keeper in a box, over the files.
-fn box_over(alloc: Global, files: Files<StoppingFile>) -> Result<Box<dyn Keeper>, Fail> {
-    match keeper_over(alloc, files) {
-        Ok(keeper) => Ok(boxed(alloc, keeper)?),
-        Err(_files) => Err("the files don't open".into()),
     }
 }
 
@@ -54,9 +46,15 @@ fn stopped(rt: &impl Abort, alloc: Global, calls: u64) -> Result<(Run, Files<Sto
 
 /// Whether a desk over the keeper has the lists after as many commands as a run had acknowledged, or after the
 /// one under way.
-fn finds(alloc: Global, keeper: Box<dyn Keeper>, run: Run) -> Result<bool, Fail> {
+fn has_either(alloc: Global, keeper: Box<dyn Keeper>, run: Run) -> Result<bool, Fail> {
     let desk = opened(alloc, keeper)?;
     Ok(has_lists(&desk, run.acknowledged) || has_lists(&desk, run.begun))
+}
+
+/// The same, where the keeper is over these files.
+fn finds(alloc: Global, files: Files<StoppingFile>, run: Run) -> Result<bool, Fail> {
+    let keeper: Box<dyn Keeper> = Box::new(alloc, FilesKeeper::over(alloc, files)?)?;
+    has_either(alloc, keeper, run)
 }
 
 /// Each call of two files stops a run in turn.
@@ -66,8 +64,7 @@ fn desks_find_whole_commands_behind_stops(rt: HostRuntime) -> Result<(), Fail> {
     let mut count = 0;
     for calls in 0..200 {
         let (run, files) = stopped(&rt, alloc, calls)?;
-        let keeper = box_over(alloc, files)?;
-        assert!(rt; finds(alloc, keeper, run)?, "after {calls} calls");
+        assert!(rt; finds(alloc, files, run)?, "after {calls} calls");
         if !run.has_stopped() {
             break;
         }
@@ -78,26 +75,27 @@ fn desks_find_whole_commands_behind_stops(rt: HostRuntime) -> Result<(), Fail> {
     Ok(())
 }
 
-/// The seconds of an end.
-fn seconds_of(end: Option<End>) -> Option<u64> {
-    end.map(|end| end.0)
+/// The word of a reply and the end that is kept, in seconds; None where the command wasn't carried out.
+fn said_in(reply: &Reply) -> Option<(&'static str, Option<u64>)> {
+    match reply {
+        Reply::Done(outcome) => Some((outcome.word.text(), outcome.until.map(|end| end.0))),
+        _ => None,
+    }
 }
 
-/// Gives a desk the command of this number, and tells its word and the end that is kept.
+/// Gives a desk the command of this number, and tells what it answers.
 fn answer<L: Ledger>(
     alloc: Global,
     desk: &mut Desk,
     number: usize,
     steps: &mut Steps<L>,
-) -> Result<(&'static str, Option<u64>), Fail>
+) -> Result<Option<(&'static str, Option<u64>)>, Fail>
     requires { IsKept Keeper-dyn desk.old.keeper (tables_of desk.old.state) }
     ensures { IsKept Keeper-dyn desk.new.keeper (tables_of desk.new.state) }
 {
     let command = command(alloc, number)?;
-    match desk.command(command, Moment::at_most_last(SECOND), steps) {
-        Reply::Done(outcome) => Ok((outcome.word.text(), seconds_of(outcome.until))),
-        _ => Err("not done".into()),
-    }
+    let reply = desk.command(command, Moment::at_most_last(SECOND), steps);
+    Ok(said_in(&reply))
 }
 
 /// Gives a desk the commands, and asserts what each answers.
@@ -116,7 +114,7 @@ fn check_answers<L: Ledger>(
     let mut steps = Steps::<L>::new(blank);
     'commands: for number in 0..COMMANDS {
         let found = answer(alloc, desk, number, &mut steps)?;
-        assert_eq!(rt; found, ANSWERS[number]);
+        assert_eq!(rt; found, Some(ANSWERS[number]));
     }
     Ok(())
 }
@@ -137,12 +135,18 @@ fn closed(
     }
 }
 
-#[test]
-fn a_desk_is_opened_again_over_its_keeper(rt: HostRuntime) -> Result<(), Fail> {
-    let alloc = rt.alloc();
-    let keeper = box_over(alloc, new_files(alloc, u64::MAX))?;
-    let keeper = closed(&rt, alloc, keeper)?;
+/// Asserts what a desk over the keeper answers, and what one lists that is opened over it again.
+fn check_session(rt: &impl Abort, alloc: Global, keeper: Box<dyn Keeper>) -> Result<(), Fail> {
+    let keeper = closed(rt, alloc, keeper)?;
     let desk = opened(alloc, keeper)?;
     assert!(rt; has_lists(&desk, COMMANDS));
     Ok(())
+}
+
+#[test]
+fn a_desk_is_opened_again_over_its_keeper(rt: HostRuntime) -> Result<(), Fail> {
+    let alloc = rt.alloc();
+    let files = new_files(alloc, u64::MAX);
+    let keeper: Box<dyn Keeper> = Box::new(alloc, FilesKeeper::over(alloc, files)?)?;
+    check_session(&rt, alloc, keeper)
 }

@@ -26,21 +26,25 @@ pub(crate) const MAC: Mac = Mac([2, 0, 0, 0, 0, 1]);
 /// Its URL.
 pub(crate) const URL: &[u8] = b"https://lighting.example.com/lightbulb2000";
 
-/// Its address, 192.0.2.10, and the end of its lease of a day.
+/// Its address: 192.0.2.10.
 pub(crate) const LEASE: Addr = Addr::V4(0xc000_020a);
 
+/// The end of its lease of a day, in seconds.
 pub(crate) const LEASE_END: u64 = 87_400;
 
-/// The class, and its address 192.0.2.53.
+/// The class.
 pub(crate) const CLASS: &[u8] = b"urn:ietf:params:mud:dns";
 
+/// Its address: 192.0.2.53.
 pub(crate) const SERVER: Addr = Addr::V4(0xc000_0235);
 
-/// The name, its address 198.51.100.7, and the end of the minute for which it was observed.
+/// The name.
 pub(crate) const NAME: &[u8] = b"test.example.com";
 
+/// Its address: 198.51.100.7.
 pub(crate) const OBSERVED: Addr = Addr::V4(0xc633_6407);
 
+/// The end of the minute for which it was observed, in seconds.
 pub(crate) const NAME_END: u64 = 1060;
 
 /// The URL of the Thing.

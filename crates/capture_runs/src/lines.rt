@@ -1,12 +1,13 @@
 //! The lines of a capture as it streams, each by a step over a state.
-ghost use Rattle.std.specs.Prelude.{◌≡◌, ◌≢◌, ◌⊎◌, ◌++◌, [], ℕ, List, false, OnOk, OnErr};
-ghost use Rattle.mud_world.specs.Causes.{EndsAtFailure, StopsAtFailure};
+ghost use Rattle.std.specs.Prelude.{◌≡◌, ◌≢◌, ◌⊎◌, ◌++◌, [], ℕ, List, false, OnOk, OnErr, ◌∷◌};
 ghost use Rattle.mud_world.specs.Door.{DoorState};
 ghost use Rattle.packet_buffer.specs.Packets.{Packet};
 ghost use Rattle.pcap_read.specs.Captured.{packet_of};
 ghost use Rattle.capture_source.specs.Reading.{is_broken};
+ghost use Rattle.command_runs.specs.Ends.{IsSteady, IsStopped, IsStoppedWriting};
 ghost use Rattle.command_runs.specs.Due.{WritesDue, WritesPart};
-ghost use Rattle.command_runs.specs.Status.{status_number};
+ghost use Rattle.command_runs.specs.Status.{Is, IsNot, IsOneOf, status_number};
+ghost use Rattle.command_runs.specs.declared.status.Status.TheVariants.{Done, Refused, DoorFailed, NoMemory};
 ghost use Rattle.capture_runs.specs.Capture.{WritesTaken, due_behind, due_of_capture};
 ghost use Rattle.capture_runs.specs.Fold.{IsLeftBy};
 ghost use Rattle.capture_runs.specs.Runs.{HasAll, HasDone};
@@ -63,16 +64,16 @@ fn finish<D: Door, L: PacketLines>(
     lines: &mut Bytes,
     fault: Option<CaptureFault>,
 ) -> Status
-    ensures statuses { (status_number result ≡ 0) ⊎ ((status_number result ≡ 3) ⊎ ((status_number result ≡ 4) ⊎ (status_number result ≡ 5))) }
-    ensures fault { status_number result ≡ 4 → StopsAtFailure (D.view door.new).failed (D.view door.old).writes (D.view door.new).writes }
-    ensures steady { status_number result ≢ 4 → (D.view door.new).writes ≡ (D.view door.old).writes }
+    ensures statuses { IsOneOf (Done ∷ Refused ∷ DoorFailed ∷ NoMemory ∷ []) (status_number result) }
+    ensures fault { Is DoorFailed (status_number result) → IsStoppedWriting (D.view door.old) (D.view door.new) }
+    ensures steady { IsNot DoorFailed (status_number result) → (D.view door.new).writes ≡ (D.view door.old).writes }
     ensures done { (s : L.State) (packets : List Packet) (text : List ℕ) (first : DoorState) → L.keeps writer.now s → D.tells
         → HasAll packets text fault first (D.view door.old).state lines.old
-        → (status_number result ≡ 0) ⊎ (status_number result ≡ 3)
+        → IsOneOf (Done ∷ Refused ∷ []) (status_number result)
         → WritesDue (due_behind (text ++ L.ending s) fault) first (D.view door.new).state (status_number result) }
     ensures part { (s : L.State) (packets : List Packet) (text : List ℕ) (first : DoorState) → L.keeps writer.now s → D.tells
         → HasAll packets text fault first (D.view door.old).state lines.old
-        → (status_number result ≡ 4) ⊎ (status_number result ≡ 5)
+        → IsOneOf (DoorFailed ∷ NoMemory ∷ []) (status_number result)
         → WritesPart (due_behind (text ++ L.ending s) fault) first (D.view door.new).state }
     ensures turns { (D.view door.new).turns ≡ (D.view door.old).turns }
     ensures reads { (D.view door.new).reads ≡ (D.view door.old).reads }
@@ -93,14 +94,14 @@ fn write_packets<D: Door, L: PacketLines>(
     lines: &mut Bytes,
 ) -> Status
     requires { is_broken reader.old ≡ false }
-    ensures statuses { (status_number result ≡ 0) ⊎ ((status_number result ≡ 3) ⊎ ((status_number result ≡ 4) ⊎ (status_number result ≡ 5))) }
-    ensures fault { status_number result ≡ 4 → EndsAtFailure (D.view door.new).failed (D.view door.old).reads (D.view door.new).reads (D.view door.old).writes (D.view door.new).writes }
-    ensures steady { status_number result ≢ 4 → ((D.view door.new).reads ≡ (D.view door.old).reads) × ((D.view door.new).writes ≡ (D.view door.old).writes) }
+    ensures statuses { IsOneOf (Done ∷ Refused ∷ DoorFailed ∷ NoMemory ∷ []) (status_number result) }
+    ensures fault { Is DoorFailed (status_number result) → IsStopped (D.view door.old) (D.view door.new) }
+    ensures steady { IsNot DoorFailed (status_number result) → IsSteady (D.view door.old) (D.view door.new) }
     ensures done { (s : L.State) (first : DoorState) → L.keeps writer.old s → D.tells → HasDone [] [] reader.old first (D.view door.old).state lines.old
-        → (status_number result ≡ 0) ⊎ (status_number result ≡ 3)
+        → IsOneOf (Done ∷ Refused ∷ []) (status_number result)
         → WritesDue (due_of_capture L.step L.ending s first.left) first (D.view door.new).state (status_number result) }
     ensures part { (s : L.State) (first : DoorState) → L.keeps writer.old s → D.tells → HasDone [] [] reader.old first (D.view door.old).state lines.old
-        → (status_number result ≡ 4) ⊎ (status_number result ≡ 5)
+        → IsOneOf (DoorFailed ∷ NoMemory ∷ []) (status_number result)
         → WritesPart (due_of_capture L.step L.ending s first.left) first (D.view door.new).state }
     ensures taken { (s : L.State) (first : DoorState) → L.keeps writer.old s → D.tells → HasDone [] [] reader.old first (D.view door.old).state lines.old
         → (D.view door.new).reads ≢ (D.view door.old).reads → WritesTaken L.step s first (D.view door.new).state }
@@ -123,13 +124,13 @@ fn write_packets<D: Door, L: PacketLines>(
 /// Reads a capture, and writes the lines of its packets, then those at their end, and then that of
 /// the fault that ends them. The line of each packet is written before more of the capture is read.
 pub fn write_capture<D: Door, L: PacketLines>(alloc: Global, door: &mut D, writer: &mut L) -> Status
-    ensures statuses { (status_number result ≡ 0) ⊎ ((status_number result ≡ 3) ⊎ ((status_number result ≡ 4) ⊎ (status_number result ≡ 5))) }
-    ensures fault { status_number result ≡ 4 → EndsAtFailure (D.view door.new).failed (D.view door.old).reads (D.view door.new).reads (D.view door.old).writes (D.view door.new).writes }
-    ensures steady { status_number result ≢ 4 → ((D.view door.new).reads ≡ (D.view door.old).reads) × ((D.view door.new).writes ≡ (D.view door.old).writes) }
+    ensures statuses { IsOneOf (Done ∷ Refused ∷ DoorFailed ∷ NoMemory ∷ []) (status_number result) }
+    ensures fault { Is DoorFailed (status_number result) → IsStopped (D.view door.old) (D.view door.new) }
+    ensures steady { IsNot DoorFailed (status_number result) → IsSteady (D.view door.old) (D.view door.new) }
     // From whatever the writer is said to keep, the lines are those of the packets in their order,
-    ensures done { (s : L.State) → L.keeps writer.old s → D.tells → (status_number result ≡ 0) ⊎ (status_number result ≡ 3) →
+    ensures done { (s : L.State) → L.keeps writer.old s → D.tells → IsOneOf (Done ∷ Refused ∷ []) (status_number result) →
         WritesDue (due_of_capture L.step L.ending s (D.view door.old).state.left) (D.view door.old).state (D.view door.new).state (status_number result) }
-    ensures part { (s : L.State) → L.keeps writer.old s → D.tells → (status_number result ≡ 4) ⊎ (status_number result ≡ 5) →
+    ensures part { (s : L.State) → L.keeps writer.old s → D.tells → IsOneOf (DoorFailed ∷ NoMemory ∷ []) (status_number result) →
         WritesPart (due_of_capture L.step L.ending s (D.view door.old).state.left) (D.view door.old).state (D.view door.new).state }
     ensures taken { (s : L.State) → L.keeps writer.old s → D.tells → (D.view door.new).reads ≢ (D.view door.old).reads →
         WritesTaken L.step s (D.view door.old).state (D.view door.new).state }

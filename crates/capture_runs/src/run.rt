@@ -1,12 +1,14 @@
 //! The door's half of a command that reads a capture, whatever it makes of the packets.
-ghost use Rattle.std.specs.Prelude.{◌≡◌, ◌≢◌, ◌⊎◌, ◌<◌, ◌++◌, [], ℕ, List, false, IsSome, IsTrue, OnOk, OnErr, is_err};
-ghost use Rattle.mud_world.specs.Causes.{Counts, EndsAtFailure, StopsAtFailure};
+ghost use Rattle.std.specs.Prelude.{◌≡◌, ◌≢◌, ◌<◌, ◌++◌, [], ℕ, List, false, IsSome, IsTrue, OnOk, OnErr, is_err, ◌∷◌};
+ghost use Rattle.mud_world.specs.Causes.{Counts};
 ghost use Rattle.mud_world.specs.Door.{DoorState, put_out};
 ghost use Rattle.mud_world.specs.Whole.{WrotePart};
 ghost use Rattle.packet_buffer.specs.Packets.{Packet};
 ghost use Rattle.capture_source.specs.Reading.{is_broken, most_to_come, packet_at};
+ghost use Rattle.command_runs.specs.Ends.{IsSteady, IsStopped, IsStoppedWriting};
 ghost use Rattle.command_runs.specs.Due.{WritesDue, WritesPart, WroteFront};
-ghost use Rattle.command_runs.specs.Status.{status_number};
+ghost use Rattle.command_runs.specs.Status.{Is, IsNot, IsOneOf, status_number};
+ghost use Rattle.command_runs.specs.declared.status.Status.TheVariants.{Done, Refused, DoorFailed, NoMemory};
 ghost use Rattle.capture_runs.specs.Capture.{capture_fault_line, due_behind};
 ghost use Rattle.capture_runs.specs.Runs.{HasAll, HasDone, LedTo, WroteTaken, has_failed};
 ghost use Rattle.capture_runs.specs.declared.run.Way.TheVariants as way;
@@ -50,7 +52,7 @@ fn write_out<D: Door>(door: &mut D, lines: &mut Bytes) -> Result<(), Failed>
     ensures empty { OnOk result (lines.new ≡ []) }
     ensures part { D.tells → OnErr result (WrotePart lines.old (D.view door.old).state (D.view door.new).state) }
     ensures cause { Counts (is_err result) (D.view door.old).writes (D.view door.new).writes }
-    ensures stop { OnErr result (StopsAtFailure (D.view door.new).failed (D.view door.old).writes (D.view door.new).writes) }
+    ensures stop { OnErr result (IsStoppedWriting (D.view door.old) (D.view door.new)) }
     ensures turns { (D.view door.new).turns ≡ (D.view door.old).turns }
     ensures reads { (D.view door.new).reads ≡ (D.view door.old).reads }
 {
@@ -66,7 +68,7 @@ fn write_before<D: Door>(door: &mut D, lines: &mut Bytes, is_ready: bool) -> Res
     ensures unready { is_ready ≡ false → OnOk result (lines.new ≡ []) }
     ensures part { D.tells → OnErr result (WrotePart lines.old (D.view door.old).state (D.view door.new).state) }
     ensures cause { Counts (is_err result) (D.view door.old).writes (D.view door.new).writes }
-    ensures stop { OnErr result (StopsAtFailure (D.view door.new).failed (D.view door.old).writes (D.view door.new).writes) }
+    ensures stop { OnErr result (IsStoppedWriting (D.view door.old) (D.view door.new)) }
     ensures turns { (D.view door.new).turns ≡ (D.view door.old).turns }
     ensures reads { (D.view door.new).reads ≡ (D.view door.old).reads }
 {
@@ -86,8 +88,8 @@ pub fn go_on<D: Door>(door: &mut D, reader: &mut CaptureReader, lines: &mut Byte
     ensures taken { (packets : List Packet) (text : List ℕ) (first : DoorState) → D.tells
         → HasDone packets text reader.old first (D.view door.old).state lines.old
         → (D.view door.new).reads ≢ (D.view door.old).reads → WroteTaken packets text first (D.view door.new).state }
-    ensures fault { IsTrue (has_failed result) → EndsAtFailure (D.view door.new).failed (D.view door.old).reads (D.view door.new).reads (D.view door.old).writes (D.view door.new).writes }
-    ensures steady { has_failed result ≡ false → ((D.view door.new).reads ≡ (D.view door.old).reads) × ((D.view door.new).writes ≡ (D.view door.old).writes) }
+    ensures fault { IsTrue (has_failed result) → IsStopped (D.view door.old) (D.view door.new) }
+    ensures steady { has_failed result ≡ false → IsSteady (D.view door.old) (D.view door.new) }
     ensures turns { (D.view door.new).turns ≡ (D.view door.old).turns }
     ensures here { result ≡ way.Packet → IsSome (packet_at reader.new) }
     ensures going { result ≡ way.Packet → is_broken reader.new ≡ false }
@@ -111,14 +113,14 @@ pub fn go_on<D: Door>(door: &mut D, reader: &mut CaptureReader, lines: &mut Byte
 
 /// Writes the last lines of a capture, and behind them that of the fault that ends it, where one does.
 pub fn end_capture<D: Door>(door: &mut D, lines: &mut Bytes, fault: Option<CaptureFault>) -> Status
-    ensures statuses { (status_number result ≡ 0) ⊎ ((status_number result ≡ 3) ⊎ ((status_number result ≡ 4) ⊎ (status_number result ≡ 5))) }
-    ensures fault { status_number result ≡ 4 → StopsAtFailure (D.view door.new).failed (D.view door.old).writes (D.view door.new).writes }
-    ensures steady { status_number result ≢ 4 → (D.view door.new).writes ≡ (D.view door.old).writes }
+    ensures statuses { IsOneOf (Done ∷ Refused ∷ DoorFailed ∷ NoMemory ∷ []) (status_number result) }
+    ensures fault { Is DoorFailed (status_number result) → IsStoppedWriting (D.view door.old) (D.view door.new) }
+    ensures steady { IsNot DoorFailed (status_number result) → (D.view door.new).writes ≡ (D.view door.old).writes }
     ensures done { (packets : List Packet) (text : List ℕ) (first : DoorState) → D.tells → HasAll packets text fault first (D.view door.old).state lines.old
-        → (status_number result ≡ 0) ⊎ (status_number result ≡ 3)
+        → IsOneOf (Done ∷ Refused ∷ []) (status_number result)
         → WritesDue (due_behind text fault) first (D.view door.new).state (status_number result) }
     ensures part { (packets : List Packet) (text : List ℕ) (first : DoorState) → D.tells → HasAll packets text fault first (D.view door.old).state lines.old
-        → (status_number result ≡ 4) ⊎ (status_number result ≡ 5)
+        → IsOneOf (DoorFailed ∷ NoMemory ∷ []) (status_number result)
         → WritesPart (due_behind text fault) first (D.view door.new).state }
     ensures turns { (D.view door.new).turns ≡ (D.view door.old).turns }
     ensures reads { (D.view door.new).reads ≡ (D.view door.old).reads }

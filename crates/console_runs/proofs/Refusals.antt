@@ -95,7 +95,7 @@ module _ {X : Type 0} {F : X → Type 0} (members : (v : (x : X) × F x) → Gho
         statuses = of_none fault status is;
         fault = failed;
         steady = steady;
-        keeper_fault = run.keeper_fault;
+        keeper_fault = run.honest.keeper_fault;
         keeper_steady = run.keeper_steady;
         same_turns = turns;
         same_reads = reads;

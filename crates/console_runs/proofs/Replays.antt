@@ -106,14 +106,16 @@ module _ {X : Type 0} {F : X → Type 0} (members : (v : (x : X) × F x) → Gho
   module _ (tells : Type 0) (keeper returned : DynBox X Global F) (old new : DoorView) (status : ℕ) where
     pub replays_none : ServesNone members tells keeper returned old new status → IsSameBox keeper returned → ReplaysStore members tells keeper returned old new status
     replays_none p box = record {
-      statuses = inr (inr p.statuses);
-      fault = λ four. inr (p.fault four, p.same_reads);
-      steady = λ other. (p.same_reads, p.steady other);
-      keeper_fault = p.keeper_fault;
+      honest = record {
+        statuses = inr (inr p.statuses);
+        fault = λ four. inr (p.fault four, p.same_reads);
+        steady = λ other. (p.same_reads, p.steady other);
+        keeper_fault = p.keeper_fault;
+        same_box = box;
+      };
       runs = inr p;
       unread = λ told which. p.only_writes told;
       complete = λ none. none_complete none p.statuses;
-      same_box = box;
       same_turns = p.same_turns;
     }
       where
@@ -130,10 +132,13 @@ module _ {X : Type 0} {F : X → Type 0} (members : (v : (x : X) × F x) → Gho
         → (Tells members returned → Tells members begins) → IsSameBox begins returned
         → ReplaysStore members tells keeper returned old new status
     replays_opened tables begins read sound same_count box run told same_box = record {
-      statuses = statuses_at run.end status run.status_is;
-      fault = fault_at status old.reads new.reads old.writes new.writes new.failed run.end run.status_is run.reads run.writes run.read_stop run.write_stop;
-      steady = steady_at status old.reads new.reads old.writes new.writes run.end run.status_is run.reads run.writes;
-      keeper_fault = λ seven. at_most_four run.end status run.status_is (inr (inr seven));
+      honest = record {
+        statuses = statuses_at run.end status run.status_is;
+        fault = fault_at status old.reads new.reads old.writes new.writes new.failed run.end run.status_is run.reads run.writes run.read_stop run.write_stop;
+        steady = steady_at status old.reads new.reads old.writes new.writes run.end run.status_is run.reads run.writes;
+        keeper_fault = λ seven. at_most_four run.end status run.status_is (inr (inr seven));
+        same_box = record { object = same_box.object ∙ box.object; place = same_box.place ∙ box.place };
+      };
       runs = inl (record {
         tables = tables;
         opens = record { sound = sound; were_kept = λ before now. read before (told now) };
@@ -141,6 +146,5 @@ module _ {X : Type 0} {F : X → Type 0} (members : (v : (x : X) × F x) → Gho
       });
       unread = λ tell which. at_most_four run.end status run.status_is which;
       complete = λ none. complete_at status old.reads new.reads old.writes new.writes run.end run.status_is run.reads run.writes none.reads none.writes;
-      same_box = record { object = same_box.object ∙ box.object; place = same_box.place ∙ box.place };
       same_turns = run.same_turns;
     }

@@ -115,14 +115,16 @@ module _ {X : Type 0} {F : X → Type 0} (members : (v : (x : X) × F x) → Gho
     pub serves_none : ServesNone members tells keeper returned old new status → IsSameBox keeper returned → clock.after ≡ clock.before
         → ServesStore members tells clock_tells keeper returned at clock old new status
     serves_none p box unasked = record {
-      statuses = inr p.statuses;
-      fault = λ four. inr (p.fault four);
-      steady = λ other. p.same_turns;
-      keeper_fault = p.keeper_fault;
+      honest = record {
+        statuses = inr p.statuses;
+        fault = λ four. inr (p.fault four);
+        steady = λ other. p.same_turns;
+        keeper_fault = p.keeper_fault;
+        same_box = box;
+      };
       runs = inr (p, unasked);
       unread = λ told which. p.only_writes told;
       complete = λ none. none_complete none p.statuses;
-      same_box = box;
     }
       where
         none_complete : NoneFailed (faults_of members keeper) (faults_of members returned) old new → (status ≡ 4) ⊎ ((status ≡ 5) ⊎ ((status ≡ 6) ⊎ (status ≡ 7))) → IsComplete status
@@ -138,10 +140,13 @@ module _ {X : Type 0} {F : X → Type 0} (members : (v : (x : X) × F x) → Gho
         → (Tells members returned → Tells members begins) → IsSameBox begins returned
         → ServesStore members tells clock_tells keeper returned at clock old new status
     serves_opened tables begins read sound same_count box run told same_box = record {
-      statuses = statuses_by run.failed status run.status_is;
-      fault = λ four. inl (fault_by run.failed new.failed status old.turns new.turns run.status_is run.stop four);
-      steady = steady_by run.failed status old.turns new.turns run.status_is run.turns;
-      keeper_fault = λ seven. at_most_four run.failed status run.status_is (inr (inr seven));
+      honest = record {
+        statuses = statuses_by run.failed status run.status_is;
+        fault = λ four. inl (fault_by run.failed new.failed status old.turns new.turns run.status_is run.stop four);
+        steady = steady_by run.failed status old.turns new.turns run.status_is run.turns;
+        keeper_fault = λ seven. at_most_four run.failed status run.status_is (inr (inr seven));
+        same_box = record { object = same_box.object ∙ box.object; place = same_box.place ∙ box.place };
+      };
       runs = inl (record {
         tables = tables;
         opens = record { sound = sound; were_kept = λ before now. read before (told now) };
@@ -149,5 +154,4 @@ module _ {X : Type 0} {F : X → Type 0} (members : (v : (x : X) × F x) → Gho
       });
       unread = λ tell which. at_most_four run.failed status run.status_is which;
       complete = λ none. complete_by run.failed status old.turns new.turns run.status_is run.turns none.turns;
-      same_box = record { object = same_box.object ∙ box.object; place = same_box.place ∙ box.place };
     }

@@ -1,14 +1,14 @@
 -- What a run of `replay` over a store and a connection does.
-use Rattle.std.specs.Prelude.{◌≡◌, ◌≢◌, ℕ, ◌⊎◌, IsTrue, []}
+use Rattle.std.specs.Prelude.{◌≡◌, ℕ, ◌⊎◌, IsTrue, [], ◌∷◌}
 use Rattle.std.specs.declared.dyn_box.DynBox.{DynBox}
 use Rattle.std.specs.declared.alloc.Global.{Global}
 use Rattle.mud_world.specs.declared.keeper.Keeper.{Ghosts}
 use Rattle.mud_world.specs.Boxed.{faults_of}
-use Rattle.mud_world.specs.Causes.{Counts, Rose, StopsAtFailure, EndsAtFailure}
+use Rattle.mud_world.specs.Causes.{Counts, StopsAtFailure}
 use Rattle.mud_world.specs.View.{DoorView}
 use Rattle.desk_model.specs.DeskTables.{DeskTables}
 use Rattle.desk_model.specs.Sessions.{opened}
-use Rattle.mud_desk.specs.Boxed.{IsSameBox}
+use Rattle.desk_runs.specs.Honest.{RunsHonestly}
 use Rattle.http_requests.specs.declared.fault.MomentFrom.TheVariants.{Header}
 use Rattle.http_serving.specs.declared.end.ConnectionEnd.{ConnectionEnd}
 use Rattle.http_serving.specs.declared.end.ConnectionEnd.TheVariants.{Ended, Closed, Broken, Spent, ReadFailed, WriteFailed}
@@ -17,6 +17,9 @@ use Rattle.http_serving.specs.Runs.{IsLeftBy}
 use Rattle.console_answers.specs.Answers.{fault_answer}
 use Rattle.console.specs.States.{MayTake, begun}
 use Rattle.console_runs.specs.Store.{NoneFailed, OnlyWrites, OpensWith, LeavesDesk, ServesNone}
+use Rattle.command_runs.specs.Ends.{IsSteady, IsStopped, IsStoppedWriting}
+use Rattle.command_runs.specs.Status.{IsOneOf, each_status}
+use Rattle.command_runs.specs.declared.status.Status.TheVariants.{Done, Refused, NoMemory, BadItem, KeeperFailed}
 
 -- The status by how the connection ended: 0 between two requests or with one that closes it, 3 with a fault of the framing or the
 -- last request that is answered on one connection, and 4 with a read or a write that failed.
@@ -42,7 +45,7 @@ module _ {X : Type 0} {F : X → Type 0} (members : (v : (x : X) × F x) → Gho
     pub writes : Counts (is_write_failed end) old.writes new.writes
     -- a read or a write that failed was the last call of the door
     pub read_stop : IsTrue (is_read_failed end) → StopsAtFailure new.failed old.reads new.reads
-    pub write_stop : IsTrue (is_write_failed end) → StopsAtFailure new.failed old.writes new.writes
+    pub write_stop : IsTrue (is_write_failed end) → IsStoppedWriting old new
     pub same_turns : new.turns ≡ old.turns
 
   -- A desk is opened and the connection served by it.
@@ -53,18 +56,13 @@ module _ {X : Type 0} {F : X → Type 0} (members : (v : (x : X) × F x) → Gho
 
   -- A run of `replay`. `tells` says that the door tells its connections.
   pub record ReplaysStore (tells : Type 0) (keeper returned : DynBox X Global F) (old new : DoorView) (status : ℕ) : Type 0 where
-    -- The status is 0 or 3 to 7. It is 4 only where a read or a write of the door failed in this call, as its last call of the door,
-    -- and where it isn't, none failed. It is 7 only where the keeper failed in the opening.
-    pub statuses : (status ≡ 0) ⊎ ((status ≡ 3) ⊎ ((status ≡ 4) ⊎ ((status ≡ 5) ⊎ ((status ≡ 6) ⊎ (status ≡ 7)))))
-    pub fault : status ≡ 4 → EndsAtFailure new.failed old.reads new.reads old.writes new.writes
-    pub steady : status ≢ 4 → (new.reads ≡ old.reads) × (new.writes ≡ old.writes)
-    pub keeper_fault : status ≡ 7 → Rose (faults_of members keeper) (faults_of members returned)
+    -- A read or a write that fails ends the run. With 7 the keeper failed in the opening.
+    pub honest : RunsHonestly members each_status (IsStopped old new) (IsSteady old new) keeper returned status
     -- The connection is served, or the store is refused, or memory is wanted before the connection is read.
     pub runs : OpensAndReplays tells keeper returned old new status ⊎ ServesNone members tells keeper returned old new status
-    pub unread : tells → (status ≡ 5) ⊎ ((status ≡ 6) ⊎ (status ≡ 7)) → OnlyWrites old.state new.state
+    pub unread : tells → IsOneOf (NoMemory ∷ BadItem ∷ KeeperFailed ∷ []) status → OnlyWrites old.state new.state
     -- Where no call of the door or the keeper failed, the connection is served to its end, but for want of memory and for an item
     -- that is no record.
-    pub complete : NoneFailed (faults_of members keeper) (faults_of members returned) old new → (status ≡ 0) ⊎ ((status ≡ 3) ⊎ ((status ≡ 5) ⊎ (status ≡ 6)))
+    pub complete : NoneFailed (faults_of members keeper) (faults_of members returned) old new → IsOneOf (Done ∷ Refused ∷ NoMemory ∷ BadItem ∷ []) status
     -- The box that comes back is the one that was handed in. No port is bound, and the connection isn't left.
-    pub same_box : IsSameBox keeper returned
     pub same_turns : new.turns ≡ old.turns

@@ -1,21 +1,24 @@
 -- What a run of `serve` over a store and the connections of a port does.
-use Rattle.std.specs.Prelude.{◌≡◌, ◌≢◌, ℕ, ◌≤◌, ◌⊎◌, Bool, IsTrue, if◌then◌else◌, List}
+use Rattle.std.specs.Prelude.{if◌then◌else◌, ◌≡◌, ℕ, ◌≤◌, ◌⊎◌, Bool, IsTrue, List, [], ◌∷◌}
 use Rattle.std.specs.declared.dyn_box.DynBox.{DynBox}
 use Rattle.std.specs.declared.alloc.Global.{Global}
 use Rattle.mud_world.specs.declared.keeper.Keeper.{Ghosts}
 use Rattle.mud_world.specs.Boxed.{faults_of}
-use Rattle.mud_world.specs.Causes.{Counts, Rose, StopsAtFailure}
+use Rattle.mud_world.specs.Causes.{Counts, StopsAtFailure}
 use Rattle.mud_world.specs.Door.{bound_anew}
 use Rattle.mud_world.specs.View.{DoorView}
 use Rattle.desk_model.specs.DeskTables.{DeskTables}
 use Rattle.desk_model.specs.Sessions.{opened}
-use Rattle.mud_desk.specs.Boxed.{IsSameBox}
+use Rattle.desk_runs.specs.Honest.{RunsHonestly}
 use Rattle.http_requests.specs.declared.fault.MomentFrom.TheVariants.{Clock}
 use Rattle.http_serving.specs.Runs.{IsLeftBy}
 use Rattle.http_serving.specs.Visits.{ServedInTurn}
 use Rattle.console_answers.specs.Answers.{fault_answer}
 use Rattle.console.specs.States.{ConsoleState, MayTake, begun}
 use Rattle.console_runs.specs.Store.{NoneFailed, OnlyWrites, OpensWith, LeavesDesk, ServesNone}
+use Rattle.command_runs.specs.Ends.{IsStoppedListening}
+use Rattle.command_runs.specs.Status.{IsOneOf, each_but_refused}
+use Rattle.command_runs.specs.declared.status.Status.TheVariants.{Done, NoMemory, BadItem, KeeperFailed}
 
 -- The port that is bound, and the most connections that are served.
 pub record Listening : Type 0 where
@@ -68,18 +71,14 @@ module _ {X : Type 0} {F : X → Type 0} (members : (v : (x : X) × F x) → Gho
 
   -- A run of `serve`. `tells` says that the door tells its connections, and `clock_tells` that the clock tells its moments.
   pub record ServesStore (tells clock_tells : Type 0) (keeper returned : DynBox X Global F) (at : Listening) (clock : ClockRun) (old new : DoorView) (status : ℕ) : Type 0 where
-    -- The status is 0 or 4 to 7. It is 4 only where the door failed in this call to bind the port or to go on to a connection, or to
-    -- write the line of an item that is no record, as its last call of the door. It is 7 only where the keeper failed in the opening.
-    pub statuses : (status ≡ 0) ⊎ ((status ≡ 4) ⊎ ((status ≡ 5) ⊎ ((status ≡ 6) ⊎ (status ≡ 7))))
-    pub fault : status ≡ 4 → StopsAtFailure new.failed old.turns new.turns ⊎ StopsAtFailure new.failed old.writes new.writes
-    pub steady : status ≢ 4 → new.turns ≡ old.turns
-    pub keeper_fault : status ≡ 7 → Rose (faults_of members keeper) (faults_of members returned)
+    -- Only a failure to bind the port, to go on to a connection, or to write the line of an item that is no record ends the run. With 7 the
+    -- keeper failed in the opening.
+    pub honest : RunsHonestly members each_but_refused (IsStoppedListening old new) (new.turns ≡ old.turns) keeper returned status
     -- The connections are served; or the store is refused, or memory is wanted before the port is bound, and the clock isn't asked.
     pub runs : OpensAndServes tells clock_tells keeper returned at clock old new status
         ⊎ (ServesNone members tells keeper returned old new status × (clock.after ≡ clock.before))
-    pub unread : tells → (status ≡ 5) ⊎ ((status ≡ 6) ⊎ (status ≡ 7)) → OnlyWrites old.state new.state
+    pub unread : tells → IsOneOf (NoMemory ∷ BadItem ∷ KeeperFailed ∷ []) status → OnlyWrites old.state new.state
     -- Where no call of the door or the keeper failed, all connections are served, but for want of memory and for an item that is no
     -- record.
-    pub complete : NoneFailed (faults_of members keeper) (faults_of members returned) old new → (status ≡ 0) ⊎ ((status ≡ 5) ⊎ (status ≡ 6))
+    pub complete : NoneFailed (faults_of members keeper) (faults_of members returned) old new → IsOneOf (Done ∷ NoMemory ∷ BadItem ∷ []) status
     -- The box that comes back is the one that was handed in.
-    pub same_box : IsSameBox keeper returned

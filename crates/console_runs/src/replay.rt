@@ -1,7 +1,8 @@
 //! The command `replay`: the requests of one connection, each at the moment that it gives itself.
 ghost use Rattle.std.specs.Prelude.{◌≡◌};
 ghost use Rattle.mud_world.specs.Boxed.{faults_of, Tells};
-ghost use Rattle.command_runs.specs.Status.{status_number};
+ghost use Rattle.command_runs.specs.Status.{Is, status_number};
+ghost use Rattle.command_runs.specs.declared.status.Status.TheVariants.{KeeperFailed};
 ghost use Rattle.desk_items.specs.Taken.{kept_of};
 ghost use Rattle.desk_model.specs.DeskTables.{DeskTables};
 ghost use Rattle.desk_model.specs.Items.{none_kept};
@@ -96,7 +97,7 @@ pub fn replay_store<D: Door>(
         (D.view door.new)
         (status_number result.0) }
     // Where the keeper failed in the opening, the door isn't called at all.
-    ensures untouched { status_number result.0 ≡ 7 → door.new ≡ door.old }
+    ensures untouched { Is KeeperFailed (status_number result.0) → door.new ≡ door.old }
 {
     match Desk::open(alloc, keeper, nothing) {
         Ok(desk) => match Room::new(alloc) {

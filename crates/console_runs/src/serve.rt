@@ -2,7 +2,8 @@
 //! clock.
 ghost use Rattle.std.specs.Prelude.{◌≡◌, is_err, if◌then◌else◌};
 ghost use Rattle.mud_world.specs.Boxed.{faults_of, Tells};
-ghost use Rattle.command_runs.specs.Status.{status_number};
+ghost use Rattle.command_runs.specs.Status.{Is, status_number};
+ghost use Rattle.command_runs.specs.declared.status.Status.TheVariants.{KeeperFailed};
 ghost use Rattle.desk_items.specs.Taken.{kept_of};
 ghost use Rattle.desk_model.specs.DeskTables.{DeskTables};
 ghost use Rattle.desk_model.specs.Items.{none_kept};
@@ -107,7 +108,7 @@ pub fn serve_store<D: Door, C: Clock>(
         (D.view door.new)
         (status_number result.0) }
     // Where the keeper failed in the opening, the door isn't called at all, and the clock isn't either.
-    ensures untouched { status_number result.0 ≡ 7 → (door.new ≡ door.old) × (clock.new ≡ clock.old) }
+    ensures untouched { Is KeeperFailed (status_number result.0) → (door.new ≡ door.old) × (clock.new ≡ clock.old) }
 {
     match Desk::open(alloc, keeper, nothing) {
         Ok(desk) => match Room::new(alloc) {

@@ -75,10 +75,13 @@ module _ {X : Type 0} {F : X → Type 0} (members : (v : (x : X) × F x) → Gho
         → (tells → new.reads ≢ old.reads → taken tables old.state new.state)
         → new.turns ≡ old.turns → (returned : DynBox X Global F) → returned ≡ after → ReadsByStore members due taken tells keeper returned old new status
     opened_over tables read sound kept same_count same_box is fault steady done part gone turns returned same = subst (λ (box : DynBox X Global F). ReadsByStore members due taken tells keeper box old new status) (sym same) (record {
-      statuses = of_capture status is;
-      fault = fault;
-      steady = steady;
-      keeper_fault = λ seven. no_seven status is seven;
+      honest = record {
+        statuses = of_capture status is;
+        fault = fault;
+        steady = steady;
+        keeper_fault = λ seven. no_seven status is seven;
+        same_box = same_box;
+      };
       keeper_steady = λ other. same_count;
       writes = λ told tell.
           subst (λ (store : Result DeskTables Item). WritesOfStore due taken store old new status) (sym (kept_tables members after tables sound kept tell))
@@ -86,7 +89,6 @@ module _ {X : Type 0} {F : X → Type 0} (members : (v : (x : X) × F x) → Gho
       same_tables = λ before now. kept_tables members after tables sound kept now ∙ sym (read before now);
       same_items = λ six before now. no_six status is six;
       kept = inl (record { tables = tables; sound = sound; kept = kept });
-      same_box = same_box;
       same_turns = turns;
     })
 
@@ -102,16 +104,18 @@ module _ {X : Type 0} {F : X → Type 0} (members : (v : (x : X) × F x) → Gho
         → (IsOfCall fault → new.state ≡ old.state)
         → new.turns ≡ old.turns → new.reads ≡ old.reads → ReadsByStore members due taken tells keeper after old new status
     refused_over fault bad left counts same_box is failed steady done part untouched turns reads = record {
-      statuses = of_refusal fault status is;
-      fault = λ four. inr (failed four, reads);
-      steady = λ other. (reads, steady other);
-      keeper_fault = rose_of fault status (faults_of members keeper) (faults_of members after) is counts;
+      honest = record {
+        statuses = of_refusal fault status is;
+        fault = λ four. inr (failed four, reads);
+        steady = λ other. (reads, steady other);
+        keeper_fault = rose_of fault status (faults_of members keeper) (faults_of members after) is counts;
+        same_box = same_box;
+      };
       keeper_steady = steady_of fault status (faults_of members keeper) (faults_of members after) is counts;
       writes = λ told tell. writes_refused due taken old new status (kept_items members after) fault (bad tell) is (done told) (part told) untouched reads;
       same_tables = λ before now. left_tables (kept_items members keeper) (kept_items members after) fault (left before now);
       same_items = λ six before now. same_items_of (kept_items members keeper) (kept_items members after) fault status is (left before now) six;
       kept = inr (unopened members keeper after status fault bad left is);
-      same_box = same_box;
       same_turns = turns;
     }
 

@@ -1,3 +1,4 @@
+pub mod Honest
 pub mod Judged
 pub mod Refused
 pub mod Store

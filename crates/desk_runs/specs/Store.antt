@@ -1,22 +1,25 @@
 -- What a run of `judge` over a store does.
-use Rattle.std.specs.Prelude.{◌≡◌, ◌≢◌, ℕ, ◌⊎◌, List, Result, Ok, Err, IsErr, IsOkAnd}
+use Rattle.std.specs.Prelude.{◌≡◌, ◌≢◌, ℕ, ◌⊎◌, List, Result, Ok, Err, IsErr, IsOkAnd, [], ◌∷◌}
 use Rattle.std.specs.declared.dyn_box.DynBox.{DynBox}
 use Rattle.std.specs.declared.alloc.Global.{Global}
 use Rattle.mud_world.specs.declared.keeper.Keeper.{Ghosts}
 use Rattle.mud_world.specs.declared.item.Item.{Item}
 use Rattle.mud_world.specs.Boxed.{faults_of, Tells, kept_items}
-use Rattle.mud_world.specs.Causes.{EndsAtFailure, Rose}
 use Rattle.mud_world.specs.Door.{DoorState}
 use Rattle.capture_runs.specs.Capture.{WritesTaken, due_of_capture}
 use Rattle.capture_runs.specs.Fold.{no_ending}
+use Rattle.command_runs.specs.Ends.{IsSteady, IsStopped}
 use Rattle.command_runs.specs.Due.{Due, WritesDue, WritesPart}
 use Rattle.mud_world.specs.View.{DoorView}
 use Rattle.desk_model.specs.DeskTables.{DeskTables, IsSound}
 use Rattle.desk_model.specs.Items.{tables_in}
 use Rattle.desk_model.specs.Sessions.{opened}
-use Rattle.mud_desk.specs.Boxed.{IsKept, IsSameBox}
+use Rattle.mud_desk.specs.Boxed.{IsKept}
+use Rattle.desk_runs.specs.Honest.{RunsHonestly}
 use Rattle.desk_runs.specs.Judged.{judged_step}
 use Rattle.desk_runs.specs.Refused.{bad_item_line}
+use Rattle.command_runs.specs.Status.{Is, IsNot, IsOneOf, each_status}
+use Rattle.command_runs.specs.declared.status.Status.TheVariants.{Done, Refused, DoorFailed, NoMemory, BadItem, KeeperFailed}
 
 -- What a command makes of a capture by the tables of its store: what is due to the octets of a connection, and what was written
 -- of it where a read failed.
@@ -29,8 +32,8 @@ module _ (due : DeskTables → List ℕ → Due) (taken : DeskTables → DoorSta
   -- What is written, by the tables of the store or its first item that is no record.
   pub record WritesOfStore (store : Result DeskTables Item) (old new : DoorView) (status : ℕ) : Type 0 where
     -- With 0, 3 and 6 all that is due was written, with 4 and 5 a first part of it.
-    pub done : (status ≡ 0) ⊎ ((status ≡ 3) ⊎ (status ≡ 6)) → WritesDue (due_of_store store old.state.left) old.state new.state status
-    pub part : (status ≡ 4) ⊎ (status ≡ 5) → WritesPart (due_of_store store old.state.left) old.state new.state
+    pub done : IsOneOf (Done ∷ Refused ∷ BadItem ∷ []) status → WritesDue (due_of_store store old.state.left) old.state new.state status
+    pub part : IsOneOf (DoorFailed ∷ NoMemory ∷ []) status → WritesPart (due_of_store store old.state.left) old.state new.state
     -- Where a read failed, what was made of the octets that were read was written.
     pub read : new.reads ≢ old.reads → IsOkAnd store (λ tables. taken tables old.state new.state)
     -- Where an item is no record, the capture isn't read.
@@ -53,29 +56,24 @@ module _ {X : Type 0} {F : X → Type 0} (members : (v : (x : X) × F x) → Gho
   -- No desk was opened: the tables of the items are those that were kept before, and where an item is no record all items are as
   -- they were. The status is 4 or 6 only where an item is no record.
   pub record IsUnopened (keeper returned : DynBox X Global F) (status : ℕ) : Type 0 where
-    pub statuses : (status ≡ 4) ⊎ ((status ≡ 5) ⊎ ((status ≡ 6) ⊎ (status ≡ 7)))
-    pub bad : (status ≡ 4) ⊎ (status ≡ 6) → Tells members returned → IsErr (tables_in (kept_items members returned))
+    pub statuses : IsOneOf (DoorFailed ∷ NoMemory ∷ BadItem ∷ KeeperFailed ∷ []) status
+    pub bad : IsOneOf (DoorFailed ∷ BadItem ∷ []) status → Tells members returned → IsErr (tables_in (kept_items members returned))
     pub same_tables : Tells members keeper → Tells members returned → tables_in (kept_items members returned) ≡ tables_in (kept_items members keeper)
     pub same_items : Tells members keeper → Tells members returned → IsErr (tables_in (kept_items members returned)) → kept_items members returned ≡ kept_items members keeper
 
   -- A run over a store that reads a capture. `tells` says that the door tells its connections.
   pub record ReadsByStore (due : DeskTables → List ℕ → Due) (taken : DeskTables → DoorState → DoorState → Type 0) (tells : Type 0) (keeper returned : DynBox X Global F) (old new : DoorView) (status : ℕ) : Type 0 where
-    -- The status is 0 or 3 to 7. It is 4 only where one read or write of the door failed in this call, and then the door isn't
-    -- called again; where it isn't 4, none failed. So it is with 7 and a failure of the keeper.
-    pub statuses : (status ≡ 0) ⊎ ((status ≡ 3) ⊎ ((status ≡ 4) ⊎ ((status ≡ 5) ⊎ ((status ≡ 6) ⊎ (status ≡ 7)))))
-    pub fault : status ≡ 4 → EndsAtFailure new.failed old.reads new.reads old.writes new.writes
-    pub steady : status ≢ 4 → (new.reads ≡ old.reads) × (new.writes ≡ old.writes)
-    pub keeper_fault : status ≡ 7 → Rose (faults_of members keeper) (faults_of members returned)
-    pub keeper_steady : status ≢ 7 → faults_of members returned ≡ faults_of members keeper
+    -- A read or a write that fails ends the run.
+    pub honest : RunsHonestly members each_status (IsStopped old new) (IsSteady old new) keeper returned status
+    pub keeper_steady : IsNot KeeperFailed status → faults_of members returned ≡ faults_of members keeper
     -- The items that are kept when the run ends say what is due. Their tables are those that were kept when it began, and
     -- where an item is no record all items are as they were.
     pub writes : tells → Tells members returned → WritesOfStore due taken (tables_in (kept_items members returned)) old new status
     pub same_tables : Tells members keeper → Tells members returned → tables_in (kept_items members returned) ≡ tables_in (kept_items members keeper)
-    pub same_items : status ≡ 6 → Tells members keeper → Tells members returned → kept_items members returned ≡ kept_items members keeper
+    pub same_items : Is BadItem status → Tells members keeper → Tells members returned → kept_items members returned ≡ kept_items members keeper
     -- Whatever the status, the items of sound tables are kept, but where no desk was opened.
     pub kept : KeepsTables returned ⊎ IsUnopened keeper returned status
     -- The box that comes back is the one that was handed in. No port is bound, and the connection isn't left.
-    pub same_box : IsSameBox keeper returned
     pub same_turns : new.turns ≡ old.turns
 
   -- a run of `judge`

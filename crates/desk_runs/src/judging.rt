@@ -1,12 +1,13 @@
 //! The verdict on each packet of a capture.
-ghost use Rattle.std.specs.Prelude.{◌≡◌, ◌≢◌, ◌⊎◌, ◌++◌, IfOk, OnOk, OnErr};
+ghost use Rattle.std.specs.Prelude.{◌≡◌, ◌≢◌, ◌++◌, IfOk, OnOk, OnErr, [], ◌∷◌};
 ghost use Rattle.sorted_rows.specs.Ledgers.{IsBlankOf};
-ghost use Rattle.mud_world.specs.Causes.{EndsAtFailure};
 ghost use Rattle.pcap_read.specs.Captured.{packet_of};
 ghost use Rattle.capture_runs.specs.Capture.{WritesTaken, due_of_capture};
 ghost use Rattle.capture_runs.specs.Fold.{no_ending};
+ghost use Rattle.command_runs.specs.Ends.{IsSteady, IsStopped};
 ghost use Rattle.command_runs.specs.Due.{WritesDue, WritesPart};
-ghost use Rattle.command_runs.specs.Status.{status_number};
+ghost use Rattle.command_runs.specs.Status.{Is, IsNot, IsOneOf, status_number};
+ghost use Rattle.command_runs.specs.declared.status.Status.TheVariants.{Done, Refused, DoorFailed, NoMemory};
 ghost use Rattle.desk_model.specs.Sessions.{Session};
 ghost use Rattle.mud_desk.specs.Boxed.{IsKept};
 ghost use Rattle.mud_desk.specs.DeskState.{tables_of};
@@ -107,13 +108,13 @@ pub(crate) fn judge_capture<D: Door>(
     door: &mut D,
 ) -> (Status, Box<dyn Keeper>)
     requires { IsKept Keeper-dyn desk.keeper (tables_of desk.state) }
-    ensures statuses { (status_number result.0 ≡ 0) ⊎ ((status_number result.0 ≡ 3) ⊎ ((status_number result.0 ≡ 4) ⊎ (status_number result.0 ≡ 5))) }
-    ensures fault { status_number result.0 ≡ 4 → EndsAtFailure (D.view door.new).failed (D.view door.old).reads (D.view door.new).reads (D.view door.old).writes (D.view door.new).writes }
-    ensures steady { status_number result.0 ≢ 4 → ((D.view door.new).reads ≡ (D.view door.old).reads) × ((D.view door.new).writes ≡ (D.view door.old).writes) }
+    ensures statuses { IsOneOf (Done ∷ Refused ∷ DoorFailed ∷ NoMemory ∷ []) (status_number result.0) }
+    ensures fault { Is DoorFailed (status_number result.0) → IsStopped (D.view door.old) (D.view door.new) }
+    ensures steady { IsNot DoorFailed (status_number result.0) → IsSteady (D.view door.old) (D.view door.new) }
     // In whatever session the desk is, the lines are those of the packets in their order.
-    ensures done { (s : Session) → IsIn s desk.state → D.tells → (status_number result.0 ≡ 0) ⊎ (status_number result.0 ≡ 3) →
+    ensures done { (s : Session) → IsIn s desk.state → D.tells → IsOneOf (Done ∷ Refused ∷ []) (status_number result.0) →
         WritesDue (due_of_capture judged_step no_ending s (D.view door.old).state.left) (D.view door.old).state (D.view door.new).state (status_number result.0) }
-    ensures part { (s : Session) → IsIn s desk.state → D.tells → (status_number result.0 ≡ 4) ⊎ (status_number result.0 ≡ 5) →
+    ensures part { (s : Session) → IsIn s desk.state → D.tells → IsOneOf (DoorFailed ∷ NoMemory ∷ []) (status_number result.0) →
         WritesPart (due_of_capture judged_step no_ending s (D.view door.old).state.left) (D.view door.old).state (D.view door.new).state }
     ensures taken { (s : Session) → IsIn s desk.state → D.tells → (D.view door.new).reads ≢ (D.view door.old).reads →
         WritesTaken judged_step s (D.view door.old).state (D.view door.new).state }

@@ -1,9 +1,10 @@
 //! What a run writes whose store can't be opened.
-ghost use Rattle.std.specs.Prelude.{◌≡◌, ◌≢◌, ◌⊎◌, ◌++◌, IfOk, OnOk};
-ghost use Rattle.mud_world.specs.Causes.{StopsAtFailure};
+ghost use Rattle.std.specs.Prelude.{◌≡◌, ◌++◌, IfOk, OnOk, [], ◌∷◌};
 ghost use Rattle.mud_world.specs.Door.{put_out};
+ghost use Rattle.command_runs.specs.Ends.{IsStoppedWriting};
 ghost use Rattle.command_runs.specs.Due.{WroteFirst};
-ghost use Rattle.command_runs.specs.Status.{status_number};
+ghost use Rattle.command_runs.specs.Status.{Is, IsNot, IsOneOf, status_number};
+ghost use Rattle.command_runs.specs.declared.status.Status.TheVariants.{DoorFailed, NoMemory, BadItem};
 ghost use Rattle.desk_items.specs.Opening.{IsOfCall};
 ghost use Rattle.desk_runs.specs.Refused.{IsRefusal, bad_item_line, key_part, refusal_text};
 
@@ -40,11 +41,11 @@ fn item_line(alloc: Global, kind: u8, key: &[u8]) -> Result<Bytes, Memory>
 
 /// Writes the line that names an item.
 fn name_item<D: Door>(alloc: Global, door: &mut D, kind: u8, key: &[u8]) -> Status
-    ensures statuses { (status_number result ≡ 6) ⊎ ((status_number result ≡ 4) ⊎ (status_number result ≡ 5)) }
-    ensures fault { status_number result ≡ 4 → StopsAtFailure (D.view door.new).failed (D.view door.old).writes (D.view door.new).writes }
-    ensures steady { status_number result ≢ 4 → (D.view door.new).writes ≡ (D.view door.old).writes }
-    ensures done { D.tells → status_number result ≡ 6 → (D.view door.new).state ≡ put_out (bad_item_line kind key.now) (D.view door.old).state }
-    ensures part { D.tells → (status_number result ≡ 4) ⊎ (status_number result ≡ 5) →
+    ensures statuses { IsOneOf (BadItem ∷ DoorFailed ∷ NoMemory ∷ []) (status_number result) }
+    ensures fault { Is DoorFailed (status_number result) → IsStoppedWriting (D.view door.old) (D.view door.new) }
+    ensures steady { IsNot DoorFailed (status_number result) → (D.view door.new).writes ≡ (D.view door.old).writes }
+    ensures done { D.tells → Is BadItem (status_number result) → (D.view door.new).state ≡ put_out (bad_item_line kind key.now) (D.view door.old).state }
+    ensures part { D.tells → IsOneOf (DoorFailed ∷ NoMemory ∷ []) (status_number result) →
         WroteFirst (bad_item_line kind key.now) (D.view door.old).state (D.view door.new).state }
     ensures turns { (D.view door.new).turns ≡ (D.view door.old).turns }
     ensures reads { (D.view door.new).reads ≡ (D.view door.old).reads }
@@ -62,10 +63,10 @@ fn name_item<D: Door>(alloc: Global, door: &mut D, kind: u8, key: &[u8]) -> Stat
 /// is written; else nothing is. The door isn't read.
 pub fn refuse_store<D: Door>(alloc: Global, door: &mut D, fault: OpenFault) -> Status
     ensures statuses { IsRefusal fault (status_number result) }
-    ensures fault { status_number result ≡ 4 → StopsAtFailure (D.view door.new).failed (D.view door.old).writes (D.view door.new).writes }
-    ensures steady { status_number result ≢ 4 → (D.view door.new).writes ≡ (D.view door.old).writes }
-    ensures done { D.tells → status_number result ≡ 6 → (D.view door.new).state ≡ put_out (refusal_text fault) (D.view door.old).state }
-    ensures part { D.tells → (status_number result ≡ 4) ⊎ (status_number result ≡ 5) →
+    ensures fault { Is DoorFailed (status_number result) → IsStoppedWriting (D.view door.old) (D.view door.new) }
+    ensures steady { IsNot DoorFailed (status_number result) → (D.view door.new).writes ≡ (D.view door.old).writes }
+    ensures done { D.tells → Is BadItem (status_number result) → (D.view door.new).state ≡ put_out (refusal_text fault) (D.view door.old).state }
+    ensures part { D.tells → IsOneOf (DoorFailed ∷ NoMemory ∷ []) (status_number result) →
         WroteFirst (refusal_text fault) (D.view door.old).state (D.view door.new).state }
     // For a failure of the keeper, and for want of memory in the opening, the door isn't called at all.
     ensures untouched { IsOfCall fault → door.new ≡ door.old }

@@ -108,10 +108,13 @@ module _ {X : Type 0} {F : X → Type 0} (members : (v : (x : X) × F x) → Gho
       let new_desk : tables ≡ empty_desk = is_new tables empty in
       let run : DrillsFrom members tells packets (opened empty_desk) begun returned old new status = subst (λ (desk : DeskTables). DrillsFrom members tells packets (opened desk) begun returned old new status) new_desk from in
       record {
-        statuses = of_drill status run.statuses;
-        fault = run.fault;
-        steady = run.steady;
-        keeper_fault = λ seven. subst (λ (n : ℕ). Rose n (faults_of members returned)) same_count (run.keeper_fault seven);
+        honest = record {
+          statuses = of_drill status run.statuses;
+          fault = run.fault;
+          steady = run.steady;
+          keeper_fault = λ seven. subst (λ (n : ℕ). Rose n (faults_of members returned)) same_count (run.keeper_fault seven);
+          same_box = record { object = run.same_box.object ∙ same_box.object; place = run.same_box.place ∙ same_box.place };
+        };
         keeper_steady = λ other. run.keeper_steady other ∙ same_count;
         runs = λ told tell. inl (record {
           statuses = run.statuses;
@@ -127,7 +130,6 @@ module _ {X : Type 0} {F : X → Type 0} (members : (v : (x : X) × F x) → Gho
           none = run.none;
         });
         kept = inl (record { tables = (session_after (opened empty_desk) run.ran).desk; sound = run.sound; kept = run.kept });
-        same_box = record { object = run.same_box.object ∙ same_box.object; place = run.same_box.place ∙ same_box.place };
         same_turns = run.same_turns;
         same_reads = run.same_reads;
       }
@@ -142,14 +144,16 @@ module _ {X : Type 0} {F : X → Type 0} (members : (v : (x : X) × F x) → Gho
       → (returned : DynBox X Global F) → returned ≡ begun → DrillsStore members tells packets keeper returned old new status
   full_run full sound kept is fault steady done part turns reads returned same =
       subst (λ (box : DynBox X Global F). DrillsStore members tells packets keeper box old new status) (sym same) (record {
-        statuses = of_full status is;
-        fault = fault;
-        steady = steady;
-        keeper_fault = λ seven. is_seven_not status is seven;
+        honest = record {
+          statuses = of_full status is;
+          fault = fault;
+          steady = steady;
+          keeper_fault = λ seven. is_seven_not status is seven;
+          same_box = same_box;
+        };
         keeper_steady = λ other. same_count;
         runs = λ told tell. inr (left told tell);
         kept = inl (record { tables = tables; sound = sound; kept = kept });
-        same_box = same_box;
         same_turns = turns;
         same_reads = reads;
       })
@@ -199,15 +203,17 @@ module _ {X : Type 0} {F : X → Type 0} (members : (v : (x : X) × F x) → Gho
   refused_drill fault bad left counts same_box is failed steady done part untouched turns reads =
       let run : JudgesStore members tells keeper after old new status = refused_run members keeper after tells old new status fault bad left counts same_box is failed steady done part untouched turns reads in
       record {
-        statuses = run.statuses;
-        fault = failed;
-        steady = steady;
-        keeper_fault = run.keeper_fault;
+        honest = record {
+          statuses = run.honest.statuses;
+          fault = failed;
+          steady = steady;
+          keeper_fault = run.honest.keeper_fault;
+          same_box = same_box;
+        };
         keeper_steady = run.keeper_steady;
         runs = λ told tell. inr (leaves fault is (bad tell) (done told) (part told) untouched
             (λ before. run.same_tables before tell) (λ six before. run.same_items six before tell));
         kept = run.kept;
-        same_box = same_box;
         same_turns = turns;
         same_reads = reads;
       }

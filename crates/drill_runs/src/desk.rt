@@ -1,9 +1,10 @@
 //! A drill over a desk that is opened.
-ghost use Rattle.std.specs.Prelude.{◌≡◌, ◌≢◌, ◌⊎◌, IfOk};
-ghost use Rattle.mud_world.specs.Causes.{StopsAtFailure};
+ghost use Rattle.std.specs.Prelude.{◌≡◌, IfOk, [], ◌∷◌};
 ghost use Rattle.mud_world.specs.Door.{put_out};
+ghost use Rattle.command_runs.specs.Ends.{IsStoppedWriting};
 ghost use Rattle.command_runs.specs.Due.{WroteFirst};
-ghost use Rattle.command_runs.specs.Status.{status_number};
+ghost use Rattle.command_runs.specs.Status.{Is, IsNot, IsOneOf, status_number};
+ghost use Rattle.command_runs.specs.declared.status.Status.TheVariants.{Done, Refused, DoorFailed, NoMemory, KeeperFailed};
 ghost use Rattle.desk_model.specs.Sessions.{Session};
 ghost use Rattle.mud_desk.specs.Boxed.{IsKept};
 ghost use Rattle.mud_desk.specs.DeskState.{tables_of};
@@ -41,11 +42,11 @@ pub(crate) fn holds_nothing(desk: &Desk) -> bool
 /// Refuses a desk that holds something. The box is handed back.
 pub(crate) fn refuse_full<D: Door>(desk: Desk, door: &mut D) -> (Status, Box<dyn Keeper>)
     requires { IsKept Keeper-dyn desk.keeper (tables_of desk.state) }
-    ensures statuses { (status_number result.0 ≡ 3) ⊎ (status_number result.0 ≡ 4) }
-    ensures fault { status_number result.0 ≡ 4 → StopsAtFailure (D.view door.new).failed (D.view door.old).writes (D.view door.new).writes }
-    ensures steady { status_number result.0 ≢ 4 → (D.view door.new).writes ≡ (D.view door.old).writes }
-    ensures done { D.tells → status_number result.0 ≡ 3 → (D.view door.new).state ≡ put_out not_empty_line (D.view door.old).state }
-    ensures part { D.tells → status_number result.0 ≡ 4 → WroteFirst not_empty_line (D.view door.old).state (D.view door.new).state }
+    ensures statuses { IsOneOf (Refused ∷ DoorFailed ∷ []) (status_number result.0) }
+    ensures fault { Is DoorFailed (status_number result.0) → IsStoppedWriting (D.view door.old) (D.view door.new) }
+    ensures steady { IsNot DoorFailed (status_number result.0) → (D.view door.new).writes ≡ (D.view door.old).writes }
+    ensures done { D.tells → Is Refused (status_number result.0) → (D.view door.new).state ≡ put_out not_empty_line (D.view door.old).state }
+    ensures part { D.tells → Is DoorFailed (status_number result.0) → WroteFirst not_empty_line (D.view door.old).state (D.view door.new).state }
     ensures keeper { result.1 ≡ desk.keeper }
     ensures turns { (D.view door.new).turns ≡ (D.view door.old).turns }
     ensures reads { (D.view door.new).reads ≡ (D.view door.old).reads }
@@ -82,12 +83,12 @@ fn write_lines<D: Door>(
     door: &mut D,
 ) -> (Status, Box<dyn Keeper>)
     requires { IsKept Keeper-dyn desk.keeper (tables_of desk.state) }
-    ensures statuses { (status_number result.0 ≡ 0) ⊎ ((status_number result.0 ≡ 4) ⊎ (status_number result.0 ≡ 5)) }
-    ensures fault { status_number result.0 ≡ 4 → StopsAtFailure (D.view door.new).failed (D.view door.old).writes (D.view door.new).writes }
-    ensures steady { status_number result.0 ≢ 4 → (D.view door.new).writes ≡ (D.view door.old).writes }
-    ensures done { (s : Session) → IsIn s desk.state → D.tells → status_number result.0 ≡ 0 →
+    ensures statuses { IsOneOf (Done ∷ DoorFailed ∷ NoMemory ∷ []) (status_number result.0) }
+    ensures fault { Is DoorFailed (status_number result.0) → IsStoppedWriting (D.view door.old) (D.view door.new) }
+    ensures steady { IsNot DoorFailed (status_number result.0) → (D.view door.new).writes ≡ (D.view door.old).writes }
+    ensures done { (s : Session) → IsIn s desk.state → D.tells → Is Done (status_number result.0) →
         (D.view door.new).state ≡ put_out (lines_in packets s) (D.view door.old).state }
-    ensures part { (s : Session) → IsIn s desk.state → D.tells → (status_number result.0 ≡ 4) ⊎ (status_number result.0 ≡ 5) →
+    ensures part { (s : Session) → IsIn s desk.state → D.tells → IsOneOf (DoorFailed ∷ NoMemory ∷ []) (status_number result.0) →
         WroteFirst (lines_in packets s) (D.view door.old).state (D.view door.new).state }
     ensures keeper { result.1 ≡ desk.keeper }
     ensures turns { (D.view door.new).turns ≡ (D.view door.old).turns }
@@ -120,7 +121,7 @@ pub(crate) fn drill_desk<D: Door>(
         (D.view door.old)
         (D.view door.new)
         (status_number result.0) }
-    ensures untouched { status_number result.0 ≡ 7 → door.new ≡ door.old }
+    ensures untouched { Is KeeperFailed (status_number result.0) → door.new ≡ door.old }
 {
     let mut desk = desk;
     let ran = run_commands(alloc, &mut desk, packets);

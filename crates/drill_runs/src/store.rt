@@ -1,6 +1,7 @@
 //! The command `drill`, from the opening of its store to its status.
 ghost use Rattle.std.specs.Prelude.{◌≡◌};
-ghost use Rattle.command_runs.specs.Status.{status_number};
+ghost use Rattle.command_runs.specs.Status.{Is, status_number};
+ghost use Rattle.command_runs.specs.declared.status.Status.TheVariants.{KeeperFailed};
 ghost use Rattle.desk_items.specs.Taken.{kept_of};
 ghost use Rattle.desk_model.specs.Items.{none_kept};
 ghost use Rattle.drill_runs.specs.Store.{DrillsStore};
@@ -37,7 +38,7 @@ pub fn run_drill<D: Door>(
         (D.view door.new)
         (status_number result.0) }
     // Where the keeper failed, the door isn't called at all.
-    ensures untouched { status_number result.0 ≡ 7 → door.new ≡ door.old }
+    ensures untouched { Is KeeperFailed (status_number result.0) → door.new ≡ door.old }
 {
     match Desk::open(alloc, keeper, nothing) {
         Ok(desk) if holds_nothing(&desk) => drill_desk(alloc, desk, packets, door),

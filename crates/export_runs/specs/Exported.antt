@@ -1,5 +1,5 @@
 -- What `export` writes of a Thing.
-use Rattle.std.specs.Prelude.{◌≡◌, ℕ, ◌⊎◌, Bool, true, false, List, codes, Option, Some, None}
+use Rattle.std.specs.Prelude.{◌≡◌, ℕ, Bool, true, false, List, codes, Option, Some, None, [], ◌∷◌}
 use Rattle.mud_base.specs.declared.packet.Direction.{Direction}
 use Rattle.mud_base.specs.declared.packet.Direction.TheVariants.{From, To}
 use Rattle.acl_model.specs.declared.binding.Binding.{Binding}
@@ -16,6 +16,8 @@ use Rattle.mud_tables.specs.Things.{thing_at}
 use Rattle.command_runs.specs.Due.{Due, WroteFirst}
 use Rattle.listing_runs.specs.Moments.{listing_moment}
 use Rattle.export_runs.specs.Lists.{SourceParts, lists_text, empty_lists}
+use Rattle.command_runs.specs.Status.{Is, IsOneOf}
+use Rattle.command_runs.specs.declared.status.Status.TheVariants.{Done, Refused, DoorFailed, NoMemory}
 
 -- The view is that of a URL and a side over the tables: the policy is that of the URL's approved file, and the rows are those
 -- of the tables' bindings.
@@ -48,7 +50,7 @@ pub record IsExported (desk : DeskTables) (moment : ℕ) (thing : Thing) (text :
 -- the Thing's lists are due, with 0
 pub record IsDueOfThing (desk : DeskTables) (moment : ℕ) (thing : Thing) (due : Due) : Type 0 where
   pub text : IsExported desk moment thing due.text
-  pub status : due.status ≡ 0
+  pub status : due.Is Done status
 
 abbrev pub no_thing : Due
 no_thing = record { text = codes "fault NoThing\n"; status = 3 }
@@ -62,9 +64,9 @@ IsDueOf desk moment (Some thing) due = IsDueOfThing desk moment thing due
 pub record WritesLists (desk : DeskTables) (mac : Mac) (clock : ℕ) (old new : DoorState) (status : ℕ) : Type 0 where
   pub due : Due
   pub due_is : IsDueOf desk (listing_moment desk.stamp (Some clock)) (thing_at mac desk.tables.things) due
-  pub status_is : (status ≡ 0) ⊎ (status ≡ 3) → status ≡ due.status
-  pub done : (status ≡ 0) ⊎ (status ≡ 3) → new ≡ put_out due.text old
-  pub part : (status ≡ 4) ⊎ (status ≡ 5) → WroteFirst due.text old new
+  pub status_is : IsOneOf (Done ∷ Refused ∷ []) status → status ≡ due.status
+  pub done : IsOneOf (Done ∷ Refused ∷ []) status → new ≡ put_out due.text old
+  pub part : IsOneOf (DoorFailed ∷ NoMemory ∷ []) status → WroteFirst due.text old new
 
 -- ---- Whether there is a Thing
 

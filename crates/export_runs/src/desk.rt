@@ -1,13 +1,14 @@
 //! The lists of a Thing of a desk, written to a door.
-ghost use Rattle.std.specs.Prelude.{◌≡◌, ◌≢◌, ◌⊎◌, Some, Ok, codes, option_map};
-ghost use Rattle.mud_world.specs.Causes.{StopsAtFailure};
+ghost use Rattle.std.specs.Prelude.{◌≡◌, ◌⊎◌, Some, Ok, codes, option_map, [], ◌∷◌};
 ghost use Rattle.mud_world.specs.Clock.{later_moments};
 ghost use Rattle.mud_world.specs.Door.{put_out};
 ghost use Rattle.mud_tables.specs.Things.{thing_at};
 ghost use Rattle.mud_desk.specs.Boxed.{IsKept};
 ghost use Rattle.mud_desk.specs.DeskState.{tables_of};
+ghost use Rattle.command_runs.specs.Ends.{IsStoppedWriting};
 ghost use Rattle.command_runs.specs.Due.{WroteFirst};
-ghost use Rattle.command_runs.specs.Status.{status_number};
+ghost use Rattle.command_runs.specs.Status.{Is, IsNot, IsOneOf, status_number};
+ghost use Rattle.command_runs.specs.declared.status.Status.TheVariants.{Done, Refused, DoorFailed, NoMemory};
 ghost use Rattle.export_runs.specs.Exported.{is_held, WritesLists};
 ghost use Rattle.export_runs.specs.Lists.{lists_text};
 ghost use Rattle.export_runs.specs.Store.{IsOfDesk, WritesExport};
@@ -23,11 +24,11 @@ use std::alloc::Global;
 
 /// Writes that there is no such Thing.
 fn refuse_thing<D: Door>(door: &mut D) -> Status
-    ensures statuses { (status_number result ≡ 3) ⊎ ((status_number result ≡ 4) ⊎ (status_number result ≡ 5)) }
-    ensures fault { status_number result ≡ 4 → StopsAtFailure (D.view door.new).failed (D.view door.old).writes (D.view door.new).writes }
-    ensures steady { status_number result ≢ 4 → (D.view door.new).writes ≡ (D.view door.old).writes }
-    ensures done { D.tells → status_number result ≡ 3 → (D.view door.new).state ≡ put_out (codes "fault NoThing\n") (D.view door.old).state }
-    ensures part { D.tells → (status_number result ≡ 4) ⊎ (status_number result ≡ 5) →
+    ensures statuses { IsOneOf (Refused ∷ DoorFailed ∷ NoMemory ∷ []) (status_number result) }
+    ensures fault { Is DoorFailed (status_number result) → IsStoppedWriting (D.view door.old) (D.view door.new) }
+    ensures steady { IsNot DoorFailed (status_number result) → (D.view door.new).writes ≡ (D.view door.old).writes }
+    ensures done { D.tells → Is Refused (status_number result) → (D.view door.new).state ≡ put_out (codes "fault NoThing\n") (D.view door.old).state }
+    ensures part { D.tells → IsOneOf (DoorFailed ∷ NoMemory ∷ []) (status_number result) →
         WroteFirst (codes "fault NoThing\n") (D.view door.old).state (D.view door.new).state }
     ensures turns { (D.view door.new).turns ≡ (D.view door.old).turns }
     ensures reads { (D.view door.new).reads ≡ (D.view door.old).reads }
@@ -40,11 +41,11 @@ fn refuse_thing<D: Door>(door: &mut D) -> Status
 
 /// Writes the four lists. The answer says how that ended.
 fn export_lists<D: Door>(alloc: Global, sources: &Option<Sources<'_>>, door: &mut D) -> Status
-    ensures statuses { (status_number result ≡ 0) ⊎ ((status_number result ≡ 4) ⊎ (status_number result ≡ 5)) }
-    ensures fault { status_number result ≡ 4 → StopsAtFailure (D.view door.new).failed (D.view door.old).writes (D.view door.new).writes }
-    ensures steady { status_number result ≢ 4 → (D.view door.new).writes ≡ (D.view door.old).writes }
-    ensures done { D.tells → status_number result ≡ 0 → (D.view door.new).state ≡ put_out (lists_text sources.now) (D.view door.old).state }
-    ensures part { D.tells → (status_number result ≡ 4) ⊎ (status_number result ≡ 5) →
+    ensures statuses { IsOneOf (Done ∷ DoorFailed ∷ NoMemory ∷ []) (status_number result) }
+    ensures fault { Is DoorFailed (status_number result) → IsStoppedWriting (D.view door.old) (D.view door.new) }
+    ensures steady { IsNot DoorFailed (status_number result) → (D.view door.new).writes ≡ (D.view door.old).writes }
+    ensures done { D.tells → Is Done (status_number result) → (D.view door.new).state ≡ put_out (lists_text sources.now) (D.view door.old).state }
+    ensures part { D.tells → IsOneOf (DoorFailed ∷ NoMemory ∷ []) (status_number result) →
         WroteFirst (lists_text sources.now) (D.view door.old).state (D.view door.new).state }
     ensures turns { (D.view door.new).turns ≡ (D.view door.old).turns }
     ensures reads { (D.view door.new).reads ≡ (D.view door.old).reads }
@@ -66,9 +67,9 @@ fn export_thing<D: Door>(
     door: &mut D,
 ) -> Status
     requires { Some held ≡ option_map is_held (thing_at mac (tables_of desk.now.state).tables.things) }
-    ensures statuses { (status_number result ≡ 0) ⊎ ((status_number result ≡ 4) ⊎ (status_number result ≡ 5)) }
-    ensures fault { status_number result ≡ 4 → StopsAtFailure (D.view door.new).failed (D.view door.old).writes (D.view door.new).writes }
-    ensures steady { status_number result ≢ 4 → (D.view door.new).writes ≡ (D.view door.old).writes }
+    ensures statuses { IsOneOf (Done ∷ DoorFailed ∷ NoMemory ∷ []) (status_number result) }
+    ensures fault { Is DoorFailed (status_number result) → IsStoppedWriting (D.view door.old) (D.view door.new) }
+    ensures steady { IsNot DoorFailed (status_number result) → (D.view door.new).writes ≡ (D.view door.old).writes }
     ensures writes { D.tells → WritesLists (tables_of desk.now.state) mac clock (D.view door.old).state (D.view door.new).state (status_number result) }
     ensures turns { (D.view door.new).turns ≡ (D.view door.old).turns }
     ensures reads { (D.view door.new).reads ≡ (D.view door.old).reads }
@@ -91,14 +92,14 @@ fn export_mac<D: Door, C: Clock>(
     clock: &mut C,
 ) -> Status
     ensures statuses { IsOfDesk (status_number result) }
-    ensures fault { status_number result ≡ 4 → StopsAtFailure (D.view door.new).failed (D.view door.old).writes (D.view door.new).writes }
-    ensures steady { status_number result ≢ 4 → (D.view door.new).writes ≡ (D.view door.old).writes }
+    ensures fault { Is DoorFailed (status_number result) → IsStoppedWriting (D.view door.old) (D.view door.new) }
+    ensures steady { IsNot DoorFailed (status_number result) → (D.view door.new).writes ≡ (D.view door.old).writes }
     ensures writes { D.tells → WritesExport mac C.tells (C.moments clock.old) (Ok (tables_of desk.now.state)) (D.view door.old).state (D.view door.new).state (status_number result) }
     ensures turns { (D.view door.new).turns ≡ (D.view door.old).turns }
     ensures reads { (D.view door.new).reads ≡ (D.view door.old).reads }
-    ensures later { C.tells → status_number result ≡ 0 → C.moments clock.new ≡ later_moments (C.moments clock.old) }
+    ensures later { C.tells → Is Done (status_number result) → C.moments clock.new ≡ later_moments (C.moments clock.old) }
     ensures once { C.tells → (C.moments clock.new ≡ C.moments clock.old) ⊎ (C.moments clock.new ≡ later_moments (C.moments clock.old)) }
-    ensures unasked { status_number result ≡ 3 → clock.new ≡ clock.old }
+    ensures unasked { Is Refused (status_number result) → clock.new ≡ clock.old }
 {
     match held_of(desk.things(), mac) {
         None => refuse_thing(door),
@@ -124,14 +125,14 @@ pub(crate) fn export_desk<D: Door, C: Clock>(
 ) -> (Status, Box<dyn Keeper>)
     requires { IsKept Keeper-dyn desk.keeper (tables_of desk.state) }
     ensures statuses { IsOfDesk (status_number result.0) }
-    ensures fault { status_number result.0 ≡ 4 → StopsAtFailure (D.view door.new).failed (D.view door.old).writes (D.view door.new).writes }
-    ensures steady { status_number result.0 ≢ 4 → (D.view door.new).writes ≡ (D.view door.old).writes }
+    ensures fault { Is DoorFailed (status_number result.0) → IsStoppedWriting (D.view door.old) (D.view door.new) }
+    ensures steady { IsNot DoorFailed (status_number result.0) → (D.view door.new).writes ≡ (D.view door.old).writes }
     ensures writes { D.tells → WritesExport mac C.tells (C.moments clock.old) (Ok (tables_of desk.state)) (D.view door.old).state (D.view door.new).state (status_number result.0) }
     ensures turns { (D.view door.new).turns ≡ (D.view door.old).turns }
     ensures reads { (D.view door.new).reads ≡ (D.view door.old).reads }
-    ensures later { C.tells → status_number result.0 ≡ 0 → C.moments clock.new ≡ later_moments (C.moments clock.old) }
+    ensures later { C.tells → Is Done (status_number result.0) → C.moments clock.new ≡ later_moments (C.moments clock.old) }
     ensures once { C.tells → (C.moments clock.new ≡ C.moments clock.old) ⊎ (C.moments clock.new ≡ later_moments (C.moments clock.old)) }
-    ensures unasked { status_number result.0 ≡ 3 → clock.new ≡ clock.old }
+    ensures unasked { Is Refused (status_number result.0) → clock.new ≡ clock.old }
     ensures keeper { result.1 ≡ desk.keeper }
 {
     let status = export_mac(alloc, &desk, mac, door, clock);

@@ -1,6 +1,7 @@
 //! The command `export`, from the opening of its store to its status.
-ghost use Rattle.std.specs.Prelude.{◌≡◌, ◌⊎◌};
-ghost use Rattle.command_runs.specs.Status.{status_number};
+ghost use Rattle.std.specs.Prelude.{◌≡◌, ◌⊎◌, [], ◌∷◌};
+ghost use Rattle.command_runs.specs.Status.{Is, IsOneOf, status_number};
+ghost use Rattle.command_runs.specs.declared.status.Status.TheVariants.{Done, Refused, BadItem, KeeperFailed};
 ghost use Rattle.mud_world.specs.Clock.{later_moments};
 ghost use Rattle.desk_items.specs.Taken.{kept_of};
 ghost use Rattle.desk_model.specs.Items.{none_kept};
@@ -33,12 +34,12 @@ pub fn export_store<D: Door, C: Clock>(
         (D.view door.new)
         (status_number result.0) }
     // Where the keeper failed, the door isn't called at all.
-    ensures untouched { status_number result.0 ≡ 7 → door.new ≡ door.old }
+    ensures untouched { Is KeeperFailed (status_number result.0) → door.new ≡ door.old }
     // The clock is asked once where lists were written, at most once else, and not where the store can't
     // be opened.
-    ensures asked { C.tells → status_number result.0 ≡ 0 → C.moments clock.new ≡ later_moments (C.moments clock.old) }
+    ensures asked { C.tells → Is Done (status_number result.0) → C.moments clock.new ≡ later_moments (C.moments clock.old) }
     ensures once { C.tells → (C.moments clock.new ≡ C.moments clock.old) ⊎ (C.moments clock.new ≡ later_moments (C.moments clock.old)) }
-    ensures unasked { (status_number result.0 ≡ 3) ⊎ ((status_number result.0 ≡ 6) ⊎ (status_number result.0 ≡ 7)) → clock.new ≡ clock.old }
+    ensures unasked { IsOneOf (Refused ∷ BadItem ∷ KeeperFailed ∷ []) (status_number result.0) → clock.new ≡ clock.old }
 {
     match Desk::open(alloc, keeper, nothing) {
         Ok(desk) => export_desk(alloc, desk, mac, door, clock),

@@ -1,7 +1,8 @@
 //! The lists, written: each item as soon as its text is made.
 ghost use Rattle.std.specs.Prelude.{◌≡◌, ◌++◌, IfOk, OnOk, OnErr, flat_map, IsTrue};
-ghost use Rattle.mud_world.specs.Causes.{Counts, StopsAtFailure};
+ghost use Rattle.mud_world.specs.Causes.{Counts};
 ghost use Rattle.mud_world.specs.Door.{put_out};
+ghost use Rattle.command_runs.specs.Ends.{IsStoppedWriting};
 ghost use Rattle.command_runs.specs.Due.{WroteFirst};
 ghost use Rattle.command_runs.specs.Stops.{has_failed};
 ghost use Rattle.rule_export.specs.Text.{resolved_text, behind_comma, items_text};
@@ -45,7 +46,7 @@ fn write_item<D: Door>(
     ensures ok { D.tells → OnOk result ((D.view door.new).state ≡ put_out (before.now ++ resolved_text view.now family item.now) (D.view door.old).state) }
     ensures part { D.tells → OnErr result (WroteFirst (before.now ++ resolved_text view.now family item.now) (D.view door.old).state (D.view door.new).state) }
     ensures cause { Counts (has_failed result) (D.view door.old).writes (D.view door.new).writes }
-    ensures stop { IsTrue (has_failed result) → StopsAtFailure (D.view door.new).failed (D.view door.old).writes (D.view door.new).writes }
+    ensures stop { IsTrue (has_failed result) → IsStoppedWriting (D.view door.old) (D.view door.new) }
     ensures turns { (D.view door.new).turns ≡ (D.view door.old).turns }
     ensures reads { (D.view door.new).reads ≡ (D.view door.old).reads }
 {
@@ -64,7 +65,7 @@ fn write_later<D: Door>(
     ensures ok { D.tells → OnOk result ((D.view door.new).state ≡ put_out (flat_map (behind_comma view.now family) items.now) (D.view door.old).state) }
     ensures part { D.tells → OnErr result (WroteFirst (flat_map (behind_comma view.now family) items.now) (D.view door.old).state (D.view door.new).state) }
     ensures cause { Counts (has_failed result) (D.view door.old).writes (D.view door.new).writes }
-    ensures stop { IsTrue (has_failed result) → StopsAtFailure (D.view door.new).failed (D.view door.old).writes (D.view door.new).writes }
+    ensures stop { IsTrue (has_failed result) → IsStoppedWriting (D.view door.old) (D.view door.new) }
     ensures turns { (D.view door.new).turns ≡ (D.view door.old).turns }
     ensures reads { (D.view door.new).reads ≡ (D.view door.old).reads }
 {
@@ -86,7 +87,7 @@ fn write_items<D: Door>(
     ensures ok { D.tells → OnOk result ((D.view door.new).state ≡ put_out (items_text view.now family items.now) (D.view door.old).state) }
     ensures part { D.tells → OnErr result (WroteFirst (items_text view.now family items.now) (D.view door.old).state (D.view door.new).state) }
     ensures cause { Counts (has_failed result) (D.view door.old).writes (D.view door.new).writes }
-    ensures stop { IsTrue (has_failed result) → StopsAtFailure (D.view door.new).failed (D.view door.old).writes (D.view door.new).writes }
+    ensures stop { IsTrue (has_failed result) → IsStoppedWriting (D.view door.old) (D.view door.new) }
     ensures turns { (D.view door.new).turns ≡ (D.view door.old).turns }
     ensures reads { (D.view door.new).reads ≡ (D.view door.old).reads }
 {
@@ -110,7 +111,7 @@ fn write_between<D: Door>(
     ensures ok { D.tells → OnOk result ((D.view door.new).state ≡ put_out (front.now ++ (items_text view.now family items.now ++ back.now)) (D.view door.old).state) }
     ensures part { D.tells → OnErr result (WroteFirst (front.now ++ (items_text view.now family items.now ++ back.now)) (D.view door.old).state (D.view door.new).state) }
     ensures cause { Counts (has_failed result) (D.view door.old).writes (D.view door.new).writes }
-    ensures stop { IsTrue (has_failed result) → StopsAtFailure (D.view door.new).failed (D.view door.old).writes (D.view door.new).writes }
+    ensures stop { IsTrue (has_failed result) → IsStoppedWriting (D.view door.old) (D.view door.new) }
     ensures turns { (D.view door.new).turns ≡ (D.view door.old).turns }
     ensures reads { (D.view door.new).reads ≡ (D.view door.old).reads }
 {
@@ -130,7 +131,7 @@ fn write_list<D: Door>(
     ensures ok { D.tells → OnOk result ((D.view door.new).state ≡ put_out (list_text sources.now name.now) (D.view door.old).state) }
     ensures part { D.tells → OnErr result (WroteFirst (list_text sources.now name.now) (D.view door.old).state (D.view door.new).state) }
     ensures cause { Counts (has_failed result) (D.view door.old).writes (D.view door.new).writes }
-    ensures stop { IsTrue (has_failed result) → StopsAtFailure (D.view door.new).failed (D.view door.old).writes (D.view door.new).writes }
+    ensures stop { IsTrue (has_failed result) → IsStoppedWriting (D.view door.old) (D.view door.new) }
     ensures turns { (D.view door.new).turns ≡ (D.view door.old).turns }
     ensures reads { (D.view door.new).reads ≡ (D.view door.old).reads }
 {
@@ -157,7 +158,7 @@ fn write_named<D: Door>(
     ensures ok { D.tells → OnOk result ((D.view door.new).state ≡ put_out (flat_map (list_text sources.now) names.now) (D.view door.old).state) }
     ensures part { D.tells → OnErr result (WroteFirst (flat_map (list_text sources.now) names.now) (D.view door.old).state (D.view door.new).state) }
     ensures cause { Counts (has_failed result) (D.view door.old).writes (D.view door.new).writes }
-    ensures stop { IsTrue (has_failed result) → StopsAtFailure (D.view door.new).failed (D.view door.old).writes (D.view door.new).writes }
+    ensures stop { IsTrue (has_failed result) → IsStoppedWriting (D.view door.old) (D.view door.new) }
     ensures turns { (D.view door.new).turns ≡ (D.view door.old).turns }
     ensures reads { (D.view door.new).reads ≡ (D.view door.old).reads }
 {
@@ -185,7 +186,7 @@ pub(crate) fn write_lists<D: Door>(
     ensures ok { D.tells → OnOk result ((D.view door.new).state ≡ put_out (lists_text sources.now) (D.view door.old).state) }
     ensures part { D.tells → OnErr result (WroteFirst (lists_text sources.now) (D.view door.old).state (D.view door.new).state) }
     ensures cause { Counts (has_failed result) (D.view door.old).writes (D.view door.new).writes }
-    ensures stop { IsTrue (has_failed result) → StopsAtFailure (D.view door.new).failed (D.view door.old).writes (D.view door.new).writes }
+    ensures stop { IsTrue (has_failed result) → IsStoppedWriting (D.view door.old) (D.view door.new) }
     ensures turns { (D.view door.new).turns ≡ (D.view door.old).turns }
     ensures reads { (D.view door.new).reads ≡ (D.view door.old).reads }
 {

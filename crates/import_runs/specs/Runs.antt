@@ -1,11 +1,11 @@
 -- What an import of a folder leaves: of the desk, of the clock, of the connection, and of the keeper's count of faults.
-use Rattle.std.specs.Prelude.{◌≡◌, ℕ, ◌≤◌, ◌⊎◌, Bool, List, ◌++◌, length, take}
+use Rattle.std.specs.Prelude.{◌≡◌, ℕ, ◌≤◌, ◌⊎◌, List, ◌++◌, length, take}
 use Rattle.std.specs.declared.dyn_box.DynBox.{DynBox}
 use Rattle.std.specs.declared.alloc.Global.{Global}
 use Rattle.mud_tables.specs.declared.segment.Segment.{Segment}
 use Rattle.mud_world.specs.declared.keeper.Keeper.{Ghosts}
 use Rattle.mud_world.specs.Boxed.{Tells}
-use Rattle.mud_world.specs.Causes.{RoseBy, StopsAtFailure}
+use Rattle.mud_world.specs.Causes.{RoseBy}
 use Rattle.mud_world.specs.Clock.{later_moments}
 use Rattle.mud_world.specs.Door.{DoorState, put_out}
 use Rattle.mud_desk.specs.Boxed.{IsKept, IsSameBox}
@@ -48,11 +48,6 @@ pub record ImportsPart (files : List (List ℕ × List ℕ)) (names : List (List
   pub count : ℕ
   pub wrote : after.door ≡ put_out (lines_of said ++ take count (lines_of last)) before.door
   pub paid : RoseBy (keeper_count (said ++ last)) before.faults after.faults
-
--- One write of the door or one call of the spool failed, and it was the last call of that one. The count of the other stays.
-abbrev pub EndsAtDoorOrSpool : Bool → ℕ → ℕ → Bool → ℕ → ℕ → Type 0
-EndsAtDoorOrSpool door_failed writes writes_now spool_failed faults faults_now =
-    (StopsAtFailure door_failed writes writes_now × (faults_now ≡ faults)) ⊎ (StopsAtFailure spool_failed faults faults_now × (writes_now ≡ writes))
 
 -- The desk's lists are kept as before, in the same box, and it has the same connections.
 module _ {X : Type 0} {F : X → Type 0} (members : (v : (x : X) × F x) → Ghosts (F v.0)) where

@@ -7,12 +7,14 @@ ghost use Rattle.mud_world.specs.Clock.{later_moments};
 ghost use Rattle.mud_world.specs.Door.{put_out};
 ghost use Rattle.mud_desk.specs.Boxed.{IsKept};
 ghost use Rattle.mud_desk.specs.DeskState.{session_of, tables_of};
+ghost use Rattle.command_runs.specs.Ends.{IsStoppedByDoorOrSpool, IsStoppedWriting};
 ghost use Rattle.command_runs.specs.Due.{WroteFirst};
-ghost use Rattle.command_runs.specs.Status.{status_number};
+ghost use Rattle.command_runs.specs.Status.{IsOneOf, status_number};
+ghost use Rattle.command_runs.specs.declared.status.Status.TheVariants.{Done, Refused, KeeperFailed};
 ghost use Rattle.import_runs.specs.Entries.{has_keeper_failed, is_of_memory};
 ghost use Rattle.import_runs.specs.Entries as entries;
 ghost use Rattle.import_runs.specs.Imports.{MayLead, standing};
-ghost use Rattle.import_runs.specs.Runs.{EndsAtDoorOrSpool, ImportsPart, ImportsAll, StaysKept, scene};
+ghost use Rattle.import_runs.specs.Runs.{ImportsPart, ImportsAll, StaysKept, scene};
 ghost use Rattle.command_runs.specs.Stops.{has_failed};
 
 use crate::{append_reply, append_skipped, fetched_in};
@@ -92,7 +94,7 @@ fn say_line<D: Door>(
     ensures ok { D.tells → OnOk result ((D.view door.new).state ≡ put_out (entries.line_with name.now reply.now) (D.view door.old).state) }
     ensures part { D.tells → OnErr result (WroteFirst (entries.line_with name.now reply.now) (D.view door.old).state (D.view door.new).state) }
     ensures cause { Counts (has_failed result) (D.view door.old).writes (D.view door.new).writes }
-    ensures stop { IsTrue (has_failed result) → StopsAtFailure (D.view door.new).failed (D.view door.old).writes (D.view door.new).writes }
+    ensures stop { IsTrue (has_failed result) → IsStoppedWriting (D.view door.old) (D.view door.new) }
     ensures turns { (D.view door.new).turns ≡ (D.view door.old).turns }
     ensures reads { (D.view door.new).reads ≡ (D.view door.old).reads }
 {
@@ -132,10 +134,10 @@ pub(crate) fn import_file<L: Ledger, D: Door, P: Spool, C: Clock>(
     ensures part { D.tells → P.tells → C.tells → OnErr result ((h : List SegmentValue) → ImportsPart (P.view spool.old).files (name.now ∷ [])
         (scene h desk.old.state (C.moments clock.old) (D.view door.old).state (faults_of Keeper-dyn desk.old.keeper))
         (scene h desk.new.state (C.moments clock.new) (D.view door.new).state (faults_of Keeper-dyn desk.new.keeper))) }
-    ensures statuses { IfOk result (λ status. (status_number status ≡ 0) ⊎ ((status_number status ≡ 3) ⊎ (status_number status ≡ 7))) }
+    ensures statuses { IfOk result (λ status. IsOneOf (Done ∷ Refused ∷ KeeperFailed ∷ []) (status_number status)) }
     ensures keeper { IfOk result (λ status. Counts (status_number status == 7) (faults_of Keeper-dyn desk.old.keeper) (faults_of Keeper-dyn desk.new.keeper)) }
-    ensures failed { result ≡ Err Stop.Failed → EndsAtDoorOrSpool
-        (D.view door.new).failed (D.view door.old).writes (D.view door.new).writes (P.view spool.new).failed (P.view spool.old).faults (P.view spool.new).faults }
+    ensures failed { result ≡ Err Stop.Failed → IsStoppedByDoorOrSpool
+        (D.view door.old) (D.view door.new) (P.view spool.old) (P.view spool.new) }
     ensures steady { has_failed result ≡ false → ((D.view door.new).writes ≡ (D.view door.old).writes) × ((P.view spool.new).faults ≡ (P.view spool.old).faults) }
     ensures same { P.tells → (P.view spool.new).files ≡ (P.view spool.old).files }
     ensures turns { (D.view door.new).turns ≡ (D.view door.old).turns }

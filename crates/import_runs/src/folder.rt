@@ -1,5 +1,5 @@
 //! All names of a folder.
-ghost use Rattle.std.specs.Prelude.{◌≡◌, ◌≢◌, ◌==◌, ◌⊎◌, ℕ, ◌<◌, max, false, List, [], ◌∷◌, Err, IfOk, OnErr};
+ghost use Rattle.std.specs.Prelude.{◌≡◌, ◌==◌, ℕ, ◌<◌, max, false, List, [], ◌∷◌, Err, IfOk, OnErr};
 ghost use Rattle.sorted_rows.specs.Ledgers.{IsBlankOf};
 ghost use Rattle.mud_tables.specs.declared.segment.Segment.{Segment as SegmentValue};
 ghost use Rattle.mud_world.specs.Boxed.{faults_of};
@@ -7,9 +7,11 @@ ghost use Rattle.mud_world.specs.Causes.{Counts, Rose};
 ghost use Rattle.mud_world.specs.Files.{names_of};
 ghost use Rattle.mud_desk.specs.Boxed.{IsKept};
 ghost use Rattle.mud_desk.specs.DeskState.{tables_of};
-ghost use Rattle.command_runs.specs.Status.{status_number};
+ghost use Rattle.command_runs.specs.Ends.{AreSteady, IsStoppedByDoorOrSpool};
+ghost use Rattle.command_runs.specs.Status.{Is, IsNot, IsOneOf, status_number};
+ghost use Rattle.command_runs.specs.declared.status.Status.TheVariants.{Done, Refused, DoorFailed, NoMemory, KeeperFailed};
 ghost use Rattle.import_runs.specs.Order.{in_order};
-ghost use Rattle.import_runs.specs.Runs.{EndsAtDoorOrSpool, ImportsPart, ImportsAll, StaysKept, scene};
+ghost use Rattle.import_runs.specs.Runs.{ImportsPart, ImportsAll, StaysKept, scene};
 ghost use Rattle.command_runs.specs.Stops.{has_failed};
 
 use crate::file::import_file;
@@ -49,11 +51,11 @@ fn import_names<L: Ledger, D: Door, P: Spool, C: Clock>(
     ensures part { D.tells → P.tells → C.tells → OnErr result ((h : List SegmentValue) → ImportsPart (P.view spool.old).files names.now
         (scene h desk.old.state (C.moments clock.old) (D.view door.old).state (faults_of Keeper-dyn desk.old.keeper))
         (scene h desk.new.state (C.moments clock.new) (D.view door.new).state (faults_of Keeper-dyn desk.new.keeper))) }
-    ensures statuses { IfOk result (λ status. (status_number status ≡ 0) ⊎ ((status_number status ≡ 3) ⊎ (status_number status ≡ 7))) }
+    ensures statuses { IfOk result (λ status. IsOneOf (Done ∷ Refused ∷ KeeperFailed ∷ []) (status_number status)) }
     ensures keeper { IfOk result (λ status. Counts (status_number status == 7) (faults_of Keeper-dyn desk.old.keeper) (faults_of Keeper-dyn desk.new.keeper)) }
-    ensures failed { result ≡ Err Stop.Failed → EndsAtDoorOrSpool
-        (D.view door.new).failed (D.view door.old).writes (D.view door.new).writes (P.view spool.new).failed (P.view spool.old).faults (P.view spool.new).faults }
-    ensures steady { has_failed result ≡ false → ((D.view door.new).writes ≡ (D.view door.old).writes) × ((P.view spool.new).faults ≡ (P.view spool.old).faults) }
+    ensures failed { result ≡ Err Stop.Failed → IsStoppedByDoorOrSpool
+        (D.view door.old) (D.view door.new) (P.view spool.old) (P.view spool.new) }
+    ensures steady { has_failed result ≡ false → AreSteady (D.view door.old) (D.view door.new) (P.view spool.old) (P.view spool.new) }
     ensures same { P.tells → (P.view spool.new).files ≡ (P.view spool.old).files }
     ensures turns { (D.view door.new).turns ≡ (D.view door.old).turns }
     ensures reads { (D.view door.new).reads ≡ (D.view door.old).reads }
@@ -84,11 +86,11 @@ fn import_listed<L: Ledger, D: Door, P: Spool, C: Clock>(
     ensures part { D.tells → P.tells → C.tells → OnErr result ((h : List SegmentValue) → ImportsPart (P.view spool.old).files (in_order (names_of (P.view spool.old).files))
         (scene h desk.old.state (C.moments clock.old) (D.view door.old).state (faults_of Keeper-dyn desk.old.keeper))
         (scene h desk.new.state (C.moments clock.new) (D.view door.new).state (faults_of Keeper-dyn desk.new.keeper))) }
-    ensures statuses { IfOk result (λ status. (status_number status ≡ 0) ⊎ ((status_number status ≡ 3) ⊎ (status_number status ≡ 7))) }
+    ensures statuses { IfOk result (λ status. IsOneOf (Done ∷ Refused ∷ KeeperFailed ∷ []) (status_number status)) }
     ensures keeper { IfOk result (λ status. Counts (status_number status == 7) (faults_of Keeper-dyn desk.old.keeper) (faults_of Keeper-dyn desk.new.keeper)) }
-    ensures failed { result ≡ Err Stop.Failed → EndsAtDoorOrSpool
-        (D.view door.new).failed (D.view door.old).writes (D.view door.new).writes (P.view spool.new).failed (P.view spool.old).faults (P.view spool.new).faults }
-    ensures steady { has_failed result ≡ false → ((D.view door.new).writes ≡ (D.view door.old).writes) × ((P.view spool.new).faults ≡ (P.view spool.old).faults) }
+    ensures failed { result ≡ Err Stop.Failed → IsStoppedByDoorOrSpool
+        (D.view door.old) (D.view door.new) (P.view spool.old) (P.view spool.new) }
+    ensures steady { has_failed result ≡ false → AreSteady (D.view door.old) (D.view door.new) (P.view spool.old) (P.view spool.new) }
     ensures same { P.tells → (P.view spool.new).files ≡ (P.view spool.old).files }
     ensures turns { (D.view door.new).turns ≡ (D.view door.old).turns }
     ensures reads { (D.view door.new).reads ≡ (D.view door.old).reads }
@@ -118,24 +120,24 @@ pub fn import_files<D: Door, P: Spool, C: Clock>(
     clock: &mut C,
 ) -> Status
     requires kept { IsKept Keeper-dyn desk.old.keeper (tables_of desk.old.state) }
-    ensures statuses { (status_number result ≡ 0) ⊎ ((status_number result ≡ 3) ⊎ ((status_number result ≡ 4) ⊎ ((status_number result ≡ 5) ⊎ (status_number result ≡ 7)))) }
+    ensures statuses { IsOneOf (Done ∷ Refused ∷ DoorFailed ∷ NoMemory ∷ KeeperFailed ∷ []) (status_number result) }
     // With 0, 3 and 7 every name has its line, and the desk's lists are those after all commands.
-    ensures done { D.tells → P.tells → C.tells → (status_number result ≡ 0) ⊎ ((status_number result ≡ 3) ⊎ (status_number result ≡ 7)) →
+    ensures done { D.tells → P.tells → C.tells → IsOneOf (Done ∷ Refused ∷ KeeperFailed ∷ []) (status_number result) →
         (h : List SegmentValue) → ImportsAll (P.view spool.old).files (in_order (names_of (P.view spool.old).files))
         (scene h desk.old.state (C.moments clock.old) (D.view door.old).state (faults_of Keeper-dyn desk.old.keeper))
         (scene h desk.new.state (C.moments clock.new) (D.view door.new).state (faults_of Keeper-dyn desk.new.keeper)) (status_number result) }
     // With 4 and 5 a first part of that was done.
-    ensures part { D.tells → P.tells → C.tells → (status_number result ≡ 4) ⊎ (status_number result ≡ 5) →
+    ensures part { D.tells → P.tells → C.tells → IsOneOf (DoorFailed ∷ NoMemory ∷ []) (status_number result) →
         (h : List SegmentValue) → ImportsPart (P.view spool.old).files (in_order (names_of (P.view spool.old).files))
         (scene h desk.old.state (C.moments clock.old) (D.view door.old).state (faults_of Keeper-dyn desk.old.keeper))
         (scene h desk.new.state (C.moments clock.new) (D.view door.new).state (faults_of Keeper-dyn desk.new.keeper)) }
     // 4 comes exactly where a write of the door, or a call of the spool, failed in this call: one failed, and it isn't called again,
-    ensures fault { status_number result ≡ 4 → EndsAtDoorOrSpool
-        (D.view door.new).failed (D.view door.old).writes (D.view door.new).writes (P.view spool.new).failed (P.view spool.old).faults (P.view spool.new).faults }
-    ensures steady { status_number result ≢ 4 → ((D.view door.new).writes ≡ (D.view door.old).writes) × ((P.view spool.new).faults ≡ (P.view spool.old).faults) }
+    ensures fault { Is DoorFailed (status_number result) → IsStoppedByDoorOrSpool
+        (D.view door.old) (D.view door.new) (P.view spool.old) (P.view spool.new) }
+    ensures steady { IsNot DoorFailed (status_number result) → AreSteady (D.view door.old) (D.view door.new) (P.view spool.old) (P.view spool.new) }
     // and 7 only where the keeper did.
-    ensures keeper { status_number result ≡ 7 → Rose (faults_of Keeper-dyn desk.old.keeper) (faults_of Keeper-dyn desk.new.keeper) }
-    ensures keeper_steady { (status_number result ≡ 0) ⊎ (status_number result ≡ 3) → faults_of Keeper-dyn desk.new.keeper ≡ faults_of Keeper-dyn desk.old.keeper }
+    ensures keeper { Is KeeperFailed (status_number result) → Rose (faults_of Keeper-dyn desk.old.keeper) (faults_of Keeper-dyn desk.new.keeper) }
+    ensures keeper_steady { IsOneOf (Done ∷ Refused ∷ []) (status_number result) → faults_of Keeper-dyn desk.new.keeper ≡ faults_of Keeper-dyn desk.old.keeper }
     ensures stays { StaysKept Keeper-dyn desk.old.keeper desk.old.state desk.new.keeper desk.new.state }
     ensures same { P.tells → (P.view spool.new).files ≡ (P.view spool.old).files }
     ensures turns { (D.view door.new).turns ≡ (D.view door.old).turns }

@@ -11,6 +11,7 @@ use Rattle.mud_world.specs.Door.{DoorState, put_out}
 use Rattle.mud_world.specs.Files.{names_of}
 use Rattle.mud_world.proofs.Doors.{put_out_none}
 use Rattle.command_runs.specs.Due.{WroteFirst}
+use Rattle.command_runs.specs.Ends.{IsStoppedByDoorOrSpool}
 use Rattle.desk_items.specs.declared.fault.OpenFault.{OpenFault}
 use Rattle.desk_items.specs.declared.fault.OpenFault.TheVariants.{Keeper, Memory, BadItem}
 use Rattle.desk_items.specs.Opening.{IsFaultOf, IsOfCall}
@@ -24,7 +25,7 @@ use Rattle.desk_runs.specs.Refused.{IsRefusal, bad_item_line, refusal_text}
 use Rattle.desk_runs.proofs.Runs.{refused_run}
 use Rattle.import_runs.specs.Imports.{standing}
 use Rattle.import_runs.specs.Order.{in_order}
-use Rattle.import_runs.specs.Runs.{EndsAtDoorOrSpool, Scene, ImportsPart, ImportsAll, StaysKept, scene}
+use Rattle.import_runs.specs.Runs.{Scene, ImportsPart, ImportsAll, StaysKept, scene}
 use Rattle.mud_cli.specs.Import.Store.{ImportsStore, RefusesStore, scene_in}
 use Rattle.mud_world.specs.View.{OutsideView, SpoolView}
 use Rattle.snoop_runs.proofs.Stored.{not_seven}
@@ -69,7 +70,7 @@ module _ {X : Type 0} {F : X → Type 0} (members : (v : (x : X) × F x) → Gho
       → IsSound (tables_of state) → IsBegun (tables_of state) state → faults_of members begun ≡ faults_of members keeper → IsSameBox keeper begun
       → StaysKept members begun state after ended → IsSound (tables_of ended)
       → IsOfImport status
-      → (status ≡ 4 → EndsAtDoorOrSpool new.door.failed old.door.writes new.door.writes new.spool.failed old.spool.faults new.spool.faults)
+      → (status ≡ 4 → IsStoppedByDoorOrSpool old.door new.door old.spool new.spool)
       → (status ≢ 4 → (new.door.writes ≡ old.door.writes) × (new.spool.faults ≡ old.spool.faults))
       → (status ≡ 7 → Rose (faults_of members begun) (faults_of members after))
       → ((status ≡ 0) ⊎ (status ≡ 3) → faults_of members after ≡ faults_of members begun)
@@ -82,10 +83,13 @@ module _ {X : Type 0} {F : X → Type 0} (members : (v : (x : X) × F x) → Gho
       let first = scene_begun state old.moments old.door.state (faults_of members begun) (faults_of members keeper) begins same_count in
       let last = scene_ended ended new.moments new.door.state (faults_of members after) in
       subst (λ (box : DynBox X Global F). ImportsStore members tells keeper box old new status) (sym same) (record {
-        statuses = of_import status is;
-        fault = fault;
-        steady = steady;
-        keeper_fault = λ seven. subst (λ (n : ℕ). Rose n (faults_of members after)) same_count (failed seven);
+        honest = record {
+          statuses = of_import status is;
+          fault = fault;
+          steady = steady;
+          keeper_fault = λ seven. subst (λ (n : ℕ). Rose n (faults_of members after)) same_count (failed seven);
+          same_box = record { object = stays.same_box.object ∙ same_box.object; place = stays.same_box.place ∙ same_box.place };
+        };
         keeper_steady = λ which. unfailed (read_of_import status is which) ∙ same_count;
         runs = λ told tell. inl (record {
           tables = tables_of state;
@@ -105,7 +109,6 @@ module _ {X : Type 0} {F : X → Type 0} (members : (v : (x : X) × F x) → Gho
         });
         kept = inl (record { tables = tables_of ended; sound = sound_after; kept = stays.kept });
         same_files = files;
-        same_box = record { object = stays.same_box.object ∙ same_box.object; place = stays.same_box.place ∙ same_box.place };
         same_turns = turns;
         same_reads = reads;
       })
@@ -168,10 +171,13 @@ module _ {X : Type 0} {F : X → Type 0} (members : (v : (x : X) × F x) → Gho
   refused_import fault bad left counts same_box is failed steady done part untouched turns reads spool moments =
       let run = refused_run members keeper after tells old.door new.door status fault bad left counts same_box is failed steady done part untouched turns reads in
       record {
-        statuses = run.statuses;
-        fault = λ four. inl (failed four, ap (λ (s : SpoolView). s.faults) spool);
-        steady = λ other. (steady other, ap (λ (s : SpoolView). s.faults) spool);
-        keeper_fault = run.keeper_fault;
+        honest = record {
+          statuses = run.honest.statuses;
+          fault = λ four. inl (failed four, ap (λ (s : SpoolView). s.faults) spool);
+          steady = λ other. (steady other, ap (λ (s : SpoolView). s.faults) spool);
+          keeper_fault = run.honest.keeper_fault;
+          same_box = same_box;
+        };
         keeper_steady = λ which. run.keeper_steady (not_seven status which);
         runs = λ told tell. inr (record {
           refuses = refuses old new status spool moments (kept_items members after) fault (bad tell) is (done told) (part told) untouched;
@@ -180,7 +186,6 @@ module _ {X : Type 0} {F : X → Type 0} (members : (v : (x : X) × F x) → Gho
         });
         kept = run.kept;
         same_files = λ told. ap (λ (s : SpoolView). s.files) spool;
-        same_box = same_box;
         same_turns = turns;
         same_reads = reads;
       }

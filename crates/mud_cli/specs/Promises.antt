@@ -1,14 +1,16 @@
 -- What the commands promise that read their input from the door and write what it says.
-use Rattle.std.specs.Prelude.{◌≡◌, ◌≢◌, ℕ, ◌≤◌, ◌⊎◌, List, ◌++◌, length, Some}
-use Rattle.mud_world.specs.Causes.{EndsAtFailure}
+use Rattle.std.specs.Prelude.{◌≡◌, ◌≢◌, ℕ, ◌≤◌, List, ◌++◌, length, Some, [], ◌∷◌}
 use Rattle.mud_world.specs.Door.{DoorState}
 use Rattle.capture_runs.specs.Capture.{WritesTaken}
+use Rattle.command_runs.specs.Ends.{IsSteady, IsStopped}
 use Rattle.command_runs.specs.Due.{WritesDue, WritesPart}
 pub use Rattle.mud_world.specs.View.{DoorView, viewed}
 use Rattle.mud_cli.specs.Answers.{due_of, most_read}
 use Rattle.mud_cli.specs.Frames.Lines.{frame_step}
 use Rattle.command_words.specs.declared.command.Command.{Command}
 use Rattle.command_words.specs.declared.command.Command.TheVariants.{Frames}
+use Rattle.command_runs.specs.Status.{Is, IsNot, IsOneOf}
+use Rattle.command_runs.specs.declared.status.Status.TheVariants.{Done, Refused, DoorFailed, NoMemory}
 
 -- At most so many octets were read of the front of the connection.
 pub record ReadUpTo (most : ℕ) (old new : DoorState) : Type 0 where
@@ -20,12 +22,12 @@ pub record ReadUpTo (most : ℕ) (old new : DoorState) : Type 0 where
 pub record Promises (tells : Type 0) (command : Command) (old new : DoorView) (status : ℕ) : Type 0 where
   -- The status is 0, 3, 4 or 5. It is 4 only where one read or write failed in this call, and then the door isn't called again;
   -- where it isn't 4, none failed.
-  pub statuses : (status ≡ 0) ⊎ ((status ≡ 3) ⊎ ((status ≡ 4) ⊎ (status ≡ 5)))
-  pub fault : status ≡ 4 → EndsAtFailure new.failed old.reads new.reads old.writes new.writes
-  pub steady : status ≢ 4 → (new.reads ≡ old.reads) × (new.writes ≡ old.writes)
+  pub statuses : IsOneOf (Done ∷ Refused ∷ DoorFailed ∷ NoMemory ∷ []) status
+  pub fault : Is DoorFailed status → IsStopped old new
+  pub steady : IsNot DoorFailed status → IsSteady old new
   -- With 0 and 3 all that is due was written, with 4 and 5 a first part of it.
-  pub done : tells → (status ≡ 0) ⊎ (status ≡ 3) → WritesDue (due_of command old.state.left) old.state new.state status
-  pub part : tells → (status ≡ 4) ⊎ (status ≡ 5) → WritesPart (due_of command old.state.left) old.state new.state
+  pub done : tells → IsOneOf (Done ∷ Refused ∷ []) status → WritesDue (due_of command old.state.left) old.state new.state status
+  pub part : tells → IsOneOf (DoorFailed ∷ NoMemory ∷ []) status → WritesPart (due_of command old.state.left) old.state new.state
   -- Where a read of a capture failed, the lines of the packets in the octets that were read were written.
   pub taken : tells → command ≡ Frames → new.reads ≢ old.reads → WritesTaken frame_step tt old.state new.state
   -- Of a message or a usage file at most one octet too many is read.

@@ -126,17 +126,19 @@ module _ {X : Type 0} {F : X → Type 0} (members : (v : (x : X) × F x) → Gho
       → new.turns ≡ old.turns → new.reads ≡ old.reads → (returned : DynBox X Global F) → returned ≡ after
       → ReportsStore members kind tells clock_tells moments keeper returned old new status
   opened_run tables read sound kept same_count same_box is fault steady writes turns reads returned same = subst (λ (box : DynBox X Global F). ReportsStore members kind tells clock_tells moments keeper box old new status) (sym same) (record {
-    statuses = of_table status is;
-    fault = fault;
-    steady = steady;
-    keeper_fault = λ seven. no_seven status is seven;
+    honest = record {
+      statuses = of_table status is;
+      fault = fault;
+      steady = steady;
+      keeper_fault = λ seven. no_seven status is seven;
+      same_box = same_box;
+    };
     keeper_steady = λ other. same_count;
     writes = λ told tell.
         subst (λ (store : Result DeskTables Item). WritesReport kind clock_tells moments store old.state new.state status) (sym (kept_tables members after tables sound kept tell)) (writes told);
     same_tables = λ before now. kept_tables members after tables sound kept now ∙ sym (read before now);
     same_items = λ six before now. no_six status is six;
     kept = inl (record { tables = tables; sound = sound; kept = kept });
-    same_box = same_box;
     same_turns = turns;
     same_reads = reads;
   })
@@ -157,16 +159,18 @@ module _ {X : Type 0} {F : X → Type 0} (members : (v : (x : X) × F x) → Gho
       let run : JudgesStore members tells keeper after old new status =
       refused_run members keeper after tells old new status fault bad left counts same_box is failed steady done part untouched turns reads in
       record {
-        statuses = of_refusal fault status is;
-        fault = failed;
-        steady = steady;
-        keeper_fault = run.keeper_fault;
+        honest = record {
+          statuses = of_refusal fault status is;
+          fault = failed;
+          steady = steady;
+          keeper_fault = run.honest.keeper_fault;
+          same_box = same_box;
+        };
         keeper_steady = run.keeper_steady;
         writes = λ told tell. writes_refused kind clock_tells moments old.state new.state status (kept_items members after) fault (bad tell) is (done told) (part told) untouched;
         same_tables = run.same_tables;
         same_items = run.same_items;
         kept = run.kept;
-        same_box = same_box;
         same_turns = turns;
         same_reads = reads;
       }

@@ -1,7 +1,8 @@
 //! Rows written one after the other: the lines of each are written as soon as they are made.
 ghost use Rattle.std.specs.Prelude.{◌≡◌, IfOk, OnOk, OnErr, flat_map, IsTrue};
-ghost use Rattle.mud_world.specs.Causes.{Counts, StopsAtFailure};
+ghost use Rattle.mud_world.specs.Causes.{Counts};
 ghost use Rattle.mud_world.specs.Door.{put_out};
+ghost use Rattle.command_runs.specs.Ends.{IsStoppedWriting};
 ghost use Rattle.command_runs.specs.Due.{WroteFirst};
 ghost use Rattle.command_runs.specs.Stops.{has_failed};
 ghost use Rattle.report_runs.specs.Tables.{due_part};
@@ -21,7 +22,7 @@ fn write_row<D: Door, R: ReportRow>(alloc: Global, door: &mut D, row: &R) -> Res
     ensures ok { D.tells → OnOk result ((D.view door.new).state ≡ put_out (R.text row.now) (D.view door.old).state) }
     ensures part { D.tells → OnErr result (WroteFirst (R.text row.now) (D.view door.old).state (D.view door.new).state) }
     ensures cause { Counts (has_failed result) (D.view door.old).writes (D.view door.new).writes }
-    ensures stop { IsTrue (has_failed result) → StopsAtFailure (D.view door.new).failed (D.view door.old).writes (D.view door.new).writes }
+    ensures stop { IsTrue (has_failed result) → IsStoppedWriting (D.view door.old) (D.view door.new) }
     ensures turns { (D.view door.new).turns ≡ (D.view door.old).turns }
     ensures reads { (D.view door.new).reads ≡ (D.view door.old).reads }
 {
@@ -39,7 +40,7 @@ pub(crate) fn write_rows<D: Door, R: ReportRow>(
     ensures ok { D.tells → OnOk result ((D.view door.new).state ≡ put_out (flat_map R.text rows.now) (D.view door.old).state) }
     ensures part { D.tells → OnErr result (WroteFirst (flat_map R.text rows.now) (D.view door.old).state (D.view door.new).state) }
     ensures cause { Counts (has_failed result) (D.view door.old).writes (D.view door.new).writes }
-    ensures stop { IsTrue (has_failed result) → StopsAtFailure (D.view door.new).failed (D.view door.old).writes (D.view door.new).writes }
+    ensures stop { IsTrue (has_failed result) → IsStoppedWriting (D.view door.old) (D.view door.new) }
     ensures turns { (D.view door.new).turns ≡ (D.view door.old).turns }
     ensures reads { (D.view door.new).reads ≡ (D.view door.old).reads }
 {
@@ -71,7 +72,7 @@ fn write_due_row<D: Door>(
     ensures ok { D.tells → OnOk result ((D.view door.new).state ≡ put_out (due_part now row.now) (D.view door.old).state) }
     ensures part { D.tells → OnErr result (WroteFirst (due_part now row.now) (D.view door.old).state (D.view door.new).state) }
     ensures cause { Counts (has_failed result) (D.view door.old).writes (D.view door.new).writes }
-    ensures stop { IsTrue (has_failed result) → StopsAtFailure (D.view door.new).failed (D.view door.old).writes (D.view door.new).writes }
+    ensures stop { IsTrue (has_failed result) → IsStoppedWriting (D.view door.old) (D.view door.new) }
     ensures turns { (D.view door.new).turns ≡ (D.view door.old).turns }
     ensures reads { (D.view door.new).reads ≡ (D.view door.old).reads }
 {
@@ -89,7 +90,7 @@ pub(crate) fn write_due<D: Door>(
     ensures ok { D.tells → OnOk result ((D.view door.new).state ≡ put_out (flat_map (due_part now) files.now) (D.view door.old).state) }
     ensures part { D.tells → OnErr result (WroteFirst (flat_map (due_part now) files.now) (D.view door.old).state (D.view door.new).state) }
     ensures cause { Counts (has_failed result) (D.view door.old).writes (D.view door.new).writes }
-    ensures stop { IsTrue (has_failed result) → StopsAtFailure (D.view door.new).failed (D.view door.old).writes (D.view door.new).writes }
+    ensures stop { IsTrue (has_failed result) → IsStoppedWriting (D.view door.old) (D.view door.new) }
     ensures turns { (D.view door.new).turns ≡ (D.view door.old).turns }
     ensures reads { (D.view door.new).reads ≡ (D.view door.old).reads }
 {

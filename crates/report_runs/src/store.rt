@@ -1,6 +1,7 @@
 //! The command `report`, from the opening of its store to its status.
-ghost use Rattle.std.specs.Prelude.{◌≡◌, ◌⊎◌, false};
-ghost use Rattle.command_runs.specs.Status.{status_number};
+ghost use Rattle.std.specs.Prelude.{◌≡◌, ◌⊎◌, false, [], ◌∷◌};
+ghost use Rattle.command_runs.specs.Status.{Is, IsOneOf, status_number};
+ghost use Rattle.command_runs.specs.declared.status.Status.TheVariants.{Done, BadItem, KeeperFailed};
 ghost use Rattle.desk_items.specs.Taken.{kept_of};
 ghost use Rattle.desk_model.specs.Items.{none_kept};
 ghost use Rattle.report_runs.specs.Store.{ReportsStore};
@@ -32,13 +33,13 @@ pub fn report_store<D: Door, C: Clock>(
         (D.view door.new)
         (status_number result.0) }
     // Where the keeper failed, the door isn't called at all.
-    ensures untouched { status_number result.0 ≡ 7 → door.new ≡ door.old }
+    ensures untouched { Is KeeperFailed (status_number result.0) → door.new ≡ door.old }
     // The clock is asked once for the URLs that are due,
-    ensures asked { C.tells → status_number result.0 ≡ 0 → C.moments clock.new ≡ moments_after kind (C.moments clock.old) }
+    ensures asked { C.tells → Is Done (status_number result.0) → C.moments clock.new ≡ moments_after kind (C.moments clock.old) }
     ensures once { C.tells → (C.moments clock.new ≡ C.moments clock.old) ⊎ (C.moments clock.new ≡ moments_after kind (C.moments clock.old)) }
     // and not for another table, nor where the store can't be opened.
     ensures unasked { asks_clock kind ≡ false → clock.new ≡ clock.old }
-    ensures unopened { (status_number result.0 ≡ 6) ⊎ (status_number result.0 ≡ 7) → clock.new ≡ clock.old }
+    ensures unopened { IsOneOf (BadItem ∷ KeeperFailed ∷ []) (status_number result.0) → clock.new ≡ clock.old }
 {
     match Desk::open(alloc, keeper, nothing) {
         Ok(desk) => report_desk(alloc, desk, kind, door, clock),

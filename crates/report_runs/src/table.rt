@@ -1,11 +1,13 @@
 //! One of the tables of a desk, written to a door.
-ghost use Rattle.std.specs.Prelude.{◌≡◌, ◌≢◌, ◌⊎◌, false, Ok, OnOk, OnErr, IsTrue};
-ghost use Rattle.mud_world.specs.Causes.{Counts, StopsAtFailure};
+ghost use Rattle.std.specs.Prelude.{◌≡◌, false, Ok, OnOk, OnErr, IsTrue, [], ◌∷◌};
+ghost use Rattle.mud_world.specs.Causes.{Counts};
 ghost use Rattle.mud_world.specs.Door.{put_out};
 ghost use Rattle.mud_desk.specs.Boxed.{IsKept};
 ghost use Rattle.mud_desk.specs.DeskState.{tables_of};
+ghost use Rattle.command_runs.specs.Ends.{IsStoppedWriting};
 ghost use Rattle.command_runs.specs.Due.{WroteFirst};
-ghost use Rattle.command_runs.specs.Status.{status_number};
+ghost use Rattle.command_runs.specs.Status.{Is, IsNot, IsOneOf, status_number};
+ghost use Rattle.command_runs.specs.declared.status.Status.TheVariants.{Done, DoorFailed, NoMemory};
 ghost use Rattle.command_runs.specs.Stops.{has_failed};
 ghost use Rattle.report_runs.specs.Store.{WritesReport};
 ghost use Rattle.report_runs.specs.Tables.{clock_for, moments_after, table_text};
@@ -60,7 +62,7 @@ fn write_table<D: Door>(
     ensures ok { D.tells → OnOk result ((D.view door.new).state ≡ put_out (table_text kind clock (tables_of desk.now.state)) (D.view door.old).state) }
     ensures part { D.tells → OnErr result (WroteFirst (table_text kind clock (tables_of desk.now.state)) (D.view door.old).state (D.view door.new).state) }
     ensures cause { Counts (has_failed result) (D.view door.old).writes (D.view door.new).writes }
-    ensures stop { IsTrue (has_failed result) → StopsAtFailure (D.view door.new).failed (D.view door.old).writes (D.view door.new).writes }
+    ensures stop { IsTrue (has_failed result) → IsStoppedWriting (D.view door.old) (D.view door.new) }
     ensures turns { (D.view door.new).turns ≡ (D.view door.old).turns }
     ensures reads { (D.view door.new).reads ≡ (D.view door.old).reads }
 {
@@ -87,11 +89,11 @@ fn report_table<D: Door>(
     clock: Option<Moment>,
     door: &mut D,
 ) -> Status
-    ensures statuses { (status_number result ≡ 0) ⊎ ((status_number result ≡ 4) ⊎ (status_number result ≡ 5)) }
-    ensures fault { status_number result ≡ 4 → StopsAtFailure (D.view door.new).failed (D.view door.old).writes (D.view door.new).writes }
-    ensures steady { status_number result ≢ 4 → (D.view door.new).writes ≡ (D.view door.old).writes }
-    ensures done { D.tells → status_number result ≡ 0 → (D.view door.new).state ≡ put_out (table_text kind clock (tables_of desk.now.state)) (D.view door.old).state }
-    ensures part { D.tells → (status_number result ≡ 4) ⊎ (status_number result ≡ 5) →
+    ensures statuses { IsOneOf (Done ∷ DoorFailed ∷ NoMemory ∷ []) (status_number result) }
+    ensures fault { Is DoorFailed (status_number result) → IsStoppedWriting (D.view door.old) (D.view door.new) }
+    ensures steady { IsNot DoorFailed (status_number result) → (D.view door.new).writes ≡ (D.view door.old).writes }
+    ensures done { D.tells → Is Done (status_number result) → (D.view door.new).state ≡ put_out (table_text kind clock (tables_of desk.now.state)) (D.view door.old).state }
+    ensures part { D.tells → IsOneOf (DoorFailed ∷ NoMemory ∷ []) (status_number result) →
         WroteFirst (table_text kind clock (tables_of desk.now.state)) (D.view door.old).state (D.view door.new).state }
     ensures turns { (D.view door.new).turns ≡ (D.view door.old).turns }
     ensures reads { (D.view door.new).reads ≡ (D.view door.old).reads }
@@ -118,9 +120,9 @@ pub(crate) fn report_desk<D: Door, C: Clock>(
     clock: &mut C,
 ) -> (Status, Box<dyn Keeper>)
     requires { IsKept Keeper-dyn desk.keeper (tables_of desk.state) }
-    ensures statuses { (status_number result.0 ≡ 0) ⊎ ((status_number result.0 ≡ 4) ⊎ (status_number result.0 ≡ 5)) }
-    ensures fault { status_number result.0 ≡ 4 → StopsAtFailure (D.view door.new).failed (D.view door.old).writes (D.view door.new).writes }
-    ensures steady { status_number result.0 ≢ 4 → (D.view door.new).writes ≡ (D.view door.old).writes }
+    ensures statuses { IsOneOf (Done ∷ DoorFailed ∷ NoMemory ∷ []) (status_number result.0) }
+    ensures fault { Is DoorFailed (status_number result.0) → IsStoppedWriting (D.view door.old) (D.view door.new) }
+    ensures steady { IsNot DoorFailed (status_number result.0) → (D.view door.new).writes ≡ (D.view door.old).writes }
     ensures writes { D.tells → WritesReport kind C.tells (C.moments clock.old) (Ok (tables_of desk.state)) (D.view door.old).state (D.view door.new).state (status_number result.0) }
     ensures turns { (D.view door.new).turns ≡ (D.view door.old).turns }
     ensures reads { (D.view door.new).reads ≡ (D.view door.old).reads }

@@ -79,10 +79,13 @@ module _ {X : Type 0} {F : X → Type 0} (members : (v : (x : X) × F x) → Gho
   snooped_run begun state ended read sound begins same_count same_box stays is fault steady failed unfailed all part taken turns returned same =
       let in_session = in_begun (tables_of state) state begins in
       subst (λ (box : DynBox X Global F). SnoopsStore members tells keeper box old new status) (sym same) (record {
-        statuses = of_snoop status is;
-        fault = fault;
-        steady = steady;
-        keeper_fault = λ seven. subst (λ (n : ℕ). Rose n (faults_of members after)) same_count (failed seven);
+        honest = record {
+          statuses = of_snoop status is;
+          fault = fault;
+          steady = steady;
+          keeper_fault = λ seven. subst (λ (n : ℕ). Rose n (faults_of members after)) same_count (failed seven);
+          same_box = record { object = stays.same_box.object ∙ same_box.object; place = stays.same_box.place ∙ same_box.place };
+        };
         keeper_steady = λ which. unfailed (not_six status is which) ∙ same_count;
         runs = λ told tell. inl (record {
           tables = tables_of state;
@@ -99,7 +102,6 @@ module _ {X : Type 0} {F : X → Type 0} (members : (v : (x : X) × F x) → Gho
           };
         });
         kept = inl (record { tables = tables_of ended; kept = stays.kept });
-        same_box = record { object = stays.same_box.object ∙ same_box.object; place = stays.same_box.place ∙ same_box.place };
         same_turns = turns;
       })
 
@@ -159,10 +161,13 @@ module _ {X : Type 0} {F : X → Type 0} (members : (v : (x : X) × F x) → Gho
   refused_snoop fault bad left counts same_box is failed steady done part untouched turns reads =
       let run = refused_run members keeper after tells old new status fault bad left counts same_box is failed steady done part untouched turns reads in
       record {
-        statuses = run.statuses;
-        fault = run.fault;
-        steady = run.steady;
-        keeper_fault = run.keeper_fault;
+        honest = record {
+          statuses = run.honest.statuses;
+          fault = run.honest.fault;
+          steady = run.honest.steady;
+          keeper_fault = run.honest.keeper_fault;
+          same_box = same_box;
+        };
         keeper_steady = λ which. run.keeper_steady (not_seven status which);
         runs = λ told tell. inr (record {
           refuses = refuses old.state new.state status (kept_items members after) fault (bad tell) is (done told) (part told) untouched;
@@ -170,6 +175,5 @@ module _ {X : Type 0} {F : X → Type 0} (members : (v : (x : X) × F x) → Gho
           same_items = λ six before. run.same_items six before tell;
         });
         kept = inr (unopened members keeper after status fault bad left is);
-        same_box = same_box;
         same_turns = turns;
       }

@@ -1,21 +1,24 @@
 -- What a run of `snoop` over a store and a capture does.
-use Rattle.std.specs.Prelude.{◌≡◌, ◌≢◌, ℕ, ◌⊎◌, List, [], Result, Ok, Err}
+use Rattle.std.specs.Prelude.{◌≡◌, ◌≢◌, ℕ, ◌⊎◌, List, [], Result, Ok, Err, ◌∷◌}
 use Rattle.std.specs.declared.dyn_box.DynBox.{DynBox}
 use Rattle.std.specs.declared.alloc.Global.{Global}
 use Rattle.mud_world.specs.declared.keeper.Keeper.{Ghosts}
 use Rattle.mud_world.specs.declared.item.Item.{Item}
 use Rattle.mud_world.specs.Boxed.{faults_of, Tells, kept_items}
-use Rattle.mud_world.specs.Causes.{EndsAtFailure, Rose}
 use Rattle.mud_world.specs.Door.{DoorState, put_out}
+use Rattle.command_runs.specs.Ends.{IsSteady, IsStopped}
 use Rattle.command_runs.specs.Due.{WroteFirst}
 use Rattle.mud_world.specs.View.{DoorView}
 use Rattle.desk_model.specs.DeskTables.{DeskTables, IsSound}
 use Rattle.desk_model.specs.Items.{items_of, tables_in}
 use Rattle.desk_model.specs.Sessions.{Session, opened}
+use Rattle.desk_runs.specs.Honest.{RunsHonestly}
 use Rattle.desk_runs.specs.Refused.{bad_item_line}
 use Rattle.desk_runs.specs.Store.{IsUnopened}
-use Rattle.mud_desk.specs.Boxed.{IsKept, IsSameBox}
+use Rattle.mud_desk.specs.Boxed.{IsKept}
 use Rattle.snoop_runs.specs.Runs.{scene, SnoopsAll, SnoopsPart, SnoopsTaken}
+use Rattle.command_runs.specs.Status.{Is, IsOneOf, each_status}
+use Rattle.command_runs.specs.declared.status.Status.TheVariants.{Done, Refused, DoorFailed, NoMemory, BadItem, KeeperFailed}
 
 -- ---- A store that is opened
 
@@ -40,9 +43,9 @@ pub record LeavesTaken (tables : DeskTables) (items : List Item) (faults faults_
 -- The packets of the capture were gone through: all of them with 0, 3 and 7, and with 4 and 5 some of them, from the first on. Where a
 -- read failed, they are those in the octets that were taken, and all their lines were written.
 pub record SnoopsCapture (tables : DeskTables) (items : List Item) (faults faults_after : ℕ) (old new : DoorView) (status : ℕ) : Type 0 where
-  pub statuses : (status ≡ 0) ⊎ ((status ≡ 3) ⊎ ((status ≡ 4) ⊎ ((status ≡ 5) ⊎ (status ≡ 7))))
-  pub all : (status ≡ 0) ⊎ ((status ≡ 3) ⊎ (status ≡ 7)) → LeavesAll tables items faults faults_after old.state new.state status
-  pub part : (status ≡ 4) ⊎ (status ≡ 5) → LeavesPart tables items faults faults_after old.state new.state
+  pub statuses : IsOneOf (Done ∷ Refused ∷ DoorFailed ∷ NoMemory ∷ KeeperFailed ∷ []) status
+  pub all : IsOneOf (Done ∷ Refused ∷ KeeperFailed ∷ []) status → LeavesAll tables items faults faults_after old.state new.state status
+  pub part : IsOneOf (DoorFailed ∷ NoMemory ∷ []) status → LeavesPart tables items faults faults_after old.state new.state
   pub taken : new.reads ≢ old.reads → LeavesTaken tables items faults faults_after old.state new.state
 
 -- ---- A store that isn't opened
@@ -54,11 +57,11 @@ line_of_bad (Err item) = bad_item_line item.kind item.key
 -- Where an item is no record, its line was written whole with 6, and a first part of it with 4 and 5. With 7 nothing was written. The
 -- capture isn't read.
 pub record RefusesStore (store : Result DeskTables Item) (old new : DoorState) (status : ℕ) : Type 0 where
-  pub statuses : (status ≡ 4) ⊎ ((status ≡ 5) ⊎ ((status ≡ 6) ⊎ (status ≡ 7)))
-  pub bad : (status ≡ 4) ⊎ (status ≡ 6) → (item : Item) × (store ≡ Err item)
-  pub done : status ≡ 6 → new ≡ put_out (line_of_bad store) old
-  pub part : (status ≡ 4) ⊎ (status ≡ 5) → WroteFirst (line_of_bad store) old new
-  pub none : status ≡ 7 → new ≡ old
+  pub statuses : IsOneOf (DoorFailed ∷ NoMemory ∷ BadItem ∷ KeeperFailed ∷ []) status
+  pub bad : IsOneOf (DoorFailed ∷ BadItem ∷ []) status → (item : Item) × (store ≡ Err item)
+  pub done : Is BadItem status → new ≡ put_out (line_of_bad store) old
+  pub part : IsOneOf (DoorFailed ∷ NoMemory ∷ []) status → WroteFirst (line_of_bad store) old new
+  pub none : Is KeeperFailed status → new ≡ old
 
 module _ {X : Type 0} {F : X → Type 0} (members : (v : (x : X) × F x) → Ghosts (F v.0)) where
   -- A desk is opened with the tables that were kept, and what the packets lead to is kept.
@@ -72,7 +75,7 @@ module _ {X : Type 0} {F : X → Type 0} (members : (v : (x : X) × F x) → Gho
   pub record IsRefused (keeper returned : DynBox X Global F) (old new : DoorView) (status : ℕ) : Type 0 where
     pub refuses : RefusesStore (tables_in (kept_items members returned)) old.state new.state status
     pub same_tables : Tells members keeper → tables_in (kept_items members returned) ≡ tables_in (kept_items members keeper)
-    pub same_items : status ≡ 6 → Tells members keeper → kept_items members returned ≡ kept_items members keeper
+    pub same_items : Is BadItem status → Tells members keeper → kept_items members returned ≡ kept_items members keeper
 
   -- the keeper is open, and the items that it tells are those of some tables
   pub record KeepsSome (keeper : DynBox X Global F) : Type 0 where
@@ -81,17 +84,12 @@ module _ {X : Type 0} {F : X → Type 0} (members : (v : (x : X) × F x) → Gho
 
   -- A run of `snoop`. `tells` says that the door tells its connections.
   pub record SnoopsStore (tells : Type 0) (keeper returned : DynBox X Global F) (old new : DoorView) (status : ℕ) : Type 0 where
-    -- The status is 0 or 3 to 7. It is 4 only where one read or write of the door failed in this call, and then the door isn't
-    -- called again; where it isn't 4, none failed. It is 7 only where the keeper failed, and where it is 0, 3 or 6 the keeper didn't.
-    pub statuses : (status ≡ 0) ⊎ ((status ≡ 3) ⊎ ((status ≡ 4) ⊎ ((status ≡ 5) ⊎ ((status ≡ 6) ⊎ (status ≡ 7)))))
-    pub fault : status ≡ 4 → EndsAtFailure new.failed old.reads new.reads old.writes new.writes
-    pub steady : status ≢ 4 → (new.reads ≡ old.reads) × (new.writes ≡ old.writes)
-    pub keeper_fault : status ≡ 7 → Rose (faults_of members keeper) (faults_of members returned)
-    pub keeper_steady : (status ≡ 0) ⊎ ((status ≡ 3) ⊎ (status ≡ 6)) → faults_of members returned ≡ faults_of members keeper
+    -- A read or a write that fails ends the run. Where it ends with 0, 3 or 6, the keeper didn't fail.
+    pub honest : RunsHonestly members each_status (IsStopped old new) (IsSteady old new) keeper returned status
+    pub keeper_steady : IsOneOf (Done ∷ Refused ∷ BadItem ∷ []) status → faults_of members returned ≡ faults_of members keeper
     -- A desk is opened and learns from the capture, or the store is refused.
     pub runs : tells → Tells members returned → OpensAndSnoops keeper returned old new status ⊎ IsRefused keeper returned old new status
     -- Whatever the status, the items of some tables are kept, but where no desk was opened.
     pub kept : KeepsSome returned ⊎ IsUnopened members keeper returned status
     -- The box that comes back is the one that was handed in. No port is bound, and the connection isn't left.
-    pub same_box : IsSameBox keeper returned
     pub same_turns : new.turns ≡ old.turns

@@ -1,15 +1,17 @@
 //! A capture, packet by packet.
-ghost use Rattle.std.specs.Prelude.{◌≡◌, ◌≢◌, ◌==◌, ◌⊎◌, [], false, true};
+ghost use Rattle.std.specs.Prelude.{◌≡◌, ◌≢◌, ◌==◌, [], false, true, ◌∷◌};
 ghost use Rattle.sorted_rows.specs.Ledgers.{IsBlankOf};
 ghost use Rattle.mud_world.specs.Boxed.{faults_of};
-ghost use Rattle.mud_world.specs.Causes.{Counts, EndsAtFailure, Rose, StopsAtFailure};
+ghost use Rattle.mud_world.specs.Causes.{Rose};
 ghost use Rattle.mud_world.specs.Door.{DoorState};
 ghost use Rattle.packet_buffer.specs.Packets.{Packet};
 ghost use Rattle.capture_source.specs.Reading.{is_broken};
 ghost use Rattle.capture_runs.specs.Capture.{due_behind};
 ghost use Rattle.capture_runs.specs.Runs.{HasAll, HasDone};
+ghost use Rattle.command_runs.specs.Ends.{IsSteady, IsStopped};
 ghost use Rattle.command_runs.specs.Due.{WritesDue, WritesPart};
-ghost use Rattle.command_runs.specs.Status.{status_number};
+ghost use Rattle.command_runs.specs.Status.{Is, IsNot, IsOneOf, status_number};
+ghost use Rattle.command_runs.specs.declared.status.Status.TheVariants.{Done, Refused, DoorFailed, NoMemory, KeeperFailed};
 ghost use Rattle.desk_model.specs.Sessions.{Session};
 ghost use Rattle.desk_runs.specs.Judged.{IsIn};
 ghost use Rattle.mud_desk.specs.Boxed.{IsKept};
@@ -33,8 +35,8 @@ use std::sync::ledger::{Blank, Ledger};
 /// The status, or 7 in place of 0 and 3 where the keeper failed.
 fn with_failure(status: Status, failed: bool) -> Status
     ensures kept { failed ≡ false → result ≡ status }
-    ensures early { (status_number status ≡ 4) ⊎ (status_number status ≡ 5) → result ≡ status }
-    ensures failed { failed ≡ true → (status_number status ≡ 0) ⊎ (status_number status ≡ 3) → status_number result ≡ 7 }
+    ensures early { IsOneOf (DoorFailed ∷ NoMemory ∷ []) (status_number status) → result ≡ status }
+    ensures failed { failed ≡ true → IsOneOf (Done ∷ Refused ∷ []) (status_number status) → Is KeeperFailed (status_number result) }
 {
     match status {
         Status::Done | Status::Refused if failed => Status::KeeperFailed,
@@ -53,21 +55,21 @@ fn snoop_packets<L: Ledger, D: Door>(
 ) -> Status
     requires going { is_broken reader.old ≡ false }
     requires kept { IsKept Keeper-dyn desk.old.keeper (tables_of desk.old.state) }
-    ensures statuses { (status_number result ≡ 0) ⊎ ((status_number result ≡ 3) ⊎ ((status_number result ≡ 4) ⊎ ((status_number result ≡ 5) ⊎ (status_number result ≡ 7)))) }
-    ensures fault { status_number result ≡ 4 → EndsAtFailure (D.view door.new).failed (D.view door.old).reads (D.view door.new).reads (D.view door.old).writes (D.view door.new).writes }
-    ensures steady { status_number result ≢ 4 → ((D.view door.new).reads ≡ (D.view door.old).reads) × ((D.view door.new).writes ≡ (D.view door.old).writes) }
+    ensures statuses { IsOneOf (Done ∷ Refused ∷ DoorFailed ∷ NoMemory ∷ KeeperFailed ∷ []) (status_number result) }
+    ensures fault { Is DoorFailed (status_number result) → IsStopped (D.view door.old) (D.view door.new) }
+    ensures steady { IsNot DoorFailed (status_number result) → IsSteady (D.view door.old) (D.view door.new) }
     ensures stays { StaysKept Keeper-dyn desk.old.keeper desk.new.keeper desk.new.state }
     ensures done { (s : Session) (first : DoorState) → IsIn s desk.old.state → D.tells → HasDone [] [] reader.old first (D.view door.old).state lines.old
-        → (status_number result ≡ 0) ⊎ ((status_number result ≡ 3) ⊎ (status_number result ≡ 7))
+        → IsOneOf (Done ∷ Refused ∷ KeeperFailed ∷ []) (status_number result)
         → LeadsToAll s first (faults_of Keeper-dyn desk.old.keeper) desk.new.state (D.view door.new).state (faults_of Keeper-dyn desk.new.keeper) (status_number result) }
     ensures part { (s : Session) (first : DoorState) → IsIn s desk.old.state → D.tells → HasDone [] [] reader.old first (D.view door.old).state lines.old
-        → (status_number result ≡ 4) ⊎ (status_number result ≡ 5)
+        → IsOneOf (DoorFailed ∷ NoMemory ∷ []) (status_number result)
         → LeadsToPart s first (faults_of Keeper-dyn desk.old.keeper) desk.new.state (D.view door.new).state (faults_of Keeper-dyn desk.new.keeper) }
     ensures taken { (s : Session) (first : DoorState) → IsIn s desk.old.state → D.tells → HasDone [] [] reader.old first (D.view door.old).state lines.old
         → (D.view door.new).reads ≢ (D.view door.old).reads
         → LeadsToTaken s first (faults_of Keeper-dyn desk.old.keeper) desk.new.state (D.view door.new).state (faults_of Keeper-dyn desk.new.keeper) }
-    ensures keeper { status_number result ≡ 7 → Rose (faults_of Keeper-dyn desk.old.keeper) (faults_of Keeper-dyn desk.new.keeper) }
-    ensures keeper_steady { (status_number result ≡ 0) ⊎ (status_number result ≡ 3) → faults_of Keeper-dyn desk.new.keeper ≡ faults_of Keeper-dyn desk.old.keeper }
+    ensures keeper { Is KeeperFailed (status_number result) → Rose (faults_of Keeper-dyn desk.old.keeper) (faults_of Keeper-dyn desk.new.keeper) }
+    ensures keeper_steady { IsOneOf (Done ∷ Refused ∷ []) (status_number result) → faults_of Keeper-dyn desk.new.keeper ≡ faults_of Keeper-dyn desk.old.keeper }
     ensures turns { (D.view door.new).turns ≡ (D.view door.old).turns }
 {
     let mut failed = false;
@@ -98,21 +100,21 @@ fn snoop_counted<L: Ledger, D: Door>(
     requires going { is_broken reader.old ≡ false }
     requires blank { IsBlankOf L.name L.parts blank }
     requires kept { IsKept Keeper-dyn desk.old.keeper (tables_of desk.old.state) }
-    ensures statuses { (status_number result ≡ 0) ⊎ ((status_number result ≡ 3) ⊎ ((status_number result ≡ 4) ⊎ ((status_number result ≡ 5) ⊎ (status_number result ≡ 7)))) }
-    ensures fault { status_number result ≡ 4 → EndsAtFailure (D.view door.new).failed (D.view door.old).reads (D.view door.new).reads (D.view door.old).writes (D.view door.new).writes }
-    ensures steady { status_number result ≢ 4 → ((D.view door.new).reads ≡ (D.view door.old).reads) × ((D.view door.new).writes ≡ (D.view door.old).writes) }
+    ensures statuses { IsOneOf (Done ∷ Refused ∷ DoorFailed ∷ NoMemory ∷ KeeperFailed ∷ []) (status_number result) }
+    ensures fault { Is DoorFailed (status_number result) → IsStopped (D.view door.old) (D.view door.new) }
+    ensures steady { IsNot DoorFailed (status_number result) → IsSteady (D.view door.old) (D.view door.new) }
     ensures stays { StaysKept Keeper-dyn desk.old.keeper desk.new.keeper desk.new.state }
     ensures done { (s : Session) (first : DoorState) → IsIn s desk.old.state → D.tells → HasDone [] [] reader.old first (D.view door.old).state []
-        → (status_number result ≡ 0) ⊎ ((status_number result ≡ 3) ⊎ (status_number result ≡ 7))
+        → IsOneOf (Done ∷ Refused ∷ KeeperFailed ∷ []) (status_number result)
         → LeadsToAll s first (faults_of Keeper-dyn desk.old.keeper) desk.new.state (D.view door.new).state (faults_of Keeper-dyn desk.new.keeper) (status_number result) }
     ensures part { (s : Session) (first : DoorState) → IsIn s desk.old.state → D.tells → HasDone [] [] reader.old first (D.view door.old).state []
-        → (status_number result ≡ 4) ⊎ (status_number result ≡ 5)
+        → IsOneOf (DoorFailed ∷ NoMemory ∷ []) (status_number result)
         → LeadsToPart s first (faults_of Keeper-dyn desk.old.keeper) desk.new.state (D.view door.new).state (faults_of Keeper-dyn desk.new.keeper) }
     ensures taken { (s : Session) (first : DoorState) → IsIn s desk.old.state → D.tells → HasDone [] [] reader.old first (D.view door.old).state []
         → (D.view door.new).reads ≢ (D.view door.old).reads
         → LeadsToTaken s first (faults_of Keeper-dyn desk.old.keeper) desk.new.state (D.view door.new).state (faults_of Keeper-dyn desk.new.keeper) }
-    ensures keeper { status_number result ≡ 7 → Rose (faults_of Keeper-dyn desk.old.keeper) (faults_of Keeper-dyn desk.new.keeper) }
-    ensures keeper_steady { (status_number result ≡ 0) ⊎ (status_number result ≡ 3) → faults_of Keeper-dyn desk.new.keeper ≡ faults_of Keeper-dyn desk.old.keeper }
+    ensures keeper { Is KeeperFailed (status_number result) → Rose (faults_of Keeper-dyn desk.old.keeper) (faults_of Keeper-dyn desk.new.keeper) }
+    ensures keeper_steady { IsOneOf (Done ∷ Refused ∷ []) (status_number result) → faults_of Keeper-dyn desk.new.keeper ≡ faults_of Keeper-dyn desk.old.keeper }
     ensures turns { (D.view door.new).turns ≡ (D.view door.old).turns }
 {
     let mut lines = Bytes::empty(alloc);
@@ -135,18 +137,18 @@ fn snoop_counted<L: Ledger, D: Door>(
 /// | 7 | the keeper failed at a name; the capture was read as with 0 or 3 |
 pub(crate) fn snoop_capture<D: Door>(alloc: Global, desk: &mut Desk, door: &mut D) -> Status
     requires kept { IsKept Keeper-dyn desk.old.keeper (tables_of desk.old.state) }
-    ensures statuses { (status_number result ≡ 0) ⊎ ((status_number result ≡ 3) ⊎ ((status_number result ≡ 4) ⊎ ((status_number result ≡ 5) ⊎ (status_number result ≡ 7)))) }
-    ensures fault { status_number result ≡ 4 → EndsAtFailure (D.view door.new).failed (D.view door.old).reads (D.view door.new).reads (D.view door.old).writes (D.view door.new).writes }
-    ensures steady { status_number result ≢ 4 → ((D.view door.new).reads ≡ (D.view door.old).reads) × ((D.view door.new).writes ≡ (D.view door.old).writes) }
+    ensures statuses { IsOneOf (Done ∷ Refused ∷ DoorFailed ∷ NoMemory ∷ KeeperFailed ∷ []) (status_number result) }
+    ensures fault { Is DoorFailed (status_number result) → IsStopped (D.view door.old) (D.view door.new) }
+    ensures steady { IsNot DoorFailed (status_number result) → IsSteady (D.view door.old) (D.view door.new) }
     ensures stays { StaysKept Keeper-dyn desk.old.keeper desk.new.keeper desk.new.state }
-    ensures done { (s : Session) → IsIn s desk.old.state → D.tells → (status_number result ≡ 0) ⊎ ((status_number result ≡ 3) ⊎ (status_number result ≡ 7))
+    ensures done { (s : Session) → IsIn s desk.old.state → D.tells → IsOneOf (Done ∷ Refused ∷ KeeperFailed ∷ []) (status_number result)
         → LeadsToAll s (D.view door.old).state (faults_of Keeper-dyn desk.old.keeper) desk.new.state (D.view door.new).state (faults_of Keeper-dyn desk.new.keeper) (status_number result) }
-    ensures part { (s : Session) → IsIn s desk.old.state → D.tells → (status_number result ≡ 4) ⊎ (status_number result ≡ 5)
+    ensures part { (s : Session) → IsIn s desk.old.state → D.tells → IsOneOf (DoorFailed ∷ NoMemory ∷ []) (status_number result)
         → LeadsToPart s (D.view door.old).state (faults_of Keeper-dyn desk.old.keeper) desk.new.state (D.view door.new).state (faults_of Keeper-dyn desk.new.keeper) }
     ensures taken { (s : Session) → IsIn s desk.old.state → D.tells → (D.view door.new).reads ≢ (D.view door.old).reads
         → LeadsToTaken s (D.view door.old).state (faults_of Keeper-dyn desk.old.keeper) desk.new.state (D.view door.new).state (faults_of Keeper-dyn desk.new.keeper) }
-    ensures keeper { status_number result ≡ 7 → Rose (faults_of Keeper-dyn desk.old.keeper) (faults_of Keeper-dyn desk.new.keeper) }
-    ensures keeper_steady { (status_number result ≡ 0) ⊎ (status_number result ≡ 3) → faults_of Keeper-dyn desk.new.keeper ≡ faults_of Keeper-dyn desk.old.keeper }
+    ensures keeper { Is KeeperFailed (status_number result) → Rose (faults_of Keeper-dyn desk.old.keeper) (faults_of Keeper-dyn desk.new.keeper) }
+    ensures keeper_steady { IsOneOf (Done ∷ Refused ∷ []) (status_number result) → faults_of Keeper-dyn desk.new.keeper ≡ faults_of Keeper-dyn desk.old.keeper }
     ensures turns { (D.view door.new).turns ≡ (D.view door.old).turns }
 {
     let mut reader = match CaptureReader::begin(alloc, door) {

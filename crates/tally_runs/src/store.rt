@@ -1,9 +1,10 @@
 //! The command `tally`, from the opening of its store to its status.
-ghost use Rattle.std.specs.Prelude.{◌≡◌, ◌≢◌, ◌⊎◌};
-ghost use Rattle.mud_world.specs.Causes.{EndsAtFailure};
+ghost use Rattle.std.specs.Prelude.{◌≡◌, ◌≢◌, [], ◌∷◌};
 ghost use Rattle.capture_runs.specs.Capture.{WritesTaken};
+ghost use Rattle.command_runs.specs.Ends.{IsSteady, IsStopped};
 ghost use Rattle.command_runs.specs.Due.{WritesDue, WritesPart};
-ghost use Rattle.command_runs.specs.Status.{status_number};
+ghost use Rattle.command_runs.specs.Status.{Is, IsNot, IsOneOf, status_number};
+ghost use Rattle.command_runs.specs.declared.status.Status.TheVariants.{Done, Refused, DoorFailed, NoMemory, KeeperFailed};
 ghost use Rattle.desk_items.specs.Taken.{kept_of};
 ghost use Rattle.desk_model.specs.Items.{none_kept};
 ghost use Rattle.desk_model.specs.Sessions.{Session};
@@ -26,13 +27,13 @@ use std::alloc::Global;
 /// capture. The keeper isn't called.
 fn tally_capture<D: Door>(alloc: Global, desk: Desk, door: &mut D) -> (Status, Box<dyn Keeper>)
     requires { IsKept Keeper-dyn desk.keeper (tables_of desk.state) }
-    ensures statuses { (status_number result.0 ≡ 0) ⊎ ((status_number result.0 ≡ 3) ⊎ ((status_number result.0 ≡ 4) ⊎ (status_number result.0 ≡ 5))) }
-    ensures fault { status_number result.0 ≡ 4 → EndsAtFailure (D.view door.new).failed (D.view door.old).reads (D.view door.new).reads (D.view door.old).writes (D.view door.new).writes }
-    ensures steady { status_number result.0 ≢ 4 → ((D.view door.new).reads ≡ (D.view door.old).reads) × ((D.view door.new).writes ≡ (D.view door.old).writes) }
+    ensures statuses { IsOneOf (Done ∷ Refused ∷ DoorFailed ∷ NoMemory ∷ []) (status_number result.0) }
+    ensures fault { Is DoorFailed (status_number result.0) → IsStopped (D.view door.old) (D.view door.new) }
+    ensures steady { IsNot DoorFailed (status_number result.0) → IsSteady (D.view door.old) (D.view door.new) }
     // In whatever session the desk is, the lines are those that the list of the packets tells.
-    ensures done { (s : Session) → IsIn s desk.state → D.tells → (status_number result.0 ≡ 0) ⊎ (status_number result.0 ≡ 3) →
+    ensures done { (s : Session) → IsIn s desk.state → D.tells → IsOneOf (Done ∷ Refused ∷ []) (status_number result.0) →
         WritesDue (due_of_tally s (D.view door.old).state.left) (D.view door.old).state (D.view door.new).state (status_number result.0) }
-    ensures part { (s : Session) → IsIn s desk.state → D.tells → (status_number result.0 ≡ 4) ⊎ (status_number result.0 ≡ 5) →
+    ensures part { (s : Session) → IsIn s desk.state → D.tells → IsOneOf (DoorFailed ∷ NoMemory ∷ []) (status_number result.0) →
         WritesPart (due_of_tally s (D.view door.old).state.left) (D.view door.old).state (D.view door.new).state }
     ensures taken { (s : Session) → IsIn s desk.state → D.tells → (D.view door.new).reads ≢ (D.view door.old).reads →
         WritesTaken tally_step (begun s) (D.view door.old).state (D.view door.new).state }
@@ -62,7 +63,7 @@ pub fn tally_store<D: Door>(
         (D.view door.new)
         (status_number result.0) }
     // Where the keeper failed, the door isn't called at all.
-    ensures untouched { status_number result.0 ≡ 7 → door.new ≡ door.old }
+    ensures untouched { Is KeeperFailed (status_number result.0) → door.new ≡ door.old }
 {
     match Desk::open(alloc, keeper, nothing) {
         Ok(desk) => tally_capture(alloc, desk, door),

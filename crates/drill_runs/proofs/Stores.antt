@@ -1,6 +1,5 @@
 -- What a run of `drill` promises where the store holds nothing, where it holds something, and where no desk is opened.
-use Rattle.std.proofs.Common.{◌≡◌, ◌≢◌, ℕ, ◌<◌, ◌==◌, ◌⊎◌, inl, inr, true, false, List, [], ◌∷◌, length, Option, None, is_none, Result, Ok, Err, IsErr, IsOkAnd, refl, sym, ap, ap₂, subst, ◌∙◌, arith}
-use Rattle.std.specs.Prelude.{codes}
+use Rattle.std.proofs.Common.{◌≡◌, ◌≢◌, ℕ, ◌==◌, ◌⊎◌, inl, inr, true, false, List, [], ◌∷◌, length, Option, None, is_none, Result, Ok, IsOkAnd, refl, sym, ap, subst, ◌∙◌, arith}
 use Rattle.std.proofs.lemmas.Bool.Decides.{Decides-eqb}
 use Rattle.std.specs.declared.dyn_box.DynBox.{DynBox}
 use Rattle.std.specs.declared.alloc.Global.{Global}
@@ -10,7 +9,7 @@ use Rattle.mud_world.specs.declared.keeper.Keeper.{Ghosts}
 use Rattle.mud_world.specs.declared.item.Item.{Item}
 use Rattle.mud_world.specs.Boxed.{faults_of, Tells, kept_items}
 use Rattle.mud_world.specs.Causes.{Rose, StopsAtFailure}
-use Rattle.mud_world.specs.Door.{DoorState, put_out}
+use Rattle.mud_world.specs.Door.{put_out}
 use Rattle.mud_tables.specs.declared.thing.Thing.{Thing}
 use Rattle.mud_tables.specs.declared.bind.ClassRow.{ClassRow}
 use Rattle.mud_tables.specs.declared.bind.NameRow.{NameRow}
@@ -74,9 +73,6 @@ of_full status (inr four) = inr (inr (inl four))
 
 is_seven_not : {A : Type 0} (status : ℕ) → (status ≡ 3) ⊎ (status ≡ 4) → status ≡ 7 → A
 is_seven_not status is seven = absurd (grind arith)
-
-is_six_not : {A : Type 0} (status : ℕ) → (status ≡ 3) ⊎ (status ≡ 4) → status ≡ 6 → A
-is_six_not status is six = absurd (grind arith)
 
 -- ---- A store that holds something
 

@@ -27,6 +27,9 @@ MOST_FILE = 262144
 MOST_MESSAGE = 65535
 MOST_BODY = 524288
 MOST_HEAD = 8192
+# the octets of DNS in the longest packet of IPv4, and in one of 1,500 octets
+MOST_DATAGRAM = 65507
+COMMON_DATAGRAM = 1472
 SIZES = (("whole", 1), ("tenth", 10))
 
 
@@ -158,6 +161,56 @@ def make_captures(folder):
         write_capture(f"{folder}/empty.{size}", [empty] * 1000, 3000 // part)
         begins(f"{folder}/begins.{size}", 1000000 // part)
     bulb_store(f"{folder}/open.db")
+
+
+def answer_frame(message):
+    """A frame with which the DNS server answers the first Thing."""
+    transport = struct.pack(">HHHH", 53, 40000, 8 + len(message), 0) + message
+    head = struct.pack(">BBHHHBBH", 0x45, 0, 20 + len(transport), 1, 0, 64, 17, 0)
+    return made.mac_of(0) + made.ROUTER + b"\x08\0" + head + made.DNS_SERVER + made.address_of(0) + transport
+
+
+def dns_answer(question, answers, count):
+    return struct.pack(">HHHHHH", 1, 0x8180, 1, count, 0, 0) + question + answers
+
+
+def pointing(most, labels=127):
+    """A DNS answer of at most so many octets, with the names that are slowest to read. The question's name has
+    as many labels as a name may have. The content of the first record are pointers, each to the one before it
+    and the first to that name; then come aliases, of which the owner and the content are a pointer to the
+    last of these, as many as there is room for."""
+    question = b"\1a" * labels + b"\0" + struct.pack(">HH", 1, 1)
+    first = 12 + len(question) + 11
+    count = min((most - first) // 4, (0x3FFF - first) // 2 + 1)
+    places = [12] + [first + 2 * number for number in range(count)]
+    chain = b"".join(struct.pack(">H", 0xC000 | place) for place in places[:-1])
+    last = struct.pack(">H", 0xC000 | places[-1])
+    alias = last + struct.pack(">HHIH", 5, 1, 60, 2) + last
+    aliases = (most - first - len(chain)) // len(alias)
+    text = b"\0" + struct.pack(">HHIH", 16, 1, 60, len(chain)) + chain
+    return dns_answer(question, text + alias * aliases, 1 + aliases)
+
+
+def renewing(most, turn):
+    """A DNS answer of at most so many octets that gives one address of a name again and again, each time
+    for a second more, and in each turn for more seconds than in the one before: all are kept."""
+    question = b"\1a\0" + struct.pack(">HH", 1, 1)
+    count = (most - 12 - len(question)) // 16
+    seconds = range(1 + turn * count, 1 + (turn + 1) * count)
+    answers = [b"\xc0\x0c" + struct.pack(">HHIH", 1, 1, ttl, 4) + made.peer_of(0, 0) for ttl in seconds]
+    return dns_answer(question, b"".join(answers), count)
+
+
+def make_answers(folder):
+    longest = made.packet(answer_frame(pointing(MOST_DATAGRAM)))
+    common = made.packet(answer_frame(pointing(COMMON_DATAGRAM)))
+    for size, part in SIZES:
+        write_capture(f"{folder}/pointers.{size}", [longest], 20 // part)
+        write_capture(f"{folder}/pointing.{size}", [common], 20000 // part)
+        renewals = [made.packet(answer_frame(renewing(COMMON_DATAGRAM, turn))) for turn in range(50 // part)]
+        write_capture(f"{folder}/renewals.{size}", renewals)
+    server = (3, b"\1urn:ietf:params:mud:dns", b"\1\0\1\4" + made.DNS_SERVER)
+    write_store(f"{folder}/dns.db", [thing_item(0, 1, made.url_of(0)), server, stamp()])
 
 
 def begins(path, count):
@@ -353,6 +406,7 @@ def make(folder):
     make_files(folder)
     make_messages(folder)
     make_captures(folder)
+    make_answers(folder)
     make_requests(folder)
     make_import(folder)
     names_store(f"{folder}/names.db")

@@ -1,4 +1,5 @@
-"""Makes the stores, captures, requests and statements that bench/judge, bench/replay and bench/keeper measure with.
+"""Makes the stores, captures, requests and statements that bench/frames, bench/judge, bench/replay and bench/keeper
+measure with.
 
   made.py judge FOLDER      FOLDER/large.db has 512 Things, 128 approved files and 4,096 entries,
                             FOLDER/small.db one Thing and a file with one entry, which is the first
@@ -14,6 +15,9 @@
                             FOLDER/requests has so many observations of 64 names, each of which changes
                             the tables. FOLDER/statements has for sqlite3 the table of items and the
                             same changes, a transaction each: the name's item and the last moment's.
+  made.py pcapng CAPTURE FILE
+                            FILE has the packets of a capture in the classic format, little-endian, in
+                            pcapng, behind the 48 octets of a section and an interface.
 
 The forms of the items are those that the program keeps; numbers are big-endian.
 """
@@ -236,5 +240,26 @@ def make_keeper(folder, count):
             statements.write("COMMIT;\n")
 
 
+def block(kind, body):
+    body += bytes(-len(body) % 4)
+    length = struct.pack("<I", len(body) + 12)
+    return struct.pack("<I", kind) + length + body + length
+
+
+def make_pcapng(path, result):
+    with open(path, "rb") as file:
+        octets = file.read()
+    blocks = [block(0x0A0D0D0A, struct.pack("<IHHq", 0x1A2B3C4D, 1, 0, -1)), block(1, struct.pack("<HHI", 1, 0, 262144))]
+    place = 24
+    while place < len(octets):
+        seconds, parts, captured, length = struct.unpack_from("<IIII", octets, place)
+        time = seconds * 1000000 + parts
+        head = struct.pack("<IIIII", 0, time >> 32, time & 0xFFFFFFFF, captured, length)
+        blocks.append(block(6, head + octets[place + 16 : place + 16 + captured]))
+        place += 16 + captured
+    with open(result, "wb") as file:
+        file.write(b"".join(blocks))
+
+
 if __name__ == "__main__":
-    {"judge": make_judge, "replay": make_replay, "keeper": make_keeper}[sys.argv[1]](*sys.argv[2:])
+    {"judge": make_judge, "replay": make_replay, "keeper": make_keeper, "pcapng": make_pcapng}[sys.argv[1]](*sys.argv[2:])

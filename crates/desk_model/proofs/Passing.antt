@@ -12,7 +12,8 @@ use Rattle.mud_tables.specs.declared.thing.Thing.{Thing}
 use Rattle.mud_tables.specs.declared.segment.Segment.{Segment}
 use Rattle.packet_judge.specs.Verdicts.{Ends, ends_of, end_ruling, governed, is_managed, if_managed, verdict_on, verdict_of, rulings_of, accepts, forwarded}
 use Rattle.desk_model.specs.DeskTables.{DeskTables}
-use Rattle.desk_model.specs.Verdicts.{policy_at, verdict_at, lets_pass}
+use Rattle.desk_model.specs.Forwarding.{is_forwarded_by, lets_pass}
+use Rattle.desk_model.specs.Verdicts.{policy_at, verdict_at}
 
 held_drops : (held : Bool) (ruling : Ruling) → accepts (Some (cond held DropHeld ruling)) ≡ (not held && accepts (Some ruling))
 unfolding accepts
@@ -30,6 +31,6 @@ module _ (desk : DeskTables) (history : List Segment) (now : ℕ) where
   ends_let_pass fields ends managed =
       rw (managed, end_lets_pass From fields ends.source, end_lets_pass To fields ends.destination) refl
 
-  pub packet_passes : (octets : List ℕ) (packet : PacketFrame) → frame_of octets ≡ frame.Packet packet → is_managed (ends_of desk.tables.things packet.octets) ≡ true → forwarded (verdict_at desk history now octets) ≡ (lets_pass desk history now From packet.fields (ends_of desk.tables.things packet.octets).source && lets_pass desk history now To packet.fields (ends_of desk.tables.things packet.octets).destination)
+  pub packet_passes : (octets : List ℕ) (packet : PacketFrame) → frame_of octets ≡ frame.Packet packet → is_managed (ends_of desk.tables.things packet.octets) ≡ true → forwarded (verdict_at desk history now octets) ≡ is_forwarded_by desk history now packet
   unfolding verdict_at verdict_of verdict_on
   packet_passes octets packet e managed = rw e (ends_let_pass packet.fields (ends_of desk.tables.things packet.octets) managed)

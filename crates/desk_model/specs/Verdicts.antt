@@ -1,5 +1,5 @@
 -- What rules on the packets of Things, and the verdict on a frame.
-use Rattle.std.specs.Prelude.{ℕ, Bool, true, not, ◌&&◌, List, Option, Some, None, if◌then◌else◌}
+use Rattle.std.specs.Prelude.{ℕ, List, Option, if◌then◌else◌}
 use Rattle.mud_base.specs.declared.packet.Direction.{Direction}
 use Rattle.mud_base.specs.declared.packet.Fields.{Fields}
 use Rattle.acl_model.specs.declared.binding.Binding.{Binding}
@@ -10,11 +10,10 @@ use Rattle.acl_model.specs.Policies.{UrlPolicy}
 use Rattle.mud_tables.specs.declared.thing.Thing.{Thing}
 use Rattle.mud_tables.specs.declared.segment.Segment.{Segment}
 use Rattle.mud_tables.specs.Tables.{ruling_of}
-use Rattle.mud_tables.specs.History.{begun_of}
 use Rattle.mud_tables.specs.Bindings.{bindings_of}
 use Rattle.file_tables.specs.Policies.{policy_of, policies_of}
 use Rattle.packet_judge.specs.declared.verdict.Verdict.{Verdict}
-use Rattle.packet_judge.specs.Verdicts.{rulings_of, verdict_of, accepts}
+use Rattle.packet_judge.specs.Verdicts.{rulings_of, verdict_of}
 use Rattle.desk_model.specs.DeskTables.{DeskTables}
 
 -- the policy of a URL: the entries of its approved file, and None where no file of it is approved
@@ -39,10 +38,3 @@ ruling_at desk now side thing fields begun =
 -- The verdict on a frame at a moment, by the TCP packets with a ruling that were forwarded before.
 unfoldable pub verdict_at : DeskTables → List Segment → ℕ → List ℕ → Verdict
 verdict_at desk history now frame = verdict_of (rulings_of desk.tables (policy_at desk) history now) desk.tables.things frame
-
--- An end of a packet lets it pass: it is no Thing, or the operator doesn't hold it and its approved file, and behind that
--- the defaults, accept.
-unfoldable pub lets_pass : DeskTables → List Segment → ℕ → Direction → Fields → Option Thing → Bool
-lets_pass desk history now side fields None = true
-lets_pass desk history now side fields (Some thing) =
-    not thing.held && accepts (Some (ruling_of desk.tables now thing.url (policy_at desk thing.url) side fields (begun_of history side fields now)))

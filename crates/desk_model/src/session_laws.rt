@@ -1,9 +1,8 @@
 //! Laws of sessions and of what rules in them, each on a function that does nothing.
-ghost use Rattle.std.specs.Prelude.{◌≡◌, ℕ, ◌≤◌, true, ◌&&◌, IsTrue, List, [], ◌∷◌, ◌++◌, Some, Result};
+ghost use Rattle.std.specs.Prelude.{◌≡◌, ℕ, ◌≤◌, true, IsTrue, List, [], ◌∷◌, ◌++◌, Some, Result};
 ghost use Rattle.std.specs.List.{AllByRecursion};
 ghost use Rattle.mud_base.specs.declared.memory.Memory as want;
 ghost use Rattle.mud_base.specs.declared.packet.Direction.{Direction};
-ghost use Rattle.mud_base.specs.declared.packet.Direction.TheVariants.{From, To};
 ghost use Rattle.mud_base.specs.declared.packet.Fields.{Fields};
 ghost use Rattle.acl_model.specs.Changes.{same_spot};
 ghost use Rattle.acl_model.specs.Policies.{policy_in};
@@ -22,7 +21,8 @@ ghost use Rattle.desk_model.specs.declared.reply.Reply.{Reply};
 ghost use Rattle.desk_model.specs.declared.reply.Reply.TheVariants.{Refused};
 ghost use Rattle.desk_model.specs.DeskTables.{DeskTables, IsSound};
 ghost use Rattle.desk_model.specs.Commands.{IsCommand};
-ghost use Rattle.desk_model.specs.Verdicts.{policy_at, policies, desk_bindings, ruling_at, verdict_at, lets_pass};
+ghost use Rattle.desk_model.specs.Forwarding.{is_forwarded_by};
+ghost use Rattle.desk_model.specs.Verdicts.{policy_at, policies, desk_bindings, ruling_at, verdict_at};
 ghost use Rattle.desk_model.specs.Sessions.{Session, IsSoundSession, MayAnswer, MayJudge, Runs, IsCall, opened, raised, command_in};
 
 /// Every session stays sound.
@@ -98,7 +98,5 @@ pub fn desks_rule()
     ensures passes { (desk : DeskTables) (history : List Segment) (now : ℕ) (octets : List ℕ)
         (packet : PacketFrame) → frame_of octets ≡ Packet packet
         → is_managed (ends_of desk.tables.things packet.octets) ≡ true
-        → forwarded (verdict_at desk history now octets)
-        ≡ (lets_pass desk history now From packet.fields (ends_of desk.tables.things packet.octets).source
-        && lets_pass desk history now To packet.fields (ends_of desk.tables.things packet.octets).destination) }
+        → forwarded (verdict_at desk history now octets) ≡ is_forwarded_by desk history now packet }
 {}

@@ -105,7 +105,7 @@ not_twice : (before : Option (List ℕ)) → ltb 1 (count_of before + 0) ≡ fal
 not_twice None = refl
 not_twice (Some content) = refl
 
-pub or_none : (before : Option (List ℕ)) → or_else before None ≡ before
+or_none : (before : Option (List ℕ)) → or_else before None ≡ before
 or_none None = refl
 or_none (Some content) = refl
 

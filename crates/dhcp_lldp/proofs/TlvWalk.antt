@@ -7,7 +7,6 @@ use Rattle.dhcp_lldp.specs.declared.heard.HearFault.{HearFault}
 use Rattle.dhcp_lldp.specs.declared.heard.HearFault.TheVariants as faults
 use Rattle.dhcp_lldp.specs.Tlvs.{Tlv, Listing, no_more, cut_at, with_tlv, is_out_of_order, is_mud, tlv_rows, tlv_fault, mud_string_of}
 use Rattle.dhcp_lldp.specs.TlvStep.{SeenTlvs, nothing_seen, seen_in, seen_after}
-use Rattle.dhcp_lldp.proofs.OptionWalk.{or_none}
 
 abbrev pub at_end : SeenTlvs → Option ℕ → Result SeenTlvs HearFault
 at_end seen None = cond (ltb seen.count 3) (Err faults.Order) (Ok seen)
@@ -36,6 +35,10 @@ answered count string tlvs cut =
 ending : (is_short : Bool) (seen : SeenTlvs) → cond is_short (Err faults.Order) (Ok seen) ≡ unless_fault (first_row (None ∷ row is_short faults.Order ∷ [])) (Ok seen)
 ending true seen = refl
 ending false seen = refl
+
+or_none : (string : Option (List ℕ)) → or_else string None ≡ string
+or_none None = refl
+or_none (Some content) = refl
 
 abbrev IsAnswered : List Tlv → Option ℕ → Type 0
 IsAnswered tlvs cut = (count : ℕ) (string : Option (List ℕ)) → walk (record { count = count; string = string }) tlvs cut ≡ answered count string tlvs cut

@@ -2,7 +2,7 @@
 //! over them.
 #![tactic(auto)]
 
-use command_words::{USAGE, command_of, folder_word, store_word};
+use command_words::{Command, USAGE, command_of, folder_word, store_word};
 use keep_sqlite::PathKeeper;
 use mud_base::Listed;
 use mud_cli::{Status, mud_main};
@@ -16,6 +16,12 @@ use std::{env, fs, io};
 
 /// The word of a store that is kept in memory alone, and is empty at the start of each run.
 const IN_MEMORY: &str = ":memory:";
+
+/// The kind of an item that is a class with its addresses, one at least.
+const CLASS_KIND: u8 = 3;
+
+/// The key of the item that is the class of DNS servers (RFC 8520, section 4.6).
+const DNS_CLASS_KEY: &[u8] = b"\x01urn:ietf:params:mud:dns";
 
 fn main(rt: HostRuntime) -> ExitCode {
     ExitCode::from(run(rt))
@@ -72,7 +78,7 @@ fn take_streams(rt: &HostRuntime) -> [io::Result<<HostRuntime as Files>::File>; 
 /// Runs these words. Nothing stands between standard input and the door, so no octet is taken of it
 /// that the door doesn't ask for. Neither the keeper of a store's file nor the spool of a folder
 /// opens anything before a command does. Where a read or a write failed, standard error is told why;
-/// the keeper of a file tells it itself.
+/// the keeper of a file tells it itself. So it is told where `snoop` could learn nothing.
 fn run_words(rt: HostRuntime, words: &[String]) -> io::Result<u8> {
     let alloc = rt.alloc();
     let _streams = take_streams(&rt);
@@ -88,12 +94,35 @@ fn run_words(rt: HostRuntime, words: &[String]) -> io::Result<u8> {
     let mut door = RealDoor::new(rt.reader(), io::writer(&rt), rt);
     let mut spool = RealSpool::new(rt, String::from_str(alloc, folder)?);
     let mut clock = RealClock::new(rt);
-    let (status, _keeper) = mud_main(alloc, words, keeper, &mut door, &mut spool, &mut clock);
+    let (status, mut keeper) = mud_main(alloc, words, keeper, &mut door, &mut spool, &mut clock);
     if status == Status::DoorFailed.number() {
         tell(rt, door.failure);
         tell(rt, spool.failure);
     }
+    if is_snoop_to_the_end(alloc, words, status) && binds_no_dns_server(alloc, &mut keeper) {
+        let _printed = eprint!(rt;
+            "mud: no name could be learnt: no address is bound to urn:ietf:params:mud:dns\n"
+        );
+    }
     Ok(status)
+}
+
+/// Whether these words are those of `snoop`, and it ended with its capture, whole or broken.
+fn is_snoop_to_the_end(alloc: Global, words: &[String], status: u8) -> bool {
+    if status != Status::Done.number() && status != Status::Refused.number() {
+        return false;
+    }
+    matches!(command_of(alloc, words), Some(Command::Snoop))
+}
+
+/// Whether the items that a keeper keeps bind no address to the class of DNS servers: a class of no
+/// address is no item. They are read once more for it; where that fails, this isn't known, and false.
+fn binds_no_dns_server(alloc: Global, keeper: &mut Box<dyn Keeper>) -> bool {
+    let Ok(items) = keeper.open(alloc) else {
+        return false;
+    };
+    !items.as_slice().iter().any(|item| item.kind == CLASS_KIND
+        && item.key.octets() == DNS_CLASS_KEY)
 }
 
 /// Tells standard error which call failed and why, if one did; whether that succeeds doesn't change the

@@ -1,5 +1,5 @@
 -- What a run of each command does.
-use Rattle.std.specs.Prelude.{◌≡◌, ◌≢◌, ℕ, Bool, true, false, IsTrue}
+use Rattle.std.specs.Prelude.{◌≡◌, ◌≢◌, ℕ, Bool, true, false, IsTrue, List, Some}
 use Rattle.std.specs.declared.dyn_box.DynBox.{DynBox}
 use Rattle.std.specs.declared.alloc.Global.{Global}
 use Rattle.mud_world.specs.declared.clock.Clock as clock
@@ -9,6 +9,7 @@ use Rattle.mud_world.specs.declared.spool.Spool as spool
 use Rattle.mud_world.specs.View.{OutsideView, outside}
 use Rattle.command_words.specs.declared.command.Command.{Command}
 use Rattle.command_words.specs.declared.command.Command.TheVariants.{Hear, Check, Frames, Judge, Snoop, Tally, Import, Replay, Serve, Report, Export, Drill}
+use Rattle.command_words.specs.Words.{command_in}
 use Rattle.console_runs.specs.Replay.{ReplaysStore}
 use Rattle.console_runs.specs.Serve.{ServesStore, listening, clock_run}
 use Rattle.desk_runs.specs.Store.{JudgesStore}
@@ -25,14 +26,18 @@ use Rattle.mud_cli.specs.Report.{AsksClock}
 use Rattle.command_runs.specs.Status.{Is}
 use Rattle.command_runs.specs.declared.status.Status.TheVariants.{KeeperFailed}
 
--- The outside of the program beside its keeper: the door, the spool and the clock.
-pub record Outside (D P C : Type 0) : Type 0 where
+-- The world of the program beside its keeper: the door, the spool and the clock.
+pub record World (D P C : Type 0) : Type 0 where
   pub door : D
   pub spool : P
   pub clock : C
 
-abbrev pub outside_of : {D P C : Type 0} → D → P → C → Outside D P C
-outside_of door spool clock = record { door = door; spool = spool; clock = clock }
+abbrev pub world : {D P C : Type 0} → D → P → C → World D P C
+world door spool clock = record { door = door; spool = spool; clock = clock }
+
+-- what is said of the command that the words are, where they are one
+abbrev pub AsTold : (Command → Type 0) → List (List ℕ) → Type 0
+AsTold said words = (command : Command) → command_in words ≡ Some command → said command
 
 -- ---- What is left alone
 
@@ -57,7 +62,7 @@ is_silent _ = false
 
 -- Whatever the status: a command that opens no store makes no call on the keeper, the folder is for `import` alone, and the clock for
 -- those that ask it. Where the keeper failed, the door isn't called by a silent command.
-pub record LeavesAlone {K D P C : Type 0} (command : Command) (keeper returned : K) (old new : Outside D P C) (status : ℕ) : Type 0 where
+pub record LeavesAlone {K D P C : Type 0} (keeper returned : K) (old new : World D P C) (status : ℕ) (command : Command) : Type 0 where
   pub same_keeper : IsTrue (reads_input command) → returned ≡ keeper
   pub same_spool : command ≢ Import → new.spool ≡ old.spool
   pub same_clock : asks_clock command ≡ false → new.clock ≡ old.clock
@@ -67,8 +72,8 @@ pub record LeavesAlone {K D P C : Type 0} (command : Command) (keeper returned :
 
 module _ {X : Type 0} {F : X → Type 0} (members : (v : (x : X) × F x) → Ghosts (F v.0))
     {D P C : Type 0} (doors : door.Ghosts D) (spools : spool.Ghosts P) (clocks : clock.Ghosts C)
-    (keeper returned : DynBox X Global F) (old new : Outside D P C) (status : ℕ) where
-  abbrev pub seen : Outside D P C → OutsideView
+    (keeper returned : DynBox X Global F) (old new : World D P C) (status : ℕ) where
+  abbrev pub seen : World D P C → OutsideView
   seen it = outside (doors.view it.door) (spools.view it.spool) (clocks.moments it.clock)
 
   -- Each command does what its record says: of the door, the keeper, and where it asks the clock, of its moments.

@@ -3,8 +3,7 @@ ghost use Rattle.std.specs.Prelude.{◌≡◌, ◌↔◌, None, Some};
 ghost use Rattle.command_runs.specs.Status.{IsNot, status_number};
 ghost use Rattle.command_runs.specs.declared.status.Status.TheVariants.{Unlisted};
 ghost use Rattle.command_words.specs.Words.{command_in, words_of};
-ghost use Rattle.command_words.specs.declared.command.Command.{Command};
-ghost use Rattle.mud_cli.specs.Runs.{Does, LeavesAlone, outside_of};
+ghost use Rattle.mud_cli.specs.Runs.{AsTold, Does, LeavesAlone, world};
 
 use crate::answer::{Input, answer_input};
 use crate::frames::FrameLines;
@@ -34,9 +33,9 @@ fn run_command<D: Door, P: Spool, C: Clock>(
 ) -> (Status, Box<dyn Keeper>)
     ensures listed { IsNot Unlisted (status_number result.0) }
     ensures does { Does Keeper-dyn ⟦<D as Door>⟧ ⟦<P as Spool>⟧ ⟦<C as Clock>⟧ keeper result.1
-        (outside_of door.old spool.old clock.old) (outside_of door.new spool.new clock.new) (status_number result.0) command }
-    ensures alone { LeavesAlone command keeper result.1
-        (outside_of door.old spool.old clock.old) (outside_of door.new spool.new clock.new) (status_number result.0) }
+        (world door.old spool.old clock.old) (world door.new spool.new clock.new) (status_number result.0) command }
+    ensures alone { LeavesAlone keeper result.1
+        (world door.old spool.old clock.old) (world door.new spool.new clock.new) (status_number result.0) command }
 {
     match command {
         Command::Hear(message) => (answer_input(alloc, Input::Message(message), door), keeper),
@@ -80,14 +79,12 @@ pub fn mud_main<D: Door, P: Spool, C: Clock>(
     // Of every line of words: 2 says that it isn't listed, and then nothing is touched.
     ensures words { (result.0 ≡ 2) ↔ (command_in (words_of words.now) ≡ None) }
     ensures untouched { result.0 ≡ 2 → (result.1 ≡ keeper)
-        × (outside_of door.new spool.new clock.new ≡ outside_of door.old spool.old clock.old) }
+        × (world door.new spool.new clock.new ≡ world door.old spool.old clock.old) }
     // A listed command does what its record says, and leaves alone what isn't its own.
-    ensures does { (command : Command) → command_in (words_of words.now) ≡ Some command →
-        Does Keeper-dyn ⟦<D as Door>⟧ ⟦<P as Spool>⟧ ⟦<C as Clock>⟧ keeper result.1
-        (outside_of door.old spool.old clock.old) (outside_of door.new spool.new clock.new) result.0 command }
-    ensures alone { (command : Command) → command_in (words_of words.now) ≡ Some command →
-        LeavesAlone command keeper result.1
-        (outside_of door.old spool.old clock.old) (outside_of door.new spool.new clock.new) result.0 }
+    ensures does { AsTold (Does Keeper-dyn ⟦<D as Door>⟧ ⟦<P as Spool>⟧ ⟦<C as Clock>⟧ keeper result.1
+        (world door.old spool.old clock.old) (world door.new spool.new clock.new) result.0) (words_of words.now) }
+    ensures alone { AsTold (LeavesAlone keeper result.1
+        (world door.old spool.old clock.old) (world door.new spool.new clock.new) result.0) (words_of words.now) }
 {
     let Some(command) = command_of(alloc, words) else {
         return (Status::Unlisted.number(), keeper);

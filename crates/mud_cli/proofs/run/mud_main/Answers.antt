@@ -1,21 +1,21 @@
 use Rattle.std.proofs.Common.{ℕ, sym, ◌∙◌, subst}
 use Rattle.command_words.specs.declared.command.Command.{Command}
-use Rattle.mud_cli.specs.Runs.{Does, LeavesAlone, outside_of}
+use Rattle.mud_cli.specs.Runs.{Does, LeavesAlone, world}
 use Rattle.mud_cli.proofs.Promised.{promised}
 use Rattle.mud_cli.proofs.run.mud_main.Goals as goal
 
 pub returns-clause-does : goal.returns-clause-does
 returns-clause-does g c = λ command named.
-    let old = outside_of c.args.door.now c.args.spool.now c.args.clock.now in
-    let new = outside_of c.run_command-status.new.door c.run_command-status.new.spool c.run_command-status.new.clock in
+    let old = world c.args.door.now c.args.spool.now c.args.clock.now in
+    let new = world c.run_command-status.new.door c.run_command-status.new.spool c.run_command-status.new.clock in
     let does = λ (status : ℕ) (named : Command). Does (goal.Keeper-dyn g) g.D.Door g.P.Spool g.C.Clock c.args.keeper c.run_command-status.result.1 old new status named in
     promised (does c.number-2.result) c.in-Some.command command (sym c.in-Some.is ∙ c.command_of.ensures ∙ named)
     (subst (λ (status : ℕ). does status c.in-Some.command) (sym c.number-2.ensures) c.run_command-status.ensures.does)
 
 pub returns-clause-alone : goal.returns-clause-alone
 returns-clause-alone g c = λ command named.
-    let old = outside_of c.args.door.now c.args.spool.now c.args.clock.now in
-    let new = outside_of c.run_command-status.new.door c.run_command-status.new.spool c.run_command-status.new.clock in
-    let alone = λ (status : ℕ) (named : Command). LeavesAlone named c.args.keeper c.run_command-status.result.1 old new status in
+    let old = world c.args.door.now c.args.spool.now c.args.clock.now in
+    let new = world c.run_command-status.new.door c.run_command-status.new.spool c.run_command-status.new.clock in
+    let alone = λ (status : ℕ) (named : Command). LeavesAlone c.args.keeper c.run_command-status.result.1 old new status named in
     promised (alone c.number-2.result) c.in-Some.command command (sym c.in-Some.is ∙ c.command_of.ensures ∙ named)
     (subst (λ (status : ℕ). alone status c.in-Some.command) (sym c.number-2.ensures) c.run_command-status.ensures.alone)

@@ -59,25 +59,25 @@ module _ (old new : DoorState) (status : ℕ) where
     none = λ seven. absurd (grind arith);
   })
 
-  refuses : (items : List Item) (fault : OpenFault) → IsFaultOf items fault → IsRefusal fault status
+  refuses_by : (items : List Item) (fault : OpenFault) → IsFaultOf items fault → IsRefusal fault status
       → (status ≡ 6 → new ≡ put_out (refusal_text fault) old)
       → ((status ≡ 4) ⊎ (status ≡ 5) → WroteFirst (refusal_text fault) old new)
       → (IsOfCall fault → new ≡ old) → RefusesStore (tables_in items) old new status
-  refuses items Keeper of is done part untouched = record {
+  refuses_by items Keeper of is done part untouched = record {
     statuses = refusal_status Keeper status is;
     bad = λ which. absurd (grind arith);
     done = λ six. absurd (grind arith);
     part = λ which. absurd (grind arith);
     none = λ seven. untouched tt;
   }
-  refuses items Memory of is done part untouched = record {
+  refuses_by items Memory of is done part untouched = record {
     statuses = refusal_status Memory status is;
     bad = λ which. absurd (grind arith);
     done = λ six. absurd (grind arith);
     part = λ which. wrote_none _ old new (untouched tt);
     none = λ seven. absurd (grind arith);
   }
-  refuses items (BadItem kind key) of is done part untouched =
+  refuses_by items (BadItem kind key) of is done part untouched =
       let text : bad_item_line kind key ≡ bad_item_line of.item.kind of.item.key = ap₂ bad_item_line (sym of.kind_is) (sym of.key_is) in
       refuses_item (tables_in items) of.item of.bad is
       (λ six. done six ∙ ap (λ (line : List ℕ). put_out line old) text)
@@ -181,7 +181,7 @@ module _ {X : Type 0} {F : X → Type 0} (members : (v : (x : X) × F x) → Gho
       same_items = λ six before now. same_items_of (kept_items members keeper) (kept_items members after) fault status is (left before now) six;
       kept = inr (unopened fault bad left is);
     };
-    refuses = λ told tell. refuses old.state new.state status (kept_items members after) fault (bad tell) is (done told) (part told) untouched;
+    refuses = λ told tell. refuses_by old.state new.state status (kept_items members after) fault (bad tell) is (done told) (part told) untouched;
     wrote = λ told. wrote_text old.state new.state status fault is (done told) (part told) untouched;
     same_turns = turns;
     same_reads = reads;

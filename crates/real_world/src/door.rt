@@ -51,11 +51,11 @@ impl<I: Read + Drop, O: Write + Drop, N: Net + Clock + Drop> RealDoor<I, O, N> {
         ensures input { result.input ≡ input }
         ensures output { result.output ≡ output }
         ensures port { port_of result ≡ None }
-        ensures stands { (⟦<RealDoor<I, O, N> as Door>⟧.state result).stands ≡ true }
-        ensures turns { ⟦<RealDoor<I, O, N> as Door>⟧.turns result ≡ 0 }
-        ensures reads { ⟦<RealDoor<I, O, N> as Door>⟧.reads result ≡ 0 }
-        ensures writes { ⟦<RealDoor<I, O, N> as Door>⟧.writes result ≡ 0 }
-        ensures failed { ⟦<RealDoor<I, O, N> as Door>⟧.failed result ≡ false }
+        ensures stands { (⟦<RealDoor<I, O, N> as Door>⟧.view result).state.stands ≡ true }
+        ensures turns { (⟦<RealDoor<I, O, N> as Door>⟧.view result).turns ≡ 0 }
+        ensures reads { (⟦<RealDoor<I, O, N> as Door>⟧.view result).reads ≡ 0 }
+        ensures writes { (⟦<RealDoor<I, O, N> as Door>⟧.view result).writes ≡ 0 }
+        ensures failed { (⟦<RealDoor<I, O, N> as Door>⟧.view result).failed ≡ false }
         ensures failure { result.failure ≡ None }
     {
         RealDoor {

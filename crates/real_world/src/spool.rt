@@ -40,7 +40,7 @@ impl<R: Files + AllocGlobal + Clone + Drop> RealSpool<R> {
         ensures runtime { result.runtime ≡ runtime }
         ensures folder { result.folder ≡ folder }
         ensures faults { faults_of result ≡ 0 }
-        ensures failed { ⟦<RealSpool<R> as Spool>⟧.failed result ≡ false }
+        ensures failed { (⟦<RealSpool<R> as Spool>⟧.view result).failed ≡ false }
         ensures failure { result.failure ≡ None }
     {
         RealSpool {

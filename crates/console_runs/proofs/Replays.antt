@@ -15,6 +15,7 @@ use Rattle.http_serving.specs.declared.end.ConnectionEnd.{ConnectionEnd}
 use Rattle.http_serving.specs.declared.end.ConnectionEnd.TheVariants.{Ended, Closed, Broken, Spent, ReadFailed, WriteFailed}
 use Rattle.http_serving.specs.Ends.{IsServed, is_read_failed, is_write_failed}
 use Rattle.http_serving.specs.Runs.{IsLeftBy}
+use Rattle.desk_runs.proofs.Refusals.{reads_honestly}
 use Rattle.console_answers.specs.Answers.{fault_answer}
 use Rattle.console.specs.States.{MayTake, IsAt, begun}
 use Rattle.console_runs.specs.Store.{NoneFailed, ServesNone}
@@ -104,26 +105,20 @@ module _ {X : Type 0} {F : X → Type 0} (members : (v : (x : X) × F x) → Gho
   -- ---- The store
 
   module _ (tells : Type 0) (keeper returned : DynBox X Global F) (old new : DoorView) (status : ℕ) where
-    pub replays_none : ServesNone members tells keeper returned old new status → IsSameBox keeper returned → ReplaysStore members tells keeper returned old new status
-    replays_none p box = record {
-      honest = record {
-        statuses = inr (inr p.statuses);
-        fault = λ four. inr (p.fault four, p.same_reads);
-        steady = λ other. (p.same_reads, p.steady other);
-        keeper_fault = p.keeper_fault;
-        same_box = box;
-      };
+    pub replays_none : ServesNone members tells keeper returned old new status → ReplaysStore members tells keeper returned old new status
+    replays_none p = record {
+      honest = reads_honestly members keeper returned old new status p.honest p.same_reads;
       runs = inr p;
       unread = λ told which. p.only_writes told;
-      complete = λ none. none_complete none p.statuses;
+      complete = λ none. none_complete none p.honest.statuses;
       same_turns = p.same_turns;
     }
       where
         none_complete : NoneFailed (faults_of members keeper) (faults_of members returned) old new → (status ≡ 4) ⊎ ((status ≡ 5) ⊎ ((status ≡ 6) ⊎ (status ≡ 7))) → IsComplete status
-        none_complete none (inl four) = absurd (none.writes (rose_at_failure new.failed old.writes new.writes (p.fault four)))
+        none_complete none (inl four) = absurd (none.writes (rose_at_failure new.failed old.writes new.writes (p.honest.fault four)))
         none_complete none (inr (inl five)) = inr (inr (inl five))
         none_complete none (inr (inr (inl six))) = inr (inr (inr six))
-        none_complete none (inr (inr (inr seven))) = absurd (none.keeper (p.keeper_fault seven))
+        none_complete none (inr (inr (inr seven))) = absurd (none.keeper (p.honest.keeper_fault seven))
 
     pub replays_opened : (tables : DeskTables) (begins : DynBox X Global F)
         → (Tells members keeper → Tells members begins → tables_in (kept_items members keeper) ≡ Ok tables)

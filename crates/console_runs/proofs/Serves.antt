@@ -112,26 +112,26 @@ module _ {X : Type 0} {F : X → Type 0} (members : (v : (x : X) × F x) → Gho
   -- ---- The store
 
   module _ (tells clock_tells : Type 0) (keeper returned : DynBox X Global F) (at : Listening) (clock : ClockRun) (old new : DoorView) (status : ℕ) where
-    pub serves_none : ServesNone members tells keeper returned old new status → IsSameBox keeper returned → clock.after ≡ clock.before
+    pub serves_none : ServesNone members tells keeper returned old new status → clock.after ≡ clock.before
         → ServesStore members tells clock_tells keeper returned at clock old new status
-    serves_none p box unasked = record {
+    serves_none p unasked = record {
       honest = record {
-        statuses = inr p.statuses;
-        fault = λ four. inr (p.fault four);
+        statuses = inr p.honest.statuses;
+        fault = λ four. inr (p.honest.fault four);
         steady = λ other. p.same_turns;
-        keeper_fault = p.keeper_fault;
-        same_box = box;
+        keeper_fault = p.honest.keeper_fault;
+        same_box = p.honest.same_box;
       };
       runs = inr (p, unasked);
       unread = λ told which. p.only_writes told;
-      complete = λ none. none_complete none p.statuses;
+      complete = λ none. none_complete none p.honest.statuses;
     }
       where
         none_complete : NoneFailed (faults_of members keeper) (faults_of members returned) old new → (status ≡ 4) ⊎ ((status ≡ 5) ⊎ ((status ≡ 6) ⊎ (status ≡ 7))) → IsComplete status
-        none_complete none (inl four) = absurd (none.writes (rose_at_failure new.failed old.writes new.writes (p.fault four)))
+        none_complete none (inl four) = absurd (none.writes (rose_at_failure new.failed old.writes new.writes (p.honest.fault four)))
         none_complete none (inr (inl five)) = inr (inl five)
         none_complete none (inr (inr (inl six))) = inr (inr six)
-        none_complete none (inr (inr (inr seven))) = absurd (none.keeper (p.keeper_fault seven))
+        none_complete none (inr (inr (inr seven))) = absurd (none.keeper (p.honest.keeper_fault seven))
 
     pub serves_opened : (tables : DeskTables) (begins : DynBox X Global F)
         → (Tells members keeper → Tells members begins → tables_in (kept_items members keeper) ≡ Ok tables)

@@ -1,4 +1,5 @@
 pub mod JudgedPackets
+pub mod Refusals
 pub mod Runs
 pub mod SameCaptures
 pub mod Stores

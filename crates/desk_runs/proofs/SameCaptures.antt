@@ -1,7 +1,6 @@
 -- Captures that hold the same packets are judged alike.
-use Rattle.std.proofs.Common.{◌≡◌, ℕ, List, ◌++◌, Result, Ok, Err, refl, ap, ap₂, ◌∙◌}
+use Rattle.std.proofs.Common.{◌≡◌, ℕ, List, ◌++◌, ap, ap₂, ◌∙◌}
 use Rattle.std.specs.Prelude.{codes, decimal}
-use Rattle.mud_world.specs.declared.item.Item.{Item}
 use Rattle.packet_buffer.specs.Packets.{Packet}
 use Rattle.capture_source.specs.Same.{HoldTheSame}
 use Rattle.capture_runs.specs.Fold.{LineStep, LooksAtNoPlace, no_ending}
@@ -12,7 +11,7 @@ use Rattle.verdict_lines.specs.Verdicts.{verdict_text}
 use Rattle.desk_model.specs.DeskTables.{DeskTables}
 use Rattle.desk_model.specs.Sessions.{Session, opened, frame_in}
 use Rattle.desk_runs.specs.Judged.{judged_line, judged_step}
-use Rattle.desk_runs.specs.Store.{due_of_store, judged_due, judged_taken}
+use Rattle.desk_runs.specs.Store.{judged_due}
 
 line_made : Verdict → ℕ → ℕ → List ℕ
 line_made verdict number seconds = decimal number ++ number_text seconds ++ codes " " ++ verdict_text verdict ++ codes "\n"
@@ -33,6 +32,5 @@ unfolding judged_line made
 placeless session p q number seconds octets =
     ap (λ (n : ℕ). made session n p.seconds p.octets) number ∙ ap₂ (λ (n : ℕ) (l : List ℕ). made session q.number n l) seconds octets
 
-pub judged_alike : (store : Result DeskTables Item) (one other : List ℕ) → HoldTheSame one other → due_of_store judged_due judged_taken store one ≡ due_of_store judged_due judged_taken store other
-judged_alike (Ok tables) one other same = due_same judged_step no_ending placeless (opened tables) one other same
-judged_alike (Err item) one other same = refl
+pub judged_alike : (tables : DeskTables) (one other : List ℕ) → HoldTheSame one other → judged_due tables one ≡ judged_due tables other
+judged_alike tables one other same = due_same judged_step no_ending placeless (opened tables) one other same

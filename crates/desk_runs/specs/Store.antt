@@ -1,5 +1,5 @@
 -- What a run of `judge` over a store does.
-use Rattle.std.specs.Prelude.{◌≡◌, ◌≢◌, ℕ, ◌⊎◌, List, Result, Ok, Err, IsErr, IsOkAnd, [], ◌∷◌}
+use Rattle.std.specs.Prelude.{◌≡◌, ◌≢◌, ℕ, ◌⊎◌, List, Result, Ok, Err, IsErr, [], ◌∷◌}
 use Rattle.std.specs.declared.dyn_box.DynBox.{DynBox}
 use Rattle.std.specs.declared.alloc.Global.{Global}
 use Rattle.mud_world.specs.declared.keeper.Keeper.{Ghosts}
@@ -17,27 +17,27 @@ use Rattle.desk_model.specs.Sessions.{opened}
 use Rattle.mud_desk.specs.Boxed.{IsKept}
 use Rattle.desk_runs.specs.Honest.{RunsHonestly}
 use Rattle.desk_runs.specs.Judged.{judged_step}
-use Rattle.desk_runs.specs.Refused.{bad_item_line}
+use Rattle.desk_runs.specs.Refused.{RefusesStore, each_refusal}
 use Rattle.command_runs.specs.Status.{Is, IsNot, IsOneOf, each_status}
 use Rattle.command_runs.specs.declared.status.Status.TheVariants.{Done, Refused, DoorFailed, NoMemory, BadItem, KeeperFailed}
 
 -- What a command makes of a capture by the tables of its store: what is due to the octets of a connection, and what was written
 -- of it where a read failed.
 module _ (due : DeskTables → List ℕ → Due) (taken : DeskTables → DoorState → DoorState → Type 0) where
-  -- What is due to a capture. Where an item is no record, the line of the first such item is due, and the status is 6.
-  abbrev pub due_of_store : Result DeskTables Item → List ℕ → Due
-  due_of_store (Ok tables) octets = due tables octets
-  due_of_store (Err item) octets = record { text = bad_item_line item.kind item.key; status = 6 }
-
-  -- What is written, by the tables of the store or its first item that is no record.
-  pub record WritesOfStore (store : Result DeskTables Item) (old new : DoorView) (status : ℕ) : Type 0 where
-    -- With 0, 3 and 6 all that is due was written, with 4 and 5 a first part of it.
-    pub done : IsOneOf (Done ∷ Refused ∷ BadItem ∷ []) status → WritesDue (due_of_store store old.state.left) old.state new.state status
-    pub part : IsOneOf (DoorFailed ∷ NoMemory ∷ []) status → WritesPart (due_of_store store old.state.left) old.state new.state
+  -- What is written by the tables of a store whose items are all records.
+  pub record WritesByTables (tables : DeskTables) (old new : DoorView) (status : ℕ) : Type 0 where
+    -- With 0 and 3 all that is due was written, with 4 and 5 a first part of it. No item is there to be named with 6.
+    pub good : IsNot BadItem status
+    pub done : IsOneOf (Done ∷ Refused ∷ []) status → WritesDue (due tables old.state.left) old.state new.state status
+    pub part : IsOneOf (DoorFailed ∷ NoMemory ∷ []) status → WritesPart (due tables old.state.left) old.state new.state
     -- Where a read failed, what was made of the octets that were read was written.
-    pub read : new.reads ≢ old.reads → IsOkAnd store (λ tables. taken tables old.state new.state)
-    -- Where an item is no record, the capture isn't read.
-    pub unread : (item : Item) → store ≡ Err item → new.state.left ≡ old.state.left
+    pub read : new.reads ≢ old.reads → taken tables old.state new.state
+
+  -- What is written, by the tables of the store or its first item that is no record. Then the store is refused, and the capture
+  -- isn't read.
+  abbrev pub WritesOfStore : Result DeskTables Item → DoorView → DoorView → ℕ → Type 0
+  WritesOfStore (Ok tables) old new status = WritesByTables tables old new status
+  WritesOfStore (Err item) old new status = RefusesStore (Err item) old.state new.state status × (new.reads ≡ old.reads)
 
 -- of `judge`: the lines of the packets, in the session that begins with the tables of the store
 abbrev pub judged_due : DeskTables → List ℕ → Due
@@ -56,23 +56,33 @@ module _ {X : Type 0} {F : X → Type 0} (members : (v : (x : X) × F x) → Gho
   -- No desk was opened: the tables of the items are those that were kept before, and where an item is no record all items are as
   -- they were. The status is 4 or 6 only where an item is no record.
   pub record IsUnopened (keeper returned : DynBox X Global F) (status : ℕ) : Type 0 where
-    pub statuses : IsOneOf (DoorFailed ∷ NoMemory ∷ BadItem ∷ KeeperFailed ∷ []) status
+    pub statuses : IsOneOf each_refusal status
     pub bad : IsOneOf (DoorFailed ∷ BadItem ∷ []) status → Tells members returned → IsErr (tables_in (kept_items members returned))
     pub same_tables : Tells members keeper → Tells members returned → tables_in (kept_items members returned) ≡ tables_in (kept_items members keeper)
     pub same_items : Tells members keeper → Tells members returned → IsErr (tables_in (kept_items members returned)) → kept_items members returned ≡ kept_items members keeper
+
+  -- No desk was opened: what is written goes by the items that are kept. Their tables stay, and where an item is no record all items.
+  pub record IsRefused (keeper returned : DynBox X Global F) (old new : DoorState) (status : ℕ) : Type 0 where
+    pub refuses : RefusesStore (tables_in (kept_items members returned)) old new status
+    pub same_tables : Tells members keeper → tables_in (kept_items members returned) ≡ tables_in (kept_items members keeper)
+    pub same_items : Is BadItem status → Tells members keeper → kept_items members returned ≡ kept_items members keeper
+
+  -- What a run leaves of a store that it only opens. The keeper fails with 7 alone. The tables that are kept when the run ends are
+  -- those that were kept when it began, and where an item is no record all items are as they were.
+  pub record LeavesStore (keeper returned : DynBox X Global F) (status : ℕ) : Type 0 where
+    pub keeper_steady : IsNot KeeperFailed status → faults_of members returned ≡ faults_of members keeper
+    pub same_tables : Tells members keeper → Tells members returned → tables_in (kept_items members returned) ≡ tables_in (kept_items members keeper)
+    pub same_items : Is BadItem status → Tells members keeper → Tells members returned → kept_items members returned ≡ kept_items members keeper
+    -- Whatever the status, the items of sound tables are kept, but where no desk was opened.
+    pub kept : KeepsTables returned ⊎ IsUnopened keeper returned status
 
   -- A run over a store that reads a capture. `tells` says that the door tells its connections.
   pub record ReadsByStore (due : DeskTables → List ℕ → Due) (taken : DeskTables → DoorState → DoorState → Type 0) (tells : Type 0) (keeper returned : DynBox X Global F) (old new : DoorView) (status : ℕ) : Type 0 where
     -- A read or a write that fails ends the run.
     pub honest : RunsHonestly members each_status (IsStopped old new) (IsSteady old new) keeper returned status
-    pub keeper_steady : IsNot KeeperFailed status → faults_of members returned ≡ faults_of members keeper
-    -- The items that are kept when the run ends say what is due. Their tables are those that were kept when it began, and
-    -- where an item is no record all items are as they were.
+    -- The items that are kept when the run ends say what is due.
     pub writes : tells → Tells members returned → WritesOfStore due taken (tables_in (kept_items members returned)) old new status
-    pub same_tables : Tells members keeper → Tells members returned → tables_in (kept_items members returned) ≡ tables_in (kept_items members keeper)
-    pub same_items : Is BadItem status → Tells members keeper → Tells members returned → kept_items members returned ≡ kept_items members keeper
-    -- Whatever the status, the items of sound tables are kept, but where no desk was opened.
-    pub kept : KeepsTables returned ⊎ IsUnopened keeper returned status
+    pub leaves : LeavesStore keeper returned status
     -- The box that comes back is the one that was handed in. No port is bound, and the connection isn't left.
     pub same_turns : new.turns ≡ old.turns
 

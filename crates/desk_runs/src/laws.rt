@@ -1,14 +1,13 @@
 //! A law of what `judge` writes, on a function that does nothing.
-ghost use Rattle.std.specs.Prelude.{◌≡◌, ℕ, List, Result};
-ghost use Rattle.mud_world.specs.declared.item.Item.{Item};
+ghost use Rattle.std.specs.Prelude.{◌≡◌, ℕ, List};
 ghost use Rattle.capture_source.specs.Same.{HoldTheSame};
 ghost use Rattle.desk_model.specs.DeskTables.{DeskTables};
-ghost use Rattle.desk_runs.specs.Store.{due_of_store, judged_due, judged_taken};
+ghost use Rattle.desk_runs.specs.Store.{judged_due};
 
 /// Two whole captures whose packets have the same seconds and octets are judged alike, in whichever
 /// formats they are.
 #[tactic(auto, using(crate::proofs::SameCaptures::judged_alike))]
 pub fn captures_that_hold_the_same_are_judged_alike()
-    ensures { (store : Result DeskTables Item) (one : List ℕ) (other : List ℕ) → HoldTheSame one other
-        → due_of_store judged_due judged_taken store one ≡ due_of_store judged_due judged_taken store other }
+    ensures { (tables : DeskTables) (one : List ℕ) (other : List ℕ) → HoldTheSame one other
+        → judged_due tables one ≡ judged_due tables other }
 {}

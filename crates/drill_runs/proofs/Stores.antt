@@ -1,6 +1,5 @@
 -- What a run of `drill` promises where the store holds nothing, where it holds something, and where no desk is opened.
-use Rattle.std.proofs.Common.{◌≡◌, ◌≢◌, ℕ, ◌<◌, ◌==◌, ◌⊎◌, inl, inr, true, false, List, [], ◌∷◌, length, Option, None, is_none, Result, Ok, Err, IsErr, IsOkAnd, refl, sym, ap, ap₂, subst, ◌∙◌, arith}
-use Rattle.std.specs.Prelude.{codes}
+use Rattle.std.proofs.Common.{◌≡◌, ◌≢◌, ℕ, ◌==◌, ◌⊎◌, inl, inr, true, false, List, [], ◌∷◌, length, Option, None, is_none, Result, Ok, IsOkAnd, refl, sym, ap, subst, ◌∙◌, arith}
 use Rattle.std.proofs.lemmas.Bool.Decides.{Decides-eqb}
 use Rattle.std.specs.declared.dyn_box.DynBox.{DynBox}
 use Rattle.std.specs.declared.alloc.Global.{Global}
@@ -9,31 +8,24 @@ use Rattle.mud_base.specs.declared.prefix.Prefix.{Prefix}
 use Rattle.mud_world.specs.declared.keeper.Keeper.{Ghosts}
 use Rattle.mud_world.specs.declared.item.Item.{Item}
 use Rattle.mud_world.specs.Boxed.{faults_of, Tells, kept_items}
-use Rattle.mud_world.specs.Causes.{Counts, Rose, StopsAtFailure}
-use Rattle.mud_world.specs.Door.{DoorState, put_out}
+use Rattle.mud_world.specs.Causes.{Rose, StopsAtFailure}
+use Rattle.mud_world.specs.Door.{put_out}
 use Rattle.mud_tables.specs.declared.thing.Thing.{Thing}
 use Rattle.mud_tables.specs.declared.bind.ClassRow.{ClassRow}
 use Rattle.mud_tables.specs.declared.bind.NameRow.{NameRow}
 use Rattle.file_tables.specs.declared.cached_file.CachedFile.{CachedFile}
 use Rattle.command_runs.specs.Due.{WroteFirst}
 use Rattle.mud_world.specs.View.{DoorView}
-use Rattle.command_runs.proofs.Dues.{wrote_none}
-use Rattle.desk_items.specs.declared.fault.OpenFault.{OpenFault}
-use Rattle.desk_items.specs.declared.fault.OpenFault.TheVariants.{Keeper, Memory, BadItem}
-use Rattle.desk_items.specs.Opening.{IsFaultOf, IsOfCall}
 use Rattle.desk_model.specs.DeskTables.{DeskTables, IsSound, empty_desk}
 use Rattle.desk_model.specs.Items.{items_of, tables_in}
 use Rattle.desk_model.specs.Sessions.{Session, opened}
 use Rattle.desk_model.proofs.ReadSound.{no_stamp}
-use Rattle.mud_desk.specs.Answers.{IsLeft, is_fault_of_keeper}
 use Rattle.mud_desk.specs.Boxed.{IsKept, IsSameBox}
-use Rattle.desk_runs.specs.Refused.{IsRefusal, bad_item_line, refusal_text}
-use Rattle.desk_runs.specs.Store.{JudgesStore}
-use Rattle.desk_runs.proofs.Runs.{refused_run}
+use Rattle.desk_runs.proofs.Refusals.{RunsRefused, is_refused}
 use Rattle.desk_runs.proofs.Stores.{kept_tables}
 use Rattle.drill_runs.specs.Commands.{drill_commands}
 use Rattle.drill_runs.specs.Drill.{drill_text, lines_in, prepared, session_after}
-use Rattle.drill_runs.specs.Store.{DrillsFrom, Drills, DrillsStore, Leaves, holds_nothing, not_empty_line, refusal_line}
+use Rattle.drill_runs.specs.Store.{DrillsFrom, DrillsStore, IsFull, holds_nothing, not_empty_line}
 
 -- ---- A desk that holds nothing
 
@@ -79,26 +71,10 @@ of_full : (status : ℕ) → (status ≡ 3) ⊎ (status ≡ 4) → IsOfStore sta
 of_full status (inl three) = inr (inl three)
 of_full status (inr four) = inr (inr (inl four))
 
-left_full : (status : ℕ) → (status ≡ 3) ⊎ (status ≡ 4) → (status ≡ 3) ⊎ ((status ≡ 4) ⊎ ((status ≡ 5) ⊎ ((status ≡ 6) ⊎ (status ≡ 7))))
-left_full status (inl three) = inl three
-left_full status (inr four) = inr (inl four)
-
 is_seven_not : {A : Type 0} (status : ℕ) → (status ≡ 3) ⊎ (status ≡ 4) → status ≡ 7 → A
 is_seven_not status is seven = absurd (grind arith)
 
-is_six_not : {A : Type 0} (status : ℕ) → (status ≡ 3) ⊎ (status ≡ 4) → status ≡ 6 → A
-is_six_not status is six = absurd (grind arith)
-
-is_three : (status : ℕ) → (status ≡ 3) ⊎ (status ≡ 4) → (status ≡ 3) ⊎ (status ≡ 6) → status ≡ 3
-is_three status is which = grind arith
-
-is_four : (status : ℕ) → (status ≡ 3) ⊎ (status ≡ 4) → (status ≡ 4) ⊎ (status ≡ 5) → status ≡ 4
-is_four status is which = grind arith
-
 -- ---- A store that holds something
-
-full_line : (tables : DeskTables) → holds_nothing tables ≡ false → refusal_line (Ok tables) ≡ not_empty_line
-full_line tables full = rw full
 
 module _ {X : Type 0} {F : X → Type 0} (members : (v : (x : X) × F x) → Ghosts (F v.0)) (keeper begun : DynBox X Global F) (tells : Type 0) (old new : DoorView) (status packets : ℕ) (tables : DeskTables)
     (read : Tells members keeper → Tells members begun → tables_in (kept_items members keeper) ≡ Ok tables)
@@ -152,111 +128,38 @@ module _ {X : Type 0} {F : X → Type 0} (members : (v : (x : X) × F x) → Gho
           same_box = same_box;
         };
         keeper_steady = λ other. same_count;
-        runs = λ told tell. inr (left told tell);
+        runs = λ told tell. inr (inl (left told tell));
         kept = inl (record { tables = tables; sound = sound; kept = kept });
         same_turns = turns;
         same_reads = reads;
       })
     where
-      left : tells → Tells members begun → Leaves members keeper begun old new status
+      left : tells → Tells members begun → IsFull members keeper begun old new status
       left told tell =
           let store : tables_in (kept_items members begun) ≡ Ok tables = kept_tables members begun tables sound kept tell in
-          let line : refusal_line (tables_in (kept_items members begun)) ≡ not_empty_line = ap refusal_line store ∙ full_line tables full in
           record {
-            statuses = left_full status is;
+            statuses = is;
+            full = subst (λ (found : Result DeskTables Item). IsOkAnd found (λ desk. holds_nothing desk ≡ false)) (sym store) full;
             same_tables = λ before. store ∙ sym (read before tell);
-            same_items = λ six before. is_six_not status is six;
-            full = λ three. subst (λ (found : Result DeskTables Item). IsOkAnd found (λ desk. holds_nothing desk ≡ false)) (sym store) full;
-            bad = λ six. is_six_not status is six;
-            named = λ four. subst (λ (text : List ℕ). 0 < length text) (sym line) (omega arith);
-            done = λ which. subst (λ (text : List ℕ). new.state ≡ put_out text old.state) (sym line) (done told (is_three status is which));
-            part = λ which. subst (λ (text : List ℕ). WroteFirst text old.state new.state) (sym line) (part told (is_four status is which));
-            none = λ seven. is_seven_not status is seven;
+            done = done told;
+            part = part told;
           }
 
 -- ---- A store that isn't opened
 
-named_statuses : (status : ℕ) → (status ≡ 6) ⊎ ((status ≡ 4) ⊎ (status ≡ 5)) → (status ≡ 3) ⊎ ((status ≡ 4) ⊎ ((status ≡ 5) ⊎ ((status ≡ 6) ⊎ (status ≡ 7))))
-named_statuses status (inl six) = inr (inr (inr (inl six)))
-named_statuses status (inr (inl four)) = inr (inl four)
-named_statuses status (inr (inr five)) = inr (inr (inl five))
-
-six_of : (status : ℕ) → (status ≡ 6) ⊎ ((status ≡ 4) ⊎ (status ≡ 5)) → (status ≡ 3) ⊎ (status ≡ 6) → status ≡ 6
-six_of status is which = grind arith
-
-bad_line : (kind : ℕ) (key : List ℕ) → 0 < length (bad_item_line kind key)
-unfolding bad_item_line
-bad_line kind key = omega arith
-
 module _ {X : Type 0} {F : X → Type 0} (members : (v : (x : X) × F x) → Ghosts (F v.0)) (keeper after : DynBox X Global F) (tells : Type 0) (old new : DoorView) (status packets : ℕ) where
-  pub refused_drill : (fault : OpenFault)
-      → (Tells members after → IsFaultOf (kept_items members after) fault)
-      → (Tells members keeper → Tells members after → IsLeft (kept_items members keeper) (kept_items members after) fault)
-      → Counts (is_fault_of_keeper fault) (faults_of members keeper) (faults_of members after) → IsSameBox keeper after
-      → IsRefusal fault status
-      → (status ≡ 4 → StopsAtFailure new.failed old.writes new.writes)
-      → (status ≢ 4 → new.writes ≡ old.writes)
-      → (tells → status ≡ 6 → new.state ≡ put_out (refusal_text fault) old.state)
-      → (tells → (status ≡ 4) ⊎ (status ≡ 5) → WroteFirst (refusal_text fault) old.state new.state)
-      → (IsOfCall fault → new.state ≡ old.state)
-      → new.turns ≡ old.turns → new.reads ≡ old.reads → DrillsStore members tells packets keeper after old new status
-  refused_drill fault bad left counts same_box is failed steady done part untouched turns reads =
-      let run : JudgesStore members tells keeper after old new status = refused_run members keeper after tells old new status fault bad left counts same_box is failed steady done part untouched turns reads in
-      record {
-        honest = record {
-          statuses = run.honest.statuses;
-          fault = failed;
-          steady = steady;
-          keeper_fault = run.honest.keeper_fault;
-          same_box = same_box;
-        };
-        keeper_steady = run.keeper_steady;
-        runs = λ told tell. inr (leaves fault is (bad tell) (done told) (part told) untouched
-            (λ before. run.same_tables before tell) (λ six before. run.same_items six before tell));
-        kept = run.kept;
-        same_turns = turns;
-        same_reads = reads;
-      }
-    where
-      leaves : (f : OpenFault) → IsRefusal f status → IsFaultOf (kept_items members after) f
-          → (status ≡ 6 → new.state ≡ put_out (refusal_text f) old.state)
-          → ((status ≡ 4) ⊎ (status ≡ 5) → WroteFirst (refusal_text f) old.state new.state)
-          → (IsOfCall f → new.state ≡ old.state)
-          → (Tells members keeper → tables_in (kept_items members after) ≡ tables_in (kept_items members keeper))
-          → (status ≡ 6 → Tells members keeper → kept_items members after ≡ kept_items members keeper)
-          → Leaves members keeper after old new status
-      leaves Keeper seven of wrote first still tables items = record {
-        statuses = inr (inr (inr (inr seven)));
-        same_tables = tables;
-        same_items = items;
-        full = λ three. absurd (omega (arith, seven, three));
-        bad = λ six. absurd (omega (arith, seven, six));
-        named = λ four. absurd (omega (arith, seven, four));
-        done = λ which. absurd (grind arith);
-        part = λ which. absurd (grind arith);
-        none = λ also. still tt;
-      }
-      leaves Memory five of wrote first still tables items = record {
-        statuses = inr (inr (inl five));
-        same_tables = tables;
-        same_items = items;
-        full = λ three. absurd (omega (arith, five, three));
-        bad = λ six. absurd (omega (arith, five, six));
-        named = λ four. absurd (omega (arith, five, four));
-        done = λ which. absurd (grind arith);
-        part = λ which. wrote_none (refusal_line (tables_in (kept_items members after))) old.state new.state (still tt);
-        none = λ seven. absurd (omega (arith, five, seven));
-      }
-      leaves (BadItem kind key) named of wrote first still tables items =
-          let line : bad_item_line kind key ≡ refusal_line (tables_in (kept_items members after)) = ap₂ bad_item_line (sym of.kind_is) (sym of.key_is) ∙ ap refusal_line (sym of.bad) in
-          record {
-            statuses = named_statuses status named;
-            same_tables = tables;
-            same_items = items;
-            full = λ three. absurd (grind arith);
-            bad = λ six. subst (λ (found : Result DeskTables Item). IsErr found) (sym of.bad) refl;
-            named = λ four. subst (λ (text : List ℕ). 0 < length text) line (bad_line kind key);
-            done = λ which. subst (λ (text : List ℕ). new.state ≡ put_out text old.state) line (wrote (six_of status named which));
-            part = λ which. subst (λ (text : List ℕ). WroteFirst text old.state new.state) line (first which);
-            none = λ seven. absurd (grind arith);
-          }
+  pub refused_drill : RunsRefused members tells keeper after old new status → DrillsStore members tells packets keeper after old new status
+  refused_drill run = record {
+    honest = record {
+      statuses = inr (inr run.honest.statuses);
+      fault = run.honest.fault;
+      steady = run.honest.steady;
+      keeper_fault = run.honest.keeper_fault;
+      same_box = run.honest.same_box;
+    };
+    keeper_steady = run.leaves.keeper_steady;
+    runs = λ told tell. inr (inr (is_refused members keeper after tells old new status run told tell));
+    kept = run.leaves.kept;
+    same_turns = run.same_turns;
+    same_reads = run.same_reads;
+  }

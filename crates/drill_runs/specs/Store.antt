@@ -1,9 +1,8 @@
 -- What a drill over a store does.
-use Rattle.std.specs.Prelude.{if◌then◌else◌, ◌≡◌, ℕ, ◌<◌, ◌⊎◌, ◌&&◌, Bool, false, List, [], ◌++◌, length, codes, is_none, Result, Ok, Err, IsErr, IsOkAnd, ◌∷◌}
+use Rattle.std.specs.Prelude.{◌≡◌, ℕ, ◌<◌, ◌⊎◌, ◌&&◌, Bool, false, List, [], ◌++◌, length, codes, is_none, Ok, IsOkAnd, ◌∷◌}
 use Rattle.std.specs.declared.dyn_box.DynBox.{DynBox}
 use Rattle.std.specs.declared.alloc.Global.{Global}
 use Rattle.mud_world.specs.declared.keeper.Keeper.{Ghosts}
-use Rattle.mud_world.specs.declared.item.Item.{Item}
 use Rattle.mud_world.specs.Boxed.{faults_of, Tells, kept_items}
 use Rattle.mud_world.specs.Causes.{Rose}
 use Rattle.mud_world.specs.Door.{put_out}
@@ -17,12 +16,11 @@ use Rattle.desk_model.specs.Items.{items_of, tables_in}
 use Rattle.desk_model.specs.Sessions.{Session, opened}
 use Rattle.mud_desk.specs.Boxed.{IsKept, IsSameBox}
 use Rattle.desk_runs.specs.Honest.{RunsHonestly}
-use Rattle.desk_runs.specs.Refused.{bad_item_line}
-use Rattle.desk_runs.specs.Store.{KeepsTables, IsUnopened}
+use Rattle.desk_runs.specs.Store.{IsRefused, IsUnopened, KeepsTables}
 use Rattle.drill_runs.specs.Commands.{drill_commands}
 use Rattle.drill_runs.specs.Drill.{session_after, lines_in, drill_text}
 use Rattle.command_runs.specs.Status.{Is, IsNot, IsOneOf, each_status}
-use Rattle.command_runs.specs.declared.status.Status.TheVariants.{Done, Refused, DoorFailed, NoMemory, BadItem, KeeperFailed}
+use Rattle.command_runs.specs.declared.status.Status.TheVariants.{Done, Refused, DoorFailed, NoMemory, KeeperFailed}
 
 -- none of the five lists has a row, and nothing was ever changed
 unfoldable pub holds_nothing : DeskTables → Bool
@@ -33,11 +31,6 @@ holds_nothing desk =
 -- the line of a store that holds something
 abbrev pub not_empty_line : List ℕ
 not_empty_line = codes "fault NotEmpty\n"
-
--- the line of a store over which no drill is run: an item of it is no record, or it holds something
-abbrev pub refusal_line : Result DeskTables Item → List ℕ
-refusal_line (Ok tables) = if holds_nothing tables then [] else not_empty_line
-refusal_line (Err item) = bad_item_line item.kind item.key
 
 module _ {X : Type 0} {F : X → Type 0} (members : (v : (x : X) × F x) → Ghosts (F v.0)) where
   -- A drill over a desk in this session. `tells` says that the door tells its connections.
@@ -83,19 +76,18 @@ module _ {X : Type 0} {F : X → Type 0} (members : (v : (x : X) × F x) → Gho
     pub part : IsOneOf (DoorFailed ∷ NoMemory ∷ []) status → WroteFirst (drill_text packets) old.state new.state
     pub none : Is KeeperFailed status → new.state ≡ old.state
 
-  -- No command ran, and the tables of the store stay. Where an item is no record, all items stay.
-  pub record Leaves (keeper returned : DynBox X Global F) (old new : DoorView) (status : ℕ) : Type 0 where
-    pub statuses : IsOneOf (Refused ∷ DoorFailed ∷ NoMemory ∷ BadItem ∷ KeeperFailed ∷ []) status
+  -- The store holds something: no command ran, and its tables stay. The line that says so was written whole with 3, and a first
+  -- part of it with 4.
+  pub record IsFull (keeper returned : DynBox X Global F) (old new : DoorView) (status : ℕ) : Type 0 where
+    pub statuses : IsOneOf (Refused ∷ DoorFailed ∷ []) status
+    pub full : IsOkAnd (tables_in (kept_items members returned)) (λ tables. holds_nothing tables ≡ false)
     pub same_tables : Tells members keeper → tables_in (kept_items members returned) ≡ tables_in (kept_items members keeper)
-    pub same_items : Is BadItem status → Tells members keeper → kept_items members returned ≡ kept_items members keeper
-    -- With 3 the store holds something, and with 6 an item is no record. With 4 it is one of both.
-    pub full : Is Refused status → IsOkAnd (tables_in (kept_items members returned)) (λ tables. holds_nothing tables ≡ false)
-    pub bad : Is BadItem status → IsErr (tables_in (kept_items members returned))
-    pub named : Is DoorFailed status → 0 < length (refusal_line (tables_in (kept_items members returned)))
-    -- The line was written whole with 3 and 6, a first part of it with 4 and 5, and nothing with 7.
-    pub done : IsOneOf (Refused ∷ BadItem ∷ []) status → new.state ≡ put_out (refusal_line (tables_in (kept_items members returned))) old.state
-    pub part : IsOneOf (DoorFailed ∷ NoMemory ∷ []) status → WroteFirst (refusal_line (tables_in (kept_items members returned))) old.state new.state
-    pub none : Is KeeperFailed status → new.state ≡ old.state
+    pub done : Is Refused status → new.state ≡ put_out not_empty_line old.state
+    pub part : Is DoorFailed status → WroteFirst not_empty_line old.state new.state
+
+  -- No command ran: the store holds something, or it is refused.
+  abbrev pub Leaves : DynBox X Global F → DynBox X Global F → DoorView → DoorView → ℕ → Type 0
+  Leaves keeper returned old new status = IsFull keeper returned old new status ⊎ IsRefused members keeper returned old.state new.state status
 
   -- A run of `drill`. `tells` says that the door tells its connections.
   pub record DrillsStore (tells : Type 0) (packets : ℕ) (keeper returned : DynBox X Global F) (old new : DoorView) (status : ℕ) : Type 0 where

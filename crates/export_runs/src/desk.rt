@@ -1,5 +1,5 @@
 //! The lists of a Thing of a desk, written to a door.
-ghost use Rattle.std.specs.Prelude.{◌≡◌, ◌⊎◌, Some, Ok, codes, option_map, [], ◌∷◌};
+ghost use Rattle.std.specs.Prelude.{◌≡◌, ◌⊎◌, Some, codes, option_map, [], ◌∷◌};
 ghost use Rattle.mud_world.specs.Clock.{later_moments};
 ghost use Rattle.mud_world.specs.Door.{put_out};
 ghost use Rattle.mud_tables.specs.Things.{thing_at};
@@ -11,7 +11,7 @@ ghost use Rattle.command_runs.specs.Status.{Is, IsNot, IsOneOf, status_number};
 ghost use Rattle.command_runs.specs.declared.status.Status.TheVariants.{Done, Refused, DoorFailed, NoMemory};
 ghost use Rattle.export_runs.specs.Exported.{is_held, WritesLists};
 ghost use Rattle.export_runs.specs.Lists.{lists_text};
-ghost use Rattle.export_runs.specs.Store.{IsOfDesk, WritesExport};
+ghost use Rattle.export_runs.specs.Store.{IsOfDesk, WritesThing};
 
 use crate::sources::{Sources, held_of, sources_of};
 use crate::writing::write_lists;
@@ -94,7 +94,7 @@ fn export_mac<D: Door, C: Clock>(
     ensures statuses { IsOfDesk (status_number result) }
     ensures fault { Is DoorFailed (status_number result) → IsStoppedWriting (D.view door.old) (D.view door.new) }
     ensures steady { IsNot DoorFailed (status_number result) → (D.view door.new).writes ≡ (D.view door.old).writes }
-    ensures writes { D.tells → WritesExport mac C.tells (C.moments clock.old) (Ok (tables_of desk.now.state)) (D.view door.old).state (D.view door.new).state (status_number result) }
+    ensures writes { D.tells → WritesThing mac C.tells (C.moments clock.old) (tables_of desk.now.state) (D.view door.old).state (D.view door.new).state (status_number result) }
     ensures turns { (D.view door.new).turns ≡ (D.view door.old).turns }
     ensures reads { (D.view door.new).reads ≡ (D.view door.old).reads }
     ensures later { C.tells → Is Done (status_number result) → C.moments clock.new ≡ later_moments (C.moments clock.old) }
@@ -127,7 +127,7 @@ pub(crate) fn export_desk<D: Door, C: Clock>(
     ensures statuses { IsOfDesk (status_number result.0) }
     ensures fault { Is DoorFailed (status_number result.0) → IsStoppedWriting (D.view door.old) (D.view door.new) }
     ensures steady { IsNot DoorFailed (status_number result.0) → (D.view door.new).writes ≡ (D.view door.old).writes }
-    ensures writes { D.tells → WritesExport mac C.tells (C.moments clock.old) (Ok (tables_of desk.state)) (D.view door.old).state (D.view door.new).state (status_number result.0) }
+    ensures writes { D.tells → WritesThing mac C.tells (C.moments clock.old) (tables_of desk.state) (D.view door.old).state (D.view door.new).state (status_number result.0) }
     ensures turns { (D.view door.new).turns ≡ (D.view door.old).turns }
     ensures reads { (D.view door.new).reads ≡ (D.view door.old).reads }
     ensures later { C.tells → Is Done (status_number result.0) → C.moments clock.new ≡ later_moments (C.moments clock.old) }

@@ -1,34 +1,26 @@
 -- What a run of `import` promises where a desk is opened, and where none is.
-use Rattle.std.proofs.Common.{◌≡◌, ◌≢◌, ℕ, ◌⊎◌, inl, inr, List, [], Result, Ok, refl, sym, ap, ap₂, subst, ◌∙◌, arith}
+use Rattle.std.proofs.Common.{◌≡◌, ◌≢◌, ℕ, ◌⊎◌, inl, inr, List, [], Ok, refl, sym, ap, ap₂, subst, ◌∙◌, arith}
 use Rattle.std.specs.declared.dyn_box.DynBox.{DynBox}
 use Rattle.std.specs.declared.alloc.Global.{Global}
 use Rattle.mud_tables.specs.declared.segment.Segment.{Segment}
 use Rattle.mud_world.specs.declared.keeper.Keeper.{Ghosts}
-use Rattle.mud_world.specs.declared.item.Item.{Item}
 use Rattle.mud_world.specs.Boxed.{faults_of, Tells, kept_items}
-use Rattle.mud_world.specs.Causes.{Counts, Rose, StopsAtFailure}
-use Rattle.mud_world.specs.Door.{DoorState, put_out}
+use Rattle.mud_world.specs.Causes.{Rose}
+use Rattle.mud_world.specs.Door.{DoorState}
 use Rattle.mud_world.specs.Files.{names_of}
-use Rattle.mud_world.proofs.Doors.{put_out_none}
-use Rattle.command_runs.specs.Due.{WroteFirst}
 use Rattle.command_runs.specs.Ends.{IsStoppedByDoorOrSpool}
-use Rattle.desk_items.specs.declared.fault.OpenFault.{OpenFault}
-use Rattle.desk_items.specs.declared.fault.OpenFault.TheVariants.{Keeper, Memory, BadItem}
-use Rattle.desk_items.specs.Opening.{IsFaultOf, IsOfCall}
 use Rattle.desk_model.specs.DeskTables.{DeskTables, IsSound}
 use Rattle.desk_model.specs.Items.{items_of, tables_in}
 use Rattle.desk_model.specs.Sessions.{Session, opened}
-use Rattle.mud_desk.specs.Answers.{IsLeft, is_fault_of_keeper}
 use Rattle.mud_desk.specs.Boxed.{IsSameBox}
 use Rattle.mud_desk.specs.DeskState.{DeskState, IsBegun, session_of, tables_of}
-use Rattle.desk_runs.specs.Refused.{IsRefusal, bad_item_line, refusal_text}
-use Rattle.desk_runs.proofs.Runs.{refused_run}
+use Rattle.desk_runs.proofs.Refusals.{RunsRefused, is_refused}
+use Rattle.desk_runs.proofs.Stores.{not_seven}
 use Rattle.import_runs.specs.Imports.{standing}
 use Rattle.import_runs.specs.Order.{in_order}
 use Rattle.import_runs.specs.Runs.{Scene, ImportsPart, ImportsAll, StaysKept, scene}
-use Rattle.mud_cli.specs.Import.Store.{ImportsStore, RefusesStore, scene_in}
+use Rattle.mud_cli.specs.Import.Store.{ImportsStore, scene_in}
 use Rattle.mud_world.specs.View.{OutsideView, SpoolView}
-use Rattle.snoop_runs.proofs.Stored.{not_seven}
 
 -- ---- Statuses
 
@@ -115,77 +107,21 @@ module _ {X : Type 0} {F : X → Type 0} (members : (v : (x : X) × F x) → Gho
 
 -- ---- A store that isn't opened
 
-module _ (old new : OutsideView) (status : ℕ) (spool : new.spool ≡ old.spool) (moments : new.moments ≡ old.moments) where
-  refuses : (items : List Item) (fault : OpenFault) → IsFaultOf items fault → IsRefusal fault status
-      → (status ≡ 6 → new.door.state ≡ put_out (refusal_text fault) old.door.state)
-      → ((status ≡ 4) ⊎ (status ≡ 5) → WroteFirst (refusal_text fault) old.door.state new.door.state)
-      → (IsOfCall fault → new.door.state ≡ old.door.state) → RefusesStore (tables_in items) old new status
-  refuses items Keeper of is done part untouched = record {
-    statuses = inr (inr (inr is));
-    bad = λ which. absurd (grind arith);
-    done = λ six. absurd (grind arith);
-    part = λ which. absurd (grind arith);
-    none = λ seven. untouched tt;
-    same_spool = spool;
-    same_moments = moments;
-  }
-  refuses items Memory of is done part untouched = record {
-    statuses = inr (inl is);
-    bad = λ which. absurd (grind arith);
-    done = λ six. absurd (grind arith);
-    part = λ which. record { count = 0; within = grind arith; wrote = untouched tt ∙ sym (put_out_none old.door.state) };
-    none = λ seven. absurd (grind arith);
-    same_spool = spool;
-    same_moments = moments;
-  }
-  refuses items (BadItem kind key) of is done part untouched =
-      let text : bad_item_line kind key ≡ bad_item_line of.item.kind of.item.key = ap₂ bad_item_line (sym of.kind_is) (sym of.key_is) in
-      subst (λ (found : Result DeskTables Item). RefusesStore found old new status) (sym of.bad) (record {
-        statuses = named_statuses is;
-        bad = λ which. (of.item, refl);
-        done = λ six. done six ∙ ap (λ (line : List ℕ). put_out line old.door.state) text;
-        part = λ which. subst (λ (line : List ℕ). WroteFirst line old.door.state new.door.state) text (part which);
-        none = λ seven. absurd (grind arith);
-        same_spool = spool;
-        same_moments = moments;
-      })
-    where
-      named_statuses : (status ≡ 6) ⊎ ((status ≡ 4) ⊎ (status ≡ 5)) → (status ≡ 4) ⊎ ((status ≡ 5) ⊎ ((status ≡ 6) ⊎ (status ≡ 7)))
-      named_statuses (inl six) = inr (inr (inl six))
-      named_statuses (inr (inl four)) = inl four
-      named_statuses (inr (inr five)) = inr (inl five)
-
 module _ {X : Type 0} {F : X → Type 0} (members : (v : (x : X) × F x) → Ghosts (F v.0)) (keeper after : DynBox X Global F) (tells : Type 0) (old new : OutsideView) (status : ℕ) where
-  pub refused_import : (fault : OpenFault)
-      → (Tells members after → IsFaultOf (kept_items members after) fault)
-      → (Tells members keeper → Tells members after → IsLeft (kept_items members keeper) (kept_items members after) fault)
-      → Counts (is_fault_of_keeper fault) (faults_of members keeper) (faults_of members after) → IsSameBox keeper after
-      → IsRefusal fault status
-      → (status ≡ 4 → StopsAtFailure new.door.failed old.door.writes new.door.writes)
-      → (status ≢ 4 → new.door.writes ≡ old.door.writes)
-      → (tells → status ≡ 6 → new.door.state ≡ put_out (refusal_text fault) old.door.state)
-      → (tells → (status ≡ 4) ⊎ (status ≡ 5) → WroteFirst (refusal_text fault) old.door.state new.door.state)
-      → (IsOfCall fault → new.door.state ≡ old.door.state)
-      → new.door.turns ≡ old.door.turns → new.door.reads ≡ old.door.reads → new.spool ≡ old.spool → new.moments ≡ old.moments
+  pub refused_import : RunsRefused members tells keeper after old.door new.door status → new.spool ≡ old.spool → new.moments ≡ old.moments
       → ImportsStore members tells keeper after old new status
-  refused_import fault bad left counts same_box is failed steady done part untouched turns reads spool moments =
-      let run = refused_run members keeper after tells old.door new.door status fault bad left counts same_box is failed steady done part untouched turns reads in
-      record {
-        honest = record {
-          statuses = run.honest.statuses;
-          fault = λ four. inl (failed four, ap (λ (s : SpoolView). s.faults) spool);
-          steady = λ other. (steady other, ap (λ (s : SpoolView). s.faults) spool);
-          keeper_fault = run.honest.keeper_fault;
-          same_box = same_box;
-        };
-        keeper_steady = λ which. run.keeper_steady (not_seven status which);
-        runs = λ told tell. inr (record {
-          refuses = refuses old new status spool moments (kept_items members after) fault (bad tell) is (done told) (part told) untouched;
-          same_tables = λ before. run.same_tables before tell;
-          same_items = λ six before. run.same_items six before tell;
-        });
-        kept = run.kept;
-        same_files = λ told. ap (λ (s : SpoolView). s.files) spool;
-        same_turns = turns;
-        same_reads = reads;
-      }
+  refused_import run spool moments = record {
+    honest = record {
+      statuses = inr (inr run.honest.statuses);
+      fault = λ four. inl (run.honest.fault four, ap (λ (s : SpoolView). s.faults) spool);
+      steady = λ other. (run.honest.steady other, ap (λ (s : SpoolView). s.faults) spool);
+      keeper_fault = run.honest.keeper_fault;
+      same_box = run.honest.same_box;
+    };
+    keeper_steady = λ which. run.leaves.keeper_steady (not_seven status which);
+    runs = λ told tell. inr (record { refused = is_refused members keeper after tells old.door new.door status run told tell; same_spool = spool; same_moments = moments });
+    kept = run.leaves.kept;
+    same_files = λ told. ap (λ (s : SpoolView). s.files) spool;
+    same_turns = run.same_turns;
+    same_reads = run.same_reads;
+  }

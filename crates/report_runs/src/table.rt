@@ -1,5 +1,5 @@
 //! One of the tables of a desk, written to a door.
-ghost use Rattle.std.specs.Prelude.{◌≡◌, false, Ok, OnOk, OnErr, IsTrue, [], ◌∷◌};
+ghost use Rattle.std.specs.Prelude.{◌≡◌, false, OnOk, OnErr, IsTrue, [], ◌∷◌};
 ghost use Rattle.mud_world.specs.Causes.{Counts};
 ghost use Rattle.mud_world.specs.Door.{put_out};
 ghost use Rattle.mud_desk.specs.Boxed.{IsKept};
@@ -9,7 +9,7 @@ ghost use Rattle.command_runs.specs.Due.{WroteFirst};
 ghost use Rattle.command_runs.specs.Status.{Is, IsNot, IsOneOf, status_number};
 ghost use Rattle.command_runs.specs.declared.status.Status.TheVariants.{Done, DoorFailed, NoMemory};
 ghost use Rattle.command_runs.specs.Stops.{has_failed};
-ghost use Rattle.report_runs.specs.Store.{WritesReport};
+ghost use Rattle.report_runs.specs.Store.{WritesTable};
 ghost use Rattle.report_runs.specs.Tables.{clock_for, moments_after, table_text};
 ghost use Rattle.report_runs.specs.Tables as spec;
 
@@ -123,7 +123,7 @@ pub(crate) fn report_desk<D: Door, C: Clock>(
     ensures statuses { IsOneOf (Done ∷ DoorFailed ∷ NoMemory ∷ []) (status_number result.0) }
     ensures fault { Is DoorFailed (status_number result.0) → IsStoppedWriting (D.view door.old) (D.view door.new) }
     ensures steady { IsNot DoorFailed (status_number result.0) → (D.view door.new).writes ≡ (D.view door.old).writes }
-    ensures writes { D.tells → WritesReport kind C.tells (C.moments clock.old) (Ok (tables_of desk.state)) (D.view door.old).state (D.view door.new).state (status_number result.0) }
+    ensures writes { D.tells → WritesTable kind C.tells (C.moments clock.old) (tables_of desk.state) (D.view door.old).state (D.view door.new).state (status_number result.0) }
     ensures turns { (D.view door.new).turns ≡ (D.view door.old).turns }
     ensures reads { (D.view door.new).reads ≡ (D.view door.old).reads }
     ensures later { C.tells → C.moments clock.new ≡ moments_after kind (C.moments clock.old) }

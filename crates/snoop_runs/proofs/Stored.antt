@@ -1,32 +1,25 @@
 -- What a run of `snoop` promises where a desk is opened, and where none is.
-use Rattle.std.proofs.Common.{◌≡◌, ◌≢◌, ℕ, ◌⊎◌, inl, inr, List, [], Result, Ok, Err, refl, sym, ap, ap₂, subst, ◌∙◌, arith}
+use Rattle.std.proofs.Common.{◌≡◌, ◌≢◌, ℕ, ◌⊎◌, inl, inr, List, Ok, sym, ap, subst, ◌∙◌, arith}
 use Rattle.std.specs.declared.dyn_box.DynBox.{DynBox}
 use Rattle.std.specs.declared.alloc.Global.{Global}
 use Rattle.mud_world.specs.declared.keeper.Keeper.{Ghosts}
 use Rattle.mud_world.specs.declared.item.Item.{Item}
 use Rattle.mud_world.specs.Boxed.{faults_of, Tells, kept_items}
-use Rattle.mud_world.specs.Causes.{Counts, EndsAtFailure, Rose, StopsAtFailure}
-use Rattle.mud_world.specs.Door.{DoorState, put_out}
-use Rattle.mud_world.proofs.Doors.{put_out_none}
-use Rattle.command_runs.specs.Due.{WroteFirst}
+use Rattle.mud_world.specs.Causes.{EndsAtFailure, Rose}
+use Rattle.mud_world.specs.Door.{DoorState}
 use Rattle.mud_world.specs.View.{DoorView}
-use Rattle.desk_items.specs.declared.fault.OpenFault.{OpenFault}
-use Rattle.desk_items.specs.declared.fault.OpenFault.TheVariants.{Keeper, Memory, BadItem}
-use Rattle.desk_items.specs.Opening.{IsFaultOf, IsOfCall}
 use Rattle.desk_model.specs.DeskTables.{DeskTables, IsSound}
 use Rattle.desk_model.specs.Items.{items_of, tables_in}
 use Rattle.desk_model.specs.Sessions.{Session, opened}
-use Rattle.mud_desk.specs.Answers.{IsLeft, is_fault_of_keeper}
 use Rattle.mud_desk.specs.Boxed.{IsKept, IsSameBox}
 use Rattle.mud_desk.specs.DeskState.{DeskState, IsBegun, session_of, tables_of}
 use Rattle.desk_runs.specs.Judged.{IsIn}
-use Rattle.desk_runs.specs.Refused.{IsRefusal, bad_item_line, refusal_text}
 use Rattle.desk_runs.proofs.JudgedPackets.{in_begun}
-use Rattle.desk_runs.proofs.Runs.{refused_run}
-use Rattle.desk_runs.proofs.Stores.{unopened}
+use Rattle.desk_runs.proofs.Refusals.{RunsRefused, is_refused, reads_honestly}
+use Rattle.desk_runs.proofs.Stores.{not_seven}
 use Rattle.snoop_runs.specs.Leads.{LeadsToAll, LeadsToPart, LeadsToTaken}
 use Rattle.snoop_runs.specs.Stays.{StaysKept}
-use Rattle.snoop_runs.specs.Store.{line_of_bad, LeavesAll, LeavesPart, LeavesTaken, IsRefused, OpensAndSnoops, RefusesStore, SnoopsStore}
+use Rattle.snoop_runs.specs.Store.{LeavesAll, LeavesPart, LeavesTaken, SnoopsStore}
 
 -- ---- Statuses
 
@@ -65,7 +58,7 @@ module _ {X : Type 0} {F : X → Type 0} (members : (v : (x : X) × F x) → Gho
   pub snooped_run : (begun : DynBox X Global F) (state ended : DeskState)
       → (Tells members keeper → Tells members begun → tables_in (kept_items members keeper) ≡ Ok (tables_of state))
       → IsSound (tables_of state) → IsBegun (tables_of state) state → faults_of members begun ≡ faults_of members keeper → IsSameBox keeper begun
-      → StaysKept members begun after ended
+      → StaysKept members begun after ended → IsSound (tables_of ended)
       → IsOfSnoop status
       → (status ≡ 4 → EndsAtFailure new.failed old.reads new.reads old.writes new.writes)
       → (status ≢ 4 → (new.reads ≡ old.reads) × (new.writes ≡ old.writes))
@@ -76,7 +69,7 @@ module _ {X : Type 0} {F : X → Type 0} (members : (v : (x : X) × F x) → Gho
       → ((s : Session) → IsIn s state → tells → new.reads ≢ old.reads → LeadsToTaken s old.state (faults_of members begun) ended new.state (faults_of members after))
       → new.turns ≡ old.turns
       → (returned : DynBox X Global F) → returned ≡ after → SnoopsStore members tells keeper returned old new status
-  snooped_run begun state ended read sound begins same_count same_box stays is fault steady failed unfailed all part taken turns returned same =
+  snooped_run begun state ended read sound begins same_count same_box stays sound_after is fault steady failed unfailed all part taken turns returned same =
       let in_session = in_begun (tables_of state) state begins in
       subst (λ (box : DynBox X Global F). SnoopsStore members tells keeper box old new status) (sym same) (record {
         honest = record {
@@ -101,79 +94,18 @@ module _ {X : Type 0} {F : X → Type 0} (members : (v : (x : X) × F x) → Gho
                 (taken (opened (tables_of state)) in_session told other);
           };
         });
-        kept = inl (record { tables = tables_of ended; kept = stays.kept });
+        kept = inl (record { tables = tables_of ended; sound = sound_after; kept = stays.kept });
         same_turns = turns;
       })
 
 -- ---- A store that isn't opened
 
-refuses : (old new : DoorState) (status : ℕ) (items : List Item) (fault : OpenFault) → IsFaultOf items fault → IsRefusal fault status
-    → (status ≡ 6 → new ≡ put_out (refusal_text fault) old)
-    → ((status ≡ 4) ⊎ (status ≡ 5) → WroteFirst (refusal_text fault) old new)
-    → (IsOfCall fault → new ≡ old) → RefusesStore (tables_in items) old new status
-refuses old new status items Keeper of is done part untouched = record {
-  statuses = inr (inr (inr is));
-  bad = λ which. absurd (grind arith);
-  done = λ six. absurd (grind arith);
-  part = λ which. absurd (grind arith);
-  none = λ seven. untouched tt;
-}
-refuses old new status items Memory of is done part untouched = record {
-  statuses = inr (inl is);
-  bad = λ which. absurd (grind arith);
-  done = λ six. absurd (grind arith);
-  part = λ which. record { count = 0; within = grind arith; wrote = untouched tt ∙ sym (put_out_none old) };
-  none = λ seven. absurd (grind arith);
-}
-refuses old new status items (BadItem kind key) of is done part untouched =
-    let text : bad_item_line kind key ≡ bad_item_line of.item.kind of.item.key = ap₂ bad_item_line (sym of.kind_is) (sym of.key_is) in
-    subst (λ (found : Result DeskTables Item). RefusesStore found old new status) (sym of.bad) (record {
-      statuses = named_statuses is;
-      bad = λ which. (of.item, refl);
-      done = λ six. done six ∙ ap (λ (line : List ℕ). put_out line old) text;
-      part = λ which. subst (λ (line : List ℕ). WroteFirst line old new) text (part which);
-      none = λ seven. absurd (grind arith);
-    })
-  where
-    named_statuses : (status ≡ 6) ⊎ ((status ≡ 4) ⊎ (status ≡ 5)) → (status ≡ 4) ⊎ ((status ≡ 5) ⊎ ((status ≡ 6) ⊎ (status ≡ 7)))
-    named_statuses (inl six) = inr (inr (inl six))
-    named_statuses (inr (inl four)) = inl four
-    named_statuses (inr (inr five)) = inr (inl five)
-
-pub not_seven : (status : ℕ) → (status ≡ 0) ⊎ ((status ≡ 3) ⊎ (status ≡ 6)) → status ≢ 7
-not_seven status (inl zero) = λ seven. absurd (grind arith)
-not_seven status (inr (inl three)) = λ seven. absurd (grind arith)
-not_seven status (inr (inr six)) = λ seven. absurd (grind arith)
-
 module _ {X : Type 0} {F : X → Type 0} (members : (v : (x : X) × F x) → Ghosts (F v.0)) (keeper after : DynBox X Global F) (tells : Type 0) (old new : DoorView) (status : ℕ) where
-  pub refused_snoop : (fault : OpenFault)
-      → (Tells members after → IsFaultOf (kept_items members after) fault)
-      → (Tells members keeper → Tells members after → IsLeft (kept_items members keeper) (kept_items members after) fault)
-      → Counts (is_fault_of_keeper fault) (faults_of members keeper) (faults_of members after) → IsSameBox keeper after
-      → IsRefusal fault status
-      → (status ≡ 4 → StopsAtFailure new.failed old.writes new.writes)
-      → (status ≢ 4 → new.writes ≡ old.writes)
-      → (tells → status ≡ 6 → new.state ≡ put_out (refusal_text fault) old.state)
-      → (tells → (status ≡ 4) ⊎ (status ≡ 5) → WroteFirst (refusal_text fault) old.state new.state)
-      → (IsOfCall fault → new.state ≡ old.state)
-      → new.turns ≡ old.turns → new.reads ≡ old.reads
-      → SnoopsStore members tells keeper after old new status
-  refused_snoop fault bad left counts same_box is failed steady done part untouched turns reads =
-      let run = refused_run members keeper after tells old new status fault bad left counts same_box is failed steady done part untouched turns reads in
-      record {
-        honest = record {
-          statuses = run.honest.statuses;
-          fault = run.honest.fault;
-          steady = run.honest.steady;
-          keeper_fault = run.honest.keeper_fault;
-          same_box = same_box;
-        };
-        keeper_steady = λ which. run.keeper_steady (not_seven status which);
-        runs = λ told tell. inr (record {
-          refuses = refuses old.state new.state status (kept_items members after) fault (bad tell) is (done told) (part told) untouched;
-          same_tables = λ before. run.same_tables before tell;
-          same_items = λ six before. run.same_items six before tell;
-        });
-        kept = inr (unopened members keeper after status fault bad left is);
-        same_turns = turns;
-      }
+  pub refused_snoop : RunsRefused members tells keeper after old new status → SnoopsStore members tells keeper after old new status
+  refused_snoop run = record {
+    honest = reads_honestly members keeper after old new status run.honest run.same_reads;
+    keeper_steady = λ which. run.leaves.keeper_steady (not_seven status which);
+    runs = λ told tell. inr (is_refused members keeper after tells old new status run told tell);
+    kept = run.leaves.kept;
+    same_turns = run.same_turns;
+  }

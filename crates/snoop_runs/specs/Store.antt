@@ -1,26 +1,23 @@
 -- What a run of `snoop` over a store and a capture does.
-use Rattle.std.specs.Prelude.{◌≡◌, ◌≢◌, ℕ, ◌⊎◌, List, [], Result, Ok, Err, ◌∷◌}
+use Rattle.std.specs.Prelude.{◌≡◌, ◌≢◌, ℕ, ◌⊎◌, List, [], Ok, ◌∷◌}
 use Rattle.std.specs.declared.dyn_box.DynBox.{DynBox}
 use Rattle.std.specs.declared.alloc.Global.{Global}
 use Rattle.mud_world.specs.declared.keeper.Keeper.{Ghosts}
 use Rattle.mud_world.specs.declared.item.Item.{Item}
 use Rattle.mud_world.specs.Boxed.{faults_of, Tells, kept_items}
-use Rattle.mud_world.specs.Door.{DoorState, put_out}
+use Rattle.mud_world.specs.Door.{DoorState}
 use Rattle.command_runs.specs.Ends.{IsSteady, IsStopped}
-use Rattle.command_runs.specs.Due.{WroteFirst}
 use Rattle.mud_world.specs.View.{DoorView}
 use Rattle.desk_model.specs.DeskTables.{DeskTables, IsSound}
 use Rattle.desk_model.specs.Items.{items_of, tables_in}
 use Rattle.desk_model.specs.Sessions.{Session, opened}
 use Rattle.desk_runs.specs.Honest.{RunsHonestly}
-use Rattle.desk_runs.specs.Refused.{bad_item_line}
-use Rattle.desk_runs.specs.Store.{IsUnopened}
-use Rattle.mud_desk.specs.Boxed.{IsKept}
+use Rattle.desk_runs.specs.Store.{IsRefused, IsUnopened, KeepsTables}
 use Rattle.snoop_runs.specs.Runs.{scene, SnoopsAll, SnoopsPart, SnoopsTaken}
-use Rattle.command_runs.specs.Status.{Is, IsOneOf, each_status}
+use Rattle.command_runs.specs.Status.{IsOneOf, each_status}
 use Rattle.command_runs.specs.declared.status.Status.TheVariants.{Done, Refused, DoorFailed, NoMemory, BadItem, KeeperFailed}
 
--- ---- A store that is opened
+-- ---- A desk that is opened
 
 -- All packets lead from the session that began with these tables to one whose tables these items are.
 pub record LeavesAll (tables : DeskTables) (items : List Item) (faults faults_after : ℕ) (old new : DoorState) (status : ℕ) : Type 0 where
@@ -48,21 +45,6 @@ pub record SnoopsCapture (tables : DeskTables) (items : List Item) (faults fault
   pub part : IsOneOf (DoorFailed ∷ NoMemory ∷ []) status → LeavesPart tables items faults faults_after old.state new.state
   pub taken : new.reads ≢ old.reads → LeavesTaken tables items faults faults_after old.state new.state
 
--- ---- A store that isn't opened
-
-abbrev pub line_of_bad : Result DeskTables Item → List ℕ
-line_of_bad (Ok tables) = []
-line_of_bad (Err item) = bad_item_line item.kind item.key
-
--- Where an item is no record, its line was written whole with 6, and a first part of it with 4 and 5. With 7 nothing was written. The
--- capture isn't read.
-pub record RefusesStore (store : Result DeskTables Item) (old new : DoorState) (status : ℕ) : Type 0 where
-  pub statuses : IsOneOf (DoorFailed ∷ NoMemory ∷ BadItem ∷ KeeperFailed ∷ []) status
-  pub bad : IsOneOf (DoorFailed ∷ BadItem ∷ []) status → (item : Item) × (store ≡ Err item)
-  pub done : Is BadItem status → new ≡ put_out (line_of_bad store) old
-  pub part : IsOneOf (DoorFailed ∷ NoMemory ∷ []) status → WroteFirst (line_of_bad store) old new
-  pub none : Is KeeperFailed status → new ≡ old
-
 module _ {X : Type 0} {F : X → Type 0} (members : (v : (x : X) × F x) → Ghosts (F v.0)) where
   -- A desk is opened with the tables that were kept, and what the packets lead to is kept.
   pub record OpensAndSnoops (keeper returned : DynBox X Global F) (old new : DoorView) (status : ℕ) : Type 0 where
@@ -71,25 +53,14 @@ module _ {X : Type 0} {F : X → Type 0} (members : (v : (x : X) × F x) → Gho
     pub were_kept : Tells members keeper → tables_in (kept_items members keeper) ≡ Ok tables
     pub snoops : SnoopsCapture tables (kept_items members returned) (faults_of members keeper) (faults_of members returned) old new status
 
-  -- No desk is opened: the tables stay, and where an item is no record all items.
-  pub record IsRefused (keeper returned : DynBox X Global F) (old new : DoorView) (status : ℕ) : Type 0 where
-    pub refuses : RefusesStore (tables_in (kept_items members returned)) old.state new.state status
-    pub same_tables : Tells members keeper → tables_in (kept_items members returned) ≡ tables_in (kept_items members keeper)
-    pub same_items : Is BadItem status → Tells members keeper → kept_items members returned ≡ kept_items members keeper
-
-  -- the keeper is open, and the items that it tells are those of some tables
-  pub record KeepsSome (keeper : DynBox X Global F) : Type 0 where
-    pub tables : DeskTables
-    pub kept : IsKept members keeper tables
-
   -- A run of `snoop`. `tells` says that the door tells its connections.
   pub record SnoopsStore (tells : Type 0) (keeper returned : DynBox X Global F) (old new : DoorView) (status : ℕ) : Type 0 where
     -- A read or a write that fails ends the run. Where it ends with 0, 3 or 6, the keeper didn't fail.
     pub honest : RunsHonestly members each_status (IsStopped old new) (IsSteady old new) keeper returned status
     pub keeper_steady : IsOneOf (Done ∷ Refused ∷ BadItem ∷ []) status → faults_of members returned ≡ faults_of members keeper
     -- A desk is opened and learns from the capture, or the store is refused.
-    pub runs : tells → Tells members returned → OpensAndSnoops keeper returned old new status ⊎ IsRefused keeper returned old new status
-    -- Whatever the status, the items of some tables are kept, but where no desk was opened.
-    pub kept : KeepsSome returned ⊎ IsUnopened members keeper returned status
+    pub runs : tells → Tells members returned → OpensAndSnoops keeper returned old new status ⊎ IsRefused members keeper returned old.state new.state status
+    -- Whatever the status, the items of sound tables are kept, but where no desk was opened.
+    pub kept : KeepsTables members returned ⊎ IsUnopened members keeper returned status
     -- The box that comes back is the one that was handed in. No port is bound, and the connection isn't left.
     pub same_turns : new.turns ≡ old.turns

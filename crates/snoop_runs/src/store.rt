@@ -39,6 +39,7 @@ pub fn snoop_store<D: Door>(
     match Desk::open(alloc, keeper, nothing) {
         Ok(mut desk) => {
             let status = snoop_capture(alloc, &mut desk, door);
+            desk.lists_are_sound();
             (status, desk.close())
         }
         Err((fault, keeper)) => (refuse_store(alloc, door, fault), keeper),

@@ -1,27 +1,23 @@
 -- What a run of `import` over a store and a folder does.
-use Rattle.std.specs.Prelude.{◌≡◌, ℕ, ◌⊎◌, Result, Ok, Err, [], ◌∷◌}
+use Rattle.std.specs.Prelude.{◌≡◌, ℕ, ◌⊎◌, Ok, [], ◌∷◌}
 use Rattle.std.specs.declared.dyn_box.DynBox.{DynBox}
 use Rattle.std.specs.declared.alloc.Global.{Global}
 use Rattle.mud_world.specs.declared.keeper.Keeper.{Ghosts}
-use Rattle.mud_world.specs.declared.item.Item.{Item}
 use Rattle.mud_world.specs.Boxed.{faults_of, Tells, kept_items}
-use Rattle.mud_world.specs.Door.{put_out}
 use Rattle.mud_world.specs.Files.{names_of}
 use Rattle.command_runs.specs.Ends.{AreSteady, IsStoppedByDoorOrSpool}
-use Rattle.command_runs.specs.Due.{WroteFirst}
 use Rattle.mud_world.specs.View.{OutsideView}
 use Rattle.desk_model.specs.DeskTables.{DeskTables, IsSound}
 use Rattle.desk_model.specs.Items.{items_of, tables_in}
 use Rattle.desk_model.specs.Sessions.{Session, opened}
 use Rattle.desk_runs.specs.Honest.{RunsHonestly}
-use Rattle.desk_runs.specs.Store.{KeepsTables, IsUnopened}
-use Rattle.console_runs.specs.Store.{line_of_bad}
+use Rattle.desk_runs.specs.Store.{IsRefused, IsUnopened, KeepsTables}
 use Rattle.import_runs.specs.Order.{in_order}
 use Rattle.import_runs.specs.Runs.{Scene, ImportsPart, ImportsAll}
-use Rattle.command_runs.specs.Status.{Is, IsOneOf, each_status}
+use Rattle.command_runs.specs.Status.{IsOneOf, each_status}
 use Rattle.command_runs.specs.declared.status.Status.TheVariants.{Done, Refused, DoorFailed, NoMemory, BadItem, KeeperFailed}
 
--- ---- A store that is opened
+-- ---- A desk that is opened
 
 -- the scene of a session, where the keeper has failed so often
 abbrev pub scene_in : Session → OutsideView → ℕ → Scene
@@ -34,19 +30,6 @@ pub record ImportsFolder (tables : DeskTables) (session : Session) (faults fault
   pub all : IsOneOf (Done ∷ Refused ∷ KeeperFailed ∷ []) status → ImportsAll old.spool.files (in_order (names_of old.spool.files)) (scene_in (opened tables) old faults) (scene_in session new faults_after) status
   pub part : IsOneOf (DoorFailed ∷ NoMemory ∷ []) status → ImportsPart old.spool.files (in_order (names_of old.spool.files)) (scene_in (opened tables) old faults) (scene_in session new faults_after)
 
--- ---- A store that isn't opened
-
--- Where an item is no record, its line was written whole with 6, and a first part of it with 4 and 5. With 7 nothing was written.
--- The folder isn't listed, and the clock isn't asked.
-pub record RefusesStore (store : Result DeskTables Item) (old new : OutsideView) (status : ℕ) : Type 0 where
-  pub statuses : IsOneOf (DoorFailed ∷ NoMemory ∷ BadItem ∷ KeeperFailed ∷ []) status
-  pub bad : IsOneOf (DoorFailed ∷ BadItem ∷ []) status → (item : Item) × (store ≡ Err item)
-  pub done : Is BadItem status → new.door.state ≡ put_out (line_of_bad store) old.door.state
-  pub part : IsOneOf (DoorFailed ∷ NoMemory ∷ []) status → WroteFirst (line_of_bad store) old.door.state new.door.state
-  pub none : Is KeeperFailed status → new.door.state ≡ old.door.state
-  pub same_spool : new.spool ≡ old.spool
-  pub same_moments : new.moments ≡ old.moments
-
 module _ {X : Type 0} {F : X → Type 0} (members : (v : (x : X) × F x) → Ghosts (F v.0)) where
   -- A desk is opened with the tables that were kept, and the tables of its session in the end are kept.
   pub record OpensAndImports (keeper returned : DynBox X Global F) (old new : OutsideView) (status : ℕ) : Type 0 where
@@ -57,11 +40,11 @@ module _ {X : Type 0} {F : X → Type 0} (members : (v : (x : X) × F x) → Gho
     pub imports : ImportsFolder tables session (faults_of members keeper) (faults_of members returned) old new status
     pub are_kept : kept_items members returned ≡ items_of session.desk
 
-  -- No desk is opened: the tables stay, and where an item is no record all items.
-  pub record IsRefused (keeper returned : DynBox X Global F) (old new : OutsideView) (status : ℕ) : Type 0 where
-    pub refuses : RefusesStore (tables_in (kept_items members returned)) old new status
-    pub same_tables : Tells members keeper → tables_in (kept_items members returned) ≡ tables_in (kept_items members keeper)
-    pub same_items : Is BadItem status → Tells members keeper → kept_items members returned ≡ kept_items members keeper
+  -- No desk is opened: the tables stay, the folder isn't listed, and the clock isn't asked.
+  pub record ImportsNone (keeper returned : DynBox X Global F) (old new : OutsideView) (status : ℕ) : Type 0 where
+    pub refused : IsRefused members keeper returned old.door.state new.door.state status
+    pub same_spool : new.spool ≡ old.spool
+    pub same_moments : new.moments ≡ old.moments
 
   -- A run of `import`. `tells` says that the door, the spool and the clock tell.
   pub record ImportsStore (tells : Type 0) (keeper returned : DynBox X Global F) (old new : OutsideView) (status : ℕ) : Type 0 where
@@ -69,7 +52,7 @@ module _ {X : Type 0} {F : X → Type 0} (members : (v : (x : X) × F x) → Gho
     pub honest : RunsHonestly members each_status (IsStoppedByDoorOrSpool old.door new.door old.spool new.spool) (AreSteady old.door new.door old.spool new.spool) keeper returned status
     pub keeper_steady : IsOneOf (Done ∷ Refused ∷ BadItem ∷ []) status → faults_of members returned ≡ faults_of members keeper
     -- A desk is opened and the folder imported into it, or the store is refused.
-    pub runs : tells → Tells members returned → OpensAndImports keeper returned old new status ⊎ IsRefused keeper returned old new status
+    pub runs : tells → Tells members returned → OpensAndImports keeper returned old new status ⊎ ImportsNone keeper returned old new status
     -- Whatever the status, the items of sound tables are kept, but where no desk was opened.
     pub kept : KeepsTables members returned ⊎ IsUnopened members keeper returned status
     pub same_files : tells → new.spool.files ≡ old.spool.files

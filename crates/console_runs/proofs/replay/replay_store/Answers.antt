@@ -2,7 +2,8 @@ use Rattle.std.proofs.Common.{ap}
 use Rattle.command_runs.specs.Status.{status_number}
 use Rattle.mud_world.specs.View.{viewed}
 use Rattle.mud_desk.specs.DeskState.{tables_of}
-use Rattle.console_runs.proofs.Refusals.{box_of, memory_none, refused_none}
+use Rattle.desk_runs.proofs.Refusals.{runs_refused}
+use Rattle.console_runs.proofs.Refusals.{memory_none, refused_none}
 use Rattle.console_runs.proofs.Replays.{replays_none, replays_opened}
 use Rattle.console_runs.proofs.replay.replay_store.Goals as goal
 
@@ -33,8 +34,7 @@ returns-in-Err-new-clause-replayed g c =
     5
     (memory_none (goal.Keeper-dyn g) c.args.keeper desk.keeper door.tells
     (door.view old)
-    (tables_of desk.state) store.tables store.sound store.kept store.steady c.close.result c.close.ensures)
-    (box_of c.args.keeper desk.keeper c.close.result store.same_box c.close.ensures)
+    (tables_of desk.state) store.tables store.sound store.kept store.steady store.same_box c.close.result c.close.ensures)
 
 pub returns-in-Err-clause-replayed : goal.returns-in-Err-clause-replayed
 returns-in-Err-clause-replayed g c =
@@ -47,10 +47,7 @@ returns-in-Err-clause-replayed g c =
     (door.view old)
     (door.view new)
     (status_number c.refuse_store.result)
-    (refused_none (goal.Keeper-dyn g) c.args.keeper c.in-Err.keeper door.tells
-    (door.view old)
-    (door.view new)
-    (status_number c.refuse_store.result)
+    (refused_none (goal.Keeper-dyn g) c.args.keeper c.in-Err.keeper door.tells (door.view old) (door.view new) (status_number c.refuse_store.result)
+    (runs_refused (goal.Keeper-dyn g) c.args.keeper c.in-Err.keeper door.tells (door.view old) (door.view new) (status_number c.refuse_store.result)
     c.in-Err.fault store.bad store.left store.cause store.handed_back
-    run.statuses run.fault run.steady run.done run.part (λ call. ap (λ d. (door.view d).state) (run.untouched call)) run.turns run.reads)
-    store.handed_back
+    run.statuses run.fault run.steady run.done run.part (λ call. ap (λ d. (door.view d).state) (run.untouched call)) run.turns run.reads))

@@ -4,7 +4,8 @@ use Rattle.mud_world.specs.View.{viewed}
 use Rattle.desk_model.specs.Sessions.{opened}
 use Rattle.mud_desk.specs.DeskState.{tables_of}
 use Rattle.desk_runs.proofs.JudgedPackets.{in_begun}
-use Rattle.desk_runs.proofs.Runs.{opened_over, refused_run}
+use Rattle.desk_runs.proofs.Refusals.{runs_refused}
+use Rattle.desk_runs.proofs.Runs.{opened_over, refused_over}
 use Rattle.desk_runs.specs.Store.{judged_due, judged_taken}
 use Rattle.desk_runs.proofs.store.judge_store.Goals as goal
 
@@ -33,9 +34,7 @@ returns-in-Err-clause-judged g c =
     let new = c.refuse_store.new.door in
     let store = c.in-Err.ensures in
     let run = c.refuse_store.ensures in
-    refused_run (goal.Keeper-dyn g) c.args.keeper c.in-Err.keeper door.tells
-    (door.view old)
-    (door.view new)
-    (status_number c.refuse_store.result)
+    refused_over (goal.Keeper-dyn g) c.args.keeper c.in-Err.keeper door.tells (door.view old) (door.view new) (status_number c.refuse_store.result) judged_due judged_taken
+    (runs_refused (goal.Keeper-dyn g) c.args.keeper c.in-Err.keeper door.tells (door.view old) (door.view new) (status_number c.refuse_store.result)
     c.in-Err.fault store.bad store.left store.cause store.handed_back
-    run.statuses run.fault run.steady run.done run.part (λ call. ap (λ d. (door.view d).state) (run.untouched call)) run.turns run.reads
+    run.statuses run.fault run.steady run.done run.part (λ call. ap (λ d. (door.view d).state) (run.untouched call)) run.turns run.reads)

@@ -4,6 +4,7 @@ use Rattle.mud_world.specs.View.{viewed}
 use Rattle.desk_model.specs.Sessions.{opened}
 use Rattle.mud_desk.specs.DeskState.{tables_of}
 use Rattle.desk_runs.proofs.JudgedPackets.{in_begun}
+use Rattle.desk_runs.proofs.Refusals.{runs_refused}
 use Rattle.drill_runs.proofs.Stores.{drilled_run, full_run, refused_drill}
 use Rattle.drill_runs.proofs.store.run_drill.Goals as goal
 
@@ -44,9 +45,7 @@ returns-in-Err-clause-drilled g c =
     let new = c.refuse_store.new.door in
     let store = c.in-Err.ensures in
     let run = c.refuse_store.ensures in
-    refused_drill (goal.Keeper-dyn g) c.args.keeper c.in-Err.keeper door.tells
-    (door.view old)
-    (door.view new)
-    (status_number c.refuse_store.result) c.args.packets
+    refused_drill (goal.Keeper-dyn g) c.args.keeper c.in-Err.keeper door.tells (door.view old) (door.view new) (status_number c.refuse_store.result) c.args.packets
+    (runs_refused (goal.Keeper-dyn g) c.args.keeper c.in-Err.keeper door.tells (door.view old) (door.view new) (status_number c.refuse_store.result)
     c.in-Err.fault store.bad store.left store.cause store.handed_back
-    run.statuses run.fault run.steady run.done run.part (λ call. ap (λ d. (door.view d).state) (run.untouched call)) run.turns run.reads
+    run.statuses run.fault run.steady run.done run.part (λ call. ap (λ d. (door.view d).state) (run.untouched call)) run.turns run.reads)

@@ -2,6 +2,7 @@ use Rattle.std.proofs.Common.{ap}
 use Rattle.command_runs.specs.Status.{status_number}
 use Rattle.mud_world.specs.View.{viewed}
 use Rattle.mud_desk.specs.DeskState.{tables_of}
+use Rattle.desk_runs.proofs.Refusals.{runs_refused}
 use Rattle.export_runs.proofs.Runs.{opened_run, refused_export}
 use Rattle.export_runs.proofs.store.export_store.Goals as goal
 
@@ -30,9 +31,7 @@ returns-in-Err-clause-exported g c =
     let new = c.refuse_store.new.door in
     let store = c.in-Err.ensures in
     let run = c.refuse_store.ensures in
-    refused_export (goal.Keeper-dyn g) c.args.keeper c.in-Err.keeper c.args.mac door.tells clock.tells (clock.moments c.args.clock.now)
-    (door.view old)
-    (door.view new)
-    (status_number c.refuse_store.result)
+    refused_export (goal.Keeper-dyn g) c.args.keeper c.in-Err.keeper c.args.mac door.tells clock.tells (clock.moments c.args.clock.now) (door.view old) (door.view new) (status_number c.refuse_store.result)
+    (runs_refused (goal.Keeper-dyn g) c.args.keeper c.in-Err.keeper door.tells (door.view old) (door.view new) (status_number c.refuse_store.result)
     c.in-Err.fault store.bad store.left store.cause store.handed_back
-    run.statuses run.fault run.steady run.done run.part (λ call. ap (λ d. (door.view d).state) (run.untouched call)) run.turns run.reads
+    run.statuses run.fault run.steady run.done run.part (λ call. ap (λ d. (door.view d).state) (run.untouched call)) run.turns run.reads)

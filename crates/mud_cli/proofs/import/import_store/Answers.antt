@@ -2,6 +2,7 @@ use Rattle.std.proofs.Common.{ap, refl}
 use Rattle.command_runs.specs.Status.{status_number}
 use Rattle.mud_world.specs.View.{viewed}
 use Rattle.mud_world.specs.View.{outside, spool_viewed}
+use Rattle.desk_runs.proofs.Refusals.{runs_refused}
 use Rattle.mud_cli.proofs.Imports.{imported_run, refused_import}
 use Rattle.mud_cli.proofs.import.import_store.Goals as goal
 
@@ -42,5 +43,7 @@ returns-in-Err g c =
     (outside (door.view new)
     (spool_viewed (spool.view c.args.spool.now).files (spool.view c.args.spool.now).faults (spool.view c.args.spool.now).failed) (clock.moments c.args.clock.now))
     (status_number c.refuse_store.result)
+    (runs_refused (goal.Keeper-dyn g) c.args.keeper c.in-Err.keeper (door.tells × (spool.tells × clock.tells)) (door.view old) (door.view new) (status_number c.refuse_store.result)
     c.in-Err.fault store.bad store.left store.cause store.handed_back
-    run.statuses run.fault run.steady (λ told. run.done told.0) (λ told. run.part told.0) (λ call. ap (λ d. (door.view d).state) (run.untouched call)) run.turns run.reads refl refl
+    run.statuses run.fault run.steady (λ told. run.done told.0) (λ told. run.part told.0) (λ call. ap (λ d. (door.view d).state) (run.untouched call)) run.turns run.reads)
+    refl refl

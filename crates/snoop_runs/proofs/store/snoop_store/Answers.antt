@@ -1,6 +1,7 @@
 use Rattle.std.proofs.Common.{ap}
 use Rattle.command_runs.specs.Status.{status_number}
 use Rattle.mud_world.specs.View.{viewed}
+use Rattle.desk_runs.proofs.Refusals.{runs_refused}
 use Rattle.snoop_runs.proofs.Stored.{snooped_run, refused_snoop}
 use Rattle.snoop_runs.proofs.store.snoop_store.Goals as goal
 
@@ -18,7 +19,7 @@ returns-in-Ok g c =
     (door.view new)
     (status_number c.snoop_capture-status.result)
     desk.keeper desk.state after.state store.tables store.sound store.begun store.steady store.same_box
-    run.stays run.statuses run.fault run.steady run.keeper run.keeper_steady
+    run.stays c.lists_are_sound.ensures run.statuses run.fault run.steady run.keeper run.keeper_steady
     run.done run.part run.taken run.turns
     c.close.result c.close.ensures
 
@@ -29,9 +30,7 @@ returns-in-Err g c =
     let new = c.refuse_store.new.door in
     let store = c.in-Err.ensures in
     let run = c.refuse_store.ensures in
-    refused_snoop (goal.Keeper-dyn g) c.args.keeper c.in-Err.keeper door.tells
-    (door.view old)
-    (door.view new)
-    (status_number c.refuse_store.result)
+    refused_snoop (goal.Keeper-dyn g) c.args.keeper c.in-Err.keeper door.tells (door.view old) (door.view new) (status_number c.refuse_store.result)
+    (runs_refused (goal.Keeper-dyn g) c.args.keeper c.in-Err.keeper door.tells (door.view old) (door.view new) (status_number c.refuse_store.result)
     c.in-Err.fault store.bad store.left store.cause store.handed_back
-    run.statuses run.fault run.steady run.done run.part (λ call. ap (λ d. (door.view d).state) (run.untouched call)) run.turns run.reads
+    run.statuses run.fault run.steady run.done run.part (λ call. ap (λ d. (door.view d).state) (run.untouched call)) run.turns run.reads)

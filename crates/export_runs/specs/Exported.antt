@@ -50,7 +50,7 @@ pub record IsExported (desk : DeskTables) (moment : ℕ) (thing : Thing) (text :
 -- the Thing's lists are due, with 0
 pub record IsDueOfThing (desk : DeskTables) (moment : ℕ) (thing : Thing) (due : Due) : Type 0 where
   pub text : IsExported desk moment thing due.text
-  pub status : due.Is Done status
+  pub status : Is Done due.status
 
 abbrev pub no_thing : Due
 no_thing = record { text = codes "fault NoThing\n"; status = 3 }

@@ -5,19 +5,11 @@
 #[cfg(test)]
 mod bulb;
 #[cfg(test)]
-mod captures;
-#[cfg(test)]
 mod connections;
-#[cfg(test)]
-mod exports;
 #[cfg(test)]
 mod folders;
 #[cfg(test)]
-mod items;
-#[cfg(test)]
 mod memory;
-#[cfg(test)]
-mod pcapngs;
 #[cfg(test)]
 mod replays;
 #[cfg(test)]
@@ -25,8 +17,4 @@ mod requests;
 #[cfg(test)]
 mod runs;
 #[cfg(test)]
-mod snoops;
-#[cfg(test)]
 mod stores;
-#[cfg(test)]
-mod tallies;

@@ -1,11 +1,15 @@
 //! Two requests on one connection, cut at each place, and with each call of the door and of the keeper
 //! failing.
-use crate::items::{AT_5, AT_6, CLASS_ITEM, LOCALS_ITEM};
-use crate::memory::{Call, Failing, Given, Kept, NONE};
-use crate::requests::{BOUND_BODY, BOUND_HEAD, CLASS, LOCALS, SET_BODY, SET_HEAD, UNKEPT};
-use crate::runs::{Ends, check};
+use crate::memory::{Call, Failing, Kept, NONE, clock_from, door_of, empty_keeper, spool_of};
+use crate::requests::{
+    AT_5, AT_6, BOUND_BODY, BOUND_HEAD, CLASS, CLASS_ITEM, LOCALS, LOCALS_ITEM, SET_BODY, SET_HEAD,
+    UNKEPT,
+};
+use crate::runs::{Ends, check_run, words_of};
+use mud_world::Keeper;
 use std::alloc::Global;
 use std::process::Abort;
+use std::test::Fail;
 
 /// What is written and kept where both requests are carried out.
 const WRITTEN: &[&[&[u8]]] = &[&[SET_HEAD, SET_BODY, BOUND_HEAD, BOUND_BODY]];
@@ -16,54 +20,53 @@ const KEPT: &[Kept<'static>] = &[CLASS_ITEM, LOCALS_ITEM, AT_6];
 const ALL: Ends<'static> = Ends {
     status: 0,
     written: WRITTEN,
-    changed: KEPT,
+    kept: KEPT,
 };
 
 /// Replays the connection of these pieces over a keeper that keeps nothing.
 fn check_replay(
     rt: &impl Abort,
     alloc: Global,
-    number: usize,
+    words: &[String],
     pieces: &[&[u8]],
     failing: Failing,
     ends: &Ends<'_>,
-) {
-    let given = Given {
-        words: &["replay", ":memory:"],
-        connections: &[pieces],
-        files: &[],
-        second: 1,
-        kept: &[],
-    };
-    check(rt, alloc, number, &given, failing, ends);
+) -> Result<(), Fail> {
+    let mut door = door_of(rt, alloc, &[pieces], failing)?;
+    let mut spool = spool_of(alloc, &[], failing)?;
+    let mut clock = clock_from(rt, alloc, 1)?;
+    let keeper: Box<dyn Keeper> = Box::new(alloc, empty_keeper(alloc, failing)?)?;
+    check_run(
+        rt, alloc, words, keeper, &mut door, &mut spool, &mut clock, ends,
+    )?;
+    Ok(())
 }
 
 #[test]
-fn the_first_request_is_cut_anywhere(rt: HostRuntime) {
+fn requests_are_cut_anywhere(rt: HostRuntime) -> Result<(), Fail> {
+    let alloc = rt.alloc();
+    let words = words_of(alloc, &["replay", ":memory:"])?;
     for at in 0..=LOCALS.len() {
         let (first, second) = LOCALS.split_at(at);
-        check_replay(&rt, rt.alloc(), at, &[first, second, CLASS], NONE, &ALL);
+        check_replay(&rt, alloc, &words, &[first, second, CLASS], NONE, &ALL)?;
     }
-}
-
-#[test]
-fn the_second_request_is_cut_anywhere(rt: HostRuntime) {
     for at in 0..=CLASS.len() {
         let (first, second) = CLASS.split_at(at);
-        check_replay(&rt, rt.alloc(), at, &[LOCALS, first, second], NONE, &ALL);
+        check_replay(&rt, alloc, &words, &[LOCALS, first, second], NONE, &ALL)?;
     }
+    Ok(())
 }
 
 /// What comes of it where one call fails. The request whose answer isn't written stays carried out,
 /// and none behind it is; where a read fails, what was read before is answered. Of a change that
 /// couldn't be kept nothing stays, and the next one is made again.
-static FAILURES: [(Failing, Ends<'static>); 13] = [
+const FAILURES: [(Failing, Ends<'static>); 12] = [
     (
         (Call::Open, 1),
         Ends {
             status: 7,
             written: &[&[]],
-            changed: &[],
+            kept: &[],
         },
     ),
     (
@@ -71,7 +74,7 @@ static FAILURES: [(Failing, Ends<'static>); 13] = [
         Ends {
             status: 0,
             written: &[&[UNKEPT, BOUND_HEAD, BOUND_BODY]],
-            changed: &[CLASS_ITEM, AT_6],
+            kept: &[CLASS_ITEM, AT_6],
         },
     ),
     (
@@ -79,7 +82,7 @@ static FAILURES: [(Failing, Ends<'static>); 13] = [
         Ends {
             status: 0,
             written: &[&[SET_HEAD, SET_BODY, UNKEPT]],
-            changed: &[LOCALS_ITEM, AT_5],
+            kept: &[LOCALS_ITEM, AT_5],
         },
     ),
     ((Call::Apply, 3), ALL),
@@ -88,7 +91,7 @@ static FAILURES: [(Failing, Ends<'static>); 13] = [
         Ends {
             status: 4,
             written: &[&[]],
-            changed: &[],
+            kept: &[],
         },
     ),
     (
@@ -96,7 +99,7 @@ static FAILURES: [(Failing, Ends<'static>); 13] = [
         Ends {
             status: 4,
             written: &[&[SET_HEAD, SET_BODY]],
-            changed: &[LOCALS_ITEM, AT_5],
+            kept: &[LOCALS_ITEM, AT_5],
         },
     ),
     (
@@ -104,7 +107,7 @@ static FAILURES: [(Failing, Ends<'static>); 13] = [
         Ends {
             status: 4,
             written: WRITTEN,
-            changed: KEPT,
+            kept: KEPT,
         },
     ),
     ((Call::Read, 4), ALL),
@@ -113,7 +116,7 @@ static FAILURES: [(Failing, Ends<'static>); 13] = [
         Ends {
             status: 4,
             written: &[&[]],
-            changed: &[LOCALS_ITEM, AT_5],
+            kept: &[LOCALS_ITEM, AT_5],
         },
     ),
     (
@@ -121,7 +124,7 @@ static FAILURES: [(Failing, Ends<'static>); 13] = [
         Ends {
             status: 4,
             written: &[&[SET_HEAD]],
-            changed: &[LOCALS_ITEM, AT_5],
+            kept: &[LOCALS_ITEM, AT_5],
         },
     ),
     (
@@ -129,7 +132,7 @@ static FAILURES: [(Failing, Ends<'static>); 13] = [
         Ends {
             status: 4,
             written: &[&[SET_HEAD, SET_BODY]],
-            changed: KEPT,
+            kept: KEPT,
         },
     ),
     (
@@ -137,28 +140,30 @@ static FAILURES: [(Failing, Ends<'static>); 13] = [
         Ends {
             status: 4,
             written: &[&[SET_HEAD, SET_BODY, BOUND_HEAD]],
-            changed: KEPT,
+            kept: KEPT,
         },
     ),
-    ((Call::Write, 5), ALL),
 ];
 
 #[test]
-fn each_call_fails(rt: HostRuntime) {
-    for (number, (failing, ends)) in FAILURES.iter().enumerate() {
-        check_replay(&rt, rt.alloc(), number, &[LOCALS, CLASS], *failing, ends);
+fn each_call_fails(rt: HostRuntime) -> Result<(), Fail> {
+    let alloc = rt.alloc();
+    let words = words_of(alloc, &["replay", ":memory:"])?;
+    for (failing, ends) in FAILURES {
+        check_replay(&rt, alloc, &words, &[LOCALS, CLASS], failing, &ends)?;
     }
+    Ok(())
 }
 
-/// The second request is answered with 503, and once more with its answer.
-const ANEW: Ends<'static> = Ends {
-    status: 0,
-    written: &[&[SET_HEAD, SET_BODY, UNKEPT, BOUND_HEAD, BOUND_BODY]],
-    changed: KEPT,
-};
-
 #[test]
-fn a_change_is_asked_for_again(rt: HostRuntime) {
+fn a_change_is_asked_for_again(rt: HostRuntime) -> Result<(), Fail> {
+    let alloc = rt.alloc();
+    let words = words_of(alloc, &["replay", ":memory:"])?;
+    let ends = Ends {
+        status: 0,
+        written: &[&[SET_HEAD, SET_BODY, UNKEPT, BOUND_HEAD, BOUND_BODY]],
+        kept: KEPT,
+    };
     let pieces = [LOCALS, CLASS, CLASS];
-    check_replay(&rt, rt.alloc(), 0, &pieces, (Call::Apply, 2), &ANEW);
+    check_replay(&rt, alloc, &words, &pieces, (Call::Apply, 2), &ends)
 }

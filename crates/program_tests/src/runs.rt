@@ -1,46 +1,30 @@
 //! A run of the program, and what comes of it.
-use crate::memory::{Failing, Given, Kept, Outside, items_of, keeper_of, outside_of};
+use crate::memory::Kept;
 use mud_cli::mud_main;
-use mud_world::{Item, Keeper, MemoryDoor};
+use mud_world::{Item, Keeper, MemoryClock, MemoryDoor, MemorySpool};
 use std::alloc::Global;
 use std::process::Abort;
+use std::test::Fail;
+
+/// The kind of the item of a usage file.
+const FILE: u8 = 2;
 
 /// What comes of a run: its status, what was written to each connection, in parts, and the items that
-/// are kept behind it in place of, or beside, those that were kept before.
+/// are kept, of usage files only the first octets of the bodies.
 #[derive(Clone, Copy, Debug)]
 pub struct Ends<'a> {
     pub status: u8,
     pub written: &'a [&'a [&'a [u8]]],
-    pub changed: &'a [Kept<'a>],
+    pub kept: &'a [Kept<'a>],
 }
 
 /// The words, as the program is given them.
-fn words_of(rt: &impl Abort, alloc: Global, words: &[&str]) -> Vec<String> {
+pub(crate) fn words_of(alloc: Global, words: &[&str]) -> Result<Vec<String>, Fail> {
     let mut list = Vec::new(alloc);
     for word in words {
-        let word = String::from_str(alloc, word).expect(rt, "memory");
-        list.push(word).expect(rt, "memory");
+        list.push(String::from_str(alloc, word)?)?;
     }
-    list
-}
-
-/// Runs the program, and answers its status and the box.
-fn run_program(
-    rt: &impl Abort,
-    alloc: Global,
-    words: &[&str],
-    keeper: Box<dyn Keeper>,
-    outside: &mut Outside,
-) -> (u8, Box<dyn Keeper>) {
-    let words = words_of(rt, alloc, words);
-    mud_main(
-        alloc,
-        &words,
-        keeper,
-        &mut outside.door,
-        &mut outside.spool,
-        &mut outside.clock,
-    )
+    Ok(list)
 }
 
 /// Whether the octets are these parts, one after the other.
@@ -56,112 +40,54 @@ fn are_joined(octets: &[u8], parts: &[&[u8]]) -> bool {
 }
 
 /// These parts were written to each connection.
-fn check_written(rt: &impl Abort, number: usize, door: &MemoryDoor, written: &[&[&[u8]]]) {
-    assert_eq!(rt; door.connection_count(), written.len(), "run {number}");
+fn check_written(rt: &impl Abort, door: &MemoryDoor, written: &[&[&[u8]]]) {
+    assert_eq!(rt; door.connection_count(), written.len());
     for (i, parts) in written.iter().enumerate() {
         assert!(rt; i < door.connection_count());
-        assert!(rt;
-            are_joined(door.written(i), parts),
-            "run {number}, connection {i}"
-        );
+        assert!(rt; are_joined(door.written(i), parts), "connection {i}");
     }
 }
 
-/// Whether they are one item.
-fn is_item(item: &Item, other: &Item) -> bool {
-    item.kind == other.kind
-        && item.key.octets() == other.key.octets()
-        && item.body.octets() == other.body.octets()
+/// Whether it is the item.
+fn is_item(item: &Item, kept: &Kept<'_>) -> bool {
+    let (kind, key, body) = *kept;
+    let same = if kind == FILE {
+        item.body.octets().starts_with(body)
+    } else {
+        item.body.octets() == body
+    };
+    same && item.kind == kind && item.key.octets() == key
 }
 
 /// These items are kept.
 fn check_kept(
     rt: &impl Abort,
     alloc: Global,
-    number: usize,
     keeper: &mut Box<dyn Keeper>,
-    kept: &[Item],
-) {
-    let items = keeper.open(alloc).expect(rt, "the items");
-    assert_eq!(rt; items.len(), kept.len(), "run {number}");
-    for (i, (item, one)) in items.as_slice().iter().zip(kept).enumerate() {
-        assert!(rt; is_item(item, one), "run {number}, item {i}");
-    }
-}
-
-/// Runs the program over this box so that one call fails, and this comes of it. The number is that of
-/// the run in its table. The box is handed back.
-pub(crate) fn check_over(
-    rt: &impl Abort,
-    alloc: Global,
-    number: usize,
-    keeper: Box<dyn Keeper>,
-    given: &Given<'_>,
-    failing: Failing,
-    ends: &Ends<'_>,
-) -> Box<dyn Keeper> {
-    let mut outside = outside_of(rt, alloc, given, failing);
-    let (status, mut keeper) = run_program(rt, alloc, given.words, keeper, &mut outside);
-    assert_eq!(rt; status, ends.status, "run {number}");
-    check_written(rt, number, &outside.door, ends.written);
-    let kept = items_of(rt, alloc, &[given.kept, ends.changed]);
-    check_kept(rt, alloc, number, &mut keeper, kept.rows());
-    keeper
-}
-
-/// Runs the program over a keeper of its own.
-pub(crate) fn check(
-    rt: &impl Abort,
-    alloc: Global,
-    number: usize,
-    given: &Given<'_>,
-    failing: Failing,
-    ends: &Ends<'_>,
-) {
-    let keeper = keeper_of(rt, alloc, given.kept, failing);
-    drop(check_over(rt, alloc, number, keeper, given, failing, ends));
-}
-
-/// A run with one connection and without a folder: its words, the pieces in which the octets of the
-/// connection come, the second of the clock, the call that fails, the status, the parts of what is
-/// written, and the items that are kept behind it in place of, or beside, those before.
-#[derive(Clone, Copy, Debug)]
-pub struct Run<'a> {
-    pub words: &'a [&'a str],
-    pub pieces: &'a [&'a [u8]],
-    pub second: u64,
-    pub failing: Failing,
-    pub status: u8,
-    pub written: &'a [&'a [u8]],
-    pub changed: &'a [Kept<'a>],
-}
-
-/// Does the run over a store that keeps this.
-pub(crate) fn check_one(
-    rt: &impl Abort,
-    alloc: Global,
-    number: usize,
     kept: &[Kept<'_>],
-    run: &Run<'_>,
-) {
-    let given = Given {
-        words: run.words,
-        connections: &[run.pieces],
-        files: &[],
-        second: run.second,
-        kept,
-    };
-    let ends = Ends {
-        status: run.status,
-        written: &[run.written],
-        changed: run.changed,
-    };
-    check(rt, alloc, number, &given, run.failing, &ends);
+) -> Result<(), Fail> {
+    let items = keeper.open(alloc)?;
+    assert_eq!(rt; items.len(), kept.len());
+    for (i, (item, one)) in items.as_slice().iter().zip(kept).enumerate() {
+        assert!(rt; is_item(item, one), "item {i}");
+    }
+    Ok(())
 }
 
-/// Does the runs, each over a store that keeps this.
-pub(crate) fn check_runs(rt: &impl Abort, alloc: Global, kept: &[Kept<'_>], runs: &[Run<'_>]) {
-    for (number, run) in runs.iter().enumerate() {
-        check_one(rt, alloc, number, kept, run);
-    }
+/// Runs the program so, and this comes of it. The box is handed back.
+pub(crate) fn check_run(
+    rt: &impl Abort,
+    alloc: Global,
+    words: &[String],
+    keeper: Box<dyn Keeper>,
+    door: &mut MemoryDoor,
+    spool: &mut MemorySpool,
+    clock: &mut MemoryClock,
+    ends: &Ends<'_>,
+) -> Result<Box<dyn Keeper>, Fail> {
+    let (status, mut keeper) = mud_main(alloc, words, keeper, door, spool, clock);
+    assert_eq!(rt; status, ends.status);
+    check_written(rt, door, ends.written);
+    check_kept(rt, alloc, &mut keeper, ends.kept)?;
+    Ok(keeper)
 }

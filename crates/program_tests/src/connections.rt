@@ -54,7 +54,7 @@ const ALL: Ends<'static> = Ends {
 
 /// What comes of it where one call fails. A connection whose read or write fails is over, and the next
 /// one is served. The clock is asked only for a request that is whole.
-const FAILURES: [(Failing, Ends<'static>); 12] = [
+const FAILURES: [(Failing, Ends<'static>); 17] = [
     (
         (Call::Open, 1),
         Ends {
@@ -114,10 +114,36 @@ const FAILURES: [(Failing, Ends<'static>); 12] = [
     ),
     ((Call::Read, 2), ALL),
     (
+        (Call::Read, 3),
+        Ends {
+            status: 0,
+            written: &[&[SET_HEAD, SET_BODY], &[]],
+            kept: &[LOCALS_ITEM, AT_25],
+        },
+    ),
+    ((Call::Read, 4), ALL),
+    ((Call::Read, 5), ALL),
+    (
         (Call::Write, 1),
         Ends {
             status: 0,
             written: &[&[], &[BOUND_HEAD, BOUND_BODY]],
+            kept: KEPT,
+        },
+    ),
+    (
+        (Call::Write, 2),
+        Ends {
+            status: 0,
+            written: &[&[SET_HEAD], &[BOUND_HEAD, BOUND_BODY]],
+            kept: KEPT,
+        },
+    ),
+    (
+        (Call::Write, 3),
+        Ends {
+            status: 0,
+            written: &[&[SET_HEAD, SET_BODY], &[]],
             kept: KEPT,
         },
     ),

@@ -4,7 +4,7 @@ ghost use Rattle.sorted_rows.specs.Ledgers.{IsBlankOf};
 
 use crate::rows::{DNS, default_rows};
 use acl_model::{DefaultRule, Ruling, Why, default_entry};
-use acl_rows::{AddressRows, RulePart, RuleView};
+use acl_rows::{RulePart, RuleView};
 use frame_view::{Frame, PacketView, Part, view};
 use mud_base::{Direction, Listed, Mac, Moment};
 use mud_tables::Thing;
@@ -115,20 +115,6 @@ fn what_is_forwarded_counts_for_the_connections(rt: HostRuntime) -> Result<(), F
     Ok(())
 }
 
-/// The ruling on the bulb's packet by these rows of the defaults.
-fn ruled_by<L: Ledger>(
-    alloc: Global,
-    packet: &PacketView<'_>,
-    rows: &AddressRows,
-    steps: &mut Steps<L>,
-) -> Result<Ruling, Fail> {
-    let entries = [default_entry(alloc, DefaultRule::Dns, Direction::From)?];
-    let defaults = RulePart::new(Direction::From, entries.as_slice(), &[], rows);
-    let lent = RuleView::new(Direction::From, None, defaults);
-    let now = Moment::at_most_last(1001);
-    Ok(rule(lent, packet, None, &[], now, steps))
-}
-
 /// The ruling on the bulb's packet by the defaults, with steps on a ledger of the caller's; None
 /// where the octets carry no packet.
 fn ruled<L: Ledger>(alloc: Global, octets: &[u8], blank: Blank) -> Result<Option<Ruling>, Fail>
@@ -139,9 +125,11 @@ fn ruled<L: Ledger>(alloc: Global, octets: &[u8], blank: Blank) -> Result<Option
     };
     let mut steps = Steps::<L>::new(blank);
     let rows = default_rows(alloc, DNS, &mut steps)?;
-    let ruling = ruled_by(alloc, &packet, &rows, &mut steps);
-    drop(rows);
-    Ok(Some(ruling?))
+    let entries = [default_entry(alloc, DefaultRule::Dns, Direction::From)?];
+    let defaults = RulePart::new(Direction::From, entries.as_slice(), &[], &rows);
+    let lent = RuleView::new(Direction::From, None, defaults);
+    let now = Moment::at_most_last(1001);
+    Ok(Some(rule(lent, &packet, None, &[], now, &mut steps)))
 }
 
 #[test]

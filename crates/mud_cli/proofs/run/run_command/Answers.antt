@@ -1,4 +1,5 @@
 use Rattle.std.proofs.Common.{◌≡◌, ℕ, true, refl}
+use Rattle.std.proofs.lemmas.Bool.{false≢true}
 use Rattle.command_runs.specs.Status.{status_number}
 use Rattle.command_words.specs.declared.command.Command.{Command}
 use Rattle.command_words.specs.declared.command.Command.TheVariants.{Hear, Check, Frames, Judge, Snoop, Tally, Import, Replay, Serve, Report, Export, Drill}
@@ -150,7 +151,7 @@ returns-in-Hear-clause-alone g c =
       same_keeper = λ reads. refl;
       same_spool = λ other. refl;
       same_clock = λ unasked. refl;
-      same_door = λ silent failed. absurd silent;
+      same_door = λ silent failed. absurd (false≢true silent);
     })
 
 pub returns-in-Check-clause-alone : goal.returns-in-Check-clause-alone
@@ -163,7 +164,7 @@ returns-in-Check-clause-alone g c =
       same_keeper = λ reads. refl;
       same_spool = λ other. refl;
       same_clock = λ unasked. refl;
-      same_door = λ silent failed. absurd silent;
+      same_door = λ silent failed. absurd (false≢true silent);
     })
 
 pub returns-in-Frames-clause-alone : goal.returns-in-Frames-clause-alone
@@ -176,7 +177,7 @@ returns-in-Frames-clause-alone g c =
       same_keeper = λ reads. refl;
       same_spool = λ other. refl;
       same_clock = λ unasked. refl;
-      same_door = λ silent failed. absurd silent;
+      same_door = λ silent failed. absurd (false≢true silent);
     })
 
 pub returns-in-Judge-clause-alone : goal.returns-in-Judge-clause-alone
@@ -186,7 +187,7 @@ returns-in-Judge-clause-alone g c =
     (world c.args.door.now c.args.spool.now c.args.clock.now) (world c.judge_store.new.door c.args.spool.now c.args.clock.now) (status_number c.judge_store.result.0) named)
     c.args.command Judge c.in-Judge.is
     (record {
-      same_keeper = λ reads. absurd reads;
+      same_keeper = λ reads. absurd (false≢true reads);
       same_spool = λ other. refl;
       same_clock = λ unasked. refl;
       same_door = λ silent failed. c.judge_store.ensures.untouched failed;
@@ -199,10 +200,10 @@ returns-in-Snoop-clause-alone g c =
     (world c.args.door.now c.args.spool.now c.args.clock.now) (world c.snoop_store.new.door c.args.spool.now c.args.clock.now) (status_number c.snoop_store.result.0) named)
     c.args.command Snoop c.in-Snoop.is
     (record {
-      same_keeper = λ reads. absurd reads;
+      same_keeper = λ reads. absurd (false≢true reads);
       same_spool = λ other. refl;
       same_clock = λ unasked. refl;
-      same_door = λ silent failed. absurd silent;
+      same_door = λ silent failed. absurd (false≢true silent);
     })
 
 pub returns-in-Tally-clause-alone : goal.returns-in-Tally-clause-alone
@@ -212,7 +213,7 @@ returns-in-Tally-clause-alone g c =
     (world c.args.door.now c.args.spool.now c.args.clock.now) (world c.tally_store.new.door c.args.spool.now c.args.clock.now) (status_number c.tally_store.result.0) named)
     c.args.command Tally c.in-Tally.is
     (record {
-      same_keeper = λ reads. absurd reads;
+      same_keeper = λ reads. absurd (false≢true reads);
       same_spool = λ other. refl;
       same_clock = λ unasked. refl;
       same_door = λ silent failed. c.tally_store.ensures.untouched failed;
@@ -225,10 +226,10 @@ returns-in-Import-clause-alone g c =
     (world c.args.door.now c.args.spool.now c.args.clock.now) (world c.import_store.new.door c.import_store.new.spool c.import_store.new.clock) (status_number c.import_store.result.0) named)
     c.args.command Import c.in-Import.is
     (record {
-      same_keeper = λ reads. absurd reads;
+      same_keeper = λ reads. absurd (false≢true reads);
       same_spool = λ other. absurd (other refl);
       same_clock = λ unasked. asked unasked;
-      same_door = λ silent failed. absurd silent;
+      same_door = λ silent failed. absurd (false≢true silent);
     })
 
 pub returns-in-Replay-clause-alone : goal.returns-in-Replay-clause-alone
@@ -238,7 +239,7 @@ returns-in-Replay-clause-alone g c =
     (world c.args.door.now c.args.spool.now c.args.clock.now) (world c.replay_store.new.door c.args.spool.now c.args.clock.now) (status_number c.replay_store.result.0) named)
     c.args.command Replay c.in-Replay.is
     (record {
-      same_keeper = λ reads. absurd reads;
+      same_keeper = λ reads. absurd (false≢true reads);
       same_spool = λ other. refl;
       same_clock = λ unasked. refl;
       same_door = λ silent failed. c.replay_store.ensures.untouched failed;
@@ -251,7 +252,7 @@ returns-in-Serve-clause-alone g c =
     (world c.args.door.now c.args.spool.now c.args.clock.now) (world c.serve_store.new.door c.args.spool.now c.serve_store.new.clock) (status_number c.serve_store.result.0) named)
     c.args.command (Serve c.in-Serve.port c.in-Serve.count) c.in-Serve.is
     (record {
-      same_keeper = λ reads. absurd reads;
+      same_keeper = λ reads. absurd (false≢true reads);
       same_spool = λ other. refl;
       same_clock = λ unasked. asked unasked;
       same_door = λ silent failed. (c.serve_store.ensures.untouched failed).0;
@@ -264,7 +265,7 @@ returns-in-Report-clause-alone g c =
     (world c.args.door.now c.args.spool.now c.args.clock.now) (world c.report_store.new.door c.args.spool.now c.report_store.new.clock) (status_number c.report_store.result.0) named)
     c.args.command (Report c.in-Report.kind) c.in-Report.is
     (record {
-      same_keeper = λ reads. absurd reads;
+      same_keeper = λ reads. absurd (false≢true reads);
       same_spool = λ other. refl;
       same_clock = λ unasked. asked unasked;
       same_door = λ silent failed. c.report_store.ensures.untouched failed;
@@ -277,7 +278,7 @@ returns-in-Export-clause-alone g c =
     (world c.args.door.now c.args.spool.now c.args.clock.now) (world c.export_store.new.door c.args.spool.now c.export_store.new.clock) (status_number c.export_store.result.0) named)
     c.args.command (Export c.in-Export.mac) c.in-Export.is
     (record {
-      same_keeper = λ reads. absurd reads;
+      same_keeper = λ reads. absurd (false≢true reads);
       same_spool = λ other. refl;
       same_clock = λ unasked. asked unasked;
       same_door = λ silent failed. c.export_store.ensures.untouched failed;
@@ -290,7 +291,7 @@ returns-in-Drill-clause-alone g c =
     (world c.args.door.now c.args.spool.now c.args.clock.now) (world c.run_drill.new.door c.args.spool.now c.args.clock.now) (status_number c.run_drill.result.0) named)
     c.args.command (Drill c.in-Drill.packets) c.in-Drill.is
     (record {
-      same_keeper = λ reads. absurd reads;
+      same_keeper = λ reads. absurd (false≢true reads);
       same_spool = λ other. refl;
       same_clock = λ unasked. refl;
       same_door = λ silent failed. c.run_drill.ensures.untouched failed;

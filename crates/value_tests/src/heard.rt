@@ -3,7 +3,6 @@ use dhcp_lldp::{HearFault, Heard, read_dhcp, read_lldp};
 use mud_base::{Addr, Mac};
 use mud_url::{UrlFault, mud_url};
 use std::alloc::{AllocError, Global};
-use std::process::Abort;
 use std::test::Fail;
 
 const THING: Mac = Mac([2, 0, 0, 0, 0, 1]);
@@ -28,72 +27,62 @@ fn frame(alloc: Global, tlvs: &[u8]) -> Result<Vec<u8>, AllocError> {
     Ok(octets)
 }
 
-/// What is asked for, as options, or told, as TLVs, and what is heard.
-type Row<'a> = (&'a [u8], Result<Heard, HearFault>);
-
-/// Asserts what is heard in a message of this kind, with this address and these options.
-fn hears_message(
-    rt: &impl Abort,
-    alloc: Global,
-    (op, yiaddr): (u8, [u8; 4]),
-    (options, heard): Row<'_>,
-) -> Result<(), Fail> {
-    let octets = message(alloc, op, &yiaddr, options)?;
-    assert_eq!(rt; read_dhcp(&octets), heard, "{octets:?}");
-    Ok(())
-}
-
 #[test]
 fn hears_messages(rt: HostRuntime) -> Result<(), Fail> {
     let bulb = mud_url(b"https://lighting.example.com/lightbulb2000")?;
-    let (asked, told) = ((1, [0; 4]), (2, [192, 0, 2, 10]));
-    let table: [((u8, [u8; 4]), Row<'_>); 4] = [
+    let table = [
         (
-            asked,
-            (
+            message(
+                rt.alloc(),
+                1,
+                &[0; 4],
                 b"\x35\x01\x03\xA1\x2Chttps://lighting.example.com/lightbulb2000 x\xFF",
-                Ok(Heard::Url(THING, bulb)),
-            ),
+            )?,
+            Ok(Heard::Url(THING, bulb)),
         ),
         (
-            told,
-            (
+            message(
+                rt.alloc(),
+                2,
+                &[192, 0, 2, 10],
                 b"\x35\x01\x05\x33\x04\x00\x01\x51\x80\xFF",
-                Ok(Heard::Lease(THING, Addr::V4(0xC000_020A), 86400)),
-            ),
+            )?,
+            Ok(Heard::Lease(THING, Addr::V4(0xC000_020A), 86400)),
         ),
-        (asked, (b"\x35\x01\x03\xFF", Ok(Heard::Nothing))),
         (
-            asked,
-            (b"\x35\x01\x03\xA1\xC8https", Err(HearFault::Cut(243))),
+            message(rt.alloc(), 1, &[0; 4], b"\x35\x01\x03\xFF")?,
+            Ok(Heard::Nothing),
+        ),
+        (
+            message(rt.alloc(), 1, &[0; 4], b"\x35\x01\x03\xA1\xC8https")?,
+            Err(HearFault::Cut(243)),
         ),
     ];
-    for (head, row) in table {
-        hears_message(&rt, rt.alloc(), head, row)?;
+    for (octets, heard) in &table {
+        assert_eq!(rt; read_dhcp(octets), *heard, "{octets:?}");
     }
-    Ok(())
-}
-
-/// Asserts what is heard in a frame with these TLVs.
-fn hears_frame(rt: &impl Abort, alloc: Global, (tlvs, heard): Row<'_>) -> Result<(), Fail> {
-    let octets = frame(alloc, tlvs)?;
-    assert_eq!(rt; read_lldp(&octets), heard, "{octets:?}");
     Ok(())
 }
 
 #[test]
 fn hears_frames(rt: HostRuntime) -> Result<(), Fail> {
     let bulb = mud_url(b"https://lighting.example.com/lightbulb2000")?;
-    let table: [Row<'_>; 3] = [
+    let table = [
         (
-            b"\xFE\x2E\0\0\x5E\x01https://lighting.example.com/lightbulb2000\0\0",
+            frame(
+                rt.alloc(),
+                b"\xFE\x2E\0\0\x5E\x01https://lighting.example.com/lightbulb2000\0\0",
+            )?,
             Ok(Heard::Url(THING, bulb)),
         ),
-        (b"\0\0", Ok(Heard::Nothing)),
-        (b"\xFE\x2E\0\0\x5E\x01https", Err(HearFault::Cut(31))),
+        (frame(rt.alloc(), b"\0\0")?, Ok(Heard::Nothing)),
+        (
+            frame(rt.alloc(), b"\xFE\x2E\0\0\x5E\x01https")?,
+            Err(HearFault::Cut(31)),
+        ),
     ];
-    for row in table {
-        hears_frame(&rt, rt.alloc(), row)?;
+    for (octets, heard) in &table {
+        assert_eq!(rt; read_lldp(octets), *heard, "{octets:?}");
     }
     Ok(())
 }

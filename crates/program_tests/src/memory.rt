@@ -81,6 +81,36 @@ fn pieces_of(rt: &impl Abort, alloc: Global, pieces: &[&[u8]]) -> Listed<Bytes> 
     list
 }
 
+/// A door to these connections, each a list of pieces.
+fn door_over(
+    rt: &impl Abort,
+    alloc: Global,
+    inputs: Listed<Listed<Bytes>>,
+    failing: Failing,
+) -> MemoryDoor {
+    assert!(rt; inputs.len() > 0);
+    let mut door = MemoryDoor::new(alloc, inputs, MOST_WRITTEN).expect(rt, "memory");
+    door.failing_bind = script(rt, alloc, failing, Call::Bind);
+    door.failing_next = script(rt, alloc, failing, Call::Next);
+    door.failing_read = script(rt, alloc, failing, Call::Read);
+    door.failing_write = script(rt, alloc, failing, Call::Write);
+    door
+}
+
+/// A door to one connection of these pieces.
+pub(crate) fn door_to(
+    rt: &impl Abort,
+    alloc: Global,
+    pieces: &[&[u8]],
+    failing: Failing,
+) -> MemoryDoor {
+    let mut inputs = Listed::new(alloc);
+    inputs
+        .push(pieces_of(rt, alloc, pieces))
+        .expect(rt, "memory");
+    door_over(rt, alloc, inputs, failing)
+}
+
 /// A door to these connections.
 fn door_of(
     rt: &impl Abort,
@@ -93,13 +123,7 @@ fn door_of(
         let pieces = pieces_of(rt, alloc, pieces);
         inputs.push(pieces).expect(rt, "memory");
     }
-    assert!(rt; inputs.len() > 0);
-    let mut door = MemoryDoor::new(alloc, inputs, MOST_WRITTEN).expect(rt, "memory");
-    door.failing_bind = script(rt, alloc, failing, Call::Bind);
-    door.failing_next = script(rt, alloc, failing, Call::Next);
-    door.failing_read = script(rt, alloc, failing, Call::Read);
-    door.failing_write = script(rt, alloc, failing, Call::Write);
-    door
+    door_over(rt, alloc, inputs, failing)
 }
 
 /// The file of this name.

@@ -1,9 +1,9 @@
 //! Two requests on one connection, cut at each place, and with each call of the door and of the keeper
 //! failing.
 use crate::items::{AT_5, AT_6, CLASS_ITEM, LOCALS_ITEM};
-use crate::memory::{Call, Kept, NONE, Run};
+use crate::memory::{Call, Kept, NONE, Run, door_to, outside_of};
 use crate::requests::{BOUND_BODY, BOUND_HEAD, CLASS, LOCALS, SET_BODY, SET_HEAD, UNKEPT};
-use crate::runs::check_with;
+use crate::runs::{check_in, check_with};
 use std::alloc::Global;
 use std::process::Abort;
 
@@ -41,7 +41,9 @@ static ANSWERED: Run<'static> = ALL;
 
 /// Replays the connection of these pieces over a store that keeps nothing: both requests are answered.
 fn check_cut(rt: &impl Abort, alloc: Global, number: usize, pieces: &[&[u8]]) {
-    check_with(rt, alloc, number, &[pieces], &[], &[], &ANSWERED);
+    let mut outside = outside_of(rt, alloc, &ONE, &[], &[], &ANSWERED);
+    outside.door = door_to(rt, alloc, pieces, NONE);
+    check_in(rt, alloc, number, &mut outside, &[], &ANSWERED);
 }
 
 #[test]

@@ -84,6 +84,20 @@ pub(crate) fn check_over(
     keeper
 }
 
+/// Does the run in this outside, over a store that keeps this.
+pub(crate) fn check_in(
+    rt: &impl Abort,
+    alloc: Global,
+    number: usize,
+    outside: &mut Outside,
+    kept: &[Kept<'_>],
+    run: &Run<'_>,
+) {
+    let keeper = keeper_of(rt, alloc, kept, run.failing);
+    let keeper: Box<dyn Keeper> = Box::new(alloc, keeper).expect(rt, "memory");
+    drop(check_over(rt, alloc, number, keeper, outside, run));
+}
+
 /// Does the run with these connections in place of its own, over a folder of these files and a store
 /// that keeps this.
 pub(crate) fn check_with(
@@ -96,9 +110,7 @@ pub(crate) fn check_with(
     run: &Run<'_>,
 ) {
     let mut outside = outside_of(rt, alloc, connections, files, kept, run);
-    let keeper = keeper_of(rt, alloc, kept, run.failing);
-    let keeper: Box<dyn Keeper> = Box::new(alloc, keeper).expect(rt, "memory");
-    drop(check_over(rt, alloc, number, keeper, &mut outside, run));
+    check_in(rt, alloc, number, &mut outside, kept, run);
 }
 
 /// Does the run over a store that keeps this.

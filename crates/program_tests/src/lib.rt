@@ -5,11 +5,19 @@
 #[cfg(test)]
 mod bulb;
 #[cfg(test)]
+mod captures;
+#[cfg(test)]
 mod connections;
+#[cfg(test)]
+mod exports;
 #[cfg(test)]
 mod folders;
 #[cfg(test)]
+mod items;
+#[cfg(test)]
 mod memory;
+#[cfg(test)]
+mod pcapngs;
 #[cfg(test)]
 mod replays;
 #[cfg(test)]
@@ -17,4 +25,8 @@ mod requests;
 #[cfg(test)]
 mod runs;
 #[cfg(test)]
+mod snoops;
+#[cfg(test)]
 mod stores;
+#[cfg(test)]
+mod tallies;

@@ -1,169 +1,175 @@
 //! Two requests on one connection, cut at each place, and with each call of the door and of the keeper
 //! failing.
-use crate::memory::{Call, Failing, Kept, NONE, clock_from, door_of, empty_keeper, spool_of};
-use crate::requests::{
-    AT_5, AT_6, BOUND_BODY, BOUND_HEAD, CLASS, CLASS_ITEM, LOCALS, LOCALS_ITEM, SET_BODY, SET_HEAD,
-    UNKEPT,
-};
-use crate::runs::{Ends, check_run, words_of};
-use mud_world::Keeper;
+use crate::items::{AT_5, AT_6, CLASS_ITEM, LOCALS_ITEM};
+use crate::memory::{Call, Kept, NONE, Run, door_to, outside_of};
+use crate::requests::{BOUND_BODY, BOUND_HEAD, CLASS, LOCALS, SET_BODY, SET_HEAD, UNKEPT};
+use crate::runs::{check_in, check_with};
 use std::alloc::Global;
 use std::process::Abort;
-use std::test::Fail;
 
 /// What is written and kept where both requests are carried out.
 const WRITTEN: &[&[&[u8]]] = &[&[SET_HEAD, SET_BODY, BOUND_HEAD, BOUND_BODY]];
 
 const KEPT: &[Kept<'static>] = &[CLASS_ITEM, LOCALS_ITEM, AT_6];
 
-/// Both are answered, and kept.
-const ALL: Ends<'static> = Ends {
+/// They are replayed, and nothing is written or kept.
+const NOTHING: Run<'static> = Run {
+    words: &["replay", ":memory:"],
+    connections: &[],
+    second: 1,
+    failing: NONE,
     status: 0,
-    written: WRITTEN,
-    kept: KEPT,
+    written: &[&[]],
+    changed: &[],
 };
 
-/// Replays the connection of these pieces over a keeper that keeps nothing.
-fn check_replay(
-    rt: &impl Abort,
-    alloc: Global,
-    words: &[String],
-    pieces: &[&[u8]],
-    failing: Failing,
-    ends: &Ends<'_>,
-) -> Result<(), Fail> {
-    let mut door = door_of(rt, alloc, &[pieces], failing)?;
-    let mut spool = spool_of(alloc, &[], failing)?;
-    let mut clock = clock_from(rt, alloc, 1)?;
-    let keeper: Box<dyn Keeper> = Box::new(alloc, empty_keeper(alloc, failing)?)?;
-    check_run(
-        rt, alloc, words, keeper, &mut door, &mut spool, &mut clock, ends,
-    )?;
-    Ok(())
+/// Both are answered, and kept.
+const ALL: Run<'static> = Run {
+    written: WRITTEN,
+    changed: KEPT,
+    ..NOTHING
+};
+
+/// Both requests on one connection, in one piece each.
+static ONE: [&[&[u8]]; 1] = [&[LOCALS, CLASS]];
+
+/// Both requests.
+static REQUESTS: [&[u8]; 2] = [LOCALS, CLASS];
+
+/// What comes of them, however they are cut.
+static ANSWERED: Run<'static> = ALL;
+
+/// Replays the connection of these pieces over a store that keeps nothing: both requests are answered.
+fn check_cut(rt: &impl Abort, alloc: Global, number: usize, pieces: &[&[u8]]) {
+    let mut outside = outside_of(rt, alloc, &ONE, &[], &[], &ANSWERED);
+    outside.door = door_to(rt, alloc, pieces, NONE);
+    check_in(rt, alloc, number, &mut outside, &[], &ANSWERED);
 }
 
 #[test]
-fn requests_are_cut_anywhere(rt: HostRuntime) -> Result<(), Fail> {
-    let alloc = rt.alloc();
-    let words = words_of(alloc, &["replay", ":memory:"])?;
-    for at in 0..=LOCALS.len() {
-        let (first, second) = LOCALS.split_at(at);
-        check_replay(&rt, alloc, &words, &[first, second, CLASS], NONE, &ALL)?;
+fn the_first_request_is_cut_anywhere(rt: HostRuntime) {
+    let [cut, whole] = REQUESTS;
+    for at in 0..=cut.len() {
+        let (first, second) = cut.split_at(at);
+        check_cut(&rt, rt.alloc(), at, &[first, second, whole]);
     }
-    for at in 0..=CLASS.len() {
-        let (first, second) = CLASS.split_at(at);
-        check_replay(&rt, alloc, &words, &[LOCALS, first, second], NONE, &ALL)?;
+}
+
+#[test]
+fn the_second_request_is_cut_anywhere(rt: HostRuntime) {
+    let [whole, cut] = REQUESTS;
+    for at in 0..=cut.len() {
+        let (first, second) = cut.split_at(at);
+        check_cut(&rt, rt.alloc(), at, &[whole, first, second]);
     }
-    Ok(())
 }
 
 /// What comes of it where one call fails. The request whose answer isn't written stays carried out,
 /// and none behind it is; where a read fails, what was read before is answered. Of a change that
 /// couldn't be kept nothing stays, and the next one is made again.
-const FAILURES: [(Failing, Ends<'static>); 12] = [
-    (
-        (Call::Open, 1),
-        Ends {
-            status: 7,
-            written: &[&[]],
-            kept: &[],
-        },
-    ),
-    (
-        (Call::Apply, 1),
-        Ends {
-            status: 0,
-            written: &[&[UNKEPT, BOUND_HEAD, BOUND_BODY]],
-            kept: &[CLASS_ITEM, AT_6],
-        },
-    ),
-    (
-        (Call::Apply, 2),
-        Ends {
-            status: 0,
-            written: &[&[SET_HEAD, SET_BODY, UNKEPT]],
-            kept: &[LOCALS_ITEM, AT_5],
-        },
-    ),
-    ((Call::Apply, 3), ALL),
-    (
-        (Call::Read, 1),
-        Ends {
-            status: 4,
-            written: &[&[]],
-            kept: &[],
-        },
-    ),
-    (
-        (Call::Read, 2),
-        Ends {
-            status: 4,
-            written: &[&[SET_HEAD, SET_BODY]],
-            kept: &[LOCALS_ITEM, AT_5],
-        },
-    ),
-    (
-        (Call::Read, 3),
-        Ends {
-            status: 4,
-            written: WRITTEN,
-            kept: KEPT,
-        },
-    ),
-    ((Call::Read, 4), ALL),
-    (
-        (Call::Write, 1),
-        Ends {
-            status: 4,
-            written: &[&[]],
-            kept: &[LOCALS_ITEM, AT_5],
-        },
-    ),
-    (
-        (Call::Write, 2),
-        Ends {
-            status: 4,
-            written: &[&[SET_HEAD]],
-            kept: &[LOCALS_ITEM, AT_5],
-        },
-    ),
-    (
-        (Call::Write, 3),
-        Ends {
-            status: 4,
-            written: &[&[SET_HEAD, SET_BODY]],
-            kept: KEPT,
-        },
-    ),
-    (
-        (Call::Write, 4),
-        Ends {
-            status: 4,
-            written: &[&[SET_HEAD, SET_BODY, BOUND_HEAD]],
-            kept: KEPT,
-        },
-    ),
+static FAILURES: [Run<'static>; 13] = [
+    Run {
+        failing: (Call::Open, 1),
+        status: 7,
+        written: &[&[]],
+        changed: &[],
+        ..NOTHING
+    },
+    Run {
+        failing: (Call::Apply, 1),
+        status: 0,
+        written: &[&[UNKEPT, BOUND_HEAD, BOUND_BODY]],
+        changed: &[CLASS_ITEM, AT_6],
+        ..NOTHING
+    },
+    Run {
+        failing: (Call::Apply, 2),
+        status: 0,
+        written: &[&[SET_HEAD, SET_BODY, UNKEPT]],
+        changed: &[LOCALS_ITEM, AT_5],
+        ..NOTHING
+    },
+    Run {
+        failing: (Call::Apply, 3),
+        ..ALL
+    },
+    Run {
+        failing: (Call::Read, 1),
+        status: 4,
+        written: &[&[]],
+        changed: &[],
+        ..NOTHING
+    },
+    Run {
+        failing: (Call::Read, 2),
+        status: 4,
+        written: &[&[SET_HEAD, SET_BODY]],
+        changed: &[LOCALS_ITEM, AT_5],
+        ..NOTHING
+    },
+    Run {
+        failing: (Call::Read, 3),
+        status: 4,
+        written: WRITTEN,
+        changed: KEPT,
+        ..NOTHING
+    },
+    Run {
+        failing: (Call::Read, 4),
+        ..ALL
+    },
+    Run {
+        failing: (Call::Write, 1),
+        status: 4,
+        written: &[&[]],
+        changed: &[LOCALS_ITEM, AT_5],
+        ..NOTHING
+    },
+    Run {
+        failing: (Call::Write, 2),
+        status: 4,
+        written: &[&[SET_HEAD]],
+        changed: &[LOCALS_ITEM, AT_5],
+        ..NOTHING
+    },
+    Run {
+        failing: (Call::Write, 3),
+        status: 4,
+        written: &[&[SET_HEAD, SET_BODY]],
+        changed: KEPT,
+        ..NOTHING
+    },
+    Run {
+        failing: (Call::Write, 4),
+        status: 4,
+        written: &[&[SET_HEAD, SET_BODY, BOUND_HEAD]],
+        changed: KEPT,
+        ..NOTHING
+    },
+    Run {
+        failing: (Call::Write, 5),
+        ..ALL
+    },
 ];
 
 #[test]
-fn each_call_fails(rt: HostRuntime) -> Result<(), Fail> {
-    let alloc = rt.alloc();
-    let words = words_of(alloc, &["replay", ":memory:"])?;
-    for (failing, ends) in FAILURES {
-        check_replay(&rt, alloc, &words, &[LOCALS, CLASS], failing, &ends)?;
+fn each_call_fails(rt: HostRuntime) {
+    for (number, run) in FAILURES.iter().enumerate() {
+        check_with(&rt, rt.alloc(), number, &ONE, &[], &[], run);
     }
-    Ok(())
 }
 
+/// The second request once more on the connection.
+static REPEATED: [&[&[u8]]; 1] = [&[LOCALS, CLASS, CLASS]];
+
+/// It is answered with 503, and then with its answer.
+static ANEW: Run<'static> = Run {
+    failing: (Call::Apply, 2),
+    written: &[&[SET_HEAD, SET_BODY, UNKEPT, BOUND_HEAD, BOUND_BODY]],
+    ..ALL
+};
+
 #[test]
-fn a_change_is_asked_for_again(rt: HostRuntime) -> Result<(), Fail> {
-    let alloc = rt.alloc();
-    let words = words_of(alloc, &["replay", ":memory:"])?;
-    let ends = Ends {
-        status: 0,
-        written: &[&[SET_HEAD, SET_BODY, UNKEPT, BOUND_HEAD, BOUND_BODY]],
-        kept: KEPT,
-    };
-    let pieces = [LOCALS, CLASS, CLASS];
-    check_replay(&rt, alloc, &words, &pieces, (Call::Apply, 2), &ends)
+fn a_change_is_asked_for_again(rt: HostRuntime) {
+    check_with(&rt, rt.alloc(), 0, &REPEATED, &[], &[], &ANEW);
 }

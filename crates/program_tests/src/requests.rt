@@ -1,5 +1,4 @@
-//! Two requests, their answers, and what they keep.
-use crate::memory::Kept;
+//! Two requests and their answers.
 
 /// A change of the local networks, whose own moment is 5.
 pub(crate) const LOCALS: &[u8] =
@@ -24,20 +23,3 @@ pub(crate) const BOUND_BODY: &[u8] = b"{\"result\":\"bound\"}";
 /// The answer to a change that couldn't be kept.
 pub(crate) const UNKEPT: &[u8] =
     b"HTTP/1.1 503 Service Unavailable\r\nContent-Type: application/json\r\nContent-Length: 17\r\n\r\n{\"rule\":\"keeper\"}";
-
-/// The items of the class, of the local networks, and of the moment of the last change.
-pub(crate) const CLASS_ITEM: Kept<'static> = (
-    3,
-    b"\x01urn:ietf:params:mud:dns",
-    b"\x01\x00\x01\x04\xc0\x00\x02\x35",
-);
-
-pub(crate) const LOCALS_ITEM: Kept<'static> = (4, b"", b"\x01\x00\x01\x04\xc0\x00\x02\x00\x18");
-
-pub(crate) const AT_5: Kept<'static> = (6, b"", b"\x01\x00\x00\x00\x00\x00\x00\x00\x05");
-
-pub(crate) const AT_6: Kept<'static> = (6, b"", b"\x01\x00\x00\x00\x00\x00\x00\x00\x06");
-
-pub(crate) const AT_25: Kept<'static> = (6, b"", b"\x01\x00\x00\x00\x00\x00\x00\x00\x19");
-
-pub(crate) const AT_26: Kept<'static> = (6, b"", b"\x01\x00\x00\x00\x00\x00\x00\x00\x1a");

@@ -1,31 +1,9 @@
-//! A run of the program, and what comes of it.
-use crate::memory::Kept;
+//! Runs of the program, and what comes of them.
+use crate::memory::{File, Kept, Outside, Run, keeper_of, outside_of};
 use mud_cli::mud_main;
-use mud_world::{Item, Keeper, MemoryClock, MemoryDoor, MemorySpool};
+use mud_world::{Item, Keeper, MemoryDoor};
 use std::alloc::Global;
 use std::process::Abort;
-use std::test::Fail;
-
-/// The kind of the item of a usage file.
-const FILE: u8 = 2;
-
-/// What comes of a run: its status, what was written to each connection, in parts, and the items that
-/// are kept, of usage files only the first octets of the bodies.
-#[derive(Clone, Copy, Debug)]
-pub struct Ends<'a> {
-    pub status: u8,
-    pub written: &'a [&'a [&'a [u8]]],
-    pub kept: &'a [Kept<'a>],
-}
-
-/// The words, as the program is given them.
-pub(crate) fn words_of(alloc: Global, words: &[&str]) -> Result<Vec<String>, Fail> {
-    let mut list = Vec::new(alloc);
-    for word in words {
-        list.push(String::from_str(alloc, word)?)?;
-    }
-    Ok(list)
-}
 
 /// Whether the octets are these parts, one after the other.
 fn are_joined(octets: &[u8], parts: &[&[u8]]) -> bool {
@@ -40,54 +18,115 @@ fn are_joined(octets: &[u8], parts: &[&[u8]]) -> bool {
 }
 
 /// These parts were written to each connection.
-fn check_written(rt: &impl Abort, door: &MemoryDoor, written: &[&[&[u8]]]) {
-    assert_eq!(rt; door.connection_count(), written.len());
+fn check_written(rt: &impl Abort, number: usize, door: &MemoryDoor, written: &[&[&[u8]]]) {
+    assert_eq!(rt; door.connection_count(), written.len(), "run {number}");
     for (i, parts) in written.iter().enumerate() {
         assert!(rt; i < door.connection_count());
-        assert!(rt; are_joined(door.written(i), parts), "connection {i}");
+        assert!(rt;
+            are_joined(door.written(i), parts),
+            "run {number}, connection {i}"
+        );
     }
 }
 
-/// Whether it is the item.
-fn is_item(item: &Item, kept: &Kept<'_>) -> bool {
-    let (kind, key, body) = *kept;
-    let same = if kind == FILE {
-        item.body.octets().starts_with(body)
-    } else {
-        item.body.octets() == body
-    };
-    same && item.kind == kind && item.key.octets() == key
+/// Whether they are one item.
+fn is_item(item: &Item, other: &Item) -> bool {
+    item.kind == other.kind
+        && item.key.octets() == other.key.octets()
+        && item.body.octets() == other.body.octets()
 }
 
 /// These items are kept.
 fn check_kept(
     rt: &impl Abort,
     alloc: Global,
+    number: usize,
     keeper: &mut Box<dyn Keeper>,
-    kept: &[Kept<'_>],
-) -> Result<(), Fail> {
-    let items = keeper.open(alloc)?;
-    assert_eq!(rt; items.len(), kept.len());
+    kept: &[Item],
+) {
+    let items = keeper.open(alloc).expect(rt, "the items");
+    assert_eq!(rt; items.len(), kept.len(), "run {number}");
     for (i, (item, one)) in items.as_slice().iter().zip(kept).enumerate() {
-        assert!(rt; is_item(item, one), "item {i}");
+        assert!(rt; is_item(item, one), "run {number}, item {i}");
     }
-    Ok(())
 }
 
-/// Runs the program so, and this comes of it. The box is handed back.
-pub(crate) fn check_run(
+/// Runs the program over this box, and answers its status and the box.
+fn run_over(
+    alloc: Global,
+    keeper: Box<dyn Keeper>,
+    outside: &mut Outside,
+) -> (u8, Box<dyn Keeper>) {
+    mud_main(
+        alloc,
+        &outside.words,
+        keeper,
+        &mut outside.door,
+        &mut outside.spool,
+        &mut outside.clock,
+    )
+}
+
+/// Runs the program over this box, and this comes of it. The number is that of the run in its table.
+/// The box is handed back.
+pub(crate) fn check_over(
     rt: &impl Abort,
     alloc: Global,
-    words: &[String],
+    number: usize,
     keeper: Box<dyn Keeper>,
-    door: &mut MemoryDoor,
-    spool: &mut MemorySpool,
-    clock: &mut MemoryClock,
-    ends: &Ends<'_>,
-) -> Result<Box<dyn Keeper>, Fail> {
-    let (status, mut keeper) = mud_main(alloc, words, keeper, door, spool, clock);
-    assert_eq!(rt; status, ends.status);
-    check_written(rt, door, ends.written);
-    check_kept(rt, alloc, &mut keeper, ends.kept)?;
-    Ok(keeper)
+    outside: &mut Outside,
+    run: &Run<'_>,
+) -> Box<dyn Keeper> {
+    let (status, mut keeper) = run_over(alloc, keeper, outside);
+    assert_eq!(rt; status, run.status, "run {number}");
+    check_written(rt, number, &outside.door, run.written);
+    check_kept(rt, alloc, number, &mut keeper, outside.kept.rows());
+    keeper
+}
+
+/// Does the run in this outside, over a store that keeps this.
+pub(crate) fn check_in(
+    rt: &impl Abort,
+    alloc: Global,
+    number: usize,
+    outside: &mut Outside,
+    kept: &[Kept<'_>],
+    run: &Run<'_>,
+) {
+    let keeper = keeper_of(rt, alloc, kept, run.failing);
+    let keeper: Box<dyn Keeper> = Box::new(alloc, keeper).expect(rt, "memory");
+    drop(check_over(rt, alloc, number, keeper, outside, run));
+}
+
+/// Does the run with these connections in place of its own, over a folder of these files and a store
+/// that keeps this.
+pub(crate) fn check_with(
+    rt: &impl Abort,
+    alloc: Global,
+    number: usize,
+    connections: &[&[&[u8]]],
+    files: &[File<'_>],
+    kept: &[Kept<'_>],
+    run: &Run<'_>,
+) {
+    let mut outside = outside_of(rt, alloc, connections, files, kept, run);
+    check_in(rt, alloc, number, &mut outside, kept, run);
+}
+
+/// Does the run over a store that keeps this.
+pub(crate) fn check(
+    rt: &impl Abort,
+    alloc: Global,
+    number: usize,
+    kept: &[Kept<'_>],
+    run: &Run<'_>,
+) {
+    check_with(rt, alloc, number, run.connections, &[], kept, run);
+}
+
+/// Does the runs, each over a store that keeps this.
+pub(crate) fn check_runs(rt: &impl Abort, alloc: Global, kept: &[Kept<'_>], runs: &[Run<'_>]) {
+    for (number, run) in runs.iter().enumerate() {
+        check(rt, alloc, number, kept, run);
+    }
 }

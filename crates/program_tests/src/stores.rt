@@ -1,10 +1,6 @@
 //! Runs over a store with one item, each of which ends with the status of its cause.
-use crate::memory::{Call, Failing, Kept, NONE, clock_from, door_of, keeper_of, spool_of};
-use crate::runs::{Ends, check_run, words_of};
-use mud_world::Keeper;
-use std::alloc::Global;
-use std::process::Abort;
-use std::test::Fail;
+use crate::memory::{Call, Kept, NONE, Run};
+use crate::runs::check;
 
 /// A hardware address, as the key of a Thing.
 const MAC: &[u8] = b"\x02\x00\x00\x00\x00\x01";
@@ -14,23 +10,23 @@ const MAC: &[u8] = b"\x02\x00\x00\x00\x00\x01";
 const FIRST: Kept<'static> = (
     1,
     MAC,
-    b"\x01\x00\x00\x00\x2ahttps://lighting.example.com/lightbulb2000\x00\x00\x00",
+    &[b"\x01\x00\x00\x00\x2ahttps://lighting.example.com/lightbulb2000\x00\x00\x00"],
 );
 
 const SECOND: Kept<'static> = (
     1,
     MAC,
-    b"\x02\x00\x00\x00\x2ahttps://lighting.example.com/lightbulb2000\x00\x00\x00\x00",
+    &[b"\x02\x00\x00\x00\x2ahttps://lighting.example.com/lightbulb2000\x00\x00\x00\x00"],
 );
 
 /// What is no record: a hold that is neither 0 nor 1, and an empty body.
 const NO_HOLD: Kept<'static> = (
     1,
     MAC,
-    b"\x02\x00\x00\x00\x2ahttps://lighting.example.com/lightbulb2000\x00\x00\x00\x02",
+    &[b"\x02\x00\x00\x00\x2ahttps://lighting.example.com/lightbulb2000\x00\x00\x00\x02"],
 );
 
-const NO_BODY: Kept<'static> = (1, MAC, b"");
+const NO_BODY: Kept<'static> = (1, MAC, &[]);
 
 /// A capture of a packet at the second 1059 that the Thing sends: IPv6 (RFC 8200) with nine extension
 /// headers, one of hop-by-hop options and eight of destination options.
@@ -64,174 +60,187 @@ const NESTED: &[u8] = b"[[[[[[[[[[[[[[[[[[[[[[[[[[[[[[[[[[[[[[[[[[[[[[[[[[\
 /// The line of an item that is no record.
 const BAD_ITEM: &[u8] = b"fault item 1 020000000001\n";
 
-/// A run: its words, its input, the item of its store, the call that fails, the status, what is
-/// written, and what is kept.
-struct Run<'a> {
-    words: &'a [&'a str],
-    input: &'a [u8],
-    item: Kept<'a>,
-    failing: Failing,
-    status: u8,
-    written: &'a [u8],
-    kept: Kept<'a>,
-}
-
-const RUNS: [Run<'static>; 14] = [
+static RUNS: [(&[Kept<'static>], Run<'static>); 14] = [
     // A Thing of the first version is put anew in the second as the store is opened.
-    Run {
-        words: &["report", ":memory:", "things"],
-        input: b"",
-        item: FIRST,
-        failing: NONE,
-        status: 0,
-        written: b"thing 02:00:00:00:00:01 https://lighting.example.com/lightbulb2000 - -\n",
-        kept: SECOND,
-    },
-    Run {
-        words: &["report", ":memory:", "things"],
-        input: b"",
-        item: FIRST,
-        failing: (Call::Apply, 1),
-        status: 7,
-        written: b"",
-        kept: FIRST,
-    },
-    Run {
-        words: &["report", ":memory:", "things"],
-        input: b"",
-        item: NO_HOLD,
-        failing: NONE,
-        status: 6,
-        written: BAD_ITEM,
-        kept: NO_HOLD,
-    },
-    Run {
-        words: &["report", ":memory:", "things"],
-        input: b"",
-        item: NO_BODY,
-        failing: NONE,
-        status: 6,
-        written: BAD_ITEM,
-        kept: NO_BODY,
-    },
+    (
+        &[FIRST],
+        Run {
+            words: &["report", ":memory:", "things"],
+            connections: &[&[]],
+            second: 2000,
+            failing: NONE,
+            status: 0,
+            written: &[&[
+                b"thing 02:00:00:00:00:01 https://lighting.example.com/lightbulb2000 - -\n",
+            ]],
+            changed: &[SECOND],
+        },
+    ),
+    (
+        &[FIRST],
+        Run {
+            words: &["report", ":memory:", "things"],
+            connections: &[&[]],
+            second: 2000,
+            failing: (Call::Apply, 1),
+            status: 7,
+            written: &[&[]],
+            changed: &[],
+        },
+    ),
+    (
+        &[NO_HOLD],
+        Run {
+            words: &["report", ":memory:", "things"],
+            connections: &[&[]],
+            second: 2000,
+            failing: NONE,
+            status: 6,
+            written: &[&[BAD_ITEM]],
+            changed: &[],
+        },
+    ),
+    (
+        &[NO_BODY],
+        Run {
+            words: &["report", ":memory:", "things"],
+            connections: &[&[]],
+            second: 2000,
+            failing: NONE,
+            status: 6,
+            written: &[&[BAD_ITEM]],
+            changed: &[],
+        },
+    ),
     // Whatever opens a store says so where the keeper fails.
-    Run {
-        words: &["report", ":memory:", "due"],
-        input: b"",
-        item: SECOND,
-        failing: (Call::Open, 1),
-        status: 7,
-        written: b"",
-        kept: SECOND,
-    },
-    Run {
-        words: &["judge", ":memory:"],
-        input: NINE_HEADERS,
-        item: SECOND,
-        failing: (Call::Open, 1),
-        status: 7,
-        written: b"",
-        kept: SECOND,
-    },
-    Run {
-        words: &["replay", ":memory:"],
-        input: b"",
-        item: SECOND,
-        failing: (Call::Open, 1),
-        status: 7,
-        written: b"",
-        kept: SECOND,
-    },
-    Run {
-        words: &["drill", "1"],
-        input: b"",
-        item: SECOND,
-        failing: (Call::Open, 1),
-        status: 7,
-        written: b"",
-        kept: SECOND,
-    },
+    (
+        &[SECOND],
+        Run {
+            words: &["report", ":memory:", "due"],
+            connections: &[&[]],
+            second: 2000,
+            failing: (Call::Open, 1),
+            status: 7,
+            written: &[&[]],
+            changed: &[],
+        },
+    ),
+    (
+        &[SECOND],
+        Run {
+            words: &["judge", ":memory:"],
+            connections: &[&[NINE_HEADERS]],
+            second: 2000,
+            failing: (Call::Open, 1),
+            status: 7,
+            written: &[&[]],
+            changed: &[],
+        },
+    ),
+    (
+        &[SECOND],
+        Run {
+            words: &["replay", ":memory:"],
+            connections: &[&[]],
+            second: 2000,
+            failing: (Call::Open, 1),
+            status: 7,
+            written: &[&[]],
+            changed: &[],
+        },
+    ),
+    (
+        &[SECOND],
+        Run {
+            words: &["drill", "1"],
+            connections: &[&[]],
+            second: 2000,
+            failing: (Call::Open, 1),
+            status: 7,
+            written: &[&[]],
+            changed: &[],
+        },
+    ),
     // What has something isn't drilled.
-    Run {
-        words: &["drill", "1"],
-        input: b"",
-        item: SECOND,
-        failing: NONE,
-        status: 3,
-        written: b"fault NotEmpty\n",
-        kept: SECOND,
-    },
+    (
+        &[SECOND],
+        Run {
+            words: &["drill", "1"],
+            connections: &[&[]],
+            second: 2000,
+            failing: NONE,
+            status: 3,
+            written: &[&[b"fault NotEmpty\n"]],
+            changed: &[],
+        },
+    ),
     // Input that is hostile.
-    Run {
-        words: &["judge", ":memory:"],
-        input: NINE_HEADERS,
-        item: SECOND,
-        failing: NONE,
-        status: 0,
-        written: b"1 1059 drop unreadable extension\n",
-        kept: SECOND,
-    },
-    Run {
-        words: &["check"],
-        input: NESTED,
-        item: FIRST,
-        failing: NONE,
-        status: 3,
-        written: b"fault Json\n",
-        kept: FIRST,
-    },
+    (
+        &[SECOND],
+        Run {
+            words: &["judge", ":memory:"],
+            connections: &[&[NINE_HEADERS]],
+            second: 2000,
+            failing: NONE,
+            status: 0,
+            written: &[&[b"1 1059 drop unreadable extension\n"]],
+            changed: &[],
+        },
+    ),
+    (
+        &[FIRST],
+        Run {
+            words: &["check"],
+            connections: &[&[NESTED]],
+            second: 2000,
+            failing: NONE,
+            status: 3,
+            written: &[&[b"fault Json\n"]],
+            changed: &[],
+        },
+    ),
     // Without a store the keeper isn't called.
-    Run {
-        words: &["check"],
-        input: NESTED,
-        item: FIRST,
-        failing: (Call::Read, 1),
-        status: 4,
-        written: b"",
-        kept: FIRST,
-    },
-    Run {
-        words: &["hear", "dhcp"],
-        input: b"",
-        item: FIRST,
-        failing: NONE,
-        status: 3,
-        written: b"fault Cut 0\n",
-        kept: FIRST,
-    },
-    Run {
-        words: &["serve", ":memory:", "0", "1"],
-        input: b"",
-        item: FIRST,
-        failing: NONE,
-        status: 2,
-        written: b"",
-        kept: FIRST,
-    },
+    (
+        &[FIRST],
+        Run {
+            words: &["check"],
+            connections: &[&[NESTED]],
+            second: 2000,
+            failing: (Call::Read, 1),
+            status: 4,
+            written: &[&[]],
+            changed: &[],
+        },
+    ),
+    (
+        &[FIRST],
+        Run {
+            words: &["hear", "dhcp"],
+            connections: &[&[]],
+            second: 2000,
+            failing: NONE,
+            status: 3,
+            written: &[&[b"fault Cut 0\n"]],
+            changed: &[],
+        },
+    ),
+    (
+        &[FIRST],
+        Run {
+            words: &["serve", ":memory:", "0", "1"],
+            connections: &[&[]],
+            second: 2000,
+            failing: NONE,
+            status: 2,
+            written: &[&[]],
+            changed: &[],
+        },
+    ),
 ];
 
-/// What comes of the run.
-fn check(rt: &impl Abort, alloc: Global, run: &Run<'_>) -> Result<(), Fail> {
-    let words = words_of(alloc, run.words)?;
-    let mut door = door_of(rt, alloc, &[&[run.input]], run.failing)?;
-    let mut spool = spool_of(alloc, &[], run.failing)?;
-    let mut clock = clock_from(rt, alloc, 2000)?;
-    let keeper: Box<dyn Keeper> = Box::new(alloc, keeper_of(alloc, run.item, run.failing)?)?;
-    let ends = Ends {
-        status: run.status,
-        written: &[&[run.written]],
-        kept: &[run.kept],
-    };
-    check_run(
-        rt, alloc, &words, keeper, &mut door, &mut spool, &mut clock, &ends,
-    )?;
-    Ok(())
-}
-
 #[test]
-fn each_status_has_its_cause(rt: HostRuntime) -> Result<(), Fail> {
-    for run in RUNS.iter() {
-        check(&rt, rt.alloc(), run)?;
+fn each_status_has_its_cause(rt: HostRuntime) {
+    for (number, (kept, run)) in RUNS.iter().enumerate() {
+        check(&rt, rt.alloc(), number, kept, run);
     }
-    Ok(())
 }

@@ -1,10 +1,9 @@
 -- What the groups hold, one after the other.
-use Rattle.std.proofs.Common.{◌≡◌, ℕ, suc, ◌≤◌, Bool, true, false, cond, List, [], ◌∷◌, ◌++◌, length, Option, Some, refl, sym, ap, subst, ◌∙◌, arith, append-nil}
+use Rattle.std.proofs.Common.{◌≡◌, ℕ, suc, ◌≤◌, Bool, true, false, cond, List, [], ◌∷◌, ◌++◌, length, Option, Some, refl, sym, ap, subst, ◌∙◌, append-nil}
 use Rattle.std.specs.Prelude.{filter, nat_lt}
 use Rattle.std.specs.List.{AllByRecursion, slice_get}
 use Rattle.std.specs.Map.{values_of}
 use Rattle.std.specs.declared.cmp.Ordering.TheVariants.{Less}
-use Rattle.std.proofs.lemmas.Bool.{false≢true, lt-ltb}
 use Rattle.std.proofs.lemmas.List.Elements.{filter-append}
 use Rattle.mud_base.specs.declared.addr.Addr.{Addr}
 use Rattle.mud_base.specs.declared.packet.Direction.{Direction}
@@ -13,9 +12,10 @@ use Rattle.sorted_rows.specs.Addresses.{addr_place}
 use Rattle.sorted_rows.proofs.AddressLaws.{addr_place_exact, same_addr-place}
 use Rattle.sorted_rows.proofs.PlacedLaws.{same_place-cmp, same_place_exact, same_place_itself, row_at-set_row, row_at_row, ascend-set_row}
 use Rattle.sorted_rows.proofs.RowLaws.{all-set_row, ascend-filter}
-use Rattle.sorted_rows.proofs.IndexLaws.{ascend-append}
+use Rattle.sorted_rows.proofs.IndexLaws.{above-append, ascend-append}
 use Rattle.sorted_rows.proofs.ChangeLaws.{differ_turned}
 use Rattle.sorted_rows.proofs.Lists.{filter_few}
+use Rattle.row_edits.proofs.RunLaws.{empty_out}
 use Rattle.acl_rows.specs.declared.row.Owner.{Owner}
 use Rattle.acl_rows.specs.declared.row.Row.{Row}
 use Rattle.acl_rows.specs.Places.{row_place}
@@ -110,15 +110,11 @@ module _ (owner : Owner) (side : Direction) where
   above_own a r g [] is own less = tt
   above_own a r g (x ∷ xs) is own less = (row_less owner side a g.0 r x is own.0 less, above_own a r g xs is own.1 less)
 
-  above-append : (p : List ℕ) (xs ys : List Row) → PlacesAbove row_place p xs → PlacesAbove row_place p ys → PlacesAbove row_place p (xs ++ ys)
-  above-append p [] ys left right = right
-  above-append p (x ∷ xs) ys left right = (left.0, above-append p xs ys left.1 right)
-
   -- a row is before those of later groups
   pub above_grouped : (a : Addr) (r : Row) (gs : Groups) → IsRowAt owner side a r → PlacesAbove group_place (addr_place a) gs → AllByRecursion (IsGroup owner side) gs → PlacesAbove row_place (row_place r) (grouped gs)
   unfolding grouped
   above_grouped a r [] is above own = tt
-  above_grouped a r (g ∷ gs) is above own = above-append (row_place r) g.1.rows (grouped gs) (above_own a r g g.1.rows is own.0.own above.0) (above_grouped a r gs is above.1 own.1)
+  above_grouped a r (g ∷ gs) is above own = above-append row_place (row_place r) g.1.rows (grouped gs) (above_own a r g g.1.rows is own.0.own above.0) (above_grouped a r gs is above.1 own.1)
 
   before_grouped : (a : Addr) (xs : List Row) (gs : Groups) → AllByRecursion (IsRowAt owner side a) xs → PlacesAbove group_place (addr_place a) gs → AllByRecursion (IsGroup owner side) gs → ComeBefore row_place xs (grouped gs)
   before_grouped a [] gs own above owns = tt
@@ -192,13 +188,6 @@ module _ (owner : Owner) (side : Direction) where
   }
 
   -- ---- Without the empty groups
-
-  empty_out : (xs rest : List Row) → nat_lt 0 (length xs) ≡ false → rest ≡ xs ++ rest
-  empty_out [] rest e = refl
-  empty_out (x ∷ xs) rest e = absurd (not_empty (length xs) e)
-    where
-      not_empty : (n : ℕ) → nat_lt 0 (suc n) ≡ false → ⊥
-      not_empty n h = false≢true (sym h ∙ lt-ltb 0 (suc n) (omega arith))
 
   clear_by : (g : Group) (gs kept : Groups) → grouped kept ≡ grouped gs → (b : Bool) → has_rows g ≡ b → grouped (cond b (g ∷ kept) kept) ≡ g.1.rows ++ grouped gs
   unfolding grouped

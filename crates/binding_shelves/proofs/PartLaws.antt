@@ -3,15 +3,15 @@ use Rattle.std.proofs.Common.{◌≡◌, ℕ, zero, suc, ◌<◌, ◌≤◌, Boo
 use Rattle.std.specs.Prelude.{filter, nat_lt}
 use Rattle.std.specs.List.{AllByRecursion, insert, slice_get}
 use Rattle.std.specs.declared.cmp.Ordering.TheVariants.{Less}
-use Rattle.std.proofs.lemmas.Bool.{false≢true, lt-ltb}
 use Rattle.std.proofs.lemmas.Option.{slice_get_read}
 use Rattle.std.proofs.lemmas.List.Elements.{filter-append}
 use Rattle.sorted_rows.specs.Placed.{place_cmp, same_place, row_at, is_under, rows_under, index_in, set_row, PlacesAbove, PlacesAscend, ComeBefore, RowsAndRoom}
 use Rattle.sorted_rows.specs.Addresses.{addr_place}
 use Rattle.sorted_rows.proofs.PlacedLaws.{same_place-cmp, same_place_exact, same_place_itself, row_at_found, row_at_missed, place_found, row_at-set_row, set_row_found, set_row_missed, ascend-set_row, found_within, missed_within, index_in_row}
 use Rattle.sorted_rows.proofs.RowLaws.{all-set_row}
-use Rattle.sorted_rows.proofs.IndexLaws.{ascend-append}
+use Rattle.sorted_rows.proofs.IndexLaws.{above-append, ascend-append}
 use Rattle.sorted_rows.proofs.ChangeLaws.{differ_turned}
+use Rattle.row_edits.proofs.RunLaws.{empty_out}
 use Rattle.mud_base.specs.declared.addr.Addr.{Addr}
 use Rattle.acl_model.specs.declared.binding.MemberKey.{MemberKey}
 use Rattle.acl_model.specs.declared.binding.Binding.{Binding}
@@ -107,14 +107,10 @@ above_own : (b : Binding) (p : List ℕ) (xs : List Binding) → AllByRecursion 
 above_own b p [] own less = tt
 above_own b p (x ∷ xs) own less = (key_less b x (ap (place_cmp (key_place b.key)) own.0 ∙ less), above_own b p xs own.1 less)
 
-above-append : (p : List ℕ) (xs ys : List Binding) → PlacesAbove binding_place p xs → PlacesAbove binding_place p ys → PlacesAbove binding_place p (xs ++ ys)
-above-append p [] ys left right = right
-above-append p (x ∷ xs) ys left right = (left.0, above-append p xs ys left.1 right)
-
 above_joined : (b : Binding) (ss : List Shelf) → PlacesAbove shelf_place (key_place b.key) ss → AllByRecursion IsOwn ss → PlacesAbove binding_place (binding_place b) (joined ss)
 unfolding joined
 above_joined b [] above own = tt
-above_joined b (s ∷ ss) above own = above-append (binding_place b) s.bindings.rows (joined ss) (above_own b (shelf_place s) s.bindings.rows own.0.keys above.0) (above_joined b ss above.1 own.1)
+above_joined b (s ∷ ss) above own = above-append binding_place (binding_place b) s.bindings.rows (joined ss) (above_own b (shelf_place s) s.bindings.rows own.0.keys above.0) (above_joined b ss above.1 own.1)
 
 before_joined : (p : List ℕ) (xs : List Binding) (ss : List Shelf) → AllByRecursion (λ x. key_place x.key ≡ p) xs → PlacesAbove shelf_place p ss → AllByRecursion IsOwn ss → ComeBefore binding_place xs (joined ss)
 before_joined p [] ss own above owns = tt
@@ -275,13 +271,6 @@ set_part place ss i x s shelved found is key =
 
 abbrev pub has_rows : Shelf → Bool
 has_rows s = nat_lt 0 (length s.bindings.rows)
-
-empty_out : (xs rest : List Binding) → nat_lt 0 (length xs) ≡ false → rest ≡ xs ++ rest
-empty_out [] rest e = refl
-empty_out (x ∷ xs) rest e = absurd (not_empty (length xs) e)
-  where
-    not_empty : (n : ℕ) → nat_lt 0 (suc n) ≡ false → ⊥
-    not_empty n h = false≢true (sym h ∙ lt-ltb 0 (suc n) (omega arith))
 
 clear_by : (s : Shelf) (ss kept : List Shelf) → joined kept ≡ joined ss → (b : Bool) → has_rows s ≡ b → joined (cond b (s ∷ kept) kept) ≡ s.bindings.rows ++ joined ss
 unfolding joined

@@ -5,6 +5,7 @@ use Rattle.std.specs.List.{filter}
 use Rattle.std.specs.Option.{option_map}
 use Rattle.std.proofs.lemmas.Bool.{false≢true}
 use Rattle.std.proofs.lemmas.Option.{same_Some, none-some}
+use Rattle.std.proofs.lemmas.List.{append-nil}
 use Rattle.sorted_rows.specs.Placed.{same_place, PlacesAscend, row_at, set_row, is_under, rows_under}
 use Rattle.sorted_rows.proofs.PlacedLaws.{same_place_exact}
 use Rattle.sorted_rows.proofs.Lists.{filter_few, length-cond}
@@ -190,11 +191,7 @@ module _ {D O : Type 0} (k : Kinds D O) (are : AreKinds k) (stays : (n : ℕ) (d
       by false apart = few_or_full apart (below_or_not (length (kept_of k.most (own x) (places xs))) k.most)
 
   says_from : (done rest : List D) → Says (places done) (first_rows k done) → Says (places (done ++ rest)) (first_rows k (done ++ rest))
-  says_from done [] says = subst (λ l. Says (places l) (first_rows k l)) (sym (no_more done)) says
-    where
-      no_more : (l : List D) → l ++ [] ≡ l
-      no_more [] = refl
-      no_more (x ∷ l) = ap (λ m. x ∷ m) (no_more l)
+  says_from done [] says = subst (λ l. Says (places l) (first_rows k l)) (sym (append-nil done)) says
   says_from done (x ∷ rest) says = subst (λ l. Says (places l) (first_rows k l)) (moved done) (says_from (done ++ x ∷ []) rest (says_more done x says))
     where
       moved : (l : List D) → (l ++ x ∷ []) ++ rest ≡ l ++ x ∷ rest

@@ -5,7 +5,7 @@ use Rattle.std.specs.Option.{option_map}
 use Rattle.std.proofs.lemmas.Option.{same_Some, none-some}
 use Rattle.std.proofs.lemmas.List.Elements.{filter-append}
 use Rattle.std.proofs.lemmas.List.Folds.{list_any-append}
-use Rattle.std.proofs.Math.Bool.{or-false}
+use Rattle.std.proofs.Math.Bool.{or-false, or-true}
 use Rattle.std.proofs.lemmas.List.{append-nil}
 use Rattle.sorted_rows.specs.Placed.{same_place, PlacesAscend, row_at, set_row}
 use Rattle.sorted_rows.proofs.PlacedLaws.{same_place_itself}
@@ -78,13 +78,9 @@ module _ (len most : ℕ) (ps : List Place) (q : Place) (long : len ≤ length q
       (λ p. ap not (ap (list_any (same_place p)) grown ∙ list_any-append (same_place p) (kept_of most own ps) (q ∷ []) ∙ ap (λ b. list_any (same_place p) (kept_of most own ps) || b) (or-false (same_place p q))))
       ∙ ap (filter (λ p. not (is_kept most own ps p || same_place p q))) (those_more own q ps ∙ ap (λ b. those_of own ps ++ cond b (q ∷ []) []) (of_own len q long))
       ∙ filter-append (λ p. not (is_kept most own ps p || same_place p q)) (those_of own ps) (q ∷ [])
-      ∙ ap (λ b. filter (λ p. not (is_kept most own ps p || same_place p q)) (those_of own ps) ++ cond (not b) (q ∷ []) []) (ap (λ b. is_kept most own ps q || b) (same_place_itself q) ∙ or_true (is_kept most own ps q))
+      ∙ ap (λ b. filter (λ p. not (is_kept most own ps p || same_place p q)) (those_of own ps) ++ cond (not b) (q ∷ []) []) (ap (λ b. is_kept most own ps q || b) (same_place_itself q) ∙ or-true (is_kept most own ps q))
       ∙ append-nil (filter (λ p. not (is_kept most own ps p || same_place p q)) (those_of own ps))
       ∙ except (is_kept most own ps) q (those_of own ps) (unseen most own q ps (of_own len q long) apart few)
-    where
-      or_true : (b : Bool) → (b || true) ≡ true
-      or_true true = refl
-      or_true false = refl
 
   late_own : is_kept most own ps q ≡ false → most ≤ length (kept_of most own ps) → left_of most own (ps ++ q ∷ []) ≡ left_of most own ps ++ q ∷ []
   late_own apart full =

@@ -3,7 +3,7 @@ use Rattle.std.proofs.Common.{◌≡◌, ℕ, ◌+◌, ◌<◌, Bool, true, fals
 use Rattle.std.specs.List.{filter}
 use Rattle.std.specs.Option.{option_map}
 use Rattle.std.proofs.lemmas.Option.{same_Some, none-some}
-use Rattle.std.proofs.lemmas.List.{map-append}
+use Rattle.std.proofs.lemmas.List.{map-append, append-nil}
 use Rattle.sorted_rows.specs.Placed.{place_cmp, same_place, PlacesAscend, row_at, set_row, set_rows}
 use Rattle.sorted_rows.proofs.PlacedLaws.{same_place_exact, row_at-set_row, set_rows-push, ascend-set_row, ascend-set_rows}
 use Rattle.sorted_rows.proofs.RowLaws.{place_row_at, ascend-map}
@@ -127,11 +127,7 @@ module _ {R : Type 0} (place : R → Place) (counted : ℕ → R → R) (kept : 
         grown a b n e = omega arith
 
     total_from : (done rest : List R) → total count (count_rows place counted done) ≡ length done → total count (count_rows place counted (done ++ rest)) ≡ length (done ++ rest)
-    total_from done [] is = subst (λ l. total count (count_rows place counted l) ≡ length l) (sym (no_more done)) is
-      where
-        no_more : (l : List R) → l ++ [] ≡ l
-        no_more [] = refl
-        no_more (x ∷ l) = ap (λ k. x ∷ k) (no_more l)
+    total_from done [] is = subst (λ l. total count (count_rows place counted l) ≡ length l) (sym (append-nil done)) is
     total_from done (x ∷ rest) is =
         subst (λ l. total count (count_rows place counted l) ≡ length l) (moved done)
         (total_from (done ++ x ∷ []) rest (total_more done x ∙ ap (λ n. n + 1) is ∙ sym (length-append done (x ∷ []))))

@@ -2,9 +2,9 @@
 use Rattle.std.proofs.Common.{◌≡◌, ℕ, zero, suc, ◌+◌, ◌≤◌, ◌<◌, ◌⊎◌, inl, inr, Bool, true, false, cond, not, ◌||◌, List, [], ◌∷◌, ◌++◌, length, take, map, Option, Some, None, refl, sym, ap, ◌∙◌, arith}
 use Rattle.std.specs.List.{filter, list_any}
 use Rattle.std.specs.Option.{option_map}
-use Rattle.std.proofs.lemmas.List.{map-append}
+use Rattle.std.proofs.lemmas.List.{map-append, append-nil}
 use Rattle.std.proofs.lemmas.List.Elements.{filter-append}
-use Rattle.std.proofs.Math.Bool.{or-false}
+use Rattle.std.proofs.Math.Bool.{or-false, or-true}
 use Rattle.sorted_rows.specs.Placed.{same_place, PlacesAscend, row_at, set_row, set_rows}
 use Rattle.sorted_rows.proofs.ListTests.{or_first, or_second}
 use Rattle.sorted_rows.proofs.PlacedLaws.{same_place_exact, same_place_itself, ascend-set_row, ascend-set_rows}
@@ -172,26 +172,14 @@ module _ {D O : Type 0} (k : Kinds D O) (are : AreKinds k) (stays : (n : ℕ) (d
     unfolding others_of is_first
     late_again kept = late_kept
         (kept_now true (again_at k.len k.most ps q long kept q long ∙ kept) (left ps) (same_tests (left (ps ++ q ∷ [])) (left ps) xs (λ d. ap not (again_at k.len k.most ps q long kept (k.place d) (are.long d))))
-        ∙ ap (map k.other) (append_nil_of (filter (left ps) xs)))
-      where
-        append_nil_of : (l : List D) → l ++ [] ≡ l
-        append_nil_of [] = refl
-        append_nil_of (y ∷ l) = ap (λ m. y ∷ m) (append_nil_of l)
+        ∙ ap (map k.other) (append-nil (filter (left ps) xs)))
 
     pub late_new : is_kept_in ps q ≡ false → length (kept_of k.most own ps) < k.most → late_rows k (xs ++ x ∷ []) ≡ late_rows k xs
     unfolding others_of is_first
     late_new apart few = late_kept
-        (kept_now true (new_at k.len k.most ps q long apart few q long ∙ ap (λ b. is_kept_in ps q || b) (same_place_itself q) ∙ or_true (is_kept_in ps q)) (left ps)
+        (kept_now true (new_at k.len k.most ps q long apart few q long ∙ ap (λ b. is_kept_in ps q || b) (same_place_itself q) ∙ or-true (is_kept_in ps q)) (left ps)
         (same_but k.place q (left (ps ++ q ∷ [])) (left ps) (λ d e. ap not (new_at k.len k.most ps q long apart few (k.place d) (are.long d) ∙ ap (λ b. is_kept_in ps (k.place d) || b) e ∙ or-false (is_kept_in ps (k.place d)))) xs (not_appeared k.len k.most ps q long apart few))
-        ∙ ap (map k.other) (append_nil_of (filter (left ps) xs)))
-      where
-        or_true : (b : Bool) → (b || true) ≡ true
-        or_true true = refl
-        or_true false = refl
-
-        append_nil_of : (l : List D) → l ++ [] ≡ l
-        append_nil_of [] = refl
-        append_nil_of (y ∷ l) = ap (λ m. y ∷ m) (append_nil_of l)
+        ∙ ap (map k.other) (append-nil (filter (left ps) xs)))
 
     pub others_late : is_kept_in ps q ≡ false → k.most ≤ length (kept_of k.most own ps) → others_of k (places (xs ++ x ∷ [])) (xs ++ x ∷ []) ≡ others_of k ps xs ++ k.other x ∷ []
     unfolding others_of is_first

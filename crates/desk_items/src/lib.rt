@@ -10,4 +10,4 @@ pub mod taken;
 
 pub use fault::OpenFault;
 pub use opening::open_items;
-pub use taken::{Taken, take_all};
+pub use taken::Taken;

@@ -124,15 +124,8 @@ impl Taken {
     }
 }
 
-/// Takes all items, which stand in the keeper's order, or gives the index of the first of them that
-/// is no record.
-pub fn take_all(alloc: Global, items: &[Item]) -> Result<Result<Taken, usize>, Memory>
-    ensures { IfOk result (IsReadingOf items.now) }
-{
-    take_into(Taken::new(alloc), items)
-}
-
-/// The same, where nothing was taken yet.
+/// Takes all items, which stand in the keeper's order, where nothing was taken yet, or gives the index
+/// of the first of them that is no record.
 #[tactic(auto, unfolding(desk_model::specs::Items::tables_in))]
 pub(crate) fn take_into(nothing: Taken, items: &[Item]) -> Result<Result<Taken, usize>, Memory>
     requires { kept_of nothing ≡ none_kept }

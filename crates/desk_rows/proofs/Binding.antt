@@ -1,5 +1,6 @@
 -- The bindings that are put into an empty store.
-use Rattle.std.proofs.Common.{◌≡◌, Bool, true, false, ◌&&◌, List, [], ◌++◌, refl, sym, ap, subst, ◌∙◌}
+use Rattle.std.proofs.Common.{◌≡◌, true, false, List, [], ◌++◌, refl, sym, ap, subst, ◌∙◌}
+use Rattle.std.proofs.Math.Bool.{and-true}
 use Rattle.sorted_rows.specs.Placed.{PlacesAscend, set_rows}
 use Rattle.sorted_rows.specs.Changes.{are_apart}
 use Rattle.sorted_rows.proofs.PlacedLaws.{ascend-set_rows}
@@ -26,13 +27,9 @@ none_has : (b : Binding) → has_binding b [] ≡ false
 unfolding has_binding
 none_has b = refl
 
-and_true : (b : Bool) → b ≡ (b && true)
-and_true true = refl
-and_true false = refl
-
 all_come : (bindings : List Binding) → are_apart same_spot bindings ≡ true → IsBindingChange [] bindings [] bindings
 unfolding has_binding
-all_come bindings once = record { went = λ b. refl; came = λ b. and_true (has_binding b bindings); gone_once = refl; come_once = once }
+all_come bindings once = record { went = λ b. refl; came = λ b. sym (and-true (has_binding b bindings)); gone_once = refl; come_once = once }
 
 pub put_in : (bindings : List Binding) → replaced [] bindings [] ≡ set_rows binding_place bindings []
 unfolding replaced without_bindings

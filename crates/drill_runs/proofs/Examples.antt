@@ -3,18 +3,18 @@ use Rattle.std.proofs.Common.{◌≡◌, ℕ, List, [], ◌∷◌, ◌++◌, cod
 use Rattle.mud_base.specs.Texts.{octets_v4}
 use Rattle.frame_view.proofs.Hex.{from_hex}
 use Rattle.mud_base.proofs.OnLiterals.{texts_on_literals}
-use Rattle.drill_runs.specs.Network.{thing_count, file_count, mac_of, lease_of, url_text, host_text, host_address}
+use Rattle.drill_runs.specs.Network.{thing_count, file_count, mac_of, lease_of, usage_url, host_text, host_address}
 use Rattle.drill_runs.specs.Packets.{port_octets, call_frame, answer_frame, query_frame, thing_of, neighbour_of, frame_of_kind, packet_frame, packet_moment}
 
 -- ---- The network
 
-url_of_first : url_text 1 ≡ codes "https://maker1.example.com/model1"
-unfolding url_text texts_on_literals
+url_of_first : usage_url 1 ≡ codes "https://maker1.example.com/model1"
+unfolding usage_url texts_on_literals
 url_of_first = refl
 
 -- the models' numbers go on behind those of the makers
-url_of_tenth : url_text 42 ≡ codes "https://maker2.example.com/model10"
-unfolding url_text texts_on_literals
+url_of_tenth : usage_url 42 ≡ codes "https://maker2.example.com/model10"
+unfolding usage_url texts_on_literals
 url_of_tenth = refl
 
 host_of_last : host_text 256 ≡ codes "host0.example.com"

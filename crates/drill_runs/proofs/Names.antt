@@ -8,7 +8,7 @@ use Rattle.std.proofs.lemmas.List.Sums.{AllPass-from_list_all}
 use Rattle.mud_url.specs.Url.{is_canonical}
 use Rattle.mud_url.proofs.OnLiterals.{url_on_literals}
 use Rattle.mud_tables.specs.Binds.{is_name}
-use Rattle.drill_runs.specs.Network.{url_text, host_text}
+use Rattle.drill_runs.specs.Network.{usage_url, host_text}
 
 -- a test that passes at the first so many numbers passes at each of them
 each_below : (p : ℕ → Bool) (n k : ℕ) → list_all p (range_with_len 0 n) ≡ true → k < n → p k ≡ true
@@ -35,8 +35,8 @@ maker_of thing = omega arith
 model_within : (thing : ℕ) → thing % 32 < 32
 model_within thing = omega arith
 
-pub url_is_canonical : (thing : ℕ) → is_canonical (url_text thing) ≡ true
-unfolding url_text
+pub url_is_canonical : (thing : ℕ) → is_canonical (usage_url thing) ≡ true
+unfolding usage_url
 url_is_canonical thing =
     ap (λ (maker : ℕ). is_canonical (url_with maker (thing % 32))) (maker_of thing)
     ∙ each_below has_url 32 (thing % 32) have_urls (model_within thing)

@@ -21,7 +21,7 @@ use Rattle.mud_desk.proofs.Sessions.{flows_stay}
 use Rattle.desk_runs.specs.Judged.{IsIn}
 use Rattle.desk_runs.proofs.JudgedPackets.{in_own}
 use Rattle.drill_runs.specs.declared.commands.Round.TheVariants.{Announcements, Leases, Files, Hosts}
-use Rattle.drill_runs.specs.Network.{thing_count, file_count, url_text}
+use Rattle.drill_runs.specs.Network.{thing_count, file_count, usage_url}
 use Rattle.drill_runs.specs.Usage.{usage_text}
 use Rattle.drill_runs.specs.Commands.{approval, binding, command_moment, commands_of, drill_commands, fetched_file, round_commands}
 use Rattle.drill_runs.specs.Drill.{session_after}
@@ -217,9 +217,9 @@ pub fetched_is : (command : Command) (file : List ℕ) (thing : ℕ) → command
 unfolding fetched_file
 fetched_is command file thing is made = is ∙ ap (λ (octets : List ℕ). Import octets command_moment) made
 
-pub approval_is : (command : Command) (octets file : List ℕ) (thing : ℕ) → command ≡ Verdict (url_text thing) (digest_of octets) Waived → octets ≡ file → file ≡ usage_text thing → command ≡ approval thing
+pub approval_is : (command : Command) (octets file : List ℕ) (thing : ℕ) → command ≡ Verdict (usage_url thing) (digest_of octets) Waived → octets ≡ file → file ≡ usage_text thing → command ≡ approval thing
 unfolding approval
-approval_is command octets file thing is lent made = is ∙ ap (λ (os : List ℕ). Verdict (url_text thing) (digest_of os) Waived) (lent ∙ made)
+approval_is command octets file thing is lent made = is ∙ ap (λ (os : List ℕ). Verdict (usage_url thing) (digest_of os) Waived) (lent ∙ made)
 
 -- ---- Five parts, one behind the other
 

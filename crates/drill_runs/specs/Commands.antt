@@ -9,7 +9,7 @@ use Rattle.desk_model.specs.declared.command.Command.{Command}
 use Rattle.desk_model.specs.declared.command.Command.TheVariants.{HearUrl, HearLease, Import, Verdict, Bind, Observe}
 use Rattle.drill_runs.specs.declared.commands.Round.{Round}
 use Rattle.drill_runs.specs.declared.commands.Round.TheVariants.{Announcements, Leases, Files, Hosts}
-use Rattle.drill_runs.specs.Network.{thing_count, file_count, mac_of, lease_of, url_text, host_text, host_address, dns_address, dns_class}
+use Rattle.drill_runs.specs.Network.{thing_count, file_count, mac_of, lease_of, usage_url, host_text, host_address, dns_address, dns_class}
 use Rattle.drill_runs.specs.Usage.{usage_text}
 
 -- the moment of the commands
@@ -18,7 +18,7 @@ command_moment = 1000
 
 -- the Thing announces the URL of its model
 unfoldable pub announcement : ℕ → Command
-announcement thing = HearUrl (mac_of thing) (url_text thing)
+announcement thing = HearUrl (mac_of thing) (usage_url thing)
 
 -- a DHCP server gives it its address for a day
 unfoldable pub lease : ℕ → Command
@@ -30,7 +30,7 @@ fetched_file thing = Import (usage_text thing) command_moment
 
 -- and approved without a signature
 unfoldable pub approval : ℕ → Command
-approval thing = Verdict (url_text thing) (digest_of (usage_text thing)) Waived
+approval thing = Verdict (usage_url thing) (digest_of (usage_text thing)) Waived
 
 -- the DNS server is bound to its class
 unfoldable pub binding : Command

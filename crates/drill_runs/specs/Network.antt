@@ -23,8 +23,8 @@ mac_of thing = record { 0 = 2 ∷ 0 ∷ 0 ∷ 1 ∷ (thing / 256) ∷ (thing % 2
 unfoldable pub lease_of : ℕ → ℕ
 lease_of thing = 0x0A000000 + thing
 
-unfoldable pub url_text : ℕ → List ℕ
-url_text thing = codes "https://maker" ++ decimal (thing % 8) ++ codes ".example.com/model" ++ decimal (model_of thing)
+unfoldable pub usage_url : ℕ → List ℕ
+usage_url thing = codes "https://maker" ++ decimal (thing % 8) ++ codes ".example.com/model" ++ decimal (model_of thing)
 
 -- the name of the host with which a Thing speaks, and its IPv4 address: 198.51.100.0 plus the number of the model
 unfoldable pub host_text : ℕ → List ℕ

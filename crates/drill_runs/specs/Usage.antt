@@ -1,7 +1,7 @@
 -- The usage file of a Thing's model (RFC 8520, 9, with another URL and another host). Both lists let a connection to port 443 of
 -- the host pass that the Thing began. The Thing may send to all Things of the same manufacturer.
 use Rattle.std.specs.Prelude.{ℕ, List, ◌++◌, codes}
-use Rattle.drill_runs.specs.Network.{url_text, host_text}
+use Rattle.drill_runs.specs.Network.{usage_url, host_text}
 
 -- the text in front of the URL
 abbrev pub usage_head : List ℕ
@@ -20,4 +20,4 @@ abbrev pub usage_tail : List ℕ
 usage_tail = codes "\",\"protocol\":6},\"tcp\":{\"ietf-mud:direction-initiated\":\"from-device\",\"destination-port\":{\"operator\":\"eq\",\"port\":443}}},\"actions\":{\"forwarding\":\"accept\"}},{\"name\":\"mfg-frdev\",\"matches\":{\"ietf-mud:mud\":{\"same-manufacturer\":[null]}},\"actions\":{\"forwarding\":\"accept\"}}]}}]}}"
 
 unfoldable pub usage_text : ℕ → List ℕ
-usage_text thing = usage_head ++ url_text thing ++ usage_to ++ host_text thing ++ usage_from ++ host_text thing ++ usage_tail
+usage_text thing = usage_head ++ usage_url thing ++ usage_to ++ host_text thing ++ usage_from ++ host_text thing ++ usage_tail

@@ -3,7 +3,7 @@ ghost use Rattle.std.specs.Prelude.{◌≡◌, IfOk};
 ghost use Rattle.desk_model.specs.Commands.{IsAsked};
 ghost use Rattle.file_tables.specs.Held.{digest_of};
 ghost use Rattle.drill_runs.specs.Commands as spec;
-ghost use Rattle.drill_runs.specs.Network.{url_text};
+ghost use Rattle.drill_runs.specs.Network.{usage_url};
 
 use crate::network::{append_host, host_address, lease_of, mac_of, url_of};
 use desk_model::Command;
@@ -77,7 +77,7 @@ pub(crate) fn fetched_file(file: Bytes) -> Command
 
 /// The usage file of the Thing's model, which has these octets, is approved without a signature.
 pub(crate) fn approval(alloc: Global, thing: u16, file: &[u8]) -> Result<Command, Memory>
-    ensures made { IfOk result (λ command. command ≡ Command.Verdict (url_text thing) (digest_of file.now) OperatorVerdict.Waived) }
+    ensures made { IfOk result (λ command. command ≡ Command.Verdict (usage_url thing) (digest_of file.now) OperatorVerdict.Waived) }
     ensures asked { IfOk result (λ command. IsAsked command) }
 {
     let url = url_of(alloc, thing)?;

@@ -77,9 +77,9 @@ pub(crate) fn host_address(thing: u16) -> u32
 }
 
 /// Adds the MUD URL of a Thing.
-#[tactic(auto, unfolding(crate::specs::Network::url_text))]
+#[tactic(auto, unfolding(crate::specs::Network::usage_url))]
 pub(crate) fn append_url(text: &mut Bytes, thing: u16) -> Result<(), Memory>
-    ensures { OnOk result (text.new ≡ text.old ++ spec.url_text thing) }
+    ensures { OnOk result (text.new ≡ text.old ++ spec.usage_url thing) }
 {
     text.append(b"https://maker")?;
     append_decimal(text, u64::from(maker_of(thing)))?;
@@ -100,7 +100,7 @@ pub(crate) fn append_host(text: &mut Bytes, thing: u16) -> Result<(), Memory>
 /// The MUD URL of a Thing.
 #[tactic(auto, using(crate::proofs::Names::url_is_canonical))]
 pub(crate) fn url_of(alloc: Global, thing: u16) -> Result<MudUrl, Memory>
-    ensures { IfOk result (λ url. url ≡ spec.url_text thing) }
+    ensures { IfOk result (λ url. url ≡ spec.usage_url thing) }
 {
     let mut text = Bytes::empty(alloc);
     append_url(&mut text, thing)?;

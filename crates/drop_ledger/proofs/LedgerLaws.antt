@@ -8,7 +8,7 @@ use Rattle.std.proofs.lemmas.Grind.{flat_map-append}
 use Rattle.std.proofs.lemmas.List.{map-append, length-map, append-nil}
 use Rattle.std.proofs.lemmas.List.Elements.{filter_map-append}
 use Rattle.std.specs.Cmp.{first_so}
-use Rattle.std.proofs.Math.Bool.{and_assoc, and-false}
+use Rattle.std.proofs.Math.Bool.{and_assoc, and-false, and-true}
 use Rattle.mud_base.specs.declared.addr.Mac.{Mac}
 use Rattle.mud_base.specs.declared.packet.Direction.{Direction}
 use Rattle.mud_base.specs.declared.packet.Direction.TheVariants.{From, To}
@@ -32,7 +32,7 @@ use Rattle.drop_ledger.specs.Places.{six, side_number, thing_place, ruling_place
 use Rattle.drop_ledger.specs.RowTypes.{count_stays, count_told, denied_stays, denied_told, other_stays, other_told}
 use Rattle.drop_ledger.specs.Seen.{hour_of, mac_on, ruling_on, ruled, ruled_on, rulings_in, rulings, is_governed, has_both, passes, drops, verdicts, HasFields, HasThing, is_ruled}
 use Rattle.drop_ledger.specs.Ledger.{count_row, counts_of, times_of, peer_row, row_with, row_by, denied_row, denials, other_row, denied_kinds, hour_in, times_ruled}
-use Rattle.drop_ledger.proofs.PlaceOrder.{length-six, length-thing_place, same_length}
+use Rattle.drop_ledger.proofs.PlaceOrder.{front, length-six, length-thing_place, same_length}
 
 -- ---- Places
 
@@ -50,12 +50,6 @@ sent_apart m n = same_place-front (six m.0) (six n.0) (0 ∷ []) (1 ∷ []) (len
 received_apart : (m n : Mac) → same_place (thing_place m To) (thing_place n From) ≡ false
 unfolding thing_place side_number
 received_apart m n = same_place-front (six m.0) (six n.0) (1 ∷ []) (0 ∷ []) (length-six m.0 ∙ sym (length-six n.0)) ∙ and-false (same_place (six m.0) (six n.0))
-
-front : (n : ℕ) (xs ys : List ℕ) → length xs ≡ n → take n (xs ++ ys) ≡ xs
-front zero [] ys is = refl
-front zero (x ∷ xs) ys is = absurd (omega (arith, is))
-front (suc n) [] ys is = absurd (omega (arith, is))
-front (suc n) (x ∷ xs) ys is = ap (λ l. x ∷ l) (front n xs ys (omega (arith, is)))
 
 -- the first seven numbers of the place of what was denied say its Thing and side
 denied_begins : (r : DeniedRow) → take 7 (place_of_denied r) ≡ thing_place r.mac r.side
@@ -255,14 +249,10 @@ no_match_by t m d (DropDefault NoMatch) (Some f) rows done has seven is =
     ∙ (λ i. cond (same i) 1 0 + is i)
     ∙ sym (length-cond (same_place (t ++ 5 ∷ 0 ∷ []) (thing_place m d ++ 5 ∷ 0 ∷ [])) (thing_place m d ++ 5 ∷ 0 ∷ []) (filter (same_place (t ++ 5 ∷ 0 ∷ [])) (map place_of_count (map count_row done))))
   where
-    and_yes : (b : Bool) → b ≡ (b && true)
-    and_yes true = refl
-    and_yes false = refl
-
     same : is_of t (place_of_denied (peer_row m d f)) ≡ same_place (t ++ 5 ∷ 0 ∷ []) (thing_place m d ++ 5 ∷ 0 ∷ [])
     same = ap (λ n. same_place t (take n (place_of_denied (peer_row m d f)))) seven
         ∙ ap (same_place t) (denied_begins (peer_row m d f) ∙ with_thing m d (Some f) (peer_row m d f) refl)
-        ∙ and_yes (same_place t (thing_place m d))
+        ∙ sym (and-true (same_place t (thing_place m d)))
         ∙ sym (same_place-front t (thing_place m d) (5 ∷ 0 ∷ []) (5 ∷ 0 ∷ []) (seven ∙ sym (length-thing_place m d)))
 no_match_by t m d (DropDefault NoFile) f rows done has seven is = is ∙ sym (not_counted t m d (4 ∷ 0 ∷ []) done seven refl)
 no_match_by t m d (Accept n) f rows done has seven is = is ∙ sym (not_counted t m d (0 ∷ n ∷ []) done seven refl)

@@ -26,16 +26,16 @@ length-six octets = length-take 6 (octets ++ 0 ∷ 0 ∷ 0 ∷ 0 ∷ 0 ∷ 0 ∷
     least : (n m : ℕ) → m ≡ n + 6 → min 6 m ≡ 6
     least n m is = omega arith
 
+pub front : (n : ℕ) (xs ys : List ℕ) → length xs ≡ n → take n (xs ++ ys) ≡ xs
+front zero [] ys is = refl
+front zero (x ∷ xs) ys is = absurd (omega (arith, is))
+front (suc n) [] ys is = absurd (omega (arith, is))
+front (suc n) (x ∷ xs) ys is = ap (λ l. x ∷ l) (front n xs ys (omega (arith, is)))
+
 -- six octets are all of a list that has just as many
 pub six_all : (octets : List ℕ) → length octets ≡ 6 → six octets ≡ octets
 unfolding six
 six_all octets all = front 6 octets (0 ∷ 0 ∷ 0 ∷ 0 ∷ 0 ∷ 0 ∷ []) all
-  where
-    front : (n : ℕ) (xs ys : List ℕ) → length xs ≡ n → take n (xs ++ ys) ≡ xs
-    front zero [] ys is = refl
-    front zero (x ∷ xs) ys is = absurd (omega (arith, is))
-    front (suc n) [] ys is = absurd (omega (arith, is))
-    front (suc n) (x ∷ xs) ys is = ap (λ l. x ∷ l) (front n xs ys (omega (arith, is)))
 
 pub length-thing_place : (mac : Mac) (side : Direction) → length (thing_place mac side) ≡ 7
 unfolding thing_place

@@ -94,11 +94,11 @@ totals_sums all = sums_from [] all sums_none
 
 -- ---- Hours
 
-pub first_some : Option ℕ → Option ℕ → Option ℕ
+unfoldable pub first_some : Option ℕ → Option ℕ → Option ℕ
 first_some None o = o
 first_some (Some h) o = Some h
 
-pub chosen : (b : Bool) (h : ℕ) (o p : Option ℕ) → cond b (Some h) (first_some o p) ≡ first_some (cond b (Some h) o) p
+chosen : (b : Bool) (h : ℕ) (o p : Option ℕ) → cond b (Some h) (first_some o p) ≡ first_some (cond b (Some h) o) p
 unfolding first_some
 chosen true h o p = refl
 chosen false h o p = refl

@@ -7,7 +7,7 @@ use Rattle.std.proofs.Math.Seq.{drop-cons}
 use Rattle.std.proofs.lemmas.List.{drop_all, take_more}
 use Rattle.std.proofs.lemmas.List.Folds.{list_any-append}
 use Rattle.std.proofs.lemmas.Option.{same_Some, none-some}
-use Rattle.std.proofs.Math.Bool.{or-false}
+use Rattle.std.proofs.Math.Bool.{or-false, and-true}
 use Rattle.sorted_rows.specs.Placed.{same_place, row_at, set_row, without_row, PlacesAscend}
 use Rattle.sorted_rows.proofs.PlacedLaws.{same_place_exact, row_at-set_row, row_at-without_row}
 use Rattle.mud_base.specs.declared.packet.Direction.{Direction}
@@ -103,11 +103,7 @@ both_spots : (xs : List EntrySpot) (a b : Bool) (s : EntrySpot) → (xs ++ spot_
 unfolding spot_if
 both_spots xs true true s = append-nil (xs ++ s ∷ [])
 both_spots xs true false s = append-nil (xs ++ s ∷ [])
-both_spots xs false b s = ap (λ (ys : List EntrySpot). ys ++ spot_if (b && true) s) (append-nil xs) ∙ ap (λ (c : Bool). xs ++ spot_if c s) (and_true b)
-  where
-    and_true : (b : Bool) → (b && true) ≡ b
-    and_true true = refl
-    and_true false = refl
+both_spots xs false b s = ap (λ (ys : List EntrySpot). ys ++ spot_if (b && true) s) (append-nil xs) ∙ ap (λ (c : Bool). xs ++ spot_if c s) (and-true b)
 
 any_more : (f : Selector → Bool) (xs : List Selector) (i : ℕ) (x : Selector) → i < length xs → x ≡ get_or xs i x → list_any f (take (i + 1) xs) ≡ (list_any f (take i xs) || f x)
 any_more f xs i x lt is =

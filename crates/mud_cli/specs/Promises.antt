@@ -4,7 +4,7 @@ use Rattle.mud_world.specs.Door.{DoorState}
 use Rattle.capture_runs.specs.Capture.{WritesTaken}
 use Rattle.command_runs.specs.Ends.{IsSteady, IsStopped}
 use Rattle.command_runs.specs.Due.{WritesDue, WritesPart}
-pub use Rattle.mud_world.specs.View.{DoorView, viewed}
+pub use Rattle.mud_world.specs.View.{DoorView}
 use Rattle.mud_cli.specs.Answers.{due_of, most_read}
 use Rattle.mud_cli.specs.Frames.Lines.{frame_step}
 use Rattle.command_words.specs.declared.command.Command.{Command}

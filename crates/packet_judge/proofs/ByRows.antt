@@ -61,6 +61,12 @@ pub part_is : (rows : List Row) (side : Direction) (owner : Owner) (policy : Pol
 unfolding part_of
 part_is rows side owner policy p is = λ i. part (is.side_is i) (is.entries i) (is.wide i) (is.rows_are i) p.among
 
+-- the entries of the default rules, by the side
+pub entries_default : (s : Direction) → entries_of s default_policy ≡ defaults_of s
+unfolding entries_of
+entries_default From = refl
+entries_default To = refl
+
 module _ (slots : Slots) (bindings : List Binding) (ascend : PlacesAscend binding_place bindings) (asked : Asked) (small : asked.moment < for_ever) (side : Direction) (among : ℕ) where
   unfoldable pub own_part : Owner → UrlPolicy → Part
   own_part owner held = part_of (rows_of slots bindings) side owner held.policy among
@@ -131,11 +137,6 @@ module _ (slots : Slots) (bindings : List Binding) (ascend : PlacesAscend bindin
   default_matched : (url : List ℕ) (which : DefaultRule) → matched bindings asked [] side (default_entry which side) ≡ matched bindings asked url side (default_entry which side)
   unfolding matched matches_by_bindings members_met selector_met key_of default_entry
   default_matched url which = refl
-
-  entries_default : (s : Direction) → entries_of s default_policy ≡ defaults_of s
-  unfolding entries_of
-  entries_default From = refl
-  entries_default To = refl
 
   pub default_alike : (url : List ℕ) (why : Why) → default_at why (first_in asked (part_of (rows_of slots bindings) side Default default_policy among)) ≡ default_ruling (matched bindings asked url side) side why
   unfolding own_part held_by default_held default_ruling

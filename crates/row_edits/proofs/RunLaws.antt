@@ -1,10 +1,13 @@
 -- Runs of edits: what they make of rows is one run of rows put in or taken away.
 use Rattle.std.proofs.Common.{◌≡◌, ℕ, zero, suc, ◌+◌, ◌-◌, ◌≤◌, ◌<◌, Bool, true, false, cond, List, [], ◌∷◌, ◌++◌, length, map, take, drop, get_or, Some, Ok, Err, refl, sym, ap, subst, ◌∙◌, arith, append_assoc, append-nil, length-append, length-drop, length-take-le}
+use Rattle.std.specs.Prelude.{nat_lt}
 use Rattle.std.specs.List.{AllByRecursion, slice_get}
+use Rattle.std.proofs.lemmas.Bool.{false≢true, lt-ltb}
 use Rattle.std.proofs.lemmas.List.{drop_more, drop-drop, take-append-drop, drop-append-le, drop_all, take_at, drop_at}
-use Rattle.sorted_rows.specs.Placed.{index_in, set_row, without_row, PlacesAbove, PlacesAscend}
+use Rattle.sorted_rows.specs.Placed.{index_in, set_row, without_row, PlacesAbove, PlacesBelow, PlacesAscend}
 use Rattle.sorted_rows.proofs.PlacedLaws.{found_within, missed_within}
 use Rattle.sorted_rows.proofs.RowLaws.{ascend-map}
+use Rattle.sorted_rows.proofs.IndexLaws.{set_row-behind, set_row-before, without_row-behind, without_row-before}
 use Rattle.sorted_rows.proofs.RunLaws.{AllBelongAt, above_run, put_front, taken_front, ascend-drop}
 use Rattle.row_edits.specs.declared.edit.Edit.{Edit}
 use Rattle.row_edits.specs.Edits.{edit_place, edit_made, edited, AreFound}
@@ -33,6 +36,11 @@ first_is xs n x lt is = drop_more xs n x lt ∙ ap (λ y. y ∷ drop (n + 1) xs)
 pub none_behind : {X : Type 0} (xs : List X) (first n : ℕ) → n + first ≡ length xs → take first xs ++ drop (first + n) xs ≡ take first xs
 none_behind xs first n long = ap (λ ys. take first xs ++ ys) (drop_all (first + n) xs (omega arith)) ∙ append-nil (take first xs)
 
+-- an empty list in front changes nothing
+pub empty_out : {X : Type 0} (xs rest : List X) → nat_lt 0 (length xs) ≡ false → rest ≡ xs ++ rest
+empty_out [] rest e = refl
+empty_out (x ∷ xs) rest e = absurd (false≢true (sym e ∙ lt-ltb 0 (suc (length xs)) (omega arith)))
+
 -- ---- One edit more in front of a run
 
 pub run_last : {R : Type 0} (es : List (Edit R)) (n : ℕ) → n + 1 ≡ length es → AreRun (drop n es)
@@ -57,6 +65,26 @@ module _ {R : Type 0} (place : R → List ℕ) where
   unfolding edited
   edited-append [] ys rows = refl
   edited-append (x ∷ xs) ys rows = ap (edit_made place x) (edited-append xs ys rows)
+
+  -- ---- Edits leave the rows that stand behind or before all of their places
+
+  before_by : (e : Edit R) (xs ys : List R) → PlacesAbove place (place e.row) ys → (b : Bool) → cond b (set_row place e.row (xs ++ ys)) (without_row place (place e.row) (xs ++ ys)) ≡ cond b (set_row place e.row xs) (without_row place (place e.row) xs) ++ ys
+  before_by e xs ys above true = set_row-before place e.row xs ys above
+  before_by e xs ys above false = without_row-before place (place e.row) xs ys above
+
+  behind_by : (e : Edit R) (xs ys : List R) → PlacesBelow place (place e.row) xs → (b : Bool) → cond b (set_row place e.row (xs ++ ys)) (without_row place (place e.row) (xs ++ ys)) ≡ xs ++ cond b (set_row place e.row ys) (without_row place (place e.row) ys)
+  behind_by e xs ys below true = set_row-behind place e.row xs ys below
+  behind_by e xs ys below false = without_row-behind place (place e.row) xs ys below
+
+  pub edited_before : (es : List (Edit R)) (xs ys : List R) → AllByRecursion (λ e. PlacesAbove place (place e.row) ys) es → edited place es (xs ++ ys) ≡ edited place es xs ++ ys
+  unfolding edited edit_made
+  edited_before [] xs ys above = refl
+  edited_before (e ∷ es) xs ys above = ap (edit_made place e) (edited_before es xs ys above.1) ∙ before_by e (edited place es xs) ys above.0 e.comes
+
+  pub edited_behind : (es : List (Edit R)) (xs ys : List R) → AllByRecursion (λ e. PlacesBelow place (place e.row) xs) es → edited place es (xs ++ ys) ≡ xs ++ edited place es ys
+  unfolding edited edit_made
+  edited_behind [] xs ys below = refl
+  edited_behind (e ∷ es) xs ys below = ap (edit_made place e) (edited_behind es xs ys below.1) ∙ behind_by e xs (edited place es ys) below.0 e.comes
 
   below_next : (es : List (Edit R)) (e : Edit R) (run : List (Edit R)) (rows : List R) → PlacesAscend place rows → PlacesAscend (edit_place place) ((es ++ e ∷ []) ++ run) → AreFound place (edited place run rows) (es ++ e ∷ []) → AreFound place (edit_made place e (edited place run rows)) es
   unfolding edit_place

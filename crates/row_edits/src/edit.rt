@@ -67,26 +67,9 @@ pub fn make_edit<R: Placed + Drop, L: Ledger>(
     }
 }
 
-/// Makes each of these edits, from the last to the first: what an edit changes stands behind the
-/// places of those that are still to be made, so their indices stay. Each is one step, and no memory
-/// is taken.
-pub fn make_edits<R: Placed + Drop, L: Ledger>(
-    rows: &mut SortedRows<R>,
-    edits: SortedRows<Edit<R>>,
-    steps: &mut Steps<L>,
-)
-    requires room { length edits.rows ≤ rows.old.room }
-    requires found { AreFound R.place rows.old.rows edits.rows }
-    ensures rows { rows.new.rows ≡ edited R.place edits.rows rows.old.rows }
-    ensures room { rows.old.room ≤ rows.new.room + length edits.rows }
-    ensures counted { steps.new ≡ steps.old + length edits.rows }
-{
-    let mut left = edits;
-    make_edits_from(rows, &mut left, 0, steps);
-}
-
 /// Makes each of these edits from index `start` on, from the last to the first, and leaves those
-/// before it. Each is one step, and no memory is taken. Rows that come to stand side by side, and
+/// before it: what an edit changes stands behind the places of those that are still to be made, so
+/// their indices stay. Each is one step, and no memory is taken. Rows that come to stand side by side, and
 /// rows that stood side by side and go, move the rows behind them once.
 pub fn make_edits_from<R: Placed + Drop, L: Ledger>(
     rows: &mut SortedRows<R>,

@@ -6,4 +6,4 @@ pub mod edit;
 pub mod laws;
 mod runs;
 
-pub use edit::{Edit, make_edit, make_edits, make_edits_from, plan_edit};
+pub use edit::{Edit, make_edit, make_edits_from, plan_edit};

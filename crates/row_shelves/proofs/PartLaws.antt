@@ -5,6 +5,7 @@ use Rattle.std.specs.List.{AllByRecursion}
 use Rattle.std.proofs.lemmas.List.{get_or-set_same, get_or-set_other, get_or_past, get_or_read}
 use Rattle.std.proofs.lemmas.List.Elements.{filter-append}
 use Rattle.sorted_rows.specs.Placed.{is_under, PlacesAbove, PlacesBelow}
+use Rattle.sorted_rows.proofs.IndexLaws.{above-append}
 use Rattle.mud_base.specs.declared.addr.Addr.{Addr}
 use Rattle.mud_base.specs.declared.packet.Direction.{Direction}
 use Rattle.acl_rows.specs.declared.row.Owner.{Owner}
@@ -70,14 +71,10 @@ pub below_list : (r : Row) (k : ℕ) (xs : List Row) → AllByRecursion (λ x. r
 below_list r k [] on lt = tt
 below_list r k (x ∷ xs) on lt = (rows_rise x r (omega (arith, on.0)), below_list r k xs on.1 lt)
 
-above-append : (p : List ℕ) (xs ys : List Row) → PlacesAbove row_place p xs → PlacesAbove row_place p ys → PlacesAbove row_place p (xs ++ ys)
-above-append p [] ys left right = right
-above-append p (x ∷ xs) ys left right = (left.0, above-append p xs ys left.1 right)
-
 pub above_joined : (n : ℕ) (parts : Parts) (r : Row) → On n parts → row_number r < n → PlacesAbove row_place (row_place r) (joined parts)
 unfolding joined
 above_joined n [] r on lt = tt
-above_joined n (s ∷ ss) r on lt = above-append (row_place r) s.rows (joined ss) (above_list r n s.rows (first_on n s ss on) lt) (above_joined (suc n) ss r (rest_on n s ss on) (omega arith))
+above_joined n (s ∷ ss) r on lt = above-append row_place (row_place r) s.rows (joined ss) (above_list r n s.rows (first_on n s ss on) lt) (above_joined (suc n) ss r (rest_on n s ss on) (omega arith))
 
 -- ---- The rows of an owner and side
 

@@ -7,14 +7,13 @@ use Rattle.std.proofs.lemmas.List.{length-set, take-append-drop}
 use Rattle.std.proofs.lemmas.List.Elements.{filter-append}
 use Rattle.sorted_rows.specs.Placed.{is_under, index_in, set_row, without_row, PlacesAbove, PlacesBelow, PlacesAscend}
 use Rattle.sorted_rows.proofs.RowLaws.{all-set_row, all-without_row}
-use Rattle.sorted_rows.proofs.IndexLaws.{set_row-behind, set_row-before, without_row-behind, without_row-before}
 use Rattle.mud_base.specs.Addresses.{same_addr}
 use Rattle.mud_base.specs.declared.addr.Addr.{Addr}
 use Rattle.mud_base.specs.declared.packet.Direction.{Direction}
 use Rattle.row_edits.specs.declared.edit.Edit.{Edit}
 use Rattle.row_edits.specs.Edits.{edit_place, edit_made, edited}
 use Rattle.row_edits.proofs.EditLaws.{ascend-edited}
-use Rattle.row_edits.proofs.RunLaws.{all_right, edited-append}
+use Rattle.row_edits.proofs.RunLaws.{all_right, edited-append, edited_before, edited_behind}
 use Rattle.acl_model.proofs.BindingLaws.{same_addr_exact}
 use Rattle.acl_rows.specs.declared.row.Owner.{Owner}
 use Rattle.acl_rows.specs.declared.row.Row.{Row}
@@ -40,33 +39,15 @@ pub record AreEdited (number : ℕ) (run : List (Edit Row)) (old new : Parts) : 
 
 -- ---- All rows
 
-before_by : (e : Edit Row) (xs ys : List Row) → PlacesAbove row_place (row_place e.row) ys → (b : Bool) → cond b (set_row row_place e.row (xs ++ ys)) (without_row row_place (row_place e.row) (xs ++ ys)) ≡ cond b (set_row row_place e.row xs) (without_row row_place (row_place e.row) xs) ++ ys
-before_by e xs ys above true = set_row-before row_place e.row xs ys above
-before_by e xs ys above false = without_row-before row_place (row_place e.row) xs ys above
-
-behind_by : (e : Edit Row) (xs ys : List Row) → PlacesBelow row_place (row_place e.row) xs → (b : Bool) → cond b (set_row row_place e.row (xs ++ ys)) (without_row row_place (row_place e.row) (xs ++ ys)) ≡ xs ++ cond b (set_row row_place e.row ys) (without_row row_place (row_place e.row) ys)
-behind_by e xs ys below true = set_row-behind row_place e.row xs ys below
-behind_by e xs ys below false = without_row-behind row_place (row_place e.row) xs ys below
-
-edited_before : (run : List (Edit Row)) (xs ys : List Row) → AllByRecursion (λ e. PlacesAbove row_place (row_place e.row) ys) run → edited row_place run (xs ++ ys) ≡ edited row_place run xs ++ ys
-unfolding edited edit_made
-edited_before [] xs ys above = refl
-edited_before (e ∷ es) xs ys above = ap (edit_made row_place e) (edited_before es xs ys above.1) ∙ before_by e (edited row_place es xs) ys above.0 e.comes
-
-edited_behind : (run : List (Edit Row)) (xs ys : List Row) → AllByRecursion (λ e. PlacesBelow row_place (row_place e.row) xs) run → edited row_place run (xs ++ ys) ≡ xs ++ edited row_place run ys
-unfolding edited edit_made
-edited_behind [] xs ys below = refl
-edited_behind (e ∷ es) xs ys below = ap (edit_made row_place e) (edited_behind es xs ys below.1) ∙ behind_by e xs (edited row_place es ys) below.0 e.comes
-
 joined_set : (n : ℕ) (parts : Parts) (k : ℕ) (run : List (Edit Row)) (part : SideRows) → On n parts → AllByRecursion (λ e. row_number e.row ≡ n + k) run → k < length parts → part.rows ≡ edited row_place run (part_at parts k).rows → joined (set parts k part) ≡ edited row_place run (joined parts)
 unfolding joined part_at
 joined_set n [] k run part on own lt is = absurd (omega arith)
 joined_set n (s ∷ ss) zero run part on own lt is =
     ap (λ (rows : List Row). rows ++ joined ss) is
-    ∙ sym (edited_before run s.rows (joined ss) (all_implied (λ e. row_number e.row ≡ n + 0) (λ e. PlacesAbove row_place (row_place e.row) (joined ss)) (λ e same. above_joined (suc n) ss e.row (rest_on n s ss on) (omega (arith, same))) run own))
+    ∙ sym (edited_before row_place run s.rows (joined ss) (all_implied (λ e. row_number e.row ≡ n + 0) (λ e. PlacesAbove row_place (row_place e.row) (joined ss)) (λ e same. above_joined (suc n) ss e.row (rest_on n s ss on) (omega (arith, same))) run own))
 joined_set n (s ∷ ss) (suc k) run part on own lt is =
     ap (λ (rows : List Row). s.rows ++ rows) (joined_set (suc n) ss k run part (rest_on n s ss on) (all_implied (λ e. row_number e.row ≡ n + suc k) (λ e. row_number e.row ≡ suc n + k) (λ e same. omega (arith, same)) run own) (omega arith) is)
-    ∙ sym (edited_behind run s.rows (joined ss) (all_implied (λ e. row_number e.row ≡ n + suc k) (λ e. PlacesBelow row_place (row_place e.row) s.rows) (λ e same. below_list e.row n s.rows (first_on n s ss on) (omega (arith, same))) run own))
+    ∙ sym (edited_behind row_place run s.rows (joined ss) (all_implied (λ e. row_number e.row ≡ n + suc k) (λ e. PlacesBelow row_place (row_place e.row) s.rows) (λ e same. below_list e.row n s.rows (first_on n s ss on) (omega (arith, same))) run own))
 
 -- ---- Rows stay on their shelves
 

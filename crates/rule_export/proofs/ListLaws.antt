@@ -7,7 +7,6 @@ use Rattle.sorted_rows.specs.Placed.{PlacesAscend}
 use Rattle.mud_base.specs.declared.addr.Family.TheVariants as family
 use Rattle.mud_base.specs.declared.prefix.Prefix.{Prefix}
 use Rattle.mud_base.specs.declared.packet.Direction.{Direction}
-use Rattle.mud_base.specs.declared.packet.Direction.TheVariants.{From, To}
 use Rattle.mud_base.specs.declared.packet.Fields.{Fields}
 use Rattle.acl_model.specs.declared.entry.Action.{Action}
 use Rattle.acl_model.specs.declared.entry.Action.TheVariants as action
@@ -38,7 +37,7 @@ use Rattle.packet_judge.proofs.OverTables.{over_tables}
 use Rattle.mud_tables.specs.Bindings.{bindings_of, selector_met, members_met, matches_by_bindings, ruling_by_bindings}
 use Rattle.packet_judge.specs.ByRows.{policy_held, IsViewOver}
 use Rattle.packet_judge.proofs.Rulings.{IsRest, all_rest, rest_next, rest_first}
-use Rattle.packet_judge.proofs.ByRows.{holder_sound, IsHolder}
+use Rattle.packet_judge.proofs.ByRows.{entries_default, holder_sound, IsHolder}
 use Rattle.rule_export.specs.declared.item.RuleNumber.{RuleNumber}
 use Rattle.rule_export.specs.declared.item.RuleNumber.TheVariants as rule
 use Rattle.rule_export.specs.declared.item.Resolved.{Resolved}
@@ -120,11 +119,6 @@ module _ (slots : Slots) (bindings : List Binding) (ascend : PlacesAscend bindin
   default_matched : (url : List ℕ) (which : DefaultRule) → matches [] (default_entry which view.side) ≡ matches url (default_entry which view.side)
   unfolding matched matches_by_bindings members_met selector_met key_of default_entry
   default_matched url which = refl
-
-  entries_default : (s : Direction) → entries_of s default_policy ≡ defaults_of s
-  unfolding entries_of
-  entries_default From = refl
-  entries_default To = refl
 
   default_chosen : (b c : Bool) (why : Why) → cond b (Some (rule.Default Dns)) (cond c (Some (rule.Default Ntp)) None) ≡ number_of (cond b (AcceptDefault Dns) (cond c (AcceptDefault Ntp) (DropDefault why)))
   unfolding number_of

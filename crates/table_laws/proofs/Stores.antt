@@ -4,7 +4,7 @@ use Rattle.std.specs.List.{list_any}
 use Rattle.std.proofs.lemmas.Bool.{false≢true}
 use Rattle.std.proofs.lemmas.Option.{same_Some, none-some}
 use Rattle.sorted_rows.specs.Placed.{same_place, PlacesAscend, row_at, set_row, set_rows, without_row}
-use Rattle.sorted_rows.proofs.PlacedLaws.{same_place_exact, same_place_itself, row_at-set_row_same, row_at-without_row, ascend-without_row, ascend-set_rows}
+use Rattle.sorted_rows.proofs.PlacedLaws.{same_place_exact, row_at-set_row_same, row_at-without_row, ascend-without_row, ascend-set_rows}
 use Rattle.sorted_rows.proofs.RowLaws.{place_row_at}
 use Rattle.acl_model.specs.declared.binding.Binding.{Binding}
 use Rattle.sorted_rows.specs.Changes.{are_apart}
@@ -17,7 +17,7 @@ use Rattle.acl_model.proofs.PlaceLaws.{binding_place_exact, ascend-without_bindi
 use Rattle.acl_model.proofs.BindingLaws.{same_spot_itself, spot_of_same, spot_shared, same_binding_exact, same_binding_itself}
 use Rattle.table_laws.proofs.Differences.{spot_among}
 use Rattle.sorted_rows.proofs.ListTests.{not_false}
-use Rattle.sorted_rows.proofs.ChangeLaws.{row_at-set_rows_other}
+use Rattle.sorted_rows.proofs.ChangeLaws.{same_place_turned, row_at-set_rows_other}
 
 -- of two that have a key and an address in common, one list without such two has but one
 pub same_among : (b c : Binding) (xs : List Binding) → are_apart same_spot xs ≡ true → has_binding b xs ≡ true → has_binding c xs ≡ true → same_spot b c ≡ true → b ≡ c
@@ -69,12 +69,9 @@ unfolding without_bindings
 without_at p [] rows up = refl
 without_at p (b ∷ gone) rows up =
     without_at p gone (without_row binding_place (binding_place b) rows) (ascend-without_row binding_place (binding_place b) rows up)
-    ∙ ap (cond (list_any (same_place p) (map binding_place gone)) None) (row_at-without_row binding_place (binding_place b) rows p up ∙ ap (λ t. cond t None (row_at binding_place p rows)) (turn_about (binding_place b) p))
+    ∙ ap (cond (list_any (same_place p) (map binding_place gone)) None) (row_at-without_row binding_place (binding_place b) rows p up ∙ ap (λ t. cond t None (row_at binding_place p rows)) (same_place_turned (binding_place b) p))
     ∙ either (same_place p (binding_place b)) (list_any (same_place p) (map binding_place gone)) (row_at binding_place p rows)
   where
-    turn_about : (p q : List ℕ) → same_place p q ≡ same_place q p
-    turn_about p q = both_ways (same_place p q) (same_place q p) (λ e. subst (λ r. same_place r p ≡ true) (same_place_exact p q e) (same_place_itself p)) (λ e. subst (λ r. same_place r q ≡ true) (same_place_exact q p e) (same_place_itself q))
-
     either : (b c : Bool) (o : Option Binding) → cond c None (cond b None o) ≡ cond (b || c) None o
     either true true o = refl
     either true false o = refl

@@ -7,7 +7,7 @@ use Rattle.std.proofs.lemmas.Bool.{false≢true}
 use Rattle.std.proofs.lemmas.Option.{none-some}
 use Rattle.std.proofs.lemmas.List.Folds.{list_any-append}
 use Rattle.sorted_rows.specs.Placed.{same_place, row_at}
-use Rattle.sorted_rows.proofs.PlacedLaws.{same_place_itself, row_at_above}
+use Rattle.sorted_rows.proofs.PlacedLaws.{row_at_above, row_at_row}
 use Rattle.mud_base.specs.declared.addr.Addr.{Addr}
 use Rattle.mud_url.specs.Url.{host_of}
 use Rattle.acl_model.specs.declared.binding.MemberKey.{MemberKey}
@@ -35,14 +35,11 @@ use Rattle.table_laws.proofs.BindingRows.{spot_key, class_bound, name_bound, thi
 -- ---- All rows of a part
 
 module _ {R : Type 0} (place : R → List ℕ) (f : R → List Binding) where
-  first_there : (x : R) (xs : List R) → row_at place (place x) (x ∷ xs) ≡ Some x
-  first_there x xs = ap (λ b. cond b (Some x) (row_at place (place x) xs)) (same_place_itself (place x))
-
   pub apart-flat_map : (rows : List R) → IsBindingRows place f rows → are_apart same_spot (flat_map f rows) ≡ true
   apart-flat_map [] sound = refl
   apart-flat_map (x ∷ xs) sound =
       let still : (p : List ℕ) (y : R) → row_at place p xs ≡ Some y → row_at place p (x ∷ xs) ≡ Some y = λ p y there. at_later place p x y xs sound.ascend.0 there (same_place (place x) p) refl in
-      apart-append same_spot same_spot_itself (f x) (flat_map f xs) (sound.each (place x) x (first_there x xs))
+      apart-append same_spot same_spot_itself (f x) (flat_map f xs) (sound.each (place x) x (row_at_row place (x ∷ xs) 0 x sound.ascend refl))
       (apart-flat_map xs (record {
         ascend = sound.ascend.1;
         one = λ b p q y z at_p at_q. sound.one b p q y z (still p y at_p) (still q z at_q);
@@ -50,7 +47,7 @@ module _ {R : Type 0} (place : R → List ℕ) (f : R → List Binding) where
       }))
       (λ b here later.
       let r : Passing place (λ y. list_any (same_spot b) (f y)) xs = found_passing place (λ y. list_any (same_spot b) (f y)) xs sound.ascend.1 (sym (any-flat_map (same_spot b) f xs) ∙ later) in
-      let same : place x ≡ r.at = sound.one b (place x) r.at x r.row (first_there x xs) (still r.at r.row r.there) here r.passes in
+      let same : place x ≡ r.at = sound.one b (place x) r.at x r.row (row_at_row place (x ∷ xs) 0 x sound.ascend refl) (still r.at r.row r.there) here r.passes in
       none-some r.row (sym (subst (λ p. row_at place p xs ≡ None) same (row_at_above place (place x) xs sound.ascend.0)) ∙ r.there))
 
 -- ---- The three parts have keys of their own

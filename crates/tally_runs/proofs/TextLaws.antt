@@ -20,6 +20,7 @@ use Rattle.drop_ledger.specs.declared.seen.Ruled.{Ruled}
 use Rattle.drop_ledger.specs.Seen.{hour_of, is_ruled, rulings_in, rulings}
 use Rattle.drop_ledger.specs.Ledger.{counts_of, hour_in}
 use Rattle.drop_ledger.proofs.LedgerLaws.{none_ruled}
+use Rattle.drop_ledger.proofs.TallyLaws.{first_some, hour-append}
 use Rattle.tally_runs.specs.Texts.{hour_lines}
 use Rattle.tally_runs.specs.Tallied.{Tallied, begun, seen_as, seen_of, seen_in, hours, in_hour, text_of_hour, ending_of, tally_text, is_over, closing, closed_before, latest_with, tallied, tally_step, tally_ending}
 
@@ -221,20 +222,6 @@ at_end l one None is = ap (λ o. hour_lines o (counts_of (rulings l))) is ∙ sy
 at_end l one (Some h) is = sym (append-nil (closing l)) ∙ closed_first h l [] is (subst (λ o. One o l) is one) tt
 
 -- ---- One packet more
-
-first_some : Option ℕ → Option ℕ → Option ℕ
-first_some None o = o
-first_some (Some h) o = Some h
-
-chosen : (b : Bool) (h : ℕ) (o p : Option ℕ) → cond b (Some h) (first_some o p) ≡ first_some (cond b (Some h) o) p
-unfolding first_some
-chosen true h o p = refl
-chosen false h o p = refl
-
-hour-append : (xs ys : List Seen) → hour_in (xs ++ ys) ≡ first_some (hour_in xs) (hour_in ys)
-unfolding hour_in first_some
-hour-append [] ys = refl
-hour-append (x ∷ xs) ys = ap (cond (is_ruled x) (Some (hour_of x))) (hour-append xs ys) ∙ chosen (is_ruled x) (hour_of x) (hour_in xs) (hour_in ys)
 
 hour_one : (s : Seen) → hour_in (s ∷ []) ≡ cond (is_ruled s) (Some (hour_of s)) None
 unfolding hour_in

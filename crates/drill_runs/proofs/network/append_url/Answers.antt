@@ -1,12 +1,12 @@
 use Rattle.std.proofs.Common.{ℕ, ◌%◌, List, ◌++◌, codes, ap, ◌∙◌}
 use Rattle.std.specs.Prelude.{decimal}
 use Rattle.std.proofs.lemmas.Result.{on_ok_weaker}
-use Rattle.drill_runs.specs.Network.{url_text}
+use Rattle.drill_runs.specs.Network.{usage_url}
 use Rattle.drill_runs.proofs.Joins.{joined_four}
 use Rattle.drill_runs.proofs.network.append_url.Goals as goal
 
 pub returns : goal.returns
-unfolding url_text
+unfolding usage_url
 returns c =
     on_ok_weaker c.append_decimal-2.result
     (λ last. joined_four c.args.text.now c.append.new.self c.append_decimal.new.line c.append-2.new.self c.append_decimal-2.new.line

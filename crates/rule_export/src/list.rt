@@ -278,6 +278,7 @@ pub fn list_of<L: Ledger>(
     steps: &mut Steps<L>,
 ) -> Result<Listed<Resolved>, Memory>
     ensures list { IfOk result (λ list. list ≡ spec.resolved_of (spec.wanted locals.now m family) view.now) }
+    ensures counted { OnOk result (steps.new ≡ steps.old + spec.file_count view.now.file + length view.now.defaults.rows) }
     ensures most { steps.new ≤ steps.old + spec.file_count view.now.file + length view.now.defaults.rows }
 {
     let w = Wants {
@@ -301,6 +302,7 @@ pub fn export_list<L: Ledger>(
     steps: &mut Steps<L>,
 ) -> Result<Listed<Resolved>, Memory>
     ensures list { IfOk result (λ list. list ≡ spec.resolved_of (spec.wanted locals.now m family) view.entry) }
+    ensures counted { OnOk result (steps.new ≡ steps.old + spec.file_count view.entry.file + length view.entry.defaults.rows) }
     ensures most { steps.new ≤ steps.old + spec.file_count view.entry.file + length view.entry.defaults.rows }
 {
     list_of(alloc, &view, locals, family, m, steps)

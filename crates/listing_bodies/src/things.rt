@@ -84,17 +84,14 @@ fn append_leases(alloc: Global, body: &mut Bytes, thing: &Thing) -> Result<(), M
     append_list(alloc, body, thing.leases.as_slice())
 }
 
-/// Adds the URL that waits, or null where there is none.
+/// Adds a URL, or null where there is none.
 #[tactic(auto, unfolding(answer_buffer::specs::Texts::url_text))]
-fn append_pending(body: &mut Bytes, pending: &Option<MudUrl>) -> Result<(), Memory>
-    ensures { OnOk result (body.new ≡ body.old ++ (codes ",\"pending\":" ++ url_text pending.now)) }
+fn append_url(body: &mut Bytes, url: &Option<MudUrl>) -> Result<(), Memory>
+    ensures { OnOk result (body.new ≡ body.old ++ url_text url.now) }
 {
-    match pending {
-        None => body.append(b",\"pending\":null"),
-        Some(url) => {
-            body.append(b",\"pending\":")?;
-            append_quoted(body, url.text())
-        }
+    match url {
+        None => body.append(b"null"),
+        Some(url) => append_quoted(body, url.text()),
     }
 }
 
@@ -103,7 +100,8 @@ fn append_pending(body: &mut Bytes, pending: &Option<MudUrl>) -> Result<(), Memo
 fn append_urls(body: &mut Bytes, pending: &Option<MudUrl>, url: &MudUrl) -> Result<(), Memory>
     ensures { OnOk result (body.new ≡ body.old ++ spec.urls_text pending.now url.now) }
 {
-    append_pending(body, pending)?;
+    body.append(b",\"pending\":")?;
+    append_url(body, pending)?;
     append_url_end(body, url)
 }
 

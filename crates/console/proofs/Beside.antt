@@ -1,6 +1,7 @@
 -- What requests make of a state beside a value that stays.
 use Rattle.std.proofs.Common.{◌≡◌, ℕ, Bool, ◌-◌, List, [], ◌∷◌, Option, Some, refl, inl, inr, sym, ap, ◌∙◌, subst}
 use Rattle.mud_world.specs.Door.{DoorState}
+use Rattle.mud_world.specs.View.{DoorView}
 use Rattle.http_requests.specs.declared.fault.RequestFault.{RequestFault}
 use Rattle.http_requests.specs.declared.fault.MomentFrom.{MomentFrom}
 use Rattle.http_requests.specs.Requests.{Request, Ending, most_requests}
@@ -125,10 +126,10 @@ module _ {S X : Type 0} (may : S → Asked → List ℕ → S → Type 0) where
           });
         }
 
-    pub is_served_of : (keeps : Option S × X → Type 0) (keeps' : S → Type 0) (s : S) (x : X) (end : ConnectionEnd) (old new : DoorState) → ((n : S) → keeps (Some n, x) → keeps' n)
+    pub is_served_of : (keeps : Option S × X → Type 0) (keeps' : S → Type 0) (s : S) (x : X) (end : ConnectionEnd) (old new : DoorView) → ((n : S) → keeps (Some n, x) → keeps' n)
         → IsServed (MayBeside may) refusal from keeps end (Some s, x) old new → IsServed may refusal from keeps' end s old new
     is_served_of keeps keeps' s x end old new then p =
-        let on = by_end s x p.next end old new p.served in
+        let on = by_end s x p.next end old.state new.state p.served in
         record { next = on.next; kept = then on.next (subst keeps on.is p.kept); served = on.holds }
 
     visits_of : (s : S) (x : X) (t : Option S × X) (visits : List Visit) → AreServed (MayBeside may) refusal from (Some s, x) t visits → Reaches (λ n. AreServed may refusal from s n visits) x t
@@ -138,10 +139,9 @@ module _ {S X : Type 0} (may : S → Asked → List ℕ → S → Type 0) where
         let later = visits_of one.next x t visits (subst (λ (at : Option S × X). AreServed (MayBeside may) refusal from at t visits) one.is p.2) in
         record { next = later.next; is = later.is; holds = (one.next, one.holds, later.holds) }
 
-    pub in_turn_of : (keeps : Option S × X → Type 0) (keeps' : S → Type 0) (s : S) (x : X) (failed : Bool) (count : ℕ) (old new : DoorState) (read_before read_now write_before write_now : ℕ) → ((n : S) → keeps (Some n, x) → keeps' n)
-        → ServedInTurn (MayBeside may) refusal from keeps failed count (Some s, x) old new read_before read_now write_before write_now
-        → ServedInTurn may refusal from keeps' failed count s old new read_before read_now write_before write_now
-    in_turn_of keeps keeps' s x failed count old new read_before read_now write_before write_now then p =
+    pub in_turn_of : (keeps : Option S × X → Type 0) (keeps' : S → Type 0) (s : S) (x : X) (failed : Bool) (count : ℕ) (old new : DoorView) → ((n : S) → keeps (Some n, x) → keeps' n)
+        → ServedInTurn (MayBeside may) refusal from keeps failed count (Some s, x) old new → ServedInTurn may refusal from keeps' failed count s old new
+    in_turn_of keeps keeps' s x failed count old new then p =
         let v = p.visited in
         let on = visits_of s x v.next p.visits v.served in
         record {

@@ -3,8 +3,6 @@ use Rattle.std.specs.Prelude.{max, IfOk}
 use Rattle.std.proofs.Common.{◌≡◌, ℕ, List, Some, Result, Ok, Err, refl, sym, ap, ◌∙◌, subst, inl, inr}
 use Rattle.mud_base.specs.declared.memory.Memory as want
 use Rattle.mud_tables.specs.declared.segment.Segment.{Segment}
-use Rattle.mud_tables.specs.declared.thing.Thing.{Thing}
-use Rattle.file_tables.specs.declared.cached_file.CachedFile.{CachedFile}
 use Rattle.packet_judge.specs.declared.verdict.Verdict.{Verdict}
 use Rattle.dhcp_lldp.specs.declared.heard.Heard.{Heard}
 use Rattle.dhcp_lldp.specs.declared.heard.Heard.TheVariants.{Url, Lease, Nothing}
@@ -18,11 +16,14 @@ use Rattle.frame_view.specs.Frame.{frame_of}
 use Rattle.desk_model.specs.Sessions.{Session, MayJudge, frame_in, verdict_in, raised, later, IsNoted}
 use Rattle.http_answers.specs.declared.status.Status.TheVariants as status
 use Rattle.outcome_bodies.specs.Verdicts.{verdict_body}
+use Rattle.desk_model.specs.Verdicts.{policy_at}
+use Rattle.desk_judge.specs.declared.findings.Findings.{Findings}
+use Rattle.desk_judge.specs.Findings.{found_in, AreFindingsOn}
 use Rattle.mud_desk.specs.DeskState.{DeskState, tables_of, session_of, HasForwarded, IsJudged}
 use Rattle.mud_desk.proofs.Sessions.{flows_stay}
 use Rattle.console_answers.specs.Replies.{Reply, reply, Replied, replied, made_reply, no_storage, IsOrWanted, MayStand}
 use Rattle.console_answers.specs.Listings.{listing_text}
-use Rattle.console_answers.specs.Why.{packet_ends, ends_text, why_text}
+use Rattle.console_answers.specs.Why.{ends_text, why_text}
 use Rattle.console_routes.specs.declared.action.Action.{Action}
 use Rattle.console_bodies.specs.declared.asked.Asked.{Asked}
 use Rattle.console_answers.specs.Requests.{ChangesBy, by_verdict, by_question, command_asked}
@@ -104,14 +105,15 @@ told frame h state given written or stands =
     (reply status.Done (why_text (session_of h state).desk frame (verdict_in (session_of h state) given frame))) refl or stands
 
 -- the text that was made for it
-pub why_is : (frame : List ℕ) (h : List Segment) (state : DeskState) (given : ℕ) (things : List Thing) (files : List CachedFile) (verdict : Verdict) (text : Result (List ℕ) want.Memory) (written : Reply)
-    → things ≡ (tables_of state).tables.things → files ≡ (tables_of state).files → verdict ≡ verdict_in (session_of h state) given frame
-    → IfOk text (λ t. t ≡ ends_text files (packet_ends things (frame_of frame)) verdict) → written ≡ made_reply status.Done text
+pub why_is : (frame : List ℕ) (h : List Segment) (state : DeskState) (given : ℕ) (findings : Findings) (text : Result (List ℕ) want.Memory) (written : Reply)
+    → AreFindingsOn (policy_at (tables_of state)) (tables_of state).tables.things (frame_of frame) findings → findings.verdict ≡ verdict_in (session_of h state) given frame
+    → IfOk text (λ t. t ≡ ends_text (found_in findings.source) (found_in findings.destination) findings.verdict) → written ≡ made_reply status.Done text
     → IsOrWanted (reply status.Done (why_text (session_of h state).desk frame (verdict_in (session_of h state) given frame))) written
 unfolding why_text session_of
-why_is frame h state given things files verdict text written things_is files_is is text_is made_is =
-    subst (λ (t : List ℕ). IsOrWanted (reply status.Done t) written) (λ i. ends_text (files_is i) (packet_ends (things_is i) (frame_of frame)) (is i))
-    (made status.Done (ends_text files (packet_ends things (frame_of frame)) verdict) text written text_is made_is)
+why_is frame h state given findings text written found is text_is made_is =
+    subst (λ (t : List ℕ). IsOrWanted (reply status.Done t) written)
+    ((λ i. ends_text (found.source i) (found.destination i) findings.verdict) ∙ ap (why_text (tables_of state) frame) is)
+    (made status.Done (ends_text (found_in findings.source) (found_in findings.destination) findings.verdict) text written text_is made_is)
 
 -- the question is this one
 pub as_asked : (h : List Segment) (before after : DeskState) (given : ℕ) (octets : List ℕ) (action : Action) (a b : Asked) (written : Reply) → a ≡ b

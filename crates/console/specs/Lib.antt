@@ -3,3 +3,4 @@ pub mod Origins
 pub mod Refused
 pub mod States
 pub mod Beside
+pub mod Served

@@ -1,15 +1,12 @@
 //! Serving connections by a desk.
-ghost use Rattle.std.specs.Prelude.{◌≡◌, ◌≤◌, List, IsTrue, OnErr, is_err};
-ghost use Rattle.mud_world.specs.Boxed.{faults_of, Tells};
-ghost use Rattle.mud_world.specs.Causes.{Counts, StopsAtFailure};
-ghost use Rattle.mud_tables.specs.declared.segment.Segment.{Segment as SegmentValue};
-ghost use Rattle.mud_desk.specs.DeskState.{tables_of, session_of, HasForwarded};
+ghost use Rattle.std.specs.Prelude.{◌≡◌, is_err};
+ghost use Rattle.mud_world.specs.Boxed.{Tells};
+ghost use Rattle.mud_desk.specs.DeskState.{tables_of};
 ghost use Rattle.mud_desk.specs.Boxed.{IsKept, IsSameBox};
-ghost use Rattle.http_serving.specs.Ends.{IsServed, is_read_failed, is_write_failed};
-ghost use Rattle.http_serving.specs.Runs.{IsLeftBy};
-ghost use Rattle.http_serving.specs.Visits.{ServedInTurn};
-ghost use Rattle.console_answers.specs.Answers.{fault_answer};
-ghost use Rattle.console.specs.States.{MayTake, IsAt, begun};
+ghost use Rattle.http_requests.specs.Doors.{ReadsAndWrites};
+ghost use Rattle.http_serving.specs.Ends.{is_read_failed, is_write_failed};
+ghost use Rattle.http_serving.specs.Visits.{TakesTurns};
+ghost use Rattle.console.specs.Served.{IsLeftByRequests, ServesOne, ServesInTurn};
 
 use crate::console::Console;
 use http_requests::{MomentFrom, RequestBuffer};
@@ -31,27 +28,15 @@ pub fn serve_connection<D: Door, C: Clock>(
     ensures kept { IsKept Keeper-dyn console.new.desk.keeper (tables_of console.new.desk.state) }
 
     // Whatever the door: from the session that the desk is in, it is in one that some requests left.
-    ensures left { (h : List SegmentValue) → HasForwarded h console.old.desk.state
-        → IsLeftBy (MayTake C.tells)
-        (IsAt C.tells console.new.desk.state (C.moments console.new.clock.now)
-        (faults_of Keeper-dyn console.old.desk.keeper) (faults_of Keeper-dyn console.new.desk.keeper))
-        (begun (session_of h console.old.desk.state) (C.moments console.old.clock.now)) }
+    ensures left { IsLeftByRequests Keeper-dyn ⟦<C as Clock>⟧ console.old console.new }
     // Where the door tells, they are those of the connection, and what was written are their answers.
-    ensures served { D.tells → (h : List SegmentValue) → HasForwarded h console.old.desk.state
-        → IsServed (MayTake C.tells) fault_answer from
-        (IsAt C.tells console.new.desk.state (C.moments console.new.clock.now)
-        (faults_of Keeper-dyn console.old.desk.keeper) (faults_of Keeper-dyn console.new.desk.keeper))
-        result (begun (session_of h console.old.desk.state) (C.moments console.old.clock.now))
-        (D.view door.old).state (D.view door.new).state }
+    ensures served { D.tells
+        → ServesOne Keeper-dyn ⟦<C as Clock>⟧ console.old console.new from result (D.view door.old) (D.view door.new) }
     ensures told { Tells Keeper-dyn console.new.desk.keeper → Tells Keeper-dyn console.old.desk.keeper }
     ensures same_box { IsSameBox console.old.desk.keeper console.new.desk.keeper }
     // The clock stays the one that was lent.
     ensures same_clock { console.new.clock.ghost_name ≡ console.old.clock.ghost_name }
-    ensures reads { Counts (is_read_failed result) (D.view door.old).reads (D.view door.new).reads }
-    ensures writes { Counts (is_write_failed result) (D.view door.old).writes (D.view door.new).writes }
-    ensures read_stop { IsTrue (is_read_failed result) → StopsAtFailure (D.view door.new).failed (D.view door.old).reads (D.view door.new).reads }
-    ensures write_stop { IsTrue (is_write_failed result) → StopsAtFailure (D.view door.new).failed (D.view door.old).writes (D.view door.new).writes }
-    ensures turns { (D.view door.new).turns ≡ (D.view door.old).turns }
+    ensures calls { ReadsAndWrites (is_read_failed result) (is_write_failed result) (D.view door.old) (D.view door.new) }
 {
     serve_requests(buffer, door, console, from)
 }
@@ -70,27 +55,15 @@ pub fn serve_connections<D: Door, C: Clock>(
     ensures kept { IsKept Keeper-dyn console.new.desk.keeper (tables_of console.new.desk.state) }
 
     // Whatever the door: from the session that the desk is in, it is in one that some requests left.
-    ensures left { (h : List SegmentValue) → HasForwarded h console.old.desk.state
-        → IsLeftBy (MayTake C.tells)
-        (IsAt C.tells console.new.desk.state (C.moments console.new.clock.now)
-        (faults_of Keeper-dyn console.old.desk.keeper) (faults_of Keeper-dyn console.new.desk.keeper))
-        (begun (session_of h console.old.desk.state) (C.moments console.old.clock.now)) }
+    ensures left { IsLeftByRequests Keeper-dyn ⟦<C as Clock>⟧ console.old console.new }
     // Where the door tells, they are those of the connections, and what was written are their answers.
-    ensures served { D.tells → (h : List SegmentValue) → HasForwarded h console.old.desk.state
-        → ServedInTurn (MayTake C.tells) fault_answer from
-        (IsAt C.tells console.new.desk.state (C.moments console.new.clock.now)
-        (faults_of Keeper-dyn console.old.desk.keeper) (faults_of Keeper-dyn console.new.desk.keeper))
-        (is_err result) count (begun (session_of h console.old.desk.state) (C.moments console.old.clock.now))
-        (D.view door.old).state (D.view door.new).state
-        (D.view door.old).reads (D.view door.new).reads (D.view door.old).writes (D.view door.new).writes }
+    ensures served { D.tells
+        → ServesInTurn Keeper-dyn ⟦<C as Clock>⟧ console.old console.new from (is_err result) count (D.view door.old) (D.view door.new) }
     ensures told { Tells Keeper-dyn console.new.desk.keeper → Tells Keeper-dyn console.old.desk.keeper }
     ensures same_box { IsSameBox console.old.desk.keeper console.new.desk.keeper }
     // The clock stays the one that was lent.
     ensures same_clock { console.new.clock.ghost_name ≡ console.old.clock.ghost_name }
-    ensures turns { Counts (is_err result) (D.view door.old).turns (D.view door.new).turns }
-    ensures stop { OnErr result (StopsAtFailure (D.view door.new).failed (D.view door.old).turns (D.view door.new).turns) }
-    ensures reads { (D.view door.old).reads ≤ (D.view door.new).reads }
-    ensures writes { (D.view door.old).writes ≤ (D.view door.new).writes }
+    ensures calls { TakesTurns (is_err result) (D.view door.old) (D.view door.new) }
 {
     serve_each(buffer, door, console, from, count)
 }

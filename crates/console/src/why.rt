@@ -1,16 +1,45 @@
 //! What decides a frame.
-ghost use Rattle.std.specs.Prelude.{◌≡◌, false, ℕ, List};
+ghost use Rattle.std.specs.Prelude.{◌≡◌, false, ℕ, List, IfOk};
 ghost use Rattle.mud_tables.specs.declared.segment.Segment.{Segment as SegmentValue};
 ghost use Rattle.desk_model.specs.Sessions.{verdict_in};
+ghost use Rattle.desk_judge.specs.Findings.{found_in};
 ghost use Rattle.mud_desk.specs.DeskState.{session_of, HasForwarded};
+ghost use Rattle.listing_bodies.specs.Why.{side_text};
 ghost use Rattle.console_answers.specs.Replies.{reply, is_unavailable, IsOrWanted};
 ghost use Rattle.console_answers.specs.Why as spec;
 
-use console_answers::{BodyText, why_text};
+use console_answers::BodyText;
 use http_answers::Status;
-use mud_base::Moment;
-use mud_desk::Desk;
+use listing_bodies::{RuledEnd, why_body};
+use mud_base::{Bytes, Memory, Moment};
+use mud_desk::{Desk, Findings, RuledThing};
 use std::alloc::Global;
+
+/// An end as a body tells it.
+#[tactic(auto, unfolding(desk_judge::specs::Findings::found_in, console_answers::specs::Why::end_text, listing_bodies::specs::Why::side_text, listing_bodies::specs::Why::end_text))]
+fn told_end<'a>(ruled: &Option<RuledThing<'a>>) -> Option<RuledEnd<'a>>
+    ensures { side_text result ≡ spec.end_text (found_in ruled.now) }
+{
+    match ruled {
+        Some(ruled) => Some(RuledEnd {
+            mac: ruled.thing.mac,
+            url: &ruled.thing.url,
+            ruling: ruled.ruling,
+            entry: ruled.entry,
+        }),
+        None => None,
+    }
+}
+
+/// The body that tells what was found of a frame.
+#[tactic(auto, unfolding(console_answers::specs::Why::ends_text, listing_bodies::specs::Why::why_body))]
+fn told_ends(alloc: Global, findings: &Findings<'_>) -> Result<Bytes, Memory>
+    ensures { IfOk result (λ text. text ≡ spec.ends_text (found_in findings.now.source) (found_in findings.now.destination) findings.now.verdict) }
+{
+    let from = told_end(&findings.source);
+    let to = told_end(&findings.destination);
+    why_body(alloc, &from, &to, &findings.verdict)
+}
 
 /// Tells what decides a frame. Nothing is changed, the moment of the session neither.
 pub(crate) fn answer_why(
@@ -24,7 +53,7 @@ pub(crate) fn answer_why(
         → IsOrWanted (reply Status.Done (spec.why_text (session_of h desk.now.state).desk frame.now (verdict_in (session_of h desk.now.state) given frame.now))) (reply result body.new) }
     ensures known { is_unavailable result ≡ false }
 {
-    let verdict = desk.why(frame, given);
-    let text = why_text(alloc, desk.things(), desk.files(), frame, &verdict);
+    let findings = desk.why(frame, given);
+    let text = told_ends(alloc, &findings);
     body.take(Status::Done, text)
 }

@@ -1,11 +1,13 @@
 -- What requests leave of a desk, once its keeper is handed back.
 use Rattle.std.proofs.Common.{◌≡◌, ℕ, zero, suc, Bool, List, [], refl, sym, ap, ◌∙◌, subst, arith}
+use Rattle.std.specs.List.{count_by}
 use Rattle.std.specs.declared.dyn_box.DynBox.{DynBox}
 use Rattle.std.specs.declared.alloc.Global.{Global}
 use Rattle.mud_world.specs.declared.keeper.Keeper.{Ghosts}
 use Rattle.mud_world.specs.Boxed.{faults_of}
 use Rattle.mud_world.specs.Causes.{Rose}
 use Rattle.mud_world.specs.Door.{DoorState}
+use Rattle.mud_world.specs.View.{DoorView}
 use Rattle.mud_tables.specs.declared.segment.Segment.{Segment}
 use Rattle.desk_model.specs.DeskTables.{DeskTables}
 use Rattle.desk_model.specs.Sessions.{Session, opened}
@@ -15,7 +17,7 @@ use Rattle.http_requests.specs.declared.fault.MomentFrom.{MomentFrom}
 use Rattle.http_serving.specs.declared.end.ConnectionEnd.{ConnectionEnd}
 use Rattle.http_serving.specs.Ends.{IsServed}
 use Rattle.http_serving.specs.Runs.{IsLeftBy}
-use Rattle.http_serving.specs.Visits.{CountsOf, ServedInTurn}
+use Rattle.http_serving.specs.Visits.{failed_to_read, failed_to_write, AreEnough, CountsOf, ServedInTurn, Visited}
 use Rattle.console_answers.specs.Answers.{fault_answer}
 use Rattle.console.specs.States.{ConsoleState, MayTake, IsAt, begun}
 use Rattle.console_runs.specs.Store.{LeavesDesk}
@@ -37,22 +39,33 @@ module _ (tells : Type 0) (keeps keeps' : ConsoleState → Type 0) (then : (n : 
   pub left_as : IsLeftBy (MayTake tells) keeps s → IsLeftBy (MayTake tells) keeps' t
   left_as p = subst (λ (at : ConsoleState). IsLeftBy (MayTake tells) keeps' at) same (record { all = p.all; next = p.next; kept = then p.next p.kept; leads = p.leads })
 
-  pub served_as : (from : MomentFrom) (end : ConnectionEnd) (old new : DoorState) → IsServed (MayTake tells) fault_answer from keeps end s old new → IsServed (MayTake tells) fault_answer from keeps' end t old new
+  pub served_as : (from : MomentFrom) (end : ConnectionEnd) (old new : DoorView) → IsServed (MayTake tells) fault_answer from keeps end s old new → IsServed (MayTake tells) fault_answer from keeps' end t old new
   served_as from end old new p =
       subst (λ (at : ConsoleState). IsServed (MayTake tells) fault_answer from keeps' end at old new) same (record { next = p.next; kept = then p.next p.kept; served = p.served })
 
-  pub in_turn_as : (from : MomentFrom) (failed : Bool) (count : ℕ) (old new : DoorState) (read_before read_now write_before write_now : ℕ)
-      → ServedInTurn (MayTake tells) fault_answer from keeps failed count s old new read_before read_now write_before write_now
-      → ServedInTurn (MayTake tells) fault_answer from keeps' failed count t old new read_before read_now write_before write_now
-  in_turn_as from failed count old new read_before read_now write_before write_now p =
+  pub in_turn_as : (from : MomentFrom) (failed : Bool) (count : ℕ) (old new : DoorView) → ServedInTurn (MayTake tells) fault_answer from keeps failed count s old new
+      → ServedInTurn (MayTake tells) fault_answer from keeps' failed count t old new
+  in_turn_as from failed count old new p =
       let v = p.visited in
-      subst (λ (at : ConsoleState). ServedInTurn (MayTake tells) fault_answer from keeps' failed count at old new read_before read_now write_before write_now) same (record {
+      subst (λ (at : ConsoleState). ServedInTurn (MayTake tells) fault_answer from keeps' failed count at old new) same (record {
         visits = p.visits;
         visited = record { next = v.next; kept = then v.next v.kept; served = v.served; came = v.came; past = v.past; bound = v.bound };
         enough = p.enough;
         reads = p.reads;
         writes = p.writes;
       })
+
+-- the same of a door whose connections and whose counts of failed reads and writes were the same before
+pub in_turn_before : (tells : Type 0) (keeps : ConsoleState → Type 0) (s : ConsoleState) (from : MomentFrom) (failed : Bool) (count : ℕ) (first mid new : DoorView)
+    → mid.state ≡ first.state → mid.reads ≡ first.reads → mid.writes ≡ first.writes
+    → ServedInTurn (MayTake tells) fault_answer from keeps failed count s mid new → ServedInTurn (MayTake tells) fault_answer from keeps failed count s first new
+in_turn_before tells keeps s from failed count first mid new same_state same_reads same_writes p = record {
+  visits = p.visits;
+  visited = subst (λ (d : DoorState). Visited (MayTake tells) fault_answer from keeps s p.visits d new.state) same_state p.visited;
+  enough = subst (λ (d : DoorState). AreEnough failed count p.visits d) same_state p.enough;
+  reads = subst (λ (n : ℕ). CountsOf (count_by failed_to_read p.visits) n new.reads) same_reads p.reads;
+  writes = subst (λ (n : ℕ). CountsOf (count_by failed_to_write p.visits) n new.writes) same_writes p.writes;
+}
 
 -- ---- The keeper
 

@@ -1,20 +1,22 @@
 -- What a run of `replay` promises where the connection is served, and where it isn't.
-use Rattle.std.proofs.Common.{◌≡◌, ◌≢◌, ℕ, Bool, ◌⊎◌, inl, inr, IsTrue, [], Ok, refl, subst, ◌∙◌, arith}
+use Rattle.std.proofs.Common.{◌≡◌, ◌≢◌, ℕ, ◌⊎◌, inl, inr, [], Ok, refl, subst, ◌∙◌, arith}
 use Rattle.std.specs.declared.dyn_box.DynBox.{DynBox}
 use Rattle.std.specs.declared.alloc.Global.{Global}
 use Rattle.mud_world.specs.declared.keeper.Keeper.{Ghosts}
 use Rattle.mud_world.specs.Boxed.{faults_of, Tells, kept_items}
-use Rattle.mud_world.specs.Causes.{Counts, Rose, StopsAtFailure, EndsAtFailure}
+use Rattle.mud_world.specs.Causes.{Rose}
 use Rattle.mud_world.specs.View.{DoorView}
 use Rattle.desk_model.specs.DeskTables.{DeskTables, IsSound}
 use Rattle.desk_model.specs.Items.{tables_in}
 use Rattle.mud_desk.specs.Boxed.{IsKept, IsSameBox}
 use Rattle.mud_desk.specs.DeskState.{DeskState, IsBegun, session_of, tables_of}
 use Rattle.http_requests.specs.declared.fault.MomentFrom.TheVariants.{Header}
+use Rattle.http_requests.specs.Doors.{ReadsAndWrites}
 use Rattle.http_serving.specs.declared.end.ConnectionEnd.{ConnectionEnd}
 use Rattle.http_serving.specs.declared.end.ConnectionEnd.TheVariants.{Ended, Closed, Broken, Spent, ReadFailed, WriteFailed}
 use Rattle.http_serving.specs.Ends.{IsServed, is_read_failed, is_write_failed}
 use Rattle.http_serving.specs.Runs.{IsLeftBy}
+use Rattle.command_runs.specs.Ends.{IsSteady, IsStopped}
 use Rattle.desk_runs.proofs.Refusals.{reads_honestly}
 use Rattle.console_answers.specs.Answers.{fault_answer}
 use Rattle.console.specs.States.{MayTake, IsAt, begun}
@@ -47,34 +49,31 @@ at_most_four Spent status is which = absurd (grind arith)
 at_most_four ReadFailed status is which = absurd (grind arith)
 at_most_four WriteFailed status is which = absurd (grind arith)
 
-module _ (status read_before read_now write_before write_now : ℕ) where
-  fault_at : (has_failed : Bool) (end : ConnectionEnd) → status ≡ status_at end → Counts (is_read_failed end) read_before read_now → Counts (is_write_failed end) write_before write_now
-      → (IsTrue (is_read_failed end) → StopsAtFailure has_failed read_before read_now) → (IsTrue (is_write_failed end) → StopsAtFailure has_failed write_before write_now)
-      → status ≡ 4 → EndsAtFailure has_failed read_before read_now write_before write_now
-  fault_at has_failed Ended is reads writes read write four = absurd (omega (arith, is, four))
-  fault_at has_failed Closed is reads writes read write four = absurd (omega (arith, is, four))
-  fault_at has_failed Broken is reads writes read write four = absurd (omega (arith, is, four))
-  fault_at has_failed Spent is reads writes read write four = absurd (omega (arith, is, four))
-  fault_at has_failed ReadFailed is reads writes read write four = inl (read refl, writes.steady refl)
-  fault_at has_failed WriteFailed is reads writes read write four = inr (write refl, reads.steady refl)
+module _ (status : ℕ) (old new : DoorView) where
+  fault_at : (end : ConnectionEnd) → status ≡ status_at end → ReadsAndWrites (is_read_failed end) (is_write_failed end) old new → status ≡ 4 → IsStopped old new
+  fault_at Ended is calls four = absurd (omega (arith, is, four))
+  fault_at Closed is calls four = absurd (omega (arith, is, four))
+  fault_at Broken is calls four = absurd (omega (arith, is, four))
+  fault_at Spent is calls four = absurd (omega (arith, is, four))
+  fault_at ReadFailed is calls four = inl (calls.read_stop refl, calls.writes.steady refl)
+  fault_at WriteFailed is calls four = inr (calls.write_stop refl, calls.reads.steady refl)
 
-  steady_at : (end : ConnectionEnd) → status ≡ status_at end → Counts (is_read_failed end) read_before read_now → Counts (is_write_failed end) write_before write_now
-      → status ≢ 4 → (read_now ≡ read_before) × (write_now ≡ write_before)
-  steady_at Ended is reads writes other = (reads.steady refl, writes.steady refl)
-  steady_at Closed is reads writes other = (reads.steady refl, writes.steady refl)
-  steady_at Broken is reads writes other = (reads.steady refl, writes.steady refl)
-  steady_at Spent is reads writes other = (reads.steady refl, writes.steady refl)
-  steady_at ReadFailed is reads writes other = absurd (other is)
-  steady_at WriteFailed is reads writes other = absurd (other is)
+  steady_at : (end : ConnectionEnd) → status ≡ status_at end → ReadsAndWrites (is_read_failed end) (is_write_failed end) old new → status ≢ 4 → IsSteady old new
+  steady_at Ended is calls other = (calls.reads.steady refl, calls.writes.steady refl)
+  steady_at Closed is calls other = (calls.reads.steady refl, calls.writes.steady refl)
+  steady_at Broken is calls other = (calls.reads.steady refl, calls.writes.steady refl)
+  steady_at Spent is calls other = (calls.reads.steady refl, calls.writes.steady refl)
+  steady_at ReadFailed is calls other = absurd (other is)
+  steady_at WriteFailed is calls other = absurd (other is)
 
-  complete_at : (end : ConnectionEnd) → status ≡ status_at end → Counts (is_read_failed end) read_before read_now → Counts (is_write_failed end) write_before write_now
-      → ¬ (Rose read_before read_now) → ¬ (Rose write_before write_now) → IsComplete status
-  complete_at Ended is reads writes no_read no_write = inl is
-  complete_at Closed is reads writes no_read no_write = inl is
-  complete_at Broken is reads writes no_read no_write = inr (inl is)
-  complete_at Spent is reads writes no_read no_write = inr (inl is)
-  complete_at ReadFailed is reads writes no_read no_write = absurd (no_read (reads.rose refl))
-  complete_at WriteFailed is reads writes no_read no_write = absurd (no_write (writes.rose refl))
+  complete_at : (end : ConnectionEnd) → status ≡ status_at end → ReadsAndWrites (is_read_failed end) (is_write_failed end) old new
+      → ¬ (Rose old.reads new.reads) → ¬ (Rose old.writes new.writes) → IsComplete status
+  complete_at Ended is calls no_read no_write = inl is
+  complete_at Closed is calls no_read no_write = inl is
+  complete_at Broken is calls no_read no_write = inr (inl is)
+  complete_at Spent is calls no_read no_write = inr (inl is)
+  complete_at ReadFailed is calls no_read no_write = absurd (no_read (calls.reads.rose refl))
+  complete_at WriteFailed is calls no_read no_write = absurd (no_write (calls.writes.rose refl))
 
 -- ---- The connection
 
@@ -82,24 +81,18 @@ module _ {X : Type 0} {F : X → Type 0} (members : (v : (x : X) × F x) → Gho
   pub replayed : (tells : Type 0) (tables : DeskTables) (state ended : DeskState) (faults : ℕ) (after returned : DynBox X Global F) (end : ConnectionEnd) (old new : DoorView) (status : ℕ)
       → IsBegun tables state → IsKept members after (tables_of ended) → returned ≡ after → status ≡ status_at end
       → IsLeftBy (MayTake (Unit {0})) (IsAt (Unit {0}) ended [] faults (faults_of members after)) (begun (session_of [] state) [])
-      → (tells → IsServed (MayTake (Unit {0})) fault_answer Header (IsAt (Unit {0}) ended [] faults (faults_of members after)) end (begun (session_of [] state) []) old.state new.state)
-      → Counts (is_read_failed end) old.reads new.reads → Counts (is_write_failed end) old.writes new.writes
-      → (IsTrue (is_read_failed end) → StopsAtFailure new.failed old.reads new.reads) → (IsTrue (is_write_failed end) → StopsAtFailure new.failed old.writes new.writes)
-      → new.turns ≡ old.turns
+      → (tells → IsServed (MayTake (Unit {0})) fault_answer Header (IsAt (Unit {0}) ended [] faults (faults_of members after)) end (begun (session_of [] state) []) old new)
+      → ReadsAndWrites (is_read_failed end) (is_write_failed end) old new
       → ReplaysConnection members tells tables faults returned old new status
-  replayed tells tables state ended faults after returned end old new status is kept same status_is left served reads writes read_stop write_stop turns =
+  replayed tells tables state ended faults after returned end old new status is kept same status_is left served calls =
       let first = begun_with tables state [] is in
       let then = leaves members (Unit {0}) after returned ended [] faults kept same in
       record {
         end = end;
         status_is = status_is;
         left = left_as (Unit {0}) _ _ then _ _ first left;
-        served = λ told. served_as (Unit {0}) _ _ then _ _ first Header end old.state new.state (served told);
-        reads = reads;
-        writes = writes;
-        read_stop = read_stop;
-        write_stop = write_stop;
-        same_turns = turns;
+        served = λ told. served_as (Unit {0}) _ _ then _ _ first Header end old new (served told);
+        calls = calls;
       }
 
   -- ---- The store
@@ -129,8 +122,8 @@ module _ {X : Type 0} {F : X → Type 0} (members : (v : (x : X) × F x) → Gho
     replays_opened tables begins read sound same_count box run told same_box = record {
       honest = record {
         statuses = statuses_at run.end status run.status_is;
-        fault = fault_at status old.reads new.reads old.writes new.writes new.failed run.end run.status_is run.reads run.writes run.read_stop run.write_stop;
-        steady = steady_at status old.reads new.reads old.writes new.writes run.end run.status_is run.reads run.writes;
+        fault = fault_at status old new run.end run.status_is run.calls;
+        steady = steady_at status old new run.end run.status_is run.calls;
         keeper_fault = λ seven. at_most_four run.end status run.status_is (inr (inr seven));
         same_box = record { object = same_box.object ∙ box.object; place = same_box.place ∙ box.place };
       };
@@ -140,6 +133,6 @@ module _ {X : Type 0} {F : X → Type 0} (members : (v : (x : X) × F x) → Gho
         replays = subst (λ (faults : ℕ). ReplaysConnection members tells tables faults returned old new status) same_count run;
       });
       unread = λ tell which. at_most_four run.end status run.status_is which;
-      complete = λ none. complete_at status old.reads new.reads old.writes new.writes run.end run.status_is run.reads run.writes none.reads none.writes;
-      same_turns = run.same_turns;
+      complete = λ none. complete_at status old new run.end run.status_is run.calls none.reads none.writes;
+      same_turns = run.calls.turns;
     }

@@ -1,13 +1,11 @@
 -- What a run of `serve` promises where connections are served, and where they aren't.
-use Rattle.std.proofs.Common.{◌≡◌, ◌≢◌, ℕ, ◌≤◌, ◌⊎◌, inl, inr, Bool, true, false, IsTrue, cond, List, [], Result, Ok, Err, OnErr, refl, subst, ◌∙◌, arith}
-use Rattle.std.proofs.lemmas.Bool.{false≢true}
-use Rattle.std.specs.Prelude.{is_err}
+use Rattle.std.proofs.Common.{◌≡◌, ◌≢◌, ℕ, ◌⊎◌, inl, inr, Bool, true, false, IsTrue, cond, List, [], Ok, refl, subst, ◌∙◌, arith}
 use Rattle.std.specs.declared.dyn_box.DynBox.{DynBox}
 use Rattle.std.specs.declared.alloc.Global.{Global}
 use Rattle.mud_world.specs.declared.keeper.Keeper.{Ghosts}
 use Rattle.mud_world.specs.Boxed.{faults_of, Tells, kept_items}
 use Rattle.mud_world.specs.Causes.{Counts, Rose, StopsAtFailure}
-use Rattle.mud_world.specs.Door.{DoorState, bound_anew}
+use Rattle.mud_world.specs.Door.{bound_anew}
 use Rattle.mud_world.specs.View.{DoorView}
 use Rattle.desk_model.specs.DeskTables.{DeskTables, IsSound}
 use Rattle.desk_model.specs.Items.{tables_in}
@@ -16,13 +14,13 @@ use Rattle.mud_desk.specs.Boxed.{IsKept, IsSameBox}
 use Rattle.mud_desk.specs.DeskState.{DeskState, IsBegun, session_of, tables_of}
 use Rattle.http_requests.specs.declared.fault.MomentFrom.TheVariants.{Clock}
 use Rattle.http_serving.specs.Runs.{IsLeftBy}
-use Rattle.http_serving.specs.Visits.{ServedInTurn}
+use Rattle.http_serving.specs.Visits.{ServedInTurn, TakesTurns}
 use Rattle.console_answers.specs.Answers.{fault_answer}
 use Rattle.console.specs.States.{ConsoleState, MayTake, IsAt, begun}
 use Rattle.console.proofs.Takes.{at_first}
 use Rattle.console_runs.specs.Store.{NoneFailed, LeavesDesk, ServesNone}
-use Rattle.console_runs.specs.Serve.{Listening, ClockRun, clock_run, ServesConnections, ServesStore}
-use Rattle.console_runs.proofs.Left.{begun_with, left_as, in_turn_as, leaves}
+use Rattle.console_runs.specs.Serve.{Listening, ClockRun, bound_view, clock_run, ServesConnections, ServesStore}
+use Rattle.console_runs.proofs.Left.{begun_with, left_as, in_turn_as, in_turn_before, leaves}
 use Rattle.console_runs.proofs.Refusals.{rose_at_failure}
 
 -- ---- Statuses
@@ -49,11 +47,6 @@ steady_by : (failed : Bool) (status before now : ℕ) → status ≡ status_by f
 steady_by true status before now is turns other = absurd (other is)
 steady_by false status before now is turns other = turns.steady refl
 
--- what holds of an error
-pub when_err : {A E : Type 0} (r : Result A E) (P : Type 0) → OnErr r P → IsTrue (is_err r) → P
-when_err (Ok value) P p is = absurd (false≢true is)
-when_err (Err error) P p is = p
-
 complete_by : (failed : Bool) (status before now : ℕ) → status ≡ status_by failed → Counts failed before now → ¬ (Rose before now) → IsComplete status
 complete_by true status before now is turns no_turn = absurd (no_turn (turns.rose refl))
 complete_by false status before now is turns no_turn = inl is
@@ -74,12 +67,9 @@ module _ {X : Type 0} {F : X → Type 0} (members : (v : (x : X) × F x) → Gho
         record {
           failed = true;
           status_is = status_is;
-          turns = turns;
-          stop = λ failed. stop;
+          calls = record { turns = turns; stop = λ failed. stop; reads = omega (arith, reads); writes = omega (arith, writes) };
           left = record { all = []; next = begun (opened tables) moments; kept = leaves_begun; leads = refl };
           served = λ told. inl (record { has_failed = refl; kept = leaves_begun; same_state = untouched told; same_reads = reads; same_writes = writes });
-          reads = omega (arith, reads);
-          writes = omega (arith, writes);
         }
 
     -- ---- The connections
@@ -88,25 +78,24 @@ module _ {X : Type 0} {F : X → Type 0} (members : (v : (x : X) × F x) → Gho
         → IsKept members after (tables_of ended) → returned ≡ after → status ≡ status_by failed
         → (tells → mid.state ≡ bound_anew at.port old.state) → Counts false old.turns mid.turns → mid.reads ≡ old.reads → mid.writes ≡ old.writes
         → IsLeftBy (MayTake clock_tells) (IsAt clock_tells ended moments_after faults (faults_of members after)) (begun (session_of [] state) moments)
-        → (tells → ServedInTurn (MayTake clock_tells) fault_answer Clock (IsAt clock_tells ended moments_after faults (faults_of members after)) failed at.count (begun (session_of [] state) moments)
-        mid.state new.state mid.reads new.reads mid.writes new.writes)
-        → Counts failed mid.turns new.turns → (IsTrue failed → StopsAtFailure new.failed mid.turns new.turns) → mid.reads ≤ new.reads → mid.writes ≤ new.writes
+        → (tells → ServedInTurn (MayTake clock_tells) fault_answer Clock (IsAt clock_tells ended moments_after faults (faults_of members after)) failed at.count (begun (session_of [] state) moments) mid new)
+        → TakesTurns failed mid new
         → ServesConnections members tells clock_tells tables faults returned at (clock_run moments moments_after) old new status
-    served_here ended faults after failed moments moments_after old mid new status kept same status_is binds bound same_reads same_writes left served turns stop reads writes =
+    served_here ended faults after failed moments moments_after old mid new status kept same status_is binds bound same_reads same_writes left served calls =
         let first = begun_with tables state moments is in
         let then = leaves members clock_tells after returned ended moments_after faults kept same in
         record {
           failed = failed;
           status_is = status_is;
-          turns = subst (λ (n : ℕ). Counts failed n new.turns) (bound.steady refl) turns;
-          stop = subst (λ (n : ℕ). IsTrue failed → StopsAtFailure new.failed n new.turns) (bound.steady refl) stop;
+          calls = record {
+            turns = subst (λ (n : ℕ). Counts failed n new.turns) (bound.steady refl) calls.turns;
+            stop = subst (λ (n : ℕ). IsTrue failed → StopsAtFailure new.failed n new.turns) (bound.steady refl) calls.stop;
+            reads = omega (arith, same_reads, calls.reads);
+            writes = omega (arith, same_writes, calls.writes);
+          };
           left = left_as clock_tells _ _ then _ _ first left;
-          served = λ told. inr (in_turn_as clock_tells _ _ then _ _ first Clock failed at.count (bound_anew at.port old.state) new.state old.reads new.reads old.writes new.writes
-              (subst (λ (n : ℕ). ServedInTurn (MayTake clock_tells) fault_answer Clock (IsAt clock_tells ended moments_after faults (faults_of members after)) failed at.count (begun (session_of [] state) moments) (bound_anew at.port old.state) new.state old.reads new.reads n new.writes) same_writes
-              (subst (λ (n : ℕ). ServedInTurn (MayTake clock_tells) fault_answer Clock (IsAt clock_tells ended moments_after faults (faults_of members after)) failed at.count (begun (session_of [] state) moments) (bound_anew at.port old.state) new.state n new.reads mid.writes new.writes) same_reads
-              (subst (λ (d : DoorState). ServedInTurn (MayTake clock_tells) fault_answer Clock (IsAt clock_tells ended moments_after faults (faults_of members after)) failed at.count (begun (session_of [] state) moments) d new.state mid.reads new.reads mid.writes new.writes) (binds told) (served told)))));
-          reads = omega (arith, same_reads, reads);
-          writes = omega (arith, same_writes, writes);
+          served = λ told. inr (in_turn_as clock_tells _ _ then _ _ first Clock failed at.count (bound_view at.port old) new
+              (in_turn_before clock_tells _ _ Clock failed at.count (bound_view at.port old) mid new (binds told) same_reads same_writes (served told)));
         }
 
   -- ---- The store
@@ -142,8 +131,8 @@ module _ {X : Type 0} {F : X → Type 0} (members : (v : (x : X) × F x) → Gho
     serves_opened tables begins read sound same_count box run told same_box = record {
       honest = record {
         statuses = statuses_by run.failed status run.status_is;
-        fault = λ four. inl (fault_by run.failed new.failed status old.turns new.turns run.status_is run.stop four);
-        steady = steady_by run.failed status old.turns new.turns run.status_is run.turns;
+        fault = λ four. inl (fault_by run.failed new.failed status old.turns new.turns run.status_is run.calls.stop four);
+        steady = steady_by run.failed status old.turns new.turns run.status_is run.calls.turns;
         keeper_fault = λ seven. at_most_four run.failed status run.status_is (inr (inr seven));
         same_box = record { object = same_box.object ∙ box.object; place = same_box.place ∙ box.place };
       };
@@ -153,5 +142,5 @@ module _ {X : Type 0} {F : X → Type 0} (members : (v : (x : X) × F x) → Gho
         serves = subst (λ (faults : ℕ). ServesConnections members tells clock_tells tables faults returned at clock old new status) same_count run;
       });
       unread = λ tell which. at_most_four run.failed status run.status_is which;
-      complete = λ none. complete_by run.failed status old.turns new.turns run.status_is run.turns none.turns;
+      complete = λ none. complete_by run.failed status old.turns new.turns run.status_is run.calls.turns none.turns;
     }

@@ -1,15 +1,15 @@
 -- What a run of `replay` over a store and a connection does.
-use Rattle.std.specs.Prelude.{◌≡◌, ℕ, ◌⊎◌, IsTrue, [], ◌∷◌}
+use Rattle.std.specs.Prelude.{◌≡◌, ℕ, ◌⊎◌, [], ◌∷◌}
 use Rattle.std.specs.declared.dyn_box.DynBox.{DynBox}
 use Rattle.std.specs.declared.alloc.Global.{Global}
 use Rattle.mud_world.specs.declared.keeper.Keeper.{Ghosts}
 use Rattle.mud_world.specs.Boxed.{faults_of}
-use Rattle.mud_world.specs.Causes.{Counts, StopsAtFailure}
 use Rattle.mud_world.specs.View.{DoorView}
 use Rattle.desk_model.specs.DeskTables.{DeskTables}
 use Rattle.desk_model.specs.Sessions.{opened}
 use Rattle.desk_runs.specs.Honest.{RunsHonestly}
 use Rattle.http_requests.specs.declared.fault.MomentFrom.TheVariants.{Header}
+use Rattle.http_requests.specs.Doors.{ReadsAndWrites}
 use Rattle.http_serving.specs.declared.end.ConnectionEnd.{ConnectionEnd}
 use Rattle.http_serving.specs.declared.end.ConnectionEnd.TheVariants.{Ended, Closed, Broken, Spent, ReadFailed, WriteFailed}
 use Rattle.http_serving.specs.Ends.{IsServed, is_read_failed, is_write_failed}
@@ -17,7 +17,7 @@ use Rattle.http_serving.specs.Runs.{IsLeftBy}
 use Rattle.console_answers.specs.Answers.{fault_answer}
 use Rattle.console.specs.States.{MayTake, begun}
 use Rattle.console_runs.specs.Store.{NoneFailed, OnlyWrites, OpensWith, LeavesDesk, ServesNone}
-use Rattle.command_runs.specs.Ends.{IsSteady, IsStopped, IsStoppedWriting}
+use Rattle.command_runs.specs.Ends.{IsSteady, IsStopped}
 use Rattle.command_runs.specs.Status.{IsOneOf, each_status}
 use Rattle.command_runs.specs.declared.status.Status.TheVariants.{Done, Refused, NoMemory, BadItem, KeeperFailed}
 
@@ -40,13 +40,9 @@ module _ {X : Type 0} {F : X → Type 0} (members : (v : (x : X) × F x) → Gho
     -- Whatever the door, some requests lead from the tables to what is left. Where it tells, they are those of the octets that were
     -- taken of the connection, and what was written are their answers.
     pub left : IsLeftBy (MayTake (Unit {0})) (LeavesDesk members (Unit {0}) faults returned []) (begun (opened tables) [])
-    pub served : tells → IsServed (MayTake (Unit {0})) fault_answer Header (LeavesDesk members (Unit {0}) faults returned []) end (begun (opened tables) []) old.state new.state
-    pub reads : Counts (is_read_failed end) old.reads new.reads
-    pub writes : Counts (is_write_failed end) old.writes new.writes
+    pub served : tells → IsServed (MayTake (Unit {0})) fault_answer Header (LeavesDesk members (Unit {0}) faults returned []) end (begun (opened tables) []) old new
     -- a read or a write that failed was the last call of the door
-    pub read_stop : IsTrue (is_read_failed end) → StopsAtFailure new.failed old.reads new.reads
-    pub write_stop : IsTrue (is_write_failed end) → IsStoppedWriting old new
-    pub same_turns : new.turns ≡ old.turns
+    pub calls : ReadsAndWrites (is_read_failed end) (is_write_failed end) old new
 
   -- A desk is opened and the connection served by it.
   pub record OpensAndReplays (tells : Type 0) (keeper returned : DynBox X Global F) (old new : DoorView) (status : ℕ) : Type 0 where

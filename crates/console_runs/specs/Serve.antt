@@ -1,10 +1,9 @@
 -- What a run of `serve` over a store and the connections of a port does.
-use Rattle.std.specs.Prelude.{if◌then◌else◌, ◌≡◌, ℕ, ◌≤◌, ◌⊎◌, Bool, IsTrue, List, [], ◌∷◌}
+use Rattle.std.specs.Prelude.{if◌then◌else◌, ◌≡◌, ℕ, ◌⊎◌, Bool, IsTrue, List, [], ◌∷◌}
 use Rattle.std.specs.declared.dyn_box.DynBox.{DynBox}
 use Rattle.std.specs.declared.alloc.Global.{Global}
 use Rattle.mud_world.specs.declared.keeper.Keeper.{Ghosts}
 use Rattle.mud_world.specs.Boxed.{faults_of}
-use Rattle.mud_world.specs.Causes.{Counts, StopsAtFailure}
 use Rattle.mud_world.specs.Door.{bound_anew}
 use Rattle.mud_world.specs.View.{DoorView}
 use Rattle.desk_model.specs.DeskTables.{DeskTables}
@@ -12,7 +11,7 @@ use Rattle.desk_model.specs.Sessions.{opened}
 use Rattle.desk_runs.specs.Honest.{RunsHonestly}
 use Rattle.http_requests.specs.declared.fault.MomentFrom.TheVariants.{Clock}
 use Rattle.http_serving.specs.Runs.{IsLeftBy}
-use Rattle.http_serving.specs.Visits.{ServedInTurn}
+use Rattle.http_serving.specs.Visits.{ServedInTurn, TakesTurns}
 use Rattle.console_answers.specs.Answers.{fault_answer}
 use Rattle.console.specs.States.{ConsoleState, MayTake, begun}
 use Rattle.console_runs.specs.Store.{NoneFailed, OnlyWrites, OpensWith, LeavesDesk, ServesNone}
@@ -36,6 +35,10 @@ pub record ClockRun : Type 0 where
 abbrev pub clock_run : List ℕ → List ℕ → ClockRun
 clock_run before after = record { before = before; after = after }
 
+-- the door at a moment, but bound to the port
+abbrev pub bound_view : ℕ → DoorView → DoorView
+bound_view port old = record old { state = bound_anew port old.state }
+
 -- The port couldn't be bound, and nothing was done.
 pub record IsUnbound (keeps : ConsoleState → Type 0) (failed : Bool) (s : ConsoleState) (old new : DoorView) : Type 0 where
   pub has_failed : IsTrue failed
@@ -51,17 +54,14 @@ module _ {X : Type 0} {F : X → Type 0} (members : (v : (x : X) × F x) → Gho
     -- whether the door failed to bind the port or to go on to a connection
     pub failed : Bool
     pub status_is : status ≡ (if failed then 4 else 0)
-    pub turns : Counts failed old.turns new.turns
-    -- that call was the last one of the door
-    pub stop : IsTrue failed → StopsAtFailure new.failed old.turns new.turns
+    -- a call that failed so was the last one of the door
+    pub calls : TakesTurns failed old new
     -- Whatever the door, some requests lead from the tables to what is left. Where it tells, they are those of the connections, one
     -- after the other, and what was written to each are the answers to its own. A connection whose read or write fails is over.
     pub left : IsLeftBy (MayTake clock_tells) (LeavesDesk members clock_tells faults returned clock.after) (begun (opened tables) clock.before)
     pub served : tells → IsUnbound (LeavesDesk members clock_tells faults returned clock.after) failed (begun (opened tables) clock.before) old new
         ⊎ ServedInTurn (MayTake clock_tells) fault_answer Clock (LeavesDesk members clock_tells faults returned clock.after) failed at.count (begun (opened tables) clock.before)
-        (bound_anew at.port old.state) new.state old.reads new.reads old.writes new.writes
-    pub reads : old.reads ≤ new.reads
-    pub writes : old.writes ≤ new.writes
+        (bound_view at.port old) new
 
   -- A desk is opened and the connections served by it.
   pub record OpensAndServes (tells clock_tells : Type 0) (keeper returned : DynBox X Global F) (at : Listening) (clock : ClockRun) (old new : DoorView) (status : ℕ) : Type 0 where

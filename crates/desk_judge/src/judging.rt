@@ -1,4 +1,4 @@
-//! The verdict on a frame.
+//! The verdict on a frame, and what decides it.
 ghost use Rattle.std.specs.Prelude.{◌≡◌, ℕ, ◌+◌, ◌^◌, ◌<◌, ◌≤◌, List, IsTrue, IsSome, IfOk, OnOk, OnErr, length};
 ghost use Rattle.mud_tables.specs.declared.segment.Segment.{Segment as SegmentValue};
 ghost use Rattle.mud_tables.specs.History.{StandsFor};
@@ -9,8 +9,11 @@ ghost use Rattle.packet_judge.specs.Verdicts as spec;
 ghost use Rattle.packet_judge.specs.Verdicts.{history_after, steps_on};
 ghost use Rattle.desk_model.specs.DeskTables.{DeskTables};
 ghost use Rattle.desk_model.specs.Verdicts.{verdict_at};
+ghost use Rattle.acl_compile.specs.Plans.{policy_held};
 ghost use Rattle.desk_judge.specs.Grounds.{AreGroundsOf, grounds, rows_read, ruling_steps};
+ghost use Rattle.desk_judge.specs.Findings.{AreFindingsOn};
 
+use crate::findings::{Findings, findings_with};
 use crate::office::Office;
 use acl_compile::Compiled;
 use flow_table::FlowTable;
@@ -21,24 +24,25 @@ use sorted_rows::Steps;
 use std::sync::ledger::Ledger;
 use thing_book::ThingBook;
 
-/// The verdict on a frame at a moment that isn't before that of the last packet noted, by the Things,
-/// by what is compiled, and by the local networks and the connections. Its steps are those of the
-/// rulings that it takes: one for each end of a packet that is a Thing and isn't held. It takes no
-/// memory.
-pub fn verdict<L: Ledger>(
+/// What decides a frame at a moment that isn't before that of the last packet noted, by the Things,
+/// by what is compiled, and by the local networks and the connections: the verdict, and the Things,
+/// rulings and entries by which it is given. Its steps are those of the rulings that it takes: one
+/// for each end of a packet that is a Thing and isn't held. It takes no memory.
+pub fn why<'a, L: Ledger>(
     frame: &[u8],
-    things: &ThingBook,
-    compiled: &Compiled,
+    things: &'a ThingBook,
+    compiled: &'a Compiled,
     locals: &[Prefix],
     flows: &FlowTable,
     now: Moment,
     steps: &mut Steps<L>,
-) -> Verdict
+) -> Findings<'a>
     requires since { IsTrue (is_since (flows_of flows.now).last now) }
     // Where these are a desk's, and the connections those of a history, it is the verdict of the desk.
     ensures verdict { (desk : DeskTables) (h : List SegmentValue)
         → AreGroundsOf desk h (grounds things.now.things compiled.now locals.now (flows_of flows.now))
-        → result ≡ verdict_at desk h now frame.now }
+        → result.verdict ≡ verdict_at desk h now frame.now }
+    ensures found { AreFindingsOn (policy_held compiled.now.slots) things.now.things (frame_of frame.now) result }
     // Each ruling reads at least the rows that the Thing's file has of the peer,
     ensures least { steps.old + steps_on (rows_read compiled.now) things.now.things (frame_of frame.now) ≤ steps.new }
     // and no more than these, the rows of the peer that the defaults have, the binary digits of the
@@ -47,6 +51,7 @@ pub fn verdict<L: Ledger>(
         → steps.new ≤ steps.old + steps_on (ruling_steps compiled.now b) things.now.things (frame_of frame.now) }
 {
     let _seconds = now.seconds();
+    let view = view(frame);
     let office = Office {
         things,
         compiled,
@@ -54,7 +59,8 @@ pub fn verdict<L: Ledger>(
         flows,
         now,
     };
-    packet_judge::judge(&view(frame), &office, steps)
+    let verdict = packet_judge::judge(&view, &office, steps);
+    findings_with(things, compiled, &view, verdict)
 }
 
 /// Notes the packet of a frame with this verdict, where it counts for the connections: a TCP packet
@@ -83,7 +89,7 @@ fn note(
     }
 }
 
-/// The verdict on a frame, as [`verdict`] answers it; a TCP packet with a ruling that is forwarded is
+/// The verdict on a frame, as [`why`] answers it; a TCP packet with a ruling that is forwarded is
 /// noted for the connections, once, at this moment. [`Memory`] comes only for such a packet, and
 /// leaves the connections as they were.
 pub fn judge<L: Ledger>(

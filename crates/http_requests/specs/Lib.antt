@@ -8,4 +8,5 @@ pub mod Parts
 pub mod Received
 pub mod Steps
 pub mod Failing
+pub mod Doors
 pub mod Serving

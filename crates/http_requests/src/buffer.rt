@@ -1,6 +1,6 @@
 //! The one buffer for the heads and bodies of requests.
 ghost use Rattle.std.specs.Prelude.{◌≡◌, ◌+◌, ◌<◌, ◌≤◌, [], length, drop, IfOk, OnErr, is_err};
-ghost use Rattle.mud_world.specs.Causes.{Counts, StopsAtFailure};
+ghost use Rattle.http_requests.specs.Doors.{ReadsAlone};
 ghost use Rattle.http_requests.specs.Received.{Grown, Received};
 
 use mud_base::Memory;
@@ -78,10 +78,7 @@ impl RequestBuffer {
         ensures front { Grown self.old self.new }
         ensures kept { OnErr result (self.new ≡ self.old) }
         ensures err { D.tells → OnErr result ((D.view door.new).state ≡ (D.view door.old).state) }
-        ensures cause { Counts (is_err result) (D.view door.old).reads (D.view door.new).reads }
-        ensures stop { OnErr result (StopsAtFailure (D.view door.new).failed (D.view door.old).reads (D.view door.new).reads) }
-        ensures turns { (D.view door.new).turns ≡ (D.view door.old).turns }
-        ensures writes { (D.view door.new).writes ≡ (D.view door.old).writes }
+        ensures calls { ReadsAlone (is_err result) (D.view door.old) (D.view door.new) }
     {
         let (start, end) = (self.start, self.end);
         self.start = 0;

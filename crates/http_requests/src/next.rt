@@ -1,10 +1,10 @@
 //! The next request of a connection.
 ghost use Rattle.std.specs.Prelude.{◌≡◌, ◌≢◌, ℕ, ◌+◌, ◌<◌, ◌≤◌, List, [], ◌++◌, length, false, nat_le, if◌then◌else◌, IfOk, OnErr, is_err};
 ghost use Rattle.httparse.specs.Grammar.{RequestHead};
-ghost use Rattle.mud_world.specs.Causes.{Counts, StopsAtFailure};
 ghost use Rattle.http_requests.specs.declared.fault.RequestFault.{RequestFault};
 ghost use Rattle.http_requests.specs.declared.fault.MomentFrom.{MomentFrom};
 ghost use Rattle.http_requests.specs.declared.shape.RequestShape.{RequestShape};
+ghost use Rattle.http_requests.specs.Doors.{ReadsAlone, ReadsAndWrites};
 ghost use Rattle.http_requests.specs.Framing.{continue_octets};
 ghost use Rattle.http_requests.specs.Head.{IsHead};
 ghost use Rattle.http_requests.specs.Received.{Grown, Received};
@@ -58,10 +58,7 @@ fn next_head<D: Door>(
     ensures failed { OnErr result (MayGetHead buffer.new) }
     ensures received { D.tells → Received buffer.old buffer.new (D.view door.old).state (D.view door.new).state }
     ensures untouched { (head : RequestHead) (rest : List ℕ) → IsHead buffer.old head rest → buffer.new ≡ buffer.old }
-    ensures cause { Counts (is_err result) (D.view door.old).reads (D.view door.new).reads }
-    ensures stop { OnErr result (StopsAtFailure (D.view door.new).failed (D.view door.old).reads (D.view door.new).reads) }
-    ensures turns { (D.view door.new).turns ≡ (D.view door.old).turns }
-    ensures writes { (D.view door.new).writes ≡ (D.view door.old).writes }
+    ensures calls { ReadsAlone (is_err result) (D.view door.old) (D.view door.new) }
 {
     'more: loop {
         match look(buffer.octets(), from) {
@@ -94,10 +91,7 @@ fn next_body<D: Door>(buffer: &mut RequestBuffer, door: &mut D, len: usize) -> R
     ensures grown { Grown buffer.old buffer.new }
     ensures received { D.tells → Received buffer.old buffer.new (D.view door.old).state (D.view door.new).state }
     ensures untouched { len ≤ length buffer.old → buffer.new ≡ buffer.old }
-    ensures cause { Counts (is_err result) (D.view door.old).reads (D.view door.new).reads }
-    ensures stop { OnErr result (StopsAtFailure (D.view door.new).failed (D.view door.old).reads (D.view door.new).reads) }
-    ensures turns { (D.view door.new).turns ≡ (D.view door.old).turns }
-    ensures writes { (D.view door.new).writes ≡ (D.view door.old).writes }
+    ensures calls { ReadsAlone (is_err result) (D.view door.old) (D.view door.new) }
 {
     'more: while buffer.octets().len() < len {
         if buffer.fill(door)? == 0 {
@@ -145,10 +139,7 @@ fn take_body<D: Door>(
     ensures grown { Grown buffer.old buffer.new }
     ensures received { D.tells → Received buffer.old buffer.new (D.view door.old).state (D.view door.new).state }
     ensures untouched { shape.head_len + shape.body_len ≤ length buffer.old → buffer.new ≡ buffer.old }
-    ensures cause { Counts (is_err result) (D.view door.old).reads (D.view door.new).reads }
-    ensures stop { OnErr result (StopsAtFailure (D.view door.new).failed (D.view door.old).reads (D.view door.new).reads) }
-    ensures turns { (D.view door.new).turns ≡ (D.view door.old).turns }
-    ensures writes { (D.view door.new).writes ≡ (D.view door.old).writes }
+    ensures calls { ReadsAlone (is_err result) (D.view door.old) (D.view door.new) }
 {
     match next_body(buffer, door, shape.len()) {
         Ok(true) => Ok(Next::Whole(shape)),
@@ -180,11 +171,7 @@ fn finish<D: Door>(
     ensures write { D.tells → (from : MomentFrom) → HasHead from buffer.old shape
         → result ≡ Err DoorFault.Write → LeaveFailed from buffer.old buffer.new (D.view door.old).state (D.view door.new).state }
     ensures untouched { shape.head_len + shape.body_len ≤ length buffer.old → buffer.new ≡ buffer.old }
-    ensures reads { Counts (is_read_failed result) (D.view door.old).reads (D.view door.new).reads }
-    ensures writes { Counts (is_write_failed result) (D.view door.old).writes (D.view door.new).writes }
-    ensures read_stop { result ≡ Err DoorFault.Read → StopsAtFailure (D.view door.new).failed (D.view door.old).reads (D.view door.new).reads }
-    ensures write_stop { result ≡ Err DoorFault.Write → StopsAtFailure (D.view door.new).failed (D.view door.old).writes (D.view door.new).writes }
-    ensures turns { (D.view door.new).turns ≡ (D.view door.old).turns }
+    ensures calls { ReadsAndWrites (is_read_failed result) (is_write_failed result) (D.view door.old) (D.view door.new) }
 {
     match say(door, leave_for(&shape)) {
         Ok(()) => take_body(buffer, door, shape),
@@ -203,8 +190,8 @@ pub fn next_request<D: Door>(
     ensures within { (shape : RequestShape) → result ≡ Ok (Next.Whole shape)
         → shape.head_len + shape.body_len ≤ length buffer.new }
     ensures held { (shape : RequestShape) → result ≡ Ok (Next.Whole shape) → HoldsWhole from shape buffer.new }
-    ensures whole { D.tells → (shape : RequestShape) → result ≡ Ok (Next.Whole shape)
-        → CameWhole from shape buffer.old buffer.new (D.view door.old).state (D.view door.new).state }
+    ensures whole { D.tells → (s : RequestShape) → result ≡ Ok (Next.Whole s)
+        → CameWhole from s buffer.old buffer.new (D.view door.old).state (D.view door.new).state }
     ensures ended { D.tells → result ≡ Ok Next.Ended
         → CameEnd buffer.old buffer.new (D.view door.old).state (D.view door.new).state }
     ensures broken { D.tells → (fault : RequestFault) → result ≡ Ok (Next.Broken fault)
@@ -217,11 +204,7 @@ pub fn next_request<D: Door>(
     // Where a whole request is held, nothing is read.
     ensures untouched { (request : Request) (behind : List ℕ) → Begins from buffer.old request behind
         → buffer.new ≡ buffer.old }
-    ensures reads { Counts (is_read_failed result) (D.view door.old).reads (D.view door.new).reads }
-    ensures writes { Counts (is_write_failed result) (D.view door.old).writes (D.view door.new).writes }
-    ensures read_stop { result ≡ Err DoorFault.Read → StopsAtFailure (D.view door.new).failed (D.view door.old).reads (D.view door.new).reads }
-    ensures write_stop { result ≡ Err DoorFault.Write → StopsAtFailure (D.view door.new).failed (D.view door.old).writes (D.view door.new).writes }
-    ensures turns { (D.view door.new).turns ≡ (D.view door.old).turns }
+    ensures calls { ReadsAndWrites (is_read_failed result) (is_write_failed result) (D.view door.old) (D.view door.new) }
 {
     match next_head(buffer, door, from) {
         Ok(HeadNext::Found(shape)) => finish(buffer, door, shape),

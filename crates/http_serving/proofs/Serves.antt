@@ -1,6 +1,7 @@
 -- Serving a connection from a state on, at each place of the loop that serves it.
 use Rattle.std.proofs.Common.{◌≡◌, ℕ, ◌+◌, ◌-◌, ◌<◌, List, [], ◌++◌, drop, Some, None, inl, inr, sym, subst, ◌∙◌}
 use Rattle.mud_world.specs.Door.{DoorState, put_out}
+use Rattle.mud_world.specs.View.{DoorView}
 use Rattle.mud_world.specs.Whole.{WrotePart}
 use Rattle.http_requests.specs.declared.fault.RequestFault.{RequestFault}
 use Rattle.http_requests.specs.declared.fault.MomentFrom.{MomentFrom}
@@ -61,10 +62,11 @@ module _ {S : Type 0} (may : S → Asked → List ℕ → S → Type 0) (refusal
     state = x.state;
   }
 
-  pub ended_here : (keeps : S → Type 0) (more : ℕ) (s : S) (old t u : DoorState) (b c : List ℕ) → Progress keeps more s old t b → CameEnd b c t u → IsServed may refusal from keeps Ended s old u
+  pub ended_here : (keeps : S → Type 0) (more : ℕ) (s : S) (old : DoorView) (t : DoorState) (u : DoorView) (b c : List ℕ) → Progress keeps more s old.state t b → CameEnd b c t u.state
+      → IsServed may refusal from keeps Ended s old u
   ended_here keeps more s old t u b c p end =
-      let x = serving.ended_at (Ran may from keeps more s) from more b c old t u p.so_far end in
-      record { next = x.run.next; kept = x.run.kept; served = served_as keeps more s ended [] old u x }
+      let x = serving.ended_at (Ran may from keeps more s) from more b c old.state t u.state p.so_far end in
+      record { next = x.run.next; kept = x.run.kept; served = served_as keeps more s ended [] old.state u.state x }
 
   stopped : (keeps keeps' : S → Type 0) (more : ℕ) (s : S) (end : Ending) (old t u v : DoorState) (b c answer : List ℕ) (shape : RequestShape) → Progress keeps more s old t b
       → (w : CameWhole from shape b c t u) → v ≡ put_out answer u → 0 < more
@@ -74,47 +76,48 @@ module _ {S : Type 0} (may : S → Asked → List ℕ → S → Type 0) (refusal
       serving.stopped_at (Ran may from keeps more s) (Ran may from keeps' (more - 1) s) from more end (leave_of w.request.head ++ answer) c w.request w.behind old v
       (with_answer keeps more s old t u v b c answer shape p w said) w.begins stop (ran_more may from keeps keeps' more s w.request answer some carried)
 
-  pub closed_here : (keeps keeps' : S → Type 0) (more : ℕ) (s : S) (old t u v : DoorState) (b c answer : List ℕ) (shape : RequestShape) → Progress keeps more s old t b
-      → (w : CameWhole from shape b c t u) → v ≡ put_out answer u → 0 < more
+  pub closed_here : (keeps keeps' : S → Type 0) (more : ℕ) (s : S) (old : DoorView) (t u : DoorState) (v : DoorView) (b c answer : List ℕ) (shape : RequestShape) → Progress keeps more s old.state t b
+      → (w : CameWhole from shape b c t u) → v.state ≡ put_out answer u → 0 < more
       → ((at : S) → keeps at → CarriedOut may keeps' at (asked from more w.request) answer) → stop_after more w.request ≡ Some closed
       → IsServed may refusal from keeps' Closed s old v
   closed_here keeps keeps' more s old t u v b c answer shape p w said some carried stop =
-      let x = stopped keeps keeps' more s closed old t u v b c answer shape p w said some carried stop in
-      record { next = x.run.next; kept = x.run.kept; served = served_as keeps' (more - 1) s closed [] old v x }
+      let x = stopped keeps keeps' more s closed old.state t u v.state b c answer shape p w said some carried stop in
+      record { next = x.run.next; kept = x.run.kept; served = served_as keeps' (more - 1) s closed [] old.state v.state x }
 
-  pub spent_here : (keeps keeps' : S → Type 0) (more : ℕ) (s : S) (old t u v : DoorState) (b c answer : List ℕ) (shape : RequestShape) → Progress keeps more s old t b
-      → (w : CameWhole from shape b c t u) → v ≡ put_out answer u → 0 < more
+  pub spent_here : (keeps keeps' : S → Type 0) (more : ℕ) (s : S) (old : DoorView) (t u : DoorState) (v : DoorView) (b c answer : List ℕ) (shape : RequestShape) → Progress keeps more s old.state t b
+      → (w : CameWhole from shape b c t u) → v.state ≡ put_out answer u → 0 < more
       → ((at : S) → keeps at → CarriedOut may keeps' at (asked from more w.request) answer) → stop_after more w.request ≡ Some spent
       → IsServed may refusal from keeps' Spent s old v
   spent_here keeps keeps' more s old t u v b c answer shape p w said some carried stop =
-      let x = stopped keeps keeps' more s spent old t u v b c answer shape p w said some carried stop in
-      record { next = x.run.next; kept = x.run.kept; served = served_as keeps' (more - 1) s spent [] old v x }
+      let x = stopped keeps keeps' more s spent old.state t u v.state b c answer shape p w said some carried stop in
+      record { next = x.run.next; kept = x.run.kept; served = served_as keeps' (more - 1) s spent [] old.state v.state x }
 
   -- the same progress, where the same state is still kept
   still : (keeps keeps' : S → Type 0) (more : ℕ) (s : S) (old t : DoorState) (b : List ℕ) → Progress keeps more s old t b → ((at : S) → keeps at → keeps' at) → Progress keeps' more s old t b
   still keeps keeps' more s old t b p kept =
       record { so_far = serving.so_far_as (Ran may from keeps more s) (Ran may from keeps' more s) from more [] b old t (ran_kept may from keeps keeps' more s kept) p.so_far }
 
-  pub broken_here : (keeps keeps' : S → Type 0) (more : ℕ) (s : S) (old t u v : DoorState) (b c : List ℕ) (fault : RequestFault) → Progress keeps more s old t b → CameFault from fault b c t u
-      → ((at : S) → keeps at → keeps' at) → v ≡ put_out (refusal fault) u → IsServed may refusal from keeps' Broken s old v
+  pub broken_here : (keeps keeps' : S → Type 0) (more : ℕ) (s : S) (old : DoorView) (t u : DoorState) (v : DoorView) (b c : List ℕ) (fault : RequestFault) → Progress keeps more s old.state t b
+      → CameFault from fault b c t u → ((at : S) → keeps at → keeps' at) → v.state ≡ put_out (refusal fault) u → IsServed may refusal from keeps' Broken s old v
   broken_here keeps keeps' more s old t u v b c fault p came kept said =
-      let now = still keeps keeps' more s old t b p kept in
-      let x = serving.broken_at (Ran may from keeps' more s) from more refusal fault b c old t u v now.so_far came said in
+      let now = still keeps keeps' more s old.state t b p kept in
+      let x = serving.broken_at (Ran may from keeps' more s) from more refusal fault b c old.state t u v.state now.so_far came said in
       record {
         next = x.served.run.next;
         kept = x.served.run.kept;
         served = record {
           fault = x.fault;
           pending = x.pending;
-          served = served_as keeps' more s _ _ old v x.served;
+          served = served_as keeps' more s _ _ old.state v.state x.served;
         };
       }
 
   -- ---- Failing calls
 
-  pub read_failed_here : (keeps : S → Type 0) (more : ℕ) (s : S) (old t u : DoorState) (b c : List ℕ) → Progress keeps more s old t b → steps.ReadFailed from b c t u → IsServed may refusal from keeps ReadFailed s old u
+  pub read_failed_here : (keeps : S → Type 0) (more : ℕ) (s : S) (old : DoorView) (t : DoorState) (u : DoorView) (b c : List ℕ) → Progress keeps more s old.state t b → steps.ReadFailed from b c t u.state
+      → IsServed may refusal from keeps ReadFailed s old u
   read_failed_here keeps more s old t u b c p failed =
-      let x = serving.read_failed_at (Ran may from keeps more s) from more b c old t u p.so_far failed in
+      let x = serving.read_failed_at (Ran may from keeps more s) from more b c old.state t u.state p.so_far failed in
       record {
         next = x.run.next;
         kept = x.run.kept;
@@ -131,7 +134,7 @@ module _ {S : Type 0} (may : S → Asked → List ℕ → S → Type 0) (refusal
       }
 
   -- a write failed behind the answers, and nothing more was carried out
-  piece_failed : (keeps : S → Type 0) (more : ℕ) (s : S) (old new : DoorState) → FailedPiece (Ran may from keeps more s) from refusal old new → IsServed may refusal from keeps WriteFailed s old new
+  piece_failed : (keeps : S → Type 0) (more : ℕ) (s : S) (old new : DoorView) → FailedPiece (Ran may from keeps more s) from refusal old.state new.state → IsServed may refusal from keeps WriteFailed s old new
   piece_failed keeps more s old new x = record {
     next = x.run.next;
     kept = x.run.kept;
@@ -152,22 +155,23 @@ module _ {S : Type 0} (may : S → Asked → List ℕ → S → Type 0) (refusal
     });
   }
 
-  pub leave_failed_here : (keeps : S → Type 0) (more : ℕ) (s : S) (old t u : DoorState) (b c : List ℕ) → Progress keeps more s old t b → steps.LeaveFailed from b c t u → IsServed may refusal from keeps WriteFailed s old u
+  pub leave_failed_here : (keeps : S → Type 0) (more : ℕ) (s : S) (old : DoorView) (t : DoorState) (u : DoorView) (b c : List ℕ) → Progress keeps more s old.state t b → steps.LeaveFailed from b c t u.state
+      → IsServed may refusal from keeps WriteFailed s old u
   leave_failed_here keeps more s old t u b c p failed =
-      piece_failed keeps more s old u (serving.leave_failed_at (Ran may from keeps more s) from more refusal b c old t u p.so_far failed)
+      piece_failed keeps more s old u (serving.leave_failed_at (Ran may from keeps more s) from more refusal b c old.state t u.state p.so_far failed)
 
-  pub refusal_failed_here : (keeps keeps' : S → Type 0) (more : ℕ) (s : S) (old t u v : DoorState) (b c : List ℕ) (fault : RequestFault) → Progress keeps more s old t b → CameFault from fault b c t u
-      → ((at : S) → keeps at → keeps' at) → WrotePart (refusal fault) u v → IsServed may refusal from keeps' WriteFailed s old v
+  pub refusal_failed_here : (keeps keeps' : S → Type 0) (more : ℕ) (s : S) (old : DoorView) (t u : DoorState) (v : DoorView) (b c : List ℕ) (fault : RequestFault) → Progress keeps more s old.state t b
+      → CameFault from fault b c t u → ((at : S) → keeps at → keeps' at) → WrotePart (refusal fault) u v.state → IsServed may refusal from keeps' WriteFailed s old v
   refusal_failed_here keeps keeps' more s old t u v b c fault p came kept wrote =
-      let now = still keeps keeps' more s old t b p kept in
-      piece_failed keeps' more s old v (serving.refusal_failed_at (Ran may from keeps' more s) from more refusal fault b c old t u v now.so_far came wrote)
+      let now = still keeps keeps' more s old.state t b p kept in
+      piece_failed keeps' more s old v (serving.refusal_failed_at (Ran may from keeps' more s) from more refusal fault b c old.state t u v.state now.so_far came wrote)
 
-  pub answer_failed_here : (keeps keeps' : S → Type 0) (more : ℕ) (s : S) (old t u v : DoorState) (b c answer : List ℕ) (shape : RequestShape) → Progress keeps more s old t b
-      → (w : CameWhole from shape b c t u) → WrotePart answer u v → 0 < more
+  pub answer_failed_here : (keeps keeps' : S → Type 0) (more : ℕ) (s : S) (old : DoorView) (t u : DoorState) (v : DoorView) (b c answer : List ℕ) (shape : RequestShape) → Progress keeps more s old.state t b
+      → (w : CameWhole from shape b c t u) → WrotePart answer u v.state → 0 < more
       → ((at : S) → keeps at → CarriedOut may keeps' at (asked from more w.request) answer) → IsServed may refusal from keeps' WriteFailed s old v
   answer_failed_here keeps keeps' more s old t u v b c answer shape p w wrote some carried =
-      let x = serving.answer_failed_at (Ran may from keeps more s) (Ran may from keeps' (more - 1) s) from more (leave_of w.request.head) answer c w.request w.behind old u v
-      (with_whole keeps more s old t u b c shape p w) w.begins wrote (ran_more may from keeps keeps' more s w.request answer some carried) in
+      let x = serving.answer_failed_at (Ran may from keeps more s) (Ran may from keeps' (more - 1) s) from more (leave_of w.request.head) answer c w.request w.behind old.state u v.state
+      (with_whole keeps more s old.state t u b c shape p w) w.begins wrote (ran_more may from keeps keeps' more s w.request answer some carried) in
       record {
         next = x.ran.next;
         kept = x.ran.kept;

@@ -4,9 +4,11 @@ use Rattle.std.specs.List.{count_by}
 use Rattle.std.proofs.lemmas.List.{map-append}
 use Rattle.std.proofs.lemmas.List.Sums.{sum_by-append}
 use Rattle.mud_world.specs.Causes.{Counts}
+use Rattle.mud_world.specs.View.{DoorView}
 use Rattle.mud_world.specs.Door.{Connection, DoorState, connection_here, here, gone_on, has_more, put_out, with_left}
 use Rattle.http_requests.specs.declared.fault.RequestFault.{RequestFault}
 use Rattle.http_requests.specs.declared.fault.MomentFrom.{MomentFrom}
+use Rattle.http_requests.specs.Doors.{ReadsAndWrites}
 use Rattle.http_requests.specs.Requests.{Request, Ending}
 use Rattle.http_requests.specs.Serving.{Served}
 use Rattle.http_serving.specs.declared.end.ConnectionEnd.{ConnectionEnd}
@@ -128,21 +130,21 @@ module _ {S : Type 0} (may : S → Asked → List ℕ → S → Type 0) (refusal
 
   -- the next connection came and was served
   visited_one : (keeps keeps' : S → Type 0) (end : ConnectionEnd) (s : S) (visits : List Visit) (old x y z : DoorState) (c : Connection) (cs : List Connection) → (p : Visited may refusal from keeps s visits old x)
-      → x.ahead ≡ c ∷ cs → y ≡ gone_on x (c ∷ cs) → IsServed may refusal from keeps' end p.next y z
+      → x.ahead ≡ c ∷ cs → y ≡ gone_on x (c ∷ cs) → (next : S) → keeps' next → ServedBy may refusal from end p.next next y z
       → Visited may refusal from keeps' s (visits ++ record { before = c; after = connection_here z; end = end } ∷ []) old z
   unfolding Changed
-  visited_one keeps keeps' end s visits old x y z c cs p comes went by =
+  visited_one keeps keeps' end s visits old x y z c cs p comes went next kept by =
       let v : Visit = record { before = c; after = connection_here z; end = end } in
-      let change = changed_by end p.next by.next y z by.served in
+      let change = changed_by end p.next next y z by in
       let past : z.past ≡ x.past ++ here x = ap (λ (d : DoorState). d.past) change.1 ∙ ap (λ (d : DoorState). d.past) went in
       let stands : z.stands ≡ true = ap (λ (d : DoorState). d.stands) change.1 ∙ ap (λ (d : DoorState). d.stands) went in
       let ahead : z.ahead ≡ cs = ap (λ (d : DoorState). d.ahead) change.1 ∙ ap (λ (d : DoorState). d.ahead) went in
       let at : connection_here y ≡ c = ap connection_here went in
       record {
-        next = by.next;
-        kept = by.kept;
-        served = are_served_more s p.next by.next visits v p.served
-            (subst (λ d. ServedBy may refusal from end p.next by.next (alone d) (alone (connection_here z))) at (alone_by end p.next by.next y z by.served));
+        next = next;
+        kept = kept;
+        served = are_served_more s p.next next visits v p.served
+            (subst (λ d. ServedBy may refusal from end p.next next (alone d) (alone (connection_here z))) at (alone_by end p.next next y z by));
         came = p.came ∙ ap (λ more. map before_of visits ++ more) (comes ∙ ap (λ more. c ∷ more) (sym ahead))
             ∙ sym (append_assoc (map before_of visits) (c ∷ []) z.ahead)
             ∙ ap (λ front. front ++ z.ahead) (sym (map-append before_of visits (v ∷ [])));
@@ -156,26 +158,27 @@ module _ {S : Type 0} (may : S → Asked → List ℕ → S → Type 0) (refusal
   -- ---- The loop
 
   -- So many connections were served.
-  pub record Rounds (keeps : S → Type 0) (count : ℕ) (s : S) (old new : DoorState) (read_before read_now write_before write_now : ℕ) : Type 0 where
+  pub record Rounds (keeps : S → Type 0) (count : ℕ) (s : S) (old new : DoorView) : Type 0 where
     pub visits : List Visit
-    pub visited : Visited may refusal from keeps s visits old new
+    pub visited : Visited may refusal from keeps s visits old.state new.state
     pub counted : length visits ≡ count
-    pub reads : CountsOf (count_by failed_to_read visits) read_before read_now
-    pub writes : CountsOf (count_by failed_to_write visits) write_before write_now
+    pub reads : CountsOf (count_by failed_to_read visits) old.reads new.reads
+    pub writes : CountsOf (count_by failed_to_write visits) old.writes new.writes
 
-  pub rounds_more : (keeps keeps' : S → Type 0) (end : ConnectionEnd) (count : ℕ) (s : S) (old x y z : DoorState) (r a a' b w d d' e : ℕ) → Rounds keeps count s old x r a w d
-      → has_more x.ahead ≡ true → y ≡ gone_on x x.ahead → ((at : S) → keeps at → IsServed may refusal from keeps' end at y z)
-      → a' ≡ a → Counts (is_read_failed end) a' b → d' ≡ d → Counts (is_write_failed end) d' e → Rounds keeps' (count + 1) s old z r b w e
-  rounds_more keeps keeps' end count s old x y z r a a' b w d d' e p more went by same_reads reads same_writes writes = at_next x.ahead refl more
+  pub rounds_more : (keeps keeps' : S → Type 0) (end : ConnectionEnd) (count : ℕ) (s : S) (old x y z : DoorView) → Rounds keeps count s old x
+      → has_more x.state.ahead ≡ true → y.state ≡ gone_on x.state x.state.ahead → ((at : S) → keeps at → IsServed may refusal from keeps' end at y z)
+      → y.reads ≡ x.reads → y.writes ≡ x.writes → ReadsAndWrites (is_read_failed end) (is_write_failed end) y z → Rounds keeps' (count + 1) s old z
+  rounds_more keeps keeps' end count s old x y z p more went by same_reads same_writes calls = at_next x.state.ahead refl more
     where
-      at_next : (cs : List Connection) → x.ahead ≡ cs → has_more cs ≡ true → Rounds keeps' (count + 1) s old z r b w e
+      at_next : (cs : List Connection) → x.state.ahead ≡ cs → has_more cs ≡ true → Rounds keeps' (count + 1) s old z
       at_next [] none some = cc
       at_next (c ∷ cs) comes some =
-          let v : Visit = record { before = c; after = connection_here z; end = end } in
+          let v : Visit = record { before = c; after = connection_here z.state; end = end } in
+          let served = by p.visited.next p.visited.kept in
           record {
             visits = p.visits ++ v ∷ [];
-            visited = visited_one keeps keeps' end s p.visits old x y z c cs p.visited comes (went ∙ ap (gone_on x) comes) (by p.visited.next p.visited.kept);
+            visited = visited_one keeps keeps' end s p.visits old.state x.state y.state z.state c cs p.visited comes (went ∙ ap (gone_on x.state) comes) served.next served.kept served.served;
             counted = omega (arith, p.counted, length-append p.visits (v ∷ []));
-            reads = counts_more failed_to_read p.visits v (is_read_failed end) r a a' b refl same_reads p.reads reads;
-            writes = counts_more failed_to_write p.visits v (is_write_failed end) w d d' e refl same_writes p.writes writes;
+            reads = counts_more failed_to_read p.visits v (is_read_failed end) old.reads x.reads y.reads z.reads refl same_reads p.reads calls.reads;
+            writes = counts_more failed_to_write p.visits v (is_write_failed end) old.writes x.writes y.writes z.writes refl same_writes p.writes calls.writes;
           }

@@ -1,6 +1,7 @@
 -- What was done at a connection, by the way in which it ended.
 use Rattle.std.specs.Prelude.{ℕ, Bool, true, false, ◌⊎◌, List, []}
 use Rattle.mud_world.specs.Door.{DoorState}
+use Rattle.mud_world.specs.View.{DoorView}
 use Rattle.http_requests.specs.declared.fault.RequestFault.{RequestFault}
 use Rattle.http_requests.specs.declared.fault.MomentFrom.{MomentFrom}
 use Rattle.http_requests.specs.Requests.{Request, ended, closed, spent, most_requests}
@@ -48,7 +49,7 @@ module _ {S : Type 0} (may : S → Asked → List ℕ → S → Type 0) (refusal
   ServedBy WriteFailed s t old new = serving.FailedPiece (Run s t) from refusal old new ⊎ serving.FailedAnswer (RunOn s) (Run s t) from old new
 
   -- The connection was served from the state, and what is kept is the state behind it.
-  pub record IsServed (keeps : S → Type 0) (end : ConnectionEnd) (s : S) (old new : DoorState) : Type 0 where
+  pub record IsServed (keeps : S → Type 0) (end : ConnectionEnd) (s : S) (old new : DoorView) : Type 0 where
     pub next : S
     pub kept : keeps next
-    pub served : ServedBy end s next old new
+    pub served : ServedBy end s next old.state new.state

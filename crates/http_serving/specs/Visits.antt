@@ -1,7 +1,8 @@
 -- Connections that were served one after the other.
 use Rattle.std.specs.Prelude.{◌≡◌, ℕ, ◌<◌, ◌≤◌, min, Bool, true, false, IsTrue, List, [], ◌∷◌, ◌++◌, length, map, count_by, None}
-use Rattle.mud_world.specs.Causes.{RoseBy}
+use Rattle.mud_world.specs.Causes.{Counts, RoseBy, StopsAtFailure}
 use Rattle.mud_world.specs.Door.{Connection, DoorState, here}
+use Rattle.mud_world.specs.View.{DoorView}
 use Rattle.http_requests.specs.declared.fault.RequestFault.{RequestFault}
 use Rattle.http_requests.specs.declared.fault.MomentFrom.{MomentFrom}
 use Rattle.http_serving.specs.declared.end.ConnectionEnd.{ConnectionEnd}
@@ -37,6 +38,14 @@ pub record CountsOf (failures before now : ℕ) : Type 0 where
   pub rose : RoseBy failures before now
   pub steady : failures ≡ 0 → now ≡ before
 
+-- What serving connection after connection makes of the counts of a door's failures: one failure to go on ends it, as the last call
+-- of the door, and the counts of failed reads and writes never fall.
+pub record TakesTurns (failed : Bool) (old new : DoorView) : Type 0 where
+  pub turns : Counts failed old.turns new.turns
+  pub stop : IsTrue failed → StopsAtFailure new.failed old.turns new.turns
+  pub reads : old.reads ≤ new.reads
+  pub writes : old.writes ≤ new.writes
+
 -- What requests may be answered, and what the answers to faults are; where moments come from.
 module _ {S : Type 0} (may : S → Asked → List ℕ → S → Type 0) (refusal : RequestFault → List ℕ) (from : MomentFrom) where
   -- The connections were served one after the other, each from the state behind the one before it.
@@ -61,10 +70,9 @@ pub record AreEnough (failed : Bool) (count : ℕ) (visits : List Visit) (old : 
 
 module _ {S : Type 0} (may : S → Asked → List ℕ → S → Type 0) (refusal : RequestFault → List ℕ) (from : MomentFrom) where
   -- Connections were served: which ones, how many, and what became of the counts of failed reads and writes.
-  pub record ServedInTurn (keeps : S → Type 0) (failed : Bool) (count : ℕ) (s : S) (old new : DoorState)
-      (read_before read_now write_before write_now : ℕ) : Type 0 where
+  pub record ServedInTurn (keeps : S → Type 0) (failed : Bool) (count : ℕ) (s : S) (old new : DoorView) : Type 0 where
     pub visits : List Visit
-    pub visited : Visited may refusal from keeps s visits old new
-    pub enough : AreEnough failed count visits old
-    pub reads : CountsOf (count_by failed_to_read visits) read_before read_now
-    pub writes : CountsOf (count_by failed_to_write visits) write_before write_now
+    pub visited : Visited may refusal from keeps s visits old.state new.state
+    pub enough : AreEnough failed count visits old.state
+    pub reads : CountsOf (count_by failed_to_read visits) old.reads new.reads
+    pub writes : CountsOf (count_by failed_to_write visits) old.writes new.writes

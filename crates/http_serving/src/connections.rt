@@ -1,8 +1,7 @@
 //! Serving connection after connection.
-ghost use Rattle.std.specs.Prelude.{◌≡◌, ◌≤◌, OnErr, is_err};
-ghost use Rattle.mud_world.specs.Causes.{Counts, StopsAtFailure};
+ghost use Rattle.std.specs.Prelude.{is_err};
 ghost use Rattle.http_serving.specs.Runs.{IsLeftBy};
-ghost use Rattle.http_serving.specs.Visits.{ServedInTurn};
+ghost use Rattle.http_serving.specs.Visits.{ServedInTurn, TakesTurns};
 
 use crate::serve::serve_connection;
 use crate::service::Service;
@@ -26,13 +25,8 @@ pub fn serve_connections<D: Door, S: Service>(
     // tells, they are those of the connections, and what was written are their answers.
     ensures left { (s : S.State) → S.keeps service.old s → IsLeftBy S.may (S.keeps service.new) s }
     ensures served { D.tells → (s : S.State) → S.keeps service.old s
-        → ServedInTurn S.may S.refusal from (S.keeps service.new) (is_err result) count s
-        (D.view door.old).state (D.view door.new).state
-        (D.view door.old).reads (D.view door.new).reads (D.view door.old).writes (D.view door.new).writes }
-    ensures turns { Counts (is_err result) (D.view door.old).turns (D.view door.new).turns }
-    ensures stop { OnErr result (StopsAtFailure (D.view door.new).failed (D.view door.old).turns (D.view door.new).turns) }
-    ensures reads { (D.view door.old).reads ≤ (D.view door.new).reads }
-    ensures writes { (D.view door.old).writes ≤ (D.view door.new).writes }
+        → ServedInTurn S.may S.refusal from (S.keeps service.new) (is_err result) count s (D.view door.old) (D.view door.new) }
+    ensures calls { TakesTurns (is_err result) (D.view door.old) (D.view door.new) }
 {
     for i in 0..count {
         if !door.next()? {

@@ -1,8 +1,8 @@
 //! Serving one connection.
-ghost use Rattle.std.specs.Prelude.{◌≡◌, ◌≢◌, ◌+◌, ◌≤◌, ℕ, List, [], length, Option, Some, None, OnOk, OnErr, IsTrue, is_err};
-ghost use Rattle.mud_world.specs.Causes.{Counts, StopsAtFailure};
+ghost use Rattle.std.specs.Prelude.{◌≡◌, ◌≢◌, ◌+◌, ◌≤◌, ℕ, List, [], length, Option, Some, None, OnOk, OnErr, is_err};
 ghost use Rattle.mud_world.specs.Door.{put_out};
 ghost use Rattle.mud_world.specs.Whole.{WrotePart};
+ghost use Rattle.http_requests.specs.Doors.{ReadsAndWrites, WritesAlone};
 ghost use Rattle.http_requests.specs.Framing.{closes};
 ghost use Rattle.http_requests.specs.Requests.{Request, Begins, closed, spent, stop_after};
 ghost use Rattle.http_requests.specs.Shapes.{IsShape};
@@ -24,10 +24,7 @@ fn say_answer<D: Door, S: Service>(door: &mut D, service: &S) -> Result<(), Fail
         ((D.view door.new).state ≡ put_out (S.held service.now) (D.view door.old).state) }
     ensures part { D.tells → OnErr result
         (WrotePart (S.held service.now) (D.view door.old).state (D.view door.new).state) }
-    ensures cause { Counts (is_err result) (D.view door.old).writes (D.view door.new).writes }
-    ensures stop { OnErr result (StopsAtFailure (D.view door.new).failed (D.view door.old).writes (D.view door.new).writes) }
-    ensures turns { (D.view door.new).turns ≡ (D.view door.old).turns }
-    ensures reads { (D.view door.new).reads ≡ (D.view door.old).reads }
+    ensures calls { WritesAlone (is_err result) (D.view door.old) (D.view door.new) }
 {
     let (head, body) = service.answer();
     say(door, head)?;
@@ -74,10 +71,7 @@ fn answer_first<D: Door, S: Service>(
         → shape.now.closes ≡ closes request.head → stop_after more request ≡ Some closed }
     ensures spent { result ≡ Ok (Some Stop.Spent) → (request : Request)
         → shape.now.closes ≡ closes request.head → stop_after more request ≡ Some spent }
-    ensures cause { Counts (is_err result) (D.view door.old).writes (D.view door.new).writes }
-    ensures stop { OnErr result (StopsAtFailure (D.view door.new).failed (D.view door.old).writes (D.view door.new).writes) }
-    ensures turns { (D.view door.new).turns ≡ (D.view door.old).turns }
-    ensures reads { (D.view door.new).reads ≡ (D.view door.old).reads }
+    ensures calls { WritesAlone (is_err result) (D.view door.old) (D.view door.new) }
 {
     let stop = stop_of(more, shape.closes);
     carry_out_first(service, buffer.octets(), shape, stop.is_some());
@@ -98,10 +92,7 @@ fn answer_fault<D: Door, S: Service>(
         ((D.view door.new).state ≡ put_out (S.refusal fault) (D.view door.old).state) }
     ensures part { D.tells → OnErr result
         (WrotePart (S.refusal fault) (D.view door.old).state (D.view door.new).state) }
-    ensures cause { Counts (is_err result) (D.view door.old).writes (D.view door.new).writes }
-    ensures stop { OnErr result (StopsAtFailure (D.view door.new).failed (D.view door.old).writes (D.view door.new).writes) }
-    ensures turns { (D.view door.new).turns ≡ (D.view door.old).turns }
-    ensures reads { (D.view door.new).reads ≡ (D.view door.old).reads }
+    ensures calls { WritesAlone (is_err result) (D.view door.old) (D.view door.new) }
 {
     service.refuse(fault);
     say_answer(door, service)
@@ -124,14 +115,8 @@ pub fn serve_connection<D: Door, S: Service>(
     ensures left { (s : S.State) → S.keeps service.old s → IsLeftBy S.may (S.keeps service.new) s }
     ensures served { D.tells → (s : S.State) → S.keeps service.old s
         → IsServed S.may S.refusal from (S.keeps service.new) result s
-        (D.view door.old).state (D.view door.new).state }
-    ensures reads { Counts (is_read_failed result) (D.view door.old).reads (D.view door.new).reads }
-    ensures writes { Counts (is_write_failed result) (D.view door.old).writes (D.view door.new).writes }
-
-    // A read or a write that failed was the last call of the door.
-    ensures read_stop { IsTrue (is_read_failed result) → StopsAtFailure (D.view door.new).failed (D.view door.old).reads (D.view door.new).reads }
-    ensures write_stop { IsTrue (is_write_failed result) → StopsAtFailure (D.view door.new).failed (D.view door.old).writes (D.view door.new).writes }
-    ensures turns { (D.view door.new).turns ≡ (D.view door.old).turns }
+        (D.view door.old) (D.view door.new) }
+    ensures calls { ReadsAndWrites (is_read_failed result) (is_write_failed result) (D.view door.old) (D.view door.new) }
 {
     buffer.clear();
     let mut more = MOST_REQUESTS;

@@ -1,4 +1,5 @@
 pub mod Boxes
+pub mod Found
 pub mod Opening
 pub mod Payments
 pub mod Sessions

@@ -10,10 +10,12 @@ ghost use Rattle.desk_model.specs.DeskTables.{IsSound};
 ghost use Rattle.desk_model.specs.Commands.{IsAsked, command_step};
 ghost use Rattle.desk_model.specs.Items.{none_kept, tables_in};
 ghost use Rattle.desk_model.specs.Sessions.{MayAnswer, verdict_in};
+ghost use Rattle.desk_model.specs.Verdicts.{policy_at};
 ghost use Rattle.desk_rows.specs.CompiledDesk.{IsCompiledOf};
 ghost use Rattle.desk_items.specs.Taken.{kept_of};
 ghost use Rattle.desk_items.specs.Opening.{IsFaultOf};
 ghost use Rattle.desk_judge.specs.Grounds.{rows_read, ruling_steps};
+ghost use Rattle.desk_judge.specs.Findings.{AreFindingsOn};
 ghost use Rattle.mud_desk.specs.DeskState.{tables_of, session_of, HasForwarded, IsBegun, IsJudged, AreRulesOf};
 ghost use Rattle.mud_desk.specs.Boxed.{IsKept, IsSameBox};
 ghost use Rattle.mud_desk.specs.Answers.{is_of_keeper, is_fault_of_keeper, StaysUnlessDone, IsLeft, IsPaidOnce};
@@ -22,6 +24,7 @@ use crate::keeping::keep_batch;
 use crate::state::{State, later};
 use acl_rows::RuleView;
 use desk_items::{OpenFault, Taken, open_items};
+use desk_judge::Findings;
 use desk_model::types::command_fits;
 use desk_model::{Command, Reply};
 use file_tables::CachedFile;
@@ -186,11 +189,15 @@ impl Desk {
         self.state.judge(frame, stamp, steps)
     }
 
-    /// The verdict that [`Desk::judge`] would give, with nothing changed. It takes no memory.
-    pub fn why(&self, frame: &[u8], stamp: Moment) -> Verdict
-        ensures { (h : List SegmentValue) → HasForwarded h self.now.state → result ≡ verdict_in (session_of h self.now.state) stamp frame.now }
+    /// What decides a frame: the verdict that [`Desk::judge`] would give, and the Things, rulings and
+    /// entries by which it is given, with nothing changed. It takes no memory.
+    pub fn why(&self, frame: &[u8], stamp: Moment) -> Findings<'_>
+        ensures verdict { (h : List SegmentValue) → HasForwarded h self.now.state → result.verdict ≡ verdict_in (session_of h self.now.state) stamp frame.now }
+        // At each end these are the Thing of the desk, the ruling of the verdict, and the entry of its number in the
+        // Thing's approved file.
+        ensures found { AreFindingsOn (policy_at (tables_of self.now.state)) (tables_of self.now.state).tables.things (frame_of frame.now) result }
     {
-        self.state.verdict::<Brand>(frame, stamp, Blank::new(1))
+        self.state.why::<Brand>(frame, stamp, Blank::new(1))
     }
 
     /// What a ruling on packets with the Thing of this hardware address on this side reads; None

@@ -8,6 +8,7 @@ pub mod state;
 
 pub use desk::Desk;
 pub use desk_items::{OpenFault, Taken};
+pub use desk_judge::{Findings, RuledThing};
 pub use desk_model::{Command, Outcome, Refusal, Reply};
 pub use packet_judge::Verdict;
 pub use state::State;

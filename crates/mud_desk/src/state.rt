@@ -12,16 +12,18 @@ ghost use Rattle.desk_model.specs.DeskTables.{IsSound};
 ghost use Rattle.desk_model.specs.Refusals.{is_want_of_memory};
 ghost use Rattle.desk_model.specs.Commands.{IsAsked, command_step};
 ghost use Rattle.desk_model.specs.Sessions.{verdict_in};
+ghost use Rattle.desk_model.specs.Verdicts.{policy_at};
 ghost use Rattle.desk_rows.specs.CompiledDesk.{IsCompiledOf};
 ghost use Rattle.desk_items.specs.Taken.{taken_desk};
 ghost use Rattle.desk_judge.specs.Grounds.{rows_read, ruling_steps};
+ghost use Rattle.desk_judge.specs.Findings.{AreFindingsOn};
 ghost use Rattle.desk_books.specs.Changes.{desk_after};
 ghost use Rattle.desk_books.specs.Planned.{IsPlanned, IsReady, IsPaid};
 ghost use Rattle.mud_desk.specs.DeskState.{DeskState as Value, tables_of, session_of, HasForwarded, IsBegun, IsJudged, AreRulesOf};
 
 use desk_books::{DeskBooks, DeskChange};
 use desk_items::Taken;
-use desk_judge::{judge, verdict};
+use desk_judge::{Findings, judge, why};
 use desk_model::{Command, Refusal};
 use flow_table::FlowTable;
 use mud_base::{Memory, Moment};
@@ -167,15 +169,16 @@ impl State {
         Ok(verdict)
     }
 
-    /// The verdict on a frame: [`desk_judge::verdict`].
+    /// What decides a frame: [`desk_judge::why`].
     #[tactic(auto, unfolding(crate::specs::DeskState::tables_of))]
-    pub(crate) fn verdict<L: Ledger>(&self, frame: &[u8], stamp: Moment, blank: Blank) -> Verdict
+    pub(crate) fn why<L: Ledger>(&self, frame: &[u8], stamp: Moment, blank: Blank) -> Findings<'_>
         requires blank { IsBlankOf L.name L.parts blank }
-        ensures { (h : List SegmentValue) → HasForwarded h self.now → result ≡ verdict_in (session_of h self.now) stamp frame.now }
+        ensures verdict { (h : List SegmentValue) → HasForwarded h self.now → result.verdict ≡ verdict_in (session_of h self.now) stamp frame.now }
+        ensures found { AreFindingsOn (policy_at (tables_of self.now)) (tables_of self.now).tables.things (frame_of frame.now) result }
     {
         let mut steps = Steps::<L>::new(blank);
         let moment = later(self.moment, stamp);
-        verdict(
+        why(
             frame,
             self.books.thing_book(),
             self.books.compiled(),

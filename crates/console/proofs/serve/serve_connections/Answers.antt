@@ -25,7 +25,7 @@ returns-clause-served g c = λ tells h forwarded.
     let old = c.args.console.now in
     let moments = g.C.Clock.moments old.clock.now in
     let first = begun (session_of h old.desk.state) moments in
-    in_turn_of (MayTake g.C.Clock.tells) fault_answer c.args.from _ _ first old _ _ _ _ _ _ _ _ (λ n k. k.0)
+    in_turn_of (MayTake g.C.Clock.tells) fault_answer c.args.from _ _ first old _ _ _ _ (λ n k. k.0)
     (c.serve_connections.ensures.served tells (Some first, old) (at_first g.C.Clock.tells old.desk.state moments (faults_of (goal.Keeper-dyn g) old.desk.keeper) h forwarded, (λ t. t), refl, refl, refl))
 
 pub returns-clause-told : goal.returns-clause-told

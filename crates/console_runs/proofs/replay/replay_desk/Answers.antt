@@ -17,4 +17,4 @@ returns-clause-replays g c = λ tables is.
     (door.view old)
     (door.view new)
     (status_number c.status_of.result)
-    is run.kept c.close.ensures c.status_of.ensures (run.left [] is.forwarded) (λ told. run.served told [] is.forwarded) run.reads run.writes run.read_stop run.write_stop run.turns
+    is run.kept c.close.ensures c.status_of.ensures (run.left [] is.forwarded) (λ told. run.served told [] is.forwarded) run.calls

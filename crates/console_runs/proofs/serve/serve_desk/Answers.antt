@@ -4,7 +4,7 @@ use Rattle.command_runs.specs.Status.{status_number}
 use Rattle.mud_world.specs.View.{viewed}
 use Rattle.mud_world.specs.Boxed.{faults_of}
 use Rattle.console_runs.specs.Serve.{ServesConnections, listening, clock_run}
-use Rattle.console_runs.proofs.Serves.{served_here, unbound, when_err}
+use Rattle.console_runs.proofs.Serves.{served_here, unbound}
 use Rattle.console_runs.proofs.serve.serve_desk.Goals as goal
 
 pub returns-in_default-clause-serves : goal.returns-in_default-clause-serves
@@ -47,4 +47,4 @@ returns-clause-serves g c = λ tables is.
     (door.view new)
     (status_number c.status_of.result)
     run.kept c.close-2.ensures c.status_of.ensures bound.ok bound.cause bound.reads bound.writes
-    (run.left [] is.forwarded) (λ told. run.served told [] is.forwarded) run.turns (when_err c.serve_connections-served.result _ run.stop) run.reads run.writes)
+    (run.left [] is.forwarded) (λ told. run.served told [] is.forwarded) run.calls)

@@ -1,4 +1,4 @@
-use Rattle.std.proofs.Common.{refl, rules}
+use Rattle.std.proofs.Common.{refl, ◌∙◌}
 use Rattle.http_requests.proofs.Steps.{head_waits, received_more}
 use Rattle.http_requests.proofs.next.next_head.Goals as goal
 
@@ -15,7 +15,7 @@ more-preserved g c = record {
   received = λ t. received_more _ _ _ _ _ _ (c.more.invariant.received t) (c.in_ok-fill-in-Wait.ensures.octets t);
   untouched = λ head rest is.
       absurd (head_waits c.args.buffer.now c.more.buffer c.octets.result.now head rest is (c.more.invariant.untouched head rest is) c.octets.ensures.value (c.in-Wait.ensures.wait refl));
-  reads = search rules;
-  turns = search rules;
-  writes = search rules;
+  reads = c.in_ok-fill-in-Wait.ensures.calls.reads.steady refl ∙ c.more.invariant.reads;
+  turns = c.in_ok-fill-in-Wait.ensures.calls.turns ∙ c.more.invariant.turns;
+  writes = c.in_ok-fill-in-Wait.ensures.calls.writes ∙ c.more.invariant.writes;
 }

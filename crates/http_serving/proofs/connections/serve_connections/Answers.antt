@@ -1,4 +1,4 @@
-use Rattle.std.proofs.Common.{◌≡◌, true, arith, rules}
+use Rattle.std.proofs.Common.{◌≡◌, true, refl, arith, ◌∙◌}
 use Rattle.mud_world.specs.Door.{has_more}
 use Rattle.http_serving.proofs.Running.{left_further}
 use Rattle.http_serving.proofs.Visits.{rounds_more}
@@ -11,9 +11,9 @@ loop-i-preserved g c = record {
   served = λ t s k.
       let next = c.in_ok-next.ensures.ok t in
       let more : has_more (g.D.Door.view c.loop-i.door).state.ahead ≡ true = cc in
-      rounds_more g.S.Service.may g.S.Service.refusal c.args.from _ _ c.serve_connection.result c.loop-i.i s _ _ _ _ _ _ _ _ _ _ _ _ (c.loop-i.invariant.served t s k)
-      more next.1 (c.serve_connection.ensures.served t) c.in_ok-next.ensures.reads c.serve_connection.ensures.reads c.in_ok-next.ensures.writes c.serve_connection.ensures.writes;
-  reads = omega (arith, c.loop-i.invariant.reads, c.in_ok-next.ensures.reads, c.serve_connection.ensures.reads.later);
-  writes = omega (arith, c.loop-i.invariant.writes, c.in_ok-next.ensures.writes, c.serve_connection.ensures.writes.later);
-  turns = search rules;
+      rounds_more g.S.Service.may g.S.Service.refusal c.args.from _ _ c.serve_connection.result c.loop-i.i s _ (g.D.Door.view c.loop-i.door) (g.D.Door.view c.next.new.self) _ (c.loop-i.invariant.served t s k)
+      more next.1 (c.serve_connection.ensures.served t) c.in_ok-next.ensures.reads c.in_ok-next.ensures.writes c.serve_connection.ensures.calls;
+  reads = omega (arith, c.loop-i.invariant.reads, c.in_ok-next.ensures.reads, c.serve_connection.ensures.calls.reads.later);
+  writes = omega (arith, c.loop-i.invariant.writes, c.in_ok-next.ensures.writes, c.serve_connection.ensures.calls.writes.later);
+  turns = c.serve_connection.ensures.calls.turns ∙ c.in_ok-next.ensures.cause.steady refl ∙ c.loop-i.invariant.turns;
 }

@@ -11,8 +11,7 @@ invariant-loop-i g l =
       ready : service.ready l.service;
       left : (s : service.State) → service.keeps l.initial.service s → IsLeftBy service.may (service.keeps l.service) s;
       served : door.tells → (s : service.State) → service.keeps l.initial.service s
-          → Rounds service.may service.refusal l.from (service.keeps l.service) l.i s (door.view l.initial.door).state (door.view l.door).state
-          (door.view l.initial.door).reads (door.view l.door).reads (door.view l.initial.door).writes (door.view l.door).writes;
+          → Rounds service.may service.refusal l.from (service.keeps l.service) l.i s (door.view l.initial.door) (door.view l.door);
       reads : (door.view l.initial.door).reads ≤ (door.view l.door).reads;
       writes : (door.view l.initial.door).writes ≤ (door.view l.door).writes;
       turns : (door.view l.door).turns ≡ (door.view l.initial.door).turns;

@@ -1,4 +1,4 @@
-use Rattle.std.proofs.Common.{Ok, Err, refl, ap, rules}
+use Rattle.std.proofs.Common.{Ok, Err, refl, ap, ◌∙◌}
 use Rattle.http_serving.proofs.Running.{left_kept, left_more}
 use Rattle.http_serving.proofs.Stops.{more_left}
 use Rattle.http_serving.proofs.Serves.{progress_more, ended_here, closed_here, spent_here, broken_here, read_failed_here, leave_failed_here, refusal_failed_here, answer_failed_here}
@@ -70,9 +70,9 @@ requests-preserved g c = record {
       (c.answer_first.ensures.answer c.args.from came.request came.behind came.begins came.is_shape)
       (c.in-Ok-None.ensures.goes_on (cc) came.request came.is_shape.closes) c.len.ensures.value c.consume.ensures refl;
   some = more_left c.requests.more c.in-Ok-Whole.shape.closes c.requests.invariant.some (c.in-Ok-None.ensures.goes_on (cc));
-  reads = search rules;
-  turns = search rules;
-  writes = search rules;
+  reads = c.in-Ok-None.ensures.calls.reads ∙ c.in-Ok-Whole.ensures.calls.reads.steady refl ∙ c.requests.invariant.reads;
+  turns = c.in-Ok-None.ensures.calls.turns ∙ c.in-Ok-Whole.ensures.calls.turns ∙ c.requests.invariant.turns;
+  writes = c.in-Ok-None.ensures.calls.writes.steady refl ∙ c.in-Ok-Whole.ensures.calls.writes.steady refl ∙ c.requests.invariant.writes;
 }
 
 pub returns-in-Ok-Some-Closed-clause-left : goal.returns-in-Ok-Some-Closed-clause-left

@@ -1,4 +1,4 @@
 use Rattle.mud_desk.proofs.desk.Desk.why.Given as goal
 
-abbrev pub ghosts-verdict : goal.ghosts-verdict
-ghosts-verdict g a = record { name = a.blank.name; parts = a.blank.parts }
+abbrev pub ghosts-why : goal.ghosts-why
+ghosts-why g a = record { name = a.blank.name; parts = a.blank.parts }

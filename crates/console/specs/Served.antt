@@ -1,0 +1,39 @@
+-- What serving makes of a console, from whatever history its desk's session has.
+use Rattle.std.specs.Prelude.{ℕ, Bool, List}
+use Rattle.mud_world.specs.declared.clock.Clock as clock
+use Rattle.mud_world.specs.declared.keeper.Keeper.{Ghosts}
+use Rattle.mud_world.specs.Boxed.{faults_of}
+use Rattle.mud_world.specs.View.{DoorView}
+use Rattle.mud_tables.specs.declared.segment.Segment.{Segment}
+use Rattle.mud_desk.specs.DeskState.{session_of, HasForwarded}
+use Rattle.http_requests.specs.declared.fault.MomentFrom.{MomentFrom}
+use Rattle.http_serving.specs.declared.end.ConnectionEnd.{ConnectionEnd}
+use Rattle.http_serving.specs.Ends.{IsServed}
+use Rattle.http_serving.specs.Runs.{IsLeftBy}
+use Rattle.http_serving.specs.Visits.{ServedInTurn}
+use Rattle.console_answers.specs.Answers.{fault_answer}
+use Rattle.console.specs.declared.console.Console.{Console}
+use Rattle.console.specs.States.{ConsoleState, MayTake, IsAt, begun}
+
+module _ {X : Type 0} {F : X → Type 0} (members : (v : (x : X) × F x) → Ghosts (F v.0)) {C : Type 0} (clocks : clock.Ghosts C) (old new : Console C X F) where
+  -- the state in which the console was, where its session has this history
+  abbrev pub state_before : List Segment → ConsoleState
+  state_before history = begun (session_of history old.desk.state) (clocks.moments old.clock.now)
+
+  -- the console is in the state now
+  abbrev pub IsNow : ConsoleState → Type 0
+  IsNow = IsAt clocks.tells new.desk.state (clocks.moments new.clock.now) (faults_of members old.desk.keeper) (faults_of members new.desk.keeper)
+
+  -- It is in a state that some requests left.
+  abbrev pub IsLeftByRequests : Type 0
+  IsLeftByRequests = (history : List Segment) → HasForwarded history old.desk.state → IsLeftBy (MayTake clocks.tells) IsNow (state_before history)
+
+  -- They are those of one connection, and what was written are their answers.
+  abbrev pub ServesOne : MomentFrom → ConnectionEnd → DoorView → DoorView → Type 0
+  ServesOne from end door door_now = (history : List Segment) → HasForwarded history old.desk.state
+      → IsServed (MayTake clocks.tells) fault_answer from IsNow end (state_before history) door door_now
+
+  -- They are those of connections that were served one after the other, and what was written are their answers.
+  abbrev pub ServesInTurn : MomentFrom → Bool → ℕ → DoorView → DoorView → Type 0
+  ServesInTurn from failed count door door_now = (history : List Segment) → HasForwarded history old.desk.state
+      → ServedInTurn (MayTake clocks.tells) fault_answer from IsNow failed count (state_before history) door door_now

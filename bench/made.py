@@ -9,7 +9,8 @@ measure with.
                             store. FOLDER/rules is a filter of 1,024 address rules for tcpdump, of which
                             the last one is the Thing's address.
   made.py replay FOLDER     FOLDER/small.requests has 200,000 requests behind those that make a Thing:
-                            by turns a packet and the observation of a name; FOLDER/things.requests
+                            by turns a packet and the observation of a name; FOLDER/more.requests has the
+                            first 8,000 of them and FOLDER/some.requests the first 6,000; FOLDER/things.requests
                             makes 512 Things, and FOLDER/listings.requests lists them 200,000 times.
   made.py keeper FOLDER COUNT
                             FOLDER/requests has so many observations of 64 names, each of which changes
@@ -196,18 +197,23 @@ def stated(**members):
     return json.dumps(members, separators=(",", ":")).encode()
 
 
-def make_replay(folder):
+def make_small(path, pairs):
     mac, address, peer = mac_of(0), address_of(0), peer_of(0, 0)
     judged = tcp_frame(mac, address, peer, 50000, 0x02)
-    with open(f"{folder}/small.requests", "wb") as requests:
+    with open(path, "wb") as requests:
         requests.write(request("POST", "/hear/dhcp", MOMENT, announcement(mac, url_of(0).encode())))
         lease = stated(mac=mac.hex(":"), address="10.0.1.0", seconds=4294967295)
         requests.write(request("POST", "/leases", MOMENT, lease))
-        for number in range(100000):
+        for number in range(pairs):
             moment = MOMENT + number // 100
             requests.write(request("POST", "/packets", moment, judged))
             seen = stated(name=name_of(number % 128, number // 128 % 16), address="198.18.1.0", ttl=3600)
             requests.write(request("POST", "/names", moment, seen))
+
+
+def make_replay(folder):
+    for name, pairs in (("small", 100000), ("more", 4000), ("some", 3000)):
+        make_small(f"{folder}/{name}.requests", pairs)
     with open(f"{folder}/things.requests", "wb") as requests:
         for thing in range(THINGS):
             requests.write(request("POST", "/hear/dhcp", MOMENT, announcement(mac_of(thing), url_of(thing % FILES).encode())))

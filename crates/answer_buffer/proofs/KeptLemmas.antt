@@ -1,9 +1,9 @@
 -- What a buffer keeps of texts that are added one after the other.
-use Rattle.std.proofs.Common.{◌≡◌, ℕ, ◌*◌, ◌/◌, ◌%◌, Bool, true, false, cond, lit≤, suc, zero, ◌+◌, ◌<◌, ◌≤◌, List, [], ◌∷◌, ◌++◌, length, take, drop, get_or, refl, sym, ap, ◌∙◌, arith, append_assoc, append-nil, length-append}
+use Rattle.std.proofs.Common.{◌≡◌, ℕ, ◌*◌, ◌/◌, ◌%◌, ◌-◌, min, Bool, true, false, cond, lit≤, suc, zero, ◌+◌, ◌<◌, ◌≤◌, List, [], ◌∷◌, ◌++◌, length, take, get_or, refl, sym, ap, ◌∙◌, arith, append_assoc, append-nil, length-append, take-add, take-take, take_at, drop_at}
 use Rattle.std.specs.Prelude.{flat_map, nat_lt}
 use Rattle.std.proofs.Math.ListN.{set}
 use Rattle.std.proofs.lemmas.List.{take_all, take-append-le, length-take-le, length-take}
-use Rattle.std.proofs.lemmas.List.{take_more_set, take_more}
+use Rattle.std.proofs.lemmas.List.{take_more_set, take_more, take_min}
 use Rattle.std.proofs.lemmas.Grind.{flat_map-append}
 use Rattle.std.specs.Char.{digit_char}
 use Rattle.json.specs.Print.{escape_letter, escape_byte, escape, quoted}
@@ -31,10 +31,6 @@ kept_behind s a b = kept_kept (s ++ a) b ∙ ap kept (append_assoc s a b)
 pub kept_none : (s : List ℕ) → length s ≤ 4096 → s ≡ kept (s ++ [])
 kept_none s short = sym (kept_short s short) ∙ ap kept (sym (append-nil s))
 
--- the next octet of a text
-pub kept_next : (s t : List ℕ) (i d : ℕ) → i < length t → kept (kept (s ++ take i t) ++ get_or t i d ∷ []) ≡ kept (s ++ take (i + 1) t)
-kept_next s t i d within = kept_behind s (take i t) (get_or t i d ∷ []) ∙ ap (λ x. kept (s ++ x)) (sym (take_more t i d within))
-
 flat_map-next : (f : ℕ → List ℕ) (t : List ℕ) (i d : ℕ) → i < length t → flat_map f (take (i + 1) t) ≡ flat_map f (take i t) ++ f (get_or t i d)
 flat_map-next f t i d within = ap (flat_map f) (take_more t i d within) ∙ flat_map-append f (take i t) (get_or t i d ∷ []) ∙ ap (λ x. flat_map f (take i t) ++ x) (append-nil (f (get_or t i d)))
 
@@ -58,6 +54,31 @@ unfolding kept
 front_full octets len octet filled full =
     let whole : length (take len octets) ≡ len = length-take-le len octets (omega (arith, filled.whole)) in
     sym (take-append-le 4096 (take len octets) (octet ∷ []) (omega arith) ∙ take_all 4096 (take len octets) (omega (arith, filled.within)))
+
+-- as much of a text as fits
+taken_behind : (n room : ℕ) (a b : List ℕ) → length a ≡ n → take (n + room) (a ++ b) ≡ a ++ take room b
+taken_behind n room a b whole = take-add n room (a ++ b) ∙ (λ i. take_at a b n whole i ++ take room (drop_at a b n whole i))
+
+front_fits : (octets text : List ℕ) (len fits : ℕ) → IsFilled octets len → fits ≡ min (4096 - len) (length text) → take len octets ++ take fits text ≡ kept (take len octets ++ text)
+unfolding kept
+front_fits octets text len fits filled is =
+    let room = 4096 - len in
+    let front : length (take len octets) ≡ len = length-take-le len octets (omega (arith, filled.within, filled.whole)) in
+    let whole : 4096 ≡ len + room = omega (arith, filled.within) in
+    ap (λ (t : List ℕ). take len octets ++ t) (ap (λ n. take n text) is ∙ take_min room text)
+    ∙ sym (ap (λ n. take n (take len octets ++ text)) whole ∙ taken_behind len room (take len octets) text front)
+
+-- the octets in use, once as much of a text as fits was written behind them
+pub text_placed : (octets placed rest old text put : List ℕ) (whole len fits end : ℕ) → IsFilled octets len → whole ≡ 4096 → length placed ≡ 4096 → fits ≡ min (4096 - len) (length text)
+    → put ≡ take fits text → end ≡ len + length put → take end placed ≡ take len octets ++ put → old ≡ take len octets → take end (take whole (placed ++ rest)) ≡ kept (old ++ text)
+text_placed octets placed rest old text put whole len fits end filled full long is same stop front was =
+    let written : length put ≡ fits = ap length same ∙ length-take-le fits text (omega arith) in
+    take-take end whole (placed ++ rest) (omega (arith, filled.within))
+    ∙ take-append-le end placed rest (omega (arith, filled.within))
+    ∙ front
+    ∙ ap (λ (t : List ℕ). take len octets ++ t) same
+    ∙ front_fits octets text len fits filled is
+    ∙ ap (λ (t : List ℕ). kept (t ++ text)) (sym was)
 
 pub kept_then : (s a b t u : List ℕ) → t ≡ kept (s ++ a) → u ≡ kept (t ++ b) → u ≡ kept (s ++ (a ++ b))
 kept_then s a b t u first next = next ∙ ap (λ x. kept (x ++ b)) first ∙ kept_behind s a b

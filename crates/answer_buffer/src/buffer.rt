@@ -1,5 +1,5 @@
 //! The buffer.
-ghost use Rattle.std.specs.Prelude.{◌≡◌, ◌≤◌, [], ◌∷◌, ◌++◌, length, IfOk};
+ghost use Rattle.std.specs.Prelude.{◌≡◌, ◌+◌, ◌≤◌, [], ◌∷◌, ◌++◌, length, take, IfOk};
 ghost use Rattle.answer_buffer.specs.Kept.{kept};
 
 use mud_base::Memory;
@@ -27,6 +27,18 @@ impl Model for AnswerBuffer {
 
 /// The most octets of a text.
 const ROOM: usize = 4096;
+
+/// Copies a text to a place, and says where it ends.
+fn place(octets: &mut [u8], at: usize, text: &[u8]) -> usize
+    requires { at + length text.now ≤ length octets.old }
+    ensures front { take result octets.new ≡ take at octets.old ++ text.now }
+    ensures end { result ≡ at + length text.now }
+    ensures len { length octets.new ≡ length octets.old }
+{
+    let end = at + text.len();
+    octets[at..end].copy_from_slice(text);
+    end
+}
 
 impl AnswerBuffer {
     /// An empty text. All memory that it ever needs is taken here.
@@ -72,13 +84,10 @@ impl AnswerBuffer {
     }
 
     /// Adds octets at the end, as many of them as fit.
-    #[tactic(auto, using(crate::proofs::KeptLemmas::kept_next, crate::proofs::KeptLemmas::kept_none))]
     pub fn put(&mut self, text: &[u8])
         ensures { self.new ≡ kept (self.old ++ text.now) }
     {
-        let _len = self.len();
-        'text: for octet in text {
-            self.push(*octet);
-        }
+        let fits = (ROOM - self.len).min(text.len());
+        self.len = place(self.octets.as_mut_slice(), self.len, &text[..fits]);
     }
 }

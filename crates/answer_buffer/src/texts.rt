@@ -6,6 +6,7 @@ ghost use Rattle.json.specs.Print.{escape_byte, escape, quoted};
 ghost use Rattle.answer_buffer.specs.Kept.{kept};
 
 use crate::buffer::AnswerBuffer;
+use crate::plain::is_plain;
 use itoa::Buffer;
 
 /// Adds the decimal digits of a number, as far as they fit.
@@ -29,7 +30,7 @@ pub fn hex_digit(digit: u8) -> u8
 }
 
 /// The letter of an octet's short escape (RFC 8259, 7), or 0 where it has none.
-pub fn escape_letter(octet: u8) -> u8
+pub(crate) fn escape_letter(octet: u8) -> u8
     ensures { result ≡ spec.escape_letter octet }
 {
     if octet == b'"' || octet == b'\\' {
@@ -82,6 +83,10 @@ fn put_escaped(buffer: &mut AnswerBuffer, octet: u8)
 pub fn put_escapes(buffer: &mut AnswerBuffer, text: &[u8])
     ensures { buffer.new ≡ kept (buffer.old ++ escape text.now) }
 {
+    if is_plain(text) {
+        buffer.put(text);
+        return;
+    }
     let _len = buffer.len();
     'text: for octet in text {
         put_escaped(buffer, *octet);

@@ -1,10 +1,7 @@
--- A text in quotes.
-use Rattle.std.proofs.Common.{◌≡◌, ℕ, List, [], ◌∷◌, ◌++◌, ◌∙◌, append_assoc, Result, Ok, Err}
+-- One text behind another.
+use Rattle.std.proofs.Common.{◌≡◌, ℕ, List, ◌++◌, Result, Ok, Err}
 use Rattle.std.specs.Prelude.{OnOk}
 use Rattle.text_lines.proofs.Parts.{behind_both}
-
-pub in_quotes : (s e : List ℕ) (q : ℕ) → ((s ++ q ∷ []) ++ e) ++ q ∷ [] ≡ s ++ q ∷ (e ++ q ∷ [])
-in_quotes s e q = append_assoc (s ++ q ∷ []) e (q ∷ []) ∙ append_assoc s (q ∷ []) (e ++ q ∷ [])
 
 -- one text behind another, where the second was written
 pub ok_behind : {T E : Type 0} (r : Result T E) (s a b t u : List ℕ) → t ≡ s ++ a → OnOk r (u ≡ t ++ b) → OnOk r (u ≡ s ++ (a ++ b))

@@ -1,2 +1,3 @@
-pub mod Joins
+pub mod Digits
 pub mod Elements
+pub mod Joins

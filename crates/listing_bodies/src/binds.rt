@@ -2,8 +2,9 @@
 ghost use Rattle.std.specs.Prelude.{◌≡◌, ◌++◌, OnOk, IfOk};
 ghost use Rattle.listing_bodies.specs.Rows as spec;
 
+use crate::addresses::{append_address, append_prefix};
 use crate::lists::{JsonRow, append_list, listing_body};
-use crate::texts::{append_address, append_prefix, append_quoted};
+use answer_buffer::append_quoted;
 use mud_base::{Addr, Bytes, End, Memory, Prefix};
 use mud_tables::{Class, ClassRow, NameRow};
 use mud_url::MudUrl;

@@ -3,8 +3,8 @@ ghost use Rattle.std.specs.Prelude.{◌≡◌, ◌++◌, OnOk, IfOk};
 ghost use Rattle.listing_bodies.specs.Rows as spec;
 
 use crate::lists::{JsonRow, listing_body};
-use crate::texts::append_quoted;
 use crate::things::append_url_end;
+use answer_buffer::append_quoted;
 use file_tables::{Approval, CachedFile, Held};
 use mud_base::{Bytes, Memory};
 use mud_file::UsageFile;

@@ -2,11 +2,11 @@
 //! why something is refused. They take memory.
 #![tactic(auto)]
 
+mod addresses;
 pub mod binds;
 pub mod files;
 pub mod lists;
 pub mod refusals;
-mod texts;
 pub mod things;
 pub mod why;
 

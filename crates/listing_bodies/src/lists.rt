@@ -1,8 +1,8 @@
 //! JSON lists of rows, and listings.
-ghost use Rattle.std.specs.Prelude.{◌≡◌, ◌++◌, OnOk, IfOk};
+ghost use Rattle.std.specs.Prelude.{◌≡◌, ◌++◌, [], OnOk, IfOk};
 ghost use Rattle.listing_bodies.specs.Lists as spec;
 
-use crate::texts::append_quoted;
+use answer_buffer::append_quoted;
 use mud_base::{Bytes, Memory};
 use std::alloc::Global;
 
@@ -23,7 +23,7 @@ fn append_comma(body: &mut Bytes, index: usize) -> Result<(), Memory>
     ensures { OnOk result (body.new ≡ body.old ++ spec.comma_before index) }
 {
     if index > 0 {
-        return body.append(b",");
+        return body.push(b',');
     }
     Ok(())
 }
@@ -62,9 +62,21 @@ pub(crate) fn append_list<T: JsonRow>(
 ) -> Result<(), Memory>
     ensures { OnOk result (body.new ≡ body.old ++ spec.list_text T.text rows.now) }
 {
-    body.append(b"[")?;
+    body.push(b'[')?;
     append_items(alloc, body, rows)?;
-    body.append(b"]")
+    body.push(b']')
+}
+
+/// For how many octets of each row memory is taken ahead. Most rows of Things, which are the most
+/// that are listed, have fewer.
+const ROW_ROOM: usize = 160;
+
+/// An empty body, with memory for so many rows.
+fn body_for(alloc: Global, rows: usize) -> Result<Bytes, Memory>
+    ensures { IfOk result (λ body. body ≡ []) }
+{
+    let octets = Vec::with_capacity(alloc, rows.saturating_mul(ROW_ROOM))?;
+    Ok(Bytes::from_vec(octets))
 }
 
 /// The object whose one member, of this name, is the list of these rows.
@@ -76,10 +88,11 @@ pub(crate) fn listing_body<T: JsonRow>(
 ) -> Result<Bytes, Memory>
     ensures { IfOk result (λ body. body ≡ spec.listing_body T.text name.now rows.now) }
 {
-    let mut body = Bytes::new(alloc, b"{")?;
+    let mut body = body_for(alloc, rows.len())?;
+    body.push(b'{')?;
     append_quoted(&mut body, name)?;
-    body.append(b":")?;
+    body.push(b':')?;
     append_list(alloc, &mut body, rows)?;
-    body.append(b"}")?;
+    body.push(b'}')?;
     Ok(body)
 }

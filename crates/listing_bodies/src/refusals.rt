@@ -2,7 +2,7 @@
 ghost use Rattle.std.specs.Prelude.{◌≡◌, ◌++◌, OnOk, IfOk};
 ghost use Rattle.listing_bodies.specs.Refusals as spec;
 
-use crate::texts::append_quoted;
+use answer_buffer::append_quoted;
 use body_members::{BodyFault, Member};
 use desk_model::Refusal;
 use dhcp_lldp::HearFault;

@@ -1,15 +1,28 @@
 //! Things, and addresses with their ends.
-ghost use Rattle.std.specs.Prelude.{◌≡◌, ◌++◌, OnOk, IfOk};
+ghost use Rattle.std.specs.Prelude.{◌≡◌, ◌++◌, OnOk, IfOk, codes};
+ghost use Rattle.answer_buffer.specs.Texts.{url_text};
+ghost use Rattle.listing_bodies.specs.Texts.{truth_text, until_text};
 ghost use Rattle.listing_bodies.specs.Rows as spec;
 
+use crate::addresses::{append_address, append_mac};
 use crate::lists::{JsonRow, append_list, listing_body};
-use crate::texts::{
-    append_address, append_mac, append_quoted, append_truth, append_until, append_url,
-};
+use answer_buffer::append_quoted;
 use mud_base::{Addr, Bytes, End, Memory};
 use mud_tables::Thing;
 use mud_url::MudUrl;
 use std::alloc::Global;
+use text_lines::append_decimal;
+
+/// Adds an end: its seconds, or null for what never ends.
+#[tactic(auto, unfolding(crate::specs::Texts::until_text))]
+fn append_until(body: &mut Bytes, until: End) -> Result<(), Memory>
+    ensures { OnOk result (body.new ≡ body.old ++ until_text until) }
+{
+    if until.0 == End::NEVER {
+        return body.append(b"null");
+    }
+    append_decimal(body, until.0)
+}
 
 /// Adds the member that says when something ends, as the last one.
 #[tactic(auto, unfolding(crate::specs::Rows::until_end))]
@@ -18,7 +31,7 @@ fn append_until_end(body: &mut Bytes, until: End) -> Result<(), Memory>
 {
     body.append(b",\"until\":")?;
     append_until(body, until)?;
-    body.append(b"}")
+    body.push(b'}')
 }
 
 /// Adds the member that is a URL, as the last one.
@@ -28,7 +41,7 @@ pub(crate) fn append_url_end(body: &mut Bytes, url: &MudUrl) -> Result<(), Memor
 {
     body.append(b",\"url\":")?;
     append_quoted(body, url.text())?;
-    body.append(b"}")
+    body.push(b'}')
 }
 
 /// Adds an address with its end.
@@ -51,15 +64,38 @@ impl JsonRow for (Addr, End) {
     }
 }
 
+/// Adds whether a Thing is held, as the first member, and the name of the next one.
+#[tactic(auto, unfolding(crate::specs::Texts::truth_text))]
+fn append_held(body: &mut Bytes, held: bool) -> Result<(), Memory>
+    ensures { OnOk result (body.new ≡ body.old ++ (codes "{\"held\":" ++ truth_text held ++ codes ",\"leases\":")) }
+{
+    if held {
+        return body.append(b"{\"held\":true,\"leases\":");
+    }
+    body.append(b"{\"held\":false,\"leases\":")
+}
+
 /// Adds a Thing's first members.
 #[tactic(auto, unfolding(crate::specs::Rows::leases_text))]
 fn append_leases(alloc: Global, body: &mut Bytes, thing: &Thing) -> Result<(), Memory>
     ensures { OnOk result (body.new ≡ body.old ++ spec.leases_text thing.now) }
 {
-    body.append(b"{\"held\":")?;
-    append_truth(body, thing.held)?;
-    body.append(b",\"leases\":")?;
+    append_held(body, thing.held)?;
     append_list(alloc, body, thing.leases.as_slice())
+}
+
+/// Adds the URL that waits, or null where there is none.
+#[tactic(auto, unfolding(answer_buffer::specs::Texts::url_text))]
+fn append_pending(body: &mut Bytes, pending: &Option<MudUrl>) -> Result<(), Memory>
+    ensures { OnOk result (body.new ≡ body.old ++ (codes ",\"pending\":" ++ url_text pending.now)) }
+{
+    match pending {
+        None => body.append(b",\"pending\":null"),
+        Some(url) => {
+            body.append(b",\"pending\":")?;
+            append_quoted(body, url.text())
+        }
+    }
 }
 
 /// Adds a Thing's last members.
@@ -67,8 +103,7 @@ fn append_leases(alloc: Global, body: &mut Bytes, thing: &Thing) -> Result<(), M
 fn append_urls(body: &mut Bytes, pending: &Option<MudUrl>, url: &MudUrl) -> Result<(), Memory>
     ensures { OnOk result (body.new ≡ body.old ++ spec.urls_text pending.now url.now) }
 {
-    body.append(b",\"pending\":")?;
-    append_url(body, pending)?;
+    append_pending(body, pending)?;
     append_url_end(body, url)
 }
 
@@ -81,7 +116,7 @@ impl JsonRow for Thing {
     fn append(&self, alloc: Global, body: &mut Bytes) -> Result<(), Memory> {
         append_leases(alloc, body, self)?;
         body.append(b",\"mac\":")?;
-        append_mac(alloc, body, self.mac)?;
+        append_mac(body, self.mac)?;
         append_urls(body, &self.pending, &self.url)
     }
 }

@@ -4,9 +4,10 @@ ghost use Rattle.json.specs.Print.{quoted};
 ghost use Rattle.verdict_lines.specs.Verdicts.{ruling_text, verdict_text};
 ghost use Rattle.listing_bodies.specs.Why as spec;
 
-use crate::texts::{append_mac, append_quoted};
+use crate::addresses::append_mac;
 use crate::things::append_url_end;
 use acl_model::{Entry, Ruling};
+use answer_buffer::append_quoted;
 use mud_base::{Bytes, Mac, Memory};
 use mud_url::MudUrl;
 use packet_judge::Verdict;
@@ -89,11 +90,11 @@ fn append_ruling_member(alloc: Global, body: &mut Bytes, ruling: Ruling) -> Resu
 
 /// Adds a Thing's hardware address.
 #[tactic(auto, unfolding(crate::specs::Why::mac_member))]
-fn append_mac_member(alloc: Global, body: &mut Bytes, mac: Mac) -> Result<(), Memory>
+fn append_mac_member(body: &mut Bytes, mac: Mac) -> Result<(), Memory>
     ensures { OnOk result (body.new ≡ body.old ++ spec.mac_member mac) }
 {
     body.append(b",\"mac\":")?;
-    append_mac(alloc, body, mac)
+    append_mac(body, mac)
 }
 
 /// Adds what is decided at an end.
@@ -102,7 +103,7 @@ fn append_end(alloc: Global, body: &mut Bytes, end: &RuledEnd<'_>) -> Result<(),
     ensures { OnOk result (body.new ≡ body.old ++ spec.end_text end.now) }
 {
     append_entry(body, entry_number(end.ruling), end.entry)?;
-    append_mac_member(alloc, body, end.mac)?;
+    append_mac_member(body, end.mac)?;
     append_ruling_member(alloc, body, end.ruling)?;
     append_url_end(body, end.url)
 }

@@ -12,7 +12,7 @@ use std::alloc::Global;
 pub(crate) const BATCHES: usize = 6;
 
 /// The usage file of the example of RFC 8520, 9, for IPv4 alone, with an entry for Things of the same maker.
-const BULB: &str =
+pub(crate) const BULB: &str =
     r#"{"ietf-mud:mud":{"mud-version":1,"mud-url":"https://lighting.example.com/lightbulb2000","last-update":"2019-01-28T11:20:51+01:00","cache-validity":48,"is-supported":true,"systeminfo":"The BMS Example Light Bulb","from-device-policy":{"access-lists":{"access-list":[{"name":"v4fr"}]}},"to-device-policy":{"access-lists":{"access-list":[{"name":"v4to"}]}}},"ietf-access-control-list:acls":{"acl":[{"name":"v4to","type":"ipv4-acl-type","aces":{"ace":[{"name":"cl0-todev","matches":{"ipv4":{"ietf-acldns:src-dnsname":"test.example.com","protocol":6},"tcp":{"ietf-mud:direction-initiated":"from-device","source-port":{"operator":"eq","port":443}}},"actions":{"forwarding":"accept"}}]}},{"name":"v4fr","type":"ipv4-acl-type","aces":{"ace":[{"name":"cl0-frdev","matches":{"ipv4":{"ietf-acldns:dst-dnsname":"test.example.com","protocol":6},"tcp":{"ietf-mud:direction-initiated":"from-device","destination-port":{"operator":"eq","port":443}}},"actions":{"forwarding":"accept"}},{"name":"mfg-frdev","matches":{"ietf-mud:mud":{"same-manufacturer":[null]}},"actions":{"forwarding":"accept"}}]}}]}}"#;
 
 /// The hardware address of the Thing.
@@ -27,7 +27,7 @@ const LEASED: &[u8] =
     b"\x02\x00\x00\x00\x2ahttps://lighting.example.com/lightbulb2000\x00\x00\x01\x04\xc0\x00\x02\x0a\x00\x00\x00\x00\x00\x01\x55\x68\x00";
 
 /// The URL of the file.
-const URL: &[u8] = b"https://lighting.example.com/lightbulb2000";
+pub(crate) const URL: &[u8] = b"https://lighting.example.com/lightbulb2000";
 
 /// What stands in front of the length and the octets of a candidate that was fetched at 1000.
 const CANDIDATE: &[u8] = b"\x01\x00\x01\x00\x00\x00\x00\x00\x00\x03\xe8";

@@ -3,13 +3,10 @@ use Rattle.answer_buffer.specs.Texts.{url_text}
 use Rattle.listing_bodies.specs.Rows.{urls_text, url_end}
 use Rattle.listing_bodies.proofs.Joins.{ok_behind}
 use Rattle.listing_bodies.proofs.things.append_urls.Goals as goal
-use Rattle.text_lines.proofs.Parts.{behind_both}
 
 pub returns : goal.returns
 unfolding urls_text
 returns c =
-    let first = codes ",\"pending\":" in
-    let second = url_text c.args.pending.now in
-    ok_behind c.append_url_end.result c.args.body.now (first ++ second) (url_end c.args.url.now) c.append_url.new.body c.append_url_end.new.body
-    (behind_both c.args.body.now first second c.append.new.self c.append_url.new.body c.in_ok-append.ensures.ok c.in_ok-append_url.ensures)
+    ok_behind c.append_url_end.result c.args.body.now (codes ",\"pending\":" ++ url_text c.args.pending.now) (url_end c.args.url.now) c.append_pending.new.body c.append_url_end.new.body
+    c.in_ok-append_pending.ensures
     c.append_url_end.ensures

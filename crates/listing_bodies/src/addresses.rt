@@ -1,0 +1,120 @@
+//! Texts of addresses and prefixes, each added behind what stands in a body.
+ghost use Rattle.std.specs.Prelude.{◌≡◌, ◌+◌, ◌<◌, ◌≤◌, [], ◌∷◌, ◌++◌, take, decimal, OnOk};
+ghost use Rattle.std.specs.Net.Text.{ipv4_text};
+ghost use Rattle.json.specs.Print.{quoted};
+ghost use Rattle.mud_base.specs.Texts as of;
+
+use answer_buffer::append_quoted;
+use answer_buffer::texts::hex_digit;
+use mud_base::{Addr, Bytes, Mac, Memory, Prefix, addr_text, prefix_text};
+use std::alloc::Global;
+
+/// The text of a hardware address.
+#[tactic(auto, unfolding(mud_base::specs::Texts::mac_text), using(crate::proofs::Digits::mac_pairs))]
+fn mac_octets(mac: Mac) -> [u8; 17]
+    ensures { result ≡ of.mac_text mac }
+{
+    let octets = mac.0;
+    [
+        hex_digit(octets[0] / 16),
+        hex_digit(octets[0] % 16),
+        b':',
+        hex_digit(octets[1] / 16),
+        hex_digit(octets[1] % 16),
+        b':',
+        hex_digit(octets[2] / 16),
+        hex_digit(octets[2] % 16),
+        b':',
+        hex_digit(octets[3] / 16),
+        hex_digit(octets[3] % 16),
+        b':',
+        hex_digit(octets[4] / 16),
+        hex_digit(octets[4] % 16),
+        b':',
+        hex_digit(octets[5] / 16),
+        hex_digit(octets[5] % 16),
+    ]
+}
+
+/// The most octets of the text of an IPv4 address.
+const LONGEST_V4: usize = 15;
+
+/// Writes an octet at a place, and says where the next one stands.
+fn place(text: &mut [u8; LONGEST_V4], at: usize, octet: u8) -> usize
+    requires { at < 15 }
+    ensures text { take result text.new ≡ take at text.old ++ octet ∷ [] }
+    ensures end { result ≡ at + 1 }
+{
+    text[at] = octet;
+    at + 1
+}
+
+/// Writes the decimal digits of an octet at a place, and says where they end.
+#[tactic(auto, using(crate::proofs::Digits::one_placed, crate::proofs::Digits::two_placed, crate::proofs::Digits::three_placed))]
+fn place_decimal(text: &mut [u8; LONGEST_V4], at: usize, octet: u8) -> usize
+    requires { at ≤ 12 }
+    ensures text { take result text.new ≡ take at text.old ++ decimal octet }
+    ensures end { result ≤ at + 3 }
+{
+    if octet < 10 {
+        return place(text, at, b'0' + octet);
+    }
+    if octet < 100 {
+        let second = place(text, at, b'0' + octet / 10);
+        return place(text, second, b'0' + octet % 10);
+    }
+    let second = place(text, at, b'0' + octet / 100);
+    let third = place(text, second, b'0' + octet / 10 % 10);
+    place(text, third, b'0' + octet % 10)
+}
+
+/// Writes the text of an IPv4 address, and says where it ends.
+#[tactic(auto, unfolding(mud_base::specs::Texts::octets_v4))]
+fn place_dotted(text: &mut [u8; LONGEST_V4], number: u32) -> usize
+    ensures text { take result text.new ≡ ipv4_text (of.octets_v4 number) }
+    ensures end { result ≤ 15 }
+{
+    let octets = number.to_be_bytes();
+    let first = place_decimal(text, 0, octets[0]);
+    let dot = place(text, first, b'.');
+    let second = place_decimal(text, dot, octets[1]);
+    let dot = place(text, second, b'.');
+    let third = place_decimal(text, dot, octets[2]);
+    let dot = place(text, third, b'.');
+    place_decimal(text, dot, octets[3])
+}
+
+/// Adds the text of an IPv4 address.
+fn append_dotted(body: &mut Bytes, number: u32) -> Result<(), Memory>
+    ensures { OnOk result (body.new ≡ body.old ++ quoted (ipv4_text (of.octets_v4 number))) }
+{
+    let mut text = [0; LONGEST_V4];
+    let end = place_dotted(&mut text, number);
+    append_quoted(body, &text[..end])
+}
+
+/// Adds the text of a hardware address.
+pub(crate) fn append_mac(body: &mut Bytes, mac: Mac) -> Result<(), Memory>
+    ensures { OnOk result (body.new ≡ body.old ++ quoted (of.mac_text mac)) }
+{
+    append_quoted(body, &mac_octets(mac))
+}
+
+/// Adds the text of an IP address. It takes memory of its own for an IPv6 address alone.
+#[tactic(auto, unfolding(mud_base::specs::Texts::addr_text))]
+pub(crate) fn append_address(alloc: Global, body: &mut Bytes, address: Addr) -> Result<(), Memory>
+    ensures { OnOk result (body.new ≡ body.old ++ quoted (of.addr_text address)) }
+{
+    match address {
+        Addr::V4(number) => append_dotted(body, number),
+        Addr::V6(_) => append_quoted(body, addr_text(alloc, address)?.octets()),
+    }
+}
+
+/// Adds the text of a prefix.
+pub(crate) fn append_prefix(alloc: Global, body: &mut Bytes, prefix: Prefix) -> Result<(), Memory>
+    ensures { OnOk result (body.new ≡ body.old ++ quoted (of.prefix_text prefix)) }
+{
+    let text = prefix_text(alloc, prefix)?;
+    append_quoted(body, text.octets())
+}

@@ -1,6 +1,6 @@
 //! Keepers in memory, in their boxes, and desks over them.
 ghost use Rattle.std.specs.Prelude.{IfOk};
-ghost use Rattle.mud_desk.specs.Boxed.{IsKept};
+ghost use Rattle.desk_model.specs.Boxed.{IsKept};
 ghost use Rattle.mud_desk.specs.DeskState.{tables_of};
 
 use mud_base::{Listed, Memory};

@@ -1,5 +1,5 @@
 //! Requests to a desk over a keeper in memory.
-ghost use Rattle.mud_desk.specs.Boxed.{IsKept};
+ghost use Rattle.desk_model.specs.Boxed.{IsKept};
 ghost use Rattle.mud_desk.specs.DeskState.{tables_of};
 
 use crate::desks::{desk_over, empty};

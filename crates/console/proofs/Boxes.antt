@@ -9,7 +9,7 @@ use Rattle.http_answers.specs.declared.status.Status.{Status}
 use Rattle.desk_model.specs.DeskTables.{DeskTables}
 use Rattle.desk_books.specs.Books.{desk_of}
 use Rattle.mud_desk.specs.DeskState.{DeskState, tables_of}
-use Rattle.mud_desk.specs.Boxed.{IsKept, IsSameBox}
+use Rattle.desk_model.specs.Boxed.{IsKept, IsSameBox}
 use Rattle.console_answers.specs.Replies.{is_unavailable}
 
 pub same_tables : (before after : DeskState) → after.books ≡ before.books → tables_of after ≡ tables_of before

@@ -8,7 +8,7 @@ ghost use Rattle.desk_model.specs.Sessions.{command_in, raised};
 ghost use Rattle.console_bodies.specs.Bodies as bodies;
 ghost use Rattle.outcome_bodies.specs.Heards as heards;
 ghost use Rattle.mud_desk.specs.DeskState.{tables_of, HasForwarded};
-ghost use Rattle.mud_desk.specs.Boxed.{IsKept, IsSameBox};
+ghost use Rattle.desk_model.specs.Boxed.{IsKept, IsSameBox};
 ghost use Rattle.console_answers.specs.Replies.{reply, replied, is_unavailable, MayStand};
 ghost use Rattle.console_answers.specs.Requests.{Changes, ChangesBy, by_command, by_heard};
 ghost use Rattle.console.specs.Runs.{LeadsOn};

@@ -5,7 +5,7 @@ ghost use Rattle.mud_world.specs.Causes.{Counts};
 ghost use Rattle.mud_tables.specs.declared.segment.Segment.{Segment as SegmentValue};
 ghost use Rattle.desk_model.specs.Sessions.{later, raised};
 ghost use Rattle.mud_desk.specs.DeskState.{tables_of, HasForwarded};
-ghost use Rattle.mud_desk.specs.Boxed.{IsKept, IsSameBox};
+ghost use Rattle.desk_model.specs.Boxed.{IsKept, IsSameBox};
 ghost use Rattle.console_answers.specs.Listings as spec;
 ghost use Rattle.console_answers.specs.Replies.{reply, replied, is_unavailable, MayStand};
 ghost use Rattle.console.specs.Runs.{LeadsOn};

@@ -8,7 +8,7 @@ ghost use Rattle.http_requests.specs.Requests.{Request};
 ghost use Rattle.http_requests.specs.Parts.{AreParts};
 ghost use Rattle.console_bodies.specs.Laws.{AsksRightly};
 ghost use Rattle.mud_desk.specs.DeskState.{tables_of, session_of, HasForwarded};
-ghost use Rattle.mud_desk.specs.Boxed.{IsKept, IsSameBox};
+ghost use Rattle.desk_model.specs.Boxed.{IsKept, IsSameBox};
 ghost use Rattle.console_answers.specs.Replies.{reply, is_unavailable, MayStand};
 ghost use Rattle.console_answers.specs.Requests.{ChangesBy, by_question, command_asked, MayReply, MayWant};
 ghost use Rattle.console.specs.Refused.{MayWantAsked};

@@ -2,7 +2,7 @@
 ghost use Rattle.std.specs.Prelude.{◌≡◌, is_err};
 ghost use Rattle.mud_world.specs.Boxed.{Tells};
 ghost use Rattle.mud_desk.specs.DeskState.{tables_of};
-ghost use Rattle.mud_desk.specs.Boxed.{IsKept, IsSameBox};
+ghost use Rattle.desk_model.specs.Boxed.{IsKept, IsSameBox};
 ghost use Rattle.http_requests.specs.Doors.{ReadsAndWrites};
 ghost use Rattle.http_serving.specs.Ends.{is_read_failed, is_write_failed};
 ghost use Rattle.http_serving.specs.Visits.{TakesTurns};

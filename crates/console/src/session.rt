@@ -5,7 +5,7 @@ ghost use Rattle.mud_world.specs.Boxed.{faults_of, Tells};
 ghost use Rattle.mud_tables.specs.declared.segment.Segment.{Segment as SegmentValue};
 ghost use Rattle.desk_model.specs.Sessions.{raised};
 ghost use Rattle.mud_desk.specs.DeskState.{tables_of, session_of, HasForwarded, IsJudged};
-ghost use Rattle.mud_desk.specs.Boxed.{IsKept, IsSameBox};
+ghost use Rattle.desk_model.specs.Boxed.{IsKept, IsSameBox};
 
 use mud_base::{Memory, Moment};
 use mud_desk::Desk;

@@ -4,7 +4,7 @@ use Rattle.frame_view.specs.Frame.{frame_of}
 use Rattle.packet_judge.specs.declared.verdict.Verdict.{Verdict}
 use Rattle.desk_model.specs.DeskTables.{DeskTables}
 use Rattle.desk_model.specs.Verdicts.{policy_at}
-use Rattle.desk_judge.specs.Findings.{Found, source_found, destination_found}
+use Rattle.desk_model.specs.Findings.{Found, source_found, destination_found}
 use Rattle.listing_bodies.specs.Why.{entry_number, entry_text, mac_member, ruling_member, verdict_end}
 use Rattle.listing_bodies.specs.Rows.{url_end}
 

@@ -11,7 +11,7 @@ use Rattle.mud_world.specs.View.{DoorView}
 use Rattle.mud_tables.specs.declared.segment.Segment.{Segment}
 use Rattle.desk_model.specs.DeskTables.{DeskTables}
 use Rattle.desk_model.specs.Sessions.{Session, opened}
-use Rattle.mud_desk.specs.Boxed.{IsKept}
+use Rattle.desk_model.specs.Boxed.{IsKept}
 use Rattle.mud_desk.specs.DeskState.{DeskState, IsBegun, session_of, tables_of}
 use Rattle.http_requests.specs.declared.fault.MomentFrom.{MomentFrom}
 use Rattle.http_serving.specs.declared.end.ConnectionEnd.{ConnectionEnd}

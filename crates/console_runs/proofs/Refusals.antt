@@ -11,7 +11,7 @@ use Rattle.mud_world.proofs.Doors.{put_out_none}
 use Rattle.command_runs.proofs.Dues.{wrote_none}
 use Rattle.desk_model.specs.DeskTables.{DeskTables, IsSound}
 use Rattle.desk_model.specs.Items.{tables_in}
-use Rattle.mud_desk.specs.Boxed.{IsKept, IsSameBox}
+use Rattle.desk_model.specs.Boxed.{IsKept, IsSameBox}
 use Rattle.desk_runs.specs.Refused.{RefusesStore}
 use Rattle.desk_runs.proofs.Refusals.{RunsRefused}
 use Rattle.desk_runs.proofs.Stores.{leaves_opened}

@@ -10,7 +10,7 @@ use Rattle.command_runs.specs.Ends.{IsStoppedWriting}
 use Rattle.mud_world.specs.View.{DoorView}
 use Rattle.desk_model.specs.DeskTables.{DeskTables, IsSound}
 use Rattle.desk_model.specs.Items.{tables_in}
-use Rattle.mud_desk.specs.Boxed.{IsKept}
+use Rattle.desk_model.specs.Boxed.{IsKept}
 use Rattle.desk_runs.specs.Honest.{RunsHonestly}
 use Rattle.desk_runs.specs.Refused.{RefusesStore, each_refusal}
 use Rattle.desk_runs.specs.Store.{LeavesStore}

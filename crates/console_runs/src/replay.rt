@@ -6,7 +6,7 @@ ghost use Rattle.command_runs.specs.declared.status.Status.TheVariants.{KeeperFa
 ghost use Rattle.desk_items.specs.Taken.{kept_of};
 ghost use Rattle.desk_model.specs.DeskTables.{DeskTables};
 ghost use Rattle.desk_model.specs.Items.{none_kept};
-ghost use Rattle.mud_desk.specs.Boxed.{IsKept, IsSameBox};
+ghost use Rattle.desk_model.specs.Boxed.{IsKept, IsSameBox};
 ghost use Rattle.mud_desk.specs.DeskState.{IsBegun, tables_of};
 ghost use Rattle.console_runs.specs.Replay.{ReplaysConnection, ReplaysStore, status_at};
 

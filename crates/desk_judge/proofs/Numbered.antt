@@ -10,7 +10,7 @@ use Rattle.acl_rows.specs.View.{View, Part, IsFilePart, IsViewOf, holder_from}
 use Rattle.acl_compile.specs.Plans.{policy_held, holder_policy}
 use Rattle.acl_model.specs.FirstMatch.{file_entries}
 use Rattle.std.specs.Option.{option_map}
-use Rattle.desk_judge.specs.Findings.{numbered_entry}
+use Rattle.desk_model.specs.Findings.{numbered_entry}
 
 -- the entries of the part, or none
 abbrev entries_in : Option Part → List Entry

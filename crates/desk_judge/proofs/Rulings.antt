@@ -12,7 +12,8 @@ use Rattle.frame_view.specs.PacketFrame.{PacketFrame}
 use Rattle.packet_judge.specs.declared.verdict.Verdict.{Verdict}
 use Rattle.packet_judge.specs.declared.verdict.Verdict.TheVariants.{Unmanaged, Governed}
 use Rattle.packet_judge.specs.Verdicts.{ends_of, Rulings, end_ruling, governed, is_managed, if_managed, verdict_on}
-use Rattle.desk_judge.specs.Findings.{Policies, found_at, source_found, destination_found, HasRulingsOfThings}
+use Rattle.desk_judge.specs.Findings.{HasRulingsOfThings}
+use Rattle.desk_model.specs.Findings.{Policies, found_at, source_found, destination_found}
 
 -- ---- The verdict has a ruling where there is a Thing alone
 

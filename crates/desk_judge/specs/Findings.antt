@@ -1,64 +1,14 @@
--- What decides a frame: at each end the Thing, the ruling on its packet, and the entry that rules.
-use Rattle.std.specs.Prelude.{◌≡◌, ℕ, ◌-◌, List, slice_get, Option, Some, None, option_map}
-use Rattle.mud_base.specs.declared.packet.Direction.{Direction}
-use Rattle.mud_base.specs.declared.packet.Direction.TheVariants.{From, To}
+-- What decides a frame, as the code lends it.
+use Rattle.std.specs.Prelude.{◌≡◌, List, Option, Some, None, option_map}
 use Rattle.frame_view.specs.declared.views.Frame.{Frame}
 use Rattle.frame_view.specs.declared.views.Frame.TheVariants.{Packet}
-use Rattle.acl_model.specs.declared.entry.Entry.{Entry}
-use Rattle.acl_model.specs.declared.entry.Policy.{Policy}
-use Rattle.acl_model.specs.declared.ruling.Ruling.{Ruling}
-use Rattle.acl_model.specs.declared.ruling.Ruling.TheVariants.{Accept, AcceptDefault, Drop, DropDefault, DropHeld}
-use Rattle.acl_model.specs.FirstMatch.{file_entries}
 use Rattle.mud_tables.specs.declared.thing.Thing.{Thing}
 use Rattle.packet_judge.specs.declared.verdict.Verdict.{Verdict}
 use Rattle.packet_judge.specs.declared.verdict.Verdict.TheVariants.{Governed}
 use Rattle.packet_judge.specs.Verdicts.{ends_of}
+use Rattle.desk_model.specs.Findings.{Policies, Found, source_found, destination_found}
 use Rattle.desk_judge.specs.declared.findings.RuledThing.{RuledThing}
 use Rattle.desk_judge.specs.declared.findings.Findings.{Findings}
-
--- ---- An end
-
--- the policy of each URL, where a file of it is approved
-abbrev pub Policies : Type 0
-Policies = List ℕ → Option Policy
-
--- the entry of a number, from 1 on, in the approved file of a URL
-unfoldable pub numbered_entry : Policies → Direction → List ℕ → ℕ → Option Entry
-numbered_entry policies side url n = slice_get (file_entries side (policies url)) (n - 1)
-
--- the entry that decides, where one of the Thing's usage file does
-unfoldable pub deciding_entry : Policies → Direction → List ℕ → Ruling → Option Entry
-deciding_entry policies side url (Accept n) = numbered_entry policies side url n
-deciding_entry policies side url (AcceptDefault rule) = None
-deciding_entry policies side url (Drop n) = numbered_entry policies side url n
-deciding_entry policies side url (DropDefault why) = None
-deciding_entry policies side url DropHeld = None
-
--- a Thing, the ruling on its packet, and the entry that decides, where one does
-pub record Found : Type 0 where
-  pub thing : Thing
-  pub ruling : Ruling
-  pub entry : Option Entry
-
--- nothing where nothing is decided, and where an end is no Thing
-unfoldable pub found_at : Policies → Direction → Option Ruling → Option Thing → Option Found
-found_at policies side None thing = None
-found_at policies side (Some ruling) None = None
-found_at policies side (Some ruling) (Some thing) = Some (record { thing = thing; ruling = ruling; entry = deciding_entry policies side thing.url ruling })
-
--- ---- Both ends of a packet that is ruled on
-
--- at the end that sent it
-unfoldable pub source_found : Policies → List Thing → Frame → Verdict → Option Found
-source_found policies things (Packet packet) (Governed source destination) = found_at policies From source (ends_of things packet.octets).source
-source_found policies things _ _ = None
-
--- at the end that it is for
-unfoldable pub destination_found : Policies → List Thing → Frame → Verdict → Option Found
-destination_found policies things (Packet packet) (Governed source destination) = found_at policies To destination (ends_of things packet.octets).destination
-destination_found policies things _ _ = None
-
--- ---- As the code lends them
 
 unfoldable pub found_in : Option RuledThing → Option Found
 found_in None = None

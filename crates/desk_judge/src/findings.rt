@@ -2,7 +2,8 @@
 ghost use Rattle.std.specs.Prelude.{◌≡◌, ◌-◌, option_copied, slice_get};
 ghost use Rattle.acl_compile.specs.Plans.{policy_held};
 ghost use Rattle.mud_tables.specs.Things.{thing_at};
-ghost use Rattle.desk_judge.specs.Findings as spec;
+ghost use Rattle.desk_model.specs.Findings as spec;
+ghost use Rattle.desk_judge.specs.Findings.{found_in, AreFindingsOn, HasRulingsOfThings};
 
 use acl_compile::Compiled;
 use acl_model::{Entry, Ruling};
@@ -66,7 +67,7 @@ fn numbered_entry<'a>(
 }
 
 /// The entry that decides, where one of the policy that is held for the URL does.
-#[tactic(auto, unfolding(crate::specs::Findings::deciding_entry))]
+#[tactic(auto, unfolding(desk_model::specs::Findings::deciding_entry))]
 fn deciding_entry<'a>(
     compiled: &'a Compiled,
     side: Direction,
@@ -85,7 +86,7 @@ fn deciding_entry<'a>(
 }
 
 /// What is found at an end with this hardware address and this ruling.
-#[tactic(auto, unfolding(crate::specs::Findings::found_at, crate::specs::Findings::found_in))]
+#[tactic(auto, unfolding(desk_model::specs::Findings::found_at, crate::specs::Findings::found_in))]
 fn ruled_thing<'a>(
     things: &'a ThingBook,
     compiled: &'a Compiled,
@@ -93,7 +94,7 @@ fn ruled_thing<'a>(
     mac: Mac,
     ruling: Option<Ruling>,
 ) -> Option<RuledThing<'a>>
-    ensures { spec.found_in result ≡ spec.found_at (policy_held compiled.now.slots) side ruling (thing_at mac things.now.things) }
+    ensures { found_in result ≡ spec.found_at (policy_held compiled.now.slots) side ruling (thing_at mac things.now.things) }
 {
     let ruling = ruling?;
     let thing = things.thing_at(mac)?;
@@ -115,8 +116,8 @@ fn packet_findings<'a>(
     source: Option<Ruling>,
     destination: Option<Ruling>,
 ) -> Findings<'a>
-    requires { spec.HasRulingsOfThings things.now.things (Frame.Packet packet.now) (Verdict.Governed source destination) }
-    ensures found { spec.AreFindingsOn (policy_held compiled.now.slots) things.now.things (Frame.Packet packet.now) result }
+    requires { HasRulingsOfThings things.now.things (Frame.Packet packet.now) (Verdict.Governed source destination) }
+    ensures found { AreFindingsOn (policy_held compiled.now.slots) things.now.things (Frame.Packet packet.now) result }
     ensures verdict { result.verdict ≡ Verdict.Governed source destination }
 {
     let frame = packet.frame();
@@ -130,15 +131,15 @@ fn packet_findings<'a>(
 }
 
 /// What is found of a frame with this verdict.
-#[tactic(auto, unfolding(crate::specs::Findings::source_found, crate::specs::Findings::destination_found, crate::specs::Findings::found_in))]
+#[tactic(auto, unfolding(desk_model::specs::Findings::source_found, desk_model::specs::Findings::destination_found, crate::specs::Findings::found_in))]
 pub(crate) fn findings_with<'a>(
     things: &'a ThingBook,
     compiled: &'a Compiled,
     frame: &Frame<'_>,
     verdict: Verdict,
 ) -> Findings<'a>
-    requires { spec.HasRulingsOfThings things.now.things frame.now verdict }
-    ensures found { spec.AreFindingsOn (policy_held compiled.now.slots) things.now.things frame.now result }
+    requires { HasRulingsOfThings things.now.things frame.now verdict }
+    ensures found { AreFindingsOn (policy_held compiled.now.slots) things.now.things frame.now result }
     ensures verdict { result.verdict ≡ verdict }
 {
     match (frame, verdict) {

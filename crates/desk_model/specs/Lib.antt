@@ -5,3 +5,5 @@ pub mod Forwarding
 pub mod Items
 pub mod Verdicts
 pub mod Sessions
+pub mod Boxed
+pub mod Findings

@@ -1,5 +1,5 @@
 -- The life of a desk: what a command, a frame and a raise of the moment make of it, and answer.
-use Rattle.std.specs.Prelude.{◌≡◌, ℕ, ◌≤◌, max, true, IsTrue, List, [], ◌∷◌, Result, Ok, Err, IsSome, IsOkAnd, unwrap_or}
+use Rattle.std.specs.Prelude.{◌≡◌, ℕ, ◌≤◌, max, Bool, true, false, IsTrue, List, [], ◌∷◌, Result, Ok, Err, IsSome, IsOkAnd, unwrap_or}
 use Rattle.std.specs.List.{AllByRecursion}
 use Rattle.frame_view.specs.Frame.{frame_of}
 use Rattle.mud_base.specs.declared.memory.Memory as want
@@ -69,6 +69,13 @@ ByReply session now command (Refused refusal) after = command_in session now com
 
 pub record MayAnswer (session : Session) (now : ℕ) (command : Command) (reply : Reply) (after : Session) : Type 0 where
   pub reply_is : ByReply session now command reply after
+
+-- the reply is that the keeper failed
+abbrev pub is_of_keeper : Reply → Bool
+is_of_keeper (Done outcome) = false
+is_of_keeper (Refused refusal) = false
+is_of_keeper Keeper = true
+is_of_keeper Memory = false
 
 -- ---- Several commands
 

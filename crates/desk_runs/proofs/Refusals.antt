@@ -19,7 +19,7 @@ use Rattle.desk_items.specs.Opening.{IsFaultOf, IsOfCall}
 use Rattle.desk_model.specs.DeskTables.{DeskTables}
 use Rattle.desk_model.specs.Items.{tables_in}
 use Rattle.mud_desk.specs.Answers.{IsLeft, is_fault_of_keeper}
-use Rattle.mud_desk.specs.Boxed.{IsSameBox}
+use Rattle.desk_model.specs.Boxed.{IsSameBox}
 use Rattle.desk_runs.specs.Honest.{RunsHonestly}
 use Rattle.desk_runs.specs.Refused.{IsRefusal, RefusesStore, bad_item_line, each_refusal, refusal_text}
 use Rattle.desk_runs.specs.Store.{IsRefused, IsUnopened, LeavesStore}

@@ -11,7 +11,7 @@ use Rattle.command_runs.specs.Due.{Due, WritesDue, WritesPart}
 use Rattle.mud_world.specs.View.{DoorView}
 use Rattle.desk_model.specs.DeskTables.{DeskTables, IsSound}
 use Rattle.desk_model.specs.Items.{tables_in}
-use Rattle.mud_desk.specs.Boxed.{IsKept, IsSameBox}
+use Rattle.desk_model.specs.Boxed.{IsKept, IsSameBox}
 use Rattle.desk_runs.specs.Store.{ReadsByStore, WritesOfStore}
 use Rattle.desk_runs.proofs.Refusals.{RunsRefused, reads_honestly}
 use Rattle.desk_runs.proofs.Stores.{IsOfCapture, kept_tables, leaves_opened, no_six, no_seven, writes_opened, writes_refused}

@@ -12,7 +12,7 @@ use Rattle.mud_world.specs.View.{DoorView}
 use Rattle.desk_model.specs.DeskTables.{DeskTables, IsSound}
 use Rattle.desk_model.specs.Items.{tables_in}
 use Rattle.desk_model.proofs.ReadBack.{desk_again}
-use Rattle.mud_desk.specs.Boxed.{IsKept}
+use Rattle.desk_model.specs.Boxed.{IsKept}
 use Rattle.desk_runs.specs.Refused.{RefusesStore}
 use Rattle.desk_runs.specs.Store.{LeavesStore, WritesOfStore}
 

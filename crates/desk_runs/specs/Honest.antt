@@ -8,7 +8,7 @@ use Rattle.mud_world.specs.Causes.{Rose}
 use Rattle.command_runs.specs.Status.{Is, IsNot, IsOneOf}
 use Rattle.command_runs.specs.declared.status.Status.{Status}
 use Rattle.command_runs.specs.declared.status.Status.TheVariants.{DoorFailed, KeeperFailed}
-use Rattle.mud_desk.specs.Boxed.{IsSameBox}
+use Rattle.desk_model.specs.Boxed.{IsSameBox}
 
 module _ {X : Type 0} {F : X → Type 0} (members : (v : (x : X) × F x) → Ghosts (F v.0)) where
   -- One of these statuses comes. It is 4 only where a call of the outside failed and stopped the run in this way; with another

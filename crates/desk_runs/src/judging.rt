@@ -9,7 +9,7 @@ ghost use Rattle.command_runs.specs.Due.{WritesDue, WritesPart};
 ghost use Rattle.command_runs.specs.Status.{Is, IsNot, IsOneOf, status_number};
 ghost use Rattle.command_runs.specs.declared.status.Status.TheVariants.{Done, Refused, DoorFailed, NoMemory};
 ghost use Rattle.desk_model.specs.Sessions.{Session};
-ghost use Rattle.mud_desk.specs.Boxed.{IsKept};
+ghost use Rattle.desk_model.specs.Boxed.{IsKept};
 ghost use Rattle.mud_desk.specs.DeskState.{tables_of};
 ghost use Rattle.desk_runs.specs.Judged.{IsIn, judged_line, judged_packet, judged_step};
 

@@ -2,7 +2,7 @@
 //! command to the last; the other is closed and opened again every now and then, so that its rows are
 //! made anew from what its keeper has kept. Both lend the same rows.
 ghost use Rattle.sorted_rows.specs.Ledgers.{IsBlankOf};
-ghost use Rattle.mud_desk.specs.Boxed.{IsKept};
+ghost use Rattle.desk_model.specs.Boxed.{IsKept};
 ghost use Rattle.mud_desk.specs.DeskState.{tables_of};
 
 use crate::commands::{ADDRS, Chance, mac_of, made_command};

@@ -14,7 +14,7 @@ use Rattle.command_runs.proofs.Dues.{wrote_none}
 use Rattle.desk_model.specs.declared.command.Command.{Command}
 use Rattle.desk_model.specs.DeskTables.{DeskTables, IsSound}
 use Rattle.desk_model.specs.Sessions.{Session}
-use Rattle.mud_desk.specs.Boxed.{IsKept}
+use Rattle.desk_model.specs.Boxed.{IsKept}
 use Rattle.mud_desk.specs.DeskState.{DeskState, session_of, tables_of}
 use Rattle.desk_runs.specs.Judged.{IsIn}
 use Rattle.drill_runs.specs.Commands.{drill_commands}

@@ -13,9 +13,8 @@ use Rattle.desk_model.specs.declared.command.Command.{Command}
 use Rattle.desk_model.specs.declared.command.Command.TheVariants.{Import, Verdict}
 use Rattle.desk_model.specs.declared.reply.Reply.{Reply}
 use Rattle.desk_model.specs.declared.reply.Reply.TheVariants as reply
-use Rattle.desk_model.specs.Sessions.{Session, Answered, MayAnswer, command_in}
-use Rattle.mud_desk.specs.Answers.{is_of_keeper}
-use Rattle.mud_desk.specs.Boxed.{IsKept, IsSameBox}
+use Rattle.desk_model.specs.Sessions.{Session, Answered, MayAnswer, command_in, is_of_keeper}
+use Rattle.desk_model.specs.Boxed.{IsKept, IsSameBox}
 use Rattle.mud_desk.specs.DeskState.{DeskState, session_of, tables_of}
 use Rattle.mud_desk.proofs.Sessions.{flows_stay}
 use Rattle.desk_runs.specs.Judged.{IsIn}

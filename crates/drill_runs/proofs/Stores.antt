@@ -20,7 +20,7 @@ use Rattle.desk_model.specs.DeskTables.{DeskTables, IsSound, empty_desk}
 use Rattle.desk_model.specs.Items.{items_of, tables_in}
 use Rattle.desk_model.specs.Sessions.{Session, opened}
 use Rattle.desk_model.proofs.ReadSound.{no_stamp}
-use Rattle.mud_desk.specs.Boxed.{IsKept, IsSameBox}
+use Rattle.desk_model.specs.Boxed.{IsKept, IsSameBox}
 use Rattle.desk_runs.proofs.Refusals.{RunsRefused, is_refused}
 use Rattle.desk_runs.proofs.Stores.{kept_tables}
 use Rattle.drill_runs.specs.Commands.{drill_commands}

@@ -7,7 +7,7 @@ use Rattle.mud_world.specs.Boxed.{faults_of, Tells}
 use Rattle.mud_world.specs.Causes.{Counts}
 use Rattle.desk_model.specs.declared.command.Command.{Command}
 use Rattle.desk_model.specs.Sessions.{Session}
-use Rattle.mud_desk.specs.Boxed.{IsKept, IsSameBox}
+use Rattle.desk_model.specs.Boxed.{IsKept, IsSameBox}
 use Rattle.mud_desk.specs.DeskState.{DeskState, tables_of}
 use Rattle.desk_runs.specs.Judged.{IsIn}
 use Rattle.drill_runs.specs.Drill.{session_after}

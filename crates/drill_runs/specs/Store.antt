@@ -14,7 +14,7 @@ use Rattle.desk_model.specs.declared.command.Command.{Command}
 use Rattle.desk_model.specs.DeskTables.{DeskTables, IsSound, empty_desk}
 use Rattle.desk_model.specs.Items.{items_of, tables_in}
 use Rattle.desk_model.specs.Sessions.{Session, opened}
-use Rattle.mud_desk.specs.Boxed.{IsKept, IsSameBox}
+use Rattle.desk_model.specs.Boxed.{IsKept, IsSameBox}
 use Rattle.desk_runs.specs.Honest.{RunsHonestly}
 use Rattle.desk_runs.specs.Store.{IsRefused, IsUnopened, KeepsTables}
 use Rattle.drill_runs.specs.Commands.{drill_commands}

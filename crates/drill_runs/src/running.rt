@@ -5,9 +5,8 @@ ghost use Rattle.mud_tables.specs.declared.segment.Segment.{Segment as SegmentVa
 ghost use Rattle.mud_world.specs.Boxed.{faults_of, Tells};
 ghost use Rattle.mud_world.specs.Causes.{Counts};
 ghost use Rattle.desk_model.specs.Commands.{IsAsked};
-ghost use Rattle.desk_model.specs.Sessions.{MayAnswer};
-ghost use Rattle.mud_desk.specs.Answers.{is_of_keeper};
-ghost use Rattle.mud_desk.specs.Boxed.{IsKept, IsSameBox};
+ghost use Rattle.desk_model.specs.Sessions.{MayAnswer, is_of_keeper};
+ghost use Rattle.desk_model.specs.Boxed.{IsKept, IsSameBox};
 ghost use Rattle.mud_desk.specs.DeskState.{session_of, tables_of};
 ghost use Rattle.drill_runs.specs.Commands.{command_moment, commands_of, drill_commands, round_commands};
 ghost use Rattle.drill_runs.specs.Runs.{RanAll, RanPart};

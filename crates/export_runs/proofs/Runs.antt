@@ -12,7 +12,7 @@ use Rattle.mud_world.specs.Clock.{next_moment}
 use Rattle.mud_world.specs.View.{DoorView}
 use Rattle.desk_model.specs.DeskTables.{DeskTables, IsSound}
 use Rattle.desk_model.specs.Items.{tables_in}
-use Rattle.mud_desk.specs.Boxed.{IsKept, IsSameBox}
+use Rattle.desk_model.specs.Boxed.{IsKept, IsSameBox}
 use Rattle.desk_runs.specs.Refused.{RefusesStore}
 use Rattle.desk_runs.proofs.Refusals.{RunsRefused}
 use Rattle.desk_runs.proofs.Stores.{kept_tables, leaves_opened, no_bad, not_read, nothing_written}

@@ -10,7 +10,8 @@ use Rattle.desk_model.specs.declared.reply.Reply.{Reply}
 use Rattle.desk_model.specs.Sessions.{MayAnswer}
 use Rattle.import_runs.specs.Names.{fetched_in}
 use Rattle.import_runs.specs.Entries.{is_of_memory}
-use Rattle.import_runs.specs.Imports.{MayLead, octets_of, standing}
+use Rattle.import_runs.specs.Imports.{MayLead, octets_of}
+use Rattle.import_runs.specs.Scenes.{standing}
 
 pub leads_on : (files : List (List ℕ × List ℕ)) (name octets : List ℕ) (fetched now : ℕ) (said reply : Reply) (h : List Segment) (before after : DeskState) (moments later : List ℕ)
     → fetched_in name ≡ Some fetched → option_map read_part (content_of files name) ≡ Some octets → now ≡ next_moment moments → later ≡ later_moments moments

@@ -2,7 +2,7 @@
 use Rattle.std.specs.Prelude.{ℕ, ◌+◌, max, Bool, true, false, if◌then◌else◌, List, [], ◌∷◌, ◌++◌, map, Option, Some, None}
 use Rattle.desk_model.specs.declared.reply.Reply.{Reply}
 use Rattle.desk_model.specs.declared.reply.Reply.TheVariants.{Done, Refused, Keeper, Memory}
-use Rattle.mud_desk.specs.Answers.{is_of_keeper}
+use Rattle.desk_model.specs.Sessions.{is_of_keeper}
 use Rattle.import_runs.specs.Lines.{reply_line, skipped_line}
 
 -- a name, and what was replied to the import of its file; none where the name has another form and is skipped

@@ -6,8 +6,6 @@ use Rattle.mud_world.specs.Files.{content_of, read_part}
 use Rattle.desk_model.specs.declared.command.Command.TheVariants.{Import}
 use Rattle.desk_model.specs.declared.reply.Reply.{Reply}
 use Rattle.desk_model.specs.Sessions.{Session, MayAnswer}
-use Rattle.mud_tables.specs.declared.segment.Segment.{Segment}
-use Rattle.mud_desk.specs.DeskState.{DeskState, session_of}
 use Rattle.import_runs.specs.Names.{fetched_in}
 use Rattle.import_runs.specs.Entries.{Entry, is_of_memory}
 
@@ -19,10 +17,6 @@ octets_of files name = unwrap_or (option_map read_part (content_of files name)) 
 pub record Standing : Type 0 where
   pub session : Session
   pub moments : List ℕ
-
--- where a desk stands, in whose session these packets were forwarded
-unfoldable pub standing : List Segment → DeskState → List ℕ → Standing
-standing history state moments = record { session = session_of history state; moments = moments }
 
 -- A name of another form is skipped, and changes nothing. Of any other name, the octets of its file are imported as fetched at
 -- the moment that the name says, and the command runs at the later of the next moment of the clock and that of the session. What

@@ -4,3 +4,4 @@ pub mod Entries
 pub mod Imports
 pub mod Order
 pub mod Runs
+pub mod Scenes

@@ -2,26 +2,21 @@
 use Rattle.std.specs.Prelude.{◌≡◌, ℕ, ◌≤◌, ◌⊎◌, List, ◌++◌, length, take}
 use Rattle.std.specs.declared.dyn_box.DynBox.{DynBox}
 use Rattle.std.specs.declared.alloc.Global.{Global}
-use Rattle.mud_tables.specs.declared.segment.Segment.{Segment}
 use Rattle.mud_world.specs.declared.keeper.Keeper.{Ghosts}
 use Rattle.mud_world.specs.Boxed.{Tells}
 use Rattle.mud_world.specs.Causes.{RoseBy}
 use Rattle.mud_world.specs.Clock.{later_moments}
 use Rattle.mud_world.specs.Door.{DoorState, put_out}
-use Rattle.mud_desk.specs.Boxed.{IsKept, IsSameBox}
+use Rattle.desk_model.specs.Boxed.{IsKept, IsSameBox}
 use Rattle.mud_desk.specs.DeskState.{DeskState, tables_of}
 use Rattle.import_runs.specs.Entries.{Entry, names_of_entries, lines_of, status_of, keeper_count}
-use Rattle.import_runs.specs.Imports.{Standing, standing, Imports}
+use Rattle.import_runs.specs.Imports.{Standing, Imports}
 
 -- where an import stands, its door, and how often the keeper has failed
 pub record Scene : Type 0 where
   pub standing : Standing
   pub door : DoorState
   pub faults : ℕ
-
--- the scene of a desk, where these packets were forwarded in its session
-unfoldable pub scene : List Segment → DeskState → List ℕ → DoorState → ℕ → Scene
-scene history state moments door faults = record { standing = standing history state moments; door = door; faults = faults }
 
 -- All names were gone through in order, the line of each was written, and the status is that of all. The keeper's count rose by
 -- at least the number of the lines that say that it failed.

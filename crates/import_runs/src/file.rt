@@ -5,7 +5,7 @@ ghost use Rattle.mud_world.specs.Boxed.{faults_of};
 ghost use Rattle.mud_world.specs.Causes.{Counts, StopsAtFailure};
 ghost use Rattle.mud_world.specs.Clock.{later_moments};
 ghost use Rattle.mud_world.specs.Door.{put_out};
-ghost use Rattle.mud_desk.specs.Boxed.{IsKept};
+ghost use Rattle.desk_model.specs.Boxed.{IsKept};
 ghost use Rattle.mud_desk.specs.DeskState.{session_of, tables_of};
 ghost use Rattle.command_runs.specs.Ends.{IsStoppedByDoorOrSpool, IsStoppedWriting};
 ghost use Rattle.command_runs.specs.Due.{WroteFirst};
@@ -13,8 +13,9 @@ ghost use Rattle.command_runs.specs.Status.{IsOneOf, status_number};
 ghost use Rattle.command_runs.specs.declared.status.Status.TheVariants.{Done, Refused, KeeperFailed};
 ghost use Rattle.import_runs.specs.Entries.{has_keeper_failed, is_of_memory};
 ghost use Rattle.import_runs.specs.Entries as entries;
-ghost use Rattle.import_runs.specs.Imports.{MayLead, standing};
-ghost use Rattle.import_runs.specs.Runs.{ImportsPart, ImportsAll, StaysKept, scene};
+ghost use Rattle.import_runs.specs.Imports.{MayLead};
+ghost use Rattle.import_runs.specs.Scenes.{standing, scene};
+ghost use Rattle.import_runs.specs.Runs.{ImportsPart, ImportsAll, StaysKept};
 ghost use Rattle.command_runs.specs.Stops.{has_failed};
 
 use crate::{append_reply, append_skipped, fetched_in};
@@ -40,7 +41,7 @@ fn unless_memory(reply: Reply) -> Result<Reply, Memory>
 
 /// The reply to the import of the file of the name; none for a name of another form, of which no
 /// file is read and the clock isn't asked.
-#[tactic(auto, unfolding(crate::specs::Imports::standing))]
+#[tactic(auto, unfolding(crate::specs::Scenes::standing))]
 fn reply_to<L: Ledger, P: Spool, C: Clock>(
     alloc: Global,
     desk: &mut Desk,

@@ -5,13 +5,14 @@ ghost use Rattle.mud_tables.specs.declared.segment.Segment.{Segment as SegmentVa
 ghost use Rattle.mud_world.specs.Boxed.{faults_of};
 ghost use Rattle.mud_world.specs.Causes.{Counts, Rose};
 ghost use Rattle.mud_world.specs.Files.{names_of};
-ghost use Rattle.mud_desk.specs.Boxed.{IsKept};
+ghost use Rattle.desk_model.specs.Boxed.{IsKept};
 ghost use Rattle.mud_desk.specs.DeskState.{tables_of};
 ghost use Rattle.command_runs.specs.Ends.{AreSteady, IsStoppedByDoorOrSpool};
 ghost use Rattle.command_runs.specs.Status.{Is, IsNot, IsOneOf, status_number};
 ghost use Rattle.command_runs.specs.declared.status.Status.TheVariants.{Done, Refused, DoorFailed, NoMemory, KeeperFailed};
 ghost use Rattle.import_runs.specs.Order.{in_order};
-ghost use Rattle.import_runs.specs.Runs.{ImportsPart, ImportsAll, StaysKept, scene};
+ghost use Rattle.import_runs.specs.Runs.{ImportsPart, ImportsAll, StaysKept};
+ghost use Rattle.import_runs.specs.Scenes.{scene};
 ghost use Rattle.command_runs.specs.Stops.{has_failed};
 
 use crate::file::import_file;

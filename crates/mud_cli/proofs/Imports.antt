@@ -12,13 +12,13 @@ use Rattle.command_runs.specs.Ends.{IsStoppedByDoorOrSpool}
 use Rattle.desk_model.specs.DeskTables.{DeskTables, IsSound}
 use Rattle.desk_model.specs.Items.{items_of, tables_in}
 use Rattle.desk_model.specs.Sessions.{Session, opened}
-use Rattle.mud_desk.specs.Boxed.{IsSameBox}
+use Rattle.desk_model.specs.Boxed.{IsSameBox}
 use Rattle.mud_desk.specs.DeskState.{DeskState, IsBegun, session_of, tables_of}
 use Rattle.desk_runs.proofs.Refusals.{RunsRefused, is_refused}
 use Rattle.desk_runs.proofs.Stores.{not_seven}
-use Rattle.import_runs.specs.Imports.{standing}
+use Rattle.import_runs.specs.Scenes.{standing, scene}
 use Rattle.import_runs.specs.Order.{in_order}
-use Rattle.import_runs.specs.Runs.{Scene, ImportsPart, ImportsAll, StaysKept, scene}
+use Rattle.import_runs.specs.Runs.{Scene, ImportsPart, ImportsAll, StaysKept}
 use Rattle.mud_cli.specs.Import.Store.{ImportsStore, scene_in}
 use Rattle.mud_world.specs.View.{OutsideView, SpoolView}
 

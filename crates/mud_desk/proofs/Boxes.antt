@@ -9,7 +9,7 @@ use Rattle.mud_world.specs.Items.{put_all}
 use Rattle.mud_world.specs.Boxed.{Tells, kept_items, IsOpen}
 use Rattle.desk_model.specs.DeskTables.{DeskTables}
 use Rattle.desk_model.specs.Items.{items_of}
-use Rattle.mud_desk.specs.Boxed.{IsKept}
+use Rattle.desk_model.specs.Boxed.{IsKept}
 
 module _ {X : Type 0} {F : X → Type 0} (members : (v : (x : X) × F x) → Ghosts (F v.0)) (keeper after : DynBox X Global F) where
   pub kept_after : (before now : DeskTables) (batch : List Put) → IsKept members keeper before → IsOpen members after → (Tells members after → Tells members keeper)

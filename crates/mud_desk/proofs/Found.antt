@@ -8,7 +8,8 @@ use Rattle.desk_model.specs.DeskTables.{DeskTables}
 use Rattle.desk_model.specs.Verdicts.{policy_at}
 use Rattle.desk_rows.specs.CompiledDesk.{IsCompiledOf}
 use Rattle.desk_judge.specs.declared.findings.Findings.{Findings}
-use Rattle.desk_judge.specs.Findings.{Policies, AreFindingsOn}
+use Rattle.desk_judge.specs.Findings.{AreFindingsOn}
+use Rattle.desk_model.specs.Findings.{Policies}
 use Rattle.mud_desk.specs.DeskState.{DeskState, tables_of}
 
 policies_alike : (desk : DeskTables) (held compiled : CompiledState) → held ≡ compiled → IsCompiledOf desk compiled → ◌≡◌ {A = Policies} (policy_held held.slots) (policy_at desk)

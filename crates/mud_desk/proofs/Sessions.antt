@@ -26,7 +26,7 @@ use Rattle.desk_model.specs.DeskTables.{DeskTables, IsSound}
 use Rattle.desk_model.specs.Commands.{DeskStep, command_step, IsTyped, IsAsked, TellsChange}
 use Rattle.desk_model.specs.Items.{items_of}
 use Rattle.desk_model.specs.Verdicts.{verdict_at}
-use Rattle.desk_model.specs.Sessions.{Session, Answered, answered, command_in, MayAnswer, later, verdict_in, frame_in, judged}
+use Rattle.desk_model.specs.Sessions.{Session, Answered, answered, command_in, MayAnswer, later, verdict_in, frame_in, judged, is_of_keeper}
 use Rattle.desk_model.proofs.ToldSteps.{commands_told}
 use Rattle.desk_rows.specs.CompiledDesk.{IsCompiledOf}
 use Rattle.desk_judge.specs.Grounds.{grounds, AreGroundsOf}
@@ -35,7 +35,6 @@ use Rattle.desk_books.specs.Books.{Books, desk_of}
 use Rattle.desk_books.specs.Changes.{PlannedChange, desk_after}
 use Rattle.desk_books.specs.Planned.{IsPlanned, IsReady, IsBatchOf}
 use Rattle.mud_desk.specs.DeskState.{DeskState, tables_of, session_of, HasForwarded, IsTimely, IsJudged}
-use Rattle.mud_desk.specs.Answers.{is_of_keeper}
 
 -- ---- The moment
 

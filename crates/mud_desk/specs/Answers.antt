@@ -17,13 +17,6 @@ use Rattle.desk_model.specs.Items.{tables_in}
 use Rattle.desk_books.specs.Books.{Books, desk_of}
 use Rattle.desk_books.specs.Planned.{IsPaid}
 
--- the reply is that the keeper failed
-abbrev pub is_of_keeper : Reply → Bool
-is_of_keeper (Done outcome) = false
-is_of_keeper (Refused refusal) = false
-is_of_keeper Keeper = true
-is_of_keeper Memory = false
-
 -- the policies, bindings and rows are as before, but where the command was carried out
 abbrev pub StaysUnlessDone : Reply → CompiledState → CompiledState → Type 0
 StaysUnlessDone (Done outcome) before after = Unit {0}

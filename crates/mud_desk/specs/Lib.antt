@@ -1,3 +1,2 @@
 pub mod DeskState
-pub mod Boxed
 pub mod Answers

@@ -10,12 +10,11 @@ use Rattle.desk_model.specs.declared.command.Command.{Command}
 use Rattle.desk_model.specs.declared.command.Command.TheVariants.{Observe}
 use Rattle.desk_model.specs.declared.reply.Reply.{Reply}
 use Rattle.desk_model.specs.declared.reply.Reply.TheVariants.{Memory}
-use Rattle.desk_model.specs.Sessions.{Session, MayAnswer, Runs}
+use Rattle.desk_model.specs.Sessions.{Session, MayAnswer, Runs, is_of_keeper}
 use Rattle.dns_snoop.specs.declared.answers.Answers.{Answers}
 use Rattle.dns_snoop.specs.declared.fault.DnsFault.{DnsFault}
 use Rattle.dns_snoop.specs.declared.fault.DnsFault.TheVariants as dns
 use Rattle.dns_snoop.specs.Rows.{Answered}
-use Rattle.mud_desk.specs.Answers.{is_of_keeper}
 use Rattle.snoop_runs.specs.Entries.{Heard, observations, calls_of, name_lines, heard_lines, NoneOfMemory, failures}
 use Rattle.snoop_runs.specs.Learnt.{Learns, LearnsFirst, names_of}
 use Rattle.snoop_runs.specs.Lines.{name_line, dns_fault_line}

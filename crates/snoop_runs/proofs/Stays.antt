@@ -3,7 +3,7 @@ use Rattle.std.proofs.Common.{◌≡◌, refl, sym, subst, ◌∙◌}
 use Rattle.std.specs.declared.dyn_box.DynBox.{DynBox}
 use Rattle.std.specs.declared.alloc.Global.{Global}
 use Rattle.mud_world.specs.declared.keeper.Keeper.{Ghosts}
-use Rattle.mud_desk.specs.Boxed.{IsKept}
+use Rattle.desk_model.specs.Boxed.{IsKept}
 use Rattle.mud_desk.specs.DeskState.{DeskState, tables_of}
 use Rattle.snoop_runs.specs.Stays.{StaysKept}
 

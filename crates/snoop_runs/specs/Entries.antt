@@ -9,7 +9,7 @@ use Rattle.desk_model.specs.declared.reply.Reply.{Reply}
 use Rattle.desk_model.specs.declared.reply.Reply.TheVariants.{Memory}
 use Rattle.dns_snoop.specs.declared.answers.Answers.{Answers}
 use Rattle.dns_snoop.specs.declared.fault.DnsFault.{DnsFault}
-use Rattle.mud_desk.specs.Answers.{is_of_keeper}
+use Rattle.desk_model.specs.Sessions.{is_of_keeper}
 use Rattle.desk_runs.specs.Judged.{judged_line}
 use Rattle.snoop_runs.specs.Lines.{name_line, dns_fault_line}
 

@@ -14,7 +14,7 @@ ghost use Rattle.command_runs.specs.Status.{Is, IsNot, IsOneOf, status_number};
 ghost use Rattle.command_runs.specs.declared.status.Status.TheVariants.{Done, Refused, DoorFailed, NoMemory, KeeperFailed};
 ghost use Rattle.desk_model.specs.Sessions.{Session};
 ghost use Rattle.desk_runs.specs.Judged.{IsIn};
-ghost use Rattle.mud_desk.specs.Boxed.{IsKept};
+ghost use Rattle.desk_model.specs.Boxed.{IsKept};
 ghost use Rattle.mud_desk.specs.DeskState.{tables_of};
 ghost use Rattle.snoop_runs.specs.Leads.{LeadsToAll, LeadsToPart, LeadsToTaken};
 ghost use Rattle.snoop_runs.specs.Stays.{StaysKept};

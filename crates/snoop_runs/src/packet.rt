@@ -5,7 +5,7 @@ ghost use Rattle.mud_world.specs.Causes.{Counts};
 ghost use Rattle.pcap_read.specs.Captured.{packet_of};
 ghost use Rattle.desk_model.specs.Sessions.{Session};
 ghost use Rattle.desk_runs.specs.Judged.{IsIn, judged_packet};
-ghost use Rattle.mud_desk.specs.Boxed.{IsKept};
+ghost use Rattle.desk_model.specs.Boxed.{IsKept};
 ghost use Rattle.mud_desk.specs.DeskState.{tables_of};
 ghost use Rattle.snoop_runs.specs.Packets.{GoesOn, StopsAt};
 ghost use Rattle.snoop_runs.specs.Stays.{StaysKept};

@@ -9,7 +9,7 @@ ghost use Rattle.desk_items.specs.Taken.{kept_of};
 ghost use Rattle.desk_model.specs.Items.{none_kept};
 ghost use Rattle.desk_model.specs.Sessions.{Session};
 ghost use Rattle.desk_runs.specs.Judged.{IsIn};
-ghost use Rattle.mud_desk.specs.Boxed.{IsKept};
+ghost use Rattle.desk_model.specs.Boxed.{IsKept};
 ghost use Rattle.mud_desk.specs.DeskState.{tables_of};
 ghost use Rattle.tally_runs.specs.Store.{TalliesStore, due_of_tally};
 ghost use Rattle.tally_runs.specs.Tallied.{begun, tally_step};

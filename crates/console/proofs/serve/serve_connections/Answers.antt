@@ -1,7 +1,7 @@
 use Rattle.std.proofs.Common.{◌≡◌, refl}
 use Rattle.std.specs.Prelude.{Some, None}
 use Rattle.mud_world.specs.Boxed.{faults_of, Tells}
-use Rattle.mud_desk.specs.Boxed.{IsSameBox}
+use Rattle.desk_model.specs.Boxed.{IsSameBox}
 use Rattle.mud_desk.specs.DeskState.{session_of}
 use Rattle.console_answers.specs.Answers.{fault_answer}
 use Rattle.console.specs.States.{MayTake, begun}

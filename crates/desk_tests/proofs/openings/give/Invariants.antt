@@ -1,4 +1,4 @@
-use Rattle.mud_desk.specs.Boxed.{IsKept}
+use Rattle.desk_model.specs.Boxed.{IsKept}
 use Rattle.mud_desk.specs.DeskState.{tables_of}
 use Rattle.desk_tests.proofs.openings.give.Given as goal
 

@@ -1,7 +1,6 @@
 use Rattle.std.proofs.Common.{refl, subst, sym}
 use Rattle.command_runs.specs.Status.{status_number}
-use Rattle.import_runs.specs.Imports.{standing}
-use Rattle.import_runs.specs.Runs.{scene}
+use Rattle.import_runs.specs.Scenes.{standing, scene}
 use Rattle.import_runs.proofs.Folders.{part_of_none, part_of_one, all_of_one, IsOfAll}
 use Rattle.import_runs.proofs.file.import_file.Goals as goal
 use Rattle.sorted_rows.proofs.Results.{always_on_err}

@@ -3,7 +3,8 @@ use Rattle.mud_tables.specs.declared.segment.Segment.{Segment}
 use Rattle.mud_world.specs.Boxed.{faults_of}
 use Rattle.mud_world.specs.Causes.{Counts}
 use Rattle.command_runs.specs.Status.{status_number}
-use Rattle.import_runs.specs.Runs.{ImportsAll, StaysKept, scene}
+use Rattle.import_runs.specs.Runs.{ImportsAll, StaysKept}
+use Rattle.import_runs.specs.Scenes.{scene}
 use Rattle.import_runs.proofs.folder.import_names.Given as goal
 
 abbrev pub invariant-loop-name : goal.invariant-loop-name

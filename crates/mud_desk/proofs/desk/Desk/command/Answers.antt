@@ -8,9 +8,8 @@ use Rattle.desk_model.specs.declared.reply.Outcome.{Outcome}
 use Rattle.desk_model.specs.declared.reply.Reply.{Reply}
 use Rattle.desk_model.specs.declared.reply.Reply.TheVariants.{Done}
 use Rattle.desk_model.specs.Items.{items_of}
-use Rattle.desk_model.specs.Sessions.{MayAnswer}
+use Rattle.desk_model.specs.Sessions.{MayAnswer, is_of_keeper}
 use Rattle.mud_desk.specs.DeskState.{tables_of, session_of}
-use Rattle.mud_desk.specs.Answers.{is_of_keeper}
 use Rattle.mud_desk.proofs.Sessions.{reaches, done, refused, failed, wanted, never_of_keeper}
 use Rattle.mud_desk.proofs.Boxes.{kept_after}
 use Rattle.mud_desk.proofs.Payments.{paid, planned_only, undone}

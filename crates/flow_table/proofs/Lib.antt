@@ -1,3 +1,4 @@
 pub mod Histories
 pub mod PairLaws
+pub mod KeyLaws
 pub mod HeldLaws

@@ -1,12 +1,10 @@
--- Two ends have one place, in whichever direction a packet goes between them.
+-- Two ends have one order, in whichever direction a packet goes between them.
 use Rattle.std.proofs.Common.{◌≡◌, ℕ, Bool, true, false, ◌&&◌, ◌||◌, ◌==◌, ◌⊎◌, inl, inr, refl, sym, ap, ◌∙◌, subst, eq-eqb, rules}
-use Rattle.std.specs.Ordering.{nat_cmp, ordering_then, ordering_reverse, match_ordering, is_eq}
-use Rattle.std.specs.BTreeMap.{is_at}
+use Rattle.std.specs.Ordering.{nat_cmp, ordering_then, ordering_reverse, match_ordering}
 use Rattle.std.specs.declared.cmp.Ordering.{Ordering}
 use Rattle.std.specs.declared.cmp.Ordering.TheVariants.{Less, Equal, Greater}
 use Rattle.std.proofs.lemmas.Cmp.{nat_cmp_total, ranked, tied_itself}
 use Rattle.std.proofs.lemmas.Bool.{and_parts, or_cases}
-use Rattle.std.specs.Cmp.{both_ways}
 use Rattle.mud_base.specs.Addresses.{addr_cmp, same_addr}
 use Rattle.mud_base.specs.declared.addr.Addr.{Addr}
 use Rattle.mud_base.specs.declared.addr.Addr.TheVariants.{V4, V6}
@@ -15,7 +13,7 @@ use Rattle.mud_base.proofs.AddrOrder.{addr_cmp_total, same_from_tie}
 use Rattle.mud_tables.specs.History.{Endpoint, same_end, is_between}
 use Rattle.mud_tables.specs.declared.segment.Segment.{Segment}
 use Rattle.mud_tables.proofs.RowSets.{same_addr_exact, same_addr_itself}
-use Rattle.flow_table.specs.Pairs.{Pair, end_cmp, pair_cmp, pair_of}
+use Rattle.flow_table.specs.Pairs.{Pair, end_cmp, pair_of}
 
 derived : (a b : Addr) → (addr_ord.ghosts).cmp a b ≡ addr_cmp a b
 unfolding addr_cmp
@@ -27,7 +25,7 @@ derived (V6 n) (V6 k) = refl
 end_by : (a b : Endpoint) → end_cmp a b ≡ ordering_then (addr_cmp a.0 b.0) (nat_cmp a.1 b.1)
 end_by a b = ap (λ o. ordering_then o (nat_cmp a.1 b.1)) (derived a.0 b.0)
 
-then_equal : (o r : Ordering) → ordering_then o r ≡ Equal → (o ≡ Equal) × (r ≡ Equal)
+pub then_equal : (o r : Ordering) → ordering_then o r ≡ Equal → (o ≡ Equal) × (r ≡ Equal)
 then_equal Less r e = cc
 then_equal Equal r e = (refl, e)
 then_equal Greater r e = cc
@@ -37,7 +35,7 @@ then_reverse o r Less q e f = rw e refl
 then_reverse o r Equal q e f = rw (e, f) refl
 then_reverse o r Greater q e f = rw e refl
 
-both_parts : {A B : Type 0} (a b : A × B) → a.0 ≡ b.0 → a.1 ≡ b.1 → a ≡ b
+pub both_parts : {A B : Type 0} (a b : A × B) → a.0 ≡ b.0 → a.1 ≡ b.1 → a ≡ b
 both_parts a b e f = λ i. (e i, f i)
 
 -- two ends as they stand
@@ -56,20 +54,7 @@ end_reverse : (a b : Endpoint) → end_cmp a b ≡ ordering_reverse (end_cmp b a
 end_reverse a b =
     end_by a b ∙ then_reverse (addr_cmp a.0 b.0) (nat_cmp a.1 b.1) (addr_cmp b.0 a.0) (nat_cmp b.1 a.1) (addr_cmp_total.antisymm a.0 b.0) (nat_cmp_total.antisymm a.1 b.1) ∙ ap ordering_reverse (sym (end_by b a))
 
--- ---- Places of two ends
-
-is_equal : (o : Ordering) → is_eq o ≡ true → o ≡ Equal
-is_equal Less e = cc
-is_equal Equal e = refl
-is_equal Greater e = cc
-
-pub at_same : (p q : Pair) → is_at (pair_cmp p) q ≡ true → p ≡ q
-at_same p q e =
-    let both = then_equal (end_cmp p.0 q.0) (end_cmp p.1 q.1) (is_equal (pair_cmp p q) e) in
-    both_parts p q (end_tie p.0 q.0 both.0) (end_tie p.1 q.1 both.1)
-
-pub at_itself : (p : Pair) → is_at (pair_cmp p) p ≡ true
-at_itself p = ap (λ o. is_eq (ordering_then o (end_cmp p.1 p.1))) (end_itself p.0) ∙ ap is_eq (end_itself p.1)
+-- ---- Two ends in their order
 
 pair_either : (a b : Endpoint) → (pair_of a b ≡ (in_order a b)) ⊎ (pair_of a b ≡ (in_order b a))
 unfolding pair_of
@@ -108,7 +93,7 @@ end_same : (a b : Endpoint) → a ≡ b → same_end a b ≡ true
 unfolding same_end
 end_same a b e = ap (λ c. same_addr a.0 c.0 && a.1 == c.1) (sym e) ∙ ap (λ c. c && a.1 == a.1) (same_addr_itself a.0) ∙ eq-eqb a.1 a.1 refl
 
-between_same : (a b : Endpoint) (p : Segment) → is_between a b p ≡ true → pair_of p.source p.destination ≡ pair_of a b
+pub between_same : (a b : Endpoint) (p : Segment) → is_between a b p ≡ true → pair_of p.source p.destination ≡ pair_of a b
 unfolding is_between
 between_same a b p e = by (or_cases (same_end p.source a && same_end p.destination b) (same_end p.source b && same_end p.destination a) e)
   where
@@ -128,7 +113,7 @@ turned a b p s d = ap (λ c. (same_end p.source a && same_end p.destination b) |
     or_last true = refl
     or_last false = refl
 
-same_between : (a b : Endpoint) (p : Segment) → pair_of p.source p.destination ≡ pair_of a b → is_between a b p ≡ true
+pub same_between : (a b : Endpoint) (p : Segment) → pair_of p.source p.destination ≡ pair_of a b → is_between a b p ≡ true
 same_between a b p e = by (pair_either p.source p.destination) (pair_either a b)
   where
     by : (pair_of p.source p.destination ≡ in_order p.source p.destination) ⊎ (pair_of p.source p.destination ≡ in_order p.destination p.source) → (pair_of a b ≡ in_order a b) ⊎ (pair_of a b ≡ in_order b a) → is_between a b p ≡ true
@@ -136,10 +121,3 @@ same_between a b p e = by (pair_either p.source p.destination) (pair_either a b)
     by (inl f) (inr g) = let h : in_order p.source p.destination ≡ in_order b a = sym f ∙ e ∙ g in turned a b p (ap (λ q. q.0) h) (ap (λ q. q.1) h)
     by (inr f) (inl g) = let h : in_order p.destination p.source ≡ in_order a b = sym f ∙ e ∙ g in turned a b p (ap (λ q. q.1) h) (ap (λ q. q.0) h)
     by (inr f) (inr g) = let h : in_order p.destination p.source ≡ in_order b a = sym f ∙ e ∙ g in straight a b p (ap (λ q. q.1) h) (ap (λ q. q.0) h)
-
--- a packet is between two ends exactly where they have its place
-pub between_at : (a b : Endpoint) (p : Segment) → is_between a b p ≡ is_at (pair_cmp (pair_of p.source p.destination)) (pair_of a b)
-between_at a b p =
-    both_ways (is_between a b p) (is_at (pair_cmp (pair_of p.source p.destination)) (pair_of a b))
-    (λ e. let P : Pair → Type 0 = λ q. is_at (pair_cmp (pair_of p.source p.destination)) q ≡ true in subst P (between_same a b p e) (at_itself (pair_of p.source p.destination)))
-    (λ e. same_between a b p (at_same (pair_of p.source p.destination) (pair_of a b) e))

@@ -5,18 +5,18 @@ use Rattle.std.specs.BTreeMap.{is_at}
 use Rattle.mud_tables.specs.History.{Endpoint, Begun}
 use Rattle.mud_tables.specs.declared.segment.Segment.{Segment}
 use Rattle.flow_table.specs.Kept.{Flows, kept_after}
-use Rattle.flow_table.specs.Pairs.{Pair, pair_cmp, pair_of}
+use Rattle.flow_table.specs.Keys.{Key, key_cmp, key_of}
 
 -- The moment of the last packet, the moment at which the younger generation was begun, and the places of both.
 pub record Held : Type 0 where
   pub last : Option ℕ
   pub since : ℕ
-  pub younger : List (Pair × Option Begun)
-  pub elder : List (Pair × Option Begun)
+  pub younger : List (Key × Option Begun)
+  pub elder : List (Key × Option Begun)
 
--- the place of two ends in a generation
-unfoldable pub place_at : List (Pair × Option Begun) → Pair → Option (Option Begun)
-place_at places ends = lookup (is_at (pair_cmp ends)) places
+-- the place of a key in a generation
+unfoldable pub place_at : List (Key × Option Begun) → Key → Option (Option Begun)
+place_at places key = lookup (is_at (key_cmp key)) places
 
 unfoldable pub filled : Option (Option Begun) → Option Begun
 filled None = None
@@ -27,11 +27,11 @@ unfoldable pub place_first : Option (Option Begun) → Option (Option Begun) →
 place_first (Some begun) elder = begun
 place_first None elder = filled elder
 
-unfoldable pub held_at : Held → Pair → Option Begun
-held_at held ends = place_first (place_at held.younger ends) (place_at held.elder ends)
+unfoldable pub held_at : Held → Key → Option Begun
+held_at held key = place_first (place_at held.younger key) (place_at held.elder key)
 
 unfoldable pub held_between : Held → Endpoint → Endpoint → Option Begun
-held_between held a b = held_at held (pair_of a b)
+held_between held a b = held_at held (key_of a b)
 
 unfoldable pub flows_of : Held → Flows
 flows_of held = record { last = held.last; kept = held_between held }
@@ -44,15 +44,15 @@ IsNoted (Some last) at = at ≤ last
 -- Nothing in the elder generation is later than the beginning of the younger one, and nothing is later than the last
 -- packet.
 pub record IsSound (held : Held) : Type 0 where
-  pub elder : (ends : Pair) (begun : Begun) → place_at held.elder ends ≡ Some (Some begun) → begun.1 ≤ held.since
-  pub noted : (ends : Pair) (begun : Begun) → place_at held.elder ends ≡ Some (Some begun) → IsNoted held.last begun.1
-  pub younger : (ends : Pair) (begun : Begun) → place_at held.younger ends ≡ Some (Some begun) → IsNoted held.last begun.1
+  pub elder : (key : Key) (begun : Begun) → place_at held.elder key ≡ Some (Some begun) → begun.1 ≤ held.since
+  pub noted : (key : Key) (begun : Begun) → place_at held.elder key ≡ Some (Some begun) → IsNoted held.last begun.1
+  pub younger : (key : Key) (begun : Begun) → place_at held.younger key ≡ Some (Some begun) → IsNoted held.last begun.1
 
--- there is a place for what is between these two ends
-abbrev pub HasPlace : Held → Pair → Type 0
-HasPlace held ends = IsSome (place_at held.younger ends)
+-- there is a place for what is between the two ends of this key
+abbrev pub HasPlace : Held → Key → Type 0
+HasPlace held key = IsSome (place_at held.younger key)
 
--- the place of these two ends has what is kept after the packet, and each other place stays
-pub record IsWritten (ends : Pair) (p : Segment) (before : List (Pair × Option Begun)) (after : List (Pair × Option Begun)) : Type 0 where
-  pub here : (begun : Option Begun) → place_at before ends ≡ Some begun → place_at after ends ≡ Some (kept_after p begun)
-  pub others : (other : Pair) → is_at (pair_cmp ends) other ≡ false → place_at after other ≡ place_at before other
+-- the place of this key has what is kept after the packet, and each other place stays
+pub record IsWritten (key : Key) (p : Segment) (before : List (Key × Option Begun)) (after : List (Key × Option Begun)) : Type 0 where
+  pub here : (begun : Option Begun) → place_at before key ≡ Some begun → place_at after key ≡ Some (kept_after p begun)
+  pub others : (other : Key) → is_at (key_cmp key) other ≡ false → place_at after other ≡ place_at before other

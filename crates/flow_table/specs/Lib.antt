@@ -1,4 +1,5 @@
 pub mod Kept
 pub mod Pairs
+pub mod Keys
 pub mod Held
 pub mod Planned

@@ -11,8 +11,5 @@ Pair = Endpoint × Endpoint
 abbrev pub end_cmp : Endpoint → Endpoint → Ordering
 end_cmp a b = ordering_then ((addr_ord.ghosts).cmp a.0 b.0) (nat_cmp a.1 b.1)
 
-abbrev pub pair_cmp : Pair → Pair → Ordering
-pair_cmp a b = ordering_then (end_cmp a.0 b.0) (end_cmp a.1 b.1)
-
 unfoldable pub pair_of : Endpoint → Endpoint → Pair
 pair_of a b = match_ordering (end_cmp a b) (a, b) (a, b) (b, a)

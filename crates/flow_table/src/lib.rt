@@ -2,9 +2,11 @@
 #![tactic(auto)]
 
 pub mod kept;
+pub mod key;
 pub mod pairs;
 pub mod table;
 
 pub use kept::Begun;
+pub use key::Key;
 pub use pairs::Pair;
 pub use table::{FlowPlan, FlowTable, pass};

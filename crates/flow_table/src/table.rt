@@ -4,11 +4,12 @@ ghost use Rattle.mud_tables.specs.History as history;
 ghost use Rattle.mud_tables.specs.History.{StandsFor};
 ghost use Rattle.mud_tables.specs.declared.segment.Segment.{Segment as SegmentValue};
 ghost use Rattle.flow_table.specs.Kept.{HasNoted, is_since, begun_kept};
-ghost use Rattle.flow_table.specs.Held.{held_at, flows_of, HasPlace, IsWritten};
+ghost use Rattle.flow_table.specs.Held.{held_at, place_at, filled, flows_of, HasPlace, IsWritten};
 ghost use Rattle.flow_table.specs.Planned.{segment_planned, IsPlanned};
 
 use crate::kept::{Begun, beginner_kept, kept_after};
-use crate::pairs::{Pair, pair_of};
+use crate::key::Key;
+use crate::pairs::key_of;
 use mud_base::{Direction, Fields, Memory, Moment};
 use mud_tables::Segment;
 use mud_tables::limits::MOST_PAUSE;
@@ -35,8 +36,8 @@ pub struct FlowTable {
     last: Option<Moment>,
     /// The moment at which the younger generation was begun, in seconds since 1970.
     since: u64,
-    younger: BTreeMap<Pair, Option<Begun>>,
-    elder: BTreeMap<Pair, Option<Begun>>,
+    younger: BTreeMap<Key, Option<Begun>>,
+    elder: BTreeMap<Key, Option<Begun>>,
 }
 
 impl Model for FlowTable {
@@ -53,6 +54,8 @@ impl Model for FlowTable {
 #[derive(Debug, Drop)]
 pub struct FlowPlan {
     packet: Segment,
+    /// What its ends are looked for by.
+    key: Key,
 }
 
 impl FlowTable {
@@ -70,15 +73,22 @@ impl FlowTable {
     }
 
     /// What is kept of two ends: what the younger generation has, and else the elder one.
-    fn held(&self, pair: Pair) -> Option<Begun>
-        ensures { result ≡ held_at self.now pair }
+    fn held(&self, key: &Key) -> Option<Begun>
+        ensures { result ≡ held_at self.now key.now }
     {
-        match self.younger.get(&pair) {
+        match self.younger.get(key) {
             Some(begun) => *begun,
-            None => match self.elder.get(&pair) {
-                Some(begun) => *begun,
-                None => None,
-            },
+            None => self.held_before(key),
+        }
+    }
+
+    /// What the elder generation has of two ends.
+    fn held_before(&self, key: &Key) -> Option<Begun>
+        ensures { result ≡ filled (place_at self.now.elder key.now) }
+    {
+        match self.elder.get(key) {
+            Some(begun) => *begun,
+            None => None,
         }
     }
 
@@ -96,7 +106,7 @@ impl FlowTable {
         if packet.opens() {
             return packet.side_of(side, Some(packet.source));
         }
-        let kept = self.held(pair_of(packet.source, packet.destination));
+        let kept = self.held(&key_of(packet.source, packet.destination));
         packet.side_of(side, beginner_kept(kept, packet.at))
     }
 
@@ -124,21 +134,21 @@ impl FlowTable {
             Some(packet) => packet,
             None => unreachable!(),
         };
-        let pair = pair_of(packet.source, packet.destination);
-        self.make_place(pair)?;
-        Ok(FlowPlan { packet })
+        let key = key_of(packet.source, packet.destination);
+        self.make_place(key)?;
+        Ok(FlowPlan { packet, key })
     }
 
     /// Makes a place for two ends, which keeps what was kept of them.
-    fn make_place(&mut self, pair: Pair) -> Result<(), Memory>
+    fn make_place(&mut self, key: Key) -> Result<(), Memory>
         ensures same { flows_of self.new ≡ flows_of self.old }
-        ensures place { IfOk result (λ _. HasPlace self.new pair) }
+        ensures place { IfOk result (λ _. HasPlace self.new key) }
     {
-        if self.younger.contains_key(&pair) {
+        if self.younger.contains_key(&key) {
             return Ok(());
         }
-        let begun = self.held(pair);
-        self.younger.insert(pair, begun)?;
+        let begun = self.held_before(&key);
+        self.younger.insert(key, begun)?;
         Ok(())
     }
 
@@ -149,8 +159,7 @@ impl FlowTable {
         ensures stands { (h : List SegmentValue) → StandsFor h (flows_of self.old) → StandsFor (h ++ segment_planned plan ∷ []) (flows_of self.new) }
     {
         let packet = plan.packet;
-        let pair = pair_of(packet.source, packet.destination);
-        write_place(&mut self.younger, pair, &packet);
+        write_place(&mut self.younger, &plan.key, &packet);
         self.last = Some(packet.at);
         let now = packet.at.seconds();
         if now.saturating_sub(self.since) > MOST_PAUSE {
@@ -161,10 +170,10 @@ impl FlowTable {
 }
 
 /// Writes what is kept after a packet into the place that was made for its ends.
-fn write_place(places: &mut BTreeMap<Pair, Option<Begun>>, pair: Pair, packet: &Segment)
-    ensures { IsWritten pair packet.now places.old.entries places.new.entries }
+fn write_place(places: &mut BTreeMap<Key, Option<Begun>>, key: &Key, packet: &Segment)
+    ensures { IsWritten key.now packet.now places.old.entries places.new.entries }
 {
-    if let Some(place) = places.get_mut(&pair) {
+    if let Some(place) = places.get_mut(key) {
         *place = kept_after(packet, *place);
     }
 }

@@ -13,7 +13,7 @@ returns-then-opens-clause-kept c = c.side_of.ensures ∙ begun_opens _ _ _ _ c.i
 
 pub returns-clause-kept : goal.returns-clause-kept
 unfolding flows_of held_between
-returns-clause-kept c = c.side_of-2.ensures ∙ ap (side_of c.args.side c.in-Some.packet) (c.beginner_kept.ensures ∙ ap (λ k. beginner_kept k c.in-Some.packet.at) (c.held-kept.ensures ∙ ap (held_at c.args.self.now) c.pair_of.ensures)) ∙ begun_other (flows_of c.args.self.now) _ _ _ c.in-Some.packet (sym c.segment_of.ensures ∙ c.in-Some.is) (sym c.opens.ensures ∙ c.if-opens.false)
+returns-clause-kept c = c.side_of-2.ensures ∙ ap (side_of c.args.side c.in-Some.packet) (c.beginner_kept.ensures ∙ ap (λ k. beginner_kept k c.in-Some.packet.at) (c.held-kept.ensures ∙ ap (held_at c.args.self.now) c.key_of.ensures)) ∙ begun_other (flows_of c.args.self.now) _ _ _ c.in-Some.packet (sym c.segment_of.ensures ∙ c.in-Some.is) (sym c.opens.ensures ∙ c.if-opens.false)
 
 pub returns-in_default-clause-begun : goal.returns-in_default-clause-begun
 returns-in_default-clause-begun c = λ h s. returns-in_default-clause-kept c ∙ sym (begun_found h _ _ _ _ s c.requires)

@@ -1,5 +1,5 @@
 use Rattle.std.proofs.Common.{◌≡◌, IsTrue, sym, ◌∙◌, subst}
-use Rattle.flow_table.specs.Planned.{segment_planned, pair_planned}
+use Rattle.flow_table.specs.Planned.{segment_planned}
 use Rattle.flow_table.specs.Kept.{Flows, is_since}
 use Rattle.flow_table.proofs.Histories.{at_planned}
 use Rattle.flow_table.proofs.table.FlowTable.plan.Goals as goal
@@ -9,11 +9,12 @@ unfolding segment_planned
 returns-clause-planned c = sym c.segment_of.ensures ∙ c.in-Some.is
 
 pub returns-clause-ready : goal.returns-clause-ready
-unfolding pair_planned segment_planned
+unfolding segment_planned
 returns-clause-ready c =
     let at : c.in-Some.packet.at ≡ c.args.now = at_planned _ _ _ (sym c.segment_of.ensures ∙ c.in-Some.is) in
     let Since : Flows → Type 0 = λ flows. IsTrue (is_since flows.last c.args.now) in
     record {
       since = rw at (subst Since (sym c.in_ok-make_place.ensures.same) c.requires.since);
-      place = rw (← c.pair_of-pair.ensures) c.in_ok-make_place.ensures.place;
+      key = c.key_of-key.ensures;
+      place = c.in_ok-make_place.ensures.place;
     }

@@ -1,11 +1,14 @@
 //! Runs over a store in memory, and over two files that stop after so many calls.
 
 use crate::batches::{BATCHES, batch};
+use crate::files::{after_crash, boxed_over, files_of, keeper_over, new_files};
+use crate::requests::{ANSWERS, LISTED, SECOND, requests};
+use crate::shown::{items_after, shown, shown_after_each, shown_items};
 use keep_sqlite::SqliteKeeper;
-use mud_base::Memory;
-use mud_world::{Item, KeepFault, Keeper};
-use sqlite::{Alter, Connection, FileStore, Files, Options};
-use sqlite_disk::{Crash, Fuse, Memory as FileInMemory};
+use mud_base::{Bytes, Moment};
+use mud_world::{KeepFault, Keeper};
+use shown_desks::{answer_requests, list_tables};
+use sqlite::{Alter, Connection};
 use std::alloc::Global;
 use std::process::Abort;
 use std::test::Fail;
@@ -33,36 +36,7 @@ fn apply_first<S: Alter + Drop>(
     Ok(())
 }
 
-/// The kind, the key and the body of each item.
-fn shown<K: Keeper>(alloc: Global, keeper: &mut K) -> Result<Vec<u8>, KeepFault> {
-    let items = keeper.open(alloc)?;
-    let mut text = Vec::new(alloc);
-    for item in items.as_slice() {
-        show(item, &mut text)?;
-    }
-    Ok(text)
-}
-
-/// The kind, the key and the body of an item, behind what the text shows.
-fn show(item: &Item, text: &mut Vec<u8>) -> Result<(), Memory> {
-    text.push(item.kind)?;
-    text.extend_from_slice(item.key.octets())?;
-    text.extend_from_slice(b"=")?;
-    text.extend_from_slice(item.body.octets())?;
-    Ok(())
-}
-
-/// What the items show after so many of the batches.
-fn shown_after(alloc: Global, count: usize) -> Result<Vec<u8>, Fail> {
-    let mut keeper = SqliteKeeper::adopt(Connection::open_in_memory(alloc)?);
-    let mut run = Run {
-        begun: 0,
-        acknowledged: 0,
-    };
-    apply_first(alloc, &mut keeper, count, &mut run)?;
-    Ok(shown(alloc, &mut keeper)?)
-}
-
+/// The batches leave what six requests leave over a keeper in memory.
 #[test]
 fn keeps_the_items_in_memory(rt: HostRuntime) -> Result<(), Fail> {
     let alloc = rt.alloc();
@@ -73,8 +47,11 @@ fn keeps_the_items_in_memory(rt: HostRuntime) -> Result<(), Fail> {
     };
     apply_first(alloc, &mut keeper, BATCHES, &mut run)?;
     let mut again = SqliteKeeper::adopt(keeper.give_back());
-    assert_eq!(rt; again.open(alloc)?.len(), 5);
-    assert!(rt; shown(alloc, &mut again)? == shown_after(alloc, BATCHES)?);
+    let answer = again.open(alloc);
+    drop(again);
+    let items = answer?;
+    assert_eq!(rt; items.len(), 5);
+    assert!(rt; shown_items(alloc, &items)?.octets() == items_after(alloc, BATCHES)?.octets());
     Ok(())
 }
 
@@ -88,48 +65,19 @@ fn refuses_another_table(rt: HostRuntime) -> Result<(), Fail> {
     Ok(())
 }
 
-/// A file in memory of which each call fails after so many.
-type StoppingFile = Fuse<FileInMemory>;
-
-/// New files that stop after so many calls each.
-fn new_files(alloc: Global, calls: u64) -> Files<StoppingFile> {
-    Files {
-        log: Fuse::new(FileInMemory::new(alloc), calls),
-        db: Fuse::new(FileInMemory::new(alloc), calls),
+/// Whether this is what is shown after so many of the requests.
+fn is_after(each: &[Bytes], count: usize, found: &Bytes) -> bool {
+    match each.get(count) {
+        Some(text) => text.octets() == found.octets(),
+        None => false,
     }
-}
-
-/// A keeper over the files, or the files where they can't be opened.
-fn keeper_over(
-    alloc: Global,
-    files: Files<StoppingFile>,
-) -> Result<SqliteKeeper<FileStore<StoppingFile>>, Files<StoppingFile>> {
-    if !files.may_be_used() {
-        return Err(files);
-    }
-    match Connection::open_files(alloc, files, Options::new(7)) {
-        Ok(connection) => Ok(SqliteKeeper::adopt(connection)),
-        Err((_, left)) => Err(left.into_files()),
-    }
-}
-
-/// The files of a keeper.
-fn files_of(keeper: SqliteKeeper<FileStore<StoppingFile>>) -> Files<StoppingFile> {
-    keeper.give_back().into_store().close()
-}
-
-/// What a crash leaves of files.
-fn after_crash(files: Files<StoppingFile>) -> Files<StoppingFile> {
-    let Files { mut log, mut db } = files;
-    log.crash();
-    db.crash();
-    Files { log, db }
 }
 
 /// Runs over new files that stop after so many calls each, and tells whether they stopped. Each call that was
-/// stopped answered Failed, and was counted once; opened again as a crash leaves them, the files have the items
-/// after each batch that was acknowledged, and after the one under way or not.
-fn stops(rt: &impl Abort, alloc: Global, calls: u64) -> Result<bool, Fail> {
+/// stopped answered Failed, and was counted once. Over the files as a crash leaves them a desk is opened. It lists
+/// what one lists after the requests that were acknowledged, and after the one under way or not, and the items
+/// are those too.
+fn stops(rt: &impl Abort, alloc: Global, calls: u64, each: &[Bytes]) -> Result<bool, Fail> {
     let mut run = Run {
         begun: 0,
         acknowledged: 0,
@@ -145,33 +93,41 @@ fn stops(rt: &impl Abort, alloc: Global, calls: u64) -> Result<bool, Fail> {
             files_of(keeper)
         }
     };
-    let text = shown_in(alloc, after_crash(files))?;
-    let is_whole = text == shown_after(alloc, run.acknowledged)?
-        || text == shown_after(alloc, run.begun)?;
+    let found = shown(alloc, boxed_over(alloc, after_crash(files))?)?;
+    let is_whole = is_after(each, run.acknowledged, &found) || is_after(each, run.begun, &found);
     assert!(rt; is_whole, "after {calls} calls");
     Ok(has_stopped)
-}
-
-/// What the items of the files show.
-fn shown_in(alloc: Global, files: Files<StoppingFile>) -> Result<Vec<u8>, Fail> {
-    match keeper_over(alloc, files) {
-        Err(_) => Err(Fail::from("the files don't open again")),
-        Ok(mut keeper) => Ok(shown(alloc, &mut keeper)?),
-    }
 }
 
 /// Each call of two files stops a run in turn.
 #[test]
 fn keeps_whole_batches_over_stops(rt: HostRuntime) -> Result<(), Fail> {
     let alloc = rt.alloc();
+    let each = shown_after_each(alloc)?;
     let mut count = 0;
     for calls in 0..200 {
-        if !stops(&rt, alloc, calls)? {
+        if !stops(&rt, alloc, calls, each.as_slice())? {
             break;
         }
         count = calls + 1;
     }
     println!(rt; "{count} stops")?;
     assert!(rt; 0 < count && count < 200);
+    Ok(())
+}
+
+/// Over files that don't stop a desk answers the requests, and one that is opened again over its keeper lists
+/// what they made.
+#[test]
+fn a_desk_is_opened_again_over_its_keeper(rt: HostRuntime) -> Result<(), Fail> {
+    let alloc = rt.alloc();
+    let keeper = boxed_over(alloc, new_files(alloc, u64::MAX))?;
+    let second = Moment::at_most_last(SECOND);
+    let (answers, keeper) = answer_requests(alloc, keeper, &requests(), second)?;
+    assert!(rt; answers.octets() == ANSWERS);
+    drop(answers);
+    let (listed, keeper) = list_tables(alloc, keeper)?;
+    drop(keeper);
+    assert!(rt; listed.octets() == LISTED);
     Ok(())
 }

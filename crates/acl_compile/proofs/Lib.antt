@@ -3,4 +3,5 @@ pub mod PlaceLaws
 pub mod PlanLaws
 pub mod SlotLaws
 mod TextOrder
+mod Leads
 mod Examples

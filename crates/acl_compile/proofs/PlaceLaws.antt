@@ -13,10 +13,9 @@ use Rattle.acl_rows.specs.declared.row.Owner.TheVariants.{Url}
 use Rattle.acl_rows.specs.Rows.{Slots, Holder, held_by}
 use Rattle.acl_rows.specs.View.{holder_from}
 use Rattle.acl_patch.specs.PolicyTouched.{IsSlotChange}
-use Rattle.acl_compile.specs.declared.places.UrlPlace.{UrlPlace}
 use Rattle.acl_compile.specs.Compiled.{UrlsApart}
 use Rattle.acl_compile.specs.Plans.{holder_owner, place_held}
-use Rattle.acl_compile.specs.Places.{url_of, owner_of, ArePlacesOf, places_without, places_with}
+use Rattle.acl_compile.specs.Places.{UrlAndPlace, url_of, owner_of, ArePlacesOf, places_without, places_with}
 use Rattle.acl_compile.proofs.SlotLaws.{FoundAt, found_at, unique, is_own, holder_stays, holder_gone, Url_same}
 use Rattle.row_changes.proofs.Loops.{slot_holds}
 
@@ -45,14 +44,14 @@ not_held : (o : Option Holder) → option_map holder_owner o ≡ None → o ≡ 
 not_held None at = refl
 not_held (Some g) at = absurd (none-some g.0 (sym at))
 
-module _ (slots : Slots) (places : List UrlPlace) (are : ArePlacesOf slots places) (url : List ℕ) where
+module _ (slots : Slots) (places : List UrlAndPlace) (are : ArePlacesOf slots places) (url : List ℕ) where
   -- where the URL has no place, no policy of it is held
   pub held_nowhere : row_at url_of (reverse url) places ≡ None → holder_from url 0 slots ≡ None
   unfolding place_held
   held_nowhere none = not_held (holder_from url 0 slots) (sym (are url) ∙ ap (option_map owner_of) none)
 
   -- where it has one, its policy is held there
-  pub held_at : (p : UrlPlace) → row_at url_of (reverse url) places ≡ Some p → IsHeldAt slots url p.place
+  pub held_at : (p : UrlAndPlace) → row_at url_of (reverse url) places ≡ Some p → IsHeldAt slots url p.place
   unfolding place_held
   held_at p has = held_by_owner slots url p.place (holder_from url 0 slots) refl (sym (are url) ∙ ap (option_map owner_of) has)
 
@@ -65,27 +64,27 @@ same_turned p q =
     (λ same. subst (λ (z : List ℕ). same_place p z ≡ true) (sym (reverse-reverse p) ∙ ap reverse (same_place_exact (reverse p) (reverse q) same) ∙ reverse-reverse q) (same_place_itself p))
     (λ same. subst (λ (z : List ℕ). same_place (reverse p) (reverse z) ≡ true) (same_place_exact p q same) (same_place_itself (reverse p)))
 
-mapped : (b : Bool) (x y : Option UrlPlace) → option_map owner_of (cond b x y) ≡ cond b (option_map owner_of x) (option_map owner_of y)
+mapped : (b : Bool) (x y : Option UrlAndPlace) → option_map owner_of (cond b x y) ≡ cond b (option_map owner_of x) (option_map owner_of y)
 mapped true x y = refl
 mapped false x y = refl
 
-found_without : (gone : Option UrlPolicy) (places : List UrlPlace) (url : List ℕ) → PlacesAscend url_of places → row_at url_of (reverse url) (places_without gone places) ≡ cond (is_own url gone) None (row_at url_of (reverse url) places)
+found_without : (gone : Option UrlPolicy) (places : List UrlAndPlace) (url : List ℕ) → PlacesAscend url_of places → row_at url_of (reverse url) (places_without gone places) ≡ cond (is_own url gone) None (row_at url_of (reverse url) places)
 unfolding places_without
 found_without None places url ascend = refl
 found_without (Some gone) places url ascend =
     row_at-without_row url_of (reverse gone.url) places (reverse url) ascend
     ∙ ap (λ b. cond b None (row_at url_of (reverse url) places)) (same_turned gone.url url)
 
-found_with : (place : ℕ) (come : Option UrlPolicy) (places : List UrlPlace) (url : List ℕ)
+found_with : (place : ℕ) (come : Option UrlPolicy) (places : List UrlAndPlace) (url : List ℕ)
     → option_map owner_of (row_at url_of (reverse url) (places_with place come places)) ≡ cond (is_own url come) (Some (Url place)) (option_map owner_of (row_at url_of (reverse url) places))
 unfolding places_with url_of
 found_with place None places url = refl
 found_with place (Some come) places url =
-    let row : UrlPlace = record { url = come.url; place = place } in
+    let row : UrlAndPlace = record { url = come.url; place = place } in
     ap (option_map owner_of) (row_at-set_row url_of row places (reverse url) ∙ ap (λ b. cond b (Some row) (row_at url_of (reverse url) places)) (same_turned come.url url))
     ∙ mapped (is_own url (Some come)) (Some row) (row_at url_of (reverse url) places)
 
-module _ (slots slots' : Slots) (i : ℕ) (new : Option UrlPolicy) (change : IsSlotChange slots slots' i new) (apart : UrlsApart slots) (apart' : UrlsApart slots') (places : List UrlPlace) (ascend : PlacesAscend url_of places) (are : ArePlacesOf slots places) where
+module _ (slots slots' : Slots) (i : ℕ) (new : Option UrlPolicy) (change : IsSlotChange slots slots' i new) (apart : UrlsApart slots) (apart' : UrlsApart slots') (places : List UrlAndPlace) (ascend : PlacesAscend url_of places) (are : ArePlacesOf slots places) where
   come_by : (url : List ℕ) (o : Option UrlPolicy) → new ≡ o → is_own url o ≡ true → place_held slots' url ≡ Some (Url i)
   unfolding place_held
   come_by url None is own = absurd (false≢true own)
@@ -109,6 +108,6 @@ module _ (slots slots' : Slots) (i : ℕ) (new : Option UrlPolicy) (change : IsS
   pub kept_up : ArePlacesOf slots' (places_with i new (places_without (held_by slots (Url i)) places))
   kept_up url =
       found_with i new (places_without (held_by slots (Url i)) places) url
-      ∙ ap (λ (x : Option UrlPlace). cond (is_own url new) (Some (Url i)) (option_map owner_of x)) (found_without (held_by slots (Url i)) places url ascend)
+      ∙ ap (λ (x : Option UrlAndPlace). cond (is_own url new) (Some (Url i)) (option_map owner_of x)) (found_without (held_by slots (Url i)) places url ascend)
       ∙ ap (cond (is_own url new) (Some (Url i))) (mapped (is_own url (held_by slots (Url i))) None (row_at url_of (reverse url) places) ∙ ap (cond (is_own url (held_by slots (Url i))) None) (are url))
       ∙ after_by url (is_own url new) (is_own url (held_by slots (Url i))) refl refl

@@ -21,8 +21,7 @@ use Rattle.row_changes.specs.Policies.{AllHeld}
 use Rattle.row_changes.specs.Steps.{HolderFits, HaveKeys, place_steps}
 use Rattle.acl_compile.specs.Compiled.{CompiledState, compiled_state, UrlsApart, IsSound}
 use Rattle.acl_compile.specs.Plans.{Plan, slots_with, slots_after, bindings_after, Fits, IsMemberPlan}
-use Rattle.acl_compile.specs.declared.places.UrlPlace.{UrlPlace}
-use Rattle.acl_compile.specs.Places.{ArePlacesOf, IsSoundWithPlaces}
+use Rattle.acl_compile.specs.Places.{UrlAndPlace, ArePlacesOf, IsSoundWithPlaces}
 
 -- ---- Steps
 
@@ -79,14 +78,14 @@ member_plan gone come slots bindings rows row_edits binding_edits few apart patc
 
 -- ---- A commit
 
-pub record IsCommitted (c : CompiledState) (plan : Plan) (slots : Slots) (bindings : List Binding) (rows : List Row) (defaults : Policy) (places : List UrlPlace) : Type 0 where
+pub record IsCommitted (c : CompiledState) (plan : Plan) (slots : Slots) (bindings : List Binding) (rows : List Row) (defaults : Policy) (places : List UrlAndPlace) : Type 0 where
   pub sound : IsSoundWithPlaces slots bindings rows defaults places
   pub slots_are : slots ≡ slots_after plan c
   pub bindings_are : bindings ≡ bindings_after plan c
   pub rows_are : rows ≡ rows_of slots bindings
   pub few : length plan.rows ≤ rows_apart c.rows rows
 
-pub committed : (c : CompiledState) (plan : Plan) (slots : Slots) (bindings : List Binding) (rows : List Row) (defaults : Policy) (places : List UrlPlace) → Fits plan c → IsSound c.slots c.bindings c.rows defaults
+pub committed : (c : CompiledState) (plan : Plan) (slots : Slots) (bindings : List Binding) (rows : List Row) (defaults : Policy) (places : List UrlAndPlace) → Fits plan c → IsSound c.slots c.bindings c.rows defaults
     → slots ≡ slots_with plan.slot c.slots → bindings ≡ edited binding_place plan.bindings c.bindings → rows ≡ edited row_place plan.rows c.rows → ArePlacesOf slots places → IsCommitted c plan slots bindings rows defaults places
 unfolding slots_after bindings_after
 committed c plan slots bindings rows defaults places fits sound slots_are bindings_are rows_are places_are =

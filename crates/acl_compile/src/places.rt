@@ -1,26 +1,18 @@
 //! The places of URLs in the table of policies, in the order of the URLs' texts, read from behind.
-ghost use Rattle.std.specs.Prelude.{◌≡◌, ◌≤◌, length, reverse, option_copied, option_map};
+ghost use Rattle.std.specs.Prelude.{◌≡◌, ◌≤◌, length, reverse, slice_index, option_copied, option_map};
 ghost use Rattle.sorted_rows.specs.Placed.{place_cmp};
 ghost use Rattle.acl_rows.specs.Rows.{held_by};
 ghost use Rattle.acl_rows.specs.View.{holder_from};
 ghost use Rattle.acl_compile.specs.Compiled.{UrlsApart};
 ghost use Rattle.acl_compile.specs.Plans.{slot_set};
-ghost use Rattle.acl_compile.specs.Places.{ArePlacesOf, places_without, places_with};
+ghost use Rattle.acl_compile.specs.Places.{lead, AreOctets, ArePlacesOf, places_without, places_with};
 
 use acl_rows::Owner;
 use mud_url::MudUrl;
 use row_changes::Held;
 use sorted_rows::{KeyOf, Placed, SortedRows};
 use std::cmp::Ordering;
-
-/// A URL for which a policy is held, and the place in which it is.
-#[derive(Drop)]
-pub(crate) struct UrlPlace {
-    /// The URL, by whose text, read from behind, places are ordered.
-    pub(crate) url: MudUrl,
-    /// The place in the table of policies.
-    pub(crate) place: u16,
-}
+use std::marker::Model;
 
 /// How two texts stand to one another when they are read from behind: the last octet in which they
 /// differ decides, and else the shorter one comes first. URLs begin alike and differ towards their
@@ -41,6 +33,111 @@ fn order_from_behind(own: &[u8], other: &[u8]) -> Ordering
     own.len().cmp(&other.len())
 }
 
+/// The octet that stands as many octets before the last one, or 0 where the text is shorter.
+fn octet_behind(text: &[u8], before: usize) -> u8
+    ensures { result ≡ slice_index (reverse text.now) before }
+{
+    if before < text.len() {
+        text[text.len() - 1 - before]
+    } else {
+        0
+    }
+}
+
+/// The number that the last eight octets spell, the last one most significant. Octets that a
+/// shorter text lacks count as zeros.
+fn end_number(text: &[u8]) -> u64
+    ensures { result ≡ lead 8 0 (reverse text.now) }
+{
+    let len = text.len();
+    if len < 8 {
+        return u64::from_be_bytes([
+            octet_behind(text, 0),
+            octet_behind(text, 1),
+            octet_behind(text, 2),
+            octet_behind(text, 3),
+            octet_behind(text, 4),
+            octet_behind(text, 5),
+            octet_behind(text, 6),
+            octet_behind(text, 7),
+        ]);
+    }
+    u64::from_le_bytes([
+        text[len - 8],
+        text[len - 7],
+        text[len - 6],
+        text[len - 5],
+        text[len - 4],
+        text[len - 3],
+        text[len - 2],
+        text[len - 1],
+    ])
+}
+
+/// Every octet is one.
+fn are_octets(text: &[u8])
+    ensures { AreOctets text.now }
+{}
+
+/// How two texts stand to one another when they are read from behind, of which the numbers of the
+/// last eight octets are known. These mostly decide, and the same text is told by as many octets
+/// at once.
+fn order_by_ends(own: &[u8], own_end: u64, other: &[u8], other_end: u64) -> Ordering
+    requires own { own_end ≡ lead 8 0 (reverse own.now) }
+    requires other { other_end ≡ lead 8 0 (reverse other.now) }
+    ensures { result ≡ place_cmp (reverse own.now) (reverse other.now) }
+{
+    are_octets(own);
+    are_octets(other);
+    if own_end != other_end {
+        return own_end.cmp(&other_end);
+    }
+    if own == other {
+        return Ordering::Equal;
+    }
+    order_from_behind(own, other)
+}
+
+/// A URL for which a policy is held, and the place in which it is. Contracts see both.
+#[derive(Drop)]
+pub(crate) struct UrlPlace {
+    /// The URL, by whose text, read from behind, places are ordered.
+    url: MudUrl,
+    /// The place in the table of policies.
+    place: u16,
+    /// The number of the last eight octets of the URL's text.
+    end: u64,
+}
+
+impl Model for UrlPlace {
+    ghost use Rattle.std.specs.Prelude.{◌≡◌, reverse};
+    ghost use Rattle.acl_compile.specs.Places.{lead, UrlAndPlace};
+
+    ghost Value = { UrlAndPlace };
+
+    ghost view = { λ p. record { url = p.url; place = p.place } };
+
+    ghost invariant = { λ p. p.end ≡ lead 8 0 (reverse p.url) };
+}
+
+impl UrlPlace {
+    /// This URL has this place.
+    pub(crate) fn new(url: MudUrl, place: u16) -> UrlPlace
+        ensures url { result.url ≡ url }
+        ensures place { result.place ≡ place }
+    {
+        let end = end_number(url.text());
+        UrlPlace { url, place, end }
+    }
+
+    /// The place in the table of policies.
+    pub(crate) fn place(&self) -> u16
+        ensures { result ≡ self.now.place }
+    {
+        self.place
+    }
+}
+
 impl Placed for UrlPlace {
     ghost use Rattle.acl_compile.specs.Places.{url_of};
 
@@ -48,12 +145,43 @@ impl Placed for UrlPlace {
 
     #[tactic(auto, unfolding(crate::specs::Places::url_of))]
     fn order(&self, other: &UrlPlace) -> Ordering {
-        order_from_behind(self.url.text(), other.url.text())
+        order_by_ends(self.url.text(), self.end, other.url.text(), other.end)
     }
 }
 
-/// The place of a URL is found by its text, read from behind.
-impl KeyOf<UrlPlace> for MudUrl {
+/// The place of a URL is found by its text, read from behind, with the number of its last eight
+/// octets.
+#[derive(Drop)]
+struct UrlKey<'a> {
+    text: &'a [u8],
+    end: u64,
+}
+
+impl<'a> Model for UrlKey<'a> {
+    ghost use Rattle.std.specs.Prelude.{◌≡◌, ℕ, List, reverse};
+    ghost use Rattle.acl_compile.specs.Places.{lead};
+
+    ghost Value = { List ℕ };
+
+    ghost view = { λ k. k.text.now };
+
+    ghost invariant = { λ k. k.end ≡ lead 8 0 (reverse k.text.now) };
+}
+
+impl<'a> UrlKey<'a> {
+    /// The key of a URL.
+    fn new(url: &'a MudUrl) -> UrlKey<'a>
+        ensures { result ≡ url.now }
+    {
+        let text = url.text();
+        UrlKey {
+            text,
+            end: end_number(text),
+        }
+    }
+}
+
+impl KeyOf<UrlPlace> for UrlKey<'_> {
     ghost use Rattle.acl_compile.specs.Places.{url_of};
     ghost use Rattle.std.specs.Prelude.{reverse};
 
@@ -61,7 +189,7 @@ impl KeyOf<UrlPlace> for MudUrl {
 
     #[tactic(auto, unfolding(crate::specs::Places::url_of))]
     fn order_to(&self, place: &UrlPlace) -> Ordering {
-        order_from_behind(self.text(), place.url.text())
+        order_by_ends(self.text, self.end, place.url.text(), place.end)
     }
 }
 
@@ -85,9 +213,10 @@ pub(crate) fn find_held<'a>(
     requires { ArePlacesOf slots.now places.now.rows }
     ensures { option_map (λ h. (Owner.Url h.0, h.1.now)) result ≡ holder_from url.now 0 slots.now }
 {
-    let found = places.get(url)?;
-    let held = held_in(slots, usize::from(found.place))?;
-    Some((found.place, held))
+    let found = places.get(&UrlKey::new(url))?;
+    let place = found.place();
+    let held = held_in(slots, usize::from(place))?;
+    Some((place, held))
 }
 
 /// Takes the place of this policy's URL away.
@@ -97,7 +226,7 @@ fn take_place(places: &mut SortedRows<UrlPlace>, gone: Option<&Held>)
     ensures room { places.old.room ≤ places.new.room }
 {
     if let Some(held) = gone {
-        drop(places.remove(held.url()));
+        drop(places.remove(&UrlKey::new(held.url())));
     }
 }
 
@@ -108,10 +237,7 @@ fn put_place(places: &mut SortedRows<UrlPlace>, place: u16, come: &Option<Held>)
     ensures { places.new.rows ≡ places_with place come.now places.old.rows }
 {
     if let Some(held) = come {
-        places.put(UrlPlace {
-            url: *held.url(),
-            place,
-        });
+        places.put(UrlPlace::new(*held.url(), place));
     }
 }
 

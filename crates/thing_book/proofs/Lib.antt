@@ -4,4 +4,5 @@ pub mod StepRows
 pub mod PlannedLaws
 pub mod Readings
 pub mod Taking
+mod MacNumbers
 mod Examples

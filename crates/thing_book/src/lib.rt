@@ -8,6 +8,7 @@ pub mod change;
 mod copies;
 mod holds;
 mod items;
+mod key;
 mod leases;
 mod plan;
 mod ranges;

@@ -5,6 +5,7 @@ ghost use Rattle.mud_tables.specs.Things.{thing_at};
 ghost use Rattle.mud_tables.specs.ThingChanges.{puts_in};
 ghost use Rattle.thing_book.specs.RowChanges.{remove_change};
 
+use crate::key::ThingKey;
 use item_codec::Word;
 use mud_base::{End, Listed, Mac, Memory};
 use mud_tables::{Thing, ThingFault};
@@ -89,5 +90,5 @@ pub(crate) fn or_memory<T>(made: Result<T, Memory>) -> Result<T, ThingFault>
 pub fn thing_of(things: &SortedRows<Thing>, mac: Mac) -> Option<&Thing>
     ensures { option_copied result ≡ thing_at mac things.now.rows }
 {
-    things.get(&mac)
+    things.get(&ThingKey::new(mac))
 }

@@ -1,8 +1,14 @@
-//! What holds of every address and moment, each on a function that does nothing.
+//! What holds of all octets and of every address and moment, each on a function that does nothing.
 ghost use Rattle.std.specs.Prelude.{◌≡◌, ◌≤◌, length};
+ghost use Rattle.item_codec.specs.Spelling.{IsOctets};
 ghost use Rattle.mud_tables.specs.ItemFields.{IsAddr};
 
 use mud_base::{Addr, Mac, Moment};
+
+/// Every octet is below 256.
+pub(crate) fn all_are_octets(octets: &[u8])
+    ensures { IsOctets octets.now }
+{}
 
 /// An address fits its 32 or 128 bits.
 pub(crate) fn addr_fits(addr: Addr)

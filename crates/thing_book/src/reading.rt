@@ -1,7 +1,7 @@
 //! Reading the Thing of an item.
 ghost use Rattle.std.specs.Prelude.{◌≡◌, ◌==◌, ◌^◌, ◌<◌, ℕ, List, length, Some, None, IfOk, IfSome, MatchOption, is_some, if◌then◌else◌};
 ghost use Rattle.std.specs.Option.{option_map};
-ghost use Rattle.item_codec.specs.Spelling.{IsWidth, IsOctets};
+ghost use Rattle.item_codec.specs.Spelling.{IsWidth};
 ghost use Rattle.item_codec.specs.Records.{number_in, string_in, version_to_in, end_in, optional_in, each_in, elements_in};
 ghost use Rattle.item_codec.specs.Reading.{list_at};
 ghost use Rattle.std.specs.Result.{result_ok};
@@ -11,6 +11,7 @@ ghost use Rattle.mud_tables.specs.ThingItems.{hold_in, if_sound_thing, thing_in,
 ghost use Rattle.thing_book.specs.Said.{pending_said, thing_said};
 
 use crate::items::{KIND, VERSION};
+use crate::ranges::all_are_octets;
 use item_codec::FieldReader;
 use mud_base::{Addr, End, Listed, Mac, Memory};
 use mud_tables::Thing;
@@ -248,8 +249,3 @@ pub(crate) fn kept_thing(alloc: Global, item: &Item) -> Result<Option<Thing>, Me
     all_are_octets(item.body.octets());
     thing_of_item(alloc, item)
 }
-
-/// Every octet is below 256.
-fn all_are_octets(octets: &[u8])
-    ensures { IsOctets octets.now }
-{}

@@ -1,3 +1,4 @@
+pub mod Meant
 pub mod OnLiterals
 mod Examples
 mod FlagTexts

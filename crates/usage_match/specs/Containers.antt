@@ -1,5 +1,5 @@
--- The containers inside `matches`. Each is an object that is read by its table, and the path is its own.
-use Rattle.std.specs.Prelude.{ℕ, Bool, true, false, ◌&&◌, List, [], ◌∷◌, Option, Some, None}
+-- The containers inside `matches`. Each is an object that is read by its table.
+use Rattle.std.specs.Prelude.{ℕ, Bool, true, false, not, ◌&&◌, List, [], ◌∷◌, Option, Some, None, unwrap_or, option_map}
 use Rattle.mud_base.specs.declared.packet.Direction.{Direction}
 use Rattle.mud_base.specs.declared.packet.Direction.TheVariants.{From, To}
 use Rattle.acl_model.specs.declared.entry.Layer.{Layer}
@@ -13,7 +13,7 @@ use Rattle.usage_walk.specs.declared.row.Row.{Row}
 use Rattle.reading.specs.Reading.{done, ◌>>=◌, refused_where}
 use Rattle.usage_walk.specs.Reading.{Reading, under, fault_at}
 use Rattle.usage_walk.specs.Kinds.{leaf_where_there}
-use Rattle.usage_walk.specs.Tables.{Ways, row, table_of}
+use Rattle.usage_walk.specs.Tables.{Ways, row, container_at}
 use Rattle.usage_match.specs.declared.entry_tests.ListType.{ListType}
 use Rattle.usage_match.specs.declared.entry_tests.ListType.TheVariants.{Ipv4, Ipv6}
 use Rattle.usage_match.specs.declared.entry_tests.MudTests.{MudTests}
@@ -22,15 +22,11 @@ use Rattle.usage_match.specs.declared.ways.MudWay.{MudWay}
 use Rattle.usage_match.specs.declared.ways.MudWay.TheVariants as mud
 use Rattle.usage_match.specs.declared.ways.IpWay.{IpWay}
 use Rattle.usage_match.specs.declared.ways.IpWay.TheVariants as ip
-use Rattle.usage_match.specs.declared.ways.TcpWay.{TcpWay}
-use Rattle.usage_match.specs.declared.ways.TcpWay.TheVariants as tcp
-use Rattle.usage_match.specs.declared.ways.UdpWay.{UdpWay}
-use Rattle.usage_match.specs.declared.ways.UdpWay.TheVariants as udp
-use Rattle.usage_match.specs.declared.ways.IcmpWay.{IcmpWay}
-use Rattle.usage_match.specs.declared.ways.IcmpWay.TheVariants as icmp
-use Rattle.usage_match.specs.declared.ways.TcpTests.{TcpTests}
-use Rattle.usage_match.specs.declared.ways.UdpTests.{UdpTests}
-use Rattle.usage_match.specs.declared.ways.IcmpTests.{IcmpTests}
+use Rattle.usage_match.specs.declared.ways.LayerKind.{LayerKind}
+use Rattle.usage_match.specs.declared.ways.LayerKind.TheVariants.{Tcp, Udp, Icmp}
+use Rattle.usage_match.specs.declared.ways.LayerWay.{LayerWay}
+use Rattle.usage_match.specs.declared.ways.LayerWay.TheVariants as way
+use Rattle.usage_match.specs.declared.ways.LayerTests.{LayerTests}
 use Rattle.usage_match.specs.Texts.{octet_where_there, length_where_there, host_where_there, model_where_there, uri_where_there, network_where_there, direction_where_there}
 use Rattle.usage_match.specs.Flags.{flags_where_there}
 use Rattle.usage_match.specs.Ports.{stands, port_where_there}
@@ -71,8 +67,11 @@ mud_ways mud.MyController path m d tests = do
 unfoldable pub no_mud_tests : MudTests
 no_mud_tests = record { manufacturer = None; same_manufacturer = false; model = None; local_networks = false; controller = None; my_controller = false }
 
-unfoldable pub mud_tests_of : List ℕ → Data → Reading MudTests
-mud_tests_of path d = table_of mud_ways path mud_rows d no_mud_tests
+-- what `ietf-mud:mud` asks; absent it asks nothing
+unfoldable pub mud_at : List ℕ → Member → Data → Reading MudTests
+mud_at path m d = do
+  found ← container_at mud_ways mud_rows no_mud_tests path m d
+  done (unwrap_or found no_mud_tests)
 
 -- ---- `ipv4` and `ipv6` (RFC 8519, 4.2; RFC 8520, 8)
 
@@ -89,10 +88,6 @@ unfoldable pub is_source : Direction → Bool
 is_source From = true
 is_source To = false
 
-unfoldable pub is_destination : Direction → Bool
-is_destination From = false
-is_destination To = true
-
 unfoldable pub ip_rows : ListType → Direction → List (Row IpWay)
 ip_rows type side =
     row members.Dscp ip.Dscp
@@ -103,7 +98,7 @@ ip_rows type side =
     ∷ row (source_network type) (ip.Source type)
     ∷ row (destination_network type) (ip.Destination type)
     ∷ row members.SrcDnsname (ip.SourceName (is_source side))
-    ∷ row members.DstDnsname (ip.DestinationName (is_destination side))
+    ∷ row members.DstDnsname (ip.DestinationName (not (is_source side)))
     ∷ []
 
 -- a DNS name may not stand at the Thing's own side; at the peer's it is a host name
@@ -145,102 +140,66 @@ ip_ways (ip.DestinationName is_own) path m d tests = do
 unfoldable pub no_ip_tests : IpTests
 no_ip_tests = record { dscp = None; ecn = None; length = None; ttl = None; protocol = None; source = None; destination = None; source_name = None; destination_name = None }
 
-unfoldable pub ip_tests_of : ListType → Direction → List ℕ → Data → Reading IpTests
-ip_tests_of type side path d = table_of ip_ways path (ip_rows type side) d no_ip_tests
+-- what `ipv4` or `ipv6` asks; absent it asks nothing
+unfoldable pub ip_at : ListType → Direction → List ℕ → Member → Data → Reading IpTests
+ip_at type side path m d = do
+  found ← container_at ip_ways (ip_rows type side) no_ip_tests path m d
+  done (unwrap_or found no_ip_tests)
 
 -- ---- `tcp`, `udp` and `icmp` (RFC 8519, 4.2; RFC 8520, 4.8)
 
-unfoldable pub tcp_rows : List (Row TcpWay)
-tcp_rows =
-    row members.SourcePort tcp.Source
-    ∷ row members.DestinationPort tcp.Destination
-    ∷ row members.DirectionInitiated tcp.Begun
-    ∷ row members.Flags tcp.Flags
+unfoldable pub layer_rows : LayerKind → List (Row LayerWay)
+layer_rows Tcp =
+    row members.SourcePort way.Source
+    ∷ row members.DestinationPort way.Destination
+    ∷ row members.DirectionInitiated way.Begun
+    ∷ row members.Flags way.Flags
+    ∷ []
+layer_rows Udp =
+    row members.SourcePort way.Source
+    ∷ row members.DestinationPort way.Destination
+    ∷ row members.DirectionInitiated way.Refused
+    ∷ []
+layer_rows Icmp =
+    row members.Kind way.Kind
+    ∷ row members.Code way.Code
+    ∷ row members.DirectionInitiated way.Refused
     ∷ []
 
-unfoldable pub tcp_ways : Ways TcpWay TcpTests
-tcp_ways tcp.Source path m d tests = do
+unfoldable pub layer_ways : Ways LayerWay LayerTests
+layer_ways way.Source path m d tests = do
   found ← port_where_there path m d
   done (record tests { source = found })
-tcp_ways tcp.Destination path m d tests = do
+layer_ways way.Destination path m d tests = do
   found ← port_where_there path m d
   done (record tests { destination = found })
-tcp_ways tcp.Begun path m d tests = do
+layer_ways way.Begun path m d tests = do
   found ← direction_where_there path m d
   done (record tests { begun = found })
-tcp_ways tcp.Flags path m d tests = do
+layer_ways way.Flags path m d tests = do
   found ← flags_where_there path m d
   done (record tests { flags = found })
-
-unfoldable pub no_tcp_tests : TcpTests
-no_tcp_tests = record { source = port.Any; destination = port.Any; begun = None; flags = None }
-
-unfoldable pub tcp_layer : TcpTests → Layer
-tcp_layer tests = layer.Tcp tests.source tests.destination tests.begun tests.flags
-
-unfoldable pub tcp_of : List ℕ → Data → Reading Layer
-tcp_of path d = do
-  tests ← table_of tcp_ways path tcp_rows d no_tcp_tests
-  done (tcp_layer tests)
-
--- a direction stands in `tcp` alone
-unfoldable pub no_direction : List ℕ → Member → Data → Reading (Unit {0})
-no_direction path m d = refused_where (stands m d) (fault_at rule.DirectionNotTcp (under path m))
-
-unfoldable pub udp_rows : List (Row UdpWay)
-udp_rows =
-    row members.SourcePort udp.Source
-    ∷ row members.DestinationPort udp.Destination
-    ∷ row members.DirectionInitiated udp.Refused
-    ∷ []
-
-unfoldable pub udp_ways : Ways UdpWay UdpTests
-udp_ways udp.Source path m d tests = do
-  found ← port_where_there path m d
-  done (record tests { source = found })
-udp_ways udp.Destination path m d tests = do
-  found ← port_where_there path m d
-  done (record tests { destination = found })
-udp_ways udp.Refused path m d tests = do
-  _ ← no_direction path m d
-  done tests
-
-unfoldable pub no_udp_tests : UdpTests
-no_udp_tests = record { source = port.Any; destination = port.Any }
-
-unfoldable pub udp_layer : UdpTests → Layer
-udp_layer tests = layer.Udp tests.source tests.destination
-
-unfoldable pub udp_of : List ℕ → Data → Reading Layer
-udp_of path d = do
-  tests ← table_of udp_ways path udp_rows d no_udp_tests
-  done (udp_layer tests)
-
-unfoldable pub icmp_rows : List (Row IcmpWay)
-icmp_rows =
-    row members.Kind icmp.Kind
-    ∷ row members.Code icmp.Code
-    ∷ row members.DirectionInitiated icmp.Refused
-    ∷ []
-
-unfoldable pub icmp_ways : Ways IcmpWay IcmpTests
-icmp_ways icmp.Kind path m d tests = do
+layer_ways way.Kind path m d tests = do
   found ← octet_where_there 255 path m d
   done (record tests { kind = found })
-icmp_ways icmp.Code path m d tests = do
+layer_ways way.Code path m d tests = do
   found ← octet_where_there 255 path m d
   done (record tests { code = found })
-icmp_ways icmp.Refused path m d tests = do
-  _ ← no_direction path m d
+-- a direction stands in `tcp` alone
+layer_ways way.Refused path m d tests = do
+  _ ← refused_where (stands m d) (fault_at rule.DirectionNotTcp (under path m))
   done tests
 
-unfoldable pub no_icmp_tests : IcmpTests
-no_icmp_tests = record { kind = None; code = None }
+unfoldable pub no_layer_tests : LayerTests
+no_layer_tests = record { source = port.Any; destination = port.Any; begun = None; flags = None; kind = None; code = None }
 
-unfoldable pub icmp_layer : IcmpTests → Layer
-icmp_layer tests = layer.Icmp tests.kind tests.code
+unfoldable pub layer_of : LayerKind → LayerTests → Layer
+layer_of Tcp tests = layer.Tcp tests.source tests.destination tests.begun tests.flags
+layer_of Udp tests = layer.Udp tests.source tests.destination
+layer_of Icmp tests = layer.Icmp tests.kind tests.code
 
-unfoldable pub icmp_of : List ℕ → Data → Reading Layer
-icmp_of path d = do
-  tests ← table_of icmp_ways path icmp_rows d no_icmp_tests
-  done (icmp_layer tests)
+-- what `tcp`, `udp` or `icmp` asks, where it is there
+unfoldable pub layer_at : LayerKind → List ℕ → Member → Data → Reading (Option Layer)
+layer_at kind path m d = do
+  found ← container_at layer_ways (layer_rows kind) no_layer_tests path m d
+  done (option_map (layer_of kind) found)

@@ -1,14 +1,13 @@
 -- Texts that name flags of TCP (RFC 8519, 4.2, `flags`; RFC 7950, 9.7.2).
 use Rattle.std.specs.Prelude.{ℕ, Bool, false, not, ◌&&◌, ◌||◌, ◌==◌, ◌-◌, nat_lt, List, [], ◌∷◌, length, map, sum, slice_index, codes, bytes_eq, Option, Some, None, if◌then◌else◌}
 use Rattle.std.specs.List.{list_any, list_all, filter, slice_split}
-use Rattle.reading.specs.Reading.{◌>>=◌, wanted, where_there}
 use Rattle.serde_json.specs.Data.{Data}
 use Rattle.usage_walk.specs.declared.fault.Rule.TheVariants as rule
 use Rattle.usage_walk.specs.declared.member.Member.{Member}
-use Rattle.usage_walk.specs.Reading.{Reading, under, fault_at}
-use Rattle.usage_walk.specs.Kinds.{text_where_there}
+use Rattle.usage_walk.specs.Reading.{Reading}
 use Rattle.usage_match.specs.declared.tcp_flag.TcpFlag.{TcpFlag}
 use Rattle.usage_match.specs.declared.tcp_flag.TcpFlag.TheVariants.{Cwr, Ece, Urg, Ack, Psh, Rst, Syn, Fin}
+use Rattle.usage_match.specs.Texts.{meant_where_there}
 
 unfoldable pub flags : List TcpFlag
 flags = Cwr ∷ Ece ∷ Urg ∷ Ack ∷ Psh ∷ Rst ∷ Syn ∷ Fin ∷ []
@@ -76,11 +75,6 @@ octet_of text = sum (map (bit_where_named text) flags)
 unfoldable pub flags_in : List ℕ → Option ℕ
 flags_in text = if is_flag_text text then Some (octet_of text) else None
 
-unfoldable pub as_flags : List ℕ → Member → List ℕ → Reading ℕ
-as_flags path m text = wanted 0 (fault_at rule.FlagText (under path m)) (flags_in text)
-
 -- an octet of flags, where it is there
 unfoldable pub flags_where_there : List ℕ → Member → Data → Reading (Option ℕ)
-flags_where_there path m parent = do
-  text ← text_where_there path m (Some parent)
-  where_there (as_flags path m) text
+flags_where_there path m parent = meant_where_there 0 rule.FlagText flags_in path m parent

@@ -22,11 +22,12 @@ use Rattle.usage_match.specs.declared.entry_tests.ListType.TheVariants.{Ipv4, Ip
 use Rattle.usage_match.specs.declared.entry_tests.MudTests.{MudTests}
 use Rattle.usage_match.specs.declared.entry_tests.IpTests.{IpTests}
 use Rattle.usage_match.specs.declared.entry_tests.Tests.{Tests}
+use Rattle.usage_match.specs.declared.ways.LayerKind.TheVariants.{Tcp, Udp, Icmp}
 use Rattle.usage_match.specs.declared.ways.MatchWay.{MatchWay}
 use Rattle.usage_match.specs.declared.ways.MatchWay.TheVariants as way
 use Rattle.usage_match.specs.declared.ways.MatchTests.{MatchTests}
 use Rattle.usage_match.specs.Ports.{stands}
-use Rattle.usage_match.specs.Containers.{no_mud_tests, mud_tests_of, no_ip_tests, ip_tests_of, tcp_of, udp_of, icmp_of}
+use Rattle.usage_match.specs.Containers.{no_mud_tests, mud_at, no_ip_tests, ip_at, layer_at}
 
 -- ---- What the containers mean together
 
@@ -109,52 +110,19 @@ match_rows type side =
     row members.Mud way.Mud
     ∷ row (ip_member type) (way.Ip type side)
     ∷ row (other_ip_member type) way.Refused
-    ∷ row members.Tcp way.Tcp
-    ∷ row members.Udp way.Udp
-    ∷ row members.Icmp way.Icmp
+    ∷ row members.Tcp (way.Layer Tcp)
+    ∷ row members.Udp (way.Layer Udp)
+    ∷ row members.Icmp (way.Layer Icmp)
     ∷ []
-
--- the container of the other IP version doesn't stand
-unfoldable pub no_other : List ℕ → Member → Data → Reading (Unit {0})
-no_other path m d = refused_where (stands m d) (fault_at rule.Family (under path m))
 
 -- which members stand: known ones, no container of the other IP version, and one layer at most
 unfoldable pub members_fit : ListType → Direction → List ℕ → Data → Reading (Unit {0})
 members_fit type side path d = do
   _ ← all_known path (match_rows type side) d
-  _ ← no_other path (other_ip_member type) d
+  _ ← refused_where (stands (other_ip_member type) d) (fault_at rule.Family (under path (other_ip_member type)))
   refused_where (has_two_layers d) (fault_at rule.TwoLayers path)
 
--- what `ietf-mud:mud` asks; absent it asks nothing
-unfoldable pub mud_at : List ℕ → Member → Data → Reading MudTests
-mud_at path m d = do
-  container ← object_where_there path m (Some d)
-  found ← where_there (mud_tests_of (under path m)) container
-  done (unwrap_or found no_mud_tests)
-
--- what `ipv4` or `ipv6` asks; absent it asks nothing
-unfoldable pub ip_at : ListType → Direction → List ℕ → Member → Data → Reading IpTests
-ip_at type side path m d = do
-  container ← object_where_there path m (Some d)
-  found ← where_there (ip_tests_of type side (under path m)) container
-  done (unwrap_or found no_ip_tests)
-
-unfoldable pub tcp_at : List ℕ → Member → Data → Reading (Option Layer)
-tcp_at path m d = do
-  container ← object_where_there path m (Some d)
-  where_there (tcp_of (under path m)) container
-
-unfoldable pub udp_at : List ℕ → Member → Data → Reading (Option Layer)
-udp_at path m d = do
-  container ← object_where_there path m (Some d)
-  where_there (udp_of (under path m)) container
-
-unfoldable pub icmp_at : List ℕ → Member → Data → Reading (Option Layer)
-icmp_at path m d = do
-  container ← object_where_there path m (Some d)
-  where_there (icmp_of (under path m)) container
-
--- absent layers ask nothing; one stands at most
+-- the container of the other IP version doesn't stand; absent layers ask nothing, and one stands at most
 unfoldable pub match_ways : Ways MatchWay MatchTests
 match_ways way.Mud path m d tests = do
   found ← mud_at path m d
@@ -162,17 +130,9 @@ match_ways way.Mud path m d tests = do
 match_ways (way.Ip type side) path m d tests = do
   found ← ip_at type side path m d
   done (record tests { ip = found })
-match_ways way.Refused path m d tests = do
-  _ ← no_other path m d
-  done tests
-match_ways way.Tcp path m d tests = do
-  found ← tcp_at path m d
-  done (record tests { layer = unwrap_or found tests.layer })
-match_ways way.Udp path m d tests = do
-  found ← udp_at path m d
-  done (record tests { layer = unwrap_or found tests.layer })
-match_ways way.Icmp path m d tests = do
-  found ← icmp_at path m d
+match_ways way.Refused path m d tests = done tests
+match_ways (way.Layer kind) path m d tests = do
+  found ← layer_at kind path m d
   done (record tests { layer = unwrap_or found tests.layer })
 
 unfoldable pub no_match_tests : MatchTests

@@ -12,7 +12,9 @@ use Rattle.mud_url.specs.declared.fault.UrlFault.{UrlFault}
 use Rattle.mud_url.specs.Host.{host_name_of}
 use Rattle.mud_url.specs.Url.{url_of}
 use Rattle.serde_json.specs.Data.{Data}
+use Rattle.usage_walk.specs.declared.fault.Rule.{Rule}
 use Rattle.usage_walk.specs.declared.fault.Rule.TheVariants as rule
+use Rattle.usage_walk.specs.declared.fault.Broken.{Broken}
 use Rattle.usage_walk.specs.declared.member.Member.{Member}
 use Rattle.reading.specs.Reading.{done, ◌>>=◌, wanted, refused_where, where_there}
 use Rattle.usage_walk.specs.Reading.{Reading, under, fault_at}
@@ -42,42 +44,49 @@ length_where_there path m parent = do
   n ← number_where_there path m (Some parent)
   where_there (as_upto 65535 path m) n
 
--- ---- Names
+-- ---- Texts that mean something
 
-unfoldable pub as_host : List ℕ → Member → List ℕ → Reading (List ℕ)
-as_host path m text = wanted [] (fault_at rule.NameText (under path m)) (host_name_of text)
+unfoldable pub as_meant : {A : Type 0} → A → Broken → (List ℕ → Option A) → List ℕ → Reading A
+as_meant default broken meaning text = wanted default broken (meaning text)
+
+-- the answer where the text is there
+abbrev pub meant : {A : Type 0} → Broken → Option A → Result (Option A) Broken
+meant broken None = Err broken
+meant broken (Some a) = Ok (Some a)
+
+-- what a text means, where it is there; one that means nothing breaks this rule
+unfoldable pub meant_where_there : {A : Type 0} → A → Rule → (List ℕ → Option A) → List ℕ → Member → Data → Reading (Option A)
+meant_where_there default broken meaning path m parent = do
+  text ← text_where_there path m (Some parent)
+  where_there (as_meant default (fault_at broken (under path m)) meaning) text
+
+-- ---- Names
 
 -- a host name, where it is there, in lower case and without a trailing dot
 unfoldable pub host_where_there : List ℕ → Member → Data → Reading (Option (List ℕ))
-host_where_there path m parent = do
-  text ← text_where_there path m (Some parent)
-  where_there (as_host path m) text
+host_where_there path m parent = meant_where_there [] rule.NameText host_name_of path m parent
 
 abbrev pub value_of : Result (List ℕ) UrlFault → Option (List ℕ)
 value_of (Ok url) = Some url
 value_of (Err fault) = None
 
-unfoldable pub as_model : List ℕ → Member → List ℕ → Reading (List ℕ)
-as_model path m text = wanted [] (fault_at rule.NameText (under path m)) (value_of (url_of text))
+unfoldable pub model_in : List ℕ → Option (List ℕ)
+model_in text = value_of (url_of text)
 
 -- a MUD URL, where it is there
 unfoldable pub model_where_there : List ℕ → Member → Data → Reading (Option (List ℕ))
-model_where_there path m parent = do
-  text ← text_where_there path m (Some parent)
-  where_there (as_model path m) text
+model_where_there path m parent = meant_where_there [] rule.NameText model_in path m parent
 
 -- 1 to 255 octets from 21 to 7E hex
 unfoldable pub is_uri : List ℕ → Bool
 is_uri text = not (length text == 0) && nat_le (length text) 255 && list_all is_ascii_graphic text
 
-unfoldable pub as_uri : List ℕ → Member → List ℕ → Reading (List ℕ)
-as_uri path m text = wanted [] (fault_at rule.NameText (under path m)) (if is_uri text then Some text else None)
+unfoldable pub uri_in : List ℕ → Option (List ℕ)
+uri_in text = if is_uri text then Some text else None
 
 -- the URI of a class, where it is there
 unfoldable pub uri_where_there : List ℕ → Member → Data → Reading (Option (List ℕ))
-uri_where_there path m parent = do
-  text ← text_where_there path m (Some parent)
-  where_there (as_uri path m) text
+uri_where_there path m parent = meant_where_there [] rule.NameText uri_in path m parent
 
 -- ---- Networks
 
@@ -94,14 +103,9 @@ of_type type prefix = if is_of_type type prefix.addr then Some prefix else None
 unfoldable pub network_in : ListType → List ℕ → Option PrefixParts
 network_in type text = option_and_then (of_type type) (prefix_in text)
 
-unfoldable pub as_network : ListType → List ℕ → Member → List ℕ → Reading PrefixParts
-as_network type path m text = wanted (record { addr = V4 0; len = 0 }) (fault_at rule.PrefixText (under path m)) (network_in type text)
-
 -- a network of this IP version, where it is there
 unfoldable pub network_where_there : ListType → List ℕ → Member → Data → Reading (Option PrefixParts)
-network_where_there type path m parent = do
-  text ← text_where_there path m (Some parent)
-  where_there (as_network type path m) text
+network_where_there type path m parent = meant_where_there (record { addr = V4 0; len = 0 }) rule.PrefixText (network_in type) path m parent
 
 -- ---- Directions (RFC 8520, 4.8)
 
@@ -115,13 +119,8 @@ from_device = codes "from-device"
 unfoldable pub direction_in : List ℕ → Option Direction
 direction_in text = if bytes_eq text to_device then Some To else (if bytes_eq text from_device then Some From else None)
 
-unfoldable pub as_direction : List ℕ → Member → List ℕ → Reading Direction
-as_direction path m text = wanted From (fault_at rule.DirectionText (under path m)) (direction_in text)
-
 unfoldable pub direction_where_there : List ℕ → Member → Data → Reading (Option Direction)
-direction_where_there path m parent = do
-  text ← text_where_there path m (Some parent)
-  where_there (as_direction path m) text
+direction_where_there path m parent = meant_where_there From rule.DirectionText direction_in path m parent
 
 -- ---- Operators (RFC 8519, 4.2)
 
@@ -145,10 +144,5 @@ operator_in text =
     else (if bytes_eq text gte_word then Some operator.Gte
     else None)))
 
-unfoldable pub as_operator : List ℕ → Member → List ℕ → Reading Operator
-as_operator path m text = wanted operator.Eq (fault_at rule.Operator (under path m)) (operator_in text)
-
 unfoldable pub operator_where_there : List ℕ → Member → Data → Reading (Option Operator)
-operator_where_there path m parent = do
-  text ← text_where_there path m (Some parent)
-  where_there (as_operator path m) text
+operator_where_there path m parent = meant_where_there operator.Eq rule.Operator operator_in path m parent

@@ -1,8 +1,11 @@
-//! The containers inside `matches`. Each is an object that is read by its table, and the path is its
-//! own.
-ghost use Rattle.std.specs.Prelude.{◌≡◌, Err};
+//! The containers inside `matches`. Each is an object that is read by its table.
+ghost use Rattle.std.specs.Prelude.{◌≡◌, Some};
 ghost use Rattle.serde_json.specs.View.{view};
-ghost use Rattle.reading.specs.Reading.{Gives};
+ghost use Rattle.reading.specs.Reading.{Gives, refused_where};
+ghost use Rattle.usage_walk.specs.Kinds.{leaf_where_there};
+ghost use Rattle.usage_walk.specs.Reading.{fault_at, under};
+ghost use Rattle.usage_walk.specs.declared.fault.Rule.TheVariants as rule;
+ghost use Rattle.usage_match.specs.Ports.{stands};
 ghost use Rattle.usage_match.specs.Containers as spec;
 
 use crate::entry_tests::{IpTests, ListType, MudTests};
@@ -12,15 +15,13 @@ use crate::texts::{
     direction_where_there, host_where_there, length_where_there, model_where_there,
     network_where_there, octet_where_there, uri_where_there,
 };
-use crate::ways::{IcmpTests, IcmpWay, IpWay, MudWay, TcpTests, TcpWay, UdpTests, UdpWay};
+use crate::ways::{IpWay, LayerKind, LayerTests, LayerWay, MudWay};
 use acl_model::{Layer, PortTest};
 use mud_base::{Bytes, Direction};
-use serde_json::Value;
-use std::alloc::Global;
 use usage_walk::kinds::leaf_where_there;
 use usage_walk::path::refuse_where;
-use usage_walk::table::read_table;
-use usage_walk::{FileFault, Member, Reads, Row, Rule};
+use usage_walk::table::read_container;
+use usage_walk::{FileFault, Member, Reads, Row, Rule, Spot};
 
 /// The table of `ietf-mud:mud`.
 #[tactic(auto, unfolding(crate::specs::Containers::mud_rows))]
@@ -28,39 +29,20 @@ fn mud_rows() -> [Row<MudWay>; 6]
     ensures { result ≡ spec.mud_rows }
 {
     [
-        Row {
-            member: Member::Manufacturer,
-            how: MudWay::Manufacturer,
-        },
-        Row {
-            member: Member::SameManufacturer,
-            how: MudWay::SameManufacturer,
-        },
-        Row {
-            member: Member::Model,
-            how: MudWay::Model,
-        },
-        Row {
-            member: Member::LocalNetworks,
-            how: MudWay::LocalNetworks,
-        },
-        Row {
-            member: Member::Controller,
-            how: MudWay::Controller,
-        },
-        Row {
-            member: Member::MyController,
-            how: MudWay::MyController,
-        },
+        Row::new(Member::Manufacturer, MudWay::Manufacturer),
+        Row::new(Member::SameManufacturer, MudWay::SameManufacturer),
+        Row::new(Member::Model, MudWay::Model),
+        Row::new(Member::LocalNetworks, MudWay::LocalNetworks),
+        Row::new(Member::Controller, MudWay::Controller),
+        Row::new(Member::MyController, MudWay::MyController),
     ]
 }
 
-/// Lets go what came of the members before, where a later one is refused.
-pub(crate) fn refused<T: Drop>(so_far: T, fault: FileFault) -> Result<T, FileFault>
-    ensures { result ≡ Err fault }
+/// Whether an empty leaf is there.
+fn leaf(spot: Spot<'_>) -> Result<bool, FileFault>
+    ensures { Gives (λ b. b) result (leaf_where_there spot.entry.path.now spot.entry.member (Some (view spot.entry.object.now))) }
 {
-    drop(so_far);
-    Err(fault)
+    leaf_where_there(spot.alloc, Some(spot.object), spot.path, spot.member)
 }
 
 impl Reads for MudWay {
@@ -71,44 +53,16 @@ impl Reads for MudWay {
     ghost reading = { mud_ways };
 
     #[tactic(auto, unfolding(crate::specs::Containers::mud_ways), using(reading::proofs::Readings::answer_bind, reading::proofs::Readings::answer_done))]
-    fn read(
-        self,
-        alloc: Global,
-        object: &Value,
-        path: &[u8],
-        member: Member,
-        so_far: MudTests,
-    ) -> Result<MudTests, FileFault> {
-        let mut tests = so_far;
+    fn read(self, spot: Spot<'_>, so_far: &mut MudTests) -> Result<(), FileFault> {
         match self {
-            MudWay::Manufacturer => match host_where_there(alloc, object, path, member) {
-                Ok(host) => tests.manufacturer = host,
-                Err(fault) => return refused(tests, fault),
-            },
-            MudWay::SameManufacturer => {
-                match leaf_where_there(alloc, Some(object), path, member) {
-                    Ok(is_asked) => tests.same_manufacturer = is_asked,
-                    Err(fault) => return refused(tests, fault),
-                }
-            }
-            MudWay::Model => match model_where_there(alloc, object, path, member) {
-                Ok(model) => tests.model = model,
-                Err(fault) => return refused(tests, fault),
-            },
-            MudWay::LocalNetworks => match leaf_where_there(alloc, Some(object), path, member) {
-                Ok(is_asked) => tests.local_networks = is_asked,
-                Err(fault) => return refused(tests, fault),
-            },
-            MudWay::Controller => match uri_where_there(alloc, object, path, member) {
-                Ok(uri) => tests.controller = uri,
-                Err(fault) => return refused(tests, fault),
-            },
-            MudWay::MyController => match leaf_where_there(alloc, Some(object), path, member) {
-                Ok(is_asked) => tests.my_controller = is_asked,
-                Err(fault) => return refused(tests, fault),
-            },
+            MudWay::Manufacturer => so_far.manufacturer = host_where_there(spot)?,
+            MudWay::SameManufacturer => so_far.same_manufacturer = leaf(spot)?,
+            MudWay::Model => so_far.model = model_where_there(spot)?,
+            MudWay::LocalNetworks => so_far.local_networks = leaf(spot)?,
+            MudWay::Controller => so_far.controller = uri_where_there(spot)?,
+            MudWay::MyController => so_far.my_controller = leaf(spot)?,
         }
-        Ok(tests)
+        Ok(())
     }
 }
 
@@ -127,16 +81,13 @@ pub(crate) fn no_mud_tests() -> MudTests
     }
 }
 
-/// What a container `ietf-mud:mud` asks of the peer (RFC 8520, 4).
-#[tactic(auto, unfolding(crate::specs::Containers::mud_tests_of))]
-pub(crate) fn mud_tests_of(
-    alloc: Global,
-    container: &Value,
-    path: &[u8],
-) -> Result<MudTests, FileFault>
-    ensures { Gives (λ t. t) result (spec.mud_tests_of path.now (view container.now)) }
+/// What `ietf-mud:mud` asks of the peer (RFC 8520, 4). Where there is none, it asks nothing.
+#[tactic(auto, unfolding(crate::specs::Containers::mud_at), using(reading::proofs::Readings::answer_bind, reading::proofs::Readings::answer_done))]
+pub(crate) fn mud_at(spot: Spot<'_>) -> Result<MudTests, FileFault>
+    ensures { Gives (λ t. t) result (spec.mud_at spot.entry.path.now spot.entry.member (view spot.entry.object.now)) }
 {
-    read_table(alloc, container, path, &mud_rows(), no_mud_tests())
+    let found = read_container(spot, &mud_rows(), no_mud_tests())?;
+    Ok(found.unwrap_or(no_mud_tests()))
 }
 
 /// The member that names the source network in the container of an IP version.
@@ -172,77 +123,36 @@ fn is_source(side: Direction) -> bool
     }
 }
 
-/// Whether the Thing is the destination of the packets of a direction: of those that it receives.
-#[tactic(auto, unfolding(crate::specs::Containers::is_destination))]
-fn is_destination(side: Direction) -> bool
-    ensures { result ≡ spec.is_destination side }
-{
-    match side {
-        Direction::From => false,
-        Direction::To => true,
-    }
-}
-
 /// The table of `ipv4` or `ipv6`, in a list of a direction.
 #[tactic(auto, unfolding(crate::specs::Containers::ip_rows))]
 fn ip_rows(list_type: ListType, side: Direction) -> [Row<IpWay>; 9]
     ensures { result ≡ spec.ip_rows list_type side }
 {
     [
-        Row {
-            member: Member::Dscp,
-            how: IpWay::Dscp,
-        },
-        Row {
-            member: Member::Ecn,
-            how: IpWay::Ecn,
-        },
-        Row {
-            member: Member::Length,
-            how: IpWay::Length,
-        },
-        Row {
-            member: Member::Ttl,
-            how: IpWay::Ttl,
-        },
-        Row {
-            member: Member::Protocol,
-            how: IpWay::Protocol,
-        },
-        Row {
-            member: source_network(list_type),
-            how: IpWay::Source(list_type),
-        },
-        Row {
-            member: destination_network(list_type),
-            how: IpWay::Destination(list_type),
-        },
-        Row {
-            member: Member::SrcDnsname,
-            how: IpWay::SourceName(is_source(side)),
-        },
-        Row {
-            member: Member::DstDnsname,
-            how: IpWay::DestinationName(is_destination(side)),
-        },
+        Row::new(Member::Dscp, IpWay::Dscp),
+        Row::new(Member::Ecn, IpWay::Ecn),
+        Row::new(Member::Length, IpWay::Length),
+        Row::new(Member::Ttl, IpWay::Ttl),
+        Row::new(Member::Protocol, IpWay::Protocol),
+        Row::new(source_network(list_type), IpWay::Source(list_type)),
+        Row::new(
+            destination_network(list_type),
+            IpWay::Destination(list_type),
+        ),
+        Row::new(Member::SrcDnsname, IpWay::SourceName(is_source(side))),
+        Row::new(Member::DstDnsname, IpWay::DestinationName(!is_source(side))),
     ]
 }
 
 /// The DNS name of a side of the packet, where it is there. It may not stand at the Thing's own
 /// side.
 #[tactic(auto, unfolding(crate::specs::Containers::name_where_there), using(reading::proofs::Readings::answer_bind))]
-fn name_where_there(
-    alloc: Global,
-    is_own: bool,
-    container: &Value,
-    path: &[u8],
-    member: Member,
-) -> Result<Option<Bytes>, FileFault>
-    ensures { Gives (λ n. n) result (spec.name_where_there is_own path.now member (view container.now)) }
+fn name_where_there(spot: Spot<'_>, is_own: bool) -> Result<Option<Bytes>, FileFault>
+    ensures { Gives (λ n. n) result (spec.name_where_there is_own spot.entry.path.now spot.entry.member (view spot.entry.object.now)) }
 {
-    let breaks = is_own && stands(container, member);
-    refuse_where(alloc, breaks, Rule::NameSide, path, member)?;
-    host_where_there(alloc, container, path, member)
+    let breaks = is_own && stands(spot.object, spot.member);
+    refuse_where(spot.alloc, breaks, Rule::NameSide, spot.path, spot.member)?;
+    host_where_there(spot)
 }
 
 impl Reads for IpWay {
@@ -253,37 +163,23 @@ impl Reads for IpWay {
     ghost reading = { ip_ways };
 
     #[tactic(auto, unfolding(crate::specs::Containers::ip_ways), using(reading::proofs::Readings::answer_bind, reading::proofs::Readings::answer_done))]
-    fn read(
-        self,
-        alloc: Global,
-        object: &Value,
-        path: &[u8],
-        member: Member,
-        so_far: IpTests,
-    ) -> Result<IpTests, FileFault> {
-        let mut tests = so_far;
+    fn read(self, spot: Spot<'_>, so_far: &mut IpTests) -> Result<(), FileFault> {
         match self {
-            IpWay::Dscp => tests.dscp = octet_where_there(alloc, 63, object, path, member)?,
-            IpWay::Ecn => tests.ecn = octet_where_there(alloc, 3, object, path, member)?,
-            IpWay::Length => tests.length = length_where_there(alloc, object, path, member)?,
-            IpWay::Ttl => tests.ttl = octet_where_there(alloc, 255, object, path, member)?,
-            IpWay::Protocol => {
-                tests.protocol = octet_where_there(alloc, 255, object, path, member)?;
-            }
-            IpWay::Source(list_type) => {
-                tests.source = network_where_there(alloc, list_type, object, path, member)?;
-            }
-            IpWay::Destination(list_type) => {
-                tests.destination = network_where_there(alloc, list_type, object, path, member)?;
-            }
-            IpWay::SourceName(is_own) => {
-                tests.source_name = name_where_there(alloc, is_own, object, path, member)?;
-            }
-            IpWay::DestinationName(is_own) => {
-                tests.destination_name = name_where_there(alloc, is_own, object, path, member)?;
-            }
+            IpWay::Dscp => so_far.dscp = octet_where_there(spot, 63)?,
+            IpWay::Ecn => so_far.ecn = octet_where_there(spot, 3)?,
+            IpWay::Length => so_far.length = length_where_there(spot)?,
+            IpWay::Ttl => so_far.ttl = octet_where_there(spot, 255)?,
+            IpWay::Protocol => so_far.protocol = octet_where_there(spot, 255)?,
+            IpWay::Source(list_type) => so_far.source = network_where_there(spot, list_type)?,
+            IpWay::Destination(list_type) => so_far.destination = network_where_there(
+                spot, list_type,
+            )?,
+            IpWay::SourceName(is_own) => so_far.source_name = name_where_there(spot, is_own)?,
+            IpWay::DestinationName(is_own) => so_far.destination_name = name_where_there(
+                spot, is_own,
+            )?,
         }
-        Ok(tests)
+        Ok(())
     }
 }
 
@@ -305,246 +201,156 @@ pub(crate) fn no_ip_tests() -> IpTests
     }
 }
 
-/// What a container `ipv4` or `ipv6` asks (RFC 8519, 4.2; RFC 8520, 8), in a list of a direction.
-#[tactic(auto, unfolding(crate::specs::Containers::ip_tests_of))]
-pub(crate) fn ip_tests_of(
-    alloc: Global,
+/// What `ipv4` or `ipv6` asks (RFC 8519, 4.2; RFC 8520, 8), in a list of a direction. Where there is
+/// none, it asks nothing.
+#[tactic(auto, unfolding(crate::specs::Containers::ip_at), using(reading::proofs::Readings::answer_bind, reading::proofs::Readings::answer_done))]
+pub(crate) fn ip_at(
+    spot: Spot<'_>,
     list_type: ListType,
     side: Direction,
-    container: &Value,
-    path: &[u8],
 ) -> Result<IpTests, FileFault>
-    ensures { Gives (λ t. t) result (spec.ip_tests_of list_type side path.now (view container.now)) }
+    ensures { Gives (λ t. t) result (spec.ip_at list_type side spot.entry.path.now spot.entry.member (view spot.entry.object.now)) }
 {
-    read_table(
-        alloc,
-        container,
-        path,
-        &ip_rows(list_type, side),
-        no_ip_tests(),
+    let found = read_container(spot, &ip_rows(list_type, side), no_ip_tests())?;
+    Ok(found.unwrap_or(no_ip_tests()))
+}
+
+/// The table of `tcp`, `udp` or `icmp`.
+#[tactic(auto, unfolding(crate::specs::Containers::layer_rows))]
+fn layer_rows(kind: LayerKind) -> &'static [Row<LayerWay>]
+    ensures { result.now ≡ spec.layer_rows kind }
+{
+    match kind {
+        LayerKind::Tcp => &[
+            Row {
+                member: Member::SourcePort,
+                how: LayerWay::Source,
+            },
+            Row {
+                member: Member::DestinationPort,
+                how: LayerWay::Destination,
+            },
+            Row {
+                member: Member::DirectionInitiated,
+                how: LayerWay::Begun,
+            },
+            Row {
+                member: Member::Flags,
+                how: LayerWay::Flags,
+            },
+        ],
+        LayerKind::Udp => &[
+            Row {
+                member: Member::SourcePort,
+                how: LayerWay::Source,
+            },
+            Row {
+                member: Member::DestinationPort,
+                how: LayerWay::Destination,
+            },
+            Row {
+                member: Member::DirectionInitiated,
+                how: LayerWay::Refused,
+            },
+        ],
+        LayerKind::Icmp => &[
+            Row {
+                member: Member::Kind,
+                how: LayerWay::Kind,
+            },
+            Row {
+                member: Member::Code,
+                how: LayerWay::Code,
+            },
+            Row {
+                member: Member::DirectionInitiated,
+                how: LayerWay::Refused,
+            },
+        ],
+    }
+}
+
+/// Refuses a direction outside of `tcp` (RFC 8520, 4.8).
+fn no_direction(spot: Spot<'_>) -> Result<(), FileFault>
+    ensures { Gives (λ _. tt) result (refused_where (stands spot.entry.member (view spot.entry.object.now)) (fault_at rule.DirectionNotTcp (under spot.entry.path.now spot.entry.member))) }
+{
+    let breaks = stands(spot.object, spot.member);
+    refuse_where(
+        spot.alloc,
+        breaks,
+        Rule::DirectionNotTcp,
+        spot.path,
+        spot.member,
     )
 }
 
-/// The table of `tcp`.
-#[tactic(auto, unfolding(crate::specs::Containers::tcp_rows))]
-fn tcp_rows() -> [Row<TcpWay>; 4]
-    ensures { result ≡ spec.tcp_rows }
-{
-    [
-        Row {
-            member: Member::SourcePort,
-            how: TcpWay::Source,
-        },
-        Row {
-            member: Member::DestinationPort,
-            how: TcpWay::Destination,
-        },
-        Row {
-            member: Member::DirectionInitiated,
-            how: TcpWay::Begun,
-        },
-        Row {
-            member: Member::Flags,
-            how: TcpWay::Flags,
-        },
-    ]
-}
+impl Reads for LayerWay {
+    ghost use Rattle.usage_match.specs.Containers.{layer_ways};
 
-impl Reads for TcpWay {
-    ghost use Rattle.usage_match.specs.Containers.{tcp_ways};
+    type Meaning = LayerTests;
 
-    type Meaning = TcpTests;
+    ghost reading = { layer_ways };
 
-    ghost reading = { tcp_ways };
-
-    #[tactic(auto, unfolding(crate::specs::Containers::tcp_ways), using(reading::proofs::Readings::answer_bind, reading::proofs::Readings::answer_done))]
-    fn read(
-        self,
-        alloc: Global,
-        object: &Value,
-        path: &[u8],
-        member: Member,
-        so_far: TcpTests,
-    ) -> Result<TcpTests, FileFault> {
-        let mut tests = so_far;
+    #[tactic(auto, unfolding(crate::specs::Containers::layer_ways), using(reading::proofs::Readings::answer_bind, reading::proofs::Readings::answer_done))]
+    fn read(self, spot: Spot<'_>, so_far: &mut LayerTests) -> Result<(), FileFault> {
         match self {
-            TcpWay::Source => tests.source = port_where_there(alloc, object, path, member)?,
-            TcpWay::Destination => {
-                tests.destination = port_where_there(alloc, object, path, member)?;
-            }
-            TcpWay::Begun => tests.begun = direction_where_there(alloc, object, path, member)?,
-            TcpWay::Flags => tests.flags = flags_where_there(alloc, object, path, member)?,
+            LayerWay::Source => so_far.source = port_where_there(spot)?,
+            LayerWay::Destination => so_far.destination = port_where_there(spot)?,
+            LayerWay::Begun => so_far.begun = direction_where_there(spot)?,
+            LayerWay::Flags => so_far.flags = flags_where_there(spot)?,
+            LayerWay::Kind => so_far.kind = octet_where_there(spot, 255)?,
+            LayerWay::Code => so_far.code = octet_where_there(spot, 255)?,
+            LayerWay::Refused => no_direction(spot)?,
         }
-        Ok(tests)
+        Ok(())
     }
 }
 
-/// The layer that asks this of a TCP header.
-#[tactic(auto, unfolding(crate::specs::Containers::tcp_layer))]
-fn tcp_layer(tests: TcpTests) -> Layer
-    ensures { result ≡ spec.tcp_layer tests }
+/// Nothing is asked of the header.
+#[tactic(auto, unfolding(crate::specs::Containers::no_layer_tests))]
+fn no_layer_tests() -> LayerTests
+    ensures { result ≡ spec.no_layer_tests }
 {
-    Layer::Tcp {
-        source: tests.source,
-        destination: tests.destination,
-        begun: tests.begun,
-        flags: tests.flags,
-    }
-}
-
-/// What a container `tcp` asks of the header (RFC 8519, 4.2; RFC 8520, 4.8).
-#[tactic(auto, unfolding(crate::specs::Containers::tcp_of, crate::specs::Containers::no_tcp_tests), using(reading::proofs::Readings::answer_bind, reading::proofs::Readings::answer_done))]
-pub(crate) fn tcp_of(alloc: Global, container: &Value, path: &[u8]) -> Result<Layer, FileFault>
-    ensures { Gives (λ l. l) result (spec.tcp_of path.now (view container.now)) }
-{
-    let nothing = TcpTests {
+    LayerTests {
         source: PortTest::Any,
         destination: PortTest::Any,
         begun: None,
         flags: None,
-    };
-    let tests = read_table(alloc, container, path, &tcp_rows(), nothing)?;
-    Ok(tcp_layer(tests))
-}
-
-/// Refuses a direction outside of `tcp` (RFC 8520, 4.8).
-#[tactic(auto, unfolding(crate::specs::Containers::no_direction))]
-fn no_direction(
-    alloc: Global,
-    container: &Value,
-    path: &[u8],
-    member: Member,
-) -> Result<(), FileFault>
-    ensures { Gives (λ _. tt) result (spec.no_direction path.now member (view container.now)) }
-{
-    let breaks = stands(container, member);
-    refuse_where(alloc, breaks, Rule::DirectionNotTcp, path, member)
-}
-
-/// The table of `udp`.
-#[tactic(auto, unfolding(crate::specs::Containers::udp_rows))]
-fn udp_rows() -> [Row<UdpWay>; 3]
-    ensures { result ≡ spec.udp_rows }
-{
-    [
-        Row {
-            member: Member::SourcePort,
-            how: UdpWay::Source,
-        },
-        Row {
-            member: Member::DestinationPort,
-            how: UdpWay::Destination,
-        },
-        Row {
-            member: Member::DirectionInitiated,
-            how: UdpWay::Refused,
-        },
-    ]
-}
-
-impl Reads for UdpWay {
-    ghost use Rattle.usage_match.specs.Containers.{udp_ways};
-
-    type Meaning = UdpTests;
-
-    ghost reading = { udp_ways };
-
-    #[tactic(auto, unfolding(crate::specs::Containers::udp_ways), using(reading::proofs::Readings::answer_bind, reading::proofs::Readings::answer_done))]
-    fn read(
-        self,
-        alloc: Global,
-        object: &Value,
-        path: &[u8],
-        member: Member,
-        so_far: UdpTests,
-    ) -> Result<UdpTests, FileFault> {
-        let mut tests = so_far;
-        match self {
-            UdpWay::Source => tests.source = port_where_there(alloc, object, path, member)?,
-            UdpWay::Destination => {
-                tests.destination = port_where_there(alloc, object, path, member)?;
-            }
-            UdpWay::Refused => no_direction(alloc, object, path, member)?,
-        }
-        Ok(tests)
-    }
-}
-
-/// What a container `udp` asks of the header (RFC 8519, 4.2).
-#[tactic(auto, unfolding(crate::specs::Containers::udp_of, crate::specs::Containers::no_udp_tests, crate::specs::Containers::udp_layer), using(reading::proofs::Readings::answer_bind, reading::proofs::Readings::answer_done))]
-pub(crate) fn udp_of(alloc: Global, container: &Value, path: &[u8]) -> Result<Layer, FileFault>
-    ensures { Gives (λ l. l) result (spec.udp_of path.now (view container.now)) }
-{
-    let nothing = UdpTests {
-        source: PortTest::Any,
-        destination: PortTest::Any,
-    };
-    let tests = read_table(alloc, container, path, &udp_rows(), nothing)?;
-    Ok(Layer::Udp {
-        source: tests.source,
-        destination: tests.destination,
-    })
-}
-
-/// The table of `icmp`.
-#[tactic(auto, unfolding(crate::specs::Containers::icmp_rows))]
-fn icmp_rows() -> [Row<IcmpWay>; 3]
-    ensures { result ≡ spec.icmp_rows }
-{
-    [
-        Row {
-            member: Member::Kind,
-            how: IcmpWay::Kind,
-        },
-        Row {
-            member: Member::Code,
-            how: IcmpWay::Code,
-        },
-        Row {
-            member: Member::DirectionInitiated,
-            how: IcmpWay::Refused,
-        },
-    ]
-}
-
-impl Reads for IcmpWay {
-    ghost use Rattle.usage_match.specs.Containers.{icmp_ways};
-
-    type Meaning = IcmpTests;
-
-    ghost reading = { icmp_ways };
-
-    #[tactic(auto, unfolding(crate::specs::Containers::icmp_ways), using(reading::proofs::Readings::answer_bind, reading::proofs::Readings::answer_done))]
-    fn read(
-        self,
-        alloc: Global,
-        object: &Value,
-        path: &[u8],
-        member: Member,
-        so_far: IcmpTests,
-    ) -> Result<IcmpTests, FileFault> {
-        let mut tests = so_far;
-        match self {
-            IcmpWay::Kind => tests.kind = octet_where_there(alloc, 255, object, path, member)?,
-            IcmpWay::Code => tests.code = octet_where_there(alloc, 255, object, path, member)?,
-            IcmpWay::Refused => no_direction(alloc, object, path, member)?,
-        }
-        Ok(tests)
-    }
-}
-
-/// What a container `icmp` asks of the header (RFC 8519, 4.2): its type and its code.
-#[tactic(auto, unfolding(crate::specs::Containers::icmp_of, crate::specs::Containers::no_icmp_tests, crate::specs::Containers::icmp_layer), using(reading::proofs::Readings::answer_bind, reading::proofs::Readings::answer_done))]
-pub(crate) fn icmp_of(alloc: Global, container: &Value, path: &[u8]) -> Result<Layer, FileFault>
-    ensures { Gives (λ l. l) result (spec.icmp_of path.now (view container.now)) }
-{
-    let nothing = IcmpTests {
         kind: None,
         code: None,
-    };
-    let tests = read_table(alloc, container, path, &icmp_rows(), nothing)?;
-    Ok(Layer::Icmp {
-        kind: tests.kind,
-        code: tests.code,
-    })
+    }
+}
+
+/// The layer that asks this of a header.
+#[tactic(auto, unfolding(crate::specs::Containers::layer_of))]
+fn layer_of(kind: LayerKind, tests: LayerTests) -> Layer
+    ensures { result ≡ spec.layer_of kind tests }
+{
+    match kind {
+        LayerKind::Tcp => Layer::Tcp {
+            source: tests.source,
+            destination: tests.destination,
+            begun: tests.begun,
+            flags: tests.flags,
+        },
+        LayerKind::Udp => Layer::Udp {
+            source: tests.source,
+            destination: tests.destination,
+        },
+        LayerKind::Icmp => Layer::Icmp {
+            kind: tests.kind,
+            code: tests.code,
+        },
+    }
+}
+
+/// What `tcp`, `udp` or `icmp` asks (RFC 8519, 4.2; RFC 8520, 4.8), where it is there.
+#[tactic(auto, unfolding(crate::specs::Containers::layer_at), using(reading::proofs::Readings::answer_bind, reading::proofs::Readings::answer_done))]
+pub(crate) fn layer_at(spot: Spot<'_>, kind: LayerKind) -> Result<Option<Layer>, FileFault>
+    ensures { Gives (λ l. l) result (spec.layer_at kind spot.entry.path.now spot.entry.member (view spot.entry.object.now)) }
+{
+    match read_container(spot, layer_rows(kind), no_layer_tests())? {
+        None => Ok(None),
+        Some(tests) => Ok(Some(layer_of(kind, tests))),
+    }
 }

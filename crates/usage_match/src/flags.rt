@@ -5,11 +5,8 @@ ghost use Rattle.reading.specs.Reading.{Gives};
 ghost use Rattle.usage_match.specs.Flags as spec;
 
 use crate::tcp_flag::TcpFlag;
-use serde_json::Value;
-use std::alloc::Global;
-use usage_walk::kinds::text_where_there;
-use usage_walk::path::refusal;
-use usage_walk::{FileFault, Member, Rule};
+use crate::texts::{meant, text_of};
+use usage_walk::{FileFault, Rule, Spot};
 
 /// The flags.
 #[tactic(auto, unfolding(crate::specs::Flags::flags))]
@@ -187,29 +184,13 @@ fn flags_in(text: &str) -> Option<u8>
     }
 }
 
-/// The octet of flags that a text is.
-#[tactic(auto, unfolding(crate::specs::Flags::as_flags), using(reading::proofs::Readings::answer_wanted, reading::proofs::Readings::answer_unwanted))]
-fn as_flags(alloc: Global, path: &[u8], member: Member, text: &str) -> Result<u8, FileFault>
-    ensures { Gives (λ n. n) result (spec.as_flags path.now member text.now) }
-{
-    match flags_in(text) {
-        Some(octet) => Ok(octet),
-        None => Err(refusal(alloc, Rule::FlagText, path, member)),
-    }
-}
-
 /// An octet of flags, where it is there.
-#[tactic(auto, unfolding(crate::specs::Flags::flags_where_there), using(reading::proofs::Readings::answer_bind, reading::proofs::Readings::answer_absent, reading::proofs::Readings::answer_there))]
-pub(crate) fn flags_where_there(
-    alloc: Global,
-    object: &Value,
-    path: &[u8],
-    member: Member,
-) -> Result<Option<u8>, FileFault>
-    ensures { Gives (λ n. n) result (spec.flags_where_there path.now member (view object.now)) }
+#[tactic(auto, unfolding(crate::specs::Flags::flags_where_there), using(crate::proofs::Meant::meant_refused, crate::proofs::Meant::meant_absent, crate::proofs::Meant::meant_there))]
+pub(crate) fn flags_where_there(spot: Spot<'_>) -> Result<Option<u8>, FileFault>
+    ensures { Gives (λ v. v) result (spec.flags_where_there spot.entry.path.now spot.entry.member (view spot.entry.object.now)) }
 {
-    match text_where_there(alloc, Some(object), path, member)? {
+    match text_of(spot)? {
         None => Ok(None),
-        Some(text) => Ok(Some(as_flags(alloc, path, member, text)?)),
+        Some(text) => meant(spot, Rule::FlagText, flags_in(text)),
     }
 }

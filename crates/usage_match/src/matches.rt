@@ -5,12 +5,10 @@ ghost use Rattle.serde_json.specs.View.{view};
 ghost use Rattle.reading.specs.Reading.{Gives};
 ghost use Rattle.usage_match.specs.Matches as spec;
 
-use crate::containers::{
-    icmp_of, ip_tests_of, mud_tests_of, no_ip_tests, no_mud_tests, refused, tcp_of, udp_of,
-};
+use crate::containers::{ip_at, layer_at, mud_at, no_ip_tests, no_mud_tests};
 use crate::entry_tests::{IpTests, ListType, MudTests, Tests};
 use crate::ports::stands;
-use crate::ways::{MatchTests, MatchWay};
+use crate::ways::{LayerKind, MatchTests, MatchWay};
 use acl_model::{Layer, Selector};
 use mud_base::{Bytes, Direction, Listed, Memory, Prefix};
 use mud_url::MudUrl;
@@ -20,7 +18,7 @@ use usage_walk::kinds::object_where_there;
 use usage_walk::others::all_known;
 use usage_walk::path::{refuse_here_where, refuse_where, under};
 use usage_walk::table::read_rows;
-use usage_walk::{FileFault, Member, Reads, Row, Rule};
+use usage_walk::{FileFault, Member, Reads, Row, Rule, Spot};
 
 /// Adds a selector at the end, where there is one.
 fn add(selectors: &mut Listed<Selector>, selector: Option<Selector>) -> Result<(), Memory>
@@ -224,40 +222,13 @@ fn match_rows(list_type: ListType, side: Direction) -> [Row<MatchWay>; 6]
     ensures { result ≡ spec.match_rows list_type side }
 {
     [
-        Row {
-            member: Member::Mud,
-            how: MatchWay::Mud,
-        },
-        Row {
-            member: ip_member(list_type),
-            how: MatchWay::Ip(list_type, side),
-        },
-        Row {
-            member: other_ip_member(list_type),
-            how: MatchWay::Refused,
-        },
-        Row {
-            member: Member::Tcp,
-            how: MatchWay::Tcp,
-        },
-        Row {
-            member: Member::Udp,
-            how: MatchWay::Udp,
-        },
-        Row {
-            member: Member::Icmp,
-            how: MatchWay::Icmp,
-        },
+        Row::new(Member::Mud, MatchWay::Mud),
+        Row::new(ip_member(list_type), MatchWay::Ip(list_type, side)),
+        Row::new(other_ip_member(list_type), MatchWay::Refused),
+        Row::new(Member::Tcp, MatchWay::Layer(LayerKind::Tcp)),
+        Row::new(Member::Udp, MatchWay::Layer(LayerKind::Udp)),
+        Row::new(Member::Icmp, MatchWay::Layer(LayerKind::Icmp)),
     ]
-}
-
-/// Refuses the container of the other IP version.
-#[tactic(auto, unfolding(crate::specs::Matches::no_other))]
-fn no_other(alloc: Global, matches: &Value, path: &[u8], member: Member) -> Result<(), FileFault>
-    ensures { Gives (λ _. tt) result (spec.no_other path.now member (view matches.now)) }
-{
-    let breaks = stands(matches, member);
-    refuse_where(alloc, breaks, Rule::Family, path, member)
 }
 
 /// Refuses members inside `matches` that don't fit: unknown ones, the container of the other IP
@@ -273,105 +244,9 @@ fn members_fit(
     ensures { Gives (λ _. tt) result (spec.members_fit list_type side path.now (view matches.now)) }
 {
     all_known(alloc, matches, path, &match_rows(list_type, side))?;
-    no_other(alloc, matches, path, other_ip_member(list_type))?;
+    let other = other_ip_member(list_type);
+    refuse_where(alloc, stands(matches, other), Rule::Family, path, other)?;
     refuse_here_where(alloc, has_two_layers(matches), Rule::TwoLayers, path)
-}
-
-/// What `ietf-mud:mud` asks of the peer. Where there is none, it asks nothing.
-#[tactic(auto, unfolding(crate::specs::Matches::mud_at), using(reading::proofs::Readings::answer_bind, reading::proofs::Readings::answer_done, reading::proofs::Readings::answer_absent, reading::proofs::Readings::answer_there))]
-fn mud_at(
-    alloc: Global,
-    matches: &Value,
-    path: &[u8],
-    member: Member,
-) -> Result<MudTests, FileFault>
-    ensures { Gives (λ t. t) result (spec.mud_at path.now member (view matches.now)) }
-{
-    match object_where_there(alloc, Some(matches), path, member)? {
-        None => Ok(no_mud_tests()),
-        Some(container) => {
-            let path = under(alloc, path, member)?;
-            mud_tests_of(alloc, container, path.octets())
-        }
-    }
-}
-
-/// What `ipv4` or `ipv6` asks. Where there is none, it asks nothing.
-#[tactic(auto, unfolding(crate::specs::Matches::ip_at), using(reading::proofs::Readings::answer_bind, reading::proofs::Readings::answer_done, reading::proofs::Readings::answer_absent, reading::proofs::Readings::answer_there))]
-fn ip_at(
-    alloc: Global,
-    list_type: ListType,
-    side: Direction,
-    matches: &Value,
-    path: &[u8],
-    member: Member,
-) -> Result<IpTests, FileFault>
-    ensures { Gives (λ t. t) result (spec.ip_at list_type side path.now member (view matches.now)) }
-{
-    match object_where_there(alloc, Some(matches), path, member)? {
-        None => Ok(no_ip_tests()),
-        Some(container) => {
-            let path = under(alloc, path, member)?;
-            ip_tests_of(alloc, list_type, side, container, path.octets())
-        }
-    }
-}
-
-/// What `tcp` asks, where it is there.
-#[tactic(auto, unfolding(crate::specs::Matches::tcp_at), using(reading::proofs::Readings::answer_bind, reading::proofs::Readings::answer_absent, reading::proofs::Readings::answer_there))]
-fn tcp_at(
-    alloc: Global,
-    matches: &Value,
-    path: &[u8],
-    member: Member,
-) -> Result<Option<Layer>, FileFault>
-    ensures { Gives (λ l. l) result (spec.tcp_at path.now member (view matches.now)) }
-{
-    match object_where_there(alloc, Some(matches), path, member)? {
-        None => Ok(None),
-        Some(container) => {
-            let path = under(alloc, path, member)?;
-            Ok(Some(tcp_of(alloc, container, path.octets())?))
-        }
-    }
-}
-
-/// What `udp` asks, where it is there.
-#[tactic(auto, unfolding(crate::specs::Matches::udp_at), using(reading::proofs::Readings::answer_bind, reading::proofs::Readings::answer_absent, reading::proofs::Readings::answer_there))]
-fn udp_at(
-    alloc: Global,
-    matches: &Value,
-    path: &[u8],
-    member: Member,
-) -> Result<Option<Layer>, FileFault>
-    ensures { Gives (λ l. l) result (spec.udp_at path.now member (view matches.now)) }
-{
-    match object_where_there(alloc, Some(matches), path, member)? {
-        None => Ok(None),
-        Some(container) => {
-            let path = under(alloc, path, member)?;
-            Ok(Some(udp_of(alloc, container, path.octets())?))
-        }
-    }
-}
-
-/// What `icmp` asks, where it is there.
-#[tactic(auto, unfolding(crate::specs::Matches::icmp_at), using(reading::proofs::Readings::answer_bind, reading::proofs::Readings::answer_absent, reading::proofs::Readings::answer_there))]
-fn icmp_at(
-    alloc: Global,
-    matches: &Value,
-    path: &[u8],
-    member: Member,
-) -> Result<Option<Layer>, FileFault>
-    ensures { Gives (λ l. l) result (spec.icmp_at path.now member (view matches.now)) }
-{
-    match object_where_there(alloc, Some(matches), path, member)? {
-        None => Ok(None),
-        Some(container) => {
-            let path = under(alloc, path, member)?;
-            Ok(Some(icmp_of(alloc, container, path.octets())?))
-        }
-    }
 }
 
 impl Reads for MatchWay {
@@ -382,44 +257,17 @@ impl Reads for MatchWay {
     ghost reading = { match_ways };
 
     #[tactic(auto, unfolding(crate::specs::Matches::match_ways), using(reading::proofs::Readings::answer_bind, reading::proofs::Readings::answer_done))]
-    fn read(
-        self,
-        alloc: Global,
-        object: &Value,
-        path: &[u8],
-        member: Member,
-        so_far: MatchTests,
-    ) -> Result<MatchTests, FileFault> {
-        let mut tests = so_far;
+    fn read(self, spot: Spot<'_>, so_far: &mut MatchTests) -> Result<(), FileFault> {
         match self {
-            MatchWay::Mud => match mud_at(alloc, object, path, member) {
-                Ok(mud) => tests.mud = mud,
-                Err(fault) => return refused(tests, fault),
-            },
-            MatchWay::Ip(list_type, side) => {
-                match ip_at(alloc, list_type, side, object, path, member) {
-                    Ok(ip) => tests.ip = ip,
-                    Err(fault) => return refused(tests, fault),
-                }
+            MatchWay::Mud => so_far.mud = mud_at(spot)?,
+            MatchWay::Ip(list_type, side) => so_far.ip = ip_at(spot, list_type, side)?,
+            MatchWay::Refused => {}
+            MatchWay::Layer(kind) => {
+                let found = layer_at(spot, kind)?;
+                so_far.layer = found.unwrap_or(so_far.layer);
             }
-            MatchWay::Refused => match no_other(alloc, object, path, member) {
-                Ok(()) => {}
-                Err(fault) => return refused(tests, fault),
-            },
-            MatchWay::Tcp => match tcp_at(alloc, object, path, member) {
-                Ok(layer) => tests.layer = layer.unwrap_or(tests.layer),
-                Err(fault) => return refused(tests, fault),
-            },
-            MatchWay::Udp => match udp_at(alloc, object, path, member) {
-                Ok(layer) => tests.layer = layer.unwrap_or(tests.layer),
-                Err(fault) => return refused(tests, fault),
-            },
-            MatchWay::Icmp => match icmp_at(alloc, object, path, member) {
-                Ok(layer) => tests.layer = layer.unwrap_or(tests.layer),
-                Err(fault) => return refused(tests, fault),
-            },
         }
-        Ok(tests)
+        Ok(())
     }
 }
 

@@ -1,20 +1,20 @@
-//! The rules of single members inside `matches`. The object is the one that they stand in, and the
-//! path is the object's.
-ghost use Rattle.std.specs.Prelude.{◌≡◌};
+//! The rules of single members inside `matches`.
+ghost use Rattle.std.specs.Prelude.{◌≡◌, IfOk, option_map};
 ghost use Rattle.std.specs.List.{list_all};
 ghost use Rattle.std.specs.Char.{is_ascii_graphic};
 ghost use Rattle.serde_json.specs.View.{view};
-ghost use Rattle.reading.specs.Reading.{Gives};
+ghost use Rattle.reading.specs.Reading.{Answers, Gives};
+ghost use Rattle.usage_walk.specs.Kinds.{text_where_there};
+ghost use Rattle.usage_walk.specs.Reading.{fault_at, under};
 ghost use Rattle.usage_match.specs.Texts as spec;
 
 use crate::entry_tests::{ListType, Operator};
-use mud_base::{Addr, Bytes, Direction, Prefix, prefix_of};
+use mud_base::{Addr, Bytes, Direction, Memory, Prefix, prefix_of};
 use mud_url::{MudUrl, host_name, mud_url};
-use serde_json::Value;
 use std::alloc::Global;
 use usage_walk::kinds::{number_where_there, text_where_there};
 use usage_walk::path::refusal;
-use usage_walk::{FileFault, Member, Rule};
+use usage_walk::{FileFault, Member, Rule, Spot};
 
 /// The number that this is, where it is at most `most`.
 #[tactic(auto, unfolding(crate::specs::Texts::as_upto), using(reading::proofs::Readings::answer_bind, reading::proofs::Readings::answer_done, reading::proofs::Readings::answer_passed, reading::proofs::Readings::answer_refused))]
@@ -51,88 +51,81 @@ pub(crate) fn as_two_octets(
 
 /// A number from 0 to `most`, where it is there.
 #[tactic(auto, unfolding(crate::specs::Texts::octet_where_there), using(reading::proofs::Readings::answer_bind, reading::proofs::Readings::answer_absent, reading::proofs::Readings::answer_there))]
-pub(crate) fn octet_where_there(
-    alloc: Global,
-    most: u8,
-    object: &Value,
-    path: &[u8],
-    member: Member,
-) -> Result<Option<u8>, FileFault>
-    ensures { Gives (λ n. n) result (spec.octet_where_there most path.now member (view object.now)) }
+pub(crate) fn octet_where_there(spot: Spot<'_>, most: u8) -> Result<Option<u8>, FileFault>
+    ensures { Gives (λ n. n) result (spec.octet_where_there most spot.entry.path.now spot.entry.member (view spot.entry.object.now)) }
 {
-    match number_where_there(alloc, Some(object), path, member)? {
+    match number_where_there(spot.alloc, Some(spot.object), spot.path, spot.member)? {
         None => Ok(None),
-        Some(number) => Ok(Some(as_octet(alloc, most, path, member, number)?)),
+        Some(number) => Ok(Some(as_octet(spot.alloc, most, spot.path, spot.member, number)?)),
     }
 }
 
 /// A length in octets, from 0 to 65535, where it is there.
 #[tactic(auto, unfolding(crate::specs::Texts::length_where_there), using(reading::proofs::Readings::answer_bind, reading::proofs::Readings::answer_absent, reading::proofs::Readings::answer_there))]
-pub(crate) fn length_where_there(
-    alloc: Global,
-    object: &Value,
-    path: &[u8],
-    member: Member,
-) -> Result<Option<u16>, FileFault>
-    ensures { Gives (λ n. n) result (spec.length_where_there path.now member (view object.now)) }
+pub(crate) fn length_where_there(spot: Spot<'_>) -> Result<Option<u16>, FileFault>
+    ensures { Gives (λ n. n) result (spec.length_where_there spot.entry.path.now spot.entry.member (view spot.entry.object.now)) }
 {
-    match number_where_there(alloc, Some(object), path, member)? {
+    match number_where_there(spot.alloc, Some(spot.object), spot.path, spot.member)? {
         None => Ok(None),
-        Some(number) => Ok(Some(as_two_octets(alloc, path, member, number)?)),
+        Some(number) => Ok(Some(as_two_octets(spot.alloc, spot.path, spot.member, number)?)),
     }
 }
 
-/// The host name that a text is.
-#[tactic(auto, unfolding(crate::specs::Texts::as_host), using(reading::proofs::Readings::answer_wanted, reading::proofs::Readings::answer_unwanted))]
-fn as_host(alloc: Global, path: &[u8], member: Member, text: &str) -> Result<Bytes, FileFault>
-    ensures { Gives (λ n. n) result (spec.as_host path.now member text.now) }
+/// What a text of a member means. One that means nothing breaks this rule.
+pub(crate) fn meant<T: Drop>(
+    spot: Spot<'_>,
+    rule: Rule,
+    meaning: Option<T>,
+) -> Result<Option<T>, FileFault>
+    ensures { Answers (λ m. m) result (spec.meant (fault_at rule (under spot.entry.path.now spot.entry.member)) meaning) }
 {
-    match host_name(alloc, text.as_bytes())? {
-        Some(name) => Ok(name),
-        None => Err(refusal(alloc, Rule::NameText, path, member)),
+    match meaning {
+        Some(meaning) => Ok(Some(meaning)),
+        None => Err(refusal(spot.alloc, rule, spot.path, spot.member)),
     }
+}
+
+/// The text of a member, where it is there.
+pub(crate) fn text_of<'a>(spot: Spot<'a>) -> Result<Option<&'a str>, FileFault>
+    ensures { Gives (option_map (λ t. t.now)) result (text_where_there spot.entry.path.now spot.entry.member (Some (view spot.entry.object.now))) }
+{
+    text_where_there(spot.alloc, Some(spot.object), spot.path, spot.member)
 }
 
 /// A host name, where it is there, in lower case and without a trailing dot.
-#[tactic(auto, unfolding(crate::specs::Texts::host_where_there), using(reading::proofs::Readings::answer_bind, reading::proofs::Readings::answer_absent, reading::proofs::Readings::answer_there))]
-pub(crate) fn host_where_there(
-    alloc: Global,
-    object: &Value,
-    path: &[u8],
-    member: Member,
-) -> Result<Option<Bytes>, FileFault>
-    ensures { Gives (λ n. n) result (spec.host_where_there path.now member (view object.now)) }
+#[tactic(auto, unfolding(crate::specs::Texts::host_where_there), using(crate::proofs::Meant::meant_refused, crate::proofs::Meant::meant_absent, crate::proofs::Meant::meant_there))]
+pub(crate) fn host_where_there(spot: Spot<'_>) -> Result<Option<Bytes>, FileFault>
+    ensures { Gives (λ v. v) result (spec.host_where_there spot.entry.path.now spot.entry.member (view spot.entry.object.now)) }
 {
-    match text_where_there(alloc, Some(object), path, member)? {
+    match text_of(spot)? {
         None => Ok(None),
-        Some(text) => Ok(Some(as_host(alloc, path, member, text)?)),
+        Some(text) => meant(
+            spot,
+            Rule::NameText,
+            host_name(spot.alloc, text.as_bytes())?,
+        ),
     }
 }
 
 /// The MUD URL that a text is.
-#[tactic(auto, unfolding(crate::specs::Texts::as_model), using(reading::proofs::Readings::answer_wanted, reading::proofs::Readings::answer_unwanted))]
-fn as_model(alloc: Global, path: &[u8], member: Member, text: &str) -> Result<MudUrl, FileFault>
-    ensures { Gives (λ u. u) result (spec.as_model path.now member text.now) }
+#[tactic(auto, unfolding(crate::specs::Texts::model_in))]
+fn model_in(text: &str) -> Option<MudUrl>
+    ensures { result ≡ spec.model_in text.now }
 {
     match mud_url(text.as_bytes()) {
-        Ok(url) => Ok(url),
-        Err(_) => Err(refusal(alloc, Rule::NameText, path, member)),
+        Ok(url) => Some(url),
+        Err(_) => None,
     }
 }
 
 /// A MUD URL, where it is there.
-#[tactic(auto, unfolding(crate::specs::Texts::model_where_there), using(reading::proofs::Readings::answer_bind, reading::proofs::Readings::answer_absent, reading::proofs::Readings::answer_there))]
-pub(crate) fn model_where_there(
-    alloc: Global,
-    object: &Value,
-    path: &[u8],
-    member: Member,
-) -> Result<Option<MudUrl>, FileFault>
-    ensures { Gives (λ u. u) result (spec.model_where_there path.now member (view object.now)) }
+#[tactic(auto, unfolding(crate::specs::Texts::model_where_there), using(crate::proofs::Meant::meant_refused, crate::proofs::Meant::meant_absent, crate::proofs::Meant::meant_there))]
+pub(crate) fn model_where_there(spot: Spot<'_>) -> Result<Option<MudUrl>, FileFault>
+    ensures { Gives (λ v. v) result (spec.model_where_there spot.entry.path.now spot.entry.member (view spot.entry.object.now)) }
 {
-    match text_where_there(alloc, Some(object), path, member)? {
+    match text_of(spot)? {
         None => Ok(None),
-        Some(text) => Ok(Some(as_model(alloc, path, member, text)?)),
+        Some(text) => meant(spot, Rule::NameText, model_in(text)),
     }
 }
 
@@ -158,29 +151,25 @@ fn is_uri(text: &[u8]) -> bool
 }
 
 /// The URI of a class that a text is.
-#[tactic(auto, unfolding(crate::specs::Texts::as_uri), using(reading::proofs::Readings::answer_wanted, reading::proofs::Readings::answer_unwanted))]
-fn as_uri(alloc: Global, path: &[u8], member: Member, text: &str) -> Result<Bytes, FileFault>
-    ensures { Gives (λ u. u) result (spec.as_uri path.now member text.now) }
+#[tactic(auto, unfolding(crate::specs::Texts::uri_in))]
+fn uri_in(alloc: Global, text: &[u8]) -> Result<Option<Bytes>, Memory>
+    ensures { IfOk result (λ found. found ≡ spec.uri_in text.now) }
 {
-    if !is_uri(text.as_bytes()) {
-        return Err(refusal(alloc, Rule::NameText, path, member));
+    if is_uri(text) {
+        Ok(Some(Bytes::new(alloc, text)?))
+    } else {
+        Ok(None)
     }
-    Ok(Bytes::new(alloc, text.as_bytes())?)
 }
 
 /// The URI of a class, where it is there.
-#[tactic(auto, unfolding(crate::specs::Texts::uri_where_there), using(reading::proofs::Readings::answer_bind, reading::proofs::Readings::answer_absent, reading::proofs::Readings::answer_there))]
-pub(crate) fn uri_where_there(
-    alloc: Global,
-    object: &Value,
-    path: &[u8],
-    member: Member,
-) -> Result<Option<Bytes>, FileFault>
-    ensures { Gives (λ u. u) result (spec.uri_where_there path.now member (view object.now)) }
+#[tactic(auto, unfolding(crate::specs::Texts::uri_where_there), using(crate::proofs::Meant::meant_refused, crate::proofs::Meant::meant_absent, crate::proofs::Meant::meant_there))]
+pub(crate) fn uri_where_there(spot: Spot<'_>) -> Result<Option<Bytes>, FileFault>
+    ensures { Gives (λ v. v) result (spec.uri_where_there spot.entry.path.now spot.entry.member (view spot.entry.object.now)) }
 {
-    match text_where_there(alloc, Some(object), path, member)? {
+    match text_of(spot)? {
         None => Ok(None),
-        Some(text) => Ok(Some(as_uri(alloc, path, member, text)?)),
+        Some(text) => meant(spot, Rule::NameText, uri_in(spot.alloc, text.as_bytes())?),
     }
 }
 
@@ -207,37 +196,21 @@ fn network_in(list_type: ListType, text: &[u8]) -> Option<Prefix>
     }
 }
 
-/// The network that a text is, of the IP version of a list.
-#[tactic(auto, unfolding(crate::specs::Texts::as_network), using(reading::proofs::Readings::answer_wanted, reading::proofs::Readings::answer_unwanted))]
-fn as_network(
-    alloc: Global,
-    list_type: ListType,
-    path: &[u8],
-    member: Member,
-    text: &str,
-) -> Result<Prefix, FileFault>
-    ensures { Gives (λ p. p) result (spec.as_network list_type path.now member text.now) }
-{
-    match network_in(list_type, text.as_bytes()) {
-        Some(prefix) => Ok(prefix),
-        None => Err(refusal(alloc, Rule::PrefixText, path, member)),
-    }
-}
-
 /// A network of the IP version of a list, where it is there.
-#[tactic(auto, unfolding(crate::specs::Texts::network_where_there), using(reading::proofs::Readings::answer_bind, reading::proofs::Readings::answer_absent, reading::proofs::Readings::answer_there))]
+#[tactic(auto, unfolding(crate::specs::Texts::network_where_there), using(crate::proofs::Meant::meant_refused, crate::proofs::Meant::meant_absent, crate::proofs::Meant::meant_there))]
 pub(crate) fn network_where_there(
-    alloc: Global,
+    spot: Spot<'_>,
     list_type: ListType,
-    object: &Value,
-    path: &[u8],
-    member: Member,
 ) -> Result<Option<Prefix>, FileFault>
-    ensures { Gives (λ p. p) result (spec.network_where_there list_type path.now member (view object.now)) }
+    ensures { Gives (λ v. v) result (spec.network_where_there list_type spot.entry.path.now spot.entry.member (view spot.entry.object.now)) }
 {
-    match text_where_there(alloc, Some(object), path, member)? {
+    match text_of(spot)? {
         None => Ok(None),
-        Some(text) => Ok(Some(as_network(alloc, list_type, path, member, text)?)),
+        Some(text) => meant(
+            spot,
+            Rule::PrefixText,
+            network_in(list_type, text.as_bytes()),
+        ),
     }
 }
 
@@ -255,35 +228,14 @@ fn direction_in(text: &str) -> Option<Direction>
     None
 }
 
-/// The direction that a text names.
-#[tactic(auto, unfolding(crate::specs::Texts::as_direction), using(reading::proofs::Readings::answer_wanted, reading::proofs::Readings::answer_unwanted))]
-fn as_direction(
-    alloc: Global,
-    path: &[u8],
-    member: Member,
-    text: &str,
-) -> Result<Direction, FileFault>
-    ensures { Gives (λ d. d) result (spec.as_direction path.now member text.now) }
-{
-    match direction_in(text) {
-        Some(side) => Ok(side),
-        None => Err(refusal(alloc, Rule::DirectionText, path, member)),
-    }
-}
-
 /// A direction, where it is there.
-#[tactic(auto, unfolding(crate::specs::Texts::direction_where_there), using(reading::proofs::Readings::answer_bind, reading::proofs::Readings::answer_absent, reading::proofs::Readings::answer_there))]
-pub(crate) fn direction_where_there(
-    alloc: Global,
-    object: &Value,
-    path: &[u8],
-    member: Member,
-) -> Result<Option<Direction>, FileFault>
-    ensures { Gives (λ d. d) result (spec.direction_where_there path.now member (view object.now)) }
+#[tactic(auto, unfolding(crate::specs::Texts::direction_where_there), using(crate::proofs::Meant::meant_refused, crate::proofs::Meant::meant_absent, crate::proofs::Meant::meant_there))]
+pub(crate) fn direction_where_there(spot: Spot<'_>) -> Result<Option<Direction>, FileFault>
+    ensures { Gives (λ v. v) result (spec.direction_where_there spot.entry.path.now spot.entry.member (view spot.entry.object.now)) }
 {
-    match text_where_there(alloc, Some(object), path, member)? {
+    match text_of(spot)? {
         None => Ok(None),
-        Some(text) => Ok(Some(as_direction(alloc, path, member, text)?)),
+        Some(text) => meant(spot, Rule::DirectionText, direction_in(text)),
     }
 }
 
@@ -307,34 +259,13 @@ fn operator_in(text: &str) -> Option<Operator>
     None
 }
 
-/// The operator that a text is.
-#[tactic(auto, unfolding(crate::specs::Texts::as_operator), using(reading::proofs::Readings::answer_wanted, reading::proofs::Readings::answer_unwanted))]
-fn as_operator(
-    alloc: Global,
-    path: &[u8],
-    member: Member,
-    text: &str,
-) -> Result<Operator, FileFault>
-    ensures { Gives (λ o. o) result (spec.as_operator path.now member text.now) }
-{
-    match operator_in(text) {
-        Some(operator) => Ok(operator),
-        None => Err(refusal(alloc, Rule::Operator, path, member)),
-    }
-}
-
 /// An operator, where it is there.
-#[tactic(auto, unfolding(crate::specs::Texts::operator_where_there), using(reading::proofs::Readings::answer_bind, reading::proofs::Readings::answer_absent, reading::proofs::Readings::answer_there))]
-pub(crate) fn operator_where_there(
-    alloc: Global,
-    object: &Value,
-    path: &[u8],
-    member: Member,
-) -> Result<Option<Operator>, FileFault>
-    ensures { Gives (λ o. o) result (spec.operator_where_there path.now member (view object.now)) }
+#[tactic(auto, unfolding(crate::specs::Texts::operator_where_there), using(crate::proofs::Meant::meant_refused, crate::proofs::Meant::meant_absent, crate::proofs::Meant::meant_there))]
+pub(crate) fn operator_where_there(spot: Spot<'_>) -> Result<Option<Operator>, FileFault>
+    ensures { Gives (λ v. v) result (spec.operator_where_there spot.entry.path.now spot.entry.member (view spot.entry.object.now)) }
 {
-    match text_where_there(alloc, Some(object), path, member)? {
+    match text_of(spot)? {
         None => Ok(None),
-        Some(text) => Ok(Some(as_operator(alloc, path, member, text)?)),
+        Some(text) => meant(spot, Rule::Operator, operator_in(text)),
     }
 }

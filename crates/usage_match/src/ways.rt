@@ -1,6 +1,6 @@
 //! How the members of the containers are read: a way for each row of a container's table, and what
 //! the rows of `tcp`, `udp` and `icmp` mean together.
-use crate::entry_tests::{IpTests, ListType, MudTests, Operator};
+use crate::entry_tests::{IpTests, ListType, MudTests};
 use acl_model::{Layer, PortTest};
 use mud_base::Direction;
 
@@ -44,9 +44,20 @@ pub enum IpWay {
     DestinationName(bool),
 }
 
-/// How a member of `tcp` is read (RFC 8519, 4.2; RFC 8520, 4.8).
+/// The transport layers that may be asked for.
 #[derive(Clone, Copy)]
-pub enum TcpWay {
+pub enum LayerKind {
+    /// `tcp`.
+    Tcp,
+    /// `udp`.
+    Udp,
+    /// `icmp`.
+    Icmp,
+}
+
+/// How a member of `tcp`, `udp` or `icmp` is read (RFC 8519, 4.2; RFC 8520, 4.8).
+#[derive(Clone, Copy)]
+pub enum LayerWay {
     /// A port container.
     Source,
     /// A port container.
@@ -55,22 +66,6 @@ pub enum TcpWay {
     Begun,
     /// A text that is a list of flags.
     Flags,
-}
-
-/// How a member of `udp` is read (RFC 8519, 4.2).
-#[derive(Clone, Copy)]
-pub enum UdpWay {
-    /// A port container.
-    Source,
-    /// A port container.
-    Destination,
-    /// It is refused where it stands: it is of `tcp` alone.
-    Refused,
-}
-
-/// How a member of `icmp` is read (RFC 8519, 4.2).
-#[derive(Clone, Copy)]
-pub enum IcmpWay {
     /// A number up to 255.
     Kind,
     /// A number up to 255.
@@ -79,22 +74,9 @@ pub enum IcmpWay {
     Refused,
 }
 
-/// How a member of a port container is read (RFC 8519, 4.2).
+/// What `tcp`, `udp` or `icmp` asks of the header.
 #[derive(Clone, Copy)]
-pub enum PortWay {
-    /// A text that is an operator. Without it the operator is `eq`.
-    Operator,
-    /// A port that has to be there.
-    Port,
-    /// A number that has to be there.
-    Lower,
-    /// A number that has to be there.
-    Upper,
-}
-
-/// What `tcp` asks of the header.
-#[derive(Clone, Copy)]
-pub struct TcpTests {
+pub struct LayerTests {
     /// The test of the source port.
     pub source: PortTest,
     /// The test of the destination port.
@@ -103,20 +85,6 @@ pub struct TcpTests {
     pub begun: Option<Direction>,
     /// The octet of flags.
     pub flags: Option<u8>,
-}
-
-/// What `udp` asks of the header.
-#[derive(Clone, Copy)]
-pub struct UdpTests {
-    /// The test of the source port.
-    pub source: PortTest,
-    /// The test of the destination port.
-    pub destination: PortTest,
-}
-
-/// What `icmp` asks of the header.
-#[derive(Clone, Copy)]
-pub struct IcmpTests {
     /// The type.
     pub kind: Option<u8>,
     /// The code.
@@ -130,14 +98,10 @@ pub enum MatchWay {
     Mud,
     /// The container of the IP version of a list, which is read for a direction.
     Ip(ListType, Direction),
-    /// It is refused where it stands: it is of the other IP version.
+    /// It doesn't stand: it is of the other IP version.
     Refused,
-    /// The container `tcp`.
-    Tcp,
-    /// The container `udp`.
-    Udp,
-    /// The container `icmp`.
-    Icmp,
+    /// The container `tcp`, `udp` or `icmp`.
+    Layer(LayerKind),
 }
 
 /// What the members of `matches` ask.
@@ -149,17 +113,4 @@ pub struct MatchTests {
     pub ip: IpTests,
     /// What is asked of the transport header.
     pub layer: Layer,
-}
-
-/// What a port container names.
-#[derive(Clone, Copy)]
-pub struct PortParts {
-    /// The operator.
-    pub operator: Operator,
-    /// The port that it is for.
-    pub port: u16,
-    /// The number of the first port of a range.
-    pub lower: u64,
-    /// The number of the last port of a range.
-    pub upper: u64,
 }

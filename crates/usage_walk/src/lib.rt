@@ -15,4 +15,4 @@ pub use fault::{Broken, FileFault, Rule};
 pub use member::Member;
 pub use named::{Element, Elements};
 pub use row::Row;
-pub use table::Reads;
+pub use table::{Reads, Spot};

@@ -10,11 +10,26 @@ ghost use Rattle.usage_walk.specs.declared.member.Member.{Member};
 ghost use Rattle.usage_walk.specs.Tables as spec;
 
 use crate::fault::FileFault;
+use crate::kinds::object_where_there;
 use crate::member::Member;
 use crate::others::all_known;
+use crate::path::under;
 use crate::row::Row;
 use serde_json::Value;
 use std::alloc::Global;
+
+/// Where a member is read.
+#[derive(Clone, Copy)]
+pub struct Spot<'a> {
+    /// For what is made of it.
+    pub alloc: Global,
+    /// The object that it may stand in.
+    pub object: &'a Value,
+    /// The path of the object.
+    pub path: &'a [u8],
+    /// The member.
+    pub member: Member,
+}
 
 /// Ways in which the members of an object are read.
 pub trait Reads: Copy {
@@ -23,16 +38,10 @@ pub trait Reads: Copy {
 
     ghost reading: { Self → List ℕ → Member → Data → Self.Meaning → Reading Self.Meaning };
 
-    /// Reads a member of the object at this path, behind what came of the members before it.
-    fn read(
-        self,
-        alloc: Global,
-        object: &Value,
-        path: &[u8],
-        member: Member,
-        so_far: Self::Meaning,
-    ) -> Result<Self::Meaning, FileFault>
-        ensures { Gives (λ m. m) result (reading self path.now member (view object.now) so_far) };
+    /// Reads a member, behind what came of the members before it. After a refusal nothing is known
+    /// of what came.
+    fn read(self, spot: Spot<'_>, so_far: &mut Self::Meaning) -> Result<(), FileFault>
+        ensures { Gives (λ _. so_far.new) result (reading self spot.entry.path.now spot.entry.member (view spot.entry.object.now) so_far.old) };
 }
 
 /// Reads the member of a row, behind what came of the members before it.
@@ -42,11 +51,17 @@ fn read_row<H: Reads>(
     object: &Value,
     path: &[u8],
     row: Row<H>,
-    so_far: H::Meaning,
-) -> Result<H::Meaning, FileFault>
-    ensures { Gives (λ m. m) result (spec.row_of H.reading path.now (view object.now) so_far row) }
+    so_far: &mut H::Meaning,
+) -> Result<(), FileFault>
+    ensures { Gives (λ _. so_far.new) result (spec.row_of H.reading path.now (view object.now) so_far.old row) }
 {
-    row.how.read(alloc, object, path, row.member, so_far)
+    let spot = Spot {
+        alloc,
+        object,
+        path,
+        member: row.member,
+    };
+    row.how.read(spot, so_far)
 }
 
 /// Reads the members of these rows in their order, behind what came of those before them.
@@ -62,14 +77,14 @@ pub fn read_rows<H: Reads>(
 {
     let mut meaning = so_far;
     'rows: for row in rows {
-        meaning = read_row(alloc, object, path, *row, meaning)?;
+        read_row(alloc, object, path, *row, &mut meaning)?;
     }
     Ok(meaning)
 }
 
 /// Reads the object at this path by its table. Where no member stands, it means this nothing.
 #[tactic(auto, unfolding(crate::specs::Tables::table_of), using(reading::proofs::Readings::answer_bind))]
-pub fn read_table<H: Reads>(
+fn read_table<H: Reads>(
     alloc: Global,
     object: &Value,
     path: &[u8],
@@ -80,4 +95,22 @@ pub fn read_table<H: Reads>(
 {
     all_known(alloc, object, path, rows)?;
     read_rows(alloc, object, path, rows, nothing)
+}
+
+/// Reads the object that a member is by its table, where it is there.
+#[tactic(auto, unfolding(crate::specs::Tables::container_at), using(reading::proofs::Readings::answer_bind, reading::proofs::Readings::answer_absent, reading::proofs::Readings::answer_there))]
+pub fn read_container<H: Reads>(
+    spot: Spot<'_>,
+    rows: &[Row<H>],
+    nothing: H::Meaning,
+) -> Result<Option<H::Meaning>, FileFault>
+    ensures { Gives (λ m. m) result (spec.container_at H.reading rows.now nothing spot.entry.path.now spot.entry.member (view spot.entry.object.now)) }
+{
+    let found = object_where_there(spot.alloc, Some(spot.object), spot.path, spot.member)?;
+    let Some(container) = found else {
+        return Ok(None);
+    };
+    let path = under(spot.alloc, spot.path, spot.member)?;
+    let meaning = read_table(spot.alloc, container, path.octets(), rows, nothing)?;
+    Ok(Some(meaning))
 }

@@ -73,6 +73,12 @@ at_same k l e = key_tie k l (is_equal (key_cmp k l) e)
 pub at_itself : (k : Key) → is_at (key_cmp k) k ≡ true
 at_itself k = ap is_eq (key_itself k)
 
+pub at_turned : (k l : Key) → is_at (key_cmp l) k ≡ is_at (key_cmp k) l
+at_turned k l =
+    both_ways (is_at (key_cmp l) k) (is_at (key_cmp k) l)
+    (λ e. let P : Key → Type 0 = λ m. is_at (key_cmp k) m ≡ true in subst P (sym (at_same l k e)) (at_itself k))
+    (λ e. let P : Key → Type 0 = λ m. is_at (key_cmp l) m ≡ true in subst P (sym (at_same k l e)) (at_itself l))
+
 -- ---- Two ends are known by their key
 
 same_addr_from : (a b : Addr) → number_of a ≡ number_of b → is_long a ≡ is_long b → a ≡ b

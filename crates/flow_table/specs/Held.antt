@@ -1,5 +1,5 @@
 -- What a table of connections holds: two generations of places, and what it keeps by them.
-use Rattle.std.specs.Prelude.{◌≡◌, ℕ, ◌≤◌, false, List, Option, Some, None, IsSome}
+use Rattle.std.specs.Prelude.{◌≡◌, ℕ, ◌≤◌, Bool, false, List, ◌∷◌, Option, Some, None}
 use Rattle.std.specs.Map.{lookup}
 use Rattle.std.specs.BTreeMap.{is_at}
 use Rattle.mud_tables.specs.History.{Endpoint, Begun}
@@ -7,12 +7,19 @@ use Rattle.mud_tables.specs.declared.segment.Segment.{Segment}
 use Rattle.flow_table.specs.Kept.{Flows, kept_after}
 use Rattle.flow_table.specs.Keys.{Key, key_cmp, key_of}
 
--- The moment of the last packet, the moment at which the younger generation was begun, and the places of both.
+-- The moment of the last packet, the moment at which the younger generation was begun, whether memory for one connection
+-- more is ready, and the places of both generations.
 pub record Held : Type 0 where
   pub last : Option ℕ
   pub since : ℕ
+  pub has_room : Bool
   pub younger : List (Key × Option Begun)
   pub elder : List (Key × Option Begun)
+
+-- the places of a generation, with the one that stands apart, if there is one
+unfoldable pub with_newest : Option (Key × Option Begun) → List (Key × Option Begun) → List (Key × Option Begun)
+with_newest None places = places
+with_newest (Some newest) places = newest ∷ places
 
 -- the place of a key in a generation
 unfoldable pub place_at : List (Key × Option Begun) → Key → Option (Option Begun)
@@ -47,10 +54,6 @@ pub record IsSound (held : Held) : Type 0 where
   pub elder : (key : Key) (begun : Begun) → place_at held.elder key ≡ Some (Some begun) → begun.1 ≤ held.since
   pub noted : (key : Key) (begun : Begun) → place_at held.elder key ≡ Some (Some begun) → IsNoted held.last begun.1
   pub younger : (key : Key) (begun : Begun) → place_at held.younger key ≡ Some (Some begun) → IsNoted held.last begun.1
-
--- there is a place for what is between the two ends of this key
-abbrev pub HasPlace : Held → Key → Type 0
-HasPlace held key = IsSome (place_at held.younger key)
 
 -- the place of this key has what is kept after the packet, and each other place stays
 pub record IsWritten (key : Key) (p : Segment) (before : List (Key × Option Begun)) (after : List (Key × Option Begun)) : Type 0 where

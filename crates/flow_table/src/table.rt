@@ -1,10 +1,10 @@
 //! The table of the connections that forwarded packets made.
-ghost use Rattle.std.specs.Prelude.{◌≡◌, ◌++◌, ◌∷◌, [], List, IsTrue, IfOk, OnErr, IsSome, Some};
+ghost use Rattle.std.specs.Prelude.{◌≡◌, ◌++◌, ◌∷◌, [], List, true, false, IsTrue, IfOk, OnOk, OnErr, IsSome, Some, None};
 ghost use Rattle.mud_tables.specs.History as history;
 ghost use Rattle.mud_tables.specs.History.{StandsFor};
 ghost use Rattle.mud_tables.specs.declared.segment.Segment.{Segment as SegmentValue};
 ghost use Rattle.flow_table.specs.Kept.{HasNoted, is_since, begun_kept};
-ghost use Rattle.flow_table.specs.Held.{held_at, place_at, filled, flows_of, HasPlace, IsWritten};
+ghost use Rattle.flow_table.specs.Held.{held_at, place_at, place_first, filled, with_newest, flows_of, IsWritten};
 ghost use Rattle.flow_table.specs.Planned.{segment_planned, IsPlanned};
 
 use crate::kept::{Begun, beginner_kept, kept_after};
@@ -15,6 +15,7 @@ use mud_tables::Segment;
 use mud_tables::limits::MOST_PAUSE;
 use mud_tables::segment::segment_of;
 use std::alloc::Global;
+use std::cmp::Ordering;
 use std::collections::BTreeMap;
 use std::marker::Model;
 use std::mem::replace;
@@ -24,6 +25,9 @@ mod tests;
 
 /// The connections that forwarded TCP packets made. Each is kept until its last packet is more than
 /// [`MOST_PAUSE`] seconds ago at least, and so it answers as the list of all these packets does.
+///
+/// A connection that is new stands apart until the next packet is planned: its place is made then,
+/// which may take memory, so that a packet is noted without looking first whether it has a place.
 ///
 /// Connections stand in two generations. Where a packet is noted more than [`MOST_PAUSE`] seconds
 /// after the younger one was begun, the elder one goes as a whole and the younger one becomes it. So
@@ -36,26 +40,39 @@ pub struct FlowTable {
     last: Option<Moment>,
     /// The moment at which the younger generation was begun, in seconds since 1970.
     since: u64,
+    /// The connection of the last packet, where the younger generation has no place for it yet.
+    newest: Option<(Key, Option<Begun>)>,
     younger: BTreeMap<Key, Option<Begun>>,
     elder: BTreeMap<Key, Option<Begun>>,
 }
 
 impl Model for FlowTable {
-    ghost use Rattle.flow_table.specs.Held.{Held, IsSound};
+    ghost use Rattle.std.specs.Option.{is_none};
+    ghost use Rattle.flow_table.specs.Held.{Held, IsSound, with_newest};
 
     ghost Value = { Held };
 
-    ghost view = { λ t. record { last = t.last; since = t.since; younger = t.younger.entries; elder = t.elder.entries } };
+    ghost view = { λ t. record {
+      last = t.last;
+      since = t.since;
+      has_room = is_none t.newest;
+      younger = with_newest t.newest t.younger.entries;
+      elder = t.elder.entries;
+    } };
 
-    ghost invariant = { λ t. IsSound (record { last = t.last; since = t.since; younger = t.younger.entries; elder = t.elder.entries }) };
+    ghost invariant = { λ t. IsSound (record {
+      last = t.last;
+      since = t.since;
+      has_room = is_none t.newest;
+      younger = with_newest t.newest t.younger.entries;
+      elder = t.elder.entries;
+    }) };
 }
 
-/// A packet whose place in the table is ready.
+/// A packet that the table has room for.
 #[derive(Debug, Drop)]
 pub struct FlowPlan {
     packet: Segment,
-    /// What its ends are looked for by.
-    key: Key,
 }
 
 impl FlowTable {
@@ -67,28 +84,20 @@ impl FlowTable {
             alloc,
             last: None,
             since: 0,
+            newest: None,
             younger: BTreeMap::new(alloc),
             elder: BTreeMap::new(alloc),
         }
     }
 
-    /// What is kept of two ends: what the younger generation has, and else the elder one.
+    /// What is kept of two ends: what stands apart or the younger generation has, and else the elder
+    /// one.
     fn held(&self, key: &Key) -> Option<Begun>
         ensures { result ≡ held_at self.now key.now }
     {
-        match self.younger.get(key) {
-            Some(begun) => *begun,
-            None => self.held_before(key),
-        }
-    }
-
-    /// What the elder generation has of two ends.
-    fn held_before(&self, key: &Key) -> Option<Begun>
-        ensures { result ≡ filled (place_at self.now.elder key.now) }
-    {
-        match self.elder.get(key) {
-            Some(begun) => *begun,
-            None => None,
+        match apart(&self.newest, key) {
+            Some(begun) => begun,
+            None => kept_first(&self.younger, &self.elder, key),
         }
     }
 
@@ -134,21 +143,21 @@ impl FlowTable {
             Some(packet) => packet,
             None => unreachable!(),
         };
-        let key = key_of(packet.source, packet.destination);
-        self.make_place(key)?;
-        Ok(FlowPlan { packet, key })
+        self.make_room()?;
+        Ok(FlowPlan { packet })
     }
 
-    /// Makes a place for two ends, which keeps what was kept of them.
-    fn make_place(&mut self, key: Key) -> Result<(), Memory>
+    /// Makes the place of the connection that stands apart, if there is one, so that there is room for
+    /// another one.
+    fn make_room(&mut self) -> Result<(), Memory>
         ensures same { flows_of self.new ≡ flows_of self.old }
-        ensures place { IfOk result (λ _. HasPlace self.new key) }
+        ensures room { OnOk result (IsTrue self.new.has_room) }
     {
-        if self.younger.contains_key(&key) {
+        let Some((key, begun)) = self.newest else {
             return Ok(());
-        }
-        let begun = self.held_before(&key);
+        };
         self.younger.insert(key, begun)?;
+        self.newest = None;
         Ok(())
     }
 
@@ -159,22 +168,74 @@ impl FlowTable {
         ensures stands { (h : List SegmentValue) → StandsFor h (flows_of self.old) → StandsFor (h ++ segment_planned plan ∷ []) (flows_of self.new) }
     {
         let packet = plan.packet;
-        write_place(&mut self.younger, &plan.key, &packet);
-        self.last = Some(packet.at);
+        let key = key_of(packet.source, packet.destination);
         let now = packet.at.seconds();
+        self.last = Some(packet.at);
         if now.saturating_sub(self.since) > MOST_PAUSE {
+            let kept = kept_first(&self.younger, &self.elder, &key);
             self.elder = replace(&mut self.younger, BTreeMap::new(self.alloc));
             self.since = now;
+            let begun = kept_after(&packet, kept);
+            self.newest = Some((key, begun));
+        } else if !write_place(&mut self.younger, &key, &packet) {
+            let before = kept_in(&self.elder, &key);
+            let noted = kept_after(&packet, before);
+            self.newest = Some((key, noted));
         }
     }
 }
 
-/// Writes what is kept after a packet into the place that was made for its ends.
-fn write_place(places: &mut BTreeMap<Key, Option<Begun>>, key: &Key, packet: &Segment)
-    ensures { IsWritten key.now packet.now places.old.entries places.new.entries }
+/// What stands apart, where it is of these two ends.
+#[tactic(auto, unfolding(crate::specs::Held::place_at, crate::specs::Held::with_newest))]
+fn apart(newest: &Option<(Key, Option<Begun>)>, key: &Key) -> Option<Option<Begun>>
+    ensures { result ≡ place_at (with_newest newest.now []) key.now }
 {
-    if let Some(place) = places.get_mut(key) {
-        *place = kept_after(packet, *place);
+    match newest {
+        Some((ends, begun)) => match key.cmp(ends) {
+            Ordering::Equal => Some(*begun),
+            _ => None,
+        },
+        None => None,
+    }
+}
+
+/// What two generations have of two ends: what the younger one has, and else the elder one.
+fn kept_first(
+    younger: &BTreeMap<Key, Option<Begun>>,
+    elder: &BTreeMap<Key, Option<Begun>>,
+    key: &Key,
+) -> Option<Begun>
+    ensures { result ≡ place_first (place_at younger.now.entries key.now) (place_at elder.now.entries key.now) }
+{
+    match younger.get(key) {
+        Some(begun) => *begun,
+        None => kept_in(elder, key),
+    }
+}
+
+/// What a generation has of two ends.
+fn kept_in(places: &BTreeMap<Key, Option<Begun>>, key: &Key) -> Option<Begun>
+    ensures { result ≡ filled (place_at places.now.entries key.now) }
+{
+    match places.get(key) {
+        Some(begun) => *begun,
+        None => None,
+    }
+}
+
+/// Writes what is kept after a packet into the place of its ends, and answers whether there is one.
+fn write_place(places: &mut BTreeMap<Key, Option<Begun>>, key: &Key, packet: &Segment) -> bool
+    ensures there { result ≡ true → IsSome (place_at places.old.entries key.now) }
+    ensures written { result ≡ true → IsWritten key.now packet.now places.old.entries places.new.entries }
+    ensures absent { result ≡ false → place_at places.old.entries key.now ≡ None }
+    ensures same { result ≡ false → places.new.entries ≡ places.old.entries }
+{
+    match places.get_mut(key) {
+        Some(place) => {
+            *place = kept_after(packet, *place);
+            true
+        }
+        None => false,
     }
 }
 

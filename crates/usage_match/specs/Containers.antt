@@ -148,6 +148,10 @@ ip_at type side path m d = do
 
 -- ---- `tcp`, `udp` and `icmp` (RFC 8519, 4.2; RFC 8520, 4.8)
 
+-- a direction stands in `tcp` alone
+unfoldable pub no_direction : List ℕ → Member → Data → Reading (Unit {0})
+no_direction path m d = refused_where (stands m d) (fault_at rule.DirectionNotTcp (under path m))
+
 unfoldable pub layer_rows : LayerKind → List (Row LayerWay)
 layer_rows Tcp =
     row members.SourcePort way.Source
@@ -185,9 +189,8 @@ layer_ways way.Kind path m d tests = do
 layer_ways way.Code path m d tests = do
   found ← octet_where_there 255 path m d
   done (record tests { code = found })
--- a direction stands in `tcp` alone
 layer_ways way.Refused path m d tests = do
-  _ ← refused_where (stands m d) (fault_at rule.DirectionNotTcp (under path m))
+  _ ← no_direction path m d
   done tests
 
 unfoldable pub no_layer_tests : LayerTests

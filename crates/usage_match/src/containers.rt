@@ -1,11 +1,8 @@
 //! The containers inside `matches`. Each is an object that is read by its table.
 ghost use Rattle.std.specs.Prelude.{◌≡◌, Some};
 ghost use Rattle.serde_json.specs.View.{view};
-ghost use Rattle.reading.specs.Reading.{Gives, refused_where};
+ghost use Rattle.reading.specs.Reading.{Gives};
 ghost use Rattle.usage_walk.specs.Kinds.{leaf_where_there};
-ghost use Rattle.usage_walk.specs.Reading.{fault_at, under};
-ghost use Rattle.usage_walk.specs.declared.fault.Rule.TheVariants as rule;
-ghost use Rattle.usage_match.specs.Ports.{stands};
 ghost use Rattle.usage_match.specs.Containers as spec;
 
 use crate::entry_tests::{IpTests, ListType, MudTests};
@@ -271,8 +268,9 @@ fn layer_rows(kind: LayerKind) -> &'static [Row<LayerWay>]
 }
 
 /// Refuses a direction outside of `tcp` (RFC 8520, 4.8).
+#[tactic(auto, unfolding(crate::specs::Containers::no_direction))]
 fn no_direction(spot: Spot<'_>) -> Result<(), FileFault>
-    ensures { Gives (λ _. tt) result (refused_where (stands spot.entry.member (view spot.entry.object.now)) (fault_at rule.DirectionNotTcp (under spot.entry.path.now spot.entry.member))) }
+    ensures { Gives (λ _. tt) result (spec.no_direction spot.entry.path.now spot.entry.member (view spot.entry.object.now)) }
 {
     let breaks = stands(spot.object, spot.member);
     refuse_where(

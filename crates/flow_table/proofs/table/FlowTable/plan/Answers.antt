@@ -14,7 +14,6 @@ returns-clause-ready c =
     let at : c.in-Some.packet.at ≡ c.args.now = at_planned _ _ _ (sym c.segment_of.ensures ∙ c.in-Some.is) in
     let Since : Flows → Type 0 = λ flows. IsTrue (is_since flows.last c.args.now) in
     record {
-      since = rw at (subst Since (sym c.in_ok-make_place.ensures.same) c.requires.since);
-      key = c.key_of-key.ensures;
-      place = c.in_ok-make_place.ensures.place;
+      since = rw at (subst Since (sym c.in_ok-make_room.ensures.same) c.requires.since);
+      room = c.in_ok-make_room.ensures.room;
     }

@@ -12,7 +12,7 @@ use Rattle.acl_model.specs.Policies.{UrlPolicy}
 use Rattle.acl_rows.specs.declared.row.Owner.TheVariants.{Url}
 use Rattle.acl_rows.specs.Rows.{Slots, Holder, held_by}
 use Rattle.acl_rows.specs.View.{holder_from}
-use Rattle.acl_patch.specs.PolicyTouched.{IsSlotChange}
+use Rattle.row_changes.specs.PolicyTouched.{IsSlotChange}
 use Rattle.acl_compile.specs.Compiled.{UrlsApart}
 use Rattle.acl_compile.specs.Plans.{holder_owner, place_held}
 use Rattle.acl_compile.specs.Places.{UrlAndPlace, url_of, owner_of, ArePlacesOf, places_without, places_with}

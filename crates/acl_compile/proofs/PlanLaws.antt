@@ -7,15 +7,15 @@ use Rattle.acl_model.specs.Places.{binding_place}
 use Rattle.acl_model.specs.Changes.{replaced}
 use Rattle.row_edits.specs.declared.edit.Edit.{Edit}
 use Rattle.row_edits.specs.Edits.{edited}
-use Rattle.row_shelves.specs.Shelves.{Shelves, HasRoom}
-use Rattle.binding_shelves.specs.Shelves.{KeptBindings, HasRoomByKey}
+use Rattle.acl_shelves.specs.RowShelves.{Shelves, HasRoom}
+use Rattle.acl_shelves.specs.BindingShelves.{KeptBindings, HasRoomByKey}
 use Rattle.acl_rows.specs.declared.row.Row.{Row}
 use Rattle.acl_rows.specs.Places.{row_place}
 use Rattle.acl_rows.specs.Rows.{Slots, rows_of, member_keys}
-use Rattle.acl_patch.specs.Patch.{IsPatch, rows_apart}
-use Rattle.acl_patch.specs.Touched.{touches}
-use Rattle.acl_patch.proofs.Patches.{patched}
-use Rattle.acl_patch.proofs.Apart.{few_edits}
+use Rattle.row_changes.specs.Patch.{IsPatch, rows_apart}
+use Rattle.row_changes.specs.Touched.{touches}
+use Rattle.row_changes.proofs.Patches.{patched}
+use Rattle.row_changes.proofs.Apart.{few_edits}
 use Rattle.row_changes.specs.Bindings.{AreEditsOf}
 use Rattle.row_changes.specs.Policies.{AllHeld}
 use Rattle.row_changes.specs.Steps.{HolderFits, HaveKeys, place_steps}

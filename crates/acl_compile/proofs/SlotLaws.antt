@@ -22,12 +22,12 @@ use Rattle.acl_rows.specs.declared.row.Owner.TheVariants.{Url, Default}
 use Rattle.acl_rows.specs.declared.row.Row.{Row}
 use Rattle.acl_rows.specs.Rows.{Slots, Holder, rows_of, member_keys, numbered, slot_policy, held_by, end_at}
 use Rattle.acl_rows.specs.View.{in_slot, holder_from}
-use Rattle.acl_patch.specs.PolicyTouched.{bound_key, bound_under, first_key_touches, entry_touches, side_policy_touches, new_touches, owner_rows, IsSlotChange}
+use Rattle.row_changes.specs.PolicyTouched.{bound_key, bound_under, first_key_touches, entry_touches, side_policy_touches, new_touches, owner_rows, IsSlotChange}
 use Rattle.acl_rows.specs.Rows.{held_end}
 use Rattle.acl_rows.specs.Places.{owner_class, owner_number, owner_place, side_place, peer_place, place_at, row_place}
 use Rattle.acl_rows.proofs.AtPlaces.{ascend-rows_of}
 use Rattle.acl_rows.proofs.Sound.{slot_by}
-use Rattle.acl_patch.specs.Patch.{end_for}
+use Rattle.row_changes.specs.Patch.{end_for}
 use Rattle.sorted_rows.specs.Placed.{row_at, is_under}
 use Rattle.row_changes.proofs.Groups.{all_kept, each_there}
 use Rattle.row_changes.proofs.PolicyRows.{end_was}
@@ -35,11 +35,11 @@ use Rattle.acl_compile.specs.Compiled.{UrlsApart, compiled_state}
 use Rattle.row_changes.specs.Fresh.{policy_count}
 use Rattle.row_edits.specs.declared.edit.Edit.{Edit}
 use Rattle.row_edits.specs.Edits.{edited}
-use Rattle.binding_shelves.specs.Shelves.{KeptBindings, AreFoundByKey, HasRoomByKey}
-use Rattle.binding_shelves.proofs.EditLaws.{no_edits}
-use Rattle.row_shelves.specs.Shelves.{Shelves, HasRoom}
+use Rattle.acl_shelves.specs.BindingShelves.{KeptBindings, AreFoundByKey, HasRoomByKey}
+use Rattle.acl_shelves.proofs.EditLaws.{no_edits}
+use Rattle.acl_shelves.specs.RowShelves.{Shelves, HasRoom}
 use Rattle.acl_model.specs.Places.{binding_place}
-use Rattle.acl_patch.specs.Patch.{IsPatch}
+use Rattle.row_changes.specs.Patch.{IsPatch}
 use Rattle.acl_compile.specs.Plans.{slot_set, holder_policy, holder_owner, policy_held, place_held, held_for, is_other, others_held, rows_of_owner, slots_with, slots_after, bindings_after, policy_steps, policy_reads, IsPlaceFor, IsPolicyPlan}
 use Rattle.row_changes.specs.Steps.{HaveKeys, PolicyKeys, place_steps}
 use Rattle.row_changes.proofs.Loops.{slot_holds}

@@ -10,8 +10,8 @@ use Rattle.acl_model.specs.Policies.{UrlPolicy}
 use Rattle.acl_rows.specs.declared.row.Owner.TheVariants.{Url}
 use Rattle.acl_rows.specs.ByAddress.{AddrRoom}
 use Rattle.acl_rows.specs.Rows.{Slots, held_by, rows_of}
-use Rattle.row_shelves.specs.Shelves.{Shelves}
-use Rattle.binding_shelves.specs.Shelves.{KeyRoom, KeptBindings}
+use Rattle.acl_shelves.specs.RowShelves.{Shelves}
+use Rattle.acl_shelves.specs.BindingShelves.{KeyRoom, KeptBindings}
 
 -- The policies in their places, the bindings and the rows; and how many more policies there is room for, how many more
 -- places of URLs, how many more bindings on the shelf of each key, and how many more rows of each address on the shelf of

@@ -12,10 +12,10 @@ use Rattle.acl_rows.specs.declared.row.Row.{Row}
 use Rattle.acl_rows.specs.declared.row.Owner.TheVariants.{Url, Default}
 use Rattle.acl_rows.specs.Rows.{Slots, Holder, held_by}
 use Rattle.acl_rows.specs.View.{holder_from}
-use Rattle.acl_patch.specs.Patch.{IsPatch}
-use Rattle.acl_patch.specs.PolicyTouched.{owner_rows, new_touches}
-use Rattle.row_shelves.specs.Shelves.{HasRoom}
-use Rattle.binding_shelves.specs.Shelves.{AreFoundByKey, HasRoomByKey}
+use Rattle.row_changes.specs.Patch.{IsPatch}
+use Rattle.row_changes.specs.PolicyTouched.{owner_rows, new_touches}
+use Rattle.acl_shelves.specs.RowShelves.{HasRoom}
+use Rattle.acl_shelves.specs.BindingShelves.{AreFoundByKey, HasRoomByKey}
 use Rattle.row_changes.specs.Fresh.{policy_count}
 use Rattle.row_changes.specs.Policies.{HasCounts}
 use Rattle.row_changes.specs.Steps.{place_steps}

@@ -3,23 +3,22 @@ ghost use Rattle.std.specs.Prelude.{◌≡◌, ℕ, ◌+◌, ◌-◌, ◌*◌, �
 ghost use Rattle.acl_model.specs.Policies.{UrlPolicy};
 ghost use Rattle.acl_model.specs.Defaults.{default_policy};
 ghost use Rattle.acl_rows.specs.Rows.{rows_of};
-ghost use Rattle.acl_patch.specs.Touched.{touches};
+ghost use Rattle.row_changes.specs.Touched.{touches};
 ghost use Rattle.acl_compile.specs.Compiled.{UrlsApart, compiled_state};
 ghost use Rattle.acl_compile.specs.Places.{ArePlacesOf};
 ghost use Rattle.acl_compile.specs.Plans as spec;
 ghost use Rattle.acl_compile.specs.Plans.{slot_set, IsMemberPlan, IsPolicyPlan, IsPlaceFor, CanBeCounted, held_for, others_held, policy_reads, policy_steps};
-ghost use Rattle.row_shelves.specs.Shelves.{HasRoom};
+ghost use Rattle.acl_shelves.specs.RowShelves.{HasRoom};
 ghost use Rattle.row_changes.specs.Steps.{least_steps, HaveKeys, PolicyKeys, place_steps};
 
 use crate::places::{UrlPlace, find_held};
 use acl_model::{Binding, Policy};
 use acl_rows::Row;
-use binding_shelves::BindingShelves;
+use acl_shelves::{BindingShelves, RowShelves};
 use mud_base::Memory;
 use mud_url::MudUrl;
 use row_changes::{Change, CompiledPolicy, Held, HeldDefaults, Holding, edits_of, slot_rows};
 use row_edits::Edit;
-use row_shelves::RowShelves;
 use sorted_rows::{SortedRows, Steps};
 use std::alloc::Global;
 use std::marker::Model;

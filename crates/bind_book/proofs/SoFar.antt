@@ -3,7 +3,7 @@ use Rattle.std.proofs.Common.{◌≡◌, ℕ, ◌+◌, ◌<◌, ◌≤◌, List,
 use Rattle.std.proofs.lemmas.List.{take_all}
 pub use Rattle.mud_tables.proofs.RowSets.{take_one}
 use Rattle.mud_tables.proofs.RowSets.{map_push}
-pub use Rattle.binding_changes.proofs.OldRows.{found_before}
+pub use Rattle.table_laws.proofs.OldRows.{found_before}
 
 pub map-take : {A B : Type 0} (f : A → B) (xs : List A) (i : ℕ) (x : A) → i < length xs → x ≡ get_or xs i x → map f (take (i + 1) xs) ≡ map f (take i xs) ++ f x ∷ []
 map-take f xs i x within is = ap (map f) (take_one xs i x within is) ∙ map_push f (take i xs) x

@@ -3,7 +3,6 @@ ghost use Rattle.std.specs.Prelude.{◌≡◌, [], IfOk};
 
 use crate::items::{class_puts, locals_put, name_puts};
 use acl_model::binding::Binding;
-use binding_changes::changed_bindings;
 use item_codec::Word;
 use mud_base::{Bytes, End, Listed, Memory, Prefix};
 use mud_tables::{Class, ClassRow, NameKey, NameRow};
@@ -13,6 +12,7 @@ use std::alloc::Global;
 use std::cmp::Ordering;
 use std::marker::Model;
 use std::mem;
+use table_laws::changed_bindings;
 
 /// A name, as the key of its row.
 #[derive(Drop, Debug)]

@@ -5,13 +5,13 @@ use Rattle.std.proofs.Math.Seq.{take-append-add}
 use Rattle.mud_world.specs.Door.{DoorState, Took, with_left, put_out}
 use Rattle.mud_world.specs.Whole.{WrotePart}
 use Rattle.mud_world.proofs.Doors.{put_out_twice, put_out_none}
-use Rattle.packet_buffer.specs.Packets.{Packet, with_next, with_all}
-use Rattle.packet_buffer.specs.Reading.{Follows}
-use Rattle.capture_source.specs.Fault.{is_read_fault}
-use Rattle.capture_source.specs.Reading.{AtEnd, EndsIn, HasRead, packet_at, to_come}
-use Rattle.capture_source.specs.declared.fault.CaptureFault.{CaptureFault}
-use Rattle.capture_source.specs.declared.reader.CaptureReader.{CaptureReader}
-use Rattle.capture_source.proofs.Runs.{has_read_more, has_read_taken, captured_all}
+use Rattle.octet_buffer.specs.Packets.{Packet, with_next, with_all}
+use Rattle.octet_buffer.specs.Reading.{Follows}
+use Rattle.capture_runs.specs.Fault.{is_read_fault}
+use Rattle.capture_runs.specs.Reading.{AtEnd, EndsIn, HasRead, packet_at, to_come}
+use Rattle.capture_runs.specs.declared.fault.CaptureFault.{CaptureFault}
+use Rattle.capture_runs.specs.declared.reader.CaptureReader.{CaptureReader}
+use Rattle.capture_runs.proofs.Runs.{has_read_more, has_read_taken, captured_all}
 use Rattle.command_runs.specs.Due.{WroteFront}
 use Rattle.capture_runs.specs.Runs.{HasAll, HasDone, HasGoneOn, WroteSome, WroteTaken}
 

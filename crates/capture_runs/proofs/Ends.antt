@@ -4,9 +4,9 @@ use Rattle.std.proofs.lemmas.List.{take-append-le, take_at}
 use Rattle.std.proofs.Math.Seq.{take-append-add}
 use Rattle.mud_world.specs.Door.{DoorState, with_left, put_out}
 use Rattle.mud_world.proofs.Doors.{put_out_twice, took_none}
-use Rattle.packet_buffer.specs.Packets.{Packet}
-use Rattle.capture_source.specs.declared.fault.CaptureFault.{CaptureFault}
-use Rattle.capture_source.specs.declared.reader.CaptureReader.{CaptureReader}
+use Rattle.octet_buffer.specs.Packets.{Packet}
+use Rattle.capture_runs.specs.declared.fault.CaptureFault.{CaptureFault}
+use Rattle.capture_runs.specs.declared.reader.CaptureReader.{CaptureReader}
 use Rattle.command_runs.specs.Due.{Due, WritesDue, WritesPart, WroteFirst}
 use Rattle.capture_runs.specs.Capture.{due_behind, end_line, status_at}
 use Rattle.capture_runs.specs.Runs.{HasAll, HasDone, WroteSome}

@@ -3,12 +3,12 @@ use Rattle.std.proofs.Common.{◌≡◌, false, IsTrue, ℕ, List, [], ◌∷◌
 use Rattle.mud_world.specs.Door.{DoorState, with_left, put_out}
 use Rattle.mud_world.specs.Whole.{TookPart}
 use Rattle.mud_world.proofs.Doors.{put_out_none}
-use Rattle.packet_buffer.specs.Packets.{Packet, with_all}
-use Rattle.capture_source.specs.Captures.{Captures, captured_of}
-use Rattle.capture_source.specs.Reading.{packet_at, to_come}
-use Rattle.capture_source.specs.declared.fault.CaptureFault.{CaptureFault}
-use Rattle.capture_source.specs.declared.reader.CaptureReader.{CaptureReader}
-use Rattle.capture_source.proofs.Runs.{captured_all, none_in_few}
+use Rattle.octet_buffer.specs.Packets.{Packet, with_all}
+use Rattle.capture_runs.specs.Captures.{Captures, captured_of}
+use Rattle.capture_runs.specs.Reading.{packet_at, to_come}
+use Rattle.capture_runs.specs.declared.fault.CaptureFault.{CaptureFault}
+use Rattle.capture_runs.specs.declared.reader.CaptureReader.{CaptureReader}
+use Rattle.capture_runs.proofs.Runs.{captured_all, none_in_few}
 use Rattle.command_runs.specs.Due.{Due, WritesDue, WritesPart}
 use Rattle.capture_runs.specs.Capture.{due_behind, due_of_capture, end_line, text_of, WritesTaken}
 use Rattle.capture_runs.specs.Fold.{LineStep, lines_from, state_after, IsLeftBy}

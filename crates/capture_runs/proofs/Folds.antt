@@ -1,6 +1,6 @@
 -- Laws of the lines of packets and of the state behind them.
 use Rattle.std.proofs.Common.{◌≡◌, ℕ, List, [], ◌∷◌, ◌++◌, refl, sym, ap, ◌∙◌, append_assoc, append-nil}
-use Rattle.packet_buffer.specs.Packets.{Packet}
+use Rattle.octet_buffer.specs.Packets.{Packet}
 use Rattle.capture_runs.specs.Fold.{LineStep, lines_from, state_after}
 
 pub lines_of_append : {S : Type 0} (step : S → Packet → LineStep S) (s : S) (packets more : List Packet)

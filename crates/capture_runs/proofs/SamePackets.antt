@@ -1,10 +1,10 @@
 -- Captures that hold the same packets lead to the same lines.
 use Rattle.std.proofs.Common.{◌≡◌, ℕ, ◌+◌, List, [], ◌∷◌, ◌++◌, map, Option, None, refl, sym, ap, ap₂, ◌∙◌}
-use Rattle.packet_buffer.specs.Packets.{Packet}
-use Rattle.capture_source.specs.Captures.{captured_of}
-use Rattle.capture_source.specs.Same.{Seen, seen_of, HoldTheSame}
-use Rattle.capture_source.specs.declared.fault.CaptureFault.{CaptureFault}
-use Rattle.capture_source.proofs.Numbered.{IsNumbered, numbered}
+use Rattle.octet_buffer.specs.Packets.{Packet}
+use Rattle.capture_runs.specs.Captures.{captured_of}
+use Rattle.capture_runs.specs.Same.{Seen, seen_of, HoldTheSame}
+use Rattle.capture_runs.specs.declared.fault.CaptureFault.{CaptureFault}
+use Rattle.capture_runs.proofs.Numbered.{IsNumbered, numbered}
 use Rattle.command_runs.specs.Due.{Due}
 use Rattle.capture_runs.specs.Capture.{due_behind, due_of_capture, text_of}
 use Rattle.capture_runs.specs.Fold.{LineStep, LooksAtNoPlace, lines_from, state_after}

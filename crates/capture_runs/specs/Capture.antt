@@ -1,10 +1,10 @@
 -- The lines of a capture: those of its packets, those at their end, and that of the fault that ends them.
 use Rattle.std.specs.Prelude.{◌≡◌, ℕ, List, [], ◌++◌, codes, Option, Some, None}
 use Rattle.mud_world.specs.Door.{DoorState, with_left, put_out}
-use Rattle.packet_buffer.specs.Packets.{Packet}
-use Rattle.capture_source.specs.Captures.{captured_of}
-use Rattle.capture_source.specs.Fault as capture_fault
-use Rattle.capture_source.specs.declared.fault.CaptureFault.{CaptureFault}
+use Rattle.octet_buffer.specs.Packets.{Packet}
+use Rattle.capture_runs.specs.Captures.{captured_of}
+use Rattle.capture_runs.specs.Fault as capture_fault
+use Rattle.capture_runs.specs.declared.fault.CaptureFault.{CaptureFault}
 use Rattle.text_lines.specs.Numbers.{place_text}
 use Rattle.command_runs.specs.Due.{Due}
 use Rattle.capture_runs.specs.Fold.{LineStep, lines_from, state_after}

@@ -1,6 +1,6 @@
 -- The lines of packets, each by a step from the state that the packets before it left.
 use Rattle.std.specs.Prelude.{◌≡◌, ℕ, List, [], ◌∷◌, ◌++◌}
-use Rattle.packet_buffer.specs.Packets.{Packet}
+use Rattle.octet_buffer.specs.Packets.{Packet}
 
 -- what a step makes of a packet: its line, and the state behind it
 pub record LineStep (S : Type 0) : Type 0 where

@@ -1,11 +1,11 @@
 -- How far a command is that reads a capture.
 use Rattle.std.specs.Prelude.{◌≡◌, ℕ, ◌≤◌, Bool, true, false, List, [], ◌∷◌, ◌++◌, length, take, Option, Some, None}
 use Rattle.mud_world.specs.Door.{DoorState, with_left, put_out}
-use Rattle.packet_buffer.specs.Packets.{Packet}
-use Rattle.capture_source.specs.Captures.{captured_of}
-use Rattle.capture_source.specs.Reading.{HasRead, packet_at}
-use Rattle.capture_source.specs.declared.fault.CaptureFault.{CaptureFault}
-use Rattle.capture_source.specs.declared.reader.CaptureReader.{CaptureReader}
+use Rattle.octet_buffer.specs.Packets.{Packet}
+use Rattle.capture_runs.specs.Captures.{captured_of}
+use Rattle.capture_runs.specs.Reading.{HasRead, packet_at}
+use Rattle.capture_runs.specs.declared.fault.CaptureFault.{CaptureFault}
+use Rattle.capture_runs.specs.declared.reader.CaptureReader.{CaptureReader}
 use Rattle.capture_runs.specs.declared.run.Way.{Way}
 use Rattle.capture_runs.specs.declared.run.Way.TheVariants as way
 

@@ -1,6 +1,6 @@
 //! A law of the lines of captures, on a function that does nothing.
 ghost use Rattle.std.specs.Prelude.{◌≡◌, ℕ, List};
-ghost use Rattle.capture_source.specs.Same.{HoldTheSame};
+ghost use Rattle.capture_runs.specs.Same.{HoldTheSame};
 ghost use Rattle.capture_runs.specs.Capture.{due_of_capture};
 ghost use Rattle.capture_runs.specs.Fold.{LooksAtNoPlace};
 

@@ -1,9 +1,9 @@
 //! The lines of a capture as it streams, each by a step over a state.
 ghost use Rattle.std.specs.Prelude.{◌≡◌, ◌≢◌, ◌⊎◌, ◌++◌, [], ℕ, List, false, OnOk, OnErr, ◌∷◌};
 ghost use Rattle.mud_world.specs.Door.{DoorState};
-ghost use Rattle.packet_buffer.specs.Packets.{Packet};
+ghost use Rattle.octet_buffer.specs.Packets.{Packet};
 ghost use Rattle.pcap_read.specs.Captured.{packet_of};
-ghost use Rattle.capture_source.specs.Reading.{is_broken};
+ghost use Rattle.capture_runs.specs.Reading.{is_broken};
 ghost use Rattle.command_runs.specs.Ends.{IsSteady, IsStopped, IsStoppedWriting};
 ghost use Rattle.command_runs.specs.Due.{WritesDue, WritesPart};
 ghost use Rattle.command_runs.specs.Status.{Is, IsNot, IsOneOf, status_number};
@@ -13,7 +13,7 @@ ghost use Rattle.capture_runs.specs.Fold.{IsLeftBy};
 ghost use Rattle.capture_runs.specs.Runs.{HasAll, HasDone};
 
 use crate::run::{Way, end_capture, go_on};
-use capture_source::{CaptureFault, CaptureReader};
+use crate::{CaptureFault, CaptureReader};
 use command_runs::Status;
 use mud_base::{Bytes, Memory};
 use mud_world::{Door, ReadFault};
@@ -23,7 +23,7 @@ use std::alloc::Global;
 /// What writes the line of each packet of a capture, and may keep a state from packet to packet.
 pub trait PacketLines {
     ghost use Rattle.std.specs.Prelude.{ℕ, List};
-    ghost use Rattle.packet_buffer.specs.Packets.{Packet};
+    ghost use Rattle.octet_buffer.specs.Packets.{Packet};
     ghost use Rattle.capture_runs.specs.Fold.{LineStep};
 
     /// What it keeps from packet to packet.

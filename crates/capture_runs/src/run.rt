@@ -3,8 +3,8 @@ ghost use Rattle.std.specs.Prelude.{◌≡◌, ◌≢◌, ◌<◌, ◌++◌, [],
 ghost use Rattle.mud_world.specs.Causes.{Counts};
 ghost use Rattle.mud_world.specs.Door.{DoorState, put_out};
 ghost use Rattle.mud_world.specs.Whole.{WrotePart};
-ghost use Rattle.packet_buffer.specs.Packets.{Packet};
-ghost use Rattle.capture_source.specs.Reading.{is_broken, most_to_come, packet_at};
+ghost use Rattle.octet_buffer.specs.Packets.{Packet};
+ghost use Rattle.capture_runs.specs.Reading.{is_broken, most_to_come, packet_at};
 ghost use Rattle.command_runs.specs.Ends.{IsSteady, IsStopped, IsStoppedWriting};
 ghost use Rattle.command_runs.specs.Due.{WritesDue, WritesPart, WroteFront};
 ghost use Rattle.command_runs.specs.Status.{Is, IsNot, IsOneOf, status_number};
@@ -13,7 +13,7 @@ ghost use Rattle.capture_runs.specs.Capture.{capture_fault_line, due_behind};
 ghost use Rattle.capture_runs.specs.Runs.{HasAll, HasDone, LedTo, WroteTaken, has_failed};
 ghost use Rattle.capture_runs.specs.declared.run.Way.TheVariants as way;
 
-use capture_source::{CaptureFault, CaptureReader};
+use crate::{CaptureFault, CaptureReader};
 use command_runs::Status;
 use mud_base::{Bytes, Memory};
 use mud_world::{Door, Failed, say};

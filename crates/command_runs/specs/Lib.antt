@@ -1,4 +1,5 @@
 pub mod Due
 pub mod Ends
+pub mod Moments
 pub mod Status
 pub mod Stops

@@ -20,9 +20,9 @@ use Rattle.console_answers.specs.Asks.{question_of, by_route, refusal_of}
 use Rattle.console_answers.specs.Requests.{question_in, by_result, reply_in, MayFailBy, MayFail, MayReply, MayWant, by_question, ChangesBy, command_asked}
 use Rattle.http_requests.specs.Framing.{is_head}
 use Rattle.console_answers.specs.Answers.{octets_of, MayAnswer}
-use Rattle.reading.specs.declared.refusal.Refusal.{Refusal}
-use Rattle.reading.specs.declared.refusal.Refusal.TheVariants.{Memory, Broken}
-use Rattle.reading.specs.Reading.{Fails}
+use Rattle.mud_base.specs.declared.refusal.Refusal.{Refusal}
+use Rattle.mud_base.specs.declared.refusal.Refusal.TheVariants.{Memory, Broken}
+use Rattle.mud_base.specs.Readings.{Fails}
 use Rattle.console.specs.Refused.{IsRefusalOf}
 use Rattle.console.specs.Runs.{LeadsOn}
 use Rattle.console.specs.declared.refusals.ReplyHead.{ReplyHead}

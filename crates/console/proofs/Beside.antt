@@ -6,12 +6,12 @@ use Rattle.http_requests.specs.declared.fault.RequestFault.{RequestFault}
 use Rattle.http_requests.specs.declared.fault.MomentFrom.{MomentFrom}
 use Rattle.http_requests.specs.Requests.{Request, Ending, most_requests}
 use Rattle.http_requests.specs.Serving.{Served}
-use Rattle.http_serving.specs.declared.end.ConnectionEnd.{ConnectionEnd}
-use Rattle.http_serving.specs.declared.end.ConnectionEnd.TheVariants.{Ended, Closed, Broken, Spent, ReadFailed, WriteFailed}
-use Rattle.http_serving.specs.Asked.{Asked, asked}
-use Rattle.http_serving.specs.Ends.{ServedBy, IsServed}
-use Rattle.http_serving.specs.Runs.{Runs, Leads, IsLeftBy}
-use Rattle.http_serving.specs.Visits.{Visit, alone, AreServed, ServedInTurn}
+use Rattle.http_requests.specs.declared.end.ConnectionEnd.{ConnectionEnd}
+use Rattle.http_requests.specs.declared.end.ConnectionEnd.TheVariants.{Ended, Closed, Broken, Spent, ReadFailed, WriteFailed}
+use Rattle.http_requests.specs.Asked.{Asked, asked}
+use Rattle.http_requests.specs.Ends.{ServedBy, IsServed}
+use Rattle.http_requests.specs.Runs.{Runs, Leads, IsLeftBy}
+use Rattle.http_requests.specs.Visits.{Visit, alone, AreServed, ServedInTurn}
 use Rattle.console.specs.Beside.{MayBeside}
 
 module _ {S X : Type 0} (may : S → Asked → List ℕ → S → Type 0) where

@@ -8,7 +8,7 @@ use Rattle.file_tables.specs.declared.cache_fault.CacheFault.TheVariants as file
 use Rattle.desk_model.specs.declared.reply.Refusal.{Refusal}
 use Rattle.desk_model.specs.declared.reply.Refusal.TheVariants.{Things, Files, Binds}
 use Rattle.listing_bodies.specs.Refusals.{refusal_status, files_status}
-use Rattle.body_members.specs.declared.fault.BodyFault.{BodyFault}
+use Rattle.console_bodies.specs.declared.fault.BodyFault.{BodyFault}
 use Rattle.listing_bodies.specs.Refusals.{body_fault_body}
 use Rattle.http_answers.specs.declared.status.Status.TheVariants.{BadRequest}
 use Rattle.console_answers.specs.declared.question.NoQuestion.{NoQuestion}

@@ -17,8 +17,8 @@ use Rattle.desk_model.specs.Sessions.{Session, MayJudge, frame_in, verdict_in, r
 use Rattle.http_answers.specs.declared.status.Status.TheVariants as status
 use Rattle.outcome_bodies.specs.Verdicts.{verdict_body}
 use Rattle.desk_model.specs.Verdicts.{policy_at}
-use Rattle.desk_judge.specs.declared.findings.Findings.{Findings}
-use Rattle.desk_judge.specs.Findings.{found_in, AreFindingsOn}
+use Rattle.mud_desk.specs.declared.findings.Findings.{Findings}
+use Rattle.mud_desk.specs.Findings.{found_in, AreFindingsOn}
 use Rattle.mud_desk.specs.DeskState.{DeskState, tables_of, session_of, HasForwarded, IsJudged}
 use Rattle.mud_desk.proofs.Sessions.{flows_stay}
 use Rattle.console_answers.specs.Replies.{Reply, reply, Replied, replied, made_reply, no_storage, IsOrWanted, MayStand}

@@ -9,8 +9,8 @@ use Rattle.http_answers.specs.declared.status.Status.{Status}
 use Rattle.http_requests.specs.declared.fault.MomentFrom.{MomentFrom}
 use Rattle.http_requests.specs.Framing.{moment_of}
 use Rattle.http_requests.specs.Requests.{Request}
-use Rattle.http_serving.specs.Asked.{Asked, asked_by}
-use Rattle.http_serving.specs.Visits.{CountsOf}
+use Rattle.http_requests.specs.Asked.{Asked, asked_by}
+use Rattle.http_requests.specs.Visits.{CountsOf}
 use Rattle.console_answers.specs.Replies.{is_unavailable}
 use Rattle.console_answers.specs.Answers.{MayAnswer}
 use Rattle.console.specs.Runs.{LeadsOn}

@@ -13,11 +13,11 @@ use Rattle.console_routes.specs.declared.action.Action.{Action}
 use Rattle.console_routes.specs.declared.action.Action.TheVariants.{HearDhcp, HearLldp, List as ListRows, State, Import, Judge, Why}
 use Rattle.console_routes.specs.Routes.{route_of}
 use Rattle.console_routes.specs.Actions.{action_of, method_of}
-use Rattle.body_members.specs.declared.fault.BodyFault.{BodyFault}
+use Rattle.console_bodies.specs.declared.fault.BodyFault.{BodyFault}
 use Rattle.desk_model.specs.Sessions.{Session}
-use Rattle.reading.specs.declared.refusal.Refusal.{Refusal}
-use Rattle.reading.specs.declared.refusal.Refusal.TheVariants.{Memory, Broken}
-use Rattle.reading.specs.Reading.{Fails}
+use Rattle.mud_base.specs.declared.refusal.Refusal.{Refusal}
+use Rattle.mud_base.specs.declared.refusal.Refusal.TheVariants.{Memory, Broken}
+use Rattle.mud_base.specs.Readings.{Fails}
 use Rattle.console_bodies.specs.Bodies.{body_of, takes_memory}
 use Rattle.console_bodies.specs.declared.asked.Asked.{Asked}
 use Rattle.console_answers.specs.declared.question.Question.{Question}

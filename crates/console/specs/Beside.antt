@@ -1,7 +1,7 @@
 -- A state beside a value that stays, where there is a state.
 use Rattle.std.specs.Prelude.{◌≡◌, ℕ, List, Option, Some, None}
 use Rattle.mud_desk.specs.DeskState.{DeskState}
-use Rattle.http_serving.specs.Asked.{Asked}
+use Rattle.http_requests.specs.Asked.{Asked}
 use Rattle.console.specs.States.{ConsoleState, IsAt}
 
 -- What may be answered where there is a state. None stays none.

@@ -1,7 +1,7 @@
 -- What may be replied where nothing is asked for, and of what memory may be wanted.
 use Rattle.std.specs.Prelude.{◌≡◌, ℕ, List}
-use Rattle.reading.specs.declared.refusal.Refusal.{Refusal}
-use Rattle.reading.specs.declared.refusal.Refusal.TheVariants.{Memory, Broken}
+use Rattle.mud_base.specs.declared.refusal.Refusal.{Refusal}
+use Rattle.mud_base.specs.declared.refusal.Refusal.TheVariants.{Memory, Broken}
 use Rattle.desk_model.specs.Sessions.{Session, IsNoted}
 use Rattle.console_bodies.specs.declared.asked.Asked.{Asked}
 use Rattle.console_bodies.specs.declared.asked.Asked.TheVariants.{Judge}

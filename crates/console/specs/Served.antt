@@ -7,10 +7,10 @@ use Rattle.mud_world.specs.View.{DoorView}
 use Rattle.mud_tables.specs.declared.segment.Segment.{Segment}
 use Rattle.mud_desk.specs.DeskState.{session_of, HasForwarded}
 use Rattle.http_requests.specs.declared.fault.MomentFrom.{MomentFrom}
-use Rattle.http_serving.specs.declared.end.ConnectionEnd.{ConnectionEnd}
-use Rattle.http_serving.specs.Ends.{IsServed}
-use Rattle.http_serving.specs.Runs.{IsLeftBy}
-use Rattle.http_serving.specs.Visits.{ServedInTurn}
+use Rattle.http_requests.specs.declared.end.ConnectionEnd.{ConnectionEnd}
+use Rattle.http_requests.specs.Ends.{IsServed}
+use Rattle.http_requests.specs.Runs.{IsLeftBy}
+use Rattle.http_requests.specs.Visits.{ServedInTurn}
 use Rattle.console_answers.specs.Answers.{fault_answer}
 use Rattle.console.specs.declared.console.Console.{Console}
 use Rattle.console.specs.States.{ConsoleState, MayTake, IsAt, begun}

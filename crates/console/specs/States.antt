@@ -5,8 +5,8 @@ use Rattle.mud_tables.specs.declared.segment.Segment.{Segment}
 use Rattle.desk_model.specs.Sessions.{Session}
 use Rattle.mud_desk.specs.DeskState.{DeskState, session_of, HasForwarded}
 use Rattle.http_answers.specs.declared.status.Status.{Status}
-use Rattle.http_serving.specs.Asked.{Asked}
-use Rattle.http_serving.specs.Visits.{CountsOf}
+use Rattle.http_requests.specs.Asked.{Asked}
+use Rattle.http_requests.specs.Visits.{CountsOf}
 use Rattle.console_answers.specs.Replies.{is_unavailable}
 use Rattle.console_answers.specs.Answers.{MayAnswer}
 

@@ -13,10 +13,9 @@ ghost use Rattle.console_answers.specs.Answers as spec;
 ghost use Rattle.console.specs.Runs.{LeadsOn};
 
 use crate::replies::reply_to;
-use answer_buffer::AnswerBuffer;
 use console_answers::BodyText;
 use console_routes::Routes;
-use http_answers::{Status, body_part, write_head};
+use http_answers::{AnswerBuffer, Status, body_part, write_head};
 use http_requests::{FramingFault, RequestFault, RequestParts, is_head};
 use mud_base::{Memory, Moment};
 use mud_desk::Desk;

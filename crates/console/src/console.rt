@@ -3,8 +3,7 @@ ghost use Rattle.std.specs.Prelude.{◌≡◌, ◌++◌};
 ghost use Rattle.console.specs.States.{TakesMoment};
 
 use crate::{Answer, answer_request};
-use http_requests::{RequestFault, RequestParts};
-use http_serving::Service;
+use http_requests::{RequestFault, RequestParts, Service};
 use mud_base::Moment;
 use mud_desk::Desk;
 use mud_world::{Clock, Keeper};

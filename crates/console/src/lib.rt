@@ -16,5 +16,5 @@ mod why;
 
 pub use answer::{Answer, answer_request};
 pub use console::Console;
-pub use http_serving::ConnectionEnd;
+pub use http_requests::ConnectionEnd;
 pub use serve::{serve_connection, serve_connections};

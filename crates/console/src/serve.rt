@@ -4,14 +4,14 @@ ghost use Rattle.mud_world.specs.Boxed.{Tells};
 ghost use Rattle.mud_desk.specs.DeskState.{tables_of};
 ghost use Rattle.desk_model.specs.Boxed.{IsKept, IsSameBox};
 ghost use Rattle.http_requests.specs.Doors.{ReadsAndWrites};
-ghost use Rattle.http_serving.specs.Ends.{is_read_failed, is_write_failed};
-ghost use Rattle.http_serving.specs.Visits.{TakesTurns};
+ghost use Rattle.http_requests.specs.Ends.{is_read_failed, is_write_failed};
+ghost use Rattle.http_requests.specs.Visits.{TakesTurns};
 ghost use Rattle.console.specs.Served.{IsLeftByRequests, ServesOne, ServesInTurn};
 
 use crate::console::Console;
-use http_requests::{MomentFrom, RequestBuffer};
-use http_serving::{
-    ConnectionEnd, serve_connection as serve_requests, serve_connections as serve_each,
+use http_requests::{
+    ConnectionEnd, MomentFrom, RequestBuffer, serve_connection as serve_requests,
+    serve_connections as serve_each,
 };
 use mud_world::{Clock, Door, Failed, Keeper};
 

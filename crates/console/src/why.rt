@@ -2,7 +2,7 @@
 ghost use Rattle.std.specs.Prelude.{◌≡◌, false, ℕ, List, IfOk};
 ghost use Rattle.mud_tables.specs.declared.segment.Segment.{Segment as SegmentValue};
 ghost use Rattle.desk_model.specs.Sessions.{verdict_in};
-ghost use Rattle.desk_judge.specs.Findings.{found_in};
+ghost use Rattle.mud_desk.specs.Findings.{found_in};
 ghost use Rattle.mud_desk.specs.DeskState.{session_of, HasForwarded};
 ghost use Rattle.listing_bodies.specs.Why.{side_text};
 ghost use Rattle.console_answers.specs.Replies.{reply, is_unavailable, IsOrWanted};
@@ -16,7 +16,7 @@ use mud_desk::{Desk, Findings, RuledThing};
 use std::alloc::Global;
 
 /// An end as a body tells it.
-#[tactic(auto, unfolding(desk_judge::specs::Findings::found_in, console_answers::specs::Why::end_text, listing_bodies::specs::Why::side_text, listing_bodies::specs::Why::end_text))]
+#[tactic(auto, unfolding(mud_desk::specs::Findings::found_in, console_answers::specs::Why::end_text, listing_bodies::specs::Why::side_text, listing_bodies::specs::Why::end_text))]
 fn told_end<'a>(ruled: &Option<RuledThing<'a>>) -> Option<RuledEnd<'a>>
     ensures { side_text result ≡ spec.end_text (found_in ruled.now) }
 {

@@ -5,7 +5,7 @@ use Rattle.console_routes.specs.declared.route.Route.{Route}
 use Rattle.console_routes.specs.Routes.{route_of}
 use Rattle.console_routes.specs.declared.action.Action.{Action}
 use Rattle.console_routes.specs.Actions.{method_of, action_of}
-use Rattle.body_members.specs.declared.fault.BodyFault.{BodyFault}
+use Rattle.console_bodies.specs.declared.fault.BodyFault.{BodyFault}
 use Rattle.console_bodies.specs.declared.asked.Asked.{Asked}
 use Rattle.console_bodies.specs.Bodies.{body_of, takes_memory}
 use Rattle.listing_bodies.specs.Refusals.{body_fault_body}

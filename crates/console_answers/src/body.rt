@@ -5,11 +5,10 @@ ghost use Rattle.outcome_bodies.specs.Heards as heards;
 ghost use Rattle.outcome_bodies.specs.Verdicts as verdicts;
 ghost use Rattle.console_answers.specs.Replies.{reply, made_reply, is_unavailable};
 
-use answer_buffer::AnswerBuffer;
 use console_routes::Statement;
 use desk_model::Outcome;
 use dhcp_lldp::Heard;
-use http_answers::Status;
+use http_answers::{AnswerBuffer, Status};
 use mud_base::{Bytes, Memory};
 use outcome_bodies::{
     HeardTexts, write_file, write_heard, write_nothing_heard, write_rule, write_stated,

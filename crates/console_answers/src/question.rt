@@ -1,18 +1,16 @@
 //! What a request asks for.
 ghost use Rattle.std.specs.Prelude.{◌≡◌, true, Err, IfOk, option_and_then};
 ghost use Rattle.console_routes.specs.Actions as actions;
-ghost use Rattle.reading.specs.Reading.{Answers};
-ghost use Rattle.reading.specs.declared.refusal.Refusal.TheVariants.{Memory};
+ghost use Rattle.mud_base.specs.Readings.{Answers};
+ghost use Rattle.mud_base.specs.declared.refusal.Refusal.TheVariants.{Memory};
 ghost use Rattle.console_bodies.specs.Bodies.{body_of, takes_memory};
 ghost use Rattle.console_bodies.specs.Laws.{AsksRightly};
 ghost use Rattle.console_answers.specs.Asks as spec;
 
-use body_members::{BodyFault, Unread};
 use console_bodies::laws::bodies_ask_rightly;
-use console_bodies::{Asked, read_body};
+use console_bodies::{Asked, BodyFault, Unread, read_body};
 use console_routes::{Action, Route, Routes, action_of, method_of};
-use mud_base::Moment;
-use reading::Refusal;
+use mud_base::{Moment, Refusal};
 use std::alloc::Global;
 
 /// What a request asks for: the action of its route by its method, and what its body means there.

@@ -1,8 +1,8 @@
 -- What holds of each meaning that a reading can answer.
 use Rattle.std.proofs.Common.{◌≡◌, Bool, true, false, Option, Some, None, Ok, Err, Result, refl, sym, subst, ◌∙◌}
 use Rattle.std.specs.Prelude.{if◌then◌else◌}
-use Rattle.reading.specs.Reading.{Reading, answer, and_then, done, ◌>>=◌, wanted}
-use Rattle.reading.proofs.Readings.{answer_bind, answer_done, answer_wanted, answer_unwanted}
+use Rattle.mud_base.specs.Readings.{Reading, answer, and_then, done, ◌>>=◌, wanted}
+use Rattle.mud_base.proofs.Readings.{answer_bind, answer_done, answer_wanted, answer_unwanted}
 
 abbrev pub Always : {F A : Type 0} → (A → Type 0) → Reading F A → Type 0
 Always P r = (a : _) → answer r ≡ Ok a → P a

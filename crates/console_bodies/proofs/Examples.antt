@@ -8,7 +8,7 @@ use Rattle.mud_tables.specs.declared.bind.Class.TheVariants as class
 use Rattle.file_tables.specs.declared.approval.OperatorVerdict.TheVariants.{Waived}
 use Rattle.serde_json.specs.Data.{Data, null, string}
 use Rattle.usage_walk.proofs.Written.{num, list, obj}
-use Rattle.reading.specs.Reading.{answer}
+use Rattle.mud_base.specs.Readings.{answer}
 use Rattle.desk_model.specs.declared.command.Command.{Command}
 use Rattle.desk_model.specs.declared.command.Command.TheVariants as command
 use Rattle.console_routes.specs.declared.action.Statement.{Statement}
@@ -16,9 +16,9 @@ use Rattle.console_routes.specs.declared.action.Statement.TheVariants as stateme
 use Rattle.console_routes.specs.declared.action.Listing.TheVariants as listing
 use Rattle.console_routes.specs.declared.action.Action.TheVariants as action
 use Rattle.dhcp_lldp.specs.declared.heard.HearFault.TheVariants as message
-use Rattle.body_members.specs.declared.fault.BodyFault.{BodyFault}
-use Rattle.body_members.specs.declared.fault.BodyFault.TheVariants as fault
-use Rattle.body_members.specs.declared.member.Member.TheVariants as members
+use Rattle.console_bodies.specs.declared.fault.BodyFault.{BodyFault}
+use Rattle.console_bodies.specs.declared.fault.BodyFault.TheVariants as fault
+use Rattle.console_bodies.specs.declared.member.Member.TheVariants as members
 use Rattle.console_bodies.specs.declared.asked.Asked.TheVariants as asked
 use Rattle.console_bodies.specs.Statements.{command_at}
 use Rattle.console_bodies.specs.Bodies.{body_of}

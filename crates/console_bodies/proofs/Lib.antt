@@ -1,4 +1,4 @@
 pub mod Always
+mod Examples
 pub mod OnLiterals
 pub mod Rightly
-mod Examples

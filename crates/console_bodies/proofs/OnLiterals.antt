@@ -6,12 +6,12 @@ use Rattle.mud_base.proofs.OnLiterals.{texts_on_literals}
 use Rattle.mud_url.proofs.OnLiterals.{url_on_literals}
 use Rattle.dhcp_lldp.proofs.OnLiterals.{messages_on_literals}
 use Rattle.dhcp_lldp.specs.Lldp.{lldp_of}
-use Rattle.reading.specs.Reading.{answer, done, ◌>>=◌, refused_where, wanted, over}
+use Rattle.mud_base.specs.Readings.{answer, done, ◌>>=◌, refused_where, wanted, over}
 use Rattle.mud_tables.specs.Binds.{is_class_uri}
-use Rattle.body_members.specs.Members.{name_of}
+use Rattle.console_bodies.specs.Members.{name_of}
 use Rattle.usage_walk.specs.Json.{value_in}
-use Rattle.body_members.specs.Objects.{object_of, member_in, text_in, number_in}
-use Rattle.body_members.specs.Values.{meant, mac_at, address_at, url_at, name_at, is_digest, digest_at, number_at, next_prefix, prefixes_of, list_at, prefixes_at}
+use Rattle.console_bodies.specs.Objects.{object_of, member_in, text_in, number_in}
+use Rattle.console_bodies.specs.Values.{meant, mac_at, address_at, url_at, name_at, is_digest, digest_at, number_at, next_prefix, prefixes_of, list_at, prefixes_at}
 use Rattle.console_bodies.specs.Statements.{uri_at, uri_class, own_class, only_own, own_alone, class_at, text_of, verdict_in, verdict_at, move_thing, remove_thing, hold_thing, release_thing, lease_address, end_lease, state_verdict, revoke_file, bind_address, unbind_address, set_locals, observe_name, command_at}
 use Rattle.console_bodies.specs.Bodies.{heard_command, stated, stated_body, body_of}
 

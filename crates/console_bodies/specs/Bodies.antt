@@ -1,6 +1,6 @@
 -- What a request asks for by its body, or what is wrong with the body.
 use Rattle.std.specs.Prelude.{ℕ, Bool, true, false, List, Option, Some, None, Result, Ok, Err}
-use Rattle.reading.specs.Reading.{answer, and_then}
+use Rattle.mud_base.specs.Readings.{answer, and_then}
 use Rattle.dhcp_lldp.specs.declared.heard.Heard.{Heard}
 use Rattle.dhcp_lldp.specs.declared.heard.Heard.TheVariants as message
 use Rattle.dhcp_lldp.specs.declared.heard.HearFault.{HearFault}
@@ -11,9 +11,9 @@ use Rattle.desk_model.specs.declared.command.Command.TheVariants as command
 use Rattle.console_routes.specs.declared.action.Statement.{Statement}
 use Rattle.console_routes.specs.declared.action.Action.{Action}
 use Rattle.console_routes.specs.declared.action.Action.TheVariants.{HearDhcp, HearLldp, List as ListRows, State, Import, Judge, Why}
-use Rattle.body_members.specs.declared.fault.BodyFault.{BodyFault}
-use Rattle.body_members.specs.declared.fault.BodyFault.TheVariants as fault
-use Rattle.body_members.specs.Objects.{object_of}
+use Rattle.console_bodies.specs.declared.fault.BodyFault.{BodyFault}
+use Rattle.console_bodies.specs.declared.fault.BodyFault.TheVariants as fault
+use Rattle.console_bodies.specs.Objects.{object_of}
 use Rattle.console_bodies.specs.declared.asked.Asked.{Asked}
 use Rattle.console_bodies.specs.declared.asked.Asked.TheVariants as asked
 use Rattle.console_bodies.specs.Statements.{command_at}

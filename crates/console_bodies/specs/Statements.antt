@@ -2,7 +2,7 @@
 use Rattle.std.specs.Prelude.{◌≡◌, ℕ, Bool, List, [], ◌∷◌, codes, find, bytes_eq, Option, Some, None, is_some, option_and_then, if◌then◌else◌}
 use Rattle.mud_base.specs.Addresses.{PrefixParts}
 use Rattle.serde_json.specs.Data.{Data}
-use Rattle.reading.specs.Reading.{done, ◌>>=◌, refused_where}
+use Rattle.mud_base.specs.Readings.{done, ◌>>=◌, refused_where}
 use Rattle.mud_tables.specs.declared.bind.Class.{Class}
 use Rattle.mud_tables.specs.declared.bind.Class.TheVariants as class
 use Rattle.mud_tables.specs.Binds.{is_class_uri}
@@ -12,10 +12,10 @@ use Rattle.desk_model.specs.declared.command.Command.{Command}
 use Rattle.desk_model.specs.declared.command.Command.TheVariants as command
 use Rattle.console_routes.specs.declared.action.Statement.{Statement}
 use Rattle.console_routes.specs.declared.action.Statement.TheVariants as statement
-use Rattle.body_members.specs.declared.fault.BodyFault.TheVariants as fault
-use Rattle.body_members.specs.declared.member.Member.TheVariants as members
-use Rattle.body_members.specs.Objects.{member_in, text_in}
-use Rattle.body_members.specs.Values.{Reading, meant, mac_at, address_at, url_at, name_at, digest_at, number_at, prefixes_at}
+use Rattle.console_bodies.specs.declared.fault.BodyFault.TheVariants as fault
+use Rattle.console_bodies.specs.declared.member.Member.TheVariants as members
+use Rattle.console_bodies.specs.Objects.{member_in, text_in}
+use Rattle.console_bodies.specs.Values.{Reading, meant, mac_at, address_at, url_at, name_at, digest_at, number_at, prefixes_at}
 
 -- ---- Classes
 

@@ -1,13 +1,13 @@
 //! Classes, and what the operator says of a file, as a body has them.
 ghost use Rattle.std.specs.Prelude.{◌≡◌, option_map};
 ghost use Rattle.serde_json.specs.View.{view};
-ghost use Rattle.reading.specs.Reading.{Gives};
+ghost use Rattle.mud_base.specs.Readings.{Gives};
 ghost use Rattle.console_bodies.specs.Statements as spec;
 
-use body_members::object::{member_in, text_in};
-use body_members::texts::url;
-use body_members::values::meant;
-use body_members::{BodyFault, Member, Unread};
+use crate::object::{member_in, text_in};
+use crate::texts::url;
+use crate::values::meant;
+use crate::{BodyFault, Member, Unread};
 use file_tables::OperatorVerdict;
 use mud_base::Bytes;
 use mud_tables::Class;
@@ -27,7 +27,7 @@ fn uri_in(text: &str) -> Option<&str>
 }
 
 /// The URI that `class` is: 1 to 255 octets from 21 to 7E hex.
-#[tactic(auto, unfolding(crate::specs::Statements::uri_at, body_members::specs::Values::meant), using(reading::proofs::Readings::answer_wanted, reading::proofs::Readings::answer_unwanted))]
+#[tactic(auto, unfolding(crate::specs::Statements::uri_at, crate::specs::Values::meant), using(mud_base::proofs::Readings::answer_wanted, mud_base::proofs::Readings::answer_unwanted))]
 fn uri(alloc: Global, object: &Value) -> Result<Bytes, Unread>
     ensures { Gives (λ u. u) result (spec.uri_at (view object.now)) }
 {
@@ -38,7 +38,7 @@ fn uri(alloc: Global, object: &Value) -> Result<Bytes, Unread>
 }
 
 /// The class by the URI that `class` is.
-#[tactic(auto, unfolding(crate::specs::Statements::uri_class), using(reading::proofs::Readings::answer_bind, reading::proofs::Readings::answer_done))]
+#[tactic(auto, unfolding(crate::specs::Statements::uri_class), using(mud_base::proofs::Readings::answer_bind, mud_base::proofs::Readings::answer_done))]
 fn uri_class(alloc: Global, object: &Value) -> Result<Class, Unread>
     ensures { Gives (λ c. c) result (spec.uri_class (view object.now)) }
 {
@@ -46,7 +46,7 @@ fn uri_class(alloc: Global, object: &Value) -> Result<Class, Unread>
 }
 
 /// The controllers of the Things with the MUD URL that `my-controller-of` is.
-#[tactic(auto, unfolding(crate::specs::Statements::own_class), using(reading::proofs::Readings::answer_bind, reading::proofs::Readings::answer_done))]
+#[tactic(auto, unfolding(crate::specs::Statements::own_class), using(mud_base::proofs::Readings::answer_bind, mud_base::proofs::Readings::answer_done))]
 fn own_class(object: &Value) -> Result<Class, Unread>
     ensures { Gives (λ c. c) result (spec.own_class (view object.now)) }
 {
@@ -54,7 +54,7 @@ fn own_class(object: &Value) -> Result<Class, Unread>
 }
 
 /// Where `class` stands beside `my-controller-of`, the second is wrong.
-#[tactic(auto, unfolding(crate::specs::Statements::only_own), using(reading::proofs::Readings::answer_passed, reading::proofs::Readings::answer_refused))]
+#[tactic(auto, unfolding(crate::specs::Statements::only_own), using(mud_base::proofs::Readings::answer_passed, mud_base::proofs::Readings::answer_refused))]
 fn only_own(object: &Value) -> Result<(), Unread>
     ensures { Gives (λ _. tt) result (spec.only_own (view object.now)) }
 {
@@ -65,7 +65,7 @@ fn only_own(object: &Value) -> Result<(), Unread>
 }
 
 /// The class of an object with `my-controller-of`.
-#[tactic(auto, unfolding(crate::specs::Statements::own_alone), using(reading::proofs::Readings::answer_bind))]
+#[tactic(auto, unfolding(crate::specs::Statements::own_alone), using(mud_base::proofs::Readings::answer_bind))]
 fn own_alone(object: &Value) -> Result<Class, Unread>
     ensures { Gives (λ c. c) result (spec.own_alone (view object.now)) }
 {

@@ -1,12 +1,12 @@
 //! The bodies of requests.
 ghost use Rattle.std.specs.Prelude.{◌≡◌, ◌≢◌, true, Err};
-ghost use Rattle.reading.specs.Reading.{Answers};
-ghost use Rattle.reading.specs.declared.refusal.Refusal.TheVariants.{Memory};
+ghost use Rattle.mud_base.specs.Readings.{Answers};
+ghost use Rattle.mud_base.specs.declared.refusal.Refusal.TheVariants.{Memory};
 ghost use Rattle.console_bodies.specs.Bodies as spec;
 
 use crate::asked::Asked;
 use crate::statements::command;
-use body_members::{BodyFault, Unread, read_object};
+use crate::{BodyFault, Unread, read_object};
 use console_routes::{Action, Statement};
 use desk_model::Command;
 use dhcp_lldp::{HearFault, Heard, read_dhcp, read_lldp};

@@ -1,20 +1,20 @@
 //! What the operator states by a JSON object.
 ghost use Rattle.serde_json.specs.View.{view};
-ghost use Rattle.reading.specs.Reading.{Gives};
+ghost use Rattle.mud_base.specs.Readings.{Gives};
 ghost use Rattle.console_bodies.specs.Statements as spec;
 
 use crate::classes::{class, verdict};
-use body_members::prefixes::prefixes;
-use body_members::texts::{digest, name, url};
-use body_members::values::{address, mac, number};
-use body_members::{Member, Unread};
+use crate::prefixes::prefixes;
+use crate::texts::{digest, name, url};
+use crate::values::{address, mac, number};
+use crate::{Member, Unread};
 use console_routes::Statement;
 use desk_model::Command;
 use serde_json::Value;
 use std::alloc::Global;
 
 /// A Thing moves to the URL that waits.
-#[tactic(auto, unfolding(crate::specs::Statements::move_thing), using(reading::proofs::Readings::answer_bind, reading::proofs::Readings::answer_done))]
+#[tactic(auto, unfolding(crate::specs::Statements::move_thing), using(mud_base::proofs::Readings::answer_bind, mud_base::proofs::Readings::answer_done))]
 fn move_thing(object: &Value) -> Result<Command, Unread>
     ensures { Gives (λ c. c) result (spec.move_thing (view object.now)) }
 {
@@ -24,7 +24,7 @@ fn move_thing(object: &Value) -> Result<Command, Unread>
 }
 
 /// A Thing goes.
-#[tactic(auto, unfolding(crate::specs::Statements::remove_thing), using(reading::proofs::Readings::answer_bind, reading::proofs::Readings::answer_done))]
+#[tactic(auto, unfolding(crate::specs::Statements::remove_thing), using(mud_base::proofs::Readings::answer_bind, mud_base::proofs::Readings::answer_done))]
 fn remove_thing(object: &Value) -> Result<Command, Unread>
     ensures { Gives (λ c. c) result (spec.remove_thing (view object.now)) }
 {
@@ -32,7 +32,7 @@ fn remove_thing(object: &Value) -> Result<Command, Unread>
 }
 
 /// A Thing is held.
-#[tactic(auto, unfolding(crate::specs::Statements::hold_thing), using(reading::proofs::Readings::answer_bind, reading::proofs::Readings::answer_done))]
+#[tactic(auto, unfolding(crate::specs::Statements::hold_thing), using(mud_base::proofs::Readings::answer_bind, mud_base::proofs::Readings::answer_done))]
 fn hold_thing(object: &Value) -> Result<Command, Unread>
     ensures { Gives (λ c. c) result (spec.hold_thing (view object.now)) }
 {
@@ -40,7 +40,7 @@ fn hold_thing(object: &Value) -> Result<Command, Unread>
 }
 
 /// A Thing's hold ends.
-#[tactic(auto, unfolding(crate::specs::Statements::release_thing), using(reading::proofs::Readings::answer_bind, reading::proofs::Readings::answer_done))]
+#[tactic(auto, unfolding(crate::specs::Statements::release_thing), using(mud_base::proofs::Readings::answer_bind, mud_base::proofs::Readings::answer_done))]
 fn release_thing(object: &Value) -> Result<Command, Unread>
     ensures { Gives (λ c. c) result (spec.release_thing (view object.now)) }
 {
@@ -48,7 +48,7 @@ fn release_thing(object: &Value) -> Result<Command, Unread>
 }
 
 /// A Thing has an address, for 1 to 4,294,967,295 seconds.
-#[tactic(auto, unfolding(crate::specs::Statements::lease_address), using(reading::proofs::Readings::answer_bind, reading::proofs::Readings::answer_done))]
+#[tactic(auto, unfolding(crate::specs::Statements::lease_address), using(mud_base::proofs::Readings::answer_bind, mud_base::proofs::Readings::answer_done))]
 fn lease_address(object: &Value) -> Result<Command, Unread>
     ensures { Gives (λ c. c) result (spec.lease_address (view object.now)) }
 {
@@ -59,7 +59,7 @@ fn lease_address(object: &Value) -> Result<Command, Unread>
 }
 
 /// No Thing has an address any longer.
-#[tactic(auto, unfolding(crate::specs::Statements::end_lease), using(reading::proofs::Readings::answer_bind, reading::proofs::Readings::answer_done))]
+#[tactic(auto, unfolding(crate::specs::Statements::end_lease), using(mud_base::proofs::Readings::answer_bind, mud_base::proofs::Readings::answer_done))]
 fn end_lease(object: &Value) -> Result<Command, Unread>
     ensures { Gives (λ c. c) result (spec.end_lease (view object.now)) }
 {
@@ -67,7 +67,7 @@ fn end_lease(object: &Value) -> Result<Command, Unread>
 }
 
 /// What is to become of the candidate of a URL with a digest.
-#[tactic(auto, unfolding(crate::specs::Statements::state_verdict), using(reading::proofs::Readings::answer_bind, reading::proofs::Readings::answer_done))]
+#[tactic(auto, unfolding(crate::specs::Statements::state_verdict), using(mud_base::proofs::Readings::answer_bind, mud_base::proofs::Readings::answer_done))]
 fn state_verdict(alloc: Global, object: &Value) -> Result<Command, Unread>
     ensures { Gives (λ c. c) result (spec.state_verdict (view object.now)) }
 {
@@ -78,7 +78,7 @@ fn state_verdict(alloc: Global, object: &Value) -> Result<Command, Unread>
 }
 
 /// The approval of a URL's file is taken back.
-#[tactic(auto, unfolding(crate::specs::Statements::revoke_file), using(reading::proofs::Readings::answer_bind, reading::proofs::Readings::answer_done))]
+#[tactic(auto, unfolding(crate::specs::Statements::revoke_file), using(mud_base::proofs::Readings::answer_bind, mud_base::proofs::Readings::answer_done))]
 fn revoke_file(object: &Value) -> Result<Command, Unread>
     ensures { Gives (λ c. c) result (spec.revoke_file (view object.now)) }
 {
@@ -86,7 +86,7 @@ fn revoke_file(object: &Value) -> Result<Command, Unread>
 }
 
 /// A class has an address.
-#[tactic(auto, unfolding(crate::specs::Statements::bind_address), using(reading::proofs::Readings::answer_bind, reading::proofs::Readings::answer_done))]
+#[tactic(auto, unfolding(crate::specs::Statements::bind_address), using(mud_base::proofs::Readings::answer_bind, mud_base::proofs::Readings::answer_done))]
 fn bind_address(alloc: Global, object: &Value) -> Result<Command, Unread>
     ensures { Gives (λ c. c) result (spec.bind_address (view object.now)) }
 {
@@ -96,7 +96,7 @@ fn bind_address(alloc: Global, object: &Value) -> Result<Command, Unread>
 }
 
 /// A class no longer has an address.
-#[tactic(auto, unfolding(crate::specs::Statements::unbind_address), using(reading::proofs::Readings::answer_bind, reading::proofs::Readings::answer_done))]
+#[tactic(auto, unfolding(crate::specs::Statements::unbind_address), using(mud_base::proofs::Readings::answer_bind, mud_base::proofs::Readings::answer_done))]
 fn unbind_address(alloc: Global, object: &Value) -> Result<Command, Unread>
     ensures { Gives (λ c. c) result (spec.unbind_address (view object.now)) }
 {
@@ -106,7 +106,7 @@ fn unbind_address(alloc: Global, object: &Value) -> Result<Command, Unread>
 }
 
 /// The local networks are these.
-#[tactic(auto, unfolding(crate::specs::Statements::set_locals), using(reading::proofs::Readings::answer_bind, reading::proofs::Readings::answer_done))]
+#[tactic(auto, unfolding(crate::specs::Statements::set_locals), using(mud_base::proofs::Readings::answer_bind, mud_base::proofs::Readings::answer_done))]
 fn set_locals(alloc: Global, object: &Value) -> Result<Command, Unread>
     ensures { Gives (λ c. c) result (spec.set_locals (view object.now)) }
 {
@@ -114,7 +114,7 @@ fn set_locals(alloc: Global, object: &Value) -> Result<Command, Unread>
 }
 
 /// A name was observed at an address, for 1 to 2,147,483,647 seconds.
-#[tactic(auto, unfolding(crate::specs::Statements::observe_name), using(reading::proofs::Readings::answer_bind, reading::proofs::Readings::answer_done))]
+#[tactic(auto, unfolding(crate::specs::Statements::observe_name), using(mud_base::proofs::Readings::answer_bind, mud_base::proofs::Readings::answer_done))]
 fn observe_name(alloc: Global, object: &Value) -> Result<Command, Unread>
     ensures { Gives (λ c. c) result (spec.observe_name (view object.now)) }
 {

@@ -14,10 +14,10 @@ use Rattle.desk_model.specs.Sessions.{Session, opened}
 use Rattle.desk_model.specs.Boxed.{IsKept}
 use Rattle.mud_desk.specs.DeskState.{DeskState, IsBegun, session_of, tables_of}
 use Rattle.http_requests.specs.declared.fault.MomentFrom.{MomentFrom}
-use Rattle.http_serving.specs.declared.end.ConnectionEnd.{ConnectionEnd}
-use Rattle.http_serving.specs.Ends.{IsServed}
-use Rattle.http_serving.specs.Runs.{IsLeftBy}
-use Rattle.http_serving.specs.Visits.{failed_to_read, failed_to_write, AreEnough, CountsOf, ServedInTurn, Visited}
+use Rattle.http_requests.specs.declared.end.ConnectionEnd.{ConnectionEnd}
+use Rattle.http_requests.specs.Ends.{IsServed}
+use Rattle.http_requests.specs.Runs.{IsLeftBy}
+use Rattle.http_requests.specs.Visits.{failed_to_read, failed_to_write, AreEnough, CountsOf, ServedInTurn, Visited}
 use Rattle.console_answers.specs.Answers.{fault_answer}
 use Rattle.console.specs.States.{ConsoleState, MayTake, IsAt, begun}
 use Rattle.console_runs.specs.Store.{LeavesDesk}

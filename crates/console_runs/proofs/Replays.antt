@@ -12,10 +12,10 @@ use Rattle.desk_model.specs.Boxed.{IsKept, IsSameBox}
 use Rattle.mud_desk.specs.DeskState.{DeskState, IsBegun, session_of, tables_of}
 use Rattle.http_requests.specs.declared.fault.MomentFrom.TheVariants.{Header}
 use Rattle.http_requests.specs.Doors.{ReadsAndWrites}
-use Rattle.http_serving.specs.declared.end.ConnectionEnd.{ConnectionEnd}
-use Rattle.http_serving.specs.declared.end.ConnectionEnd.TheVariants.{Ended, Closed, Broken, Spent, ReadFailed, WriteFailed}
-use Rattle.http_serving.specs.Ends.{IsServed, is_read_failed, is_write_failed}
-use Rattle.http_serving.specs.Runs.{IsLeftBy}
+use Rattle.http_requests.specs.declared.end.ConnectionEnd.{ConnectionEnd}
+use Rattle.http_requests.specs.declared.end.ConnectionEnd.TheVariants.{Ended, Closed, Broken, Spent, ReadFailed, WriteFailed}
+use Rattle.http_requests.specs.Ends.{IsServed, is_read_failed, is_write_failed}
+use Rattle.http_requests.specs.Runs.{IsLeftBy}
 use Rattle.command_runs.specs.Ends.{IsSteady, IsStopped}
 use Rattle.desk_runs.proofs.Refusals.{reads_honestly}
 use Rattle.console_answers.specs.Answers.{fault_answer}

@@ -13,8 +13,8 @@ use Rattle.desk_model.specs.Sessions.{opened}
 use Rattle.desk_model.specs.Boxed.{IsKept, IsSameBox}
 use Rattle.mud_desk.specs.DeskState.{DeskState, IsBegun, session_of, tables_of}
 use Rattle.http_requests.specs.declared.fault.MomentFrom.TheVariants.{Clock}
-use Rattle.http_serving.specs.Runs.{IsLeftBy}
-use Rattle.http_serving.specs.Visits.{ServedInTurn, TakesTurns}
+use Rattle.http_requests.specs.Runs.{IsLeftBy}
+use Rattle.http_requests.specs.Visits.{ServedInTurn, TakesTurns}
 use Rattle.console_answers.specs.Answers.{fault_answer}
 use Rattle.console.specs.States.{ConsoleState, MayTake, IsAt, begun}
 use Rattle.console.proofs.Takes.{at_first}

@@ -10,10 +10,10 @@ use Rattle.desk_model.specs.Sessions.{opened}
 use Rattle.desk_runs.specs.Honest.{RunsHonestly}
 use Rattle.http_requests.specs.declared.fault.MomentFrom.TheVariants.{Header}
 use Rattle.http_requests.specs.Doors.{ReadsAndWrites}
-use Rattle.http_serving.specs.declared.end.ConnectionEnd.{ConnectionEnd}
-use Rattle.http_serving.specs.declared.end.ConnectionEnd.TheVariants.{Ended, Closed, Broken, Spent, ReadFailed, WriteFailed}
-use Rattle.http_serving.specs.Ends.{IsServed, is_read_failed, is_write_failed}
-use Rattle.http_serving.specs.Runs.{IsLeftBy}
+use Rattle.http_requests.specs.declared.end.ConnectionEnd.{ConnectionEnd}
+use Rattle.http_requests.specs.declared.end.ConnectionEnd.TheVariants.{Ended, Closed, Broken, Spent, ReadFailed, WriteFailed}
+use Rattle.http_requests.specs.Ends.{IsServed, is_read_failed, is_write_failed}
+use Rattle.http_requests.specs.Runs.{IsLeftBy}
 use Rattle.console_answers.specs.Answers.{fault_answer}
 use Rattle.console.specs.States.{MayTake, begun}
 use Rattle.console_runs.specs.Store.{NoneFailed, OnlyWrites, OpensWith, LeavesDesk, ServesNone}

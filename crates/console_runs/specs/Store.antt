@@ -14,7 +14,7 @@ use Rattle.desk_model.specs.Boxed.{IsKept}
 use Rattle.desk_runs.specs.Honest.{RunsHonestly}
 use Rattle.desk_runs.specs.Refused.{RefusesStore, each_refusal}
 use Rattle.desk_runs.specs.Store.{LeavesStore}
-use Rattle.http_serving.specs.Visits.{CountsOf}
+use Rattle.http_requests.specs.Visits.{CountsOf}
 use Rattle.console.specs.States.{ConsoleState}
 
 -- No call of the door and none of the keeper failed: no count rose.

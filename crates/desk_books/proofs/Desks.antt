@@ -6,7 +6,7 @@ use Rattle.acl_model.specs.declared.entry.Policy.{Policy}
 use Rattle.acl_model.specs.Places.{binding_place}
 use Rattle.acl_model.specs.Changes.{HaveSame, IsBindingChange, replaced}
 use Rattle.acl_rows.specs.Rows.{Slots, rows_of}
-use Rattle.acl_patch.proofs.Bound.{ascend-replaced}
+use Rattle.row_changes.proofs.Bound.{ascend-replaced}
 use Rattle.row_edits.specs.declared.edit.Edit.{Edit}
 use Rattle.row_edits.specs.Edits.{edited}
 use Rattle.acl_compile.specs.Compiled.{CompiledState}
@@ -19,7 +19,7 @@ use Rattle.file_tables.specs.declared.cached_file.CachedFile.{CachedFile}
 use Rattle.file_tables.specs.Policies.{policy_of}
 use Rattle.desk_model.specs.DeskTables.{DeskTables, IsSound}
 use Rattle.desk_model.specs.Verdicts.{policy_at, desk_bindings}
-use Rattle.desk_rows.specs.CompiledDesk.{IsCompiledOf}
+use Rattle.desk_books.specs.CompiledDesk.{IsCompiledOf}
 use Rattle.desk_books.specs.Planned.{IsCommitted}
 use Rattle.mud_url.proofs.Places.{same_octets}
 

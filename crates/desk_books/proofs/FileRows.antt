@@ -6,7 +6,7 @@ use Rattle.mud_base.specs.declared.packet.Direction.TheVariants.{From, To}
 use Rattle.acl_model.specs.declared.entry.Policy.{Policy}
 use Rattle.acl_model.specs.declared.binding.Binding.{Binding}
 use Rattle.acl_model.specs.FirstMatch.{entries_of}
-use Rattle.acl_patch.specs.Touched.{touches}
+use Rattle.row_changes.specs.Touched.{touches}
 use Rattle.acl_compile.specs.Compiled.{CompiledState}
 use Rattle.acl_compile.specs.Plans.{Plan, CanBeCounted, IsPolicyPlan}
 use Rattle.row_changes.specs.Steps.{HaveKeys, place_steps}

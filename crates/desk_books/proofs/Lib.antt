@@ -1,6 +1,8 @@
-pub mod Desks
-pub mod Planning
+pub mod Adding
 pub mod Asked
-pub mod Paid
+pub mod Binding
+pub mod Desks
 pub mod FileRows
+pub mod Paid
+pub mod Planning
 pub mod Whole

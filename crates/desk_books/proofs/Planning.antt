@@ -32,7 +32,7 @@ use Rattle.desk_model.specs.Commands.{outcome, stamped, by_things, by_files, by_
 use Rattle.desk_model.specs.Items.{IsKeptBy, with_stamp_put}
 use Rattle.desk_model.specs.Verdicts.{policy_at, desk_bindings}
 use Rattle.desk_model.proofs.Batches.{things_kept, files_kept, binds_kept}
-use Rattle.desk_rows.specs.CompiledDesk.{IsCompiledOf}
+use Rattle.desk_books.specs.CompiledDesk.{IsCompiledOf}
 use Rattle.desk_books.specs.declared.change.BookChange.{BookChange}
 use Rattle.desk_books.specs.declared.change.BookChange.TheVariants as which
 use Rattle.desk_books.specs.Books.{Books, desk_of, AreKept}

@@ -13,7 +13,7 @@ use Rattle.file_tables.specs.Limits.{last_moment}
 use Rattle.desk_model.specs.declared.command.Command.{Command}
 use Rattle.desk_model.specs.DeskTables.{DeskTables, IsSound, IsStamp, with_things, with_files, with_desk_binds}
 use Rattle.desk_model.specs.Commands.{DeskStep, command_step}
-use Rattle.desk_rows.specs.CompiledDesk.{IsCompiledOf}
+use Rattle.desk_books.specs.CompiledDesk.{IsCompiledOf}
 use Rattle.desk_books.specs.declared.change.BookChange.{BookChange}
 use Rattle.desk_books.specs.declared.change.BookChange.TheVariants as which
 use Rattle.desk_books.specs.declared.lists.Lists.{Lists}

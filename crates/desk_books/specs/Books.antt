@@ -5,7 +5,7 @@ use Rattle.file_cache.specs.Changes.{Files}
 use Rattle.bind_book.specs.Book.{Book}
 use Rattle.acl_compile.specs.Compiled.{CompiledState}
 use Rattle.desk_model.specs.DeskTables.{DeskTables, IsSound}
-use Rattle.desk_rows.specs.CompiledDesk.{IsCompiledOf}
+use Rattle.desk_books.specs.CompiledDesk.{IsCompiledOf}
 use Rattle.desk_books.specs.declared.lists.Lists.{Lists}
 
 -- the three books, the policies, bindings and rows that follow from them, and the moment of the last change

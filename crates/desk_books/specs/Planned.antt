@@ -17,7 +17,7 @@ use Rattle.desk_model.specs.DeskTables.{DeskTables, IsSound}
 use Rattle.desk_model.specs.Commands.{DeskAfter, DeskStep}
 use Rattle.desk_model.specs.Items.{IsKeptBy}
 use Rattle.desk_model.specs.Verdicts.{policy_at, desk_bindings}
-use Rattle.desk_rows.specs.CompiledDesk.{IsCompiledOf}
+use Rattle.desk_books.specs.CompiledDesk.{IsCompiledOf}
 use Rattle.desk_books.specs.declared.change.BookChange.{BookChange}
 use Rattle.desk_books.specs.declared.change.BookChange.TheVariants as which
 use Rattle.desk_books.specs.Books.{Books, desk_of}

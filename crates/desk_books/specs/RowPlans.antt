@@ -2,7 +2,7 @@
 use Rattle.std.specs.Prelude.{ℕ, ◌+◌, ◌*◌, ◌^◌, ◌<◌, ◌≤◌, List, [], ◌++◌, length, Option}
 use Rattle.acl_model.specs.declared.entry.Policy.{Policy}
 use Rattle.acl_model.specs.declared.binding.Binding.{Binding}
-use Rattle.acl_patch.specs.Touched.{touches}
+use Rattle.row_changes.specs.Touched.{touches}
 use Rattle.acl_compile.specs.Compiled.{CompiledState}
 use Rattle.acl_compile.specs.Plans.{Plan, IsMemberPlan, IsPolicyPlan, held_for, policy_steps}
 use Rattle.row_changes.specs.Steps.{HaveKeys, PolicyKeys, place_steps}

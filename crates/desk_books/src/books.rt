@@ -1,13 +1,13 @@
 //! The books of the desk, with what is compiled of them.
 ghost use Rattle.std.specs.Prelude.{◌≡◌, ◌+◌, ◌-◌, ◌≤◌, false, true, Ok, Err, length, IfOk, IfErr, IsOkAnd, option_copied};
 ghost use Rattle.acl_rows.specs.View.{IsViewOf};
-ghost use Rattle.acl_patch.specs.Patch.{rows_apart};
+ghost use Rattle.row_changes.specs.Patch.{rows_apart};
 ghost use Rattle.acl_compile.specs.Plans.{IsKept};
 ghost use Rattle.mud_tables.specs.Things.{thing_at};
 ghost use Rattle.desk_model.specs.DeskTables.{IsSound, IsStamp};
 ghost use Rattle.desk_model.specs.Refusals.{is_want_of_memory};
 ghost use Rattle.desk_model.specs.Commands.{IsAsked, command_step};
-ghost use Rattle.desk_rows.specs.CompiledDesk.{IsCompiledOf};
+ghost use Rattle.desk_books.specs.CompiledDesk.{IsCompiledOf};
 ghost use Rattle.desk_books.specs.Books.{AreKept, desk_in, desk_of};
 ghost use Rattle.desk_books.specs.Changes.{desk_after};
 ghost use Rattle.desk_books.specs.Planned.{IsPlanned, IsReady, IsPaid};

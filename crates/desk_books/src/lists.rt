@@ -14,10 +14,10 @@ ghost use Rattle.desk_books.specs.Books.{AreKept, desk_with};
 ghost use Rattle.desk_books.specs.InBooks.{IsAnswerIn};
 
 use crate::change::BookChange;
+use crate::compile;
 use acl_compile::Compiled;
 use bind_book::{BindBook, BindChange};
 use desk_model::{Command, Refusal};
-use desk_rows::compile;
 use file_cache::{CacheChange, FileCache};
 use file_tables::CacheFault;
 use mud_base::{Memory, Moment};

@@ -2,7 +2,7 @@
 use Rattle.std.proofs.Common.{◌≡◌, ℕ, List, Result, Ok, Err, IfOk, OnOk, OnErr, refl, sym, ap, subst, ◌∙◌}
 use Rattle.mud_base.specs.declared.memory.Memory as want
 use Rattle.mud_tables.specs.declared.segment.Segment.{Segment}
-use Rattle.packet_buffer.specs.Packets.{Packet}
+use Rattle.octet_buffer.specs.Packets.{Packet}
 use Rattle.packet_judge.specs.declared.verdict.Verdict.{Verdict}
 use Rattle.desk_model.specs.DeskTables.{DeskTables}
 use Rattle.desk_model.specs.Sessions.{Session, Judged, frame_in, opened}

@@ -1,13 +1,13 @@
 -- Captures that hold the same packets are judged alike.
 use Rattle.std.proofs.Common.{◌≡◌, ℕ, List, ◌++◌, ap, ap₂, ◌∙◌}
 use Rattle.std.specs.Prelude.{codes, decimal}
-use Rattle.packet_buffer.specs.Packets.{Packet}
-use Rattle.capture_source.specs.Same.{HoldTheSame}
+use Rattle.octet_buffer.specs.Packets.{Packet}
+use Rattle.capture_runs.specs.Same.{HoldTheSame}
 use Rattle.capture_runs.specs.Fold.{LineStep, LooksAtNoPlace, no_ending}
 use Rattle.capture_runs.proofs.SamePackets.{due_same}
 use Rattle.text_lines.specs.Numbers.{number_text}
 use Rattle.packet_judge.specs.declared.verdict.Verdict.{Verdict}
-use Rattle.verdict_lines.specs.Verdicts.{verdict_text}
+use Rattle.reply_lines.specs.Verdicts.{verdict_text}
 use Rattle.desk_model.specs.DeskTables.{DeskTables}
 use Rattle.desk_model.specs.Sessions.{Session, opened, frame_in}
 use Rattle.desk_runs.specs.Judged.{judged_line, judged_step}

@@ -1,10 +1,10 @@
 -- The line that `judge` writes for each packet of a capture. It ends with a line feed.
 use Rattle.std.specs.Prelude.{◌≡◌, List, ℕ, ◌++◌, codes, decimal}
-use Rattle.packet_buffer.specs.Packets.{Packet}
+use Rattle.octet_buffer.specs.Packets.{Packet}
 use Rattle.packet_judge.specs.declared.verdict.Verdict.{Verdict}
 use Rattle.capture_runs.specs.Fold.{LineStep}
 use Rattle.text_lines.specs.Numbers.{number_text}
-use Rattle.verdict_lines.specs.Verdicts.{verdict_text}
+use Rattle.reply_lines.specs.Verdicts.{verdict_text}
 use Rattle.desk_model.specs.Sessions.{Session, Judged, frame_in}
 use Rattle.mud_desk.specs.DeskState.{DeskState, session_of, HasForwarded}
 

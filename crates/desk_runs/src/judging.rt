@@ -19,12 +19,12 @@ use mud_base::{Bytes, Memory, Moment};
 use mud_desk::{Desk, State, Verdict};
 use mud_world::{Door, Keeper};
 use pcap_read::Captured;
+use reply_lines::append_verdict;
 use sorted_rows::Steps;
 use std::alloc::Global;
 use std::marker::Brand;
 use std::sync::ledger::{Blank, Ledger};
 use text_lines::append_decimal;
-use verdict_lines::append_verdict;
 
 /// The seconds of a packet as a moment. No number of 32 bits is after the last moment.
 pub fn moment_of(packet: &Captured<'_>) -> Moment

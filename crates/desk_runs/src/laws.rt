@@ -1,6 +1,6 @@
 //! A law of what `judge` writes, on a function that does nothing.
 ghost use Rattle.std.specs.Prelude.{◌≡◌, ℕ, List};
-ghost use Rattle.capture_source.specs.Same.{HoldTheSame};
+ghost use Rattle.capture_runs.specs.Same.{HoldTheSame};
 ghost use Rattle.desk_model.specs.DeskTables.{DeskTables};
 ghost use Rattle.desk_runs.specs.Store.{judged_due};
 

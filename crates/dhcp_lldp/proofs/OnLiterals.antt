@@ -2,7 +2,7 @@
 use Rattle.mud_base.specs.Decimal.{digits_upto, has_numeral_front, number_upto}
 use Rattle.mud_url.specs.Host.{lowered, is_label_octet, is_label, is_host}
 use Rattle.mud_url.specs.Url.{scheme, begins_with_scheme, authority, path_and_query, host_part, port_part, is_port, is_path_octet, begins_with_hex_pair, may_stand, path_fault, canonical_port, canonical_path, canonical, url_of, without_last_zero, before_space, string_of}
-use Rattle.octet_fields.proofs.OnLiterals.{fields_on_literals}
+use Rattle.mud_base.proofs.FieldsOnLiterals.{fields_on_literals}
 use Rattle.dhcp_lldp.specs.Mud.{announced}
 use Rattle.dhcp_lldp.specs.Options.{contents_of, option_fault}
 use Rattle.dhcp_lldp.specs.Dhcp.{is_request, is_reply, is_ethernet, has_cookie, yiaddr_of, options_of, is_ack, seconds_of, granted, said, heard_of}

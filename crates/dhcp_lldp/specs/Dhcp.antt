@@ -4,8 +4,8 @@ use Rattle.std.specs.Str.{bytes_eq}
 use Rattle.mud_base.specs.Faults.{row, unless}
 use Rattle.mud_base.specs.declared.addr.Mac.{Mac}
 use Rattle.mud_base.specs.declared.addr.Addr.TheVariants.{V4}
-use Rattle.octet_fields.specs.Numbers.{big_32}
-use Rattle.octet_fields.specs.Places.{octets_at, mac_at, is_group_at}
+use Rattle.mud_base.specs.Numbers.{big_32}
+use Rattle.mud_base.specs.Places.{octets_at, mac_at, is_group_at}
 use Rattle.dhcp_lldp.specs.declared.heard.Heard.{Heard}
 use Rattle.dhcp_lldp.specs.declared.heard.Heard.TheVariants.{Lease, Nothing}
 use Rattle.dhcp_lldp.specs.declared.heard.HearFault.{HearFault}

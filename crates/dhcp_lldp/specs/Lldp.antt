@@ -1,9 +1,9 @@
 -- What an LLDP frame says (IEEE 802.1AB).
 use Rattle.std.specs.Prelude.{nat_lt, ◌==◌, Bool, not, ◌&&◌, List, [], ◌∷◌, ℕ, length, drop, Option, Result}
 use Rattle.mud_base.specs.Faults.{row, unless}
-use Rattle.octet_fields.specs.Ethernet.{source_place, type_place, head_len}
-use Rattle.octet_fields.specs.Numbers.{big_16}
-use Rattle.octet_fields.specs.Places.{mac_at, is_group_at}
+use Rattle.mud_base.specs.Ethernet.{source_place, type_place, head_len}
+use Rattle.mud_base.specs.Numbers.{big_16}
+use Rattle.mud_base.specs.Places.{mac_at, is_group_at}
 use Rattle.dhcp_lldp.specs.declared.heard.Heard.{Heard}
 use Rattle.dhcp_lldp.specs.declared.heard.HearFault.{HearFault}
 use Rattle.dhcp_lldp.specs.declared.heard.HearFault.TheVariants as faults

@@ -6,8 +6,7 @@ use crate::contents::Contents;
 use crate::heard::{HearFault, Heard};
 use crate::mud::announced;
 use crate::options::{OPTIONS_PLACE, contents};
-use mud_base::{Addr, Mac};
-use octet_fields::{big_32, is_group_at, mac_at, octets_at};
+use mud_base::{Addr, Mac, big_32, is_group_at, mac_at, octets_at};
 
 /// The op of a client's message.
 const BOOTREQUEST: u8 = 1;

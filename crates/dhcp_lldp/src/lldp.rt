@@ -6,8 +6,8 @@ ghost use Rattle.dhcp_lldp.specs.Lldp as spec;
 use crate::heard::{HearFault, Heard};
 use crate::mud::announced;
 use crate::tlvs::seen_tlvs;
-use octet_fields::ethernet::{HEAD_LEN, SOURCE_PLACE, TYPE_PLACE};
-use octet_fields::{big_16, is_group_at, mac_at};
+use mud_base::ethernet::{HEAD_LEN, SOURCE_PLACE, TYPE_PLACE};
+use mud_base::{big_16, is_group_at, mac_at};
 
 /// The type of LLDP (IEEE 802.1AB, clause 7).
 const LLDP: u16 = 0x88CC;

@@ -8,7 +8,7 @@ ghost use Rattle.dhcp_lldp.specs.Tlvs.{tlv_fault};
 
 use crate::heard::HearFault;
 use crate::seen::Seen;
-use octet_fields::ethernet::HEAD_LEN;
+use mud_base::ethernet::HEAD_LEN;
 
 /// The type of the End Of LLDPDU TLV (clause 8.5.1).
 const END: u8 = 0;

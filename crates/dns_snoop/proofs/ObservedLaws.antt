@@ -12,7 +12,7 @@ use Rattle.mud_base.specs.declared.addr.Addr.{Addr}
 use Rattle.mud_url.specs.Host.{lowered, is_host}
 use Rattle.mud_url.proofs.HostNames.{lowered-lowered}
 use Rattle.mud_url.proofs.Bounds.{length-lowered}
-use Rattle.octet_fields.specs.Numbers.{big_16}
+use Rattle.mud_base.specs.Numbers.{big_16}
 use Rattle.dns_snoop.specs.declared.fault.DnsFault.{DnsFault}
 use Rattle.dns_snoop.specs.declared.fault.DnsFault.TheVariants as faults
 use Rattle.dns_snoop.specs.declared.name.ReadName.{ReadName}

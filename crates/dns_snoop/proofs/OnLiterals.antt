@@ -1,6 +1,6 @@
 -- What unfolds where the definitions are computed on literal octets.
 use Rattle.mud_url.proofs.OnLiterals.{url_on_literals}
-use Rattle.octet_fields.proofs.OnLiterals.{fields_on_literals}
+use Rattle.mud_base.proofs.FieldsOnLiterals.{fields_on_literals}
 use Rattle.dns_snoop.specs.Names.{run_at, chain_behind, chain_at, first_beyond, text_of, behind_run, read_name_of}
 use Rattle.dns_snoop.specs.Records.{is_amiss, alias_in, record_at, records_from, is_owned, is_link, gives_row, rows_of}
 use Rattle.dns_snoop.specs.Messages.{is_answer, question_of, dotted, asked_by, answers_of}

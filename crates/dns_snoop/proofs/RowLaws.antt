@@ -5,7 +5,7 @@ use Rattle.std.proofs.lemmas.Bool.{cases_Bool}
 use Rattle.mud_base.specs.declared.addr.Addr.{Addr}
 use Rattle.dns_snoop.specs.declared.answer.Record.{Record}
 use Rattle.dns_snoop.specs.Records.{is_link, links, last_alias, least, row_of, rows_behind, rows_of}
-use Rattle.octet_fields.specs.Numbers.{big_16}
+use Rattle.mud_base.specs.Numbers.{big_16}
 use Rattle.dns_snoop.specs.declared.fault.DnsFault.{DnsFault}
 use Rattle.dns_snoop.specs.declared.fault.DnsFault.TheVariants as faults
 use Rattle.dns_snoop.specs.declared.answers.Question.{Question}

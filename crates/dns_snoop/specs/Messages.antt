@@ -3,7 +3,7 @@ use Rattle.std.specs.Prelude.{ℕ, zero, suc, ◌+◌, ◌-◌, ◌==◌, nat_lt
 use Rattle.mud_base.specs.Faults.{row, unless}
 use Rattle.mud_base.specs.declared.addr.Addr.{Addr}
 use Rattle.mud_url.specs.Host.{is_host}
-use Rattle.octet_fields.specs.Numbers.{big_16}
+use Rattle.mud_base.specs.Numbers.{big_16}
 use Rattle.dns_snoop.specs.declared.fault.DnsFault.{DnsFault}
 use Rattle.dns_snoop.specs.declared.fault.DnsFault.TheVariants as faults
 use Rattle.dns_snoop.specs.declared.name.ReadName.{ReadName}

@@ -4,8 +4,7 @@ ghost use Rattle.dns_snoop.specs.Records as spec;
 
 use crate::fault::DnsFault;
 use crate::name::read_name;
-use mud_base::ShortText;
-use octet_fields::{big_16, big_32};
+use mud_base::{ShortText, big_16, big_32};
 
 /// The type of an IPv4 address (RFC 1035, section 3.2.2).
 pub(crate) const A: u16 = 1;

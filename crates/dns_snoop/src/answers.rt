@@ -9,9 +9,8 @@ use crate::answer::{A, AAAA, IN};
 use crate::fault::DnsFault;
 use crate::name::read_name;
 use crate::rows::read_rows;
-use mud_base::{Addr, Bytes, Listed, ShortText};
+use mud_base::{Addr, Bytes, Listed, ShortText, big_16};
 use mud_url::host::is_host;
-use octet_fields::big_16;
 use std::alloc::Global;
 
 /// How many octets the header has (RFC 1035, section 4.1.1).

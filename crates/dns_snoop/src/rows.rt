@@ -6,8 +6,7 @@ ghost use Rattle.dns_snoop.specs.Rows.{Answered, collected, bound_with, row_if, 
 
 use crate::answer::{A, CNAME, IN, Record, read_record};
 use crate::fault::DnsFault;
-use mud_base::{Addr, Listed, Memory, ShortText};
-use octet_fields::{big_32, big_128};
+use mud_base::{Addr, Listed, Memory, ShortText, big_32, big_128};
 use std::alloc::Global;
 
 /// The most seconds of a ttl, which has 31 bits (RFC 2181, section 8).

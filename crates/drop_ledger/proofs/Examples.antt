@@ -16,7 +16,7 @@ use Rattle.packet_judge.specs.declared.verdict.Verdict.{Verdict}
 use Rattle.packet_judge.specs.declared.verdict.Verdict.TheVariants.{Governed}
 use Rattle.packet_judge.specs.Verdicts.{accepts, forwarded}
 use Rattle.sorted_rows.specs.Addresses.{addr_place}
-use Rattle.counted_rows.specs.Counted.{count_of, numbered, count_rows, firsts, is_of, those_of, kept_of, is_kept, is_first, first_rows, others_of, late_rows}
+use Rattle.drop_ledger.specs.Counted.{count_of, numbered, count_rows, firsts, is_of, those_of, kept_of, is_kept, is_first, first_rows, others_of, late_rows}
 use Rattle.drop_ledger.specs.declared.rows.CountRow.{CountRow}
 use Rattle.drop_ledger.specs.declared.rows.DeniedRow.{DeniedRow}
 use Rattle.drop_ledger.specs.declared.rows.OtherRow.{OtherRow}

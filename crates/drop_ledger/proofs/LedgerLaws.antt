@@ -22,9 +22,9 @@ use Rattle.packet_judge.specs.declared.verdict.Verdict.TheVariants.{Unmanaged, L
 use Rattle.packet_judge.specs.Verdicts.{forwarded}
 use Rattle.sorted_rows.specs.Placed.{same_place}
 use Rattle.sorted_rows.proofs.Lists.{all-append, length-cond}
-use Rattle.counted_rows.proofs.FirstRows.{first_add_up}
-use Rattle.counted_rows.proofs.NumberLaws.{count_rows_total}
-use Rattle.counted_rows.specs.Counted.{AreKinds, count_of, count_rows, first_rows, late_rows, is_of, those_of, total, sum_of, count_at}
+use Rattle.drop_ledger.proofs.FirstRows.{first_add_up}
+use Rattle.drop_ledger.proofs.NumberLaws.{count_rows_total}
+use Rattle.drop_ledger.specs.Counted.{AreKinds, count_of, count_rows, first_rows, late_rows, is_of, those_of, total, sum_of, count_at}
 use Rattle.drop_ledger.specs.declared.rows.DeniedRow.{DeniedRow}
 use Rattle.drop_ledger.specs.declared.seen.Seen.{Seen}
 use Rattle.drop_ledger.specs.declared.seen.Ruled.{Ruled}

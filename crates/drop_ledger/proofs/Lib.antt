@@ -1,4 +1,11 @@
+mod CountLaws
 pub mod Examples
+mod FirstLaws
+pub mod FirstRows
+mod KeptLaws
 pub mod LedgerLaws
+mod LeftLaws
+pub mod NumberLaws
 pub mod PlaceOrder
+pub mod RowSteps
 pub mod TallyLaws

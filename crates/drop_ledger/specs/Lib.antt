@@ -1,3 +1,4 @@
+pub mod Counted
 pub mod Ledger
 pub mod Places
 pub mod Plan

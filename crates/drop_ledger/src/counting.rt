@@ -6,8 +6,8 @@ ghost use Rattle.drop_ledger.specs.declared.seen.Ruled.{Ruled as RuledValue};
 
 use crate::rows::{CountRow, DeniedRow, OtherRow};
 use crate::seen::Ruled;
+use crate::{count_first, count_one};
 use acl_model::{Ruling, Why, peer_of};
-use counted_rows::{count_first, count_one};
 use mud_base::{Direction, Fields, Transport};
 use sorted_rows::SortedRows;
 

@@ -3,7 +3,7 @@ ghost use Rattle.std.specs.Prelude.{◌≡◌, ◌+◌, List, length};
 ghost use Rattle.std.specs.List.{AllByRecursion};
 ghost use Rattle.mud_base.specs.declared.addr.Mac.{Mac as MacValue};
 ghost use Rattle.mud_base.specs.declared.packet.Direction.{Direction as DirectionValue};
-ghost use Rattle.counted_rows.specs.Counted.{first_rows, late_rows, total};
+ghost use Rattle.drop_ledger.specs.Counted.{first_rows, late_rows, total};
 ghost use Rattle.drop_ledger.specs.declared.seen.Seen.{Seen as SeenValue};
 ghost use Rattle.drop_ledger.specs.declared.seen.Ruled.{Ruled as RuledValue};
 ghost use Rattle.drop_ledger.specs.Places.{count_of_row};

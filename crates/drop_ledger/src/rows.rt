@@ -1,9 +1,9 @@
 //! The rows of a tally, in the order in which they are written.
 ghost use Rattle.std.specs.Prelude.{◌≡◌};
 
+use crate::Tallied;
 use crate::order::{Peer, ThingSide, peer_order, ruling_order, thing_order};
 use acl_model::Ruling;
-use counted_rows::Tallied;
 use mud_base::{Addr, Direction, Mac};
 use sorted_rows::{Placed, PrefixOf};
 use std::cmp::Ordering;

@@ -19,11 +19,11 @@ use Rattle.sorted_rows.specs.Placed.{place_cmp, same_place}
 use Rattle.sorted_rows.proofs.PlacedLaws.{place_cmp_turned, same_place-cmp}
 use Rattle.packet_judge.specs.ByRows.{IsViewOver}
 use Rattle.desk_model.specs.DeskTables.{DeskTables}
-use Rattle.desk_rows.specs.CompiledDesk.{IsCompiledOf}
-use Rattle.desk_judge.proofs.Views.{view_over}
+use Rattle.desk_books.specs.CompiledDesk.{IsCompiledOf}
+use Rattle.mud_desk.proofs.Views.{view_over}
 use Rattle.mud_desk.specs.DeskState.{DeskState, tables_of, AreRulesOf}
 use Rattle.command_runs.specs.Due.{WroteFirst}
-use Rattle.listing_runs.specs.Moments.{listing_moment}
+use Rattle.command_runs.specs.Moments.{listing_moment}
 use Rattle.export_runs.specs.Lists.{SourceParts, sources, lists_text}
 use Rattle.export_runs.specs.Exported.{IsRuleView, IsDueOf, no_thing, is_held, AreSourcesOf, WritesLists}
 

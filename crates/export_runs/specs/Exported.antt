@@ -14,7 +14,7 @@ use Rattle.mud_world.specs.Door.{DoorState, put_out}
 use Rattle.mud_base.specs.declared.addr.Mac.{Mac}
 use Rattle.mud_tables.specs.Things.{thing_at}
 use Rattle.command_runs.specs.Due.{Due, WroteFirst}
-use Rattle.listing_runs.specs.Moments.{listing_moment}
+use Rattle.command_runs.specs.Moments.{listing_moment}
 use Rattle.export_runs.specs.Lists.{SourceParts, lists_text, empty_lists}
 use Rattle.command_runs.specs.Status.{Is, IsOneOf}
 use Rattle.command_runs.specs.declared.status.Status.TheVariants.{Done, Refused, DoorFailed, NoMemory}

@@ -17,7 +17,7 @@ use Rattle.desk_model.specs.Items.{tables_in}
 use Rattle.desk_runs.specs.Honest.{RunsHonestly}
 use Rattle.desk_runs.specs.Refused.{RefusesStore}
 use Rattle.desk_runs.specs.Store.{LeavesStore}
-use Rattle.listing_runs.specs.Moments.{listing_moment}
+use Rattle.command_runs.specs.Moments.{listing_moment}
 use Rattle.export_runs.specs.Exported.{IsDueOf}
 use Rattle.command_runs.specs.Status.{IsNot, IsOneOf, each_status}
 use Rattle.command_runs.specs.declared.status.Status.TheVariants.{Done, Refused, DoorFailed, NoMemory, BadItem}

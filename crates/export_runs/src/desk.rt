@@ -15,8 +15,7 @@ ghost use Rattle.export_runs.specs.Store.{IsOfDesk, WritesThing};
 
 use crate::sources::{Sources, held_of, sources_of};
 use crate::writing::write_lists;
-use command_runs::Status;
-use listing_runs::{listing_moment, write_text};
+use command_runs::{Status, listing_moment, write_text};
 use mud_base::{Mac, Moment};
 use mud_desk::Desk;
 use mud_world::{Clock, Door, Keeper};

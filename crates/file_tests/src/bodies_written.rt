@@ -1,6 +1,6 @@
 //! Bodies as they go out.
 use acl_model::Ruling;
-use body_members::{BodyFault, Member};
+use console_bodies::{BodyFault, Member};
 use desk_model::Refusal;
 use dhcp_lldp::HearFault;
 use listing_bodies::{RuledEnd, body_fault_body, due_body, refusal_body, things_body, why_body};

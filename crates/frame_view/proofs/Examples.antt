@@ -13,7 +13,7 @@ use Rattle.frame_view.specs.Carried.{carried, by_type, past_tag, is_tag, payload
 use Rattle.frame_view.specs.Frame.{frame_of}
 use Rattle.frame_view.specs.Ipv4 as ipv4
 use Rattle.frame_view.specs.Ipv6 as ipv6
-use Rattle.octet_fields.proofs.OnLiterals.{fields_on_literals}
+use Rattle.mud_base.proofs.FieldsOnLiterals.{fields_on_literals}
 use Rattle.frame_view.specs.Traffic.{codepoint, congestion}
 use Rattle.frame_view.specs.Upper as upper
 use Rattle.frame_view.specs.Upper.{transport_of, tcp, udp, icmp}

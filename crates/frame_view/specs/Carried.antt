@@ -1,7 +1,7 @@
 -- What an Ethernet frame carries, by the type and the tags in front of it.
 use Rattle.std.specs.Prelude.{ℕ, Bool, ◌&&◌, ◌||◌, ◌==◌, nat_le, nat_lt, List, [], length, drop, Option, Some, None, Result, Ok, Err, if◌then◌else◌}
-use Rattle.octet_fields.specs.Ethernet.{type_place}
-use Rattle.octet_fields.specs.Numbers.{big_16}
+use Rattle.mud_base.specs.Ethernet.{type_place}
+use Rattle.mud_base.specs.Numbers.{big_16}
 use Rattle.frame_view.specs.declared.views.Part.{Part}
 use Rattle.frame_view.specs.declared.views.Part.TheVariants as part
 use Rattle.frame_view.specs.PacketFrame.{Contents}

@@ -1,8 +1,8 @@
 -- The hardware addresses of an Ethernet frame (IEEE 802.3).
 use Rattle.std.specs.Prelude.{ℕ, List}
 use Rattle.mud_base.specs.declared.addr.Mac.{Mac}
-use Rattle.octet_fields.specs.Ethernet.{destination_place, source_place}
-use Rattle.octet_fields.specs.Places.{mac_at}
+use Rattle.mud_base.specs.Ethernet.{destination_place, source_place}
+use Rattle.mud_base.specs.Places.{mac_at}
 
 unfoldable pub destination_of : List ℕ → Mac
 destination_of frame = mac_at destination_place frame

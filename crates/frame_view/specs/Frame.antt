@@ -1,6 +1,6 @@
 -- What the headers of an Ethernet frame say.
 use Rattle.std.specs.Prelude.{ℕ, nat_lt, List, length, drop, Option, Some, None, Result, Ok, Err, if◌then◌else◌}
-use Rattle.octet_fields.specs.Ethernet.{type_place, head_len}
+use Rattle.mud_base.specs.Ethernet.{type_place, head_len}
 use Rattle.frame_view.specs.declared.views.Part.{Part}
 use Rattle.frame_view.specs.declared.views.Part.TheVariants as part
 use Rattle.frame_view.specs.declared.views.Frame.{Frame}

@@ -5,7 +5,7 @@ use Rattle.mud_base.specs.declared.addr.Addr.TheVariants.{V4, V6}
 use Rattle.mud_base.specs.declared.packet.Fields.{Fields}
 use Rattle.mud_base.specs.declared.packet.Transport.{Transport}
 use Rattle.mud_base.specs.declared.packet.Transport.TheVariants.{Udp, Absent}
-use Rattle.octet_fields.specs.Numbers.{big_16, big_32}
+use Rattle.mud_base.specs.Numbers.{big_16, big_32}
 use Rattle.frame_view.specs.declared.views.Part.{Part}
 use Rattle.frame_view.specs.declared.views.Part.TheVariants as part
 use Rattle.frame_view.specs.Steps.{◌>>=◌}

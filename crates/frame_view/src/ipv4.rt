@@ -5,8 +5,7 @@ ghost use Rattle.frame_view.specs.Ipv4 as spec;
 use crate::traffic::{codepoint, congestion};
 use crate::upper::{payload_of, transport_of};
 use crate::views::{Contents, Part};
-use mud_base::{Addr, Fields, Transport};
-use octet_fields::{big_16, big_32};
+use mud_base::{Addr, Fields, Transport, big_16, big_32};
 
 // The places of the fields of the header (RFC 791, 3.1).
 

@@ -5,8 +5,7 @@ ghost use Rattle.frame_view.specs.Ipv6 as spec;
 use crate::traffic::{codepoint, congestion};
 use crate::upper::{UpperLayer, payload_of, transport_of};
 use crate::views::{Contents, Part};
-use mud_base::{Addr, Fields, Transport};
-use octet_fields::{big_16, big_128};
+use mud_base::{Addr, Fields, Transport, big_16, big_128};
 
 // The places of the fields of the header (RFC 8200, 3). It begins with four bits of version, eight
 // of traffic class and twenty of flow label.

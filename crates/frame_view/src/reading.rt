@@ -5,8 +5,8 @@ ghost use Rattle.frame_view.specs.Frame.{frame_of};
 
 use crate::views::{Contents, Frame, FrameView, PacketView, Part};
 use crate::{ipv4, ipv6};
-use octet_fields::big_16;
-use octet_fields::ethernet::{HEAD_LEN, TYPE_PLACE};
+use mud_base::big_16;
+use mud_base::ethernet::{HEAD_LEN, TYPE_PLACE};
 
 /// The type of a customer's tag (IEEE 802.1Q).
 const CUSTOMER_TAG: u16 = 0x8100;

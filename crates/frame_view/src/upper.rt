@@ -1,11 +1,10 @@
 //! The headers of the upper layers: TCP, UDP and ICMP.
 ghost use Rattle.std.specs.Prelude.{◌≡◌, ◌≤◌, length};
-ghost use Rattle.octet_fields.specs.Numbers as numbers;
+ghost use Rattle.mud_base.specs.Numbers as numbers;
 ghost use Rattle.frame_view.specs.Upper as spec;
 
 use crate::views::Part;
-use mud_base::Transport;
-use octet_fields::big_16;
+use mud_base::{Transport, big_16};
 use std::marker::Model;
 
 /// The protocol number of TCP.

@@ -3,9 +3,8 @@ ghost use Rattle.std.specs.Prelude.{◌≡◌, ◌≤◌, length};
 ghost use Rattle.frame_view.specs.Ethernet.{destination_of, source_of};
 ghost use Rattle.frame_view.specs.Carried.{payload_of};
 
-use mud_base::{Fields, Mac};
-use octet_fields::ethernet::{DESTINATION_PLACE, SOURCE_PLACE};
-use octet_fields::mac_at;
+use mud_base::ethernet::{DESTINATION_PLACE, SOURCE_PLACE};
+use mud_base::{Fields, Mac, mac_at};
 use std::marker::Model;
 
 /// The part of a frame that is cut or broken.

@@ -3,8 +3,8 @@ use Rattle.std.proofs.Common.{◌≡◌, ℕ, ◌+◌, ◌^◌, ◌<◌, ◌≤�
 use Rattle.std.specs.Prelude.{codes, decimal}
 use Rattle.std.specs.Fmt.{digits}
 use Rattle.std.proofs.lemmas.Fmt.{length-decimal-le}
-use Rattle.answer_buffer.specs.Kept.{kept}
-use Rattle.answer_buffer.proofs.KeptLemmas.{kept_short}
+use Rattle.http_answers.specs.Kept.{kept}
+use Rattle.http_answers.proofs.KeptLemmas.{kept_short}
 use Rattle.console_routes.specs.declared.route.Route.{Route}
 use Rattle.console_routes.specs.declared.route.Route.TheVariants.{Classes, Due, Files, HearDhcp, HearLldp, Holds, Leases, Locals, Names, Packets, Revokes, Things, Verdicts, Why}
 use Rattle.console_routes.specs.Actions.{text_of, methods_of, has_method, action_of}

@@ -1,2 +1,4 @@
-pub mod Phrases
+pub mod KeptLemmas
 pub mod Lengths
+pub mod Phrases
+pub mod Quotes

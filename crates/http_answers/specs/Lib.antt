@@ -1,2 +1,5 @@
-pub mod Statuses
 pub mod Heads
+pub mod Kept
+pub mod Rooms
+pub mod Statuses
+pub mod Texts

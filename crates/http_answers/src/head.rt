@@ -1,15 +1,15 @@
 //! Heads of answers.
 ghost use Rattle.std.specs.Prelude.{◌≡◌, ◌++◌};
-ghost use Rattle.answer_buffer.specs.Kept.{kept};
+ghost use Rattle.http_answers.specs.Kept.{kept};
 ghost use Rattle.http_answers.specs.Heads as spec;
 
+use crate::AnswerBuffer;
 use crate::status::Status;
-use answer_buffer::AnswerBuffer;
-use answer_buffer::texts::put_decimal;
+use crate::texts::put_decimal;
 use console_routes::Route;
 
 /// Adds the status line, as far as it fits.
-#[tactic(auto, unfolding(crate::specs::Heads::status_line), using(answer_buffer::proofs::KeptLemmas::kept_behind))]
+#[tactic(auto, unfolding(crate::specs::Heads::status_line), using(crate::proofs::KeptLemmas::kept_behind))]
 fn put_status_line(head: &mut AnswerBuffer, status: Status)
     ensures { head.new ≡ kept (head.old ++ spec.status_line status) }
 {
@@ -41,7 +41,7 @@ fn methods_text(route: Route) -> &'static [u8]
 }
 
 /// Adds the line of a route's methods, where there is one, as far as it fits.
-#[tactic(auto, unfolding(crate::specs::Heads::allow_line), using(answer_buffer::proofs::KeptLemmas::kept_behind, answer_buffer::proofs::KeptLemmas::kept_none))]
+#[tactic(auto, unfolding(crate::specs::Heads::allow_line), using(crate::proofs::KeptLemmas::kept_behind, crate::proofs::KeptLemmas::kept_none))]
 fn put_allow_line(head: &mut AnswerBuffer, allow: Option<Route>)
     ensures { head.new ≡ kept (head.old ++ spec.allow_line allow) }
 {
@@ -58,7 +58,7 @@ fn put_allow_line(head: &mut AnswerBuffer, allow: Option<Route>)
 }
 
 /// Adds the line of the body's length, as far as it fits.
-#[tactic(auto, unfolding(crate::specs::Heads::length_line), using(answer_buffer::proofs::KeptLemmas::kept_behind))]
+#[tactic(auto, unfolding(crate::specs::Heads::length_line), using(crate::proofs::KeptLemmas::kept_behind))]
 fn put_length_line(head: &mut AnswerBuffer, length: usize)
     ensures { head.new ≡ kept (head.old ++ spec.length_line length) }
 {
@@ -68,7 +68,7 @@ fn put_length_line(head: &mut AnswerBuffer, length: usize)
 }
 
 /// Adds the line that says that the connection ends, where it does, as far as it fits.
-#[tactic(auto, unfolding(crate::specs::Heads::close_line), using(answer_buffer::proofs::KeptLemmas::kept_behind, answer_buffer::proofs::KeptLemmas::kept_none))]
+#[tactic(auto, unfolding(crate::specs::Heads::close_line), using(crate::proofs::KeptLemmas::kept_behind, crate::proofs::KeptLemmas::kept_none))]
 fn put_close_line(head: &mut AnswerBuffer, closes: bool)
     ensures { head.new ≡ kept (head.old ++ spec.close_line closes) }
 {
@@ -80,7 +80,7 @@ fn put_close_line(head: &mut AnswerBuffer, closes: bool)
 }
 
 /// Adds all lines, as far as they fit.
-#[tactic(auto, unfolding(crate::specs::Heads::head_of, crate::specs::Heads::type_line), using(answer_buffer::proofs::KeptLemmas::kept_behind))]
+#[tactic(auto, unfolding(crate::specs::Heads::head_of, crate::specs::Heads::type_line), using(crate::proofs::KeptLemmas::kept_behind))]
 fn put_head(
     head: &mut AnswerBuffer,
     status: Status,

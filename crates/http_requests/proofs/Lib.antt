@@ -1,16 +1,22 @@
-pub mod Heads
-pub mod Runs
-pub mod Readings
-pub mod Lists
+pub mod Answers
+pub mod Coming
 pub mod Digits
-pub mod Values
+pub mod Examples
 pub mod Framings
 pub mod Fronts
-pub mod Shapes
+pub mod Heads
+pub mod Lists
 pub mod Looks
-pub mod Steps
-pub mod Coming
-pub mod Serving
 pub mod OnLiterals
-pub mod Examples
-mod Connections
+pub mod Readings
+pub mod Running
+pub mod Runs
+pub mod Serves
+pub mod Serving
+mod ServingExamples
+pub mod Shapes
+pub mod Steps
+pub mod Stops
+pub mod Values
+pub mod Visits
+mod WrittenConnections

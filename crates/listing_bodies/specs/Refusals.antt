@@ -15,10 +15,10 @@ use Rattle.desk_model.specs.declared.reply.Refusal.{Refusal}
 use Rattle.desk_model.specs.declared.reply.Refusal.TheVariants.{Things, Files, Binds}
 use Rattle.http_answers.specs.declared.status.Status.{Status}
 use Rattle.http_answers.specs.declared.status.Status.TheVariants.{Conflict, Unprocessable}
-use Rattle.body_members.specs.declared.member.Member.{Member}
-use Rattle.body_members.specs.declared.fault.BodyFault.{BodyFault}
-use Rattle.body_members.specs.declared.fault.BodyFault.TheVariants as fault
-use Rattle.body_members.specs.Members.{name_of}
+use Rattle.console_bodies.specs.declared.member.Member.{Member}
+use Rattle.console_bodies.specs.declared.fault.BodyFault.{BodyFault}
+use Rattle.console_bodies.specs.declared.fault.BodyFault.TheVariants as fault
+use Rattle.console_bodies.specs.Members.{name_of}
 
 -- where a fault is, where it has a place
 unfoldable pub place_member : Option ℕ → List ℕ

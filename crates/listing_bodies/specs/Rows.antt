@@ -15,7 +15,7 @@ use Rattle.file_tables.specs.Held.{HeldFile, usage_in, digest_of}
 use Rattle.file_tables.specs.declared.approval.Approval.{Approval}
 use Rattle.file_tables.specs.declared.cached_file.CachedFile.{CachedFile}
 use Rattle.file_tables.specs.Words.{approval_word}
-use Rattle.answer_buffer.specs.Texts.{url_text}
+use Rattle.http_answers.specs.Texts.{url_text}
 use Rattle.listing_bodies.specs.Texts.{truth_text, until_text}
 use Rattle.listing_bodies.specs.Lists.{list_text, listing_body}
 

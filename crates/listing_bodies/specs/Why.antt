@@ -7,7 +7,7 @@ use Rattle.acl_model.specs.declared.entry.Entry.{Entry}
 use Rattle.acl_model.specs.declared.ruling.Ruling.{Ruling}
 use Rattle.acl_model.specs.declared.ruling.Ruling.TheVariants.{Accept, AcceptDefault, Drop, DropDefault, DropHeld}
 use Rattle.packet_judge.specs.declared.verdict.Verdict.{Verdict}
-use Rattle.verdict_lines.specs.Verdicts.{ruling_text, verdict_text}
+use Rattle.reply_lines.specs.Verdicts.{ruling_text, verdict_text}
 use Rattle.listing_bodies.specs.declared.why.RuledEnd.{RuledEnd}
 use Rattle.listing_bodies.specs.Rows.{url_end}
 

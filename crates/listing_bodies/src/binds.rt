@@ -4,7 +4,7 @@ ghost use Rattle.listing_bodies.specs.Rows as spec;
 
 use crate::addresses::{append_address, append_prefix};
 use crate::lists::{JsonRow, append_list, listing_body};
-use answer_buffer::append_quoted;
+use http_answers::append_quoted;
 use mud_base::{Addr, Bytes, End, Memory, Prefix};
 use mud_tables::{Class, ClassRow, NameRow};
 use mud_url::MudUrl;

@@ -4,8 +4,8 @@ ghost use Rattle.listing_bodies.specs.Rows as spec;
 
 use crate::lists::{JsonRow, listing_body};
 use crate::things::append_url_end;
-use answer_buffer::append_quoted;
 use file_tables::{Approval, CachedFile, Held};
+use http_answers::append_quoted;
 use mud_base::{Bytes, Memory};
 use mud_file::UsageFile;
 use std::alloc::Global;

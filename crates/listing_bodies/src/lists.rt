@@ -2,7 +2,7 @@
 ghost use Rattle.std.specs.Prelude.{◌≡◌, ◌++◌, [], OnOk, IfOk};
 ghost use Rattle.listing_bodies.specs.Lists as spec;
 
-use answer_buffer::append_quoted;
+use http_answers::append_quoted;
 use mud_base::{Bytes, Memory};
 use std::alloc::Global;
 

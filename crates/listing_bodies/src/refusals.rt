@@ -2,12 +2,11 @@
 ghost use Rattle.std.specs.Prelude.{◌≡◌, ◌++◌, OnOk, IfOk};
 ghost use Rattle.listing_bodies.specs.Refusals as spec;
 
-use answer_buffer::append_quoted;
-use body_members::{BodyFault, Member};
+use console_bodies::{BodyFault, Member};
 use desk_model::Refusal;
 use dhcp_lldp::HearFault;
 use file_tables::CacheFault;
-use http_answers::Status;
+use http_answers::{Status, append_quoted};
 use mud_base::{Bytes, Memory};
 use mud_file::Broken;
 use mud_url::UrlFault;

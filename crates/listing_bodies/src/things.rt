@@ -1,12 +1,12 @@
 //! Things, and addresses with their ends.
 ghost use Rattle.std.specs.Prelude.{◌≡◌, ◌++◌, OnOk, IfOk, codes};
-ghost use Rattle.answer_buffer.specs.Texts.{url_text};
+ghost use Rattle.http_answers.specs.Texts.{url_text};
 ghost use Rattle.listing_bodies.specs.Texts.{truth_text, until_text};
 ghost use Rattle.listing_bodies.specs.Rows as spec;
 
 use crate::addresses::{append_address, append_mac};
 use crate::lists::{JsonRow, append_list, listing_body};
-use answer_buffer::append_quoted;
+use http_answers::append_quoted;
 use mud_base::{Addr, Bytes, End, Memory};
 use mud_tables::Thing;
 use mud_url::MudUrl;
@@ -85,7 +85,7 @@ fn append_leases(alloc: Global, body: &mut Bytes, thing: &Thing) -> Result<(), M
 }
 
 /// Adds a URL, or null where there is none.
-#[tactic(auto, unfolding(answer_buffer::specs::Texts::url_text))]
+#[tactic(auto, unfolding(http_answers::specs::Texts::url_text))]
 fn append_url(body: &mut Bytes, url: &Option<MudUrl>) -> Result<(), Memory>
     ensures { OnOk result (body.new ≡ body.old ++ url_text url.now) }
 {

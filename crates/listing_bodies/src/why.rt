@@ -1,19 +1,19 @@
 //! What decides a frame.
 ghost use Rattle.std.specs.Prelude.{◌≡◌, ◌++◌, OnOk, IfOk, option_map};
 ghost use Rattle.json.specs.Print.{quoted};
-ghost use Rattle.verdict_lines.specs.Verdicts.{ruling_text, verdict_text};
+ghost use Rattle.reply_lines.specs.Verdicts.{ruling_text, verdict_text};
 ghost use Rattle.listing_bodies.specs.Why as spec;
 
 use crate::addresses::append_mac;
 use crate::things::append_url_end;
 use acl_model::{Entry, Ruling};
-use answer_buffer::append_quoted;
+use http_answers::append_quoted;
 use mud_base::{Bytes, Mac, Memory};
 use mud_url::MudUrl;
 use packet_judge::Verdict;
+use reply_lines::{append_ruling, append_verdict};
 use std::alloc::Global;
 use text_lines::append_decimal;
-use verdict_lines::{append_ruling, append_verdict};
 
 /// The Thing at an end of a frame, and what is decided on its packet.
 #[derive(Clone, Copy)]

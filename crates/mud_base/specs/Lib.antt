@@ -1,6 +1,10 @@
 pub mod Addresses
 pub mod Decimal
+pub mod Ethernet
 pub mod Faults
+pub mod Numbers
 pub mod Padded
+pub mod Places
 pub mod Reading
+pub mod Readings
 pub mod Texts

@@ -2,7 +2,7 @@
 use Rattle.std.proofs.Common.{◌≡◌, ℕ, List, ◌++◌, ap, ap₂, ◌∙◌}
 use Rattle.std.specs.Prelude.{codes, decimal}
 use Rattle.frame_view.specs.Frame.{frame_of}
-use Rattle.capture_source.specs.Same.{HoldTheSame}
+use Rattle.capture_runs.specs.Same.{HoldTheSame}
 use Rattle.capture_runs.specs.Capture.{due_of_capture}
 use Rattle.capture_runs.specs.Fold.{LineStep, LooksAtNoPlace, no_ending}
 use Rattle.capture_runs.proofs.SamePackets.{due_same}

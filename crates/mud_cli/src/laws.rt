@@ -1,6 +1,6 @@
 //! A law of what `frames` writes, on a function that does nothing.
 ghost use Rattle.std.specs.Prelude.{◌≡◌, ℕ, List};
-ghost use Rattle.capture_source.specs.Same.{HoldTheSame};
+ghost use Rattle.capture_runs.specs.Same.{HoldTheSame};
 ghost use Rattle.capture_runs.specs.Capture.{due_of_capture};
 ghost use Rattle.capture_runs.specs.Fold.{no_ending};
 ghost use Rattle.mud_cli.specs.Frames.Lines.{frame_step};

@@ -6,9 +6,9 @@ use Rattle.mud_tables.specs.declared.thing.Thing.{Thing}
 use Rattle.frame_view.specs.declared.views.Frame.{Frame}
 use Rattle.desk_model.specs.DeskTables.{DeskTables}
 use Rattle.desk_model.specs.Verdicts.{policy_at}
-use Rattle.desk_rows.specs.CompiledDesk.{IsCompiledOf}
-use Rattle.desk_judge.specs.declared.findings.Findings.{Findings}
-use Rattle.desk_judge.specs.Findings.{AreFindingsOn}
+use Rattle.desk_books.specs.CompiledDesk.{IsCompiledOf}
+use Rattle.mud_desk.specs.declared.findings.Findings.{Findings}
+use Rattle.mud_desk.specs.Findings.{AreFindingsOn}
 use Rattle.desk_model.specs.Findings.{Policies}
 use Rattle.mud_desk.specs.DeskState.{DeskState, tables_of}
 

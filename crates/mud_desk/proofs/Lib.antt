@@ -1,5 +1,11 @@
 pub mod Boxes
 pub mod Found
+pub mod Notes
+pub mod Numbered
 pub mod Opening
 pub mod Payments
+pub mod Rulings
 pub mod Sessions
+pub mod Since
+pub mod Verdicts
+pub mod Views

@@ -28,9 +28,9 @@ use Rattle.desk_model.specs.Items.{items_of}
 use Rattle.desk_model.specs.Verdicts.{verdict_at}
 use Rattle.desk_model.specs.Sessions.{Session, Answered, answered, command_in, MayAnswer, later, verdict_in, frame_in, judged, is_of_keeper}
 use Rattle.desk_model.proofs.ToldSteps.{commands_told}
-use Rattle.desk_rows.specs.CompiledDesk.{IsCompiledOf}
-use Rattle.desk_judge.specs.Grounds.{grounds, AreGroundsOf}
-use Rattle.desk_judge.proofs.Since.{since_later}
+use Rattle.desk_books.specs.CompiledDesk.{IsCompiledOf}
+use Rattle.mud_desk.specs.Grounds.{grounds, AreGroundsOf}
+use Rattle.mud_desk.proofs.Since.{since_later}
 use Rattle.desk_books.specs.Books.{Books, desk_of}
 use Rattle.desk_books.specs.Changes.{PlannedChange, desk_after}
 use Rattle.desk_books.specs.Planned.{IsPlanned, IsReady, IsBatchOf}

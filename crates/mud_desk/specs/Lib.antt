@@ -1,2 +1,4 @@
-pub mod DeskState
 pub mod Answers
+pub mod DeskState
+pub mod Findings
+pub mod Grounds

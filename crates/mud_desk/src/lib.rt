@@ -1,14 +1,19 @@
-//! The desk: the manager's lists, kept by a keeper. A command is kept before it is made, and every
-//! packet is judged by the lists as they are.
+//! The desk: the manager's lists, kept by a keeper. A command is kept before it is made. The
+//! verdict on each packet is that by what is compiled of the lists as they are; what decides it is
+//! lent, and the packets that count for the connections are noted.
 #![tactic(auto)]
 
 pub mod desk;
+mod findings;
+mod judging;
 mod keeping;
+mod office;
 pub mod state;
 
 pub use desk::Desk;
 pub use desk_items::{OpenFault, Taken};
-pub use desk_judge::{Findings, RuledThing};
 pub use desk_model::{Command, Outcome, Refusal, Reply};
+pub use findings::{Findings, RuledThing};
+pub use judging::{judge, why};
 pub use packet_judge::Verdict;
 pub use state::State;

@@ -2,7 +2,7 @@
 ghost use Rattle.std.specs.Prelude.{◌≡◌, ℕ, ◌+◌, ◌-◌, ◌^◌, ◌<◌, ◌≤◌, max, false, List, Err, IsTrue, IfOk, IfErr, IsOkAnd, length};
 ghost use Rattle.std.specs.Prelude.{unwrap_or};
 ghost use Rattle.sorted_rows.specs.Ledgers.{IsBlankOf};
-ghost use Rattle.acl_patch.specs.Patch.{rows_apart};
+ghost use Rattle.row_changes.specs.Patch.{rows_apart};
 ghost use Rattle.acl_compile.specs.Plans.{IsKept};
 ghost use Rattle.mud_tables.specs.declared.segment.Segment.{Segment as SegmentValue};
 ghost use Rattle.mud_tables.specs.Things.{thing_at};
@@ -13,17 +13,17 @@ ghost use Rattle.desk_model.specs.Refusals.{is_want_of_memory};
 ghost use Rattle.desk_model.specs.Commands.{IsAsked, command_step};
 ghost use Rattle.desk_model.specs.Sessions.{verdict_in};
 ghost use Rattle.desk_model.specs.Verdicts.{policy_at};
-ghost use Rattle.desk_rows.specs.CompiledDesk.{IsCompiledOf};
+ghost use Rattle.desk_books.specs.CompiledDesk.{IsCompiledOf};
 ghost use Rattle.desk_items.specs.Taken.{taken_desk};
-ghost use Rattle.desk_judge.specs.Grounds.{rows_read, ruling_steps};
-ghost use Rattle.desk_judge.specs.Findings.{AreFindingsOn};
+ghost use Rattle.mud_desk.specs.Grounds.{rows_read, ruling_steps};
+ghost use Rattle.mud_desk.specs.Findings.{AreFindingsOn};
 ghost use Rattle.desk_books.specs.Changes.{desk_after};
 ghost use Rattle.desk_books.specs.Planned.{IsPlanned, IsReady, IsPaid};
 ghost use Rattle.mud_desk.specs.DeskState.{DeskState as Value, tables_of, session_of, HasForwarded, IsBegun, IsJudged, AreRulesOf};
 
+use crate::{Findings, judge, why};
 use desk_books::{DeskBooks, DeskChange};
 use desk_items::Taken;
-use desk_judge::{Findings, judge, why};
 use desk_model::{Command, Refusal};
 use flow_table::FlowTable;
 use mud_base::{Memory, Moment};
@@ -151,7 +151,7 @@ impl State {
     }
 
     /// The verdict on a frame, at the later of the session's moment and this one, which is made the
-    /// moment of the session: [`desk_judge::judge`]. [`Memory`] leaves all as it was.
+    /// moment of the session: [`crate::judge`]. [`Memory`] leaves all as it was.
     #[tactic(auto, unfolding(crate::specs::DeskState::tables_of))]
     pub fn judge<L: Ledger>(
         &mut self,
@@ -179,7 +179,7 @@ impl State {
         Ok(verdict)
     }
 
-    /// What decides a frame: [`desk_judge::why`].
+    /// What decides a frame: [`crate::why`].
     #[tactic(auto, unfolding(crate::specs::DeskState::tables_of))]
     pub(crate) fn why<L: Ledger>(&self, frame: &[u8], stamp: Moment, blank: Blank) -> Findings<'_>
         requires blank { IsBlankOf L.name L.parts blank }

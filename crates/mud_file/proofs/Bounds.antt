@@ -13,9 +13,9 @@ use Rattle.acl_model.specs.declared.entry.Entry.{Entry}
 use Rattle.acl_model.specs.declared.entry.Policy.{Policy}
 use Rattle.serde_json.specs.Data.{Data}
 use Rattle.usage_walk.specs.declared.fault.Broken.{Broken}
-use Rattle.reading.specs.Reading.{answer, done, refused_where}
+use Rattle.mud_base.specs.Readings.{answer, done, refused_where}
 use Rattle.usage_walk.specs.Named.{Element}
-use Rattle.reading.proofs.Readings.{answer_unwanted}
+use Rattle.mud_base.proofs.Readings.{answer_unwanted}
 use Rattle.usage_match.specs.declared.entry_tests.Tests.{Tests}
 use Rattle.mud_file.specs.declared.usage_file.Head.{Head}
 use Rattle.mud_file.specs.declared.usage_file.UsageFile.{UsageFile}

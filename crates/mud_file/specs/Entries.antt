@@ -10,7 +10,7 @@ use Rattle.acl_model.specs.declared.entry.Entry.{Entry}
 use Rattle.serde_json.specs.Data.{Data, null}
 use Rattle.usage_walk.specs.declared.fault.Rule.TheVariants as rule
 use Rattle.usage_walk.specs.declared.member.Member.TheVariants as members
-use Rattle.reading.specs.Reading.{done, ◌>>=◌, wanted, refused_where, over}
+use Rattle.mud_base.specs.Readings.{done, ◌>>=◌, wanted, refused_where, over}
 use Rattle.usage_walk.specs.Reading.{Reading, under, at_place, fault_at}
 use Rattle.usage_walk.specs.Kinds.{object_of, object_at, text_at, object_where_there, list_where_there}
 use Rattle.usage_walk.specs.Named.{Element, element_named}

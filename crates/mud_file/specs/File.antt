@@ -8,7 +8,7 @@ use Rattle.usage_walk.specs.declared.fault.Broken.{Broken}
 use Rattle.usage_walk.specs.declared.fault.Rule.TheVariants as rule
 use Rattle.usage_walk.specs.declared.member.Member.{Member}
 use Rattle.usage_walk.specs.declared.member.Member.TheVariants as members
-use Rattle.reading.specs.Reading.{answer, and_then, done, ◌>>=◌}
+use Rattle.mud_base.specs.Readings.{answer, and_then, done, ◌>>=◌}
 use Rattle.usage_walk.specs.Reading.{Reading, under, fault_at}
 use Rattle.usage_walk.specs.Json.{value_in}
 use Rattle.usage_walk.specs.Kinds.{object_of, object_at, object_where_there, list_where_there}

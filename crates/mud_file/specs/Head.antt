@@ -7,7 +7,7 @@ use Rattle.serde_json.specs.Data.{Data}
 use Rattle.usage_walk.specs.declared.fault.Broken.{Broken}
 use Rattle.usage_walk.specs.declared.fault.Rule.TheVariants as rule
 use Rattle.usage_walk.specs.declared.member.Member.TheVariants as members
-use Rattle.reading.specs.Reading.{done, ◌>>=◌, wanted, refused_where, over}
+use Rattle.mud_base.specs.Readings.{done, ◌>>=◌, wanted, refused_where, over}
 use Rattle.usage_walk.specs.Reading.{Reading, under, at_place, fault_at}
 use Rattle.usage_walk.specs.Kinds.{text_of, text_at, number_at, number_where_there, truth_at, text_where_there, list_where_there}
 use Rattle.mud_file.specs.declared.usage_file.Head.{Head}

@@ -1,7 +1,7 @@
 //! The entries of an access list (RFC 8519, 4.1).
 ghost use Rattle.std.specs.Prelude.{◌≡◌, map};
 ghost use Rattle.serde_json.specs.View.{view};
-ghost use Rattle.reading.specs.Reading.{Gives, done};
+ghost use Rattle.mud_base.specs.Readings.{Gives, done};
 ghost use Rattle.mud_file.specs.Entries as spec;
 ghost use Rattle.mud_file.specs.Lists.{list_head};
 
@@ -31,7 +31,7 @@ pub struct AccessList<'a> {
 }
 
 /// What becomes of a packet, as a text names it.
-#[tactic(auto, unfolding(crate::specs::Entries::as_action), using(reading::proofs::Readings::answer_wanted, reading::proofs::Readings::answer_unwanted))]
+#[tactic(auto, unfolding(crate::specs::Entries::as_action), using(mud_base::proofs::Readings::answer_wanted, mud_base::proofs::Readings::answer_unwanted))]
 fn as_action(alloc: Global, text: &str, path: &[u8]) -> Result<Action, FileFault>
     ensures { Gives (λ a. a) result (spec.as_action path.now text.now) }
 {
@@ -42,7 +42,7 @@ fn as_action(alloc: Global, text: &str, path: &[u8]) -> Result<Action, FileFault
 }
 
 /// What the actions at this path make of a packet.
-#[tactic(auto, unfolding(crate::specs::Entries::action_of), using(reading::proofs::Readings::answer_bind))]
+#[tactic(auto, unfolding(crate::specs::Entries::action_of), using(mud_base::proofs::Readings::answer_bind))]
 fn action_of(alloc: Global, actions: &Value, path: &[u8]) -> Result<Action, FileFault>
     ensures { Gives (λ a. a) result (spec.action_of path.now (view actions.now)) }
 {
@@ -51,7 +51,7 @@ fn action_of(alloc: Global, actions: &Value, path: &[u8]) -> Result<Action, File
 }
 
 /// What becomes of a packet, of the entry at this path.
-#[tactic(auto, unfolding(crate::specs::Entries::action_at), using(reading::proofs::Readings::answer_bind))]
+#[tactic(auto, unfolding(crate::specs::Entries::action_at), using(mud_base::proofs::Readings::answer_bind))]
 fn action(alloc: Global, entry: &Value, path: &[u8]) -> Result<Action, FileFault>
     ensures { Gives (λ a. a) result (spec.action_at path.now (view entry.now)) }
 {
@@ -69,7 +69,7 @@ fn is_entry_named(name: &[u8], entries: &[Entry]) -> bool
 }
 
 /// The name, where no entry has it.
-#[tactic(auto, unfolding(crate::specs::Entries::new_entry_name), using(reading::proofs::Readings::answer_bind, reading::proofs::Readings::answer_done, reading::proofs::Readings::answer_passed, reading::proofs::Readings::answer_refused))]
+#[tactic(auto, unfolding(crate::specs::Entries::new_entry_name), using(mud_base::proofs::Readings::answer_bind, mud_base::proofs::Readings::answer_done, mud_base::proofs::Readings::answer_passed, mud_base::proofs::Readings::answer_refused))]
 fn new_entry_name<'a>(
     alloc: Global,
     entries: &[Entry],
@@ -85,7 +85,7 @@ fn new_entry_name<'a>(
 }
 
 /// The name of the entry at this path, behind these of its list.
-#[tactic(auto, unfolding(crate::specs::Entries::entry_name_at), using(reading::proofs::Readings::answer_bind))]
+#[tactic(auto, unfolding(crate::specs::Entries::entry_name_at), using(mud_base::proofs::Readings::answer_bind))]
 fn entry_name<'a>(
     alloc: Global,
     entries: &[Entry],
@@ -99,7 +99,7 @@ fn entry_name<'a>(
 }
 
 /// The entry of this access list that has these parts.
-#[tactic(auto, unfolding(crate::specs::Entries::entry_of), using(reading::proofs::Readings::answer_done))]
+#[tactic(auto, unfolding(crate::specs::Entries::entry_of), using(mud_base::proofs::Readings::answer_done))]
 fn entry_of(
     alloc: Global,
     list: &AccessList<'_>,
@@ -135,7 +135,7 @@ fn entry_of(
 }
 
 /// The entry at this path, behind these of its list.
-#[tactic(auto, unfolding(crate::specs::Entries::entry_at), using(reading::proofs::Readings::answer_bind))]
+#[tactic(auto, unfolding(crate::specs::Entries::entry_at), using(mud_base::proofs::Readings::answer_bind))]
 fn entry_at(
     alloc: Global,
     list: &AccessList<'_>,
@@ -159,7 +159,7 @@ fn entry_at(
 }
 
 /// Reads the next entry of a list, which has this path.
-#[tactic(auto, unfolding(crate::specs::Entries::with_entry), using(reading::proofs::Readings::answer_bind, reading::proofs::Readings::answer_done))]
+#[tactic(auto, unfolding(crate::specs::Entries::with_entry), using(mud_base::proofs::Readings::answer_bind, mud_base::proofs::Readings::answer_done))]
 fn add_entry(
     alloc: Global,
     list: &AccessList<'_>,
@@ -189,7 +189,7 @@ fn next_entry(
 }
 
 /// The entries that these values are.
-#[tactic(auto, unfolding(crate::specs::Entries::entries_in), using(reading::proofs::Readings::over_taken, reading::proofs::Readings::over_refused, reading::proofs::Readings::over_past))]
+#[tactic(auto, unfolding(crate::specs::Entries::entries_in), using(mud_base::proofs::Readings::over_taken, mud_base::proofs::Readings::over_refused, mud_base::proofs::Readings::over_past))]
 pub(crate) fn entries_in(
     alloc: Global,
     list: &AccessList<'_>,

@@ -1,8 +1,8 @@
 //! What a usage file says of itself (RFC 8520, 3). The path is that of `ietf-mud:mud`.
 ghost use Rattle.std.specs.Prelude.{◌≡◌, map};
 ghost use Rattle.serde_json.specs.View.{view};
-ghost use Rattle.reading.specs.Reading.{Gives, Refuses};
-ghost use Rattle.reading.specs.declared.refusal.Refusal.TheVariants as refusal;
+ghost use Rattle.mud_base.specs.Readings.{Gives, Refuses};
+ghost use Rattle.mud_base.specs.declared.refusal.Refusal.TheVariants as refusal;
 ghost use Rattle.mud_file.specs.Head as spec;
 
 use crate::usage_file::Head;
@@ -18,7 +18,7 @@ use usage_walk::path::{at_place, refusal, refuse_where, under};
 use usage_walk::{Broken, FileFault, Member, Rule};
 
 /// Reads the version of the format.
-#[tactic(auto, unfolding(crate::specs::Head::version_at), using(reading::proofs::Readings::answer_bind))]
+#[tactic(auto, unfolding(crate::specs::Head::version_at), using(mud_base::proofs::Readings::answer_bind))]
 fn version(alloc: Global, mud: &Value, path: &[u8]) -> Result<(), FileFault>
     ensures { Gives (λ _. tt) result (spec.version_at path.now (view mud.now)) }
 {
@@ -49,7 +49,7 @@ fn url_refusal(alloc: Global, path: &[u8], fault: UrlFault) -> FileFault
 }
 
 /// The URL that a text spells.
-#[tactic(auto, unfolding(crate::specs::Head::as_url), using(reading::proofs::Readings::answer_done, reading::proofs::Readings::answer_unwanted))]
+#[tactic(auto, unfolding(crate::specs::Head::as_url), using(mud_base::proofs::Readings::answer_done, mud_base::proofs::Readings::answer_unwanted))]
 fn as_url(alloc: Global, text: &str, path: &[u8]) -> Result<MudUrl, FileFault>
     ensures { Gives (λ u. u) result (spec.as_url path.now text.now) }
 {
@@ -60,7 +60,7 @@ fn as_url(alloc: Global, text: &str, path: &[u8]) -> Result<MudUrl, FileFault>
 }
 
 /// The URL of the file itself.
-#[tactic(auto, unfolding(crate::specs::Head::url_at), using(reading::proofs::Readings::answer_bind))]
+#[tactic(auto, unfolding(crate::specs::Head::url_at), using(mud_base::proofs::Readings::answer_bind))]
 fn url(alloc: Global, mud: &Value, path: &[u8]) -> Result<MudUrl, FileFault>
     ensures { Gives (λ u. u) result (spec.url_at path.now (view mud.now)) }
 {
@@ -69,7 +69,7 @@ fn url(alloc: Global, mud: &Value, path: &[u8]) -> Result<MudUrl, FileFault>
 }
 
 /// The seconds of the date and time that a text writes.
-#[tactic(auto, unfolding(crate::specs::Head::as_update), using(reading::proofs::Readings::answer_wanted, reading::proofs::Readings::answer_unwanted))]
+#[tactic(auto, unfolding(crate::specs::Head::as_update), using(mud_base::proofs::Readings::answer_wanted, mud_base::proofs::Readings::answer_unwanted))]
 fn as_update(alloc: Global, text: &str, path: &[u8]) -> Result<i64, FileFault>
     ensures { Gives (λ s. s) result (spec.as_update path.now text.now) }
 {
@@ -80,7 +80,7 @@ fn as_update(alloc: Global, text: &str, path: &[u8]) -> Result<i64, FileFault>
 }
 
 /// When the file was generated.
-#[tactic(auto, unfolding(crate::specs::Head::update_at), using(reading::proofs::Readings::answer_bind))]
+#[tactic(auto, unfolding(crate::specs::Head::update_at), using(mud_base::proofs::Readings::answer_bind))]
 fn update(alloc: Global, mud: &Value, path: &[u8]) -> Result<i64, FileFault>
     ensures { Gives (λ s. s) result (spec.update_at path.now (view mud.now)) }
 {
@@ -89,7 +89,7 @@ fn update(alloc: Global, mud: &Value, path: &[u8]) -> Result<i64, FileFault>
 }
 
 /// A number of hours, where it is one that a file may be kept for.
-#[tactic(auto, unfolding(crate::specs::Head::as_hours), using(reading::proofs::Readings::answer_bind, reading::proofs::Readings::answer_done, reading::proofs::Readings::answer_passed, reading::proofs::Readings::answer_refused))]
+#[tactic(auto, unfolding(crate::specs::Head::as_hours), using(mud_base::proofs::Readings::answer_bind, mud_base::proofs::Readings::answer_done, mud_base::proofs::Readings::answer_passed, mud_base::proofs::Readings::answer_refused))]
 fn as_hours(alloc: Global, hours: u64, path: &[u8]) -> Result<u8, FileFault>
     ensures { Gives (λ h. h) result (spec.as_hours path.now hours) }
 {
@@ -100,7 +100,7 @@ fn as_hours(alloc: Global, hours: u64, path: &[u8]) -> Result<u8, FileFault>
 }
 
 /// For how many hours the file needn't be asked for again: 48 where it says nothing.
-#[tactic(auto, unfolding(crate::specs::Head::hours_at), using(reading::proofs::Readings::answer_bind))]
+#[tactic(auto, unfolding(crate::specs::Head::hours_at), using(mud_base::proofs::Readings::answer_bind))]
 fn hours(alloc: Global, mud: &Value, path: &[u8]) -> Result<u8, FileFault>
     ensures { Gives (λ h. h) result (spec.hours_at path.now (view mud.now)) }
 {
@@ -109,7 +109,7 @@ fn hours(alloc: Global, mud: &Value, path: &[u8]) -> Result<u8, FileFault>
 }
 
 /// Reads the texts that are kept nowhere.
-#[tactic(auto, unfolding(crate::specs::Head::infos_at), using(reading::proofs::Readings::answer_bind, reading::proofs::Readings::answer_done))]
+#[tactic(auto, unfolding(crate::specs::Head::infos_at), using(mud_base::proofs::Readings::answer_bind, mud_base::proofs::Readings::answer_done))]
 fn infos(alloc: Global, mud: &Value, path: &[u8]) -> Result<(), FileFault>
     ensures { Gives (λ _. tt) result (spec.infos_at path.now (view mud.now)) }
 {
@@ -134,7 +134,7 @@ fn signature(alloc: Global, mud: &Value, path: &[u8]) -> Result<Option<Bytes>, F
 }
 
 /// Reads the next extension of the list at this path.
-#[tactic(auto, unfolding(crate::specs::Head::extension_at), using(reading::proofs::Readings::answer_bind, reading::proofs::Readings::answer_done))]
+#[tactic(auto, unfolding(crate::specs::Head::extension_at), using(mud_base::proofs::Readings::answer_bind, mud_base::proofs::Readings::answer_done))]
 fn next_extension(
     alloc: Global,
     extensions: &mut Listed<Bytes>,
@@ -150,7 +150,7 @@ fn next_extension(
 }
 
 /// The names of extensions that these values are, of the list at this path.
-#[tactic(auto, unfolding(crate::specs::Head::extensions_in), using(reading::proofs::Readings::over_taken, reading::proofs::Readings::over_refused, reading::proofs::Readings::over_past))]
+#[tactic(auto, unfolding(crate::specs::Head::extensions_in), using(mud_base::proofs::Readings::over_taken, mud_base::proofs::Readings::over_refused, mud_base::proofs::Readings::over_past))]
 fn extensions_in(alloc: Global, values: &[Value], path: &[u8]) -> Result<Listed<Bytes>, FileFault>
     ensures { Gives (λ e. e) result (spec.extensions_in path.now (map view values.now)) }
 {
@@ -162,7 +162,7 @@ fn extensions_in(alloc: Global, values: &[Value], path: &[u8]) -> Result<Listed<
 }
 
 /// The names of the extensions that the file uses: none where it says nothing.
-#[tactic(auto, unfolding(crate::specs::Head::extensions_at), using(reading::proofs::Readings::answer_bind))]
+#[tactic(auto, unfolding(crate::specs::Head::extensions_at), using(mud_base::proofs::Readings::answer_bind))]
 fn extensions(alloc: Global, mud: &Value, path: &[u8]) -> Result<Listed<Bytes>, FileFault>
     ensures { Gives (λ e. e) result (spec.extensions_at path.now (view mud.now)) }
 {
@@ -172,7 +172,7 @@ fn extensions(alloc: Global, mud: &Value, path: &[u8]) -> Result<Listed<Bytes>, 
 }
 
 /// What the object at this path says of its file.
-#[tactic(auto, unfolding(crate::specs::Head::head_at), using(reading::proofs::Readings::answer_bind, reading::proofs::Readings::answer_done))]
+#[tactic(auto, unfolding(crate::specs::Head::head_at), using(mud_base::proofs::Readings::answer_bind, mud_base::proofs::Readings::answer_done))]
 pub(crate) fn head(alloc: Global, mud: &Value, path: &[u8]) -> Result<Head, FileFault>
     ensures { Gives (λ h. h) result (spec.head_at path.now (view mud.now)) }
 {

@@ -2,7 +2,7 @@
 //! 4.1).
 ghost use Rattle.std.specs.Prelude.{◌≡◌, ◌++◌, map, IfOk};
 ghost use Rattle.serde_json.specs.View.{view};
-ghost use Rattle.reading.specs.Reading.{Gives, Refuses};
+ghost use Rattle.mud_base.specs.Readings.{Gives, Refuses};
 ghost use Rattle.usage_walk.specs.Reading.{fault_at};
 ghost use Rattle.usage_walk.specs.Reading as walk;
 ghost use Rattle.usage_walk.specs.Elements.{element_view, elements_view};
@@ -25,7 +25,7 @@ use usage_walk::{Element, Elements, FileFault, Member, Rule};
 const MOST_ENTRIES: usize = 128;
 
 /// The type that a text names.
-#[tactic(auto, unfolding(crate::specs::Entries::as_type), using(reading::proofs::Readings::answer_wanted, reading::proofs::Readings::answer_unwanted))]
+#[tactic(auto, unfolding(crate::specs::Entries::as_type), using(mud_base::proofs::Readings::answer_wanted, mud_base::proofs::Readings::answer_unwanted))]
 fn as_type(alloc: Global, text: &str, path: &[u8]) -> Result<ListType, FileFault>
     ensures { Gives (λ t. t) result (spec.as_type path.now text.now) }
 {
@@ -36,7 +36,7 @@ fn as_type(alloc: Global, text: &str, path: &[u8]) -> Result<ListType, FileFault
 }
 
 /// The type of the access list at this path.
-#[tactic(auto, unfolding(crate::specs::Entries::type_at), using(reading::proofs::Readings::answer_bind))]
+#[tactic(auto, unfolding(crate::specs::Entries::type_at), using(mud_base::proofs::Readings::answer_bind))]
 fn type_at(alloc: Global, acl: &Value, path: &[u8]) -> Result<ListType, FileFault>
     ensures { Gives (λ t. t) result (spec.type_at path.now (view acl.now)) }
 {
@@ -55,7 +55,7 @@ fn entries_path(alloc: Global, path: &[u8]) -> Result<Bytes, Memory>
 
 /// The elements of the list of entries of the access list at this path: none where there is no such
 /// list.
-#[tactic(auto, unfolding(crate::specs::Entries::aces_at), using(reading::proofs::Readings::answer_bind))]
+#[tactic(auto, unfolding(crate::specs::Entries::aces_at), using(mud_base::proofs::Readings::answer_bind))]
 fn aces<'a>(alloc: Global, acl: &'a Value, path: &[u8]) -> Result<&'a [Value], FileFault>
     ensures { Gives (λ l. map view l.now) result (spec.aces_at path.now (view acl.now)) }
 {
@@ -66,7 +66,7 @@ fn aces<'a>(alloc: Global, acl: &'a Value, path: &[u8]) -> Result<&'a [Value], F
 
 /// The entries of the access list at this path, read for this side, in which so many entries of the
 /// direction may stand.
-#[tactic(auto, unfolding(crate::specs::Entries::list_at), using(reading::proofs::Readings::answer_bind))]
+#[tactic(auto, unfolding(crate::specs::Entries::list_at), using(mud_base::proofs::Readings::answer_bind))]
 fn list_entries(
     alloc: Global,
     side: Direction,
@@ -109,7 +109,7 @@ fn no_such_acl(alloc: Global, path: &[u8], place: usize) -> FileFault
 }
 
 /// The access list of this name, which stands in the list of names at this path.
-#[tactic(auto, unfolding(crate::specs::Entries::acl_named), using(reading::proofs::Readings::answer_wanted, reading::proofs::Readings::answer_unwanted))]
+#[tactic(auto, unfolding(crate::specs::Entries::acl_named), using(mud_base::proofs::Readings::answer_wanted, mud_base::proofs::Readings::answer_unwanted))]
 fn acl_named<'a>(
     alloc: Global,
     acls: &Elements<'a>,
@@ -134,7 +134,7 @@ fn joined(first: Listed<Entry>, second: Listed<Entry>) -> Result<Listed<Entry>, 
 }
 
 /// The entries of the direction so far, and those of the access list of this name.
-#[tactic(auto, unfolding(crate::specs::Entries::next_list), using(reading::proofs::Readings::answer_bind, reading::proofs::Readings::answer_done))]
+#[tactic(auto, unfolding(crate::specs::Entries::next_list), using(mud_base::proofs::Readings::answer_bind, mud_base::proofs::Readings::answer_done))]
 fn with_list(
     alloc: Global,
     side: Direction,

@@ -2,7 +2,7 @@
 ghost use Rattle.std.specs.Prelude.{◌≡◌, option_map, IfOk};
 ghost use Rattle.serde_json.specs.View.{view};
 ghost use Rattle.usage_walk.specs.Json as json;
-ghost use Rattle.reading.specs.Reading.{Answers, Gives};
+ghost use Rattle.mud_base.specs.Readings.{Answers, Gives};
 ghost use Rattle.usage_walk.specs.Elements.{elements_view};
 ghost use Rattle.mud_file.specs.Entries.{entries_of};
 ghost use Rattle.mud_file.specs.File as spec;
@@ -23,7 +23,7 @@ use usage_walk::{Elements, FileFault, Member, Rule};
 const MOST_OCTETS: usize = 262_144;
 
 /// The objects with names in the list that this member is, of the object at this path.
-#[tactic(auto, unfolding(crate::specs::File::named_in), using(reading::proofs::Readings::answer_bind))]
+#[tactic(auto, unfolding(crate::specs::File::named_in), using(mud_base::proofs::Readings::answer_bind))]
 fn named_in<'a>(
     alloc: Global,
     object: Option<&'a Value>,
@@ -59,7 +59,7 @@ fn names_path(alloc: Global, side: Direction, path: &[u8]) -> Result<Bytes, Memo
 }
 
 /// The names of access lists in the policy at this path.
-#[tactic(auto, unfolding(crate::specs::File::policy_names), using(reading::proofs::Readings::answer_bind))]
+#[tactic(auto, unfolding(crate::specs::File::policy_names), using(mud_base::proofs::Readings::answer_bind))]
 fn policy_names<'a>(
     alloc: Global,
     policy: Option<&'a Value>,
@@ -73,7 +73,7 @@ fn policy_names<'a>(
 }
 
 /// The names of access lists in the policy of a direction, in the object at this path.
-#[tactic(auto, unfolding(crate::specs::File::names_at), using(reading::proofs::Readings::answer_bind))]
+#[tactic(auto, unfolding(crate::specs::File::names_at), using(mud_base::proofs::Readings::answer_bind))]
 fn names<'a>(
     alloc: Global,
     side: Direction,
@@ -88,7 +88,7 @@ fn names<'a>(
 }
 
 /// The access lists of a file, whether a policy names them or not.
-#[tactic(auto, unfolding(crate::specs::File::acls_at), using(reading::proofs::Readings::answer_bind))]
+#[tactic(auto, unfolding(crate::specs::File::acls_at), using(mud_base::proofs::Readings::answer_bind))]
 fn acls<'a>(alloc: Global, root: &'a Value) -> Result<Elements<'a>, FileFault>
     ensures { Gives elements_view result (spec.acls_at (view root.now)) }
 {
@@ -113,7 +113,7 @@ fn entries(
 }
 
 /// The entries of both directions.
-#[tactic(auto, unfolding(crate::specs::File::policy_at), using(reading::proofs::Readings::answer_bind, reading::proofs::Readings::answer_done))]
+#[tactic(auto, unfolding(crate::specs::File::policy_at), using(mud_base::proofs::Readings::answer_bind, mud_base::proofs::Readings::answer_done))]
 fn policy(alloc: Global, root: &Value, mud: &Value, path: &[u8]) -> Result<Policy, FileFault>
     ensures { Gives (λ p. p) result (spec.policy_at (view root.now) path.now (view mud.now)) }
 {
@@ -147,7 +147,7 @@ fn with_policy(head: Head, policy: Policy) -> UsageFile
 }
 
 /// What the object `ietf-mud:mud` at this path means in its file.
-#[tactic(auto, unfolding(crate::specs::File::mud_at), using(reading::proofs::Readings::answer_bind, reading::proofs::Readings::answer_done))]
+#[tactic(auto, unfolding(crate::specs::File::mud_at), using(mud_base::proofs::Readings::answer_bind, mud_base::proofs::Readings::answer_done))]
 fn mud_file(alloc: Global, root: &Value, mud: &Value, path: &[u8]) -> Result<UsageFile, FileFault>
     ensures { Gives (λ f. f) result (spec.mud_at (view root.now) path.now (view mud.now)) }
 {
@@ -157,7 +157,7 @@ fn mud_file(alloc: Global, root: &Value, mud: &Value, path: &[u8]) -> Result<Usa
 }
 
 /// What the JSON value of a file means.
-#[tactic(auto, unfolding(crate::specs::File::file_at), using(reading::proofs::Readings::answer_bind))]
+#[tactic(auto, unfolding(crate::specs::File::file_at), using(mud_base::proofs::Readings::answer_bind))]
 fn file(alloc: Global, value: &Value) -> Result<UsageFile, FileFault>
     ensures { Gives (λ f. f) result (spec.file_at (view value.now)) }
 {

@@ -1,7 +1,10 @@
-//! What the buffers between a door and those who read its octets have in common: octets that are
-//! kept are moved to the front, and more are read behind them.
+//! The buffers between a door and those who read its octets: octets that are kept are moved to the
+//! front, and more are read behind them. The readers of captures have one of them between a source
+//! of octets and the packets, and know what was taken of the source.
 #![tactic(auto)]
 
+pub mod buffer;
 pub mod filling;
 
+pub use buffer::{Buffer, fetch};
 pub use filling::{refill, zeros};

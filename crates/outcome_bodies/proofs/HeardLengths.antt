@@ -10,8 +10,8 @@ use Rattle.mud_base.specs.declared.addr.Mac.{Mac}
 use Rattle.mud_base.specs.declared.addr.Addr.{Addr}
 use Rattle.mud_base.specs.declared.addr.Addr.TheVariants.{V4, V6}
 use Rattle.mud_base.specs.Texts.{hex_pair, colon_pair, mac_text, octets_v4, groups_v6, addr_text}
-use Rattle.answer_buffer.specs.Kept.{kept}
-use Rattle.answer_buffer.proofs.KeptLemmas.{kept_short, short_quoted}
+use Rattle.http_answers.specs.Kept.{kept}
+use Rattle.http_answers.proofs.KeptLemmas.{kept_short, short_quoted}
 use Rattle.dhcp_lldp.specs.declared.heard.Heard.{Heard}
 use Rattle.dhcp_lldp.specs.declared.heard.Heard.TheVariants.{Url, Lease, Nothing}
 use Rattle.desk_model.specs.declared.reply.Outcome.{Outcome}

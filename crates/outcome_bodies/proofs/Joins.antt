@@ -2,8 +2,8 @@
 use Rattle.std.proofs.Common.{◌≡◌, ℕ, List, ◌∷◌, [], ◌++◌, sym, ap, ◌∙◌, append_assoc}
 use Rattle.std.specs.Prelude.{codes}
 use Rattle.json.specs.Print.{escape_byte, escape, quoted}
-use Rattle.answer_buffer.specs.Kept.{kept}
-use Rattle.answer_buffer.proofs.KeptLemmas.{kept_behind}
+use Rattle.http_answers.specs.Kept.{kept}
+use Rattle.http_answers.proofs.KeptLemmas.{kept_behind}
 
 -- a string whose quotes are written with what stands around it
 joined_text : (s text : List ℕ) → kept (kept (kept (s ++ codes "{\"verdict\":\"") ++ escape text) ++ codes "\"}") ≡ kept (s ++ (codes "{\"verdict\":" ++ quoted text ++ codes "}"))

@@ -6,12 +6,12 @@ use Rattle.json.specs.Print.{escape_byte, quoted}
 use Rattle.item_codec.specs.declared.word.Word as done_word
 use Rattle.item_codec.specs.declared.word.Word.TheVariants.{New, Same, Pending, Moved, Removed, Held, Released, Stranger, Renewed, Ended, Rejected, Approved, Revoked, Bound, Unbound, Set}
 use Rattle.item_codec.specs.Word.{text_of}
-use Rattle.answer_buffer.specs.Kept.{kept}
-use Rattle.answer_buffer.proofs.KeptLemmas.{kept_short, short_quoted}
+use Rattle.http_answers.specs.Kept.{kept}
+use Rattle.http_answers.proofs.KeptLemmas.{kept_short, short_quoted}
 use Rattle.console_routes.specs.declared.action.Statement.{Statement}
 use Rattle.console_routes.specs.declared.action.Statement.TheVariants as statement
 use Rattle.desk_model.specs.declared.reply.Outcome.{Outcome}
-use Rattle.answer_buffer.specs.Texts.{url_text}
+use Rattle.http_answers.specs.Texts.{url_text}
 use Rattle.outcome_bodies.specs.Outcomes.{rule_body, until_text, result_body, until_body, url_body, stated_body, EndFits, UrlFits}
 use Rattle.outcome_bodies.specs.Heards.{nothing_body}
 

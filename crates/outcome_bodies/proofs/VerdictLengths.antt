@@ -3,8 +3,8 @@ use Rattle.std.proofs.Common.{◌≡◌, ℕ, ◌+◌, ◌*◌, ◌^◌, ◌<◌
 use Rattle.std.specs.Prelude.{codes, decimal, if◌then◌else◌}
 use Rattle.std.proofs.lemmas.Fmt.{length-decimal-le}
 use Rattle.json.specs.Print.{escape_byte, quoted}
-use Rattle.answer_buffer.specs.Kept.{kept}
-use Rattle.answer_buffer.proofs.KeptLemmas.{kept_short, short_quoted}
+use Rattle.http_answers.specs.Kept.{kept}
+use Rattle.http_answers.proofs.KeptLemmas.{kept_short, short_quoted}
 use Rattle.frame_view.specs.declared.views.Part.{Part}
 use Rattle.frame_view.specs.declared.views.Part.TheVariants as part
 use Rattle.acl_model.specs.declared.ruling.Ruling.{Ruling}
@@ -16,7 +16,7 @@ use Rattle.acl_model.specs.declared.ruling.Why.TheVariants.{NoFile, NoMatch}
 use Rattle.packet_judge.specs.Verdicts.{forwarded}
 use Rattle.packet_judge.specs.declared.verdict.Verdict.{Verdict}
 use Rattle.packet_judge.specs.declared.verdict.Verdict.TheVariants.{Unmanaged, Link, Unreadable, Governed}
-use Rattle.verdict_lines.specs.Verdicts.{part_name, unreadable_text, default_name, why_name, ruling_text, end_text, passing_text, reason_text, verdict_text}
+use Rattle.reply_lines.specs.Verdicts.{part_name, unreadable_text, default_name, why_name, ruling_text, end_text, passing_text, reason_text, verdict_text}
 use Rattle.outcome_bodies.specs.Verdicts.{verdict_body, RulingFits, VerdictFits}
 
 two : (a b : List ℕ) (m n : ℕ) → length a ≤ m → length b ≤ n → length (a ++ b) ≤ m + n

@@ -1,7 +1,7 @@
 -- The JSON bodies (RFC 8259) of answers that may take no memory: the members by the octets of their names, and no space.
 use Rattle.std.specs.Prelude.{ℕ, ◌-◌, ◌^◌, ◌<◌, ◌≤◌, ◌==◌, List, ◌++◌, length, codes, decimal, Option, Some, None, if◌then◌else◌}
 use Rattle.json.specs.Print.{quoted}
-use Rattle.answer_buffer.specs.Texts.{url_text}
+use Rattle.http_answers.specs.Texts.{url_text}
 use Rattle.item_codec.specs.declared.word.Word as done_word
 use Rattle.item_codec.specs.Word.{text_of}
 use Rattle.console_routes.specs.declared.action.Statement.{Statement}

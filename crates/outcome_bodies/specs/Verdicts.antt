@@ -5,7 +5,7 @@ use Rattle.acl_model.specs.declared.ruling.Ruling.TheVariants.{Accept, AcceptDef
 use Rattle.json.specs.Print.{quoted}
 use Rattle.packet_judge.specs.declared.verdict.Verdict.{Verdict}
 use Rattle.packet_judge.specs.declared.verdict.Verdict.TheVariants.{Unmanaged, Link, Unreadable, Governed}
-use Rattle.verdict_lines.specs.Verdicts.{verdict_text}
+use Rattle.reply_lines.specs.Verdicts.{verdict_text}
 
 unfoldable pub verdict_body : Verdict → List ℕ
 verdict_body verdict = codes "{\"verdict\":" ++ quoted (verdict_text verdict) ++ codes "}"

@@ -1,15 +1,15 @@
 //! What was heard of a Thing.
 ghost use Rattle.std.specs.Prelude.{◌≡◌, ◌≤◌, ◌++◌, length, IfOk};
 ghost use Rattle.json.specs.Print.{quoted};
-ghost use Rattle.answer_buffer.specs.Kept.{kept};
+ghost use Rattle.http_answers.specs.Kept.{kept};
 ghost use Rattle.outcome_bodies.specs.Heards as spec;
 
 use crate::outcomes::end_fits;
 use crate::puts::{put_until, put_word};
-use answer_buffer::AnswerBuffer;
-use answer_buffer::texts::put_quoted;
 use desk_model::Outcome;
 use dhcp_lldp::Heard;
+use http_answers::AnswerBuffer;
+use http_answers::texts::put_quoted;
 use mud_base::{Bytes, Mac, Memory, addr_text, mac_text};
 use std::alloc::Global;
 
@@ -69,7 +69,7 @@ fn put_heard_lease(buffer: &mut AnswerBuffer, address: &[u8], mac: &[u8], outcom
 }
 
 /// Adds the rest of what became of a lease, as far as it fits.
-#[tactic(auto, unfolding(crate::specs::Heards::lease_end), using(answer_buffer::proofs::KeptLemmas::kept_behind))]
+#[tactic(auto, unfolding(crate::specs::Heards::lease_end), using(http_answers::proofs::KeptLemmas::kept_behind))]
 fn put_lease_end(buffer: &mut AnswerBuffer, outcome: &Outcome)
     ensures { buffer.new ≡ kept (buffer.old ++ spec.lease_end outcome.now) }
 {

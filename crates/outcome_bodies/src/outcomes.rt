@@ -1,19 +1,19 @@
 //! What a command did, and rules alone.
 ghost use Rattle.std.specs.Prelude.{◌≡◌, ◌≤◌, ◌++◌, length};
-ghost use Rattle.answer_buffer.specs.Kept.{kept};
+ghost use Rattle.http_answers.specs.Kept.{kept};
 ghost use Rattle.outcome_bodies.specs.Outcomes as spec;
 
 use crate::puts::{put_until, put_url, put_word};
-use answer_buffer::AnswerBuffer;
-use answer_buffer::texts::put_quoted;
 use console_routes::Statement;
 use desk_model::Outcome;
+use http_answers::AnswerBuffer;
+use http_answers::texts::put_quoted;
 use item_codec::Word;
 use mud_base::End;
 use mud_url::MudUrl;
 
 /// Adds a rule, as far as it fits.
-#[tactic(auto, unfolding(crate::specs::Outcomes::rule_body), using(answer_buffer::proofs::KeptLemmas::kept_behind))]
+#[tactic(auto, unfolding(crate::specs::Outcomes::rule_body), using(http_answers::proofs::KeptLemmas::kept_behind))]
 fn put_rule(buffer: &mut AnswerBuffer, rule: &[u8])
     ensures { buffer.new ≡ kept (buffer.old ++ spec.rule_body rule.now) }
 {
@@ -34,7 +34,7 @@ pub fn write_rule(buffer: &mut AnswerBuffer, rule: &[u8])
 }
 
 /// Adds what a command did, as far as it fits.
-#[tactic(auto, unfolding(crate::specs::Outcomes::result_body), using(answer_buffer::proofs::KeptLemmas::kept_behind))]
+#[tactic(auto, unfolding(crate::specs::Outcomes::result_body), using(http_answers::proofs::KeptLemmas::kept_behind))]
 fn put_result(buffer: &mut AnswerBuffer, word: Word)
     ensures { buffer.new ≡ kept (buffer.old ++ spec.result_body word) }
 {
@@ -44,7 +44,7 @@ fn put_result(buffer: &mut AnswerBuffer, word: Word)
 }
 
 /// Adds what a command did, with the end that is kept, as far as it fits.
-#[tactic(auto, unfolding(crate::specs::Outcomes::until_body), using(answer_buffer::proofs::KeptLemmas::kept_behind))]
+#[tactic(auto, unfolding(crate::specs::Outcomes::until_body), using(http_answers::proofs::KeptLemmas::kept_behind))]
 fn put_result_until(buffer: &mut AnswerBuffer, word: Word, until: Option<End>)
     ensures { buffer.new ≡ kept (buffer.old ++ spec.until_body word until) }
 {
@@ -56,7 +56,7 @@ fn put_result_until(buffer: &mut AnswerBuffer, word: Word, until: Option<End>)
 }
 
 /// Adds what a command did, with the URL that it is about, as far as it fits.
-#[tactic(auto, unfolding(crate::specs::Outcomes::url_body), using(answer_buffer::proofs::KeptLemmas::kept_behind))]
+#[tactic(auto, unfolding(crate::specs::Outcomes::url_body), using(http_answers::proofs::KeptLemmas::kept_behind))]
 fn put_result_url(buffer: &mut AnswerBuffer, word: Word, url: &Option<MudUrl>)
     ensures { buffer.new ≡ kept (buffer.old ++ spec.url_body word url.now) }
 {

@@ -2,12 +2,12 @@
 ghost use Rattle.std.specs.Prelude.{◌≡◌, ◌++◌, option_map};
 ghost use Rattle.json.specs.Print.{quoted};
 ghost use Rattle.item_codec.specs.Word.{text_of};
-ghost use Rattle.answer_buffer.specs.Kept.{kept};
-ghost use Rattle.answer_buffer.specs.Texts.{url_text};
+ghost use Rattle.http_answers.specs.Kept.{kept};
+ghost use Rattle.http_answers.specs.Texts.{url_text};
 ghost use Rattle.outcome_bodies.specs.Outcomes as spec;
 
-use answer_buffer::AnswerBuffer;
-use answer_buffer::texts::{put_decimal, put_quoted};
+use http_answers::AnswerBuffer;
+use http_answers::texts::{put_decimal, put_quoted};
 use item_codec::Word;
 use mud_base::End;
 use mud_url::MudUrl;
@@ -32,7 +32,7 @@ pub(crate) fn put_until(buffer: &mut AnswerBuffer, until: Option<End>)
 }
 
 /// Adds a URL, or null where there is none.
-#[tactic(auto, unfolding(answer_buffer::specs::Texts::url_text))]
+#[tactic(auto, unfolding(http_answers::specs::Texts::url_text))]
 pub(crate) fn put_url(buffer: &mut AnswerBuffer, url: &Option<MudUrl>)
     ensures { buffer.new ≡ kept (buffer.old ++ url_text url.now) }
 {

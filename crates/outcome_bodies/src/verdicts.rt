@@ -1,19 +1,19 @@
 //! Verdicts.
 ghost use Rattle.std.specs.Prelude.{◌≡◌, ◌++◌, codes, decimal};
 ghost use Rattle.json.specs.Print.{escape};
-ghost use Rattle.answer_buffer.specs.Kept.{kept};
-ghost use Rattle.verdict_lines.specs.Verdicts as line;
+ghost use Rattle.http_answers.specs.Kept.{kept};
+ghost use Rattle.reply_lines.specs.Verdicts as line;
 ghost use Rattle.outcome_bodies.specs.Verdicts as spec;
 
 use acl_model::Ruling;
-use answer_buffer::AnswerBuffer;
-use answer_buffer::texts::{put_escaped_decimal, put_escapes};
 use frame_view::Part;
+use http_answers::AnswerBuffer;
+use http_answers::texts::{put_escaped_decimal, put_escapes};
 use packet_judge::Verdict;
-use verdict_lines::{default_name, part_name, passing, why_name};
+use reply_lines::{default_name, part_name, passing, why_name};
 
 /// Adds a word and the number of an entry inside a JSON string, as far as they fit.
-#[tactic(auto, using(answer_buffer::proofs::KeptLemmas::kept_escaped))]
+#[tactic(auto, using(http_answers::proofs::KeptLemmas::kept_escaped))]
 fn put_numbered(buffer: &mut AnswerBuffer, word: &[u8], number: u16)
     ensures { buffer.new ≡ kept (buffer.old ++ escape (word.now ++ decimal number)) }
 {
@@ -22,7 +22,7 @@ fn put_numbered(buffer: &mut AnswerBuffer, word: &[u8], number: u16)
 }
 
 /// Adds a ruling inside a JSON string, as far as it fits.
-#[tactic(auto, unfolding(verdict_lines::specs::Verdicts::ruling_text))]
+#[tactic(auto, unfolding(reply_lines::specs::Verdicts::ruling_text))]
 pub(crate) fn put_ruling(buffer: &mut AnswerBuffer, ruling: Ruling)
     ensures { buffer.new ≡ kept (buffer.old ++ escape (line.ruling_text ruling)) }
 {
@@ -37,7 +37,7 @@ pub(crate) fn put_ruling(buffer: &mut AnswerBuffer, ruling: Ruling)
 
 /// Adds the ruling of an end behind its name inside a JSON string, where the end is a Thing, as far
 /// as it fits.
-#[tactic(auto, unfolding(verdict_lines::specs::Verdicts::end_text), using(answer_buffer::proofs::KeptLemmas::kept_escaped, answer_buffer::proofs::KeptLemmas::kept_none))]
+#[tactic(auto, unfolding(reply_lines::specs::Verdicts::end_text), using(http_answers::proofs::KeptLemmas::kept_escaped, http_answers::proofs::KeptLemmas::kept_none))]
 fn put_end(buffer: &mut AnswerBuffer, name: &[u8], ruling: Option<Ruling>)
     ensures { buffer.new ≡ kept (buffer.old ++ escape (line.end_text name.now ruling)) }
 {
@@ -53,7 +53,7 @@ fn put_end(buffer: &mut AnswerBuffer, name: &[u8], ruling: Option<Ruling>)
 }
 
 /// Adds the rulings of both ends inside a JSON string, as far as they fit.
-#[tactic(auto, using(answer_buffer::proofs::KeptLemmas::kept_escaped))]
+#[tactic(auto, using(http_answers::proofs::KeptLemmas::kept_escaped))]
 fn put_ends(buffer: &mut AnswerBuffer, source: Option<Ruling>, destination: Option<Ruling>)
     ensures { buffer.new ≡ kept (buffer.old ++ escape (line.end_text (codes " from=") source ++ line.end_text (codes " to=") destination)) }
 {
@@ -69,7 +69,7 @@ fn put_part(buffer: &mut AnswerBuffer, part: Part)
 }
 
 /// Adds the part that can't be read inside a JSON string, as far as it fits.
-#[tactic(auto, unfolding(verdict_lines::specs::Verdicts::unreadable_text), using(answer_buffer::proofs::KeptLemmas::kept_escaped))]
+#[tactic(auto, unfolding(reply_lines::specs::Verdicts::unreadable_text), using(http_answers::proofs::KeptLemmas::kept_escaped))]
 fn put_unreadable(buffer: &mut AnswerBuffer, part: Part)
     ensures { buffer.new ≡ kept (buffer.old ++ escape (line.unreadable_text part)) }
 {
@@ -78,7 +78,7 @@ fn put_unreadable(buffer: &mut AnswerBuffer, part: Part)
 }
 
 /// Adds the rulings or what stands in place of them inside a JSON string, as far as it fits.
-#[tactic(auto, unfolding(verdict_lines::specs::Verdicts::reason_text))]
+#[tactic(auto, unfolding(reply_lines::specs::Verdicts::reason_text))]
 fn put_reason(buffer: &mut AnswerBuffer, verdict: &Verdict)
     ensures { buffer.new ≡ kept (buffer.old ++ escape (line.reason_text verdict.now)) }
 {
@@ -91,7 +91,7 @@ fn put_reason(buffer: &mut AnswerBuffer, verdict: &Verdict)
 }
 
 /// Adds a verdict inside a JSON string, as far as it fits.
-#[tactic(auto, unfolding(verdict_lines::specs::Verdicts::verdict_text), using(answer_buffer::proofs::KeptLemmas::kept_escaped))]
+#[tactic(auto, unfolding(reply_lines::specs::Verdicts::verdict_text), using(http_answers::proofs::KeptLemmas::kept_escaped))]
 fn put_verdict_text(buffer: &mut AnswerBuffer, verdict: &Verdict)
     ensures { buffer.new ≡ kept (buffer.old ++ escape (line.verdict_text verdict.now)) }
 {

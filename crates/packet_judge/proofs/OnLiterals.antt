@@ -1,6 +1,6 @@
 -- What a proof unfolds to compute verdicts on frames and tables that are written out.
 use Rattle.mud_base.specs.Addresses.{prefix_holds, same_addr}
-use Rattle.octet_fields.proofs.OnLiterals.{fields_on_literals}
+use Rattle.mud_base.proofs.FieldsOnLiterals.{fields_on_literals}
 use Rattle.frame_view.specs.Ethernet.{destination_of, source_of}
 use Rattle.frame_view.specs.Carried.{carried, by_type, past_tag, is_tag}
 use Rattle.frame_view.specs.Frame.{frame_of}

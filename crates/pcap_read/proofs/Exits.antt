@@ -2,18 +2,18 @@
 use Rattle.std.proofs.Common.{◌≡◌, ℕ, ◌<◌, ◌≤◌, List, [], ◌++◌, length, take, drop, Some, Ok, Err, refl, sym, ap, ap₂, ◌∙◌, arith, length-append, append-nil}
 use Rattle.std.proofs.lemmas.List.{take-append-le, drop-append-le}
 use Rattle.mud_world.specs.Door.{DoorState}
-use Rattle.octet_fields.specs.declared.number.ByteOrder.{ByteOrder}
+use Rattle.mud_base.specs.declared.number.ByteOrder.{ByteOrder}
 use Rattle.pcap_read.specs.declared.fault.CapFault.{CapFault}
 use Rattle.pcap_read.specs.declared.fault.CapFault.TheVariants as faults
 use Rattle.pcap_read.specs.declared.head.Head.{Head}
 use Rattle.pcap_read.specs.declared.stage.Cursor.{Cursor}
-use Rattle.packet_buffer.specs.Packets.{Packet, broken}
+use Rattle.octet_buffer.specs.Packets.{Packet, broken}
 use Rattle.pcap_read.specs.Packets.{Packets, seconds_of, captured_len, packets_from, header_of, packets_of}
 use Rattle.std.specs.Prelude.{IsTrue}
 use Rattle.pcap_read.specs.Parts.{is_decided, body_from, packets_at, behind_head, behind_packet}
-use Rattle.packet_buffer.specs.Reading.{Fetched, Follows, behind}
+use Rattle.octet_buffer.specs.Reading.{Fetched, Follows, behind}
 use Rattle.pcap_read.specs.Reading.{EndsIn}
-use Rattle.packet_buffer.proofs.Readings.{follows, follows_more, ends, ends_more}
+use Rattle.octet_buffer.proofs.Readings.{follows, follows_more, ends, ends_more}
 use Rattle.pcap_read.proofs.Steps.{header_short, header_read, header_refused, head_many, head_short, head_long, head_whole, head_lacks, body_whole, body_short, decided_whole}
 
 all_of : Packets → List Packet

@@ -1,5 +1,5 @@
 -- What unfolds where the definitions are computed on literal octets.
-use Rattle.octet_fields.proofs.OnLiterals.{fields_on_literals}
+use Rattle.mud_base.proofs.FieldsOnLiterals.{fields_on_literals}
 use Rattle.pcap_read.specs.Packets.{has_magic, order_in, is_version_2_4, is_ethernet, header_of, seconds_of, captured_len, packets_from, packets_of}
 
 unfoldable pub captures_on_literals : Unit {0}

@@ -1,15 +1,15 @@
 -- The stages of a reader.
 use Rattle.std.proofs.Common.{◌≡◌, ℕ, false, List, [], ◌++◌, Option, Some, None, is_some, refl, ap, ◌∙◌}
 use Rattle.mud_world.specs.Door.{DoorState}
-use Rattle.octet_fields.specs.declared.number.ByteOrder.{ByteOrder}
+use Rattle.mud_base.specs.declared.number.ByteOrder.{ByteOrder}
 use Rattle.pcap_read.specs.declared.stage.Stage.{Stage}
 use Rattle.pcap_read.specs.declared.stage.Stage.TheVariants.{Reading}
 use Rattle.pcap_read.specs.declared.stage.Progress.{Progress}
-use Rattle.packet_buffer.specs.Packets.{Packet, whole}
+use Rattle.octet_buffer.specs.Packets.{Packet, whole}
 use Rattle.pcap_read.specs.Packets.{Packets}
 use Rattle.pcap_read.specs.Parts.{coming, coming_at}
 use Rattle.pcap_read.proofs.Steps.{head_none}
-use Rattle.packet_buffer.specs.Reading.{Follows}
+use Rattle.octet_buffer.specs.Reading.{Follows}
 
 at_stage : Progress → List ℕ → Stage → Packets
 at_stage progress octets stage = coming_at stage progress.count progress.place octets

@@ -2,10 +2,10 @@
 use Rattle.std.proofs.Common.{◌≡◌, ◌⊎◌, inl, inr, ℕ, zero, suc, ◌+◌, ◌<◌, ◌≤◌, ltb, leb, Bool, true, false, cond, List, [], ◌∷◌, ◌++◌, length, take, drop, Ok, Err, refl, sym, ap, ap₂, ◌∙◌, arith, length-append, length-drop, le-ltb, lt-ltb, ltb-true, ltb-false, le-leb}
 use borrow.Author.Tests.{lt-leb}
 use Rattle.std.proofs.lemmas.List.{take-append-le, drop-append-le, drop-drop}
-use Rattle.octet_fields.specs.declared.number.ByteOrder.{ByteOrder}
+use Rattle.mud_base.specs.declared.number.ByteOrder.{ByteOrder}
 use Rattle.pcap_read.specs.declared.fault.CapFault.{CapFault}
 use Rattle.pcap_read.specs.declared.fault.CapFault.TheVariants as faults
-use Rattle.packet_buffer.specs.Packets.{Packet, whole, broken, with_packet}
+use Rattle.octet_buffer.specs.Packets.{Packet, whole, broken, with_packet}
 use Rattle.pcap_read.specs.Packets.{Packets, seconds_of, captured_len, packets_from, header_of, behind_header, packets_of}
 use Rattle.pcap_read.specs.Parts.{body_from, is_decided}
 use Rattle.std.specs.Prelude.{IsTrue}

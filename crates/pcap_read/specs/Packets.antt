@@ -1,10 +1,10 @@
 -- The packets of a capture in the classic format of libpcap, version 2.4 (draft-ietf-opsawg-pcap).
 use Rattle.std.specs.Prelude.{ℕ, zero, suc, ◌+◌, ◌==◌, nat_lt, nat_le, Bool, not, ◌||◌, ◌&&◌, if◌then◌else◌, List, [], ◌∷◌, length, take, drop, Option, Some, None, Result, Ok, Err}
 use Rattle.mud_base.specs.Faults.{row, unless}
-use Rattle.octet_fields.specs.Numbers.{number_16, number_32}
-use Rattle.octet_fields.specs.declared.number.ByteOrder.{ByteOrder}
-use Rattle.octet_fields.specs.declared.number.ByteOrder.TheVariants.{Big, Little}
-use Rattle.packet_buffer.specs.Packets.{Told, whole, broken, with_packet}
+use Rattle.mud_base.specs.Numbers.{number_16, number_32}
+use Rattle.mud_base.specs.declared.number.ByteOrder.{ByteOrder}
+use Rattle.mud_base.specs.declared.number.ByteOrder.TheVariants.{Big, Little}
+use Rattle.octet_buffer.specs.Packets.{Told, whole, broken, with_packet}
 use Rattle.pcap_read.specs.declared.fault.CapFault.{CapFault}
 use Rattle.pcap_read.specs.declared.fault.CapFault.TheVariants as faults
 

@@ -1,6 +1,6 @@
 -- The packets that are to come, at each place where a reader can stand.
 use Rattle.std.specs.Prelude.{ℕ, ◌+◌, ◌-◌, ◌==◌, nat_lt, nat_le, Bool, true, false, not, ◌||◌, if◌then◌else◌, List, length, take, drop, Option, Some, None}
-use Rattle.octet_fields.specs.declared.number.ByteOrder.{ByteOrder}
+use Rattle.mud_base.specs.declared.number.ByteOrder.{ByteOrder}
 use Rattle.pcap_read.specs.declared.fault.CapFault.TheVariants as faults
 use Rattle.pcap_read.specs.declared.head.Head.{Head}
 use Rattle.pcap_read.specs.declared.stage.Stage.{Stage}
@@ -9,7 +9,7 @@ use Rattle.pcap_read.specs.declared.stage.Cursor.{Cursor}
 use Rattle.pcap_read.specs.declared.stage.Progress.{Progress}
 use Rattle.pcap_read.specs.declared.stage.Current.{Current}
 use Rattle.pcap_read.specs.declared.stage.Next.{Next}
-use Rattle.packet_buffer.specs.Packets.{Packet, broken, with_next, with_packet}
+use Rattle.octet_buffer.specs.Packets.{Packet, broken, with_next, with_packet}
 use Rattle.pcap_read.specs.Packets.{Packets, head_len, captured_len, packets_from, packets_of}
 
 -- behind the head of a packet: its octets, and the packets that come then

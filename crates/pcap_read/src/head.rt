@@ -3,7 +3,7 @@ ghost use Rattle.std.specs.Prelude.{◌≡◌, ◌≤◌, length};
 ghost use Rattle.pcap_read.specs.Packets.{seconds_of, captured_len};
 ghost use Rattle.pcap_read.specs.Parts as spec;
 
-use octet_fields::{ByteOrder, number_32};
+use mud_base::{ByteOrder, number_32};
 
 /// Where the seconds stand in a head (draft-ietf-opsawg-pcap, section 5).
 const SECONDS_PLACE: usize = 0;

@@ -4,7 +4,7 @@ ghost use Rattle.pcap_read.specs.Fault.{has_failed};
 ghost use Rattle.pcap_read.specs.Packets as spec;
 
 use crate::fault::CapFault;
-use octet_fields::{ByteOrder, number_16, number_32};
+use mud_base::{ByteOrder, number_16, number_32};
 
 /// Where the magic number stands in the header (draft-ietf-opsawg-pcap, section 4).
 const MAGIC_PLACE: usize = 0;

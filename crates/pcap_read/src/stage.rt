@@ -1,6 +1,6 @@
 //! Where a reader stands in a capture.
 use crate::fault::CapFault;
-use octet_fields::ByteOrder;
+use mud_base::ByteOrder;
 
 /// How far a capture was read.
 #[derive(Clone, Copy, Debug)]

@@ -4,12 +4,12 @@ use Rattle.std.proofs.lemmas.List.{take-append-le, drop-append-le, drop-drop, dr
 use Rattle.std.specs.Int.{w32, from_be_bytes, from_le_bytes}
 use Rattle.mud_base.specs.Faults.{first_row, unless}
 use Rattle.mud_world.specs.Door.{DoorState}
-use Rattle.octet_fields.specs.declared.number.ByteOrder.{ByteOrder}
-use Rattle.octet_fields.specs.declared.number.ByteOrder.TheVariants.{Big, Little}
-use Rattle.octet_fields.specs.Numbers.{number_32, big_32}
-use Rattle.packet_buffer.specs.Packets.{Packet, broken, with_all, with_next}
-use Rattle.packet_buffer.specs.Reading.{Fetched, Follows, behind}
-use Rattle.packet_buffer.proofs.Readings.{follows, ends}
+use Rattle.mud_base.specs.declared.number.ByteOrder.{ByteOrder}
+use Rattle.mud_base.specs.declared.number.ByteOrder.TheVariants.{Big, Little}
+use Rattle.mud_base.specs.Numbers.{number_32, big_32}
+use Rattle.octet_buffer.specs.Packets.{Packet, broken, with_all, with_next}
+use Rattle.octet_buffer.specs.Reading.{Fetched, Follows, behind}
+use Rattle.octet_buffer.proofs.Readings.{follows, ends}
 use Rattle.pcapng_read.specs.declared.fault.NgFault.{NgFault}
 use Rattle.pcapng_read.specs.declared.fault.NgFault.TheVariants as faults
 use Rattle.pcapng_read.specs.declared.head.Kind.{Kind}

@@ -2,8 +2,8 @@
 use Rattle.std.proofs.Common.{◌≡◌, ◌≢◌, ℕ, suc, zero, ◌+◌, ◌<◌, ◌≤◌, ltb, List, [], ◌∷◌, length, take, drop, refl, sym, ap, ◌∙◌, arith, ne_eqb, le-ltb, lt-ltb}
 use Rattle.std.proofs.lemmas.List.{drop-drop}
 use Rattle.std.proofs.Math.Bool.{or-true}
-use Rattle.octet_fields.specs.Numbers.{number_16}
-use Rattle.octet_fields.specs.declared.number.ByteOrder.{ByteOrder}
+use Rattle.mud_base.specs.Numbers.{number_16}
+use Rattle.mud_base.specs.declared.number.ByteOrder.{ByteOrder}
 use Rattle.pcapng_read.specs.Options.{options_from, no_more, beyond, with_option, filled}
 
 options_skipped : (order : ByteOrder) (skipped : ℕ) (octets : List ℕ) → options_from order skipped octets ≡ options_from order 0 (drop skipped octets)

@@ -5,8 +5,8 @@ use Rattle.std.proofs.lemmas.List.{take-append-le}
 use Rattle.std.proofs.lemmas.Bool.{cases_Bool}
 use Rattle.std.proofs.lemmas.Bool.Decides.{eqb_tells}
 use Rattle.mud_base.specs.Faults.{first_row, unless}
-use Rattle.octet_fields.specs.Numbers.{number_32}
-use Rattle.packet_buffer.specs.Packets.{whole, broken, with_all, with_next}
+use Rattle.mud_base.specs.Numbers.{number_32}
+use Rattle.octet_buffer.specs.Packets.{whole, broken, with_all, with_next}
 use Rattle.pcapng_read.specs.declared.fault.NgFault.{NgFault}
 use Rattle.pcapng_read.specs.declared.fault.NgFault.TheVariants as faults
 use Rattle.pcapng_read.specs.declared.head.Kind.{Kind}

@@ -1,10 +1,10 @@
 -- The packets of a capture in the format pcapng (draft-ietf-opsawg-pcapng).
 use Rattle.std.specs.Prelude.{ℕ, zero, suc, ◌+◌, ◌-◌, ◌*◌, ◌/◌, ◌%◌, ◌==◌, nat_lt, nat_le, Bool, true, false, not, ◌&&◌, ◌||◌, if◌then◌else◌, List, [], ◌∷◌, ◌++◌, length, take, drop, slice_get, Option, Some, None, is_some, unwrap_or}
 use Rattle.mud_base.specs.Faults.{row, first_row}
-use Rattle.octet_fields.specs.Numbers.{number_16, number_32}
-use Rattle.octet_fields.specs.declared.number.ByteOrder.{ByteOrder}
-use Rattle.octet_fields.specs.declared.number.ByteOrder.TheVariants.{Big, Little}
-use Rattle.packet_buffer.specs.Packets.{Packet, Told, whole, broken, with_all}
+use Rattle.mud_base.specs.Numbers.{number_16, number_32}
+use Rattle.mud_base.specs.declared.number.ByteOrder.{ByteOrder}
+use Rattle.mud_base.specs.declared.number.ByteOrder.TheVariants.{Big, Little}
+use Rattle.octet_buffer.specs.Packets.{Packet, Told, whole, broken, with_all}
 use Rattle.pcapng_read.specs.declared.fault.NgFault.{NgFault}
 use Rattle.pcapng_read.specs.declared.fault.NgFault.TheVariants as faults
 use Rattle.pcapng_read.specs.declared.head.Kind.{Kind}

@@ -1,6 +1,6 @@
 -- What the first octets do to the listing of options, and an option to the contents of those before it.
 use Rattle.std.specs.Prelude.{◌≡◌, ℕ, ◌<◌, ◌==◌, Bool, true, false, if◌then◌else◌, List, length, Option, Some, None}
-use Rattle.octet_fields.specs.declared.number.ByteOrder.{ByteOrder}
+use Rattle.mud_base.specs.declared.number.ByteOrder.{ByteOrder}
 use Rattle.pcapng_read.specs.declared.options.Step.{Step}
 use Rattle.pcapng_read.specs.declared.options.Step.TheVariants.{End, Beyond, Whole}
 use Rattle.pcapng_read.specs.Options.{Listing, options_from, no_more, beyond, with_option, last_with}

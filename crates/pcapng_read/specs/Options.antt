@@ -1,8 +1,8 @@
 -- The options of a block (draft-ietf-opsawg-pcapng, section 3.5).
 use Rattle.std.specs.Prelude.{ℕ, zero, suc, ◌+◌, ◌-◌, ◌*◌, ◌/◌, ◌^◌, ◌==◌, nat_lt, nat_le, Bool, true, false, ◌&&◌, ◌||◌, if◌then◌else◌, List, [], ◌∷◌, length, take, drop, slice_index, replicate, Option, Some, None}
 use Rattle.std.specs.Str.{bytes_eq}
-use Rattle.octet_fields.specs.Numbers.{number_16}
-use Rattle.octet_fields.specs.declared.number.ByteOrder.{ByteOrder}
+use Rattle.mud_base.specs.Numbers.{number_16}
+use Rattle.mud_base.specs.declared.number.ByteOrder.{ByteOrder}
 
 -- an option: its code and its content
 pub record BlockOption : Type 0 where

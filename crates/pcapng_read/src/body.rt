@@ -3,7 +3,7 @@ ghost use Rattle.std.specs.Prelude.{◌≡◌, ◌+◌, ◌*◌, ◌<◌, ◌≤
 ghost use Rattle.std.specs.Option.{ForSome};
 ghost use Rattle.mud_base.specs.Faults.{unless};
 ghost use Rattle.pcapng_read.specs.Blocks as spec;
-ghost use Rattle.octet_fields.specs.Numbers.{number_32 as number_at};
+ghost use Rattle.mud_base.specs.Numbers.{number_32 as number_at};
 ghost use Rattle.pcapng_read.specs.Fault.{has_failed};
 ghost use Rattle.pcapng_read.specs.Parts.{IsWithin, current_of, current_in, is_packet};
 
@@ -12,7 +12,7 @@ use crate::head::{Head, Kind};
 use crate::interfaces::MOST_INTERFACES;
 use crate::options::interface_in;
 use crate::standing::{Current, Standing};
-use octet_fields::{ByteOrder, number_16, number_32};
+use mud_base::{ByteOrder, number_16, number_32};
 
 /// Where the major version stands in a section header (section 4.1).
 const MAJOR_VERSION_PLACE: usize = 12;

@@ -6,7 +6,7 @@ ghost use Rattle.pcapng_read.specs.Fault.{has_failed};
 
 use crate::fault::NgFault;
 use crate::standing::Standing;
-use octet_fields::{ByteOrder, number_32};
+use mud_base::{ByteOrder, number_32};
 
 /// Where the type stands in a head.
 const TYPE_PLACE: usize = 0;

@@ -7,7 +7,7 @@ ghost use Rattle.pcapng_read.specs.Options as spec;
 
 use crate::fault::NgFault;
 use crate::interfaces::Interface;
-use octet_fields::{ByteOrder, number_16};
+use mud_base::{ByteOrder, number_16};
 use std::marker::Model;
 
 /// Where the code stands in an option.

@@ -1,8 +1,8 @@
 //! Where a reader of a capture stands, beside the source that it is lent at each call.
 ghost use Rattle.std.specs.Prelude.{◌≡◌, ◌<◌, ◌≤◌, length, true, false, is_some, IsSome, IsTrue, IfOk, IfErr, OnOk, OnErr, Err, Some, None};
 ghost use Rattle.mud_world.specs.Causes.{Counts, StopsAtFailure};
-ghost use Rattle.packet_buffer.specs.Packets.{with_next};
-ghost use Rattle.packet_buffer.specs.Reading.{Follows};
+ghost use Rattle.octet_buffer.specs.Packets.{with_next};
+ghost use Rattle.octet_buffer.specs.Reading.{Follows};
 ghost use Rattle.pcapng_read.specs.declared.fault.NgFault.{NgFault};
 ghost use Rattle.pcapng_read.specs.Fault.{has_failed};
 ghost use Rattle.pcapng_read.specs.Parts as parts;
@@ -16,10 +16,9 @@ use crate::fault::NgFault;
 use crate::head::{HEAD_LEN, Kind, MOST_OCTETS, head_of};
 use crate::read::step;
 use crate::standing::{Current, Standing};
-use mud_base::Memory;
+use mud_base::{ByteOrder, Memory};
 use mud_world::Door;
-use octet_fields::ByteOrder;
-use packet_buffer::Buffer;
+use octet_buffer::Buffer;
 use pcap_read::Captured;
 use std::alloc::Global;
 use std::marker::Model;

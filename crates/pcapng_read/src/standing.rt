@@ -3,7 +3,7 @@ ghost use Rattle.std.specs.Prelude.{◌≡◌};
 ghost use Rattle.pcapng_read.specs.Blocks.{at_start};
 
 use crate::interfaces::Interfaces;
-use octet_fields::ByteOrder;
+use mud_base::ByteOrder;
 
 /// A section: the order of the octets of its numbers, and its interfaces so far.
 #[derive(Drop)]

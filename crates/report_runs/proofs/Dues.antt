@@ -8,7 +8,7 @@ use Rattle.command_words.specs.declared.command.ReportKind.{ReportKind}
 use Rattle.command_words.specs.declared.command.ReportKind.TheVariants.{Due}
 use Rattle.desk_model.specs.DeskTables.{DeskTables}
 use Rattle.report_runs.specs.Rows.{due_line}
-use Rattle.listing_runs.specs.Moments.{listing_moment}
+use Rattle.command_runs.specs.Moments.{listing_moment}
 use Rattle.report_runs.specs.Tables.{due_part, table_text}
 
 due_step : (now : ℕ) (row : CachedFile) (files : List CachedFile) (b : Bool) → is_due now row ≡ b → flat_map (due_part now) files ≡ flat_map due_line (due_urls now files)

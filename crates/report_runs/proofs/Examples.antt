@@ -11,7 +11,7 @@ use Rattle.text_lines.specs.Numbers.{end_text}
 use Rattle.desk_model.specs.DeskTables.{DeskTables, empty_desk}
 use Rattle.command_words.specs.declared.command.ReportKind.TheVariants.{Things, Files, Classes, Locals, Names, Due}
 use Rattle.report_runs.specs.Rows.{word_part, ending_part, pending_word, hold_word, thing_line, lease_line, thing_lines, approved_word, candidate_word, file_line, class_part, class_line, class_lines, local_line, name_line, name_lines, due_line}
-use Rattle.listing_runs.specs.Moments.{listing_moment}
+use Rattle.command_runs.specs.Moments.{listing_moment}
 use Rattle.report_runs.specs.Tables.{clock_for, moments_after, table_text}
 
 unfoldable tables_compute : ⊤

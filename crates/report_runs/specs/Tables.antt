@@ -1,7 +1,7 @@
 -- The tables that `report` writes, and of which one the clock is asked.
 use Rattle.std.specs.Prelude.{ℕ, Bool, true, false, if◌then◌else◌, List, [], flat_map, Option, Some, None}
 use Rattle.mud_world.specs.Clock.{next_moment, later_moments}
-use Rattle.listing_runs.specs.Moments.{listing_moment}
+use Rattle.command_runs.specs.Moments.{listing_moment}
 use Rattle.command_words.specs.declared.command.ReportKind.{ReportKind}
 use Rattle.command_words.specs.declared.command.ReportKind.TheVariants.{Things, Files, Classes, Locals, Names, Due}
 use Rattle.file_tables.specs.declared.cached_file.CachedFile.{CachedFile}

@@ -9,10 +9,9 @@ ghost use Rattle.report_runs.specs.Tables.{due_part};
 
 use crate::ReportRow;
 use crate::files::append_due;
-use command_runs::Stop;
+use command_runs::{Stop, write_text};
 use file_cache::is_due;
 use file_tables::CachedFile;
-use listing_runs::write_text;
 use mud_base::{Bytes, Memory, Moment};
 use mud_world::Door;
 use std::alloc::Global;

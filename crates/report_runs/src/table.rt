@@ -14,9 +14,8 @@ ghost use Rattle.report_runs.specs.Tables.{clock_for, moments_after, table_text}
 ghost use Rattle.report_runs.specs.Tables as spec;
 
 use crate::rows::{write_due, write_rows};
-use command_runs::{Status, Stop};
+use command_runs::{Status, Stop, listing_moment};
 use command_words::ReportKind;
-use listing_runs::listing_moment;
 use mud_base::Moment;
 use mud_desk::Desk;
 use mud_world::{Clock, Door, Keeper};

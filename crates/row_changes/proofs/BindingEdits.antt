@@ -11,7 +11,7 @@ use Rattle.acl_model.specs.Changes.{without_bindings, replaced}
 use Rattle.row_edits.specs.declared.edit.Edit.{Edit}
 use Rattle.row_edits.specs.Edits.{edit, edit_place, edit_made, edited}
 use Rattle.row_edits.proofs.EditLaws.{edited-set_row}
-use Rattle.binding_shelves.specs.Shelves.{index_by_key, AreFoundByKey}
+use Rattle.acl_shelves.specs.BindingShelves.{index_by_key, AreFoundByKey}
 use Rattle.row_changes.specs.Bindings.{binding_edit, AreEditsOf}
 
 module _ (bindings : List Binding) (up : PlacesAscend binding_place bindings) where

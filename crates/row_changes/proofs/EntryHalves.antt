@@ -13,7 +13,7 @@ use Rattle.acl_model.specs.Keys.{is_membered}
 use Rattle.acl_model.specs.FirstMatch.{entries_of}
 use Rattle.acl_rows.specs.declared.row.RowKey.{RowKey}
 use Rattle.acl_rows.specs.Rows.{Slots, Holder, numbered, entry_at}
-use Rattle.acl_patch.specs.PolicyTouched.{entry_touches, side_policy_touches, new_touches}
+use Rattle.row_changes.specs.PolicyTouched.{entry_touches, side_policy_touches, new_touches}
 use Rattle.row_changes.specs.Fresh.{Fresh, fresh_of, one_fresh, more_fresh, joined, membered_count, ArePlanned, entries_touches, StandFrom, AreSorted}
 use Rattle.row_changes.proofs.FreshJoined.{one_sorted, planned_alone}
 use Rattle.row_changes.proofs.FreshLaws.{more_fresh-append}

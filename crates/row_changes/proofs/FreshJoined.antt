@@ -11,7 +11,7 @@ use Rattle.acl_rows.specs.declared.row.RowKey.{RowKey}
 use Rattle.acl_rows.specs.Places.{row_place, row_key_place}
 use Rattle.acl_rows.specs.ByAddress.{index_beside}
 use Rattle.acl_rows.specs.Rows.{Slots, row, rows_of}
-use Rattle.acl_patch.specs.Touched.{key_end, changed_edits, edit_of, same_end, with_edit}
+use Rattle.row_changes.specs.Touched.{key_end, changed_edits, edit_of, same_end, with_edit}
 use Rattle.row_changes.specs.Fresh.{Fresh, fresh_of, row_with, one_fresh, more_fresh, joined, AreSorted}
 
 -- ---- One row

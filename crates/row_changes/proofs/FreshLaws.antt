@@ -30,9 +30,9 @@ use Rattle.acl_rows.specs.Places.{row_place, row_key_place}
 use Rattle.acl_rows.specs.ByAddress.{rows_of_peer, index_beside}
 use Rattle.acl_rows.specs.Rows.{Slots, row, rows_of, member_keys, held_by, entry_at, entry_end}
 use Rattle.acl_rows.proofs.Sound.{end_at-entry}
-use Rattle.acl_patch.specs.Touched.{row_key, key_end, changed_edits}
-use Rattle.acl_patch.specs.PolicyTouched.{bound_under, bound_key, first_key_touches}
-use Rattle.key_index.specs.Keys.{key_parts}
+use Rattle.row_changes.specs.Touched.{row_key, key_end, changed_edits}
+use Rattle.row_changes.specs.PolicyTouched.{bound_under, bound_key, first_key_touches}
+use Rattle.row_changes.specs.EntryKeys.{key_parts}
 use Rattle.row_changes.specs.Change.{ChangeState, after, end_of_row}
 use Rattle.row_changes.specs.Fresh.{Fresh, fresh_of, row_with, one_fresh, more_fresh, first_of, membered_count, AreOfPeer, gone_edit, left_edits}
 use Rattle.row_changes.proofs.OneEdit.{asked_edit}

@@ -14,8 +14,8 @@ use Rattle.acl_rows.specs.declared.row.Row.{Row}
 use Rattle.acl_rows.specs.Places.{side_place, row_place}
 use Rattle.acl_rows.specs.View.{rows_of_side}
 use Rattle.acl_rows.specs.ByAddress.{rows_of_peer, grouped, AreGroups}
-use Rattle.row_shelves.proofs.Numbers.{AreOne}
-use Rattle.row_shelves.proofs.Beside.{side_is, peer_beside}
+use Rattle.acl_shelves.proofs.Numbers.{AreOne}
+use Rattle.acl_shelves.proofs.Beside.{side_is, peer_beside}
 use Rattle.row_changes.specs.Fresh.{AreOfPeer, left_edits}
 
 -- ---- Rows that pass a test

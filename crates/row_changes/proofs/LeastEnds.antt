@@ -10,13 +10,13 @@ use Rattle.acl_model.specs.declared.binding.MemberKey.{MemberKey}
 use Rattle.acl_model.specs.declared.binding.Binding.{Binding}
 use Rattle.acl_model.specs.Keys.{key_of}
 use Rattle.acl_model.specs.Places.{key_kind, key_text, text_place, key_place, bound_place}
-use Rattle.key_index.specs.Keys.{key_parts}
+use Rattle.row_changes.specs.EntryKeys.{key_parts}
 use Rattle.row_changes.specs.Keys.{place_of_text}
 use Rattle.acl_model.specs.Changes.{until_of, bound_until}
 use Rattle.acl_rows.specs.Rows.{least_end}
 use Rattle.row_changes.specs.Change.{end_in, met_end}
 use Rattle.row_changes.specs.Steps.{key_steps}
-use Rattle.acl_patch.proofs.Bound.{find-row_at}
+use Rattle.row_changes.proofs.Bound.{find-row_at}
 
 -- the end at the place of a key and an address
 pub end_in-bound : (bindings : List Binding) (key : MemberKey) (a : Addr) → end_in (bound_place key a) bindings ≡ bound_until bindings key a

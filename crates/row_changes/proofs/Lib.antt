@@ -1,14 +1,21 @@
-pub mod PolicyLaws
-pub mod Groups
-pub mod OneEdit
 pub mod After
+pub mod Apart
+pub mod BindingEdits
+pub mod Bound
+pub mod Edits
+pub mod EntryHalves
+mod FreshJoined
+pub mod FreshLaws
+pub mod Groups
 pub mod Halves
 pub mod LeastEnds
 pub mod Loops
+pub mod OneEdit
+pub mod Patches
 pub mod Planned
-pub mod BindingEdits
-mod FreshJoined
-pub mod EntryHalves
-pub mod FreshLaws
+pub mod PolicyLaws
+pub mod PolicyPatch
 pub mod PolicyRows
+pub mod SpotLaws
 pub mod SpotTouches
+pub mod Untouched

@@ -14,7 +14,7 @@ use Rattle.row_edits.specs.declared.edit.Edit.{Edit}
 use Rattle.acl_rows.specs.declared.row.Row.{Row}
 use Rattle.acl_rows.specs.Rows.{Slots, Holder, default_held, held_at, holders_from, slot_policy, held_by}
 use Rattle.acl_rows.specs.declared.row.RowKey.{RowKey}
-use Rattle.acl_patch.specs.Touched.{holder_touches, binding_touches, touches, with_edit, with_edits}
+use Rattle.row_changes.specs.Touched.{holder_touches, binding_touches, touches, with_edit, with_edits}
 use Rattle.row_changes.specs.Change.{ChangeState, after, more_edits, slot_touches}
 use Rattle.row_changes.specs.Steps.{least_step, least_steps}
 

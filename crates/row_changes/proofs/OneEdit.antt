@@ -19,8 +19,8 @@ use Rattle.acl_rows.specs.ByAddress.{rows_of_peer, index_beside}
 use Rattle.acl_rows.specs.Rows.{Slots, row, held_by, entry_at, entry_end, end_at, rows_of}
 use Rattle.acl_rows.proofs.Sound.{end_at-entry}
 use Rattle.acl_rows.proofs.AtPlaces.{row_at-rows_of}
-use Rattle.row_shelves.proofs.Beside.{row_of_peer}
-use Rattle.acl_patch.specs.Touched.{row_key, key_end, changed_edits, with_edit, with_edits}
+use Rattle.acl_shelves.proofs.Beside.{row_of_peer}
+use Rattle.row_changes.specs.Touched.{row_key, key_end, changed_edits, with_edit, with_edits}
 use Rattle.row_changes.specs.Change.{ChangeState, after, one_edit, more_edits, end_of_row}
 
 -- ---- One edit

@@ -7,13 +7,13 @@ use Rattle.row_edits.specs.declared.edit.Edit.{Edit}
 use Rattle.acl_rows.specs.declared.row.Row.{Row}
 use Rattle.acl_model.specs.Places.{binding_place}
 use Rattle.acl_rows.specs.Rows.{Slots}
-use Rattle.acl_patch.specs.Patch.{IsPatch}
+use Rattle.row_changes.specs.Patch.{IsPatch}
 use Rattle.acl_rows.specs.declared.row.RowKey.{RowKey}
-use Rattle.acl_patch.specs.Touched.{binding_touches, touches}
+use Rattle.row_changes.specs.Touched.{binding_touches, touches}
 use Rattle.row_changes.specs.Change.{ChangeState, after, more_edits}
 use Rattle.row_changes.specs.Policies.{AllHeld}
 use Rattle.row_changes.specs.Steps.{HolderFits}
-use Rattle.acl_patch.proofs.Edits.{bindings_patch}
+use Rattle.row_changes.proofs.Edits.{bindings_patch}
 use Rattle.row_changes.proofs.Loops.{more_edits-append}
 
 pub touches-append : (slots : Slots) (gone come : List Binding) → touches slots (gone ++ come) ≡ touches slots gone ++ touches slots come

@@ -29,16 +29,16 @@ use Rattle.acl_rows.specs.declared.row.RowKey.{RowKey}
 use Rattle.acl_rows.specs.Places.{side_place, place_at, row_place, row_key_place}
 use Rattle.acl_rows.specs.View.{rows_of_side}
 use Rattle.acl_rows.specs.ByAddress.{index_beside}
-use Rattle.row_shelves.proofs.Beside.{side_is, owner_split}
+use Rattle.acl_shelves.proofs.Beside.{side_is, owner_split}
 use Rattle.acl_rows.specs.Rows.{Slots, Holder, row, rows_of, member_keys, default_held, held_by, entry_at, end_at}
 use Rattle.acl_rows.proofs.Coordinates.{AreSame, same_coordinates}
 use Rattle.acl_rows.proofs.AtPlaces.{row_at-rows_of, ascend-rows_of}
-use Rattle.acl_patch.specs.Patch.{end_for, IsPatch}
-use Rattle.acl_patch.specs.Touched.{row_key, key_end, same_end, edit_of, changed_edits, with_edit, with_edits}
-use Rattle.acl_patch.specs.PolicyTouched.{new_touches, owner_rows, key_of_row, is_left, left_touches, policy_touches, IsSlotChange}
-use Rattle.acl_patch.proofs.Untouched.{touches_at}
-use Rattle.acl_patch.proofs.Patches.{all-row_at}
-use Rattle.acl_patch.proofs.PolicyPatch.{new_by, policy_patch}
+use Rattle.row_changes.specs.Patch.{end_for, IsPatch}
+use Rattle.row_changes.specs.Touched.{row_key, key_end, same_end, edit_of, changed_edits, with_edit, with_edits}
+use Rattle.row_changes.specs.PolicyTouched.{new_touches, owner_rows, key_of_row, is_left, left_touches, policy_touches, IsSlotChange}
+use Rattle.row_changes.proofs.Untouched.{touches_at}
+use Rattle.row_changes.proofs.Patches.{all-row_at}
+use Rattle.row_changes.proofs.PolicyPatch.{new_by, policy_patch}
 use Rattle.row_changes.specs.Steps.{HolderFits, HolderKeys, HaveKeys, place_steps}
 use Rattle.row_changes.specs.Fresh.{Fresh, fresh_of, row_with, one_fresh, more_fresh, gone_edit, left_edits}
 use Rattle.row_changes.proofs.Groups.{all_kept, each_there}

@@ -29,9 +29,9 @@ use Rattle.acl_rows.specs.declared.row.RowKey.{RowKey}
 use Rattle.acl_rows.specs.Rows.{numbered, entry_at, member_keys}
 use Rattle.acl_rows.proofs.Lists.{all_flat_map}
 use Rattle.acl_rows.proofs.Sound.{numbered_sound}
-use Rattle.acl_patch.specs.Touched.{row_key, entry_touch, side_touches, holder_touches}
-use Rattle.key_index.specs.declared.group.EntrySpot.{EntrySpot}
-use Rattle.key_index.specs.Spots.{is_keyed, spot, spot_if, entry_spots, side_spots, policy_spots}
+use Rattle.row_changes.specs.Touched.{row_key, entry_touch, side_touches, holder_touches}
+use Rattle.row_changes.specs.declared.group.EntrySpot.{EntrySpot}
+use Rattle.row_changes.specs.Spots.{is_keyed, spot, spot_if, entry_spots, side_spots, policy_spots}
 
 -- ---- A key and its place
 

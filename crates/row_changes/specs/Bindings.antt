@@ -5,7 +5,7 @@ use Rattle.acl_model.specs.Places.{binding_place}
 use Rattle.acl_model.specs.Changes.{replaced}
 use Rattle.row_edits.specs.declared.edit.Edit.{Edit}
 use Rattle.row_edits.specs.Edits.{edit, edited}
-use Rattle.binding_shelves.specs.Shelves.{index_by_key, AreFoundByKey}
+use Rattle.acl_shelves.specs.BindingShelves.{index_by_key, AreFoundByKey}
 
 -- the edit of a binding that comes or goes, among these
 unfoldable pub binding_edit : List Binding → Bool → Binding → Edit Binding

@@ -14,7 +14,7 @@ use Rattle.acl_rows.specs.declared.row.Owner.TheVariants.{Url}
 use Rattle.acl_rows.specs.declared.row.Row.{Row}
 use Rattle.acl_rows.specs.declared.row.RowKey.{RowKey}
 use Rattle.acl_rows.specs.Rows.{Slots, rows_of}
-use Rattle.acl_patch.specs.Touched.{holder_touches, with_edit, with_edits}
+use Rattle.row_changes.specs.Touched.{holder_touches, with_edit, with_edits}
 
 pub record ChangeState : Type 0 where
   pub slots : Slots

@@ -16,8 +16,8 @@ use Rattle.acl_rows.specs.declared.row.RowKey.{RowKey}
 use Rattle.acl_rows.specs.Places.{row_place}
 use Rattle.acl_rows.specs.ByAddress.{rows_of_peer, index_beside}
 use Rattle.acl_rows.specs.Rows.{Slots, Holder, row, held_by, numbered, entry_at}
-use Rattle.acl_patch.specs.Touched.{key_end, with_edit}
-use Rattle.acl_patch.specs.PolicyTouched.{entry_touches}
+use Rattle.row_changes.specs.Touched.{key_end, with_edit}
+use Rattle.row_changes.specs.PolicyTouched.{entry_touches}
 
 -- ---- New rows
 

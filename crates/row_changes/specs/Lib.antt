@@ -1,6 +1,11 @@
-pub mod Keys
-pub mod Change
 pub mod Bindings
-pub mod Policies
+pub mod Change
+pub mod EntryKeys
 pub mod Fresh
+pub mod Keys
+pub mod Patch
+pub mod Policies
+pub mod PolicyTouched
+pub mod Spots
 pub mod Steps
+pub mod Touched

@@ -8,8 +8,8 @@ use Rattle.acl_rows.specs.declared.row.Owner.{Owner}
 use Rattle.acl_rows.specs.Rows.{Slots, Holder, held_by}
 use Rattle.acl_rows.specs.View.{wide_from}
 use Rattle.mud_url.specs.Url.{host_of}
-use Rattle.key_index.specs.declared.group.KeyEntries.{KeyEntries}
-use Rattle.key_index.specs.Spots.{policy_spots, spots_in}
+use Rattle.row_changes.specs.declared.group.KeyEntries.{KeyEntries}
+use Rattle.row_changes.specs.Spots.{policy_spots, spots_in}
 
 -- the entries of each side can be counted
 abbrev pub HasCounts : Policy → Type 0

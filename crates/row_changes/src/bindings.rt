@@ -7,7 +7,7 @@ ghost use Rattle.row_edits.specs.Edits.{edit_place};
 ghost use Rattle.row_changes.specs.Bindings.{binding_edit, AreEditsOf};
 
 use acl_model::Binding;
-use binding_shelves::BindingShelves;
+use acl_shelves::BindingShelves;
 use mud_base::Memory;
 use row_edits::{Edit, plan_edit};
 use sorted_rows::{SortedRows, Steps};

@@ -13,24 +13,23 @@ ghost use Rattle.row_edits.specs.Edits.{edited, row_after};
 ghost use Rattle.acl_rows.specs.Places.{row_place, row_key_place};
 ghost use Rattle.acl_rows.specs.ByAddress.{index_beside};
 ghost use Rattle.acl_rows.specs.Rows as spec;
-ghost use Rattle.acl_patch.specs.Patch.{IsPatch};
-ghost use Rattle.acl_patch.specs.Touched.{changed_edits, row_key};
-ghost use Rattle.key_index.specs.Spots.{policy_spots};
-ghost use Rattle.acl_patch.specs.Touched as touched;
+ghost use Rattle.row_changes.specs.Patch.{IsPatch};
+ghost use Rattle.row_changes.specs.Touched.{changed_edits, row_key};
+ghost use Rattle.row_changes.specs.Spots.{policy_spots};
+ghost use Rattle.row_changes.specs.Touched as touched;
 ghost use Rattle.row_changes.specs.Keys.{place_of_text};
 ghost use Rattle.row_changes.specs.Change.{end_in, met_end, end_of_row, after, more_edits, slot_touches, change_state};
 ghost use Rattle.row_changes.specs.Steps.{key_steps, least_step, least_steps, EntriesFit, HolderFits};
 ghost use Rattle.row_changes.specs.Policies.{HasCounts, AllHeld};
 
 use crate::policies::{Held, HeldDefaults};
+use crate::{EntrySpot, KeyIndex, selector_key};
 use acl_model::{Binding, BoundKey, Entry, MemberKey, Policy, Selector, is_in_family};
 use acl_rows::{FoundRow, Owner, PackedAddr, Row, RowKey};
-use binding_shelves::BindingShelves;
-use key_index::{EntrySpot, KeyIndex, selector_key};
+use acl_shelves::{BindingShelves, RowShelves};
 use mud_base::{Addr, Direction, End, Memory};
 use mud_url::MudUrl;
 use row_edits::{Edit, plan_edit};
-use row_shelves::RowShelves;
 use sorted_rows::{KeyOf, SortedRows, Steps};
 use std::alloc::Global;
 use std::cmp::Ordering;
@@ -308,7 +307,7 @@ impl<'a> Change<'a> {
     }
 
     /// The edits at the address of a binding that goes or comes, of each entry that has its key.
-    #[tactic(auto, unfolding(acl_patch::specs::Touched::binding_touches))]
+    #[tactic(auto, unfolding(crate::specs::Touched::binding_touches))]
     fn binding_edits<L: Ledger>(
         &self,
         binding: &Binding,
@@ -510,7 +509,7 @@ pub(crate) fn row_until(key: RowKey, until: End) -> Row
 
 /// Plans that the row of this key, which was looked for, has the new end, or that it goes where there
 /// is none: where that changes it.
-#[tactic(auto, unfolding(acl_patch::specs::Touched::changed_edits, acl_patch::specs::Touched::same_end, acl_patch::specs::Touched::edit_of))]
+#[tactic(auto, unfolding(crate::specs::Touched::changed_edits, crate::specs::Touched::same_end, crate::specs::Touched::edit_of))]
 fn plan_found(
     edits: &mut SortedRows<Edit<Row>>,
     key: RowKey,

@@ -5,8 +5,8 @@ ghost use Rattle.sorted_rows.specs.Placed.{set_row, PlacesAscend};
 ghost use Rattle.acl_rows.specs.declared.row.Row.{Row as RowValue};
 ghost use Rattle.acl_rows.specs.Places.{row_place};
 ghost use Rattle.acl_rows.specs.Rows.{Slots, row, held_by, entry_at, member_keys};
-ghost use Rattle.acl_patch.specs.Touched.{row_key, key_end};
-ghost use Rattle.acl_patch.specs.PolicyTouched.{bound_key, entry_touches, side_policy_touches, new_touches};
+ghost use Rattle.row_changes.specs.Touched.{row_key, key_end};
+ghost use Rattle.row_changes.specs.PolicyTouched.{bound_key, entry_touches, side_policy_touches, new_touches};
 ghost use Rattle.row_changes.specs.Policies.{HasCounts};
 ghost use Rattle.row_changes.specs.Steps.{EntriesFit, HolderFits};
 ghost use Rattle.row_changes.specs.Fresh.{fresh_of, one_fresh, more_fresh, joined, membered_count, policy_count, entries_touches, ArePlanned, StandFrom, AreOfPeer, left_edits, AreSorted};
@@ -141,7 +141,7 @@ impl<'a> Change<'a> {
     }
 
     /// The rows of an entry: at the addresses of the bindings of its first key. Each of these is read.
-    #[tactic(auto, unfolding(acl_patch::specs::PolicyTouched::entry_touches))]
+    #[tactic(auto, unfolding(crate::specs::PolicyTouched::entry_touches))]
     fn entry_fresh<L: Ledger>(
         &self,
         alloc: Global,
@@ -211,7 +211,7 @@ impl<'a> Change<'a> {
     }
 
     /// The rows of the entries of one side.
-    #[tactic(auto, unfolding(acl_patch::specs::PolicyTouched::side_policy_touches))]
+    #[tactic(auto, unfolding(crate::specs::PolicyTouched::side_policy_touches))]
     fn side_fresh<L: Ledger>(
         &self,
         alloc: Global,

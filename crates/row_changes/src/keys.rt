@@ -3,11 +3,11 @@ ghost use Rattle.std.specs.Prelude.{◌≡◌};
 ghost use Rattle.std.specs.Option.{option_map};
 ghost use Rattle.mud_url.specs.Url.{host_of};
 ghost use Rattle.acl_rows.specs.Rows.{member_keys};
-ghost use Rattle.key_index.specs.Keys.{key_parts};
+ghost use Rattle.row_changes.specs.EntryKeys.{key_parts};
 ghost use Rattle.row_changes.specs.Fresh.{first_of};
 
+use crate::selector_key;
 use acl_model::{Entry, KeyText};
-use key_index::selector_key;
 
 /// The key of the entry's first member selector, in the file of the URL with this text and host;
 /// None where the entry has none.

@@ -6,12 +6,12 @@ ghost use Rattle.acl_rows.specs.View.{wide_from, IsPartOf};
 ghost use Rattle.mud_url.specs.Url.{host_of};
 ghost use Rattle.row_changes.specs.Policies.{HasCounts, IsIndexOf};
 
+use crate::KeyIndex;
 use acl_model::{DefaultRule, Entry, Policy, default_entry};
 use acl_rows::{Owner, RulePart};
-use key_index::KeyIndex;
+use acl_shelves::RowShelves;
 use mud_base::{Direction, Listed, Memory};
 use mud_url::MudUrl;
-use row_shelves::RowShelves;
 use std::alloc::Global;
 use std::marker::Model;
 

@@ -3,8 +3,8 @@ use acl_model::{DefaultRule, Ruling, Why};
 use frame_view::Part;
 use mud_base::Bytes;
 use packet_judge::Verdict;
+use reply_lines::append_verdict;
 use std::test::Fail;
-use verdict_lines::append_verdict;
 
 const VERDICTS: [(Verdict, &str); 10] = [
     (Verdict::Unmanaged, "pass unmanaged"),

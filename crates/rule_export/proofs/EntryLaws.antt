@@ -41,9 +41,9 @@ use Rattle.mud_tables.specs.Ends.{is_live}
 use Rattle.mud_tables.specs.Bindings.{members_met, matches_by_bindings}
 use Rattle.packet_judge.proofs.LiveBindings.{live_end, entry_alike}
 use Rattle.packet_judge.proofs.FirstRow.{under_at}
-use Rattle.near_networks.specs.Networks.{is_near, has_near, near_networks}
-use Rattle.near_networks.proofs.ChoiceLaws.{any_alike}
-use Rattle.near_networks.proofs.NetworkLaws.{any-in_order, networks_hold}
+use Rattle.rule_export.specs.Networks.{is_near, has_near, near_networks}
+use Rattle.rule_export.proofs.ChoiceLaws.{any_alike}
+use Rattle.rule_export.proofs.NetworkLaws.{any-in_order, networks_hold}
 use Rattle.rule_export.specs.declared.item.RuleNumber.{RuleNumber}
 use Rattle.rule_export.specs.declared.item.Resolved.{Resolved}
 use Rattle.rule_export.specs.Resolved.{Wanted, covers, is_wanted, host_network, wanted_networks, member_networks, entry_networks, items_from, entry_items}

@@ -15,7 +15,7 @@ use Rattle.acl_rows.specs.Rows.{numbered}
 use Rattle.rule_export.specs.declared.item.RuleNumber.{RuleNumber}
 use Rattle.rule_export.specs.declared.item.Resolved.{Resolved}
 use Rattle.rule_export.specs.Resolved.{Wanted, covers, is_wanted, host_network, wanted_networks, entry_networks, items_from, entry_items}
-use Rattle.near_networks.proofs.NetworkLaws.{put-append, put}
+use Rattle.rule_export.proofs.NetworkLaws.{put-append, put}
 
 whole : (n : ℕ) → n / 1 * 1 ≡ n
 whole n = let e : n / 1 ≡ n = div-one n in omega arith

@@ -1,3 +1,7 @@
+pub mod Flags
+pub mod Networks
+pub mod Objects
 pub mod Resolved
 pub mod Ruling
+pub mod Tests
 pub mod Text

@@ -6,7 +6,7 @@ use Rattle.mud_base.specs.declared.addr.Family.{Family}
 use Rattle.acl_model.specs.declared.ruling.DefaultRule.TheVariants.{Dns, Ntp}
 use Rattle.acl_model.specs.declared.entry.Entry.{Entry}
 use Rattle.acl_rows.specs.View.{View}
-use Rattle.entry_text.specs.Tests.{entry_text}
+use Rattle.rule_export.specs.Tests.{entry_text}
 use Rattle.rule_export.specs.declared.item.RuleNumber.{RuleNumber}
 use Rattle.rule_export.specs.declared.item.RuleNumber.TheVariants as rule
 use Rattle.rule_export.specs.declared.item.Resolved.{Resolved}

@@ -3,14 +3,14 @@ ghost use Rattle.std.specs.Prelude.{◌≡◌, ℕ, ◌+◌, ◌≤◌, length, 
 ghost use Rattle.sorted_rows.specs.Placed.{set_rows};
 ghost use Rattle.sorted_rows.specs.Addresses.{prefix_place};
 ghost use Rattle.acl_rows.specs.ByAddress.{grouped};
-ghost use Rattle.near_networks.specs.Networks.{rows_in};
+ghost use Rattle.rule_export.specs.Networks.{rows_in};
 ghost use Rattle.rule_export.specs.Resolved as spec;
 
 use crate::item::{Resolved, RuleNumber};
+use crate::near_networks;
 use acl_model::{DefaultRule, Entry, is_in_family, near_matches};
 use acl_rows::{Row, RulePart, RuleView};
 use mud_base::{Addr, Family, Listed, Memory, Moment, Prefix};
-use near_networks::near_networks;
 use sorted_rows::{SortedRows, Steps};
 use std::alloc::Global;
 use std::collections::BTreeMap;
@@ -112,7 +112,7 @@ fn put_groups(
 }
 
 /// The networks of an entry with member selectors: the addresses of its rows.
-#[tactic(auto, unfolding(crate::specs::Resolved::member_networks, near_networks::specs::Networks::in_order))]
+#[tactic(auto, unfolding(crate::specs::Resolved::member_networks, crate::specs::Networks::in_order))]
 fn member_networks(
     alloc: Global,
     w: &Wants<'_>,
@@ -162,7 +162,7 @@ fn push_items(
 }
 
 /// Adds the items of an entry.
-#[tactic(auto, unfolding(crate::specs::Resolved::entry_items, crate::specs::Resolved::entry_networks, crate::specs::Resolved::items_from, near_networks::specs::Networks::asked_networks))]
+#[tactic(auto, unfolding(crate::specs::Resolved::entry_items, crate::specs::Resolved::entry_networks, crate::specs::Resolved::items_from, crate::specs::Networks::asked_networks))]
 fn push_entry(
     alloc: Global,
     list: &mut Listed<Resolved>,

@@ -2,11 +2,11 @@
 ghost use Rattle.std.specs.Prelude.{◌≡◌, ◌++◌, OnOk, IfOk};
 ghost use Rattle.rule_export.specs.Text as spec;
 
+use crate::append_entry;
 use crate::item::{Resolved, RuleNumber};
 use crate::ruling::entry_of;
 use acl_model::DefaultRule;
 use acl_rows::RuleView;
-use entry_text::append_entry;
 use mud_base::{Bytes, Family, Memory};
 use std::alloc::Global;
 use text_lines::append_decimal;

@@ -3,11 +3,11 @@ use Rattle.std.proofs.Common.{◌≡◌, ℕ, ◌+◌, List, [], ◌∷◌, ◌+
 use Rattle.std.specs.Prelude.{option_map}
 use Rattle.mud_world.specs.Causes.{RoseBy}
 use Rattle.mud_world.specs.Door.{DoorState, with_left, put_out}
-use Rattle.packet_buffer.specs.Packets.{Packet}
-use Rattle.capture_source.specs.Captures.{Captures, captured_of}
-use Rattle.capture_source.specs.Same.{Seen, seen_of, HoldTheSame}
-use Rattle.capture_source.specs.declared.fault.CaptureFault.{CaptureFault}
-use Rattle.capture_source.proofs.Numbered.{IsNumbered, numbered}
+use Rattle.octet_buffer.specs.Packets.{Packet}
+use Rattle.capture_runs.specs.Captures.{Captures, captured_of}
+use Rattle.capture_runs.specs.Same.{Seen, seen_of, HoldTheSame}
+use Rattle.capture_runs.specs.declared.fault.CaptureFault.{CaptureFault}
+use Rattle.capture_runs.proofs.Numbered.{IsNumbered, numbered}
 use Rattle.capture_runs.specs.Capture.{end_line, status_at}
 use Rattle.capture_runs.proofs.SamePackets.{first_same, rest_same}
 use Rattle.command_runs.specs.Due.{WritesDue}

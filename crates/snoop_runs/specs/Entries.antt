@@ -1,7 +1,7 @@
 -- What is made of each packet of a capture: its verdict, what names are learnt from it, and what is replied to each observation.
 use Rattle.std.specs.Prelude.{◌≢◌, ℕ, ◌+◌, nat_lt, if◌then◌else◌, List, [], ◌∷◌, ◌++◌, map, Option, Some, None, Result, Ok, Err}
 use Rattle.mud_base.specs.declared.addr.Addr.{Addr}
-use Rattle.packet_buffer.specs.Packets.{Packet}
+use Rattle.octet_buffer.specs.Packets.{Packet}
 use Rattle.packet_judge.specs.declared.verdict.Verdict.{Verdict}
 use Rattle.desk_model.specs.declared.command.Command.{Command}
 use Rattle.desk_model.specs.declared.command.Command.TheVariants.{Observe}

@@ -1,7 +1,7 @@
 -- What packets lead to, one after the other, in a session.
 use Rattle.std.specs.Prelude.{◌≡◌, ℕ, nat_lt, Bool, List, [], ◌∷◌, ◌++◌, length, take, option_map}
 use Rattle.mud_world.specs.Causes.{RoseBy}
-use Rattle.packet_buffer.specs.Packets.{Packet}
+use Rattle.octet_buffer.specs.Packets.{Packet}
 use Rattle.desk_model.specs.Sessions.{Session, Judged, Runs}
 use Rattle.desk_runs.specs.Judged.{IsIn, judged_packet}
 use Rattle.dns_snoop.specs.Messages.{answers_of}

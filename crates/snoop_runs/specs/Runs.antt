@@ -2,9 +2,9 @@
 use Rattle.std.specs.Prelude.{◌≡◌, ℕ, List, [], ◌∷◌, ◌++◌, Option}
 use Rattle.mud_world.specs.Causes.{RoseBy}
 use Rattle.mud_world.specs.Door.{DoorState}
-use Rattle.packet_buffer.specs.Packets.{Packet}
-use Rattle.capture_source.specs.Captures.{captured_of}
-use Rattle.capture_source.specs.declared.fault.CaptureFault.{CaptureFault}
+use Rattle.octet_buffer.specs.Packets.{Packet}
+use Rattle.capture_runs.specs.Captures.{captured_of}
+use Rattle.capture_runs.specs.declared.fault.CaptureFault.{CaptureFault}
 use Rattle.capture_runs.specs.Capture.{end_line, status_at}
 use Rattle.capture_runs.specs.Runs.{WroteTaken}
 use Rattle.command_runs.specs.Due.{Due, WritesDue, WritesPart}

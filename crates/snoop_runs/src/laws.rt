@@ -1,7 +1,7 @@
 //! A law of what `snoop` does, on a function that does nothing.
 ghost use Rattle.std.specs.Prelude.{ℕ, List, []};
 ghost use Rattle.mud_world.specs.Door.{DoorState, with_left};
-ghost use Rattle.capture_source.specs.Same.{HoldTheSame};
+ghost use Rattle.capture_runs.specs.Same.{HoldTheSame};
 ghost use Rattle.desk_model.specs.Sessions.{Session};
 ghost use Rattle.snoop_runs.specs.Runs.{scene, SnoopsAll};
 

@@ -10,6 +10,8 @@ pub mod EndRows
 pub mod KeptClasses
 pub mod LeaseChanges
 pub mod LeaseStep
+pub mod OldRows
+pub mod Places
 pub mod RowChanges
 pub mod SoundClasses
 pub mod SoundLocals

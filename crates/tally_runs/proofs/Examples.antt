@@ -7,8 +7,8 @@ use Rattle.acl_model.specs.Match.{peer_of}
 use Rattle.packet_judge.specs.Verdicts.{accepts, forwarded}
 use Rattle.sorted_rows.specs.Addresses.{addr_place}
 use Rattle.text_lines.specs.Numbers.{number_text}
-use Rattle.verdict_lines.specs.Verdicts.{default_name, why_name, ruling_text}
-use Rattle.counted_rows.specs.Counted.{count_of, numbered, count_rows, firsts, is_of, those_of, kept_of, is_kept, is_first, first_rows, others_of, late_rows}
+use Rattle.reply_lines.specs.Verdicts.{default_name, why_name, ruling_text}
+use Rattle.drop_ledger.specs.Counted.{count_of, numbered, count_rows, firsts, is_of, those_of, kept_of, is_kept, is_first, first_rows, others_of, late_rows}
 use Rattle.drop_ledger.specs.Places.{six, side_number, thing_place, ruling_class, entry_number, ruling_place, port_number, peer_place, place_of_count, place_of_denied, place_of_other, with_count, with_denied, with_other}
 use Rattle.drop_ledger.specs.Seen.{hour_of, mac_on, ruling_on, ruled_on, rulings_in, rulings, is_unmanaged, is_link, is_unreadable, is_governed, has_both, passes, drops, verdicts, totals_in}
 use Rattle.drop_ledger.specs.Ledger.{count_row, counts_of, port_of, peer_row, row_with, row_by, denied_row, denials, other_row}

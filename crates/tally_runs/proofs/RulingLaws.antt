@@ -10,12 +10,12 @@ use Rattle.mud_tables.specs.declared.thing.Thing.{Thing}
 use Rattle.frame_view.specs.declared.views.Frame.{Frame}
 use Rattle.frame_view.specs.declared.views.Frame.TheVariants as frame
 use Rattle.frame_view.specs.Frame.{frame_of}
-use Rattle.packet_buffer.specs.Packets.{Packet}
+use Rattle.octet_buffer.specs.Packets.{Packet}
 use Rattle.acl_model.specs.declared.ruling.Ruling.{Ruling}
 use Rattle.packet_judge.specs.declared.verdict.Verdict.{Verdict}
 use Rattle.packet_judge.specs.declared.verdict.Verdict.TheVariants.{Unmanaged, Link, Unreadable, Governed}
 use Rattle.packet_judge.specs.Verdicts.{Rulings, Ends, ends_of, end_ruling, governed, is_managed, if_managed, verdict_on, verdict_of}
-use Rattle.counted_rows.specs.Counted.{total}
+use Rattle.drop_ledger.specs.Counted.{total}
 use Rattle.desk_model.specs.Verdicts.{verdict_at}
 use Rattle.desk_model.specs.Sessions.{Session, frame_in, judged, verdict_in}
 use Rattle.desk_runs.specs.Judged.{judged_packet}

@@ -1,10 +1,10 @@
 -- Captures that hold the same packets are counted alike.
 use Rattle.std.proofs.Common.{◌≡◌, ℕ, List, [], ◌∷◌, map, Option, refl, sym, ap, ap₂, ◌∙◌}
 use Rattle.frame_view.specs.Frame.{frame_of}
-use Rattle.packet_buffer.specs.Packets.{Packet}
-use Rattle.capture_source.specs.Captures.{captured_of}
-use Rattle.capture_source.specs.Same.{HoldTheSame, Seen as Held, seen_of as held_of}
-use Rattle.capture_source.specs.declared.fault.CaptureFault.{CaptureFault}
+use Rattle.octet_buffer.specs.Packets.{Packet}
+use Rattle.capture_runs.specs.Captures.{captured_of}
+use Rattle.capture_runs.specs.Same.{HoldTheSame, Seen as Held, seen_of as held_of}
+use Rattle.capture_runs.specs.declared.fault.CaptureFault.{CaptureFault}
 use Rattle.capture_runs.specs.Capture.{due_behind}
 use Rattle.desk_model.specs.Sessions.{Session, frame_in}
 use Rattle.drop_ledger.specs.declared.seen.Seen.{Seen}

@@ -11,7 +11,7 @@ use Rattle.frame_view.specs.declared.views.Frame.{Frame}
 use Rattle.frame_view.specs.declared.views.Frame.TheVariants as frame
 use Rattle.frame_view.specs.Frame.{frame_of}
 use Rattle.packet_judge.specs.declared.verdict.Verdict.{Verdict}
-use Rattle.packet_buffer.specs.Packets.{Packet}
+use Rattle.octet_buffer.specs.Packets.{Packet}
 use Rattle.capture_runs.specs.Fold.{lines_from, state_after}
 use Rattle.desk_model.specs.Sessions.{Session, Judged, frame_in, judged, later}
 use Rattle.desk_runs.specs.Judged.{judged_packet}

@@ -4,7 +4,7 @@ use Rattle.std.specs.declared.dyn_box.DynBox.{DynBox}
 use Rattle.std.specs.declared.alloc.Global.{Global}
 use Rattle.mud_world.specs.declared.keeper.Keeper.{Ghosts}
 use Rattle.mud_world.specs.Door.{DoorState}
-use Rattle.capture_source.specs.Captures.{captured_of}
+use Rattle.capture_runs.specs.Captures.{captured_of}
 use Rattle.capture_runs.specs.Capture.{WritesTaken, due_behind}
 use Rattle.command_runs.specs.Due.{Due}
 use Rattle.mud_world.specs.View.{DoorView}

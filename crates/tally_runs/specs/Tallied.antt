@@ -5,9 +5,9 @@ use Rattle.frame_view.specs.declared.views.Frame.{Frame}
 use Rattle.frame_view.specs.declared.views.Frame.TheVariants as frame
 use Rattle.frame_view.specs.Ethernet.{destination_of, source_of}
 use Rattle.frame_view.specs.Frame.{frame_of}
-use Rattle.packet_buffer.specs.Packets.{Packet}
+use Rattle.octet_buffer.specs.Packets.{Packet}
 use Rattle.packet_judge.specs.declared.verdict.Verdict.{Verdict}
-use Rattle.counted_rows.specs.Counted.{first_rows, late_rows}
+use Rattle.drop_ledger.specs.Counted.{first_rows, late_rows}
 use Rattle.capture_runs.specs.Fold.{LineStep}
 use Rattle.desk_model.specs.Sessions.{Session, Judged}
 use Rattle.mud_desk.specs.DeskState.{DeskState}

@@ -1,15 +1,15 @@
 //! Laws of a tally, each on a function that does nothing.
 ghost use Rattle.std.specs.Prelude.{◌≡◌, ℕ, ◌+◌, ◌++◌, List};
-ghost use Rattle.capture_source.specs.Same.{HoldTheSame};
+ghost use Rattle.capture_runs.specs.Same.{HoldTheSame};
 ghost use Rattle.capture_runs.specs.Fold.{lines_from, state_after};
 ghost use Rattle.desk_model.specs.Sessions.{Session};
-ghost use Rattle.counted_rows.specs.Counted.{first_rows, late_rows, total};
+ghost use Rattle.drop_ledger.specs.Counted.{first_rows, late_rows, total};
 ghost use Rattle.drop_ledger.specs.Places.{count_of_row};
 ghost use Rattle.drop_ledger.specs.Seen.{AreSums, rulings, totals_in};
 ghost use Rattle.drop_ledger.specs.Ledger.{counts_of, denials, denied_kinds, denied_times, no_match, times_of};
 ghost use Rattle.mud_base.specs.declared.addr.Mac.{Mac};
 ghost use Rattle.mud_base.specs.declared.packet.Direction.{Direction};
-ghost use Rattle.packet_buffer.specs.Packets.{Packet};
+ghost use Rattle.octet_buffer.specs.Packets.{Packet};
 ghost use Rattle.tally_runs.specs.Store.{due_of_tally};
 ghost use Rattle.tally_runs.specs.Tallied.{begun, hours, in_hour, seen_in, tally_ending, tally_step, tally_text};
 

@@ -4,9 +4,9 @@ ghost use Rattle.tally_runs.specs.Texts as spec;
 
 use drop_ledger::{CountRow, DeniedRow, OtherRow, Totals};
 use mud_base::{Bytes, Direction, Mac, Memory};
+use reply_lines::append_ruling;
 use std::alloc::Global;
 use text_lines::{append_addr, append_mac, append_number};
-use verdict_lines::append_ruling;
 
 /// The name of a side, behind a space.
 #[tactic(auto, unfolding(crate::specs::Texts::side_name))]

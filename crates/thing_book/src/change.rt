@@ -6,7 +6,6 @@ ghost use Rattle.thing_book.specs.Changes.{HasFewLeases, change_of};
 use crate::items::puts_of;
 use crate::plan::Plan;
 use acl_model::Binding;
-use binding_changes::changed_bindings;
 use item_codec::Word;
 use mud_base::{End, Listed, Mac, Memory};
 use mud_tables::Thing;
@@ -15,6 +14,7 @@ use sorted_rows::{Change, SortedRows};
 use std::alloc::Global;
 use std::marker::Model;
 use std::mem;
+use table_laws::changed_bindings;
 
 /// A planned change of the Things: what its command answers, and what it will do. Contracts see it
 /// as the record of these.

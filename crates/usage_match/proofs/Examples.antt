@@ -15,7 +15,7 @@ use Rattle.serde_json.specs.Data.{Data, null, string}
 use Rattle.usage_walk.specs.declared.fault.Broken.{Broken}
 use Rattle.usage_walk.specs.declared.fault.Rule.{Rule}
 use Rattle.usage_walk.specs.declared.fault.Rule.TheVariants as rule
-use Rattle.reading.specs.Reading.{answer}
+use Rattle.mud_base.specs.Readings.{answer}
 use Rattle.usage_walk.specs.Reading.{fault_at}
 use Rattle.usage_walk.proofs.Written.{num, list, obj}
 use Rattle.usage_match.specs.declared.entry_tests.ListType.{ListType}

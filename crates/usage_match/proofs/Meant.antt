@@ -1,7 +1,7 @@
 -- What a text of a member means, where it is there: the answers of its reading.
 use Rattle.std.proofs.Common.{◌≡◌, ℕ, List, Option, None, Some, Ok, Err, refl, ◌∙◌}
-use Rattle.reading.specs.Reading.{answer, where_there, and_then, wanted}
-use Rattle.reading.proofs.Readings.{answer_bind, answer_absent, answer_there, answer_wanted, answer_unwanted}
+use Rattle.mud_base.specs.Readings.{answer, where_there, and_then, wanted}
+use Rattle.mud_base.proofs.Readings.{answer_bind, answer_absent, answer_there, answer_wanted, answer_unwanted}
 use Rattle.serde_json.specs.Data.{Data}
 use Rattle.usage_walk.specs.declared.fault.Broken.{Broken}
 use Rattle.usage_walk.specs.declared.fault.Rule.{Rule}

@@ -10,7 +10,7 @@ use Rattle.usage_walk.specs.declared.fault.Rule.TheVariants as rule
 use Rattle.usage_walk.specs.declared.member.Member.{Member}
 use Rattle.usage_walk.specs.declared.member.Member.TheVariants as members
 use Rattle.usage_walk.specs.declared.row.Row.{Row}
-use Rattle.reading.specs.Reading.{done, ◌>>=◌, refused_where}
+use Rattle.mud_base.specs.Readings.{done, ◌>>=◌, refused_where}
 use Rattle.usage_walk.specs.Reading.{Reading, under, fault_at}
 use Rattle.usage_walk.specs.Kinds.{leaf_where_there}
 use Rattle.usage_walk.specs.Tables.{Ways, row, container_at}

@@ -12,7 +12,7 @@ use Rattle.usage_walk.specs.declared.fault.Rule.TheVariants as rule
 use Rattle.usage_walk.specs.declared.member.Member.{Member}
 use Rattle.usage_walk.specs.declared.member.Member.TheVariants as members
 use Rattle.usage_walk.specs.declared.row.Row.{Row}
-use Rattle.reading.specs.Reading.{done, ◌>>=◌, refused_where, where_there}
+use Rattle.mud_base.specs.Readings.{done, ◌>>=◌, refused_where, where_there}
 use Rattle.usage_walk.specs.Reading.{Reading, under, fault_at}
 use Rattle.usage_walk.specs.Kinds.{object_where_there}
 use Rattle.usage_walk.specs.Others.{all_known}

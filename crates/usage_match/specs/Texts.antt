@@ -16,7 +16,7 @@ use Rattle.usage_walk.specs.declared.fault.Rule.{Rule}
 use Rattle.usage_walk.specs.declared.fault.Rule.TheVariants as rule
 use Rattle.usage_walk.specs.declared.fault.Broken.{Broken}
 use Rattle.usage_walk.specs.declared.member.Member.{Member}
-use Rattle.reading.specs.Reading.{done, ◌>>=◌, wanted, refused_where, where_there}
+use Rattle.mud_base.specs.Readings.{done, ◌>>=◌, wanted, refused_where, where_there}
 use Rattle.usage_walk.specs.Reading.{Reading, under, fault_at}
 use Rattle.usage_walk.specs.Kinds.{number_where_there, text_where_there}
 use Rattle.usage_match.specs.declared.entry_tests.ListType.{ListType}

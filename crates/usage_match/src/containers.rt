@@ -1,7 +1,7 @@
 //! The containers inside `matches`. Each is an object that is read by its table.
 ghost use Rattle.std.specs.Prelude.{◌≡◌, Some};
 ghost use Rattle.serde_json.specs.View.{view};
-ghost use Rattle.reading.specs.Reading.{Gives};
+ghost use Rattle.mud_base.specs.Readings.{Gives};
 ghost use Rattle.usage_walk.specs.Kinds.{leaf_where_there};
 ghost use Rattle.usage_match.specs.Containers as spec;
 
@@ -49,7 +49,7 @@ impl Reads for MudWay {
 
     ghost reading = { mud_ways };
 
-    #[tactic(auto, unfolding(crate::specs::Containers::mud_ways), using(reading::proofs::Readings::answer_bind, reading::proofs::Readings::answer_done))]
+    #[tactic(auto, unfolding(crate::specs::Containers::mud_ways), using(mud_base::proofs::Readings::answer_bind, mud_base::proofs::Readings::answer_done))]
     fn read(self, spot: Spot<'_>, so_far: &mut MudTests) -> Result<(), FileFault> {
         match self {
             MudWay::Manufacturer => so_far.manufacturer = host_where_there(spot)?,
@@ -79,7 +79,7 @@ pub(crate) fn no_mud_tests() -> MudTests
 }
 
 /// What `ietf-mud:mud` asks of the peer (RFC 8520, 4). Where there is none, it asks nothing.
-#[tactic(auto, unfolding(crate::specs::Containers::mud_at), using(reading::proofs::Readings::answer_bind, reading::proofs::Readings::answer_done))]
+#[tactic(auto, unfolding(crate::specs::Containers::mud_at), using(mud_base::proofs::Readings::answer_bind, mud_base::proofs::Readings::answer_done))]
 pub(crate) fn mud_at(spot: Spot<'_>) -> Result<MudTests, FileFault>
     ensures { Gives (λ t. t) result (spec.mud_at spot.entry.path.now spot.entry.member (view spot.entry.object.now)) }
 {
@@ -143,7 +143,7 @@ fn ip_rows(list_type: ListType, side: Direction) -> [Row<IpWay>; 9]
 
 /// The DNS name of a side of the packet, where it is there. It may not stand at the Thing's own
 /// side.
-#[tactic(auto, unfolding(crate::specs::Containers::name_where_there), using(reading::proofs::Readings::answer_bind))]
+#[tactic(auto, unfolding(crate::specs::Containers::name_where_there), using(mud_base::proofs::Readings::answer_bind))]
 fn name_where_there(spot: Spot<'_>, is_own: bool) -> Result<Option<Bytes>, FileFault>
     ensures { Gives (λ n. n) result (spec.name_where_there is_own spot.entry.path.now spot.entry.member (view spot.entry.object.now)) }
 {
@@ -159,7 +159,7 @@ impl Reads for IpWay {
 
     ghost reading = { ip_ways };
 
-    #[tactic(auto, unfolding(crate::specs::Containers::ip_ways), using(reading::proofs::Readings::answer_bind, reading::proofs::Readings::answer_done))]
+    #[tactic(auto, unfolding(crate::specs::Containers::ip_ways), using(mud_base::proofs::Readings::answer_bind, mud_base::proofs::Readings::answer_done))]
     fn read(self, spot: Spot<'_>, so_far: &mut IpTests) -> Result<(), FileFault> {
         match self {
             IpWay::Dscp => so_far.dscp = octet_where_there(spot, 63)?,
@@ -200,7 +200,7 @@ pub(crate) fn no_ip_tests() -> IpTests
 
 /// What `ipv4` or `ipv6` asks (RFC 8519, 4.2; RFC 8520, 8), in a list of a direction. Where there is
 /// none, it asks nothing.
-#[tactic(auto, unfolding(crate::specs::Containers::ip_at), using(reading::proofs::Readings::answer_bind, reading::proofs::Readings::answer_done))]
+#[tactic(auto, unfolding(crate::specs::Containers::ip_at), using(mud_base::proofs::Readings::answer_bind, mud_base::proofs::Readings::answer_done))]
 pub(crate) fn ip_at(
     spot: Spot<'_>,
     list_type: ListType,
@@ -289,7 +289,7 @@ impl Reads for LayerWay {
 
     ghost reading = { layer_ways };
 
-    #[tactic(auto, unfolding(crate::specs::Containers::layer_ways), using(reading::proofs::Readings::answer_bind, reading::proofs::Readings::answer_done))]
+    #[tactic(auto, unfolding(crate::specs::Containers::layer_ways), using(mud_base::proofs::Readings::answer_bind, mud_base::proofs::Readings::answer_done))]
     fn read(self, spot: Spot<'_>, so_far: &mut LayerTests) -> Result<(), FileFault> {
         match self {
             LayerWay::Source => so_far.source = port_where_there(spot)?,
@@ -343,7 +343,7 @@ fn layer_of(kind: LayerKind, tests: LayerTests) -> Layer
 }
 
 /// What `tcp`, `udp` or `icmp` asks (RFC 8519, 4.2; RFC 8520, 4.8), where it is there.
-#[tactic(auto, unfolding(crate::specs::Containers::layer_at), using(reading::proofs::Readings::answer_bind, reading::proofs::Readings::answer_done))]
+#[tactic(auto, unfolding(crate::specs::Containers::layer_at), using(mud_base::proofs::Readings::answer_bind, mud_base::proofs::Readings::answer_done))]
 pub(crate) fn layer_at(spot: Spot<'_>, kind: LayerKind) -> Result<Option<Layer>, FileFault>
     ensures { Gives (λ l. l) result (spec.layer_at kind spot.entry.path.now spot.entry.member (view spot.entry.object.now)) }
 {

@@ -1,7 +1,7 @@
 //! Texts that name flags of TCP (RFC 8519, 4.2, `flags`).
 ghost use Rattle.std.specs.Prelude.{◌≡◌, ◌≤◌};
 ghost use Rattle.serde_json.specs.View.{view};
-ghost use Rattle.reading.specs.Reading.{Gives};
+ghost use Rattle.mud_base.specs.Readings.{Gives};
 ghost use Rattle.usage_match.specs.Flags as spec;
 
 use crate::tcp_flag::TcpFlag;

@@ -2,7 +2,7 @@
 ghost use Rattle.std.specs.Prelude.{◌≡◌, ◌++◌, IfOk, OnOk};
 ghost use Rattle.std.specs.Option.{option_to_list};
 ghost use Rattle.serde_json.specs.View.{view};
-ghost use Rattle.reading.specs.Reading.{Gives};
+ghost use Rattle.mud_base.specs.Readings.{Gives};
 ghost use Rattle.usage_match.specs.Matches as spec;
 
 use crate::containers::{ip_at, layer_at, mud_at, no_ip_tests, no_mud_tests};
@@ -233,7 +233,7 @@ fn match_rows(list_type: ListType, side: Direction) -> [Row<MatchWay>; 6]
 
 /// Refuses members inside `matches` that don't fit: unknown ones, the container of the other IP
 /// version, and more than one layer.
-#[tactic(auto, unfolding(crate::specs::Matches::members_fit), using(reading::proofs::Readings::answer_bind))]
+#[tactic(auto, unfolding(crate::specs::Matches::members_fit), using(mud_base::proofs::Readings::answer_bind))]
 fn members_fit(
     alloc: Global,
     list_type: ListType,
@@ -256,7 +256,7 @@ impl Reads for MatchWay {
 
     ghost reading = { match_ways };
 
-    #[tactic(auto, unfolding(crate::specs::Matches::match_ways), using(reading::proofs::Readings::answer_bind, reading::proofs::Readings::answer_done))]
+    #[tactic(auto, unfolding(crate::specs::Matches::match_ways), using(mud_base::proofs::Readings::answer_bind, mud_base::proofs::Readings::answer_done))]
     fn read(self, spot: Spot<'_>, so_far: &mut MatchTests) -> Result<(), FileFault> {
         match self {
             MatchWay::Mud => so_far.mud = mud_at(spot)?,
@@ -284,7 +284,7 @@ fn no_match_tests() -> MatchTests
 }
 
 /// What the `matches` at this path test.
-#[tactic(auto, unfolding(crate::specs::Matches::matches_of), using(reading::proofs::Readings::answer_bind, reading::proofs::Readings::answer_done))]
+#[tactic(auto, unfolding(crate::specs::Matches::matches_of), using(mud_base::proofs::Readings::answer_bind, mud_base::proofs::Readings::answer_done))]
 fn matches_of(
     alloc: Global,
     list_type: ListType,
@@ -310,7 +310,7 @@ fn matches_of(
 /// codes 0 to 255, lengths and ports 0 to 65535; named flags are their sum. Names and the hosts of
 /// manufacturers come in lower case and without a trailing dot, a model as a canonical MUD URL. The
 /// selectors stand in the order in which they are read.
-#[tactic(auto, unfolding(crate::specs::Matches::tests_at), using(reading::proofs::Readings::answer_bind, reading::proofs::Readings::answer_done, reading::proofs::Readings::answer_absent, reading::proofs::Readings::answer_there))]
+#[tactic(auto, unfolding(crate::specs::Matches::tests_at), using(mud_base::proofs::Readings::answer_bind, mud_base::proofs::Readings::answer_done, mud_base::proofs::Readings::answer_absent, mud_base::proofs::Readings::answer_there))]
 pub fn tests_at(
     alloc: Global,
     list_type: ListType,

@@ -1,7 +1,7 @@
 //! The tests of ports (RFC 8519, 4.2): one port with an operator, or a range.
 ghost use Rattle.std.specs.Prelude.{◌≡◌};
 ghost use Rattle.serde_json.specs.View.{view};
-ghost use Rattle.reading.specs.Reading.{Gives};
+ghost use Rattle.mud_base.specs.Readings.{Gives};
 ghost use Rattle.usage_match.specs.Ports as spec;
 
 use crate::entry_tests::Operator;
@@ -52,7 +52,7 @@ fn names_range(object: &Value) -> bool
 }
 
 /// The ports from the lower to the upper one, which both have to be there, and in order.
-#[tactic(auto, unfolding(crate::specs::Ports::range_at), using(reading::proofs::Readings::answer_bind, reading::proofs::Readings::answer_done))]
+#[tactic(auto, unfolding(crate::specs::Ports::range_at), using(mud_base::proofs::Readings::answer_bind, mud_base::proofs::Readings::answer_done))]
 fn range_at(alloc: Global, object: &Value, path: &[u8]) -> Result<PortTest, FileFault>
     ensures { Gives (λ t. t) result (spec.range_at path.now (view object.now)) }
 {
@@ -78,7 +78,7 @@ fn test_of(operator: Operator, port: u16) -> PortTest
 }
 
 /// The test of one port, which has to be there. An absent operator is read as `eq`.
-#[tactic(auto, unfolding(crate::specs::Ports::single_at), using(reading::proofs::Readings::answer_bind, reading::proofs::Readings::answer_done))]
+#[tactic(auto, unfolding(crate::specs::Ports::single_at), using(mud_base::proofs::Readings::answer_bind, mud_base::proofs::Readings::answer_done))]
 fn single_at(alloc: Global, object: &Value, path: &[u8]) -> Result<PortTest, FileFault>
     ensures { Gives (λ t. t) result (spec.single_at path.now (view object.now)) }
 {
@@ -95,7 +95,7 @@ fn single_at(alloc: Global, object: &Value, path: &[u8]) -> Result<PortTest, Fil
 }
 
 /// The test of a port container, the object at this path.
-#[tactic(auto, unfolding(crate::specs::Ports::port_test_of), using(reading::proofs::Readings::answer_bind))]
+#[tactic(auto, unfolding(crate::specs::Ports::port_test_of), using(mud_base::proofs::Readings::answer_bind))]
 fn port_test_of(alloc: Global, object: &Value, path: &[u8]) -> Result<PortTest, FileFault>
     ensures { Gives (λ t. t) result (spec.port_test_of path.now (view object.now)) }
 {
@@ -115,7 +115,7 @@ fn port_test_of(alloc: Global, object: &Value, path: &[u8]) -> Result<PortTest, 
 }
 
 /// The test of a port container. Where there is none, every port passes.
-#[tactic(auto, unfolding(crate::specs::Ports::port_where_there), using(reading::proofs::Readings::answer_bind, reading::proofs::Readings::answer_done, reading::proofs::Readings::answer_absent, reading::proofs::Readings::answer_there))]
+#[tactic(auto, unfolding(crate::specs::Ports::port_where_there), using(mud_base::proofs::Readings::answer_bind, mud_base::proofs::Readings::answer_done, mud_base::proofs::Readings::answer_absent, mud_base::proofs::Readings::answer_there))]
 pub(crate) fn port_where_there(spot: Spot<'_>) -> Result<PortTest, FileFault>
     ensures { Gives (λ t. t) result (spec.port_where_there spot.entry.path.now spot.entry.member (view spot.entry.object.now)) }
 {

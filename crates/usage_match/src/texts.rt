@@ -3,7 +3,7 @@ ghost use Rattle.std.specs.Prelude.{◌≡◌, IfOk, option_map};
 ghost use Rattle.std.specs.List.{list_all};
 ghost use Rattle.std.specs.Char.{is_ascii_graphic};
 ghost use Rattle.serde_json.specs.View.{view};
-ghost use Rattle.reading.specs.Reading.{Answers, Gives};
+ghost use Rattle.mud_base.specs.Readings.{Answers, Gives};
 ghost use Rattle.usage_walk.specs.Kinds.{text_where_there};
 ghost use Rattle.usage_walk.specs.Reading.{fault_at, under};
 ghost use Rattle.usage_match.specs.Texts as spec;
@@ -17,7 +17,7 @@ use usage_walk::path::refusal;
 use usage_walk::{FileFault, Member, Rule, Spot};
 
 /// The number that this is, where it is at most `most`.
-#[tactic(auto, unfolding(crate::specs::Texts::as_upto), using(reading::proofs::Readings::answer_bind, reading::proofs::Readings::answer_done, reading::proofs::Readings::answer_passed, reading::proofs::Readings::answer_refused))]
+#[tactic(auto, unfolding(crate::specs::Texts::as_upto), using(mud_base::proofs::Readings::answer_bind, mud_base::proofs::Readings::answer_done, mud_base::proofs::Readings::answer_passed, mud_base::proofs::Readings::answer_refused))]
 fn as_octet(
     alloc: Global,
     most: u8,
@@ -34,7 +34,7 @@ fn as_octet(
 }
 
 /// The number of two octets that this is, from 0 to 65535.
-#[tactic(auto, unfolding(crate::specs::Texts::as_upto), using(reading::proofs::Readings::answer_bind, reading::proofs::Readings::answer_done, reading::proofs::Readings::answer_passed, reading::proofs::Readings::answer_refused))]
+#[tactic(auto, unfolding(crate::specs::Texts::as_upto), using(mud_base::proofs::Readings::answer_bind, mud_base::proofs::Readings::answer_done, mud_base::proofs::Readings::answer_passed, mud_base::proofs::Readings::answer_refused))]
 pub(crate) fn as_two_octets(
     alloc: Global,
     path: &[u8],
@@ -50,7 +50,7 @@ pub(crate) fn as_two_octets(
 }
 
 /// A number from 0 to `most`, where it is there.
-#[tactic(auto, unfolding(crate::specs::Texts::octet_where_there), using(reading::proofs::Readings::answer_bind, reading::proofs::Readings::answer_absent, reading::proofs::Readings::answer_there))]
+#[tactic(auto, unfolding(crate::specs::Texts::octet_where_there), using(mud_base::proofs::Readings::answer_bind, mud_base::proofs::Readings::answer_absent, mud_base::proofs::Readings::answer_there))]
 pub(crate) fn octet_where_there(spot: Spot<'_>, most: u8) -> Result<Option<u8>, FileFault>
     ensures { Gives (λ n. n) result (spec.octet_where_there most spot.entry.path.now spot.entry.member (view spot.entry.object.now)) }
 {
@@ -61,7 +61,7 @@ pub(crate) fn octet_where_there(spot: Spot<'_>, most: u8) -> Result<Option<u8>, 
 }
 
 /// A length in octets, from 0 to 65535, where it is there.
-#[tactic(auto, unfolding(crate::specs::Texts::length_where_there), using(reading::proofs::Readings::answer_bind, reading::proofs::Readings::answer_absent, reading::proofs::Readings::answer_there))]
+#[tactic(auto, unfolding(crate::specs::Texts::length_where_there), using(mud_base::proofs::Readings::answer_bind, mud_base::proofs::Readings::answer_absent, mud_base::proofs::Readings::answer_there))]
 pub(crate) fn length_where_there(spot: Spot<'_>) -> Result<Option<u16>, FileFault>
     ensures { Gives (λ n. n) result (spec.length_where_there spot.entry.path.now spot.entry.member (view spot.entry.object.now)) }
 {

@@ -2,8 +2,8 @@
 use Rattle.std.proofs.Common.{◌≡◌, Bool, true, false, List, [], ◌∷◌, Option, Some, None, Ok, Err, Result, refl, sym, subst, ◌∙◌}
 use Rattle.usage_walk.specs.declared.fault.Broken.{Broken}
 use Rattle.usage_walk.specs.Reading.{Reading}
-use Rattle.reading.specs.Reading.{answer, and_then, done, ◌>>=◌, refused_where, where_there, over}
-use Rattle.reading.proofs.Readings.{answer_bind, answer_done, answer_refused}
+use Rattle.mud_base.specs.Readings.{answer, and_then, done, ◌>>=◌, refused_where, where_there, over}
+use Rattle.mud_base.proofs.Readings.{answer_bind, answer_done, answer_refused}
 
 abbrev pub Always : {A : Type 0} → (A → Type 0) → Reading A → Type 0
 Always P r = (a : _) → answer r ≡ Ok a → P a

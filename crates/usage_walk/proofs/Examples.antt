@@ -7,7 +7,7 @@ use Rattle.usage_walk.specs.declared.fault.Rule.TheVariants as rule
 use Rattle.usage_walk.specs.declared.member.Member.TheVariants as members
 use Rattle.usage_walk.specs.declared.row.Row.{Row}
 use Rattle.usage_walk.specs.Names as names
-use Rattle.reading.specs.Reading.{answer}
+use Rattle.mud_base.specs.Readings.{answer}
 use Rattle.usage_walk.specs.Reading.{fault_at, under, at_place, under_name}
 use Rattle.usage_walk.specs.Kinds.{is_empty_leaf, text_at, number_at, truth_at, object_at, text_where_there, number_where_there, object_where_there, list_where_there, leaf_where_there}
 use Rattle.usage_walk.specs.Named.{elements_of}

@@ -1,7 +1,7 @@
 -- What a proof unfolds to compute readings of JSON values that are written out.
 use Rattle.std.specs.Prelude.{⊤}
 use Rattle.std.specs.Fmt.{digits}
-use Rattle.reading.specs.Reading.{answer, done, ◌>>=◌, refused_where, wanted, where_there, over}
+use Rattle.mud_base.specs.Readings.{answer, done, ◌>>=◌, refused_where, wanted, where_there, over}
 use Rattle.usage_walk.specs.Members.{name_of}
 use Rattle.usage_walk.specs.Names as names
 use Rattle.usage_walk.specs.Names.{number_of}

@@ -6,7 +6,7 @@ use Rattle.serde_json.specs.Find.{get, as_null, as_bool, as_number, as_u64, as_s
 use Rattle.usage_walk.specs.declared.fault.Rule.TheVariants.{Missing, WrongKind}
 use Rattle.usage_walk.specs.declared.member.Member.{Member}
 use Rattle.usage_walk.specs.Members.{name_of}
-use Rattle.reading.specs.Reading.{done, ◌>>=◌, wanted, refused_where, where_there}
+use Rattle.mud_base.specs.Readings.{done, ◌>>=◌, wanted, refused_where, where_there}
 use Rattle.usage_walk.specs.Reading.{Reading, under, fault_at}
 
 abbrev pub object_in : Data → Option Data

@@ -4,7 +4,7 @@ use Rattle.std.specs.List.{list_any}
 use Rattle.serde_json.specs.Data.{Data}
 use Rattle.usage_walk.specs.declared.fault.Rule.TheVariants.{RepeatedName}
 use Rattle.usage_walk.specs.declared.member.Member.TheVariants.{Name}
-use Rattle.reading.specs.Reading.{done, ◌>>=◌, refused_where, over}
+use Rattle.mud_base.specs.Readings.{done, ◌>>=◌, refused_where, over}
 use Rattle.usage_walk.specs.Reading.{Reading, under, at_place, fault_at}
 use Rattle.usage_walk.specs.Kinds.{object_of, text_at}
 

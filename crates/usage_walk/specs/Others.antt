@@ -6,7 +6,7 @@ use Rattle.serde_json.specs.Find.{as_object}
 use Rattle.usage_walk.specs.declared.fault.Rule.TheVariants.{UnknownMatch}
 use Rattle.usage_walk.specs.declared.row.Row.{Row}
 use Rattle.usage_walk.specs.Members.{name_of}
-use Rattle.reading.specs.Reading.{refused_where}
+use Rattle.mud_base.specs.Readings.{refused_where}
 use Rattle.usage_walk.specs.Reading.{Reading, under_name, fault_at}
 
 -- whether a row of the table has a member of this name

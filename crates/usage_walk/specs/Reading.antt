@@ -1,7 +1,7 @@
 -- The readings of usage files: what fails names a rule, and the path where it is broken.
 use Rattle.std.specs.Prelude.{ℕ, List, [], ◌∷◌, ◌++◌, decimal, None, if◌then◌else◌, ◌==◌}
 use Rattle.std.specs.List.{flat_map}
-use Rattle.reading.specs.Reading as of
+use Rattle.mud_base.specs.Readings as of
 use Rattle.usage_walk.specs.declared.fault.Rule.{Rule}
 use Rattle.usage_walk.specs.declared.fault.Broken.{Broken}
 use Rattle.usage_walk.specs.declared.member.Member.{Member}

@@ -1,6 +1,6 @@
 -- Objects that are read by a table: which members are known there, and what is read, are one list of rows.
 use Rattle.std.specs.Prelude.{ℕ, List, Option, Some}
-use Rattle.reading.specs.Reading.{◌>>=◌, over, where_there}
+use Rattle.mud_base.specs.Readings.{◌>>=◌, over, where_there}
 use Rattle.serde_json.specs.Data.{Data}
 use Rattle.usage_walk.specs.declared.member.Member.{Member}
 use Rattle.usage_walk.specs.declared.row.Row.{Row}

@@ -1,9 +1,8 @@
 //! Why a usage file is refused.
 ghost use Rattle.std.specs.Prelude.{◌≡◌};
 
-use mud_base::Bytes;
+use mud_base::{Bytes, Refusal};
 use mud_url::UrlFault;
-use reading::Refusal;
 
 /// The rules of usage files. The first rule that is broken, in the order in which a file is read,
 /// is the one that a refusal names.

@@ -1,7 +1,7 @@
 //! Values of one JSON kind, and members of an object.
 ghost use Rattle.std.specs.Prelude.{◌≡◌, map, option_map};
 ghost use Rattle.serde_json.specs.View.{view};
-ghost use Rattle.reading.specs.Reading.{Gives};
+ghost use Rattle.mud_base.specs.Readings.{Gives};
 ghost use Rattle.usage_walk.specs.Reading.{under};
 ghost use Rattle.usage_walk.specs.Kinds as spec;
 
@@ -12,7 +12,7 @@ use serde_json::Value;
 use std::alloc::Global;
 
 /// The member that has to be there, of the object at this path.
-#[tactic(auto, unfolding(crate::specs::Kinds::member_at), using(reading::proofs::Readings::answer_wanted, reading::proofs::Readings::answer_unwanted))]
+#[tactic(auto, unfolding(crate::specs::Kinds::member_at), using(mud_base::proofs::Readings::answer_wanted, mud_base::proofs::Readings::answer_unwanted))]
 pub(crate) fn member_at<'a>(
     alloc: Global,
     object: &'a Value,
@@ -28,7 +28,7 @@ pub(crate) fn member_at<'a>(
 }
 
 /// The text that a member is.
-#[tactic(auto, unfolding(crate::specs::Kinds::text_of), using(reading::proofs::Readings::answer_wanted, reading::proofs::Readings::answer_unwanted))]
+#[tactic(auto, unfolding(crate::specs::Kinds::text_of), using(mud_base::proofs::Readings::answer_wanted, mud_base::proofs::Readings::answer_unwanted))]
 fn text_of<'a>(
     alloc: Global,
     value: &'a Value,
@@ -44,7 +44,7 @@ fn text_of<'a>(
 }
 
 /// A text that has to be there, in the object at this path.
-#[tactic(auto, unfolding(crate::specs::Kinds::text_at), using(reading::proofs::Readings::answer_bind))]
+#[tactic(auto, unfolding(crate::specs::Kinds::text_at), using(mud_base::proofs::Readings::answer_bind))]
 pub fn text_at<'a>(
     alloc: Global,
     object: &'a Value,
@@ -58,7 +58,7 @@ pub fn text_at<'a>(
 }
 
 /// The whole number that a member is.
-#[tactic(auto, unfolding(crate::specs::Kinds::number_of), using(reading::proofs::Readings::answer_wanted, reading::proofs::Readings::answer_unwanted))]
+#[tactic(auto, unfolding(crate::specs::Kinds::number_of), using(mud_base::proofs::Readings::answer_wanted, mud_base::proofs::Readings::answer_unwanted))]
 fn number_of(alloc: Global, value: &Value, path: &[u8], member: Member) -> Result<u64, FileFault>
     ensures { Gives (λ n. n) result (spec.number_of (under path.now member) (view value.now)) }
 {
@@ -69,7 +69,7 @@ fn number_of(alloc: Global, value: &Value, path: &[u8], member: Member) -> Resul
 }
 
 /// A whole number that has to be there, in the object at this path.
-#[tactic(auto, unfolding(crate::specs::Kinds::number_at), using(reading::proofs::Readings::answer_bind))]
+#[tactic(auto, unfolding(crate::specs::Kinds::number_at), using(mud_base::proofs::Readings::answer_bind))]
 pub fn number_at(
     alloc: Global,
     object: &Value,
@@ -83,7 +83,7 @@ pub fn number_at(
 }
 
 /// The truth value that a member is.
-#[tactic(auto, unfolding(crate::specs::Kinds::truth_of), using(reading::proofs::Readings::answer_wanted, reading::proofs::Readings::answer_unwanted))]
+#[tactic(auto, unfolding(crate::specs::Kinds::truth_of), using(mud_base::proofs::Readings::answer_wanted, mud_base::proofs::Readings::answer_unwanted))]
 fn truth_of(alloc: Global, value: &Value, path: &[u8], member: Member) -> Result<bool, FileFault>
     ensures { Gives (λ b. b) result (spec.truth_of (under path.now member) (view value.now)) }
 {
@@ -94,7 +94,7 @@ fn truth_of(alloc: Global, value: &Value, path: &[u8], member: Member) -> Result
 }
 
 /// A truth value that has to be there, in the object at this path.
-#[tactic(auto, unfolding(crate::specs::Kinds::truth_at), using(reading::proofs::Readings::answer_bind))]
+#[tactic(auto, unfolding(crate::specs::Kinds::truth_at), using(mud_base::proofs::Readings::answer_bind))]
 pub fn truth_at(
     alloc: Global,
     object: &Value,
@@ -108,7 +108,7 @@ pub fn truth_at(
 }
 
 /// The object that a member is.
-#[tactic(auto, unfolding(crate::specs::Kinds::object_of), using(reading::proofs::Readings::answer_wanted, reading::proofs::Readings::answer_unwanted))]
+#[tactic(auto, unfolding(crate::specs::Kinds::object_of), using(mud_base::proofs::Readings::answer_wanted, mud_base::proofs::Readings::answer_unwanted))]
 fn object_of<'a>(
     alloc: Global,
     value: &'a Value,
@@ -125,7 +125,7 @@ fn object_of<'a>(
 }
 
 /// An object that has to be there, in the object at this path.
-#[tactic(auto, unfolding(crate::specs::Kinds::object_at), using(reading::proofs::Readings::answer_bind))]
+#[tactic(auto, unfolding(crate::specs::Kinds::object_at), using(mud_base::proofs::Readings::answer_bind))]
 pub fn object_at<'a>(
     alloc: Global,
     object: &'a Value,
@@ -139,7 +139,7 @@ pub fn object_at<'a>(
 }
 
 /// The object that stands at this path itself.
-#[tactic(auto, unfolding(crate::specs::Kinds::object_of), using(reading::proofs::Readings::answer_wanted, reading::proofs::Readings::answer_unwanted))]
+#[tactic(auto, unfolding(crate::specs::Kinds::object_of), using(mud_base::proofs::Readings::answer_wanted, mud_base::proofs::Readings::answer_unwanted))]
 pub fn object_here<'a>(alloc: Global, value: &'a Value, path: &[u8]) -> Result<&'a Value, FileFault>
     ensures { Gives (λ v. view v.now) result (spec.object_of path.now (view value.now)) }
 {
@@ -159,7 +159,7 @@ pub fn inside<'a>(object: Option<&'a Value>, member: Member) -> Option<&'a Value
 }
 
 /// A text, where it is there, in the object at this path.
-#[tactic(auto, unfolding(crate::specs::Kinds::text_where_there), using(reading::proofs::Readings::answer_absent, reading::proofs::Readings::answer_there))]
+#[tactic(auto, unfolding(crate::specs::Kinds::text_where_there), using(mud_base::proofs::Readings::answer_absent, mud_base::proofs::Readings::answer_there))]
 pub fn text_where_there<'a>(
     alloc: Global,
     object: Option<&'a Value>,
@@ -175,7 +175,7 @@ pub fn text_where_there<'a>(
 }
 
 /// A whole number, where it is there, in the object at this path.
-#[tactic(auto, unfolding(crate::specs::Kinds::number_where_there), using(reading::proofs::Readings::answer_absent, reading::proofs::Readings::answer_there))]
+#[tactic(auto, unfolding(crate::specs::Kinds::number_where_there), using(mud_base::proofs::Readings::answer_absent, mud_base::proofs::Readings::answer_there))]
 pub fn number_where_there(
     alloc: Global,
     object: Option<&Value>,
@@ -191,7 +191,7 @@ pub fn number_where_there(
 }
 
 /// An object, where it is there, in the object at this path.
-#[tactic(auto, unfolding(crate::specs::Kinds::object_where_there), using(reading::proofs::Readings::answer_absent, reading::proofs::Readings::answer_there))]
+#[tactic(auto, unfolding(crate::specs::Kinds::object_where_there), using(mud_base::proofs::Readings::answer_absent, mud_base::proofs::Readings::answer_there))]
 pub fn object_where_there<'a>(
     alloc: Global,
     object: Option<&'a Value>,
@@ -207,7 +207,7 @@ pub fn object_where_there<'a>(
 }
 
 /// The elements of the list that a member is.
-#[tactic(auto, unfolding(crate::specs::Kinds::list_of), using(reading::proofs::Readings::answer_wanted, reading::proofs::Readings::answer_unwanted, crate::proofs::Items::list_in_some))]
+#[tactic(auto, unfolding(crate::specs::Kinds::list_of), using(mud_base::proofs::Readings::answer_wanted, mud_base::proofs::Readings::answer_unwanted, crate::proofs::Items::list_in_some))]
 fn list_of<'a>(
     alloc: Global,
     value: &'a Value,
@@ -223,7 +223,7 @@ fn list_of<'a>(
 }
 
 /// The elements of a list in the object at this path. An absent list has none.
-#[tactic(auto, unfolding(crate::specs::Kinds::list_where_there), using(reading::proofs::Readings::answer_bind, reading::proofs::Readings::answer_done, reading::proofs::Readings::answer_absent, reading::proofs::Readings::answer_there))]
+#[tactic(auto, unfolding(crate::specs::Kinds::list_where_there), using(mud_base::proofs::Readings::answer_bind, mud_base::proofs::Readings::answer_done, mud_base::proofs::Readings::answer_absent, mud_base::proofs::Readings::answer_there))]
 pub fn list_where_there<'a>(
     alloc: Global,
     object: Option<&'a Value>,
@@ -261,7 +261,7 @@ fn is_empty_leaf(value: &Value) -> bool
 }
 
 /// The empty leaf that a member is.
-#[tactic(auto, unfolding(crate::specs::Kinds::leaf_of), using(reading::proofs::Readings::answer_passed, reading::proofs::Readings::answer_refused))]
+#[tactic(auto, unfolding(crate::specs::Kinds::leaf_of), using(mud_base::proofs::Readings::answer_passed, mud_base::proofs::Readings::answer_refused))]
 fn leaf_of(alloc: Global, value: &Value, path: &[u8], member: Member) -> Result<(), FileFault>
     ensures { Gives (λ _. tt) result (spec.leaf_of (under path.now member) (view value.now)) }
 {
@@ -273,7 +273,7 @@ fn leaf_of(alloc: Global, value: &Value, path: &[u8], member: Member) -> Result<
 }
 
 /// Whether an empty leaf is there, in the object at this path.
-#[tactic(auto, unfolding(crate::specs::Kinds::leaf_where_there), using(reading::proofs::Readings::answer_bind, reading::proofs::Readings::answer_done, reading::proofs::Readings::answer_absent, reading::proofs::Readings::answer_there))]
+#[tactic(auto, unfolding(crate::specs::Kinds::leaf_where_there), using(mud_base::proofs::Readings::answer_bind, mud_base::proofs::Readings::answer_done, mud_base::proofs::Readings::answer_absent, mud_base::proofs::Readings::answer_there))]
 pub fn leaf_where_there(
     alloc: Global,
     object: Option<&Value>,
@@ -292,7 +292,7 @@ pub fn leaf_where_there(
 }
 
 /// The text that a value at this path is.
-#[tactic(auto, unfolding(crate::specs::Kinds::text_of), using(reading::proofs::Readings::answer_wanted, reading::proofs::Readings::answer_unwanted))]
+#[tactic(auto, unfolding(crate::specs::Kinds::text_of), using(mud_base::proofs::Readings::answer_wanted, mud_base::proofs::Readings::answer_unwanted))]
 pub fn text_here<'a>(alloc: Global, value: &'a Value, path: &[u8]) -> Result<&'a str, FileFault>
     ensures { Gives (λ t. t.now) result (spec.text_of path.now (view value.now)) }
 {

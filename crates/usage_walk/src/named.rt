@@ -1,7 +1,7 @@
 //! Lists of objects with names: each name stands once in a list.
 ghost use Rattle.std.specs.Prelude.{◌≡◌, [], ◌∷◌, ◌++◌, length, map, not, option_map, if◌then◌else◌, IfOk, OnErr};
 ghost use Rattle.serde_json.specs.View.{view};
-ghost use Rattle.reading.specs.Reading.{Gives};
+ghost use Rattle.mud_base.specs.Readings.{Gives};
 ghost use Rattle.usage_walk.specs.Named.{is_named, element_named, element};
 ghost use Rattle.usage_walk.specs.Named as spec;
 ghost use Rattle.usage_walk.specs.Elements.{element_view, elements_view};
@@ -114,7 +114,7 @@ impl<'a> Elements<'a> {
 }
 
 /// Adds an object at this path behind the others, where its name is new.
-#[tactic(auto, unfolding(crate::specs::Named::with_named, crate::specs::Named::new_name), using(reading::proofs::Readings::answer_bind, reading::proofs::Readings::answer_done, reading::proofs::Readings::answer_passed, reading::proofs::Readings::answer_refused))]
+#[tactic(auto, unfolding(crate::specs::Named::with_named, crate::specs::Named::new_name), using(mud_base::proofs::Readings::answer_bind, mud_base::proofs::Readings::answer_done, mud_base::proofs::Readings::answer_passed, mud_base::proofs::Readings::answer_refused))]
 fn add<'a>(
     alloc: Global,
     elements: &mut Elements<'a>,
@@ -132,7 +132,7 @@ fn add<'a>(
 }
 
 /// Reads the next element of a list, which has this path.
-#[tactic(auto, unfolding(crate::specs::Named::next_element), using(reading::proofs::Readings::answer_bind))]
+#[tactic(auto, unfolding(crate::specs::Named::next_element), using(mud_base::proofs::Readings::answer_bind))]
 fn next_element<'a>(
     alloc: Global,
     elements: &mut Elements<'a>,
@@ -161,7 +161,7 @@ fn element_at<'a>(
 }
 
 /// The elements of the list at this path: each is an object with a name that none before it has.
-#[tactic(auto, unfolding(crate::specs::Named::elements_of), using(reading::proofs::Readings::over_taken, reading::proofs::Readings::over_refused, reading::proofs::Readings::over_past))]
+#[tactic(auto, unfolding(crate::specs::Named::elements_of), using(mud_base::proofs::Readings::over_taken, mud_base::proofs::Readings::over_refused, mud_base::proofs::Readings::over_past))]
 pub fn elements_of<'a>(
     alloc: Global,
     list: &'a [Value],

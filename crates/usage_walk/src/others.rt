@@ -1,7 +1,7 @@
 //! Members that may not stand in an object: those that have no row in its table.
 ghost use Rattle.std.specs.Prelude.{◌≡◌, option_map};
 ghost use Rattle.serde_json.specs.View.{view};
-ghost use Rattle.reading.specs.Reading.{Gives};
+ghost use Rattle.mud_base.specs.Readings.{Gives};
 ghost use Rattle.usage_walk.specs.Others as spec;
 
 use crate::fault::{FileFault, Rule};
@@ -33,7 +33,7 @@ fn first_unknown<'a, H>(object: &'a Value, rows: &[Row<H>]) -> Option<&'a str>
 }
 
 /// Refuses the object at this path where a member stands in it that has no row in the table.
-#[tactic(auto, unfolding(crate::specs::Others::all_known), using(reading::proofs::Readings::answer_passed, reading::proofs::Readings::answer_refused))]
+#[tactic(auto, unfolding(crate::specs::Others::all_known), using(mud_base::proofs::Readings::answer_passed, mud_base::proofs::Readings::answer_refused))]
 pub fn all_known<H>(
     alloc: Global,
     object: &Value,

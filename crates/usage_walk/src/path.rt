@@ -1,7 +1,7 @@
 //! Paths: JSON pointers (RFC 6901), and refusals that name them.
 ghost use Rattle.std.specs.Prelude.{◌≡◌, IfOk};
-ghost use Rattle.reading.specs.Reading.{Gives, Refuses, refused_where};
-ghost use Rattle.reading.specs.declared.refusal.Refusal.TheVariants as told;
+ghost use Rattle.mud_base.specs.Readings.{Gives, Refuses, refused_where};
+ghost use Rattle.mud_base.specs.declared.refusal.Refusal.TheVariants as told;
 ghost use Rattle.usage_walk.specs.Reading.{at_place, fault_at, under, under_name};
 ghost use Rattle.usage_walk.specs.Reading as spec;
 
@@ -91,7 +91,7 @@ pub(crate) fn refusal_here(alloc: Global, rule: Rule, path: &[u8]) -> FileFault
 }
 
 /// Refuses where a rule of a member of the object at this path is broken.
-#[tactic(auto, using(reading::proofs::Readings::answer_passed, reading::proofs::Readings::answer_refused))]
+#[tactic(auto, using(mud_base::proofs::Readings::answer_passed, mud_base::proofs::Readings::answer_refused))]
 pub fn refuse_where(
     alloc: Global,
     breaks: bool,
@@ -108,7 +108,7 @@ pub fn refuse_where(
 }
 
 /// Refuses where a rule of what stands at this path is broken.
-#[tactic(auto, using(reading::proofs::Readings::answer_passed, reading::proofs::Readings::answer_refused))]
+#[tactic(auto, using(mud_base::proofs::Readings::answer_passed, mud_base::proofs::Readings::answer_refused))]
 pub fn refuse_here_where(
     alloc: Global,
     breaks: bool,

@@ -1,7 +1,7 @@
 //! Objects that are read by a table. The table has a row for each member that may stand in the
 //! object, and the rows are read in their order: so what is known there and what is read are one
 //! list.
-ghost use Rattle.reading.specs.Reading.{Gives};
+ghost use Rattle.mud_base.specs.Readings.{Gives};
 ghost use Rattle.serde_json.specs.Data.{Data};
 ghost use Rattle.serde_json.specs.View.{view};
 ghost use Rattle.std.specs.Prelude.{List, ℕ};
@@ -65,7 +65,7 @@ fn read_row<H: Reads>(
 }
 
 /// Reads the members of these rows in their order, behind what came of those before them.
-#[tactic(auto, unfolding(crate::specs::Tables::rows_of), using(reading::proofs::Readings::each_taken, reading::proofs::Readings::each_refused, reading::proofs::Readings::each_past))]
+#[tactic(auto, unfolding(crate::specs::Tables::rows_of), using(mud_base::proofs::Readings::each_taken, mud_base::proofs::Readings::each_refused, mud_base::proofs::Readings::each_past))]
 pub fn read_rows<H: Reads>(
     alloc: Global,
     object: &Value,
@@ -83,7 +83,7 @@ pub fn read_rows<H: Reads>(
 }
 
 /// Reads the object at this path by its table. Where no member stands, it means this nothing.
-#[tactic(auto, unfolding(crate::specs::Tables::table_of), using(reading::proofs::Readings::answer_bind))]
+#[tactic(auto, unfolding(crate::specs::Tables::table_of), using(mud_base::proofs::Readings::answer_bind))]
 fn read_table<H: Reads>(
     alloc: Global,
     object: &Value,
@@ -98,7 +98,7 @@ fn read_table<H: Reads>(
 }
 
 /// Reads the object that a member is by its table, where it is there.
-#[tactic(auto, unfolding(crate::specs::Tables::container_at), using(reading::proofs::Readings::answer_bind, reading::proofs::Readings::answer_absent, reading::proofs::Readings::answer_there))]
+#[tactic(auto, unfolding(crate::specs::Tables::container_at), using(mud_base::proofs::Readings::answer_bind, mud_base::proofs::Readings::answer_absent, mud_base::proofs::Readings::answer_there))]
 pub fn read_container<H: Reads>(
     spot: Spot<'_>,
     rows: &[Row<H>],

@@ -1,7 +1,6 @@
 //! Fields of a few octets, by hand.
-use mud_base::Mac;
-use octet_fields::{
-    ByteOrder, big_16, big_32, big_128, is_group_at, mac_at, number_16, number_32, octets_at,
+use mud_base::{
+    ByteOrder, Mac, big_16, big_32, big_128, is_group_at, mac_at, number_16, number_32, octets_at,
 };
 
 const OCTETS: [u8; 18] = [

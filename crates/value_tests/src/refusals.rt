@@ -1,6 +1,5 @@
 //! A reading of two members of a record, at a fault of its own.
-use mud_base::Memory;
-use reading::{Refusal, refuse_where, wanted};
+use mud_base::{Memory, Refusal, refuse_where, wanted};
 use std::test::Fail;
 
 /// What is wrong with a pair.

@@ -2,8 +2,10 @@
 ghost use Rattle.std.specs.Prelude.{◌≡◌, slice_index};
 
 use crate::doors::piece_of;
-use http_requests::{MomentFrom, RequestBuffer, RequestFault, RequestParts};
-use http_serving::{ConnectionEnd, Service, serve_connection, serve_connections};
+use http_requests::{
+    ConnectionEnd, MomentFrom, RequestBuffer, RequestFault, RequestParts, Service,
+    serve_connection, serve_connections,
+};
 use mud_base::{Listed, Memory};
 use mud_world::MemoryDoor;
 use std::alloc::Global;

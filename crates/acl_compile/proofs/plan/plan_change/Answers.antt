@@ -3,8 +3,8 @@ use Rattle.acl_model.specs.declared.binding.Binding.{Binding}
 use Rattle.acl_model.specs.Changes.{replaced}
 use Rattle.acl_model.specs.Policies.{url_policy}
 use Rattle.acl_rows.specs.Rows.{default_held}
-use Rattle.acl_patch.specs.Patch.{IsPatch}
-use Rattle.acl_patch.specs.Touched.{touches}
+use Rattle.row_changes.specs.Patch.{IsPatch}
+use Rattle.row_changes.specs.Touched.{touches}
 use Rattle.row_changes.specs.Bindings.{AreEditsOf}
 use Rattle.row_changes.specs.Change.{ChangeState, change_state, after}
 use Rattle.row_changes.specs.Steps.{least_steps}

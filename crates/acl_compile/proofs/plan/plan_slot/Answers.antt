@@ -2,8 +2,8 @@ use Rattle.std.proofs.Common.{◌≡◌, ℕ, ◌+◌, ◌*◌, ◌^◌, ◌<◌
 use Rattle.std.specs.Option.{option_copied}
 use Rattle.acl_rows.specs.declared.row.Owner.TheVariants.{Url}
 use Rattle.acl_rows.specs.Rows.{Slots}
-use Rattle.acl_patch.specs.Patch.{IsPatch}
-use Rattle.acl_patch.specs.PolicyTouched.{owner_rows, new_touches, IsSlotChange}
+use Rattle.row_changes.specs.Patch.{IsPatch}
+use Rattle.row_changes.specs.PolicyTouched.{owner_rows, new_touches, IsSlotChange}
 use Rattle.acl_compile.specs.Compiled.{UrlsApart}
 use Rattle.row_changes.specs.Fresh.{policy_count}
 use Rattle.acl_compile.specs.Plans.{IsPlaceFor, others_held}

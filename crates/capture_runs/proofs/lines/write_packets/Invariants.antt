@@ -1,6 +1,6 @@
 use Rattle.std.proofs.Common.{◌≡◌, [], false}
 use Rattle.mud_world.specs.Door.{DoorState}
-use Rattle.capture_source.specs.Reading.{is_broken, most_to_come}
+use Rattle.capture_runs.specs.Reading.{is_broken, most_to_come}
 use Rattle.capture_runs.specs.Fold.{IsLeftBy}
 use Rattle.capture_runs.specs.Runs.{HasDone}
 use Rattle.capture_runs.proofs.Folded.{HasWritten}

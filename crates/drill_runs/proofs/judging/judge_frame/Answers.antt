@@ -1,5 +1,5 @@
 use Rattle.std.proofs.Common.{ℕ, List, refl}
-use Rattle.packet_buffer.specs.Packets.{Packet}
+use Rattle.octet_buffer.specs.Packets.{Packet}
 use Rattle.desk_runs.proofs.JudgedPackets.{judged_verdict, judged_next}
 use Rattle.drill_runs.proofs.judging.judge_frame.Goals as goal
 

@@ -1,6 +1,6 @@
 use Rattle.std.proofs.Common.{◌≡◌, ◌≤◌, length, map, take, Some, None, sym, ap, subst, ◌∙◌, arith}
 use Rattle.std.proofs.lemmas.List.{append-nil}
-use Rattle.counted_rows.specs.Counted.{AreFirstRows, those_of}
+use Rattle.drop_ledger.specs.Counted.{AreFirstRows, those_of}
 use Rattle.drop_ledger.specs.Places.{place_of_denied, place_of_other}
 use Rattle.drop_ledger.specs.Ledger.{denied_row, denials, other_row, denied_kinds, times_ruled}
 use Rattle.drop_ledger.proofs.LedgerLaws.{denied_are_kinds, denied_few, denials_more}

@@ -1,5 +1,5 @@
 use Rattle.std.proofs.Common.{◌+◌, ◌<◌, ◌≤◌, [], ◌∷◌, ◌++◌, map, sym, ap, subst, ◌∙◌, arith}
-use Rattle.counted_rows.specs.Counted.{count_of, count_rows}
+use Rattle.drop_ledger.specs.Counted.{count_of, count_rows}
 use Rattle.drop_ledger.specs.Places.{place_of_count, with_count}
 use Rattle.drop_ledger.specs.Ledger.{count_row, counts_of, times_ruled}
 use Rattle.drop_ledger.proofs.LedgerLaws.{counted_few, counts_more}

@@ -2,7 +2,7 @@ use Rattle.std.proofs.Common.{◌≡◌, ℕ, Option, Some, None, ap, sym, subst
 use Rattle.command_runs.specs.Status.{status_number}
 use Rattle.mud_desk.specs.DeskState.{tables_of}
 use Rattle.mud_tables.specs.Things.{thing_at}
-use Rattle.listing_runs.specs.Moments.{listing_moment}
+use Rattle.command_runs.specs.Moments.{listing_moment}
 use Rattle.export_runs.specs.Lists.{lists_text}
 use Rattle.export_runs.specs.Exported.{AreSourcesOf}
 use Rattle.export_runs.proofs.Things.{due_empty, due_listed, wrote_lists}

@@ -1,6 +1,6 @@
 use Rattle.std.proofs.Common.{◌++◌}
 use Rattle.rule_export.specs.Text.{items_text}
-use Rattle.listing_runs.proofs.Written.{on_err, then_wrote, part_of_first, part_of_second}
+use Rattle.command_runs.proofs.Written.{on_err, then_wrote, part_of_first, part_of_second}
 use Rattle.export_runs.proofs.Results.{ok_then, err_then}
 use Rattle.export_runs.proofs.writing.write_between.Goals as goal
 

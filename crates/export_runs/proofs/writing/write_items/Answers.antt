@@ -3,7 +3,7 @@ use Rattle.std.specs.Prelude.{flat_map}
 use Rattle.command_runs.specs.Due.{WroteFirst}
 use Rattle.rule_export.specs.declared.item.Resolved.{Resolved}
 use Rattle.rule_export.specs.Text.{resolved_text, behind_comma, items_text}
-use Rattle.listing_runs.proofs.Written.{part_of_second}
+use Rattle.command_runs.proofs.Written.{part_of_second}
 use Rattle.export_runs.proofs.Results.{err_then}
 use Rattle.export_runs.proofs.writing.write_items.Goals as goal
 

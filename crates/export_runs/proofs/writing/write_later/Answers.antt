@@ -1,6 +1,6 @@
 use Rattle.std.proofs.Common.{refl, rules}
 use Rattle.rule_export.specs.Text.{behind_comma}
-use Rattle.listing_runs.proofs.Written.{on_err, none_yet, one_more, part_of}
+use Rattle.command_runs.proofs.Written.{on_err, none_yet, one_more, part_of}
 use Rattle.export_runs.proofs.writing.write_later.Goals as goal
 
 pub items-init : goal.items-init

@@ -1,5 +1,5 @@
 use Rattle.export_runs.specs.Lists.{list_text}
-use Rattle.listing_runs.proofs.Written.{on_err, part_of}
+use Rattle.command_runs.proofs.Written.{on_err, part_of}
 use Rattle.export_runs.proofs.Results.{one_there}
 use Rattle.export_runs.proofs.writing.write_named.Goals as goal
 

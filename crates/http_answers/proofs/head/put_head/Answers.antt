@@ -1,4 +1,4 @@
-use Rattle.answer_buffer.proofs.KeptLemmas.{kept_then}
+use Rattle.http_answers.proofs.KeptLemmas.{kept_then}
 use Rattle.http_answers.specs.Heads.{head_of, type_line}
 use Rattle.http_answers.proofs.head.put_head.Goals as goal
 

@@ -1,5 +1,5 @@
 use Rattle.std.specs.Prelude.{◌++◌, codes}
-use Rattle.answer_buffer.specs.Texts.{url_text}
+use Rattle.http_answers.specs.Texts.{url_text}
 use Rattle.listing_bodies.specs.Rows.{urls_text, url_end}
 use Rattle.listing_bodies.proofs.Joins.{ok_behind}
 use Rattle.listing_bodies.proofs.things.append_urls.Goals as goal

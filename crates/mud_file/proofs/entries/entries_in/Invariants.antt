@@ -1,6 +1,6 @@
 use Rattle.std.proofs.Common.{◌≡◌, map, drop}
 use Rattle.serde_json.specs.View.{view}
-use Rattle.reading.specs.Reading.{answer, over}
+use Rattle.mud_base.specs.Readings.{answer, over}
 use Rattle.mud_file.specs.Entries as spec
 use Rattle.mud_file.specs.Lists.{list_head}
 use Rattle.mud_file.proofs.entries.entries_in.Given as goal

@@ -1,5 +1,5 @@
 use Rattle.std.proofs.Common.{◌≡◌, map, drop}
-use Rattle.reading.specs.Reading.{answer, over}
+use Rattle.mud_base.specs.Readings.{answer, over}
 use Rattle.usage_walk.specs.Elements.{element_view, elements_view}
 use Rattle.mud_file.specs.Entries as spec
 use Rattle.mud_file.proofs.lists.entries_of.Given as goal

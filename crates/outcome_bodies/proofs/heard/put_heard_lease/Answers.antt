@@ -1,4 +1,4 @@
-use Rattle.answer_buffer.proofs.KeptLemmas.{kept_then}
+use Rattle.http_answers.proofs.KeptLemmas.{kept_then}
 use Rattle.outcome_bodies.specs.Heards.{heard_lease_body}
 use Rattle.outcome_bodies.proofs.heard.put_heard_lease.Goals as goal
 

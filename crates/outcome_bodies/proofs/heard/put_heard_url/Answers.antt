@@ -1,4 +1,4 @@
-use Rattle.answer_buffer.proofs.KeptLemmas.{kept_then}
+use Rattle.http_answers.proofs.KeptLemmas.{kept_then}
 use Rattle.outcome_bodies.specs.Heards.{heard_url_body}
 use Rattle.outcome_bodies.proofs.heard.put_heard_url.Goals as goal
 

@@ -1,4 +1,4 @@
-use Rattle.answer_buffer.proofs.KeptLemmas.{kept_then}
+use Rattle.http_answers.proofs.KeptLemmas.{kept_then}
 use Rattle.outcome_bodies.specs.Outcomes.{result_body}
 use Rattle.outcome_bodies.proofs.outcomes.put_result.Goals as goal
 

@@ -1,6 +1,6 @@
 use Rattle.std.specs.Prelude.{codes}
-use Rattle.answer_buffer.proofs.KeptLemmas.{kept_escaped_then}
-use Rattle.verdict_lines.specs.Verdicts.{part_name, unreadable_text}
+use Rattle.http_answers.proofs.KeptLemmas.{kept_escaped_then}
+use Rattle.reply_lines.specs.Verdicts.{part_name, unreadable_text}
 use Rattle.outcome_bodies.proofs.verdicts.put_unreadable.Goals as goal
 
 pub returns : goal.returns

@@ -1,4 +1,4 @@
-use Rattle.verdict_lines.specs.Verdicts.{verdict_text}
+use Rattle.reply_lines.specs.Verdicts.{verdict_text}
 use Rattle.outcome_bodies.specs.Verdicts.{verdict_body}
 use Rattle.outcome_bodies.proofs.Joins.{joined_verdict}
 use Rattle.outcome_bodies.proofs.verdicts.put_verdict.Goals as goal

@@ -1,7 +1,7 @@
 use Rattle.std.proofs.Common.{◌≡◌, true, false, rules, arith, sym, ap, ◌∙◌}
 use Rattle.std.proofs.lemmas.Bool.Decides.{nat_tests}
 use Rattle.std.proofs.lemmas.Result.{err_from_is_err_and}
-use Rattle.octet_fields.specs.Numbers.{number_32}
+use Rattle.mud_base.specs.Numbers.{number_32}
 use Rattle.pcapng_read.proofs.Steps.{least_total}
 use Rattle.pcapng_read.proofs.Exits.{over_failed, over_cut, over_ends, over_refused, over_follows}
 use Rattle.pcapng_read.proofs.read.read_over.Goals as goal

@@ -1,7 +1,7 @@
 use Rattle.std.proofs.Common.{◌≡◌, ◌≤◌, ◌<◌, ◌-◌, false, length, rules, arith, refl, sym, ◌∙◌}
 use Rattle.std.proofs.lemmas.Bool.Decides.{nat_tests}
 use Rattle.std.proofs.lemmas.Result.{err_from_is_err_and}
-use Rattle.octet_fields.specs.Numbers.{number_32}
+use Rattle.mud_base.specs.Numbers.{number_32}
 use Rattle.pcapng_read.proofs.Steps.{least_total}
 use Rattle.pcapng_read.proofs.Exits.{whole_failed, whole_cut, whole_ends, whole_refused, whole_follows}
 use Rattle.pcapng_read.proofs.read.read_whole.Goals as goal

@@ -1,6 +1,6 @@
 use Rattle.std.proofs.Common.{refl, rules}
 use Rattle.report_runs.specs.Tables.{due_part}
-use Rattle.listing_runs.proofs.Written.{on_err, none_yet, one_more, part_of}
+use Rattle.command_runs.proofs.Written.{on_err, none_yet, one_more, part_of}
 use Rattle.report_runs.proofs.rows.write_due.Goals as goal
 
 pub rows-init : goal.rows-init

@@ -1,5 +1,5 @@
 use Rattle.std.proofs.Common.{refl, rules}
-use Rattle.listing_runs.proofs.Written.{on_err, none_yet, one_more, part_of}
+use Rattle.command_runs.proofs.Written.{on_err, none_yet, one_more, part_of}
 use Rattle.report_runs.proofs.rows.write_rows.Goals as goal
 
 pub rows-init : goal.rows-init

@@ -6,7 +6,7 @@ use Rattle.acl_model.specs.declared.entry.Selector.{Selector}
 use Rattle.acl_model.specs.declared.binding.MemberKey.{MemberKey}
 use Rattle.acl_model.specs.Keys.{key_of}
 use Rattle.acl_rows.specs.Rows.{member_keys}
-use Rattle.key_index.specs.Keys.{key_parts}
+use Rattle.row_changes.specs.EntryKeys.{key_parts}
 use Rattle.row_changes.specs.Fresh.{first_of}
 use Rattle.row_changes.proofs.LeastEnds.{rest_cons}
 use Rattle.row_changes.proofs.FreshLaws.{first_some}

@@ -1,7 +1,7 @@
 use Rattle.std.proofs.Common.{◌≡◌, ◌+◌, ◌*◌, ◌≤◌, length, Option, Some, sym, ap, subst, ◌∙◌, arith}
 use Rattle.acl_model.specs.Policies.{UrlPolicy}
 use Rattle.std.proofs.Math.Path.{transport}
-use Rattle.acl_patch.specs.PolicyTouched.{new_touches}
+use Rattle.row_changes.specs.PolicyTouched.{new_touches}
 use Rattle.row_changes.specs.Fresh.{policy_count}
 use Rattle.row_changes.specs.Steps.{PolicyKeys}
 use Rattle.row_changes.proofs.PolicyRows.{no_fresh, policy_fits}

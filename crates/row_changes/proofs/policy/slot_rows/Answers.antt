@@ -11,7 +11,7 @@ use Rattle.acl_rows.specs.declared.row.Owner.TheVariants.{Url}
 use Rattle.acl_rows.specs.Places.{row_place}
 use Rattle.acl_rows.specs.View.{rows_of_side}
 use Rattle.acl_rows.proofs.AtPlaces.{ascend-rows_of}
-use Rattle.acl_patch.specs.PolicyTouched.{new_touches, owner_rows}
+use Rattle.row_changes.specs.PolicyTouched.{new_touches, owner_rows}
 use Rattle.row_changes.specs.Change.{ChangeState}
 use Rattle.row_changes.specs.Fresh.{Fresh, fresh_of, more_fresh, policy_count, left_edits}
 use Rattle.row_changes.proofs.PolicyRows.{slot_patch, policy_cost}

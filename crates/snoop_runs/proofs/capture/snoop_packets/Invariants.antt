@@ -2,7 +2,7 @@ use Rattle.std.proofs.Common.{◌≡◌, [], false}
 use Rattle.mud_world.specs.Boxed.{faults_of}
 use Rattle.mud_world.specs.Causes.{Counts}
 use Rattle.mud_world.specs.Door.{DoorState}
-use Rattle.capture_source.specs.Reading.{is_broken, most_to_come}
+use Rattle.capture_runs.specs.Reading.{is_broken, most_to_come}
 use Rattle.capture_runs.specs.Runs.{HasDone}
 use Rattle.desk_model.specs.Sessions.{Session}
 use Rattle.desk_runs.specs.Judged.{IsIn}

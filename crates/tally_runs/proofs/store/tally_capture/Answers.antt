@@ -1,7 +1,7 @@
 use Rattle.std.proofs.Common.{◌≡◌, ℕ, List, sym, ap, subst, ◌∙◌}
 use Rattle.mud_desk.specs.DeskState.{DeskState, session_of}
 use Rattle.mud_world.specs.Door.{DoorState}
-use Rattle.capture_source.specs.Captures.{captured_of}
+use Rattle.capture_runs.specs.Captures.{captured_of}
 use Rattle.capture_runs.specs.Capture.{due_behind}
 use Rattle.command_runs.specs.Due.{Due, WritesDue, WritesPart}
 use Rattle.command_runs.specs.Status.{status_number}

@@ -1,6 +1,6 @@
 use Rattle.std.proofs.Common.{◌≡◌, map, drop}
 use Rattle.serde_json.specs.View.{view}
-use Rattle.reading.specs.Reading.{answer, over}
+use Rattle.mud_base.specs.Readings.{answer, over}
 use Rattle.usage_walk.specs.Named as spec
 use Rattle.usage_walk.specs.Elements.{elements_view}
 use Rattle.usage_walk.proofs.named.elements_of.Given as goal

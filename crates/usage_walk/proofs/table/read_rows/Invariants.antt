@@ -1,5 +1,5 @@
 use Rattle.std.proofs.Common.{◌≡◌, drop}
-use Rattle.reading.specs.Reading.{answer, over}
+use Rattle.mud_base.specs.Readings.{answer, over}
 use Rattle.usage_walk.specs.Tables.{row_of, rows_of}
 use Rattle.serde_json.specs.View.{view}
 use Rattle.usage_walk.proofs.table.read_rows.Given as goal

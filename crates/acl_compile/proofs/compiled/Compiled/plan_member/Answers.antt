@@ -1,6 +1,6 @@
 use Rattle.std.proofs.Common.{◌≡◌, ℕ, ◌+◌, ◌*◌, ◌^◌, ◌<◌, ◌≤◌, ◌++◌, length, OnOk, ap, ◌∙◌}
 use Rattle.std.proofs.Math.Path.{transport}
-use Rattle.acl_patch.specs.Touched.{touches}
+use Rattle.row_changes.specs.Touched.{touches}
 use Rattle.acl_compile.specs.Compiled.{CompiledState}
 use Rattle.row_changes.specs.Steps.{least_steps, HaveKeys, place_steps}
 use Rattle.acl_compile.proofs.compiled.Compiled.plan_member.Goals as goal

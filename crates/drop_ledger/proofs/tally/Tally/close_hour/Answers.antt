@@ -1,5 +1,5 @@
 use Rattle.std.proofs.Common.{◌≡◌, ℕ, ◌+◌, List, [], ◌∷◌, ◌++◌, length, take, drop, refl, sym, ap, subst, ◌∙◌, arith}
-use Rattle.counted_rows.specs.Counted.{count_rows}
+use Rattle.drop_ledger.specs.Counted.{count_rows}
 use Rattle.drop_ledger.specs.Seen.{rulings}
 use Rattle.drop_ledger.specs.Ledger.{StandsFor, counts_of, hour_in}
 use Rattle.drop_ledger.specs.contracts.tally.Tally.{the_view}

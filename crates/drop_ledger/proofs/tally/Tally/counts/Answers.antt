@@ -1,5 +1,5 @@
 use Rattle.std.proofs.Common.{ap, ◌∙◌}
-use Rattle.counted_rows.specs.Counted.{total}
+use Rattle.drop_ledger.specs.Counted.{total}
 use Rattle.drop_ledger.specs.Places.{count_of_row}
 use Rattle.drop_ledger.specs.Seen.{rulings}
 use Rattle.drop_ledger.specs.Ledger.{TallyState}

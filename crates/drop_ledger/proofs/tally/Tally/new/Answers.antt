@@ -1,5 +1,5 @@
 use Rattle.std.proofs.Common.{refl, arith}
-use Rattle.counted_rows.specs.Counted.{count_rows, first_rows, late_rows, others_of}
+use Rattle.drop_ledger.specs.Counted.{count_rows, first_rows, late_rows, others_of}
 use Rattle.drop_ledger.specs.Seen.{totals_in, verdicts, rulings}
 use Rattle.drop_ledger.specs.Ledger.{counts_of, denials, hour_in}
 use Rattle.drop_ledger.proofs.tally.Tally.new.Goals as goal

@@ -2,7 +2,7 @@ use Rattle.std.proofs.Common.{ap, ◌∙◌}
 use Rattle.std.proofs.lemmas.Result.{on_ok_weaker}
 use Rattle.acl_rows.specs.declared.row.Owner.{Owner}
 use Rattle.acl_rows.specs.Rows.{entry_end, held_by}
-use Rattle.acl_patch.specs.Touched.{row_key}
+use Rattle.row_changes.specs.Touched.{row_key}
 use Rattle.row_changes.specs.Fresh.{one_fresh}
 use Rattle.row_changes.proofs.FreshLaws.{after_same, entry_asked}
 use Rattle.row_changes.proofs.change.Change.address_fresh.Goals as goal

@@ -2,7 +2,7 @@ use Rattle.std.proofs.Common.{List, ◌+◌, ◌*◌, length, drop, sym, ap, ◌
 use Rattle.std.proofs.lemmas.List.{drop_all}
 use Rattle.acl_model.specs.declared.binding.Binding.{Binding}
 use Rattle.acl_rows.specs.declared.row.RowKey.{RowKey}
-use Rattle.acl_patch.specs.Touched.{binding_touches, touches, with_edits}
+use Rattle.row_changes.specs.Touched.{binding_touches, touches, with_edits}
 use Rattle.row_changes.specs.Change.{more_edits}
 use Rattle.row_changes.specs.Steps.{least_steps}
 use Rattle.row_changes.proofs.Loops.{more_edits-append, length_times, least_steps-append, next_binding}

@@ -1,5 +1,5 @@
 use Rattle.std.proofs.Common.{◌≡◌, ℕ, ◌+◌, ◌*◌, ◌^◌, ◌<◌, ◌≤◌, length, drop}
-use Rattle.acl_patch.specs.Touched.{touches}
+use Rattle.row_changes.specs.Touched.{touches}
 use Rattle.row_changes.specs.Change.{more_edits}
 use Rattle.row_changes.specs.Policies.{AllHeld}
 use Rattle.row_changes.specs.Steps.{least_steps, HolderFits}

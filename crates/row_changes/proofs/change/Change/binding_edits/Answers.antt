@@ -6,7 +6,7 @@ use Rattle.row_edits.specs.declared.edit.Edit.{Edit}
 use Rattle.acl_rows.specs.declared.row.Row.{Row}
 use Rattle.acl_rows.specs.Rows.{Slots, Holder, holders_from, held_by, default_held}
 use Rattle.acl_rows.specs.declared.row.RowKey.{RowKey}
-use Rattle.acl_patch.specs.Touched.{holder_touches, binding_touches}
+use Rattle.row_changes.specs.Touched.{holder_touches, binding_touches}
 use Rattle.row_changes.specs.Change.{ChangeState, more_edits, slot_touches}
 use Rattle.row_changes.specs.Policies.{AllHeld}
 use Rattle.row_changes.specs.Steps.{least_steps, HolderFits}

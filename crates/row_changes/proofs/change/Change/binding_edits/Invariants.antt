@@ -1,7 +1,7 @@
 use Rattle.std.proofs.Common.{◌≡◌, ℕ, ◌+◌, ◌*◌, ◌^◌, ◌<◌, ◌≤◌, length, drop}
 use Rattle.std.specs.Prelude.{flat_map}
 use Rattle.acl_rows.specs.Rows.{holders_from}
-use Rattle.acl_patch.specs.Touched.{holder_touches, binding_touches}
+use Rattle.row_changes.specs.Touched.{holder_touches, binding_touches}
 use Rattle.row_changes.specs.Change.{more_edits}
 use Rattle.row_changes.specs.Policies.{AllHeld}
 use Rattle.row_changes.specs.Steps.{least_steps, HolderFits}

@@ -2,8 +2,8 @@ use Rattle.std.proofs.Common.{ℕ, ◌+◌, List, length, map, drop, ap, sym, �
 use Rattle.std.proofs.lemmas.List.{drop_all}
 use Rattle.acl_model.specs.declared.binding.Binding.{Binding}
 use Rattle.acl_rows.specs.declared.row.RowKey.{RowKey}
-use Rattle.acl_patch.specs.Touched.{row_key}
-use Rattle.acl_patch.specs.PolicyTouched.{bound_key}
+use Rattle.row_changes.specs.Touched.{row_key}
+use Rattle.row_changes.specs.PolicyTouched.{bound_key}
 use Rattle.row_changes.specs.Fresh.{more_fresh}
 use Rattle.row_changes.proofs.FreshLaws.{one-more, none-more, next_bound, one_more_place, all_places}
 use Rattle.row_changes.proofs.change.Change.bound_fresh.Goals as goal

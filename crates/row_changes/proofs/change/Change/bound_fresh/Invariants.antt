@@ -1,6 +1,6 @@
 use Rattle.std.proofs.Common.{◌≡◌, ℕ, ◌+◌, ◌*◌, ◌^◌, ◌<◌, ◌≤◌, Some, map, drop, length}
 use Rattle.acl_rows.specs.Rows.{Slots, held_by, member_keys}
-use Rattle.acl_patch.specs.PolicyTouched.{bound_key}
+use Rattle.row_changes.specs.PolicyTouched.{bound_key}
 use Rattle.row_changes.specs.Fresh.{more_fresh}
 use Rattle.row_changes.proofs.change.Change.bound_fresh.Given as goal
 

@@ -5,8 +5,8 @@ use Rattle.sorted_rows.specs.Placed.{rows_under}
 use Rattle.acl_model.specs.Places.{text_place, binding_place}
 use Rattle.acl_rows.specs.declared.row.RowKey.{RowKey}
 use Rattle.acl_rows.specs.Rows.{member_keys}
-use Rattle.acl_patch.specs.PolicyTouched.{bound_key, first_key_touches, entry_touches}
-use Rattle.key_index.specs.Keys.{key_parts}
+use Rattle.row_changes.specs.PolicyTouched.{bound_key, first_key_touches, entry_touches}
+use Rattle.row_changes.specs.EntryKeys.{key_parts}
 use Rattle.row_changes.specs.Change.{ChangeState}
 use Rattle.row_changes.specs.Fresh.{fresh_of, first_of, more_fresh}
 use Rattle.row_changes.proofs.FreshLaws.{none-more, no_first, some_first, counts_one}

@@ -2,8 +2,8 @@ use Rattle.std.proofs.Common.{◌+◌, ◌*◌, List, ◌∷◌, [], length, map
 use Rattle.std.proofs.lemmas.List.{drop_all}
 use Rattle.acl_model.specs.Places.{key_place}
 use Rattle.acl_rows.specs.declared.row.RowKey.{RowKey}
-use Rattle.acl_patch.specs.Touched.{with_edits}
-use Rattle.key_index.specs.declared.group.EntrySpot.{EntrySpot}
+use Rattle.row_changes.specs.Touched.{with_edits}
+use Rattle.row_changes.specs.declared.group.EntrySpot.{EntrySpot}
 use Rattle.row_changes.specs.Change.{more_edits}
 use Rattle.row_changes.specs.Steps.{least_steps}
 use Rattle.row_changes.proofs.Loops.{more_edits-append, least_steps-cons}

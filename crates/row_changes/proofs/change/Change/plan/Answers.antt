@@ -2,7 +2,7 @@ use Rattle.std.proofs.Common.{List, ◌*◌, length, ap, subst, ◌∙◌, arith
 use Rattle.sorted_rows.specs.Placed.{PlacesAscend}
 use Rattle.acl_model.specs.Places.{binding_place}
 use Rattle.acl_rows.specs.declared.row.RowKey.{RowKey}
-use Rattle.acl_patch.specs.Touched.{touches}
+use Rattle.row_changes.specs.Touched.{touches}
 use Rattle.row_changes.specs.Change.{ChangeState, more_edits}
 use Rattle.row_changes.specs.Steps.{least_steps}
 use Rattle.row_changes.proofs.Loops.{length_times, least_steps-append}

@@ -4,7 +4,7 @@ use Rattle.sorted_rows.specs.Placed.{row_at, set_row}
 use Rattle.acl_rows.specs.Places.{row_place, row_key_place}
 use Rattle.acl_rows.specs.ByAddress.{index_beside}
 use Rattle.acl_rows.specs.Rows.{row, rows_of}
-use Rattle.acl_patch.specs.Touched.{changed_edits}
+use Rattle.row_changes.specs.Touched.{changed_edits}
 use Rattle.row_changes.specs.Change.{ChangeState, end_of_row}
 use Rattle.row_changes.specs.Fresh.{Fresh, fresh_of}
 use Rattle.row_changes.proofs.FreshLaws.{fresh_some, fresh_none}

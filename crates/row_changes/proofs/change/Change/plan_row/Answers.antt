@@ -3,7 +3,7 @@ use Rattle.row_edits.specs.declared.edit.Edit.{Edit}
 use Rattle.acl_rows.specs.declared.row.Row.{Row}
 use Rattle.acl_rows.specs.Places.{row_key_place}
 use Rattle.acl_rows.specs.ByAddress.{rows_of_peer, index_beside, until_of_row}
-use Rattle.acl_patch.specs.Touched.{changed_edits}
+use Rattle.row_changes.specs.Touched.{changed_edits}
 use Rattle.row_changes.specs.Change.{ChangeState, end_of_row}
 use Rattle.row_changes.specs.Steps.{least_step}
 use Rattle.row_changes.proofs.change.Change.plan_row.Goals as goal

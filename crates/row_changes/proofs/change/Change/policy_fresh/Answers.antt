@@ -1,7 +1,7 @@
 use Rattle.std.proofs.Common.{List, ℕ, ◌+◌, ◌*◌, ap, arith, length-append}
 use Rattle.mud_base.specs.declared.packet.Direction.TheVariants.{From, To}
 use Rattle.acl_rows.specs.declared.row.RowKey.{RowKey}
-use Rattle.acl_patch.specs.PolicyTouched.{side_policy_touches, new_touches}
+use Rattle.row_changes.specs.PolicyTouched.{side_policy_touches, new_touches}
 use Rattle.row_changes.specs.Fresh.{policy_count}
 use Rattle.row_changes.proofs.EntryHalves.{sides_planned}
 use Rattle.row_changes.proofs.change.Change.policy_fresh.Goals as goal

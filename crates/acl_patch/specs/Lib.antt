@@ -1,3 +1,0 @@
-pub mod Patch
-pub mod Touched
-pub mod PolicyTouched

@@ -1,0 +1,11 @@
+pub mod Beside
+pub mod BindingPartLaws
+pub mod EditLaws
+pub mod IndexLaws
+pub mod KeyLaws
+pub mod LastLaws
+pub mod Numbers
+pub mod RoomLaws
+pub mod RowPartLaws
+pub mod RunLaws
+pub mod SearchLaws

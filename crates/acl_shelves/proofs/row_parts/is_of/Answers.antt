@@ -1,0 +1,12 @@
+use Rattle.std.proofs.Common.{sym, ap, ◌∙◌}
+use Rattle.std.specs.Ordering.{is_eq}
+use Rattle.row_edits.specs.Edits.{edit_place}
+use Rattle.acl_rows.specs.Places.{peer_place, row_place}
+use Rattle.acl_shelves.proofs.LastLaws.{under_is}
+use Rattle.acl_shelves.proofs.row_parts.is_of.Goals as goal
+
+pub returns : goal.returns
+returns c =
+    c.is_eq.ensures
+    ∙ ap is_eq c.order_to_beginning.ensures
+    ∙ sym (under_is (edit_place row_place) (peer_place c.args.peer.owner c.args.peer.side c.args.peer.addr) c.args.edit.now)

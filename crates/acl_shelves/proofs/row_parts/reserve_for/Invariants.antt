@@ -1,0 +1,12 @@
+use Rattle.std.proofs.Common.{◌≡◌, Some}
+use Rattle.acl_rows.specs.declared.row.Peer.{Peer}
+use Rattle.acl_shelves.specs.RowParts.{AreRoomier, HasRoomFor}
+use Rattle.acl_shelves.proofs.RoomLaws.{HaveOwnRoom}
+use Rattle.acl_shelves.proofs.row_parts.reserve_for.Given as goal
+
+abbrev pub invariant-loop-edit : goal.invariant-loop-edit
+invariant-loop-edit l = record {
+  kept : AreRoomier l.initial.shelves.items l.shelves.items;
+  each : HaveOwnRoom l.edits.rows l.shelves.items l.edit-index;
+  last : (p : Peer) → l.last ≡ Some p → HasRoomFor p.owner p.side p.addr l.edits.rows l.shelves.items;
+}

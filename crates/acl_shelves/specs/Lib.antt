@@ -1,0 +1,4 @@
+pub mod BindingParts
+pub mod BindingShelves
+pub mod RowParts
+pub mod RowShelves

@@ -1,2 +1,0 @@
-pub mod OldRows
-pub mod Places

@@ -1,9 +1,0 @@
-use Rattle.std.proofs.Common.{◌≡◌, ◌++◌, [], map, take}
-use Rattle.std.specs.Prelude.{flat_map}
-use Rattle.sorted_rows.specs.Changes.{with_found, gone_row, rows_at}
-use Rattle.binding_changes.specs.Lent.{lent_binding}
-use Rattle.binding_changes.proofs.changes.old_bindings.Given as goal
-
-abbrev pub invariant-loop-row : goal.invariant-loop-row
-invariant-loop-row g l =
-    map lent_binding l.list ≡ flat_map g.R.BindingRow.bindings (with_found (gone_row g.R.Placed.place l.change.gone l.rows.rows) [] ++ rows_at g.R.Placed.place (map g.R.Placed.place (take l.row-index l.row-items)) l.rows.rows)

@@ -1,4 +1,0 @@
-pub mod EditLaws
-pub mod KeyLaws
-pub mod PartLaws
-pub mod SearchLaws

@@ -1,4 +1,0 @@
-use Rattle.desk_rows.proofs.compiling.compile.Given as goal
-
-abbrev pub ghosts-compile_counted : goal.ghosts-compile_counted
-ghosts-compile_counted a = record { name = a.blank.name; parts = a.blank.parts }

@@ -1,2 +1,0 @@
-pub mod CompiledDesk
-pub mod Policies

@@ -1,6 +1,0 @@
-use Rattle.std.proofs.Common.{◌≡◌, ◌++◌, drop, true}
-use Rattle.entry_text.specs.Flags.{words_text}
-use Rattle.entry_text.proofs.flags.append_words.Given as goal
-
-abbrev pub invariant-flags : goal.invariant-flags
-invariant-flags l = l.line ++ words_text l.first l.octet (drop l.flag-index l.flags) ≡ l.initial.line ++ words_text true l.octet l.flags

@@ -1,6 +1,0 @@
-pub mod Answers
-pub mod Running
-pub mod Stops
-pub mod Serves
-pub mod Visits
-mod Examples

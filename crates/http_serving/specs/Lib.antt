@@ -1,4 +1,0 @@
-pub mod Asked
-pub mod Runs
-pub mod Ends
-pub mod Visits

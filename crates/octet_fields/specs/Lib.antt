@@ -1,3 +1,0 @@
-pub mod Ethernet
-pub mod Numbers
-pub mod Places

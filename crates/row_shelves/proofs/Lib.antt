@@ -1,7 +1,0 @@
-pub mod Beside
-pub mod IndexLaws
-pub mod LastLaws
-pub mod Numbers
-pub mod PartLaws
-pub mod RoomLaws
-pub mod RunLaws

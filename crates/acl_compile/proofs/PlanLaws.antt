@@ -5,8 +5,8 @@ use Rattle.acl_model.specs.declared.binding.Binding.{Binding}
 use Rattle.acl_model.specs.declared.entry.Policy.{Policy}
 use Rattle.acl_model.specs.Places.{binding_place}
 use Rattle.acl_model.specs.Changes.{replaced}
-use Rattle.row_edits.specs.declared.edit.Edit.{Edit}
-use Rattle.row_edits.specs.Edits.{edited}
+use Rattle.sorted_rows.specs.declared.edit.Edit.{Edit}
+use Rattle.sorted_rows.specs.Edits.{edited}
 use Rattle.acl_shelves.specs.RowShelves.{Shelves, HasRoom}
 use Rattle.acl_shelves.specs.BindingShelves.{KeptBindings, HasRoomByKey}
 use Rattle.acl_rows.specs.declared.row.Row.{Row}

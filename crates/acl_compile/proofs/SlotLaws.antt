@@ -33,8 +33,8 @@ use Rattle.row_changes.proofs.Groups.{all_kept, each_there}
 use Rattle.row_changes.proofs.PolicyRows.{end_was}
 use Rattle.acl_compile.specs.Compiled.{UrlsApart, compiled_state}
 use Rattle.row_changes.specs.Fresh.{policy_count}
-use Rattle.row_edits.specs.declared.edit.Edit.{Edit}
-use Rattle.row_edits.specs.Edits.{edited}
+use Rattle.sorted_rows.specs.declared.edit.Edit.{Edit}
+use Rattle.sorted_rows.specs.Edits.{edited}
 use Rattle.acl_shelves.specs.BindingShelves.{KeptBindings, AreFoundByKey, HasRoomByKey}
 use Rattle.acl_shelves.proofs.EditLaws.{no_edits}
 use Rattle.acl_shelves.specs.RowShelves.{Shelves, HasRoom}

@@ -15,7 +15,7 @@ use Rattle.sorted_rows.proofs.RowLaws.{all-set_row, ascend-filter}
 use Rattle.sorted_rows.proofs.IndexLaws.{above-append, ascend-append}
 use Rattle.sorted_rows.proofs.ChangeLaws.{differ_turned}
 use Rattle.sorted_rows.proofs.Lists.{filter_few}
-use Rattle.row_edits.proofs.RunLaws.{empty_out}
+use Rattle.sorted_rows.proofs.EditRunLaws.{empty_out}
 use Rattle.acl_rows.specs.declared.row.Owner.{Owner}
 use Rattle.acl_rows.specs.declared.row.Row.{Row}
 use Rattle.acl_rows.specs.Places.{row_place}

@@ -4,7 +4,7 @@ ghost use Rattle.std.specs.List.{AllByRecursion};
 ghost use Rattle.mud_base.specs.Addresses.{same_addr};
 ghost use Rattle.mud_base.specs.declared.addr.Addr.{Addr as AddrValue};
 ghost use Rattle.sorted_rows.specs.Placed.{index_in, PlacesAscend};
-ghost use Rattle.row_edits.specs.Edits.{edited};
+ghost use Rattle.sorted_rows.specs.Edits.{edited};
 ghost use Rattle.acl_rows.specs.Places.{row_place, row_key_place};
 ghost use Rattle.acl_rows.specs.View.{is_at};
 ghost use Rattle.acl_rows.specs.ByAddress.{room_at, index_beside, until_of_row, IsRowAt, IsEditAt, IsRoomier, AreGroups};
@@ -12,8 +12,7 @@ ghost use Rattle.acl_rows.specs.ByAddress.{room_at, index_beside, until_of_row, 
 use crate::groups::GroupedRows;
 use crate::row::{FoundRow, Owner, Row, RowKey};
 use mud_base::{Addr, Direction, Memory};
-use row_edits::Edit;
-use sorted_rows::{SortedRows, Steps};
+use sorted_rows::{Edit, SortedRows, Steps};
 use std::alloc::Global;
 use std::collections::BTreeMap;
 use std::marker::Model;

@@ -3,7 +3,7 @@
 ghost use Rattle.std.specs.Prelude.{◌≡◌, ℕ, ◌+◌, ◌^◌, ◌<◌, ◌≤◌, min, length, take, drop, slice_get, [], Some, option_map, OnOk};
 ghost use Rattle.mud_base.specs.declared.packet.Direction.{Direction as DirectionValue};
 ghost use Rattle.sorted_rows.specs.Placed.{index_in, PlacesAscend};
-ghost use Rattle.row_edits.specs.Edits.{AreFound};
+ghost use Rattle.sorted_rows.specs.Edits.{AreFound};
 ghost use Rattle.acl_rows.specs.declared.row.Owner.{Owner as OwnerValue};
 ghost use Rattle.acl_rows.specs.Places.{row_place, row_key_place};
 ghost use Rattle.acl_rows.specs.ByAddress.{until_of_row, grouped};
@@ -11,8 +11,7 @@ ghost use Rattle.acl_rows.specs.Groups.{part_at, group_place, AreGrouped, HaveSa
 
 use crate::row::{FoundRow, Row, RowKey};
 use mud_base::{Addr, End, Memory};
-use row_edits::{Edit, make_edits_from};
-use sorted_rows::{SortedRows, Steps};
+use sorted_rows::{Edit, SortedRows, Steps, make_edits_from};
 use std::alloc::Global;
 use std::collections::BTreeMap;
 use std::marker::Model;

@@ -11,7 +11,7 @@ use Rattle.sorted_rows.proofs.PlacedLaws.{same_place-cmp, same_place_exact, same
 use Rattle.sorted_rows.proofs.RowLaws.{all-set_row}
 use Rattle.sorted_rows.proofs.IndexLaws.{above-append, ascend-append}
 use Rattle.sorted_rows.proofs.ChangeLaws.{differ_turned}
-use Rattle.row_edits.proofs.RunLaws.{empty_out}
+use Rattle.sorted_rows.proofs.EditRunLaws.{empty_out}
 use Rattle.mud_base.specs.declared.addr.Addr.{Addr}
 use Rattle.acl_model.specs.declared.binding.MemberKey.{MemberKey}
 use Rattle.acl_model.specs.declared.binding.Binding.{Binding}

@@ -15,9 +15,9 @@ use Rattle.sorted_rows.proofs.ChangeLaws.{same_place_turned}
 use Rattle.acl_model.specs.declared.binding.MemberKey.{MemberKey}
 use Rattle.acl_model.specs.declared.binding.Binding.{Binding}
 use Rattle.acl_model.specs.Places.{key_place, binding_place}
-use Rattle.row_edits.specs.declared.edit.Edit.{Edit}
-use Rattle.row_edits.specs.Edits.{edit_place, row_after, edit_made, edited}
-use Rattle.row_edits.proofs.EditLaws.{ascend-edit_made, row_at-edit_made, edited-last, last_split, below_last}
+use Rattle.sorted_rows.specs.declared.edit.Edit.{Edit}
+use Rattle.sorted_rows.specs.Edits.{edit_place, row_after, edit_made, edited}
+use Rattle.sorted_rows.proofs.EditLaws.{ascend-edit_made, row_at-edit_made, edited-last, last_split, below_last}
 use Rattle.acl_shelves.specs.declared.binding_parts.Shelf.{Shelf}
 use Rattle.acl_shelves.specs.BindingShelves.{KeyRoom, bindings_of_key, index_by_key, AreFoundByKey, edits_of_key, HasRoomByKey}
 use Rattle.acl_shelves.specs.BindingParts.{shelf_place, part_at, joined, room_in, IsOwn, AreShelved, AreRoomier, AreFoundIn, IsEdited}

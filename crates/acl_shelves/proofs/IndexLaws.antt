@@ -6,9 +6,9 @@ use Rattle.std.specs.declared.cmp.Ordering.TheVariants.{Less, Equal, Greater}
 use Rattle.sorted_rows.specs.Placed.{place_cmp, index_in, one_on, set_row, without_row, PlacesAbove, PlacesAscend}
 use Rattle.sorted_rows.proofs.PlacedLaws.{place_cmp_exact, above_trans}
 use Rattle.sorted_rows.proofs.RowLaws.{above-filter}
-use Rattle.row_edits.specs.declared.edit.Edit.{Edit}
-use Rattle.row_edits.specs.Edits.{edit_place, edit_made, edited}
-use Rattle.row_edits.proofs.EditLaws.{ascend-edited}
+use Rattle.sorted_rows.specs.declared.edit.Edit.{Edit}
+use Rattle.sorted_rows.specs.Edits.{edit_place, edit_made, edited}
+use Rattle.sorted_rows.proofs.EditLaws.{ascend-edited}
 
 module _ {R : Type 0} (place : R → List ℕ) (t : R → Bool) where
   abbrev step : Result ℕ ℕ → Ordering → Result ℕ ℕ

@@ -10,9 +10,9 @@ use Rattle.sorted_rows.specs.Placed.{place_cmp, prefix_cmp, is_under, PlacesAbov
 use Rattle.sorted_rows.proofs.ProbeLaws.{prefix_falls, is_eq-prefix_cmp}
 use Rattle.mud_base.specs.declared.addr.Addr.{Addr}
 use Rattle.mud_base.specs.declared.packet.Direction.{Direction}
-use Rattle.row_edits.specs.declared.edit.Edit.{Edit}
-use Rattle.row_edits.specs.Edits.{edit_place}
-use Rattle.row_edits.proofs.RunLaws.{first_is}
+use Rattle.sorted_rows.specs.declared.edit.Edit.{Edit}
+use Rattle.sorted_rows.specs.Edits.{edit_place}
+use Rattle.sorted_rows.proofs.EditRunLaws.{first_is}
 use Rattle.acl_rows.specs.declared.row.Owner.{Owner}
 use Rattle.acl_rows.specs.declared.row.Row.{Row}
 use Rattle.acl_rows.specs.Places.{peer_place, row_place}

@@ -10,8 +10,8 @@ use Rattle.sorted_rows.proofs.PlacedLaws.{place_cmp_turned}
 use Rattle.sorted_rows.proofs.Lists.{all_push}
 use Rattle.mud_base.specs.declared.addr.Addr.{Addr}
 use Rattle.mud_base.specs.declared.packet.Direction.{Direction}
-use Rattle.row_edits.specs.declared.edit.Edit.{Edit}
-use Rattle.row_edits.specs.Edits.{edit_place, edited}
+use Rattle.sorted_rows.specs.declared.edit.Edit.{Edit}
+use Rattle.sorted_rows.specs.Edits.{edit_place, edited}
 use Rattle.acl_rows.specs.declared.row.Owner.{Owner}
 use Rattle.acl_rows.specs.declared.row.Peer.{Peer}
 use Rattle.acl_rows.specs.declared.row.Row.{Row}

@@ -10,10 +10,10 @@ use Rattle.sorted_rows.proofs.RowLaws.{all-set_row, all-without_row}
 use Rattle.mud_base.specs.Addresses.{same_addr}
 use Rattle.mud_base.specs.declared.addr.Addr.{Addr}
 use Rattle.mud_base.specs.declared.packet.Direction.{Direction}
-use Rattle.row_edits.specs.declared.edit.Edit.{Edit}
-use Rattle.row_edits.specs.Edits.{edit_place, edit_made, edited}
-use Rattle.row_edits.proofs.EditLaws.{ascend-edited}
-use Rattle.row_edits.proofs.RunLaws.{all_right, edited-append, edited_before, edited_behind}
+use Rattle.sorted_rows.specs.declared.edit.Edit.{Edit}
+use Rattle.sorted_rows.specs.Edits.{edit_place, edit_made, edited}
+use Rattle.sorted_rows.proofs.EditLaws.{ascend-edited}
+use Rattle.sorted_rows.proofs.EditRunLaws.{all_right, edited-append, edited_before, edited_behind}
 use Rattle.acl_model.proofs.BindingLaws.{same_addr_exact}
 use Rattle.acl_rows.specs.declared.row.Owner.{Owner}
 use Rattle.acl_rows.specs.declared.row.Row.{Row}

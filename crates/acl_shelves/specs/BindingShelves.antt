@@ -2,8 +2,8 @@
 use Rattle.std.specs.Prelude.{◌≡◌, ℕ, ◌≤◌, List, [], ◌∷◌, length, Result, if◌then◌else◌}
 use Rattle.std.specs.List.{AllByRecursion}
 use Rattle.sorted_rows.specs.Placed.{same_place, index_in, rows_under}
-use Rattle.row_edits.specs.declared.edit.Edit.{Edit}
-use Rattle.row_edits.specs.Edits.{edit_place}
+use Rattle.sorted_rows.specs.declared.edit.Edit.{Edit}
+use Rattle.sorted_rows.specs.Edits.{edit_place}
 use Rattle.acl_model.specs.declared.binding.MemberKey.{MemberKey}
 use Rattle.acl_model.specs.declared.binding.Binding.{Binding}
 use Rattle.acl_model.specs.Places.{key_place, binding_place}

@@ -1,7 +1,7 @@
 //! Shelves, in the order of their keys, each with the bindings of one key.
 ghost use Rattle.std.specs.Prelude.{◌≡◌, ◌+◌, ◌≤◌, [], length, true, Some, OnOk, IfOk, Ok, option_copied};
 ghost use Rattle.sorted_rows.specs.Placed.{PlacesAscend, place_cmp, index_in};
-ghost use Rattle.row_edits.specs.Edits.{edited};
+ghost use Rattle.sorted_rows.specs.Edits.{edited};
 ghost use Rattle.acl_model.specs.Places.{text_place, key_place, binding_place};
 ghost use Rattle.acl_model.specs.declared.binding.MemberKey.{MemberKey as KeyValue};
 ghost use Rattle.acl_shelves.specs.BindingShelves.{HasRoomByKey, edits_of_key};
@@ -9,8 +9,7 @@ ghost use Rattle.acl_shelves.specs.BindingParts.{shelf_place, part_at, joined, r
 
 use acl_model::{Binding, KeyText, MemberKey, order_keys, same_key};
 use mud_base::Memory;
-use row_edits::{Edit, make_edit};
-use sorted_rows::{PrefixOf, SortedRows, Steps};
+use sorted_rows::{Edit, PrefixOf, SortedRows, Steps, make_edit};
 use std::alloc::Global;
 use std::cmp::Ordering;
 use std::sync::ledger::Ledger;
@@ -65,7 +64,7 @@ impl PrefixOf<Edit<Binding>> for OfKey<'_> {
 
     ghost prefix = { λ of. text_place of.0.kind of.0.text.now };
 
-    #[tactic(auto, unfolding(row_edits::specs::Edits::edit_place))]
+    #[tactic(auto, unfolding(sorted_rows::specs::Edits::edit_place))]
     fn order_to_beginning(&self, edit: &Edit<Binding>) -> Ordering {
         self.0.order_to_beginning(&edit.row)
     }

@@ -2,15 +2,14 @@
 ghost use Rattle.std.specs.Prelude.{◌≡◌, ℕ, ◌+◌, ◌-◌, ◌*◌, ◌^◌, ◌<◌, ◌≤◌, ◌++◌, min, [], length, option_copied, OnOk};
 ghost use Rattle.sorted_rows.specs.Addresses.{addr_place};
 ghost use Rattle.sorted_rows.specs.Placed.{PlacesAscend, row_at, rows_under};
-ghost use Rattle.row_edits.specs.Edits.{edited};
+ghost use Rattle.sorted_rows.specs.Edits.{edited};
 ghost use Rattle.acl_model.specs.Places.{text_place, binding_place};
 ghost use Rattle.acl_shelves.specs.BindingShelves.{HasRoomByKey, AreFoundByKey, bindings_of_key, index_by_key};
 
 use crate::binding_parts::{Shelf, bindings_at, clear_shelves, make_all, make_room};
 use acl_model::{Binding, BoundKey, KeyText};
 use mud_base::Memory;
-use row_edits::Edit;
-use sorted_rows::{SortedRows, Steps};
+use sorted_rows::{Edit, SortedRows, Steps};
 use std::alloc::Global;
 use std::marker::Model;
 use std::sync::ledger::Ledger;

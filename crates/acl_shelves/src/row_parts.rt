@@ -2,7 +2,7 @@
 ghost use Rattle.std.specs.Prelude.{◌≡◌, ℕ, ◌+◌, ◌<◌, ◌≤◌, [], Some, length, take, drop, OnOk, vec_len};
 ghost use Rattle.std.specs.List.{AllByRecursion};
 ghost use Rattle.sorted_rows.specs.Placed.{is_under, PlacesAscend};
-ghost use Rattle.row_edits.specs.Edits.{edit_place, edited};
+ghost use Rattle.sorted_rows.specs.Edits.{edit_place, edited};
 ghost use Rattle.acl_rows.specs.declared.row.Peer.{Peer as PeerValue};
 ghost use Rattle.acl_rows.specs.Places.{peer_place, row_place};
 ghost use Rattle.acl_rows.specs.ByAddress.{IsEditAt};
@@ -11,8 +11,7 @@ ghost use Rattle.acl_shelves.specs.RowParts.{part_at, joined, room_in, AreSorted
 
 use acl_rows::{AddressRows, Owner, Peer, Row};
 use mud_base::{Direction, Memory};
-use row_edits::Edit;
-use sorted_rows::{PrefixOf, SortedRows, Steps};
+use sorted_rows::{Edit, PrefixOf, SortedRows, Steps};
 use std::alloc::Global;
 use std::cmp::Ordering;
 use std::sync::ledger::Ledger;
@@ -75,7 +74,7 @@ impl PrefixOf<Edit<Row>> for OfPeer {
 
     ghost prefix = { λ of. peer_place of.0.owner of.0.side of.0.addr };
 
-    #[tactic(auto, unfolding(row_edits::specs::Edits::edit_place))]
+    #[tactic(auto, unfolding(sorted_rows::specs::Edits::edit_place))]
     fn order_to_beginning(&self, edit: &Edit<Row>) -> Ordering {
         self.0.order_to_beginning(&edit.row)
     }

@@ -1,6 +1,6 @@
 //! Rows on shelves.
 ghost use Rattle.std.specs.Prelude.{◌≡◌, ℕ, ◌+◌, ◌^◌, ◌<◌, ◌≤◌, [], min, length, OnOk};
-ghost use Rattle.row_edits.specs.Edits.{edited};
+ghost use Rattle.sorted_rows.specs.Edits.{edited};
 ghost use Rattle.acl_rows.specs.Places.{row_place, row_key_place};
 ghost use Rattle.acl_rows.specs.View.{part, rows_of_side};
 ghost use Rattle.acl_rows.specs.ByAddress.{rows_of_peer, index_beside, until_of_row, AreGroups};
@@ -10,8 +10,7 @@ use crate::row_parts::{make_all, make_room, number_of, part_of};
 use acl_model::Entry;
 use acl_rows::{AddressRows, FoundRow, Owner, Row, RowKey, RulePart};
 use mud_base::{Addr, Direction, Memory};
-use row_edits::Edit;
-use sorted_rows::{SortedRows, Steps};
+use sorted_rows::{Edit, SortedRows, Steps};
 use std::alloc::Global;
 use std::collections::BTreeMap;
 use std::marker::Model;

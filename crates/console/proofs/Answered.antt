@@ -13,13 +13,13 @@ use Rattle.mud_tables.specs.declared.segment.Segment.{Segment}
 use Rattle.desk_model.specs.Sessions.{Session, later}
 use Rattle.console_routes.specs.Routes.{route_of}
 use Rattle.mud_desk.specs.DeskState.{DeskState, session_of, HasForwarded}
-use Rattle.console_answers.specs.declared.question.Question.{Question}
-use Rattle.console_answers.specs.declared.question.NoQuestion.{NoQuestion}
-use Rattle.console_answers.specs.Replies.{Reply, reply, replied, no_storage, IsOrWanted, MayStand}
-use Rattle.console_answers.specs.Asks.{question_of, by_route, refusal_of}
-use Rattle.console_answers.specs.Requests.{question_in, by_result, reply_in, MayFailBy, MayFail, MayReply, MayWant, by_question, ChangesBy, command_asked}
+use Rattle.console.specs.declared.question.Question.{Question}
+use Rattle.console.specs.declared.question.NoQuestion.{NoQuestion}
+use Rattle.console.specs.Replies.{Reply, reply, replied, no_storage, IsOrWanted, MayStand}
+use Rattle.console.specs.Asks.{question_of, by_route, refusal_of}
+use Rattle.console.specs.Requests.{question_in, by_result, reply_in, MayFailBy, MayFail, MayReply, MayWant, by_question, ChangesBy, command_asked}
 use Rattle.http_requests.specs.Framing.{is_head}
-use Rattle.console_answers.specs.Answers.{octets_of, MayAnswer}
+use Rattle.console.specs.Answers.{octets_of, MayAnswer}
 use Rattle.mud_base.specs.declared.refusal.Refusal.{Refusal}
 use Rattle.mud_base.specs.declared.refusal.Refusal.TheVariants.{Memory, Broken}
 use Rattle.mud_base.specs.Readings.{Fails}

@@ -10,7 +10,7 @@ use Rattle.desk_model.specs.DeskTables.{DeskTables}
 use Rattle.desk_books.specs.Books.{desk_of}
 use Rattle.mud_desk.specs.DeskState.{DeskState, tables_of}
 use Rattle.desk_model.specs.Boxed.{IsKept, IsSameBox}
-use Rattle.console_answers.specs.Replies.{is_unavailable}
+use Rattle.console.specs.Replies.{is_unavailable}
 
 pub same_tables : (before after : DeskState) → after.books ≡ before.books → tables_of after ≡ tables_of before
 unfolding tables_of

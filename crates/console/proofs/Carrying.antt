@@ -8,8 +8,8 @@ use Rattle.desk_model.specs.declared.reply.Reply as desk
 use Rattle.desk_model.specs.declared.reply.Reply.TheVariants.{Done, Refused, Keeper, Memory}
 use Rattle.desk_model.specs.Commands.{DeskStep, command_step}
 use Rattle.desk_model.specs.Sessions.{Session, Answered, answered, later, command_in, MayAnswer}
-use Rattle.console_answers.specs.Replies.{Reply, replied, IsOrWanted, MayStand}
-use Rattle.console_answers.specs.Requests.{command_reply, by_command, Changes}
+use Rattle.console.specs.Replies.{Reply, replied, IsOrWanted, MayStand}
+use Rattle.console.specs.Requests.{command_reply, by_command, Changes}
 use Rattle.console.specs.Origins.{IsWritten}
 
 abbrev is_refused : desk.Reply → Bool

@@ -1,10 +1,11 @@
+pub mod Answered
+pub mod Beside
 pub mod Boxes
-pub mod Replying
-pub mod Standing
 pub mod Carrying
+pub mod Dues
 pub mod Faults
 pub mod Paths
-pub mod Answered
-pub mod Wants
+pub mod Replying
+pub mod Standing
 pub mod Takes
-pub mod Beside
+pub mod Wants

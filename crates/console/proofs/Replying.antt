@@ -11,11 +11,11 @@ use Rattle.listing_bodies.specs.Refusals.{refusal_status, files_status}
 use Rattle.console_bodies.specs.declared.fault.BodyFault.{BodyFault}
 use Rattle.listing_bodies.specs.Refusals.{body_fault_body}
 use Rattle.http_answers.specs.declared.status.Status.TheVariants.{BadRequest}
-use Rattle.console_answers.specs.declared.question.NoQuestion.{NoQuestion}
-use Rattle.console_answers.specs.declared.question.NoQuestion.TheVariants.{NoRoute, NoMethod, BadBody}
-use Rattle.console_answers.specs.Asks.{refusal_of}
+use Rattle.console.specs.declared.question.NoQuestion.{NoQuestion}
+use Rattle.console.specs.declared.question.NoQuestion.TheVariants.{NoRoute, NoMethod, BadBody}
+use Rattle.console.specs.Asks.{refusal_of}
 use Rattle.console.specs.declared.refusals.ReplyHead.{ReplyHead}
-use Rattle.console_answers.specs.Replies.{Reply, reply, made_reply, is_unavailable, IsOrWanted}
+use Rattle.console.specs.Replies.{Reply, reply, made_reply, is_unavailable, IsOrWanted}
 use Rattle.console.specs.Refused.{IsToldOf}
 
 pub defined : (given is : Reply) → given ≡ is → IsOrWanted is given

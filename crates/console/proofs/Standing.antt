@@ -21,12 +21,12 @@ use Rattle.mud_desk.specs.declared.findings.Findings.{Findings}
 use Rattle.mud_desk.specs.Findings.{found_in, AreFindingsOn}
 use Rattle.mud_desk.specs.DeskState.{DeskState, tables_of, session_of, HasForwarded, IsJudged}
 use Rattle.mud_desk.proofs.Sessions.{flows_stay}
-use Rattle.console_answers.specs.Replies.{Reply, reply, Replied, replied, made_reply, no_storage, IsOrWanted, MayStand}
-use Rattle.console_answers.specs.Listings.{listing_text}
-use Rattle.console_answers.specs.Why.{ends_text, why_text}
+use Rattle.console.specs.Replies.{Reply, reply, Replied, replied, made_reply, no_storage, IsOrWanted, MayStand}
+use Rattle.console.specs.Listings.{listing_text}
+use Rattle.console.specs.Why.{ends_text, why_text}
 use Rattle.console_routes.specs.declared.action.Action.{Action}
 use Rattle.console_bodies.specs.declared.asked.Asked.{Asked}
-use Rattle.console_answers.specs.Requests.{ChangesBy, by_verdict, by_question, command_asked}
+use Rattle.console.specs.Requests.{ChangesBy, by_verdict, by_question, command_asked}
 use Rattle.console.specs.Runs.{LeadsOn}
 use Rattle.console.proofs.Replying.{made}
 

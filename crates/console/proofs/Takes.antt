@@ -11,8 +11,8 @@ use Rattle.http_requests.specs.Framing.{moment_of}
 use Rattle.http_requests.specs.Requests.{Request}
 use Rattle.http_requests.specs.Asked.{Asked, asked_by}
 use Rattle.http_requests.specs.Visits.{CountsOf}
-use Rattle.console_answers.specs.Replies.{is_unavailable}
-use Rattle.console_answers.specs.Answers.{MayAnswer}
+use Rattle.console.specs.Replies.{is_unavailable}
+use Rattle.console.specs.Answers.{MayAnswer}
 use Rattle.console.specs.Runs.{LeadsOn}
 use Rattle.console.specs.States.{ConsoleState, begun, counted, TakesMoment, MayTake, IsAt}
 use Rattle.console.specs.Beside.{MayIf, IsAtIf}

@@ -20,12 +20,12 @@ use Rattle.mud_base.specs.declared.refusal.Refusal.TheVariants.{Memory, Broken}
 use Rattle.mud_base.specs.Readings.{Fails}
 use Rattle.console_bodies.specs.Bodies.{body_of, takes_memory}
 use Rattle.console_bodies.specs.declared.asked.Asked.{Asked}
-use Rattle.console_answers.specs.declared.question.Question.{Question}
-use Rattle.console_answers.specs.declared.question.NoQuestion.{NoQuestion}
-use Rattle.console_answers.specs.declared.question.NoQuestion.TheVariants.{NoRoute, NoMethod, BadBody}
-use Rattle.console_answers.specs.Asks.{action_at, reads_with_memory, question_of, by_route, by_action, by_body}
-use Rattle.console_answers.specs.Replies.{Reply, reply, no_route, no_method}
-use Rattle.console_answers.specs.Requests.{MayWantFor, MayWant}
+use Rattle.console.specs.declared.question.Question.{Question}
+use Rattle.console.specs.declared.question.NoQuestion.{NoQuestion}
+use Rattle.console.specs.declared.question.NoQuestion.TheVariants.{NoRoute, NoMethod, BadBody}
+use Rattle.console.specs.Asks.{action_at, reads_with_memory, question_of, by_route, by_action, by_body}
+use Rattle.console.specs.Replies.{Reply, reply, no_route, no_method}
+use Rattle.console.specs.Requests.{MayWantFor, MayWant}
 use Rattle.console.specs.Refused.{IsRefusalOf, MayWantAsked}
 use Rattle.console.proofs.Paths.{route_again}
 

@@ -1,6 +1,13 @@
-pub mod Runs
+pub mod Answers
+pub mod Asks
+pub mod Beside
+pub mod Bodies
+pub mod Listings
 pub mod Origins
 pub mod Refused
-pub mod States
-pub mod Beside
+pub mod Replies
+pub mod Requests
+pub mod Runs
 pub mod Served
+pub mod States
+pub mod Why

@@ -4,8 +4,8 @@ use Rattle.desk_model.specs.declared.reply.Outcome.{Outcome}
 use Rattle.desk_model.specs.declared.reply.Reply as desk
 use Rattle.desk_model.specs.declared.reply.Reply.TheVariants.{Done, Refused, Keeper, Memory}
 use Rattle.outcome_bodies.specs.Heards.{heard_body, texts_of}
-use Rattle.console_answers.specs.Replies.{Reply, unavailable, no_storage, IsOrWanted}
-use Rattle.console_answers.specs.Requests.{outcome_body, command_reply}
+use Rattle.console.specs.Replies.{Reply, unavailable, no_storage, IsOrWanted}
+use Rattle.console.specs.Requests.{outcome_body, command_reply}
 use Rattle.console.specs.declared.commands.Origin.{Origin}
 use Rattle.console.specs.declared.commands.Origin.TheVariants.{Asked, Heard}
 

@@ -5,10 +5,10 @@ use Rattle.mud_base.specs.declared.refusal.Refusal.TheVariants.{Memory, Broken}
 use Rattle.desk_model.specs.Sessions.{Session, IsNoted}
 use Rattle.console_bodies.specs.declared.asked.Asked.{Asked}
 use Rattle.console_bodies.specs.declared.asked.Asked.TheVariants.{Judge}
-use Rattle.console_answers.specs.declared.question.NoQuestion.{NoQuestion}
-use Rattle.console_answers.specs.declared.question.NoQuestion.TheVariants.{NoRoute, NoMethod, BadBody}
-use Rattle.console_answers.specs.Asks.{refusal_of}
-use Rattle.console_answers.specs.Replies.{Reply, no_route, no_method, no_storage, IsOrWanted}
+use Rattle.console.specs.declared.question.NoQuestion.{NoQuestion}
+use Rattle.console.specs.declared.question.NoQuestion.TheVariants.{NoRoute, NoMethod, BadBody}
+use Rattle.console.specs.Asks.{refusal_of}
+use Rattle.console.specs.Replies.{Reply, no_route, no_method, no_storage, IsOrWanted}
 
 -- only to say what is wrong with a body memory may be wanted
 abbrev pub IsToldOf : NoQuestion → Reply → Type 0

@@ -11,7 +11,7 @@ use Rattle.http_requests.specs.declared.end.ConnectionEnd.{ConnectionEnd}
 use Rattle.http_requests.specs.Ends.{IsServed}
 use Rattle.http_requests.specs.Runs.{IsLeftBy}
 use Rattle.http_requests.specs.Visits.{ServedInTurn}
-use Rattle.console_answers.specs.Answers.{fault_answer}
+use Rattle.console.specs.Answers.{fault_answer}
 use Rattle.console.specs.declared.console.Console.{Console}
 use Rattle.console.specs.States.{ConsoleState, MayTake, IsAt, begun}
 

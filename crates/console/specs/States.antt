@@ -7,8 +7,8 @@ use Rattle.mud_desk.specs.DeskState.{DeskState, session_of, HasForwarded}
 use Rattle.http_answers.specs.declared.status.Status.{Status}
 use Rattle.http_requests.specs.Asked.{Asked}
 use Rattle.http_requests.specs.Visits.{CountsOf}
-use Rattle.console_answers.specs.Replies.{is_unavailable}
-use Rattle.console_answers.specs.Answers.{MayAnswer}
+use Rattle.console.specs.Replies.{is_unavailable}
+use Rattle.console.specs.Answers.{MayAnswer}
 
 -- the session of the desk, the moments that the clock will give, how many requests were answered with 503, and by how much the
 -- keeper's count of failures has risen

@@ -8,12 +8,12 @@ ghost use Rattle.http_requests.specs.Requests.{Request};
 ghost use Rattle.http_requests.specs.Parts.{AreParts};
 ghost use Rattle.mud_desk.specs.DeskState.{tables_of, HasForwarded};
 ghost use Rattle.desk_model.specs.Boxed.{IsKept, IsSameBox};
-ghost use Rattle.console_answers.specs.Replies.{is_unavailable};
-ghost use Rattle.console_answers.specs.Answers as spec;
+ghost use Rattle.console.specs.Replies.{is_unavailable};
+ghost use Rattle.console.specs.Answers as spec;
 ghost use Rattle.console.specs.Runs.{LeadsOn};
 
+use crate::BodyText;
 use crate::replies::reply_to;
-use console_answers::BodyText;
 use console_routes::Routes;
 use http_answers::{AnswerBuffer, Status, body_part, write_head};
 use http_requests::{FramingFault, RequestFault, RequestParts, is_head};
@@ -77,7 +77,7 @@ impl Answer {
 
     /// Writes the answer to a fault that ends a connection: its head alone, where the method is HEAD.
     /// It takes no memory.
-    #[tactic(auto, using(crate::proofs::Faults::short_rule), unfolding(console_answers::specs::Answers::fault_answer, http_answers::specs::Heads::answer_of, http_answers::specs::Heads::shown))]
+    #[tactic(auto, using(crate::proofs::Faults::short_rule), unfolding(crate::specs::Answers::fault_answer, http_answers::specs::Heads::answer_of, http_answers::specs::Heads::shown))]
     pub fn refuse(&mut self, fault: RequestFault)
         ensures { self.new ≡ spec.fault_answer fault }
     {
@@ -89,7 +89,7 @@ impl Answer {
 }
 
 /// The status of the answer to a fault that ends a connection.
-#[tactic(auto, unfolding(console_answers::specs::Answers::fault_status))]
+#[tactic(auto, unfolding(crate::specs::Answers::fault_status))]
 fn fault_status(fault: FramingFault) -> Status
     ensures { result ≡ spec.fault_status fault }
 {
@@ -108,7 +108,7 @@ fn fault_status(fault: FramingFault) -> Status
 /// it, it says so. The status of the answer is handed out. Memory that is wanted is answered with
 /// 507, and a change that couldn't be kept with 503: all is then as it was. What stands for a change
 /// that was kept takes no memory.
-#[tactic(auto, unfolding(console_answers::specs::Answers::octets_of, http_answers::specs::Heads::answer_of))]
+#[tactic(auto, unfolding(crate::specs::Answers::octets_of, http_answers::specs::Heads::answer_of))]
 pub fn answer_request(
     alloc: Global,
     desk: &mut Desk,

@@ -8,14 +8,14 @@ ghost use Rattle.desk_model.specs.Commands.{IsAsked};
 ghost use Rattle.desk_model.specs.Sessions.{MayAnswer, command_in, is_of_keeper};
 ghost use Rattle.mud_desk.specs.DeskState.{tables_of, session_of, HasForwarded};
 ghost use Rattle.desk_model.specs.Boxed.{IsKept, IsSameBox};
-ghost use Rattle.console_answers.specs.Replies.{reply, is_unavailable, IsOrWanted, MayStand};
-ghost use Rattle.console_answers.specs.Requests.{Changes, by_command, outcome_body};
+ghost use Rattle.console.specs.Replies.{reply, is_unavailable, IsOrWanted, MayStand};
+ghost use Rattle.console.specs.Requests.{Changes, by_command, outcome_body};
 ghost use Rattle.listing_bodies.specs.Refusals as refusals;
 ghost use Rattle.console.specs.Runs.{LeadsOn};
 ghost use Rattle.console.specs.Origins.{said_of, HasTexts, IsWritten};
 
+use crate::BodyText;
 use crate::refusals::want_memory;
-use console_answers::BodyText;
 use console_routes::Action;
 use desk_model::{Command, Outcome, Refusal, Reply};
 use dhcp_lldp::Heard;
@@ -69,7 +69,7 @@ fn run(desk: &mut Desk, command: Command, given: Moment) -> Reply
 }
 
 /// Writes what is told of a command that was asked for and carried out.
-#[tactic(auto, unfolding(console_answers::specs::Requests::outcome_body))]
+#[tactic(auto, unfolding(crate::specs::Requests::outcome_body))]
 fn write_asked(body: &mut BodyText, action: Action, outcome: &Outcome)
     ensures { body.new ≡ outcome_body action outcome.now }
 {
@@ -106,7 +106,7 @@ fn write_refusal(alloc: Global, body: &mut BodyText, refusal: &Refusal) -> Statu
 }
 
 /// Writes what a command answered.
-#[tactic(auto, unfolding(console_answers::specs::Requests::command_reply, console_answers::specs::Replies::unavailable))]
+#[tactic(auto, unfolding(crate::specs::Requests::command_reply, crate::specs::Replies::unavailable))]
 fn write_reply(alloc: Global, body: &mut BodyText, origin: &Origin, answered: Reply) -> Status
     requires { HasTexts origin.now }
     ensures reply { IsWritten (said_of origin.now) answered (reply result body.new) }

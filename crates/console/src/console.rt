@@ -39,7 +39,7 @@ impl<C: Clock> Service for Console<'_, C> {
     ghost use Rattle.std.specs.Prelude.{◌≡◌, ℕ, ◌++◌, IsTrue, Option};
     ghost use Rattle.desk_model.specs.Items.{items_of};
     ghost use Rattle.mud_desk.specs.DeskState.{tables_of};
-    ghost use Rattle.console_answers.specs.Answers.{fault_answer};
+    ghost use Rattle.console.specs.Answers.{fault_answer};
     ghost use Rattle.console.specs.States.{ConsoleState, MayTake};
     ghost use Rattle.console.specs.Beside.{MayBeside, IsAtIf};
 

@@ -9,14 +9,14 @@ ghost use Rattle.console_bodies.specs.Bodies as bodies;
 ghost use Rattle.outcome_bodies.specs.Heards as heards;
 ghost use Rattle.mud_desk.specs.DeskState.{tables_of, HasForwarded};
 ghost use Rattle.desk_model.specs.Boxed.{IsKept, IsSameBox};
-ghost use Rattle.console_answers.specs.Replies.{reply, replied, is_unavailable, MayStand};
-ghost use Rattle.console_answers.specs.Requests.{Changes, ChangesBy, by_command, by_heard};
+ghost use Rattle.console.specs.Replies.{reply, replied, is_unavailable, MayStand};
+ghost use Rattle.console.specs.Requests.{Changes, ChangesBy, by_command, by_heard};
 ghost use Rattle.console.specs.Runs.{LeadsOn};
 
+use crate::BodyText;
 use crate::commands::{Origin, answer_command};
 use crate::refusals::want_memory;
 use crate::session::raise;
-use console_answers::BodyText;
 use console_bodies::heard_command;
 use desk_model::Command;
 use dhcp_lldp::Heard;

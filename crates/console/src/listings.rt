@@ -6,13 +6,13 @@ ghost use Rattle.mud_tables.specs.declared.segment.Segment.{Segment as SegmentVa
 ghost use Rattle.desk_model.specs.Sessions.{later, raised};
 ghost use Rattle.mud_desk.specs.DeskState.{tables_of, HasForwarded};
 ghost use Rattle.desk_model.specs.Boxed.{IsKept, IsSameBox};
-ghost use Rattle.console_answers.specs.Listings as spec;
-ghost use Rattle.console_answers.specs.Replies.{reply, replied, is_unavailable, MayStand};
+ghost use Rattle.console.specs.Listings as spec;
+ghost use Rattle.console.specs.Replies.{reply, replied, is_unavailable, MayStand};
 ghost use Rattle.console.specs.Runs.{LeadsOn};
 
 use crate::refusals::want_memory;
 use crate::session::{later, raise};
-use console_answers::{BodyText, due_text};
+use crate::{BodyText, due_text};
 use console_routes::Listing;
 use http_answers::Status;
 use listing_bodies::{classes_body, files_body, locals_body, names_body, things_body};
@@ -21,7 +21,7 @@ use mud_desk::Desk;
 use std::alloc::Global;
 
 /// The rows of a desk at a moment.
-#[tactic(auto, unfolding(console_answers::specs::Listings::listing_text))]
+#[tactic(auto, unfolding(crate::specs::Listings::listing_text))]
 fn listing_text(alloc: Global, desk: &Desk, listing: Listing, now: Moment) -> Result<Bytes, Memory>
     ensures { IfOk result (λ text. text ≡ spec.listing_text listing (tables_of desk.now.state) now) }
 {

@@ -6,13 +6,13 @@ ghost use Rattle.mud_tables.specs.declared.segment.Segment.{Segment as SegmentVa
 ghost use Rattle.desk_model.specs.Sessions.{frame_in, IsNoted};
 ghost use Rattle.mud_desk.specs.DeskState.{tables_of, session_of, HasForwarded};
 ghost use Rattle.desk_model.specs.Boxed.{IsKept, IsSameBox};
-ghost use Rattle.console_answers.specs.Replies.{reply, is_unavailable, MayStand};
-ghost use Rattle.console_answers.specs.Requests.{by_verdict};
+ghost use Rattle.console.specs.Replies.{reply, is_unavailable, MayStand};
+ghost use Rattle.console.specs.Requests.{by_verdict};
 ghost use Rattle.console.specs.Runs.{LeadsOn};
 
+use crate::BodyText;
 use crate::refusals::want_memory;
 use crate::session::judge;
-use console_answers::BodyText;
 use http_answers::Status;
 use mud_base::{Memory, Moment};
 use mud_desk::Desk;

@@ -1,9 +1,9 @@
 //! Replies to requests that ask for nothing, and to those for which there is no memory.
 ghost use Rattle.std.specs.Prelude.{◌≡◌, false, None};
-ghost use Rattle.console_answers.specs.Replies.{reply, no_storage, is_unavailable};
+ghost use Rattle.console.specs.Replies.{reply, no_storage, is_unavailable};
 ghost use Rattle.console.specs.Refused.{IsToldOf, IsRefusalOf};
 
-use console_answers::{BodyText, NoQuestion, Unasked};
+use crate::{BodyText, NoQuestion, Unasked};
 use console_routes::Route;
 use http_answers::Status;
 use listing_bodies::body_fault_body;
@@ -17,7 +17,7 @@ pub(crate) struct ReplyHead {
 }
 
 /// Says that memory was wanted. It takes none.
-#[tactic(auto, unfolding(console_answers::specs::Replies::no_storage))]
+#[tactic(auto, unfolding(crate::specs::Replies::no_storage))]
 pub(crate) fn want_memory(body: &mut BodyText) -> Status
     ensures reply { reply result body.new ≡ no_storage }
     ensures known { is_unavailable result ≡ false }
@@ -37,7 +37,7 @@ pub(crate) fn plain(status: Status) -> ReplyHead
 }
 
 /// Replies to a request that asks for nothing. Memory is taken only to say what is wrong with a body.
-#[tactic(auto, unfolding(console_answers::specs::Asks::refusal_of, console_answers::specs::Replies::no_route, console_answers::specs::Replies::no_method, console_answers::specs::Replies::reply), using(crate::proofs::Replying::defined, crate::proofs::Replying::made))]
+#[tactic(auto, unfolding(crate::specs::Asks::refusal_of, crate::specs::Replies::no_route, crate::specs::Replies::no_method, crate::specs::Replies::reply), using(crate::proofs::Replying::defined, crate::proofs::Replying::made))]
 fn refuse(alloc: Global, body: &mut BodyText, nothing: NoQuestion) -> ReplyHead
     ensures reply { IsToldOf nothing (record { status = result.status; allow = result.allow; body = body.new }) }
     ensures known { is_unavailable result.status ≡ false }
@@ -61,7 +61,7 @@ fn refuse(alloc: Global, body: &mut BodyText, nothing: NoQuestion) -> ReplyHead
 }
 
 /// Replies to a request that asks for nothing, or for which there is no memory.
-#[tactic(auto, unfolding(console_answers::specs::Replies::reply))]
+#[tactic(auto, unfolding(crate::specs::Replies::reply))]
 pub(crate) fn refuse_unasked(alloc: Global, body: &mut BodyText, unasked: Unasked) -> ReplyHead
     ensures reply { IsRefusalOf unasked (record { status = result.status; allow = result.allow; body = body.new }) }
     ensures known { is_unavailable result.status ≡ false }

@@ -9,8 +9,8 @@ ghost use Rattle.http_requests.specs.Parts.{AreParts};
 ghost use Rattle.console_bodies.specs.Laws.{AsksRightly};
 ghost use Rattle.mud_desk.specs.DeskState.{tables_of, session_of, HasForwarded};
 ghost use Rattle.desk_model.specs.Boxed.{IsKept, IsSameBox};
-ghost use Rattle.console_answers.specs.Replies.{reply, is_unavailable, MayStand};
-ghost use Rattle.console_answers.specs.Requests.{ChangesBy, by_question, command_asked, MayReply, MayWant};
+ghost use Rattle.console.specs.Replies.{reply, is_unavailable, MayStand};
+ghost use Rattle.console.specs.Requests.{ChangesBy, by_question, command_asked, MayReply, MayWant};
 ghost use Rattle.console.specs.Refused.{MayWantAsked};
 ghost use Rattle.console.specs.Runs.{LeadsOn};
 
@@ -21,7 +21,7 @@ use crate::packets::answer_frame;
 use crate::refusals::{ReplyHead, plain, refuse_unasked};
 use crate::session::later;
 use crate::why::answer_why;
-use console_answers::{BodyText, Question, question_of};
+use crate::{BodyText, Question, question_of};
 use console_bodies::Asked;
 use console_routes::Routes;
 use http_answers::Status;
@@ -31,7 +31,7 @@ use mud_desk::Desk;
 use std::alloc::Global;
 
 /// Carries out what is asked for, with the octets of the body.
-#[tactic(auto, unfolding(console_answers::specs::Requests::by_question, console_answers::specs::Requests::command_asked, crate::specs::Origins::said_of))]
+#[tactic(auto, unfolding(crate::specs::Requests::by_question, crate::specs::Requests::command_asked, crate::specs::Origins::said_of))]
 fn answer_question(
     alloc: Global,
     desk: &mut Desk,

@@ -5,10 +5,10 @@ ghost use Rattle.desk_model.specs.Sessions.{verdict_in};
 ghost use Rattle.mud_desk.specs.Findings.{found_in};
 ghost use Rattle.mud_desk.specs.DeskState.{session_of, HasForwarded};
 ghost use Rattle.listing_bodies.specs.Why.{side_text};
-ghost use Rattle.console_answers.specs.Replies.{reply, is_unavailable, IsOrWanted};
-ghost use Rattle.console_answers.specs.Why as spec;
+ghost use Rattle.console.specs.Replies.{reply, is_unavailable, IsOrWanted};
+ghost use Rattle.console.specs.Why as spec;
 
-use console_answers::BodyText;
+use crate::BodyText;
 use http_answers::Status;
 use listing_bodies::{RuledEnd, why_body};
 use mud_base::{Bytes, Memory, Moment};
@@ -16,7 +16,7 @@ use mud_desk::{Desk, Findings, RuledThing};
 use std::alloc::Global;
 
 /// An end as a body tells it.
-#[tactic(auto, unfolding(mud_desk::specs::Findings::found_in, console_answers::specs::Why::end_text, listing_bodies::specs::Why::side_text, listing_bodies::specs::Why::end_text))]
+#[tactic(auto, unfolding(mud_desk::specs::Findings::found_in, crate::specs::Why::end_text, listing_bodies::specs::Why::side_text, listing_bodies::specs::Why::end_text))]
 fn told_end<'a>(ruled: &Option<RuledThing<'a>>) -> Option<RuledEnd<'a>>
     ensures { side_text result ≡ spec.end_text (found_in ruled.now) }
 {
@@ -32,7 +32,7 @@ fn told_end<'a>(ruled: &Option<RuledThing<'a>>) -> Option<RuledEnd<'a>>
 }
 
 /// The body that tells what was found of a frame.
-#[tactic(auto, unfolding(console_answers::specs::Why::ends_text, listing_bodies::specs::Why::why_body))]
+#[tactic(auto, unfolding(crate::specs::Why::ends_text, listing_bodies::specs::Why::why_body))]
 fn told_ends(alloc: Global, findings: &Findings<'_>) -> Result<Bytes, Memory>
     ensures { IfOk result (λ text. text ≡ spec.ends_text (found_in findings.now.source) (found_in findings.now.destination) findings.now.verdict) }
 {

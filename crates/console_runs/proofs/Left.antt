@@ -18,7 +18,7 @@ use Rattle.http_requests.specs.declared.end.ConnectionEnd.{ConnectionEnd}
 use Rattle.http_requests.specs.Ends.{IsServed}
 use Rattle.http_requests.specs.Runs.{IsLeftBy}
 use Rattle.http_requests.specs.Visits.{failed_to_read, failed_to_write, AreEnough, CountsOf, ServedInTurn, Visited}
-use Rattle.console_answers.specs.Answers.{fault_answer}
+use Rattle.console.specs.Answers.{fault_answer}
 use Rattle.console.specs.States.{ConsoleState, MayTake, IsAt, begun}
 use Rattle.console_runs.specs.Store.{LeavesDesk}
 

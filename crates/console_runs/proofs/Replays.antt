@@ -18,7 +18,7 @@ use Rattle.http_requests.specs.Ends.{IsServed, is_read_failed, is_write_failed}
 use Rattle.http_requests.specs.Runs.{IsLeftBy}
 use Rattle.command_runs.specs.Ends.{IsSteady, IsStopped}
 use Rattle.desk_runs.proofs.Refusals.{reads_honestly}
-use Rattle.console_answers.specs.Answers.{fault_answer}
+use Rattle.console.specs.Answers.{fault_answer}
 use Rattle.console.specs.States.{MayTake, IsAt, begun}
 use Rattle.console_runs.specs.Store.{NoneFailed, ServesNone}
 use Rattle.console_runs.specs.Replay.{ReplaysConnection, ReplaysStore, status_at}

@@ -15,7 +15,7 @@ use Rattle.mud_desk.specs.DeskState.{DeskState, IsBegun, session_of, tables_of}
 use Rattle.http_requests.specs.declared.fault.MomentFrom.TheVariants.{Clock}
 use Rattle.http_requests.specs.Runs.{IsLeftBy}
 use Rattle.http_requests.specs.Visits.{ServedInTurn, TakesTurns}
-use Rattle.console_answers.specs.Answers.{fault_answer}
+use Rattle.console.specs.Answers.{fault_answer}
 use Rattle.console.specs.States.{ConsoleState, MayTake, IsAt, begun}
 use Rattle.console.proofs.Takes.{at_first}
 use Rattle.console_runs.specs.Store.{NoneFailed, LeavesDesk, ServesNone}

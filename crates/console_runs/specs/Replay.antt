@@ -14,7 +14,7 @@ use Rattle.http_requests.specs.declared.end.ConnectionEnd.{ConnectionEnd}
 use Rattle.http_requests.specs.declared.end.ConnectionEnd.TheVariants.{Ended, Closed, Broken, Spent, ReadFailed, WriteFailed}
 use Rattle.http_requests.specs.Ends.{IsServed, is_read_failed, is_write_failed}
 use Rattle.http_requests.specs.Runs.{IsLeftBy}
-use Rattle.console_answers.specs.Answers.{fault_answer}
+use Rattle.console.specs.Answers.{fault_answer}
 use Rattle.console.specs.States.{MayTake, begun}
 use Rattle.console_runs.specs.Store.{NoneFailed, OnlyWrites, OpensWith, LeavesDesk, ServesNone}
 use Rattle.command_runs.specs.Ends.{IsSteady, IsStopped}

@@ -12,7 +12,7 @@ use Rattle.desk_runs.specs.Honest.{RunsHonestly}
 use Rattle.http_requests.specs.declared.fault.MomentFrom.TheVariants.{Clock}
 use Rattle.http_requests.specs.Runs.{IsLeftBy}
 use Rattle.http_requests.specs.Visits.{ServedInTurn, TakesTurns}
-use Rattle.console_answers.specs.Answers.{fault_answer}
+use Rattle.console.specs.Answers.{fault_answer}
 use Rattle.console.specs.States.{ConsoleState, MayTake, begun}
 use Rattle.console_runs.specs.Store.{NoneFailed, OnlyWrites, OpensWith, LeavesDesk, ServesNone}
 use Rattle.command_runs.specs.Ends.{IsStoppedListening}

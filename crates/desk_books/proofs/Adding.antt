@@ -12,7 +12,7 @@ use Rattle.acl_model.specs.FirstMatch.{entries_of}
 use Rattle.acl_model.specs.Places.{binding_place}
 use Rattle.acl_rows.specs.Rows.{Slots, rows_of}
 use Rattle.acl_rows.specs.View.{holder_from}
-use Rattle.row_edits.specs.Edits.{edited}
+use Rattle.sorted_rows.specs.Edits.{edited}
 use Rattle.row_changes.specs.Policies.{HasCounts}
 use Rattle.acl_compile.specs.Compiled.{CompiledState, HasItsRows}
 use Rattle.acl_compile.specs.Plans.{SlotChange, Plan, slot_set, slots_with, slots_after, bindings_after, policy_held, others_held, is_other, IsKept, IsPolicyPlan}

@@ -7,8 +7,8 @@ use Rattle.acl_model.specs.Places.{binding_place}
 use Rattle.acl_model.specs.Changes.{HaveSame, IsBindingChange, replaced}
 use Rattle.acl_rows.specs.Rows.{Slots, rows_of}
 use Rattle.row_changes.proofs.Bound.{ascend-replaced}
-use Rattle.row_edits.specs.declared.edit.Edit.{Edit}
-use Rattle.row_edits.specs.Edits.{edited}
+use Rattle.sorted_rows.specs.declared.edit.Edit.{Edit}
+use Rattle.sorted_rows.specs.Edits.{edited}
 use Rattle.acl_compile.specs.Compiled.{CompiledState}
 use Rattle.acl_compile.specs.Plans.{Plan, IsKept, IsMemberPlan, IsPolicyPlan, slots_after, bindings_after, policy_held}
 use Rattle.mud_tables.specs.Tables.{Tables}

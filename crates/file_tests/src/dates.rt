@@ -1,5 +1,5 @@
 //! Dates and times, and texts that are none.
-use date_time::seconds_of;
+use mud_file::seconds_of;
 
 /// Texts, and the seconds from 1970-01-01T00:00:00Z that they write.
 const TEXTS: [(&str, Option<i64>); 26] = [

@@ -1,5 +1,6 @@
-pub mod Head
-pub mod Entries
-pub mod Lists
-pub mod File
 pub mod Bounds
+pub mod DateTime
+pub mod Entries
+pub mod File
+pub mod Head
+pub mod Lists

@@ -5,8 +5,8 @@ ghost use Rattle.mud_base.specs.Readings.{Gives, Refuses};
 ghost use Rattle.mud_base.specs.declared.refusal.Refusal.TheVariants as refusal;
 ghost use Rattle.mud_file.specs.Head as spec;
 
+use crate::seconds_of;
 use crate::usage_file::Head;
-use date_time::seconds_of;
 use mud_base::{Bytes, Listed, Memory};
 use mud_url::{MudUrl, UrlFault, mud_url};
 use serde_json::Value;

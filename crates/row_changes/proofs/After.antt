@@ -5,9 +5,9 @@ use Rattle.sorted_rows.specs.Placed.{row_at, PlacesAscend}
 use Rattle.acl_model.specs.declared.binding.Binding.{Binding}
 use Rattle.acl_model.specs.Places.{binding_place}
 use Rattle.acl_model.specs.Changes.{until_of, replaced}
-use Rattle.row_edits.specs.declared.edit.Edit.{Edit}
-use Rattle.row_edits.specs.Edits.{edit_place, row_after, edited}
-use Rattle.row_edits.proofs.EditLaws.{row_at-edited}
+use Rattle.sorted_rows.specs.declared.edit.Edit.{Edit}
+use Rattle.sorted_rows.specs.Edits.{edit_place, row_after, edited}
+use Rattle.sorted_rows.proofs.EditLaws.{row_at-edited}
 use Rattle.row_changes.specs.Change.{end_in}
 
 module _ (p : List ℕ) (edits : List (Edit Binding)) (gone come bindings : List Binding) (up : PlacesAscend binding_place bindings) (made : edited binding_place edits bindings ≡ replaced gone come bindings) where

@@ -9,8 +9,8 @@ use Rattle.sorted_rows.specs.Placed.{same_place, row_at}
 use Rattle.sorted_rows.proofs.RowLaws.{ascend-filter}
 use Rattle.sorted_rows.proofs.RowSets.{tested_at, kept_at, covered}
 use Rattle.acl_model.specs.declared.binding.Binding.{Binding}
-use Rattle.row_edits.specs.declared.edit.Edit.{Edit}
-use Rattle.row_edits.specs.Edits.{edit_place}
+use Rattle.sorted_rows.specs.declared.edit.Edit.{Edit}
+use Rattle.sorted_rows.specs.Edits.{edit_place}
 use Rattle.acl_rows.specs.declared.row.Row.{Row}
 use Rattle.acl_rows.specs.Places.{row_place}
 use Rattle.acl_rows.specs.Rows.{row, Slots, rows_of, end_at}

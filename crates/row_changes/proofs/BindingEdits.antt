@@ -8,9 +8,9 @@ use Rattle.sorted_rows.proofs.RowLaws.{all-set_row, length-set_rows_le}
 use Rattle.acl_model.specs.declared.binding.Binding.{Binding}
 use Rattle.acl_model.specs.Places.{binding_place}
 use Rattle.acl_model.specs.Changes.{without_bindings, replaced}
-use Rattle.row_edits.specs.declared.edit.Edit.{Edit}
-use Rattle.row_edits.specs.Edits.{edit, edit_place, edit_made, edited}
-use Rattle.row_edits.proofs.EditLaws.{edited-set_row}
+use Rattle.sorted_rows.specs.declared.edit.Edit.{Edit}
+use Rattle.sorted_rows.specs.Edits.{edit, edit_place, edit_made, edited}
+use Rattle.sorted_rows.proofs.EditLaws.{edited-set_row}
 use Rattle.acl_shelves.specs.BindingShelves.{index_by_key, AreFoundByKey}
 use Rattle.row_changes.specs.Bindings.{binding_edit, AreEditsOf}
 

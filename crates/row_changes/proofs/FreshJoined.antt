@@ -4,8 +4,8 @@ use Rattle.sorted_rows.specs.Placed.{set_row, set_rows, PlacesAscend}
 use Rattle.sorted_rows.proofs.PlacedLaws.{ascend-set_row}
 use Rattle.sorted_rows.proofs.MergeLaws.{set_row-set_rows}
 use Rattle.acl_model.specs.declared.binding.Binding.{Binding}
-use Rattle.row_edits.specs.declared.edit.Edit.{Edit}
-use Rattle.row_edits.specs.Edits.{edit_place}
+use Rattle.sorted_rows.specs.declared.edit.Edit.{Edit}
+use Rattle.sorted_rows.specs.Edits.{edit_place}
 use Rattle.acl_rows.specs.declared.row.Row.{Row}
 use Rattle.acl_rows.specs.declared.row.RowKey.{RowKey}
 use Rattle.acl_rows.specs.Places.{row_place, row_key_place}

@@ -8,7 +8,7 @@ use Rattle.sorted_rows.specs.Placed.{row_at, is_under, RowsAndRoom, PlacesAbove,
 use Rattle.sorted_rows.proofs.PlacedLaws.{same_place_itself, same_place-cmp}
 use Rattle.mud_base.specs.declared.addr.Addr.{Addr}
 use Rattle.mud_base.specs.declared.packet.Direction.{Direction}
-use Rattle.row_edits.specs.declared.edit.Edit.{Edit}
+use Rattle.sorted_rows.specs.declared.edit.Edit.{Edit}
 use Rattle.acl_rows.specs.declared.row.Owner.{Owner}
 use Rattle.acl_rows.specs.declared.row.Row.{Row}
 use Rattle.acl_rows.specs.Places.{side_place, row_place}

@@ -9,9 +9,9 @@ use Rattle.sorted_rows.proofs.RowSets.{same_rows_by}
 use Rattle.mud_base.specs.declared.addr.Addr.{Addr}
 use Rattle.mud_base.specs.declared.packet.Direction.{Direction}
 use Rattle.acl_model.specs.declared.binding.Binding.{Binding}
-use Rattle.row_edits.specs.declared.edit.Edit.{Edit}
-use Rattle.row_edits.specs.Edits.{edit_place, row_after, edited}
-use Rattle.row_edits.proofs.EditLaws.{ascend-edited, row_at-edited}
+use Rattle.sorted_rows.specs.declared.edit.Edit.{Edit}
+use Rattle.sorted_rows.specs.Edits.{edit_place, row_after, edited}
+use Rattle.sorted_rows.proofs.EditLaws.{ascend-edited, row_at-edited}
 use Rattle.acl_rows.specs.declared.row.Owner.{Owner}
 use Rattle.acl_rows.specs.declared.row.Row.{Row}
 use Rattle.acl_rows.specs.Places.{row_place, place_at}

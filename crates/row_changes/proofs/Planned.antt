@@ -3,7 +3,7 @@ use Rattle.std.proofs.Common.{◌≡◌, ℕ, ◌+◌, ◌*◌, ◌^◌, ◌<◌
 use Rattle.std.proofs.lemmas.Grind.{flat_map-append}
 use Rattle.sorted_rows.specs.Placed.{PlacesAscend}
 use Rattle.acl_model.specs.declared.binding.Binding.{Binding}
-use Rattle.row_edits.specs.declared.edit.Edit.{Edit}
+use Rattle.sorted_rows.specs.declared.edit.Edit.{Edit}
 use Rattle.acl_rows.specs.declared.row.Row.{Row}
 use Rattle.acl_model.specs.Places.{binding_place}
 use Rattle.acl_rows.specs.Rows.{Slots}

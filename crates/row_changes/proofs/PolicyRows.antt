@@ -20,8 +20,8 @@ use Rattle.acl_model.specs.FirstMatch.{entries_of}
 use Rattle.acl_model.specs.Defaults.{default_entry}
 use Rattle.acl_model.specs.declared.ruling.DefaultRule.TheVariants.{Dns}
 use Rattle.mud_base.specs.declared.packet.Direction.TheVariants.{From, To}
-use Rattle.row_edits.specs.declared.edit.Edit.{Edit}
-use Rattle.row_edits.specs.Edits.{edit, edit_place}
+use Rattle.sorted_rows.specs.declared.edit.Edit.{Edit}
+use Rattle.sorted_rows.specs.Edits.{edit, edit_place}
 use Rattle.acl_rows.specs.declared.row.Owner.{Owner}
 use Rattle.acl_rows.specs.declared.row.Owner.TheVariants.{Url, Default}
 use Rattle.acl_rows.specs.declared.row.Row.{Row}

@@ -3,14 +3,13 @@ ghost use Rattle.std.specs.Prelude.{◌≡◌, ℕ, ◌+◌, ◌*◌, ◌^◌, �
 ghost use Rattle.sorted_rows.specs.Placed.{set_rows};
 ghost use Rattle.acl_model.specs.Places.{binding_place};
 ghost use Rattle.acl_model.specs.Changes.{replaced};
-ghost use Rattle.row_edits.specs.Edits.{edit_place};
+ghost use Rattle.sorted_rows.specs.Edits.{edit_place};
 ghost use Rattle.row_changes.specs.Bindings.{binding_edit, AreEditsOf};
 
 use acl_model::Binding;
 use acl_shelves::BindingShelves;
 use mud_base::Memory;
-use row_edits::{Edit, plan_edit};
-use sorted_rows::{SortedRows, Steps};
+use sorted_rows::{Edit, SortedRows, Steps, plan_edit};
 use std::alloc::Global;
 use std::sync::ledger::Ledger;
 

@@ -9,7 +9,7 @@ ghost use Rattle.acl_model.specs.Places.{binding_place, key_place};
 ghost use Rattle.acl_model.specs.Changes.{for_ever, until_of, replaced};
 ghost use Rattle.acl_model.specs.FirstMatch.{entries_of};
 ghost use Rattle.acl_model.specs.Policies.{url_policy};
-ghost use Rattle.row_edits.specs.Edits.{edited, row_after};
+ghost use Rattle.sorted_rows.specs.Edits.{edited, row_after};
 ghost use Rattle.acl_rows.specs.Places.{row_place, row_key_place};
 ghost use Rattle.acl_rows.specs.ByAddress.{index_beside};
 ghost use Rattle.acl_rows.specs.Rows as spec;
@@ -29,8 +29,7 @@ use acl_rows::{FoundRow, Owner, PackedAddr, Row, RowKey};
 use acl_shelves::{BindingShelves, RowShelves};
 use mud_base::{Addr, Direction, End, Memory};
 use mud_url::MudUrl;
-use row_edits::{Edit, plan_edit};
-use sorted_rows::{KeyOf, SortedRows, Steps};
+use sorted_rows::{Edit, KeyOf, SortedRows, Steps, plan_edit};
 use std::alloc::Global;
 use std::cmp::Ordering;
 use std::marker::Model;
@@ -105,14 +104,14 @@ impl KeyOf<Edit<Binding>> for OfBound<'_> {
 
     ghost place = { λ of. place_of_text of.0.key.kind of.0.key.text.now of.0.addr };
 
-    #[tactic(auto, unfolding(row_edits::specs::Edits::edit_place))]
+    #[tactic(auto, unfolding(sorted_rows::specs::Edits::edit_place))]
     fn order_to(&self, edit: &Edit<Binding>) -> Ordering {
         self.0.order_to(&edit.row)
     }
 }
 
 /// The end of the binding of an edit's place once the edit is made.
-#[tactic(auto, unfolding(row_edits::specs::Edits::row_after, acl_model::specs::Changes::until_of))]
+#[tactic(auto, unfolding(sorted_rows::specs::Edits::row_after, acl_model::specs::Changes::until_of))]
 fn end_after(edit: &Edit<Binding>) -> Option<End>
     ensures { result ≡ option_map until_of (row_after edit.now) }
 {

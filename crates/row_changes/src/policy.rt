@@ -16,8 +16,7 @@ use crate::policies::Held;
 use acl_rows::{Owner, Row};
 use acl_shelves::{BindingShelves, RowShelves};
 use mud_base::{Direction, Memory};
-use row_edits::Edit;
-use sorted_rows::{SortedRows, Steps};
+use sorted_rows::{Edit, SortedRows, Steps};
 use std::alloc::Global;
 use std::sync::ledger::Ledger;
 

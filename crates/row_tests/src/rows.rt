@@ -3,8 +3,7 @@ ghost use Rattle.std.specs.Prelude.{◌≡◌, IfOk};
 
 use acl_rows::{AddressRows, Owner, PackedAddr, Row};
 use mud_base::{Addr, Direction, End};
-use row_edits::plan_edit;
-use sorted_rows::{SortedRows, Steps};
+use sorted_rows::{SortedRows, Steps, plan_edit};
 use std::alloc::Global;
 use std::sync::ledger::Ledger;
 use std::test::Fail;

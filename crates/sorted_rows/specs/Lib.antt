@@ -1,7 +1,9 @@
-pub mod Changes
-pub mod Ledgers
-pub mod Placed
-pub mod Search
 pub mod Addresses
 pub mod Ascending
+pub mod Changes
+pub mod Edits
+pub mod Ledgers
 pub mod Merging
+pub mod Placed
+pub mod Runs
+pub mod Search

@@ -2,8 +2,8 @@ use Rattle.std.proofs.Common.{◌≡◌, ◌+◌, ◌-◌, List, length, sym, ap
 use Rattle.std.proofs.lemmas.Option.{slice_get_within}
 use Rattle.acl_model.specs.declared.binding.Binding.{Binding}
 use Rattle.acl_model.specs.Places.{binding_place}
-use Rattle.row_edits.specs.declared.edit.Edit.{Edit}
-use Rattle.row_edits.specs.Edits.{edited}
+use Rattle.sorted_rows.specs.declared.edit.Edit.{Edit}
+use Rattle.sorted_rows.specs.Edits.{edited}
 use Rattle.acl_shelves.specs.BindingParts.{joined}
 use Rattle.acl_shelves.proofs.EditLaws.{is_last, here_room, here_found, left_room, left_found, left_made, shelved_edited}
 use Rattle.acl_shelves.proofs.binding_parts.make_all.Goals as goal

@@ -1,6 +1,6 @@
 use Rattle.std.proofs.Common.{◌≡◌, ◌+◌, length}
 use Rattle.acl_model.specs.Places.{binding_place}
-use Rattle.row_edits.specs.Edits.{edited}
+use Rattle.sorted_rows.specs.Edits.{edited}
 use Rattle.acl_shelves.specs.BindingShelves.{HasRoomByKey}
 use Rattle.acl_shelves.specs.BindingParts.{joined, room_in, AreShelved, AreFoundIn}
 use Rattle.acl_shelves.proofs.binding_parts.make_all.Given as goal

@@ -3,7 +3,7 @@ use Rattle.std.proofs.lemmas.Option.{same_Some}
 use Rattle.acl_model.specs.declared.binding.MemberKey.{MemberKey}
 use Rattle.acl_model.specs.declared.binding.Binding.{Binding}
 use Rattle.acl_model.specs.Places.{key_place}
-use Rattle.row_edits.specs.declared.edit.Edit.{Edit}
+use Rattle.sorted_rows.specs.declared.edit.Edit.{Edit}
 use Rattle.acl_shelves.specs.BindingShelves.{edits_of_key}
 use Rattle.acl_shelves.specs.BindingParts.{part_at}
 use Rattle.acl_shelves.proofs.BindingPartLaws.{roomier_twice}

@@ -1,7 +1,7 @@
 use Rattle.std.proofs.Common.{◌-◌, List, length, sym, ap, ◌∙◌}
 use Rattle.std.specs.List.{slice_get}
 use Rattle.std.proofs.lemmas.Result.{on_ok_weaker}
-use Rattle.row_edits.specs.declared.edit.Edit.{Edit}
+use Rattle.sorted_rows.specs.declared.edit.Edit.{Edit}
 use Rattle.acl_rows.specs.declared.row.Row.{Row}
 use Rattle.acl_shelves.proofs.RoomLaws.{kept_itself, no_shelves, shelves_all}
 use Rattle.acl_shelves.proofs.row_parts.add_for.Goals as goal

@@ -1,6 +1,6 @@
 use Rattle.std.proofs.Common.{sym, ap, ◌∙◌}
 use Rattle.std.specs.Ordering.{is_eq}
-use Rattle.row_edits.specs.Edits.{edit_place}
+use Rattle.sorted_rows.specs.Edits.{edit_place}
 use Rattle.acl_rows.specs.Places.{peer_place, row_place}
 use Rattle.acl_shelves.proofs.LastLaws.{under_is}
 use Rattle.acl_shelves.proofs.row_parts.is_of.Goals as goal

@@ -1,5 +1,5 @@
 use Rattle.std.proofs.Common.{◌≡◌, ◌+◌, length}
-use Rattle.row_edits.specs.Edits.{edited}
+use Rattle.sorted_rows.specs.Edits.{edited}
 use Rattle.acl_rows.specs.Places.{row_place}
 use Rattle.acl_shelves.specs.RowShelves.{AreFoundBeside, HasRoom}
 use Rattle.acl_shelves.specs.RowParts.{joined, room_in, AreSorted}

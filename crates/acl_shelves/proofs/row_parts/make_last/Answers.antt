@@ -1,6 +1,6 @@
 use Rattle.std.proofs.Common.{length, ap, sym, subst, arith, length-drop}
 use Rattle.sorted_rows.specs.Placed.{PlacesAscend}
-use Rattle.row_edits.specs.Edits.{edit_place}
+use Rattle.sorted_rows.specs.Edits.{edit_place}
 use Rattle.acl_rows.specs.Places.{row_place}
 use Rattle.acl_shelves.proofs.RunLaws.{last_run, within_by, ready_by, left_by, left_long}
 use Rattle.acl_shelves.proofs.row_parts.make_last.Goals as goal

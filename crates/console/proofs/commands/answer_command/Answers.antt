@@ -3,8 +3,8 @@ use Rattle.mud_world.specs.Causes.{Counts}
 use Rattle.mud_world.specs.Boxed.{faults_of}
 use Rattle.desk_model.specs.Sessions.{command_in}
 use Rattle.mud_desk.specs.DeskState.{session_of}
-use Rattle.console_answers.specs.Replies.{reply, MayStand}
-use Rattle.console_answers.specs.Requests.{Changes, by_command}
+use Rattle.console.specs.Replies.{reply, MayStand}
+use Rattle.console.specs.Requests.{Changes, by_command}
 use Rattle.console.specs.Origins.{said_of}
 use Rattle.console.proofs.Standing.{leads_same}
 use Rattle.console.proofs.Carrying.{stands}

@@ -1,7 +1,7 @@
 use Rattle.std.proofs.Common.{Option, sym, subst}
 use Rattle.desk_model.specs.declared.command.Command.{Command}
-use Rattle.console_answers.specs.Replies.{reply, MayStand}
-use Rattle.console_answers.specs.Requests.{ChangesBy, by_heard}
+use Rattle.console.specs.Replies.{reply, MayStand}
+use Rattle.console.specs.Requests.{ChangesBy, by_heard}
 use Rattle.console.specs.Runs.{LeadsOn}
 use Rattle.console.proofs.Standing.{heard_asked}
 use Rattle.console.proofs.heard.answer_heard.Goals as goal

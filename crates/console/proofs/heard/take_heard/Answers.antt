@@ -1,7 +1,7 @@
 use Rattle.desk_model.specs.Sessions.{command_in}
 use Rattle.outcome_bodies.specs.Heards.{heard_body}
-use Rattle.console_answers.specs.Replies.{reply}
-use Rattle.console_answers.specs.Requests.{Changes, by_command}
+use Rattle.console.specs.Replies.{reply}
+use Rattle.console.specs.Requests.{Changes, by_command}
 use Rattle.console.proofs.Standing.{wanted}
 use Rattle.console.proofs.heard.take_heard.Goals as goal
 

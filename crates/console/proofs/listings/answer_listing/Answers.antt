@@ -2,8 +2,8 @@ use Rattle.std.proofs.Common.{ap, ◌∙◌}
 use Rattle.std.specs.Prelude.{max}
 use Rattle.desk_model.specs.Sessions.{later, raised}
 use Rattle.http_answers.specs.declared.status.Status.TheVariants as status
-use Rattle.console_answers.specs.Listings.{listing_text}
-use Rattle.console_answers.specs.Replies.{reply, replied}
+use Rattle.console.specs.Listings.{listing_text}
+use Rattle.console.specs.Replies.{reply, replied}
 use Rattle.console.proofs.Standing.{listed, wanted}
 use Rattle.console.proofs.listings.answer_listing.Goals as goal
 

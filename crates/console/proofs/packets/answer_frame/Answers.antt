@@ -1,6 +1,6 @@
 use Rattle.std.proofs.Common.{ap}
 use Rattle.http_answers.specs.declared.status.Status.TheVariants as status
-use Rattle.console_answers.specs.Replies.{reply}
+use Rattle.console.specs.Replies.{reply}
 use Rattle.console.proofs.Standing.{judged_so}
 use Rattle.console.proofs.packets.answer_frame.Goals as goal
 

@@ -1,6 +1,6 @@
 use Rattle.console_bodies.specs.declared.asked.Asked.TheVariants as asked
-use Rattle.console_answers.specs.Replies.{reply}
-use Rattle.console_answers.specs.Requests.{by_question, command_asked}
+use Rattle.console.specs.Replies.{reply}
+use Rattle.console.specs.Requests.{by_question, command_asked}
 use Rattle.console.specs.Origins.{said_of}
 use Rattle.console.proofs.Standing.{as_asked, told}
 use Rattle.console.proofs.replies.answer_question.Goals as goal

@@ -1,8 +1,8 @@
 use Rattle.std.proofs.Common.{Err, ap, subst, sym, ◌∙◌}
 use Rattle.std.specs.Prelude.{max}
 use Rattle.mud_desk.specs.DeskState.{session_of}
-use Rattle.console_answers.specs.Replies.{Reply, reply}
-use Rattle.console_answers.specs.Requests.{MayReply}
+use Rattle.console.specs.Replies.{Reply, reply}
+use Rattle.console.specs.Requests.{MayReply}
 use Rattle.console.specs.Runs.{LeadsOn}
 use Rattle.console.specs.declared.refusals.ReplyHead.{ReplyHead}
 use Rattle.console.proofs.Answered.{plain_is, leads_asked, leads_unasked}

@@ -3,7 +3,7 @@ use Rattle.std.specs.Prelude.{Some, None}
 use Rattle.mud_world.specs.Boxed.{faults_of, Tells}
 use Rattle.desk_model.specs.Boxed.{IsSameBox}
 use Rattle.mud_desk.specs.DeskState.{session_of}
-use Rattle.console_answers.specs.Answers.{fault_answer}
+use Rattle.console.specs.Answers.{fault_answer}
 use Rattle.console.specs.States.{MayTake, begun}
 use Rattle.console.proofs.Takes.{at_first}
 use Rattle.console.proofs.Beside.{beside, left_of, in_turn_of}

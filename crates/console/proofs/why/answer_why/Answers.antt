@@ -1,4 +1,4 @@
-use Rattle.console_answers.specs.Replies.{reply}
+use Rattle.console.specs.Replies.{reply}
 use Rattle.console.proofs.Standing.{why_is}
 use Rattle.console.proofs.why.answer_why.Goals as goal
 

@@ -1,6 +1,6 @@
 use Rattle.std.proofs.Common.{length}
 use Rattle.acl_model.specs.Places.{binding_place}
-use Rattle.row_edits.specs.Edits.{edit_place}
+use Rattle.sorted_rows.specs.Edits.{edit_place}
 use Rattle.row_changes.specs.Bindings.{binding_edit}
 use Rattle.row_changes.proofs.Halves.{halves, steps_of_halves}
 use Rattle.row_changes.proofs.bindings.+plan_bindings.Goals as goal

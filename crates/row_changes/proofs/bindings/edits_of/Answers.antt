@@ -1,6 +1,6 @@
 use Rattle.std.proofs.Common.{map, true, false}
 use Rattle.acl_model.specs.Places.{binding_place}
-use Rattle.row_edits.specs.Edits.{edit_place}
+use Rattle.sorted_rows.specs.Edits.{edit_place}
 use Rattle.row_changes.specs.Bindings.{binding_edit}
 use Rattle.row_changes.proofs.BindingEdits.{are_edits}
 use Rattle.row_changes.proofs.Halves.{put_behind}

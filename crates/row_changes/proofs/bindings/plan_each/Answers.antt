@@ -2,8 +2,8 @@ use Rattle.std.proofs.Common.{ℕ, ◌+◌, List, map, drop, sym, ap, ◌∙◌,
 use Rattle.sorted_rows.specs.Placed.{set_rows}
 use Rattle.acl_model.specs.declared.binding.Binding.{Binding}
 use Rattle.acl_model.specs.Places.{binding_place}
-use Rattle.row_edits.specs.declared.edit.Edit.{Edit}
-use Rattle.row_edits.specs.Edits.{edit_place}
+use Rattle.sorted_rows.specs.declared.edit.Edit.{Edit}
+use Rattle.sorted_rows.specs.Edits.{edit_place}
 use Rattle.row_changes.specs.Bindings.{binding_edit}
 use Rattle.row_changes.proofs.BindingEdits.{next_edit, one_planned}
 use Rattle.row_changes.proofs.bindings.plan_each.Goals as goal

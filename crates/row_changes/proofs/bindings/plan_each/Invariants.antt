@@ -1,7 +1,7 @@
 use Rattle.std.proofs.Common.{◌≡◌, ℕ, ◌+◌, ◌*◌, ◌^◌, ◌<◌, ◌≤◌, length, map, drop}
 use Rattle.sorted_rows.specs.Placed.{set_rows}
 use Rattle.acl_model.specs.Places.{binding_place}
-use Rattle.row_edits.specs.Edits.{edit_place}
+use Rattle.sorted_rows.specs.Edits.{edit_place}
 use Rattle.row_changes.specs.Bindings.{binding_edit}
 use Rattle.row_changes.proofs.bindings.plan_each.Given as goal
 

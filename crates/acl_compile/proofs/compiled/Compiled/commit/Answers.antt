@@ -1,7 +1,7 @@
 use Rattle.std.proofs.Common.{◌≡◌, ◌≤◌, length, Some, None, sym, ap, subst, ◌∙◌}
 use Rattle.std.proofs.Math.Path.{transport}
 use Rattle.acl_model.specs.Places.{binding_place}
-use Rattle.row_edits.specs.Edits.{edited}
+use Rattle.sorted_rows.specs.Edits.{edited}
 use Rattle.acl_rows.specs.Places.{row_place}
 use Rattle.acl_rows.specs.Rows.{Slots}
 use Rattle.acl_compile.specs.Compiled.{CompiledState, UrlsApart, IsSound}

@@ -2,7 +2,7 @@ use Rattle.std.proofs.Common.{◌≡◌, List, ℕ, ◌+◌, ◌*◌, length, dr
 use Rattle.std.specs.Prelude.{flat_map}
 use Rattle.std.proofs.lemmas.Result.{on_ok_weaker}
 use Rattle.acl_rows.specs.declared.row.Owner.TheVariants.{Default}
-use Rattle.row_edits.specs.declared.edit.Edit.{Edit}
+use Rattle.sorted_rows.specs.declared.edit.Edit.{Edit}
 use Rattle.acl_rows.specs.declared.row.Row.{Row}
 use Rattle.acl_rows.specs.Rows.{Slots, Holder, holders_from, held_by, default_held}
 use Rattle.acl_rows.specs.declared.row.RowKey.{RowKey}

@@ -5,7 +5,7 @@ use Rattle.acl_rows.specs.declared.row.Owner.TheVariants.{Url}
 use Rattle.acl_rows.specs.declared.row.Row.{Row}
 use Rattle.acl_rows.specs.Rows.{Holder, held_by}
 use Rattle.row_changes.specs.Touched.{holder_touches, with_edits}
-use Rattle.row_edits.specs.declared.edit.Edit.{Edit}
+use Rattle.sorted_rows.specs.declared.edit.Edit.{Edit}
 use Rattle.row_changes.specs.Change.{more_edits, slot_touches}
 use Rattle.row_changes.specs.Steps.{least_steps, HolderFits}
 use Rattle.row_changes.proofs.Loops.{slot_holds, least_steps-none}

@@ -3,7 +3,7 @@ use Rattle.acl_rows.specs.declared.row.Owner.{Owner}
 use Rattle.acl_rows.specs.declared.row.Row.{Row}
 use Rattle.acl_rows.specs.Rows.{entry_end, held_by, rows_of}
 use Rattle.row_changes.specs.Touched.{row_key}
-use Rattle.row_edits.specs.declared.edit.Edit.{Edit}
+use Rattle.sorted_rows.specs.declared.edit.Edit.{Edit}
 use Rattle.row_changes.specs.Change.{ChangeState, after, more_edits}
 use Rattle.row_changes.specs.Steps.{least_step}
 use Rattle.row_changes.proofs.OneEdit.{entry_edit_is}

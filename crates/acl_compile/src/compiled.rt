@@ -25,7 +25,6 @@ use std::sync::ledger::Ledger;
 /// the bindings, those of each key by themselves, and the rows that follow from them, those of each
 /// policy, side and address by themselves. Contracts see policies, bindings and rows, and how much
 /// more there is room for.
-#[derive(Drop)]
 pub struct Compiled {
     alloc: Global,
     slots: Vec<Option<Held>>,
@@ -33,6 +32,19 @@ pub struct Compiled {
     defaults: HeldDefaults,
     bindings: BindingShelves,
     rows: RowShelves,
+}
+
+impl Drop for Compiled {
+    fn drop(self) {
+        let Compiled {
+            alloc: _,
+            slots: _,
+            places: _,
+            defaults: _,
+            bindings: _,
+            rows: _,
+        } = self;
+    }
 }
 
 impl Model for Compiled {

@@ -28,12 +28,22 @@ use std::marker::Model;
 
 /// The classes, the local networks and the names that are kept. Contracts see the three lists, and
 /// for how many more classes and names there is room without memory.
-#[derive(Drop)]
 pub struct BindBook {
     alloc: Global,
     classes: SortedRows<ClassRow>,
     locals: Listed<Prefix>,
     names: SortedRows<NameRow>,
+}
+
+impl Drop for BindBook {
+    fn drop(self) {
+        let BindBook {
+            alloc: _,
+            classes: _,
+            locals: _,
+            names: _,
+        } = self;
+    }
 }
 
 impl Model for BindBook {

@@ -33,12 +33,22 @@ use thing_book::ThingBook;
 
 /// The lists that the manager keeps, the moment of their last change, and the policies, bindings and
 /// rows that are compiled of them. Contracts see all of these.
-#[derive(Drop)]
 pub struct DeskBooks {
     alloc: Global,
     lists: Lists,
     compiled: Compiled,
     stamp: Option<Moment>,
+}
+
+impl Drop for DeskBooks {
+    fn drop(self) {
+        let DeskBooks {
+            alloc: _,
+            lists: _,
+            compiled: _,
+            stamp: _,
+        } = self;
+    }
 }
 
 impl Model for DeskBooks {

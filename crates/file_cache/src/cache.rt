@@ -29,10 +29,16 @@ use std::marker::Model;
 /// The usage files that the manager holds, of at most 128 URLs, in the order of the URLs: of each at
 /// most one that the operator approved and one that waits for a verdict. All approved files together
 /// have at most 4,096 entries. Contracts see the cache as the list and its room.
-#[derive(Drop, Debug)]
+#[derive(Debug)]
 pub struct FileCache {
     alloc: Global,
     files: SortedRows<CachedFile>,
+}
+
+impl Drop for FileCache {
+    fn drop(self) {
+        let FileCache { alloc: _, files: _ } = self;
+    }
 }
 
 impl Model for FileCache {

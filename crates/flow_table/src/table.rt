@@ -33,7 +33,6 @@ mod tests;
 /// after the younger one was begun, the elder one goes as a whole and the younger one becomes it. So
 /// the table holds no more than the connections of some four hours, however long it is used, and a
 /// packet costs no more for it.
-#[derive(Drop)]
 pub struct FlowTable {
     alloc: Global,
     /// The moment of the last packet that was noted.
@@ -44,6 +43,19 @@ pub struct FlowTable {
     newest: Option<(Key, Option<Begun>)>,
     younger: BTreeMap<Key, Option<Begun>>,
     elder: BTreeMap<Key, Option<Begun>>,
+}
+
+impl Drop for FlowTable {
+    fn drop(self) {
+        let FlowTable {
+            alloc: _,
+            last: _,
+            since: _,
+            newest: _,
+            younger: _,
+            elder: _,
+        } = self;
+    }
 }
 
 impl Model for FlowTable {

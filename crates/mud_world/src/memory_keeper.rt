@@ -22,7 +22,7 @@ pub struct KeeperCalls {
 
 /// A keeper in memory. A call fails exactly where its number is in the list of its method, counted
 /// from 1.
-#[derive(Drop, Debug)]
+#[derive(Debug)]
 pub struct MemoryKeeper {
     /// The items, ordered by kind and then key, keys distinct.
     pub items: SortedRows<Item>,
@@ -36,6 +36,20 @@ pub struct MemoryKeeper {
     pub calls: KeeperCalls,
     is_open: bool,
     alloc: Global,
+}
+
+impl Drop for MemoryKeeper {
+    fn drop(self) {
+        let MemoryKeeper {
+            items: _,
+            failing_open: _,
+            failing_apply: _,
+            count: _,
+            calls: _,
+            is_open: _,
+            alloc: _,
+        } = self;
+    }
 }
 
 impl MemoryKeeper {

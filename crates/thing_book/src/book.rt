@@ -26,10 +26,19 @@ use std::marker::Model;
 /// The Things that the manager keeps, at most 512, in the order of their hardware addresses, each
 /// with at most four leases; an address is in the leases of one Thing. Contracts see the book as the
 /// list and its room.
-#[derive(Drop, Debug)]
+#[derive(Debug)]
 pub struct ThingBook {
     alloc: Global,
     things: SortedRows<Thing>,
+}
+
+impl Drop for ThingBook {
+    fn drop(self) {
+        let ThingBook {
+            alloc: _,
+            things: _,
+        } = self;
+    }
 }
 
 impl Model for ThingBook {

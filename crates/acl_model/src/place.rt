@@ -8,7 +8,7 @@ ghost use Rattle.sorted_rows.specs.Addresses.{addr_place};
 ghost use Rattle.acl_model.specs.Places.{key_kind, key_text, text_place, binding_place};
 
 use crate::binding::{Binding, MemberKey};
-use mud_base::{Addr, addr_order};
+use mud_base::{Addr, addr_order, octets_order};
 use sorted_rows::{KeyOf, Placed, PrefixOf};
 use std::cmp::Ordering;
 
@@ -74,7 +74,7 @@ pub fn order_keys(own: KeyText<'_>, other: KeyText<'_>) -> Ordering
     if front.is_ne() {
         return front;
     }
-    own.text.cmp(other.text)
+    octets_order(own.text, other.text)
 }
 
 /// How two keys with their addresses stand to one another: by key, and then by address.

@@ -1,6 +1,7 @@
 //! The files that are held of one URL.
 use crate::approval::Approval;
 use crate::held::Held;
+use mud_base::octets_order;
 use mud_url::MudUrl;
 use sorted_rows::{KeyOf, Placed};
 use std::cmp::Ordering;
@@ -23,7 +24,7 @@ impl Placed for CachedFile {
 
     #[tactic(auto, unfolding(crate::specs::Files::url_of))]
     fn order(&self, other: &CachedFile) -> Ordering {
-        self.url.text().cmp(other.url.text())
+        octets_order(self.url.text(), other.url.text())
     }
 }
 
@@ -35,6 +36,6 @@ impl KeyOf<CachedFile> for MudUrl {
 
     #[tactic(auto, unfolding(crate::specs::Files::url_of))]
     fn order_to(&self, file: &CachedFile) -> Ordering {
-        self.text().cmp(file.url.text())
+        octets_order(self.text(), file.url.text())
     }
 }

@@ -32,6 +32,15 @@ pub fn big_32(octets: &[u8], place: usize) -> u32
     u32::from_be_bytes(octets_at(octets, place))
 }
 
+/// The number in the eight octets from a place on, the most significant one first.
+#[tactic(auto, unfolding(crate::specs::Numbers::big_64))]
+pub fn big_64(octets: &[u8], place: usize) -> u64
+    requires { place + 8 ≤ length octets.now }
+    ensures { result ≡ spec.big_64 place octets.now }
+{
+    u64::from_be_bytes(octets_at(octets, place))
+}
+
 /// The number in the sixteen octets from a place on, the most significant one first.
 #[tactic(auto, unfolding(crate::specs::Numbers::big_128))]
 pub fn big_128(octets: &[u8], place: usize) -> u128

@@ -1,7 +1,7 @@
 //! Classes and names, and the addresses that are bound to them.
 ghost use Rattle.std.specs.Prelude.{◌≡◌, IfOk};
 
-use mud_base::{Addr, Bytes, End, Listed, Memory};
+use mud_base::{Addr, Bytes, End, Listed, Memory, octets_order};
 use mud_url::MudUrl;
 use sorted_rows::{KeyOf, Placed};
 use std::cmp::Ordering;
@@ -55,7 +55,7 @@ impl Class {
         ensures { result ≡ place_cmp (key_of_class self.now) (key_of_class other.now) }
     {
         match (self, other) {
-            (Class::Uri(own), Class::Uri(other)) => own.octets().cmp(other.octets()),
+            (Class::Uri(own), Class::Uri(other)) => octets_order(own.octets(), other.octets()),
             (Class::Uri(_), Class::Mine(_)) => Ordering::Less,
             (Class::Mine(_), Class::Uri(_)) => Ordering::Greater,
             (Class::Mine(own), Class::Mine(other)) => own.cmp(other),
@@ -92,7 +92,7 @@ impl Placed for NameRow {
 
     #[tactic(auto, unfolding(crate::specs::Binds::name_of))]
     fn order(&self, other: &NameRow) -> Ordering {
-        self.name.octets().cmp(other.name.octets())
+        octets_order(self.name.octets(), other.name.octets())
     }
 }
 
@@ -105,6 +105,6 @@ impl KeyOf<NameRow> for NameKey<'_> {
 
     #[tactic(auto, unfolding(crate::specs::Binds::name_of))]
     fn order_to(&self, row: &NameRow) -> Ordering {
-        self.0.cmp(row.name.octets())
+        octets_order(self.0, row.name.octets())
     }
 }

@@ -15,7 +15,7 @@ use crate::parts::{
     authority, begins_with_scheme, first_not_graphic, has_fragment, has_user_info, host_part,
     is_port, path_and_query, path_fault, path_part, port_part,
 };
-use mud_base::ShortText;
+use mud_base::{ShortText, octets_order};
 use std::cmp::Ordering;
 use std::fmt;
 use std::marker::Model;
@@ -101,7 +101,7 @@ impl Ord for MudUrl {
     ghost matches_eq = { Prim.search (comparing, rules) };
 
     fn cmp(&self, other: &MudUrl) -> Ordering {
-        self.text().cmp(other.text())
+        octets_order(self.text(), other.text())
     }
 }
 

@@ -3,7 +3,7 @@ ghost use Rattle.std.specs.Prelude.{◌≡◌, ◌∷◌, IfOk};
 ghost use Rattle.sorted_rows.specs.Placed.{place_cmp};
 ghost use Rattle.mud_world.specs.Items.{place_of};
 
-use mud_base::{Bytes, Memory};
+use mud_base::{Bytes, Memory, octets_order};
 use sorted_rows::{KeyOf, Placed};
 use std::cmp::Ordering;
 
@@ -60,7 +60,7 @@ fn place_order(kind: u8, key: &[u8], other_kind: u8, other_key: &[u8]) -> Orderi
 {
     match kind.cmp(&other_kind) {
         Ordering::Less => Ordering::Less,
-        Ordering::Equal => key.cmp(other_key),
+        Ordering::Equal => octets_order(key, other_key),
         Ordering::Greater => Ordering::Greater,
     }
 }

@@ -10,6 +10,6 @@ returns-then-is_ne c =
 
 pub returns : goal.returns
 returns c =
-    c.cmp-3.ensures
+    c.octets_order.ensures
     ∙ front_ties c.args.own.kind c.args.other.kind c.args.own.text.now c.args.other.text.now c.then-front.result
     (c.then-front.ensures ∙ (λ i. ordering_then (c.cmp.ensures i) (c.cmp-2.ensures i))) (sym c.is_ne.ensures ∙ c.if-is_ne.false)

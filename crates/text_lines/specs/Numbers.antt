@@ -5,7 +5,11 @@ use Rattle.std.specs.Prelude.{ℕ, ◌-◌, ◌^◌, ◌==◌, List, [], ◌++�
 unfoldable pub number_text : ℕ → List ℕ
 number_text number = codes " " ++ decimal number
 
--- the same, where there is a number
+-- two numbers, and a space behind each
+unfoldable pub two_text : ℕ → ℕ → List ℕ
+two_text first second = decimal first ++ codes " " ++ decimal second ++ codes " "
+
+-- a space and the number, where there is one
 unfoldable pub place_text : Option ℕ → List ℕ
 place_text None = []
 place_text (Some place) = number_text place

@@ -5,4 +5,5 @@ pub mod PlannedLaws
 pub mod Readings
 pub mod Taking
 mod MacNumbers
+mod NumberLaws
 mod Examples

@@ -4,13 +4,15 @@ ghost use Rattle.sorted_rows.specs.Changes.{changed};
 ghost use Rattle.mud_tables.specs.Things.{mac_of, thing_at, IsSoundThings};
 ghost use Rattle.mud_tables.specs.ThingSteps.{url_step, move_step, remove_step, hold_step, release_step, lease_step, end_step};
 ghost use Rattle.mud_tables.specs.ThingItems.{thing_items, may_follow, with_thing_item};
+ghost use Rattle.thing_book.specs.Numbers.{AreNumbersOf};
 ghost use Rattle.thing_book.specs.Planned.{IsPlanOf, IsReady, IsRefusal};
 
 use crate::change::ThingChange;
 use crate::holds::{hold, release};
 use crate::items::item_of;
 use crate::leases::{end_lease, is_taken, lease_for};
-use crate::plan::{or_memory, thing_of};
+use crate::numbers::{ThingNumbers, numbered_thing};
+use crate::plan::or_memory;
 use crate::ranges::{addr_fits, mac_has_six_octets, moment_is_kept};
 use crate::reading::kept_thing;
 use crate::urls::{announce, move_to, remove};
@@ -30,6 +32,8 @@ use std::marker::Model;
 pub struct ThingBook {
     alloc: Global,
     things: SortedRows<Thing>,
+    /// The numbers of their hardware addresses, among which one is looked for.
+    numbers: ThingNumbers,
 }
 
 impl Drop for ThingBook {
@@ -37,19 +41,20 @@ impl Drop for ThingBook {
         let ThingBook {
             alloc: _,
             things: _,
+            numbers: _,
         } = self;
     }
 }
 
 impl Model for ThingBook {
-    ghost use Rattle.mud_tables.specs.Things.{IsSoundThings};
+    ghost use Rattle.thing_book.specs.Numbers.{IsSoundBook};
     ghost use Rattle.thing_book.specs.Planned.{Things};
 
     ghost Value = { Things };
 
     ghost view = { λ b. record { things = b.things.rows; room = b.things.room } };
 
-    ghost invariant = { λ b. IsSoundThings b.things.rows };
+    ghost invariant = { λ b. IsSoundBook b.things.rows b.numbers };
 }
 
 impl ThingBook {
@@ -60,6 +65,7 @@ impl ThingBook {
         ThingBook {
             alloc,
             things: SortedRows::new(alloc),
+            numbers: ThingNumbers::new(),
         }
     }
 
@@ -75,7 +81,7 @@ impl ThingBook {
     pub fn thing_at(&self, mac: Mac) -> Option<&Thing>
         ensures { option_copied result ≡ thing_at mac self.now.things }
     {
-        thing_of(&self.things, mac)
+        numbered_thing(&self.things, &self.numbers, &mac)
     }
 
     /// A hardware address announces a URL (RFC 8520, 1.5, 10 and 12). Where no Thing has the
@@ -188,6 +194,7 @@ impl ThingBook {
         ensures { self.new.things ≡ changed mac_of change.rows self.old.things }
     {
         self.things.change(change.into_rows());
+        self.numbers.write(self.things.rows());
     }
 
     /// The item in which the Thing at this index of the list is kept.
@@ -214,14 +221,37 @@ impl ThingBook {
         let Some(thing) = kept_thing(self.alloc, item)? else {
             return Ok(false);
         };
-        follow(&mut self.things, thing)
+        follow(&mut self.things, &mut self.numbers, thing)
     }
+}
+
+/// Puts a Thing behind all others, where it may follow them, and its number behind theirs.
+fn follow(
+    things: &mut SortedRows<Thing>,
+    numbers: &mut ThingNumbers,
+    thing: Thing,
+) -> Result<bool, Memory>
+    requires { AreNumbersOf things.old.rows numbers.old }
+    ensures may { IfOk result (λ taken. taken ≡ may_follow things.old.rows thing) }
+    ensures rows { IfOk result
+        (λ taken. things.new.rows
+        ≡ (if taken then things.old.rows ++ thing ∷ [] else things.old.rows)) }
+    ensures err { OnErr result (things.new.rows ≡ things.old.rows) }
+    ensures numbered { AreNumbersOf things.new.rows numbers.new }
+{
+    let mac = thing.mac;
+    if !put_behind(things, thing)? {
+        return Ok(false);
+    }
+    numbers.push(&mac);
+    Ok(true)
 }
 
 /// Puts a Thing behind all others, where it may follow them.
 #[tactic(auto, unfolding(mud_tables::specs::ThingItems::may_follow))]
-fn follow(things: &mut SortedRows<Thing>, thing: Thing) -> Result<bool, Memory>
+fn put_behind(things: &mut SortedRows<Thing>, thing: Thing) -> Result<bool, Memory>
     ensures may { IfOk result (λ taken. taken ≡ may_follow things.old.rows thing) }
+    ensures few { IfOk result (λ taken. IsTrue taken → length things.old.rows < 512) }
     ensures rows { IfOk result
         (λ taken. things.new.rows
         ≡ (if taken then things.old.rows ++ thing ∷ [] else things.old.rows)) }

@@ -10,7 +10,7 @@ use std::cmp::Ordering;
 use std::marker::Model;
 
 /// The number that the octets of a hardware address spell, most significant first.
-fn number_of(mac: &Mac) -> u64
+pub(crate) fn number_of(mac: &Mac) -> u64
     ensures { result ≡ from_be_bytes w64 (0 ∷ 0 ∷ mac.now.0) }
 {
     let octets = &mac.0;

@@ -10,6 +10,7 @@ mod holds;
 mod items;
 mod key;
 mod leases;
+mod numbers;
 mod plan;
 mod ranges;
 mod reading;

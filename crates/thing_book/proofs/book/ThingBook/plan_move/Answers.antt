@@ -9,14 +9,14 @@ pub made-requires : goal.made-requires
 made-requires c =
     let mac = c.args.mac in
     let url = c.args.url in
-    fit (move_step mac url) (move_change mac url) (λ things sound. move_is things sound mac url) c.self.inside.things.rows c.in_ok-plan.plan c.self.invariant c.in_ok-plan.ensures.ok
+    fit (move_step mac url) (move_change mac url) (λ things sound. move_is things sound mac url) c.self.inside.things.rows c.in_ok-plan.plan c.self.invariant.sound c.in_ok-plan.ensures.ok
 
 pub returns-clause-ok : goal.returns-clause-ok
 returns-clause-ok c =
     let mac = c.args.mac in
     let url = c.args.url in
     answers (move_step mac url) (move_change mac url) (λ things sound. move_is things sound mac url) c.args.self.now.things c.self.inside.things c.made.new.things c.in_ok-plan.plan c.made.result c.or_memory.result
-    (ap (λ (b : Things). b.things) c.self.view_is) c.self.invariant c.in_ok-plan.ensures.ok c.made.ensures.same c.made.ensures.ok c.made.ensures.room c.or_memory.ensures.ok
+    (ap (λ (b : Things). b.things) c.self.view_is) c.self.invariant.sound c.in_ok-plan.ensures.ok c.made.ensures.same c.made.ensures.ok c.made.ensures.room c.or_memory.ensures.ok
 
 pub returns-clause-ready : goal.returns-clause-ready
 returns-clause-ready c = ready (move_step c.args.mac c.args.url c.args.self.now.things) _ c.or_memory.result (returns-clause-ok c)

@@ -9,14 +9,14 @@ pub made-requires : goal.made-requires
 made-requires c =
     let mac = c.args.mac in
     let url = c.args.url in
-    fit (url_step mac url) (url_change mac url) (λ things sound. url_is things sound mac url c.mac_has_six_octets.ensures c.text_is_canonical.ensures) c.self.inside.things.rows c.in_ok-plan.plan c.self.invariant c.in_ok-plan.ensures.ok
+    fit (url_step mac url) (url_change mac url) (λ things sound. url_is things sound mac url c.mac_has_six_octets.ensures c.text_is_canonical.ensures) c.self.inside.things.rows c.in_ok-plan.plan c.self.invariant.sound c.in_ok-plan.ensures.ok
 
 pub returns-clause-ok : goal.returns-clause-ok
 returns-clause-ok c =
     let mac = c.args.mac in
     let url = c.args.url in
     answers (url_step mac url) (url_change mac url) (λ things sound. url_is things sound mac url c.mac_has_six_octets.ensures c.text_is_canonical.ensures) c.args.self.now.things c.self.inside.things c.made.new.things c.in_ok-plan.plan c.made.result c.or_memory.result
-    (ap (λ (b : Things). b.things) c.self.view_is) c.self.invariant c.in_ok-plan.ensures.ok c.made.ensures.same c.made.ensures.ok c.made.ensures.room c.or_memory.ensures.ok
+    (ap (λ (b : Things). b.things) c.self.view_is) c.self.invariant.sound c.in_ok-plan.ensures.ok c.made.ensures.same c.made.ensures.ok c.made.ensures.room c.or_memory.ensures.ok
 
 pub returns-clause-ready : goal.returns-clause-ready
 returns-clause-ready c = ready (url_step c.args.mac c.args.url c.args.self.now.things) _ c.or_memory.result (returns-clause-ok c)

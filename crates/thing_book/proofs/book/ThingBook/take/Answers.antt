@@ -7,9 +7,11 @@ pub returns-in_default-clause-refused : goal.returns-in_default-clause-refused
 returns-in_default-clause-refused c = λ _. none_taken c.args.self.now.things c.args.item.now (sym c.in_default.is ∙ c.in_ok-thing.ensures.value)
 
 pub invariant_of-self : goal.invariant_of-self
-invariant_of-self c =
-    sound_behind c.self.inside.things.rows c.follow.new.things.rows c.in-Some.thing c.follow.result c.self.invariant
-    (rw c.in-Some.is at c.in_ok-thing.ensures.kept) c.follow.ensures.may c.follow.ensures.rows c.follow.ensures.err
+invariant_of-self c = record {
+  sound = sound_behind c.self.inside.things.rows c.follow.new.things.rows c.in-Some.thing c.follow.result c.self.invariant.sound
+      (rw c.in-Some.is at c.in_ok-thing.ensures.kept) c.follow.ensures.may c.follow.ensures.rows c.follow.ensures.err;
+  numbered = c.follow.ensures.numbered;
+}
 
 pub returns-clause-taken : goal.returns-clause-taken
 returns-clause-taken c =

@@ -1,4 +1,4 @@
-use Rattle.std.proofs.Common.{◌≡◌, ap, ap₂, ◌∙◌}
+use Rattle.std.proofs.Common.{ap, ap₂, ◌∙◌}
 use Rattle.std.specs.Ordering.{nat_cmp}
 use Rattle.sorted_rows.specs.Placed.{place_cmp}
 use Rattle.mud_base.specs.declared.addr.Mac.{Mac}

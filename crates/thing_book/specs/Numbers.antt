@@ -1,0 +1,45 @@
+-- The numbers of the hardware addresses of Things, among which a Thing is looked for.
+use Rattle.std.specs.Prelude.{◌≡◌, ◌≢◌, ℕ, ◌%◌, ◌<◌, ◌≤◌, List, ◌∷◌, length, map, slice_index}
+use Rattle.std.specs.List.{AllByRecursion}
+use Rattle.std.specs.Int.{w64, from_be_bytes}
+use Rattle.item_codec.specs.Spelling.{IsOctets}
+use Rattle.mud_base.specs.declared.addr.Mac.{Mac}
+use Rattle.mud_tables.specs.declared.thing.Thing.{Thing}
+use Rattle.mud_tables.specs.Things.{IsSoundThings}
+
+-- the number that the octets of a hardware address spell, most significant first
+abbrev pub mac_number : Mac → ℕ
+mac_number mac = from_be_bytes w64 (0 ∷ 0 ∷ mac.0)
+
+abbrev pub thing_number : Thing → ℕ
+thing_number thing = mac_number thing.mac
+
+-- a hardware address has six octets
+pub record IsMac (mac : Mac) : Type 0 where
+  pub six : length mac.0 ≡ 6
+  pub octets : IsOctets mac.0
+
+abbrev pub HasMac : Thing → Type 0
+HasMac thing = IsMac thing.mac
+
+-- the numbers are those of the Things, in their order
+pub record AreNumbersOf (things : List Thing) (numbers : List ℕ) : Type 0 where
+  pub numbers_are : numbers ≡ map thing_number things
+  pub each : AllByRecursion HasMac things
+
+-- the Things are sound, and these are their numbers
+pub record IsSoundBook (things : List Thing) (numbers : List ℕ) : Type 0 where
+  pub sound : IsSoundThings things
+  pub numbered : AreNumbersOf things numbers
+
+-- no number is less than an earlier one
+abbrev pub AreRising : List ℕ → Type 0
+AreRising numbers = (i j : ℕ) → i ≤ j → j < length numbers → slice_index numbers i ≤ slice_index numbers j
+
+-- Of so many numbers, which are the first in their room, each has a spot, by what is left when it is divided by 2,048.
+-- There its index stands, or 65,535 where others have the spot too.
+pub record AreSpotted (room spots : List ℕ) (count : ℕ) : Type 0 where
+  pub room_is : length room ≡ 512
+  pub spots_are : length spots ≡ 2048
+  pub within : count ≤ 512
+  pub spotted : (k : ℕ) → k < count → slice_index spots (slice_index room k % 2048) ≢ 65535 → slice_index spots (slice_index room k % 2048) ≡ k

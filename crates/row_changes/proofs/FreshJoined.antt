@@ -12,7 +12,7 @@ use Rattle.acl_rows.specs.Places.{row_place, row_key_place}
 use Rattle.acl_rows.specs.ByAddress.{index_beside}
 use Rattle.acl_rows.specs.Rows.{Slots, row, rows_of}
 use Rattle.row_changes.specs.Touched.{key_end, changed_edits, edit_of, same_end, with_edit}
-use Rattle.row_changes.specs.Fresh.{Fresh, fresh_of, row_with, one_fresh, more_fresh, joined, AreSorted}
+use Rattle.row_changes.specs.Fresh.{Fresh, fresh_of, row_with, end_kept, one_fresh, more_fresh, joined, AreSorted}
 
 -- ---- One row
 
@@ -53,11 +53,11 @@ module _ (slots : Slots) (bindings : List Binding) (new : Slots) where
 
   one_joined : (key : RowKey) (more s : Fresh) → AreSorted more → AreSorted s → joined (one_fresh slots bindings new key more) s ≡ one_fresh slots bindings new key (joined more s)
   unfolding joined one_fresh
-  one_joined key more s up up' = λ i. fresh_of (edits_joined key more.edits s.edits up.edits up'.edits i) (row_by key more.rows s.rows up.rows up'.rows (key_end new bindings key) i)
+  one_joined key more s up up' = λ i. fresh_of (edits_joined key more.edits s.edits up.edits up'.edits i) (row_by key more.rows s.rows up.rows up'.rows (end_kept (key_end slots bindings key) (key_end new bindings key)) i)
 
   pub one_sorted : (key : RowKey) (more : Fresh) → AreSorted more → AreSorted (one_fresh slots bindings new key more)
   unfolding one_fresh
-  one_sorted key more up = record { edits = edits_sorted key more.edits up.edits; rows = row_sorted_by key more.rows up.rows (key_end new bindings key) }
+  one_sorted key more up = record { edits = edits_sorted key more.edits up.edits; rows = row_sorted_by key more.rows up.rows (end_kept (key_end slots bindings key) (key_end new bindings key)) }
 
   -- ---- All rows
 

@@ -28,14 +28,14 @@ use Rattle.acl_rows.specs.declared.row.Row.{Row}
 use Rattle.acl_rows.specs.declared.row.RowKey.{RowKey}
 use Rattle.acl_rows.specs.Places.{row_place, row_key_place}
 use Rattle.acl_rows.specs.ByAddress.{rows_of_peer, index_beside}
-use Rattle.acl_rows.specs.Rows.{Slots, row, rows_of, member_keys, held_by, entry_at, entry_end}
+use Rattle.acl_rows.specs.Rows.{Slots, rows_of, member_keys, held_by, entry_at, entry_end}
 use Rattle.acl_rows.proofs.Sound.{end_at-entry}
 use Rattle.row_changes.specs.Touched.{row_key, key_end, changed_edits}
 use Rattle.row_changes.specs.PolicyTouched.{bound_under, bound_key, first_key_touches}
 use Rattle.row_changes.specs.EntryKeys.{key_parts}
 use Rattle.row_changes.specs.Change.{ChangeState, after, end_of_row}
-use Rattle.row_changes.specs.Fresh.{Fresh, fresh_of, row_with, one_fresh, more_fresh, first_of, membered_count, AreOfPeer, gone_edit, left_edits}
-use Rattle.row_changes.proofs.OneEdit.{asked_edit}
+use Rattle.row_changes.specs.Fresh.{Fresh, fresh_of, row_with, end_kept, one_fresh, more_fresh, first_of, rest_of, membered_count, AreOfPeer, gone_edit, left_edits}
+use Rattle.row_changes.proofs.OneEdit.{asked_edit, was}
 
 -- ---- The first key
 
@@ -43,6 +43,15 @@ pub first_some : (p : ℕ × List ℕ) (o : Option MemberKey) (keys : List Membe
 unfolding first_of
 first_some p None keys is = absurd (none-some p (sym is))
 first_some p (Some key) keys is = is
+
+pub behind_some : (p : ℕ × List ℕ) (o : Option MemberKey) (keys : List MemberKey) → (let q : Option (ℕ × List ℕ) = Some p in q ≡ option_map key_parts o) → keys ≡ rest_of (cons_option o keys)
+unfolding rest_of
+behind_some p None keys is = absurd (none-some p (sym is))
+behind_some p (Some key) keys is = refl
+
+pub no_key : (o : Option MemberKey) (keys : List MemberKey) → (let q : Option (ℕ × List ℕ) = None in q ≡ option_map key_parts o) → cons_option o keys ≡ keys
+no_key None keys is = refl
+no_key (Some key) keys is = absurd (none-some (key_parts key) is)
 
 -- ---- One more place
 
@@ -66,20 +75,19 @@ unfolding key_end
 entry_asked new bindings owner side a n held entry holds stands = sym (end_at-entry new bindings owner side a n held entry holds stands)
 
 module _ (slots : Slots) (bindings : List Binding) (new : Slots) (rows : List Row) (kept : rows ≡ rows_of slots bindings) (key : RowKey) where
-  pub fresh_some : (u : ℕ) (until : Option ℕ) (edits : List (Edit Row)) (s : Fresh) → until ≡ Some u → until ≡ key_end new bindings key → edits ≡ changed_edits key (index_beside key.owner key.side key.addr (row_key_place key) rows) (end_of_row (row_at row_place (row_key_place key) rows)) (Some u) s.edits
-      → fresh_of edits (set_row row_place (row key.owner key.side key.addr key.entry u) s.rows) ≡ one_fresh slots bindings new key s
-  unfolding one_fresh row_with
-  fresh_some u until edits s some is made = (λ i. fresh_of ((made ∙ asked_edit slots bindings new rows kept key (Some u) s.edits (sym some ∙ is)) i) (row_with key ((sym some ∙ is) i) s.rows))
-
-  pub fresh_none : (until : Option ℕ) (edits : List (Edit Row)) (s : Fresh) → until ≡ None → until ≡ key_end new bindings key → edits ≡ changed_edits key (index_beside key.owner key.side key.addr (row_key_place key) rows) (end_of_row (row_at row_place (row_key_place key) rows)) None s.edits
-      → fresh_of edits s.rows ≡ one_fresh slots bindings new key s
-  unfolding one_fresh row_with
-  fresh_none until edits s none is made = (λ i. fresh_of ((made ∙ asked_edit slots bindings new rows kept key None s.edits (sym none ∙ is)) i) (row_with key ((sym none ∙ is) i) s.rows))
+  -- the edit of a key, and its row where one stood and one is asked for
+  pub fresh_is : (old until : Option ℕ) (edits : List (Edit Row)) (s : Fresh) → old ≡ end_of_row (row_at row_place (row_key_place key) rows) → until ≡ key_end new bindings key
+      → edits ≡ changed_edits key (index_beside key.owner key.side key.addr (row_key_place key) rows) old until s.edits
+      → fresh_of edits (row_with key (end_kept old until) s.rows) ≡ one_fresh slots bindings new key s
+  unfolding one_fresh
+  fresh_is old until edits s was' is made =
+      let asked = made ∙ ap (λ (o : Option ℕ). changed_edits key (index_beside key.owner key.side key.addr (row_key_place key) rows) o until s.edits) was' ∙ asked_edit slots bindings new rows kept key until s.edits is in
+      let stood = was' ∙ was slots bindings new rows kept key in
+      λ i. fresh_of (asked i) (row_with key (end_kept (stood i) (is i)) s.rows)
 
 -- ---- The next one of a list
 
-pub next_bound : (owner : Owner) (side : Direction) (n : ℕ) (bs : List Binding) (i : ℕ) (b : Binding) → i < length bs → b ≡ get_or bs i b → map (bound_key owner side n) (drop i bs) ≡ row_key owner side b.addr n ∷ map (bound_key owner side n) (drop (i + 1) bs)
-unfolding bound_key
+pub next_bound : (owner : Owner) (side : Direction) (n : ℕ) (bs : List Binding) (i : ℕ) (b : Binding) → i < length bs → b ≡ get_or bs i b → map (bound_key owner side n) (drop i bs) ≡ bound_key owner side n b ∷ map (bound_key owner side n) (drop (i + 1) bs)
 next_bound owner side n bs i b lt is = ap (λ (xs : List Binding). map (bound_key owner side n) xs) (drop-cons bs i b lt ∙ (λ j. sym is j ∷ drop (next j) bs))
   where
     next : suc i ≡ i + 1
@@ -123,7 +131,7 @@ unfolding first_of
 member_by url s ss p rest None is first = or_right (is_member s) _ (rest first)
 member_by url s ss p rest (Some key) is first = or_left (is_member s) _ (sym (is_some-key_of url s) ∙ ap is_some is)
 
-has_member : (url : List ℕ) (ss : List Selector) (p : ℕ × List ℕ) → (let q : Option (ℕ × List ℕ) = Some p in q ≡ option_map key_parts (first_of (filter_map (key_of url) ss))) → list_any is_member ss ≡ true
+pub has_member : (url : List ℕ) (ss : List Selector) (p : ℕ × List ℕ) → (let q : Option (ℕ × List ℕ) = Some p in q ≡ option_map key_parts (first_of (filter_map (key_of url) ss))) → list_any is_member ss ≡ true
 unfolding first_of
 has_member url [] p first = absurd (none-some p (sym first))
 has_member url (s ∷ ss) p first = member_by url s ss p (has_member url ss p) (key_of url s) refl first

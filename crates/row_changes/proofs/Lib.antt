@@ -4,6 +4,7 @@ pub mod BindingEdits
 pub mod Bound
 pub mod Edits
 pub mod EntryHalves
+mod FirstBound
 mod FreshJoined
 pub mod FreshLaws
 pub mod Groups

@@ -59,7 +59,7 @@ module _ (c : ChangeState) (kept : c.rows ≡ rows_of c.slots c.bindings) (owner
 -- ---- An edit that is asked for by another table
 
 module _ (slots : Slots) (bindings : List Binding) (new : Slots) (rows : List Row) (kept : rows ≡ rows_of slots bindings) (key : RowKey) where
-  was : end_of_row (row_at row_place (row_key_place key) rows) ≡ key_end slots bindings key
+  pub was : end_of_row (row_at row_place (row_key_place key) rows) ≡ key_end slots bindings key
   unfolding row_key_place key_end
   was =
       ap (λ (xs : List Row). end_of_row (row_at row_place (place_at key.owner key.side key.addr key.entry) xs)) kept

@@ -40,7 +40,7 @@ use Rattle.row_changes.proofs.Untouched.{touches_at}
 use Rattle.row_changes.proofs.Patches.{all-row_at}
 use Rattle.row_changes.proofs.PolicyPatch.{new_by, policy_patch}
 use Rattle.row_changes.specs.Steps.{HolderFits, HolderKeys, HaveKeys, place_steps}
-use Rattle.row_changes.specs.Fresh.{Fresh, fresh_of, row_with, one_fresh, more_fresh, gone_edit, left_edits}
+use Rattle.row_changes.specs.Fresh.{Fresh, fresh_of, row_with, end_kept, one_fresh, more_fresh, gone_edit, left_edits}
 use Rattle.row_changes.proofs.Groups.{all_kept, each_there}
 
 module _ (slots : Slots) (bindings : List Binding) (new : Slots) where
@@ -56,7 +56,7 @@ module _ (slots : Slots) (bindings : List Binding) (new : Slots) where
   fresh_edits [] s = refl
   fresh_edits (key ∷ keys) s = fresh_edits keys (one_fresh slots bindings new key s)
 
-  -- ---- The new rows are those that are asked for
+  -- ---- The rows that stay are those that stood and are asked for
 
   abbrev Asked : List Row → Type 0
   Asked rows = AllByRecursion (λ r. end_for new bindings r ≡ Some r.until) rows
@@ -70,10 +70,15 @@ module _ (slots : Slots) (bindings : List Binding) (new : Slots) where
   asked_by key rows asked None is = asked
   asked_by key rows asked (Some u) is = all-set_row row_place (λ (r : Row). end_for new bindings r ≡ Some r.until) (row key.owner key.side key.addr key.entry u) rows (asked_one key u is) asked
 
+  asked_kept : (key : RowKey) (rows : List Row) → Asked rows → (w : Option ℕ) → Asked (row_with key (end_kept w (key_end new bindings key)) rows)
+  unfolding end_kept row_with
+  asked_kept key rows asked None = asked
+  asked_kept key rows asked (Some v) = asked_by key rows asked (key_end new bindings key) refl
+
   all_asked : (keys : List RowKey) (s : Fresh) → Asked s.rows → Asked (more_fresh slots bindings new keys s).rows
   unfolding more_fresh one_fresh
   all_asked [] s asked = asked
-  all_asked (key ∷ keys) s asked = all_asked keys (one_fresh slots bindings new key s) (asked_by key s.rows asked (key_end new bindings key) refl)
+  all_asked (key ∷ keys) s asked = all_asked keys (one_fresh slots bindings new key s) (asked_kept key s.rows asked (key_end slots bindings key))
 
   module _ (p : List ℕ) where
     stays_cond : (r : Row) (o : Option Row) (b : Bool) → is_some o ≡ true → is_some (cond b (Some r) o) ≡ true
@@ -90,9 +95,9 @@ module _ (slots : Slots) (bindings : List Binding) (new : Slots) where
     all_stay : (keys : List RowKey) (s : Fresh) → is_some (row_at row_place p s.rows) ≡ true → is_some (row_at row_place p (more_fresh slots bindings new keys s).rows) ≡ true
     unfolding more_fresh one_fresh
     all_stay [] s there = there
-    all_stay (key ∷ keys) s there = all_stay keys (one_fresh slots bindings new key s) (stays_by key s.rows (key_end new bindings key) there)
+    all_stay (key ∷ keys) s there = all_stay keys (one_fresh slots bindings new key s) (stays_by key s.rows (end_kept (key_end slots bindings key) (key_end new bindings key)) there)
 
-  module _ (owner : Owner) (side : Direction) (a : Addr) (n u : ℕ) (asked : end_at new bindings owner side a n ≡ Some u) where
+  module _ (owner : Owner) (side : Direction) (a : Addr) (n u v : ℕ) (asked : end_at new bindings owner side a n ≡ Some u) (stood : end_at slots bindings owner side a n ≡ Some v) where
     here_cond : (r : Row) (o : Option Row) (b : Bool) → b ≡ true → is_some (cond b (Some r) o) ≡ true
     here_cond r o true e = refl
     here_cond r o false e = absurd (false≢true e)
@@ -111,20 +116,31 @@ module _ (slots : Slots) (bindings : List Binding) (new : Slots) where
         let same : AreSame key.owner owner key.side side key.addr a key.entry n = coordinates key at in
         (λ i. end_at new bindings (same.owner i) (same.side i) (same.addr i) (same.number i)) ∙ asked
 
-    put_by : (key : RowKey) (rows : List Row) → touches_at owner side a n key ≡ true → (o : Option ℕ) → key_end new bindings key ≡ o → is_some (row_at row_place (place_at owner side a n) (row_with key o rows)) ≡ true
+    stood_there : (key : RowKey) → touches_at owner side a n key ≡ true → key_end slots bindings key ≡ Some v
+    unfolding key_end
+    stood_there key at =
+        let same : AreSame key.owner owner key.side side key.addr a key.entry n = coordinates key at in
+        (λ i. end_at slots bindings (same.owner i) (same.side i) (same.addr i) (same.number i)) ∙ stood
+
+    put_row : (key : RowKey) (rows : List Row) → touches_at owner side a n key ≡ true → is_some (row_at row_place (place_at owner side a n) (row_with key (Some u) rows)) ≡ true
     unfolding row_with
-    put_by key rows at None is = absurd (none-some u (sym is ∙ asked_there key at))
-    put_by key rows at (Some v) is =
-        ap (λ (x : Option Row). is_some x) (row_at-set_row row_place (row key.owner key.side key.addr key.entry v) rows (place_at owner side a n))
-        ∙ here_cond (row key.owner key.side key.addr key.entry v) (row_at row_place (place_at owner side a n) rows) (same_place (row_place (row key.owner key.side key.addr key.entry v)) (place_at owner side a n)) (placed key v at)
+    put_row key rows at =
+        ap (λ (x : Option Row). is_some x) (row_at-set_row row_place (row key.owner key.side key.addr key.entry u) rows (place_at owner side a n))
+        ∙ here_cond (row key.owner key.side key.addr key.entry u) (row_at row_place (place_at owner side a n) rows) (same_place (row_place (row key.owner key.side key.addr key.entry u)) (place_at owner side a n)) (placed key u at)
+
+    put_kept : (key : RowKey) (rows : List Row) → touches_at owner side a n key ≡ true → is_some (row_at row_place (place_at owner side a n) (row_with key (end_kept (key_end slots bindings key) (key_end new bindings key)) rows)) ≡ true
+    unfolding end_kept
+    put_kept key rows at =
+        (λ i. is_some (row_at row_place (place_at owner side a n) (row_with key (end_kept (stood_there key at i) (asked_there key at i)) rows)))
+        ∙ put_row key rows at
 
     put_all_by : (key : RowKey) (keys : List RowKey) (s : Fresh) → (list_any (touches_at owner side a n) keys ≡ true → is_some (row_at row_place (place_at owner side a n) (more_fresh slots bindings new keys (one_fresh slots bindings new key s)).rows) ≡ true)
         → (b : Bool) → touches_at owner side a n key ≡ b → (b || list_any (touches_at owner side a n) keys) ≡ true → is_some (row_at row_place (place_at owner side a n) (more_fresh slots bindings new keys (one_fresh slots bindings new key s)).rows) ≡ true
     unfolding one_fresh
-    put_all_by key keys s rest true at any = all_stay (place_at owner side a n) keys (one_fresh slots bindings new key s) (put_by key s.rows at (key_end new bindings key) refl)
+    put_all_by key keys s rest true at any = all_stay (place_at owner side a n) keys (one_fresh slots bindings new key s) (put_kept key s.rows at)
     put_all_by key keys s rest false at any = rest any
 
-    -- where an end is asked at a place that is touched, there is a row
+    -- where an end was and is asked at a place that is touched, there is a row
     pub put_all : (keys : List RowKey) (s : Fresh) → list_any (touches_at owner side a n) keys ≡ true → is_some (row_at row_place (place_at owner side a n) (more_fresh slots bindings new keys s).rows) ≡ true
     unfolding more_fresh
     put_all [] s any = absurd (false≢true any)
@@ -134,21 +150,22 @@ module _ (slots : Slots) (bindings : List Binding) (new : Slots) where
     abbrev all_fresh : Fresh
     all_fresh = more_fresh slots bindings new (new_touches bindings owner held) (fresh_of [] [])
 
-    tells_by : (r : Row) → r.owner ≡ owner → (o : Option Row) → row_at row_place (row_place r) all_fresh.rows ≡ o → (w : Option ℕ) → end_for new bindings r ≡ w → is_some o ≡ is_some w
+    tells_by : (r : Row) → r.owner ≡ owner → end_for slots bindings r ≡ Some r.until → (o : Option Row) → row_at row_place (row_place r) all_fresh.rows ≡ o → (w : Option ℕ) → end_for new bindings r ≡ w → is_some o ≡ is_some w
     unfolding row_place end_for
-    tells_by r own None is None end = refl
-    tells_by r own None is (Some u) end =
+    tells_by r own was None is None end = refl
+    tells_by r own was None is (Some u) end =
+        let was' : end_at slots bindings owner r.side r.addr r.entry ≡ Some r.until = ap (λ (x : Owner). end_at slots bindings x r.side r.addr r.entry) (sym own) ∙ was in
         let end' : end_at new bindings owner r.side r.addr r.entry ≡ Some u = ap (λ (x : Owner). end_at new bindings x r.side r.addr r.entry) (sym own) ∙ end in
-        let there = put_all owner r.side r.addr r.entry u end' (new_touches bindings owner held) (fresh_of [] []) (new_by new bindings owner r.side r.addr r.entry u held here end') in
+        let there = put_all owner r.side r.addr r.entry u r.until end' was' (new_touches bindings owner held) (fresh_of [] []) (new_by new bindings owner r.side r.addr r.entry u held here end') in
         absurd (false≢true (ap (λ (x : Option Row). is_some x) (sym is ∙ ap (λ (x : Owner). row_at row_place (place_at x r.side r.addr r.entry) all_fresh.rows) own) ∙ there))
-    tells_by r own (Some x) is None end =
+    tells_by r own was (Some x) is None end =
         let asked : end_for new bindings x ≡ Some x.until = all-row_at row_place (λ (y : Row). end_for new bindings y ≡ Some y.until) (row_place r) all_fresh.rows x (all_asked (new_touches bindings owner held) (fresh_of [] []) tt) is in
         let same : AreSame x.owner r.owner x.side r.side x.addr r.addr x.entry r.entry = same_coordinates x.owner r.owner x.side r.side x.addr r.addr x.entry r.entry (place_row_at row_place (row_place r) all_fresh.rows x is) in
         absurd (none-some x.until (sym end ∙ sym (λ i. end_at new bindings (same.owner i) (same.side i) (same.addr i) (same.number i)) ∙ asked))
-    tells_by r own (Some x) is (Some u) end = refl
+    tells_by r own was (Some x) is (Some u) end = refl
 
-    pub tells : (r : Row) → r.owner ≡ owner → is_some (row_at row_place (row_place r) all_fresh.rows) ≡ is_some (end_for new bindings r)
-    tells r own = tells_by r own (row_at row_place (row_place r) all_fresh.rows) refl (end_for new bindings r) refl
+    pub tells : (r : Row) → r.owner ≡ owner → end_for slots bindings r ≡ Some r.until → is_some (row_at row_place (row_place r) all_fresh.rows) ≡ is_some (end_for new bindings r)
+    tells r own was = tells_by r own was (row_at row_place (row_place r) all_fresh.rows) refl (end_for new bindings r) refl
 
   -- ---- Old rows that aren't asked for any more
 
@@ -208,7 +225,7 @@ module _ (slots : Slots) (bindings : List Binding) (new : Slots) (i : ℕ) (held
       all_kept (is_under row_place (side_place (Url i) side)) (λ r. row_at row_place (row_place r) (rows_of slots bindings) ≡ Some r) (IsOwn slots bindings new s.rows)
       (λ r under at. record {
         was = end_was slots bindings r at;
-        told = ap (λ (x : Fresh). is_some (row_at row_place (row_place r) x.rows)) s_is ∙ tells slots bindings new (Url i) held change.here r (side_is (Url i) side r under).owner;
+        told = ap (λ (x : Fresh). is_some (row_at row_place (row_place r) x.rows)) s_is ∙ tells slots bindings new (Url i) held change.here r (side_is (Url i) side r under).owner (end_was slots bindings r at);
       })
       (rows_of slots bindings) (each_there row_place (rows_of slots bindings) (ascend-rows_of slots bindings))
 

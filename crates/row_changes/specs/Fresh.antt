@@ -1,12 +1,15 @@
--- The rows that a new policy asks for, and the edits that they lead to.
+-- The edits that the rows of a new policy lead to, and those of the rows that stay.
 use Rattle.std.specs.Prelude.{◌≡◌, ℕ, ◌+◌, false, List, [], ◌∷◌, filter, flat_map, length, slice_get, is_some, Option, Some, None, if◌then◌else◌}
-use Rattle.std.specs.List.{AllByRecursion}
+use Rattle.std.specs.List.{AllByRecursion, filter_map}
 use Rattle.sorted_rows.specs.Placed.{row_at, set_row, set_rows, PlacesAscend}
 use Rattle.mud_base.specs.declared.packet.Direction.{Direction}
 use Rattle.mud_base.specs.declared.packet.Direction.TheVariants.{From, To}
 use Rattle.acl_model.specs.declared.binding.Binding.{Binding}
+use Rattle.acl_model.specs.declared.binding.MemberKey.{MemberKey}
+use Rattle.acl_model.specs.declared.entry.Selector.{Selector}
 use Rattle.acl_model.specs.declared.entry.Entry.{Entry}
-use Rattle.acl_model.specs.Keys.{is_membered}
+use Rattle.acl_model.specs.Keys.{key_of, is_membered}
+use Rattle.acl_model.specs.Changes.{bound_until}
 use Rattle.acl_model.specs.FirstMatch.{entries_of}
 use Rattle.acl_model.specs.Policies.{UrlPolicy}
 use Rattle.sorted_rows.specs.declared.edit.Edit.{Edit}
@@ -15,13 +18,13 @@ use Rattle.acl_rows.specs.declared.row.Row.{Row}
 use Rattle.acl_rows.specs.declared.row.RowKey.{RowKey}
 use Rattle.acl_rows.specs.Places.{row_place}
 use Rattle.acl_rows.specs.ByAddress.{rows_of_peer, index_beside}
-use Rattle.acl_rows.specs.Rows.{Slots, Holder, row, held_by, numbered, entry_at}
+use Rattle.acl_rows.specs.Rows.{Slots, Holder, row, held_by, numbered, entry_at, member_keys}
 use Rattle.row_changes.specs.Touched.{key_end, with_edit}
 use Rattle.row_changes.specs.PolicyTouched.{entry_touches}
 
 -- ---- New rows
 
--- edits that are planned, and the rows that are asked for so far
+-- edits that are planned, and of the rows that are asked for so far those that stood before
 pub record Fresh : Type 0 where
   pub edits : List (Edit Row)
   pub rows : List Row
@@ -34,8 +37,13 @@ unfoldable pub row_with : RowKey → Option ℕ → List Row → List Row
 row_with key None rows = rows
 row_with key (Some u) rows = set_row row_place (row key.owner key.side key.addr key.entry u) rows
 
+-- the new end, where there was an end before
+unfoldable pub end_kept : Option ℕ → Option ℕ → Option ℕ
+end_kept None new = None
+end_kept (Some old) new = new
+
 unfoldable pub one_fresh : Slots → List Binding → Slots → RowKey → Fresh → Fresh
-one_fresh slots bindings slots' key s = fresh_of (with_edit slots bindings slots' bindings key s.edits) (row_with key (key_end slots' bindings key) s.rows)
+one_fresh slots bindings slots' key s = fresh_of (with_edit slots bindings slots' bindings key s.edits) (row_with key (end_kept (key_end slots bindings key) (key_end slots' bindings key)) s.rows)
 
 unfoldable pub more_fresh : Slots → List Binding → Slots → List RowKey → Fresh → Fresh
 more_fresh slots bindings slots' [] s = s
@@ -67,6 +75,17 @@ unfoldable pub first_of : {A : Type 0} → List A → Option A
 first_of [] = None
 first_of (x ∷ xs) = Some x
 
+-- the others
+unfoldable pub rest_of : {A : Type 0} → List A → List A
+rest_of [] = []
+rest_of (x ∷ xs) = xs
+
+-- Behind the selector with the first key of an entry stand these, and each of these bindings is that of its address and the key.
+pub record AreBoundFirst (bindings : List Binding) (url : List ℕ) (entry : Entry) (behind : List Selector) (bound : List Binding) : Type 0 where
+  pub key : MemberKey
+  pub keys : member_keys url entry ≡ key ∷ filter_map (key_of url) behind
+  pub each : (i : ℕ) (b : Binding) → slice_get bound i ≡ Some b → bound_until bindings key b.addr ≡ Some b.until
+
 -- how many entries have a member selector
 unfoldable pub membered_count : List Entry → ℕ
 membered_count entries = length (filter is_membered entries)
@@ -85,7 +104,7 @@ AreOfPeer own all = AllByRecursion (λ r. own ≡ rows_of_peer r.owner r.side r.
 abbrev pub gone_edit : List Row → Row → Edit Row
 gone_edit all r = edit r false (index_beside r.owner r.side r.addr (row_place r) all)
 
--- the edits by which those of some rows go whose places aren't among the new rows; the first list has all rows that are kept
+-- the edits by which those of some rows go whose places aren't among the rows that stay; the first list has all rows that are kept
 unfoldable pub left_edits : List Row → List Row → List Row → List (Edit Row) → List (Edit Row)
 left_edits all new [] edits = edits
 left_edits all new (r ∷ rs) edits = left_edits all new rs (if is_some (row_at row_place (row_place r) new) then edits else set_row (edit_place row_place) (gone_edit all r) edits)

@@ -2,14 +2,14 @@
 ghost use Rattle.std.specs.Prelude.{◌≡◌, ℕ, ◌+◌, ◌*◌, ◌^◌, ◌<◌, ◌≤◌, length, min, OnOk, Some, slice_get, IfOk, ◌++◌, ◌∷◌, [], is_some, true};
 ghost use Rattle.std.specs.Option.{option_map};
 ghost use Rattle.std.specs.List.{filter_map};
-ghost use Rattle.sorted_rows.specs.Placed.{row_at};
+ghost use Rattle.sorted_rows.specs.Placed.{row_at, set_row};
 ghost use Rattle.mud_url.specs.Url.{host_of};
 ghost use Rattle.acl_model.specs.Keys.{key_of};
 ghost use Rattle.acl_model.specs.Places.{binding_place, key_place};
 ghost use Rattle.acl_model.specs.Changes.{for_ever, until_of, replaced};
 ghost use Rattle.acl_model.specs.FirstMatch.{entries_of};
 ghost use Rattle.acl_model.specs.Policies.{url_policy};
-ghost use Rattle.sorted_rows.specs.Edits.{edited, row_after};
+ghost use Rattle.sorted_rows.specs.Edits.{edit, edit_place, edited, row_after};
 ghost use Rattle.acl_rows.specs.Places.{row_place, row_key_place};
 ghost use Rattle.acl_rows.specs.ByAddress.{index_beside};
 ghost use Rattle.acl_rows.specs.Rows as spec;
@@ -18,6 +18,7 @@ ghost use Rattle.row_changes.specs.Touched.{changed_edits, row_key};
 ghost use Rattle.row_changes.specs.Spots.{policy_spots};
 ghost use Rattle.row_changes.specs.Touched as touched;
 ghost use Rattle.row_changes.specs.Keys.{place_of_text};
+ghost use Rattle.row_changes.specs.Fresh.{AreBoundFirst};
 ghost use Rattle.row_changes.specs.Change.{end_in, met_end, end_of_row, after, more_edits, slot_touches, change_state};
 ghost use Rattle.row_changes.specs.Steps.{key_steps, least_step, least_steps, EntriesFit, HolderFits};
 ghost use Rattle.row_changes.specs.Policies.{HasCounts, AllHeld};
@@ -29,7 +30,7 @@ use acl_rows::{FoundRow, Owner, PackedAddr, Row, RowKey};
 use acl_shelves::{BindingShelves, RowShelves};
 use mud_base::{Addr, Direction, End, Memory};
 use mud_url::MudUrl;
-use sorted_rows::{Edit, KeyOf, SortedRows, Steps, plan_edit};
+use sorted_rows::{Edit, KeyOf, SortedRows, Steps};
 use std::alloc::Global;
 use std::cmp::Ordering;
 use std::marker::Model;
@@ -163,22 +164,23 @@ impl<'a> Change<'a> {
         }
     }
 
-    /// The least end of the bindings of an address and the keys of these selectors after the change.
-    /// None where one of them isn't bound.
+    /// The least of an end and those of the bindings of an address and the keys of these selectors
+    /// after the change. None where one of them isn't bound.
     fn least_end<L: Ledger>(
         &self,
         selectors: &[Selector],
         url: &[u8],
         host: &[u8],
         addr: Addr,
+        first: End,
         steps: &mut Steps<L>,
     ) -> Option<End>
         requires { host.now ≡ host_of url.now }
-        ensures value { result ≡ spec.least_end (after self.now) addr for_ever (filter_map (key_of url.now) selectors.now) }
+        ensures value { result ≡ spec.least_end (after self.now) addr first (filter_map (key_of url.now) selectors.now) }
         ensures least { steps.old ≤ steps.new }
         ensures most { (b : ℕ) → length self.now.bindings < 2 ^ b → steps.new ≤ steps.old + length (filter_map (key_of url.now) selectors.now) * b }
     {
-        let mut end = End(End::NEVER);
+        let mut end = first;
         for selector in selectors {
             match self.selector_end(selector, url, host, addr, end, steps) {
                 None => return None,
@@ -206,7 +208,32 @@ impl<'a> Change<'a> {
         if !entry.is_membered() || !is_in_family(entry.family, addr) {
             return None;
         }
-        self.least_end(entry.selectors.as_slice(), url, host, addr, steps)
+        let selectors = entry.selectors.as_slice();
+        self.least_end(selectors, url, host, addr, End(End::NEVER), steps)
+    }
+
+    /// The same at the address of a binding of the entry's first key. The end by that key is the
+    /// binding's, so only the keys of the selectors behind are looked up.
+    pub(crate) fn bound_entry_end<L: Ledger>(
+        &self,
+        entry: &Entry,
+        behind: &[Selector],
+        url: &[u8],
+        host: &[u8],
+        binding: &Binding,
+        steps: &mut Steps<L>,
+    ) -> Option<End>
+        requires host { host.now ≡ host_of url.now }
+        requires first { AreBoundFirst (after self.now) url.now entry.now behind.now (binding.now ∷ []) }
+        ensures value { result ≡ spec.entry_end (after self.now) url.now entry.now binding.now.addr }
+        ensures least { steps.old ≤ steps.new }
+        ensures most { (b : ℕ) → length self.now.bindings < 2 ^ b → steps.new ≤ steps.old + length (spec.member_keys url.now entry.now) * b }
+    {
+        if !is_in_family(entry.family, binding.addr) {
+            return None;
+        }
+        tell_most(binding.until);
+        self.least_end(behind, url, host, binding.addr, binding.until, steps)
     }
 
     /// The edit by which the row of a key has this end, or by which it goes: where that changes it.
@@ -509,7 +536,7 @@ pub(crate) fn row_until(key: RowKey, until: End) -> Row
 /// Plans that the row of this key, which was looked for, has the new end, or that it goes where there
 /// is none: where that changes it.
 #[tactic(auto, unfolding(crate::specs::Touched::changed_edits, crate::specs::Touched::same_end, crate::specs::Touched::edit_of))]
-fn plan_found(
+pub(crate) fn plan_found(
     edits: &mut SortedRows<Edit<Row>>,
     key: RowKey,
     found: FoundRow,
@@ -519,11 +546,44 @@ fn plan_found(
 {
     match (found.until, new) {
         (None, None) => Ok(()),
-        (None, Some(end)) => plan_edit(edits, row_until(key, end), true, found.index),
-        (Some(old), None) => plan_edit(edits, row_until(key, old), false, found.index),
+        (None, Some(end)) => add_edit(edits, &row_until(key, end), true, found.index),
+        (Some(old), None) => add_edit(edits, &row_until(key, old), false, found.index),
         (Some(old), Some(end)) if end.0 == old.0 => Ok(()),
-        (Some(_), Some(end)) => plan_edit(edits, row_until(key, end), true, found.index),
+        (Some(_), Some(end)) => add_edit(edits, &row_until(key, end), true, found.index),
     }
+}
+
+/// Adds the edit of a row to those that are planned, as `plan_edit` does. Places that come in their
+/// order are not looked for.
+pub(crate) fn add_edit(
+    edits: &mut SortedRows<Edit<Row>>,
+    row: &Row,
+    comes: bool,
+    found: Result<usize, usize>,
+) -> Result<(), Memory>
+    ensures { OnOk result (edits.new.rows ≡ set_row (edit_place row_place) (edit row.now comes found) edits.old.rows) }
+{
+    edits.reserve(1)?;
+    let last = Edit {
+        row: *row,
+        comes,
+        found,
+    };
+    if !edits.push_last(last) {
+        edits.put(Edit {
+            row: *row,
+            comes,
+            found,
+        });
+    }
+    Ok(())
+}
+
+/// Does nothing: its contract says that no end is after that of what lasts for ever.
+fn tell_most(end: End)
+    ensures { end ≤ for_ever }
+{
+    let _seconds = end.0;
 }
 
 /// The lesser of two ends, where there is a second one.

@@ -1,27 +1,28 @@
-//! The rows that a new policy asks for, and the edits that they lead to.
+//! The edits that the rows of a new policy lead to, and those of the rows that stay.
 ghost use Rattle.std.specs.Prelude.{◌≡◌, ℕ, ◌+◌, ◌*◌, ◌^◌, ◌<◌, ◌≤◌, length, OnOk, IfOk, Some, List, [], ◌∷◌, map};
 ghost use Rattle.acl_model.specs.FirstMatch.{entries_of};
-ghost use Rattle.sorted_rows.specs.Placed.{set_row, PlacesAscend};
+ghost use Rattle.sorted_rows.specs.Placed.{PlacesAscend};
 ghost use Rattle.acl_rows.specs.declared.row.Row.{Row as RowValue};
 ghost use Rattle.acl_rows.specs.Places.{row_place};
-ghost use Rattle.acl_rows.specs.Rows.{Slots, row, held_by, entry_at, member_keys};
-ghost use Rattle.row_changes.specs.Touched.{row_key, key_end};
+ghost use Rattle.acl_rows.specs.Rows.{Slots, held_by, entry_at, member_keys};
+ghost use Rattle.row_changes.specs.Touched.{key_end};
 ghost use Rattle.row_changes.specs.PolicyTouched.{bound_key, entry_touches, side_policy_touches, new_touches};
 ghost use Rattle.row_changes.specs.Policies.{HasCounts};
 ghost use Rattle.row_changes.specs.Steps.{EntriesFit, HolderFits};
-ghost use Rattle.row_changes.specs.Fresh.{fresh_of, one_fresh, more_fresh, joined, membered_count, policy_count, entries_touches, ArePlanned, StandFrom, AreOfPeer, left_edits, AreSorted};
+ghost use Rattle.row_changes.specs.Fresh.{fresh_of, row_with, end_kept, AreBoundFirst, one_fresh, more_fresh, joined, membered_count, policy_count, entries_touches, ArePlanned, StandFrom, AreOfPeer, left_edits, AreSorted};
 
-use crate::change::{Change, Holding, row_until};
+use crate::change::{Change, Holding, add_edit, plan_found, row_until};
 use crate::keys::first_key;
-use acl_model::{Binding, Entry};
-use acl_rows::{Row, RowKey};
-use mud_base::{Addr, Direction, End, Memory};
-use sorted_rows::{Edit, SortedRows, Steps, plan_edit};
+use acl_model::{Binding, Entry, Selector};
+use acl_rows::{FoundRow, Row, RowKey};
+use mud_base::{Direction, End, Memory};
+use sorted_rows::{Edit, SortedRows, Steps};
 use std::alloc::Global;
 use std::marker::Model;
 use std::sync::ledger::Ledger;
 
-/// Edits that are planned, and the rows that a new policy asks for.
+/// Edits that are planned, and of the rows that a new policy asks for those at whose places a row
+/// stands already.
 #[derive(Drop)]
 pub(crate) struct FreshRows {
     pub(crate) edits: SortedRows<Edit<Row>>,
@@ -63,6 +64,7 @@ impl FreshRows {
 
 impl<'a> Change<'a> {
     /// Plans the row of a key, which is asked for until this end or not at all.
+    #[tactic(auto, unfolding(crate::specs::Change::end_of_row, acl_rows::specs::ByAddress::until_of_row))]
     fn plan_fresh<L: Ledger>(
         &self,
         key: RowKey,
@@ -74,52 +76,52 @@ impl<'a> Change<'a> {
         ensures least { steps.old ≤ steps.new }
         ensures most { (k : ℕ) → length self.now.rows < 2 ^ k → steps.new ≤ steps.old + k }
     {
-        let _kept = &self.slots;
-        match until {
-            Some(end) => {
-                self.plan_row(key, Some(end), &mut fresh.edits, steps)?;
-                put_fresh(&mut fresh.rows, key, end)
-            }
-            None => self.plan_row(key, None, &mut fresh.edits, steps),
-        }
+        let rows = self.rows;
+        let found = rows.find_counted(&key, steps);
+        keep_row(&mut fresh.rows, &key, &found, &until)?;
+        plan_found(&mut fresh.edits, key, found, until)
     }
 
-    /// Plans the row of an entry at an address.
+    /// Plans the row of an entry at the address of a binding of its first key.
     fn address_fresh<L: Ledger>(
         &self,
         holding: &Holding<'_>,
         side: Direction,
         n: u16,
         entry: &Entry,
-        addr: Addr,
+        behind: &[Selector],
+        binding: &Binding,
         fresh: &mut FreshRows,
         steps: &mut Steps<L>,
     ) -> Result<(), Memory>
         requires gone { self.now.gone ≡ [] }
         requires come { self.now.come ≡ [] }
         requires stands { entry_at n (entries_of side holding.now.1.policy) ≡ Some entry.now }
-        ensures ok { OnOk result ((new : Slots) → held_by new holding.now.0 ≡ Some holding.now.1 → fresh.new ≡ one_fresh self.now.slots self.now.bindings new (row_key holding.now.0 side addr n) fresh.old) }
+        requires first { AreBoundFirst self.now.bindings holding.now.1.url entry.now behind.now (binding.now ∷ []) }
+        ensures ok { OnOk result ((new : Slots) → held_by new holding.now.0 ≡ Some holding.now.1 → fresh.new ≡ one_fresh self.now.slots self.now.bindings new (bound_key holding.now.0 side n binding.now) fresh.old) }
         ensures least { steps.old ≤ steps.new }
         ensures most { (b k u : ℕ) → length self.now.bindings < 2 ^ b → length self.now.rows < 2 ^ k
             → length (member_keys holding.now.1.url entry.now) * b + k ≤ u → steps.new ≤ steps.old + u }
     {
-        let until = self.entry_end(entry, holding.url(), holding.host(), addr, steps);
+        let url = holding.url();
+        let until = self.bound_entry_end(entry, behind, url, holding.host(), binding, steps);
         let key = RowKey {
             owner: holding.owner(),
             side,
-            addr,
+            addr: binding.addr,
             entry: n,
         };
         self.plan_fresh(key, until, fresh, steps)
     }
 
-    /// Plans the rows of an entry at the addresses of these bindings.
+    /// Plans the rows of an entry at the addresses of these bindings of its first key.
     fn bound_fresh<L: Ledger>(
         &self,
         holding: &Holding<'_>,
         side: Direction,
         n: u16,
         entry: &Entry,
+        behind: &[Selector],
         bound: &[Binding],
         fresh: &mut FreshRows,
         steps: &mut Steps<L>,
@@ -127,6 +129,7 @@ impl<'a> Change<'a> {
         requires gone { self.now.gone ≡ [] }
         requires come { self.now.come ≡ [] }
         requires stands { entry_at n (entries_of side holding.now.1.policy) ≡ Some entry.now }
+        requires first { AreBoundFirst self.now.bindings holding.now.1.url entry.now behind.now bound.now }
         ensures ok { OnOk result ((new : Slots) → held_by new holding.now.0 ≡ Some holding.now.1
             → fresh.new ≡ more_fresh self.now.slots self.now.bindings new (map (bound_key holding.now.0 side n) bound.now) fresh.old) }
         ensures least { steps.old ≤ steps.new }
@@ -134,7 +137,7 @@ impl<'a> Change<'a> {
             → length (member_keys holding.now.1.url entry.now) * b + k ≤ u → steps.new ≤ steps.old + length bound.now * u }
     {
         for binding in bound {
-            self.address_fresh(holding, side, n, entry, binding.addr, fresh, steps)?;
+            self.address_fresh(holding, side, n, entry, behind, binding, fresh, steps)?;
         }
         Ok(())
     }
@@ -162,10 +165,11 @@ impl<'a> Change<'a> {
         let mut fresh = FreshRows::new(alloc);
         match first_key(entry, holding.url(), holding.host()) {
             None => Ok(fresh),
-            Some(key) => {
+            Some((key, behind)) => {
                 let bindings = self.bindings;
+                bindings.tell_order();
                 let bound = bindings.rows_under_counted(key, steps);
-                self.bound_fresh(holding, side, n, entry, bound, &mut fresh, steps)?;
+                self.bound_fresh(holding, side, n, entry, behind, bound, &mut fresh, steps)?;
                 Ok(fresh)
             }
         }
@@ -252,16 +256,27 @@ impl<'a> Change<'a> {
     }
 }
 
-/// Adds the row of a key with this end.
-fn put_fresh(rows: &mut SortedRows<Row>, key: RowKey, until: End) -> Result<(), Memory>
-    ensures { OnOk result (rows.new.rows ≡ set_row row_place (row key.owner key.side key.addr key.entry until) rows.old.rows) }
+/// Adds the row of a key with its new end, where it has one and a row was found.
+#[tactic(auto, unfolding(crate::specs::Fresh::row_with, crate::specs::Fresh::end_kept))]
+fn keep_row(
+    rows: &mut SortedRows<Row>,
+    key: &RowKey,
+    found: &FoundRow,
+    until: &Option<End>,
+) -> Result<(), Memory>
+    ensures { OnOk result (rows.new.rows ≡ row_with key.now (end_kept found.now.until until.now) rows.old.rows) }
 {
-    rows.reserve(1)?;
-    rows.put(row_until(key, until));
-    Ok(())
+    match (&found.until, until) {
+        (Some(_), Some(end)) => {
+            rows.reserve(1)?;
+            rows.put(row_until(*key, *end));
+            Ok(())
+        }
+        _ => Ok(()),
+    }
 }
 
-/// Plans that those of these rows go whose places aren't among the new rows. They are all rows of
+/// Plans that those of these rows go whose places aren't among the rows that stay. They are all rows of
 /// one owner, side and address.
 pub(crate) fn plan_left(own: &[Row], fresh: &mut FreshRows) -> Result<(), Memory>
     requires { PlacesAscend row_place own.now }
@@ -271,7 +286,7 @@ pub(crate) fn plan_left(own: &[Row], fresh: &mut FreshRows) -> Result<(), Memory
     let mut index = 0;
     for row in own {
         if !fresh.rows.contains(row) {
-            plan_edit(&mut fresh.edits, *row, false, Ok(index))?;
+            add_edit(&mut fresh.edits, row, false, Ok(index))?;
         }
         index += 1;
     }

@@ -20,7 +20,7 @@ use sorted_rows::{Edit, SortedRows, Steps};
 use std::alloc::Global;
 use std::sync::ledger::Ledger;
 
-/// Plans that those rows of an owner and side go whose places aren't among the new rows. Each row of
+/// Plans that those rows of an owner and side go whose places aren't among the rows that stay. Each row of
 /// the owner and side is one step.
 fn plan_side<L: Ledger>(
     rows: &RowShelves,
@@ -40,7 +40,7 @@ fn plan_side<L: Ledger>(
     Ok(())
 }
 
-/// Plans that those rows of an owner go whose places aren't among the new rows. Each row of the
+/// Plans that those rows of an owner go whose places aren't among the rows that stay. Each row of the
 /// owner is one step.
 fn plan_own<L: Ledger>(
     rows: &RowShelves,
@@ -57,7 +57,8 @@ fn plan_own<L: Ledger>(
     plan_side(rows, owner, Direction::To, fresh, steps)
 }
 
-/// The rows that the policy of an owner asks for, where there is one, and their edits.
+/// The edits of the rows that the policy of an owner asks for, where there is one, and those of these
+/// rows that stay.
 fn fresh_rows<L: Ledger>(
     alloc: Global,
     change: &Change<'_>,

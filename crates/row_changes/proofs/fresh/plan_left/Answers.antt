@@ -7,7 +7,7 @@ use Rattle.acl_rows.specs.Places.{row_place}
 use Rattle.row_changes.specs.Fresh.{left_edits}
 use Rattle.row_changes.proofs.FreshLaws.{left_stays, left_goes}
 use Rattle.row_changes.proofs.fresh.plan_left.Goals as goal
-use Rattle.row_changes.proofs.fresh.plan_left.Goals.{then-not-contains+in_ok-plan_edit, else-not-contains}
+use Rattle.row_changes.proofs.fresh.plan_left.Goals.{then-not-contains+in_ok-add_edit, else-not-contains}
 
 pub loop-row-preserved : goal.loop-row-preserved
 loop-row-preserved c =
@@ -15,15 +15,15 @@ loop-row-preserved c =
     record {
       index = omega (arith, c.loop-row.invariant.index);
       rows = elim c.if-not-contains.branch [
-        | then-not-contains+in_ok-plan_edit w ↦ (λ j. (w.fresh-inside-is j).rows.rows) ∙ c.loop-row.invariant.rows
+        | then-not-contains+in_ok-add_edit w ↦ (λ j. (w.fresh-inside-is j).rows.rows) ∙ c.loop-row.invariant.rows
         | else-not-contains w ↦ (λ j. (w.fresh-inside-is j).rows.rows) ∙ c.loop-row.invariant.rows
       ];
       edits = λ all peer.
           c.loop-row.invariant.edits all peer
           ∙ elim c.if-not-contains.branch [
-            | then-not-contains+in_ok-plan_edit w ↦
+            | then-not-contains+in_ok-add_edit w ↦
                 left_goes all c.args.fresh.now.rows c.args.own.now c.loop-row.row-index c.loop-row.index c.row-item.result c.loop-row.fresh-inside.edits.rows c.if-not-contains.fresh-inside.edits.rows c.requires peer c.loop-row-test.true c.row-item.is c.loop-row.invariant.index
-                (sym there ∙ w.if-not-contains.true) ((λ j. (w.fresh-inside-is j).edits.rows) ∙ w.in_ok-plan_edit.ensures)
+                (sym there ∙ w.if-not-contains.true) ((λ j. (w.fresh-inside-is j).edits.rows) ∙ w.in_ok-add_edit.ensures)
             | else-not-contains w ↦
                 left_stays all c.args.fresh.now.rows c.args.own.now c.loop-row.row-index c.row-item.result c.loop-row.fresh-inside.edits.rows c.if-not-contains.fresh-inside.edits.rows c.loop-row-test.true c.row-item.is (sym there ∙ w.if-not-contains.false) (λ j. (w.fresh-inside-is j).edits.rows)
           ];

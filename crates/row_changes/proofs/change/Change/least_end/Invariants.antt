@@ -1,13 +1,13 @@
 use Rattle.std.proofs.Common.{◌≡◌, ℕ, ◌+◌, ◌*◌, ◌^◌, ◌<◌, ◌≤◌, length, drop}
 use Rattle.std.specs.List.{filter_map}
 use Rattle.acl_model.specs.Keys.{key_of}
-use Rattle.acl_rows.specs.Rows.{for_ever, least_end}
+use Rattle.acl_rows.specs.Rows.{least_end}
 use Rattle.row_changes.specs.Change.{after}
 use Rattle.row_changes.proofs.change.Change.least_end.Given as goal
 
 abbrev pub invariant-loop-selector : goal.invariant-loop-selector
 invariant-loop-selector g l = record {
-  same : least_end (after l.self) l.addr for_ever (filter_map (key_of l.url) l.selectors) ≡ least_end (after l.self) l.addr l.end (filter_map (key_of l.url) (drop l.selector-index l.selectors));
+  same : least_end (after l.self) l.addr l.fn.first (filter_map (key_of l.url) l.selectors) ≡ least_end (after l.self) l.addr l.end (filter_map (key_of l.url) (drop l.selector-index l.selectors));
   up : l.initial.steps ≤ l.steps;
   most : (b : ℕ) → length l.self.bindings < 2 ^ b → l.steps + length (filter_map (key_of l.url) (drop l.selector-index l.selectors)) * b ≤ l.initial.steps + length (filter_map (key_of l.url) l.selectors) * b;
 }

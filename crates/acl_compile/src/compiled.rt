@@ -8,7 +8,7 @@ ghost use Rattle.acl_compile.specs.Compiled.{HasItsRows};
 ghost use Rattle.acl_compile.specs.Plans.{Fits, slots_after, bindings_after, IsKept, IsMemberPlan, IsPolicyPlan, CanBeCounted, held_for, others_held, policy_reads, policy_steps};
 ghost use Rattle.row_changes.specs.Steps.{least_steps, HaveKeys, PolicyKeys, place_steps};
 
-use crate::places::{UrlPlace, find_held, set_place};
+use crate::places::{PlaceGuesses, UrlPlace, find_guessed, set_place};
 use crate::plan::{RowPlan, others_in, plan_change, plan_slot, set_slot};
 use acl_model::{Binding, Policy};
 use acl_rows::{Owner, RuleView};
@@ -32,6 +32,7 @@ pub struct Compiled {
     defaults: HeldDefaults,
     bindings: BindingShelves,
     rows: RowShelves,
+    guesses: PlaceGuesses,
 }
 
 impl Drop for Compiled {
@@ -43,6 +44,7 @@ impl Drop for Compiled {
             defaults: _,
             bindings: _,
             rows: _,
+            guesses: _,
         } = self;
     }
 }
@@ -74,6 +76,7 @@ impl Compiled {
             defaults,
             bindings: BindingShelves::new(alloc),
             rows: RowShelves::new(alloc),
+            guesses: PlaceGuesses::new(),
         })
     }
 
@@ -91,7 +94,8 @@ impl Compiled {
         ensures kept { HasItsRows self.now }
     {
         self.bindings.tell_order();
-        let file = match find_held(self.slots.as_slice(), &self.places, url) {
+        let slots = self.slots.as_slice();
+        let file = match find_guessed(slots, &self.places, &self.guesses, url) {
             None => None,
             Some((n, held)) => Some(held.policy().part(Owner::Url(n), side, &self.rows)),
         };
@@ -177,6 +181,7 @@ impl Compiled {
         self.rows.make_edits(rows, steps);
         self.bindings.make_edits(bindings, steps);
         if let Some((index, held)) = slot {
+            self.guesses.keep(&held, index);
             set_place(&mut self.places, self.slots.as_slice(), index, &held);
             set_slot(&mut self.slots, index, held);
         }

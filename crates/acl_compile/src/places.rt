@@ -1,5 +1,5 @@
 //! The places of URLs in the table of policies, in the order of the URLs' texts, read from behind.
-ghost use Rattle.std.specs.Prelude.{◌≡◌, ◌≤◌, length, reverse, slice_index, option_copied, option_map};
+ghost use Rattle.std.specs.Prelude.{◌≡◌, ◌<◌, ◌≤◌, true, Some, bytes_eq, length, reverse, slice_index, option_copied, option_map, IfSome};
 ghost use Rattle.sorted_rows.specs.Placed.{place_cmp};
 ghost use Rattle.acl_rows.specs.Rows.{held_by};
 ghost use Rattle.acl_rows.specs.View.{holder_from};
@@ -217,6 +217,75 @@ pub(crate) fn find_held<'a>(
     let place = found.place();
     let held = held_in(slots, usize::from(place))?;
     Some((place, held))
+}
+
+/// How many guesses there are: eight times as many as places, and a prime number, so that few URLs
+/// have one in common.
+const GUESS_COUNT: usize = 1021;
+
+/// In which place the policy of a URL probably is held, by the last eight octets of its text. What is
+/// guessed is looked at before it is believed, so contracts say nothing of it.
+#[derive(Drop)]
+pub(crate) struct PlaceGuesses {
+    places: [u16; GUESS_COUNT],
+}
+
+impl PlaceGuesses {
+    /// The first place is guessed for every URL.
+    pub(crate) fn new() -> PlaceGuesses {
+        PlaceGuesses {
+            places: [0; GUESS_COUNT],
+        }
+    }
+
+    /// The place that is guessed for a URL.
+    fn place(&self, url: &MudUrl) -> u16 {
+        self.places[guess_of(url)]
+    }
+
+    /// From now on this place is guessed for the URL of a policy.
+    pub(crate) fn keep(&mut self, held: &Option<Held>, index: usize) {
+        if let Some(held) = held {
+            self.places[guess_of(held.url())] = u16::try_from(index).unwrap_or(0);
+        }
+    }
+}
+
+/// Which of the guesses is that of a URL.
+fn guess_of(url: &MudUrl) -> usize
+    ensures { result < 1021 }
+{
+    (end_number(url.text()) % GUESS_COUNT as u64) as usize
+}
+
+/// The policy that is held in a place of the table, where it is that of this URL.
+fn held_for_url<'a>(slots: &'a [Option<Held>], place: u16, url: &MudUrl) -> Option<&'a Held>
+    ensures held { IfSome result (λ held. held_by slots.now (Owner.Url place) ≡ Some held.now) }
+    ensures own { IfSome result (λ held. bytes_eq held.now.url url.now ≡ true) }
+{
+    let held = held_in(slots, usize::from(place))?;
+    if held.url().text() == url.text() {
+        return Some(held);
+    }
+    None
+}
+
+/// The policy that is held for a URL, and its place, which is mostly the one that is guessed.
+pub(crate) fn find_guessed<'a>(
+    slots: &'a [Option<Held>],
+    places: &SortedRows<UrlPlace>,
+    guesses: &PlaceGuesses,
+    url: &MudUrl,
+) -> Option<(u16, &'a Held)>
+    requires places { ArePlacesOf slots.now places.now.rows }
+    requires apart { UrlsApart slots.now }
+    ensures { option_map (λ h. (Owner.Url h.0, h.1.now)) result ≡ holder_from url.now 0 slots.now }
+{
+    let place = guesses.place(url);
+    match held_for_url(slots, place, url) {
+        Some(held) => Some((place, held)),
+        None => find_held(slots, places, url),
+    }
 }
 
 /// Takes the place of this policy's URL away.

@@ -1,5 +1,4 @@
-use Rattle.std.proofs.Common.{◌≡◌, ℕ, ◌+◌, ◌-◌, ◌*◌, ◌<◌, length, reverse, get_or, sym, ap, ◌∙◌, arith}
-use Rattle.acl_compile.specs.Places.{lead}
+use Rattle.std.proofs.Common.{reverse, arith}
 use Rattle.acl_compile.proofs.Leads.{lead_8, lead_behind}
 use Rattle.acl_compile.proofs.places.end_number.Goals as goal
 

@@ -1,7 +1,6 @@
 use Rattle.std.proofs.Common.{◌≡◌, reverse, List, ℕ, ap, ap₂, sym, ◌∙◌}
 use Rattle.std.specs.Cmp.Lexicographic.{same_text}
 use Rattle.std.specs.Ordering.{nat_cmp}
-use Rattle.std.specs.declared.cmp.Ordering.TheVariants.{Equal}
 use Rattle.std.proofs.lemmas.Cmp.{nat_list_cmp_total, tied_itself}
 use Rattle.sorted_rows.specs.Placed.{place_cmp}
 use Rattle.acl_compile.proofs.Leads.{lead_apart, octets_behind}

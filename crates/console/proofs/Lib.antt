@@ -1,6 +1,5 @@
 pub mod Answered
 pub mod Beside
-pub mod Boxes
 pub mod Carrying
 pub mod Dues
 pub mod Faults

@@ -1,5 +1,5 @@
 -- What stands for requests, as it is seen in the session.
-use Rattle.std.specs.Prelude.{max, IfOk}
+use Rattle.std.specs.Prelude.{max, IfOk, IsSomeAnd}
 use Rattle.std.proofs.Common.{◌≡◌, ℕ, List, Some, Result, Ok, Err, refl, sym, ap, ◌∙◌, subst, inl, inr}
 use Rattle.mud_base.specs.declared.memory.Memory as want
 use Rattle.mud_tables.specs.declared.segment.Segment.{Segment}
@@ -19,30 +19,29 @@ use Rattle.outcome_bodies.specs.Verdicts.{verdict_body}
 use Rattle.desk_model.specs.Verdicts.{policy_at}
 use Rattle.mud_desk.specs.declared.findings.Findings.{Findings}
 use Rattle.mud_desk.specs.Findings.{found_in, AreFindingsOn}
-use Rattle.mud_desk.specs.DeskState.{DeskState, tables_of, session_of, HasForwarded, IsJudged}
-use Rattle.mud_desk.proofs.Sessions.{flows_stay}
+use Rattle.mud_desk.specs.DeskState.{DeskState, tables_of, session_of, HasForwarded, LeadsOnFrom}
+use Rattle.mud_desk.proofs.Sessions.{IsJudged, flows_stay}
 use Rattle.console.specs.Replies.{Reply, reply, Replied, replied, made_reply, no_storage, IsOrWanted, MayStand}
 use Rattle.console.specs.Listings.{listing_text}
 use Rattle.console.specs.Why.{ends_text, why_text}
 use Rattle.console_routes.specs.declared.action.Action.{Action}
 use Rattle.console_bodies.specs.declared.asked.Asked.{Asked}
-use Rattle.console.specs.Requests.{ChangesBy, by_verdict, by_question, command_asked}
-use Rattle.console.specs.Runs.{LeadsOn}
+use Rattle.console.specs.Requests.{Changes, by_verdict, by_question, command_asked}
 use Rattle.console.proofs.Replying.{made}
 
 module _ (h : List Segment) (before after : DeskState) (related : Session → Session → Type 0) where
   -- the history stays where the table of connections does
-  pub leads_same : after.flows ≡ before.flows → HasForwarded h before → related (session_of h before) (session_of h after) → LeadsOn h before after related
+  pub leads_same : after.flows ≡ before.flows → HasForwarded h before → related (session_of h before) (session_of h after) → LeadsOnFrom h before after related
   leads_same same stands leads = record { next = h; leads = leads; forwarded = flows_stay h before after same stands }
 
 module _ (may_fail : Session → Type 0) (defined : Session → Replied) (h : List Segment) (state : DeskState) (given : Reply) where
   -- memory was wanted, and nothing was done
-  pub wanted : given ≡ no_storage → HasForwarded h state → LeadsOn h state state (λ s t. MayStand (may_fail s) s (defined s) given t)
+  pub wanted : given ≡ no_storage → HasForwarded h state → LeadsOnFrom h state state (λ s t. MayStand (may_fail s) s (defined s) given t)
   wanted is stands = record { next = h; leads = record { one = inl (inr (is, refl)) }; forwarded = stands }
 
   -- a reply that leaves the session
   pub left : (stated : Reply) → defined (session_of h state) ≡ replied stated (session_of h state) → IsOrWanted stated given → HasForwarded h state
-      → LeadsOn h state state (λ s t. MayStand (may_fail s) s (defined s) given t)
+      → LeadsOnFrom h state state (λ s t. MayStand (may_fail s) s (defined s) given t)
   left stated is or stands =
       elim or.one [
         | inl same ↦ record { next = h; leads = record { one = inl (inl (is ∙ ap (λ (r : Reply). replied r (session_of h state)) (sym same))) }; forwarded = stands }
@@ -51,7 +50,7 @@ module _ (may_fail : Session → Type 0) (defined : Session → Replied) (h : Li
 
 -- a reply that raises the moment
 pub raises : (defined : Session → Reply) (h : List Segment) (before after : DeskState) (now : ℕ) (given : Reply) → given ≡ defined (session_of h before) → session_of h after ≡ raised (session_of h before) now
-    → after.flows ≡ before.flows → HasForwarded h before → LeadsOn h before after (λ s t. MayStand ⊥ s (replied (defined s) (raised s now)) given t)
+    → after.flows ≡ before.flows → HasForwarded h before → LeadsOnFrom h before after (λ s t. MayStand ⊥ s (replied (defined s) (raised s now)) given t)
 raises defined h before after now given is raised_to same stands = record {
   next = h;
   leads = record { one = inl (inl (λ i. replied (sym is i) (sym raised_to i))) };
@@ -66,16 +65,16 @@ judges frame now given v session after may is = record { one = inl (inl (ap by_v
 
 module _ (h : List Segment) (before after : DeskState) (now : ℕ) (frame : List ℕ) (given : Reply) where
   pub judged_so : (v : Verdict) → IsJudged h before now frame (Ok v) after → given ≡ reply status.Done (verdict_body v)
-      → LeadsOn h before after (λ s t. MayStand ⊥ s (by_verdict (frame_in s now frame)) given t)
-  judged_so v judged is = record { next = judged.next; leads = judges frame now given v (session_of h before) (session_of judged.next after) judged.may is; forwarded = judged.forwarded }
+      → LeadsOnFrom h before after (λ s t. MayStand ⊥ s (by_verdict (frame_in s now frame)) given t)
+  judged_so v judged is = record { next = judged.next; leads = judges frame now given v (session_of h before) (session_of judged.next after) judged.leads is; forwarded = judged.forwarded }
 
   pub judged_not : (memory : want.Memory) → IsJudged h before now frame (Err memory) after → given ≡ no_storage
-      → LeadsOn h before after (λ s t. MayStand ⊥ s (by_verdict (frame_in s now frame)) given t)
-  judged_not memory judged is = record { next = judged.next; leads = record { one = inl (inr (is, judged.may.verdict_is.1)) }; forwarded = judged.forwarded }
+      → LeadsOnFrom h before after (λ s t. MayStand ⊥ s (by_verdict (frame_in s now frame)) given t)
+  judged_not memory judged is = record { next = judged.next; leads = record { one = inl (inr (is, judged.leads.verdict_is.1)) }; forwarded = judged.forwarded }
 
 -- memory was wanted for a frame
 pub noted : (h : List Segment) (before after : DeskState) (now : ℕ) (frame : List ℕ) (memory : want.Memory) → IsJudged h before now frame (Err memory) after → IsNoted (session_of h before) now frame
-noted h before after now frame memory judged = judged.may.verdict_is.0
+noted h before after now frame memory judged = judged.leads.verdict_is.0
 
 -- the command for what was heard may be given
 pub heard_asked : (heard : Heard) (command : Command) → heard_command heard ≡ Some command → IsAsked command
@@ -91,7 +90,7 @@ listed_here listing h before given = refl
 -- rows were listed
 pub listed : (listing : Listing) (h : List Segment) (before after : DeskState) (given now : ℕ) (text : List ℕ) → now ≡ max before.moment given → text ≡ listing_text listing (tables_of before) now
     → session_of h after ≡ raised (session_of h before) given → after.flows ≡ before.flows → HasForwarded h before
-    → LeadsOn h before after (λ s t. MayStand ⊥ s (replied (reply status.Done (listing_text listing s.desk (later s given))) (raised s given)) (reply status.Done text) t)
+    → LeadsOnFrom h before after (λ s t. MayStand ⊥ s (replied (reply status.Done (listing_text listing s.desk (later s given))) (raised s given)) (reply status.Done text) t)
 listed listing h before after given now text is text_is raised_to same stands =
     raises (λ s. reply status.Done (listing_text listing s.desk (later s given))) h before after given (reply status.Done text)
     (ap (reply status.Done) (text_is ∙ ap (listing_text listing (tables_of before)) is ∙ listed_here listing h before given)) raised_to same stands
@@ -99,7 +98,7 @@ listed listing h before after given now text is text_is raised_to same stands =
 -- it was told what decides a frame
 pub told : (frame : List ℕ) (h : List Segment) (state : DeskState) (given : ℕ) (written : Reply)
     → IsOrWanted (reply status.Done (why_text (session_of h state).desk frame (verdict_in (session_of h state) given frame))) written → HasForwarded h state
-    → LeadsOn h state state (λ s t. MayStand ⊥ s (replied (reply status.Done (why_text s.desk frame (verdict_in s given frame))) s) written t)
+    → LeadsOnFrom h state state (λ s t. MayStand ⊥ s (replied (reply status.Done (why_text s.desk frame (verdict_in s given frame))) s) written t)
 told frame h state given written or stands =
     left (λ s. ⊥) (λ s. replied (reply status.Done (why_text s.desk frame (verdict_in s given frame))) s) h state written
     (reply status.Done (why_text (session_of h state).desk frame (verdict_in (session_of h state) given frame))) refl or stands
@@ -117,7 +116,7 @@ why_is frame h state given findings text written found is text_is made_is =
 
 -- the question is this one
 pub as_asked : (h : List Segment) (before after : DeskState) (given : ℕ) (octets : List ℕ) (action : Action) (a b : Asked) (written : Reply) → a ≡ b
-    → LeadsOn h before after (λ s t. MayStand (ChangesBy s given (command_asked b)) s (by_question s given octets action b) written t)
-    → LeadsOn h before after (λ s t. MayStand (ChangesBy s given (command_asked a)) s (by_question s given octets action a) written t)
+    → LeadsOnFrom h before after (λ s t. MayStand (IsSomeAnd (command_asked b) (Changes s given)) s (by_question s given octets action b) written t)
+    → LeadsOnFrom h before after (λ s t. MayStand (IsSomeAnd (command_asked a) (Changes s given)) s (by_question s given octets action a) written t)
 as_asked h before after given octets action a b written is leads =
-    subst (λ (x : Asked). LeadsOn h before after (λ s t. MayStand (ChangesBy s given (command_asked x)) s (by_question s given octets action x) written t)) (sym is) leads
+    subst (λ (x : Asked). LeadsOnFrom h before after (λ s t. MayStand (IsSomeAnd (command_asked x) (Changes s given)) s (by_question s given octets action x) written t)) (sym is) leads

@@ -4,7 +4,7 @@ use Rattle.mud_world.specs.Causes.{Counts}
 use Rattle.mud_world.specs.Clock.{next_moment, later_moments}
 use Rattle.mud_tables.specs.declared.segment.Segment.{Segment}
 use Rattle.desk_model.specs.Sessions.{Session}
-use Rattle.mud_desk.specs.DeskState.{DeskState, session_of, HasForwarded}
+use Rattle.mud_desk.specs.DeskState.{DeskState, session_of, HasForwarded, LeadsOn}
 use Rattle.http_answers.specs.declared.status.Status.{Status}
 use Rattle.http_requests.specs.declared.fault.MomentFrom.{MomentFrom}
 use Rattle.http_requests.specs.Framing.{moment_of}
@@ -13,7 +13,6 @@ use Rattle.http_requests.specs.Asked.{Asked, asked_by}
 use Rattle.http_requests.specs.Visits.{CountsOf}
 use Rattle.console.specs.Replies.{is_unavailable}
 use Rattle.console.specs.Answers.{MayAnswer}
-use Rattle.console.specs.Runs.{LeadsOn}
 use Rattle.console.specs.States.{ConsoleState, begun, counted, TakesMoment, MayTake, IsAt}
 use Rattle.console.specs.Beside.{MayIf, IsAtIf}
 
@@ -64,7 +63,7 @@ pub record Carried (tells : Type 0) (desk : DeskState) (moments : List ℕ) (bef
 
 module _ (tells : Type 0) (desk desk' : DeskState) (ms ms' : List ℕ) (before now now' : ℕ) (status : Status) (given : ℕ) (octets : List ℕ) (from : MomentFrom) (request : Request) (is_last : Bool) (own : Option ℕ)
     (takes : TakesMoment tells own given ms ms') (is : own ≡ moment_of from request.head) (cause : Counts (is_unavailable status) now now')
-    (leads : (h : List Segment) → HasForwarded h desk → LeadsOn h desk desk' (λ (session t : Session). MayAnswer session given request is_last status octets t)) where
+    (leads : LeadsOn desk desk' (λ (session t : Session). MayAnswer session given request is_last status octets t)) where
   pub carried : (s : Option ConsoleState) → IsAtIf tells desk ms before now s → Carried tells desk' ms' before now' s (asked_by from is_last request) octets
   carried None at = record { next = None; may = refl; at = at }
   carried (Some s) at =

@@ -7,7 +7,6 @@ pub mod Origins
 pub mod Refused
 pub mod Replies
 pub mod Requests
-pub mod Runs
 pub mod Served
 pub mod States
 pub mod Why

@@ -1,5 +1,5 @@
 -- What the console answers to a request in a session, and the session after it.
-use Rattle.std.specs.Prelude.{◌≡◌, ℕ, true, List, Option, Some, None, Result, Ok, Err, IsOkAnd}
+use Rattle.std.specs.Prelude.{◌≡◌, ℕ, true, List, Option, Some, None, Result, Ok, Err, IsSomeAnd, IsOkAnd}
 use Rattle.console_routes.specs.declared.action.Action.{Action}
 use Rattle.console_routes.specs.declared.action.Action.TheVariants.{State, Judge}
 use Rattle.console_bodies.specs.declared.asked.Asked.{Asked}
@@ -71,10 +71,6 @@ command_asked (asked.List listing) = None
 command_asked asked.Judge = None
 command_asked asked.Why = None
 
-abbrev pub ChangesBy : Session → ℕ → Option Command → Type 0
-ChangesBy session given None = ⊥
-ChangesBy session given (Some command) = Changes session given command
-
 -- ---- Requests
 
 -- what is asked for, where the request is taken at the moment of the session or at its own, whichever is later
@@ -89,17 +85,13 @@ by_result session given body (Err nothing) = replied (refusal_of nothing) sessio
 unfoldable pub reply_in : Session → ℕ → Request → Replied
 reply_in session given request = by_result session given request.body (question_in session given request)
 
-abbrev pub MayFailBy : Session → ℕ → Result Question NoQuestion → Type 0
-MayFailBy session given (Ok question) = ChangesBy session given (command_asked question.asked)
-MayFailBy session given (Err nothing) = ⊥
-
 -- 503 may stand where the request is a command that changes a list
-unfoldable pub MayFail : Session → ℕ → Request → Type 0
-MayFail session given request = MayFailBy session given (question_in session given request)
+abbrev pub MayFail : Session → ℕ → Result Question NoQuestion → Type 0
+MayFail session given asked = IsOkAnd asked (λ question. IsSomeAnd (command_asked question.asked) (Changes session given))
 
 -- what may be replied, and the session after it
 abbrev pub MayReply : Session → ℕ → Request → Reply → Session → Type 0
-MayReply session given request reply after = MayStand (MayFail session given request) session (reply_in session given request) reply after
+MayReply session given request reply after = MayStand (MayFail session given (question_in session given request)) session (reply_in session given request) reply after
 
 -- ---- Want of memory
 

@@ -1,16 +1,15 @@
 //! An answer as octets.
 ghost use Rattle.std.specs.Prelude.{◌≡◌, ◌++◌, [], ℕ, List, length, IfOk};
-ghost use Rattle.mud_world.specs.Boxed.{faults_of, Tells};
+ghost use Rattle.mud_world.specs.Boxed.{faults_of};
 ghost use Rattle.mud_world.specs.Causes.{Counts};
-ghost use Rattle.mud_tables.specs.declared.segment.Segment.{Segment as SegmentValue};
 ghost use Rattle.http_requests.specs.declared.fault.MomentFrom.{MomentFrom};
 ghost use Rattle.http_requests.specs.Requests.{Request};
 ghost use Rattle.http_requests.specs.Parts.{AreParts};
-ghost use Rattle.mud_desk.specs.DeskState.{tables_of, HasForwarded};
-ghost use Rattle.desk_model.specs.Boxed.{IsKept, IsSameBox};
+ghost use Rattle.mud_desk.specs.DeskState.{tables_of, LeadsOn};
+ghost use Rattle.mud_desk.specs.Stays.{StaysKept};
+ghost use Rattle.desk_model.specs.Boxed.{IsKept};
 ghost use Rattle.console.specs.Replies.{is_unavailable};
 ghost use Rattle.console.specs.Answers as spec;
-ghost use Rattle.console.specs.Runs.{LeadsOn};
 
 use crate::BodyText;
 use crate::replies::reply_to;
@@ -119,12 +118,9 @@ pub fn answer_request(
 ) -> Status
     requires kept { IsKept Keeper-dyn desk.old.keeper (tables_of desk.old.state) }
     ensures answer { (from : MomentFrom) (r : Request) → AreParts from r request.now
-        → (h : List SegmentValue) → HasForwarded h desk.old.state
-        → LeadsOn h desk.old.state desk.new.state (λ session after. spec.MayAnswer session given r closes result answer.new after) }
-    ensures kept { IsKept Keeper-dyn desk.new.keeper (tables_of desk.new.state) }
-    ensures told { Tells Keeper-dyn desk.new.keeper → Tells Keeper-dyn desk.old.keeper }
+        → LeadsOn desk.old.state desk.new.state (λ session after. spec.MayAnswer session given r closes result answer.new after) }
+    ensures stays { StaysKept Keeper-dyn desk.old desk.new }
     ensures cause { Counts (is_unavailable result) (faults_of Keeper-dyn desk.old.keeper) (faults_of Keeper-dyn desk.new.keeper) }
-    ensures same_box { IsSameBox desk.old.keeper desk.new.keeper }
 {
     let reply = reply_to(
         alloc,

@@ -1,17 +1,17 @@
 //! Commands: what an operator states, a usage file that was fetched, and what was heard.
 ghost use Rattle.std.specs.Prelude.{◌≡◌, false, ℕ, List};
 ghost use Rattle.sorted_rows.specs.Ledgers.{IsBlankOf};
-ghost use Rattle.mud_world.specs.Boxed.{faults_of, Tells};
+ghost use Rattle.mud_world.specs.Boxed.{faults_of};
 ghost use Rattle.mud_world.specs.Causes.{Counts};
 ghost use Rattle.mud_tables.specs.declared.segment.Segment.{Segment as SegmentValue};
 ghost use Rattle.desk_model.specs.Commands.{IsAsked};
 ghost use Rattle.desk_model.specs.Sessions.{MayAnswer, command_in, is_of_keeper};
-ghost use Rattle.mud_desk.specs.DeskState.{tables_of, session_of, HasForwarded};
-ghost use Rattle.desk_model.specs.Boxed.{IsKept, IsSameBox};
+ghost use Rattle.mud_desk.specs.DeskState.{tables_of, session_of, LeadsOn};
+ghost use Rattle.mud_desk.specs.Stays.{StaysKept, KeepsConnections};
+ghost use Rattle.desk_model.specs.Boxed.{IsKept};
 ghost use Rattle.console.specs.Replies.{reply, is_unavailable, IsOrWanted, MayStand};
 ghost use Rattle.console.specs.Requests.{Changes, by_command, outcome_body};
 ghost use Rattle.listing_bodies.specs.Refusals as refusals;
-ghost use Rattle.console.specs.Runs.{LeadsOn};
 ghost use Rattle.console.specs.Origins.{said_of, HasTexts, IsWritten};
 
 use crate::BodyText;
@@ -44,11 +44,8 @@ fn run_counted<L: Ledger>(desk: &mut Desk, command: Command, given: Moment, blan
     requires kept { IsKept Keeper-dyn desk.old.keeper (tables_of desk.old.state) }
     requires asked { IsAsked command }
     ensures answer { (h : List SegmentValue) → MayAnswer (session_of h desk.old.state) given command result (session_of h desk.new.state) }
-    ensures flows { desk.new.state.flows ≡ desk.old.state.flows }
-    ensures kept { IsKept Keeper-dyn desk.new.keeper (tables_of desk.new.state) }
-    ensures told { Tells Keeper-dyn desk.new.keeper → Tells Keeper-dyn desk.old.keeper }
+    ensures stays { KeepsConnections Keeper-dyn desk.old desk.new }
     ensures cause { Counts (is_of_keeper result) (faults_of Keeper-dyn desk.old.keeper) (faults_of Keeper-dyn desk.new.keeper) }
-    ensures same_box { IsSameBox desk.old.keeper desk.new.keeper }
 {
     let mut steps = Steps::<L>::new(blank);
     desk.command(command, given, &mut steps)
@@ -59,11 +56,8 @@ fn run(desk: &mut Desk, command: Command, given: Moment) -> Reply
     requires kept { IsKept Keeper-dyn desk.old.keeper (tables_of desk.old.state) }
     requires asked { IsAsked command }
     ensures answer { (h : List SegmentValue) → MayAnswer (session_of h desk.old.state) given command result (session_of h desk.new.state) }
-    ensures flows { desk.new.state.flows ≡ desk.old.state.flows }
-    ensures kept { IsKept Keeper-dyn desk.new.keeper (tables_of desk.new.state) }
-    ensures told { Tells Keeper-dyn desk.new.keeper → Tells Keeper-dyn desk.old.keeper }
+    ensures stays { KeepsConnections Keeper-dyn desk.old desk.new }
     ensures cause { Counts (is_of_keeper result) (faults_of Keeper-dyn desk.old.keeper) (faults_of Keeper-dyn desk.new.keeper) }
-    ensures same_box { IsSameBox desk.old.keeper desk.new.keeper }
 {
     run_counted::<Brand>(desk, command, given, Blank::new(1))
 }
@@ -140,13 +134,10 @@ pub(crate) fn answer_command(
     requires kept { IsKept Keeper-dyn desk.old.keeper (tables_of desk.old.state) }
     requires asked { IsAsked command }
     requires texts { HasTexts origin }
-    ensures reply { (h : List SegmentValue) → HasForwarded h desk.old.state
-        → LeadsOn h desk.old.state desk.new.state (λ session after. MayStand (Changes session given command) session
+    ensures reply { LeadsOn desk.old.state desk.new.state (λ session after. MayStand (Changes session given command) session
         (by_command (said_of origin) (command_in session given command)) (reply result body.new) after) }
-    ensures kept { IsKept Keeper-dyn desk.new.keeper (tables_of desk.new.state) }
-    ensures told { Tells Keeper-dyn desk.new.keeper → Tells Keeper-dyn desk.old.keeper }
+    ensures stays { StaysKept Keeper-dyn desk.old desk.new }
     ensures cause { Counts (is_unavailable result) (faults_of Keeper-dyn desk.old.keeper) (faults_of Keeper-dyn desk.new.keeper) }
-    ensures same_box { IsSameBox desk.old.keeper desk.new.keeper }
 {
     let answered = run(desk, command, given);
     write_reply(alloc, body, &origin, answered)

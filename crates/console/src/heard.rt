@@ -1,17 +1,16 @@
 //! What was heard of a Thing.
-ghost use Rattle.std.specs.Prelude.{◌≡◌, ℕ, List};
-ghost use Rattle.mud_world.specs.Boxed.{faults_of, Tells};
+ghost use Rattle.std.specs.Prelude.{◌≡◌, ℕ, IsSomeAnd};
+ghost use Rattle.mud_world.specs.Boxed.{faults_of};
 ghost use Rattle.mud_world.specs.Causes.{Counts};
-ghost use Rattle.mud_tables.specs.declared.segment.Segment.{Segment as SegmentValue};
 ghost use Rattle.desk_model.specs.Commands.{IsAsked};
 ghost use Rattle.desk_model.specs.Sessions.{command_in, raised};
 ghost use Rattle.console_bodies.specs.Bodies as bodies;
 ghost use Rattle.outcome_bodies.specs.Heards as heards;
-ghost use Rattle.mud_desk.specs.DeskState.{tables_of, HasForwarded};
-ghost use Rattle.desk_model.specs.Boxed.{IsKept, IsSameBox};
+ghost use Rattle.mud_desk.specs.DeskState.{tables_of, LeadsOn};
+ghost use Rattle.mud_desk.specs.Stays.{StaysKept};
+ghost use Rattle.desk_model.specs.Boxed.{IsKept};
 ghost use Rattle.console.specs.Replies.{reply, replied, is_unavailable, MayStand};
-ghost use Rattle.console.specs.Requests.{Changes, ChangesBy, by_command, by_heard};
-ghost use Rattle.console.specs.Runs.{LeadsOn};
+ghost use Rattle.console.specs.Requests.{Changes, by_command, by_heard};
 
 use crate::BodyText;
 use crate::commands::{Origin, answer_command};
@@ -38,13 +37,10 @@ fn take_heard(
 ) -> Status
     requires kept { IsKept Keeper-dyn desk.old.keeper (tables_of desk.old.state) }
     requires asked { IsAsked command }
-    ensures reply { (h : List SegmentValue) → HasForwarded h desk.old.state
-        → LeadsOn h desk.old.state desk.new.state (λ session after. MayStand (Changes session given command) session
+    ensures reply { LeadsOn desk.old.state desk.new.state (λ session after. MayStand (Changes session given command) session
         (by_command (heards.heard_body heard.now) (command_in session given command)) (reply result body.new) after) }
-    ensures kept { IsKept Keeper-dyn desk.new.keeper (tables_of desk.new.state) }
-    ensures told { Tells Keeper-dyn desk.new.keeper → Tells Keeper-dyn desk.old.keeper }
+    ensures stays { StaysKept Keeper-dyn desk.old desk.new }
     ensures cause { Counts (is_unavailable result) (faults_of Keeper-dyn desk.old.keeper) (faults_of Keeper-dyn desk.new.keeper) }
-    ensures same_box { IsSameBox desk.old.keeper desk.new.keeper }
 {
     match heard_texts(alloc, heard) {
         Ok(texts) => {
@@ -58,13 +54,10 @@ fn take_heard(
 /// Says that a message says nothing, which raises the moment of the session.
 fn answer_nothing(desk: &mut Desk, body: &mut BodyText, given: Moment) -> Status
     requires kept { IsKept Keeper-dyn desk.old.keeper (tables_of desk.old.state) }
-    ensures reply { (h : List SegmentValue) → HasForwarded h desk.old.state
-        → LeadsOn h desk.old.state desk.new.state (λ session after. MayStand ⊥ session
+    ensures reply { LeadsOn desk.old.state desk.new.state (λ session after. MayStand ⊥ session
         (replied (reply Status.Done heards.nothing_body) (raised session given)) (reply result body.new) after) }
-    ensures kept { IsKept Keeper-dyn desk.new.keeper (tables_of desk.new.state) }
-    ensures told { Tells Keeper-dyn desk.new.keeper → Tells Keeper-dyn desk.old.keeper }
+    ensures stays { StaysKept Keeper-dyn desk.old desk.new }
     ensures cause { Counts (is_unavailable result) (faults_of Keeper-dyn desk.old.keeper) (faults_of Keeper-dyn desk.new.keeper) }
-    ensures same_box { IsSameBox desk.old.keeper desk.new.keeper }
 {
     raise(desk, given);
     body.write_nothing_heard();
@@ -81,13 +74,10 @@ pub(crate) fn answer_heard(
     given: Moment,
 ) -> Status
     requires kept { IsKept Keeper-dyn desk.old.keeper (tables_of desk.old.state) }
-    ensures reply { (h : List SegmentValue) → HasForwarded h desk.old.state
-        → LeadsOn h desk.old.state desk.new.state (λ session after. MayStand (ChangesBy session given (bodies.heard_command heard.now)) session
+    ensures reply { LeadsOn desk.old.state desk.new.state (λ session after. MayStand (IsSomeAnd (bodies.heard_command heard.now) (Changes session given)) session
         (by_heard session given heard.now (bodies.heard_command heard.now)) (reply result body.new) after) }
-    ensures kept { IsKept Keeper-dyn desk.new.keeper (tables_of desk.new.state) }
-    ensures told { Tells Keeper-dyn desk.new.keeper → Tells Keeper-dyn desk.old.keeper }
+    ensures stays { StaysKept Keeper-dyn desk.old desk.new }
     ensures cause { Counts (is_unavailable result) (faults_of Keeper-dyn desk.old.keeper) (faults_of Keeper-dyn desk.new.keeper) }
-    ensures same_box { IsSameBox desk.old.keeper desk.new.keeper }
 {
     match heard_command(*heard) {
         Some(command) => take_heard(alloc, desk, body, heard, command, given),

@@ -1,14 +1,13 @@
 //! Listings.
-ghost use Rattle.std.specs.Prelude.{◌≡◌, ℕ, List, IfOk};
-ghost use Rattle.mud_world.specs.Boxed.{faults_of, Tells};
+ghost use Rattle.std.specs.Prelude.{◌≡◌, ℕ, IfOk};
+ghost use Rattle.mud_world.specs.Boxed.{faults_of};
 ghost use Rattle.mud_world.specs.Causes.{Counts};
-ghost use Rattle.mud_tables.specs.declared.segment.Segment.{Segment as SegmentValue};
 ghost use Rattle.desk_model.specs.Sessions.{later, raised};
-ghost use Rattle.mud_desk.specs.DeskState.{tables_of, HasForwarded};
-ghost use Rattle.desk_model.specs.Boxed.{IsKept, IsSameBox};
+ghost use Rattle.mud_desk.specs.DeskState.{tables_of, LeadsOn};
+ghost use Rattle.mud_desk.specs.Stays.{StaysKept};
+ghost use Rattle.desk_model.specs.Boxed.{IsKept};
 ghost use Rattle.console.specs.Listings as spec;
 ghost use Rattle.console.specs.Replies.{reply, replied, is_unavailable, MayStand};
-ghost use Rattle.console.specs.Runs.{LeadsOn};
 
 use crate::refusals::want_memory;
 use crate::session::{later, raise};
@@ -44,13 +43,10 @@ pub(crate) fn answer_listing(
     given: Moment,
 ) -> Status
     requires kept { IsKept Keeper-dyn desk.old.keeper (tables_of desk.old.state) }
-    ensures reply { (h : List SegmentValue) → HasForwarded h desk.old.state
-        → LeadsOn h desk.old.state desk.new.state (λ session after. MayStand ⊥ session
+    ensures reply { LeadsOn desk.old.state desk.new.state (λ session after. MayStand ⊥ session
         (replied (reply Status.Done (spec.listing_text listing session.desk (later session given))) (raised session given)) (reply result body.new) after) }
-    ensures kept { IsKept Keeper-dyn desk.new.keeper (tables_of desk.new.state) }
-    ensures told { Tells Keeper-dyn desk.new.keeper → Tells Keeper-dyn desk.old.keeper }
+    ensures stays { StaysKept Keeper-dyn desk.old desk.new }
     ensures cause { Counts (is_unavailable result) (faults_of Keeper-dyn desk.old.keeper) (faults_of Keeper-dyn desk.new.keeper) }
-    ensures same_box { IsSameBox desk.old.keeper desk.new.keeper }
 {
     let now = later(desk.moment(), given);
     match listing_text(alloc, desk, listing, now) {

@@ -1,18 +1,18 @@
 //! The reply to a request: its status, and its body as it is held.
-ghost use Rattle.std.specs.Prelude.{◌≡◌, ℕ, List};
-ghost use Rattle.mud_world.specs.Boxed.{faults_of, Tells};
+ghost use Rattle.std.specs.Prelude.{◌≡◌, ℕ, List, IsSomeAnd};
+ghost use Rattle.mud_world.specs.Boxed.{faults_of};
 ghost use Rattle.mud_world.specs.Causes.{Counts};
 ghost use Rattle.mud_tables.specs.declared.segment.Segment.{Segment as SegmentValue};
 ghost use Rattle.http_requests.specs.declared.fault.MomentFrom.{MomentFrom};
 ghost use Rattle.http_requests.specs.Requests.{Request};
 ghost use Rattle.http_requests.specs.Parts.{AreParts};
 ghost use Rattle.console_bodies.specs.Laws.{AsksRightly};
-ghost use Rattle.mud_desk.specs.DeskState.{tables_of, session_of, HasForwarded};
-ghost use Rattle.desk_model.specs.Boxed.{IsKept, IsSameBox};
+ghost use Rattle.mud_desk.specs.DeskState.{tables_of, session_of, HasForwarded, LeadsOn};
+ghost use Rattle.mud_desk.specs.Stays.{StaysKept};
+ghost use Rattle.desk_model.specs.Boxed.{IsKept};
 ghost use Rattle.console.specs.Replies.{reply, is_unavailable, MayStand};
-ghost use Rattle.console.specs.Requests.{ChangesBy, by_question, command_asked, MayReply, MayWant};
+ghost use Rattle.console.specs.Requests.{Changes, by_question, command_asked, MayReply, MayWant};
 ghost use Rattle.console.specs.Refused.{MayWantAsked};
-ghost use Rattle.console.specs.Runs.{LeadsOn};
 
 use crate::commands::{Origin, answer_command};
 use crate::heard::answer_heard;
@@ -42,15 +42,12 @@ fn answer_question(
 ) -> Status
     requires kept { IsKept Keeper-dyn desk.old.keeper (tables_of desk.old.state) }
     requires asked { AsksRightly question.asked }
-    ensures reply { (h : List SegmentValue) → HasForwarded h desk.old.state
-        → LeadsOn h desk.old.state desk.new.state (λ session after. MayStand (ChangesBy session given (command_asked question.asked)) session
+    ensures reply { LeadsOn desk.old.state desk.new.state (λ session after. MayStand (IsSomeAnd (command_asked question.asked) (Changes session given)) session
         (by_question session given octets.now question.action question.asked) (reply result body.new) after) }
     ensures wanted { (h : List SegmentValue) → HasForwarded h desk.old.state → result ≡ Status.NoStorage
         → MayWantAsked (session_of h desk.old.state) given octets.now question.asked }
-    ensures kept { IsKept Keeper-dyn desk.new.keeper (tables_of desk.new.state) }
-    ensures told { Tells Keeper-dyn desk.new.keeper → Tells Keeper-dyn desk.old.keeper }
+    ensures stays { StaysKept Keeper-dyn desk.old desk.new }
     ensures cause { Counts (is_unavailable result) (faults_of Keeper-dyn desk.old.keeper) (faults_of Keeper-dyn desk.new.keeper) }
-    ensures same_box { IsSameBox desk.old.keeper desk.new.keeper }
 {
     let Question { action, asked } = question;
     match asked {
@@ -75,14 +72,11 @@ pub(crate) fn reply_to(
 ) -> ReplyHead
     requires kept { IsKept Keeper-dyn desk.old.keeper (tables_of desk.old.state) }
     ensures reply { (from : MomentFrom) (r : Request) → AreParts from r request.now
-        → (h : List SegmentValue) → HasForwarded h desk.old.state
-        → LeadsOn h desk.old.state desk.new.state (λ session after. MayReply session given r (record { status = result.status; allow = result.allow; body = body.new }) after) }
+        → LeadsOn desk.old.state desk.new.state (λ session after. MayReply session given r (record { status = result.status; allow = result.allow; body = body.new }) after) }
     ensures wanted { (from : MomentFrom) (r : Request) → AreParts from r request.now
         → (h : List SegmentValue) → HasForwarded h desk.old.state → result.status ≡ Status.NoStorage → MayWant (session_of h desk.old.state) given r }
-    ensures kept { IsKept Keeper-dyn desk.new.keeper (tables_of desk.new.state) }
-    ensures told { Tells Keeper-dyn desk.new.keeper → Tells Keeper-dyn desk.old.keeper }
+    ensures stays { StaysKept Keeper-dyn desk.old desk.new }
     ensures cause { Counts (is_unavailable result.status) (faults_of Keeper-dyn desk.old.keeper) (faults_of Keeper-dyn desk.new.keeper) }
-    ensures same_box { IsSameBox desk.old.keeper desk.new.keeper }
 {
     let now = later(desk.moment(), given);
     match question_of(

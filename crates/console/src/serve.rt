@@ -1,8 +1,8 @@
 //! Serving connections by a desk.
 ghost use Rattle.std.specs.Prelude.{◌≡◌, is_err};
-ghost use Rattle.mud_world.specs.Boxed.{Tells};
 ghost use Rattle.mud_desk.specs.DeskState.{tables_of};
-ghost use Rattle.desk_model.specs.Boxed.{IsKept, IsSameBox};
+ghost use Rattle.mud_desk.specs.Stays.{StaysKept};
+ghost use Rattle.desk_model.specs.Boxed.{IsKept};
 ghost use Rattle.http_requests.specs.Doors.{ReadsAndWrites};
 ghost use Rattle.http_requests.specs.Ends.{is_read_failed, is_write_failed};
 ghost use Rattle.http_requests.specs.Visits.{TakesTurns};
@@ -25,15 +25,13 @@ pub fn serve_connection<D: Door, C: Clock>(
     from: MomentFrom,
 ) -> ConnectionEnd
     requires kept { IsKept Keeper-dyn console.old.desk.keeper (tables_of console.old.desk.state) }
-    ensures kept { IsKept Keeper-dyn console.new.desk.keeper (tables_of console.new.desk.state) }
+    ensures stays { StaysKept Keeper-dyn console.old.desk console.new.desk }
 
     // Whatever the door: from the session that the desk is in, it is in one that some requests left.
     ensures left { IsLeftByRequests Keeper-dyn ⟦<C as Clock>⟧ console.old console.new }
     // Where the door tells, they are those of the connection, and what was written are their answers.
     ensures served { D.tells
         → ServesOne Keeper-dyn ⟦<C as Clock>⟧ console.old console.new from result (D.view door.old) (D.view door.new) }
-    ensures told { Tells Keeper-dyn console.new.desk.keeper → Tells Keeper-dyn console.old.desk.keeper }
-    ensures same_box { IsSameBox console.old.desk.keeper console.new.desk.keeper }
     // The clock stays the one that was lent.
     ensures same_clock { console.new.clock.ghost_name ≡ console.old.clock.ghost_name }
     ensures calls { ReadsAndWrites (is_read_failed result) (is_write_failed result) (D.view door.old) (D.view door.new) }
@@ -52,15 +50,13 @@ pub fn serve_connections<D: Door, C: Clock>(
     count: u32,
 ) -> Result<(), Failed>
     requires kept { IsKept Keeper-dyn console.old.desk.keeper (tables_of console.old.desk.state) }
-    ensures kept { IsKept Keeper-dyn console.new.desk.keeper (tables_of console.new.desk.state) }
+    ensures stays { StaysKept Keeper-dyn console.old.desk console.new.desk }
 
     // Whatever the door: from the session that the desk is in, it is in one that some requests left.
     ensures left { IsLeftByRequests Keeper-dyn ⟦<C as Clock>⟧ console.old console.new }
     // Where the door tells, they are those of the connections, and what was written are their answers.
     ensures served { D.tells
         → ServesInTurn Keeper-dyn ⟦<C as Clock>⟧ console.old console.new from (is_err result) count (D.view door.old) (D.view door.new) }
-    ensures told { Tells Keeper-dyn console.new.desk.keeper → Tells Keeper-dyn console.old.desk.keeper }
-    ensures same_box { IsSameBox console.old.desk.keeper console.new.desk.keeper }
     // The clock stays the one that was lent.
     ensures same_clock { console.new.clock.ghost_name ≡ console.old.clock.ghost_name }
     ensures calls { TakesTurns (is_err result) (D.view door.old) (D.view door.new) }

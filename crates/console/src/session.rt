@@ -1,11 +1,12 @@
 //! Calls of a desk as they are seen in its session.
 ghost use Rattle.std.specs.Prelude.{◌≡◌, ◌<◌, max, ℕ, List};
 ghost use Rattle.sorted_rows.specs.Ledgers.{IsBlankOf};
-ghost use Rattle.mud_world.specs.Boxed.{faults_of, Tells};
+ghost use Rattle.mud_world.specs.Boxed.{faults_of};
 ghost use Rattle.mud_tables.specs.declared.segment.Segment.{Segment as SegmentValue};
-ghost use Rattle.desk_model.specs.Sessions.{raised};
-ghost use Rattle.mud_desk.specs.DeskState.{tables_of, session_of, HasForwarded, IsJudged};
-ghost use Rattle.desk_model.specs.Boxed.{IsKept, IsSameBox};
+ghost use Rattle.desk_model.specs.Sessions.{MayJudge, raised};
+ghost use Rattle.mud_desk.specs.DeskState.{tables_of, session_of, LeadsOn};
+ghost use Rattle.mud_desk.specs.Stays.{StaysKept, KeepsConnections};
+ghost use Rattle.desk_model.specs.Boxed.{IsKept};
 
 use mud_base::{Memory, Moment};
 use mud_desk::Desk;
@@ -22,21 +23,17 @@ pub(crate) fn later(a: Moment, b: Moment) -> Moment
 }
 
 /// Makes the later of the session's moment and this one the moment of the session.
-#[tactic(auto, using(crate::proofs::Boxes::same_kept, crate::proofs::Boxes::same_told, crate::proofs::Boxes::same_box), unfolding(mud_desk::specs::DeskState::session_of, mud_desk::specs::DeskState::tables_of, desk_model::specs::Sessions::raised, desk_model::specs::Sessions::later))]
+#[tactic(auto, unfolding(mud_desk::specs::DeskState::session_of, mud_desk::specs::DeskState::tables_of, desk_model::specs::Sessions::raised, desk_model::specs::Sessions::later))]
 pub(crate) fn raise(desk: &mut Desk, given: Moment)
     requires kept { IsKept Keeper-dyn desk.old.keeper (tables_of desk.old.state) }
     ensures raised { (h : List SegmentValue) → session_of h desk.new.state ≡ raised (session_of h desk.old.state) given }
-    ensures flows { desk.new.state.flows ≡ desk.old.state.flows }
-    ensures kept { IsKept Keeper-dyn desk.new.keeper (tables_of desk.new.state) }
-    ensures told { Tells Keeper-dyn desk.new.keeper → Tells Keeper-dyn desk.old.keeper }
+    ensures stays { KeepsConnections Keeper-dyn desk.old desk.new }
     ensures steady { faults_of Keeper-dyn desk.new.keeper ≡ faults_of Keeper-dyn desk.old.keeper }
-    ensures same_box { IsSameBox desk.old.keeper desk.new.keeper }
 {
     let _moment = desk.raise(given);
 }
 
 /// Judges a frame, and counts the steps for nobody.
-#[tactic(auto, using(crate::proofs::Boxes::same_kept, crate::proofs::Boxes::same_told, crate::proofs::Boxes::same_box), unfolding(mud_desk::specs::DeskState::tables_of))]
 fn judge_counted<L: Ledger>(
     desk: &mut Desk,
     frame: &[u8],
@@ -45,11 +42,9 @@ fn judge_counted<L: Ledger>(
 ) -> Result<Verdict, Memory>
     requires blank { IsBlankOf L.name L.parts blank }
     requires kept { IsKept Keeper-dyn desk.old.keeper (tables_of desk.old.state) }
-    ensures judged { (h : List SegmentValue) → HasForwarded h desk.old.state → IsJudged h desk.old.state given frame.now result desk.new.state }
-    ensures kept { IsKept Keeper-dyn desk.new.keeper (tables_of desk.new.state) }
-    ensures told { Tells Keeper-dyn desk.new.keeper → Tells Keeper-dyn desk.old.keeper }
+    ensures judged { LeadsOn desk.old.state desk.new.state (λ session after. MayJudge session given frame.now result after) }
+    ensures stays { StaysKept Keeper-dyn desk.old desk.new }
     ensures steady { faults_of Keeper-dyn desk.new.keeper ≡ faults_of Keeper-dyn desk.old.keeper }
-    ensures same_box { IsSameBox desk.old.keeper desk.new.keeper }
 {
     let mut steps = Steps::<L>::new(blank);
     desk.judge(frame, given, &mut steps)
@@ -58,11 +53,9 @@ fn judge_counted<L: Ledger>(
 /// Judges a frame.
 pub(crate) fn judge(desk: &mut Desk, frame: &[u8], given: Moment) -> Result<Verdict, Memory>
     requires kept { IsKept Keeper-dyn desk.old.keeper (tables_of desk.old.state) }
-    ensures judged { (h : List SegmentValue) → HasForwarded h desk.old.state → IsJudged h desk.old.state given frame.now result desk.new.state }
-    ensures kept { IsKept Keeper-dyn desk.new.keeper (tables_of desk.new.state) }
-    ensures told { Tells Keeper-dyn desk.new.keeper → Tells Keeper-dyn desk.old.keeper }
+    ensures judged { LeadsOn desk.old.state desk.new.state (λ session after. MayJudge session given frame.now result after) }
+    ensures stays { StaysKept Keeper-dyn desk.old desk.new }
     ensures steady { faults_of Keeper-dyn desk.new.keeper ≡ faults_of Keeper-dyn desk.old.keeper }
-    ensures same_box { IsSameBox desk.old.keeper desk.new.keeper }
 {
     judge_counted::<Brand>(desk, frame, given, Blank::new(1))
 }

@@ -6,7 +6,8 @@ use Rattle.octet_buffer.specs.Packets.{Packet}
 use Rattle.packet_judge.specs.declared.verdict.Verdict.{Verdict}
 use Rattle.desk_model.specs.DeskTables.{DeskTables}
 use Rattle.desk_model.specs.Sessions.{Session, Judged, frame_in, opened}
-use Rattle.mud_desk.specs.DeskState.{DeskState, session_of, HasForwarded, IsBegun, IsJudged}
+use Rattle.mud_desk.specs.DeskState.{DeskState, session_of, HasForwarded, IsBegun}
+use Rattle.mud_desk.proofs.Sessions.{IsJudged}
 use Rattle.desk_runs.specs.Judged.{IsIn, judged_packet}
 
 -- a desk whose session begins is in that session
@@ -21,7 +22,7 @@ in_own history state forwarded = record { session_is = refl; forwarded = forward
 
 module _ (s : Session) (before after : DeskState) (is_in : IsIn s before) (now : ℕ) (frame : List ℕ) where
   frame_is : (verdict : Verdict) (judged : IsJudged s.history before now frame (Ok verdict) after) → frame_in s now frame ≡ record { verdict = verdict; session = session_of judged.next after }
-  frame_is verdict judged = subst (λ (x : Session). frame_in x now frame ≡ record { verdict = verdict; session = session_of judged.next after }) is_in.session_is judged.may.verdict_is
+  frame_is verdict judged = subst (λ (x : Session). frame_in x now frame ≡ record { verdict = verdict; session = session_of judged.next after }) is_in.session_is judged.leads.verdict_is
 
   verdict_of : (r : Result Verdict want.Memory) → IsJudged s.history before now frame r after → IfOk r (λ verdict. verdict ≡ (frame_in s now frame).verdict)
   verdict_of (Ok verdict) judged = sym (ap (λ (j : Judged). j.verdict) (frame_is verdict judged))
@@ -33,7 +34,7 @@ module _ (s : Session) (before after : DeskState) (is_in : IsIn s before) (now :
 
   same_of : (r : Result Verdict want.Memory) → IsJudged s.history before now frame r after → OnErr r (IsIn s after)
   same_of (Ok verdict) judged = tt
-  same_of (Err memory) judged = subst (λ (x : Session). IsIn x after) (judged.may.verdict_is.1 ∙ is_in.session_is) (in_own judged.next after judged.forwarded)
+  same_of (Err memory) judged = subst (λ (x : Session). IsIn x after) (judged.leads.verdict_is.1 ∙ is_in.session_is) (in_own judged.next after judged.forwarded)
 
 -- the same for a packet, at its seconds
 module _ (s : Session) (before after : DeskState) (packet : Packet) (now : ℕ) (r : Result Verdict want.Memory) (same : now ≡ packet.seconds) (judged : IsIn s before → IsJudged s.history before now packet.octets r after) (is_in : IsIn s before) where

@@ -16,6 +16,7 @@ use Rattle.desk_model.specs.DeskTables.{DeskTables, IsSound}
 use Rattle.desk_model.specs.Sessions.{Session}
 use Rattle.desk_model.specs.Boxed.{IsKept}
 use Rattle.mud_desk.specs.DeskState.{DeskState, session_of, tables_of}
+use Rattle.mud_desk.specs.declared.desk.Desk.{Desk}
 use Rattle.desk_runs.specs.Judged.{IsIn}
 use Rattle.drill_runs.specs.Commands.{drill_commands}
 use Rattle.drill_runs.specs.Counts.{count_lines, verdict_counts}
@@ -63,29 +64,29 @@ no_seven : {A : Type 0} (status : ℕ) → IsOfLines status → status ≡ 7 →
 no_seven status is seven = absurd (grind arith)
 
 module _ {X : Type 0} {F : X → Type 0} (members : (v : (x : X) × F x) → Ghosts (F v.0)) (tells : Type 0) (packets : ℕ) (s : Session)
-    (keeper : DynBox X Global F) (before : DeskState) (after : DynBox X Global F) (state : DeskState) (is_in : IsIn s before) (sound : IsSound (tables_of state)) (old new : DoorView) (status : ℕ) where
+    (before after : Desk X F) (is_in : IsIn s before.state) (sound : IsSound (tables_of after.state)) (old new : DoorView) (status : ℕ) where
   -- all commands ran, and the lines were written, or not
-  pub lines_run : RanAll members (drill_commands packets) keeper before after state
+  pub lines_run : RanAll members (drill_commands packets) before after
       → IsOfLines status
       → (status ≡ 4 → StopsAtFailure new.failed old.writes new.writes)
       → (status ≢ 4 → new.writes ≡ old.writes)
-      → ((z : Session) → IsIn z state → tells → status ≡ 0 → new.state ≡ put_out (lines_in packets z) old.state)
-      → ((z : Session) → IsIn z state → tells → (status ≡ 4) ⊎ (status ≡ 5) → WroteFirst (lines_in packets z) old.state new.state)
+      → ((z : Session) → IsIn z after.state → tells → status ≡ 0 → new.state ≡ put_out (lines_in packets z) old.state)
+      → ((z : Session) → IsIn z after.state → tells → (status ≡ 4) ⊎ (status ≡ 5) → WroteFirst (lines_in packets z) old.state new.state)
       → new.turns ≡ old.turns → new.reads ≡ old.reads
-      → (returned : DynBox X Global F) → returned ≡ after → DrillsFrom members tells packets s keeper returned old new status
+      → (returned : DynBox X Global F) → returned ≡ after.keeper → DrillsFrom members tells packets s before.keeper returned old new status
   lines_run ran is fault steady done part turns reads returned same =
-      let reached : IsIn (session_after s (drill_commands packets)) state = ran.session s is_in in
-      subst (λ (box : DynBox X Global F). DrillsFrom members tells packets s keeper box old new status) (sym same) (record {
+      let reached : IsIn (session_after s (drill_commands packets)) after.state = ran.session s is_in in
+      subst (λ (box : DynBox X Global F). DrillsFrom members tells packets s before.keeper box old new status) (sym same) (record {
         statuses = of_lines status is;
         ran = drill_commands packets;
         rest = [];
         split = sym (append-nil (drill_commands packets));
         all = λ which. refl;
         more = λ seven. no_seven status is seven;
-        sound = subst IsSound (tables_in_session (session_after s (drill_commands packets)) state reached) sound;
-        kept = subst (λ (desk : DeskTables). IsKept members after desk) (tables_in_session (session_after s (drill_commands packets)) state reached) ran.kept;
-        told = ran.told;
-        same_box = ran.same_box;
+        sound = subst IsSound (tables_in_session (session_after s (drill_commands packets)) after.state reached) sound;
+        kept = subst (λ (desk : DeskTables). IsKept members after.keeper desk) (tables_in_session (session_after s (drill_commands packets)) after.state reached) ran.stays.kept;
+        told = ran.stays.told;
+        same_box = ran.stays.same_box;
         done = done (session_after s (drill_commands packets)) reached;
         part = part (session_after s (drill_commands packets)) reached;
         none = λ seven. no_seven status is seven;
@@ -98,20 +99,20 @@ module _ {X : Type 0} {F : X → Type 0} (members : (v : (x : X) × F x) → Gho
       })
 
   -- some of them ran, and then it stopped
-  pub stopped_run : (stop : Stop) → RanPart members stop (drill_commands packets) keeper before after state → status ≡ status_at stop → new ≡ old
-      → (returned : DynBox X Global F) → returned ≡ after → DrillsFrom members tells packets s keeper returned old new status
+  pub stopped_run : (stop : Stop) → RanPart members stop (drill_commands packets) before after → status ≡ status_at stop → new ≡ old
+      → (returned : DynBox X Global F) → returned ≡ after.keeper → DrillsFrom members tells packets s before.keeper returned old new status
   stopped_run Keeper ran is still returned same =
-      subst (λ (box : DynBox X Global F). DrillsFrom members tells packets s keeper box old new status) (sym same) (record {
+      subst (λ (box : DynBox X Global F). DrillsFrom members tells packets s before.keeper box old new status) (sym same) (record {
         statuses = inr (inr (inr is));
         ran = ran.ran;
         rest = ran.rest;
         split = ran.split;
         all = λ which. absurd (grind arith);
         more = λ seven. ran.more refl;
-        sound = subst IsSound (tables_in_session (session_after s ran.ran) state (ran.session s is_in)) sound;
-        kept = subst (λ (desk : DeskTables). IsKept members after desk) (tables_in_session (session_after s ran.ran) state (ran.session s is_in)) ran.kept;
-        told = ran.told;
-        same_box = ran.same_box;
+        sound = subst IsSound (tables_in_session (session_after s ran.ran) after.state (ran.session s is_in)) sound;
+        kept = subst (λ (desk : DeskTables). IsKept members after.keeper desk) (tables_in_session (session_after s ran.ran) after.state (ran.session s is_in)) ran.stays.kept;
+        told = ran.stays.told;
+        same_box = ran.stays.same_box;
         done = λ told zero. absurd (omega (arith, is, zero));
         part = λ told which. absurd (grind arith);
         none = λ seven. ap (λ (d : DoorView). d.state) still;
@@ -123,17 +124,17 @@ module _ {X : Type 0} {F : X → Type 0} (members : (v : (x : X) × F x) → Gho
         same_reads = ap (λ (d : DoorView). d.reads) still;
       })
   stopped_run Memory ran is still returned same =
-      subst (λ (box : DynBox X Global F). DrillsFrom members tells packets s keeper box old new status) (sym same) (record {
+      subst (λ (box : DynBox X Global F). DrillsFrom members tells packets s before.keeper box old new status) (sym same) (record {
         statuses = inr (inr (inl is));
         ran = ran.ran;
         rest = ran.rest;
         split = ran.split;
         all = λ which. absurd (grind arith);
         more = λ seven. absurd (omega (arith, is, seven));
-        sound = subst IsSound (tables_in_session (session_after s ran.ran) state (ran.session s is_in)) sound;
-        kept = subst (λ (desk : DeskTables). IsKept members after desk) (tables_in_session (session_after s ran.ran) state (ran.session s is_in)) ran.kept;
-        told = ran.told;
-        same_box = ran.same_box;
+        sound = subst IsSound (tables_in_session (session_after s ran.ran) after.state (ran.session s is_in)) sound;
+        kept = subst (λ (desk : DeskTables). IsKept members after.keeper desk) (tables_in_session (session_after s ran.ran) after.state (ran.session s is_in)) ran.stays.kept;
+        told = ran.stays.told;
+        same_box = ran.stays.same_box;
         done = λ told zero. absurd (omega (arith, is, zero));
         part = λ told which. wrote_none (lines_in packets (session_after s (drill_commands packets))) old.state new.state (ap (λ (d : DoorView). d.state) still);
         none = λ seven. absurd (omega (arith, is, seven));

@@ -1,11 +1,9 @@
 -- Laws of commands that ran: of one, of none, and of some behind others.
 use Rattle.std.proofs.Common.{◌≡◌, ℕ, ◌<◌, ◌+◌, Bool, true, IsTrue, List, [], ◌∷◌, ◌++◌, length, Result, Ok, Err, OnOk, IfErr, refl, sym, ap, subst, ◌∙◌, arith, append_assoc, append-nil, length-append}
-use Rattle.std.specs.declared.dyn_box.DynBox.{DynBox}
-use Rattle.std.specs.declared.alloc.Global.{Global}
 use Rattle.std.proofs.lemmas.Result.{on_ok_weaker}
 use Rattle.mud_tables.specs.declared.segment.Segment.{Segment}
 use Rattle.mud_world.specs.declared.keeper.Keeper.{Ghosts}
-use Rattle.mud_world.specs.Boxed.{faults_of, Tells}
+use Rattle.mud_world.specs.Boxed.{faults_of}
 use Rattle.mud_world.specs.Causes.{Counts}
 use Rattle.file_tables.specs.declared.approval.OperatorVerdict.TheVariants.{Waived}
 use Rattle.file_tables.specs.Held.{digest_of}
@@ -14,9 +12,12 @@ use Rattle.desk_model.specs.declared.command.Command.TheVariants.{Import, Verdic
 use Rattle.desk_model.specs.declared.reply.Reply.{Reply}
 use Rattle.desk_model.specs.declared.reply.Reply.TheVariants as reply
 use Rattle.desk_model.specs.Sessions.{Session, Answered, MayAnswer, command_in, is_of_keeper}
-use Rattle.desk_model.specs.Boxed.{IsKept, IsSameBox}
+use Rattle.desk_model.specs.Boxed.{IsKept}
 use Rattle.mud_desk.specs.DeskState.{DeskState, session_of, tables_of}
+use Rattle.mud_desk.specs.declared.desk.Desk.{Desk}
+use Rattle.mud_desk.specs.Stays.{StaysKept}
 use Rattle.mud_desk.proofs.Sessions.{flows_stay}
+use Rattle.mud_desk.proofs.Stays.{keeps_itself, stays_further}
 use Rattle.desk_runs.specs.Judged.{IsIn}
 use Rattle.desk_runs.proofs.JudgedPackets.{in_own}
 use Rattle.drill_runs.specs.declared.commands.Round.TheVariants.{Announcements, Leases, Files, Hosts}
@@ -54,27 +55,22 @@ module _ (command : Command) (s : Session) (before after : DeskState) (is_in : I
 -- ---- One command
 
 -- what holds of a desk and its keeper behind a call
-module _ {X : Type 0} {F : X → Type 0} (members : (v : (x : X) × F x) → Ghosts (F v.0)) (keeper : DynBox X Global F) (before : DeskState) (keeper_after : DynBox X Global F) (after : DeskState)
-    (kept : IsKept members keeper_after (tables_of after)) (told : Tells members keeper_after → Tells members keeper) (same_box : IsSameBox keeper keeper_after) (command : Command) where
-  all_by : (answer : Reply) → Replies command answer before after → Counts (is_of_keeper answer) (faults_of members keeper) (faults_of members keeper_after) → OnOk (stop_of answer) (RanAll members (command ∷ []) keeper before keeper_after after)
+module _ {X : Type 0} {F : X → Type 0} (members : (v : (x : X) × F x) → Ghosts (F v.0)) (before after : Desk X F) (stays : StaysKept members before after) (command : Command) where
+  all_by : (answer : Reply) → Replies command answer before.state after.state → Counts (is_of_keeper answer) (faults_of members before.keeper) (faults_of members after.keeper) → OnOk (stop_of answer) (RanAll members (command ∷ []) before after)
   all_by (reply.Done outcome) replies cause = record {
-    session = λ s is_in. in_next command s before after is_in (reply.Done outcome) (reply.Done outcome) replies (may_in command s before after is_in (reply.Done outcome) replies).reply_is;
-    kept = kept;
-    told = told;
-    same_box = same_box;
+    session = λ s is_in. in_next command s before.state after.state is_in (reply.Done outcome) (reply.Done outcome) replies (may_in command s before.state after.state is_in (reply.Done outcome) replies).reply_is;
+    stays = stays;
     steady = cause.steady refl;
   }
   all_by (reply.Refused refusal) replies cause = record {
-    session = λ s is_in. in_next command s before after is_in (reply.Refused refusal) (reply.Refused refusal) replies (may_in command s before after is_in (reply.Refused refusal) replies).reply_is;
-    kept = kept;
-    told = told;
-    same_box = same_box;
+    session = λ s is_in. in_next command s before.state after.state is_in (reply.Refused refusal) (reply.Refused refusal) replies (may_in command s before.state after.state is_in (reply.Refused refusal) replies).reply_is;
+    stays = stays;
     steady = cause.steady refl;
   }
   all_by reply.Keeper replies cause = tt
   all_by reply.Memory replies cause = tt
 
-  part_by : (answer : Reply) → Replies command answer before after → Counts (is_of_keeper answer) (faults_of members keeper) (faults_of members keeper_after) → IfErr (stop_of answer) (λ stop. RanPart members stop (command ∷ []) keeper before keeper_after after)
+  part_by : (answer : Reply) → Replies command answer before.state after.state → Counts (is_of_keeper answer) (faults_of members before.keeper) (faults_of members after.keeper) → IfErr (stop_of answer) (λ stop. RanPart members stop (command ∷ []) before after)
   part_by (reply.Done outcome) replies cause = tt
   part_by (reply.Refused refusal) replies cause = tt
   part_by reply.Keeper replies cause = record {
@@ -82,10 +78,8 @@ module _ {X : Type 0} {F : X → Type 0} (members : (v : (x : X) × F x) → Gho
     rest = command ∷ [];
     split = refl;
     more = λ failed. omega arith;
-    session = λ s is_in. in_same command s before after is_in reply.Keeper replies (may_in command s before after is_in reply.Keeper replies).reply_is.1;
-    kept = kept;
-    told = told;
-    same_box = same_box;
+    session = λ s is_in. in_same command s before.state after.state is_in reply.Keeper replies (may_in command s before.state after.state is_in reply.Keeper replies).reply_is.1;
+    stays = stays;
     cause = cause;
   }
   part_by reply.Memory replies cause = record {
@@ -93,84 +87,72 @@ module _ {X : Type 0} {F : X → Type 0} (members : (v : (x : X) × F x) → Gho
     rest = command ∷ [];
     split = refl;
     more = λ failed. omega arith;
-    session = λ s is_in. in_same command s before after is_in reply.Memory replies (may_in command s before after is_in reply.Memory replies).reply_is;
-    kept = kept;
-    told = told;
-    same_box = same_box;
+    session = λ s is_in. in_same command s before.state after.state is_in reply.Memory replies (may_in command s before.state after.state is_in reply.Memory replies).reply_is;
+    stays = stays;
     cause = cause;
   }
 
-  pub all_of_one : (answer : Reply) (result : Result (Unit {0}) Stop) → result ≡ stop_of answer → Replies command answer before after → Counts (is_of_keeper answer) (faults_of members keeper) (faults_of members keeper_after) → OnOk result (RanAll members (command ∷ []) keeper before keeper_after after)
-  all_of_one answer result is replies cause = subst (λ (r : Result (Unit {0}) Stop). OnOk r (RanAll members (command ∷ []) keeper before keeper_after after)) (sym is) (all_by answer replies cause)
+  pub all_of_one : (answer : Reply) (result : Result (Unit {0}) Stop) → result ≡ stop_of answer → Replies command answer before.state after.state → Counts (is_of_keeper answer) (faults_of members before.keeper) (faults_of members after.keeper) → OnOk result (RanAll members (command ∷ []) before after)
+  all_of_one answer result is replies cause = subst (λ (r : Result (Unit {0}) Stop). OnOk r (RanAll members (command ∷ []) before after)) (sym is) (all_by answer replies cause)
 
-  pub part_of_one : (answer : Reply) (result : Result (Unit {0}) Stop) → result ≡ stop_of answer → Replies command answer before after → Counts (is_of_keeper answer) (faults_of members keeper) (faults_of members keeper_after) → IfErr result (λ stop. RanPart members stop (command ∷ []) keeper before keeper_after after)
-  part_of_one answer result is replies cause = subst (λ (r : Result (Unit {0}) Stop). IfErr r (λ stop. RanPart members stop (command ∷ []) keeper before keeper_after after)) (sym is) (part_by answer replies cause)
+  pub part_of_one : (answer : Reply) (result : Result (Unit {0}) Stop) → result ≡ stop_of answer → Replies command answer before.state after.state → Counts (is_of_keeper answer) (faults_of members before.keeper) (faults_of members after.keeper) → IfErr result (λ stop. RanPart members stop (command ∷ []) before after)
+  part_of_one answer result is replies cause = subst (λ (r : Result (Unit {0}) Stop). IfErr r (λ stop. RanPart members stop (command ∷ []) before after)) (sym is) (part_by answer replies cause)
 
 -- ---- No command, and some behind others
 
-module _ {X : Type 0} {F : X → Type 0} (members : (v : (x : X) × F x) → Ghosts (F v.0)) (a : DynBox X Global F) (s : DeskState) where
-  pub all_of_none : IsKept members a (tables_of s) → RanAll members [] a s a s
+module _ {X : Type 0} {F : X → Type 0} (members : (v : (x : X) × F x) → Ghosts (F v.0)) (a : Desk X F) where
+  pub all_of_none : IsKept members a.keeper (tables_of a.state) → RanAll members [] a a
   all_of_none kept = record {
     session = λ z is_in. is_in;
-    kept = kept;
-    told = λ tells. tells;
-    same_box = record { object = refl; place = refl };
+    stays = (keeps_itself members {a = a} kept).stays;
     steady = refl;
   }
 
-  pub part_of_none : (commands : List Command) → IsKept members a (tables_of s) → RanPart members Memory commands a s a s
+  pub part_of_none : (commands : List Command) → IsKept members a.keeper (tables_of a.state) → RanPart members Memory commands a a
   part_of_none commands kept = record {
     ran = [];
     rest = commands;
     split = refl;
     more = λ failed. absurd (cc);
     session = λ z is_in. is_in;
-    kept = kept;
-    told = λ tells. tells;
-    same_box = record { object = refl; place = refl };
+    stays = (keeps_itself members {a = a} kept).stays;
     cause = record { later = omega arith; rose = λ failed. absurd (cc); steady = λ e. refl };
   }
 
-  module _ (b : DynBox X Global F) (t : DeskState) where
+  module _ (b : Desk X F) where
     -- the same list, written otherwise
-    pub all_same : (xs zs : List Command) → zs ≡ xs → RanAll members xs a s b t → RanAll members zs a s b t
-    all_same xs zs is ran = subst (λ (l : List Command). RanAll members l a s b t) (sym is) ran
+    pub all_same : (xs zs : List Command) → zs ≡ xs → RanAll members xs a b → RanAll members zs a b
+    all_same xs zs is ran = subst (λ (l : List Command). RanAll members l a b) (sym is) ran
 
     -- a first part of a list is one of a longer list
-    pub part_more : (stop : Stop) (xs more zs : List Command) → zs ≡ xs ++ more → RanPart members stop xs a s b t → RanPart members stop zs a s b t
+    pub part_more : (stop : Stop) (xs more zs : List Command) → zs ≡ xs ++ more → RanPart members stop xs a b → RanPart members stop zs a b
     part_more stop xs more zs is part = record {
       ran = part.ran;
       rest = part.rest ++ more;
       split = is ∙ ap (λ (l : List Command). l ++ more) part.split ∙ append_assoc part.ran part.rest more;
       more = λ failed. omega (arith, part.more failed, length-append part.rest more);
       session = part.session;
-      kept = part.kept;
-      told = part.told;
-      same_box = part.same_box;
+      stays = part.stays;
       cause = part.cause;
     }
 
-    module _ (xs : List Command) (first : RanAll members xs a s b t) (c : DynBox X Global F) (u : DeskState) where
-      pub all_further : (ys : List Command) → RanAll members ys b t c u → RanAll members (xs ++ ys) a s c u
+    module _ (xs : List Command) (first : RanAll members xs a b) (c : Desk X F) where
+      pub all_further : (ys : List Command) → RanAll members ys b c → RanAll members (xs ++ ys) a c
       all_further ys second = record {
-        session = λ z is_in. subst (λ (x : Session). IsIn x u) (sym (session_further z xs ys)) (second.session (session_after z xs) (first.session z is_in));
-        kept = second.kept;
-        told = λ tells. first.told (second.told tells);
-        same_box = record { object = second.same_box.object ∙ first.same_box.object; place = second.same_box.place ∙ first.same_box.place };
+        session = λ z is_in. subst (λ (x : Session). IsIn x c.state) (sym (session_further z xs ys)) (second.session (session_after z xs) (first.session z is_in));
+        stays = stays_further members first.stays second.stays;
         steady = second.steady ∙ first.steady;
       }
 
-      pub part_further : (stop : Stop) (ys : List Command) → RanPart members stop ys b t c u → RanPart members stop (xs ++ ys) a s c u
+      pub part_further : (stop : Stop) (ys : List Command) → RanPart members stop ys b c → RanPart members stop (xs ++ ys) a c
       part_further stop ys second = record {
         ran = xs ++ second.ran;
         rest = second.rest;
         split = ap (λ (l : List Command). xs ++ l) second.split ∙ sym (append_assoc xs second.ran second.rest);
         more = second.more;
-        session = λ z is_in. subst (λ (x : Session). IsIn x u) (sym (session_further z xs second.ran)) (second.session (session_after z xs) (first.session z is_in));
-        kept = second.kept;
-        told = λ tells. first.told (second.told tells);
-        same_box = record { object = second.same_box.object ∙ first.same_box.object; place = second.same_box.place ∙ first.same_box.place };
-        cause = subst (λ n. Counts (has_keeper_failed stop) n (faults_of members c)) first.steady second.cause;
+        session = λ z is_in. subst (λ (x : Session). IsIn x c.state) (sym (session_further z xs second.ran)) (second.session (session_after z xs) (first.session z is_in));
+        stays = stays_further members first.stays second.stays;
+        cause = subst (λ n. Counts (has_keeper_failed stop) n (faults_of members c.keeper)) first.steady second.cause;
       }
 
 -- ---- What a call that answers so leaves behind commands that ran
@@ -179,19 +161,19 @@ if_err : {A E : Type 0} (r : Result A E) {P Q : E → Type 0} → ((e : E) → P
 if_err (Ok a) f p = tt
 if_err (Err e) f p = f e p
 
-module _ {X : Type 0} {F : X → Type 0} (members : (v : (x : X) × F x) → Ghosts (F v.0)) (a : DynBox X Global F) (s : DeskState) (b : DynBox X Global F) (t : DeskState) (xs : List Command) (first : RanAll members xs a s b t)
-    (c : DynBox X Global F) (u : DeskState) (ys zs : List Command) (is : zs ≡ xs ++ ys) where
-  pub both_ran : RanAll members ys b t c u → RanAll members zs a s c u
-  both_ran second = all_same members a s c u (xs ++ ys) zs is (all_further members a s b t xs first c u ys second)
+module _ {X : Type 0} {F : X → Type 0} (members : (v : (x : X) × F x) → Ghosts (F v.0)) (a : Desk X F) (b : Desk X F) (xs : List Command) (first : RanAll members xs a b)
+    (c : Desk X F) (ys zs : List Command) (is : zs ≡ xs ++ ys) where
+  pub both_ran : RanAll members ys b c → RanAll members zs a c
+  both_ran second = all_same members a c (xs ++ ys) zs is (all_further members a b xs first c ys second)
 
-  pub both_all : (r : Result (Unit {0}) Stop) → OnOk r (RanAll members ys b t c u) → OnOk r (RanAll members zs a s c u)
+  pub both_all : (r : Result (Unit {0}) Stop) → OnOk r (RanAll members ys b c) → OnOk r (RanAll members zs a c)
   both_all r second = on_ok_weaker r both_ran second
 
-  pub both_part : (more ws : List Command) → ws ≡ zs ++ more → (stop : Stop) → RanPart members stop ys b t c u → RanPart members stop ws a s c u
+  pub both_part : (more ws : List Command) → ws ≡ zs ++ more → (stop : Stop) → RanPart members stop ys b c → RanPart members stop ws a c
   both_part more ws split stop second =
-      part_more members a s c u stop (xs ++ ys) more ws (split ∙ ap (λ (l : List Command). l ++ more) is) (part_further members a s b t xs first c u stop ys second)
+      part_more members a c stop (xs ++ ys) more ws (split ∙ ap (λ (l : List Command). l ++ more) is) (part_further members a b xs first c stop ys second)
 
-  pub both_err : (r : Result (Unit {0}) Stop) → IfErr r (λ stop. RanPart members stop ys b t c u) → IfErr r (λ stop. RanPart members stop zs a s c u)
+  pub both_err : (r : Result (Unit {0}) Stop) → IfErr r (λ stop. RanPart members stop ys b c) → IfErr r (λ stop. RanPart members stop zs a c)
   both_err r second = if_err r (λ stop part. both_part [] zs (sym (append-nil zs)) stop part) second
 
 -- ---- The commands of a drill, parted behind each round
@@ -230,34 +212,34 @@ parts_with packets things files bound t f b =
     ∙ ap (λ (n : ℕ). (((round_commands Announcements things ++ round_commands Leases things) ++ round_commands Files n) ++ (binding ∷ [])) ++ round_commands Hosts n) (sym f)
     ∙ ap (λ (command : Command). (((round_commands Announcements things ++ round_commands Leases things) ++ round_commands Files files) ++ (command ∷ [])) ++ round_commands Hosts files) (sym b)
 
-module _ {X : Type 0} {F : X → Type 0} (members : (v : (x : X) × F x) → Ghosts (F v.0)) (a : DynBox X Global F) (s : DeskState) (A L Fs B O drill : List Command) (is : drill ≡ (((A ++ L) ++ Fs) ++ B) ++ O) (k1 : DynBox X Global F) (s1 : DeskState) where
-  pub part_one : (stop : Stop) → RanPart members stop A a s k1 s1 → RanPart members stop drill a s k1 s1
-  part_one stop part = part_more members a s k1 s1 stop A (L ++ (Fs ++ (B ++ O))) drill (is ∙ five_parts A L Fs B O) part
+module _ {X : Type 0} {F : X → Type 0} (members : (v : (x : X) × F x) → Ghosts (F v.0)) (a : Desk X F) (A L Fs B O drill : List Command) (is : drill ≡ (((A ++ L) ++ Fs) ++ B) ++ O) (k1 : Desk X F) where
+  pub part_one : (stop : Stop) → RanPart members stop A a k1 → RanPart members stop drill a k1
+  part_one stop part = part_more members a k1 stop A (L ++ (Fs ++ (B ++ O))) drill (is ∙ five_parts A L Fs B O) part
 
-  module _ (r1 : RanAll members A a s k1 s1) (k2 : DynBox X Global F) (s2 : DeskState) where
-    pub part_two : (stop : Stop) → RanPart members stop L k1 s1 k2 s2 → RanPart members stop drill a s k2 s2
-    part_two stop part = both_part members a s k1 s1 A r1 k2 s2 L (A ++ L) refl (Fs ++ (B ++ O)) drill (is ∙ behind_two A L Fs B O) stop part
+  module _ (r1 : RanAll members A a k1) (k2 : Desk X F) where
+    pub part_two : (stop : Stop) → RanPart members stop L k1 k2 → RanPart members stop drill a k2
+    part_two stop part = both_part members a k1 A r1 k2 L (A ++ L) refl (Fs ++ (B ++ O)) drill (is ∙ behind_two A L Fs B O) stop part
 
-    module _ (r2 : RanAll members L k1 s1 k2 s2) (k3 : DynBox X Global F) (s3 : DeskState) where
-      ran_two : RanAll members (A ++ L) a s k2 s2
-      ran_two = both_ran members a s k1 s1 A r1 k2 s2 L (A ++ L) refl r2
+    module _ (r2 : RanAll members L k1 k2) (k3 : Desk X F) where
+      ran_two : RanAll members (A ++ L) a k2
+      ran_two = both_ran members a k1 A r1 k2 L (A ++ L) refl r2
 
-      pub part_three : (stop : Stop) → RanPart members stop Fs k2 s2 k3 s3 → RanPart members stop drill a s k3 s3
-      part_three stop part = both_part members a s k2 s2 (A ++ L) ran_two k3 s3 Fs ((A ++ L) ++ Fs) refl (B ++ O) drill (is ∙ behind_three A L Fs B O) stop part
+      pub part_three : (stop : Stop) → RanPart members stop Fs k2 k3 → RanPart members stop drill a k3
+      part_three stop part = both_part members a k2 (A ++ L) ran_two k3 Fs ((A ++ L) ++ Fs) refl (B ++ O) drill (is ∙ behind_three A L Fs B O) stop part
 
-      module _ (r3 : RanAll members Fs k2 s2 k3 s3) (k4 : DynBox X Global F) (s4 : DeskState) where
-        ran_three : RanAll members ((A ++ L) ++ Fs) a s k3 s3
-        ran_three = both_ran members a s k2 s2 (A ++ L) ran_two k3 s3 Fs ((A ++ L) ++ Fs) refl r3
+      module _ (r3 : RanAll members Fs k2 k3) (k4 : Desk X F) where
+        ran_three : RanAll members ((A ++ L) ++ Fs) a k3
+        ran_three = both_ran members a k2 (A ++ L) ran_two k3 Fs ((A ++ L) ++ Fs) refl r3
 
-        pub part_four : (stop : Stop) → RanPart members stop B k3 s3 k4 s4 → RanPart members stop drill a s k4 s4
-        part_four stop part = both_part members a s k3 s3 ((A ++ L) ++ Fs) ran_three k4 s4 B (((A ++ L) ++ Fs) ++ B) refl O drill is stop part
+        pub part_four : (stop : Stop) → RanPart members stop B k3 k4 → RanPart members stop drill a k4
+        part_four stop part = both_part members a k3 ((A ++ L) ++ Fs) ran_three k4 B (((A ++ L) ++ Fs) ++ B) refl O drill is stop part
 
-        module _ (r4 : RanAll members B k3 s3 k4 s4) (k5 : DynBox X Global F) (s5 : DeskState) (r : Result (Unit {0}) Stop) where
-          ran_four : RanAll members (((A ++ L) ++ Fs) ++ B) a s k4 s4
-          ran_four = both_ran members a s k3 s3 ((A ++ L) ++ Fs) ran_three k4 s4 B (((A ++ L) ++ Fs) ++ B) refl r4
+        module _ (r4 : RanAll members B k3 k4) (k5 : Desk X F) (r : Result (Unit {0}) Stop) where
+          ran_four : RanAll members (((A ++ L) ++ Fs) ++ B) a k4
+          ran_four = both_ran members a k3 ((A ++ L) ++ Fs) ran_three k4 B (((A ++ L) ++ Fs) ++ B) refl r4
 
-          pub all_five : OnOk r (RanAll members O k4 s4 k5 s5) → OnOk r (RanAll members drill a s k5 s5)
-          all_five second = both_all members a s k4 s4 (((A ++ L) ++ Fs) ++ B) ran_four k5 s5 O drill is r second
+          pub all_five : OnOk r (RanAll members O k4 k5) → OnOk r (RanAll members drill a k5)
+          all_five second = both_all members a k4 (((A ++ L) ++ Fs) ++ B) ran_four k5 O drill is r second
 
-          pub part_five : IfErr r (λ stop. RanPart members stop O k4 s4 k5 s5) → IfErr r (λ stop. RanPart members stop drill a s k5 s5)
-          part_five second = both_err members a s k4 s4 (((A ++ L) ++ Fs) ++ B) ran_four k5 s5 O drill is r second
+          pub part_five : IfErr r (λ stop. RanPart members stop O k4 k5) → IfErr r (λ stop. RanPart members stop drill a k5)
+          part_five second = both_err members a k4 (((A ++ L) ++ Fs) ++ B) ran_four k5 O drill is r second

@@ -2,12 +2,13 @@
 ghost use Rattle.std.specs.Prelude.{◌≡◌, ℕ, List, [], ◌∷◌, IfErr, OnOk};
 ghost use Rattle.sorted_rows.specs.Ledgers.{IsBlankOf};
 ghost use Rattle.mud_tables.specs.declared.segment.Segment.{Segment as SegmentValue};
-ghost use Rattle.mud_world.specs.Boxed.{faults_of, Tells};
+ghost use Rattle.mud_world.specs.Boxed.{faults_of};
 ghost use Rattle.mud_world.specs.Causes.{Counts};
 ghost use Rattle.desk_model.specs.Commands.{IsAsked};
 ghost use Rattle.desk_model.specs.Sessions.{MayAnswer, is_of_keeper};
-ghost use Rattle.desk_model.specs.Boxed.{IsKept, IsSameBox};
+ghost use Rattle.desk_model.specs.Boxed.{IsKept};
 ghost use Rattle.mud_desk.specs.DeskState.{session_of, tables_of};
+ghost use Rattle.mud_desk.specs.Stays.{KeepsConnections};
 ghost use Rattle.drill_runs.specs.Commands.{command_moment, commands_of, drill_commands, round_commands};
 ghost use Rattle.drill_runs.specs.Runs.{RanAll, RanPart};
 ghost use Rattle.drill_runs.specs.Stops.{stop_of};
@@ -31,11 +32,8 @@ fn reply_to<L: Ledger>(desk: &mut Desk, command: Command, blank: Blank) -> Reply
     requires kept { IsKept Keeper-dyn desk.old.keeper (tables_of desk.old.state) }
     requires asked { IsAsked command }
     ensures answer { (h : List SegmentValue) → MayAnswer (session_of h desk.old.state) command_moment command result (session_of h desk.new.state) }
-    ensures flows { desk.new.state.flows ≡ desk.old.state.flows }
-    ensures kept { IsKept Keeper-dyn desk.new.keeper (tables_of desk.new.state) }
-    ensures told { Tells Keeper-dyn desk.new.keeper → Tells Keeper-dyn desk.old.keeper }
+    ensures stays { KeepsConnections Keeper-dyn desk.old desk.new }
     ensures cause { Counts (is_of_keeper result) (faults_of Keeper-dyn desk.old.keeper) (faults_of Keeper-dyn desk.new.keeper) }
-    ensures same_box { IsSameBox desk.old.keeper desk.new.keeper }
 {
     let mut steps = Steps::<L>::new(blank);
     desk.command(command, command_moment(), &mut steps)
@@ -56,8 +54,8 @@ fn unless_stopped(reply: Reply) -> Result<(), Stop>
 fn run(desk: &mut Desk, command: Command) -> Result<(), Stop>
     requires kept { IsKept Keeper-dyn desk.old.keeper (tables_of desk.old.state) }
     requires asked { IsAsked command }
-    ensures all { OnOk result (RanAll Keeper-dyn (command ∷ []) desk.old.keeper desk.old.state desk.new.keeper desk.new.state) }
-    ensures part { IfErr result (λ stop. RanPart Keeper-dyn stop (command ∷ []) desk.old.keeper desk.old.state desk.new.keeper desk.new.state) }
+    ensures all { OnOk result (RanAll Keeper-dyn (command ∷ []) desk.old desk.new) }
+    ensures part { IfErr result (λ stop. RanPart Keeper-dyn stop (command ∷ []) desk.old desk.new) }
 {
     unless_stopped(reply_to::<Brand>(desk, command, Blank::new(1)))
 }
@@ -65,8 +63,8 @@ fn run(desk: &mut Desk, command: Command) -> Result<(), Stop>
 /// The usage file of a Thing's model is fetched, and approved.
 fn run_files(alloc: Global, desk: &mut Desk, thing: u16) -> Result<(), Stop>
     requires kept { IsKept Keeper-dyn desk.old.keeper (tables_of desk.old.state) }
-    ensures all { OnOk result (RanAll Keeper-dyn (commands_of Round.Files thing) desk.old.keeper desk.old.state desk.new.keeper desk.new.state) }
-    ensures part { IfErr result (λ stop. RanPart Keeper-dyn stop (commands_of Round.Files thing) desk.old.keeper desk.old.state desk.new.keeper desk.new.state) }
+    ensures all { OnOk result (RanAll Keeper-dyn (commands_of Round.Files thing) desk.old desk.new) }
+    ensures part { IfErr result (λ stop. RanPart Keeper-dyn stop (commands_of Round.Files thing) desk.old desk.new) }
 {
     let file = usage_text(alloc, thing)?;
     let approved = approval(alloc, thing, file.octets())?;
@@ -77,8 +75,8 @@ fn run_files(alloc: Global, desk: &mut Desk, thing: u16) -> Result<(), Stop>
 /// What a round does for one Thing.
 fn run_for(alloc: Global, desk: &mut Desk, round: Round, thing: u16) -> Result<(), Stop>
     requires kept { IsKept Keeper-dyn desk.old.keeper (tables_of desk.old.state) }
-    ensures all { OnOk result (RanAll Keeper-dyn (commands_of round thing) desk.old.keeper desk.old.state desk.new.keeper desk.new.state) }
-    ensures part { IfErr result (λ stop. RanPart Keeper-dyn stop (commands_of round thing) desk.old.keeper desk.old.state desk.new.keeper desk.new.state) }
+    ensures all { OnOk result (RanAll Keeper-dyn (commands_of round thing) desk.old desk.new) }
+    ensures part { IfErr result (λ stop. RanPart Keeper-dyn stop (commands_of round thing) desk.old desk.new) }
 {
     match round {
         Round::Announcements => run(desk, announcement(alloc, thing)?),
@@ -91,8 +89,8 @@ fn run_for(alloc: Global, desk: &mut Desk, round: Round, thing: u16) -> Result<(
 /// A round over the Things from 1 on, so many.
 fn run_round(alloc: Global, desk: &mut Desk, round: Round, count: u16) -> Result<(), Stop>
     requires kept { IsKept Keeper-dyn desk.old.keeper (tables_of desk.old.state) }
-    ensures all { OnOk result (RanAll Keeper-dyn (round_commands round count) desk.old.keeper desk.old.state desk.new.keeper desk.new.state) }
-    ensures part { IfErr result (λ stop. RanPart Keeper-dyn stop (round_commands round count) desk.old.keeper desk.old.state desk.new.keeper desk.new.state) }
+    ensures all { OnOk result (RanAll Keeper-dyn (round_commands round count) desk.old desk.new) }
+    ensures part { IfErr result (λ stop. RanPart Keeper-dyn stop (round_commands round count) desk.old desk.new) }
 {
     for before in 0..count {
         run_for(alloc, desk, round, before + 1)?;
@@ -103,8 +101,8 @@ fn run_round(alloc: Global, desk: &mut Desk, round: Round, count: u16) -> Result
 /// All commands of a drill with so many packets.
 pub(crate) fn run_commands(alloc: Global, desk: &mut Desk, packets: u32) -> Result<(), Stop>
     requires kept { IsKept Keeper-dyn desk.old.keeper (tables_of desk.old.state) }
-    ensures all { OnOk result (RanAll Keeper-dyn (drill_commands packets) desk.old.keeper desk.old.state desk.new.keeper desk.new.state) }
-    ensures part { IfErr result (λ stop. RanPart Keeper-dyn stop (drill_commands packets) desk.old.keeper desk.old.state desk.new.keeper desk.new.state) }
+    ensures all { OnOk result (RanAll Keeper-dyn (drill_commands packets) desk.old desk.new) }
+    ensures part { IfErr result (λ stop. RanPart Keeper-dyn stop (drill_commands packets) desk.old desk.new) }
 {
     let things = thing_count(packets);
     let files = file_count(packets);

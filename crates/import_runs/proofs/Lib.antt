@@ -2,4 +2,3 @@ mod Examples
 pub mod Folders
 pub mod Leads
 pub mod Orders
-pub mod Parts

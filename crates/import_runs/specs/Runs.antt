@@ -1,14 +1,8 @@
--- What an import of a folder leaves: of the desk, of the clock, of the connection, and of the keeper's count of faults.
+-- What an import of a folder leaves: of the session, of the clock, of the connection, and of the keeper's count of faults.
 use Rattle.std.specs.Prelude.{◌≡◌, ℕ, ◌≤◌, ◌⊎◌, List, ◌++◌, length, take}
-use Rattle.std.specs.declared.dyn_box.DynBox.{DynBox}
-use Rattle.std.specs.declared.alloc.Global.{Global}
-use Rattle.mud_world.specs.declared.keeper.Keeper.{Ghosts}
-use Rattle.mud_world.specs.Boxed.{Tells}
 use Rattle.mud_world.specs.Causes.{RoseBy}
 use Rattle.mud_world.specs.Clock.{later_moments}
 use Rattle.mud_world.specs.Door.{DoorState, put_out}
-use Rattle.desk_model.specs.Boxed.{IsKept, IsSameBox}
-use Rattle.mud_desk.specs.DeskState.{DeskState, tables_of}
 use Rattle.import_runs.specs.Entries.{Entry, names_of_entries, lines_of, status_of, keeper_count}
 use Rattle.import_runs.specs.Imports.{Standing, Imports}
 
@@ -43,11 +37,3 @@ pub record ImportsPart (files : List (List ℕ × List ℕ)) (names : List (List
   pub count : ℕ
   pub wrote : after.door ≡ put_out (lines_of said ++ take count (lines_of last)) before.door
   pub paid : RoseBy (keeper_count (said ++ last)) before.faults after.faults
-
--- The desk's lists are kept as before, in the same box, and it has the same connections.
-module _ {X : Type 0} {F : X → Type 0} (members : (v : (x : X) × F x) → Ghosts (F v.0)) where
-  pub record StaysKept (keeper : DynBox X Global F) (state : DeskState) (keeper_after : DynBox X Global F) (state_after : DeskState) : Type 0 where
-    pub kept : IsKept members keeper_after (tables_of state_after)
-    pub told : Tells members keeper_after → Tells members keeper
-    pub same_box : IsSameBox keeper keeper_after
-    pub flows : state_after.flows ≡ state.flows

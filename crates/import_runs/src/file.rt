@@ -7,6 +7,7 @@ ghost use Rattle.mud_world.specs.Clock.{later_moments};
 ghost use Rattle.mud_world.specs.Door.{put_out};
 ghost use Rattle.desk_model.specs.Boxed.{IsKept};
 ghost use Rattle.mud_desk.specs.DeskState.{session_of, tables_of};
+ghost use Rattle.mud_desk.specs.Stays.{KeepsConnections};
 ghost use Rattle.command_runs.specs.Ends.{IsStoppedByDoorOrSpool, IsStoppedWriting};
 ghost use Rattle.command_runs.specs.Due.{WroteFirst};
 ghost use Rattle.command_runs.specs.Status.{IsOneOf, status_number};
@@ -15,7 +16,7 @@ ghost use Rattle.import_runs.specs.Entries.{has_keeper_failed, is_of_memory};
 ghost use Rattle.import_runs.specs.Entries as entries;
 ghost use Rattle.import_runs.specs.Imports.{MayLead};
 ghost use Rattle.import_runs.specs.Scenes.{standing, scene};
-ghost use Rattle.import_runs.specs.Runs.{ImportsPart, ImportsAll, StaysKept};
+ghost use Rattle.import_runs.specs.Runs.{ImportsPart, ImportsAll};
 ghost use Rattle.command_runs.specs.Stops.{has_failed};
 
 use crate::{append_reply, append_skipped, fetched_in};
@@ -51,7 +52,7 @@ fn reply_to<L: Ledger, P: Spool, C: Clock>(
     steps: &mut Steps<L>,
 ) -> Result<Option<Reply>, Stop>
     requires kept { IsKept Keeper-dyn desk.old.keeper (tables_of desk.old.state) }
-    ensures stays { StaysKept Keeper-dyn desk.old.keeper desk.old.state desk.new.keeper desk.new.state }
+    ensures stays { KeepsConnections Keeper-dyn desk.old desk.new }
     ensures leads { P.tells → C.tells → IfOk result (λ reply. (h : List SegmentValue) → MayLead (P.view spool.old).files
         (standing h desk.old.state (C.moments clock.old)) name.now reply (standing h desk.new.state (C.moments clock.new))) }
     ensures keeper { IfOk result (λ reply. Counts (has_keeper_failed reply) (faults_of Keeper-dyn desk.old.keeper) (faults_of Keeper-dyn desk.new.keeper)) }
@@ -128,7 +129,7 @@ pub(crate) fn import_file<L: Ledger, D: Door, P: Spool, C: Clock>(
     steps: &mut Steps<L>,
 ) -> Result<Status, Stop>
     requires kept { IsKept Keeper-dyn desk.old.keeper (tables_of desk.old.state) }
-    ensures stays { StaysKept Keeper-dyn desk.old.keeper desk.old.state desk.new.keeper desk.new.state }
+    ensures stays { KeepsConnections Keeper-dyn desk.old desk.new }
     ensures all { D.tells → P.tells → C.tells → IfOk result (λ status. (h : List SegmentValue) → ImportsAll (P.view spool.old).files (name.now ∷ [])
         (scene h desk.old.state (C.moments clock.old) (D.view door.old).state (faults_of Keeper-dyn desk.old.keeper))
         (scene h desk.new.state (C.moments clock.new) (D.view door.new).state (faults_of Keeper-dyn desk.new.keeper)) (status_number status)) }

@@ -7,11 +7,12 @@ ghost use Rattle.mud_world.specs.Causes.{Counts, Rose};
 ghost use Rattle.mud_world.specs.Files.{names_of};
 ghost use Rattle.desk_model.specs.Boxed.{IsKept};
 ghost use Rattle.mud_desk.specs.DeskState.{tables_of};
+ghost use Rattle.mud_desk.specs.Stays.{KeepsConnections};
 ghost use Rattle.command_runs.specs.Ends.{AreSteady, IsStoppedByDoorOrSpool};
 ghost use Rattle.command_runs.specs.Status.{Is, IsNot, IsOneOf, status_number};
 ghost use Rattle.command_runs.specs.declared.status.Status.TheVariants.{Done, Refused, DoorFailed, NoMemory, KeeperFailed};
 ghost use Rattle.import_runs.specs.Order.{in_order};
-ghost use Rattle.import_runs.specs.Runs.{ImportsPart, ImportsAll, StaysKept};
+ghost use Rattle.import_runs.specs.Runs.{ImportsPart, ImportsAll};
 ghost use Rattle.import_runs.specs.Scenes.{scene};
 ghost use Rattle.command_runs.specs.Stops.{has_failed};
 
@@ -45,7 +46,7 @@ fn import_names<L: Ledger, D: Door, P: Spool, C: Clock>(
     steps: &mut Steps<L>,
 ) -> Result<Status, Stop>
     requires kept { IsKept Keeper-dyn desk.old.keeper (tables_of desk.old.state) }
-    ensures stays { StaysKept Keeper-dyn desk.old.keeper desk.old.state desk.new.keeper desk.new.state }
+    ensures stays { KeepsConnections Keeper-dyn desk.old desk.new }
     ensures all { D.tells → P.tells → C.tells → IfOk result (λ status. (h : List SegmentValue) → ImportsAll (P.view spool.old).files names.now
         (scene h desk.old.state (C.moments clock.old) (D.view door.old).state (faults_of Keeper-dyn desk.old.keeper))
         (scene h desk.new.state (C.moments clock.new) (D.view door.new).state (faults_of Keeper-dyn desk.new.keeper)) (status_number status)) }
@@ -80,7 +81,7 @@ fn import_listed<L: Ledger, D: Door, P: Spool, C: Clock>(
 ) -> Result<Status, Stop>
     requires kept { IsKept Keeper-dyn desk.old.keeper (tables_of desk.old.state) }
     requires blank { IsBlankOf L.name L.parts blank }
-    ensures stays { StaysKept Keeper-dyn desk.old.keeper desk.old.state desk.new.keeper desk.new.state }
+    ensures stays { KeepsConnections Keeper-dyn desk.old desk.new }
     ensures all { D.tells → P.tells → C.tells → IfOk result (λ status. (h : List SegmentValue) → ImportsAll (P.view spool.old).files (in_order (names_of (P.view spool.old).files))
         (scene h desk.old.state (C.moments clock.old) (D.view door.old).state (faults_of Keeper-dyn desk.old.keeper))
         (scene h desk.new.state (C.moments clock.new) (D.view door.new).state (faults_of Keeper-dyn desk.new.keeper)) (status_number status)) }
@@ -139,7 +140,7 @@ pub fn import_files<D: Door, P: Spool, C: Clock>(
     // and 7 only where the keeper did.
     ensures keeper { Is KeeperFailed (status_number result) → Rose (faults_of Keeper-dyn desk.old.keeper) (faults_of Keeper-dyn desk.new.keeper) }
     ensures keeper_steady { IsOneOf (Done ∷ Refused ∷ []) (status_number result) → faults_of Keeper-dyn desk.new.keeper ≡ faults_of Keeper-dyn desk.old.keeper }
-    ensures stays { StaysKept Keeper-dyn desk.old.keeper desk.old.state desk.new.keeper desk.new.state }
+    ensures stays { KeepsConnections Keeper-dyn desk.old desk.new }
     ensures same { P.tells → (P.view spool.new).files ≡ (P.view spool.old).files }
     ensures turns { (D.view door.new).turns ≡ (D.view door.old).turns }
     ensures reads { (D.view door.new).reads ≡ (D.view door.old).reads }

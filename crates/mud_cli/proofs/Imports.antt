@@ -14,11 +14,13 @@ use Rattle.desk_model.specs.Items.{items_of, tables_in}
 use Rattle.desk_model.specs.Sessions.{Session, opened}
 use Rattle.desk_model.specs.Boxed.{IsSameBox}
 use Rattle.mud_desk.specs.DeskState.{DeskState, IsBegun, session_of, tables_of}
+use Rattle.mud_desk.specs.declared.desk.Desk.{Desk}
+use Rattle.mud_desk.specs.Stays.{StaysKept}
 use Rattle.desk_runs.proofs.Refusals.{RunsRefused, is_refused}
 use Rattle.desk_runs.proofs.Stores.{not_seven}
 use Rattle.import_runs.specs.Scenes.{standing, scene}
 use Rattle.import_runs.specs.Order.{in_order}
-use Rattle.import_runs.specs.Runs.{Scene, ImportsPart, ImportsAll, StaysKept}
+use Rattle.import_runs.specs.Runs.{Scene, ImportsPart, ImportsAll}
 use Rattle.mud_cli.specs.Import.Store.{ImportsStore, scene_in}
 use Rattle.mud_world.specs.View.{OutsideView, SpoolView}
 
@@ -56,50 +58,50 @@ desk_of_session : (state : DeskState) → (session_of [] state).desk ≡ tables_
 unfolding session_of
 desk_of_session state = refl
 
-module _ {X : Type 0} {F : X → Type 0} (members : (v : (x : X) × F x) → Ghosts (F v.0)) (keeper after : DynBox X Global F) (tells : Type 0) (old new : OutsideView) (status : ℕ) where
-  pub imported_run : (begun : DynBox X Global F) (state ended : DeskState)
-      → (Tells members keeper → Tells members begun → tables_in (kept_items members keeper) ≡ Ok (tables_of state))
-      → IsSound (tables_of state) → IsBegun (tables_of state) state → faults_of members begun ≡ faults_of members keeper → IsSameBox keeper begun
-      → StaysKept members begun state after ended → IsSound (tables_of ended)
+module _ {X : Type 0} {F : X → Type 0} (members : (v : (x : X) × F x) → Ghosts (F v.0)) (keeper : DynBox X Global F) (tells : Type 0) (old new : OutsideView) (status : ℕ) where
+  pub imported_run : (desk ended : Desk X F)
+      → (Tells members keeper → Tells members desk.keeper → tables_in (kept_items members keeper) ≡ Ok (tables_of desk.state))
+      → IsSound (tables_of desk.state) → IsBegun (tables_of desk.state) desk.state → faults_of members desk.keeper ≡ faults_of members keeper → IsSameBox keeper desk.keeper
+      → StaysKept members desk ended → IsSound (tables_of ended.state)
       → IsOfImport status
       → (status ≡ 4 → IsStoppedByDoorOrSpool old.door new.door old.spool new.spool)
       → (status ≢ 4 → (new.door.writes ≡ old.door.writes) × (new.spool.faults ≡ old.spool.faults))
-      → (status ≡ 7 → Rose (faults_of members begun) (faults_of members after))
-      → ((status ≡ 0) ⊎ (status ≡ 3) → faults_of members after ≡ faults_of members begun)
-      → (tells → (status ≡ 0) ⊎ ((status ≡ 3) ⊎ (status ≡ 7)) → (h : List Segment) → ImportsAll old.spool.files (in_order (names_of old.spool.files)) (scene h state old.moments old.door.state (faults_of members begun)) (scene h ended new.moments new.door.state (faults_of members after)) status)
-      → (tells → (status ≡ 4) ⊎ (status ≡ 5) → (h : List Segment) → ImportsPart old.spool.files (in_order (names_of old.spool.files)) (scene h state old.moments old.door.state (faults_of members begun)) (scene h ended new.moments new.door.state (faults_of members after)))
+      → (status ≡ 7 → Rose (faults_of members desk.keeper) (faults_of members ended.keeper))
+      → ((status ≡ 0) ⊎ (status ≡ 3) → faults_of members ended.keeper ≡ faults_of members desk.keeper)
+      → (tells → (status ≡ 0) ⊎ ((status ≡ 3) ⊎ (status ≡ 7)) → (h : List Segment) → ImportsAll old.spool.files (in_order (names_of old.spool.files)) (scene h desk.state old.moments old.door.state (faults_of members desk.keeper)) (scene h ended.state new.moments new.door.state (faults_of members ended.keeper)) status)
+      → (tells → (status ≡ 4) ⊎ (status ≡ 5) → (h : List Segment) → ImportsPart old.spool.files (in_order (names_of old.spool.files)) (scene h desk.state old.moments old.door.state (faults_of members desk.keeper)) (scene h ended.state new.moments new.door.state (faults_of members ended.keeper)))
       → (tells → new.spool.files ≡ old.spool.files)
       → new.door.turns ≡ old.door.turns → new.door.reads ≡ old.door.reads
-      → (returned : DynBox X Global F) → returned ≡ after → ImportsStore members tells keeper returned old new status
-  imported_run begun state ended read sound begins same_count same_box stays sound_after is fault steady failed unfailed all part files turns reads returned same =
-      let first = scene_begun state old.moments old.door.state (faults_of members begun) (faults_of members keeper) begins same_count in
-      let last = scene_ended ended new.moments new.door.state (faults_of members after) in
+      → (returned : DynBox X Global F) → returned ≡ ended.keeper → ImportsStore members tells keeper returned old new status
+  imported_run desk ended read sound begins same_count same_box stays sound_after is fault steady failed unfailed all part files turns reads returned same =
+      let first = scene_begun desk.state old.moments old.door.state (faults_of members desk.keeper) (faults_of members keeper) begins same_count in
+      let last = scene_ended ended.state new.moments new.door.state (faults_of members ended.keeper) in
       subst (λ (box : DynBox X Global F). ImportsStore members tells keeper box old new status) (sym same) (record {
         honest = record {
           statuses = of_import status is;
           fault = fault;
           steady = steady;
-          keeper_fault = λ seven. subst (λ (n : ℕ). Rose n (faults_of members after)) same_count (failed seven);
+          keeper_fault = λ seven. subst (λ (n : ℕ). Rose n (faults_of members ended.keeper)) same_count (failed seven);
           same_box = record { object = stays.same_box.object ∙ same_box.object; place = stays.same_box.place ∙ same_box.place };
         };
         keeper_steady = λ which. unfailed (read_of_import status is which) ∙ same_count;
         runs = λ told tell. inl (record {
-          tables = tables_of state;
-          session = session_of [] ended;
+          tables = tables_of desk.state;
+          session = session_of [] ended.state;
           sound = sound;
           were_kept = λ before. read before (stays.told tell);
           imports = record {
             statuses = is;
             all = λ which.
-                subst (λ (a : Scene). ImportsAll old.spool.files (in_order (names_of old.spool.files)) a (scene_in (session_of [] ended) new (faults_of members after)) status) first
-                (subst (λ (b : Scene). ImportsAll old.spool.files (in_order (names_of old.spool.files)) (scene [] state old.moments old.door.state (faults_of members begun)) b status) last (all told which []));
+                subst (λ (a : Scene). ImportsAll old.spool.files (in_order (names_of old.spool.files)) a (scene_in (session_of [] ended.state) new (faults_of members ended.keeper)) status) first
+                (subst (λ (b : Scene). ImportsAll old.spool.files (in_order (names_of old.spool.files)) (scene [] desk.state old.moments old.door.state (faults_of members desk.keeper)) b status) last (all told which []));
             part = λ which.
-                subst (λ (a : Scene). ImportsPart old.spool.files (in_order (names_of old.spool.files)) a (scene_in (session_of [] ended) new (faults_of members after))) first
-                (subst (λ (b : Scene). ImportsPart old.spool.files (in_order (names_of old.spool.files)) (scene [] state old.moments old.door.state (faults_of members begun)) b) last (part told which []));
+                subst (λ (a : Scene). ImportsPart old.spool.files (in_order (names_of old.spool.files)) a (scene_in (session_of [] ended.state) new (faults_of members ended.keeper))) first
+                (subst (λ (b : Scene). ImportsPart old.spool.files (in_order (names_of old.spool.files)) (scene [] desk.state old.moments old.door.state (faults_of members desk.keeper)) b) last (part told which []));
           };
-          are_kept = stays.kept.items tell ∙ ap items_of (sym (desk_of_session ended));
+          are_kept = stays.kept.items tell ∙ ap items_of (sym (desk_of_session ended.state));
         });
-        kept = inl (record { tables = tables_of ended; sound = sound_after; kept = stays.kept });
+        kept = inl (record { tables = tables_of ended.state; sound = sound_after; kept = stays.kept });
         same_files = files;
         same_turns = turns;
         same_reads = reads;

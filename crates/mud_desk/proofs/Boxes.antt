@@ -1,5 +1,5 @@
 -- The items of the keeper in the box after a batch.
-use Rattle.std.proofs.Common.{◌≡◌, ◌∙◌, List, ap, sym, subst}
+use Rattle.std.proofs.Common.{◌≡◌, ◌∙◌, List, ap}
 use Rattle.std.specs.declared.dyn_box.DynBox.{DynBox}
 use Rattle.std.specs.declared.alloc.Global.{Global}
 use Rattle.mud_world.specs.declared.keeper.Keeper.{Ghosts}
@@ -18,7 +18,3 @@ module _ {X : Type 0} {F : X → Type 0} (members : (v : (x : X) × F x) → Gho
     is_open = is_open;
     items = λ tells. put tells ∙ ap (λ (xs : List Item). put_all xs batch) (kept.items (told tells)) ∙ reaches;
   }
-
-  -- it keeps what are the same lists
-  pub kept_still : (before now : DeskTables) → now ≡ before → IsKept members keeper before → IsKept members keeper now
-  kept_still before now same kept = subst (λ (desk : DeskTables). IsKept members keeper desk) (sym same) kept

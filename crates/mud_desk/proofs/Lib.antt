@@ -7,5 +7,6 @@ pub mod Payments
 pub mod Rulings
 pub mod Sessions
 pub mod Since
+pub mod Stays
 pub mod Verdicts
 pub mod Views

@@ -1,5 +1,5 @@
 -- What the calls of a desk make of its session.
-use Rattle.std.proofs.Common.{◌≡◌, ◌≢◌, ℕ, ◌≤◌, Bool, true, false, IsTrue, List, [], Option, Ok, Err, refl, sym, ap, ◌∙◌, subst, if◌then◌else◌, arith}
+use Rattle.std.proofs.Common.{◌≡◌, ◌≢◌, ℕ, ◌≤◌, Bool, true, false, IsTrue, List, [], Option, Result, Ok, Err, refl, sym, ap, ◌∙◌, subst, if◌then◌else◌, arith}
 use Rattle.std.specs.Prelude.{max, IsOkAnd, IfOk, IsSome}
 use Rattle.mud_base.specs.declared.memory.Memory as want
 use Rattle.mud_world.specs.declared.item.Put.{Put}
@@ -26,7 +26,7 @@ use Rattle.desk_model.specs.DeskTables.{DeskTables, IsSound}
 use Rattle.desk_model.specs.Commands.{DeskStep, command_step, IsTyped, IsAsked, TellsChange}
 use Rattle.desk_model.specs.Items.{items_of}
 use Rattle.desk_model.specs.Verdicts.{verdict_at}
-use Rattle.desk_model.specs.Sessions.{Session, Answered, answered, command_in, MayAnswer, later, verdict_in, frame_in, judged, is_of_keeper}
+use Rattle.desk_model.specs.Sessions.{Session, Answered, answered, command_in, MayAnswer, MayJudge, later, verdict_in, frame_in, judged, is_of_keeper}
 use Rattle.desk_model.proofs.ToldSteps.{commands_told}
 use Rattle.desk_books.specs.CompiledDesk.{IsCompiledOf}
 use Rattle.mud_desk.specs.Grounds.{grounds, AreGroundsOf}
@@ -34,7 +34,7 @@ use Rattle.mud_desk.proofs.Since.{since_later}
 use Rattle.desk_books.specs.Books.{Books, desk_of}
 use Rattle.desk_books.specs.Changes.{PlannedChange, desk_after}
 use Rattle.desk_books.specs.Planned.{IsPlanned, IsReady, IsBatchOf}
-use Rattle.mud_desk.specs.DeskState.{DeskState, tables_of, session_of, HasForwarded, IsTimely, IsJudged}
+use Rattle.mud_desk.specs.DeskState.{DeskState, tables_of, session_of, HasForwarded, IsTimely, LeadsOnFrom}
 
 -- ---- The moment
 
@@ -190,13 +190,17 @@ pub verdict_here : (h : List Segment) (before : DeskState) (stamp n : ℕ) (fram
 unfolding verdict_in session_of later
 verdict_here h before stamp n frame is = ap (λ k. verdict_at (tables_of before) h k frame) (sym is)
 
+-- a frame was judged in the session
+abbrev pub IsJudged : List Segment → DeskState → ℕ → List ℕ → Result Verdict want.Memory → DeskState → Type 0
+IsJudged history before now frame verdict after = LeadsOnFrom history before after (λ (s t : Session). MayJudge s now frame verdict t)
+
 module _ (h : List Segment) (before after : DeskState) (stamp n : ℕ) (frame : List ℕ) (is : n ≡ max before.moment stamp) where
   pub judged_so : (v : Verdict) → v ≡ verdict_at (tables_of before) h n frame → StandsFor (history_after h (frame_of frame) v n) (flows_of after.flows) → after.books ≡ before.books → after.moment ≡ n
       → IsJudged h before stamp frame (Ok v) after
   unfolding session_of frame_in later judged tables_of
   judged_so v is_v stands books moment = record {
     next = history_after h (frame_of frame) v n;
-    may = record {
+    leads = record {
       verdict_is =
           (λ i. judged (session_of h before) (sym is i) frame ((verdict_here h before stamp n frame is ∙ sym is_v) i))
           ∙ (λ i. record { verdict = v; session = record { desk = desk_of (sym books i); history = history_after h (frame_of frame) v n; moment = sym moment i } });
@@ -209,7 +213,7 @@ module _ (h : List Segment) (before after : DeskState) (stamp n : ℕ) (frame : 
   unfolding tables_of
   judged_not memory noted stands flows books moment = record {
     next = h;
-    may = record {
+    leads = record {
       verdict_is = (subst (λ (v : Verdict). IsSome (noted_fields (frame_of frame) v)) (sym (verdict_here h before stamp n frame is)) noted, same_session h before after (ap desk_of books) moment);
     };
     forwarded = subst (StandsFor h) (sym flows) stands;

@@ -1,15 +1,13 @@
 -- What a desk holds beside its keeper, and the session that it is in.
-use Rattle.std.specs.Prelude.{◌≡◌, ℕ, IsTrue, List, [], Option, Some, None, Result}
-use Rattle.mud_base.specs.declared.memory.Memory as want
+use Rattle.std.specs.Prelude.{◌≡◌, ℕ, IsTrue, List, [], Option, Some, None}
 use Rattle.mud_base.specs.declared.packet.Direction.{Direction}
 use Rattle.acl_rows.specs.View.{View, IsViewOf}
 use Rattle.mud_tables.specs.declared.segment.Segment.{Segment}
 use Rattle.mud_tables.specs.declared.thing.Thing.{Thing}
 use Rattle.flow_table.specs.Kept.{StandsFor, is_since}
 use Rattle.flow_table.specs.Held.{Held, flows_of}
-use Rattle.packet_judge.specs.declared.verdict.Verdict.{Verdict}
 use Rattle.desk_model.specs.DeskTables.{DeskTables}
-use Rattle.desk_model.specs.Sessions.{Session, MayJudge, opened}
+use Rattle.desk_model.specs.Sessions.{Session, opened}
 use Rattle.desk_books.specs.Books.{Books, desk_of}
 
 -- the books and what is compiled of them, the table of connections, and the moment
@@ -39,12 +37,16 @@ pub record IsBegun (desk : DeskTables) (state : DeskState) : Type 0 where
   pub session : session_of [] state ≡ opened desk
   pub forwarded : HasForwarded [] state
 
--- A frame was judged in the session: what is answered and the session after it may be so, and the table of connections stands
--- for the packets that were forwarded by then.
-pub record IsJudged (history : List Segment) (before : DeskState) (now : ℕ) (frame : List ℕ) (verdict : Result Verdict want.Memory) (after : DeskState) : Type 0 where
+-- The session of the desk before, where these packets were forwarded in it, and some session of the desk after are related so, and
+-- the table of connections stands for the packets of the one after.
+pub record LeadsOnFrom (history : List Segment) (before after : DeskState) (related : Session → Session → Type 0) : Type 0 where
   pub next : List Segment
-  pub may : MayJudge (session_of history before) now frame verdict (session_of next after)
+  pub leads : related (session_of history before) (session_of next after)
   pub forwarded : HasForwarded next after
+
+-- so it is, whatever packets the table of connections stood for before
+abbrev pub LeadsOn : DeskState → DeskState → (Session → Session → Type 0) → Type 0
+LeadsOn before after related = (history : List Segment) → HasForwarded history before → LeadsOnFrom history before after related
 
 -- a view is lent exactly where there is a Thing, and it is that of the Thing's URL over what is compiled
 abbrev pub AreRulesOf : DeskState → Direction → Option Thing → Option View → Type 0

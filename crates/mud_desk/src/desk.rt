@@ -9,15 +9,16 @@ ghost use Rattle.packet_judge.specs.Verdicts.{steps_on};
 ghost use Rattle.desk_model.specs.DeskTables.{IsSound};
 ghost use Rattle.desk_model.specs.Commands.{IsAsked, command_step};
 ghost use Rattle.desk_model.specs.Items.{none_kept, tables_in};
-ghost use Rattle.desk_model.specs.Sessions.{MayAnswer, verdict_in, is_of_keeper};
+ghost use Rattle.desk_model.specs.Sessions.{MayAnswer, MayJudge, verdict_in, is_of_keeper};
 ghost use Rattle.desk_model.specs.Verdicts.{policy_at};
 ghost use Rattle.desk_books.specs.CompiledDesk.{IsCompiledOf};
 ghost use Rattle.desk_items.specs.Taken.{kept_of};
 ghost use Rattle.desk_items.specs.Opening.{IsFaultOf};
 ghost use Rattle.mud_desk.specs.Grounds.{rows_read, ruling_steps};
 ghost use Rattle.mud_desk.specs.Findings.{AreFindingsOn};
-ghost use Rattle.mud_desk.specs.DeskState.{tables_of, session_of, HasForwarded, IsBegun, IsJudged, AreRulesOf};
+ghost use Rattle.mud_desk.specs.DeskState.{tables_of, session_of, HasForwarded, LeadsOn, IsBegun, AreRulesOf};
 ghost use Rattle.desk_model.specs.Boxed.{IsKept, IsSameBox};
+ghost use Rattle.mud_desk.specs.Stays.{StaysKept, KeepsConnections};
 ghost use Rattle.mud_desk.specs.Answers.{is_fault_of_keeper, StaysUnlessDone, IsLeft, IsPaidOnce};
 
 use crate::Findings;
@@ -142,13 +143,10 @@ impl Desk {
         requires kept { IsKept Keeper-dyn self.old.keeper (tables_of self.old.state) }
         requires asked { IsAsked command }
         ensures answer { (h : List SegmentValue) → MayAnswer (session_of h self.old.state) now command result (session_of h self.new.state) }
-        ensures flows { self.new.state.flows ≡ self.old.state.flows }
+        ensures stays { KeepsConnections Keeper-dyn self.old self.new }
         // What is compiled of the lists isn't made anew for a refusal, a failure of the keeper or want of memory.
         ensures compiled { StaysUnlessDone result self.old.state.books.compiled self.new.state.books.compiled }
-        ensures kept { IsKept Keeper-dyn self.new.keeper (tables_of self.new.state) }
-        ensures told { Tells Keeper-dyn self.new.keeper → Tells Keeper-dyn self.old.keeper }
         ensures cause { Counts (is_of_keeper result) (faults_of Keeper-dyn self.old.keeper) (faults_of Keeper-dyn self.new.keeper) }
-        ensures same_box { IsSameBox self.old.keeper self.new.keeper }
         ensures steps { IsPaidOnce (command_step (tables_of self.old.state) (max self.old.state.moment now) command) self.old.state.books self.new.state.books steps.old steps.new }
     {
         command_fits(&command);
@@ -176,7 +174,6 @@ impl Desk {
     /// The verdict on a frame, at the later of the session's moment and this one, which is made the
     /// moment of the session. A TCP packet of a Thing that is forwarded counts for the connections
     /// from then on, once. [`Memory`] comes only for such a packet, and leaves all as it was.
-    #[tactic(auto, using(crate::proofs::Boxes::kept_still), unfolding(crate::specs::DeskState::tables_of))]
     pub fn judge<L: Ledger>(
         &mut self,
         frame: &[u8],
@@ -184,8 +181,8 @@ impl Desk {
         steps: &mut Steps<L>,
     ) -> Result<Verdict, Memory>
         requires kept { IsKept Keeper-dyn self.old.keeper (tables_of self.old.state) }
-        ensures kept { IsKept Keeper-dyn self.new.keeper (tables_of self.new.state) }
-        ensures judged { (h : List SegmentValue) → HasForwarded h self.old.state → IsJudged h self.old.state stamp frame.now result self.new.state }
+        ensures stays { StaysKept Keeper-dyn self.old self.new }
+        ensures judged { LeadsOn self.old.state self.new.state (λ session after. MayJudge session stamp frame.now result after) }
         ensures books { self.new.state.books ≡ self.old.state.books }
         ensures keeper { self.new.keeper ≡ self.old.keeper }
         // Each ruling reads at least the rows that the Thing's file has of the peer,
@@ -227,10 +224,9 @@ impl Desk {
 
     /// Makes the later of the session's moment and this one the moment of the session, and answers
     /// it.
-    #[tactic(auto, using(crate::proofs::Boxes::kept_still), unfolding(crate::specs::DeskState::tables_of))]
     pub fn raise(&mut self, now: Moment) -> Moment
         requires kept { IsKept Keeper-dyn self.old.keeper (tables_of self.old.state) }
-        ensures kept { IsKept Keeper-dyn self.new.keeper (tables_of self.new.state) }
+        ensures stays { KeepsConnections Keeper-dyn self.old self.new }
         ensures moment { result ≡ max self.old.state.moment now }
         ensures state { self.new.state ≡ record self.old.state { moment = result } }
         ensures keeper { self.new.keeper ≡ self.old.keeper }

@@ -11,7 +11,7 @@ ghost use Rattle.packet_judge.specs.Verdicts.{steps_on};
 ghost use Rattle.desk_model.specs.DeskTables.{IsSound};
 ghost use Rattle.desk_model.specs.Refusals.{is_want_of_memory};
 ghost use Rattle.desk_model.specs.Commands.{IsAsked, command_step};
-ghost use Rattle.desk_model.specs.Sessions.{verdict_in};
+ghost use Rattle.desk_model.specs.Sessions.{MayJudge, verdict_in};
 ghost use Rattle.desk_model.specs.Verdicts.{policy_at};
 ghost use Rattle.desk_books.specs.CompiledDesk.{IsCompiledOf};
 ghost use Rattle.desk_items.specs.Taken.{taken_desk};
@@ -19,7 +19,7 @@ ghost use Rattle.mud_desk.specs.Grounds.{rows_read, ruling_steps};
 ghost use Rattle.mud_desk.specs.Findings.{AreFindingsOn};
 ghost use Rattle.desk_books.specs.Changes.{desk_after};
 ghost use Rattle.desk_books.specs.Planned.{IsPlanned, IsReady, IsPaid};
-ghost use Rattle.mud_desk.specs.DeskState.{DeskState as Value, tables_of, session_of, HasForwarded, IsBegun, IsJudged, AreRulesOf};
+ghost use Rattle.mud_desk.specs.DeskState.{DeskState as Value, tables_of, session_of, HasForwarded, LeadsOn, IsBegun, AreRulesOf};
 
 use crate::{Findings, judge, why};
 use desk_books::{DeskBooks, DeskChange};
@@ -159,7 +159,7 @@ impl State {
         stamp: Moment,
         steps: &mut Steps<L>,
     ) -> Result<Verdict, Memory>
-        ensures judged { (h : List SegmentValue) → HasForwarded h self.old → IsJudged h self.old stamp frame.now result self.new }
+        ensures judged { LeadsOn self.old self.new (λ session after. MayJudge session stamp frame.now result after) }
         ensures books { self.new.books ≡ self.old.books }
         ensures least { steps.old + steps_on (rows_read self.old.books.compiled) (tables_of self.old).tables.things (frame_of frame.now) ≤ steps.new }
         ensures most { (b : ℕ) → length self.old.books.compiled.rows < 2 ^ b

@@ -3,6 +3,7 @@ ghost use Rattle.std.specs.Prelude.{IfOk};
 ghost use Rattle.mud_world.specs.Boxed.{IsOpen};
 ghost use Rattle.desk_model.specs.Boxed.{IsKept, IsSameBox};
 ghost use Rattle.mud_desk.specs.DeskState.{tables_of};
+ghost use Rattle.mud_desk.specs.Stays.{StaysKept};
 
 use crate::opening::{closed, opened};
 use console::{Answer, answer_request};
@@ -23,8 +24,7 @@ fn append_answer(
     text: &mut Bytes,
 ) -> Result<(), Memory>
     requires { IsKept Keeper-dyn desk.old.keeper (tables_of desk.old.state) }
-    ensures kept { IsKept Keeper-dyn desk.new.keeper (tables_of desk.new.state) }
-    ensures same_box { IsSameBox desk.old.keeper desk.new.keeper }
+    ensures { StaysKept Keeper-dyn desk.old desk.new }
 {
     let status = answer_request(alloc, desk, answer, request, given, false);
     append_decimal(text, u64::from(status.number()))?;
@@ -44,8 +44,7 @@ fn append_answers(
     text: &mut Bytes,
 ) -> Result<(), Memory>
     requires { IsKept Keeper-dyn desk.old.keeper (tables_of desk.old.state) }
-    ensures kept { IsKept Keeper-dyn desk.new.keeper (tables_of desk.new.state) }
-    ensures same_box { IsSameBox desk.old.keeper desk.new.keeper }
+    ensures { StaysKept Keeper-dyn desk.old desk.new }
 {
     'requests: for request in requests {
         append_answer(alloc, desk, answer, request, given, text)?;
@@ -61,8 +60,7 @@ fn answered(
     given: Moment,
 ) -> Result<Bytes, Memory>
     requires { IsKept Keeper-dyn desk.old.keeper (tables_of desk.old.state) }
-    ensures kept { IsKept Keeper-dyn desk.new.keeper (tables_of desk.new.state) }
-    ensures same_box { IsSameBox desk.old.keeper desk.new.keeper }
+    ensures { StaysKept Keeper-dyn desk.old desk.new }
 {
     let mut answer = Answer::new(alloc)?;
     let mut text = Bytes::empty(alloc);

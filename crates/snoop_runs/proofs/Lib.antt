@@ -5,5 +5,4 @@ pub mod LearntRows
 pub mod SameCaptures
 pub mod Snooped
 pub mod Statuses
-pub mod Stays
 pub mod Stored

@@ -13,12 +13,13 @@ use Rattle.desk_model.specs.Items.{items_of, tables_in}
 use Rattle.desk_model.specs.Sessions.{Session, opened}
 use Rattle.desk_model.specs.Boxed.{IsKept, IsSameBox}
 use Rattle.mud_desk.specs.DeskState.{DeskState, IsBegun, session_of, tables_of}
+use Rattle.mud_desk.specs.declared.desk.Desk.{Desk}
+use Rattle.mud_desk.specs.Stays.{StaysKept}
 use Rattle.desk_runs.specs.Judged.{IsIn}
 use Rattle.desk_runs.proofs.JudgedPackets.{in_begun}
 use Rattle.desk_runs.proofs.Refusals.{RunsRefused, is_refused, reads_honestly}
 use Rattle.desk_runs.proofs.Stores.{not_seven}
 use Rattle.snoop_runs.specs.Leads.{LeadsToAll, LeadsToPart, LeadsToTaken}
-use Rattle.snoop_runs.specs.Stays.{StaysKept}
 use Rattle.snoop_runs.specs.Store.{LeavesAll, LeavesPart, LeavesTaken, SnoopsStore}
 
 -- ---- Statuses
@@ -54,47 +55,47 @@ module _ (tables : DeskTables) (items : List Item) (f g h : ℕ) (same : g ≡ f
   leaves_taken : LeadsToTaken (opened tables) old g state new h → LeavesTaken tables items f h old new
   leaves_taken p = rw (sym same) (record { session = p.after; are_kept = kept ∙ ap items_of (sym (desk_in p.after state p.stands)); taken = p.taken })
 
-module _ {X : Type 0} {F : X → Type 0} (members : (v : (x : X) × F x) → Ghosts (F v.0)) (keeper after : DynBox X Global F) (tells : Type 0) (old new : DoorView) (status : ℕ) where
-  pub snooped_run : (begun : DynBox X Global F) (state ended : DeskState)
-      → (Tells members keeper → Tells members begun → tables_in (kept_items members keeper) ≡ Ok (tables_of state))
-      → IsSound (tables_of state) → IsBegun (tables_of state) state → faults_of members begun ≡ faults_of members keeper → IsSameBox keeper begun
-      → StaysKept members begun after ended → IsSound (tables_of ended)
+module _ {X : Type 0} {F : X → Type 0} (members : (v : (x : X) × F x) → Ghosts (F v.0)) (keeper : DynBox X Global F) (tells : Type 0) (old new : DoorView) (status : ℕ) where
+  pub snooped_run : (desk ended : Desk X F)
+      → (Tells members keeper → Tells members desk.keeper → tables_in (kept_items members keeper) ≡ Ok (tables_of desk.state))
+      → IsSound (tables_of desk.state) → IsBegun (tables_of desk.state) desk.state → faults_of members desk.keeper ≡ faults_of members keeper → IsSameBox keeper desk.keeper
+      → StaysKept members desk ended → IsSound (tables_of ended.state)
       → IsOfSnoop status
       → (status ≡ 4 → EndsAtFailure new.failed old.reads new.reads old.writes new.writes)
       → (status ≢ 4 → (new.reads ≡ old.reads) × (new.writes ≡ old.writes))
-      → (status ≡ 7 → Rose (faults_of members begun) (faults_of members after))
-      → ((status ≡ 0) ⊎ (status ≡ 3) → faults_of members after ≡ faults_of members begun)
-      → ((s : Session) → IsIn s state → tells → (status ≡ 0) ⊎ ((status ≡ 3) ⊎ (status ≡ 7)) → LeadsToAll s old.state (faults_of members begun) ended new.state (faults_of members after) status)
-      → ((s : Session) → IsIn s state → tells → (status ≡ 4) ⊎ (status ≡ 5) → LeadsToPart s old.state (faults_of members begun) ended new.state (faults_of members after))
-      → ((s : Session) → IsIn s state → tells → new.reads ≢ old.reads → LeadsToTaken s old.state (faults_of members begun) ended new.state (faults_of members after))
+      → (status ≡ 7 → Rose (faults_of members desk.keeper) (faults_of members ended.keeper))
+      → ((status ≡ 0) ⊎ (status ≡ 3) → faults_of members ended.keeper ≡ faults_of members desk.keeper)
+      → ((s : Session) → IsIn s desk.state → tells → (status ≡ 0) ⊎ ((status ≡ 3) ⊎ (status ≡ 7)) → LeadsToAll s old.state (faults_of members desk.keeper) ended.state new.state (faults_of members ended.keeper) status)
+      → ((s : Session) → IsIn s desk.state → tells → (status ≡ 4) ⊎ (status ≡ 5) → LeadsToPart s old.state (faults_of members desk.keeper) ended.state new.state (faults_of members ended.keeper))
+      → ((s : Session) → IsIn s desk.state → tells → new.reads ≢ old.reads → LeadsToTaken s old.state (faults_of members desk.keeper) ended.state new.state (faults_of members ended.keeper))
       → new.turns ≡ old.turns
-      → (returned : DynBox X Global F) → returned ≡ after → SnoopsStore members tells keeper returned old new status
-  snooped_run begun state ended read sound begins same_count same_box stays sound_after is fault steady failed unfailed all part taken turns returned same =
-      let in_session = in_begun (tables_of state) state begins in
+      → (returned : DynBox X Global F) → returned ≡ ended.keeper → SnoopsStore members tells keeper returned old new status
+  snooped_run desk ended read sound begins same_count same_box stays sound_after is fault steady failed unfailed all part taken turns returned same =
+      let in_session = in_begun (tables_of desk.state) desk.state begins in
       subst (λ (box : DynBox X Global F). SnoopsStore members tells keeper box old new status) (sym same) (record {
         honest = record {
           statuses = of_snoop status is;
           fault = fault;
           steady = steady;
-          keeper_fault = λ seven. subst (λ (n : ℕ). Rose n (faults_of members after)) same_count (failed seven);
+          keeper_fault = λ seven. subst (λ (n : ℕ). Rose n (faults_of members ended.keeper)) same_count (failed seven);
           same_box = record { object = stays.same_box.object ∙ same_box.object; place = stays.same_box.place ∙ same_box.place };
         };
         keeper_steady = λ which. unfailed (not_six status is which) ∙ same_count;
         runs = λ told tell. inl (record {
-          tables = tables_of state;
+          tables = tables_of desk.state;
           sound = sound;
           were_kept = λ before. read before (stays.told tell);
           snoops = record {
             statuses = is;
-            all = λ which. leaves_all (tables_of state) (kept_items members after) (faults_of members keeper) (faults_of members begun) (faults_of members after) same_count ended (stays.kept.items tell) old.state new.state
-                status (all (opened (tables_of state)) in_session told which);
-            part = λ which. leaves_part (tables_of state) (kept_items members after) (faults_of members keeper) (faults_of members begun) (faults_of members after) same_count ended (stays.kept.items tell) old.state new.state
-                (part (opened (tables_of state)) in_session told which);
-            taken = λ other. leaves_taken (tables_of state) (kept_items members after) (faults_of members keeper) (faults_of members begun) (faults_of members after) same_count ended (stays.kept.items tell) old.state new.state
-                (taken (opened (tables_of state)) in_session told other);
+            all = λ which. leaves_all (tables_of desk.state) (kept_items members ended.keeper) (faults_of members keeper) (faults_of members desk.keeper) (faults_of members ended.keeper) same_count ended.state (stays.kept.items tell) old.state new.state
+                status (all (opened (tables_of desk.state)) in_session told which);
+            part = λ which. leaves_part (tables_of desk.state) (kept_items members ended.keeper) (faults_of members keeper) (faults_of members desk.keeper) (faults_of members ended.keeper) same_count ended.state (stays.kept.items tell) old.state new.state
+                (part (opened (tables_of desk.state)) in_session told which);
+            taken = λ other. leaves_taken (tables_of desk.state) (kept_items members ended.keeper) (faults_of members keeper) (faults_of members desk.keeper) (faults_of members ended.keeper) same_count ended.state (stays.kept.items tell) old.state new.state
+                (taken (opened (tables_of desk.state)) in_session told other);
           };
         });
-        kept = inl (record { tables = tables_of ended; sound = sound_after; kept = stays.kept });
+        kept = inl (record { tables = tables_of ended.state; sound = sound_after; kept = stays.kept });
         same_turns = turns;
       })
 

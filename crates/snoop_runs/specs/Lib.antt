@@ -5,5 +5,4 @@ pub mod Learnt
 pub mod Lines
 pub mod Packets
 pub mod Runs
-pub mod Stays
 pub mod Store

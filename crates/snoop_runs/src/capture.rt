@@ -16,8 +16,8 @@ ghost use Rattle.desk_model.specs.Sessions.{Session};
 ghost use Rattle.desk_runs.specs.Judged.{IsIn};
 ghost use Rattle.desk_model.specs.Boxed.{IsKept};
 ghost use Rattle.mud_desk.specs.DeskState.{tables_of};
+ghost use Rattle.mud_desk.specs.Stays.{StaysKept};
 ghost use Rattle.snoop_runs.specs.Leads.{LeadsToAll, LeadsToPart, LeadsToTaken};
-ghost use Rattle.snoop_runs.specs.Stays.{StaysKept};
 
 use crate::observing::either;
 use crate::packet::snoop_packet;
@@ -57,7 +57,7 @@ fn snoop_packets<L: Ledger, D: Door>(
     ensures statuses { IsOneOf (Done ∷ Refused ∷ DoorFailed ∷ NoMemory ∷ KeeperFailed ∷ []) (status_number result) }
     ensures fault { Is DoorFailed (status_number result) → IsStopped (D.view door.old) (D.view door.new) }
     ensures steady { IsNot DoorFailed (status_number result) → IsSteady (D.view door.old) (D.view door.new) }
-    ensures stays { StaysKept Keeper-dyn desk.old.keeper desk.new.keeper desk.new.state }
+    ensures stays { StaysKept Keeper-dyn desk.old desk.new }
     ensures done { (s : Session) (first : DoorState) → IsIn s desk.old.state → D.tells → HasDone [] [] reader.old first (D.view door.old).state lines.old
         → IsOneOf (Done ∷ Refused ∷ KeeperFailed ∷ []) (status_number result)
         → LeadsToAll s first (faults_of Keeper-dyn desk.old.keeper) desk.new.state (D.view door.new).state (faults_of Keeper-dyn desk.new.keeper) (status_number result) }
@@ -102,7 +102,7 @@ fn snoop_counted<L: Ledger, D: Door>(
     ensures statuses { IsOneOf (Done ∷ Refused ∷ DoorFailed ∷ NoMemory ∷ KeeperFailed ∷ []) (status_number result) }
     ensures fault { Is DoorFailed (status_number result) → IsStopped (D.view door.old) (D.view door.new) }
     ensures steady { IsNot DoorFailed (status_number result) → IsSteady (D.view door.old) (D.view door.new) }
-    ensures stays { StaysKept Keeper-dyn desk.old.keeper desk.new.keeper desk.new.state }
+    ensures stays { StaysKept Keeper-dyn desk.old desk.new }
     ensures done { (s : Session) (first : DoorState) → IsIn s desk.old.state → D.tells → HasDone [] [] reader.old first (D.view door.old).state []
         → IsOneOf (Done ∷ Refused ∷ KeeperFailed ∷ []) (status_number result)
         → LeadsToAll s first (faults_of Keeper-dyn desk.old.keeper) desk.new.state (D.view door.new).state (faults_of Keeper-dyn desk.new.keeper) (status_number result) }
@@ -139,7 +139,7 @@ pub(crate) fn snoop_capture<D: Door>(alloc: Global, desk: &mut Desk, door: &mut 
     ensures statuses { IsOneOf (Done ∷ Refused ∷ DoorFailed ∷ NoMemory ∷ KeeperFailed ∷ []) (status_number result) }
     ensures fault { Is DoorFailed (status_number result) → IsStopped (D.view door.old) (D.view door.new) }
     ensures steady { IsNot DoorFailed (status_number result) → IsSteady (D.view door.old) (D.view door.new) }
-    ensures stays { StaysKept Keeper-dyn desk.old.keeper desk.new.keeper desk.new.state }
+    ensures stays { StaysKept Keeper-dyn desk.old desk.new }
     ensures done { (s : Session) → IsIn s desk.old.state → D.tells → IsOneOf (Done ∷ Refused ∷ KeeperFailed ∷ []) (status_number result)
         → LeadsToAll s (D.view door.old).state (faults_of Keeper-dyn desk.old.keeper) desk.new.state (D.view door.new).state (faults_of Keeper-dyn desk.new.keeper) (status_number result) }
     ensures part { (s : Session) → IsIn s desk.old.state → D.tells → IsOneOf (DoorFailed ∷ NoMemory ∷ []) (status_number result)

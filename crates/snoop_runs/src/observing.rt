@@ -9,8 +9,8 @@ ghost use Rattle.dns_snoop.specs.Messages.{answers_of};
 ghost use Rattle.dns_snoop.specs.Observed.{MayBeObserved};
 ghost use Rattle.desk_model.specs.Boxed.{IsKept};
 ghost use Rattle.mud_desk.specs.DeskState.{session_of, tables_of};
+ghost use Rattle.mud_desk.specs.Stays.{KeepsConnections};
 ghost use Rattle.snoop_runs.specs.Learnt.{Learns, LearnsFirst, names_of};
-ghost use Rattle.snoop_runs.specs.Stays.{StaysKept};
 
 use crate::line::{append_dns_fault, append_name};
 use desk_model::{Command, Reply};
@@ -58,8 +58,7 @@ fn observe<L: Ledger>(
 ) -> Result<Reply, Memory>
     requires kept { IsKept Keeper-dyn desk.old.keeper (tables_of desk.old.state) }
     requires asked { MayBeObserved name.now row }
-    ensures stays { StaysKept Keeper-dyn desk.old.keeper desk.new.keeper desk.new.state }
-    ensures flows { desk.new.state.flows ≡ desk.old.state.flows }
+    ensures stays { KeepsConnections Keeper-dyn desk.old desk.new }
     ensures answer { (h : List SegmentValue) → IfOk result (λ reply. MayAnswer (session_of h desk.old.state) now (Command.Observe name.now row.0 row.1) reply (session_of h desk.new.state)) }
     ensures told { IfOk result (λ reply. reply ≢ Reply.Memory) }
     ensures still { OnErr result ((h : List SegmentValue) → session_of h desk.new.state ≡ session_of h desk.old.state) }
@@ -83,8 +82,7 @@ fn learn_row<L: Ledger>(
 ) -> Result<bool, Memory>
     requires kept { IsKept Keeper-dyn desk.old.keeper (tables_of desk.old.state) }
     requires asked { MayBeObserved name.now row }
-    ensures stays { StaysKept Keeper-dyn desk.old.keeper desk.new.keeper desk.new.state }
-    ensures flows { desk.new.state.flows ≡ desk.old.state.flows }
+    ensures stays { KeepsConnections Keeper-dyn desk.old desk.new }
     ensures all { (h : List SegmentValue) → IfOk result (λ failed. Learns now (names_of name.now (row ∷ [])) (session_of h desk.old.state) (session_of h desk.new.state)
         lines.old lines.new (faults_of Keeper-dyn desk.old.keeper) (faults_of Keeper-dyn desk.new.keeper) failed) }
     ensures part { (h : List SegmentValue) → OnErr result (LearnsFirst now (names_of name.now (row ∷ [])) (session_of h desk.old.state) (session_of h desk.new.state)
@@ -108,8 +106,7 @@ fn learn_rows<L: Ledger>(
 ) -> Result<bool, Memory>
     requires kept { IsKept Keeper-dyn desk.old.keeper (tables_of desk.old.state) }
     requires asked { All (MayBeObserved answers.now.name) answers.now.rows }
-    ensures stays { StaysKept Keeper-dyn desk.old.keeper desk.new.keeper desk.new.state }
-    ensures flows { desk.new.state.flows ≡ desk.old.state.flows }
+    ensures stays { KeepsConnections Keeper-dyn desk.old desk.new }
     ensures all { (h : List SegmentValue) → IfOk result (λ failed. Learns now (Some (Ok answers.now)) (session_of h desk.old.state) (session_of h desk.new.state)
         lines.old lines.new (faults_of Keeper-dyn desk.old.keeper) (faults_of Keeper-dyn desk.new.keeper) failed) }
     ensures part { (h : List SegmentValue) → OnErr result (LearnsFirst now (Some (Ok answers.now)) (session_of h desk.old.state) (session_of h desk.new.state)
@@ -135,8 +132,7 @@ pub(crate) fn learn<L: Ledger>(
     steps: &mut Steps<L>,
 ) -> Result<bool, Memory>
     requires kept { IsKept Keeper-dyn desk.old.keeper (tables_of desk.old.state) }
-    ensures stays { StaysKept Keeper-dyn desk.old.keeper desk.new.keeper desk.new.state }
-    ensures flows { desk.new.state.flows ≡ desk.old.state.flows }
+    ensures stays { KeepsConnections Keeper-dyn desk.old desk.new }
     ensures all { (h : List SegmentValue) → IfOk result (λ failed. Learns now (Some (answers_of message.now)) (session_of h desk.old.state) (session_of h desk.new.state)
         lines.old lines.new (faults_of Keeper-dyn desk.old.keeper) (faults_of Keeper-dyn desk.new.keeper) failed) }
     ensures part { (h : List SegmentValue) → OnErr result (LearnsFirst now (Some (answers_of message.now)) (session_of h desk.old.state) (session_of h desk.new.state)

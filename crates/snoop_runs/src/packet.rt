@@ -7,8 +7,8 @@ ghost use Rattle.desk_model.specs.Sessions.{Session};
 ghost use Rattle.desk_runs.specs.Judged.{IsIn, judged_packet};
 ghost use Rattle.desk_model.specs.Boxed.{IsKept};
 ghost use Rattle.mud_desk.specs.DeskState.{tables_of};
+ghost use Rattle.mud_desk.specs.Stays.{StaysKept};
 ghost use Rattle.snoop_runs.specs.Packets.{GoesOn, StopsAt};
-ghost use Rattle.snoop_runs.specs.Stays.{StaysKept};
 
 use crate::learning::heard_in;
 use crate::observing::learn;
@@ -28,7 +28,7 @@ fn judge_packet<L: Ledger>(
     steps: &mut Steps<L>,
 ) -> Result<Verdict, Memory>
     requires kept { IsKept Keeper-dyn desk.old.keeper (tables_of desk.old.state) }
-    ensures kept { IsKept Keeper-dyn desk.new.keeper (tables_of desk.new.state) }
+    ensures stays { StaysKept Keeper-dyn desk.old desk.new }
     ensures keeper { desk.new.keeper ≡ desk.old.keeper }
     ensures verdict { (s : Session) → IsIn s desk.old.state → IfOk result (λ verdict. verdict ≡ (judged_packet s (packet_of packet.now)).verdict) }
     ensures next { (s : Session) → IsIn s desk.old.state → OnOk result (IsIn (judged_packet s (packet_of packet.now)).session desk.new.state) }
@@ -47,7 +47,7 @@ pub(crate) fn snoop_packet<L: Ledger>(
     steps: &mut Steps<L>,
 ) -> Result<bool, Memory>
     requires kept { IsKept Keeper-dyn desk.old.keeper (tables_of desk.old.state) }
-    ensures stays { StaysKept Keeper-dyn desk.old.keeper desk.new.keeper desk.new.state }
+    ensures stays { StaysKept Keeper-dyn desk.old desk.new }
     ensures all { (s : Session) → IsIn s desk.old.state → IfOk result (λ failed. GoesOn (packet_of packet.now) s desk.new.state lines.old lines.new
         (faults_of Keeper-dyn desk.old.keeper) (faults_of Keeper-dyn desk.new.keeper) failed) }
     ensures part { (s : Session) → IsIn s desk.old.state → OnErr result (StopsAt (packet_of packet.now) s desk.new.state

@@ -16,7 +16,7 @@ returns-clause-reply g c = λ h forwarded.
     let after = c.run-answered.new.desk.state in
     let written = reply c.write_reply.result c.write_reply.new.body in
     leads_same h before after (λ s t. MayStand (Changes s c.args.given c.args.command) s (by_command (said_of c.args.origin) (command_in s c.args.given c.args.command)) written t)
-    c.run-answered.ensures.flows forwarded
+    c.run-answered.ensures.stays.flows forwarded
     (stands (session_of h before) (session_of h after) c.args.given c.args.command (said_of c.args.origin) c.run-answered.result written (c.run-answered.ensures.answer h) c.write_reply.ensures.reply)
 
 pub returns-clause-cause : goal.returns-clause-cause

@@ -8,4 +8,4 @@ use Rattle.console.proofs.heard.answer_nothing.Goals as goal
 pub returns-clause-reply : goal.returns-clause-reply
 returns-clause-reply g c = λ h forwarded.
     raises (λ s. reply status.Done nothing_body) h c.args.desk.now.state c.raise.new.desk.state c.args.given (reply status.Done c.write_nothing_heard.new.self)
-    (ap (reply status.Done) c.write_nothing_heard.ensures) (c.raise.ensures.raised h) c.raise.ensures.flows forwarded
+    (ap (reply status.Done) c.write_nothing_heard.ensures) (c.raise.ensures.raised h) c.raise.ensures.stays.flows forwarded

@@ -10,7 +10,7 @@ use Rattle.console.proofs.listings.answer_listing.Goals as goal
 pub returns-in-Ok-clause-reply : goal.returns-in-Ok-clause-reply
 returns-in-Ok-clause-reply g c = λ h forwarded.
     listed c.args.listing h c.args.desk.now.state c.raise.new.desk.state c.args.given c.later-now.result c.keep.new.self
-    (c.later-now.ensures ∙ ap (λ m. max m c.args.given) c.moment.ensures) (c.keep.ensures ∙ c.in-Ok.ensures) (c.raise.ensures.raised h) c.raise.ensures.flows forwarded
+    (c.later-now.ensures ∙ ap (λ m. max m c.args.given) c.moment.ensures) (c.keep.ensures ∙ c.in-Ok.ensures) (c.raise.ensures.raised h) c.raise.ensures.stays.flows forwarded
 
 pub returns-in-Err-clause-reply : goal.returns-in-Err-clause-reply
 returns-in-Err-clause-reply g c = λ h forwarded.

@@ -1,16 +1,13 @@
 use Rattle.std.proofs.Common.{◌≡◌, refl}
 use Rattle.std.specs.Prelude.{Some, None}
-use Rattle.mud_world.specs.Boxed.{faults_of, Tells}
-use Rattle.desk_model.specs.Boxed.{IsSameBox}
+use Rattle.mud_world.specs.Boxed.{faults_of}
 use Rattle.mud_desk.specs.DeskState.{session_of}
+use Rattle.mud_desk.specs.Stays.{StaysKept}
 use Rattle.console.specs.Answers.{fault_answer}
 use Rattle.console.specs.States.{MayTake, begun}
 use Rattle.console.proofs.Takes.{at_first}
 use Rattle.console.proofs.Beside.{beside, left_of, in_turn_of}
 use Rattle.console.proofs.serve.serve_connections.Goals as goal
-
-pub returns-clause-kept : goal.returns-clause-kept
-returns-clause-kept g c = record { is_open = c.serve_connections.ensures.ready.0; items = c.serve_connections.ensures.ready.1 }
 
 pub returns-clause-left : goal.returns-clause-left
 returns-clause-left g c = λ h forwarded.
@@ -28,19 +25,14 @@ returns-clause-served g c = λ tells h forwarded.
     in_turn_of (MayTake g.C.Clock.tells) fault_answer c.args.from _ _ first old _ _ _ _ (λ n k. k.0)
     (c.serve_connections.ensures.served tells (Some first, old) (at_first g.C.Clock.tells old.desk.state moments (faults_of (goal.Keeper-dyn g) old.desk.keeper) h forwarded, (λ t. t), refl, refl, refl))
 
-pub returns-clause-told : goal.returns-clause-told
-returns-clause-told g c =
+pub returns-clause-stays : goal.returns-clause-stays
+returns-clause-stays g c =
     let old = c.args.console.now in
     let new = c.serve_connections.new.service in
+    let ready = c.serve_connections.ensures.ready in
     beside (MayTake g.C.Clock.tells) _ (None, old) (c.serve_connections.ensures.left (None, old) (tt, (λ t. t), refl, refl, refl))
-    (λ x. Tells (goal.Keeper-dyn g) new.desk.keeper → Tells (goal.Keeper-dyn g) x.desk.keeper) (λ n k. k.1)
-
-pub returns-clause-same_box : goal.returns-clause-same_box
-returns-clause-same_box g c =
-    let old = c.args.console.now in
-    let new = c.serve_connections.new.service in
-    beside (MayTake g.C.Clock.tells) _ (None, old) (c.serve_connections.ensures.left (None, old) (tt, (λ t. t), refl, refl, refl))
-    (λ x. IsSameBox x.desk.keeper new.desk.keeper) (λ n k. record { object = k.2; place = k.3 })
+    (λ x. StaysKept (goal.Keeper-dyn g) x.desk new.desk)
+    (λ n k. record { kept = record { is_open = ready.0; items = ready.1 }; told = k.1; same_box = record { object = k.2; place = k.3 } })
 
 pub returns-clause-same_clock : goal.returns-clause-same_clock
 returns-clause-same_clock g c =

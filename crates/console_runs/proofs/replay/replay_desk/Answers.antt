@@ -17,4 +17,4 @@ returns-clause-replays g c = λ tables is.
     (door.view old)
     (door.view new)
     (status_number c.status_of.result)
-    is run.kept c.close.ensures c.status_of.ensures (run.left [] is.forwarded) (λ told. run.served told [] is.forwarded) run.calls
+    is run.stays.kept c.close.ensures c.status_of.ensures (run.left [] is.forwarded) (λ told. run.served told [] is.forwarded) run.calls

@@ -46,5 +46,5 @@ returns-clause-serves g c = λ tables is.
     (door.view mid)
     (door.view new)
     (status_number c.status_of.result)
-    run.kept c.close-2.ensures c.status_of.ensures bound.ok bound.cause bound.reads bound.writes
+    run.stays.kept c.close-2.ensures c.status_of.ensures bound.ok bound.cause bound.reads bound.writes
     (run.left [] is.forwarded) (λ told. run.served told [] is.forwarded) run.calls)

@@ -11,7 +11,7 @@ returns-in-Ok-clause-drilled g c = λ s is_in.
     let new = c.write_lines.new.door in
     let run = c.write_lines.ensures in
     let after = c.run_commands-ran.new.desk in
-    lines_run (goal.Keeper-dyn g) door.tells c.args.packets s c.args.desk.keeper c.args.desk.state after.keeper after.state is_in c.lists_are_sound.ensures
+    lines_run (goal.Keeper-dyn g) door.tells c.args.packets s c.args.desk after is_in c.lists_are_sound.ensures
     (door.view old)
     (door.view new)
     (status_number c.write_lines.result.0)
@@ -22,7 +22,7 @@ returns-in-Err-clause-drilled g c = λ s is_in.
     let door = g.D.Door in
     let old = c.args.door.now in
     let after = c.run_commands-ran.new.desk in
-    stopped_run (goal.Keeper-dyn g) door.tells c.args.packets s c.args.desk.keeper c.args.desk.state after.keeper after.state is_in c.lists_are_sound.ensures
+    stopped_run (goal.Keeper-dyn g) door.tells c.args.packets s c.args.desk after is_in c.lists_are_sound.ensures
     (door.view old)
     (door.view old)
     (status_number c.status.result)

@@ -13,8 +13,8 @@ returns-in_err-run_round-clause-part g c =
     let files = c.file_count-files.result in
     let bound = c.in_ok-bound.bound in
     let is = parts_with packets things files bound c.thing_count-things.ensures.value c.file_count-files.ensures c.in_ok-bound.ensures.made in
-    rw (p.1, p.2) (part_one (goal.Keeper-dyn g) c.args.desk.now.keeper c.args.desk.now.state (round_commands Announcements things) (round_commands Leases things) (round_commands Files files) (bound ∷ []) (round_commands Hosts files) (drill_commands packets) is
-    c.run_round.new.desk.keeper c.run_round.new.desk.state _ c.in_err-run_round.ensures.part)
+    rw (p.1, p.2) (part_one (goal.Keeper-dyn g) c.args.desk.now (round_commands Announcements things) (round_commands Leases things) (round_commands Files files) (bound ∷ []) (round_commands Hosts files) (drill_commands packets) is
+    c.run_round.new.desk _ c.in_err-run_round.ensures.part)
 
 pub returns-in_err-run_round-2-clause-part : goal.returns-in_err-run_round-2-clause-part
 returns-in_err-run_round-2-clause-part g c =
@@ -24,8 +24,8 @@ returns-in_err-run_round-2-clause-part g c =
     let files = c.file_count-files.result in
     let bound = c.in_ok-bound.bound in
     let is = parts_with packets things files bound c.thing_count-things.ensures.value c.file_count-files.ensures c.in_ok-bound.ensures.made in
-    rw (p.1, p.2) (part_two (goal.Keeper-dyn g) c.args.desk.now.keeper c.args.desk.now.state (round_commands Announcements things) (round_commands Leases things) (round_commands Files files) (bound ∷ []) (round_commands Hosts files) (drill_commands packets) is
-    c.run_round.new.desk.keeper c.run_round.new.desk.state c.in_ok-run_round.ensures.all c.run_round-2.new.desk.keeper c.run_round-2.new.desk.state _ c.in_err-run_round-2.ensures.part)
+    rw (p.1, p.2) (part_two (goal.Keeper-dyn g) c.args.desk.now (round_commands Announcements things) (round_commands Leases things) (round_commands Files files) (bound ∷ []) (round_commands Hosts files) (drill_commands packets) is
+    c.run_round.new.desk c.in_ok-run_round.ensures.all c.run_round-2.new.desk _ c.in_err-run_round-2.ensures.part)
 
 pub returns-in_err-run_round-3-clause-part : goal.returns-in_err-run_round-3-clause-part
 returns-in_err-run_round-3-clause-part g c =
@@ -35,8 +35,8 @@ returns-in_err-run_round-3-clause-part g c =
     let files = c.file_count-files.result in
     let bound = c.in_ok-bound.bound in
     let is = parts_with packets things files bound c.thing_count-things.ensures.value c.file_count-files.ensures c.in_ok-bound.ensures.made in
-    rw (p.1, p.2) (part_three (goal.Keeper-dyn g) c.args.desk.now.keeper c.args.desk.now.state (round_commands Announcements things) (round_commands Leases things) (round_commands Files files) (bound ∷ []) (round_commands Hosts files) (drill_commands packets) is
-    c.run_round.new.desk.keeper c.run_round.new.desk.state c.in_ok-run_round.ensures.all c.run_round-2.new.desk.keeper c.run_round-2.new.desk.state c.in_ok-run_round-2.ensures.all c.run_round-3.new.desk.keeper c.run_round-3.new.desk.state _ c.in_err-run_round-3.ensures.part)
+    rw (p.1, p.2) (part_three (goal.Keeper-dyn g) c.args.desk.now (round_commands Announcements things) (round_commands Leases things) (round_commands Files files) (bound ∷ []) (round_commands Hosts files) (drill_commands packets) is
+    c.run_round.new.desk c.in_ok-run_round.ensures.all c.run_round-2.new.desk c.in_ok-run_round-2.ensures.all c.run_round-3.new.desk _ c.in_err-run_round-3.ensures.part)
 
 pub returns-in_err-run-clause-part : goal.returns-in_err-run-clause-part
 returns-in_err-run-clause-part g c =
@@ -46,8 +46,8 @@ returns-in_err-run-clause-part g c =
     let files = c.file_count-files.result in
     let bound = c.in_ok-bound.bound in
     let is = parts_with packets things files bound c.thing_count-things.ensures.value c.file_count-files.ensures c.in_ok-bound.ensures.made in
-    rw (p.1, p.2) (part_four (goal.Keeper-dyn g) c.args.desk.now.keeper c.args.desk.now.state (round_commands Announcements things) (round_commands Leases things) (round_commands Files files) (bound ∷ []) (round_commands Hosts files) (drill_commands packets) is
-    c.run_round.new.desk.keeper c.run_round.new.desk.state c.in_ok-run_round.ensures.all c.run_round-2.new.desk.keeper c.run_round-2.new.desk.state c.in_ok-run_round-2.ensures.all c.run_round-3.new.desk.keeper c.run_round-3.new.desk.state c.in_ok-run_round-3.ensures.all c.run.new.desk.keeper c.run.new.desk.state _ c.in_err-run.ensures.part)
+    rw (p.1, p.2) (part_four (goal.Keeper-dyn g) c.args.desk.now (round_commands Announcements things) (round_commands Leases things) (round_commands Files files) (bound ∷ []) (round_commands Hosts files) (drill_commands packets) is
+    c.run_round.new.desk c.in_ok-run_round.ensures.all c.run_round-2.new.desk c.in_ok-run_round-2.ensures.all c.run_round-3.new.desk c.in_ok-run_round-3.ensures.all c.run.new.desk _ c.in_err-run.ensures.part)
 
 pub returns-clause-all : goal.returns-clause-all
 returns-clause-all g c =
@@ -56,8 +56,8 @@ returns-clause-all g c =
     let files = c.file_count-files.result in
     let bound = c.in_ok-bound.bound in
     let is = parts_with packets things files bound c.thing_count-things.ensures.value c.file_count-files.ensures c.in_ok-bound.ensures.made in
-    all_five (goal.Keeper-dyn g) c.args.desk.now.keeper c.args.desk.now.state (round_commands Announcements things) (round_commands Leases things) (round_commands Files files) (bound ∷ []) (round_commands Hosts files) (drill_commands packets) is
-    c.run_round.new.desk.keeper c.run_round.new.desk.state c.in_ok-run_round.ensures.all c.run_round-2.new.desk.keeper c.run_round-2.new.desk.state c.in_ok-run_round-2.ensures.all c.run_round-3.new.desk.keeper c.run_round-3.new.desk.state c.in_ok-run_round-3.ensures.all c.run.new.desk.keeper c.run.new.desk.state c.in_ok-run.ensures.all c.run_round-4.new.desk.keeper c.run_round-4.new.desk.state c.run_round-4.result c.run_round-4.ensures.all
+    all_five (goal.Keeper-dyn g) c.args.desk.now (round_commands Announcements things) (round_commands Leases things) (round_commands Files files) (bound ∷ []) (round_commands Hosts files) (drill_commands packets) is
+    c.run_round.new.desk c.in_ok-run_round.ensures.all c.run_round-2.new.desk c.in_ok-run_round-2.ensures.all c.run_round-3.new.desk c.in_ok-run_round-3.ensures.all c.run.new.desk c.in_ok-run.ensures.all c.run_round-4.new.desk c.run_round-4.result c.run_round-4.ensures.all
 
 pub returns-clause-part : goal.returns-clause-part
 returns-clause-part g c =
@@ -66,5 +66,5 @@ returns-clause-part g c =
     let files = c.file_count-files.result in
     let bound = c.in_ok-bound.bound in
     let is = parts_with packets things files bound c.thing_count-things.ensures.value c.file_count-files.ensures c.in_ok-bound.ensures.made in
-    part_five (goal.Keeper-dyn g) c.args.desk.now.keeper c.args.desk.now.state (round_commands Announcements things) (round_commands Leases things) (round_commands Files files) (bound ∷ []) (round_commands Hosts files) (drill_commands packets) is
-    c.run_round.new.desk.keeper c.run_round.new.desk.state c.in_ok-run_round.ensures.all c.run_round-2.new.desk.keeper c.run_round-2.new.desk.state c.in_ok-run_round-2.ensures.all c.run_round-3.new.desk.keeper c.run_round-3.new.desk.state c.in_ok-run_round-3.ensures.all c.run.new.desk.keeper c.run.new.desk.state c.in_ok-run.ensures.all c.run_round-4.new.desk.keeper c.run_round-4.new.desk.state c.run_round-4.result c.run_round-4.ensures.part
+    part_five (goal.Keeper-dyn g) c.args.desk.now (round_commands Announcements things) (round_commands Leases things) (round_commands Files files) (bound ∷ []) (round_commands Hosts files) (drill_commands packets) is
+    c.run_round.new.desk c.in_ok-run_round.ensures.all c.run_round-2.new.desk c.in_ok-run_round-2.ensures.all c.run_round-3.new.desk c.in_ok-run_round-3.ensures.all c.run.new.desk c.in_ok-run.ensures.all c.run_round-4.new.desk c.run_round-4.result c.run_round-4.ensures.part

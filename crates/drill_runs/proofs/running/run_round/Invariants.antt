@@ -3,4 +3,4 @@ use Rattle.drill_runs.specs.Runs.{RanAll}
 use Rattle.drill_runs.proofs.running.run_round.Given as goal
 
 abbrev pub invariant-loop-before : goal.invariant-loop-before
-invariant-loop-before g l = RanAll (goal.Keeper-dyn g) (round_commands l.round l.before) l.initial.desk.keeper l.initial.desk.state l.desk.keeper l.desk.state
+invariant-loop-before g l = RanAll (goal.Keeper-dyn g) (round_commands l.round l.before) l.initial.desk l.desk

@@ -1,7 +1,7 @@
 use Rattle.std.proofs.Common.{rules, refl, ◌∙◌}
 use Rattle.command_runs.specs.Status.{status_number}
+use Rattle.mud_desk.proofs.Stays.{keeps_further}
 use Rattle.import_runs.proofs.Folders.{all_at, part_at, counts_seven, at_most_seven, worse_of}
-use Rattle.import_runs.proofs.Parts.{stays_further}
 use Rattle.import_runs.proofs.folder.import_names.Goals as goal
 use Rattle.sorted_rows.proofs.Results.{always_on_err}
 
@@ -17,8 +17,7 @@ loop-name-preserved g c =
     let after = status_number c.worse-status.result in
     let steady = c.in_ok-one.ensures.steady refl in
     record {
-      stays = stays_further (goal.Keeper-dyn g) c.args.desk.now.keeper c.args.desk.now.state c.loop-name.desk.keeper c.loop-name.desk.state
-          c.import_file.new.desk.keeper c.import_file.new.desk.state c.loop-name.invariant.stays c.in_ok-one.ensures.stays;
+      stays = keeps_further (goal.Keeper-dyn g) c.loop-name.invariant.stays c.in_ok-one.ensures.stays;
       all = λ d p k h.
           all_at (g.P.Spool.view c.args.spool.now).files (g.P.Spool.view c.loop-name.spool).files c.args.names.now c.loop-name.name-index c.name-item.result c.octets.result.now (c.loop-name.invariant.same p) c.loop-name-test.true c.name-item.is c.octets.ensures
           _ _ _ before one after (c.loop-name.invariant.all d p k h) (c.in_ok-one.ensures.all d p k h) c.worse-status.ensures;
@@ -31,3 +30,6 @@ loop-name-preserved g c =
       turns = search rules;
       reads = search rules;
     }
+
+pub returns-in_err-one-clause-stays : goal.returns-in_err-one-clause-stays
+returns-in_err-one-clause-stays g c = keeps_further (goal.Keeper-dyn g) c.loop-name.invariant.stays c.in_err-one.ensures.stays

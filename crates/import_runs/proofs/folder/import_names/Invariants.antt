@@ -3,7 +3,8 @@ use Rattle.mud_tables.specs.declared.segment.Segment.{Segment}
 use Rattle.mud_world.specs.Boxed.{faults_of}
 use Rattle.mud_world.specs.Causes.{Counts}
 use Rattle.command_runs.specs.Status.{status_number}
-use Rattle.import_runs.specs.Runs.{ImportsAll, StaysKept}
+use Rattle.mud_desk.specs.Stays.{KeepsConnections}
+use Rattle.import_runs.specs.Runs.{ImportsAll}
 use Rattle.import_runs.specs.Scenes.{scene}
 use Rattle.import_runs.proofs.folder.import_names.Given as goal
 
@@ -15,7 +16,7 @@ invariant-loop-name g l =
     let members = goal.Keeper-dyn g in
     let status = status_number l.status in
     record {
-      stays : StaysKept members l.initial.desk.keeper l.initial.desk.state l.desk.keeper l.desk.state;
+      stays : KeepsConnections members l.initial.desk l.desk;
       all : door.tells → spool.tells → clock.tells → (h : List Segment) → ImportsAll (spool.view l.initial.spool).files (take l.name-index l.names)
           (scene h l.initial.desk.state (clock.moments l.initial.clock) (door.view l.initial.door).state (faults_of members l.initial.desk.keeper))
           (scene h l.desk.state (clock.moments l.clock) (door.view l.door).state (faults_of members l.desk.keeper)) status;

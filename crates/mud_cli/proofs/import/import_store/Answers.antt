@@ -17,14 +17,14 @@ returns-in-Ok g c =
     let after = c.import_files-status.new.desk in
     let store = c.in-Ok.ensures in
     let run = c.import_files-status.ensures in
-    imported_run (goal.Keeper-dyn g) c.args.keeper after.keeper (door.tells × (spool.tells × clock.tells))
+    imported_run (goal.Keeper-dyn g) c.args.keeper (door.tells × (spool.tells × clock.tells))
     (outside (door.view old)
     (spool_viewed (spool.view c.args.spool.now).files (spool.view c.args.spool.now).faults (spool.view c.args.spool.now).failed) (clock.moments c.args.clock.now))
     (outside (door.view new)
     (spool_viewed (spool.view c.import_files-status.new.spool).files (spool.view c.import_files-status.new.spool).faults (spool.view c.import_files-status.new.spool).failed) (clock.moments c.import_files-status.new.clock))
     (status_number c.import_files-status.result)
-    desk.keeper desk.state after.state store.tables store.sound store.begun store.steady store.same_box
-    run.stays c.lists_are_sound.ensures run.statuses run.fault run.steady run.keeper run.keeper_steady
+    desk after store.tables store.sound store.begun store.steady store.same_box
+    run.stays.stays c.lists_are_sound.ensures run.statuses run.fault run.steady run.keeper run.keeper_steady
     (λ told. run.done told.0 told.1.0 told.1.1) (λ told. run.part told.0 told.1.0 told.1.1) (λ told. run.same told.1.0) run.turns run.reads
     c.close.result c.close.ensures
 

@@ -2,11 +2,11 @@ use Rattle.std.proofs.Common.{rules, ◌≡◌, ◌∙◌, ap, Some, None, List}
 use Rattle.mud_world.specs.Boxed.{faults_of}
 use Rattle.pcap_read.specs.Captured.{packet_of}
 use Rattle.command_runs.specs.Status.{status_number}
+use Rattle.mud_desk.proofs.Stays.{stays_further}
 use Rattle.snoop_runs.specs.Entries.{packets_of, lines_of}
 use Rattle.snoop_runs.proofs.LearntRows.{counts_either}
 use Rattle.snoop_runs.proofs.Snooped.{snooped_none, snooped_more, all_at_end, part_at_end, part_at_failure, part_at_packet, taken_at_failure}
 use Rattle.snoop_runs.proofs.Statuses.{was_read, was_cut}
-use Rattle.snoop_runs.proofs.Stays.{stays_further}
 use Rattle.snoop_runs.proofs.capture.snoop_packets.Goals as goal
 
 pub returns-in-Ended-clause-done : goal.returns-in-Ended-clause-done
@@ -96,7 +96,7 @@ packets-preserved g c =
     let door = g.D.Door in
     let members = goal.Keeper-dyn g in
     record {
-      stays = stays_further members c.args.desk.now.keeper c.packets.desk.keeper c.packets.desk.state c.snoop_packet.new.desk.keeper c.snoop_packet.new.desk.state c.packets.invariant.stays c.in-Ok.ensures.stays;
+      stays = stays_further members c.packets.invariant.stays c.in-Ok.ensures.stays;
       snooped = λ s first in_session tells start.
           let now = c.packets.invariant.snooped s first in_session tells start in
           snooped_more s first (faults_of members c.args.desk.now.keeper) c.packets.desk.state (door.view c.packets.door).state (faults_of members c.packets.desk.keeper) c.packets.reader c.packets.lines c.packets.failed now
@@ -110,3 +110,6 @@ packets-preserved g c =
       turns = search rules;
       reads = search rules;
     }
+
+pub returns-in-Err-clause-stays : goal.returns-in-Err-clause-stays
+returns-in-Err-clause-stays g c = stays_further (goal.Keeper-dyn g) c.packets.invariant.stays c.in-Err.ensures.stays

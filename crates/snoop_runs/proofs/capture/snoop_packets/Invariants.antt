@@ -6,7 +6,7 @@ use Rattle.capture_runs.specs.Reading.{is_broken, most_to_come}
 use Rattle.capture_runs.specs.Runs.{HasDone}
 use Rattle.desk_model.specs.Sessions.{Session}
 use Rattle.desk_runs.specs.Judged.{IsIn}
-use Rattle.snoop_runs.specs.Stays.{StaysKept}
+use Rattle.mud_desk.specs.Stays.{StaysKept}
 use Rattle.snoop_runs.proofs.Snooped.{HasSnooped}
 use Rattle.snoop_runs.proofs.capture.snoop_packets.Given as goal
 
@@ -15,7 +15,7 @@ invariant-packets g l =
     let door = g.D.Door in
     let members = goal.Keeper-dyn g in
     record {
-      stays : StaysKept members l.initial.desk.keeper l.desk.keeper l.desk.state;
+      stays : StaysKept members l.initial.desk l.desk;
       snooped : (s : Session) → (first : DoorState) → IsIn s l.initial.desk.state → door.tells
           → HasDone [] [] l.initial.reader first (door.view l.initial.door).state l.initial.lines
           → HasSnooped s first (faults_of members l.initial.desk.keeper) l.desk.state (door.view l.door).state (faults_of members l.desk.keeper) l.reader l.lines l.failed;

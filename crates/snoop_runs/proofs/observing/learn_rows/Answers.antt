@@ -1,11 +1,11 @@
-use Rattle.std.proofs.Common.{◌≡◌, ◌<◌, ◌∙◌, ap, arith, length, get_or, List, ℕ, sym, subst}
+use Rattle.std.proofs.Common.{◌≡◌, ◌<◌, ap, arith, length, get_or, List, ℕ, sym, subst}
 use Rattle.mud_base.specs.declared.addr.Addr.{Addr}
 use Rattle.mud_base.specs.declared.addr.Addr.TheVariants.{V4}
 use Rattle.mud_world.specs.Boxed.{faults_of}
 use Rattle.mud_desk.specs.DeskState.{session_of}
+use Rattle.mud_desk.proofs.Stays.{keeps_further}
 use Rattle.dns_snoop.specs.Observed.{MayBeObserved}
 use Rattle.snoop_runs.proofs.LearntRows.{learns_at, first_at, counts_either}
-use Rattle.snoop_runs.proofs.Stays.{stays_further}
 use Rattle.snoop_runs.proofs.observing.learn_rows.Goals as goal
 use Rattle.sorted_rows.proofs.Results.{always_on_err}
 
@@ -29,9 +29,7 @@ pub loop-row-preserved : goal.loop-row-preserved
 loop-row-preserved g c =
     let within : c.loop-row.row-index < length c.args.answers.now.rows = omega (arith, c.loop-row-test.true, ap length c.as_slice-row-items.ensures) in
     record {
-      stays = stays_further (goal.Keeper-dyn g) c.args.desk.now.keeper c.loop-row.desk.keeper c.loop-row.desk.state c.learn_row.new.desk.keeper c.learn_row.new.desk.state
-          c.loop-row.invariant.stays c.in_ok-one.ensures.stays;
-      flows = c.in_ok-one.ensures.flows ∙ c.loop-row.invariant.flows;
+      stays = keeps_further (goal.Keeper-dyn g) c.loop-row.invariant.stays c.in_ok-one.ensures.stays;
       all = λ h.
           learns_at c.args.now c.args.answers.now.name c.octets.result.now c.args.answers.now.rows c.loop-row.row-index
           (get_or c.as_slice-row-items.result.now c.loop-row.row-index (V4 0, 0)) (V4 0, 0) within
@@ -43,3 +41,6 @@ loop-row-preserved g c =
           (faults_of (goal.Keeper-dyn g) c.args.desk.now.keeper) (faults_of (goal.Keeper-dyn g) c.loop-row.desk.keeper) (faults_of (goal.Keeper-dyn g) c.learn_row.new.desk.keeper)
           c.loop-row.invariant.keeper c.in_ok-one.ensures.keeper;
     }
+
+pub returns-in_err-one-clause-stays : goal.returns-in_err-one-clause-stays
+returns-in_err-one-clause-stays g c = keeps_further (goal.Keeper-dyn g) c.loop-row.invariant.stays c.in_err-one.ensures.stays

@@ -1,18 +1,17 @@
-use Rattle.std.proofs.Common.{◌≡◌, List, take}
+use Rattle.std.proofs.Common.{List, take}
 use Rattle.mud_tables.specs.declared.segment.Segment.{Segment}
 use Rattle.mud_world.specs.Boxed.{faults_of}
 use Rattle.mud_world.specs.Causes.{Counts}
 use Rattle.mud_desk.specs.DeskState.{session_of}
+use Rattle.mud_desk.specs.Stays.{KeepsConnections}
 use Rattle.snoop_runs.specs.Learnt.{Learns, names_of}
-use Rattle.snoop_runs.specs.Stays.{StaysKept}
 use Rattle.snoop_runs.proofs.observing.learn_rows.Given as goal
 
 abbrev pub invariant-loop-row : goal.invariant-loop-row
 invariant-loop-row g l =
     let members = goal.Keeper-dyn g in
     record {
-      stays : StaysKept members l.initial.desk.keeper l.desk.keeper l.desk.state;
-      flows : l.desk.state.flows ≡ l.initial.desk.state.flows;
+      stays : KeepsConnections members l.initial.desk l.desk;
       all : (h : List Segment) → Learns l.now (names_of l.answers.name (take l.row-index l.answers.rows)) (session_of h l.initial.desk.state) (session_of h l.desk.state)
           l.initial.lines l.lines (faults_of members l.initial.desk.keeper) (faults_of members l.desk.keeper) l.failed;
       keeper : Counts l.failed (faults_of members l.initial.desk.keeper) (faults_of members l.desk.keeper);

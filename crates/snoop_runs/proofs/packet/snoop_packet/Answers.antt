@@ -4,6 +4,7 @@ use Rattle.mud_tables.specs.declared.bind.ClassRow.{ClassRow}
 use Rattle.mud_world.specs.Boxed.{faults_of}
 use Rattle.pcap_read.specs.Captured.{packet_of}
 use Rattle.mud_desk.specs.DeskState.{session_of, tables_of}
+use Rattle.mud_desk.proofs.Stays.{stays_further}
 use Rattle.dns_snoop.specs.Messages.{answers_of}
 use Rattle.mud_tables.specs.declared.segment.Segment.{Segment}
 use Rattle.snoop_runs.specs.Learning.{heard_in}
@@ -37,6 +38,9 @@ returns-in_default-clause-all g c = λ s in_session.
     middle.moment c.args.lines.now lines lines f k false refl c.in_ok-append_judged.ensures
     (λ h. learns_none middle.moment None (session_of h middle) lines lines f k (ap (faults_of (goal.Keeper-dyn g)) c.in_ok-verdict.ensures.keeper) refl (sym (append-nil lines)))
 
+pub returns-clause-stays : goal.returns-clause-stays
+returns-clause-stays g c = stays_further (goal.Keeper-dyn g) c.in_ok-verdict.ensures.stays c.learn.ensures.stays.stays
+
 pub returns-clause-all : goal.returns-clause-all
 returns-clause-all g c = λ s in_session.
     let packet = packet_of c.args.packet.now in
@@ -49,7 +53,7 @@ returns-clause-all g c = λ s in_session.
     if_ok_all c.learn.result
     (λ (failed : Bool) learns.
     goes_on s packet verdict middle after (c.in_ok-verdict.ensures.verdict s in_session) (c.in_ok-verdict.ensures.next s in_session) heard
-    (ap (option_map answers_of) (c.in-Some.ensures ∙ ap (λ (classes : List ClassRow). heard_in classes packet.octets verdict) c.classes.ensures)) c.learn.ensures.flows
+    (ap (option_map answers_of) (c.in-Some.ensures ∙ ap (λ (classes : List ClassRow). heard_in classes packet.octets verdict) c.classes.ensures)) c.learn.ensures.stays.flows
     c.moment-now.result c.args.lines.now c.append_judged.new.lines c.learn.new.lines f k failed c.moment-now.ensures c.in_ok-append_judged.ensures
     (λ h. subst (λ (n : ℕ). Learns c.moment-now.result heard (session_of h middle) (session_of h after) c.append_judged.new.lines c.learn.new.lines n k failed)
     (ap (faults_of (goal.Keeper-dyn g)) c.in_ok-verdict.ensures.keeper) (learns h)))
@@ -67,7 +71,7 @@ returns-clause-part g c = λ s in_session.
     on_err_all c.learn.result
     (λ learns.
     stops_at s packet verdict middle after (c.in_ok-verdict.ensures.verdict s in_session) (c.in_ok-verdict.ensures.next s in_session) heard
-    (ap (option_map answers_of) (c.in-Some.ensures ∙ ap (λ (classes : List ClassRow). heard_in classes packet.octets verdict) c.classes.ensures)) c.learn.ensures.flows
+    (ap (option_map answers_of) (c.in-Some.ensures ∙ ap (λ (classes : List ClassRow). heard_in classes packet.octets verdict) c.classes.ensures)) c.learn.ensures.stays.flows
     c.moment-now.result f k c.moment-now.ensures
     (λ h. subst (λ (n : ℕ). LearnsFirst c.moment-now.result heard (session_of h middle) (session_of h after) n k)
     (ap (faults_of (goal.Keeper-dyn g)) c.in_ok-verdict.ensures.keeper) (learns h)))

@@ -14,11 +14,11 @@ returns-in-Ok g c =
     let after = c.snoop_capture-status.new.desk in
     let store = c.in-Ok.ensures in
     let run = c.snoop_capture-status.ensures in
-    snooped_run (goal.Keeper-dyn g) c.args.keeper after.keeper door.tells
+    snooped_run (goal.Keeper-dyn g) c.args.keeper door.tells
     (door.view old)
     (door.view new)
     (status_number c.snoop_capture-status.result)
-    desk.keeper desk.state after.state store.tables store.sound store.begun store.steady store.same_box
+    desk after store.tables store.sound store.begun store.steady store.same_box
     run.stays c.lists_are_sound.ensures run.statuses run.fault run.steady run.keeper run.keeper_steady
     run.done run.part run.taken run.turns
     c.close.result c.close.ensures

@@ -5,7 +5,7 @@ use Rattle.console.proofs.console.ConsoleService.carry_out.Goals as goal
 
 pub returns-clause-answer : goal.returns-clause-answer
 returns-clause-answer g c = λ from whole are s kept.
-    let box = c.answer_request.ensures.same_box in
+    let stays = c.answer_request.ensures.stays in
     let k = carried g.C.Clock.tells c.args.self.now.desk.state c.answer_request.new.desk.state (g.C.Clock.moments c.args.self.now.clock.now) (g.C.Clock.moments c.moment_for-given.new.clock)
     (faults_of (goal.Keeper-dyn g) s.1.desk.keeper) (faults_of (goal.Keeper-dyn g) c.args.self.now.desk.keeper) (faults_of (goal.Keeper-dyn g) c.answer_request.new.desk.keeper)
     c.answer_request.result c.moment_for-given.result c.answer_request.new.answer from whole c.args.is_last c.args.request.now.moment c.moment_for-given.ensures are.moment
@@ -14,5 +14,5 @@ returns-clause-answer g c = λ from whole are s kept.
     record {
       next = (k.next, s.1);
       is_allowed = record { may_if = k.may; same = refl };
-      kept = (k.at, (λ t. kept.1 (c.answer_request.ensures.told t)), box.object ∙ kept.2, box.place ∙ kept.3, kept.4);
+      kept = (k.at, (λ t. kept.1 (stays.told t)), stays.same_box.object ∙ kept.2, stays.same_box.place ∙ kept.3, kept.4);
     }

@@ -1,4 +1,4 @@
-use Rattle.std.proofs.Common.{◌≡◌, ◌≢◌, [], List, sym, subst, ap, ◌∙◌}
+use Rattle.std.proofs.Common.{◌≡◌, ◌≢◌, [], List, refl, sym, subst, ap, ◌∙◌}
 use Rattle.std.specs.Prelude.{max}
 use Rattle.mud_world.specs.declared.item.Put.{Put}
 use Rattle.mud_world.specs.Causes.{Counts}
@@ -12,6 +12,7 @@ use Rattle.desk_model.specs.Sessions.{MayAnswer, is_of_keeper}
 use Rattle.mud_desk.specs.DeskState.{tables_of, session_of}
 use Rattle.mud_desk.proofs.Sessions.{reaches, done, refused, failed, wanted, never_of_keeper}
 use Rattle.mud_desk.proofs.Boxes.{kept_after}
+use Rattle.mud_desk.proofs.Stays.{stays_untold, stays_unput}
 use Rattle.mud_desk.proofs.Payments.{paid, planned_only, undone}
 use Rattle.mud_desk.proofs.desk.Desk.command.Goals as goal
 
@@ -62,15 +63,44 @@ returns-clause-answer g c = λ h.
     subst (λ (outcome : Outcome). MayAnswer (session_of h before) c.args.now c.args.command (Done outcome) (session_of h c.commit.new.self)) (sym c.outcome-outcome.ensures)
     (done before c.plan.new.self c.args.command c.later-now.result c.in-Ok.ensures.same h c.args.now is c.commit.new.self c.in-Ok.change c.in-Ok.ensures.ok c.commit.ensures.desk c.commit.ensures.moment)
 
-pub returns-clause-kept : goal.returns-clause-kept
-returns-clause-kept g c =
+pub returns-in-Err-clause-stays : goal.returns-in-Err-clause-stays
+returns-in-Err-clause-stays g c = record {
+  stays = stays_untold (goal.Keeper-dyn g) refl c.in-Err.ensures.same c.requires.kept;
+  flows = c.in-Err.ensures.flows;
+}
+
+pub returns-in-Err-Failed-clause-stays : goal.returns-in-Err-Failed-clause-stays
+returns-in-Err-Failed-clause-stays g c =
+    let kept = c.in-Err-Failed.ensures in
+    record {
+      stays = stays_unput (goal.Keeper-dyn g) kept.opened kept.told kept.err (record { object = kept.object; place = kept.place }) c.in-Ok.ensures.same c.requires.kept;
+      flows = c.in-Ok.ensures.flows;
+    }
+
+pub returns-in-Err-Memory-clause-stays : goal.returns-in-Err-Memory-clause-stays
+returns-in-Err-Memory-clause-stays g c =
+    let kept = c.in-Err-Memory.ensures in
+    record {
+      stays = stays_unput (goal.Keeper-dyn g) kept.opened kept.told kept.err (record { object = kept.object; place = kept.place }) c.in-Ok.ensures.same c.requires.kept;
+      flows = c.in-Ok.ensures.flows;
+    }
+
+pub returns-clause-stays : goal.returns-clause-stays
+returns-clause-stays g c =
     let before = c.args.self.now.state in
+    let kept = c.in-Ok-keep_batch.ensures in
     let put : put_all (items_of (tables_of before)) c.in-Ok.change.batch ≡ items_of (tables_of c.commit.new.self) =
     reaches before c.plan.new.self c.args.command c.later-now.result c.in-Ok.ensures.same c.in-Ok.change c.in-Ok.ensures.ok c.in-Ok.ensures.sound c.command_fits.ensures c.requires.asked ∙ ap items_of (sym c.commit.ensures.desk) in
-    kept_after (goal.Keeper-dyn g) c.args.self.now.keeper c.keep_batch.new.keeper (tables_of before) (tables_of c.commit.new.self) c.in-Ok.change.batch c.requires.kept
-    c.in-Ok-keep_batch.ensures.opened c.in-Ok-keep_batch.ensures.told
-    (λ tells. c.in-Ok-keep_batch.ensures.ok tells ∙ ap (put_all (kept_items (goal.Keeper-dyn g) c.args.self.now.keeper)) c.batch.ensures)
-    put
+    record {
+      stays = record {
+        kept = kept_after (goal.Keeper-dyn g) c.args.self.now.keeper c.keep_batch.new.keeper (tables_of before) (tables_of c.commit.new.self) c.in-Ok.change.batch c.requires.kept kept.opened kept.told
+            (λ tells. kept.ok tells ∙ ap (put_all (kept_items (goal.Keeper-dyn g) c.args.self.now.keeper)) c.batch.ensures)
+            put;
+        told = kept.told;
+        same_box = record { object = kept.object; place = kept.place };
+      };
+      flows = c.commit.ensures.flows ∙ c.in-Ok.ensures.flows;
+    }
 
 pub returns-clause-steps : goal.returns-clause-steps
 returns-clause-steps g c =

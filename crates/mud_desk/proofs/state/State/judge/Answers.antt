@@ -9,8 +9,8 @@ use Rattle.packet_judge.specs.Verdicts.{steps_on}
 use Rattle.flow_table.specs.Held.{flows_of}
 use Rattle.frame_view.specs.Frame.{frame_of}
 use Rattle.mud_desk.specs.Grounds.{rows_read, ruling_steps}
-use Rattle.mud_desk.specs.DeskState.{DeskState, tables_of, HasForwarded, IsJudged}
-use Rattle.mud_desk.proofs.Sessions.{timely_since, timely_at, timely_same, max_first, grounds_of, judged_so, judged_not, steps_alike}
+use Rattle.mud_desk.specs.DeskState.{DeskState, tables_of, HasForwarded}
+use Rattle.mud_desk.proofs.Sessions.{timely_since, timely_at, timely_same, max_first, grounds_of, IsJudged, judged_so, judged_not, steps_alike}
 use Rattle.mud_desk.proofs.state.State.judge.Goals as goal
 
 pub judge-requires : goal.judge-requires

@@ -1,5 +1,5 @@
 //! The texts of rulings and verdicts.
-ghost use Rattle.std.specs.Prelude.{◌≡◌, ◌++◌, OnOk};
+ghost use Rattle.std.specs.Prelude.{◌≡◌, ◌++◌, OnOk, codes};
 ghost use Rattle.reply_lines.specs.Verdicts as spec;
 
 use crate::verdict_words::{default_name, part_name, passing, why_name};
@@ -39,13 +39,24 @@ pub fn append_ruling(line: &mut Bytes, ruling: Ruling) -> Result<(), Memory>
     }
 }
 
-/// Adds the ruling of an end behind its name, where the end is a Thing.
-#[tactic(auto, unfolding(crate::specs::Verdicts::end_text))]
-fn append_end(line: &mut Bytes, name: &[u8], ruling: Option<Ruling>) -> Result<(), Memory>
+/// Adds the ruling of an end behind its name, where the end is a Thing. Most are those of an entry
+/// that accepts, so the name comes with the word for that too, and both are added at once.
+#[tactic(auto, unfolding(crate::specs::Verdicts::end_text, crate::specs::Verdicts::ruling_text))]
+fn append_end(
+    line: &mut Bytes,
+    name: &[u8],
+    accepted: &[u8],
+    ruling: Option<Ruling>,
+) -> Result<(), Memory>
+    requires { accepted.now ≡ name.now ++ codes "accept:" }
     ensures { OnOk result (line.new ≡ line.old ++ spec.end_text name.now ruling) }
 {
     match ruling {
         None => Ok(()),
+        Some(Ruling::Accept(number)) => {
+            line.append(accepted)?;
+            append_decimal(line, u64::from(number))
+        }
         Some(ruling) => {
             line.append(name)?;
             append_ruling(line, ruling)
@@ -63,8 +74,8 @@ fn append_reason(line: &mut Bytes, verdict: &Verdict) -> Result<(), Memory>
         Verdict::Link => line.append(b" link"),
         Verdict::Unreadable(part) => append_unreadable(line, *part),
         Verdict::Governed(source, destination) => {
-            append_end(line, b" from=", *source)?;
-            append_end(line, b" to=", *destination)
+            append_end(line, b" from=", b" from=accept:", *source)?;
+            append_end(line, b" to=", b" to=accept:", *destination)
         }
     }
 }

@@ -16,7 +16,8 @@ use Rattle.desk_model.specs.Boxed.{IsKept, IsSameBox}
 use Rattle.desk_runs.specs.Refused.{RefusesStore}
 use Rattle.desk_runs.proofs.Refusals.{RunsRefused}
 use Rattle.desk_runs.proofs.Stores.{kept_tables, leaves_opened, no_bad, not_read, nothing_written}
-use Rattle.export_runs.specs.Exported.{WritesLists}
+use Rattle.command_runs.proofs.Dues.{wrote_none}
+use Rattle.export_runs.specs.Exported.{export_due, WritesLists}
 use Rattle.export_runs.specs.Store.{ExportsStore, IsOfDesk, WritesExport, WritesThing}
 
 -- ---- Statuses
@@ -41,13 +42,12 @@ no_seven status is seven = absurd (grind arith)
 module _ (mac : Mac) (clock_tells : Type 0) (moments : List ℕ) (old new : DoorState) (status : ℕ) where
   -- what is due of a desk was written, at what the clock gave
   pub writes_desk : (desk : DeskTables) (clock : ℕ) → (clock_tells → clock ≡ next_moment moments) → IsOfDesk status
-      → WritesLists desk mac clock old new status → WritesThing mac clock_tells moments desk old new status
+      → WritesLists (export_due mac clock desk) old new status → WritesThing mac clock_tells moments desk old new status
   writes_desk desk clock clock_is is wrote = record {
     clock = clock;
     clock_is = clock_is;
     good = λ six. no_six status is six;
-    whole = λ which. record { due = wrote.due; due_is = wrote.due_is; status_is = wrote.status_is which; wrote = wrote.done which };
-    part = λ which. inr (record { due = wrote.due; due_is = wrote.due_is; first = wrote.part which });
+    lists = wrote;
   }
 
   writes_refused : (store : Result DeskTables Item) → RefusesStore store old new status → WritesExport mac clock_tells moments store old new status
@@ -55,8 +55,11 @@ module _ (mac : Mac) (clock_tells : Type 0) (moments : List ℕ) (old new : Door
     clock = next_moment moments;
     clock_is = λ tells. refl;
     good = no_bad desk old new status p;
-    whole = λ which. not_read status p.statuses which;
-    part = λ which. inl (nothing_written desk old new status p which);
+    lists = record {
+      status_is = λ which. not_read status p.statuses which;
+      done = λ which. not_read status p.statuses which;
+      part = λ which. wrote_none _ old new (nothing_written desk old new status p which);
+    };
   }
   writes_refused (Err item) p = p
 

@@ -1,16 +1,19 @@
 -- What is due of a Thing, by what is known of it.
-use Rattle.std.proofs.Common.{◌≡◌, ℕ, suc, ◌+◌, ◌<◌, ◌≤◌, ◌⊎◌, Bool, true, false, cond, List, ◌∷◌, length, drop, drop-cons, get_or, Option, Some, None, refl, sym, ap, subst, ◌∙◌, arith}
+use Rattle.std.proofs.Common.{◌≡◌, ℕ, suc, ◌+◌, ◌<◌, ◌≤◌, ◌⊎◌, Bool, true, false, cond, List, [], ◌∷◌, ◌++◌, length, drop, drop-cons, get_or, Option, Some, None, refl, sym, ap, subst, ◌∙◌, arith}
+use Rattle.std.specs.Prelude.{codes, flat_map}
 use Rattle.std.specs.Option.{option_map}
 use Rattle.std.specs.declared.cmp.Ordering.{Ordering}
 use Rattle.std.specs.Ordering.{is_eq, ordering_reverse}
 use Rattle.std.proofs.lemmas.List.{drop_all}
-use Rattle.std.proofs.lemmas.Bool.{false≢true}
 use Rattle.std.proofs.lemmas.Option.{same_Some, none-some}
+use Rattle.mud_base.specs.declared.addr.Family.{Family}
+use Rattle.mud_base.specs.declared.addr.Family.TheVariants.{V4, V6}
 use Rattle.mud_base.specs.declared.addr.Mac.{Mac}
 use Rattle.mud_base.specs.declared.prefix.Prefix.{Prefix}
 use Rattle.mud_base.specs.declared.packet.Direction.{Direction}
 use Rattle.mud_base.specs.declared.packet.Direction.TheVariants.{From, To}
 use Rattle.mud_world.specs.Door.{DoorState, put_out}
+use Rattle.acl_rows.specs.Rows.{for_ever}
 use Rattle.acl_rows.specs.View.{View, IsViewOf}
 use Rattle.acl_compile.specs.Compiled.{CompiledState}
 use Rattle.mud_tables.specs.declared.thing.Thing.{Thing}
@@ -19,13 +22,21 @@ use Rattle.sorted_rows.specs.Placed.{place_cmp, same_place}
 use Rattle.sorted_rows.proofs.PlacedLaws.{place_cmp_turned, same_place-cmp}
 use Rattle.packet_judge.specs.ByRows.{IsViewOver}
 use Rattle.desk_model.specs.DeskTables.{DeskTables}
+use Rattle.desk_model.specs.Verdicts.{policy_at, desk_bindings}
 use Rattle.desk_books.specs.CompiledDesk.{IsCompiledOf}
 use Rattle.mud_desk.proofs.Views.{view_over}
 use Rattle.mud_desk.specs.DeskState.{DeskState, tables_of, AreRulesOf}
-use Rattle.command_runs.specs.Due.{WroteFirst}
+use Rattle.command_runs.specs.Due.{Due, WroteFirst}
 use Rattle.command_runs.specs.Moments.{listing_moment}
-use Rattle.export_runs.specs.Lists.{SourceParts, sources, lists_text}
-use Rattle.export_runs.specs.Exported.{IsRuleView, IsDueOf, no_thing, is_held, AreSourcesOf, WritesLists}
+use Rattle.rule_export.specs.Listed.{listed_of}
+use Rattle.rule_export.specs.Resolved.{wanted, resolved_of}
+use Rattle.rule_export.specs.Text.{listed_text, resolved_text, with_commas}
+use Rattle.rule_export.proofs.ViewLaws.{same_text}
+use Rattle.export_runs.specs.declared.lists.ListName.{ListName}
+use Rattle.export_runs.specs.declared.lists.ListName.TheVariants.{FromV4, FromV6, ToV4, ToV6}
+use Rattle.export_runs.specs.Lists.{side_of, family_of, front_of, back_of, all_lists, items_of, list_text, empty_lists, lists_text}
+use Rattle.export_runs.specs.Sources.{SourceParts, sources, view_for, source_items, source_text, sources_text, IsRuleView, AreSources, is_held, AreSourcesOf}
+use Rattle.export_runs.specs.Exported.{due_of, export_due, WritesLists}
 
 -- ---- What the lists are made by
 
@@ -51,28 +62,48 @@ pub no_sources : (state : DeskState) (side : Direction) (desk : DeskTables) (m :
 no_sources state side desk m None lent = tt
 no_sources state side desk m (Some thing) lent = absurd lent
 
+-- ---- Their text is that of the lists by the tables
+
+module _ (desk : DeskTables) (m : ℕ) (small : m < for_ever) (url : List ℕ) (s : SourceParts) (are : AreSources desk m url s) where
+  side_alike : (side : Direction) (version : Family) (view : View) → IsRuleView desk url side view
+      → with_commas (resolved_text view version) (resolved_of (wanted s.locals s.moment version) view) ≡ with_commas (listed_text side version) (listed_of desk.tables m url version (policy_at desk url) side)
+  unfolding desk_bindings
+  side_alike side version view is =
+      same_text is.slots is.bindings desk.tables url (policy_at desk url) side view (wanted s.locals s.moment version) is.over is.same are.locals (subst (λ (n : ℕ). n < for_ever) (sym are.moment_is) small)
+      ∙ ap (λ (n : ℕ). with_commas (listed_text side version) (listed_of desk.tables n url version (policy_at desk url) side)) are.moment_is
+
+  text_alike : (name : ListName) → source_text s name ≡ list_text desk m url name
+  unfolding source_text source_items list_text items_of view_for side_of family_of
+  text_alike FromV4 = ap (λ (text : List ℕ). front_of FromV4 ++ (text ++ back_of FromV4)) (side_alike From V4 s.from are.from)
+  text_alike FromV6 = ap (λ (text : List ℕ). front_of FromV6 ++ (text ++ back_of FromV6)) (side_alike From V6 s.from are.from)
+  text_alike ToV4 = ap (λ (text : List ℕ). front_of ToV4 ++ (text ++ back_of ToV4)) (side_alike To V4 s.to are.to)
+  text_alike ToV6 = ap (λ (text : List ℕ). front_of ToV6 ++ (text ++ back_of ToV6)) (side_alike To V6 s.to are.to)
+
+  pub texts_alike : (names : List ListName) → flat_map (source_text s) names ≡ flat_map (list_text desk m url) names
+  texts_alike [] = refl
+  texts_alike (name ∷ names) = λ i. text_alike name i ++ texts_alike names i
+
 -- ---- What is due
 
-pub none_of : (o : Option Thing) → None ≡ option_map is_held o → o ≡ None
+none_of : (o : Option Thing) → None ≡ option_map is_held o → o ≡ None
 none_of None is = refl
 none_of (Some thing) is = absurd (none-some (is_held thing) is)
 
-pub due_empty : (desk : DeskTables) (m : ℕ) (o : Option Thing) → Some true ≡ option_map is_held o → IsDueOf desk m o (record { text = lists_text None; status = 0 })
-unfolding is_held lists_text
+due_empty : (desk : DeskTables) (m : ℕ) (o : Option Thing) → Some true ≡ option_map is_held o → due_of desk m o ≡ record { text = sources_text None; status = 0 }
+unfolding is_held due_of lists_text sources_text
 due_empty desk m None is = absurd (none-some true (sym is))
-due_empty desk m (Some thing) is = record {
-  text = record { held = λ yes. refl; listed = λ no. absurd (false≢true (sym no ∙ sym (same_Some true thing.held is))) };
-  status = refl;
-}
+due_empty desk m (Some thing) is =
+    let due : Bool → Due = λ held. record { text = cond held empty_lists (flat_map (list_text desk m thing.url) all_lists); status = 0 } in
+    ap due (sym (same_Some true thing.held is))
 
-pub due_listed : (desk : DeskTables) (m : ℕ) (o : Option Thing) (s : Option SourceParts) → Some false ≡ option_map is_held o → AreSourcesOf desk m o s → IsDueOf desk m o (record { text = lists_text s; status = 0 })
-unfolding is_held
-due_listed desk m None s is over = absurd (none-some false (sym is))
-due_listed desk m (Some thing) None is over = absurd over
-due_listed desk m (Some thing) (Some s) is over = record {
-  text = record { held = λ yes. absurd (false≢true (same_Some false thing.held is ∙ yes)); listed = λ no. record { sources = s; over = over; text_is = refl } };
-  status = refl;
-}
+due_listed : (desk : DeskTables) (m : ℕ) → m < for_ever → (o : Option Thing) (s : Option SourceParts) → Some false ≡ option_map is_held o → AreSourcesOf desk m o s → due_of desk m o ≡ record { text = sources_text s; status = 0 }
+unfolding is_held due_of lists_text sources_text
+due_listed desk m small None s is over = absurd (none-some false (sym is))
+due_listed desk m small (Some thing) None is over = absurd over
+due_listed desk m small (Some thing) (Some s) is over =
+    let due : Bool → Due = λ held. record { text = cond held empty_lists (flat_map (list_text desk m thing.url) all_lists); status = 0 } in
+    let with_text : List ℕ → Due = λ text. record { text = text; status = 0 } in
+    ap due (sym (same_Some false thing.held is)) ∙ ap with_text (sym (texts_alike desk m small thing.url s over all_lists))
 
 -- ---- What is written
 
@@ -89,25 +120,44 @@ three_of : (status : ℕ) → IsOfFault status → (status ≡ 0) ⊎ (status �
 three_of status is which = grind arith
 
 module _ (desk : DeskTables) (mac : Mac) (clock : ℕ) (old new : DoorState) (status : ℕ) where
-  pub wrote_lists : (text : List ℕ) → IsDueOf desk (listing_moment desk.stamp (Some clock)) (thing_at mac desk.tables.things) (record { text = text; status = 0 })
-      → IsOfLists status → (status ≡ 0 → new ≡ put_out text old) → ((status ≡ 4) ⊎ (status ≡ 5) → WroteFirst text old new) → WritesLists desk mac clock old new status
-  wrote_lists text due is done part = record {
-    due = record { text = text; status = 0 };
-    due_is = due;
-    status_is = λ which. zero_of status is which;
-    done = λ which. done (zero_of status is which);
-    part = part;
-  }
+  -- the text that is due was written, with 0
+  wrote_text : (due : Due) (text : List ℕ) → due ≡ record { text = text; status = 0 }
+      → IsOfLists status → (status ≡ 0 → new ≡ put_out text old) → ((status ≡ 4) ⊎ (status ≡ 5) → WroteFirst text old new) → WritesLists due old new status
+  wrote_text due text is of done part =
+      let wrote : WritesLists (record { text = text; status = 0 }) old new status = record {
+        status_is = λ which. zero_of status of which;
+        done = λ which. done (zero_of status of which);
+        part = part;
+      } in
+      subst (λ (d : Due). WritesLists d old new status) (sym is) wrote
+
+  pub wrote_empty : Some true ≡ option_map is_held (thing_at mac desk.tables.things)
+      → IsOfLists status → (status ≡ 0 → new ≡ put_out (sources_text None) old) → ((status ≡ 4) ⊎ (status ≡ 5) → WroteFirst (sources_text None) old new)
+      → WritesLists (export_due mac clock desk) old new status
+  unfolding export_due
+  wrote_empty held of done part =
+      wrote_text (export_due mac clock desk) (sources_text None) (due_empty desk (listing_moment desk.stamp (Some clock)) (thing_at mac desk.tables.things) held) of done part
+
+  pub wrote_lists : (m : ℕ) → m ≡ listing_moment desk.stamp (Some clock) → m < for_ever → (s : Option SourceParts)
+      → Some false ≡ option_map is_held (thing_at mac desk.tables.things) → AreSourcesOf desk m (thing_at mac desk.tables.things) s
+      → IsOfLists status → (status ≡ 0 → new ≡ put_out (sources_text s) old) → ((status ≡ 4) ⊎ (status ≡ 5) → WroteFirst (sources_text s) old new)
+      → WritesLists (export_due mac clock desk) old new status
+  unfolding export_due
+  wrote_lists m at small s held over of done part =
+      wrote_text (export_due mac clock desk) (sources_text s)
+      (ap (λ (n : ℕ). due_of desk n (thing_at mac desk.tables.things)) (sym at) ∙ due_listed desk m small (thing_at mac desk.tables.things) s held over) of done part
 
   pub wrote_fault : None ≡ option_map is_held (thing_at mac desk.tables.things)
-      → IsOfFault status → (status ≡ 3 → new ≡ put_out no_thing.text old) → ((status ≡ 4) ⊎ (status ≡ 5) → WroteFirst no_thing.text old new) → WritesLists desk mac clock old new status
-  wrote_fault none is done part = record {
-    due = no_thing;
-    due_is = subst (λ (o : Option Thing). IsDueOf desk (listing_moment desk.stamp (Some clock)) o no_thing) (sym (none_of (thing_at mac desk.tables.things) none)) refl;
-    status_is = λ which. three_of status is which;
-    done = λ which. done (three_of status is which);
-    part = part;
-  }
+      → IsOfFault status → (status ≡ 3 → new ≡ put_out (codes "fault NoThing\n") old) → ((status ≡ 4) ⊎ (status ≡ 5) → WroteFirst (codes "fault NoThing\n") old new)
+      → WritesLists (export_due mac clock desk) old new status
+  unfolding export_due due_of
+  wrote_fault none is done part =
+      let wrote : WritesLists (due_of desk (listing_moment desk.stamp (Some clock)) None) old new status = record {
+        status_is = λ which. three_of status is which;
+        done = λ which. done (three_of status is which);
+        part = part;
+      } in
+      subst (λ (o : Option Thing). WritesLists (due_of desk (listing_moment desk.stamp (Some clock)) o) old new status) (sym (none_of (thing_at mac desk.tables.things) none)) wrote
 
 -- ---- The Thing of a hardware address
 

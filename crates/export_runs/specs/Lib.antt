@@ -1,3 +1,4 @@
 pub mod Lists
 pub mod Exported
+pub mod Sources
 pub mod Store

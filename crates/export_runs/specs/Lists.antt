@@ -1,16 +1,24 @@
 -- The text of a Thing's four access lists (RFC 8519, 4.1; RFC 7951): one line of compact JSON.
-use Rattle.std.specs.Prelude.{ℕ, List, [], ◌∷◌, ◌++◌, flat_map, codes, Option, Some, None}
+use Rattle.std.specs.Prelude.{ℕ, List, [], ◌∷◌, ◌++◌, flat_map, codes, if◌then◌else◌}
 use Rattle.mud_base.specs.declared.addr.Family.{Family}
 use Rattle.mud_base.specs.declared.addr.Family.TheVariants.{V4, V6}
-use Rattle.mud_base.specs.declared.prefix.Prefix.{Prefix}
-use Rattle.acl_rows.specs.View.{View}
-use Rattle.rule_export.specs.declared.item.Resolved.{Resolved}
-use Rattle.rule_export.specs.Resolved.{wanted, resolved_of}
-use Rattle.rule_export.specs.Text.{items_text}
+use Rattle.mud_base.specs.declared.packet.Direction.{Direction}
+use Rattle.mud_base.specs.declared.packet.Direction.TheVariants.{From, To}
+use Rattle.mud_tables.specs.declared.thing.Thing.{Thing}
+use Rattle.desk_model.specs.DeskTables.{DeskTables}
+use Rattle.desk_model.specs.Verdicts.{policy_at}
+use Rattle.rule_export.specs.Listed.{ListItem, listed_of}
+use Rattle.rule_export.specs.Text.{listed_text, with_commas}
 use Rattle.export_runs.specs.declared.lists.ListName.{ListName}
 use Rattle.export_runs.specs.declared.lists.ListName.TheVariants.{FromV4, FromV6, ToV4, ToV6}
 
 -- ---- The four lists
+
+unfoldable pub side_of : ListName → Direction
+side_of FromV4 = From
+side_of FromV6 = From
+side_of ToV4 = To
+side_of ToV6 = To
 
 unfoldable pub family_of : ListName → Family
 family_of FromV4 = V4
@@ -34,36 +42,19 @@ back_of ToV6 = codes "]},\"name\":\"to-v6\",\"type\":\"ipv6-acl-type\"}]}}\n"
 unfoldable pub all_lists : List ListName
 all_lists = FromV4 ∷ FromV6 ∷ ToV4 ∷ ToV6 ∷ []
 
--- ---- Their text
+-- ---- Their text, by the tables at a moment
 
--- what the lists are made by: the views of both sides, the local networks, and the moment
-pub record SourceParts : Type 0 where
-  pub from : View
-  pub to : View
-  pub locals : List Prefix
-  pub moment : ℕ
+-- the items of a list for the Things with a URL, by the policy of the URL's approved file
+unfoldable pub items_of : DeskTables → ℕ → List ℕ → ListName → List ListItem
+items_of desk moment url name = listed_of desk.tables moment url (family_of name) (policy_at desk url) (side_of name)
 
-abbrev pub sources : View → View → List Prefix → ℕ → SourceParts
-sources from to locals moment = record { from = from; to = to; locals = locals; moment = moment }
-
--- the view of the side that the list is for
-unfoldable pub view_for : SourceParts → ListName → View
-view_for s FromV4 = s.from
-view_for s FromV6 = s.from
-view_for s ToV4 = s.to
-view_for s ToV6 = s.to
-
-unfoldable pub items_of : SourceParts → ListName → List Resolved
-items_of s name = resolved_of (wanted s.locals s.moment (family_of name)) (view_for s name)
-
-unfoldable pub list_text : SourceParts → ListName → List ℕ
-list_text s name = front_of name ++ (items_text (view_for s name) (family_of name) (items_of s name) ++ back_of name)
+unfoldable pub list_text : DeskTables → ℕ → List ℕ → ListName → List ℕ
+list_text desk moment url name = front_of name ++ (with_commas (listed_text (side_of name) (family_of name)) (items_of desk moment url name) ++ back_of name)
 
 -- four empty lists
 unfoldable pub empty_lists : List ℕ
 empty_lists = flat_map (λ name. front_of name ++ back_of name) all_lists
 
--- without sources they are empty
-unfoldable pub lists_text : Option SourceParts → List ℕ
-lists_text None = empty_lists
-lists_text (Some s) = flat_map (list_text s) all_lists
+-- the four lists of a Thing: empty ones where the operator holds it
+unfoldable pub lists_text : DeskTables → ℕ → Thing → List ℕ
+lists_text desk moment thing = if thing.held then empty_lists else flat_map (list_text desk moment thing.url) all_lists

@@ -1,5 +1,5 @@
 -- What a run of `export` over a store does.
-use Rattle.std.specs.Prelude.{◌≡◌, ℕ, ◌⊎◌, List, Some, Result, Ok, Err, [], ◌∷◌}
+use Rattle.std.specs.Prelude.{◌≡◌, ℕ, List, Result, Ok, Err, [], ◌∷◌}
 use Rattle.std.specs.declared.dyn_box.DynBox.{DynBox}
 use Rattle.std.specs.declared.alloc.Global.{Global}
 use Rattle.mud_base.specs.declared.addr.Mac.{Mac}
@@ -7,48 +7,26 @@ use Rattle.mud_world.specs.declared.keeper.Keeper.{Ghosts}
 use Rattle.mud_world.specs.declared.item.Item.{Item}
 use Rattle.mud_world.specs.Boxed.{Tells, kept_items}
 use Rattle.mud_world.specs.Clock.{next_moment}
-use Rattle.mud_world.specs.Door.{DoorState, put_out}
-use Rattle.mud_tables.specs.Things.{thing_at}
+use Rattle.mud_world.specs.Door.{DoorState}
 use Rattle.command_runs.specs.Ends.{IsStoppedWriting}
-use Rattle.command_runs.specs.Due.{Due, WroteFirst}
 use Rattle.mud_world.specs.View.{DoorView}
 use Rattle.desk_model.specs.DeskTables.{DeskTables}
 use Rattle.desk_model.specs.Items.{tables_in}
 use Rattle.desk_runs.specs.Honest.{RunsHonestly}
 use Rattle.desk_runs.specs.Refused.{RefusesStore}
 use Rattle.desk_runs.specs.Store.{LeavesStore}
-use Rattle.command_runs.specs.Moments.{listing_moment}
-use Rattle.export_runs.specs.Exported.{IsDueOf}
+use Rattle.export_runs.specs.Exported.{export_due, WritesLists}
 use Rattle.command_runs.specs.Status.{IsNot, IsOneOf, each_status}
 use Rattle.command_runs.specs.declared.status.Status.TheVariants.{Done, Refused, DoorFailed, NoMemory, BadItem}
-
--- What is due of a desk for the Thing of a hardware address: its lists at the later of the moment of the last change and of that
--- which the clock gave.
-abbrev pub IsDueAt : Mac → ℕ → DeskTables → Due → Type 0
-IsDueAt mac clock desk due = IsDueOf desk (listing_moment desk.stamp (Some clock)) (thing_at mac desk.tables.things) due
-
--- All that is due was written, and the status is the one that is due.
-pub record WroteWhole (mac : Mac) (clock : ℕ) (desk : DeskTables) (old new : DoorState) (status : ℕ) : Type 0 where
-  pub due : Due
-  pub due_is : IsDueAt mac clock desk due
-  pub status_is : status ≡ due.status
-  pub wrote : new ≡ put_out due.text old
-
--- A first part of what is due was written.
-pub record WrotePart (mac : Mac) (clock : ℕ) (desk : DeskTables) (old new : DoorState) : Type 0 where
-  pub due : Due
-  pub due_is : IsDueAt mac clock desk due
-  pub first : WroteFirst due.text old new
 
 -- What is written of a Thing of a store whose items are all records. Nothing is read.
 pub record WritesThing (mac : Mac) (clock_tells : Type 0) (moments : List ℕ) (desk : DeskTables) (old new : DoorState) (status : ℕ) : Type 0 where
   -- What the clock gave: the moment that it tells next, where it tells its moments.
   pub clock : ℕ
   pub clock_is : clock_tells → clock ≡ next_moment moments
-  -- With 0 and 3 all that is due was written, with 4 and 5 a first part of it or nothing. No item is there to be named with 6.
+  -- No item is there to be named with 6.
   pub good : IsNot BadItem status
-  pub whole : IsOneOf (Done ∷ Refused ∷ []) status → WroteWhole mac clock desk old new status
-  pub part : IsOneOf (DoorFailed ∷ NoMemory ∷ []) status → (new ≡ old) ⊎ WrotePart mac clock desk old new
+  pub lists : WritesLists (export_due mac clock desk) old new status
 
 -- What is written, by the tables of the store or its first item that is no record.
 abbrev pub WritesExport : Mac → Type 0 → List ℕ → Result DeskTables Item → DoorState → DoorState → ℕ → Type 0

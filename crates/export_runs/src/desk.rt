@@ -9,8 +9,8 @@ ghost use Rattle.command_runs.specs.Ends.{IsStoppedWriting};
 ghost use Rattle.command_runs.specs.Due.{WroteFirst};
 ghost use Rattle.command_runs.specs.Status.{Is, IsNot, IsOneOf, status_number};
 ghost use Rattle.command_runs.specs.declared.status.Status.TheVariants.{Done, Refused, DoorFailed, NoMemory};
-ghost use Rattle.export_runs.specs.Exported.{is_held, WritesLists};
-ghost use Rattle.export_runs.specs.Lists.{lists_text};
+ghost use Rattle.export_runs.specs.Exported.{export_due, WritesLists};
+ghost use Rattle.export_runs.specs.Sources.{is_held, sources_text};
 ghost use Rattle.export_runs.specs.Store.{IsOfDesk, WritesThing};
 
 use crate::sources::{Sources, held_of, sources_of};
@@ -43,9 +43,9 @@ fn export_lists<D: Door>(alloc: Global, sources: &Option<Sources<'_>>, door: &mu
     ensures statuses { IsOneOf (Done ∷ DoorFailed ∷ NoMemory ∷ []) (status_number result) }
     ensures fault { Is DoorFailed (status_number result) → IsStoppedWriting (D.view door.old) (D.view door.new) }
     ensures steady { IsNot DoorFailed (status_number result) → (D.view door.new).writes ≡ (D.view door.old).writes }
-    ensures done { D.tells → Is Done (status_number result) → (D.view door.new).state ≡ put_out (lists_text sources.now) (D.view door.old).state }
+    ensures done { D.tells → Is Done (status_number result) → (D.view door.new).state ≡ put_out (sources_text sources.now) (D.view door.old).state }
     ensures part { D.tells → IsOneOf (DoorFailed ∷ NoMemory ∷ []) (status_number result) →
-        WroteFirst (lists_text sources.now) (D.view door.old).state (D.view door.new).state }
+        WroteFirst (sources_text sources.now) (D.view door.old).state (D.view door.new).state }
     ensures turns { (D.view door.new).turns ≡ (D.view door.old).turns }
     ensures reads { (D.view door.new).reads ≡ (D.view door.old).reads }
 {
@@ -69,7 +69,8 @@ fn export_thing<D: Door>(
     ensures statuses { IsOneOf (Done ∷ DoorFailed ∷ NoMemory ∷ []) (status_number result) }
     ensures fault { Is DoorFailed (status_number result) → IsStoppedWriting (D.view door.old) (D.view door.new) }
     ensures steady { IsNot DoorFailed (status_number result) → (D.view door.new).writes ≡ (D.view door.old).writes }
-    ensures writes { D.tells → WritesLists (tables_of desk.now.state) mac clock (D.view door.old).state (D.view door.new).state (status_number result) }
+    ensures writes { D.tells → WritesLists (export_due mac clock (tables_of desk.now.state))
+        (D.view door.old).state (D.view door.new).state (status_number result) }
     ensures turns { (D.view door.new).turns ≡ (D.view door.old).turns }
     ensures reads { (D.view door.new).reads ≡ (D.view door.old).reads }
 {
@@ -93,7 +94,8 @@ fn export_mac<D: Door, C: Clock>(
     ensures statuses { IsOfDesk (status_number result) }
     ensures fault { Is DoorFailed (status_number result) → IsStoppedWriting (D.view door.old) (D.view door.new) }
     ensures steady { IsNot DoorFailed (status_number result) → (D.view door.new).writes ≡ (D.view door.old).writes }
-    ensures writes { D.tells → WritesThing mac C.tells (C.moments clock.old) (tables_of desk.now.state) (D.view door.old).state (D.view door.new).state (status_number result) }
+    ensures writes { D.tells → WritesThing mac C.tells (C.moments clock.old) (tables_of desk.now.state)
+        (D.view door.old).state (D.view door.new).state (status_number result) }
     ensures turns { (D.view door.new).turns ≡ (D.view door.old).turns }
     ensures reads { (D.view door.new).reads ≡ (D.view door.old).reads }
     ensures later { C.tells → Is Done (status_number result) → C.moments clock.new ≡ later_moments (C.moments clock.old) }
@@ -126,7 +128,8 @@ pub(crate) fn export_desk<D: Door, C: Clock>(
     ensures statuses { IsOfDesk (status_number result.0) }
     ensures fault { Is DoorFailed (status_number result.0) → IsStoppedWriting (D.view door.old) (D.view door.new) }
     ensures steady { IsNot DoorFailed (status_number result.0) → (D.view door.new).writes ≡ (D.view door.old).writes }
-    ensures writes { D.tells → WritesThing mac C.tells (C.moments clock.old) (tables_of desk.state) (D.view door.old).state (D.view door.new).state (status_number result.0) }
+    ensures writes { D.tells → WritesThing mac C.tells (C.moments clock.old) (tables_of desk.state)
+        (D.view door.old).state (D.view door.new).state (status_number result.0) }
     ensures turns { (D.view door.new).turns ≡ (D.view door.old).turns }
     ensures reads { (D.view door.new).reads ≡ (D.view door.old).reads }
     ensures later { C.tells → Is Done (status_number result.0) → C.moments clock.new ≡ later_moments (C.moments clock.old) }

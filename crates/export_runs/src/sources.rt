@@ -5,8 +5,7 @@ ghost use Rattle.sorted_rows.specs.Placed.{same_place};
 ghost use Rattle.mud_tables.specs.Things.{mac_of, thing_at};
 ghost use Rattle.mud_desk.specs.DeskState.{tables_of};
 ghost use Rattle.rule_export.specs.Resolved.{resolved_of, wanted};
-ghost use Rattle.export_runs.specs.Exported.{is_held, AreSourcesOf};
-ghost use Rattle.export_runs.specs.Lists as spec;
+ghost use Rattle.export_runs.specs.Sources as spec;
 
 use crate::lists::{ListName, family_of};
 use acl_rows::RuleView;
@@ -31,7 +30,7 @@ pub(crate) struct Sources<'a> {
 }
 
 impl<'a> Model for Sources<'a> {
-    ghost use Rattle.export_runs.specs.Lists.{SourceParts, sources};
+    ghost use Rattle.export_runs.specs.Sources.{SourceParts, sources};
 
     ghost Value = { SourceParts };
 
@@ -40,7 +39,7 @@ impl<'a> Model for Sources<'a> {
 
 impl<'a> Sources<'a> {
     /// What a ruling reads on the side that a list is for.
-    #[tactic(auto, unfolding(crate::specs::Lists::view_for))]
+    #[tactic(auto, unfolding(crate::specs::Sources::view_for))]
     pub(crate) fn view_for(&self, name: ListName) -> &RuleView<'a>
         ensures { result.now ≡ spec.view_for self.now name }
     {
@@ -51,7 +50,7 @@ impl<'a> Sources<'a> {
     }
 
     /// The items of a list, whose steps are counted for nobody.
-    #[tactic(auto, unfolding(crate::specs::Lists::items_of))]
+    #[tactic(auto, unfolding(crate::specs::Sources::source_items))]
     fn items_counted<L: Ledger>(
         &self,
         alloc: Global,
@@ -59,7 +58,7 @@ impl<'a> Sources<'a> {
         blank: Blank,
     ) -> Result<Listed<Resolved>, Memory>
         requires blank { IsBlankOf L.name L.parts blank }
-        ensures { IfOk result (λ items. items ≡ spec.items_of self.now name) }
+        ensures { IfOk result (λ items. items ≡ spec.source_items self.now name) }
     {
         let mut steps = Steps::<L>::new(blank);
         let view = self.view_for(name);
@@ -75,7 +74,7 @@ impl<'a> Sources<'a> {
 
     /// The items of a list.
     pub(crate) fn items(&self, alloc: Global, name: ListName) -> Result<Listed<Resolved>, Memory>
-        ensures { IfOk result (λ items. items ≡ spec.items_of self.now name) }
+        ensures { IfOk result (λ items. items ≡ spec.source_items self.now name) }
     {
         self.items_counted::<Brand>(alloc, name, Blank::new(1))
     }
@@ -93,9 +92,9 @@ fn is_of(thing: &Thing, mac: Mac) -> bool
 }
 
 /// Whether the operator holds the Thing of a hardware address, where there is one.
-#[tactic(auto, unfolding(crate::specs::Exported::is_held))]
+#[tactic(auto, unfolding(crate::specs::Sources::is_held))]
 pub(crate) fn held_of(things: &[Thing], mac: Mac) -> Option<bool>
-    ensures { result ≡ option_map is_held (thing_at mac things.now) }
+    ensures { result ≡ option_map spec.is_held (thing_at mac things.now) }
 {
     'things: for thing in things {
         if is_of(thing, mac) {
@@ -107,7 +106,7 @@ pub(crate) fn held_of(things: &[Thing], mac: Mac) -> Option<bool>
 
 /// What the lists of the Thing of a hardware address are made by at a moment, where there is one.
 pub(crate) fn sources_of<'a>(desk: &'a Desk, mac: Mac, moment: Moment) -> Option<Sources<'a>>
-    ensures { AreSourcesOf (tables_of desk.now.state) moment (thing_at mac (tables_of desk.now.state).tables.things) result }
+    ensures { spec.AreSourcesOf (tables_of desk.now.state) moment (thing_at mac (tables_of desk.now.state).tables.things) result }
 {
     let Some(from) = desk.rules(mac, Direction::From) else {
         return None;

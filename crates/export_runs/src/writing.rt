@@ -6,7 +6,7 @@ ghost use Rattle.command_runs.specs.Ends.{IsStoppedWriting};
 ghost use Rattle.command_runs.specs.Due.{WroteFirst};
 ghost use Rattle.command_runs.specs.Stops.{has_failed};
 ghost use Rattle.rule_export.specs.Text.{resolved_text, behind_comma, items_text};
-ghost use Rattle.export_runs.specs.Lists.{list_text, lists_text, empty_lists};
+ghost use Rattle.export_runs.specs.Sources.{source_text, sources_text};
 ghost use Rattle.export_runs.specs.Lists as spec;
 
 use crate::lists::{ListName, all_lists, back_of, family_of, front_of};
@@ -43,7 +43,8 @@ fn write_item<D: Door>(
     item: &Resolved,
 ) -> Result<(), Stop>
     ensures ok { D.tells → OnOk result ((D.view door.new).state ≡ put_out (before.now ++ resolved_text view.now family item.now) (D.view door.old).state) }
-    ensures part { D.tells → OnErr result (WroteFirst (before.now ++ resolved_text view.now family item.now) (D.view door.old).state (D.view door.new).state) }
+    ensures part { D.tells → OnErr result
+        (WroteFirst (before.now ++ resolved_text view.now family item.now) (D.view door.old).state (D.view door.new).state) }
     ensures cause { Counts (has_failed result) (D.view door.old).writes (D.view door.new).writes }
     ensures stop { IsTrue (has_failed result) → IsStoppedWriting (D.view door.old) (D.view door.new) }
     ensures turns { (D.view door.new).turns ≡ (D.view door.old).turns }
@@ -61,8 +62,10 @@ fn write_later<D: Door>(
     family: Family,
     items: &[Resolved],
 ) -> Result<(), Stop>
-    ensures ok { D.tells → OnOk result ((D.view door.new).state ≡ put_out (flat_map (behind_comma view.now family) items.now) (D.view door.old).state) }
-    ensures part { D.tells → OnErr result (WroteFirst (flat_map (behind_comma view.now family) items.now) (D.view door.old).state (D.view door.new).state) }
+    ensures ok { D.tells → OnOk result ((D.view door.new).state
+        ≡ put_out (flat_map (behind_comma (resolved_text view.now family)) items.now) (D.view door.old).state) }
+    ensures part { D.tells → OnErr result
+        (WroteFirst (flat_map (behind_comma (resolved_text view.now family)) items.now) (D.view door.old).state (D.view door.new).state) }
     ensures cause { Counts (has_failed result) (D.view door.old).writes (D.view door.new).writes }
     ensures stop { IsTrue (has_failed result) → IsStoppedWriting (D.view door.old) (D.view door.new) }
     ensures turns { (D.view door.new).turns ≡ (D.view door.old).turns }
@@ -75,7 +78,7 @@ fn write_later<D: Door>(
 }
 
 /// Writes items, with commas between them.
-#[tactic(auto, unfolding(rule_export::specs::Text::items_text))]
+#[tactic(auto, unfolding(rule_export::specs::Text::with_commas))]
 fn write_items<D: Door>(
     alloc: Global,
     door: &mut D,
@@ -107,8 +110,10 @@ fn write_between<D: Door>(
     items: &[Resolved],
     back: &[u8],
 ) -> Result<(), Stop>
-    ensures ok { D.tells → OnOk result ((D.view door.new).state ≡ put_out (front.now ++ (items_text view.now family items.now ++ back.now)) (D.view door.old).state) }
-    ensures part { D.tells → OnErr result (WroteFirst (front.now ++ (items_text view.now family items.now ++ back.now)) (D.view door.old).state (D.view door.new).state) }
+    ensures ok { D.tells → OnOk result ((D.view door.new).state
+        ≡ put_out (front.now ++ (items_text view.now family items.now ++ back.now)) (D.view door.old).state) }
+    ensures part { D.tells → OnErr result
+        (WroteFirst (front.now ++ (items_text view.now family items.now ++ back.now)) (D.view door.old).state (D.view door.new).state) }
     ensures cause { Counts (has_failed result) (D.view door.old).writes (D.view door.new).writes }
     ensures stop { IsTrue (has_failed result) → IsStoppedWriting (D.view door.old) (D.view door.new) }
     ensures turns { (D.view door.new).turns ≡ (D.view door.old).turns }
@@ -120,15 +125,15 @@ fn write_between<D: Door>(
 }
 
 /// Writes a list. Its items are made first.
-#[tactic(auto, unfolding(crate::specs::Lists::list_text))]
+#[tactic(auto, unfolding(crate::specs::Sources::source_text))]
 fn write_list<D: Door>(
     alloc: Global,
     door: &mut D,
     sources: &Sources<'_>,
     name: &ListName,
 ) -> Result<(), Stop>
-    ensures ok { D.tells → OnOk result ((D.view door.new).state ≡ put_out (list_text sources.now name.now) (D.view door.old).state) }
-    ensures part { D.tells → OnErr result (WroteFirst (list_text sources.now name.now) (D.view door.old).state (D.view door.new).state) }
+    ensures ok { D.tells → OnOk result ((D.view door.new).state ≡ put_out (source_text sources.now name.now) (D.view door.old).state) }
+    ensures part { D.tells → OnErr result (WroteFirst (source_text sources.now name.now) (D.view door.old).state (D.view door.new).state) }
     ensures cause { Counts (has_failed result) (D.view door.old).writes (D.view door.new).writes }
     ensures stop { IsTrue (has_failed result) → IsStoppedWriting (D.view door.old) (D.view door.new) }
     ensures turns { (D.view door.new).turns ≡ (D.view door.old).turns }
@@ -154,8 +159,8 @@ fn write_named<D: Door>(
     sources: &Sources<'_>,
     names: &[ListName],
 ) -> Result<(), Stop>
-    ensures ok { D.tells → OnOk result ((D.view door.new).state ≡ put_out (flat_map (list_text sources.now) names.now) (D.view door.old).state) }
-    ensures part { D.tells → OnErr result (WroteFirst (flat_map (list_text sources.now) names.now) (D.view door.old).state (D.view door.new).state) }
+    ensures ok { D.tells → OnOk result ((D.view door.new).state ≡ put_out (flat_map (source_text sources.now) names.now) (D.view door.old).state) }
+    ensures part { D.tells → OnErr result (WroteFirst (flat_map (source_text sources.now) names.now) (D.view door.old).state (D.view door.new).state) }
     ensures cause { Counts (has_failed result) (D.view door.old).writes (D.view door.new).writes }
     ensures stop { IsTrue (has_failed result) → IsStoppedWriting (D.view door.old) (D.view door.new) }
     ensures turns { (D.view door.new).turns ≡ (D.view door.old).turns }
@@ -176,14 +181,14 @@ fn empty_lists() -> &'static [u8]
 }
 
 /// Writes the four lists; empty ones without sources.
-#[tactic(auto, unfolding(crate::specs::Lists::lists_text))]
+#[tactic(auto, unfolding(crate::specs::Sources::sources_text))]
 pub(crate) fn write_lists<D: Door>(
     alloc: Global,
     door: &mut D,
     sources: &Option<Sources<'_>>,
 ) -> Result<(), Stop>
-    ensures ok { D.tells → OnOk result ((D.view door.new).state ≡ put_out (lists_text sources.now) (D.view door.old).state) }
-    ensures part { D.tells → OnErr result (WroteFirst (lists_text sources.now) (D.view door.old).state (D.view door.new).state) }
+    ensures ok { D.tells → OnOk result ((D.view door.new).state ≡ put_out (sources_text sources.now) (D.view door.old).state) }
+    ensures part { D.tells → OnErr result (WroteFirst (sources_text sources.now) (D.view door.old).state (D.view door.new).state) }
     ensures cause { Counts (has_failed result) (D.view door.old).writes (D.view door.new).writes }
     ensures stop { IsTrue (has_failed result) → IsStoppedWriting (D.view door.old) (D.view door.new) }
     ensures turns { (D.view door.new).turns ≡ (D.view door.old).turns }

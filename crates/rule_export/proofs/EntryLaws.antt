@@ -46,12 +46,13 @@ use Rattle.rule_export.proofs.ChoiceLaws.{any_alike}
 use Rattle.rule_export.proofs.NetworkLaws.{any-in_order, networks_hold}
 use Rattle.rule_export.specs.declared.item.RuleNumber.{RuleNumber}
 use Rattle.rule_export.specs.declared.item.Resolved.{Resolved}
-use Rattle.rule_export.specs.Resolved.{Wanted, covers, is_wanted, host_network, wanted_networks, member_networks, entry_networks, items_from, entry_items}
+use Rattle.rule_export.specs.Listed.{covers, items_from}
+use Rattle.rule_export.specs.Resolved.{Wanted, is_wanted, host_network, wanted_networks, member_networks, entry_networks, entry_items}
 use Rattle.rule_export.specs.Ruling.{entry_of, network_holds, entry_passes, item_passes}
 
 -- ---- The version
 
-one_version : (f g : Family) (fields : Fields) → f ≢ family.Both → family_matches f fields ≡ true → family_matches g fields ≡ covers g f
+pub one_version : (f g : Family) (fields : Fields) → f ≢ family.Both → family_matches f fields ≡ true → family_matches g fields ≡ covers g f
 unfolding family_matches covers is_in_family
 one_version f g fields one of = by f g fields.src fields.dst one of
   where
@@ -66,14 +67,14 @@ one_version f g fields one of = by f g fields.src fields.dst one of
     by family.V6 family.Both a b one of = refl
     by family.Both g a b one of = absurd (one refl)
 
-peer_version : (f : Family) (side : Direction) (fields : Fields) → family_matches f fields ≡ true → is_in_family f (peer_of side fields) ≡ true
+pub peer_version : (f : Family) (side : Direction) (fields : Fields) → family_matches f fields ≡ true → is_in_family f (peer_of side fields) ≡ true
 unfolding family_matches peer_of
 peer_version f From fields of = right_of (is_in_family f fields.src) (is_in_family f fields.dst) of
 peer_version f To fields of = left_of (is_in_family f fields.src) (is_in_family f fields.dst) of
 
 -- ---- The network of an address
 
-host_holds : (a b : Addr) → same_front (addr_bits a) a b ≡ same_addr b a
+pub host_holds : (a b : Addr) → same_front (addr_bits a) a b ≡ same_addr b a
 unfolding addr_bits same_addr
 host_holds (V4 n) (V4 k) = (λ i. nat_eq (div-one n i) (div-one k i)) ∙ turned n k
   where
@@ -92,7 +93,7 @@ any_kept_by : {A : Type 0} (h f : A → Bool) (x : A) (xs : List A) → list_any
 any_kept_by h f x xs rest true = ap (λ b. h x || b) rest
 any_kept_by h f x xs rest false = rest
 
-any-filter : {A : Type 0} (h f : A → Bool) (xs : List A) → list_any h (filter f xs) ≡ list_any (λ x. f x && h x) xs
+pub any-filter : {A : Type 0} (h f : A → Bool) (xs : List A) → list_any h (filter f xs) ≡ list_any (λ x. f x && h x) xs
 any-filter h f [] = refl
 any-filter h f (x ∷ xs) = any_kept_by h f x xs (any-filter h f xs) (f x)
 
@@ -102,7 +103,7 @@ not_near : (s : Selector) → is_member s ≡ false → is_near s ≡ false → 
 unfolding is_near
 not_near s e f = false≢true (sym f ∙ ap not e)
 
-none_near : (locals : List Prefix) (a : Addr) (ss : List Selector) → list_any is_member ss ≡ false → list_any is_near ss ≡ false → list_all (near_met locals a) ss ≡ true
+pub none_near : (locals : List Prefix) (a : Addr) (ss : List Selector) → list_any is_member ss ≡ false → list_any is_near ss ≡ false → list_all (near_met locals a) ss ≡ true
 none_near locals a [] member near = refl
 none_near locals a (s ∷ ss) member near = absurd (not_near s (or_first (is_member s) (list_any is_member ss) member) (or_first (is_near s) (list_any is_near ss) near))
 
@@ -119,7 +120,7 @@ module _ (view : View) (fields : Fields) (begun : Option Direction) where
   unfolding items_from item_passes entry_passes
   any_items r e is k [] = refl
   any_items r e is k (n ∷ ns) =
-      (λ i. option_map_or (entry_passes view fields begun n) (is i) false || any_items r e is (k + 1) ns i)
+      (λ i. option_map_or (entry_passes view.side fields begun n) (is i) false || any_items r e is (k + 1) ns i)
       ∙ joined (network_holds n peer) (list_any (λ o. network_holds o peer) ns) (rest_matches e fields view.side begun)
     where
       joined : (a b c : Bool) → ((a && c) || (b && c)) ≡ ((a || b) && c)

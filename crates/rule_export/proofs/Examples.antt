@@ -13,7 +13,7 @@ use Rattle.acl_model.specs.declared.entry.Entry.{Entry}
 use Rattle.acl_model.proofs.OnLiterals.{acl_on_literals}
 use Rattle.rule_export.specs.Networks.{holds_all, common_part, common_of, choices, is_local_of, named_by, is_near, has_near, in_order, near_names, near_networks, asked_networks}
 
-unfoldable networks_compute : ⊤
+unfoldable pub networks_compute : ⊤
 unfolding acl_on_literals addr_place prefix_place holds_all common_part common_of choices is_local_of named_by is_near has_near in_order near_names near_networks asked_networks
 networks_compute = tt
 

@@ -14,7 +14,8 @@ use Rattle.acl_rows.specs.declared.row.Row.{Row}
 use Rattle.acl_rows.specs.Rows.{numbered}
 use Rattle.rule_export.specs.declared.item.RuleNumber.{RuleNumber}
 use Rattle.rule_export.specs.declared.item.Resolved.{Resolved}
-use Rattle.rule_export.specs.Resolved.{Wanted, covers, is_wanted, host_network, wanted_networks, entry_networks, items_from, entry_items}
+use Rattle.rule_export.specs.Listed.{covers, items_from}
+use Rattle.rule_export.specs.Resolved.{Wanted, is_wanted, host_network, wanted_networks, entry_networks, entry_items}
 use Rattle.rule_export.proofs.NetworkLaws.{put-append, put}
 
 whole : (n : ℕ) → n / 1 * 1 ≡ n

@@ -41,7 +41,8 @@ use Rattle.packet_judge.proofs.ByRows.{entries_default, holder_sound, IsHolder}
 use Rattle.rule_export.specs.declared.item.RuleNumber.{RuleNumber}
 use Rattle.rule_export.specs.declared.item.RuleNumber.TheVariants as rule
 use Rattle.rule_export.specs.declared.item.Resolved.{Resolved}
-use Rattle.rule_export.specs.Resolved.{Wanted, covers, entry_networks, items_from, entry_items, part_items, file_items, default_rule, resolved_of}
+use Rattle.rule_export.specs.Listed.{covers, items_from}
+use Rattle.rule_export.specs.Resolved.{Wanted, entry_networks, entry_items, part_items, file_items, default_rule, resolved_of}
 use Rattle.rule_export.specs.Ruling.{entry_of, item_passes, rule_of, resolved_ruling, number_of}
 use Rattle.rule_export.proofs.EntryLaws.{matched, items_match}
 
@@ -76,7 +77,7 @@ unfolding number_of ruled_by
 number-ruled n action.Accept = refl
 number-ruled n action.Drop = refl
 
-chosen : (b : Bool) (n : ℕ) (a : Action) (r : Ruling) → cond b (Some (rule.File n)) (number_of r) ≡ number_of (cond b (ruled_by n a) r)
+pub chosen : (b : Bool) (n : ℕ) (a : Action) (r : Ruling) → cond b (Some (rule.File n)) (number_of r) ≡ number_of (cond b (ruled_by n a) r)
 chosen true n a r = sym (number-ruled n a)
 chosen false n a r = refl
 

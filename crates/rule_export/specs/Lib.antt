@@ -1,4 +1,5 @@
 pub mod Flags
+pub mod Listed
 pub mod Networks
 pub mod Objects
 pub mod Resolved

@@ -1,8 +1,8 @@
--- The text of the items of resolved lists, and of all lists of a Thing, in the exchange form of access lists (RFC 8519, 4.1;
--- RFC 7951): compact JSON.
+-- The text of the items of access lists in the exchange form (RFC 8519, 4.1; RFC 7951): compact JSON.
 use Rattle.std.specs.Prelude.{ℕ, List, [], ◌∷◌, ◌++◌, flat_map, codes, decimal}
 use Rattle.std.specs.Option.{option_map_or}
 use Rattle.mud_base.specs.declared.addr.Family.{Family}
+use Rattle.mud_base.specs.declared.packet.Direction.{Direction}
 use Rattle.acl_model.specs.declared.ruling.DefaultRule.TheVariants.{Dns, Ntp}
 use Rattle.acl_model.specs.declared.entry.Entry.{Entry}
 use Rattle.acl_rows.specs.View.{View}
@@ -10,6 +10,7 @@ use Rattle.rule_export.specs.Tests.{entry_text}
 use Rattle.rule_export.specs.declared.item.RuleNumber.{RuleNumber}
 use Rattle.rule_export.specs.declared.item.RuleNumber.TheVariants as rule
 use Rattle.rule_export.specs.declared.item.Resolved.{Resolved}
+use Rattle.rule_export.specs.Listed.{ListItem}
 use Rattle.rule_export.specs.Ruling.{entry_of}
 
 -- ---- Items
@@ -23,19 +24,26 @@ rule_text (rule.Default Ntp) = codes "ntp"
 unfoldable pub item_name : Resolved → List ℕ
 item_name item = rule_text item.rule ++ codes "-" ++ decimal item.place
 
-unfoldable pub item_text : View → Family → Resolved → Entry → List ℕ
-item_text view family item entry = entry_text family view.side item.network (item_name item) entry
+-- the text of an item by its entry, whose Thing is on this side
+unfoldable pub item_text : Direction → Family → Resolved → Entry → List ℕ
+item_text side family item entry = entry_text family side item.network (item_name item) entry
 
--- nothing where the item's rule names no entry of the view
+-- ---- Lists
+
+abbrev pub behind_comma : {A : Type 0} → (A → List ℕ) → A → List ℕ
+behind_comma text a = codes "," ++ text a
+
+-- the texts of these, with commas between them
+unfoldable pub with_commas : {A : Type 0} → (A → List ℕ) → List A → List ℕ
+with_commas text [] = []
+with_commas text (first ∷ later) = text first ++ flat_map (behind_comma text) later
+
+unfoldable pub listed_text : Direction → Family → ListItem → List ℕ
+listed_text side family listed = item_text side family listed.item listed.entry
+
+-- in the list of a view the view has the entry; nothing where the item's rule names none of its entries
 unfoldable pub resolved_text : View → Family → Resolved → List ℕ
-resolved_text view family item = option_map_or (item_text view family item) (entry_of view item.rule) []
+resolved_text view family item = option_map_or (item_text view.side family item) (entry_of view item.rule) []
 
--- ---- Items, one behind the other
-
-unfoldable pub behind_comma : View → Family → Resolved → List ℕ
-behind_comma view family item = codes "," ++ resolved_text view family item
-
--- with commas between them
-unfoldable pub items_text : View → Family → List Resolved → List ℕ
-items_text view family [] = []
-items_text view family (first ∷ later) = resolved_text view family first ++ flat_map (behind_comma view family) later
+abbrev pub items_text : View → Family → List Resolved → List ℕ
+items_text view family items = with_commas (resolved_text view family) items

@@ -4,6 +4,7 @@ ghost use Rattle.sorted_rows.specs.Placed.{set_rows};
 ghost use Rattle.sorted_rows.specs.Addresses.{prefix_place};
 ghost use Rattle.acl_rows.specs.ByAddress.{grouped};
 ghost use Rattle.rule_export.specs.Networks.{rows_in};
+ghost use Rattle.rule_export.specs.Listed as listed;
 ghost use Rattle.rule_export.specs.Resolved as spec;
 
 use crate::item::{Resolved, RuleNumber};
@@ -128,9 +129,9 @@ fn member_networks(
 }
 
 /// Whether an entry of the first is for packets of the second.
-#[tactic(auto, unfolding(crate::specs::Resolved::covers))]
+#[tactic(auto, unfolding(crate::specs::Listed::covers))]
 fn covers(entry: Family, packets: Family) -> bool
-    ensures { result ≡ spec.covers entry packets }
+    ensures { result ≡ listed.covers entry packets }
 {
     match (entry, packets) {
         (Family::Both, _) => true,
@@ -141,13 +142,13 @@ fn covers(entry: Family, packets: Family) -> bool
 }
 
 /// Adds an item for each network, numbered from 1 on.
-#[tactic(auto, unfolding(crate::specs::Resolved::items_from))]
+#[tactic(auto, unfolding(crate::specs::Listed::items_from))]
 fn push_items(
     list: &mut Listed<Resolved>,
     rule: RuleNumber,
     networks: &[Prefix],
 ) -> Result<(), Memory>
-    ensures { OnOk result (list.new ≡ list.old ++ spec.items_from rule 1 (map Some networks.now)) }
+    ensures { OnOk result (list.new ≡ list.old ++ listed.items_from rule 1 (map Some networks.now)) }
 {
     let mut place: u64 = 0;
     for network in networks {
@@ -162,7 +163,7 @@ fn push_items(
 }
 
 /// Adds the items of an entry.
-#[tactic(auto, unfolding(crate::specs::Resolved::entry_items, crate::specs::Resolved::entry_networks, crate::specs::Resolved::items_from, crate::specs::Networks::asked_networks))]
+#[tactic(auto, unfolding(crate::specs::Resolved::entry_items, crate::specs::Resolved::entry_networks, crate::specs::Listed::items_from, crate::specs::Networks::asked_networks))]
 fn push_entry(
     alloc: Global,
     list: &mut Listed<Resolved>,

@@ -4,7 +4,7 @@ use Rattle.mud_desk.specs.DeskState.{tables_of}
 use Rattle.std.specs.Option.{option_map}
 use Rattle.mud_tables.specs.declared.thing.Thing.{Thing}
 use Rattle.mud_tables.specs.Things.{thing_at}
-use Rattle.export_runs.specs.Exported.{is_held}
+use Rattle.export_runs.specs.Sources.{is_held}
 use Rattle.mud_world.specs.Clock.{next_moment}
 use Rattle.export_runs.proofs.Things.{wrote_fault}
 use Rattle.export_runs.proofs.Runs.{writes_desk}

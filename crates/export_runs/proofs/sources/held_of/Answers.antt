@@ -1,6 +1,6 @@
 use Rattle.std.proofs.Common.{◌≤◌, length, ap, sym, ◌∙◌, arith}
 use Rattle.std.specs.Option.{option_map}
-use Rattle.export_runs.specs.Exported.{is_held}
+use Rattle.export_runs.specs.Sources.{is_held}
 use Rattle.export_runs.proofs.Things.{thing_here, thing_later, no_thing_left}
 use Rattle.export_runs.proofs.sources.held_of.Goals as goal
 

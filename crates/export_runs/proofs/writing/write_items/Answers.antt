@@ -2,13 +2,13 @@ use Rattle.std.proofs.Common.{List, sym, subst, OnErr}
 use Rattle.std.specs.Prelude.{flat_map}
 use Rattle.command_runs.specs.Due.{WroteFirst}
 use Rattle.rule_export.specs.declared.item.Resolved.{Resolved}
-use Rattle.rule_export.specs.Text.{resolved_text, behind_comma, items_text}
+use Rattle.rule_export.specs.Text.{resolved_text, behind_comma, items_text, with_commas}
 use Rattle.command_runs.proofs.Written.{part_of_second}
 use Rattle.export_runs.proofs.Results.{err_then}
 use Rattle.export_runs.proofs.writing.write_items.Goals as goal
 
 pub returns-clause-part : goal.returns-clause-part
-unfolding items_text
+unfolding with_commas
 returns-clause-part g c = λ tells.
     let view = c.args.view.now in
     let family = c.args.family in
@@ -17,4 +17,4 @@ returns-clause-part g c = λ tells.
     let after = (g.D.Door.view c.write_later.new.door).state in
     subst (λ (items : List Resolved). OnErr c.write_later.result (WroteFirst (items_text view family items) old after)) (sym c.in-Some.ensures.cases.0)
     (err_then c.write_later.result (c.write_later.ensures.part tells)
-    (part_of_second (resolved_text view family c.in-Some.first.now) (flat_map (behind_comma view family) c.in-Some.later.now) old now after (c.in_ok-write_item.ensures.ok tells)))
+    (part_of_second (resolved_text view family c.in-Some.first.now) (flat_map (behind_comma (resolved_text view family)) c.in-Some.later.now) old now after (c.in_ok-write_item.ensures.ok tells)))

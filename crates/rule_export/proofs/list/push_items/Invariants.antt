@@ -1,5 +1,5 @@
 use Rattle.std.proofs.Common.{◌≡◌, ◌+◌, ◌++◌, drop, map, Some}
-use Rattle.rule_export.specs.Resolved.{items_from}
+use Rattle.rule_export.specs.Listed.{items_from}
 use Rattle.rule_export.proofs.list.push_items.Given as goal
 
 abbrev pub invariant-loop-network : goal.invariant-loop-network

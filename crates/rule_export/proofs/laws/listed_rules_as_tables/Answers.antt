@@ -1,0 +1,5 @@
+use Rattle.rule_export.proofs.ListedLaws.{listed_alike}
+use Rattle.rule_export.proofs.laws.listed_rules_as_tables.Goals as goal
+
+pub returns : goal.returns
+returns c = listed_alike

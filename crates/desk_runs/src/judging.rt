@@ -24,7 +24,7 @@ use sorted_rows::Steps;
 use std::alloc::Global;
 use std::marker::Brand;
 use std::sync::ledger::{Blank, Ledger};
-use text_lines::append_decimal;
+use text_lines::append_two;
 
 /// The seconds of a packet as a moment. No number of 32 bits is after the last moment.
 pub fn moment_of(packet: &Captured<'_>) -> Moment
@@ -50,7 +50,7 @@ pub fn judge_packet<L: Ledger>(
 }
 
 /// Adds the line of a packet: its number, its seconds, and the verdict on it.
-#[tactic(auto, unfolding(crate::specs::Judged::judged_line, text_lines::specs::Numbers::number_text))]
+#[tactic(auto, unfolding(crate::specs::Judged::judged_line, text_lines::specs::Numbers::number_text, text_lines::specs::Numbers::two_text))]
 pub fn append_judged(
     lines: &mut Bytes,
     packet: &Captured<'_>,
@@ -58,10 +58,7 @@ pub fn append_judged(
 ) -> Result<(), Memory>
     ensures { OnOk result (lines.new ≡ lines.old ++ judged_line (packet_of packet.now) verdict.now) }
 {
-    append_decimal(lines, u64::from(packet.number))?;
-    lines.push(b' ')?;
-    append_decimal(lines, u64::from(packet.seconds))?;
-    lines.push(b' ')?;
+    append_two(lines, packet.number, packet.seconds)?;
     append_verdict(lines, verdict)?;
     lines.push(b'\n')
 }

@@ -1,5 +1,5 @@
 //! The texts of rulings and verdicts.
-ghost use Rattle.std.specs.Prelude.{◌≡◌, ◌++◌, OnOk, codes};
+ghost use Rattle.std.specs.Prelude.{◌≡◌, ◌++◌, OnOk, decimal};
 ghost use Rattle.reply_lines.specs.Verdicts as spec;
 
 use crate::verdict_words::{default_name, part_name, passing, why_name};
@@ -39,24 +39,13 @@ pub fn append_ruling(line: &mut Bytes, ruling: Ruling) -> Result<(), Memory>
     }
 }
 
-/// Adds the ruling of an end behind its name, where the end is a Thing. Most are those of an entry
-/// that accepts, so the name comes with the word for that too, and both are added at once.
-#[tactic(auto, unfolding(crate::specs::Verdicts::end_text, crate::specs::Verdicts::ruling_text))]
-fn append_end(
-    line: &mut Bytes,
-    name: &[u8],
-    accepted: &[u8],
-    ruling: Option<Ruling>,
-) -> Result<(), Memory>
-    requires { accepted.now ≡ name.now ++ codes "accept:" }
+/// Adds the ruling of an end behind its name, where the end is a Thing.
+#[tactic(auto, unfolding(crate::specs::Verdicts::end_text))]
+fn append_end(line: &mut Bytes, name: &[u8], ruling: Option<Ruling>) -> Result<(), Memory>
     ensures { OnOk result (line.new ≡ line.old ++ spec.end_text name.now ruling) }
 {
     match ruling {
         None => Ok(()),
-        Some(Ruling::Accept(number)) => {
-            line.append(accepted)?;
-            append_decimal(line, u64::from(number))
-        }
         Some(ruling) => {
             line.append(name)?;
             append_ruling(line, ruling)
@@ -74,18 +63,44 @@ fn append_reason(line: &mut Bytes, verdict: &Verdict) -> Result<(), Memory>
         Verdict::Link => line.append(b" link"),
         Verdict::Unreadable(part) => append_unreadable(line, *part),
         Verdict::Governed(source, destination) => {
-            append_end(line, b" from=", b" from=accept:", *source)?;
-            append_end(line, b" to=", b" to=accept:", *destination)
+            append_end(line, b" from=", *source)?;
+            append_end(line, b" to=", *destination)
         }
     }
 }
 
-/// Adds a verdict: `pass` or `drop`, and the ruling of each end that is a Thing, or why none is
-/// ruled on.
+/// Adds `pass` or `drop`, and the rulings or what stands in place of them.
 #[tactic(auto, unfolding(crate::specs::Verdicts::verdict_text))]
-pub fn append_verdict(line: &mut Bytes, verdict: &Verdict) -> Result<(), Memory>
+fn append_words(line: &mut Bytes, verdict: &Verdict) -> Result<(), Memory>
     ensures { OnOk result (line.new ≡ line.old ++ spec.verdict_text verdict.now) }
 {
     line.append(passing(verdict).as_bytes())?;
     append_reason(line, verdict)
+}
+
+/// Adds the verdict on a packet that passes since an entry of this number accepts it at its one end
+/// that is a Thing: these words, and the number.
+fn append_accepted(line: &mut Bytes, words: &[u8], number: u16) -> Result<(), Memory>
+    ensures { OnOk result (line.new ≡ line.old ++ (words.now ++ decimal number)) }
+{
+    line.append(words)?;
+    append_decimal(line, u64::from(number))
+}
+
+/// Adds a verdict: `pass` or `drop`, and the ruling of each end that is a Thing, or why none is
+/// ruled on.
+#[tactic(auto, unfolding(crate::specs::Verdicts::verdict_text, crate::specs::Verdicts::passing_text, crate::specs::Verdicts::reason_text, crate::specs::Verdicts::end_text, crate::specs::Verdicts::ruling_text, packet_judge::specs::Verdicts::forwarded, packet_judge::specs::Verdicts::accepts))]
+pub fn append_verdict(line: &mut Bytes, verdict: &Verdict) -> Result<(), Memory>
+    ensures { OnOk result (line.new ≡ line.old ++ spec.verdict_text verdict.now) }
+{
+    match verdict {
+        // Most packets are between a Thing and a peer that is none, so their words are added at once.
+        Verdict::Governed(Some(Ruling::Accept(number)), None) => {
+            append_accepted(line, b"pass from=accept:", *number)
+        }
+        Verdict::Governed(None, Some(Ruling::Accept(number))) => {
+            append_accepted(line, b"pass to=accept:", *number)
+        }
+        _ => append_words(line, verdict),
+    }
 }

@@ -1,5 +1,6 @@
 //! What is kept of a connection, and what follows from it.
-ghost use Rattle.std.specs.Prelude.{◌≡◌};
+ghost use Rattle.std.specs.Prelude.{◌≡◌, ◌-◌, nat_le};
+ghost use Rattle.mud_tables.specs.Limits.{most_pause};
 ghost use Rattle.flow_table.specs.Kept as spec;
 
 use mud_base::Moment;
@@ -16,15 +17,17 @@ pub(crate) fn beginner_kept(kept: Option<Begun>, now: Moment) -> Option<Endpoint
     ensures { result ≡ spec.beginner_kept kept now }
 {
     match kept {
-        Some((began, at)) => {
-            if now.seconds().saturating_sub(at.seconds()) <= MOST_PAUSE {
-                Some(began)
-            } else {
-                None
-            }
-        }
+        Some((began, at)) => { if is_kept(at, now) { Some(began) } else { None } }
         None => None,
     }
+}
+
+/// Whether a connection whose last packet was at this moment is kept at a later one: that was no more
+/// than [`MOST_PAUSE`] seconds ago.
+fn is_kept(at: Moment, now: Moment) -> bool
+    ensures { result ≡ nat_le (now - at) most_pause }
+{
+    now.seconds().saturating_sub(at.seconds()) <= MOST_PAUSE
 }
 
 /// What is kept of two ends after a packet between them: a packet that opens begins the connection
@@ -41,6 +44,29 @@ pub(crate) fn kept_after(packet: &Segment, kept: Option<Begun>) -> Option<Begun>
         match beginner_kept(kept, packet.at) {
             Some(began) => Some((began, packet.at)),
             None => None,
+        }
+    }
+}
+
+/// Writes what is kept of two ends after a packet between them in place of what was kept. For most
+/// packets that is the moment alone.
+#[tactic(auto, unfolding(crate::specs::Kept::kept_after, crate::specs::Kept::beginner_kept, mud_tables::specs::History::with_moment))]
+pub(crate) fn keep_up(kept: &mut Option<Begun>, packet: &Segment)
+    ensures { kept.new ≡ spec.kept_after packet.now kept.old }
+{
+    if packet.opens() {
+        *kept = Some((packet.source, packet.at));
+        return;
+    }
+    if packet.resets() {
+        *kept = None;
+        return;
+    }
+    if let Some((_, at)) = kept {
+        if is_kept(*at, packet.at) {
+            *at = packet.at;
+        } else {
+            *kept = None;
         }
     }
 }

@@ -7,7 +7,7 @@ ghost use Rattle.flow_table.specs.Kept.{HasNoted, is_since, begun_kept};
 ghost use Rattle.flow_table.specs.Held.{held_at, place_at, place_first, filled, with_newest, flows_of, IsWritten};
 ghost use Rattle.flow_table.specs.Planned.{segment_planned, IsPlanned};
 
-use crate::kept::{Begun, beginner_kept, kept_after};
+use crate::kept::{Begun, beginner_kept, keep_up, kept_after};
 use crate::key::Key;
 use crate::pairs::key_of;
 use mud_base::{Direction, Fields, Memory, Moment};
@@ -244,7 +244,7 @@ fn write_place(places: &mut BTreeMap<Key, Option<Begun>>, key: &Key, packet: &Se
 {
     match places.get_mut(key) {
         Some(place) => {
-            *place = kept_after(packet, *place);
+            keep_up(place, packet);
             true
         }
         None => false,

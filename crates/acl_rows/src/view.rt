@@ -1,5 +1,5 @@
 //! What a ruling reads: views that lend entries and rows.
-ghost use Rattle.std.specs.Prelude.{◌≡◌, ◌+◌, ◌-◌, ◌≤◌, length, slice_get, Some};
+ghost use Rattle.std.specs.Prelude.{◌≡◌, ◌+◌, ◌-◌, ◌≤◌, length, slice_get, Some, option_copied};
 ghost use Rattle.acl_rows.specs.ByAddress.{AreGroups};
 ghost use Rattle.acl_rows.specs.View as view;
 
@@ -160,6 +160,23 @@ impl<'a> RuleView<'a> {
             Some(part) => Some(part.again()),
             None => None,
         }
+    }
+
+    /// The part of the file, lent: it isn't copied.
+    pub fn file(&self) -> Option<&RulePart<'a>>
+        ensures { option_copied result ≡ self.now.file }
+    {
+        match &self.file {
+            Some(part) => Some(part),
+            None => None,
+        }
+    }
+
+    /// The part of the default entries, lent.
+    pub fn defaults(&self) -> &RulePart<'a>
+        ensures { result.now ≡ self.now.defaults }
+    {
+        &self.defaults
     }
 
     /// The part of the default entries.

@@ -63,11 +63,11 @@ fn rule_by_rows<L: Ledger>(
     ensures least { steps.old + count.least_steps question.now view.now + count.file_tested question.now view.now.file ≤ steps.new }
     ensures most { (b : ℕ) → count.FitsRows b view.now → steps.new ≤ steps.old + count.most_steps question.now b view.now }
 {
-    match view.file_part() {
-        None => default_ruling(question, &view.default_part(), Why::NoFile, steps),
-        Some(part) => match question.first_in(&part, steps) {
-            Some(n) => entry_ruling(&part, n),
-            None => default_ruling(question, &view.default_part(), Why::NoMatch, steps),
+    match view.file() {
+        None => default_ruling(question, view.defaults(), Why::NoFile, steps),
+        Some(part) => match question.first_in(part, steps) {
+            Some(n) => entry_ruling(part, n),
+            None => default_ruling(question, view.defaults(), Why::NoMatch, steps),
         },
     }
 }

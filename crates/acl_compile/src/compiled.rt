@@ -89,6 +89,7 @@ impl Compiled {
 
     /// What a ruling on packets with a Thing of this URL on this side reads: the entries of the
     /// policy that is held for the URL, where one is, and the default entries, and the rows of both.
+    #[inline(always)]
     pub fn view(&self, url: &MudUrl, side: Direction) -> RuleView<'_>
         ensures view { IsViewOf self.now.slots self.now.rows url.now side result }
         ensures kept { HasItsRows self.now }

@@ -271,6 +271,7 @@ fn held_for_url<'a>(slots: &'a [Option<Held>], place: u16, url: &MudUrl) -> Opti
 }
 
 /// The policy that is held for a URL, and its place, which is mostly the one that is guessed.
+#[inline(always)]
 pub(crate) fn find_guessed<'a>(
     slots: &'a [Option<Held>],
     places: &SortedRows<UrlPlace>,

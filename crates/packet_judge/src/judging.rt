@@ -110,6 +110,7 @@ fn end_ruling<A: Arbiter, L: Ledger>(
 
 /// The verdict on a frame that carries a packet.
 #[tactic(auto, unfolding(crate::specs::Verdicts::verdict_on, crate::specs::Verdicts::if_managed, crate::specs::Verdicts::is_managed, crate::specs::Verdicts::governed, crate::specs::Verdicts::steps_on, crate::specs::Verdicts::end_steps))]
+#[inline(always)]
 fn judge_packet<A: Arbiter, L: Ledger>(
     packet: &PacketView<'_>,
     arbiter: &A,
@@ -135,6 +136,7 @@ fn judge_packet<A: Arbiter, L: Ledger>(
 /// The verdict on a frame. Its steps are those of the rulings that the verdict takes: one for each
 /// end of a packet that is a Thing and isn't held. It takes no memory.
 #[tactic(auto, unfolding(crate::specs::Verdicts::verdict_on, crate::specs::Verdicts::if_managed, crate::specs::Verdicts::steps_on))]
+#[inline(always)]
 pub fn judge<A: Arbiter, L: Ledger>(frame: &Frame<'_>, arbiter: &A, steps: &mut Steps<L>) -> Verdict
     ensures verdict { result ≡ spec.verdict_on (A.ruling arbiter.now) (A.things arbiter.now) frame.now }
     ensures least { steps.old + spec.steps_on (A.least arbiter.now) (A.things arbiter.now) frame.now ≤ steps.new }

@@ -71,6 +71,7 @@ fn append_reason(line: &mut Bytes, verdict: &Verdict) -> Result<(), Memory>
 
 /// Adds `pass` or `drop`, and the rulings or what stands in place of them.
 #[tactic(auto, unfolding(crate::specs::Verdicts::verdict_text))]
+#[inline(never)]
 fn append_words(line: &mut Bytes, verdict: &Verdict) -> Result<(), Memory>
     ensures { OnOk result (line.new ≡ line.old ++ spec.verdict_text verdict.now) }
 {
@@ -90,6 +91,7 @@ fn append_accepted(line: &mut Bytes, words: &[u8], number: u16) -> Result<(), Me
 /// Adds a verdict: `pass` or `drop`, and the ruling of each end that is a Thing, or why none is
 /// ruled on.
 #[tactic(auto, unfolding(crate::specs::Verdicts::verdict_text, crate::specs::Verdicts::passing_text, crate::specs::Verdicts::reason_text, crate::specs::Verdicts::end_text, crate::specs::Verdicts::ruling_text, packet_judge::specs::Verdicts::forwarded, packet_judge::specs::Verdicts::accepts))]
+#[inline(always)]
 pub fn append_verdict(line: &mut Bytes, verdict: &Verdict) -> Result<(), Memory>
     ensures { OnOk result (line.new ≡ line.old ++ spec.verdict_text verdict.now) }
 {

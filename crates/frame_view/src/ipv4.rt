@@ -79,6 +79,7 @@ fn is_later_fragment(packet: &[u8]) -> bool
 
 /// What counts behind the header.
 #[tactic(auto, using(crate::proofs::Ipv4Headers::header_within, crate::proofs::Ipv4Headers::packet_long))]
+#[inline(always)]
 fn upper_octets(packet: &[u8]) -> &[u8]
     requires { IsTrue (spec.has_header packet.now) }
     ensures { result.now ≡ spec.upper_octets packet.now }
@@ -89,6 +90,7 @@ fn upper_octets(packet: &[u8]) -> &[u8]
 
 /// What the header of the upper layer says.
 #[tactic(auto, using(crate::proofs::Ipv4Headers::packet_long), unfolding(crate::specs::Ipv4::transport_in))]
+#[inline(always)]
 fn transport_in(packet: &[u8]) -> Result<Transport, Part>
     requires { IsTrue (spec.has_header packet.now) }
     ensures { result ≡ spec.transport_in packet.now }
@@ -101,6 +103,7 @@ fn transport_in(packet: &[u8]) -> Result<Transport, Part>
 
 /// What the headers say.
 #[tactic(auto, unfolding(crate::specs::Ipv4::fields_of))]
+#[inline(always)]
 fn fields_of(packet: &[u8]) -> Result<Fields, Part>
     ensures value { result ≡ spec.fields_of packet.now }
     ensures whole { OnOk result (IsTrue (spec.has_header packet.now)) }
@@ -123,6 +126,7 @@ fn fields_of(packet: &[u8]) -> Result<Fields, Part>
 
 /// Whether a packet with these fields is DHCP on the link itself (RFC 2131, 4.1).
 #[tactic(auto, unfolding(crate::specs::Ipv4::is_upkeep))]
+#[inline(always)]
 fn is_upkeep(fields: &Fields) -> bool
     ensures { result ≡ spec.is_upkeep fields.now }
 {
@@ -141,6 +145,7 @@ fn is_upkeep(fields: &Fields) -> bool
 
 /// The contents of a packet, or None where it keeps the link up.
 #[tactic(auto, unfolding(crate::specs::Ipv4::packet_of))]
+#[inline(always)]
 pub(crate) fn packet_of(packet: &[u8]) -> Result<Option<Contents<'_>>, Part>
     ensures { result ≡ spec.packet_of packet.now }
 {

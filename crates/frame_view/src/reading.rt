@@ -1,5 +1,5 @@
 //! What a frame is, by its headers from the outside inwards.
-ghost use Rattle.std.specs.Prelude.{◌≡◌, ◌≤◌, length};
+ghost use Rattle.std.specs.Prelude.{◌≡◌, ◌≤◌, length, drop};
 ghost use Rattle.frame_view.specs.Carried as spec;
 ghost use Rattle.frame_view.specs.Frame.{frame_of};
 
@@ -85,8 +85,46 @@ fn carried(typed: &[u8]) -> Result<Option<Contents<'_>>, Part>
     by_type(inner)
 }
 
-/// What a frame is. The views borrow it.
+/// What a frame carries in which the type of IPv4 stands first.
+#[tactic(auto, using(crate::proofs::Plain::plain_carried))]
+#[inline(always)]
+fn carried_plain(typed: &[u8]) -> Result<Option<Contents<'_>>, Part>
+    requires long { 2 ≤ length typed.now }
+    requires plain { spec.first_type typed.now ≡ 0x0800 }
+    ensures { result ≡ spec.carried typed.now }
+{
+    let (_, packet) = typed.split_at(TYPE_LEN);
+    ipv4::packet_of(packet)
+}
+
+/// What a frame with a whole head is, by what it carries.
 #[tactic(auto, unfolding(crate::specs::Frame::frame_of, crate::specs::Carried::payload_of))]
+#[inline(always)]
+fn answered<'a>(frame: &'a [u8], carried: Result<Option<Contents<'a>>, Part>) -> Frame<'a>
+    requires head { 14 ≤ length frame.now }
+    requires carried { carried ≡ spec.carried (drop 12 frame.now) }
+    ensures { result ≡ frame_of frame.now }
+{
+    match carried {
+        Ok(None) => Frame::Link(FrameView::new(frame)),
+        Ok(Some(contents)) => Frame::Packet(PacketView::new(frame, contents)),
+        Err(part) => Frame::Unreadable(Some(FrameView::new(frame)), part),
+    }
+}
+
+/// What a frame with a whole head is, whatever type stands first.
+#[inline(never)]
+fn view_of_any(frame: &[u8]) -> Frame<'_>
+    requires { 14 ≤ length frame.now }
+    ensures { result ≡ frame_of frame.now }
+{
+    let (_, typed) = frame.split_at(TYPE_PLACE);
+    answered(frame, carried(typed))
+}
+
+/// What a frame is. The views borrow it. In most frames the type of IPv4 stands first, and these are
+/// read apart from the others.
+#[tactic(auto, unfolding(crate::specs::Frame::frame_of))]
 pub fn view(frame: &[u8]) -> Frame<'_>
     ensures { result ≡ frame_of frame.now }
 {
@@ -94,9 +132,8 @@ pub fn view(frame: &[u8]) -> Frame<'_>
         return Frame::Unreadable(None, Part::Ethernet);
     }
     let (_, typed) = frame.split_at(TYPE_PLACE);
-    match carried(typed) {
-        Ok(None) => Frame::Link(FrameView::new(frame)),
-        Ok(Some(contents)) => Frame::Packet(PacketView::new(frame, contents)),
-        Err(part) => Frame::Unreadable(Some(FrameView::new(frame)), part),
+    if first_type(typed) == IPV4 {
+        return answered(frame, carried_plain(typed));
     }
+    view_of_any(frame)
 }

@@ -63,6 +63,7 @@ fn ports(octets: &[u8]) -> (u16, u16)
 
 /// A TCP header (RFC 9293, 3.1) without its options.
 #[tactic(auto, unfolding(crate::specs::Upper::tcp))]
+#[inline(always)]
 fn tcp(octets: &[u8]) -> Result<Transport, Part>
     ensures { result ≡ spec.tcp octets.now }
 {
@@ -79,6 +80,7 @@ fn tcp(octets: &[u8]) -> Result<Transport, Part>
 
 /// A UDP header (RFC 768).
 #[tactic(auto, unfolding(crate::specs::Upper::udp))]
+#[inline(always)]
 fn udp(octets: &[u8]) -> Result<Transport, Part>
     ensures { result ≡ spec.udp octets.now }
 {
@@ -94,6 +96,7 @@ fn udp(octets: &[u8]) -> Result<Transport, Part>
 
 /// What a datagram of UDP holds behind its header. Of another transport nothing is said.
 #[tactic(auto, unfolding(crate::specs::Upper::payload_of))]
+#[inline(always)]
 pub(crate) fn payload_of(transport: Transport, octets: &[u8]) -> &[u8]
     ensures { result.now ≡ spec.payload_of transport octets.now }
 {
@@ -122,6 +125,7 @@ fn icmp(octets: &[u8]) -> Result<Transport, Part>
 
 /// The header of the upper layer by its protocol number, where ICMP has the number `icmp_number`.
 #[tactic(auto, unfolding(crate::specs::Upper::transport_of))]
+#[inline(always)]
 pub(crate) fn transport_of(icmp_number: u8, protocol: u8, octets: &[u8]) -> Result<Transport, Part>
     ensures { result ≡ spec.transport_of icmp_number protocol octets.now }
 {

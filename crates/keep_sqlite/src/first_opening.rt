@@ -1,10 +1,12 @@
 //! The first opening of a path, whatever its file holds.
 ghost use Rattle.std.specs.Prelude.{◌≡◌, true, IfOk, IfErr};
+ghost use Rattle.sqlite.specs.Held.{state};
 ghost use Rattle.sqlite.specs.Files.{file_state, over_files, IsOpened};
 ghost use Rattle.sqlite.specs.Start.{FindsIn};
 ghost use Rattle.sqlite.specs.State.{HasCleanDisk};
 ghost use Rattle.sqlite.specs.WalFiles.{image_at};
 ghost use Rattle.keep_sqlite.specs.Refusals.{refusal_of};
+ghost use Rattle.keep_sqlite.specs.Rows.{held_items, MayMake};
 ghost use Rattle.keep_sqlite.specs.Reopened.{LeavesFile, ReadsFile};
 ghost use Rattle.keep_sqlite.specs.Telling.{database, told, IsUp, Tells};
 
@@ -12,7 +14,7 @@ use crate::SqliteKeeper;
 use crate::refusal::{Refusal, refusal_of};
 use mud_base::Listed;
 use mud_world::Item;
-use sqlite::{Connection, Error, FileFrom, FileStore, Leftover, Start};
+use sqlite::{Alter, Connection, Error, FileFrom, FileStore, Leftover, Start};
 use std::alloc::Global;
 
 /// A keeper of the file at the path, and the items that the file held. `S` stands for what the file
@@ -34,6 +36,26 @@ pub fn open_at<S: Start>(
     ensures opened { IfOk result (λ opened. opened.0.has_opened ≡ true) }
 {
     let connection = connect(rt, path, start)?;
+    let opened = open_over(alloc, connection)?;
+    Ok(opened)
+}
+
+/// A keeper over the connection, and the items that its database held. It is one call over any
+/// store, since each call at the store of a file is proved at length.
+fn open_over<S: Alter + Drop>(
+    alloc: Global,
+    connection: Connection<S>,
+) -> Result<(SqliteKeeper<S>, Listed<Item>), Refusal>
+    ensures found { IfOk result (λ opened. HasCleanDisk (state S.Store opened.0.connection)
+        → opened.1 ≡ held_items (state S.Store connection).now) }
+    ensures opens { IfOk result (λ opened. IsUp S.Store opened.0.connection → IsUp S.Store connection) }
+    ensures kept { IfOk result (λ opened. IsUp S.Store opened.0.connection
+        → MayMake (state S.Store connection).now (database S.Store opened.0)) }
+    ensures tells { IfOk result (λ opened. HasCleanDisk (state S.Store opened.0.connection)
+        → Tells S.Store opened.0) }
+    ensures items { IfOk result (λ opened. Tells S.Store opened.0 → opened.1 ≡ told S.Store opened.0) }
+    ensures opened { IfOk result (λ opened. opened.0.has_opened ≡ true) }
+{
     let mut opened = SqliteKeeper::adopt(connection);
     let items = opened.read(alloc)?;
     Ok((opened, items))

@@ -1,7 +1,8 @@
 //! A keeper over the database file at a path.
-ghost use Rattle.std.specs.Prelude.{◌≡◌, ◌↔◌, true, false, IsTrue, IsNone, IfOk, OnOk, OnErr, is_some, option_map};
+ghost use Rattle.std.specs.Prelude.{◌≡◌, ◌↔◌, true, false, not, IsTrue, IsNone, IfOk, IfSome, OnOk, OnErr, is_some};
 ghost use Rattle.std.specs.Option.{ForSome};
 ghost use Rattle.mud_world.specs.Items.{is_batch, put_all};
+ghost use Rattle.sqlite.specs.Files.{over_files};
 ghost use Rattle.keep_sqlite.specs.Refusals.{refused, told_of};
 ghost use Rattle.keep_sqlite.specs.Files.{file_items, found_items, FileTells, FoundTells};
 ghost use Rattle.keep_sqlite.specs.Telling.{told, Tells};
@@ -56,15 +57,9 @@ impl PathKeeper {
         ensures none { IsNone result ↔ (has_opened self ≡ false) }
         ensures connection { result ≡ connection_of self }
     {
-        connection_in(self.keeper)
+        let opened = self.keeper?;
+        Some(opened.connection)
     }
-}
-
-/// The connection of a keeper, if there is one.
-fn connection_in<S: Alter + Drop>(keeper: Option<SqliteKeeper<S>>) -> Option<Connection<S>>
-    ensures { result ≡ option_map (λ opened. opened.connection) keeper }
-{
-    keeper.map(SqliteKeeper::give_back)
 }
 
 /// The items of the file at the path: [`Keeper::open`].
@@ -83,9 +78,52 @@ fn read_path(
     ensures opened { OnOk result (is_some keeper.new ≡ true) }
     ensures still { OnErr result (is_some keeper.new ≡ is_some keeper.old) }
 {
+    let first = first_answer(alloc, rt, path, keeper);
+    read_or_take(alloc, first, keeper)
+}
+
+/// What a first opening of the path answers, where the file wasn't opened yet.
+fn first_answer(
+    alloc: Global,
+    rt: &HostRuntime,
+    path: &str,
+    keeper: &Option<SqliteKeeper<FileStore<File>>>,
+) -> Option<Result<(SqliteKeeper<FileStore<File>>, Listed<Item>), Refusal>>
+    ensures none { is_some result ≡ not (is_some keeper.now) }
+    ensures items { IfSome result (λ answer. IfOk answer (λ opened.
+        Tells over_files opened.0 → opened.1 ≡ told over_files opened.0)) }
+    ensures opened { IfSome result (λ answer. IfOk answer (λ opened. opened.0.has_opened ≡ true)) }
+{
     match keeper {
-        Some(_) => read_found(alloc, keeper),
-        None => keep_first(open_at(alloc, rt, path, Unknown), keeper),
+        Some(_) => None,
+        None => Some(open_at(alloc, rt, path, Unknown)),
+    }
+}
+
+/// The items of a keeper that was opened, or else those that its first opening answered. It is one
+/// call over any store, since each call at the store of a file is proved at length.
+fn read_or_take<S: Alter + Drop>(
+    alloc: Global,
+    first: Option<Result<(SqliteKeeper<S>, Listed<Item>), Refusal>>,
+    keeper: &mut Option<SqliteKeeper<S>>,
+) -> Result<Listed<Item>, Refusal>
+    requires none { is_some first ≡ not (is_some keeper.old) }
+    requires each { ForSome keeper.old (λ opened. IsTrue opened.has_opened) }
+    requires items { IfSome first (λ answer. IfOk answer (λ opened.
+        Tells S.Store opened.0 → opened.1 ≡ told S.Store opened.0)) }
+    requires opened { IfSome first (λ answer. IfOk answer (λ opened. opened.0.has_opened ≡ true)) }
+    ensures items { FoundTells S.Store keeper.new
+        → IfOk result (λ list. list ≡ found_items S.Store keeper.new) }
+    ensures same { FoundTells S.Store keeper.old → FoundTells S.Store keeper.new
+        → found_items S.Store keeper.new ≡ found_items S.Store keeper.old }
+    ensures told { FoundTells S.Store keeper.new → OnErr result (FoundTells S.Store keeper.old) }
+    ensures each { ForSome keeper.new (λ opened. IsTrue opened.has_opened) }
+    ensures opened { OnOk result (is_some keeper.new ≡ true) }
+    ensures still { OnErr result (is_some keeper.new ≡ is_some keeper.old) }
+{
+    match first {
+        None => read_found(alloc, keeper),
+        Some(answer) => keep_first(answer, keeper),
     }
 }
 

@@ -23,7 +23,7 @@ use std::marker::Model;
 /// one transaction.
 #[derive(Drop)]
 pub struct SqliteKeeper<S: Alter + Drop> {
-    connection: Connection<S>,
+    pub(crate) connection: Connection<S>,
     /// Whether an `open` has answered Ok.
     has_opened: bool,
     /// How often a call has failed.

@@ -1,7 +1,8 @@
-use Rattle.std.proofs.Common.{inl, ap, subst, ◌∙◌}
+use Rattle.std.proofs.Common.{inl, ap, subst, sym, ◌∙◌}
 use Rattle.std.proofs.lemmas.Result.{on_ok_weaker}
-use Rattle.keep_sqlite.specs.Rows.{HoldsItems}
-use Rattle.keep_sqlite.specs.Telling.{database, told, Tells}
+use Rattle.mud_world.specs.Items.{put_all}
+use Rattle.keep_sqlite.specs.Rows.{items_of, HoldsItems}
+use Rattle.keep_sqlite.specs.Telling.{database, told, MayLeave, Tells}
 use Rattle.keep_sqlite.proofs.Tellings.{put_told}
 use Rattle.keep_sqlite.proofs.sqlite_keeper.SqliteKeeper.keep.Goals as goal
 
@@ -18,3 +19,10 @@ returns-clause-ok g c tells =
     let opened = ap (λ k. k.has_opened) c.self.view_is ∙ e.opened ∙ c.requires.opened in
     let holds = subst (λ k. HoldsItems (database g.S.Store k)) c.self.view_is (c.self.invariant opened tells.0) in
     on_ok_weaker c.put_in-answer.result (λ put. ap (told g.S.Store) c.self.view_is ∙ put_told _ _ c.args.batch.now (e.held up) holds put) (e.ok up)
+
+pub returns-clause-opened : goal.returns-clause-opened
+returns-clause-opened g c = ap (λ k. k.has_opened) c.self.view_is ∙ c.put_in-answer.ensures.opened
+
+pub returns-clause-crash : goal.returns-clause-crash
+returns-clause-crash g c =
+    subst (λ k. MayLeave g.S.Store c.args.self.now k (put_all (items_of (database g.S.Store c.args.self.now)) c.args.batch.now)) (sym c.self.view_is) c.put_in-answer.ensures.crash

@@ -27,6 +27,7 @@ test:
 
 checks: build
 	bash checks/pages
+	bash checks/words
 	checks/definitions
 	checks/definitions --print >/dev/null
 	checks/proofs >/dev/null
@@ -35,11 +36,11 @@ checks: build
 	bash checks/sessions
 	bash checks/console
 	bash checks/store
-	bash checks/tour
+	bash checks/shown-commands
 	bash checks/views
 	bash checks/contrib
 	bash checks/network
-	bash checks/strangers
+	bash checks/hostile-inputs
 	checks/failures
 	checks/differential crates/mud/out/mud 1 10000
 	checks/differential crates/mud/out/mud 2 10000 200

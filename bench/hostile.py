@@ -9,7 +9,7 @@
                                  gives one octet; the file USED gets the microseconds of processor time
                                  that it took, and the status is the program's
 
-The forms of the items and frames are those of bench/made.py.
+The forms of the items and frames are those of bench/inputs.py.
 """
 
 import json
@@ -21,7 +21,7 @@ import struct
 import subprocess
 import sys
 
-import made
+import inputs
 
 MOST_FILE = 262144
 MOST_MESSAGE = 65535
@@ -146,15 +146,15 @@ def extended_frame(source, extension, after):
     payload = chain + after
     head = struct.pack(">IHBB", 0x60000000, len(payload), kinds[0], 64)
     addresses = bytes.fromhex("20010db8000000000000000000000001" "20010db8000000000000000000000002")
-    return made.ROUTER + source + b"\x86\xdd" + head + addresses + payload
+    return inputs.ROUTER + source + b"\x86\xdd" + head + addresses + payload
 
 
 def make_captures(folder):
     syn = struct.pack(">HHIIBBHHH", 50000, 443, 1, 0, 0x50, 2, 65535, 0, 0)
-    mac = made.mac_of(0)
-    headers = made.packet(extended_frame(mac, 1, syn))
-    long_headers = made.packet(extended_frame(mac, 256, syn))
-    empty = struct.pack("<IIII", made.MOMENT, 0, 0, 0)
+    mac = inputs.mac_of(0)
+    headers = inputs.packet(extended_frame(mac, 1, syn))
+    long_headers = inputs.packet(extended_frame(mac, 256, syn))
+    empty = struct.pack("<IIII", inputs.MOMENT, 0, 0, 0)
     for size, part in SIZES:
         write_capture(f"{folder}/headers.{size}", [headers] * 1000, 500 // part)
         write_capture(f"{folder}/long.{size}", [long_headers] * 100, 100 // part)
@@ -167,7 +167,7 @@ def answer_frame(message):
     """A frame with which the DNS server answers the first Thing."""
     transport = struct.pack(">HHHH", 53, 40000, 8 + len(message), 0) + message
     head = struct.pack(">BBHHHBBH", 0x45, 0, 20 + len(transport), 1, 0, 64, 17, 0)
-    return made.mac_of(0) + made.ROUTER + b"\x08\0" + head + made.DNS_SERVER + made.address_of(0) + transport
+    return inputs.mac_of(0) + inputs.ROUTER + b"\x08\0" + head + inputs.DNS_SERVER + inputs.address_of(0) + transport
 
 
 def dns_answer(question, answers, count):
@@ -197,20 +197,20 @@ def renewing(most, turn):
     question = b"\1a\0" + struct.pack(">HH", 1, 1)
     count = (most - 12 - len(question)) // 16
     seconds = range(1 + turn * count, 1 + (turn + 1) * count)
-    answers = [b"\xc0\x0c" + struct.pack(">HHIH", 1, 1, ttl, 4) + made.peer_of(0, 0) for ttl in seconds]
+    answers = [b"\xc0\x0c" + struct.pack(">HHIH", 1, 1, ttl, 4) + inputs.peer_of(0, 0) for ttl in seconds]
     return dns_answer(question, b"".join(answers), count)
 
 
 def make_answers(folder):
-    longest = made.packet(answer_frame(pointing(MOST_DATAGRAM)))
-    common = made.packet(answer_frame(pointing(COMMON_DATAGRAM)))
+    longest = inputs.packet(answer_frame(pointing(MOST_DATAGRAM)))
+    common = inputs.packet(answer_frame(pointing(COMMON_DATAGRAM)))
     for size, part in SIZES:
         write_capture(f"{folder}/pointers.{size}", [longest], 20 // part)
         write_capture(f"{folder}/pointing.{size}", [common], 20000 // part)
-        renewals = [made.packet(answer_frame(renewing(COMMON_DATAGRAM, turn))) for turn in range(50 // part)]
+        renewals = [inputs.packet(answer_frame(renewing(COMMON_DATAGRAM, turn))) for turn in range(50 // part)]
         write_capture(f"{folder}/renewals.{size}", renewals)
-    server = (3, b"\1urn:ietf:params:mud:dns", b"\1\0\1\4" + made.DNS_SERVER)
-    write_store(f"{folder}/dns.db", [thing_item(0, 1, made.url_of(0)), server, stamp()])
+    server = (3, b"\1urn:ietf:params:mud:dns", b"\1\0\1\4" + inputs.DNS_SERVER)
+    write_store(f"{folder}/dns.db", [thing_item(0, 1, inputs.url_of(0)), server, stamp()])
 
 
 def begins(path, count):
@@ -220,7 +220,7 @@ def begins(path, count):
     packets = []
     for number in order:
         peer = bytes([198, 18, 0, 1 + number // 62500])
-        packets.append(made.packet(made.tcp_frame(made.mac_of(0), made.address_of(0), peer, 1024 + number % 62500, 2)))
+        packets.append(inputs.packet(inputs.tcp_frame(inputs.mac_of(0), inputs.address_of(0), peer, 1024 + number % 62500, 2)))
     write_capture(path, packets)
 
 
@@ -230,7 +230,7 @@ def bulb_store(path):
         {
             "ietf-mud:mud": {
                 "mud-version": 1,
-                "mud-url": made.url_of(0),
+                "mud-url": inputs.url_of(0),
                 "last-update": "2019-01-28T11:20:51Z",
                 "is-supported": True,
                 "from-device-policy": {"access-lists": {"access-list": [{"name": "all"}]}},
@@ -246,7 +246,7 @@ def bulb_store(path):
             },
         }
     ).encode()
-    items = [thing_item(0, 1, made.url_of(0)), file_item(made.url_of(0), text, None), stamp()]
+    items = [thing_item(0, 1, inputs.url_of(0)), file_item(inputs.url_of(0), text, None), stamp()]
     write_store(path, items)
 
 
@@ -263,7 +263,7 @@ def write_store(path, items):
 
 
 def stamp():
-    return (6, b"", b"\1" + struct.pack(">Q", made.MOMENT))
+    return (6, b"", b"\1" + struct.pack(">Q", inputs.MOMENT))
 
 
 def addresses_of(kind, number, count):
@@ -272,18 +272,18 @@ def addresses_of(kind, number, count):
 
 
 def with_ends(addresses):
-    return struct.pack(">H", len(addresses)) + b"".join(map(made.ending, addresses))
+    return struct.pack(">H", len(addresses)) + b"".join(map(inputs.ending, addresses))
 
 
 def thing_item(thing, leases, url):
-    addresses = [made.address_of(thing)] if leases == 1 else addresses_of(10, thing, leases)
-    return (1, made.mac_of(thing), b"\2" + made.string(url.encode()) + b"\0" + with_ends(addresses) + b"\0")
+    addresses = [inputs.address_of(thing)] if leases == 1 else addresses_of(10, thing, leases)
+    return (1, inputs.mac_of(thing), b"\2" + inputs.string(url.encode()) + b"\0" + with_ends(addresses) + b"\0")
 
 
 def file_item(url, approved, candidate):
-    body = b"\1\1" + struct.pack(">Q", made.MOMENT) + b"\2" + made.string(approved)
+    body = b"\1\1" + struct.pack(">Q", inputs.MOMENT) + b"\2" + inputs.string(approved)
     if candidate is not None:
-        body += b"\1" + struct.pack(">Q", made.MOMENT) + made.string(candidate)
+        body += b"\1" + struct.pack(">Q", inputs.MOMENT) + inputs.string(candidate)
     else:
         body += b"\0"
     return (2, url.encode(), body)
@@ -342,12 +342,12 @@ def full_store(path, part):
 
 # ---- Requests
 
-def request(target, body, method="POST", moment=made.MOMENT):
-    return made.request(method, target, moment, body)
+def request(target, body, method="POST", moment=inputs.MOMENT):
+    return inputs.request(method, target, moment, body)
 
 
 def observed(name, address, moment, ttl):
-    body = made.stated(name=name, address=address, ttl=ttl)
+    body = inputs.stated(name=name, address=address, ttl=ttl)
     return request("/names", body, moment=moment)
 
 
@@ -367,14 +367,14 @@ def make_requests(folder):
                 for number in range(64):
                     for name in range(names):
                         address = f"198.18.{name % 256}.{number}"
-                        requests.write(observed(f"host{name}.example.com", address, made.MOMENT + turn, 86400))
+                        requests.write(observed(f"host{name}.example.com", address, inputs.MOMENT + turn, 86400))
     for size, part in SIZES:
         new = [observed(f"new{n}.example.com", "198.18.0.1", 5000, 60) for n in range(1000 // part)]
         put(folder, "new-names", size, b"".join(new))
-        ended = made.request("DELETE", "/leases", 5000, made.stated(address="10.0.0.0"))
-        leased = request("/leases", made.stated(mac=made.mac_of(0).hex(":"), address="10.0.0.0", seconds=3600), moment=5000)
+        ended = inputs.request("DELETE", "/leases", 5000, inputs.stated(address="10.0.0.0"))
+        leased = request("/leases", inputs.stated(mac=inputs.mac_of(0).hex(":"), address="10.0.0.0", seconds=3600), moment=5000)
         put(folder, "leases", size, (ended + leased) * (100 // part))
-        frame = made.tcp_frame(made.mac_of(0), bytes([10, 0, 0, 0]), bytes([10, 0, 1, 1]), 50000, 2)
+        frame = inputs.tcp_frame(inputs.mac_of(0), bytes([10, 0, 0, 0]), bytes([10, 0, 1, 1]), 50000, 2)
         put(folder, "packets", size, request("/packets", frame, moment=5000) * (100000 // part))
 
 
@@ -384,8 +384,8 @@ def names_store(path):
     items = []
     for number in range(4096):
         addresses = addresses_of(12, number, 64)
-        ends = [4000] * 63 + [made.FOR_EVER]
-        rows = b"".join(made.ending(address, end) for address, end in zip(addresses, ends))
+        ends = [4000] * 63 + [inputs.FOR_EVER]
+        rows = b"".join(inputs.ending(address, end) for address, end in zip(addresses, ends))
         items.append((5, b"host%d.example.com" % number, b"\1" + struct.pack(">H", 64) + rows))
     write_store(path, items + [stamp()])
 

@@ -6,8 +6,8 @@ use Rattle.acl_model.specs.FirstMatch.{entries_of}
 use Rattle.acl_rows.specs.Rows.{rows_of, all_rows, holders_from, holder_rows, side_rows, entry_rows, numbered, default_held, held_by, slot_policy}
 use Rattle.acl_rows.specs.View.{holder_from}
 use Rattle.acl_compile.specs.Compiled.{UrlsApart}
-use Rattle.acl_compile.specs.Plans.{place_held}
-use Rattle.acl_compile.specs.Places.{ArePlacesOf, IsSoundWithPlaces}
+use Rattle.acl_compile.specs.Plans.{slot_held}
+use Rattle.acl_compile.specs.UrlSlots.{AreSlotsOf, IsSoundWithSlots}
 
 no_rows : rows_of [] [] ≡ []
 unfolding rows_of all_rows holders_from holder_rows side_rows entry_rows numbered default_held entries_of
@@ -17,9 +17,9 @@ none_held : UrlsApart []
 unfolding held_by slot_policy
 none_held i j h g is is' same = absurd (none-some h is)
 
-no_places : ArePlacesOf [] []
-unfolding place_held holder_from
-no_places url = refl
+no_url_slots : AreSlotsOf [] []
+unfolding slot_held holder_from
+no_url_slots url = refl
 
-pub nothing_is_sound : IsSoundWithPlaces [] [] [] default_policy []
-nothing_is_sound = record { sound = record { rows_are = sym no_rows; few = omega arith; apart = none_held; defaults_are = refl }; places_are = no_places }
+pub nothing_is_sound : IsSoundWithSlots [] [] [] default_policy []
+nothing_is_sound = record { sound = record { rows_are = sym no_rows; few = omega arith; apart = none_held; defaults_are = refl }; url_slots_are = no_url_slots }

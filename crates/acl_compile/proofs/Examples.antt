@@ -91,7 +91,7 @@ two_go : rows_apart (rows_of approved bindings) (rows_of approved (replaced leas
 unfolding rows_on_literals acl_on_literals slot_set same_row is_missing rows_apart
 two_go = refl
 
--- just two places are looked at: the second entry of the bulb's file and the first one of the switch's, at its address
+-- just two sort keys are looked at: the second entry of the bulb's file and the first one of the switch's, at its address
 two_touched : length (touches approved lease) ≡ 2
 unfolding rows_on_literals acl_on_literals slot_set entry_touch side_touches holder_touches binding_touches touches
 two_touched = refl

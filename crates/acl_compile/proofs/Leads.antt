@@ -10,9 +10,9 @@ use Rattle.std.proofs.lemmas.Cmp.{ranked}
 use Rattle.std.proofs.lemmas.List.{get_or-reverse, length-reverse}
 use Rattle.std.proofs.lemmas.Nat.{mul-add-lt}
 use Rattle.std.proofs.Math.ListN.{get_or-eq_default}
-use Rattle.sorted_rows.specs.Placed.{place_cmp}
+use Rattle.sorted_rows.specs.Sortable.{sort_key_cmp}
 use Rattle.sorted_rows.proofs.Orders.{equal_numbers}
-use Rattle.acl_compile.specs.Places.{lead, AreOctets}
+use Rattle.acl_compile.specs.UrlSlots.{lead, AreOctets}
 
 -- ---- A digit in front of a number
 
@@ -59,7 +59,7 @@ then_by Equal a b same = same refl
 then_by Greater a b same = refl
 
 -- where the numbers differ, they decide
-pub lead_apart : (n : ℕ) (p q : List ℕ) → AreOctets p → AreOctets q → (lead n 0 p ≡ lead n 0 q → ⊥) → nat_cmp (lead n 0 p) (lead n 0 q) ≡ place_cmp p q
+pub lead_apart : (n : ℕ) (p q : List ℕ) → AreOctets p → AreOctets q → (lead n 0 p ≡ lead n 0 q → ⊥) → nat_cmp (lead n 0 p) (lead n 0 q) ≡ sort_key_cmp p q
 unfolding lead
 lead_apart zero p q op oq apart = absurd (apart refl)
 lead_apart (suc n) [] [] op oq apart = absurd (apart refl)
@@ -72,7 +72,7 @@ lead_apart (suc n) (x ∷ p) [] op oq apart =
 lead_apart (suc n) (x ∷ p) (y ∷ q) op oq apart =
     ap₂ (λ a b. nat_cmp (x * 256 ^ n + a) (y * 256 ^ n + b)) (moved n 0 x p) (moved n 0 y q)
     ∙ digit (256 ^ n) x y (lead n 0 p) (lead n 0 q) (small n 0 p (λ k. op (suc k))) (small n 0 q (λ k. oq (suc k)))
-    ∙ then_by (nat_cmp x y) (nat_cmp (lead n 0 p) (lead n 0 q)) (place_cmp p q)
+    ∙ then_by (nat_cmp x y) (nat_cmp (lead n 0 p) (lead n 0 q)) (sort_key_cmp p q)
     (λ same. lead_apart n p q (λ k. op (suc k)) (λ k. oq (suc k))
     (λ e. apart (ap₂ (λ (a b : ℕ). a * 256 ^ n + b) (equal_numbers x y same) (moved n 0 x p ∙ e ∙ sym (moved n 0 y q)))))
 

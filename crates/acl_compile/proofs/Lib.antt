@@ -1,5 +1,5 @@
 pub mod CompiledLaws
-pub mod PlaceLaws
+pub mod UrlSlotLaws
 pub mod PlanLaws
 pub mod SlotLaws
 mod TextOrder

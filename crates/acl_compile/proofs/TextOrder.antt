@@ -5,7 +5,7 @@ use Rattle.std.specs.declared.cmp.Ordering.TheVariants.{Less, Equal, Greater}
 use Rattle.std.proofs.lemmas.Bool.Decides.{leb_tells}
 use Rattle.std.proofs.lemmas.List.{get_or-reverse, length-reverse}
 use Rattle.std.specs.Cmp.{nat_cmp_is}
-use Rattle.sorted_rows.specs.Placed.{place_cmp}
+use Rattle.sorted_rows.specs.Sortable.{sort_key_cmp}
 use Rattle.sorted_rows.proofs.Orders.{behind, apart, alike}
 
 ended_by : (a b n : ℕ) → n ≤ a → a ≤ b → (n < a → n < b → ⊥) → ((leb a n ≡ true) × (a ≤ n)) ⊎ ((leb a n ≡ false) × (n < a)) → a ≡ n
@@ -15,7 +15,7 @@ ended_by a b n p s r (inr c) = absurd (r c.1 (omega (arith, c.1, s)))
 ended : (a b n : ℕ) → n ≤ a → n ≤ b → (n < a → n < b → ⊥) → a ≤ b → a ≡ n
 ended a b n p q r s = ended_by a b n p s r (leb_tells a n)
 
-short : (n : ℕ) (xs ys : List ℕ) → length xs ≡ n → n < length ys → place_cmp (drop n xs) (drop n ys) ≡ Less
+short : (n : ℕ) (xs ys : List ℕ) → length xs ≡ n → n < length ys → sort_key_cmp (drop n xs) (drop n ys) ≡ Less
 short zero [] [] p q = absurd (omega (arith, q))
 short zero [] (y ∷ ys) p q = refl
 short zero (x ∷ xs) ys p q = absurd (omega (arith, p))
@@ -23,7 +23,7 @@ short (suc n) [] ys p q = absurd (omega (arith, p))
 short (suc n) (x ∷ xs) [] p q = absurd (omega (arith, q))
 short (suc n) (x ∷ xs) (y ∷ ys) p q = short n xs ys (omega (arith, p)) (omega (arith, q))
 
-long : (n : ℕ) (xs ys : List ℕ) → n < length xs → length ys ≡ n → place_cmp (drop n xs) (drop n ys) ≡ Greater
+long : (n : ℕ) (xs ys : List ℕ) → n < length xs → length ys ≡ n → sort_key_cmp (drop n xs) (drop n ys) ≡ Greater
 long zero [] ys p q = absurd (omega (arith, p))
 long zero (x ∷ xs) [] p q = refl
 long zero (x ∷ xs) (y ∷ ys) p q = absurd (omega (arith, q))
@@ -31,7 +31,7 @@ long (suc n) [] ys p q = absurd (omega (arith, p))
 long (suc n) (x ∷ xs) [] p q = absurd (omega (arith, q))
 long (suc n) (x ∷ xs) (y ∷ ys) p q = long n xs ys (omega (arith, p)) (omega (arith, q))
 
-ends_by : (n : ℕ) (xs ys : List ℕ) → n ≤ length xs → n ≤ length ys → (n < length xs → n < length ys → ⊥) → ((leb (length xs) (length ys) ≡ true) × (length xs ≤ length ys)) ⊎ ((leb (length xs) (length ys) ≡ false) × (length ys < length xs)) → ((leb (length ys) (length xs) ≡ true) × (length ys ≤ length xs)) ⊎ ((leb (length ys) (length xs) ≡ false) × (length xs < length ys)) → nat_cmp (length xs) (length ys) ≡ place_cmp (drop n xs) (drop n ys)
+ends_by : (n : ℕ) (xs ys : List ℕ) → n ≤ length xs → n ≤ length ys → (n < length xs → n < length ys → ⊥) → ((leb (length xs) (length ys) ≡ true) × (length xs ≤ length ys)) ⊎ ((leb (length xs) (length ys) ≡ false) × (length ys < length xs)) → ((leb (length ys) (length xs) ≡ true) × (length ys ≤ length xs)) ⊎ ((leb (length ys) (length xs) ≡ false) × (length xs < length ys)) → nat_cmp (length xs) (length ys) ≡ sort_key_cmp (drop n xs) (drop n ys)
 ends_by n xs ys p q r (inl a) (inl b) =
     let same : length xs ≡ length ys = omega (arith, a.1, b.1) in
     let at : length xs ≡ n = ended (length xs) (length ys) n p q r a.1 in
@@ -43,7 +43,7 @@ ends_by n xs ys p q r (inr a) b =
     let at : length ys ≡ n = ended (length ys) (length xs) n q p (λ s t. r t s) (omega (arith, a.1)) in
     sym (nat_cmp_is (length xs) (length ys) Greater a.1) ∙ sym (long n xs ys (omega (arith, at, a.1)) at)
 
-ends : (n : ℕ) (xs ys : List ℕ) → n ≤ length xs → n ≤ length ys → (n < length xs → n < length ys → ⊥) → nat_cmp (length xs) (length ys) ≡ place_cmp (drop n xs) (drop n ys)
+ends : (n : ℕ) (xs ys : List ℕ) → n ≤ length xs → n ≤ length ys → (n < length xs → n < length ys → ⊥) → nat_cmp (length xs) (length ys) ≡ sort_key_cmp (drop n xs) (drop n ys)
 ends n xs ys p q r = ends_by n xs ys p q r (leb_tells (length xs) (length ys)) (leb_tells (length ys) (length xs))
 
 -- ---- Texts that are read from behind
@@ -71,18 +71,18 @@ turned xs n p = get_or-reverse xs n 0 p
 
 -- where the octets are the same, those in front decide
 alike_behind : (n : ℕ) (xs ys : List ℕ) → n < length xs → n < length ys → slice_index_or xs (length xs - 1 - n) 0 ≡ slice_index_or ys (length ys - 1 - n) 0
-    → place_cmp (drop n (reverse xs)) (drop n (reverse ys)) ≡ place_cmp (drop (n + 1) (reverse xs)) (drop (n + 1) (reverse ys))
+    → sort_key_cmp (drop n (reverse xs)) (drop n (reverse ys)) ≡ sort_key_cmp (drop (n + 1) (reverse xs)) (drop (n + 1) (reverse ys))
 alike_behind n xs ys p q e = alike n (reverse xs) (reverse ys) (omega (arith, p, length-reverse xs)) (omega (arith, q, length-reverse ys)) (turned xs n p ∙ e ∙ sym (turned ys n q))
 
 -- where they differ, they decide
 apart_behind : (n : ℕ) (xs ys : List ℕ) → n < length xs → n < length ys → (slice_index_or xs (length xs - 1 - n) 0 ≡ slice_index_or ys (length ys - 1 - n) 0 → ⊥)
-    → nat_cmp (slice_index_or xs (length xs - 1 - n) 0) (slice_index_or ys (length ys - 1 - n) 0) ≡ place_cmp (drop n (reverse xs)) (drop n (reverse ys))
+    → nat_cmp (slice_index_or xs (length xs - 1 - n) 0) (slice_index_or ys (length ys - 1 - n) 0) ≡ sort_key_cmp (drop n (reverse xs)) (drop n (reverse ys))
 apart_behind n xs ys p q e =
     (λ i. nat_cmp (sym (turned xs n p) i) (sym (turned ys n q) i))
     ∙ apart n (reverse xs) (reverse ys) (omega (arith, p, length-reverse xs)) (omega (arith, q, length-reverse ys)) (λ same. e (sym (turned xs n p) ∙ same ∙ turned ys n q))
 
 -- where one text ends, the lengths decide
-pub ends_behind : (n : ℕ) (xs ys : List ℕ) → n ≤ length xs → n ≤ length ys → (n < length xs → n < length ys → ⊥) → nat_cmp (length xs) (length ys) ≡ place_cmp (drop n (reverse xs)) (drop n (reverse ys))
+pub ends_behind : (n : ℕ) (xs ys : List ℕ) → n ≤ length xs → n ≤ length ys → (n < length xs → n < length ys → ⊥) → nat_cmp (length xs) (length ys) ≡ sort_key_cmp (drop n (reverse xs)) (drop n (reverse ys))
 ends_behind n xs ys p q r =
     (λ i. nat_cmp (sym (length-reverse xs) i) (sym (length-reverse ys) i))
     ∙ ends n (reverse xs) (reverse ys) (omega (arith, p, length-reverse xs)) (omega (arith, q, length-reverse ys)) (λ s t. r (omega (arith, s, length-reverse xs)) (omega (arith, t, length-reverse ys)))
@@ -92,8 +92,8 @@ ends_behind n xs ys p q r =
 abbrev end_of : List ℕ → ℕ → List ℕ
 end_of xs both = take (length xs - (length xs - both)) (drop (length xs - both) xs)
 
-next_behind : (xs ys : List ℕ) (both left : ℕ) → 0 < left → left ≤ both → place_cmp (drop (both - left + 1) xs) (drop (both - left + 1) ys) ≡ place_cmp (drop (both - (left - 1)) xs) (drop (both - (left - 1)) ys)
-next_behind xs ys both left some le = ap (λ (n : ℕ). place_cmp (drop n xs) (drop n ys)) {x = both - left + 1} {y = both - (left - 1)} (omega (arith, some, le))
+next_behind : (xs ys : List ℕ) (both left : ℕ) → 0 < left → left ≤ both → sort_key_cmp (drop (both - left + 1) xs) (drop (both - left + 1) ys) ≡ sort_key_cmp (drop (both - (left - 1)) xs) (drop (both - (left - 1)) ys)
+next_behind xs ys both left some le = ap (λ (n : ℕ). sort_key_cmp (drop n xs) (drop n ys)) {x = both - left + 1} {y = both - (left - 1)} (omega (arith, some, le))
 
 read_next : (xs : List ℕ) (both left : ℕ) → both ≤ length xs → 0 < left → left ≤ both → slice_index_or (end_of xs both) (left - 1) 0 ≡ slice_index_or xs (length xs - 1 - (both - left)) 0
 read_next xs both left within some le =
@@ -102,14 +102,14 @@ read_next xs both left within some le =
 
 -- where the octets are the same, those in front decide
 pub alike_end : (xs ys : List ℕ) (both left : ℕ) → both ≤ length xs → both ≤ length ys → 0 < left → left ≤ both → slice_index_or (end_of xs both) (left - 1) 0 ≡ slice_index_or (end_of ys both) (left - 1) 0
-    → place_cmp (drop (both - left) (reverse xs)) (drop (both - left) (reverse ys)) ≡ place_cmp (drop (both - (left - 1)) (reverse xs)) (drop (both - (left - 1)) (reverse ys))
+    → sort_key_cmp (drop (both - left) (reverse xs)) (drop (both - left) (reverse ys)) ≡ sort_key_cmp (drop (both - (left - 1)) (reverse xs)) (drop (both - (left - 1)) (reverse ys))
 alike_end xs ys both left p q some le e =
     alike_behind (both - left) xs ys (omega (arith, p, some, le)) (omega (arith, q, some, le)) (sym (read_next xs both left p some le) ∙ e ∙ read_next ys both left q some le)
     ∙ next_behind (reverse xs) (reverse ys) both left some le
 
 -- where they differ, they decide
 pub apart_end : (xs ys : List ℕ) (both left : ℕ) → both ≤ length xs → both ≤ length ys → 0 < left → left ≤ both → (slice_index_or (end_of xs both) (left - 1) 0 ≡ slice_index_or (end_of ys both) (left - 1) 0 → ⊥)
-    → nat_cmp (slice_index_or (end_of xs both) (left - 1) 0) (slice_index_or (end_of ys both) (left - 1) 0) ≡ place_cmp (drop (both - left) (reverse xs)) (drop (both - left) (reverse ys))
+    → nat_cmp (slice_index_or (end_of xs both) (left - 1) 0) (slice_index_or (end_of ys both) (left - 1) 0) ≡ sort_key_cmp (drop (both - left) (reverse xs)) (drop (both - left) (reverse ys))
 apart_end xs ys both left p q some le e =
     (λ i. nat_cmp (read_next xs both left p some le i) (read_next ys both left q some le i))
     ∙ apart_behind (both - left) xs ys (omega (arith, p, some, le)) (omega (arith, q, some, le)) (λ same. e (read_next xs both left p some le ∙ same ∙ sym (read_next ys both left q some le)))

@@ -1,3 +1,3 @@
 pub mod Compiled
 pub mod Plans
-pub mod Places
+pub mod UrlSlots

@@ -6,13 +6,13 @@ ghost use Rattle.row_changes.specs.Patch.{rows_apart};
 ghost use Rattle.row_changes.specs.Touched.{touches};
 ghost use Rattle.acl_compile.specs.Compiled.{HasItsRows};
 ghost use Rattle.acl_compile.specs.Plans.{Fits, slots_after, bindings_after, IsKept, IsMemberPlan, IsPolicyPlan, CanBeCounted, held_for, others_held, policy_reads, policy_steps};
-ghost use Rattle.row_changes.specs.Steps.{least_steps, HaveKeys, PolicyKeys, place_steps};
+ghost use Rattle.row_changes.specs.Steps.{least_steps, HaveKeys, PolicyKeys, sort_key_steps};
 
-use crate::places::{PlaceGuesses, UrlPlace, find_guessed, set_place};
 use crate::plan::{RowPlan, others_in, plan_change, plan_slot, set_slot};
+use crate::url_slots::{SlotGuesses, UrlSlot, find_guessed, set_url_slot};
 use acl_model::{Binding, Policy};
 use acl_rows::{Owner, RuleView};
-use acl_shelves::{BindingShelves, RowShelves};
+use acl_shelves::{BindingBuckets, RowBuckets};
 use mud_base::{Direction, Memory};
 use mud_url::MudUrl;
 use row_changes::{Held, HeldDefaults};
@@ -21,18 +21,18 @@ use std::alloc::Global;
 use std::marker::Model;
 use std::sync::ledger::Ledger;
 
-/// The approved policies, each in its place of a table of at most 128, which is found by its URL,
+/// The approved policies, each in its slot of a table of at most 128, which is found by its URL,
 /// the bindings, those of each key by themselves, and the rows that follow from them, those of each
 /// policy, side and address by themselves. Contracts see policies, bindings and rows, and how much
 /// more there is room for.
 pub struct Compiled {
     alloc: Global,
     slots: Vec<Option<Held>>,
-    places: SortedRows<UrlPlace>,
+    url_slots: SortedRows<UrlSlot>,
     defaults: HeldDefaults,
-    bindings: BindingShelves,
-    rows: RowShelves,
-    guesses: PlaceGuesses,
+    bindings: BindingBuckets,
+    rows: RowBuckets,
+    guesses: SlotGuesses,
 }
 
 impl Drop for Compiled {
@@ -40,7 +40,7 @@ impl Drop for Compiled {
         let Compiled {
             alloc: _,
             slots: _,
-            places: _,
+            url_slots: _,
             defaults: _,
             bindings: _,
             rows: _,
@@ -52,13 +52,13 @@ impl Drop for Compiled {
 impl Model for Compiled {
     ghost use Rattle.std.specs.Prelude.{◌-◌, vec_len, vec_capacity};
     ghost use Rattle.acl_compile.specs.Compiled.{CompiledState};
-    ghost use Rattle.acl_compile.specs.Places.{IsSoundWithPlaces};
+    ghost use Rattle.acl_compile.specs.UrlSlots.{IsSoundWithSlots};
 
     ghost Value = { CompiledState };
 
-    ghost view = { λ c. record { slots = c.slots.items; bindings = c.bindings.rows; rows = c.rows.rows; slot_room = vec_capacity c.slots - vec_len c.slots; place_room = c.places.room; binding_room = c.bindings.room; row_room = c.rows.room } };
+    ghost view = { λ c. record { slots = c.slots.items; bindings = c.bindings.rows; rows = c.rows.rows; slot_room = vec_capacity c.slots - vec_len c.slots; url_slot_room = c.url_slots.room; binding_room = c.bindings.room; row_room = c.rows.room } };
 
-    ghost invariant = { λ c. IsSoundWithPlaces c.slots.items c.bindings.rows c.rows.rows c.defaults c.places.rows };
+    ghost invariant = { λ c. IsSoundWithSlots c.slots.items c.bindings.rows c.rows.rows c.defaults c.url_slots.rows };
 }
 
 impl Compiled {
@@ -72,23 +72,24 @@ impl Compiled {
         Ok(Compiled {
             alloc,
             slots: Vec::new(alloc),
-            places: SortedRows::new(alloc),
+            url_slots: SortedRows::new(alloc),
             defaults,
-            bindings: BindingShelves::new(alloc),
-            rows: RowShelves::new(alloc),
-            guesses: PlaceGuesses::new(),
+            bindings: BindingBuckets::new(alloc),
+            rows: RowBuckets::new(alloc),
+            guesses: SlotGuesses::new(),
         })
     }
 
     /// Whether a policy can be held for this URL: fewer than 128 other URLs have one.
-    pub fn has_place(&self, url: &MudUrl) -> bool
+    pub fn has_slot(&self, url: &MudUrl) -> bool
         ensures { IsTrue result ↔ (others_held url.now self.now.slots < 128) }
     {
         others_in(self.slots.as_slice(), url) < 128
     }
 
     /// What a ruling on packets with a Thing of this URL on this side reads: the entries of the
-    /// policy that is held for the URL, where one is, and the default entries, and the rows of both.
+    /// policy that is held for the URL, where one is, and the default entries, and the rows of
+    /// both.
     #[inline(always)]
     pub fn view(&self, url: &MudUrl, side: Direction) -> RuleView<'_>
         ensures view { IsViewOf self.now.slots self.now.rows url.now side result }
@@ -96,7 +97,7 @@ impl Compiled {
     {
         self.bindings.tell_order();
         let slots = self.slots.as_slice();
-        let file = match find_guessed(slots, &self.places, &self.guesses, url) {
+        let file = match find_guessed(slots, &self.url_slots, &self.guesses, url) {
             None => None,
             Some((n, held)) => Some(held.policy().part(Owner::Url(n), side, &self.rows)),
         };
@@ -106,9 +107,9 @@ impl Compiled {
     }
 
     /// Plans a change of bindings: these go and those come. What is kept stays as it is, whatever
-    /// the answer. It reads the places that the change touches: for each binding that goes or comes
-    /// the entries that have its key, at its address. Each is looked for among the rows of its owner,
-    /// side and address, which is a step at least where there are any.
+    /// the answer. It reads the sort keys that the change touches: for each binding that goes or
+    /// comes the entries that have its key, at its address. Each is looked for among the rows of
+    /// its owner, side and address, which is a step at least where there are any.
     pub fn plan_member<L: Ledger>(
         &mut self,
         gone: &[Binding],
@@ -119,7 +120,7 @@ impl Compiled {
         ensures ok { IfOk result (λ plan. IsMemberPlan gone.now come.now self.new plan) }
         ensures least { OnOk result (steps.old + least_steps self.old.rows (touches self.old.slots (gone.now ++ come.now)) ≤ steps.new) }
         ensures most { (s b k : ℕ) → HaveKeys s self.old.slots → length self.old.bindings + length come.now < 2 ^ b → length self.old.rows < 2 ^ k
-            → steps.new ≤ steps.old + (length gone.now + length come.now + length (touches self.old.slots (gone.now ++ come.now))) * place_steps s b k }
+            → steps.new ≤ steps.old + (length gone.now + length come.now + length (touches self.old.slots (gone.now ++ come.now))) * sort_key_steps s b k }
     {
         plan_change(
             self.alloc,
@@ -134,9 +135,9 @@ impl Compiled {
     }
 
     /// Plans that this policy is held for the URL, in place of the one that is; None takes that one
-    /// away. What is kept stays as it is, whatever the answer. It reads the URL's rows, and for each
-    /// entry of the new policy with a member selector the bindings of its first key: each is a step
-    /// at least.
+    /// away. What is kept stays as it is, whatever the answer. It reads the URL's rows, and for
+    /// each entry of the new policy with a member selector the bindings of its first key: each is a
+    /// step at least.
     pub fn plan_policy<L: Ledger>(
         &mut self,
         url: &MudUrl,
@@ -154,7 +155,7 @@ impl Compiled {
         plan_slot(
             self.alloc,
             &mut self.slots,
-            &mut self.places,
+            &mut self.url_slots,
             &self.bindings,
             &mut self.rows,
             url,
@@ -183,7 +184,7 @@ impl Compiled {
         self.bindings.make_edits(bindings, steps);
         if let Some((index, held)) = slot {
             self.guesses.keep(&held, index);
-            set_place(&mut self.places, self.slots.as_slice(), index, &held);
+            set_url_slot(&mut self.url_slots, self.slots.as_slice(), index, &held);
             set_slot(&mut self.slots, index, held);
         }
     }

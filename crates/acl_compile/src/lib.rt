@@ -4,8 +4,8 @@
 #![tactic(auto)]
 
 pub mod compiled;
-mod places;
 mod plan;
+mod url_slots;
 
 pub use compiled::Compiled;
 pub use plan::RowPlan;

@@ -5,16 +5,16 @@ ghost use Rattle.acl_model.specs.Defaults.{default_policy};
 ghost use Rattle.acl_rows.specs.Rows.{rows_of};
 ghost use Rattle.row_changes.specs.Touched.{touches};
 ghost use Rattle.acl_compile.specs.Compiled.{UrlsApart, compiled_state};
-ghost use Rattle.acl_compile.specs.Places.{ArePlacesOf};
+ghost use Rattle.acl_compile.specs.UrlSlots.{AreSlotsOf};
 ghost use Rattle.acl_compile.specs.Plans as spec;
-ghost use Rattle.acl_compile.specs.Plans.{slot_set, IsMemberPlan, IsPolicyPlan, IsPlaceFor, CanBeCounted, held_for, others_held, policy_reads, policy_steps};
-ghost use Rattle.acl_shelves.specs.RowShelves.{HasRoom};
-ghost use Rattle.row_changes.specs.Steps.{least_steps, HaveKeys, PolicyKeys, place_steps};
+ghost use Rattle.acl_compile.specs.Plans.{slot_set, IsMemberPlan, IsPolicyPlan, IsSlotFor, CanBeCounted, held_for, others_held, policy_reads, policy_steps};
+ghost use Rattle.acl_shelves.specs.RowBuckets.{HasRoom};
+ghost use Rattle.row_changes.specs.Steps.{least_steps, HaveKeys, PolicyKeys, sort_key_steps};
 
-use crate::places::{UrlPlace, find_held};
+use crate::url_slots::{UrlSlot, find_held};
 use acl_model::{Binding, Policy};
 use acl_rows::Row;
-use acl_shelves::{BindingShelves, RowShelves};
+use acl_shelves::{BindingBuckets, RowBuckets};
 use mud_base::Memory;
 use mud_url::MudUrl;
 use row_changes::{Change, CompiledPolicy, Held, HeldDefaults, Holding, edits_of, slot_rows};
@@ -23,7 +23,7 @@ use std::alloc::Global;
 use std::marker::Model;
 use std::sync::ledger::Ledger;
 
-/// A change that is planned: the edits of rows and of bindings, and what is to stand in a place of
+/// A change that is planned: the edits of rows and of bindings, and what is to stand in a slot of
 /// the table of policies. `Compiled::commit` makes it.
 #[derive(Drop)]
 pub struct RowPlan {
@@ -40,7 +40,7 @@ impl Model for RowPlan {
     ghost view = { λ p. record { rows = p.rows.rows; bindings = p.bindings.rows; slot = p.slot } };
 }
 
-/// Puts this in a place of the table, or in one behind the last. It takes no memory.
+/// Puts this in a slot of the table, or in one behind the last. It takes no memory.
 #[tactic(auto, unfolding(crate::specs::Plans::slot_set))]
 pub(crate) fn set_slot(slots: &mut Vec<Option<Held>>, index: usize, held: Option<Held>)
     requires within { index ≤ vec_len slots.old }
@@ -59,8 +59,8 @@ pub(crate) fn plan_change<L: Ledger>(
     alloc: Global,
     slots: &[Option<Held>],
     defaults: &HeldDefaults,
-    bindings: &mut BindingShelves,
-    rows: &mut RowShelves,
+    bindings: &mut BindingBuckets,
+    rows: &mut RowBuckets,
     gone: &[Binding],
     come: &[Binding],
     steps: &mut Steps<L>,
@@ -71,10 +71,10 @@ pub(crate) fn plan_change<L: Ledger>(
     requires kept { rows.old.rows ≡ rows_of slots.now bindings.old.rows }
     ensures bindings { bindings.new.rows ≡ bindings.old.rows }
     ensures rows { rows.new.rows ≡ rows.old.rows }
-    ensures ok { IfOk result (λ plan. (room place_room : ℕ) → IsMemberPlan gone.now come.now (compiled_state slots.now bindings.new rows.new room place_room) plan) }
+    ensures ok { IfOk result (λ plan. (room url_slot_room : ℕ) → IsMemberPlan gone.now come.now (compiled_state slots.now bindings.new rows.new room url_slot_room) plan) }
     ensures read { OnOk result (steps.old + least_steps rows.old.rows (touches slots.now (gone.now ++ come.now)) ≤ steps.new) }
     ensures most { (s b k : ℕ) → HaveKeys s slots.now → length bindings.old.rows + length come.now < 2 ^ b → length rows.old.rows < 2 ^ k
-        → steps.new ≤ steps.old + (length gone.now + length come.now + length (touches slots.now (gone.now ++ come.now))) * place_steps s b k }
+        → steps.new ≤ steps.old + (length gone.now + length come.now + length (touches slots.now (gone.now ++ come.now))) * sort_key_steps s b k }
 {
     let binding_edits = edits_of(alloc, bindings, gone, come, steps)?;
     let change = Change::new(slots, bindings, rows, gone, come, &binding_edits);
@@ -89,7 +89,7 @@ pub(crate) fn plan_change<L: Ledger>(
     })
 }
 
-/// Whether a policy of another URL is held in a place.
+/// Whether a policy of another URL is held in a slot.
 #[tactic(auto, unfolding(crate::specs::Plans::is_other))]
 fn is_other(slot: &Option<Held>, url: &MudUrl) -> bool
     ensures { result ≡ spec.is_other url.now slot.now }
@@ -100,7 +100,7 @@ fn is_other(slot: &Option<Held>, url: &MudUrl) -> bool
     }
 }
 
-/// In how many places a policy of another URL is held.
+/// In how many slots a policy of another URL is held.
 #[tactic(auto, unfolding(crate::specs::Plans::others_held))]
 pub(crate) fn others_in(slots: &[Option<Held>], url: &MudUrl) -> usize
     ensures { result ≡ others_held url.now slots.now }
@@ -114,32 +114,32 @@ pub(crate) fn others_in(slots: &[Option<Held>], url: &MudUrl) -> usize
     count
 }
 
-/// The first place in which no policy is held: behind all others where each has one.
-fn free_place(slots: &[Option<Held>]) -> usize
+/// The first slot in which no policy is held: behind all others where each has one.
+fn free_slot(slots: &[Option<Held>]) -> usize
     ensures within { result ≤ length slots.now }
     ensures free { (h : UrlPolicy) → slice_get slots.now result ≡ Some (Some h) → Some h ≡ None }
     ensures full { (j : ℕ) (slot : Option UrlPolicy) → j < result → slice_get slots.now j ≡ Some slot → is_some slot ≡ true }
 {
-    let mut place = 0;
+    let mut slot_number = 0;
     for slot in slots {
         if slot.is_none() {
-            return place;
+            return slot_number;
         }
-        place += 1;
+        slot_number += 1;
     }
-    place
+    slot_number
 }
 
-/// The place of a URL: the one in which its policy is held, or else a free one.
-fn place_for(slots: &[Option<Held>], places: &SortedRows<UrlPlace>, url: &MudUrl) -> usize
+/// The slot of a URL: the one in which its policy is held, or else a free one.
+fn slot_for(slots: &[Option<Held>], url_slots: &SortedRows<UrlSlot>, url: &MudUrl) -> usize
     requires few { length slots.now ≤ 128 }
     requires apart { UrlsApart slots.now }
-    requires places { ArePlacesOf slots.now places.now.rows }
-    ensures { IsPlaceFor url.now slots.now result }
+    requires url_slots { AreSlotsOf slots.now url_slots.now.rows }
+    ensures { IsSlotFor url.now slots.now result }
 {
-    match find_held(slots, places, url) {
-        Some((place, _)) => usize::from(place),
-        None => free_place(slots),
+    match find_held(slots, url_slots, url) {
+        Some((slot_number, _)) => usize::from(slot_number),
+        None => free_slot(slots),
     }
 }
 
@@ -158,23 +158,23 @@ fn held_policy(alloc: Global, url: &MudUrl, policy: Option<&Policy>) -> Result<O
     }
 }
 
-/// Makes room for a policy in the table, for its place, and for the rows of these edits.
+/// Makes room for a policy in the table, for its slot, and for the rows of these edits.
 fn make_slot_room(
     alloc: Global,
     slots: &mut Vec<Option<Held>>,
-    places: &mut SortedRows<UrlPlace>,
-    rows: &mut RowShelves,
+    url_slots: &mut SortedRows<UrlSlot>,
+    rows: &mut RowBuckets,
     edits: &SortedRows<Edit<Row>>,
 ) -> Result<(), Memory>
     ensures slots { slots.new.items ≡ slots.old.items }
-    ensures places { places.new.rows ≡ places.old.rows }
+    ensures url_slots { url_slots.new.rows ≡ url_slots.old.rows }
     ensures rows { rows.new.rows ≡ rows.old.rows }
     ensures slot_room { OnOk result (1 ≤ vec_capacity slots.new - vec_len slots.new) }
-    ensures place_room { OnOk result (1 ≤ places.new.room) }
+    ensures url_slot_room { OnOk result (1 ≤ url_slots.new.room) }
     ensures row_room { OnOk result (HasRoom edits.now.rows rows.new.room) }
 {
     slots.reserve(1)?;
-    places.reserve(1)?;
+    url_slots.reserve(1)?;
     rows.make_room(alloc, edits)
 }
 
@@ -182,42 +182,42 @@ fn make_slot_room(
 pub(crate) fn plan_slot<L: Ledger>(
     alloc: Global,
     slots: &mut Vec<Option<Held>>,
-    places: &mut SortedRows<UrlPlace>,
-    bindings: &BindingShelves,
-    rows: &mut RowShelves,
+    url_slots: &mut SortedRows<UrlSlot>,
+    bindings: &BindingBuckets,
+    rows: &mut RowBuckets,
     url: &MudUrl,
     policy: Option<&Policy>,
     steps: &mut Steps<L>,
 ) -> Result<RowPlan, Memory>
     requires few { length slots.old.items ≤ 128 }
     requires apart { UrlsApart slots.old.items }
-    requires places { ArePlacesOf slots.old.items places.old.rows }
+    requires url_slots { AreSlotsOf slots.old.items url_slots.old.rows }
     requires kept { rows.old.rows ≡ rows_of slots.old.items bindings.now.rows }
     requires others { others_held url.now slots.old.items < 128 }
     requires lists { CanBeCounted (option_copied policy) }
     ensures slots { slots.new.items ≡ slots.old.items }
-    ensures places { places.new.rows ≡ places.old.rows }
+    ensures url_slots { url_slots.new.rows ≡ url_slots.old.rows }
     ensures rows { rows.new.rows ≡ rows.old.rows }
-    ensures ok { IfOk result (λ plan. IsPolicyPlan url.now (option_copied policy.entry) (compiled_state slots.new.items bindings.now rows.new (vec_capacity slots.new - vec_len slots.new) places.new.room) plan) }
+    ensures ok { IfOk result (λ plan. IsPolicyPlan url.now (option_copied policy.entry) (compiled_state slots.new.items bindings.now rows.new (vec_capacity slots.new - vec_len slots.new) url_slots.new.room) plan) }
     ensures read { OnOk result (steps.old + policy_reads url.now (option_copied policy.entry) slots.old.items bindings.now.rows rows.old.rows ≤ steps.new) }
     ensures most { (s b k : ℕ) → HaveKeys s slots.old.items → PolicyKeys s (held_for url.now (option_copied policy.entry)) → length bindings.now.rows < 2 ^ b → length rows.old.rows < 2 ^ k
         → steps.new ≤ steps.old + policy_steps url.now (option_copied policy.entry) slots.old.items bindings.now.rows rows.old.rows s b k }
 {
-    let place = place_for(slots.as_slice(), places, url);
+    let slot_number = slot_for(slots.as_slice(), url_slots, url);
     let held = held_policy(alloc, url, policy)?;
     let Ok(edits) = slot_rows(
         alloc,
         slots.as_slice(),
         bindings,
         rows,
-        place as u16,
+        slot_number as u16,
         &held,
         steps,
     ) else {
         drop(held);
         return Err(Memory);
     };
-    let Ok(()) = make_slot_room(alloc, slots, places, rows, &edits) else {
+    let Ok(()) = make_slot_room(alloc, slots, url_slots, rows, &edits) else {
         drop(edits);
         drop(held);
         return Err(Memory);
@@ -225,6 +225,6 @@ pub(crate) fn plan_slot<L: Ledger>(
     Ok(RowPlan {
         rows: edits,
         bindings: SortedRows::new(alloc),
-        slot: Some((place, held)),
+        slot: Some((slot_number, held)),
     })
 }

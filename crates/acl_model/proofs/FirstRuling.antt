@@ -1,4 +1,4 @@
--- The first entry that matches decides: at its place, and by none where none matches.
+-- The first entry that matches decides: at its index, and by none where none matches.
 use Rattle.std.proofs.Common.{◌≡◌, ℕ, zero, suc, ◌+◌, ◌-◌, Bool, true, false, cond, ◌⊎◌, inl, inr, List, [], ◌∷◌, take, Option, Some, None, refl, sym, ap, ◌∙◌, subst, arith}
 use Rattle.std.specs.Prelude.{slice_get}
 use Rattle.std.specs.List.{list_any}
@@ -16,7 +16,7 @@ use Rattle.acl_model.specs.declared.ruling.Ruling.TheVariants.{Accept, AcceptDef
 use Rattle.acl_model.specs.Defaults.{default_entry, defaults_of}
 use Rattle.acl_model.specs.FirstMatch.{ruled_by, first_ruling, default_ruling, ruling_by, NoneMatches, IsFirstMatch, IsFirstDefault, file_entries, why_of, IsRuling, FirstMatchDecides}
 
--- the entry at this place, from 0 on, is the first that matches, and its action is this one
+-- the entry at this index, from 0 on, is the first that matches, and its action is this one
 pub record StandsFirst (matches : Entry → Bool) (entries : List Entry) (k : ℕ) (act : Action) : Type 0 where
   pub entry : Entry
   pub stands : slice_get entries k ≡ Some entry
@@ -69,14 +69,14 @@ ruling_by-split matches side (Some policy) = refl
 
 IsFirstMatch-from : (matches : Entry → Bool) (entries : List Entry) (k : ℕ) (act : Action) → StandsFirst matches entries k act → IsFirstMatch matches entries (1 + k) act
 IsFirstMatch-from matches entries k act first =
-    let place : k ≡ 1 + k - 1 = omega arith in
+    let index : k ≡ 1 + k - 1 = omega arith in
     record {
       entry = first.entry;
       counted = omega arith;
-      stands = subst (λ (i : ℕ). slice_get entries i ≡ Some first.entry) place first.stands;
+      stands = subst (λ (i : ℕ). slice_get entries i ≡ Some first.entry) index first.stands;
       matched = first.matched;
       acts = first.acts;
-      earlier = subst (λ (i : ℕ). list_any matches (take i entries) ≡ false) place first.earlier;
+      earlier = subst (λ (i : ℕ). list_any matches (take i entries) ≡ false) index first.earlier;
     }
 
 StandsFirst-from : (matches : Entry → Bool) (entries : List Entry) (n : ℕ) (act : Action) → IsFirstMatch matches entries n act → StandsFirst matches entries (n - 1) act

@@ -3,4 +3,4 @@ pub mod Examples
 pub mod FirstRuling
 pub mod KeyLaws
 pub mod OnLiterals
-pub mod PlaceLaws
+pub mod SortKeyLaws

@@ -4,12 +4,12 @@ use Rattle.std.specs.List.{list_any}
 use Rattle.std.specs.Option.{option_map}
 use Rattle.mud_base.specs.Addresses.{same_addr}
 use Rattle.mud_base.specs.declared.addr.Addr.{Addr}
-use Rattle.sorted_rows.specs.Placed.{set_rows, without_row}
+use Rattle.sorted_rows.specs.Sortable.{set_rows, without_row}
 use Rattle.sorted_rows.specs.Changes.{are_apart}
 use Rattle.acl_model.specs.declared.binding.MemberKey.{MemberKey}
 use Rattle.acl_model.specs.declared.binding.Binding.{Binding}
 use Rattle.acl_model.specs.Keys.{same_key}
-use Rattle.acl_model.specs.Places.{binding_place}
+use Rattle.acl_model.specs.SortKeys.{binding_sort_key}
 
 -- ---- Bindings that are the same
 
@@ -17,11 +17,11 @@ use Rattle.acl_model.specs.Places.{binding_place}
 unfoldable pub same_spot : Binding → Binding → Bool
 same_spot b c = same_key b.key c.key && same_addr b.addr c.addr
 
--- and both have one end
+-- and both have one expiry
 unfoldable pub same_binding : Binding → Binding → Bool
 same_binding b c = same_spot b c && b.until == c.until
 
--- it is among them, with this end
+-- it is among them, with this expiry
 unfoldable pub has_binding : Binding → List Binding → Bool
 has_binding b bindings = list_any (same_binding b) bindings
 
@@ -35,8 +35,9 @@ HaveSame xs ys = (b : Binding) → has_binding b xs ≡ has_binding b ys
 unfoldable pub those_not_in : List Binding → List Binding → List Binding
 those_not_in others bindings = filter (λ b. not (has_binding b others)) bindings
 
--- Those gone are the ones that were and are no more, those that come the ones that are and weren't, and no two of either
--- are of one key and address. A binding whose end changes goes with the old end and comes with the new one.
+-- Those gone are the ones that were and are no more, those that come the ones that are and weren't, and no two of
+-- either are of one key and address. A binding whose expiry changes goes with the old expiry and comes with the new
+-- one.
 pub record IsBindingChange (before after gone come : List Binding) : Type 0 where
   pub went : (b : Binding) → has_binding b gone ≡ (has_binding b before && not (has_binding b after))
   pub came : (b : Binding) → has_binding b come ≡ (has_binding b after && not (has_binding b before))
@@ -51,7 +52,7 @@ is_bound_to key a b = same_key key b.key && same_addr a b.addr
 unfoldable pub until_of : Binding → ℕ
 until_of b = b.until
 
--- the end of what lasts for ever: no end is greater
+-- the expiry of what lasts for ever: no expiry is greater
 abbrev pub for_ever : ℕ
 for_ever = 18446744073709551615
 
@@ -64,8 +65,8 @@ bound_until bindings key a = option_map until_of (find (is_bound_to key a) bindi
 -- the store without these
 unfoldable pub without_bindings : List Binding → List Binding → List Binding
 without_bindings [] bindings = bindings
-without_bindings (b ∷ gone) bindings = without_bindings gone (without_row binding_place (binding_place b) bindings)
+without_bindings (b ∷ gone) bindings = without_bindings gone (without_row binding_sort_key (binding_sort_key b) bindings)
 
 -- the store without the ones, and then with the others put in
 unfoldable pub replaced : List Binding → List Binding → List Binding → List Binding
-replaced gone come bindings = set_rows binding_place come (without_bindings gone bindings)
+replaced gone come bindings = set_rows binding_sort_key come (without_bindings gone bindings)

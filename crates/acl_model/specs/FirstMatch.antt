@@ -40,7 +40,7 @@ unfoldable pub ruling_by : (Entry → Bool) → Direction → Option Policy → 
 ruling_by matches side None = default_ruling matches side NoFile
 ruling_by matches side (Some policy) = first_ruling matches 1 (entries_of side policy) (default_ruling matches side NoMatch)
 
--- ---- The same by places: what a ruling says of the entries
+-- ---- The same by indices: what a ruling says of the entries
 
 abbrev pub NoneMatches : (Entry → Bool) → List Entry → Type 0
 NoneMatches matches entries = list_any matches entries ≡ false

@@ -3,5 +3,5 @@ pub mod Defaults
 pub mod FirstMatch
 pub mod Keys
 pub mod Match
-pub mod Places
+pub mod SortKeys
 pub mod Policies

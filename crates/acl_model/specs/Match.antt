@@ -21,7 +21,7 @@ use Rattle.acl_model.specs.declared.entry.Layer.{Layer}
 use Rattle.acl_model.specs.declared.entry.Layer.TheVariants as layer
 use Rattle.acl_model.specs.declared.entry.Entry.{Entry}
 
--- ---- The two ends of a packet, as a Thing on this side sees them (RFC 8520, 2)
+-- ---- The two endpoints of a packet, as a Thing on this side sees them (RFC 8520, 2)
 
 unfoldable pub peer_of : Direction → Fields → Addr
 peer_of From fields = fields.dst

@@ -20,14 +20,14 @@ pub enum MemberKey {
     Name(Bytes),
 }
 
-/// An address and what it is bound to until its end.
+/// An address and what it is bound to until its expiry.
 #[derive(Drop, Debug)]
 pub struct Binding {
     /// What the address is bound to.
     pub key: MemberKey,
     /// The address.
     pub addr: Addr,
-    /// When the binding ends.
+    /// When the binding expires.
     pub until: End,
 }
 

@@ -14,7 +14,7 @@ pub fn same_spot(own: &Binding, other: &Binding) -> bool
     same_key(&own.key, &other.key) && same_addr(own.addr, other.addr)
 }
 
-/// Whether both are one binding: of one key, address and end.
+/// Whether both are one binding: of one key, address and expiry.
 #[tactic(auto, using(crate::proofs::BindingLaws::binding_laws), unfolding(crate::specs::Changes::same_binding))]
 pub fn same_binding(own: &Binding, other: &Binding) -> bool
     ensures value { result ≡ spec.same_binding own.now other.now }
@@ -23,7 +23,7 @@ pub fn same_binding(own: &Binding, other: &Binding) -> bool
     same_spot(own, other) && own.until == other.until
 }
 
-/// Whether the binding is among them, with this end.
+/// Whether the binding is among them, with this expiry.
 #[tactic(auto, unfolding(crate::specs::Changes::has_binding))]
 fn has_binding(binding: &Binding, bindings: &[Binding]) -> bool
     ensures { result ≡ spec.has_binding binding.now bindings.now }
@@ -32,7 +32,7 @@ fn has_binding(binding: &Binding, bindings: &[Binding]) -> bool
 }
 
 /// Copies of those bindings that aren't among the others, in their order. A binding with another
-/// end is another one. Called with the bindings of rows before a change, and those after it as
+/// expiry is another one. Called with the bindings of rows before a change, and those after it as
 /// the others, it gives the ones that go; the other way round those that come.
 pub fn those_not_in(
     alloc: Global,

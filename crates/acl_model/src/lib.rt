@@ -9,13 +9,13 @@ pub mod defaults;
 pub mod entry;
 pub mod first_match;
 pub mod matching;
-pub mod place;
 pub mod ruling;
+pub mod sort_key;
 
 pub use binding::{Binding, MemberKey, same_key};
 pub use change::{same_binding, same_spot, those_not_in};
 pub use defaults::default_entry;
 pub use entry::{Action, Entry, Layer, Policy, PortTest, Selector};
 pub use matching::{is_in_family, near_matches, peer_of, rest_matches};
-pub use place::{BoundKey, KeyText, order_keys};
 pub use ruling::{DefaultRule, Ruling, Why};
+pub use sort_key::{BoundKey, KeyText, order_keys};

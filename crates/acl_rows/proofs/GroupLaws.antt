@@ -7,10 +7,10 @@ use Rattle.std.specs.declared.cmp.Ordering.TheVariants.{Less}
 use Rattle.std.proofs.lemmas.List.Elements.{filter-append}
 use Rattle.mud_base.specs.declared.addr.Addr.{Addr}
 use Rattle.mud_base.specs.declared.packet.Direction.{Direction}
-use Rattle.sorted_rows.specs.Placed.{place_cmp, same_place, row_at, set_row, PlacesAbove, PlacesAscend, ComeBefore, RowsAndRoom}
-use Rattle.sorted_rows.specs.Addresses.{addr_place}
-use Rattle.sorted_rows.proofs.AddressLaws.{addr_place_exact, same_addr-place}
-use Rattle.sorted_rows.proofs.PlacedLaws.{same_place-cmp, same_place_exact, same_place_itself, row_at-set_row, row_at_row, ascend-set_row}
+use Rattle.sorted_rows.specs.Sortable.{sort_key_cmp, same_sort_key, row_at, set_row, SortKeysAbove, SortKeysAscend, ComeBefore, RowsAndRoom}
+use Rattle.sorted_rows.specs.Addresses.{addr_sort_key}
+use Rattle.sorted_rows.proofs.AddressLaws.{addr_sort_key_exact, same_addr-sort_key}
+use Rattle.sorted_rows.proofs.SortableLaws.{same_sort_key-cmp, same_sort_key_exact, same_sort_key_itself, row_at-set_row, row_at_row, ascend-set_row}
 use Rattle.sorted_rows.proofs.RowLaws.{all-set_row, ascend-filter}
 use Rattle.sorted_rows.proofs.IndexLaws.{above-append, ascend-append}
 use Rattle.sorted_rows.proofs.ChangeLaws.{differ_turned}
@@ -18,11 +18,11 @@ use Rattle.sorted_rows.proofs.Lists.{filter_few}
 use Rattle.sorted_rows.proofs.EditRunLaws.{empty_out}
 use Rattle.acl_rows.specs.declared.row.Owner.{Owner}
 use Rattle.acl_rows.specs.declared.row.Row.{Row}
-use Rattle.acl_rows.specs.Places.{row_place}
+use Rattle.acl_rows.specs.SortKeys.{row_sort_key}
 use Rattle.acl_rows.specs.View.{is_at}
 use Rattle.acl_rows.specs.ByAddress.{room_at, rows_of_peer, IsRowAt, grouped, AreGroups}
-use Rattle.acl_rows.specs.Groups.{Groups, group_place, part_of, part_at, room_in, IsGroup, AreGrouped, HaveSameRows}
-use Rattle.acl_rows.proofs.GroupPlaces.{row_less, IsOwn, peer_rows, is_at-place}
+use Rattle.acl_rows.specs.Groups.{Groups, group_sort_key, part_of, part_at, room_in, IsGroup, AreGrouped, HaveSameRows}
+use Rattle.acl_rows.proofs.GroupSortKeys.{row_less, IsOwn, peer_rows, is_at-sort_key}
 
 -- a group of an address
 abbrev pub Group : Type 0
@@ -43,40 +43,40 @@ module _ (owner : Owner) (side : Direction) where
     at_of rows = filter (is_at a) rows
 
     -- a row of the address of a group
-    row_at_group : (g : Group) (r : Row) → IsRowAt owner side g.0 r → is_at a r ≡ same_place (addr_place a) (group_place g)
-    unfolding group_place
-    row_at_group g r is = is_at-place a r ∙ ap (λ (b : Addr). same_place (addr_place a) (addr_place b)) is.addr_is
+    row_at_group : (g : Group) (r : Row) → IsRowAt owner side g.0 r → is_at a r ≡ same_sort_key (addr_sort_key a) (group_sort_key g)
+    unfolding group_sort_key
+    row_at_group g r is = is_at-sort_key a r ∙ ap (λ (b : Addr). same_sort_key (addr_sort_key a) (addr_sort_key b)) is.addr_is
 
-    kept_by : (g : Group) (rows : List Row) → AllByRecursion (IsRowAt owner side g.0) rows → same_place (addr_place a) (group_place g) ≡ true → at_of rows ≡ rows
+    kept_by : (g : Group) (rows : List Row) → AllByRecursion (IsRowAt owner side g.0) rows → same_sort_key (addr_sort_key a) (group_sort_key g) ≡ true → at_of rows ≡ rows
     kept_by g [] own same = refl
     kept_by g (r ∷ rs) own same = ap (λ (b : Bool). cond b (r ∷ at_of rs) (at_of rs)) (row_at_group g r own.0 ∙ same) ∙ ap (λ (qs : List Row). r ∷ qs) (kept_by g rs own.1 same)
 
-    left_out : (g : Group) (rows : List Row) → AllByRecursion (IsRowAt owner side g.0) rows → same_place (addr_place a) (group_place g) ≡ false → at_of rows ≡ []
+    left_out : (g : Group) (rows : List Row) → AllByRecursion (IsRowAt owner side g.0) rows → same_sort_key (addr_sort_key a) (group_sort_key g) ≡ false → at_of rows ≡ []
     left_out g [] own other = refl
     left_out g (r ∷ rs) own other = ap (λ (b : Bool). cond b (r ∷ at_of rs) (at_of rs)) (row_at_group g r own.0 ∙ other) ∙ left_out g rs own.1 other
 
-    none_above : (gs : Groups) → PlacesAbove group_place (addr_place a) gs → AllByRecursion (IsGroup owner side) gs → at_of (grouped gs) ≡ []
+    none_above : (gs : Groups) → SortKeysAbove group_sort_key (addr_sort_key a) gs → AllByRecursion (IsGroup owner side) gs → at_of (grouped gs) ≡ []
     unfolding grouped
     none_above [] above own = refl
     none_above (g ∷ gs) above own =
         filter-append (is_at a) g.1.rows (grouped gs)
-        ∙ (λ i. left_out g g.1.rows own.0.own (same_place-cmp (addr_place a) (group_place g) Less above.0) i ++ none_above gs above.1 own.1 i)
+        ∙ (λ i. left_out g g.1.rows own.0.own (same_sort_key-cmp (addr_sort_key a) (group_sort_key g) Less above.0) i ++ none_above gs above.1 own.1 i)
 
-    at_by : (g : Group) (gs : Groups) → PlacesAbove group_place (group_place g) gs → IsGroup owner side g → AllByRecursion (IsGroup owner side) gs → at_of (grouped gs) ≡ (part_of (row_at group_place (addr_place a) gs)).rows
-        → (b : Bool) → same_place (group_place g) (addr_place a) ≡ b → at_of g.1.rows ++ at_of (grouped gs) ≡ (part_of (cond b (Some g) (row_at group_place (addr_place a) gs))).rows
+    at_by : (g : Group) (gs : Groups) → SortKeysAbove group_sort_key (group_sort_key g) gs → IsGroup owner side g → AllByRecursion (IsGroup owner side) gs → at_of (grouped gs) ≡ (part_of (row_at group_sort_key (addr_sort_key a) gs)).rows
+        → (b : Bool) → same_sort_key (group_sort_key g) (addr_sort_key a) ≡ b → at_of g.1.rows ++ at_of (grouped gs) ≡ (part_of (cond b (Some g) (row_at group_sort_key (addr_sort_key a) gs))).rows
     at_by g gs above own owns rest true e =
-        let is : group_place g ≡ addr_place a = same_place_exact (group_place g) (addr_place a) e in
-        (λ i. kept_by g g.1.rows own.own (ap (same_place (addr_place a)) is ∙ same_place_itself (addr_place a)) i ++ none_above gs (subst (λ (p : List ℕ). PlacesAbove group_place p gs) is above) owns i)
+        let is : group_sort_key g ≡ addr_sort_key a = same_sort_key_exact (group_sort_key g) (addr_sort_key a) e in
+        (λ i. kept_by g g.1.rows own.own (ap (same_sort_key (addr_sort_key a)) is ∙ same_sort_key_itself (addr_sort_key a)) i ++ none_above gs (subst (λ (p : List ℕ). SortKeysAbove group_sort_key p gs) is above) owns i)
         ∙ append-nil g.1.rows
     at_by g gs above own owns rest false e =
-        λ i. left_out g g.1.rows own.own (differ_turned (group_place g) (addr_place a) e) i ++ rest i
+        λ i. left_out g g.1.rows own.own (differ_turned (group_sort_key g) (addr_sort_key a) e) i ++ rest i
 
-    at_all : (gs : Groups) → PlacesAscend group_place gs → AllByRecursion (IsGroup owner side) gs → at_of (grouped gs) ≡ (part_of (row_at group_place (addr_place a) gs)).rows
+    at_all : (gs : Groups) → SortKeysAscend group_sort_key gs → AllByRecursion (IsGroup owner side) gs → at_of (grouped gs) ≡ (part_of (row_at group_sort_key (addr_sort_key a) gs)).rows
     unfolding grouped
     at_all [] up own = refl
     at_all (g ∷ gs) up own =
         filter-append (is_at a) g.1.rows (grouped gs)
-        ∙ at_by g gs up.0 own.0 own.1 (at_all gs up.1 own.1) (same_place (group_place g) (addr_place a)) refl
+        ∙ at_by g gs up.0 own.0 own.1 (at_all gs up.1 own.1) (same_sort_key (group_sort_key g) (addr_sort_key a)) refl
 
     pub grouped_at : (gs : Groups) → AreGrouped owner side gs → filter (is_at a) (grouped gs) ≡ (part_at a gs).rows
     unfolding part_at
@@ -105,45 +105,45 @@ module _ (owner : Owner) (side : Direction) where
 
   -- ---- All rows are in order
 
-  above_own : (a : Addr) (r : Row) (g : Group) (xs : List Row) → IsRowAt owner side a r → AllByRecursion (IsRowAt owner side g.0) xs → place_cmp (addr_place a) (group_place g) ≡ Less → PlacesAbove row_place (row_place r) xs
-  unfolding group_place
+  above_own : (a : Addr) (r : Row) (g : Group) (xs : List Row) → IsRowAt owner side a r → AllByRecursion (IsRowAt owner side g.0) xs → sort_key_cmp (addr_sort_key a) (group_sort_key g) ≡ Less → SortKeysAbove row_sort_key (row_sort_key r) xs
+  unfolding group_sort_key
   above_own a r g [] is own less = tt
   above_own a r g (x ∷ xs) is own less = (row_less owner side a g.0 r x is own.0 less, above_own a r g xs is own.1 less)
 
   -- a row is before those of later groups
-  pub above_grouped : (a : Addr) (r : Row) (gs : Groups) → IsRowAt owner side a r → PlacesAbove group_place (addr_place a) gs → AllByRecursion (IsGroup owner side) gs → PlacesAbove row_place (row_place r) (grouped gs)
+  pub above_grouped : (a : Addr) (r : Row) (gs : Groups) → IsRowAt owner side a r → SortKeysAbove group_sort_key (addr_sort_key a) gs → AllByRecursion (IsGroup owner side) gs → SortKeysAbove row_sort_key (row_sort_key r) (grouped gs)
   unfolding grouped
   above_grouped a r [] is above own = tt
-  above_grouped a r (g ∷ gs) is above own = above-append row_place (row_place r) g.1.rows (grouped gs) (above_own a r g g.1.rows is own.0.own above.0) (above_grouped a r gs is above.1 own.1)
+  above_grouped a r (g ∷ gs) is above own = above-append row_sort_key (row_sort_key r) g.1.rows (grouped gs) (above_own a r g g.1.rows is own.0.own above.0) (above_grouped a r gs is above.1 own.1)
 
-  before_grouped : (a : Addr) (xs : List Row) (gs : Groups) → AllByRecursion (IsRowAt owner side a) xs → PlacesAbove group_place (addr_place a) gs → AllByRecursion (IsGroup owner side) gs → ComeBefore row_place xs (grouped gs)
+  before_grouped : (a : Addr) (xs : List Row) (gs : Groups) → AllByRecursion (IsRowAt owner side a) xs → SortKeysAbove group_sort_key (addr_sort_key a) gs → AllByRecursion (IsGroup owner side) gs → ComeBefore row_sort_key xs (grouped gs)
   before_grouped a [] gs own above owns = tt
   before_grouped a (x ∷ xs) gs own above owns = (above_grouped a x gs own.0 above owns, before_grouped a xs gs own.1 above owns)
 
-  ascend_all : (gs : Groups) → PlacesAscend group_place gs → AllByRecursion (IsGroup owner side) gs → PlacesAscend row_place (grouped gs)
-  unfolding grouped group_place
+  ascend_all : (gs : Groups) → SortKeysAscend group_sort_key gs → AllByRecursion (IsGroup owner side) gs → SortKeysAscend row_sort_key (grouped gs)
+  unfolding grouped group_sort_key
   ascend_all [] up own = tt
-  ascend_all (g ∷ gs) up own = ascend-append row_place g.1.rows (grouped gs) own.0.ascend (ascend_all gs up.1 own.1) (before_grouped g.0 g.1.rows gs own.0.own up.0 own.1)
+  ascend_all (g ∷ gs) up own = ascend-append row_sort_key g.1.rows (grouped gs) own.0.ascend (ascend_all gs up.1 own.1) (before_grouped g.0 g.1.rows gs own.0.own up.0 own.1)
 
-  pub grouped_ascend : (gs : Groups) → AreGrouped owner side gs → PlacesAscend row_place (grouped gs)
+  pub grouped_ascend : (gs : Groups) → AreGrouped owner side gs → SortKeysAscend row_sort_key (grouped gs)
   grouped_ascend gs are = ascend_all gs are.ascend are.each
 
   -- ---- One group
 
-  is_group_at : (a : Addr) (g : Group) → same_place (group_place g) (addr_place a) ≡ true → IsGroup owner side g → IsGroup owner side (a, g.1)
-  unfolding group_place
+  is_group_at : (a : Addr) (g : Group) → same_sort_key (group_sort_key g) (addr_sort_key a) ≡ true → IsGroup owner side g → IsGroup owner side (a, g.1)
+  unfolding group_sort_key
   is_group_at a g same is = record {
-    own = subst (λ (b : Addr). AllByRecursion (IsRowAt owner side b) g.1.rows) (addr_place_exact g.0 a (same_place_exact (addr_place g.0) (addr_place a) same)) is.own;
+    own = subst (λ (b : Addr). AllByRecursion (IsRowAt owner side b) g.1.rows) (addr_sort_key_exact g.0 a (same_sort_key_exact (addr_sort_key g.0) (addr_sort_key a) same)) is.own;
     ascend = is.ascend;
   }
 
-  part_by : (a : Addr) (g : Group) (o : Option Group) → IsGroup owner side g → IsGroup owner side (a, part_of o) → (b : Bool) → same_place (group_place g) (addr_place a) ≡ b → IsGroup owner side (a, part_of (cond b (Some g) o))
+  part_by : (a : Addr) (g : Group) (o : Option Group) → IsGroup owner side g → IsGroup owner side (a, part_of o) → (b : Bool) → same_sort_key (group_sort_key g) (addr_sort_key a) ≡ b → IsGroup owner side (a, part_of (cond b (Some g) o))
   part_by a g o own rest true same = is_group_at a g same own
   part_by a g o own rest false same = rest
 
-  part_all : (a : Addr) (gs : Groups) → AllByRecursion (IsGroup owner side) gs → IsGroup owner side (a, part_of (row_at group_place (addr_place a) gs))
+  part_all : (a : Addr) (gs : Groups) → AllByRecursion (IsGroup owner side) gs → IsGroup owner side (a, part_of (row_at group_sort_key (addr_sort_key a) gs))
   part_all a [] own = record { own = tt; ascend = tt }
-  part_all a (g ∷ gs) own = part_by a g (row_at group_place (addr_place a) gs) own.0 (part_all a gs own.1) (same_place (group_place g) (addr_place a)) refl
+  part_all a (g ∷ gs) own = part_by a g (row_at group_sort_key (addr_sort_key a) gs) own.0 (part_all a gs own.1) (same_sort_key (group_sort_key g) (addr_sort_key a)) refl
 
   -- what stands at an address is a group of it
   pub part_group : (a : Addr) (gs : Groups) → AreGrouped owner side gs → IsGroup owner side (a, part_at a gs)
@@ -152,10 +152,10 @@ module _ (owner : Owner) (side : Direction) where
 
   -- ---- A group that is put in is the one of its address
 
-  pub grouped_set : (g : Group) (gs : Groups) → IsGroup owner side g → AreGrouped owner side gs → AreGrouped owner side (set_row group_place g gs)
+  pub grouped_set : (g : Group) (gs : Groups) → IsGroup owner side g → AreGrouped owner side gs → AreGrouped owner side (set_row group_sort_key g gs)
   grouped_set g gs own are = record {
-    ascend = ascend-set_row group_place g gs are.ascend;
-    each = all-set_row group_place (IsGroup owner side) g gs own are.each;
+    ascend = ascend-set_row group_sort_key g gs are.ascend;
+    each = all-set_row group_sort_key (IsGroup owner side) g gs own are.each;
   }
 
   -- ---- Groups as they are lent
@@ -166,8 +166,8 @@ module _ (owner : Owner) (side : Direction) where
 
   -- of a group it is said what is said of what stands at its address
   here : (gs : Groups) → AreGrouped owner side gs → (k : ℕ) (g : Group) → slice_get gs k ≡ Some g → part_at g.0 gs ≡ g.1
-  unfolding part_at group_place
-  here gs are k g at = ap part_of (row_at_row group_place gs k g are.ascend at)
+  unfolding part_at group_sort_key
+  here gs are k g at = ap part_of (row_at_row group_sort_key gs k g are.ascend at)
 
   all_rows : (a : Addr) (part rows xs : List Row) → AllByRecursion (IsRowAt owner side a) xs → part ≡ rows_of_peer owner side a rows → AllByRecursion (λ r. part ≡ rows_of_peer r.owner r.side r.addr rows) xs
   all_rows a part rows [] own is = tt
@@ -183,8 +183,8 @@ module _ (owner : Owner) (side : Direction) where
         let own : IsGroup owner side g = subst (λ (p : RowsAndRoom Row). IsGroup owner side (g.0, p)) is (part_group g.0 gs are) in
         all_rows g.0 g.1.rows (grouped gs) g.1.rows own.own (sym (grouped_peer g.0 gs are ∙ ap (λ (p : RowsAndRoom Row). p.rows) is)));
     ascend =
-        every (λ g. PlacesAscend row_place g.1.rows) gs
-        (λ k g at. subst (λ (p : RowsAndRoom Row). PlacesAscend row_place p.rows) (here gs are k g at) (part_group g.0 gs are).ascend);
+        every (λ g. SortKeysAscend row_sort_key g.1.rows) gs
+        (λ k g at. subst (λ (p : RowsAndRoom Row). SortKeysAscend row_sort_key p.rows) (here gs are k g at) (part_group g.0 gs are).ascend);
   }
 
   -- ---- Without the empty groups
@@ -209,14 +209,14 @@ module _ (owner : Owner) (side : Direction) where
 
   pub grouped_clear : (gs : Groups) → AreGrouped owner side gs → HaveSameRows owner side gs (filter has_rows gs)
   grouped_clear gs are = record {
-    grouped_are = record { ascend = ascend-filter group_place has_rows gs are.ascend; each = each_clear gs are.each };
+    grouped_are = record { ascend = ascend-filter group_sort_key has_rows gs are.ascend; each = each_clear gs are.each };
     rows = cleared gs;
   }
 
   -- ---- Before anything stands there
 
   pub none_grouped : (gs : Groups) → gs ≡ [] → AreGrouped owner side gs
-  none_grouped gs empty = record { ascend = subst (PlacesAscend group_place) (sym empty) tt; each = subst (AllByRecursion (IsGroup owner side)) (sym empty) tt }
+  none_grouped gs empty = record { ascend = subst (SortKeysAscend group_sort_key) (sym empty) tt; each = subst (AllByRecursion (IsGroup owner side)) (sym empty) tt }
 
 pub grouped_none : (gs : Groups) → gs ≡ [] → grouped gs ≡ []
 unfolding grouped
@@ -228,9 +228,9 @@ set_by : (b : Bool) (g : Group) (o : Option Group) → part_of (cond b (Some g) 
 set_by true g o = refl
 set_by false g o = refl
 
-pub part_set : (a : Addr) (g : Group) (gs : Groups) → part_at a (set_row group_place g gs) ≡ cond (same_place (addr_place g.0) (addr_place a)) g.1 (part_at a gs)
-unfolding part_at group_place
-part_set a g gs = ap part_of (row_at-set_row group_place g gs (addr_place a)) ∙ set_by (same_place (addr_place g.0) (addr_place a)) g (row_at group_place (addr_place a) gs)
+pub part_set : (a : Addr) (g : Group) (gs : Groups) → part_at a (set_row group_sort_key g gs) ≡ cond (same_sort_key (addr_sort_key g.0) (addr_sort_key a)) g.1 (part_at a gs)
+unfolding part_at group_sort_key
+part_set a g gs = ap part_of (row_at-set_row group_sort_key g gs (addr_sort_key a)) ∙ set_by (same_sort_key (addr_sort_key g.0) (addr_sort_key a)) g (row_at group_sort_key (addr_sort_key a) gs)
 
 -- ---- Room, by address
 
@@ -238,12 +238,12 @@ room_by : (b : Bool) (g : Group) (o : Option Group) (rest : ℕ) → rest ≡ (p
 room_by true g o rest is = refl
 room_by false g o rest is = is
 
-room_all : (a : Addr) (gs : Groups) → room_at a (room_in gs) ≡ (part_of (row_at group_place (addr_place a) gs)).room
-unfolding room_at room_in group_place
+room_all : (a : Addr) (gs : Groups) → room_at a (room_in gs) ≡ (part_of (row_at group_sort_key (addr_sort_key a) gs)).room
+unfolding room_at room_in group_sort_key
 room_all a [] = refl
 room_all a (g ∷ gs) =
-    ap (λ (b : Bool). cond b g.1.room (room_at a (room_in gs))) (same_addr-place g.0 a)
-    ∙ room_by (same_place (addr_place g.0) (addr_place a)) g (row_at group_place (addr_place a) gs) (room_at a (room_in gs)) (room_all a gs)
+    ap (λ (b : Bool). cond b g.1.room (room_at a (room_in gs))) (same_addr-sort_key g.0 a)
+    ∙ room_by (same_sort_key (addr_sort_key g.0) (addr_sort_key a)) g (row_at group_sort_key (addr_sort_key a) gs) (room_at a (room_in gs)) (room_all a gs)
 
 pub room_is : (a : Addr) (gs : Groups) → room_at a (room_in gs) ≡ (part_at a gs).room
 unfolding part_at

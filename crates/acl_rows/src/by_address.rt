@@ -3,9 +3,9 @@ ghost use Rattle.std.specs.Prelude.{◌≡◌, ◌+◌, ◌^◌, ◌<◌, ◌≤
 ghost use Rattle.std.specs.List.{AllByRecursion};
 ghost use Rattle.mud_base.specs.Addresses.{same_addr};
 ghost use Rattle.mud_base.specs.declared.addr.Addr.{Addr as AddrValue};
-ghost use Rattle.sorted_rows.specs.Placed.{index_in, PlacesAscend};
+ghost use Rattle.sorted_rows.specs.Sortable.{index_in, SortKeysAscend};
 ghost use Rattle.sorted_rows.specs.Edits.{edited};
-ghost use Rattle.acl_rows.specs.Places.{row_place, row_key_place};
+ghost use Rattle.acl_rows.specs.SortKeys.{row_sort_key, named_sort_key};
 ghost use Rattle.acl_rows.specs.View.{is_at};
 ghost use Rattle.acl_rows.specs.ByAddress.{room_at, index_beside, until_of_row, IsRowAt, IsEditAt, IsRoomier, AreGroups};
 
@@ -18,12 +18,12 @@ use std::collections::BTreeMap;
 use std::marker::Model;
 use std::sync::ledger::Ledger;
 
-/// Rows of one owner and side, in ascending order of their places. Those of each address stand by
-/// themselves, and a change moves rows of its own address alone. Contracts see all rows in one list,
-/// and for each address how many more can be added without memory.
+/// Rows of one owner and side, in ascending order of their sort keys. Those of each address stand
+/// by themselves, and a change moves rows of its own address alone. Contracts see all rows in one
+/// list, and for each address how many more can be added without memory.
 ///
-/// An address whose last row went, or that was made room for in vain, stays until there are twice as
-/// many addresses as were left when those without rows went the last time, and at least 16; then
+/// An address whose last row went, or that was made room for in vain, stays until there are twice
+/// as many addresses as were left when those without rows went the last time, and at least 16; then
 /// `clear` takes those without rows away.
 #[derive(Drop)]
 pub struct AddressRows {
@@ -61,7 +61,7 @@ impl AddressRows {
 
     /// Does nothing: its contract says that the rows are in order, and whose they are.
     pub fn tell_order(&self)
-        ensures ascend { PlacesAscend row_place self.now.rows }
+        ensures ascend { SortKeysAscend row_sort_key self.now.rows }
         ensures own { AllByRecursion (λ row. IsRowAt self.now.owner self.now.side row.addr row) self.now.rows }
     {
         let _kept = &self.groups;
@@ -78,8 +78,8 @@ impl AddressRows {
     /// Looks for a row among those of its address. There is at least one step where there are such
     /// rows, and there are no more than their number has binary digits.
     pub fn find_counted<L: Ledger>(&self, key: &RowKey, steps: &mut Steps<L>) -> FoundRow
-        ensures index { result.index ≡ index_in row_place (row_key_place key.now) (filter (is_at key.now.addr) self.now.rows) }
-        ensures until { result.until ≡ until_of_row (row_key_place key.now) (filter (is_at key.now.addr) self.now.rows) }
+        ensures index { result.index ≡ index_in row_sort_key (named_sort_key key.now) (filter (is_at key.now.addr) self.now.rows) }
+        ensures until { result.until ≡ until_of_row (named_sort_key key.now) (filter (is_at key.now.addr) self.now.rows) }
         ensures least { steps.old + min 1 (length (filter (is_at key.now.addr) self.now.rows)) ≤ steps.new }
         ensures most { (b : ℕ) → length self.now.rows < 2 ^ b → steps.new ≤ steps.old + b }
     {
@@ -125,10 +125,10 @@ impl AddressRows {
         requires some { start < length edits.old.rows }
         requires own { AllByRecursion (IsEditAt self.old.owner self.old.side addr) (drop start edits.old.rows) }
         requires room { length edits.old.rows ≤ room_at addr self.old.room + start }
-        requires found { AllByRecursion (λ edit. edit.found ≡ index_beside self.old.owner self.old.side addr (row_place edit.row) self.old.rows) (drop start edits.old.rows) }
+        requires found { AllByRecursion (λ edit. edit.found ≡ index_beside self.old.owner self.old.side addr (row_sort_key edit.row) self.old.rows) (drop start edits.old.rows) }
         ensures owner { self.new.owner ≡ self.old.owner }
         ensures side { self.new.side ≡ self.old.side }
-        ensures rows { self.new.rows ≡ edited row_place (drop start edits.old.rows) self.old.rows }
+        ensures rows { self.new.rows ≡ edited row_sort_key (drop start edits.old.rows) self.old.rows }
         ensures left { edits.new.rows ≡ take start edits.old.rows }
         ensures others { (a : AddrValue) → same_addr a addr ≡ false → room_at a self.new.room ≡ room_at a self.old.room }
         ensures counted { steps.new + start ≡ steps.old + length edits.old.rows }

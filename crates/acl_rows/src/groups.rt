@@ -2,12 +2,12 @@
 //! by its three counted calls alone.
 ghost use Rattle.std.specs.Prelude.{◌≡◌, ℕ, ◌+◌, ◌^◌, ◌<◌, ◌≤◌, min, length, take, drop, slice_get, [], Some, option_map, OnOk};
 ghost use Rattle.mud_base.specs.declared.packet.Direction.{Direction as DirectionValue};
-ghost use Rattle.sorted_rows.specs.Placed.{index_in, PlacesAscend};
+ghost use Rattle.sorted_rows.specs.Sortable.{index_in, SortKeysAscend};
 ghost use Rattle.sorted_rows.specs.Edits.{AreFound};
 ghost use Rattle.acl_rows.specs.declared.row.Owner.{Owner as OwnerValue};
-ghost use Rattle.acl_rows.specs.Places.{row_place, row_key_place};
+ghost use Rattle.acl_rows.specs.SortKeys.{row_sort_key, named_sort_key};
 ghost use Rattle.acl_rows.specs.ByAddress.{until_of_row, grouped};
-ghost use Rattle.acl_rows.specs.Groups.{part_at, group_place, AreGrouped, HaveSameRows, AreRoomier, IsEdited};
+ghost use Rattle.acl_rows.specs.Groups.{part_at, group_sort_key, AreGrouped, HaveSameRows, AreRoomier, IsEdited};
 
 use crate::row::{FoundRow, Row, RowKey};
 use mud_base::{Addr, End, Memory};
@@ -58,8 +58,8 @@ impl GroupedRows {
     /// Looks for a row in the group of its address. There is at least one step where the group has
     /// rows, and there are no more than their number has binary digits.
     pub(crate) fn find_counted<L: Ledger>(&self, key: &RowKey, steps: &mut Steps<L>) -> FoundRow
-        ensures index { result.index ≡ index_in row_place (row_key_place key.now) (part_at key.now.addr self.now).rows }
-        ensures until { result.until ≡ until_of_row (row_key_place key.now) (part_at key.now.addr self.now).rows }
+        ensures index { result.index ≡ index_in row_sort_key (named_sort_key key.now) (part_at key.now.addr self.now).rows }
+        ensures until { result.until ≡ until_of_row (named_sort_key key.now) (part_at key.now.addr self.now).rows }
         ensures least { steps.old + min 1 (length (part_at key.now.addr self.now).rows) ≤ steps.new }
         ensures most { (b : ℕ) → length (part_at key.now.addr self.now).rows < 2 ^ b → steps.new ≤ steps.old + b }
     {
@@ -109,10 +109,10 @@ impl GroupedRows {
         start: usize,
         steps: &mut Steps<L>,
     )
-        requires ascend { PlacesAscend group_place self.old }
+        requires ascend { SortKeysAscend group_sort_key self.old }
         requires some { start < length edits.old.rows }
         requires room { length edits.old.rows ≤ (part_at addr self.old).room + start }
-        requires found { AreFound row_place (part_at addr self.old).rows (drop start edits.old.rows) }
+        requires found { AreFound row_sort_key (part_at addr self.old).rows (drop start edits.old.rows) }
         ensures group { IsEdited addr (drop start edits.old.rows) self.old self.new }
         ensures left { edits.new.rows ≡ take start edits.old.rows }
         ensures counted { steps.new + start ≡ steps.old + length edits.old.rows }
@@ -122,27 +122,27 @@ impl GroupedRows {
 }
 
 /// Looks for a row among these, as `SortedRows::find_counted` does.
-#[tactic(auto, unfolding(crate::specs::Places::row_key_place))]
+#[tactic(auto, unfolding(crate::specs::SortKeys::named_sort_key))]
 fn found_in<L: Ledger>(rows: &SortedRows<Row>, key: &RowKey, steps: &mut Steps<L>) -> FoundRow
-    ensures index { result.index ≡ index_in row_place (row_key_place key.now) rows.now.rows }
-    ensures until { result.until ≡ until_of_row (row_key_place key.now) rows.now.rows }
+    ensures index { result.index ≡ index_in row_sort_key (named_sort_key key.now) rows.now.rows }
+    ensures until { result.until ≡ until_of_row (named_sort_key key.now) rows.now.rows }
     ensures least { steps.old + min 1 (length rows.now.rows) ≤ steps.new }
     ensures most { (b : ℕ) → length rows.now.rows < 2 ^ b → steps.new ≤ steps.old + b }
 {
     let kept = rows.rows();
     match rows.find_counted(key, steps) {
-        Ok(place) => FoundRow {
-            index: Ok(place),
-            until: Some(until_at(kept, place)),
+        Ok(index) => FoundRow {
+            index: Ok(index),
+            until: Some(until_at(kept, index)),
         },
-        Err(place) => FoundRow {
-            index: Err(place),
+        Err(index) => FoundRow {
+            index: Err(index),
             until: None,
         },
     }
 }
 
-/// The end of the row of an index.
+/// The expiry of the row of an index.
 fn until_at(rows: &[Row], index: usize) -> End
     requires { index < length rows.now }
     ensures { option_map (λ row. row.until) (slice_get rows.now index) ≡ Some result }
@@ -198,10 +198,10 @@ fn edit_group<L: Ledger>(
     start: usize,
     steps: &mut Steps<L>,
 )
-    requires ascend { PlacesAscend group_place groups.old.entries }
+    requires ascend { SortKeysAscend group_sort_key groups.old.entries }
     requires some { start < length edits.old.rows }
     requires room { length edits.old.rows ≤ (part_at addr groups.old.entries).room + start }
-    requires found { AreFound row_place (part_at addr groups.old.entries).rows (drop start edits.old.rows) }
+    requires found { AreFound row_sort_key (part_at addr groups.old.entries).rows (drop start edits.old.rows) }
     ensures group { IsEdited addr (drop start edits.old.rows) groups.old.entries groups.new.entries }
     ensures left { edits.new.rows ≡ take start edits.old.rows }
     ensures counted { steps.new + start ≡ steps.old + length edits.old.rows }

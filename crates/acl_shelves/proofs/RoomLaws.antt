@@ -1,26 +1,26 @@
--- Room for each edit, and shelves for all of them.
+-- Room for each edit, and buckets for all of them.
 use Rattle.std.proofs.Common.{◌≡◌, ℕ, zero, suc, ◌+◌, ◌-◌, ◌<◌, ◌≤◌, Bool, true, false, cond, ◌⊎◌, inl, inr, List, [], ◌∷◌, ◌++◌, length, set, get_or, take, slice_get, Some, None, refl, sym, ap, subst, ◌∙◌, arith}
 use Rattle.std.specs.List.{AllByRecursion}
 use Rattle.std.specs.declared.cmp.Ordering.TheVariants.{Less, Greater}
 use Rattle.std.proofs.lemmas.Bool.{cases_eq, cases_lt}
 use Rattle.std.proofs.lemmas.Option.{none-some, same_Some}
 use Rattle.std.proofs.lemmas.List.{length-set, take_more, take_all}
-use Rattle.sorted_rows.specs.Placed.{place_cmp, is_under, rows_under, PlacesAscend, PlacesAbove}
-use Rattle.sorted_rows.proofs.PlacedLaws.{place_cmp_turned}
+use Rattle.sorted_rows.specs.Sortable.{sort_key_cmp, is_under, rows_under, SortKeysAscend, SortKeysAbove}
+use Rattle.sorted_rows.proofs.SortableLaws.{sort_key_cmp_turned}
 use Rattle.sorted_rows.proofs.Lists.{all_push}
 use Rattle.mud_base.specs.declared.addr.Addr.{Addr}
 use Rattle.mud_base.specs.declared.packet.Direction.{Direction}
 use Rattle.sorted_rows.specs.declared.edit.Edit.{Edit}
-use Rattle.sorted_rows.specs.Edits.{edit_place, edited}
+use Rattle.sorted_rows.specs.Edits.{edit_sort_key, edited}
 use Rattle.acl_rows.specs.declared.row.Owner.{Owner}
 use Rattle.acl_rows.specs.declared.row.Peer.{Peer}
 use Rattle.acl_rows.specs.declared.row.Row.{Row}
 use Rattle.acl_rows.specs.declared.row.RowKey.{RowKey}
-use Rattle.acl_rows.specs.Places.{peer_place, row_place}
+use Rattle.acl_rows.specs.SortKeys.{peer_sort_key, row_sort_key}
 use Rattle.acl_rows.specs.ByAddress.{SideRows, room_at, IsRowAt, IsEditAt, IsRoomier}
 use Rattle.acl_rows.proofs.Lists.{all_implied}
-use Rattle.acl_shelves.specs.RowShelves.{shelf_number, edits_of_peer, HasRoom}
-use Rattle.acl_shelves.specs.RowParts.{row_number, Parts, part_at, joined, room_in, AreSorted, AreKept, AreRoomier, HasRoomFor, HaveShelves}
+use Rattle.acl_shelves.specs.RowBuckets.{bucket_number, edits_of_peer, HasRoom}
+use Rattle.acl_shelves.specs.RowParts.{row_number, Parts, part_at, joined, room_in, AreSorted, AreKept, AreRoomier, HasRoomFor, HaveBuckets}
 use Rattle.acl_shelves.proofs.Numbers.{rows_rise}
 use Rattle.acl_shelves.proofs.Beside.{peer_is}
 use Rattle.acl_shelves.proofs.RowPartLaws.{part_read, set_here, set_other}
@@ -48,7 +48,7 @@ no_edit parts k x part lt read owner side rows =
       rows = rows ∙ ap (λ (p : SideRows). p.rows) here;
     }
 
--- the rows of one shelf stay
+-- the rows of one bucket stay
 pub kept_set : (parts : Parts) (k : ℕ) (x part : SideRows) → AreSorted parts → k < length parts → x ≡ get_or parts k x → part.owner ≡ x.owner → part.side ≡ x.side → part.rows ≡ x.rows → AreKept parts (set parts k part)
 unfolding edited
 kept_set parts k x part sorted lt read owner side rows =
@@ -59,14 +59,14 @@ kept_set parts k x part sorted lt read owner side rows =
       len = omega (arith, length-set parts k part);
     }
 
--- one empty shelf more
+-- one empty bucket more
 joined_push : (parts : Parts) (s : SideRows) → s.rows ≡ [] → joined (parts ++ s ∷ []) ≡ joined parts
 unfolding joined
 joined_push [] s none = ap (λ (rows : List Row). rows ++ []) none
 joined_push (x ∷ xs) s none = ap (λ (rows : List Row). x.rows ++ rows) (joined_push xs s none)
 
-push_own : (parts : Parts) (s : SideRows) (n : ℕ) → shelf_number s.owner s.side ≡ n + length parts → ((k : ℕ) → k < length parts → shelf_number (part_at parts k).owner (part_at parts k).side ≡ n + k)
-    → (k : ℕ) → k < length (parts ++ s ∷ []) → shelf_number (part_at (parts ++ s ∷ []) k).owner (part_at (parts ++ s ∷ []) k).side ≡ n + k
+push_own : (parts : Parts) (s : SideRows) (n : ℕ) → bucket_number s.owner s.side ≡ n + length parts → ((k : ℕ) → k < length parts → bucket_number (part_at parts k).owner (part_at parts k).side ≡ n + k)
+    → (k : ℕ) → k < length (parts ++ s ∷ []) → bucket_number (part_at (parts ++ s ∷ []) k).owner (part_at (parts ++ s ∷ []) k).side ≡ n + k
 unfolding part_at
 push_own [] s n is own zero lt = omega (arith, is)
 push_own [] s n is own (suc k) lt = absurd (omega arith)
@@ -85,12 +85,12 @@ push_each [] s (suc k) none = refl
 push_each (x ∷ xs) s zero none = refl
 push_each (x ∷ xs) s (suc k) none = push_each xs s k none
 
-pub kept_push : (parts : Parts) (s : SideRows) → AreSorted parts → shelf_number s.owner s.side ≡ length parts → s.rows ≡ [] → AreKept parts (parts ++ s ∷ [])
+pub kept_push : (parts : Parts) (s : SideRows) → AreSorted parts → bucket_number s.owner s.side ≡ length parts → s.rows ≡ [] → AreKept parts (parts ++ s ∷ [])
 kept_push parts s sorted is none = record {
   sorted = record {
-    own = λ k lt. (let here : shelf_number (part_at (parts ++ s ∷ []) k).owner (part_at (parts ++ s ∷ []) k).side ≡ 0 + k = push_own parts s 0 (omega (arith, is)) (λ j less. omega (arith, sorted.own j less)) k lt in omega (arith, here));
+    own = λ k lt. (let here : bucket_number (part_at (parts ++ s ∷ []) k).owner (part_at (parts ++ s ∷ []) k).side ≡ 0 + k = push_own parts s 0 (omega (arith, is)) (λ j less. omega (arith, sorted.own j less)) k lt in omega (arith, here));
     each = λ k. subst (AllByRecursion (λ r. row_number r ≡ k)) (sym (push_each parts s k none)) (sorted.each k);
-    ascend = subst (PlacesAscend row_place) (sym (joined_push parts s none)) sorted.ascend;
+    ascend = subst (SortKeysAscend row_sort_key) (sym (joined_push parts s none)) sorted.ascend;
   };
   rows = joined_push parts s none;
   len = longer parts s;
@@ -123,15 +123,15 @@ roomier_set parts k x part sorted lt read more = record {
 -- ---- Where each edit has room, all have
 
 module _ (o : Owner) (s : Direction) (a : Addr) (m r : ℕ) where
-  none_by : (e : Edit Row) (es : List (Edit Row)) → (IsRowAt o s a e.row → m ≤ r) → (m ≤ r) ⊎ (length es ≡ 0) → (b : Bool) → is_under (edit_place row_place) (peer_place o s a) e ≡ b → (m ≤ r) ⊎ (length (cond b (e ∷ es) es) ≡ 0)
-  unfolding edit_place
+  none_by : (e : Edit Row) (es : List (Edit Row)) → (IsRowAt o s a e.row → m ≤ r) → (m ≤ r) ⊎ (length es ≡ 0) → (b : Bool) → is_under (edit_sort_key row_sort_key) (peer_sort_key o s a) e ≡ b → (m ≤ r) ⊎ (length (cond b (e ∷ es) es) ≡ 0)
+  unfolding edit_sort_key
   none_by e es here rest true under = inl (here (peer_is o s a e.row under))
   none_by e es here rest false under = rest
 
   some_or_none : (es : List (Edit Row)) → AllByRecursion (λ e. IsRowAt o s a e.row → m ≤ r) es → (m ≤ r) ⊎ (length (edits_of_peer o s a es) ≡ 0)
   unfolding edits_of_peer
   some_or_none [] all = inr refl
-  some_or_none (e ∷ es) all = none_by e (edits_of_peer o s a es) all.0 (some_or_none es all.1) (is_under (edit_place row_place) (peer_place o s a) e) refl
+  some_or_none (e ∷ es) all = none_by e (edits_of_peer o s a es) all.0 (some_or_none es all.1) (is_under (edit_sort_key row_sort_key) (peer_sort_key o s a) e) refl
 
 -- there is room for the edits of this one's owner, side and address
 abbrev pub HasOwnRoom : List (Edit Row) → Parts → Edit Row → Type 0
@@ -140,12 +140,12 @@ HasOwnRoom edits parts e = HasRoomFor e.row.owner e.row.side e.row.addr edits pa
 own_room : (edits : List (Edit Row)) (parts : Parts) (o : Owner) (s : Direction) (a : Addr) (e : Edit Row) → HasOwnRoom edits parts e → IsRowAt o s a e.row → HasRoomFor o s a edits parts
 own_room edits parts o s a e has is =
     let count : length (edits_of_peer e.row.owner e.row.side e.row.addr edits) ≡ length (edits_of_peer o s a edits) = λ i. length (edits_of_peer (is.owner_is i) (is.side_is i) (is.addr_is i) edits) in
-    let room : room_at e.row.addr (part_at parts (shelf_number e.row.owner e.row.side)).room ≡ room_at a (part_at parts (shelf_number o s)).room = λ i. room_at (is.addr_is i) (part_at parts (shelf_number (is.owner_is i) (is.side_is i))).room in
+    let room : room_at e.row.addr (part_at parts (bucket_number e.row.owner e.row.side)).room ≡ room_at a (part_at parts (bucket_number o s)).room = λ i. room_at (is.addr_is i) (part_at parts (bucket_number (is.owner_is i) (is.side_is i))).room in
     omega (arith, has, count, room)
 
 pub room_for_all : (edits : List (Edit Row)) (parts : Parts) → AllByRecursion (HasOwnRoom edits parts) edits → (o : Owner) (s : Direction) (a : Addr) → HasRoomFor o s a edits parts
 room_for_all edits parts all o s a =
-    elim (some_or_none o s a (length (edits_of_peer o s a edits)) (room_at a (part_at parts (shelf_number o s)).room) edits
+    elim (some_or_none o s a (length (edits_of_peer o s a edits)) (room_at a (part_at parts (bucket_number o s)).room) edits
     (all_implied (HasOwnRoom edits parts) (λ e. IsRowAt o s a e.row → HasRoomFor o s a edits parts) (own_room edits parts o s a) edits all)) [
       | inl enough ↦ enough
       | inr none ↦ omega (arith, none)
@@ -161,7 +161,7 @@ abbrev pub HaveOwnRoom : List (Edit Row) → Parts → ℕ → Type 0
 HaveOwnRoom edits parts i = AllByRecursion (HasOwnRoom edits parts) (take i edits)
 
 roomier_own : (edits : List (Edit Row)) (old new : Parts) → AreRoomier old new → (e : Edit Row) → HasOwnRoom edits old e → HasOwnRoom edits new e
-roomier_own edits old new more e has = omega (arith, has, more.room (shelf_number e.row.owner e.row.side) e.row.addr)
+roomier_own edits old new more e has = omega (arith, has, more.room (bucket_number e.row.owner e.row.side) e.row.addr)
 
 pub next_room : (edits lent : List (Edit Row)) (old new : Parts) (i : ℕ) (e : Edit Row) → lent ≡ edits → AreRoomier old new → i < length lent → e ≡ get_or lent i e → HasOwnRoom edits new e → HaveOwnRoom edits old i → HaveOwnRoom edits new (i + 1)
 next_room edits lent old new i e is more lt read here before =
@@ -174,12 +174,12 @@ pub all_room : (edits lent : List (Edit Row)) (parts : Parts) (i : ℕ) → lent
 all_room edits lent parts i is past before = has_room edits parts (subst (AllByRecursion (HasOwnRoom edits parts)) (take_all i edits (subst (λ ws. length ws ≤ i) is past)) before)
 
 -- the room of the last owner, side and address is this edit's
-pub same_room : (edits : List (Edit Row)) (parts : Parts) (o : Owner) (s : Direction) (a : Addr) (e : Edit Row) → is_under (edit_place row_place) (peer_place o s a) e ≡ true → HasRoomFor o s a edits parts → HasOwnRoom edits parts e
-unfolding edit_place
+pub same_room : (edits : List (Edit Row)) (parts : Parts) (o : Owner) (s : Direction) (a : Addr) (e : Edit Row) → is_under (edit_sort_key row_sort_key) (peer_sort_key o s a) e ≡ true → HasRoomFor o s a edits parts → HasOwnRoom edits parts e
+unfolding edit_sort_key
 same_room edits parts o s a e under has =
     let is : IsRowAt o s a e.row = peer_is o s a e.row under in
     let count : length (edits_of_peer e.row.owner e.row.side e.row.addr edits) ≡ length (edits_of_peer o s a edits) = λ i. length (edits_of_peer (is.owner_is i) (is.side_is i) (is.addr_is i) edits) in
-    let room : room_at e.row.addr (part_at parts (shelf_number e.row.owner e.row.side)).room ≡ room_at a (part_at parts (shelf_number o s)).room = λ i. room_at (is.addr_is i) (part_at parts (shelf_number (is.owner_is i) (is.side_is i))).room in
+    let room : room_at e.row.addr (part_at parts (bucket_number e.row.owner e.row.side)).room ≡ room_at a (part_at parts (bucket_number o s)).room = λ i. room_at (is.addr_is i) (part_at parts (bucket_number (is.owner_is i) (is.side_is i))).room in
     omega (arith, has, count, room)
 
 -- ---- Room at one address more
@@ -192,18 +192,18 @@ own_peer e key peer key_is is = record {
   addr_is = sym (ap (λ (p : Peer). p.addr) is ∙ ap (λ (k : RowKey). k.addr) key_is);
 }
 
-pub own_within : (o : Owner) (s : Direction) (a : Addr) (e : Edit Row) (number n : ℕ) → IsEditAt o s a e → number ≡ shelf_number o s → shelf_number e.row.owner e.row.side < n → number < n
+pub own_within : (o : Owner) (s : Direction) (a : Addr) (e : Edit Row) (number n : ℕ) → IsEditAt o s a e → number ≡ bucket_number o s → bucket_number e.row.owner e.row.side < n → number < n
 own_within o s a e number n own is lt =
-    let same : shelf_number e.row.owner e.row.side ≡ shelf_number o s = λ i. shelf_number (own.owner_is i) (own.side_is i) in
+    let same : bucket_number e.row.owner e.row.side ≡ bucket_number o s = λ i. bucket_number (own.owner_is i) (own.side_is i) in
     omega (arith, is, lt, same)
 
-pub reserved_room : (edits : List (Edit Row)) (parts : Parts) (o : Owner) (s : Direction) (a : Addr) (e : Edit Row) (number more : ℕ) (part : SideRows) → IsEditAt o s a e → number ≡ shelf_number o s → number < length parts
-    → more ≡ length (rows_under (edit_place row_place) (peer_place o s a) edits) → more ≤ room_at a part.room → HasOwnRoom edits (set parts number part) e
+pub reserved_room : (edits : List (Edit Row)) (parts : Parts) (o : Owner) (s : Direction) (a : Addr) (e : Edit Row) (number more : ℕ) (part : SideRows) → IsEditAt o s a e → number ≡ bucket_number o s → number < length parts
+    → more ≡ length (rows_under (edit_sort_key row_sort_key) (peer_sort_key o s a) edits) → more ≤ room_at a part.room → HasOwnRoom edits (set parts number part) e
 unfolding edits_of_peer
 reserved_room edits parts o s a e number more part own is lt count enough =
     let edits_are : length (edits_of_peer e.row.owner e.row.side e.row.addr edits) ≡ length (edits_of_peer o s a edits) = λ i. length (edits_of_peer (own.owner_is i) (own.side_is i) (own.addr_is i) edits) in
-    let room : room_at e.row.addr (part_at (set parts number part) (shelf_number e.row.owner e.row.side)).room ≡ room_at a part.room =
-    (λ i. room_at (own.addr_is i) (part_at (set parts number part) (shelf_number (own.owner_is i) (own.side_is i))).room)
+    let room : room_at e.row.addr (part_at (set parts number part) (bucket_number e.row.owner e.row.side)).room ≡ room_at a part.room =
+    (λ i. room_at (own.addr_is i) (part_at (set parts number part) (bucket_number (own.owner_is i) (own.side_is i))).room)
     ∙ ap (λ (k : ℕ). room_at a (part_at (set parts number part) k).room) (sym is)
     ∙ ap (λ (p : SideRows). room_at a p.room) (set_here parts number part lt)
     in
@@ -215,27 +215,27 @@ next_last edits parts e peer p own is has =
     subst (λ (q : Peer). HasRoomFor q.owner q.side q.addr edits parts) (same_Some peer p is)
     (own_room edits parts peer.owner peer.side peer.addr e has (record { owner_is = own.owner_is; side_is = own.side_is; addr_is = own.addr_is }))
 
--- ---- Shelves
+-- ---- Buckets
 
-pub shelves_more : (edits : List (Edit Row)) (m n : ℕ) → m ≤ n → HaveShelves edits m → HaveShelves edits n
-shelves_more edits m n le have = all_implied (λ e. row_number e.row < m) (λ e. row_number e.row < n) (λ e lt. omega (arith, lt, le)) edits have
+pub buckets_more : (edits : List (Edit Row)) (m n : ℕ) → m ≤ n → HaveBuckets edits m → HaveBuckets edits n
+buckets_more edits m n le have = all_implied (λ e. row_number e.row < m) (λ e. row_number e.row < n) (λ e lt. omega (arith, lt, le)) edits have
 
 all_read : {X : Type 0} (P : X → Type 0) (xs : List X) (i : ℕ) (x : X) → AllByRecursion P xs → i < length xs → x ≡ get_or xs i x → P x
 all_read P [] i x all lt is = absurd (omega arith)
 all_read P (y ∷ ys) zero x all lt is = subst P (sym is) all.0
 all_read P (y ∷ ys) (suc i) x all lt is = all_read P ys i x all.1 (omega arith) is
 
-row_number_is : (r : Row) → row_number r ≡ shelf_number r.owner r.side
+row_number_is : (r : Row) → row_number r ≡ bucket_number r.owner r.side
 unfolding row_number
 row_number_is r = refl
 
-pub shelf_of : (edits lent : List (Edit Row)) (n i : ℕ) (e : Edit Row) → lent ≡ edits → HaveShelves edits n → i < length lent → e ≡ get_or lent i e → shelf_number e.row.owner e.row.side < n
-shelf_of edits lent n i e is have lt read =
+pub bucket_of : (edits lent : List (Edit Row)) (n i : ℕ) (e : Edit Row) → lent ≡ edits → HaveBuckets edits n → i < length lent → e ≡ get_or lent i e → bucket_number e.row.owner e.row.side < n
+bucket_of edits lent n i e is have lt read =
     subst (λ (k : ℕ). k < n) (row_number_is e.row)
     (all_read (λ x. row_number x.row < n) edits i e have (subst (λ ws. i < length ws) is lt) (subst (λ ws. e ≡ get_or ws i e) is read))
 
-pub no_shelves : (edits : List (Edit Row)) (n : ℕ) → slice_get edits (length edits - 1) ≡ None → HaveShelves edits n
-no_shelves edits n none = subst (λ ws. HaveShelves ws n) (sym (last_none edits none)) tt
+pub no_buckets : (edits : List (Edit Row)) (n : ℕ) → slice_get edits (length edits - 1) ≡ None → HaveBuckets edits n
+no_buckets edits n none = subst (λ ws. HaveBuckets ws n) (sym (last_none edits none)) tt
   where
     some_at : (x : Edit Row) (xs : List (Edit Row)) → slice_get (x ∷ xs) (length xs) ≡ None → ⊥
     some_at x [] e = none-some x (sym e)
@@ -251,29 +251,29 @@ no_shelves edits n none = subst (λ ws. HaveShelves ws n) (sym (last_none edits 
 not_less : Greater ≡ Less → ⊥
 not_less h = cc
 
--- a row before another stands on no later shelf
-no_later : (x y : Row) → place_cmp (row_place x) (row_place y) ≡ Less → row_number x ≤ row_number y
+-- a row before another stands in no later bucket
+no_later : (x y : Row) → sort_key_cmp (row_sort_key x) (row_sort_key y) ≡ Less → row_number x ≤ row_number y
 no_later x y less = elim (cases_lt (row_number y) (row_number x)) [
-  | inl later ↦ absurd (not_less (sym (place_cmp_turned (row_place x) (row_place y) Less less) ∙ rows_rise y x later))
+  | inl later ↦ absurd (not_less (sym (sort_key_cmp_turned (row_sort_key x) (row_sort_key y) Less less) ∙ rows_rise y x later))
   | inr le ↦ le
 ]
 
-above_at : (p : List ℕ) (es : List (Edit Row)) (i : ℕ) (e : Edit Row) → PlacesAbove (edit_place row_place) p es → slice_get es i ≡ Some e → place_cmp p (edit_place row_place e) ≡ Less
+above_at : (p : List ℕ) (es : List (Edit Row)) (i : ℕ) (e : Edit Row) → SortKeysAbove (edit_sort_key row_sort_key) p es → slice_get es i ≡ Some e → sort_key_cmp p (edit_sort_key row_sort_key e) ≡ Less
 above_at p [] i e above at = absurd (none-some e at)
-above_at p (y ∷ ys) zero e above at = subst (λ z. place_cmp p (edit_place row_place z) ≡ Less) (same_Some y e at) above.0
+above_at p (y ∷ ys) zero e above at = subst (λ z. sort_key_cmp p (edit_sort_key row_sort_key z) ≡ Less) (same_Some y e at) above.0
 above_at p (y ∷ ys) (suc i) e above at = above_at p ys i e above.1 at
 
-shelves_to : (es : List (Edit Row)) (i n : ℕ) (e : Edit Row) → PlacesAscend (edit_place row_place) es → slice_get es i ≡ Some e → length es ≤ i + 1 → row_number e.row < n → HaveShelves es n
-unfolding edit_place
-shelves_to [] i n e up at long lt = tt
-shelves_to (x ∷ xs) zero n e up at long lt = (subst (λ z. row_number z.row < n) (sym (same_Some x e at)) lt, none_more xs (omega arith))
+buckets_to : (es : List (Edit Row)) (i n : ℕ) (e : Edit Row) → SortKeysAscend (edit_sort_key row_sort_key) es → slice_get es i ≡ Some e → length es ≤ i + 1 → row_number e.row < n → HaveBuckets es n
+unfolding edit_sort_key
+buckets_to [] i n e up at long lt = tt
+buckets_to (x ∷ xs) zero n e up at long lt = (subst (λ z. row_number z.row < n) (sym (same_Some x e at)) lt, none_more xs (omega arith))
   where
-    none_more : (xs : List (Edit Row)) → length xs ≤ 0 → HaveShelves xs n
+    none_more : (xs : List (Edit Row)) → length xs ≤ 0 → HaveBuckets xs n
     none_more [] le = tt
     none_more (y ∷ ys) le = absurd (omega arith)
-shelves_to (x ∷ xs) (suc i) n e up at long lt = (omega (arith, no_later x.row e.row (above_at (edit_place row_place x) xs i e up.0 at), lt), shelves_to xs i n e up.1 at (omega arith) lt)
+buckets_to (x ∷ xs) (suc i) n e up at long lt = (omega (arith, no_later x.row e.row (above_at (edit_sort_key row_sort_key x) xs i e up.0 at), lt), buckets_to xs i n e up.1 at (omega arith) lt)
 
--- there is a shelf for the last edit, so there is one for each
-pub shelves_all : (edits lent : List (Edit Row)) (e : Edit Row) (number n : ℕ) → lent ≡ edits → PlacesAscend (edit_place row_place) edits → slice_get lent (length lent - 1) ≡ Some e → number ≡ shelf_number e.row.owner e.row.side → number < n → HaveShelves edits n
-shelves_all edits lent e number n is up at number_is lt =
-    shelves_to edits (length edits - 1) n e up (subst (λ ws. slice_get ws (length ws - 1) ≡ Some e) is at) (omega arith) (omega (arith, row_number_is e.row, number_is, lt))
+-- there is a bucket for the last edit, so there is one for each
+pub buckets_all : (edits lent : List (Edit Row)) (e : Edit Row) (number n : ℕ) → lent ≡ edits → SortKeysAscend (edit_sort_key row_sort_key) edits → slice_get lent (length lent - 1) ≡ Some e → number ≡ bucket_number e.row.owner e.row.side → number < n → HaveBuckets edits n
+buckets_all edits lent e number n is up at number_is lt =
+    buckets_to edits (length edits - 1) n e up (subst (λ ws. slice_get ws (length ws - 1) ≡ Some e) is at) (omega arith) (omega (arith, row_number_is e.row, number_is, lt))

@@ -1,4 +1,4 @@
 pub mod BindingParts
-pub mod BindingShelves
+pub mod BindingBuckets
 pub mod RowParts
-pub mod RowShelves
+pub mod RowBuckets

@@ -1,12 +1,12 @@
-//! Bindings on shelves.
+//! Bindings in buckets.
 ghost use Rattle.std.specs.Prelude.{◌≡◌, ℕ, ◌+◌, ◌-◌, ◌*◌, ◌^◌, ◌<◌, ◌≤◌, ◌++◌, min, [], length, option_copied, OnOk};
-ghost use Rattle.sorted_rows.specs.Addresses.{addr_place};
-ghost use Rattle.sorted_rows.specs.Placed.{PlacesAscend, row_at, rows_under};
+ghost use Rattle.sorted_rows.specs.Addresses.{addr_sort_key};
+ghost use Rattle.sorted_rows.specs.Sortable.{SortKeysAscend, row_at, rows_under};
 ghost use Rattle.sorted_rows.specs.Edits.{edited};
-ghost use Rattle.acl_model.specs.Places.{text_place, binding_place};
-ghost use Rattle.acl_shelves.specs.BindingShelves.{HasRoomByKey, AreFoundByKey, bindings_of_key, index_by_key};
+ghost use Rattle.acl_model.specs.SortKeys.{text_sort_key, binding_sort_key};
+ghost use Rattle.acl_shelves.specs.BindingBuckets.{HasRoomByKey, AreFoundByKey, bindings_of_key, index_by_key};
 
-use crate::binding_parts::{Shelf, bindings_at, clear_shelves, make_all, make_room};
+use crate::binding_parts::{Bucket, bindings_at, clear_buckets, make_all, make_room};
 use acl_model::{Binding, BoundKey, KeyText};
 use mud_base::Memory;
 use sorted_rows::{Edit, SortedRows, Steps};
@@ -14,39 +14,39 @@ use std::alloc::Global;
 use std::marker::Model;
 use std::sync::ledger::Ledger;
 
-/// Bindings in ascending order of their places, each place once. Those of each key stand by
-/// themselves, on a shelf that is found by the key without a step. Contracts see all bindings in one
-/// list, and for each key how many more can be added without memory.
+/// Bindings in ascending order of their sort keys, each sort key once. Those of each key stand by
+/// themselves, in a bucket that is found by the key without a step. Contracts see all bindings in
+/// one list, and for each key how many more can be added without memory.
 ///
-/// A shelf whose last binding went, or that was made for a plan that wasn't kept, stays until there
-/// are twice as many shelves as were left when the empty ones went the last time, and at least 16;
-/// then `make_room` takes the empty ones away. So there are at most twice as many shelves as had
-/// bindings then, or 16, and those that one plan adds.
+/// A bucket whose last binding went, or that was made for a plan that wasn't kept, stays until
+/// there are twice as many buckets as were left when the empty ones went the last time, and at
+/// least 16; then `make_room` takes the empty ones away. So there are at most twice as many buckets
+/// as had bindings then, or 16, and those that one plan adds.
 #[derive(Drop)]
-pub struct BindingShelves {
-    shelves: Vec<Shelf>,
+pub struct BindingBuckets {
+    buckets: Vec<Bucket>,
     none: SortedRows<Binding>,
     limit: usize,
 }
 
-impl Model for BindingShelves {
-    ghost use Rattle.acl_shelves.specs.BindingShelves.{KeptBindings};
+impl Model for BindingBuckets {
+    ghost use Rattle.acl_shelves.specs.BindingBuckets.{KeptBindings};
     ghost use Rattle.acl_shelves.specs.BindingParts.{joined, room_in, AreKept};
 
     ghost Value = { KeptBindings };
 
-    ghost view = { λ s. record { rows = joined s.shelves.items; room = room_in s.shelves.items } };
+    ghost view = { λ s. record { rows = joined s.buckets.items; room = room_in s.buckets.items } };
 
-    ghost invariant = { λ s. AreKept s.shelves.items s.none.rows };
+    ghost invariant = { λ s. AreKept s.buckets.items s.none.rows };
 }
 
-impl BindingShelves {
+impl BindingBuckets {
     /// No bindings, and no room. It takes no memory.
-    pub fn new(alloc: Global) -> BindingShelves
+    pub fn new(alloc: Global) -> BindingBuckets
         ensures rows { result.rows ≡ [] }
     {
-        BindingShelves {
-            shelves: Vec::new(alloc),
+        BindingBuckets {
+            buckets: Vec::new(alloc),
             none: SortedRows::new(alloc),
             limit: 16,
         }
@@ -54,36 +54,36 @@ impl BindingShelves {
 
     /// Does nothing: its contract says that the bindings are in order.
     pub fn tell_order(&self)
-        ensures { PlacesAscend binding_place self.now.rows }
+        ensures { SortKeysAscend binding_sort_key self.now.rows }
     {
-        let _kept = &self.shelves;
+        let _kept = &self.buckets;
     }
 
     /// The bindings of a key.
-    fn shelf(&self, key: KeyText<'_>) -> &SortedRows<Binding>
-        ensures rows { result.now.rows ≡ rows_under binding_place (text_place key.entry.kind key.entry.text.now) self.now.rows }
+    fn bucket(&self, key: KeyText<'_>) -> &SortedRows<Binding>
+        ensures rows { result.now.rows ≡ rows_under binding_sort_key (text_sort_key key.entry.kind key.entry.text.now) self.now.rows }
         ensures few { length result.now.rows ≤ length self.now.rows }
     {
-        bindings_at(self.shelves.as_slice(), &self.none, key)
+        bindings_at(self.buckets.as_slice(), &self.none, key)
     }
 
-    /// The binding of a key and an address. Each binding that is read is one step: at least one where
-    /// the key has bindings, and no more than their number has binary digits.
+    /// The binding of a key and an address. Each binding that is read is one step: at least one
+    /// where the key has bindings, and no more than their number has binary digits.
     pub fn get_counted<L: Ledger>(
         &self,
         key: &BoundKey<'_>,
         steps: &mut Steps<L>,
     ) -> Option<&Binding>
-        ensures row { option_copied result ≡ row_at binding_place (text_place key.entry.now.key.kind key.entry.now.key.text.now ++ addr_place key.entry.now.addr) self.now.rows }
-        ensures least { steps.old + min 1 (length (rows_under binding_place (text_place key.entry.now.key.kind key.entry.now.key.text.now) self.now.rows)) ≤ steps.new }
-        ensures own { (b : ℕ) → length (rows_under binding_place (text_place key.entry.now.key.kind key.entry.now.key.text.now) self.now.rows) < 2 ^ b → steps.new ≤ steps.old + b }
+        ensures row { option_copied result ≡ row_at binding_sort_key (text_sort_key key.entry.now.key.kind key.entry.now.key.text.now ++ addr_sort_key key.entry.now.addr) self.now.rows }
+        ensures least { steps.old + min 1 (length (rows_under binding_sort_key (text_sort_key key.entry.now.key.kind key.entry.now.key.text.now) self.now.rows)) ≤ steps.new }
+        ensures own { (b : ℕ) → length (rows_under binding_sort_key (text_sort_key key.entry.now.key.kind key.entry.now.key.text.now) self.now.rows) < 2 ^ b → steps.new ≤ steps.old + b }
         ensures most { (b : ℕ) → length self.now.rows < 2 ^ b → steps.new ≤ steps.old + b }
     {
-        self.shelf(key.key).get_counted(key, steps)
+        self.bucket(key.key).get_counted(key, steps)
     }
 
-    /// The index of a binding's place among the bindings of its key, or else the index at which it
-    /// belongs there, in as many steps.
+    /// The index of a binding's sort key among the bindings of its key, or else the index at which
+    /// it belongs there, in as many steps.
     pub fn find_counted<L: Ledger>(
         &self,
         binding: &Binding,
@@ -94,7 +94,7 @@ impl BindingShelves {
         ensures most { 2 ^ (steps.new - steps.old) ≤ 2 * length (bindings_of_key binding.now.key self.now.rows) + 1 }
         ensures digits { (b : ℕ) → length self.now.rows < 2 ^ b → steps.new ≤ steps.old + b }
     {
-        self.shelf(binding.key.key_text())
+        self.bucket(binding.key.key_text())
             .find_counted(binding, steps)
     }
 
@@ -104,12 +104,12 @@ impl BindingShelves {
         key: KeyText<'_>,
         steps: &mut Steps<L>,
     ) -> &[Binding]
-        ensures rows { result.now ≡ rows_under binding_place (text_place key.entry.kind key.entry.text.now) self.now.rows }
+        ensures rows { result.now ≡ rows_under binding_sort_key (text_sort_key key.entry.kind key.entry.text.now) self.now.rows }
         ensures counted { steps.new ≡ steps.old + length result.now }
     {
-        let shelf = self.shelf(key);
-        steps.add(shelf.len() as u64);
-        shelf.rows()
+        let bucket = self.bucket(key);
+        steps.add(bucket.len() as u64);
+        bucket.rows()
     }
 
     /// Makes room for a binding by each of these edits. The bindings stay, also where there is no
@@ -122,19 +122,19 @@ impl BindingShelves {
         ensures rows { self.new.rows ≡ self.old.rows }
         ensures ok { OnOk result (HasRoomByKey edits.now.rows self.new.room) }
     {
-        self.limit = clear_shelves(&mut self.shelves, self.limit);
-        make_room(alloc, &mut self.shelves, edits)
+        self.limit = clear_buckets(&mut self.buckets, self.limit);
+        make_room(alloc, &mut self.buckets, edits)
     }
 
-    /// Makes each of these edits, each of which has the index of its place among the bindings of its
-    /// key. Each is one step, and no memory is taken. It moves bindings of the keys of the edits
-    /// alone.
+    /// Makes each of these edits, each of which has the index of its sort key among the bindings of
+    /// its key. Each is one step, and no memory is taken. It moves bindings of the keys of the
+    /// edits alone.
     pub fn make_edits<L: Ledger>(&mut self, edits: SortedRows<Edit<Binding>>, steps: &mut Steps<L>)
         requires room { HasRoomByKey edits.rows self.old.room }
         requires found { AreFoundByKey self.old.rows edits.rows }
-        ensures rows { self.new.rows ≡ edited binding_place edits.rows self.old.rows }
+        ensures rows { self.new.rows ≡ edited binding_sort_key edits.rows self.old.rows }
         ensures counted { steps.new ≡ steps.old + length edits.rows }
     {
-        make_all(&mut self.shelves, edits, steps);
+        make_all(&mut self.buckets, edits, steps);
     }
 }

@@ -1,10 +1,10 @@
-//! Rows on shelves.
+//! Rows in buckets.
 ghost use Rattle.std.specs.Prelude.{◌≡◌, ℕ, ◌+◌, ◌^◌, ◌<◌, ◌≤◌, [], min, length, OnOk};
 ghost use Rattle.sorted_rows.specs.Edits.{edited};
-ghost use Rattle.acl_rows.specs.Places.{row_place, row_key_place};
+ghost use Rattle.acl_rows.specs.SortKeys.{row_sort_key, named_sort_key};
 ghost use Rattle.acl_rows.specs.View.{part, rows_of_side};
 ghost use Rattle.acl_rows.specs.ByAddress.{rows_of_peer, index_beside, until_of_row, AreGroups};
-ghost use Rattle.acl_shelves.specs.RowShelves.{HasRoom, AreFoundBeside};
+ghost use Rattle.acl_shelves.specs.RowBuckets.{HasRoom, AreFoundBeside};
 
 use crate::row_parts::{make_all, make_room, number_of, part_of};
 use acl_model::Entry;
@@ -16,48 +16,48 @@ use std::collections::BTreeMap;
 use std::marker::Model;
 use std::sync::ledger::Ledger;
 
-/// Rows in ascending order of their places, each place once. Those of each owner and side stand by
-/// themselves, on a shelf that is found without a search, and there those of each address. Contracts
-/// see all rows in one list, and for each shelf and address how many more rows can be added without
-/// memory.
+/// Rows in ascending order of their sort keys, each sort key once. Those of each owner and side
+/// stand by themselves, in a bucket that is found without a search, and there those of each address.
+/// Contracts see all rows in one list, and for each bucket and address how many more rows can be
+/// added without memory.
 #[derive(Drop)]
-pub struct RowShelves {
-    shelves: Vec<AddressRows>,
+pub struct RowBuckets {
+    buckets: Vec<AddressRows>,
     none: AddressRows,
 }
 
-impl Model for RowShelves {
-    ghost use Rattle.acl_shelves.specs.RowShelves.{Shelves};
-    ghost use Rattle.acl_shelves.specs.RowParts.{joined, room_in, AreShelved};
+impl Model for RowBuckets {
+    ghost use Rattle.acl_shelves.specs.RowBuckets.{Buckets};
+    ghost use Rattle.acl_shelves.specs.RowParts.{joined, room_in, AreBucketed};
 
-    ghost Value = { Shelves };
+    ghost Value = { Buckets };
 
-    ghost view = { λ s. record { rows = joined s.shelves.items; room = room_in s.shelves.items } };
+    ghost view = { λ s. record { rows = joined s.buckets.items; room = room_in s.buckets.items } };
 
-    ghost invariant = { λ s. AreShelved s.shelves.items s.none.rows };
+    ghost invariant = { λ s. AreBucketed s.buckets.items s.none.rows };
 }
 
-impl RowShelves {
+impl RowBuckets {
     /// No rows, and no room. It takes no memory.
-    pub fn new(alloc: Global) -> RowShelves
+    pub fn new(alloc: Global) -> RowBuckets
         ensures rows { result.rows ≡ [] }
     {
-        RowShelves {
-            shelves: Vec::new(alloc),
+        RowBuckets {
+            buckets: Vec::new(alloc),
             none: AddressRows::new(alloc, Owner::Default, Direction::From),
         }
     }
 
-    /// The shelf of an owner and side.
-    fn shelf(&self, owner: Owner, side: Direction) -> &AddressRows
+    /// The bucket of an owner and side.
+    fn bucket(&self, owner: Owner, side: Direction) -> &AddressRows
         ensures rows { result.now.rows ≡ rows_of_side owner side self.now.rows }
         ensures few { length result.now.rows ≤ length self.now.rows }
     {
-        part_of(self.shelves.as_slice(), &self.none, number_of(owner, side))
+        part_of(self.buckets.as_slice(), &self.none, number_of(owner, side))
     }
 
-    /// What a ruling reads of these entries of an owner's policy, whose wide ones have these numbers:
-    /// the part over the rows of the owner and side.
+    /// What a ruling reads of these entries of an owner's policy, whose wide ones have these
+    /// numbers: the part over the rows of the owner and side.
     pub fn part<'a>(
         &'a self,
         owner: Owner,
@@ -68,22 +68,22 @@ impl RowShelves {
         requires { length entries.now ≤ 65535 }
         ensures { result ≡ part side entries.now wide.now (rows_of_side owner side self.now.rows) (length (rows_of_side owner side self.now.rows)) }
     {
-        RulePart::new(side, entries, wide, self.shelf(owner, side))
+        RulePart::new(side, entries, wide, self.bucket(owner, side))
     }
 
     /// Looks for a row among those of its owner, side and address. There is at least one step where
     /// there are such rows, and there are no more than their number has binary digits.
     pub fn find_counted<L: Ledger>(&self, key: &RowKey, steps: &mut Steps<L>) -> FoundRow
-        ensures index { result.index ≡ index_beside key.now.owner key.now.side key.now.addr (row_key_place key.now) self.now.rows }
-        ensures until { result.until ≡ until_of_row (row_key_place key.now) self.now.rows }
+        ensures index { result.index ≡ index_beside key.now.owner key.now.side key.now.addr (named_sort_key key.now) self.now.rows }
+        ensures until { result.until ≡ until_of_row (named_sort_key key.now) self.now.rows }
         ensures least { steps.old + min 1 (length (rows_of_peer key.now.owner key.now.side key.now.addr self.now.rows)) ≤ steps.new }
         ensures most { (b : ℕ) → length self.now.rows < 2 ^ b → steps.new ≤ steps.old + b }
     {
-        self.shelf(key.owner, key.side).find_counted(key, steps)
+        self.bucket(key.owner, key.side).find_counted(key, steps)
     }
 
-    /// All rows of an owner and side in groups, those of each address by themselves. Each row is one
-    /// step.
+    /// All rows of an owner and side in groups, those of each address by themselves. Each row is
+    /// one step.
     pub fn all_rows<L: Ledger>(
         &self,
         owner: Owner,
@@ -93,27 +93,28 @@ impl RowShelves {
         ensures groups { AreGroups result.now.entries (rows_of_side owner side self.now.rows) }
         ensures counted { steps.new ≡ steps.old + length (rows_of_side owner side self.now.rows) }
     {
-        self.shelf(owner, side).all_rows(steps)
+        self.bucket(owner, side).all_rows(steps)
     }
 
-    /// Makes room for a row by each of these edits. The rows stay, also where there is no memory for
-    /// it. Where many addresses of a shelf of the edits have no rows any more, they are forgotten.
+    /// Makes room for a row by each of these edits. The rows stay, also where there is no memory
+    /// for it. Where many addresses of a bucket of the edits have no rows any more, they are
+    /// forgotten.
     pub fn make_room(&mut self, alloc: Global, edits: &SortedRows<Edit<Row>>) -> Result<(), Memory>
         ensures rows { self.new.rows ≡ self.old.rows }
         ensures ok { OnOk result (HasRoom edits.now.rows self.new.room) }
     {
-        make_room(alloc, &mut self.shelves, edits)
+        make_room(alloc, &mut self.buckets, edits)
     }
 
-    /// Makes each of these edits, each of which has the index of its place among the rows of its
-    /// owner, side and address. Each is one step, and no memory is taken. It moves rows of the owners,
-    /// sides and addresses of the edits alone.
+    /// Makes each of these edits, each of which has the index of its sort key among the rows of its
+    /// owner, side and address. Each is one step, and no memory is taken. It moves rows of the
+    /// owners, sides and addresses of the edits alone.
     pub fn make_edits<L: Ledger>(&mut self, edits: SortedRows<Edit<Row>>, steps: &mut Steps<L>)
         requires room { HasRoom edits.rows self.old.room }
         requires found { AreFoundBeside self.old.rows edits.rows }
-        ensures rows { self.new.rows ≡ edited row_place edits.rows self.old.rows }
+        ensures rows { self.new.rows ≡ edited row_sort_key edits.rows self.old.rows }
         ensures counted { steps.new ≡ steps.old + length edits.rows }
     {
-        make_all(&mut self.shelves, edits, steps);
+        make_all(&mut self.buckets, edits, steps);
     }
 }

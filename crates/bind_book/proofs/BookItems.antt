@@ -6,13 +6,13 @@ use Rattle.std.proofs.lemmas.List.{append-nil}
 use Rattle.std.proofs.lemmas.List.Elements.{All-from_recursion}
 use Rattle.std.proofs.lemmas.Option.{same_Some}
 use Rattle.mud_base.specs.declared.prefix.Prefix.{Prefix}
-use Rattle.sorted_rows.specs.Placed.{row_at}
+use Rattle.sorted_rows.specs.Sortable.{row_at}
 use Rattle.sorted_rows.specs.Changes.{RowChange, changed}
-use Rattle.sorted_rows.proofs.PlacedLaws.{place_cmp_itself}
+use Rattle.sorted_rows.proofs.SortableLaws.{sort_key_cmp_itself}
 use Rattle.sorted_rows.proofs.Lists.{all-append}
 use Rattle.mud_world.specs.declared.item.Item.{Item}
 use Rattle.mud_world.specs.declared.item.Put.{Put}
-use Rattle.mud_world.specs.Items.{place_of, put_one, put_all, place_of_put, is_apart, IsOrdered, IsDifference, ArePutsOf, AreOfLowerKinds, AreItemsOf, puts_of}
+use Rattle.mud_world.specs.Items.{sort_key_of, put_one, put_all, sort_key_of_put, is_apart, IsOrdered, IsDifference, ArePutsOf, AreOfLowerKinds, AreItemsOf, puts_of}
 use Rattle.mud_world.proofs.ItemLaws.{touched, puts_among, ordered-append, puts_kept, puts_of_kind, ordered-items}
 use Rattle.mud_tables.specs.declared.bind.ClassRow.{ClassRow}
 use Rattle.mud_tables.specs.declared.bind.NameRow.{NameRow}
@@ -34,13 +34,13 @@ one_difference before after put leads differ = record {
   apart = refl;
 }
 
-about_itself : (put : Put) (puts : List Put) → is_apart (place_of_put put) (put ∷ puts) ≡ false
-about_itself put puts = ap (λ o. not (is_eq o) && is_apart (place_of_put put) puts) (place_cmp_itself (place_of_put put))
+about_itself : (put : Put) (puts : List Put) → is_apart (sort_key_of_put put) (put ∷ puts) ≡ false
+about_itself put puts = ap (λ o. not (is_eq o) && is_apart (sort_key_of_put put) puts) (sort_key_cmp_itself (sort_key_of_put put))
 
 -- a difference of equal items has no put
 pub none_between : (before after : List Item) (puts : List Put) → IsOrdered before → IsDifference before after puts → after ≡ before → puts ≡ []
 none_between before after [] up difference same = refl
-none_between before after (put ∷ puts) up difference same = absurd (touched before after (put ∷ puts) (place_of_put put) up difference (about_itself put puts) (ap (row_at place_of (place_of_put put)) same))
+none_between before after (put ∷ puts) up difference same = absurd (touched before after (put ∷ puts) (sort_key_of_put put) up difference (about_itself put puts) (ap (row_at sort_key_of (sort_key_of_put put)) same))
 
 pub equal_by_none : (before after : List Item) (puts : List Put) → IsDifference before after puts → puts ≡ [] → after ≡ before
 equal_by_none before after puts difference none = sym difference.reaches ∙ ap (put_all before) none

@@ -16,7 +16,7 @@ use Rattle.mud_tables.specs.declared.bind.Class.{Class}
 use Rattle.mud_tables.specs.declared.bind.ClassRow.{ClassRow}
 use Rattle.mud_tables.specs.Fits.{FitsClass}
 use Rattle.mud_tables.specs.Binds.{Binds, key_of_class, class_key, class_at, class_row, has_addr, with_addr, without_addr, is_class, IsKeptClass, IsSoundClasses, IsSoundBinds}
-use Rattle.mud_tables.specs.BindSteps.{ClassesAfter, ClassStep, bind_step, unbind_step, is_change, with_classes}
+use Rattle.mud_tables.specs.BindCommands.{ClassesAfter, ClassStep, bind_step, unbind_step, is_change, with_classes}
 use Rattle.mud_tables.specs.BindRowChanges.{one_row, class_left, bind_cases_change, bind_change, unbind_cases_change, unbind_change}
 use Rattle.mud_tables.specs.BindItems.{class_item}
 use Rattle.mud_tables.specs.ItemFields.{IsAddr}

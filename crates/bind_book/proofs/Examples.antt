@@ -6,11 +6,11 @@ use Rattle.item_codec.specs.declared.word.Word.TheVariants.{New, Bound, Unbound}
 use Rattle.acl_model.specs.declared.binding.MemberKey.TheVariants as of_key
 use Rattle.acl_model.specs.Keys.{same_key}
 use Rattle.acl_model.specs.Changes.{same_spot, same_binding, has_binding, those_not_in}
-use Rattle.sorted_rows.specs.Changes.{changed, places_of, old_rows}
+use Rattle.sorted_rows.specs.Changes.{changed, sort_keys_of, old_rows}
 use Rattle.mud_tables.specs.declared.bind.Class.TheVariants.{Uri}
 use Rattle.mud_tables.specs.declared.bind.ClassRow.{ClassRow}
 use Rattle.mud_tables.specs.declared.bind.NameRow.{NameRow}
-use Rattle.mud_tables.specs.Ends.{for_ever}
+use Rattle.mud_tables.specs.Expiries.{for_ever}
 use Rattle.mud_tables.specs.BindItems.{class_item}
 use Rattle.mud_tables.specs.BindRowChanges.{bind_cases_change, bind_change, class_left, unbind_cases_change, unbind_change, new_pair_change, kept_pair_change, observe_cases_change, observe_row_change, observe_change}
 use Rattle.mud_tables.specs.Bindings.{binding, member_key, class_binding, class_bindings, name_binding, name_bindings}
@@ -19,7 +19,7 @@ use Rattle.mud_tables.proofs.Literals.{binds_compute, dns_addr, test_addr, dns_c
 use Rattle.bind_book.specs.Plans.{class_plan, name_plan, locals_put}
 
 unfoldable plans_compute : Unit {0}
-unfolding binds_compute changed places_of old_rows set_put gone_put puts_of same_key same_spot same_binding has_binding those_not_in bind_cases_change bind_change class_left unbind_cases_change unbind_change new_pair_change kept_pair_change observe_cases_change observe_row_change observe_change member_key class_binding class_bindings name_binding name_bindings gone_of come_of class_plan name_plan
+unfolding binds_compute changed sort_keys_of old_rows set_put gone_put puts_of same_key same_spot same_binding has_binding those_not_in bind_cases_change bind_change class_left unbind_cases_change unbind_change new_pair_change kept_pair_change observe_cases_change observe_row_change observe_change member_key class_binding class_bindings name_binding name_bindings gone_of come_of class_plan name_plan
 plans_compute = tt
 
 abbrev dns_row : ClassRow
@@ -46,7 +46,7 @@ unbound_gone = refl
 abbrev test_row : ℕ → NameRow
 test_row until = record { name = test_name; addrs = (test_addr, until) ∷ [] }
 
--- an address whose end has come is observed again: the old end goes, and the new one comes
+-- an address whose expiry has come is observed again: the old expiry goes, and the new one comes
 anew_gone : (name_plan New 1090 (observe_change test_name test_addr 30 1060 (test_row 1060 ∷ [])) (test_row 1060 ∷ [])).gone ≡ binding (of_key.Name test_name) test_addr 1060 ∷ []
 unfolding plans_compute
 anew_gone = refl

@@ -9,7 +9,7 @@ use Rattle.acl_model.specs.Changes.{IsBindingChange}
 use Rattle.mud_tables.specs.declared.bind_fault.BindFault.{BindFault}
 use Rattle.mud_tables.specs.Fits.{FitsLocals}
 use Rattle.mud_tables.specs.Binds.{Binds, IsKeptNetwork, IsSoundLocals, IsSoundBinds}
-use Rattle.mud_tables.specs.BindSteps.{LocalsAfter, LocalStep, locals_step, is_change, with_locals}
+use Rattle.mud_tables.specs.BindCommands.{LocalsAfter, LocalStep, locals_step, is_change, with_locals}
 use Rattle.mud_tables.specs.BindItems.{class_items, locals_item, locals_items, name_items}
 use Rattle.mud_tables.specs.TakenItems.{bind_items}
 use Rattle.mud_tables.specs.Tables.{Tables, binds_of, with_binds}

@@ -6,12 +6,12 @@ use Rattle.std.proofs.lemmas.List.{append_cancel_left}
 use Rattle.std.proofs.lemmas.List.Elements.{All-from_recursion}
 use Rattle.std.proofs.lemmas.Option.{none-some}
 use Rattle.mud_base.specs.declared.addr.Addr.{Addr}
-use Rattle.sorted_rows.specs.Placed.{PlacesAscend, row_at}
+use Rattle.sorted_rows.specs.Sortable.{SortKeysAscend, row_at}
 use Rattle.sorted_rows.specs.Changes.{RowChange, changed, is_plain}
 use Rattle.mud_world.specs.declared.item.Item.{Item}
 use Rattle.mud_world.specs.declared.item.Put.{Put}
 use Rattle.mud_world.specs.declared.item.Put.TheVariants.{Set, Gone}
-use Rattle.mud_world.specs.Items.{place_of, place_of_put, put_one, put_all, item_after, kind_of_put, IsDifference, set_put, gone_put, puts_of}
+use Rattle.mud_world.specs.Items.{sort_key_of, sort_key_of_put, put_one, put_all, item_after, kind_of_put, IsDifference, set_put, gone_put, puts_of}
 use Rattle.mud_world.proofs.ItemLaws.{same_put, puts_of_kind, puts_apart, row_at-items, ordered-items}
 use Rattle.item_codec.specs.declared.word.Word.TheVariants.{Same}
 use Rattle.acl_model.specs.Changes.{IsBindingChange}
@@ -19,9 +19,9 @@ use Rattle.mud_tables.specs.declared.bind.NameRow.{NameRow}
 use Rattle.mud_tables.specs.declared.bind_fault.BindFault.{BindFault}
 use Rattle.mud_tables.specs.Limits.{most_names}
 use Rattle.mud_tables.specs.Fits.{FitsName}
-use Rattle.mud_tables.specs.Ends.{is_live, end_of, with_end, live_rows}
+use Rattle.mud_tables.specs.Expiries.{is_live, expiry_of, with_expiry, live_rows}
 use Rattle.mud_tables.specs.Binds.{Binds, name_of, name_at, name_row, has_live_row, is_name, IsKeptName, IsSoundNames, IsSoundBinds}
-use Rattle.mud_tables.specs.BindSteps.{NamesAfter, NameStep, is_change, addrs_of, least_dead, observe_step, with_names}
+use Rattle.mud_tables.specs.BindCommands.{NamesAfter, NameStep, is_change, addrs_of, least_dead, observe_step, with_names}
 use Rattle.mud_tables.specs.BindRowChanges.{no_rows, one_row, replacing_change, new_pair_change, kept_pair_change, observe_cases_change, observe_row_change, observe_change}
 use Rattle.mud_tables.specs.BindItems.{class_items, locals_items, name_item, name_items}
 use Rattle.mud_tables.specs.ItemFields.{IsAddr}
@@ -76,7 +76,7 @@ row_put : (row : NameRow) → HasOnePut (one_row row)
 unfolding puts_of set_put
 row_put row = (Set (name_item row), refl)
 
-module _ (name : List ℕ) (a : Addr) (until now : ℕ) (names : List NameRow) (ascend : PlacesAscend name_of names) where
+module _ (name : List ℕ) (a : Addr) (until now : ℕ) (names : List NameRow) (ascend : SortKeysAscend name_of names) where
   nothing : Differs no_rows names → IsSmall no_rows names
   unfolding changed
   nothing differs = absurd (differs refl)
@@ -99,15 +99,15 @@ module _ (name : List ℕ) (a : Addr) (until now : ℕ) (names : List NameRow) (
   new_pair_small : (o : Option NameRow) → name_at name names ≡ o → Differs (new_pair_change name a until now names o) names → IsSmall (new_pair_change name a until now names o) names
   unfolding new_pair_change
   new_pair_small None is differs = by_room is (nat_le most_names (length names)) differs
-  new_pair_small (Some row) is differs = inl (row_put (name_row name (with_end a until (live_rows now row.addrs))))
+  new_pair_small (Some row) is differs = inl (row_put (name_row name (with_expiry a until (live_rows now row.addrs))))
 
-  by_end : (row : NameRow) (b : Bool) → Differs (cond b (one_row row) no_rows) names → IsSmall (cond b (one_row row) no_rows) names
-  by_end row true differs = inl (row_put row)
-  by_end row false differs = nothing differs
+  by_expiry : (row : NameRow) (b : Bool) → Differs (cond b (one_row row) no_rows) names → IsSmall (cond b (one_row row) no_rows) names
+  by_expiry row true differs = inl (row_put row)
+  by_expiry row false differs = nothing differs
 
   kept_pair_small : (o : Option NameRow) (old : ℕ) → Differs (kept_pair_change name a until o old) names → IsSmall (kept_pair_change name a until o old) names
   unfolding kept_pair_change
-  kept_pair_small o old differs = by_end (name_row name (with_end a until (addrs_of o))) (nat_lt old until) differs
+  kept_pair_small o old differs = by_expiry (name_row name (with_expiry a until (addrs_of o))) (nat_lt old until) differs
 
   by_life : (o : Option NameRow) (old : ℕ) → name_at name names ≡ o → (b : Bool) → Differs (cond b (kept_pair_change name a until o old) (new_pair_change name a until now names o)) names → IsSmall (cond b (kept_pair_change name a until o old) (new_pair_change name a until now names o)) names
   by_life o old is true differs = kept_pair_small o old differs
@@ -118,9 +118,9 @@ module _ (name : List ℕ) (a : Addr) (until now : ℕ) (names : List NameRow) (
   observe_cases_small o is None differs = new_pair_small o is differs
   observe_cases_small o is (Some old) differs = by_life o old is (is_live old now) differs
 
-observe_small : (name : List ℕ) (a : Addr) (ttl now : ℕ) (names : List NameRow) → PlacesAscend name_of names → Differs (observe_change name a ttl now names) names → IsSmall (observe_change name a ttl now names) names
+observe_small : (name : List ℕ) (a : Addr) (ttl now : ℕ) (names : List NameRow) → SortKeysAscend name_of names → Differs (observe_change name a ttl now names) names → IsSmall (observe_change name a ttl now names) names
 unfolding observe_change observe_row_change
-observe_small name a ttl now names ascend = observe_cases_small name a (now + ttl) now names ascend (name_at name names) refl (end_of a (addrs_of (name_at name names)))
+observe_small name a ttl now names ascend = observe_cases_small name a (now + ttl) now names ascend (name_at name names) refl (expiry_of a (addrs_of (name_at name names)))
 
 -- ---- The difference
 
@@ -132,12 +132,12 @@ unneeded binds put kind same =
     append_cancel_left low (put_one (name_items binds.names) put) (name_items binds.names)
     (sym (among_names binds (put ∷ []) (kind, tt)) ∙ same ∙ sym (append_assoc (class_items binds.classes) (locals_items binds.locals) (name_items binds.names)))
 
--- so the place of the put has what the put says
-said_already : (binds : Binds) (put : Put) → IsSoundBinds binds → kind_of_put put ≡ 5 → put_one (bind_items binds) put ≡ bind_items binds → row_at place_of (place_of_put put) (name_items binds.names) ≡ item_after put
+-- so the sort key of the put has what the put says
+said_already : (binds : Binds) (put : Put) → IsSoundBinds binds → kind_of_put put ≡ 5 → put_one (bind_items binds) put ≡ bind_items binds → row_at sort_key_of (sort_key_of_put put) (name_items binds.names) ≡ item_after put
 unfolding name_items
 said_already binds put sound kind same = same_put (map name_item binds.names) put (ordered-items name_of 5 name_item name_of_kind binds.names sound.names.ascend) (unneeded binds put kind same)
 
-item_at : (binds : Binds) (p : List ℕ) (o : Option NameRow) → row_at name_of p binds.names ≡ o → row_at place_of (5 ∷ p) (name_items binds.names) ≡ option_map name_item o
+item_at : (binds : Binds) (p : List ℕ) (o : Option NameRow) → row_at name_of p binds.names ≡ o → row_at sort_key_of (5 ∷ p) (name_items binds.names) ≡ option_map name_item o
 unfolding name_items
 item_at binds p o is = row_at-items name_of 5 name_item name_of_kind p binds.names ∙ ap (option_map name_item) is
 

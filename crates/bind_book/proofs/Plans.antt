@@ -2,15 +2,15 @@
 use Rattle.std.proofs.Common.{◌≡◌, ℕ, ◌<◌, Bool, true, false, not, ◌&&◌, List, [], ◌∷◌, Option, Some, None, Ok, Err, refl, sym, ap, subst, ◌∙◌, arith}
 use Rattle.std.specs.Prelude.{◌↔◌, IsOkAnd}
 use Rattle.std.specs.List.{AllByRecursion}
-use Rattle.sorted_rows.specs.Placed.{PlacesAscend, row_at}
-use Rattle.sorted_rows.specs.Changes.{RowChange, with_found, rows_at, changed, places_of, is_plain}
+use Rattle.sorted_rows.specs.Sortable.{SortKeysAscend, row_at}
+use Rattle.sorted_rows.specs.Changes.{RowChange, with_found, rows_at, changed, sort_keys_of, is_plain}
 use Rattle.sorted_rows.proofs.ChangeLaws.{new_rows}
 use Rattle.mud_world.specs.declared.item.Put.{Put}
 use Rattle.mud_world.specs.Items.{IsDifference, ArePutsOf}
 use Rattle.acl_model.specs.declared.binding.Binding.{Binding}
 use Rattle.acl_model.specs.Changes.{has_binding, IsBindingChange}
 use Rattle.mud_tables.specs.Binds.{Binds, IsSoundBinds}
-use Rattle.mud_tables.specs.BindSteps.{BindsAfter, BindStep}
+use Rattle.mud_tables.specs.BindCommands.{BindsAfter, BindStep}
 use Rattle.mud_tables.specs.TakenItems.{bind_items}
 use Rattle.mud_tables.specs.Tables.{Tables, binds_of, with_binds}
 use Rattle.mud_tables.specs.Bindings.{bindings_of}
@@ -67,18 +67,18 @@ same_planned book after sound word changes stays = record {
 
 -- ---- The rows that are put in
 
-module _ {R : Type 0} (place : R → List ℕ) (P : R → Type 0) where
-  good_found : (rows : List R) (q : List ℕ) → AllByRecursion P rows → (o : Option R) → row_at place q rows ≡ o → (found : List R) → AllByRecursion P found → AllByRecursion P (with_found o found)
+module _ {R : Type 0} (sort_key : R → List ℕ) (P : R → Type 0) where
+  good_found : (rows : List R) (q : List ℕ) → AllByRecursion P rows → (o : Option R) → row_at sort_key q rows ≡ o → (found : List R) → AllByRecursion P found → AllByRecursion P (with_found o found)
   good_found rows q all None is found more = more
-  good_found rows q all (Some x) is found more = (all_at place P rows q x all is, more)
+  good_found rows q all (Some x) is found more = (all_at sort_key P rows q x all is, more)
 
-  good_at : (qs : List (List ℕ)) (rows : List R) → AllByRecursion P rows → AllByRecursion P (rows_at place qs rows)
+  good_at : (qs : List (List ℕ)) (rows : List R) → AllByRecursion P rows → AllByRecursion P (rows_at sort_key qs rows)
   good_at [] rows all = tt
-  good_at (q ∷ qs) rows all = good_found rows q all (row_at place q rows) refl (rows_at place qs rows) (good_at qs rows all)
+  good_at (q ∷ qs) rows all = good_found rows q all (row_at sort_key q rows) refl (rows_at sort_key qs rows) (good_at qs rows all)
 
   -- what holds of all rows after a change holds of those that it puts in
-  pub good_sets : (change : RowChange R) (rows : List R) → PlacesAscend place rows → is_plain place change ≡ true → AllByRecursion P (changed place change rows) → AllByRecursion P change.sets
-  good_sets change rows up plain all = subst (AllByRecursion P) (new_rows place change rows up plain) (good_at (places_of place change) (changed place change rows) all)
+  pub good_sets : (change : RowChange R) (rows : List R) → SortKeysAscend sort_key rows → is_plain sort_key change ≡ true → AllByRecursion P (changed sort_key change rows) → AllByRecursion P change.sets
+  good_sets change rows up plain all = subst (AllByRecursion P) (new_rows sort_key change rows up plain) (good_at (sort_keys_of sort_key change) (changed sort_key change rows) all)
 
 -- ---- A plan can be committed
 

@@ -3,7 +3,7 @@ use Rattle.std.proofs.Common.{◌≡◌, ℕ, ◌<◌, ◌≤◌, Bool, true, fa
 use Rattle.std.specs.Prelude.{option_map, ◌==◌, nat_lt}
 use Rattle.std.proofs.lemmas.Bool.{eqb-true, lt-ltb, le-ltb}
 use Rattle.mud_base.specs.declared.prefix.Prefix.{Prefix}
-use Rattle.sorted_rows.specs.Placed.{comes_last}
+use Rattle.sorted_rows.specs.Sortable.{comes_last}
 use Rattle.mud_world.specs.declared.item.Item.{Item}
 use Rattle.item_codec.specs.Spelling.{IsOctets}
 use Rattle.item_codec.specs.Records.{◌>>=◌}
@@ -19,11 +19,11 @@ use Rattle.bind_book.specs.Reading.{IsTaken}
 
 -- ---- Rows behind others
 
-module _ {R : Type 0} (place : R → List ℕ) (most : ℕ) (rows : List R) where
+module _ {R : Type 0} (sort_key : R → List ℕ) (most : ℕ) (rows : List R) where
   abbrev with_row : R → Option (List R)
-  with_row row = cond (comes_last place row rows && nat_lt (length rows) most) (Some (rows ++ row ∷ [])) None
+  with_row row = cond (comes_last sort_key row rows && nat_lt (length rows) most) (Some (rows ++ row ∷ [])) None
 
-  with_last : (o : Option R) (row : R) (b : Bool) → o ≡ Some row → length rows < most → b ≡ comes_last place row rows → (o >>= with_row) ≡ cond b (Some (rows ++ row ∷ [])) None
+  with_last : (o : Option R) (row : R) (b : Bool) → o ≡ Some row → length rows < most → b ≡ comes_last sort_key row rows → (o >>= with_row) ≡ cond b (Some (rows ++ row ∷ [])) None
   with_last o row b is room last =
       ap (λ x. x >>= with_row) is
       ∙ ap (λ t. cond (t && nat_lt (length rows) most) (Some (rows ++ row ∷ [])) None) (sym last)
@@ -36,7 +36,7 @@ module _ {R : Type 0} (place : R → List ℕ) (most : ℕ) (rows : List R) wher
 
   without_room : (o : Option R) → most ≤ length rows → (o >>= with_row) ≡ None
   without_room None full = refl
-  without_room (Some row) full = ap (λ t. cond (comes_last place row rows && t) (Some (rows ++ row ∷ [])) None) (le-ltb (length rows) most full) ∙ by_test (comes_last place row rows)
+  without_room (Some row) full = ap (λ t. cond (comes_last sort_key row rows && t) (Some (rows ++ row ∷ [])) None) (le-ltb (length rows) most full) ∙ by_test (comes_last sort_key row rows)
     where
       by_test : (t : Bool) → cond (t && false) (Some (rows ++ row ∷ [])) None ≡ None
       by_test true = refl

@@ -3,7 +3,7 @@ use Rattle.std.specs.Prelude.{◌≡◌, true, MatchOption, IsOkAnd}
 use Rattle.sorted_rows.specs.Changes.{RowChange}
 use Rattle.item_codec.specs.declared.word.Word.TheVariants.{Same}
 use Rattle.mud_tables.specs.declared.bind.NameRow.{NameRow}
-use Rattle.mud_tables.specs.BindSteps.{NamesAfter, NameStep, is_change}
+use Rattle.mud_tables.specs.BindCommands.{NamesAfter, NameStep, is_change}
 use Rattle.bind_book.specs.declared.names.Observed.{Observed}
 
 -- the answer is that of the step, and the names are changed so: not at all where the step changes nothing

@@ -16,7 +16,7 @@ use Rattle.mud_tables.specs.declared.bind.Class.{Class}
 use Rattle.mud_tables.specs.declared.bind.ClassRow.{ClassRow}
 use Rattle.mud_tables.specs.declared.bind.NameRow.{NameRow}
 use Rattle.mud_tables.specs.Binds.{Binds, class_key, name_of, IsSoundBinds}
-use Rattle.mud_tables.specs.BindSteps.{BindsAfter, BindStep, bind_step, unbind_step, locals_step}
+use Rattle.mud_tables.specs.BindCommands.{BindsAfter, BindStep, bind_step, unbind_step, locals_step}
 use Rattle.mud_tables.specs.BindRowChanges.{bind_change, unbind_change}
 use Rattle.mud_tables.specs.BindItems.{class_item, locals_item, name_item}
 use Rattle.mud_tables.specs.TakenItems.{bind_items}

@@ -2,7 +2,7 @@
 ghost use Rattle.std.specs.Prelude.{◌≡◌, ◌==◌, ◌&&◌, ◌≤◌, ◌<◌, ◌^◌, length, All, false, IsTrue, IfOk, IfErr, OnErr};
 ghost use Rattle.mud_tables.specs.Fits.{FitsClass, FitsName};
 ghost use Rattle.mud_tables.specs.Binds.{is_class, is_name, IsSoundBinds, IsSoundClasses, IsSoundLocals, IsSoundNames};
-ghost use Rattle.mud_tables.specs.BindSteps.{bind_class_step, unbind_class_step, set_locals_step, observe_name_step};
+ghost use Rattle.mud_tables.specs.BindCommands.{bind_class_step, unbind_class_step, set_locals_step, observe_name_step};
 ghost use Rattle.mud_tables.specs.TakenItems.{no_binds, is_empty, set_classes, set_locals, set_names, with_bind_item};
 ghost use Rattle.std.specs.Option.{option_map};
 ghost use Rattle.mud_tables.specs.BindItems.{with_class_item, with_locals_item, with_name_item};
@@ -152,12 +152,12 @@ impl BindBook {
     }
 
     /// Plans to keep that a name was observed at an address at this moment, for `ttl` seconds from
-    /// then (RFC 8520, 8): from 1 to 2,147,483,647 (RFC 2181, 8). The end that is kept is
-    /// [`BindChange::until`]. It is `renewed` where it takes the place of an earlier end that is
-    /// live, `same` where such an end is as late, and else `new`: then the addresses of the name
-    /// whose ends have come go, and where 4,096 other names are kept, the least one goes that has no
-    /// address with a live end. It is refused where the name has 64 other live addresses, or where
-    /// there is no such least name. The name is a host name in lower case.
+    /// then (RFC 8520, 8): from 1 to 2,147,483,647 (RFC 2181, 8). The expiry that is kept is
+    /// [`BindChange::until`]. It is `renewed` where it takes the place of an earlier expiry that is
+    /// live, `same` where such an expiry is as late, and else `new`: then the addresses of the name
+    /// whose expiries have come go, and where 4,096 other names are kept, the least one goes that
+    /// has no address with a live expiry. It is refused where the name has 64 other live addresses,
+    /// or where there is no such least name. The name is a host name in lower case.
     pub fn plan_observe(
         &mut self,
         name: &[u8],

@@ -19,7 +19,7 @@ use table_laws::changed_bindings;
 pub struct KeptName(pub Bytes);
 
 impl KeyOf<NameRow> for KeptName {
-    ghost place = { λ key. key.0 };
+    ghost sort_key = { λ key. key.0 };
 
     fn order_to(&self, row: &NameRow) -> Ordering {
         NameKey(self.0.octets()).order_to(row)
@@ -71,7 +71,7 @@ impl BindChange {
         self.word
     }
 
-    /// The end that is kept for an address of a name; none for other commands.
+    /// The expiry that is kept for an address of a name; none for other commands.
     pub fn until(&self) -> Option<End>
         ensures { result ≡ self.now.until }
     {

@@ -1,7 +1,7 @@
 //! The rows that the commands on classes change.
 ghost use Rattle.std.specs.Prelude.{◌≡◌, [], ◌∷◌, IfOk, IfErr};
 ghost use Rattle.mud_tables.specs.Binds.{class_row};
-ghost use Rattle.mud_tables.specs.BindSteps.{bind_step, unbind_step};
+ghost use Rattle.mud_tables.specs.BindCommands.{bind_step, unbind_step};
 ghost use Rattle.mud_tables.specs.BindRowChanges.{one_row, class_left};
 ghost use Rattle.bind_book.specs.Book.{IsRefusal};
 ghost use Rattle.bind_book.specs.Plans.{IsBindRows, IsUnbindRows};
@@ -45,7 +45,7 @@ fn first_address(alloc: Global, class: &Class, addr: Addr) -> Result<ClassChange
 }
 
 /// The change by which a class gets an address; None where it has it already.
-#[tactic(auto, unfolding(mud_tables::specs::BindSteps::bind_step, mud_tables::specs::BindSteps::bind_cases, mud_tables::specs::BindRowChanges::bind_change, mud_tables::specs::BindRowChanges::bind_cases_change, mud_tables::specs::Binds::class_at))]
+#[tactic(auto, unfolding(mud_tables::specs::BindCommands::bind_step, mud_tables::specs::BindCommands::bind_cases, mud_tables::specs::BindRowChanges::bind_change, mud_tables::specs::BindRowChanges::bind_cases_change, mud_tables::specs::Binds::class_at))]
 pub(crate) fn bind_rows(
     alloc: Global,
     class: &Class,
@@ -85,7 +85,7 @@ fn left_with(alloc: Global, class: &Class, addrs: Listed<Addr>) -> Result<ClassC
 }
 
 /// The change by which an address leaves a class. A class with no address left goes.
-#[tactic(auto, unfolding(mud_tables::specs::BindSteps::unbind_step, mud_tables::specs::BindSteps::unbind_cases, mud_tables::specs::BindRowChanges::unbind_change, mud_tables::specs::BindRowChanges::unbind_cases_change, mud_tables::specs::Binds::class_at))]
+#[tactic(auto, unfolding(mud_tables::specs::BindCommands::unbind_step, mud_tables::specs::BindCommands::unbind_cases, mud_tables::specs::BindRowChanges::unbind_change, mud_tables::specs::BindRowChanges::unbind_cases_change, mud_tables::specs::Binds::class_at))]
 pub(crate) fn unbind_rows(
     alloc: Global,
     class: &Class,

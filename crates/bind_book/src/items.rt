@@ -12,7 +12,7 @@ ghost use Rattle.mud_tables.specs.BindItems.{class_item, locals_item, name_item}
 use crate::change::KeptName;
 use item_codec::FieldWriter;
 use mud_base::{Bytes, Listed, Memory, Prefix};
-use mud_tables::fields::{write_address, write_ending, write_network};
+use mud_tables::fields::{write_address, write_expiring, write_network};
 use mud_tables::{Class, ClassRow, NameRow};
 use mud_world::{Item, Put};
 use sorted_rows::Change;
@@ -161,7 +161,7 @@ fn name_item(alloc: Global, row: &NameRow) -> Result<Item, Memory>
     let key = row.name.copy()?;
     let mut body = begin_list(alloc, addrs.len())?;
     for kept in addrs {
-        write_ending(&mut body, *kept)?;
+        write_expiring(&mut body, *kept)?;
     }
     Ok(Item {
         kind: NAME_KIND,

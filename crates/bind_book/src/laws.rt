@@ -4,7 +4,7 @@ ghost use Rattle.std.specs.List.{AllByRecursion};
 ghost use Rattle.item_codec.specs.Spelling.{IsOctets};
 ghost use Rattle.mud_tables.specs.ItemFields.{IsAddr};
 ghost use Rattle.mud_tables.specs.Binds.{IsKeptNetwork, IsSoundBinds};
-ghost use Rattle.mud_tables.specs.BindSteps.{BindStep};
+ghost use Rattle.mud_tables.specs.BindCommands.{BindStep};
 ghost use Rattle.bind_book.specs.Book.{Book};
 ghost use Rattle.bind_book.specs.Plans.{Plan, IsPlanOf, changed_binds, HasRoomFor};
 

@@ -1,6 +1,6 @@
 //! The local networks that a command sets.
 ghost use Rattle.std.specs.Prelude.{◌≡◌, IfOk, IfErr};
-ghost use Rattle.mud_tables.specs.BindSteps.{locals_step};
+ghost use Rattle.mud_tables.specs.BindCommands.{locals_step};
 ghost use Rattle.bind_book.specs.Book.{IsRefusal};
 ghost use Rattle.bind_book.specs.Plans.{IsSetLocals};
 
@@ -12,7 +12,7 @@ use std::alloc::Global;
 
 /// The local networks that these prefixes are, in order and each once; None where they are the kept
 /// ones.
-#[tactic(auto, unfolding(mud_tables::specs::BindSteps::locals_step, mud_tables::specs::BindSteps::locals_cases))]
+#[tactic(auto, unfolding(mud_tables::specs::BindCommands::locals_step, mud_tables::specs::BindCommands::locals_cases))]
 pub(crate) fn set_locals(
     alloc: Global,
     prefixes: &[Prefix],

@@ -3,8 +3,8 @@ ghost use Rattle.std.specs.Prelude.{◌≡◌, [], ◌∷◌, ◌+◌, List, Non
 ghost use Rattle.mud_tables.specs.declared.bind.NameRow.{NameRow as NameValue};
 ghost use Rattle.mud_tables.specs.Binds.{name_row};
 ghost use Rattle.mud_tables.specs.Binds as binds;
-ghost use Rattle.mud_tables.specs.BindSteps.{new_pair, kept_pair, observe_step};
-ghost use Rattle.mud_tables.specs.BindSteps as steps;
+ghost use Rattle.mud_tables.specs.BindCommands.{new_pair, kept_pair, observe_step};
+ghost use Rattle.mud_tables.specs.BindCommands as steps;
 ghost use Rattle.mud_tables.specs.BindRowChanges as rows;
 ghost use Rattle.mud_tables.specs.BindRowChanges.{one_row, replacing_change, new_pair_change, kept_pair_change, observe_change};
 ghost use Rattle.bind_book.specs.Book.{IsRefusal};
@@ -13,7 +13,7 @@ ghost use Rattle.bind_book.specs.Observations.{IsSeen};
 use crate::change::KeptName;
 use item_codec::Word;
 use mud_base::{Addr, Bytes, End, Listed, Memory, Moment};
-use mud_tables::ends::{end_of, is_live, live_count, live_rows, with_end};
+use mud_tables::expiries::{expiry_of, is_live, live_count, live_rows, with_expiry};
 use mud_tables::limits::{MOST_NAME_ADDRESSES, MOST_NAMES};
 use mud_tables::{BindFault, NameKey, NameRow};
 use sorted_rows::{Change, SortedRows};
@@ -26,7 +26,7 @@ pub type NameChange = Change<KeptName, NameRow>;
 #[derive(Drop, Debug)]
 pub struct Observed {
     pub word: Word,
-    /// The end that is kept.
+    /// The expiry that is kept.
     pub until: End,
     /// None where nothing changes.
     pub rows: Option<NameChange>,
@@ -68,7 +68,7 @@ fn name_in_place(
     Ok(Change::new(Some(gone), rows))
 }
 
-/// An address with its end, alone.
+/// An address with its expiry, alone.
 fn one_address(alloc: Global, addr: Addr, until: End) -> Result<Listed<(Addr, End)>, Memory>
     ensures { IfOk result (λ addrs. addrs ≡ (addr, until) ∷ []) }
 {
@@ -77,7 +77,7 @@ fn one_address(alloc: Global, addr: Addr, until: End) -> Result<Listed<(Addr, En
     Ok(addrs)
 }
 
-/// Whether a name has an address whose end is live.
+/// Whether a name has an address whose expiry is live.
 #[tactic(auto, unfolding(mud_tables::specs::Binds::has_live_row))]
 fn has_live_row(row: &NameRow, now: Moment) -> bool
     ensures { result ≡ binds.has_live_row now row.now }
@@ -85,8 +85,8 @@ fn has_live_row(row: &NameRow, now: Moment) -> bool
     row.addrs.as_slice().iter().any(|kept| is_live(kept.1, now))
 }
 
-/// The least name that has no address with a live end.
-#[tactic(auto, unfolding(mud_tables::specs::BindSteps::least_dead))]
+/// The least name that has no address with a live expiry.
+#[tactic(auto, unfolding(mud_tables::specs::BindCommands::least_dead))]
 fn least_dead(now: Moment, names: &[NameRow]) -> Option<&NameRow>
     ensures { option_copied result ≡ steps.least_dead now names.now }
 {
@@ -94,8 +94,8 @@ fn least_dead(now: Moment, names: &[NameRow]) -> Option<&NameRow>
 }
 
 /// A name that isn't kept gets its first address. Where as many names are kept as may be, it takes
-/// the place of the least one that has no address with a live end.
-#[tactic(auto, unfolding(mud_tables::specs::BindSteps::new_pair, mud_tables::specs::BindSteps::replacing, mud_tables::specs::BindSteps::is_change, mud_tables::specs::BindRowChanges::new_pair_change))]
+/// the place of the least one that has no address with a live expiry.
+#[tactic(auto, unfolding(mud_tables::specs::BindCommands::new_pair, mud_tables::specs::BindCommands::replacing, mud_tables::specs::BindCommands::is_change, mud_tables::specs::BindRowChanges::new_pair_change))]
 fn new_name(
     alloc: Global,
     name: &[u8],
@@ -125,8 +125,8 @@ fn new_name(
     })
 }
 
-/// A kept name gets an address. Its addresses whose ends have come go.
-#[tactic(auto, unfolding(mud_tables::specs::BindSteps::new_pair, mud_tables::specs::BindSteps::is_change, mud_tables::specs::BindRowChanges::new_pair_change))]
+/// A kept name gets an address. Its addresses whose expiries have come go.
+#[tactic(auto, unfolding(mud_tables::specs::BindCommands::new_pair, mud_tables::specs::BindCommands::is_change, mud_tables::specs::BindRowChanges::new_pair_change))]
 fn new_address(
     alloc: Global,
     name: &[u8],
@@ -143,7 +143,7 @@ fn new_address(
         return Err(BindFault::NameFull);
     }
     let live = live_rows(alloc, now, addrs)?;
-    let addrs = with_end(alloc, addr, until, live.as_slice())?;
+    let addrs = with_expiry(alloc, addr, until, live.as_slice())?;
     Ok(Observed {
         word: Word::New,
         until,
@@ -151,8 +151,8 @@ fn new_address(
     })
 }
 
-/// An address that a name has, with a live end, keeps the later end.
-#[tactic(auto, unfolding(mud_tables::specs::BindSteps::kept_pair, mud_tables::specs::BindSteps::addrs_of, mud_tables::specs::BindSteps::is_change, mud_tables::specs::BindRowChanges::kept_pair_change))]
+/// An address that a name has, with a live expiry, keeps the later expiry.
+#[tactic(auto, unfolding(mud_tables::specs::BindCommands::kept_pair, mud_tables::specs::BindCommands::addrs_of, mud_tables::specs::BindCommands::is_change, mud_tables::specs::BindRowChanges::kept_pair_change))]
 fn kept_address(
     alloc: Global,
     name: &[u8],
@@ -170,7 +170,7 @@ fn kept_address(
             rows: None,
         });
     }
-    let addrs = with_end(alloc, addr, until, row.addrs.as_slice())?;
+    let addrs = with_expiry(alloc, addr, until, row.addrs.as_slice())?;
     Ok(Observed {
         word: Word::Renewed,
         until,
@@ -179,7 +179,7 @@ fn kept_address(
 }
 
 /// A kept name is observed at an address.
-#[tactic(auto, unfolding(mud_tables::specs::BindSteps::observe_row, mud_tables::specs::BindSteps::observe_cases, mud_tables::specs::BindSteps::addrs_of, mud_tables::specs::BindRowChanges::observe_row_change, mud_tables::specs::BindRowChanges::observe_cases_change))]
+#[tactic(auto, unfolding(mud_tables::specs::BindCommands::observe_row, mud_tables::specs::BindCommands::observe_cases, mud_tables::specs::BindCommands::addrs_of, mud_tables::specs::BindRowChanges::observe_row_change, mud_tables::specs::BindRowChanges::observe_cases_change))]
 fn known_name(
     alloc: Global,
     name: &[u8],
@@ -191,7 +191,7 @@ fn known_name(
     ensures ok { IfOk result (λ seen. (names : List NameValue) → IsSeen (steps.observe_row name.now addr until now names (Some row.now)) (rows.observe_row_change name.now addr until now names (Some row.now)) seen) }
     ensures err { IfErr result (λ fault. (names : List NameValue) → IsRefusal (steps.observe_row name.now addr until now names (Some row.now)) fault) }
 {
-    match end_of(addr, row.addrs.as_slice()) {
+    match expiry_of(addr, row.addrs.as_slice()) {
         Some(old) => {
             if is_live(old, now) {
                 Ok(kept_address(alloc, name, addr, until, row, old)?)
@@ -203,9 +203,9 @@ fn known_name(
     }
 }
 
-/// What an observation of a name at an address answers, and how the names change. The end is the
+/// What an observation of a name at an address answers, and how the names change. The expiry is the
 /// moment and so many seconds.
-#[tactic(auto, unfolding(mud_tables::specs::BindSteps::observe_step, mud_tables::specs::BindSteps::observe_row, mud_tables::specs::BindSteps::observe_cases, mud_tables::specs::BindSteps::addrs_of, mud_tables::specs::Ends::end_of, mud_tables::specs::Binds::name_at, mud_tables::specs::BindRowChanges::observe_change, mud_tables::specs::BindRowChanges::observe_row_change, mud_tables::specs::BindRowChanges::observe_cases_change))]
+#[tactic(auto, unfolding(mud_tables::specs::BindCommands::observe_step, mud_tables::specs::BindCommands::observe_row, mud_tables::specs::BindCommands::observe_cases, mud_tables::specs::BindCommands::addrs_of, mud_tables::specs::Expiries::expiry_of, mud_tables::specs::Binds::name_at, mud_tables::specs::BindRowChanges::observe_change, mud_tables::specs::BindRowChanges::observe_row_change, mud_tables::specs::BindRowChanges::observe_cases_change))]
 pub(crate) fn observe(
     alloc: Global,
     name: &[u8],

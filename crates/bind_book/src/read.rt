@@ -3,7 +3,7 @@ ghost use Rattle.std.specs.Prelude.{◌≡◌, false, List, ℕ, Option, Some, N
 ghost use Rattle.std.specs.List.{list_all};
 ghost use Rattle.item_codec.specs.Records.{list_body_in};
 ghost use Rattle.mud_base.specs.declared.prefix.Prefix.{Prefix as PrefixValue};
-ghost use Rattle.mud_tables.specs.ItemFields.{address_in, ending_in, network_in};
+ghost use Rattle.mud_tables.specs.ItemFields.{address_in, expiring_in, network_in};
 ghost use Rattle.mud_tables.specs.Binds.{is_prefix};
 ghost use Rattle.mud_tables.specs.BindItems as items;
 ghost use Rattle.bind_book.specs.Reading.{IsNoClass, count_in};
@@ -12,7 +12,7 @@ use crate::items::{BY_URI, BY_URL, CLASS_KIND, LOCALS_KIND, NAME_KIND};
 use item_codec::FieldReader;
 use mud_base::{Addr, Bytes, End, Listed, Memory, Prefix};
 use mud_tables::addrs::prefix_of_parts;
-use mud_tables::fields::{read_address, read_ending, read_network};
+use mud_tables::fields::{read_address, read_expiring, read_network};
 use mud_tables::sound::{are_locals, is_sound_class, is_sound_name};
 use mud_tables::{Class, ClassRow, NameRow};
 use mud_url::url::canonical_url;
@@ -56,10 +56,10 @@ impl Element for Addr {
 }
 
 impl Element for (Addr, End) {
-    ghost element_in = { ending_in };
+    ghost element_in = { expiring_in };
 
     fn read(reader: &mut FieldReader<'_>) -> Option<(Addr, End)> {
-        read_ending(reader)
+        read_expiring(reader)
     }
 }
 

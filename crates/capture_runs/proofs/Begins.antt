@@ -4,8 +4,8 @@ use Rattle.std.specs.Str.{bytes_eq}
 use Rattle.std.proofs.lemmas.Bool.{cases_lt}
 use Rattle.std.proofs.lemmas.List.{take-append-le, take_all}
 use Rattle.mud_world.specs.Door.{DoorState}
-use Rattle.pcap_read.specs.Taken as classic
-use Rattle.pcapng_read.specs.Taken as next
+use Rattle.pcap_read.specs.CaptureState as classic
+use Rattle.pcapng_read.specs.CaptureState as next
 use Rattle.pcapng_read.specs.Blocks.{ng_packets_of}
 use Rattle.capture_runs.specs.Captures.{next_first, is_next}
 use Rattle.capture_runs.specs.First.{ReadsFirst}

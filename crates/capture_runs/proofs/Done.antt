@@ -12,7 +12,7 @@ use Rattle.capture_runs.specs.Reading.{AtEnd, EndsIn, HasRead, packet_at, to_com
 use Rattle.capture_runs.specs.declared.fault.CaptureFault.{CaptureFault}
 use Rattle.capture_runs.specs.declared.reader.CaptureReader.{CaptureReader}
 use Rattle.capture_runs.proofs.Runs.{has_read_more, has_read_taken, captured_all}
-use Rattle.command_runs.specs.Due.{WroteFront}
+use Rattle.command_runs.specs.Output.{WroteFront}
 use Rattle.capture_runs.specs.Runs.{HasAll, HasDone, HasGoneOn, WroteSome, WroteTaken}
 
 -- nothing was written since

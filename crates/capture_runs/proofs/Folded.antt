@@ -9,8 +9,8 @@ use Rattle.capture_runs.specs.Reading.{packet_at, to_come}
 use Rattle.capture_runs.specs.declared.fault.CaptureFault.{CaptureFault}
 use Rattle.capture_runs.specs.declared.reader.CaptureReader.{CaptureReader}
 use Rattle.capture_runs.proofs.Runs.{captured_all, none_in_few}
-use Rattle.command_runs.specs.Due.{Due, WritesDue, WritesPart}
-use Rattle.capture_runs.specs.Capture.{due_behind, due_of_capture, end_line, text_of, WritesTaken}
+use Rattle.command_runs.specs.Output.{Output, WritesOutput, WritesPart}
+use Rattle.capture_runs.specs.Capture.{output_behind, output_of_capture, end_line, text_of, WritesTaken}
 use Rattle.capture_runs.specs.Fold.{LineStep, lines_from, state_after, IsLeftBy}
 use Rattle.capture_runs.specs.Runs.{HasAll, HasDone, HasGoneOn, WroteSome, WroteTaken}
 use Rattle.capture_runs.proofs.Done.{has_done_more}
@@ -84,10 +84,10 @@ has_written_more keeps keeps' step from old new first s t lines lines' lines'' p
 -- ---- The ways out
 
 module _ {S : Type 0} (step : S → Packet → LineStep S) (ending : S → List ℕ) (from : S) where
-  -- What is due begins with the lines of the first packets.
-  due_begins : (packets : List Packet) (later : Captures) → (rest : List ℕ)
-      × ((due_behind (text_of step ending from (with_all packets later).all) (with_all packets later).fault).text ≡ lines_from step from packets ++ rest)
-  due_begins packets later =
+  -- The output begins with the lines of the first packets.
+  output_begins : (packets : List Packet) (later : Captures) → (rest : List ℕ)
+      × ((output_behind (text_of step ending from (with_all packets later).all) (with_all packets later).fault).text ≡ lines_from step from packets ++ rest)
+  output_begins packets later =
       let behind = lines_from step (state_after step from packets) later.all in
       let last = ending (state_after step from (packets ++ later.all)) in (
         behind ++ last ++ end_line later.fault,
@@ -96,42 +96,42 @@ module _ {S : Type 0} (step : S → Packet → LineStep S) (ending : S → List 
             ∙ append_assoc (lines_from step from packets) (behind ++ last) (end_line later.fault),
       )
 
-  due_begins_at : (packets : List Packet) (later captures : Captures) → captures ≡ with_all packets later → (rest : List ℕ)
-      × ((due_behind (text_of step ending from captures.all) captures.fault).text ≡ lines_from step from packets ++ rest)
-  due_begins_at packets later captures is =
-      subst (λ (all : Captures). (rest : List ℕ) × ((due_behind (text_of step ending from all.all) all.fault).text ≡ lines_from step from packets ++ rest)) (sym is) (due_begins packets later)
+  output_begins_at : (packets : List Packet) (later captures : Captures) → captures ≡ with_all packets later → (rest : List ℕ)
+      × ((output_behind (text_of step ending from captures.all) captures.fault).text ≡ lines_from step from packets ++ rest)
+  output_begins_at packets later captures is =
+      subst (λ (all : Captures). (rest : List ℕ) × ((output_behind (text_of step ending from all.all) all.fault).text ≡ lines_from step from packets ++ rest)) (sym is) (output_begins packets later)
 
   begins : (packets : List Packet) (reader : CaptureReader) (first now : DoorState) (lines : List ℕ) → HasDone packets (lines_from step from packets) reader first now lines
-      → (rest : List ℕ) × ((due_of_capture step ending from first.left).text ≡ lines_from step from packets ++ rest)
+      → (rest : List ℕ) × ((output_of_capture step ending from first.left).text ≡ lines_from step from packets ++ rest)
   begins packets reader first now lines p =
-      due_begins_at packets (to_come reader now.left) (captured_of first.left) (captured_all packets reader first (with_left now.left first) p.read)
+      output_begins_at packets (to_come reader now.left) (captured_of first.left) (captured_all packets reader first (with_left now.left first) p.read)
 
   -- a read or a write failed
   pub part_at_failure : (packets : List Packet) (reader : CaptureReader) (first s t : DoorState) (lines : List ℕ) → HasDone packets (lines_from step from packets) reader first s lines
-      → WroteSome (lines_from step from packets) first t → WritesPart (due_of_capture step ending from first.left) first t
+      → WroteSome (lines_from step from packets) first t → WritesPart (output_of_capture step ending from first.left) first t
   part_at_failure packets reader first s t lines p w =
       let rest = begins packets reader first s lines p in
-      part_of_some (due_of_capture step ending from first.left) (lines_from step from packets) rest.0 first t w rest.1
+      part_of_some (output_of_capture step ending from first.left) (lines_from step from packets) rest.0 first t w rest.1
 
   -- memory was wanted for the line of a packet
   pub part_at_packet : (packets : List Packet) (reader new : CaptureReader) (first s t : DoorState) (lines lines' : List ℕ) → HasDone packets (lines_from step from packets) reader first s lines
-      → HasGoneOn packets (lines_from step from packets) new first t lines' → WritesPart (due_of_capture step ending from first.left) first t
+      → HasGoneOn packets (lines_from step from packets) new first t lines' → WritesPart (output_of_capture step ending from first.left) first t
   part_at_packet packets reader new first s t lines lines' p q =
       let rest = begins packets reader first s lines p in
-      part_of_done (due_of_capture step ending from first.left) (packets ++ q.packet ∷ []) (lines_from step from packets) rest.0 new first t lines' q.done rest.1
+      part_of_done (output_of_capture step ending from first.left) (packets ++ q.packet ∷ []) (lines_from step from packets) rest.0 new first t lines' q.done rest.1
 
   -- The capture was read to its end, or to the fault that ends it.
   module _ (packets : List Packet) (end : Option CaptureFault) (first s t : DoorState) (lines : List ℕ) (p : HasAll packets (lines_from step from packets) end first s lines) where
-    same_due : due_behind (lines_from step from packets ++ ending (state_after step from packets)) end ≡ due_of_capture step ending from first.left
-    same_due = sym (ap (λ (captures : Captures). due_behind (text_of step ending from captures.all) captures.fault) p.all)
+    same_output : output_behind (lines_from step from packets ++ ending (state_after step from packets)) end ≡ output_of_capture step ending from first.left
+    same_output = sym (ap (λ (captures : Captures). output_behind (text_of step ending from captures.all) captures.fault) p.all)
 
-    pub due_at_end : (status : ℕ) → WritesDue (due_behind (lines_from step from packets ++ ending (state_after step from packets)) end) first t status
-        → WritesDue (due_of_capture step ending from first.left) first t status
-    due_at_end status w = subst (λ (due : Due). WritesDue due first t status) same_due w
+    pub output_at_end : (status : ℕ) → WritesOutput (output_behind (lines_from step from packets ++ ending (state_after step from packets)) end) first t status
+        → WritesOutput (output_of_capture step ending from first.left) first t status
+    output_at_end status w = subst (λ (output : Output). WritesOutput output first t status) same_output w
 
-    pub part_at_end : WritesPart (due_behind (lines_from step from packets ++ ending (state_after step from packets)) end) first t
-        → WritesPart (due_of_capture step ending from first.left) first t
-    part_at_end w = subst (λ (due : Due). WritesPart due first t) same_due w
+    pub part_at_end : WritesPart (output_behind (lines_from step from packets ++ ending (state_after step from packets)) end) first t
+        → WritesPart (output_of_capture step ending from first.left) first t
+    part_at_end w = subst (λ (output : Output). WritesPart output first t) same_output w
 
 -- ---- Where the source failed
 

@@ -23,8 +23,8 @@ numbered_if true fault count packets p = tt
 numbered_if false fault count packets p = p
 
 -- in the classic format
-numbered_head : (order : ByteOrder) (count place : ℕ) (octets : List ℕ) (later : Packets) → IsNumbered (count + 1) later.all → IsNumbered count (at_head order count place octets later).all
-numbered_head order count place octets later p =
+numbered_head : (order : ByteOrder) (count offset : ℕ) (octets : List ℕ) (later : Packets) → IsNumbered (count + 1) later.all → IsNumbered count (at_head order count offset octets later).all
+numbered_head order count offset octets later p =
     let len = captured_len order (take head_len octets) in
     elim (cases_Bool (leb 100000000 count)) [
       | inl many ↦ rw many tt
@@ -40,14 +40,14 @@ numbered_head order count place octets later p =
       ]
     ]
 
-numbered_from : (order : ByteOrder) (skipped count place : ℕ) (octets : List ℕ) → IsNumbered count (packets_from order skipped count place octets).all
+numbered_from : (order : ByteOrder) (skipped count offset : ℕ) (octets : List ℕ) → IsNumbered count (packets_from order skipped count offset octets).all
 unfolding packets_from
-numbered_from order skipped count place [] = tt
-numbered_from order (suc skipped) count place (octet ∷ behind) = numbered_from order skipped count (place + 1) behind
-numbered_from order zero count place (octet ∷ behind) =
+numbered_from order skipped count offset [] = tt
+numbered_from order (suc skipped) count offset (octet ∷ behind) = numbered_from order skipped count (offset + 1) behind
+numbered_from order zero count offset (octet ∷ behind) =
     let len = captured_len order (take head_len (octet ∷ behind)) in
-    let later = packets_from order (15 + len) (count + 1) (place + 1) behind in
-    numbered_head order count place (octet ∷ behind) later (numbered_from order (15 + len) (count + 1) (place + 1) behind)
+    let later = packets_from order (15 + len) (count + 1) (offset + 1) behind in
+    numbered_head order count offset (octet ∷ behind) later (numbered_from order (15 + len) (count + 1) (offset + 1) behind)
 
 numbered_behind : (read : Result ByteOrder CapFault) (octets : List ℕ) → IsNumbered 0 (behind_header read octets).all
 numbered_behind (Err fault) octets = tt

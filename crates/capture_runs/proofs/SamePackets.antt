@@ -5,9 +5,9 @@ use Rattle.capture_runs.specs.Captures.{captured_of}
 use Rattle.capture_runs.specs.Same.{Seen, seen_of, HoldTheSame}
 use Rattle.capture_runs.specs.declared.fault.CaptureFault.{CaptureFault}
 use Rattle.capture_runs.proofs.Numbered.{IsNumbered, numbered}
-use Rattle.command_runs.specs.Due.{Due}
-use Rattle.capture_runs.specs.Capture.{due_behind, due_of_capture, text_of}
-use Rattle.capture_runs.specs.Fold.{LineStep, LooksAtNoPlace, lines_from, state_after}
+use Rattle.command_runs.specs.Output.{Output}
+use Rattle.capture_runs.specs.Capture.{output_behind, output_of_capture, text_of}
+use Rattle.capture_runs.specs.Fold.{LineStep, LooksAtNoOffset, lines_from, state_after}
 
 seen_first : List Seen → Seen → Seen
 seen_first [] none = none
@@ -25,11 +25,11 @@ pub rest_same : (p q : Packet) (ps qs : List Packet) → map seen_of (p ∷ ps) 
 unfolding seen_rest
 rest_same p q ps qs same = ap seen_rest same
 
-module _ {S : Type 0} (step : S → Packet → LineStep S) (ending : S → List ℕ) (placeless : LooksAtNoPlace step) where
+module _ {S : Type 0} (step : S → Packet → LineStep S) (ending : S → List ℕ) (offsetless : LooksAtNoOffset step) where
   step_same : (s : S) (count : ℕ) (p q : Packet) (ps qs : List Packet) → p.number ≡ count + 1 → q.number ≡ count + 1 → map seen_of (p ∷ ps) ≡ map seen_of (q ∷ qs) → step s p ≡ step s q
   step_same s count p q ps qs first other same =
       let seen = first_same p q ps qs same in
-      placeless s p q (first ∙ sym other) (ap (λ (seen : Seen). seen.seconds) seen) (ap (λ (seen : Seen). seen.octets) seen)
+      offsetless s p q (first ∙ sym other) (ap (λ (seen : Seen). seen.seconds) seen) (ap (λ (seen : Seen). seen.octets) seen)
 
   lines_same : (s : S) (count : ℕ) (ps qs : List Packet) → IsNumbered count ps → IsNumbered count qs → map seen_of ps ≡ map seen_of qs → lines_from step s ps ≡ lines_from step s qs
   lines_same s count [] [] first other same = refl
@@ -47,10 +47,10 @@ module _ {S : Type 0} (step : S → Packet → LineStep S) (ending : S → List 
       ap (λ (made : LineStep S). state_after step made.next ps) (step_same s count p q ps qs first.0 other.0 same)
       ∙ state_same (step s q).next (count + 1) ps qs first.1 other.1 (rest_same p q ps qs same)
 
-  pub due_same : (s : S) (one other : List ℕ) → HoldTheSame one other → due_of_capture step ending s one ≡ due_of_capture step ending s other
-  due_same s one other h =
+  pub output_same : (s : S) (one other : List ℕ) → HoldTheSame one other → output_of_capture step ending s one ≡ output_of_capture step ending s other
+  output_same s one other h =
       let ps = (captured_of one).all in
       let qs = (captured_of other).all in
-      ap₂ (λ (text : List ℕ) (fault : Option CaptureFault). due_behind text fault)
+      ap₂ (λ (text : List ℕ) (fault : Option CaptureFault). output_behind text fault)
       (ap₂ (λ (lines : List ℕ) (state : S). lines ++ ending state) (lines_same s 0 ps qs (numbered one) (numbered other) h.same) (state_same s 0 ps qs (numbered one) (numbered other) h.same))
       (h.whole ∙ sym h.other_whole)

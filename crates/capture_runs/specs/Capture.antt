@@ -5,13 +5,13 @@ use Rattle.octet_buffer.specs.Packets.{Packet}
 use Rattle.capture_runs.specs.Captures.{captured_of}
 use Rattle.capture_runs.specs.Fault as capture_fault
 use Rattle.capture_runs.specs.declared.fault.CaptureFault.{CaptureFault}
-use Rattle.text_lines.specs.Numbers.{place_text}
-use Rattle.command_runs.specs.Due.{Due}
+use Rattle.text_lines.specs.Numbers.{offset_text}
+use Rattle.command_runs.specs.Output.{Output}
 use Rattle.capture_runs.specs.Fold.{LineStep, lines_from, state_after}
 
--- the fault's name, and its place where it has one
+-- the fault's name, and its offset where it has one
 unfoldable pub capture_fault_line : CaptureFault → List ℕ
-capture_fault_line fault = codes "fault " ++ capture_fault.name_of fault ++ place_text (capture_fault.place_of fault) ++ codes "\n"
+capture_fault_line fault = codes "fault " ++ capture_fault.name_of fault ++ offset_text (capture_fault.offset_of fault) ++ codes "\n"
 
 -- the line of the fault, where one ends the packets
 abbrev pub end_line : Option CaptureFault → List ℕ
@@ -23,18 +23,18 @@ abbrev pub status_at : Option CaptureFault → ℕ
 status_at None = 0
 status_at (Some fault) = 3
 
--- what is due where this text was made of all packets, and where they end so
-abbrev pub due_behind : List ℕ → Option CaptureFault → Due
-due_behind text end = record { text = text ++ end_line end; status = status_at end }
+-- the output where this text was made of all packets, and where they end so
+abbrev pub output_behind : List ℕ → Option CaptureFault → Output
+output_behind text end = record { text = text ++ end_line end; status = status_at end }
 
 module _ {S : Type 0} (step : S → Packet → LineStep S) (ending : S → List ℕ) (from : S) where
   -- the lines of packets, and those at their end
   abbrev pub text_of : List Packet → List ℕ
   text_of packets = lines_from step from packets ++ ending (state_after step from packets)
 
-  -- what is due to a capture: the lines of its packets, those at their end, and that of the fault that ends them
-  abbrev pub due_of_capture : List ℕ → Due
-  due_of_capture octets = due_behind (text_of (captured_of octets).all) (captured_of octets).fault
+  -- the output for a capture: the lines of its packets, those at their end, and that of the fault that ends them
+  abbrev pub output_of_capture : List ℕ → Output
+  output_of_capture octets = output_behind (text_of (captured_of octets).all) (captured_of octets).fault
 
 -- Octets were read of the front of the connection, the lines of their packets were written to it, and nothing else changed.
 pub record WritesTaken {S : Type 0} (step : S → Packet → LineStep S) (from : S) (old new : DoorState) : Type 0 where

@@ -1,4 +1,4 @@
--- The names and places of the faults of a capture, in whichever format.
+-- The names and offsets of the faults of a capture, in whichever format.
 use Rattle.std.specs.Prelude.{ℕ, Bool, false, List, Option, Result, Ok, Err}
 use Rattle.pcap_read.specs.Fault as classic
 use Rattle.pcapng_read.specs.Fault as next
@@ -9,9 +9,9 @@ abbrev pub name_of : CaptureFault → List ℕ
 name_of (Classic fault) = classic.name_of fault
 name_of (Next fault) = next.name_of fault
 
-abbrev pub place_of : CaptureFault → Option ℕ
-place_of (Classic fault) = classic.place_of fault
-place_of (Next fault) = next.place_of fault
+abbrev pub offset_of : CaptureFault → Option ℕ
+offset_of (Classic fault) = classic.offset_of fault
+offset_of (Next fault) = next.offset_of fault
 
 abbrev pub is_read_fault : CaptureFault → Bool
 is_read_fault (Classic fault) = classic.is_read_fault fault

@@ -26,6 +26,6 @@ pub record IsLeftBy {S : Type 0} (keeps : S → Type 0) (step : S → Packet →
 abbrev pub no_ending : {S : Type 0} → S → List ℕ
 no_ending s = []
 
--- It makes the same of packets that differ in their place alone.
-abbrev pub LooksAtNoPlace : {S : Type 0} → (S → Packet → LineStep S) → Type 0
-LooksAtNoPlace {S} step = (s : S) (p q : Packet) → p.number ≡ q.number → p.seconds ≡ q.seconds → p.octets ≡ q.octets → step s p ≡ step s q
+-- It makes the same of packets that differ in their offset alone.
+abbrev pub LooksAtNoOffset : {S : Type 0} → (S → Packet → LineStep S) → Type 0
+LooksAtNoOffset {S} step = (s : S) (p q : Packet) → p.number ≡ q.number → p.seconds ≡ q.seconds → p.octets ≡ q.octets → step s p ≡ step s q

@@ -4,10 +4,10 @@ use Rattle.mud_world.specs.Door.{DoorState, Took}
 use Rattle.octet_buffer.specs.Packets.{Packet, whole, broken, with_all}
 use Rattle.pcap_read.specs.Parts as classic
 use Rattle.pcap_read.specs.Reading as classic_reading
-use Rattle.pcap_read.specs.Taken as classic_taken
+use Rattle.pcap_read.specs.CaptureState as classic_taken
 use Rattle.pcapng_read.specs.Parts as next
 use Rattle.pcapng_read.specs.Reading as next_reading
-use Rattle.pcapng_read.specs.Taken as next_taken
+use Rattle.pcapng_read.specs.CaptureState as next_taken
 use Rattle.pcap_read.specs.declared.stage.Stage.TheVariants.{Failed}
 use Rattle.capture_runs.specs.Captures.{Captures, captured_of, with_fault}
 use Rattle.capture_runs.specs.Fault.{is_read_fault}

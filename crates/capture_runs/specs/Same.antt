@@ -3,7 +3,7 @@ use Rattle.std.specs.Prelude.{◌≡◌, ℕ, List, map, Option, None}
 use Rattle.octet_buffer.specs.Packets.{Packet}
 use Rattle.capture_runs.specs.Captures.{captured_of}
 
--- what counts of a packet beside its number and its place, which its capture makes
+-- what counts of a packet beside its number and its offset, which its capture makes
 pub record Seen : Type 0 where
   pub seconds : ℕ
   pub octets : List ℕ

@@ -55,13 +55,13 @@ impl CaptureFault {
         }
     }
 
-    /// The place of the fault, where it has one: an octet of the capture, counted from 0.
-    pub fn place(&self) -> Option<u64>
-        ensures { result ≡ spec.place_of self.now }
+    /// The offset of the fault, where it has one: an octet of the capture, counted from 0.
+    pub fn offset(&self) -> Option<u64>
+        ensures { result ≡ spec.offset_of self.now }
     {
         match self {
-            CaptureFault::Classic(fault) => fault.place(),
-            CaptureFault::Next(fault) => fault.place(),
+            CaptureFault::Classic(fault) => fault.offset(),
+            CaptureFault::Next(fault) => fault.offset(),
         }
     }
 }

@@ -5,10 +5,10 @@ ghost use Rattle.octet_buffer.specs.Packets.{Packet};
 ghost use Rattle.pcap_read.specs.Captured.{packet_of};
 ghost use Rattle.capture_runs.specs.Reading.{is_broken};
 ghost use Rattle.command_runs.specs.Ends.{IsSteady, IsStopped, IsStoppedWriting};
-ghost use Rattle.command_runs.specs.Due.{WritesDue, WritesPart};
+ghost use Rattle.command_runs.specs.Output.{WritesOutput, WritesPart};
 ghost use Rattle.command_runs.specs.Status.{Is, IsNot, IsOneOf, status_number};
 ghost use Rattle.command_runs.specs.declared.status.Status.TheVariants.{Done, Refused, DoorFailed, NoMemory};
-ghost use Rattle.capture_runs.specs.Capture.{WritesTaken, due_behind, due_of_capture};
+ghost use Rattle.capture_runs.specs.Capture.{WritesTaken, output_behind, output_of_capture};
 ghost use Rattle.capture_runs.specs.Fold.{IsLeftBy};
 ghost use Rattle.capture_runs.specs.Runs.{HasAll, HasDone};
 
@@ -70,11 +70,11 @@ fn finish<D: Door, L: PacketLines>(
     ensures done { (s : L.State) (packets : List Packet) (text : List ℕ) (first : DoorState) → L.keeps writer.now s → D.tells
         → HasAll packets text fault first (D.view door.old).state lines.old
         → IsOneOf (Done ∷ Refused ∷ []) (status_number result)
-        → WritesDue (due_behind (text ++ L.ending s) fault) first (D.view door.new).state (status_number result) }
+        → WritesOutput (output_behind (text ++ L.ending s) fault) first (D.view door.new).state (status_number result) }
     ensures part { (s : L.State) (packets : List Packet) (text : List ℕ) (first : DoorState) → L.keeps writer.now s → D.tells
         → HasAll packets text fault first (D.view door.old).state lines.old
         → IsOneOf (DoorFailed ∷ NoMemory ∷ []) (status_number result)
-        → WritesPart (due_behind (text ++ L.ending s) fault) first (D.view door.new).state }
+        → WritesPart (output_behind (text ++ L.ending s) fault) first (D.view door.new).state }
     ensures turns { (D.view door.new).turns ≡ (D.view door.old).turns }
     ensures reads { (D.view door.new).reads ≡ (D.view door.old).reads }
 {
@@ -99,10 +99,10 @@ fn write_packets<D: Door, L: PacketLines>(
     ensures steady { IsNot DoorFailed (status_number result) → IsSteady (D.view door.old) (D.view door.new) }
     ensures done { (s : L.State) (first : DoorState) → L.keeps writer.old s → D.tells → HasDone [] [] reader.old first (D.view door.old).state lines.old
         → IsOneOf (Done ∷ Refused ∷ []) (status_number result)
-        → WritesDue (due_of_capture L.step L.ending s first.left) first (D.view door.new).state (status_number result) }
+        → WritesOutput (output_of_capture L.step L.ending s first.left) first (D.view door.new).state (status_number result) }
     ensures part { (s : L.State) (first : DoorState) → L.keeps writer.old s → D.tells → HasDone [] [] reader.old first (D.view door.old).state lines.old
         → IsOneOf (DoorFailed ∷ NoMemory ∷ []) (status_number result)
-        → WritesPart (due_of_capture L.step L.ending s first.left) first (D.view door.new).state }
+        → WritesPart (output_of_capture L.step L.ending s first.left) first (D.view door.new).state }
     ensures taken { (s : L.State) (first : DoorState) → L.keeps writer.old s → D.tells → HasDone [] [] reader.old first (D.view door.old).state lines.old
         → (D.view door.new).reads ≢ (D.view door.old).reads → WritesTaken L.step s first (D.view door.new).state }
     ensures left { (s : L.State) → L.keeps writer.old s → IsLeftBy (L.keeps writer.new) L.step s }
@@ -129,9 +129,9 @@ pub fn write_capture<D: Door, L: PacketLines>(alloc: Global, door: &mut D, write
     ensures steady { IsNot DoorFailed (status_number result) → IsSteady (D.view door.old) (D.view door.new) }
     // From whatever the writer is said to keep, the lines are those of the packets in their order,
     ensures done { (s : L.State) → L.keeps writer.old s → D.tells → IsOneOf (Done ∷ Refused ∷ []) (status_number result) →
-        WritesDue (due_of_capture L.step L.ending s (D.view door.old).state.left) (D.view door.old).state (D.view door.new).state (status_number result) }
+        WritesOutput (output_of_capture L.step L.ending s (D.view door.old).state.left) (D.view door.old).state (D.view door.new).state (status_number result) }
     ensures part { (s : L.State) → L.keeps writer.old s → D.tells → IsOneOf (DoorFailed ∷ NoMemory ∷ []) (status_number result) →
-        WritesPart (due_of_capture L.step L.ending s (D.view door.old).state.left) (D.view door.old).state (D.view door.new).state }
+        WritesPart (output_of_capture L.step L.ending s (D.view door.old).state.left) (D.view door.old).state (D.view door.new).state }
     ensures taken { (s : L.State) → L.keeps writer.old s → D.tells → (D.view door.new).reads ≢ (D.view door.old).reads →
         WritesTaken L.step s (D.view door.old).state (D.view door.new).state }
     // and it keeps what some packets leave behind that; which packets, no clause says.

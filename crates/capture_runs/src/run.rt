@@ -6,10 +6,10 @@ ghost use Rattle.mud_world.specs.Whole.{WrotePart};
 ghost use Rattle.octet_buffer.specs.Packets.{Packet};
 ghost use Rattle.capture_runs.specs.Reading.{is_broken, most_to_come, packet_at};
 ghost use Rattle.command_runs.specs.Ends.{IsSteady, IsStopped, IsStoppedWriting};
-ghost use Rattle.command_runs.specs.Due.{WritesDue, WritesPart, WroteFront};
+ghost use Rattle.command_runs.specs.Output.{WritesOutput, WritesPart, WroteFront};
 ghost use Rattle.command_runs.specs.Status.{Is, IsNot, IsOneOf, status_number};
 ghost use Rattle.command_runs.specs.declared.status.Status.TheVariants.{Done, Refused, DoorFailed, NoMemory};
-ghost use Rattle.capture_runs.specs.Capture.{capture_fault_line, due_behind};
+ghost use Rattle.capture_runs.specs.Capture.{capture_fault_line, output_behind};
 ghost use Rattle.capture_runs.specs.Runs.{HasAll, HasDone, LedTo, WroteTaken, has_failed};
 ghost use Rattle.capture_runs.specs.declared.run.Way.TheVariants as way;
 
@@ -17,7 +17,7 @@ use crate::{CaptureFault, CaptureReader};
 use command_runs::Status;
 use mud_base::{Bytes, Memory};
 use mud_world::{Door, Failed, say};
-use text_lines::append_place;
+use text_lines::append_offset;
 
 /// Lines of more octets than these are written although the next packet is held.
 const MOST_GATHERED: usize = 65_536;
@@ -35,14 +35,15 @@ pub enum Way {
     Failed,
 }
 
-/// Adds the line of a fault of a capture: `fault`, the rule's name, and its place where it has one.
+/// Adds the line of a fault of a capture: `fault`, the rule's name, and its offset where it has
+/// one.
 #[tactic(auto, unfolding(crate::specs::Capture::capture_fault_line))]
 fn append_fault(lines: &mut Bytes, fault: CaptureFault) -> Result<(), Memory>
     ensures { OnOk result (lines.new ≡ lines.old ++ capture_fault_line fault) }
 {
     lines.append(b"fault ")?;
     lines.append(fault.name().as_bytes())?;
-    append_place(lines, fault.place())?;
+    append_offset(lines, fault.offset())?;
     lines.append(b"\n")
 }
 
@@ -78,8 +79,8 @@ fn write_before<D: Door>(door: &mut D, lines: &mut Bytes, is_ready: bool) -> Res
     write_out(door, lines)
 }
 
-/// Writes the lines gathered where more of the capture is to be read, and goes on to the next packet.
-/// So whatever was made of the packets read so far is written before a read.
+/// Writes the lines gathered where more of the capture is to be read, and goes on to the next
+/// packet. So whatever was made of the packets read so far is written before a read.
 pub fn go_on<D: Door>(door: &mut D, reader: &mut CaptureReader, lines: &mut Bytes) -> Way
     requires { is_broken reader.old ≡ false }
     ensures led { (packets : List Packet) (text : List ℕ) (first : DoorState) → D.tells
@@ -111,17 +112,18 @@ pub fn go_on<D: Door>(door: &mut D, reader: &mut CaptureReader, lines: &mut Byte
     }
 }
 
-/// Writes the last lines of a capture, and behind them that of the fault that ends it, where one does.
+/// Writes the last lines of a capture, and behind them that of the fault that ends it, where one
+/// does.
 pub fn end_capture<D: Door>(door: &mut D, lines: &mut Bytes, fault: Option<CaptureFault>) -> Status
     ensures statuses { IsOneOf (Done ∷ Refused ∷ DoorFailed ∷ NoMemory ∷ []) (status_number result) }
     ensures fault { Is DoorFailed (status_number result) → IsStoppedWriting (D.view door.old) (D.view door.new) }
     ensures steady { IsNot DoorFailed (status_number result) → (D.view door.new).writes ≡ (D.view door.old).writes }
     ensures done { (packets : List Packet) (text : List ℕ) (first : DoorState) → D.tells → HasAll packets text fault first (D.view door.old).state lines.old
         → IsOneOf (Done ∷ Refused ∷ []) (status_number result)
-        → WritesDue (due_behind text fault) first (D.view door.new).state (status_number result) }
+        → WritesOutput (output_behind text fault) first (D.view door.new).state (status_number result) }
     ensures part { (packets : List Packet) (text : List ℕ) (first : DoorState) → D.tells → HasAll packets text fault first (D.view door.old).state lines.old
         → IsOneOf (DoorFailed ∷ NoMemory ∷ []) (status_number result)
-        → WritesPart (due_behind text fault) first (D.view door.new).state }
+        → WritesPart (output_behind text fault) first (D.view door.new).state }
     ensures turns { (D.view door.new).turns ≡ (D.view door.old).turns }
     ensures reads { (D.view door.new).reads ≡ (D.view door.old).reads }
 {

@@ -1,4 +1,4 @@
-pub mod Due
+pub mod Output
 pub mod Ends
 pub mod Moments
 pub mod Status

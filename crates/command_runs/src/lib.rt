@@ -1,4 +1,4 @@
-//! How a run of the program ends: its status, why it ends early, what is due, and what it makes of
+//! How a run of the program ends: its status, why it ends early, its output, and what it makes of
 //! its door. And what commands that write of a store have in common: the moment at which a store is
 //! listed, and texts of many parts, each of which is written as soon as it is made.
 #![tactic(auto)]

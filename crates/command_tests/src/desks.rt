@@ -4,7 +4,7 @@ ghost use Rattle.desk_model.specs.Boxed.{IsKept};
 ghost use Rattle.mud_desk.specs.DeskState.{tables_of};
 
 use mud_base::{Listed, Memory};
-use mud_desk::{Desk, Taken};
+use mud_desk::{Desk, Loaded};
 use mud_world::{Keeper, MemoryKeeper};
 use std::alloc::Global;
 use std::test::Fail;
@@ -24,7 +24,7 @@ pub(crate) fn empty(alloc: Global) -> Result<Box<dyn Keeper>, Memory> {
 pub(crate) fn desk_over(alloc: Global, keeper: Box<dyn Keeper>) -> Result<Desk, Fail>
     ensures { IfOk result (λ desk. IsKept Keeper-dyn desk.keeper (tables_of desk.state)) }
 {
-    match Desk::open(alloc, keeper, Taken::new(alloc)) {
+    match Desk::open(alloc, keeper, Loaded::new(alloc)) {
         Ok(desk) => Ok(desk),
         Err(refused) => {
             drop(refused);

@@ -4,7 +4,7 @@ use crate::doors::{assert_written, door_of, piece_of};
 use command_runs::Status;
 use desk_runs::{judge_store, refuse_store};
 use mud_base::{Bytes, Memory};
-use mud_desk::{OpenFault, Taken};
+use mud_desk::{OpenFault, Loaded};
 use mud_world::MemoryDoor;
 use std::alloc::Global;
 use std::process::Abort;
@@ -28,7 +28,7 @@ fn door(rt: &impl Abort, alloc: Global) -> Result<MemoryDoor, Memory> {
 /// The status of a run over a store that keeps nothing.
 fn judged(alloc: Global, door: &mut MemoryDoor) -> Result<Status, Memory> {
     let keeper = empty(alloc)?;
-    let (status, keeper) = judge_store(alloc, keeper, Taken::new(alloc), door);
+    let (status, keeper) = judge_store(alloc, keeper, Loaded::new(alloc), door);
     drop(keeper);
     Ok(status)
 }

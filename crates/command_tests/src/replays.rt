@@ -3,7 +3,7 @@ use crate::desks::empty;
 use crate::doors::{assert_written, door_of, piece_of};
 use command_runs::Status;
 use console_runs::replay_store;
-use mud_desk::Taken;
+use mud_desk::Loaded;
 use mud_world::{Keeper, MemoryDoor};
 use std::alloc::Global;
 use std::process::Abort;
@@ -42,7 +42,7 @@ fn kept_count(alloc: Global, keeper: &mut Box<dyn Keeper>) -> Result<usize, Fail
 /// are kept.
 fn replayed(alloc: Global, door: &mut MemoryDoor) -> Result<(Status, usize), Fail> {
     let keeper = empty(alloc)?;
-    let (status, mut keeper) = replay_store(alloc, keeper, Taken::new(alloc), door);
+    let (status, mut keeper) = replay_store(alloc, keeper, Loaded::new(alloc), door);
     let count = kept_count(alloc, &mut keeper);
     drop(keeper);
     Ok((status, count?))

@@ -4,7 +4,7 @@ use crate::doors::{assert_written, door_of};
 use command_runs::Status;
 use command_words::ReportKind;
 use mud_base::{Bytes, Listed, Memory, Moment};
-use mud_desk::Taken;
+use mud_desk::Loaded;
 use mud_world::{Item, Keeper, MemoryClock, MemoryDoor, MemoryKeeper};
 use report_runs::report_store;
 use std::alloc::Global;
@@ -41,7 +41,7 @@ fn reported(rt: &impl Abort, alloc: Global, door: &mut MemoryDoor) -> Result<Sta
     let keeper = keeper(alloc)?;
     let mut clock = clock(rt, alloc)?;
     let kind = ReportKind::Things;
-    let nothing = Taken::new(alloc);
+    let nothing = Loaded::new(alloc);
     let (status, keeper) = report_store(alloc, keeper, nothing, kind, door, &mut clock);
     drop(keeper);
     drop(clock);

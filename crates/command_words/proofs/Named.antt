@@ -4,7 +4,7 @@ use Rattle.std.specs.List.{list_any}
 use Rattle.command_words.specs.declared.command.Command.{Command}
 use Rattle.command_words.specs.declared.command.Command.TheVariants.{Hear, Check, Frames, Judge, Tally, Snoop, Replay, Drill}
 use Rattle.command_words.specs.declared.command.Message.{Message}
-use Rattle.command_words.specs.Places.{has_folder, has_store, second_of, third_of}
+use Rattle.command_words.specs.Operands.{has_folder, has_store, second_of, third_of}
 use Rattle.command_words.specs.Words.{begins_with_dash, command_in, count_in, is_path, line_in, message_in, one_word, two_words}
 
 -- whether a line's command works on a store, and on a folder

@@ -56,7 +56,7 @@ walked_plain line position word held p = ap (λ met. after_step line.rules word 
 turn_plain : (line : Shape) (position : ℕ) (word : List ℕ) (held : Held) → IsPlain word → turn_fault line [] (stand held position) word ≡ step_fault line position held value
 turn_plain line position word held p = ap₂ (λ faults met. or_else faults (step_fault line position met.0 met.1)) (fault_plain line word held p) (met_plain line.rules position word held p)
 
--- the words from a place of the line on are read without a fault, and this is held behind them
+-- the words from an index of the line on are read without a fault, and this is held behind them
 pub record Reads (line : Shape) (held : Held) (position : ℕ) (words : List (List ℕ)) (last : Held) : Type 0 where
   pub clear : walk_fault line [] (stand held position) words ≡ []
   pub ends : (fold (walked line.rules []) (stand held position) words).held ≡ last

@@ -1,3 +1,3 @@
 pub mod Parser
-pub mod Places
+pub mod Operands
 pub mod Words

@@ -2,12 +2,12 @@
 #![tactic(auto)]
 
 pub mod command;
+pub mod operands;
 mod parser;
-pub mod places;
 pub mod usage;
 pub mod words;
 
 pub use command::{Command, Message, ReportKind};
-pub use places::{folder_word, store_word};
+pub use operands::{folder_word, store_word};
 pub use usage::USAGE;
 pub use words::command_of;

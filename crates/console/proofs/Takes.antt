@@ -12,9 +12,9 @@ use Rattle.http_requests.specs.Requests.{Request}
 use Rattle.http_requests.specs.Asked.{Asked, asked_by}
 use Rattle.http_requests.specs.Visits.{CountsOf}
 use Rattle.console.specs.Replies.{is_unavailable}
-use Rattle.console.specs.Answers.{MayAnswer}
-use Rattle.console.specs.States.{ConsoleState, begun, counted, TakesMoment, MayTake, IsAt}
-use Rattle.console.specs.Beside.{MayIf, IsAtIf}
+use Rattle.console.specs.Answers.{AllowedAnswer}
+use Rattle.console.specs.States.{ConsoleState, begun, counted, TakesMoment, ConsoleStep, IsAt}
+use Rattle.console.specs.Beside.{StepIf, IsAtIf}
 
 -- the moments that are left behind a request
 after : Option ℕ → List ℕ → List ℕ
@@ -58,12 +58,12 @@ at_first tells desk moments faults h forwarded = record { history = h; session =
 -- What was carried out, and the state behind it.
 pub record Carried (tells : Type 0) (desk : DeskState) (moments : List ℕ) (before now : ℕ) (s : Option ConsoleState) (what : Asked) (octets : List ℕ) : Type 0 where
   pub next : Option ConsoleState
-  pub may : MayIf (MayTake tells) s what octets next
+  pub may : StepIf (ConsoleStep tells) s what octets next
   pub at : IsAtIf tells desk moments before now next
 
 module _ (tells : Type 0) (desk desk' : DeskState) (ms ms' : List ℕ) (before now now' : ℕ) (status : Status) (given : ℕ) (octets : List ℕ) (from : MomentFrom) (request : Request) (is_last : Bool) (own : Option ℕ)
     (takes : TakesMoment tells own given ms ms') (is : own ≡ moment_of from request.head) (cause : Counts (is_unavailable status) now now')
-    (leads : LeadsOn desk desk' (λ (session t : Session). MayAnswer session given request is_last status octets t)) where
+    (leads : LeadsOn desk desk' (λ (session t : Session). AllowedAnswer session given request is_last status octets t)) where
   pub carried : (s : Option ConsoleState) → IsAtIf tells desk ms before now s → Carried tells desk' ms' before now' s (asked_by from is_last request) octets
   carried None at = record { next = None; may = refl; at = at }
   carried (Some s) at =
@@ -78,7 +78,7 @@ module _ (tells : Type 0) (desk desk' : DeskState) (ms ms' : List ℕ) (before n
             given = given;
             status = status;
             moment = subst (λ (o : Option ℕ). TakesMoment tells o given s.moments (after own s.moments)) is (took tells own given ms ms' s.moments takes at.clock);
-            may = subst (λ (session : Session). MayAnswer session given request is_last status octets (session_of on.next desk')) (sym at.session) on.leads;
+            may = subst (λ (session : Session). AllowedAnswer session given request is_last status octets (session_of on.next desk')) (sym at.session) on.leads;
             count = refl;
             rises = omega (arith, at.risen, cause.later);
             steady = λ other. still s.risen before now now' at.risen (cause.steady other);

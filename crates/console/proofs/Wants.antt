@@ -25,8 +25,8 @@ use Rattle.console.specs.declared.question.NoQuestion.{NoQuestion}
 use Rattle.console.specs.declared.question.NoQuestion.TheVariants.{NoRoute, NoMethod, BadBody}
 use Rattle.console.specs.Asks.{action_at, reads_with_memory, question_of, by_route, by_action, by_body}
 use Rattle.console.specs.Replies.{Reply, reply, no_route, no_method}
-use Rattle.console.specs.Requests.{MayWantFor, MayWant}
-use Rattle.console.specs.Refused.{IsRefusalOf, MayWantAsked}
+use Rattle.console.specs.Requests.{ActionNeedsMemory, NeedsMemory}
+use Rattle.console.specs.Refused.{IsRefusalOf, AskedNeedsMemory}
 use Rattle.console.proofs.Paths.{route_again}
 
 status_of_no_route : no_route.status ≡ NotFound
@@ -46,7 +46,7 @@ action_by method route = option_and_then (action_of route) (method_of method)
 
 module _ (session : Session) (given : ℕ) (octets : List ℕ) where
   -- memory was wanted to read the body
-  reading : (action : Option Action) → reads_with_memory action ≡ true → MayWantFor session given octets action
+  reading : (action : Option Action) → reads_with_memory action ≡ true → ActionNeedsMemory session given octets action
   unfolding takes_memory
   reading None takes = absurd (false≢true takes)
   reading (Some HearDhcp) takes = tt
@@ -59,33 +59,33 @@ module _ (session : Session) (given : ℕ) (octets : List ℕ) where
 
   -- a question was answered, whose body was read
   asked_by_body : (action : Action) (body : List ℕ) (now : ℕ) (question : Question) → by_body action (body_of action body now) ≡ Ok question
-      → MayWantAsked session given octets question.asked → MayWantFor session given octets (Some action)
+      → AskedNeedsMemory session given octets question.asked → ActionNeedsMemory session given octets (Some action)
   unfolding by_body body_of
   asked_by_body HearDhcp body now question is may = tt
   asked_by_body HearLldp body now question is may = tt
   asked_by_body (ListRows listing) body now question is may = tt
   asked_by_body (State statement) body now question is may = tt
   asked_by_body Import body now question is may = tt
-  asked_by_body Judge body now question is may = subst (λ (a : Asked). MayWantAsked session given octets a) (sym (asked_same is)) may
+  asked_by_body Judge body now question is may = subst (λ (a : Asked). AskedNeedsMemory session given octets a) (sym (asked_same is)) may
     where
       asked_same : {a b : Question} → ◌≡◌ {A = Result Question NoQuestion} (Ok a) (Ok b) → a.asked ≡ b.asked
       asked_same is = cc
   asked_by_body Why body now question is may = tt
 
   asked_by : (method body : List ℕ) (now : ℕ) (route : Route) (action : Option Action) (question : Question) → by_action route action body now ≡ Ok question
-      → MayWantAsked session given octets question.asked → MayWantFor session given octets action
+      → AskedNeedsMemory session given octets question.asked → ActionNeedsMemory session given octets action
   unfolding by_action
   asked_by method body now route None question is may = absurd (cc)
   asked_by method body now route (Some action) question is may = asked_by_body action body now question is may
 
   asked_at : (method body : List ℕ) (now : ℕ) (route : Option Route) (question : Question) → by_route route method body now ≡ Ok question
-      → MayWantAsked session given octets question.asked → MayWantFor session given octets (option_and_then (action_by method) route)
+      → AskedNeedsMemory session given octets question.asked → ActionNeedsMemory session given octets (option_and_then (action_by method) route)
   unfolding by_route
   asked_at method body now None question is may = absurd (cc)
   asked_at method body now (Some route) question is may = asked_by method body now route (action_by method route) question is may
 
   -- it was told what is wrong with a body
-  bad_by_body : (action : Action) (body : List ℕ) (now : ℕ) (fault : BodyFault) → by_body action (body_of action body now) ≡ Err (BadBody fault) → MayWantFor session given octets (Some action)
+  bad_by_body : (action : Action) (body : List ℕ) (now : ℕ) (fault : BodyFault) → by_body action (body_of action body now) ≡ Err (BadBody fault) → ActionNeedsMemory session given octets (Some action)
   unfolding by_body body_of
   bad_by_body HearDhcp body now fault is = tt
   bad_by_body HearLldp body now fault is = tt
@@ -95,23 +95,23 @@ module _ (session : Session) (given : ℕ) (octets : List ℕ) where
   bad_by_body Judge body now fault is = absurd (cc)
   bad_by_body Why body now fault is = tt
 
-  bad_by : (method body : List ℕ) (now : ℕ) (route : Route) (action : Option Action) (fault : BodyFault) → by_action route action body now ≡ Err (BadBody fault) → MayWantFor session given octets action
+  bad_by : (method body : List ℕ) (now : ℕ) (route : Route) (action : Option Action) (fault : BodyFault) → by_action route action body now ≡ Err (BadBody fault) → ActionNeedsMemory session given octets action
   unfolding by_action
   bad_by method body now route None fault is = absurd (cc)
   bad_by method body now route (Some action) fault is = bad_by_body action body now fault is
 
-  bad_at : (method body : List ℕ) (now : ℕ) (route : Option Route) (fault : BodyFault) → by_route route method body now ≡ Err (BadBody fault) → MayWantFor session given octets (option_and_then (action_by method) route)
+  bad_at : (method body : List ℕ) (now : ℕ) (route : Option Route) (fault : BodyFault) → by_route route method body now ≡ Err (BadBody fault) → ActionNeedsMemory session given octets (option_and_then (action_by method) route)
   unfolding by_route
   bad_at method body now None fault is = absurd (cc)
   bad_at method body now (Some route) fault is = bad_by method body now route (action_by method route) fault is
 
   module _ (method target body : List ℕ) (now : ℕ) where
-    wants_asked : (question : Question) → question_of method target body now ≡ Ok question → MayWantAsked session given octets question.asked → MayWantFor session given octets (action_at method target)
+    wants_asked : (question : Question) → question_of method target body now ≡ Ok question → AskedNeedsMemory session given octets question.asked → ActionNeedsMemory session given octets (action_at method target)
     unfolding question_of action_at
     wants_asked question is may = asked_at method body now (route_of target) question is may
 
     wants_unasked : (unasked : Refusal NoQuestion) (reply : Reply) → Fails unasked (question_of method target body now) → (unasked ≡ Memory → reads_with_memory (action_at method target) ≡ true)
-        → IsRefusalOf unasked reply → reply.status ≡ NoStorage → MayWantFor session given octets (action_at method target)
+        → IsRefusalOf unasked reply → reply.status ≡ NoStorage → ActionNeedsMemory session given octets (action_at method target)
     unfolding question_of action_at
     wants_unasked Memory reply says takes is status = reading (action_at method target) (takes refl)
     wants_unasked (Broken NoRoute) reply says takes is status = not_wanted NotFound reply (ap (λ (r : Reply). r.status) is ∙ status_of_no_route) status (λ same. absurd (cc))
@@ -124,17 +124,17 @@ module _ (from : MomentFrom) (r : Request) (parts : RequestParts) (are : ArePart
   unfolding action_at
   action_here = (λ i. option_and_then (action_by (are.method i)) (route_of (are.path i))) ∙ ap (λ (route : Option Route). option_and_then (action_by r.head.method) route) (route_again r.head)
 
-  pub may_want : (session : Session) (given : ℕ) → MayWantFor session given parts.body.now (action_at parts.method.now parts.path.now) → MayWant session given r
-  unfolding MayWant
+  pub may_want : (session : Session) (given : ℕ) → ActionNeedsMemory session given parts.body.now (action_at parts.method.now parts.path.now) → NeedsMemory session given r
+  unfolding NeedsMemory
   may_want session given may =
-      subst (λ (octets : List ℕ). MayWantFor session given octets (action_at r.head.method r.head.target)) are.body
-      (subst (λ (action : Option Action). MayWantFor session given parts.body.now action) action_here may)
+      subst (λ (octets : List ℕ). ActionNeedsMemory session given octets (action_at r.head.method r.head.target)) are.body
+      (subst (λ (action : Option Action). ActionNeedsMemory session given parts.body.now action) action_here may)
 
   pub wants_by_question : (session : Session) (given now : ℕ) (question : Question) → question_of parts.method.now parts.path.now parts.body.now now ≡ Ok question
-      → MayWantAsked session given parts.body.now question.asked → MayWant session given r
+      → AskedNeedsMemory session given parts.body.now question.asked → NeedsMemory session given r
   wants_by_question session given now question is may = may_want session given (wants_asked session given parts.body.now parts.method.now parts.path.now parts.body.now now question is may)
 
   pub wants_by_refusal : (session : Session) (given now : ℕ) (unasked : Refusal NoQuestion) (reply : Reply) → Fails unasked (question_of parts.method.now parts.path.now parts.body.now now)
-      → (unasked ≡ Memory → reads_with_memory (action_at parts.method.now parts.path.now) ≡ true) → IsRefusalOf unasked reply → reply.status ≡ NoStorage → MayWant session given r
+      → (unasked ≡ Memory → reads_with_memory (action_at parts.method.now parts.path.now) ≡ true) → IsRefusalOf unasked reply → reply.status ≡ NoStorage → NeedsMemory session given r
   wants_by_refusal session given now unasked reply says takes is status =
       may_want session given (wants_unasked session given parts.body.now parts.method.now parts.path.now parts.body.now now unasked reply says takes is status)

@@ -11,7 +11,7 @@ use Rattle.http_answers.specs.Heads.{answer_of}
 use Rattle.outcome_bodies.specs.Outcomes.{rule_body}
 use Rattle.desk_model.specs.Sessions.{Session}
 use Rattle.console.specs.Replies.{Reply}
-use Rattle.console.specs.Requests.{MayReply, MayWant}
+use Rattle.console.specs.Requests.{AllowedResponse, NeedsMemory}
 
 -- the octets of a reply to a request by this method, behind which the connection may end: the head alone where it is HEAD
 unfoldable pub octets_of : List ℕ → Bool → Reply → List ℕ
@@ -19,12 +19,12 @@ octets_of method closes reply = answer_of reply.status reply.allow closes (is_he
 
 -- What may be answered to a request that is given this moment, behind which the connection may end: the status, the octets,
 -- and the session after it. It is 507 only where memory may be wanted.
-pub record MayAnswer (session : Session) (given : ℕ) (request : Request) (closes : Bool) (status : Status) (octets : List ℕ) (after : Session) : Type 0 where
+pub record AllowedAnswer (session : Session) (given : ℕ) (request : Request) (closes : Bool) (status : Status) (octets : List ℕ) (after : Session) : Type 0 where
   pub reply : Reply
-  pub may : MayReply session given request reply after
+  pub may : AllowedResponse session given request reply after
   pub status_is : status ≡ reply.status
   pub octets_are : octets ≡ octets_of request.head.method closes reply
-  pub wanted : status ≡ NoStorage → MayWant session given request
+  pub wanted : status ≡ NoStorage → NeedsMemory session given request
 
 -- ---- Faults that end a connection
 

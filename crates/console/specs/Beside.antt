@@ -5,13 +5,13 @@ use Rattle.http_requests.specs.Asked.{Asked}
 use Rattle.console.specs.States.{ConsoleState, IsAt}
 
 -- What may be answered where there is a state. None stays none.
-abbrev pub MayIf : {S : Type 0} → (S → Asked → List ℕ → S → Type 0) → Option S → Asked → List ℕ → Option S → Type 0
-MayIf may None what answer t = t ≡ None
-MayIf {S} may (Some s) what answer t = (next : S) × (t ≡ Some next) × may s what answer next
+abbrev pub StepIf : {S : Type 0} → (S → Asked → List ℕ → S → Type 0) → Option S → Asked → List ℕ → Option S → Type 0
+StepIf may None what answer t = t ≡ None
+StepIf {S} may (Some s) what answer t = (next : S) × (t ≡ Some next) × may s what answer next
 
 -- the same beside a value that stays
-pub record MayBeside {S X : Type 0} (may : S → Asked → List ℕ → S → Type 0) (s : Option S × X) (what : Asked) (answer : List ℕ) (t : Option S × X) : Type 0 where
-  pub may_if : MayIf may s.0 what answer t.0
+pub record StepBeside {S X : Type 0} (may : S → Asked → List ℕ → S → Type 0) (s : Option S × X) (what : Asked) (answer : List ℕ) (t : Option S × X) : Type 0 where
+  pub may_if : StepIf may s.0 what answer t.0
   pub same : t.1 ≡ s.1
 
 -- the console is in the state, where there is one

@@ -21,6 +21,6 @@ IsRefusalOf Memory given = given ≡ no_storage
 IsRefusalOf (Broken nothing) given = IsToldOf nothing given
 
 -- of a frame memory may be wanted only where it is added to the history
-abbrev pub MayWantAsked : Session → ℕ → List ℕ → Asked → Type 0
-MayWantAsked session given octets Judge = IsNoted session given octets
-MayWantAsked session given octets _ = Unit {0}
+abbrev pub AskedNeedsMemory : Session → ℕ → List ℕ → Asked → Type 0
+AskedNeedsMemory session given octets Judge = IsNoted session given octets
+AskedNeedsMemory session given octets _ = Unit {0}

@@ -56,7 +56,7 @@ made_reply status (Err memory) = no_storage
 -- ---- What may stand in place of a reply
 
 -- In place of the defined reply 507 may stand, and 503 where it is told: after either the session is as it was.
-pub record MayStand (may_fail : Type 0) (session : Session) (defined : Replied) (given : Reply) (after : Session) : Type 0 where
+pub record IsOrFailed (may_fail : Type 0) (session : Session) (defined : Replied) (given : Reply) (after : Session) : Type 0 where
   pub one : ((defined ≡ replied given after) ⊎ ((given ≡ no_storage) × (after ≡ session))) ⊎ (may_fail × (given ≡ unavailable) × (after ≡ session))
 
 -- the defined reply, or that memory was wanted

@@ -18,7 +18,7 @@ use Rattle.outcome_bodies.specs.Outcomes.{stated_body, file_body}
 use Rattle.outcome_bodies.specs.Heards.{nothing_body, heard_body}
 use Rattle.outcome_bodies.specs.Verdicts.{verdict_body}
 use Rattle.listing_bodies.specs.Refusals.{refusal_status, refusal_body}
-use Rattle.console.specs.Replies.{Reply, reply, Replied, replied, unavailable, no_storage, MayStand}
+use Rattle.console.specs.Replies.{Reply, reply, Replied, replied, unavailable, no_storage, IsOrFailed}
 use Rattle.console.specs.declared.question.Question.{Question}
 use Rattle.console.specs.declared.question.NoQuestion.{NoQuestion}
 use Rattle.console.specs.Asks.{question_of, action_at, refusal_of}
@@ -86,21 +86,21 @@ unfoldable pub reply_in : Session → ℕ → Request → Replied
 reply_in session given request = by_result session given request.body (question_in session given request)
 
 -- 503 may stand where the request is a command that changes a list
-abbrev pub MayFail : Session → ℕ → Result Question NoQuestion → Type 0
-MayFail session given asked = IsOkAnd asked (λ question. IsSomeAnd (command_asked question.asked) (Changes session given))
+abbrev pub CallsKeeper : Session → ℕ → Result Question NoQuestion → Type 0
+CallsKeeper session given asked = IsOkAnd asked (λ question. IsSomeAnd (command_asked question.asked) (Changes session given))
 
 -- what may be replied, and the session after it
-abbrev pub MayReply : Session → ℕ → Request → Reply → Session → Type 0
-MayReply session given request reply after = MayStand (MayFail session given (question_in session given request)) session (reply_in session given request) reply after
+abbrev pub AllowedResponse : Session → ℕ → Request → Reply → Session → Type 0
+AllowedResponse session given request reply after = IsOrFailed (CallsKeeper session given (question_in session given request)) session (reply_in session given request) reply after
 
 -- ---- Want of memory
 
 -- Memory may be wanted for what a request does: for the verdict on a frame only where the frame is added to the history. None is
 -- wanted to say that no route has the path of the target, or that the route has not the method.
-abbrev pub MayWantFor : Session → ℕ → List ℕ → Option Action → Type 0
-MayWantFor session given body None = ⊥
-MayWantFor session given body (Some Judge) = IsNoted session given body
-MayWantFor session given body (Some _) = Unit {0}
+abbrev pub ActionNeedsMemory : Session → ℕ → List ℕ → Option Action → Type 0
+ActionNeedsMemory session given body None = ⊥
+ActionNeedsMemory session given body (Some Judge) = IsNoted session given body
+ActionNeedsMemory session given body (Some _) = Unit {0}
 
-unfoldable pub MayWant : Session → ℕ → Request → Type 0
-MayWant session given request = MayWantFor session given request.body (action_at request.head.method request.head.target)
+unfoldable pub NeedsMemory : Session → ℕ → Request → Type 0
+NeedsMemory session given request = ActionNeedsMemory session given request.body (action_at request.head.method request.head.target)

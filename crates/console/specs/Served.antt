@@ -13,7 +13,7 @@ use Rattle.http_requests.specs.Runs.{IsLeftBy}
 use Rattle.http_requests.specs.Visits.{ServedInTurn}
 use Rattle.console.specs.Answers.{fault_answer}
 use Rattle.console.specs.declared.console.Console.{Console}
-use Rattle.console.specs.States.{ConsoleState, MayTake, IsAt, begun}
+use Rattle.console.specs.States.{ConsoleState, ConsoleStep, IsAt, begun}
 
 module _ {X : Type 0} {F : X → Type 0} (members : (v : (x : X) × F x) → Ghosts (F v.0)) {C : Type 0} (clocks : clock.Ghosts C) (old new : Console C X F) where
   -- the state in which the console was, where its session has this history
@@ -26,14 +26,14 @@ module _ {X : Type 0} {F : X → Type 0} (members : (v : (x : X) × F x) → Gho
 
   -- It is in a state that some requests left.
   abbrev pub IsLeftByRequests : Type 0
-  IsLeftByRequests = (history : List Segment) → HasForwarded history old.desk.state → IsLeftBy (MayTake clocks.tells) IsNow (state_before history)
+  IsLeftByRequests = (history : List Segment) → HasForwarded history old.desk.state → IsLeftBy (ConsoleStep clocks.tells) IsNow (state_before history)
 
   -- They are those of one connection, and what was written are their answers.
   abbrev pub ServesOne : MomentFrom → ConnectionEnd → DoorView → DoorView → Type 0
   ServesOne from end door door_now = (history : List Segment) → HasForwarded history old.desk.state
-      → IsServed (MayTake clocks.tells) fault_answer from IsNow end (state_before history) door door_now
+      → IsServed (ConsoleStep clocks.tells) fault_answer from IsNow end (state_before history) door door_now
 
   -- They are those of connections that were served one after the other, and what was written are their answers.
   abbrev pub ServesInTurn : MomentFrom → Bool → ℕ → DoorView → DoorView → Type 0
   ServesInTurn from failed count door door_now = (history : List Segment) → HasForwarded history old.desk.state
-      → ServedInTurn (MayTake clocks.tells) fault_answer from IsNow failed count (state_before history) door door_now
+      → ServedInTurn (ConsoleStep clocks.tells) fault_answer from IsNow failed count (state_before history) door door_now

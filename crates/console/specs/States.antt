@@ -8,7 +8,7 @@ use Rattle.http_answers.specs.declared.status.Status.{Status}
 use Rattle.http_requests.specs.Asked.{Asked}
 use Rattle.http_requests.specs.Visits.{CountsOf}
 use Rattle.console.specs.Replies.{is_unavailable}
-use Rattle.console.specs.Answers.{MayAnswer}
+use Rattle.console.specs.Answers.{AllowedAnswer}
 
 -- the session of the desk, the moments that the clock will give, how many requests were answered with 503, and by how much the
 -- keeper's count of failures has risen
@@ -36,11 +36,11 @@ pub record TakesMoment (tells : Type 0) (own : Option ℕ) (given : ℕ) (before
   pub moment : MomentBy tells own given before after
 
 -- What may be answered to a whole request, and the state behind it. The keeper's count rises with a 503 and with nothing else.
-pub record MayTake (tells : Type 0) (s : ConsoleState) (what : Asked) (answer : List ℕ) (t : ConsoleState) : Type 0 where
+pub record ConsoleStep (tells : Type 0) (s : ConsoleState) (what : Asked) (answer : List ℕ) (t : ConsoleState) : Type 0 where
   pub given : ℕ
   pub status : Status
   pub moment : TakesMoment tells what.given given s.moments t.moments
-  pub may : MayAnswer s.session given what.request what.is_last status answer t.session
+  pub may : AllowedAnswer s.session given what.request what.is_last status answer t.session
   pub count : t.unavailable ≡ counted (is_unavailable status) s.unavailable
   pub rises : s.risen ≤ t.risen
   pub steady : is_unavailable status ≡ false → t.risen ≡ s.risen

@@ -8,16 +8,16 @@ use Rattle.desk_model.specs.Findings.{Found, source_found, destination_found}
 use Rattle.listing_bodies.specs.Why.{entry_number, entry_text, mac_member, ruling_member, verdict_end}
 use Rattle.listing_bodies.specs.Rows.{url_end}
 
--- null where an end is no Thing, and where nothing is decided
-unfoldable pub end_text : Option Found → List ℕ
-end_text None = codes "null"
-end_text (Some found) = entry_text (entry_number found.ruling) found.entry ++ mac_member found.thing.mac ++ ruling_member found.ruling ++ url_end found.thing.url
+-- null where an endpoint is no Thing, and where nothing is decided
+unfoldable pub endpoint_text : Option Found → List ℕ
+endpoint_text None = codes "null"
+endpoint_text (Some found) = entry_text (entry_number found.ruling) found.entry ++ mac_member found.thing.mac ++ ruling_member found.ruling ++ url_end found.thing.url
 
-unfoldable pub ends_text : Option Found → Option Found → Verdict → List ℕ
-ends_text source destination verdict = codes "{\"from\":" ++ end_text source ++ codes ",\"to\":" ++ end_text destination ++ verdict_end verdict
+unfoldable pub endpoints_text : Option Found → Option Found → Verdict → List ℕ
+endpoints_text source destination verdict = codes "{\"from\":" ++ endpoint_text source ++ codes ",\"to\":" ++ endpoint_text destination ++ verdict_end verdict
 
--- what decides a frame at the end that sent it, at the end that it is for, and in all
+-- what decides a frame at the endpoint that sent it, at the one that it is for, and in all
 unfoldable pub why_text : DeskTables → List ℕ → Verdict → List ℕ
 why_text desk frame verdict =
-    ends_text (source_found (policy_at desk) desk.tables.things (frame_of frame) verdict)
+    endpoints_text (source_found (policy_at desk) desk.tables.things (frame_of frame) verdict)
     (destination_found (policy_at desk) desk.tables.things (frame_of frame) verdict) verdict

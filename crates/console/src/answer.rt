@@ -118,7 +118,7 @@ pub fn answer_request(
 ) -> Status
     requires kept { IsKept Keeper-dyn desk.old.keeper (tables_of desk.old.state) }
     ensures answer { (from : MomentFrom) (r : Request) → AreParts from r request.now
-        → LeadsOn desk.old.state desk.new.state (λ session after. spec.MayAnswer session given r closes result answer.new after) }
+        → LeadsOn desk.old.state desk.new.state (λ session after. spec.AllowedAnswer session given r closes result answer.new after) }
     ensures stays { StaysKept Keeper-dyn desk.old desk.new }
     ensures cause { Counts (is_unavailable result) (faults_of Keeper-dyn desk.old.keeper) (faults_of Keeper-dyn desk.new.keeper) }
 {

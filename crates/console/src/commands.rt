@@ -5,11 +5,11 @@ ghost use Rattle.mud_world.specs.Boxed.{faults_of};
 ghost use Rattle.mud_world.specs.Causes.{Counts};
 ghost use Rattle.mud_tables.specs.declared.segment.Segment.{Segment as SegmentValue};
 ghost use Rattle.desk_model.specs.Commands.{IsAsked};
-ghost use Rattle.desk_model.specs.Sessions.{MayAnswer, command_in, is_of_keeper};
+ghost use Rattle.desk_model.specs.Sessions.{AllowedReply, command_in, is_of_keeper};
 ghost use Rattle.mud_desk.specs.DeskState.{tables_of, session_of, LeadsOn};
 ghost use Rattle.mud_desk.specs.Stays.{StaysKept, KeepsConnections};
 ghost use Rattle.desk_model.specs.Boxed.{IsKept};
-ghost use Rattle.console.specs.Replies.{reply, is_unavailable, IsOrWanted, MayStand};
+ghost use Rattle.console.specs.Replies.{reply, is_unavailable, IsOrWanted, IsOrFailed};
 ghost use Rattle.console.specs.Requests.{Changes, by_command, outcome_body};
 ghost use Rattle.listing_bodies.specs.Refusals as refusals;
 ghost use Rattle.console.specs.Origins.{said_of, HasTexts, IsWritten};
@@ -43,7 +43,7 @@ fn run_counted<L: Ledger>(desk: &mut Desk, command: Command, given: Moment, blan
     requires blank { IsBlankOf L.name L.parts blank }
     requires kept { IsKept Keeper-dyn desk.old.keeper (tables_of desk.old.state) }
     requires asked { IsAsked command }
-    ensures answer { (h : List SegmentValue) → MayAnswer (session_of h desk.old.state) given command result (session_of h desk.new.state) }
+    ensures answer { (h : List SegmentValue) → AllowedReply (session_of h desk.old.state) given command result (session_of h desk.new.state) }
     ensures stays { KeepsConnections Keeper-dyn desk.old desk.new }
     ensures cause { Counts (is_of_keeper result) (faults_of Keeper-dyn desk.old.keeper) (faults_of Keeper-dyn desk.new.keeper) }
 {
@@ -55,7 +55,7 @@ fn run_counted<L: Ledger>(desk: &mut Desk, command: Command, given: Moment, blan
 fn run(desk: &mut Desk, command: Command, given: Moment) -> Reply
     requires kept { IsKept Keeper-dyn desk.old.keeper (tables_of desk.old.state) }
     requires asked { IsAsked command }
-    ensures answer { (h : List SegmentValue) → MayAnswer (session_of h desk.old.state) given command result (session_of h desk.new.state) }
+    ensures answer { (h : List SegmentValue) → AllowedReply (session_of h desk.old.state) given command result (session_of h desk.new.state) }
     ensures stays { KeepsConnections Keeper-dyn desk.old desk.new }
     ensures cause { Counts (is_of_keeper result) (faults_of Keeper-dyn desk.old.keeper) (faults_of Keeper-dyn desk.new.keeper) }
 {
@@ -134,7 +134,7 @@ pub(crate) fn answer_command(
     requires kept { IsKept Keeper-dyn desk.old.keeper (tables_of desk.old.state) }
     requires asked { IsAsked command }
     requires texts { HasTexts origin }
-    ensures reply { LeadsOn desk.old.state desk.new.state (λ session after. MayStand (Changes session given command) session
+    ensures reply { LeadsOn desk.old.state desk.new.state (λ session after. IsOrFailed (Changes session given command) session
         (by_command (said_of origin) (command_in session given command)) (reply result body.new) after) }
     ensures stays { StaysKept Keeper-dyn desk.old desk.new }
     ensures cause { Counts (is_unavailable result) (faults_of Keeper-dyn desk.old.keeper) (faults_of Keeper-dyn desk.new.keeper) }

@@ -40,8 +40,8 @@ impl<C: Clock> Service for Console<'_, C> {
     ghost use Rattle.desk_model.specs.Items.{items_of};
     ghost use Rattle.mud_desk.specs.DeskState.{tables_of};
     ghost use Rattle.console.specs.Answers.{fault_answer};
-    ghost use Rattle.console.specs.States.{ConsoleState, MayTake};
-    ghost use Rattle.console.specs.Beside.{MayBeside, IsAtIf};
+    ghost use Rattle.console.specs.States.{ConsoleState, ConsoleStep};
+    ghost use Rattle.console.specs.Beside.{StepBeside, IsAtIf};
 
     ghost ready = { λ it. IsTrue ((Keeper-box it.desk.keeper).opened it.desk.keeper.value)
         × ((Keeper-box it.desk.keeper).tells it.desk.keeper.value
@@ -58,7 +58,7 @@ impl<C: Clock> Service for Console<'_, C> {
         × (it.desk.keeper.ptr ≡ s.1.desk.keeper.ptr)
         × (it.clock.ghost_name ≡ s.1.clock.ghost_name) };
 
-    ghost may = { MayBeside (MayTake C.tells) };
+    ghost may = { StepBeside (ConsoleStep C.tells) };
 
     ghost refusal = { fault_answer };
 

@@ -9,7 +9,7 @@ ghost use Rattle.outcome_bodies.specs.Heards as heards;
 ghost use Rattle.mud_desk.specs.DeskState.{tables_of, LeadsOn};
 ghost use Rattle.mud_desk.specs.Stays.{StaysKept};
 ghost use Rattle.desk_model.specs.Boxed.{IsKept};
-ghost use Rattle.console.specs.Replies.{reply, replied, is_unavailable, MayStand};
+ghost use Rattle.console.specs.Replies.{reply, replied, is_unavailable, IsOrFailed};
 ghost use Rattle.console.specs.Requests.{Changes, by_command, by_heard};
 
 use crate::BodyText;
@@ -37,7 +37,7 @@ fn take_heard(
 ) -> Status
     requires kept { IsKept Keeper-dyn desk.old.keeper (tables_of desk.old.state) }
     requires asked { IsAsked command }
-    ensures reply { LeadsOn desk.old.state desk.new.state (λ session after. MayStand (Changes session given command) session
+    ensures reply { LeadsOn desk.old.state desk.new.state (λ session after. IsOrFailed (Changes session given command) session
         (by_command (heards.heard_body heard.now) (command_in session given command)) (reply result body.new) after) }
     ensures stays { StaysKept Keeper-dyn desk.old desk.new }
     ensures cause { Counts (is_unavailable result) (faults_of Keeper-dyn desk.old.keeper) (faults_of Keeper-dyn desk.new.keeper) }
@@ -54,7 +54,7 @@ fn take_heard(
 /// Says that a message says nothing, which raises the moment of the session.
 fn answer_nothing(desk: &mut Desk, body: &mut BodyText, given: Moment) -> Status
     requires kept { IsKept Keeper-dyn desk.old.keeper (tables_of desk.old.state) }
-    ensures reply { LeadsOn desk.old.state desk.new.state (λ session after. MayStand ⊥ session
+    ensures reply { LeadsOn desk.old.state desk.new.state (λ session after. IsOrFailed ⊥ session
         (replied (reply Status.Done heards.nothing_body) (raised session given)) (reply result body.new) after) }
     ensures stays { StaysKept Keeper-dyn desk.old desk.new }
     ensures cause { Counts (is_unavailable result) (faults_of Keeper-dyn desk.old.keeper) (faults_of Keeper-dyn desk.new.keeper) }
@@ -74,7 +74,7 @@ pub(crate) fn answer_heard(
     given: Moment,
 ) -> Status
     requires kept { IsKept Keeper-dyn desk.old.keeper (tables_of desk.old.state) }
-    ensures reply { LeadsOn desk.old.state desk.new.state (λ session after. MayStand (IsSomeAnd (bodies.heard_command heard.now) (Changes session given)) session
+    ensures reply { LeadsOn desk.old.state desk.new.state (λ session after. IsOrFailed (IsSomeAnd (bodies.heard_command heard.now) (Changes session given)) session
         (by_heard session given heard.now (bodies.heard_command heard.now)) (reply result body.new) after) }
     ensures stays { StaysKept Keeper-dyn desk.old desk.new }
     ensures cause { Counts (is_unavailable result) (faults_of Keeper-dyn desk.old.keeper) (faults_of Keeper-dyn desk.new.keeper) }

@@ -7,7 +7,7 @@ ghost use Rattle.mud_desk.specs.DeskState.{tables_of, LeadsOn};
 ghost use Rattle.mud_desk.specs.Stays.{StaysKept};
 ghost use Rattle.desk_model.specs.Boxed.{IsKept};
 ghost use Rattle.console.specs.Listings as spec;
-ghost use Rattle.console.specs.Replies.{reply, replied, is_unavailable, MayStand};
+ghost use Rattle.console.specs.Replies.{reply, replied, is_unavailable, IsOrFailed};
 
 use crate::refusals::want_memory;
 use crate::session::{later, raise};
@@ -43,7 +43,7 @@ pub(crate) fn answer_listing(
     given: Moment,
 ) -> Status
     requires kept { IsKept Keeper-dyn desk.old.keeper (tables_of desk.old.state) }
-    ensures reply { LeadsOn desk.old.state desk.new.state (λ session after. MayStand ⊥ session
+    ensures reply { LeadsOn desk.old.state desk.new.state (λ session after. IsOrFailed ⊥ session
         (replied (reply Status.Done (spec.listing_text listing session.desk (later session given))) (raised session given)) (reply result body.new) after) }
     ensures stays { StaysKept Keeper-dyn desk.old desk.new }
     ensures cause { Counts (is_unavailable result) (faults_of Keeper-dyn desk.old.keeper) (faults_of Keeper-dyn desk.new.keeper) }

@@ -7,7 +7,7 @@ ghost use Rattle.desk_model.specs.Sessions.{frame_in, IsNoted};
 ghost use Rattle.mud_desk.specs.DeskState.{tables_of, session_of, HasForwarded, LeadsOn};
 ghost use Rattle.mud_desk.specs.Stays.{StaysKept};
 ghost use Rattle.desk_model.specs.Boxed.{IsKept};
-ghost use Rattle.console.specs.Replies.{reply, is_unavailable, MayStand};
+ghost use Rattle.console.specs.Replies.{reply, is_unavailable, IsOrFailed};
 ghost use Rattle.console.specs.Requests.{by_verdict};
 
 use crate::BodyText;
@@ -25,7 +25,7 @@ pub(crate) fn answer_frame(
     given: Moment,
 ) -> Status
     requires kept { IsKept Keeper-dyn desk.old.keeper (tables_of desk.old.state) }
-    ensures reply { LeadsOn desk.old.state desk.new.state (λ session after. MayStand ⊥ session
+    ensures reply { LeadsOn desk.old.state desk.new.state (λ session after. IsOrFailed ⊥ session
         (by_verdict (frame_in session given frame.now)) (reply result body.new) after) }
     ensures wanted { (h : List SegmentValue) → HasForwarded h desk.old.state → result ≡ Status.NoStorage → IsNoted (session_of h desk.old.state) given frame.now }
     ensures stays { StaysKept Keeper-dyn desk.old desk.new }

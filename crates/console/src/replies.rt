@@ -10,9 +10,9 @@ ghost use Rattle.console_bodies.specs.Laws.{AsksRightly};
 ghost use Rattle.mud_desk.specs.DeskState.{tables_of, session_of, HasForwarded, LeadsOn};
 ghost use Rattle.mud_desk.specs.Stays.{StaysKept};
 ghost use Rattle.desk_model.specs.Boxed.{IsKept};
-ghost use Rattle.console.specs.Replies.{reply, is_unavailable, MayStand};
-ghost use Rattle.console.specs.Requests.{Changes, by_question, command_asked, MayReply, MayWant};
-ghost use Rattle.console.specs.Refused.{MayWantAsked};
+ghost use Rattle.console.specs.Replies.{reply, is_unavailable, IsOrFailed};
+ghost use Rattle.console.specs.Requests.{Changes, by_question, command_asked, AllowedResponse, NeedsMemory};
+ghost use Rattle.console.specs.Refused.{AskedNeedsMemory};
 
 use crate::commands::{Origin, answer_command};
 use crate::heard::answer_heard;
@@ -42,10 +42,10 @@ fn answer_question(
 ) -> Status
     requires kept { IsKept Keeper-dyn desk.old.keeper (tables_of desk.old.state) }
     requires asked { AsksRightly question.asked }
-    ensures reply { LeadsOn desk.old.state desk.new.state (λ session after. MayStand (IsSomeAnd (command_asked question.asked) (Changes session given)) session
+    ensures reply { LeadsOn desk.old.state desk.new.state (λ session after. IsOrFailed (IsSomeAnd (command_asked question.asked) (Changes session given)) session
         (by_question session given octets.now question.action question.asked) (reply result body.new) after) }
     ensures wanted { (h : List SegmentValue) → HasForwarded h desk.old.state → result ≡ Status.NoStorage
-        → MayWantAsked (session_of h desk.old.state) given octets.now question.asked }
+        → AskedNeedsMemory (session_of h desk.old.state) given octets.now question.asked }
     ensures stays { StaysKept Keeper-dyn desk.old desk.new }
     ensures cause { Counts (is_unavailable result) (faults_of Keeper-dyn desk.old.keeper) (faults_of Keeper-dyn desk.new.keeper) }
 {
@@ -72,9 +72,9 @@ pub(crate) fn reply_to(
 ) -> ReplyHead
     requires kept { IsKept Keeper-dyn desk.old.keeper (tables_of desk.old.state) }
     ensures reply { (from : MomentFrom) (r : Request) → AreParts from r request.now
-        → LeadsOn desk.old.state desk.new.state (λ session after. MayReply session given r (record { status = result.status; allow = result.allow; body = body.new }) after) }
+        → LeadsOn desk.old.state desk.new.state (λ session after. AllowedResponse session given r (record { status = result.status; allow = result.allow; body = body.new }) after) }
     ensures wanted { (from : MomentFrom) (r : Request) → AreParts from r request.now
-        → (h : List SegmentValue) → HasForwarded h desk.old.state → result.status ≡ Status.NoStorage → MayWant (session_of h desk.old.state) given r }
+        → (h : List SegmentValue) → HasForwarded h desk.old.state → result.status ≡ Status.NoStorage → NeedsMemory (session_of h desk.old.state) given r }
     ensures stays { StaysKept Keeper-dyn desk.old desk.new }
     ensures cause { Counts (is_unavailable result.status) (faults_of Keeper-dyn desk.old.keeper) (faults_of Keeper-dyn desk.new.keeper) }
 {

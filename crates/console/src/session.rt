@@ -3,7 +3,7 @@ ghost use Rattle.std.specs.Prelude.{◌≡◌, ◌<◌, max, ℕ, List};
 ghost use Rattle.sorted_rows.specs.Ledgers.{IsBlankOf};
 ghost use Rattle.mud_world.specs.Boxed.{faults_of};
 ghost use Rattle.mud_tables.specs.declared.segment.Segment.{Segment as SegmentValue};
-ghost use Rattle.desk_model.specs.Sessions.{MayJudge, raised};
+ghost use Rattle.desk_model.specs.Sessions.{AllowedVerdict, raised};
 ghost use Rattle.mud_desk.specs.DeskState.{tables_of, session_of, LeadsOn};
 ghost use Rattle.mud_desk.specs.Stays.{StaysKept, KeepsConnections};
 ghost use Rattle.desk_model.specs.Boxed.{IsKept};
@@ -42,7 +42,7 @@ fn judge_counted<L: Ledger>(
 ) -> Result<Verdict, Memory>
     requires blank { IsBlankOf L.name L.parts blank }
     requires kept { IsKept Keeper-dyn desk.old.keeper (tables_of desk.old.state) }
-    ensures judged { LeadsOn desk.old.state desk.new.state (λ session after. MayJudge session given frame.now result after) }
+    ensures judged { LeadsOn desk.old.state desk.new.state (λ session after. AllowedVerdict session given frame.now result after) }
     ensures stays { StaysKept Keeper-dyn desk.old desk.new }
     ensures steady { faults_of Keeper-dyn desk.new.keeper ≡ faults_of Keeper-dyn desk.old.keeper }
 {
@@ -53,7 +53,7 @@ fn judge_counted<L: Ledger>(
 /// Judges a frame.
 pub(crate) fn judge(desk: &mut Desk, frame: &[u8], given: Moment) -> Result<Verdict, Memory>
     requires kept { IsKept Keeper-dyn desk.old.keeper (tables_of desk.old.state) }
-    ensures judged { LeadsOn desk.old.state desk.new.state (λ session after. MayJudge session given frame.now result after) }
+    ensures judged { LeadsOn desk.old.state desk.new.state (λ session after. AllowedVerdict session given frame.now result after) }
     ensures stays { StaysKept Keeper-dyn desk.old desk.new }
     ensures steady { faults_of Keeper-dyn desk.new.keeper ≡ faults_of Keeper-dyn desk.old.keeper }
 {

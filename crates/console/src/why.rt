@@ -10,18 +10,18 @@ ghost use Rattle.console.specs.Why as spec;
 
 use crate::BodyText;
 use http_answers::Status;
-use listing_bodies::{RuledEnd, why_body};
+use listing_bodies::{RuledEndpoint, why_body};
 use mud_base::{Bytes, Memory, Moment};
 use mud_desk::{Desk, Findings, RuledThing};
 use std::alloc::Global;
 
-/// An end as a body tells it.
-#[tactic(auto, unfolding(mud_desk::specs::Findings::found_in, crate::specs::Why::end_text, listing_bodies::specs::Why::side_text, listing_bodies::specs::Why::end_text))]
-fn told_end<'a>(ruled: &Option<RuledThing<'a>>) -> Option<RuledEnd<'a>>
-    ensures { side_text result ≡ spec.end_text (found_in ruled.now) }
+/// An endpoint as a body tells it.
+#[tactic(auto, unfolding(mud_desk::specs::Findings::found_in, crate::specs::Why::endpoint_text, listing_bodies::specs::Why::side_text, listing_bodies::specs::Why::endpoint_text))]
+fn told_endpoint<'a>(ruled: &Option<RuledThing<'a>>) -> Option<RuledEndpoint<'a>>
+    ensures { side_text result ≡ spec.endpoint_text (found_in ruled.now) }
 {
     match ruled {
-        Some(ruled) => Some(RuledEnd {
+        Some(ruled) => Some(RuledEndpoint {
             mac: ruled.thing.mac,
             url: &ruled.thing.url,
             ruling: ruled.ruling,
@@ -32,12 +32,12 @@ fn told_end<'a>(ruled: &Option<RuledThing<'a>>) -> Option<RuledEnd<'a>>
 }
 
 /// The body that tells what was found of a frame.
-#[tactic(auto, unfolding(crate::specs::Why::ends_text, listing_bodies::specs::Why::why_body))]
-fn told_ends(alloc: Global, findings: &Findings<'_>) -> Result<Bytes, Memory>
-    ensures { IfOk result (λ text. text ≡ spec.ends_text (found_in findings.now.source) (found_in findings.now.destination) findings.now.verdict) }
+#[tactic(auto, unfolding(crate::specs::Why::endpoints_text, listing_bodies::specs::Why::why_body))]
+fn told_endpoints(alloc: Global, findings: &Findings<'_>) -> Result<Bytes, Memory>
+    ensures { IfOk result (λ text. text ≡ spec.endpoints_text (found_in findings.now.source) (found_in findings.now.destination) findings.now.verdict) }
 {
-    let from = told_end(&findings.source);
-    let to = told_end(&findings.destination);
+    let from = told_endpoint(&findings.source);
+    let to = told_endpoint(&findings.destination);
     why_body(alloc, &from, &to, &findings.verdict)
 }
 
@@ -54,6 +54,6 @@ pub(crate) fn answer_why(
     ensures known { is_unavailable result ≡ false }
 {
     let findings = desk.why(frame, given);
-    let text = told_ends(alloc, &findings);
+    let text = told_endpoints(alloc, &findings);
     body.take(Status::Done, text)
 }

@@ -10,7 +10,7 @@ use Rattle.std.proofs.lemmas.Bool.{and_parts}
 use Rattle.matchit.specs.Router.{RouteOf}
 use Rattle.matchit.specs.Level.{IsText}
 use Rattle.matchit.specs.Seek.{first}
-use Rattle.mud_url.proofs.Places.{same_octets}
+use Rattle.mud_url.proofs.Offsets.{same_octets}
 use Rattle.console_routes.specs.declared.route.Route.{Route}
 use Rattle.console_routes.specs.declared.route.Route.TheVariants.{Classes, Due, Files, HearDhcp, HearLldp, Holds, Leases, Locals, Names, Packets, Revokes, Things, Verdicts, Why}
 use Rattle.console_routes.specs.Routes.{text_of, all_routes, has_path}

@@ -75,7 +75,7 @@ fn route_at(router: &Router<Route>, path: &str) -> Option<Route>
     }
 }
 
-/// The place of the first `?`.
+/// The offset of the first `?`.
 fn first_question_mark(target: &[u8]) -> Option<usize>
     ensures { result ≡ position spec.is_question_mark target.now }
 {
@@ -83,7 +83,7 @@ fn first_question_mark(target: &[u8]) -> Option<usize>
 }
 
 /// The path of a target: what stands before its first `?`.
-#[tactic(auto, using(mud_url::proofs::Places::before_first_found, mud_url::proofs::Places::before_first_none), unfolding(crate::specs::Routes::path_in))]
+#[tactic(auto, using(mud_url::proofs::Offsets::before_first_found, mud_url::proofs::Offsets::before_first_none), unfolding(crate::specs::Routes::path_in))]
 fn path_in(target: &[u8]) -> &[u8]
     ensures { result.now ≡ spec.path_in target.now }
 {

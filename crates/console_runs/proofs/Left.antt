@@ -19,7 +19,7 @@ use Rattle.http_requests.specs.Ends.{IsServed}
 use Rattle.http_requests.specs.Runs.{IsLeftBy}
 use Rattle.http_requests.specs.Visits.{failed_to_read, failed_to_write, AreEnough, CountsOf, ServedInTurn, Visited}
 use Rattle.console.specs.Answers.{fault_answer}
-use Rattle.console.specs.States.{ConsoleState, MayTake, IsAt, begun}
+use Rattle.console.specs.States.{ConsoleState, ConsoleStep, IsAt, begun}
 use Rattle.console_runs.specs.Store.{LeavesDesk}
 
 none_where_steady : (unavailable before now : ℕ) → CountsOf unavailable before now → ¬ (Rose before now) → unavailable ≡ 0
@@ -36,18 +36,18 @@ begun_with tables state moments is = ap (λ (s : Session). begun s moments) is.s
 -- ---- What is kept behind requests, said otherwise
 
 module _ (tells : Type 0) (keeps keeps' : ConsoleState → Type 0) (then : (n : ConsoleState) → keeps n → keeps' n) (s t : ConsoleState) (same : s ≡ t) where
-  pub left_as : IsLeftBy (MayTake tells) keeps s → IsLeftBy (MayTake tells) keeps' t
-  left_as p = subst (λ (at : ConsoleState). IsLeftBy (MayTake tells) keeps' at) same (record { all = p.all; next = p.next; kept = then p.next p.kept; leads = p.leads })
+  pub left_as : IsLeftBy (ConsoleStep tells) keeps s → IsLeftBy (ConsoleStep tells) keeps' t
+  left_as p = subst (λ (at : ConsoleState). IsLeftBy (ConsoleStep tells) keeps' at) same (record { all = p.all; next = p.next; kept = then p.next p.kept; leads = p.leads })
 
-  pub served_as : (from : MomentFrom) (end : ConnectionEnd) (old new : DoorView) → IsServed (MayTake tells) fault_answer from keeps end s old new → IsServed (MayTake tells) fault_answer from keeps' end t old new
+  pub served_as : (from : MomentFrom) (end : ConnectionEnd) (old new : DoorView) → IsServed (ConsoleStep tells) fault_answer from keeps end s old new → IsServed (ConsoleStep tells) fault_answer from keeps' end t old new
   served_as from end old new p =
-      subst (λ (at : ConsoleState). IsServed (MayTake tells) fault_answer from keeps' end at old new) same (record { next = p.next; kept = then p.next p.kept; served = p.served })
+      subst (λ (at : ConsoleState). IsServed (ConsoleStep tells) fault_answer from keeps' end at old new) same (record { next = p.next; kept = then p.next p.kept; served = p.served })
 
-  pub in_turn_as : (from : MomentFrom) (failed : Bool) (count : ℕ) (old new : DoorView) → ServedInTurn (MayTake tells) fault_answer from keeps failed count s old new
-      → ServedInTurn (MayTake tells) fault_answer from keeps' failed count t old new
+  pub in_turn_as : (from : MomentFrom) (failed : Bool) (count : ℕ) (old new : DoorView) → ServedInTurn (ConsoleStep tells) fault_answer from keeps failed count s old new
+      → ServedInTurn (ConsoleStep tells) fault_answer from keeps' failed count t old new
   in_turn_as from failed count old new p =
       let v = p.visited in
-      subst (λ (at : ConsoleState). ServedInTurn (MayTake tells) fault_answer from keeps' failed count at old new) same (record {
+      subst (λ (at : ConsoleState). ServedInTurn (ConsoleStep tells) fault_answer from keeps' failed count at old new) same (record {
         visits = p.visits;
         visited = record { next = v.next; kept = then v.next v.kept; served = v.served; came = v.came; past = v.past; bound = v.bound };
         enough = p.enough;
@@ -58,10 +58,10 @@ module _ (tells : Type 0) (keeps keeps' : ConsoleState → Type 0) (then : (n : 
 -- the same of a door whose connections and whose counts of failed reads and writes were the same before
 pub in_turn_before : (tells : Type 0) (keeps : ConsoleState → Type 0) (s : ConsoleState) (from : MomentFrom) (failed : Bool) (count : ℕ) (first mid new : DoorView)
     → mid.state ≡ first.state → mid.reads ≡ first.reads → mid.writes ≡ first.writes
-    → ServedInTurn (MayTake tells) fault_answer from keeps failed count s mid new → ServedInTurn (MayTake tells) fault_answer from keeps failed count s first new
+    → ServedInTurn (ConsoleStep tells) fault_answer from keeps failed count s mid new → ServedInTurn (ConsoleStep tells) fault_answer from keeps failed count s first new
 in_turn_before tells keeps s from failed count first mid new same_state same_reads same_writes p = record {
   visits = p.visits;
-  visited = subst (λ (d : DoorState). Visited (MayTake tells) fault_answer from keeps s p.visits d new.state) same_state p.visited;
+  visited = subst (λ (d : DoorState). Visited (ConsoleStep tells) fault_answer from keeps s p.visits d new.state) same_state p.visited;
   enough = subst (λ (d : DoorState). AreEnough failed count p.visits d) same_state p.enough;
   reads = subst (λ (n : ℕ). CountsOf (count_by failed_to_read p.visits) n new.reads) same_reads p.reads;
   writes = subst (λ (n : ℕ). CountsOf (count_by failed_to_write p.visits) n new.writes) same_writes p.writes;

@@ -8,7 +8,7 @@ use Rattle.mud_world.specs.Boxed.{faults_of, Tells, kept_items}
 use Rattle.mud_world.specs.Causes.{Rose, StopsAtFailure}
 use Rattle.mud_world.specs.View.{DoorView}
 use Rattle.mud_world.proofs.Doors.{put_out_none}
-use Rattle.command_runs.proofs.Dues.{wrote_none}
+use Rattle.command_runs.proofs.Outputs.{wrote_none}
 use Rattle.desk_model.specs.DeskTables.{DeskTables, IsSound}
 use Rattle.desk_model.specs.Items.{tables_in}
 use Rattle.desk_model.specs.Boxed.{IsKept, IsSameBox}

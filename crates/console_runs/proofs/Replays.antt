@@ -19,7 +19,7 @@ use Rattle.http_requests.specs.Runs.{IsLeftBy}
 use Rattle.command_runs.specs.Ends.{IsSteady, IsStopped}
 use Rattle.desk_runs.proofs.Refusals.{reads_honestly}
 use Rattle.console.specs.Answers.{fault_answer}
-use Rattle.console.specs.States.{MayTake, IsAt, begun}
+use Rattle.console.specs.States.{ConsoleStep, IsAt, begun}
 use Rattle.console_runs.specs.Store.{NoneFailed, ServesNone}
 use Rattle.console_runs.specs.Replay.{ReplaysConnection, ReplaysStore, status_at}
 use Rattle.console_runs.proofs.Left.{begun_with, left_as, served_as, leaves}
@@ -80,8 +80,8 @@ module _ (status : ℕ) (old new : DoorView) where
 module _ {X : Type 0} {F : X → Type 0} (members : (v : (x : X) × F x) → Ghosts (F v.0)) where
   pub replayed : (tells : Type 0) (tables : DeskTables) (state ended : DeskState) (faults : ℕ) (after returned : DynBox X Global F) (end : ConnectionEnd) (old new : DoorView) (status : ℕ)
       → IsBegun tables state → IsKept members after (tables_of ended) → returned ≡ after → status ≡ status_at end
-      → IsLeftBy (MayTake (Unit {0})) (IsAt (Unit {0}) ended [] faults (faults_of members after)) (begun (session_of [] state) [])
-      → (tells → IsServed (MayTake (Unit {0})) fault_answer Header (IsAt (Unit {0}) ended [] faults (faults_of members after)) end (begun (session_of [] state) []) old new)
+      → IsLeftBy (ConsoleStep (Unit {0})) (IsAt (Unit {0}) ended [] faults (faults_of members after)) (begun (session_of [] state) [])
+      → (tells → IsServed (ConsoleStep (Unit {0})) fault_answer Header (IsAt (Unit {0}) ended [] faults (faults_of members after)) end (begun (session_of [] state) []) old new)
       → ReadsAndWrites (is_read_failed end) (is_write_failed end) old new
       → ReplaysConnection members tells tables faults returned old new status
   replayed tells tables state ended faults after returned end old new status is kept same status_is left served calls =
@@ -125,7 +125,7 @@ module _ {X : Type 0} {F : X → Type 0} (members : (v : (x : X) × F x) → Gho
         fault = fault_at status old new run.end run.status_is run.calls;
         steady = steady_at status old new run.end run.status_is run.calls;
         keeper_fault = λ seven. at_most_four run.end status run.status_is (inr (inr seven));
-        same_box = record { object = same_box.object ∙ box.object; place = same_box.place ∙ box.place };
+        same_box = record { object = same_box.object ∙ box.object; pointer = same_box.pointer ∙ box.pointer };
       };
       runs = inl (record {
         tables = tables;

@@ -16,7 +16,7 @@ use Rattle.http_requests.specs.declared.fault.MomentFrom.TheVariants.{Clock}
 use Rattle.http_requests.specs.Runs.{IsLeftBy}
 use Rattle.http_requests.specs.Visits.{ServedInTurn, TakesTurns}
 use Rattle.console.specs.Answers.{fault_answer}
-use Rattle.console.specs.States.{ConsoleState, MayTake, IsAt, begun}
+use Rattle.console.specs.States.{ConsoleState, ConsoleStep, IsAt, begun}
 use Rattle.console.proofs.Takes.{at_first}
 use Rattle.console_runs.specs.Store.{NoneFailed, LeavesDesk, ServesNone}
 use Rattle.console_runs.specs.Serve.{Listening, ClockRun, bound_view, clock_run, ServesConnections, ServesStore}
@@ -77,8 +77,8 @@ module _ {X : Type 0} {F : X → Type 0} (members : (v : (x : X) × F x) → Gho
     pub served_here : (ended : DeskState) (faults : ℕ) (after : DynBox X Global F) (failed : Bool) (moments moments_after : List ℕ) (old mid new : DoorView) (status : ℕ)
         → IsKept members after (tables_of ended) → returned ≡ after → status ≡ status_by failed
         → (tells → mid.state ≡ bound_anew at.port old.state) → Counts false old.turns mid.turns → mid.reads ≡ old.reads → mid.writes ≡ old.writes
-        → IsLeftBy (MayTake clock_tells) (IsAt clock_tells ended moments_after faults (faults_of members after)) (begun (session_of [] state) moments)
-        → (tells → ServedInTurn (MayTake clock_tells) fault_answer Clock (IsAt clock_tells ended moments_after faults (faults_of members after)) failed at.count (begun (session_of [] state) moments) mid new)
+        → IsLeftBy (ConsoleStep clock_tells) (IsAt clock_tells ended moments_after faults (faults_of members after)) (begun (session_of [] state) moments)
+        → (tells → ServedInTurn (ConsoleStep clock_tells) fault_answer Clock (IsAt clock_tells ended moments_after faults (faults_of members after)) failed at.count (begun (session_of [] state) moments) mid new)
         → TakesTurns failed mid new
         → ServesConnections members tells clock_tells tables faults returned at (clock_run moments moments_after) old new status
     served_here ended faults after failed moments moments_after old mid new status kept same status_is binds bound same_reads same_writes left served calls =
@@ -134,7 +134,7 @@ module _ {X : Type 0} {F : X → Type 0} (members : (v : (x : X) × F x) → Gho
         fault = λ four. inl (fault_by run.failed new.failed status old.turns new.turns run.status_is run.calls.stop four);
         steady = steady_by run.failed status old.turns new.turns run.status_is run.calls.turns;
         keeper_fault = λ seven. at_most_four run.failed status run.status_is (inr (inr seven));
-        same_box = record { object = same_box.object ∙ box.object; place = same_box.place ∙ box.place };
+        same_box = record { object = same_box.object ∙ box.object; pointer = same_box.pointer ∙ box.pointer };
       };
       runs = inl (record {
         tables = tables;

@@ -15,7 +15,7 @@ use Rattle.http_requests.specs.declared.end.ConnectionEnd.TheVariants.{Ended, Cl
 use Rattle.http_requests.specs.Ends.{IsServed, is_read_failed, is_write_failed}
 use Rattle.http_requests.specs.Runs.{IsLeftBy}
 use Rattle.console.specs.Answers.{fault_answer}
-use Rattle.console.specs.States.{MayTake, begun}
+use Rattle.console.specs.States.{ConsoleStep, begun}
 use Rattle.console_runs.specs.Store.{NoneFailed, OnlyWrites, OpensWith, LeavesDesk, ServesNone}
 use Rattle.command_runs.specs.Ends.{IsSteady, IsStopped}
 use Rattle.command_runs.specs.Status.{IsOneOf, each_status}
@@ -39,8 +39,8 @@ module _ {X : Type 0} {F : X → Type 0} (members : (v : (x : X) × F x) → Gho
     pub status_is : status ≡ status_at end
     -- Whatever the door, some requests lead from the tables to what is left. Where it tells, they are those of the octets that were
     -- taken of the connection, and what was written are their answers.
-    pub left : IsLeftBy (MayTake (Unit {0})) (LeavesDesk members (Unit {0}) faults returned []) (begun (opened tables) [])
-    pub served : tells → IsServed (MayTake (Unit {0})) fault_answer Header (LeavesDesk members (Unit {0}) faults returned []) end (begun (opened tables) []) old new
+    pub left : IsLeftBy (ConsoleStep (Unit {0})) (LeavesDesk members (Unit {0}) faults returned []) (begun (opened tables) [])
+    pub served : tells → IsServed (ConsoleStep (Unit {0})) fault_answer Header (LeavesDesk members (Unit {0}) faults returned []) end (begun (opened tables) []) old new
     -- a read or a write that failed was the last call of the door
     pub calls : ReadsAndWrites (is_read_failed end) (is_write_failed end) old new
 

@@ -13,7 +13,7 @@ use Rattle.http_requests.specs.declared.fault.MomentFrom.TheVariants.{Clock}
 use Rattle.http_requests.specs.Runs.{IsLeftBy}
 use Rattle.http_requests.specs.Visits.{ServedInTurn, TakesTurns}
 use Rattle.console.specs.Answers.{fault_answer}
-use Rattle.console.specs.States.{ConsoleState, MayTake, begun}
+use Rattle.console.specs.States.{ConsoleState, ConsoleStep, begun}
 use Rattle.console_runs.specs.Store.{NoneFailed, OnlyWrites, OpensWith, LeavesDesk, ServesNone}
 use Rattle.command_runs.specs.Ends.{IsStoppedListening}
 use Rattle.command_runs.specs.Status.{IsOneOf, each_but_refused}
@@ -58,9 +58,9 @@ module _ {X : Type 0} {F : X → Type 0} (members : (v : (x : X) × F x) → Gho
     pub calls : TakesTurns failed old new
     -- Whatever the door, some requests lead from the tables to what is left. Where it tells, they are those of the connections, one
     -- after the other, and what was written to each are the answers to its own. A connection whose read or write fails is over.
-    pub left : IsLeftBy (MayTake clock_tells) (LeavesDesk members clock_tells faults returned clock.after) (begun (opened tables) clock.before)
+    pub left : IsLeftBy (ConsoleStep clock_tells) (LeavesDesk members clock_tells faults returned clock.after) (begun (opened tables) clock.before)
     pub served : tells → IsUnbound (LeavesDesk members clock_tells faults returned clock.after) failed (begun (opened tables) clock.before) old new
-        ⊎ ServedInTurn (MayTake clock_tells) fault_answer Clock (LeavesDesk members clock_tells faults returned clock.after) failed at.count (begun (opened tables) clock.before)
+        ⊎ ServedInTurn (ConsoleStep clock_tells) fault_answer Clock (LeavesDesk members clock_tells faults returned clock.after) failed at.count (begun (opened tables) clock.before)
         (bound_view at.port old) new
 
   -- A desk is opened and the connections served by it.

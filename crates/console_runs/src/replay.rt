@@ -3,7 +3,7 @@ ghost use Rattle.std.specs.Prelude.{◌≡◌};
 ghost use Rattle.mud_world.specs.Boxed.{faults_of, Tells};
 ghost use Rattle.command_runs.specs.Status.{Is, status_number};
 ghost use Rattle.command_runs.specs.declared.status.Status.TheVariants.{KeeperFailed};
-ghost use Rattle.desk_items.specs.Taken.{kept_of};
+ghost use Rattle.desk_items.specs.Loaded.{kept_of};
 ghost use Rattle.desk_model.specs.DeskTables.{DeskTables};
 ghost use Rattle.desk_model.specs.Items.{none_kept};
 ghost use Rattle.desk_model.specs.Boxed.{IsKept, IsSameBox};
@@ -17,7 +17,7 @@ use console::{ConnectionEnd, Console, serve_connection};
 use desk_runs::refuse_store;
 use http_requests::MomentFrom;
 use mud_base::Memory;
-use mud_desk::{Desk, Taken};
+use mud_desk::{Desk, Loaded};
 use mud_world::{Door, Keeper};
 use std::alloc::Global;
 use std::marker::PhantomData;
@@ -75,7 +75,7 @@ fn replay_desk<D: Door>(
 /// Opens a desk over the keeper, and then answers by it the requests of the connection at which the
 /// door stands, each at the moment that its `Mud-Moment` header gives. Where the store can't be
 /// opened, or there is no memory to serve with, the connection isn't read. The box is handed back.
-/// Nothing was taken before, as [`Desk::open`] wants it: [`Taken::new`].
+/// Nothing was taken before, as [`Desk::open`] wants it: [`Loaded::new`].
 ///
 /// | Status | It comes |
 /// |---|---|
@@ -88,7 +88,7 @@ fn replay_desk<D: Door>(
 pub fn replay_store<D: Door>(
     alloc: Global,
     keeper: Box<dyn Keeper>,
-    nothing: Taken,
+    nothing: Loaded,
     door: &mut D,
 ) -> (Status, Box<dyn Keeper>)
     requires { kept_of nothing ≡ none_kept }

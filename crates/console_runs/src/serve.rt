@@ -4,7 +4,7 @@ ghost use Rattle.std.specs.Prelude.{◌≡◌, is_err, if◌then◌else◌};
 ghost use Rattle.mud_world.specs.Boxed.{faults_of, Tells};
 ghost use Rattle.command_runs.specs.Status.{Is, status_number};
 ghost use Rattle.command_runs.specs.declared.status.Status.TheVariants.{KeeperFailed};
-ghost use Rattle.desk_items.specs.Taken.{kept_of};
+ghost use Rattle.desk_items.specs.Loaded.{kept_of};
 ghost use Rattle.desk_model.specs.DeskTables.{DeskTables};
 ghost use Rattle.desk_model.specs.Items.{none_kept};
 ghost use Rattle.desk_model.specs.Boxed.{IsKept, IsSameBox};
@@ -17,7 +17,7 @@ use console::{Console, serve_connections};
 use desk_runs::refuse_store;
 use http_requests::MomentFrom;
 use mud_base::Memory;
-use mud_desk::{Desk, Taken};
+use mud_desk::{Desk, Loaded};
 use mud_world::{Clock, Door, Failed, Keeper};
 use std::alloc::Global;
 use std::marker::PhantomData;
@@ -83,7 +83,7 @@ fn serve_desk<D: Door, C: Clock>(
 /// connections that come, one connection after the other, `count` of them or all where there are
 /// fewer, in one session throughout. Each whole request is taken at the clock's next moment. Where
 /// the store can't be opened, or there is no memory to serve with, no port is bound. The box is
-/// handed back. Nothing was taken before, as [`Desk::open`] wants it: [`Taken::new`].
+/// handed back. Nothing was taken before, as [`Desk::open`] wants it: [`Loaded::new`].
 ///
 /// | Status | It comes |
 /// |---|---|
@@ -95,7 +95,7 @@ fn serve_desk<D: Door, C: Clock>(
 pub fn serve_store<D: Door, C: Clock>(
     alloc: Global,
     keeper: Box<dyn Keeper>,
-    nothing: Taken,
+    nothing: Loaded,
     door: &mut D,
     clock: &mut C,
     port: u16,

@@ -4,12 +4,12 @@ use Rattle.std.specs.Prelude.{bytes_eq, filter, nat_lt, option_map, option_and_t
 use Rattle.std.specs.declared.cmp.Ordering.TheVariants.{Less, Greater}
 use Rattle.std.proofs.lemmas.List.{take_more, take-append-drop}
 use Rattle.std.proofs.Math.Seq.{drop-cons}
-use Rattle.sorted_rows.specs.Placed.{place_cmp, row_at, PlacesAbove, PlacesAscend}
-use Rattle.sorted_rows.proofs.PlacedLaws.{same_place_exact, same_place-cmp, place_cmp_turned}
+use Rattle.sorted_rows.specs.Sortable.{sort_key_cmp, row_at, SortKeysAbove, SortKeysAscend}
+use Rattle.sorted_rows.proofs.SortableLaws.{same_sort_key_exact, same_sort_key-cmp, sort_key_cmp_turned}
 use Rattle.mud_base.specs.declared.packet.Direction.TheVariants.{From, To}
 use Rattle.acl_model.specs.declared.entry.Policy.{Policy}
 use Rattle.acl_model.specs.FirstMatch.{entries_of}
-use Rattle.acl_model.specs.Places.{binding_place}
+use Rattle.acl_model.specs.SortKeys.{binding_sort_key}
 use Rattle.acl_rows.specs.Rows.{Slots, rows_of}
 use Rattle.acl_rows.specs.View.{holder_from}
 use Rattle.sorted_rows.specs.Edits.{edited}
@@ -25,7 +25,7 @@ use Rattle.file_tables.specs.Policies.{policy_in_file, policy_in_held, policy_in
 use Rattle.file_tables.proofs.EntryBounds.{few_outgoing, few_incoming}
 use Rattle.desk_books.specs.Policies.{policy_with, AddsPolicy}
 
--- ---- One more place can be taken by one change of the table
+-- ---- One more sort key can be taken by one change of the table
 
 module _ {X : Type 0} (test : X → Bool) where
   one_more : (b : Bool) (x : X) (xs : List X) → length (cond b (x ∷ xs) xs) ≤ suc (length xs)
@@ -65,7 +65,7 @@ others_more u (Some s) slots = others_set u s slots (nat_lt s.0 (length slots))
 
 module _ (row : CachedFile) (policy : Policy) (has : policy_in_row row ≡ Some policy) (before planned after : CompiledState) (plan : Plan) where
   by_url : (u : List ℕ) → IsKept before planned → IsPolicyPlan row.url (Some policy) planned plan → (b : Bool) → bytes_eq row.url u ≡ b → policy_held (slots_after plan planned) u ≡ cond b (Some policy) (policy_held before.slots u)
-  by_url u kept made true e = ap (λ v. policy_held (slots_after plan planned) v) (sym (same_place_exact row.url u e)) ∙ made.here
+  by_url u kept made true e = ap (λ v. policy_held (slots_after plan planned) v) (sym (same_sort_key_exact row.url u e)) ∙ made.here
   by_url u kept made false e = made.others u e ∙ ap (λ slots. policy_held slots u) kept.slots
 
   with_policy : (u : List ℕ) (o : Option Policy) → o ≡ Some policy → (before : Option Policy) → cond (bytes_eq row.url u) (Some policy) before ≡ policy_with row.url o u before
@@ -75,9 +75,9 @@ module _ (row : CachedFile) (policy : Policy) (has : policy_in_row row ≡ Some 
   unfolding slots_after
   others_after u = others_more u plan.slot planned.slots
 
-  no_edits : (edits : List _) → edits ≡ [] → edited binding_place edits planned.bindings ≡ planned.bindings
+  no_edits : (edits : List _) → edits ≡ [] → edited binding_sort_key edits planned.bindings ≡ planned.bindings
   unfolding edited
-  no_edits edits e = subst (λ es. edited binding_place es planned.bindings ≡ planned.bindings) (sym e) refl
+  no_edits edits e = subst (λ es. edited binding_sort_key es planned.bindings ≡ planned.bindings) (sym e) refl
 
   same_bindings : IsPolicyPlan row.url (Some policy) planned plan → bindings_after plan planned ≡ planned.bindings
   unfolding bindings_after
@@ -90,7 +90,7 @@ module _ (row : CachedFile) (policy : Policy) (has : policy_in_row row ≡ Some 
         policies = λ u. ap (λ s. policy_held s u) slots ∙ by_url u kept made (bytes_eq row.url u) refl ∙ with_policy u (policy_in_row row) has (policy_held before.slots u);
         others = λ u. subst (λ s. others_held u s ≤ suc (others_held u before.slots)) (sym slots) (subst (λ s. others_held u (slots_after plan planned) ≤ suc (others_held u s)) kept.slots (others_after u));
         bindings = same;
-        rows = record { ascend = subst (PlacesAscend binding_place) (sym same) its.ascend; rows = rows };
+        rows = record { ascend = subst (SortKeysAscend binding_sort_key) (sym same) its.ascend; rows = rows };
       }
 
 pub adds_none : (row : CachedFile) (compiled : CompiledState) → policy_in_row row ≡ None → HasItsRows compiled → AddsPolicy row compiled compiled
@@ -103,7 +103,7 @@ adds_none row compiled none its = record {
 
 -- ---- All files
 
-above_one : (p : List ℕ) (xs : List CachedFile) (row : CachedFile) (ys : List CachedFile) → PlacesAbove url_of p (xs ++ row ∷ ys) → place_cmp p (url_of row) ≡ Less
+above_one : (p : List ℕ) (xs : List CachedFile) (row : CachedFile) (ys : List CachedFile) → SortKeysAbove url_of p (xs ++ row ∷ ys) → sort_key_cmp p (url_of row) ≡ Less
 above_one p [] row ys above = above.0
 above_one p (x ∷ xs) row ys above = above_one p xs row ys above.1
 
@@ -126,26 +126,26 @@ other_url : (url u : List ℕ) (o before : Option Policy) → bytes_eq url u ≡
 other_url url u None before e = refl
 other_url url u (Some policy) before e = ap (λ b. cond b (Some policy) before) e
 
-policy_last : (xs : List CachedFile) (row : CachedFile) (ys : List CachedFile) (u : List ℕ) → PlacesAscend url_of (xs ++ row ∷ ys) → policy_of (xs ++ row ∷ []) u ≡ policy_with row.url (policy_in_row row) u (policy_of xs u)
+policy_last : (xs : List CachedFile) (row : CachedFile) (ys : List CachedFile) (u : List ℕ) → SortKeysAscend url_of (xs ++ row ∷ ys) → policy_of (xs ++ row ∷ []) u ≡ policy_with row.url (policy_in_row row) u (policy_of xs u)
 unfolding policy_of file_at url_of
 policy_last [] row ys u up = and_then (bytes_eq row.url u) row ∙ as_last row.url u (policy_in_row row)
 policy_last (x ∷ xs) row ys u up = by_first (policy_last xs row ys u up.1) (bytes_eq x.url u) refl
   where
     by_first : (policy_of (xs ++ row ∷ []) u ≡ policy_with row.url (policy_in_row row) u (policy_of xs u)) → (b : Bool) → bytes_eq x.url u ≡ b → option_and_then policy_in_row (cond b (Some x) (row_at url_of u (xs ++ row ∷ []))) ≡ policy_with row.url (policy_in_row row) u (option_and_then policy_in_row (cond b (Some x) (row_at url_of u xs)))
     by_first rest true e =
-        let is : x.url ≡ u = same_place_exact x.url u e in
-        let less : place_cmp x.url row.url ≡ Less = above_one (url_of x) xs row ys up.0 in
-        let other : bytes_eq row.url x.url ≡ false = same_place-cmp row.url x.url Greater (place_cmp_turned x.url row.url Less less) in
+        let is : x.url ≡ u = same_sort_key_exact x.url u e in
+        let less : sort_key_cmp x.url row.url ≡ Less = above_one (url_of x) xs row ys up.0 in
+        let other : bytes_eq row.url x.url ≡ false = same_sort_key-cmp row.url x.url Greater (sort_key_cmp_turned x.url row.url Less less) in
         sym (other_url row.url u (policy_in_row row) (policy_in_row x) (subst (λ v. bytes_eq row.url v ≡ false) is other))
     by_first rest false e = rest
 
 split_at : (files : List CachedFile) (i : ℕ) (row : CachedFile) → i < length files → row ≡ get_or files i row → take i files ++ row ∷ drop (i + 1) files ≡ files
 split_at files i row within is = rw (add-one) (ap (λ (t : List CachedFile). take i files ++ t) (sym (drop-cons files i row within ∙ ap (λ r. r ∷ drop (suc i) files) (sym is))) ∙ take-append-drop i files)
 
-pub policy_more : (files : List CachedFile) (i : ℕ) (row : CachedFile) (u : List ℕ) → PlacesAscend url_of files → i < length files → row ≡ get_or files i row → policy_of (take (i + 1) files) u ≡ policy_with row.url (policy_in_row row) u (policy_of (take i files) u)
+pub policy_more : (files : List CachedFile) (i : ℕ) (row : CachedFile) (u : List ℕ) → SortKeysAscend url_of files → i < length files → row ≡ get_or files i row → policy_of (take (i + 1) files) u ≡ policy_with row.url (policy_in_row row) u (policy_of (take i files) u)
 policy_more files i row u up within is =
     let more : take (i + 1) files ≡ take i files ++ row ∷ [] = take_more files i row within ∙ ap (λ r. take i files ++ r ∷ []) (sym is) in
-    ap (λ fs. policy_of fs u) more ∙ policy_last (take i files) row (drop (i + 1) files) u (subst (PlacesAscend url_of) (sym (split_at files i row within is)) up)
+    ap (λ fs. policy_of fs u) more ∙ policy_last (take i files) row (drop (i + 1) files) u (subst (SortKeysAscend url_of) (sym (split_at files i row within is)) up)
 
 -- ---- The policy of a row
 

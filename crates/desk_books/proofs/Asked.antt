@@ -7,9 +7,9 @@ use Rattle.mud_tables.specs.declared.bind_fault.BindFault.{BindFault}
 use Rattle.mud_tables.specs.declared.bind_fault.BindFault.TheVariants as bind_fault
 use Rattle.file_tables.specs.declared.cache_fault.CacheFault.{CacheFault}
 use Rattle.file_tables.specs.declared.cache_fault.CacheFault.TheVariants as cache_fault
-use Rattle.mud_tables.specs.ThingSteps.{ThingStep}
-use Rattle.mud_tables.specs.BindSteps.{BindStep}
-use Rattle.file_tables.specs.FileSteps.{FileStep}
+use Rattle.mud_tables.specs.ThingCommands.{ThingStep}
+use Rattle.mud_tables.specs.BindCommands.{BindStep}
+use Rattle.file_tables.specs.FileCommands.{FileStep}
 use Rattle.desk_model.specs.declared.reply.Refusal.TheVariants.{Things, Files, Binds}
 use Rattle.desk_model.specs.declared.reply.Refusal.{Refusal}
 use Rattle.desk_model.specs.declared.command.Command.{Command}

@@ -1,9 +1,9 @@
 -- What is compiled follows a change of the desk.
 use Rattle.std.proofs.Common.{◌≡◌, ℕ, Bool, true, false, cond, List, Option, refl, sym, ap, subst, ◌∙◌, bytes_eq}
-use Rattle.sorted_rows.specs.Placed.{PlacesAscend}
+use Rattle.sorted_rows.specs.Sortable.{SortKeysAscend}
 use Rattle.acl_model.specs.declared.binding.Binding.{Binding}
 use Rattle.acl_model.specs.declared.entry.Policy.{Policy}
-use Rattle.acl_model.specs.Places.{binding_place}
+use Rattle.acl_model.specs.SortKeys.{binding_sort_key}
 use Rattle.acl_model.specs.Changes.{HaveSame, IsBindingChange, replaced}
 use Rattle.acl_rows.specs.Rows.{Slots, rows_of}
 use Rattle.row_changes.proofs.Bound.{ascend-replaced}
@@ -21,7 +21,7 @@ use Rattle.desk_model.specs.DeskTables.{DeskTables, IsSound}
 use Rattle.desk_model.specs.Verdicts.{policy_at, desk_bindings}
 use Rattle.desk_books.specs.CompiledDesk.{IsCompiledOf}
 use Rattle.desk_books.specs.Planned.{IsCommitted}
-use Rattle.mud_url.proofs.Places.{same_octets}
+use Rattle.mud_url.proofs.Offsets.{same_octets}
 
 -- it asks for the tables and the files alone
 pub compiled_alike : (d d' : DeskTables) (c : CompiledState) → d'.tables ≡ d.tables → d'.files ≡ d.files → IsCompiledOf d c → IsCompiledOf d' c
@@ -39,7 +39,7 @@ compiled_kept d c c' same k =
     record {
       policies = λ url. ap (λ (s : Slots). policy_held s url) same.slots ∙ k.policies url;
       bindings = subst (λ (bs : List Binding). HaveSame bs (desk_bindings d)) (sym same.bindings) k.bindings;
-      rows = record { ascend = subst (PlacesAscend binding_place) (sym same.bindings) k.rows.ascend; rows = same.rows ∙ k.rows.rows ∙ sym rows };
+      rows = record { ascend = subst (SortKeysAscend binding_sort_key) (sym same.bindings) k.rows.ascend; rows = same.rows ∙ k.rows.rows ∙ sym rows };
     }
 
 -- ---- Bindings go and come
@@ -54,7 +54,7 @@ module _ (before after : DeskTables) (sound : IsSound before) (sound' : IsSound 
         policies = λ url. ap (λ (s : Slots). policy_held s url) slots ∙ k.policies url ∙ sym (same url);
         bindings = subst (λ (bs : List Binding). HaveSame bs (bindings_of after.tables)) (sym bindings)
             (replaced_same c.bindings (bindings_of before.tables) (bindings_of after.tables) gone come k.rows.ascend k.bindings (bindings_apart before.tables sound.tables) (bindings_apart after.tables sound'.tables) change);
-        rows = record { ascend = subst (PlacesAscend binding_place) (sym bindings) (ascend-replaced gone come c.bindings k.rows.ascend); rows = made.rows };
+        rows = record { ascend = subst (SortKeysAscend binding_sort_key) (sym bindings) (ascend-replaced gone come c.bindings k.rows.ascend); rows = made.rows };
       }
 
 -- ---- A policy comes or goes
@@ -67,11 +67,11 @@ pub policy_compiled : (before after : DeskTables) (url : List ℕ) (policy : Opt
     → (c c' : CompiledState) (plan : Plan) → IsCompiledOf before c → IsPolicyPlan url policy c plan → IsCommitted plan c c' → IsCompiledOf after c'
 unfolding bindings_after edited
 policy_compiled before after url policy same policies c c' plan k p made =
-    let none : bindings_after plan c ≡ c.bindings = ap (λ (es : List (Edit Binding)). edited binding_place es c.bindings) p.bindings in
+    let none : bindings_after plan c ≡ c.bindings = ap (λ (es : List (Edit Binding)). edited binding_sort_key es c.bindings) p.bindings in
     let bindings : c'.bindings ≡ c.bindings = made.bindings ∙ none in
     let held : (u : List ℕ) → policy_held (slots_after plan c) u ≡ cond (bytes_eq url u) policy (policy_held c.slots u) = λ u. policy_case url u policy c.slots (slots_after plan c) p.here p.others (bytes_eq url u) refl in
     record {
       policies = λ u. ap (λ (s : Slots). policy_held s u) made.slots ∙ held u ∙ ap (λ (o : Option Policy). cond (bytes_eq url u) policy o) (k.policies u) ∙ sym (policies u);
       bindings = subst (λ (bs : List Binding). HaveSame bs (desk_bindings after)) (sym bindings) (subst (λ (bs : List Binding). HaveSame c.bindings bs) (sym same) k.bindings);
-      rows = record { ascend = subst (PlacesAscend binding_place) (sym bindings) k.rows.ascend; rows = made.rows };
+      rows = record { ascend = subst (SortKeysAscend binding_sort_key) (sym bindings) k.rows.ascend; rows = made.rows };
     }

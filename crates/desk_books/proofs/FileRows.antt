@@ -9,7 +9,7 @@ use Rattle.acl_model.specs.FirstMatch.{entries_of}
 use Rattle.row_changes.specs.Touched.{touches}
 use Rattle.acl_compile.specs.Compiled.{CompiledState}
 use Rattle.acl_compile.specs.Plans.{Plan, CanBeCounted, IsPolicyPlan}
-use Rattle.row_changes.specs.Steps.{HaveKeys, place_steps}
+use Rattle.row_changes.specs.Steps.{HaveKeys, sort_key_steps}
 use Rattle.mud_file.specs.declared.usage_file.UsageFile.{UsageFile}
 use Rattle.file_tables.specs.declared.cached_file.CachedFile.{CachedFile}
 use Rattle.file_tables.specs.declared.file_edit.PolicyChange.{PolicyChange}
@@ -72,7 +72,7 @@ module _ (change : PolicyChange) (url : List ℕ) (files : List CachedFile) (com
 
 -- no binding goes or comes
 pub none_paid : (url : List ℕ) (policy : Option Policy) (compiled : CompiledState) (old new : ℕ)
-    → ((s b k : ℕ) → HaveKeys s compiled.slots → length compiled.bindings + length {A = Binding} [] < 2 ^ b → length compiled.rows < 2 ^ k → new ≤ old + (0 + 0 + length (touches compiled.slots [])) * place_steps s b k)
+    → ((s b k : ℕ) → HaveKeys s compiled.slots → length compiled.bindings + length {A = Binding} [] < 2 ^ b → length compiled.rows < 2 ^ k → new ≤ old + (0 + 0 + length (touches compiled.slots [])) * sort_key_steps s b k)
     → IsPaidByPolicy url policy compiled (new - old)
 unfolding touches
 none_paid url policy compiled old new most s b k keys policy_keys few rows = omega (arith, most s b k keys (omega arith) rows)

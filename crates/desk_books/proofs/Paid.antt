@@ -3,10 +3,10 @@ use Rattle.std.proofs.Common.{◌≡◌, ℕ, Bool, cond, List, Option, Ok, Err,
 use Rattle.std.specs.Prelude.{IsOkAnd}
 use Rattle.acl_model.specs.declared.entry.Policy.{Policy}
 use Rattle.mud_tables.specs.Tables.{binds_of, with_binds}
-use Rattle.mud_tables.specs.ThingSteps.{ThingStep}
-use Rattle.mud_tables.specs.BindSteps.{BindStep}
+use Rattle.mud_tables.specs.ThingCommands.{ThingStep}
+use Rattle.mud_tables.specs.BindCommands.{BindStep}
 use Rattle.file_tables.specs.declared.cached_file.CachedFile.{CachedFile}
-use Rattle.file_tables.specs.FileSteps.{FilesAfter, FileStep}
+use Rattle.file_tables.specs.FileCommands.{FilesAfter, FileStep}
 use Rattle.file_tables.specs.Policies.{policy_of, policy_change, policy_after}
 use Rattle.thing_book.specs.Planned as thing
 use Rattle.file_cache.specs.Planned as file

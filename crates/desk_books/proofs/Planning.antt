@@ -13,13 +13,13 @@ use Rattle.mud_tables.specs.Tables.{Tables, binds_of, with_binds}
 use Rattle.mud_tables.specs.Bindings.{bindings_of}
 use Rattle.mud_tables.specs.Things.{IsSoundThings}
 use Rattle.mud_tables.specs.Binds.{Binds, IsSoundBinds}
-use Rattle.mud_tables.specs.ThingSteps.{ThingsAfter, ThingStep}
-use Rattle.mud_tables.specs.BindSteps.{BindsAfter, BindStep}
+use Rattle.mud_tables.specs.ThingCommands.{ThingsAfter, ThingStep}
+use Rattle.mud_tables.specs.BindCommands.{BindsAfter, BindStep}
 use Rattle.file_tables.specs.declared.cached_file.CachedFile.{CachedFile}
 use Rattle.file_tables.specs.declared.file_edit.PolicyChange.{PolicyChange}
 use Rattle.file_tables.specs.declared.file_edit.PolicyChange.TheVariants.{Stays, Comes, Goes}
 use Rattle.file_tables.specs.Files.{IsSoundFiles}
-use Rattle.file_tables.specs.FileSteps.{FilesAfter, FileStep}
+use Rattle.file_tables.specs.FileCommands.{FilesAfter, FileStep}
 use Rattle.file_tables.specs.Limits.{last_moment}
 use Rattle.file_tables.specs.Policies.{policy_of, policy_change, policy_after}
 use Rattle.thing_book.specs.Planned as thing
@@ -42,7 +42,7 @@ use Rattle.desk_books.specs.RowPlans.{IsFileRows}
 use Rattle.desk_books.proofs.Desks.{compiled_alike, member_compiled, policy_compiled}
 use Rattle.desk_model.proofs.SoundSteps.{sound_stamped}
 use Rattle.bind_book.proofs.Plans.{no_binding_change}
-use Rattle.mud_url.proofs.Places.{same_octets}
+use Rattle.mud_url.proofs.Offsets.{same_octets}
 
 -- ---- The stamp
 

@@ -50,7 +50,7 @@ stamp_after now stamp (put ∷ puts) = Some now
 
 -- ---- How a change is made of that of a book and its rows
 
--- of a command on files there is a URL, and of the others the end that is kept for an address
+-- of a command on files there is a URL, and of the others the expiry that is kept for an address
 unfoldable pub outcome_of : BookChange → Outcome
 outcome_of (Things change) = outcome change.word change.until None
 outcome_of (Files change) = outcome change.word None (Some change.url)

@@ -5,7 +5,7 @@ use Rattle.acl_model.specs.declared.binding.Binding.{Binding}
 use Rattle.row_changes.specs.Touched.{touches}
 use Rattle.acl_compile.specs.Compiled.{CompiledState}
 use Rattle.acl_compile.specs.Plans.{Plan, IsMemberPlan, IsPolicyPlan, held_for, policy_steps}
-use Rattle.row_changes.specs.Steps.{HaveKeys, PolicyKeys, place_steps}
+use Rattle.row_changes.specs.Steps.{HaveKeys, PolicyKeys, sort_key_steps}
 use Rattle.file_tables.specs.declared.cached_file.CachedFile.{CachedFile}
 use Rattle.file_tables.specs.declared.file_edit.PolicyChange.{PolicyChange}
 use Rattle.file_tables.specs.declared.file_edit.PolicyChange.TheVariants.{Stays, Comes, Goes}
@@ -30,7 +30,7 @@ IsRowPlan (Binds change) files compiled plan = IsMemberPlan change.gone change.c
 abbrev pub IsPaidByBindings : List Binding → List Binding → CompiledState → ℕ → Type 0
 IsPaidByBindings gone come compiled steps =
     (s b k : ℕ) → HaveKeys s compiled.slots → length compiled.bindings + length come < 2 ^ b → length compiled.rows < 2 ^ k
-    → steps ≤ (length gone + length come + length (touches compiled.slots (gone ++ come))) * place_steps s b k
+    → steps ≤ (length gone + length come + length (touches compiled.slots (gone ++ come))) * sort_key_steps s b k
 
 abbrev pub IsPaidByPolicy : List ℕ → Option Policy → CompiledState → ℕ → Type 0
 IsPaidByPolicy url policy compiled steps =

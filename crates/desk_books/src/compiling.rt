@@ -1,8 +1,8 @@
 //! The policies, bindings and rows of a desk's lists.
 ghost use Rattle.std.specs.Prelude.{◌≡◌, ◌<◌, [], IfOk, OnOk};
 ghost use Rattle.sorted_rows.specs.Ledgers.{IsBlankOf};
-ghost use Rattle.sorted_rows.specs.Placed.{set_rows};
-ghost use Rattle.acl_model.specs.Places.{binding_place};
+ghost use Rattle.sorted_rows.specs.Sortable.{set_rows};
+ghost use Rattle.acl_model.specs.SortKeys.{binding_sort_key};
 ghost use Rattle.acl_compile.specs.Compiled.{HasItsRows};
 ghost use Rattle.acl_compile.specs.Plans.{others_held};
 ghost use Rattle.file_tables.specs.Files.{IsSoundFiles};
@@ -77,7 +77,7 @@ fn bind<L: Ledger>(
     steps: &mut Steps<L>,
 ) -> Result<Compiled, Memory>
     ensures slots { IfOk result (λ compiled. compiled.slots ≡ []) }
-    ensures bindings { IfOk result (λ compiled. compiled.bindings ≡ set_rows binding_place come.now []) }
+    ensures bindings { IfOk result (λ compiled. compiled.bindings ≡ set_rows binding_sort_key come.now []) }
     ensures kept { IfOk result HasItsRows }
 {
     let mut compiled = Compiled::new(alloc)?;

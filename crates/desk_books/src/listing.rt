@@ -65,7 +65,7 @@ fn member_key(class: &Class) -> Result<MemberKey, Memory>
     }
 }
 
-/// Adds the binding of an address of a class, which never ends.
+/// Adds the binding of an address of a class, which never expires.
 #[tactic(auto, unfolding(mud_tables::specs::Bindings::class_binding))]
 fn add_class_address(list: &mut Listed<Binding>, row: &ClassRow, addr: Addr) -> Result<(), Memory>
     ensures { OnOk result (list.new ≡ list.old ++ spec.class_binding row.now addr ∷ []) }

@@ -1,8 +1,8 @@
 //! The three books, and the plan of a command in one of them.
 ghost use Rattle.std.specs.Prelude.{◌≡◌, ℕ, Option, IfOk, IfErr, IsOkAnd};
-ghost use Rattle.mud_tables.specs.ThingSteps.{ThingStep};
-ghost use Rattle.mud_tables.specs.BindSteps.{BindStep};
-ghost use Rattle.file_tables.specs.FileSteps.{FileStep};
+ghost use Rattle.mud_tables.specs.ThingCommands.{ThingStep};
+ghost use Rattle.mud_tables.specs.BindCommands.{BindStep};
+ghost use Rattle.file_tables.specs.FileCommands.{FileStep};
 ghost use Rattle.thing_book.specs.Planned as thing;
 ghost use Rattle.file_cache.specs.Planned as file;
 ghost use Rattle.bind_book.specs.Plans as bind;

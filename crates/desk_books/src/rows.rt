@@ -25,7 +25,7 @@ fn policy_rows<L: Ledger>(
     ensures ok { IfOk result (IsPolicyPlan url.now (option_copied policy.entry) compiled.new) }
     ensures steps { IsPaidByPolicy url.now (option_copied policy.entry) compiled.old (steps.new - steps.old) }
 {
-    if !compiled.has_place(url) {
+    if !compiled.has_slot(url) {
         return Err(Memory);
     }
     compiled.plan_policy(url, policy, steps)

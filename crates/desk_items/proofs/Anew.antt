@@ -8,7 +8,7 @@ use Rattle.std.proofs.lemmas.Option.{slice_get-map, slice_get-get_or}
 use Rattle.item_codec.specs.Records.{◌>>=◌}
 use Rattle.mud_world.specs.declared.item.Item.{Item}
 use Rattle.mud_world.specs.declared.item.Put.TheVariants.{Set}
-use Rattle.mud_world.specs.Items.{place_of, put_one, put_all, IsOrdered}
+use Rattle.mud_world.specs.Items.{sort_key_of, put_one, put_all, IsOrdered}
 use Rattle.mud_tables.specs.declared.thing.Thing.{Thing}
 use Rattle.mud_tables.specs.Tables.{binds_of}
 use Rattle.mud_tables.specs.ThingItems.{thing_item, thing_items, thing_of, if_sound_thing, thing_in, item_anew, in_second}
@@ -17,12 +17,12 @@ use Rattle.mud_tables.specs.TakenItems.{bind_items}
 use Rattle.file_tables.specs.FileItems.{file_item, file_items}
 use Rattle.desk_model.specs.DeskTables.{DeskTables}
 use Rattle.desk_model.specs.Items.{desk_of, items_of, tables_in, in_second_version}
-use Rattle.desk_model.proofs.Anew.{place_in_second, put_anew, read_anew}
+use Rattle.desk_model.proofs.Anew.{sort_key_in_second, put_anew, read_anew}
 use Rattle.desk_model.proofs.ReadBack.{each_item, all_bind_items}
 use Rattle.desk_model.proofs.Taking.{unequal}
 use Rattle.desk_model.proofs.ReadSound.{desk_alone}
-use Rattle.desk_items.specs.declared.taken.Taken.{Taken}
-use Rattle.desk_items.specs.Taken.{taken_desk}
+use Rattle.desk_items.specs.declared.loaded.Loaded.{Loaded}
+use Rattle.desk_items.specs.Loaded.{loaded_desk}
 use Rattle.desk_items.specs.Opening.{HasOctets, IsPartlyAnew, PutsAnew}
 use Rattle.sorted_rows.proofs.Lists.{all-append}
 
@@ -33,10 +33,10 @@ no_such = None
 
 module _ (item : Item) (octets : HasOctets item) where
   same_kind : (in_second item).kind ≡ item.kind
-  same_kind = let e : place_of (in_second item) ≡ place_of item = place_in_second item octets in cc
+  same_kind = let e : sort_key_of (in_second item) ≡ sort_key_of item = sort_key_in_second item octets in cc
 
   same_key : (in_second item).key ≡ item.key
-  same_key = let e : place_of (in_second item) ≡ place_of item = place_in_second item octets in cc
+  same_key = let e : sort_key_of (in_second item) ≡ sort_key_of item = sort_key_in_second item octets in cc
 
   -- what differs is the body alone
   same_by_body : (in_second item).body ≡ item.body → in_second item ≡ item
@@ -192,26 +192,26 @@ octets_at items i item within is octets =
 
 -- ---- What was taken of the items
 
-module _ (taken : Taken) (list : List Item) (octets : AllByRecursion HasOctets list) (read : tables_in list ≡ Ok (taken_desk taken)) where
-  kept_anew : items_of (taken_desk taken) ≡ in_second_version list
-  kept_anew = (desk_alone list (taken_desk taken) octets read).1
+module _ (loaded : Loaded) (list : List Item) (octets : AllByRecursion HasOctets list) (read : tables_in list ≡ Ok (loaded_desk loaded)) where
+  kept_anew : items_of (loaded_desk loaded) ≡ in_second_version list
+  kept_anew = (desk_alone list (loaded_desk loaded) octets read).1
 
-  things_taken : taken.things.things ≡ (taken_desk taken).tables.things
+  things_taken : loaded.things.things ≡ (loaded_desk loaded).tables.things
   unfolding desk_of
   things_taken = refl
 
-  pub things_fit : (things : List Thing) → things ≡ taken.things.things → (i : ℕ) → i < length things → i < length list
+  pub things_fit : (things : List Thing) → things ≡ loaded.things.things → (i : ℕ) → i < length things → i < length list
   things_fit things is i within =
-      let few = few_things (taken_desk taken) list kept_anew in
+      let few = few_things (loaded_desk loaded) list kept_anew in
       let same = ap (λ (ts : List Thing). length ts) (is ∙ things_taken) in
       omega (arith, few, same, within)
 
-  pub thing_anew : (i : ℕ) (anew item : Item) → slice_get (thing_items taken.things.things) i ≡ Some anew → i < length list → item ≡ get_or list i item → anew ≡ in_second item
+  pub thing_anew : (i : ℕ) (anew item : Item) → slice_get (thing_items loaded.things.things) i ≡ Some anew → i < length list → item ≡ get_or list i item → anew ≡ in_second item
   thing_anew i anew item of_thing within is =
-      anew_is (taken_desk taken) list kept_anew i anew item (ap (λ (ts : List Thing). slice_get (thing_items ts) i) (sym things_taken) ∙ of_thing)
+      anew_is (loaded_desk loaded) list kept_anew i anew item (ap (λ (ts : List Thing). slice_get (thing_items ts) i) (sym things_taken) ∙ of_thing)
       (slice_get-get_or list i item within ∙ ap (λ (x : Item). Some x) (sym is))
 
-  pub all_put : (things : List Thing) → things ≡ taken.things.things → (i : ℕ) → length things ≤ i → i ≤ length things → (now : List Item) → now ≡ in_second_version (take i list) ++ drop i list → now ≡ items_of (taken_desk taken)
+  pub all_put : (things : List Thing) → things ≡ loaded.things.things → (i : ℕ) → length things ≤ i → i ≤ length things → (now : List Item) → now ≡ in_second_version (take i list) ++ drop i list → now ≡ items_of (loaded_desk loaded)
   all_put things is i past within now e =
       let same = ap (λ (ts : List Thing). length ts) (is ∙ things_taken) in
-      all_anew (taken_desk taken) list kept_anew octets i (omega (arith, same, past, within)) now e
+      all_anew (loaded_desk loaded) list kept_anew octets i (omega (arith, same, past, within)) now e

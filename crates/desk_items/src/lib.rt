@@ -6,8 +6,8 @@
 pub mod fault;
 pub mod opening;
 mod stamp;
-pub mod taken;
+pub mod loaded;
 
 pub use fault::OpenFault;
 pub use opening::open_items;
-pub use taken::Taken;
+pub use loaded::Loaded;

@@ -7,11 +7,11 @@ ghost use Rattle.item_codec.specs.Spelling.{IsOctets};
 ghost use Rattle.mud_tables.specs.ThingItems.{in_second};
 ghost use Rattle.desk_model.specs.DeskTables.{IsSound};
 ghost use Rattle.desk_model.specs.Items.{none_kept, items_of, tables_in};
-ghost use Rattle.desk_items.specs.Taken.{kept_of, taken_desk};
+ghost use Rattle.desk_items.specs.Loaded.{kept_of, loaded_desk};
 ghost use Rattle.desk_items.specs.Opening.{has_keeper_failed, HasOctets, IsFaultOf, IsOfCall, IsPartlyAnew, Leaves, PutsAnew};
 
 use crate::fault::OpenFault;
-use crate::taken::{Taken, take_into};
+use crate::loaded::{Loaded, take_into};
 use mud_base::Listed;
 use mud_world::{Item, KeepFault, Keeper, Put, keep};
 use std::alloc::Global;
@@ -27,17 +27,17 @@ use std::alloc::Global;
 pub fn open_items(
     alloc: Global,
     keeper: &mut Box<dyn Keeper>,
-    nothing: Taken,
-) -> Result<Taken, OpenFault>
+    nothing: Loaded,
+) -> Result<Loaded, OpenFault>
     requires { kept_of nothing ≡ none_kept }
     ensures opened { OnOk result (opened keeper.new ≡ true) }
     ensures still { IsTrue (opened keeper.old) → IsTrue (opened keeper.new) }
     // What was read is the desk that the keeper told before, it is sound, and is kept now.
     ensures read { tells keeper.old → tells keeper.new
-        → IfOk result (λ taken. tables_in (items keeper.old) ≡ Ok (taken_desk taken)) }
-    ensures sound { IfOk result (λ taken. IsSound (taken_desk taken)) }
+        → IfOk result (λ loaded. tables_in (items keeper.old) ≡ Ok (loaded_desk loaded)) }
+    ensures sound { IfOk result (λ loaded. IsSound (loaded_desk loaded)) }
     ensures kept { tells keeper.new
-        → IfOk result (λ taken. items keeper.new ≡ items_of (taken_desk taken)) }
+        → IfOk result (λ loaded. items keeper.new ≡ items_of (loaded_desk loaded)) }
     // An item is named where it is the first that is no record, and else the desk isn't opened for a
     // failure of the keeper or for want of memory.
     ensures bad { tells keeper.new → IfErr result (IsFaultOf (items keeper.new)) }
@@ -45,12 +45,12 @@ pub fn open_items(
         → IfErr result (Leaves (items keeper.old) (items keeper.new)) }
     ensures cause { Counts (has_keeper_failed result) (faults keeper.old) (faults keeper.new) }
     ensures object { keeper.new.vtable ≡ keeper.old.vtable }
-    ensures place { keeper.new.ptr ≡ keeper.old.ptr }
+    ensures pointer { keeper.new.ptr ≡ keeper.old.ptr }
 {
     let items = opened_items(keeper, alloc)?;
-    let taken = read_items(nothing, items.as_slice())?;
-    put_things_anew(keeper, items.as_slice(), &taken)?;
-    Ok(taken)
+    let loaded = read_items(nothing, items.as_slice())?;
+    put_things_anew(keeper, items.as_slice(), &loaded)?;
+    Ok(loaded)
 }
 
 /// The items of the keeper in the box.
@@ -63,24 +63,24 @@ fn opened_items(keeper: &mut Box<dyn Keeper>, alloc: Global) -> Result<Listed<It
     ensures still { OnErr result (opened keeper.new ≡ opened keeper.old) }
     ensures cause { Counts (has_failed result) (faults keeper.old) (faults keeper.new) }
     ensures object { keeper.new.vtable ≡ keeper.old.vtable }
-    ensures place { keeper.new.ptr ≡ keeper.old.ptr }
+    ensures pointer { keeper.new.ptr ≡ keeper.old.ptr }
 {
     keeper.open(alloc)
 }
 
 /// Takes all items, where nothing was taken yet, or names the first that is no record.
-fn read_items(nothing: Taken, items: &[Item]) -> Result<Taken, OpenFault>
+fn read_items(nothing: Loaded, items: &[Item]) -> Result<Loaded, OpenFault>
     requires { kept_of nothing ≡ none_kept }
-    ensures read { IfOk result (λ taken. tables_in items.now ≡ Ok (taken_desk taken)) }
-    ensures sound { IfOk result (λ taken. IsSound (taken_desk taken)) }
+    ensures read { IfOk result (λ loaded. tables_in items.now ≡ Ok (loaded_desk loaded)) }
+    ensures sound { IfOk result (λ loaded. IsSound (loaded_desk loaded)) }
     ensures bad { IfErr result (IsFaultOf items.now) }
     ensures told { has_keeper_failed result ≡ false }
 {
     bodies_fit(items);
     match take_into(nothing, items)? {
-        Ok(taken) => Ok(taken),
-        Err(place) => {
-            let item = &items[place];
+        Ok(loaded) => Ok(loaded),
+        Err(index) => {
+            let item = &items[index];
             Err(OpenFault::BadItem(item.kind, item.key.copy()?))
         }
     }
@@ -107,25 +107,25 @@ fn octets_fit(octets: &[u8])
 fn put_things_anew(
     keeper: &mut Box<dyn Keeper>,
     list: &[Item],
-    taken: &Taken,
+    loaded: &Loaded,
 ) -> Result<(), OpenFault>
     requires opened { IsTrue (opened keeper.old) }
     requires items { tells keeper.old → items keeper.old ≡ list.now }
     requires ordered { tells keeper.old → IsOrdered (items keeper.old) }
-    requires read { tables_in list.now ≡ Ok (taken_desk taken.now) }
+    requires read { tables_in list.now ≡ Ok (loaded_desk loaded.now) }
     ensures told { tells keeper.new → tells keeper.old }
-    ensures ok { tells keeper.new → OnOk result (items keeper.new ≡ items_of (taken_desk taken.now)) }
+    ensures ok { tells keeper.new → OnOk result (items keeper.new ≡ items_of (loaded_desk loaded.now)) }
     ensures err { tells keeper.new → OnErr result (IsPartlyAnew list.now (items keeper.new)) }
     ensures call { IfErr result IsOfCall }
     ensures opened { opened keeper.new ≡ opened keeper.old }
     ensures cause { Counts (has_keeper_failed result) (faults keeper.old) (faults keeper.new) }
     ensures object { keeper.new.vtable ≡ keeper.old.vtable }
-    ensures place { keeper.new.ptr ≡ keeper.old.ptr }
+    ensures pointer { keeper.new.ptr ≡ keeper.old.ptr }
 {
     bodies_fit(list);
-    for place in 0..taken.things.things().len() {
-        let anew = taken.things.item_of(place)?;
-        put_anew(keeper, &list[place], anew)?;
+    for index in 0..loaded.things.things().len() {
+        let anew = loaded.things.item_of(index)?;
+        put_anew(keeper, &list[index], anew)?;
     }
     Ok(())
 }
@@ -142,7 +142,7 @@ fn put_anew(keeper: &mut Box<dyn Keeper>, item: &Item, anew: Item) -> Result<(),
     ensures opened { opened keeper.new ≡ opened keeper.old }
     ensures cause { Counts (has_failed result) (faults keeper.old) (faults keeper.new) }
     ensures object { keeper.new.vtable ≡ keeper.old.vtable }
-    ensures place { keeper.new.ptr ≡ keeper.old.ptr }
+    ensures pointer { keeper.new.ptr ≡ keeper.old.ptr }
 {
     if anew.body.octets() == item.body.octets() {
         return Ok(());

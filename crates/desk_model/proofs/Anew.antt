@@ -3,12 +3,12 @@ use Rattle.std.proofs.Common.{◌≡◌, ℕ, cond, ◌&&◌, List, [], ◌∷�
 use Rattle.std.specs.Prelude.{option_map, is_none}
 use Rattle.std.specs.List.{AllByRecursion}
 use Rattle.std.specs.declared.cmp.Ordering.TheVariants.{Less, Equal}
-use Rattle.sorted_rows.specs.Placed.{place_cmp, set_row, PlacesAbove, PlacesBelow}
-use Rattle.sorted_rows.proofs.PlacedLaws.{place_cmp_itself}
+use Rattle.sorted_rows.specs.Sortable.{sort_key_cmp, set_row, SortKeysAbove, SortKeysBelow}
+use Rattle.sorted_rows.proofs.SortableLaws.{sort_key_cmp_itself}
 use Rattle.sorted_rows.proofs.IndexLaws.{set_row-behind}
 use Rattle.mud_world.specs.declared.item.Item.{Item}
 use Rattle.mud_world.specs.declared.item.Put.TheVariants.{Set}
-use Rattle.mud_world.specs.Items.{place_of, put_one, IsOrdered}
+use Rattle.mud_world.specs.Items.{sort_key_of, put_one, IsOrdered}
 use Rattle.item_codec.specs.Spelling.{IsOctets}
 use Rattle.item_codec.specs.Records.{◌>>=◌, version_to_in}
 use Rattle.item_codec.proofs.RecordLaws.{some_is, version_to_back}
@@ -26,21 +26,21 @@ not_both o x y e f two one = let g : x.0 ≡ y.0 = ap (λ (v : ℕ × List ℕ).
 
 -- ---- The item of a Thing, of either version
 
-first_place : (thing : Thing) → place_of (thing_item thing) ≡ place_of (first_thing_item thing)
+first_sort_key : (thing : Thing) → sort_key_of (thing_item thing) ≡ sort_key_of (first_thing_item thing)
 unfolding thing_item first_thing_item
-first_place thing = refl
+first_sort_key thing = refl
 
 module _ (item : Item) (octets : IsOctets item.body) where
-  place_anew : (o : Option Thing) → thing_in item ≡ o → place_of (item_anew item o) ≡ place_of item
+  sort_key_anew : (o : Option Thing) → thing_in item ≡ o → sort_key_of (item_anew item o) ≡ sort_key_of item
   unfolding item_anew
-  place_anew None e = refl
-  place_anew (Some thing) e =
+  sort_key_anew None e = refl
+  sort_key_anew (Some thing) e =
       let of_thing : IsThingItem item thing = thing_alone item thing octets e in
-      elim of_thing.same [ inl s ↦ ap place_of (sym s) | inr s ↦ first_place thing ∙ ap place_of (sym s.0) ]
+      elim of_thing.same [ inl s ↦ ap sort_key_of (sym s) | inr s ↦ first_sort_key thing ∙ ap sort_key_of (sym s.0) ]
 
-  pub place_in_second : place_of (in_second item) ≡ place_of item
+  pub sort_key_in_second : sort_key_of (in_second item) ≡ sort_key_of item
   unfolding in_second
-  place_in_second = place_anew (thing_in item) refl
+  sort_key_in_second = sort_key_anew (thing_in item) refl
 
   newer_anew : (rest : List ℕ) → version_to_in 2 item.body ≡ Some (2, rest) → (o : Option Thing) → thing_in item ≡ o → item_anew item o ≡ item
   unfolding item_anew first_thing_item
@@ -89,23 +89,23 @@ module _ (item : Item) (octets : IsOctets item.body) where
 
 -- ---- In its place
 
-before_one : (p : List ℕ) (xs : List Item) (item : Item) (ys : List Item) → PlacesAbove place_of p (xs ++ item ∷ ys) → place_cmp p (place_of item) ≡ Less
+before_one : (p : List ℕ) (xs : List Item) (item : Item) (ys : List Item) → SortKeysAbove sort_key_of p (xs ++ item ∷ ys) → sort_key_cmp p (sort_key_of item) ≡ Less
 before_one p [] item ys above = above.0
 before_one p (x ∷ xs) item ys above = before_one p xs item ys above.1
 
-below_one : (xs : List Item) (item : Item) (ys : List Item) → IsOrdered (xs ++ item ∷ ys) → PlacesBelow place_of (place_of item) xs
+below_one : (xs : List Item) (item : Item) (ys : List Item) → IsOrdered (xs ++ item ∷ ys) → SortKeysBelow sort_key_of (sort_key_of item) xs
 below_one [] item ys up = tt
-below_one (x ∷ xs) item ys up = (before_one (place_of x) xs item ys up.0, below_one xs item ys up.1)
+below_one (x ∷ xs) item ys up = (before_one (sort_key_of x) xs item ys up.0, below_one xs item ys up.1)
 
-in_place_of : (new item : Item) (ys : List Item) → place_of new ≡ place_of item → set_row place_of new (item ∷ ys) ≡ new ∷ ys
+in_place_of : (new item : Item) (ys : List Item) → sort_key_of new ≡ sort_key_of item → set_row sort_key_of new (item ∷ ys) ≡ new ∷ ys
 in_place_of new item ys e =
-    let same : place_cmp (place_of new) (place_of item) ≡ Equal = subst (λ p. place_cmp (place_of new) p ≡ Equal) e (place_cmp_itself (place_of new)) in
+    let same : sort_key_cmp (sort_key_of new) (sort_key_of item) ≡ Equal = subst (λ p. sort_key_cmp (sort_key_of new) p ≡ Equal) e (sort_key_cmp_itself (sort_key_of new)) in
     rw (same, set_row) refl
 
 pub put_anew : (xs : List Item) (item : Item) (ys : List Item) → IsOctets item.body → IsOrdered (xs ++ item ∷ ys) → put_one (xs ++ item ∷ ys) (Set (in_second item)) ≡ xs ++ in_second item ∷ ys
 put_anew xs item ys octets up =
-    let e : place_of (in_second item) ≡ place_of item = place_in_second item octets in
-    set_row-behind place_of (in_second item) xs (item ∷ ys) (subst (λ p. PlacesBelow place_of p xs) (sym e) (below_one xs item ys up))
+    let e : sort_key_of (in_second item) ≡ sort_key_of item = sort_key_in_second item octets in
+    set_row-behind sort_key_of (in_second item) xs (item ∷ ys) (subst (λ p. SortKeysBelow sort_key_of p xs) (sym e) (below_one xs item ys up))
     ∙ ap (λ (t : List Item). xs ++ t) (in_place_of (in_second item) item ys e)
 
 -- ---- Reading some anew, and others as they were

@@ -7,14 +7,14 @@ use Rattle.std.specs.declared.cmp.Ordering.{Ordering}
 use Rattle.std.specs.declared.cmp.Ordering.TheVariants.{Less, Equal, Greater}
 use Rattle.std.proofs.lemmas.Bool.{lt-ltb, le-leb}
 use Rattle.std.proofs.lemmas.List.{append-nil}
-use Rattle.sorted_rows.specs.Placed.{place_cmp}
-use Rattle.sorted_rows.proofs.PlacedLaws.{place_cmp_exact}
+use Rattle.sorted_rows.specs.Sortable.{sort_key_cmp}
+use Rattle.sorted_rows.proofs.SortableLaws.{sort_key_cmp_exact}
 use Rattle.sorted_rows.proofs.ListTests.{left_of, right_of, both}
 use Rattle.sorted_rows.proofs.Lists.{all-append}
 use Rattle.mud_world.specs.declared.item.Item.{Item}
 use Rattle.mud_world.specs.declared.item.Put.{Put}
 use Rattle.mud_world.specs.declared.item.Put.TheVariants.{Set, Gone}
-use Rattle.mud_world.specs.Items.{put_one, put_all, place_of_put, is_apart, are_apart, is_batch, kind_of_put, set_put, IsDifference, ArePutsOf, AreOfLowerKinds, AreOfHigherKinds}
+use Rattle.mud_world.specs.Items.{put_one, put_all, sort_key_of_put, is_apart, are_apart, is_batch, kind_of_put, set_put, IsDifference, ArePutsOf, AreOfLowerKinds, AreOfHigherKinds}
 use Rattle.mud_world.proofs.ItemLaws.{puts_among}
 use Rattle.mud_tables.specs.declared.thing.Thing.{Thing}
 use Rattle.mud_tables.specs.Binds.{Binds}
@@ -54,33 +54,33 @@ stamp_put front None now below =
 stamp_put front (Some moment) now below =
     ap (λ xs. put_all xs (Set (stamp_item now) ∷ [])) (sym (append-nil (front ++ stamp_item moment ∷ []))) ∙ puts_among 6 front (stamp_item moment ∷ []) [] (Set (stamp_item now) ∷ []) below tt (refl, tt) ∙ append-nil (front ++ stamp_item now ∷ [])
 
--- ---- No two are about one place
+-- ---- No two are about one sort key
 
-of_kind : (put : Put) (k : ℕ) (key : List ℕ) → place_of_put put ≡ k ∷ key → kind_of_put put ≡ k
+of_kind : (put : Put) (k : ℕ) (key : List ℕ) → sort_key_of_put put ≡ k ∷ key → kind_of_put put ≡ k
 of_kind (Set item) k key e = cc
 of_kind (Gone kind key') k key e = cc
 
-unlike : (place other : List ℕ) → (place ≡ other → ⊥) → (o : Ordering) → place_cmp place other ≡ o → is_eq o ≡ false
-unlike place other ne Less e = refl
-unlike place other ne Equal e = absurd (ne (place_cmp_exact place other e))
-unlike place other ne Greater e = refl
+unlike : (sort_key other : List ℕ) → (sort_key ≡ other → ⊥) → (o : Ordering) → sort_key_cmp sort_key other ≡ o → is_eq o ≡ false
+unlike sort_key other ne Less e = refl
+unlike sort_key other ne Equal e = absurd (ne (sort_key_cmp_exact sort_key other e))
+unlike sort_key other ne Greater e = refl
 
-apart_from_stamp : (put : Put) (now : ℕ) → kind_of_put put < 6 → is_apart (place_of_put put) (set_put stamp_item now ∷ []) ≡ true
+apart_from_stamp : (put : Put) (now : ℕ) → kind_of_put put < 6 → is_apart (sort_key_of_put put) (set_put stamp_item now ∷ []) ≡ true
 unfolding set_put stamp_item
-apart_from_stamp put now low = ap (λ b. not b && true) (unlike (place_of_put put) (6 ∷ []) (λ e. omega (arith, low, of_kind put 6 [] e)) (place_cmp (place_of_put put) (6 ∷ [])) refl)
+apart_from_stamp put now low = ap (λ b. not b && true) (unlike (sort_key_of_put put) (6 ∷ []) (λ e. omega (arith, low, of_kind put 6 [] e)) (sort_key_cmp (sort_key_of_put put) (6 ∷ [])) refl)
 
-is_apart-append : (place : List ℕ) (xs ys : List Put) → is_apart place xs ≡ true → is_apart place ys ≡ true → is_apart place (xs ++ ys) ≡ true
-is_apart-append place [] ys here there = there
-is_apart-append place (x ∷ xs) ys here there =
-    let b : Bool = not (is_eq (place_cmp place (place_of_put x))) in
-    both b (is_apart place (xs ++ ys)) (left_of b (is_apart place xs) here) (is_apart-append place xs ys (right_of b (is_apart place xs) here) there)
+is_apart-append : (sort_key : List ℕ) (xs ys : List Put) → is_apart sort_key xs ≡ true → is_apart sort_key ys ≡ true → is_apart sort_key (xs ++ ys) ≡ true
+is_apart-append sort_key [] ys here there = there
+is_apart-append sort_key (x ∷ xs) ys here there =
+    let b : Bool = not (is_eq (sort_key_cmp sort_key (sort_key_of_put x))) in
+    both b (is_apart sort_key (xs ++ ys)) (left_of b (is_apart sort_key xs) here) (is_apart-append sort_key xs ys (right_of b (is_apart sort_key xs) here) there)
 
 apart_with_stamp : (puts : List Put) (now : ℕ) → AllByRecursion (λ put. kind_of_put put < 6) puts → are_apart puts ≡ true → are_apart (puts ++ set_put stamp_item now ∷ []) ≡ true
 apart_with_stamp [] now low apart = refl
 apart_with_stamp (p ∷ ps) now low apart =
-    both (is_apart (place_of_put p) (ps ++ set_put stamp_item now ∷ [])) (are_apart (ps ++ set_put stamp_item now ∷ []))
-    (is_apart-append (place_of_put p) ps (set_put stamp_item now ∷ []) (left_of (is_apart (place_of_put p) ps) (are_apart ps) apart) (apart_from_stamp p now low.0))
-    (apart_with_stamp ps now low.1 (right_of (is_apart (place_of_put p) ps) (are_apart ps) apart))
+    both (is_apart (sort_key_of_put p) (ps ++ set_put stamp_item now ∷ [])) (are_apart (ps ++ set_put stamp_item now ∷ []))
+    (is_apart-append (sort_key_of_put p) ps (set_put stamp_item now ∷ []) (left_of (is_apart (sort_key_of_put p) ps) (are_apart ps) apart) (apart_from_stamp p now low.0))
+    (apart_with_stamp ps now low.1 (right_of (is_apart (sort_key_of_put p) ps) (are_apart ps) apart))
 
 is_batch_with_stamp : (puts : List Put) (now : ℕ) → AllByRecursion (λ put. kind_of_put put < 6) puts → are_apart puts ≡ true → length puts ≤ 2 → is_batch (with_stamp_put now puts) ≡ true
 unfolding with_stamp_put

@@ -16,7 +16,7 @@ use Rattle.mud_tables.specs.declared.thing_fault.ThingFault.TheVariants.{NoThing
 use Rattle.mud_tables.specs.declared.thing.Thing.{Thing}
 use Rattle.mud_tables.specs.declared.bind_fault.BindFault.TheVariants.{NotBound}
 use Rattle.file_tables.specs.declared.cache_fault.CacheFault.TheVariants.{NotApproved}
-use Rattle.mud_tables.specs.BindSteps.{is_change, with_classes, with_locals, with_names, bind_class_step, unbind_class_step, set_locals_step, observe_name_step}
+use Rattle.mud_tables.specs.BindCommands.{is_change, with_classes, with_locals, with_names, bind_class_step, unbind_class_step, set_locals_step, observe_name_step}
 use Rattle.mud_tables.specs.Tables.{binds_of, with_binds}
 use Rattle.mud_tables.proofs.Literals.{things_compute, binds_compute, mac_1, mac_9, bulb_addr, dns_addr, test_addr, bulb_url, next_url, switch_url, dns_class, test_name, bulb, bare_bulb}
 use Rattle.file_tables.specs.declared.approval.Approval.TheVariants.{Waived}
@@ -24,7 +24,7 @@ use Rattle.file_tables.specs.declared.approval.OperatorVerdict.TheVariants as ve
 use Rattle.file_tables.specs.declared.cached_file.CachedFile.{CachedFile}
 use Rattle.file_tables.specs.Held.{held_file, usage_in, digest_of}
 use Rattle.file_tables.specs.Files.{url_of, file_at, set_file, without_file, new_file, with_candidate, with_approved, entries_of, approved_entries, entry_count}
-use Rattle.file_tables.specs.FileSteps.{approved_again, beside_approved, beside_candidate, import_cases, import_read, import_step, approved_row, approve, ruled, candidate_cases, is_verdict, is_ruled, verdict_cases, verdict_step, settled, left_with, approved_cases, revoke_cases, revoke_step}
+use Rattle.file_tables.specs.FileCommands.{approved_again, beside_approved, beside_candidate, import_cases, import_read, import_step, approved_row, approve, ruled, candidate_cases, is_verdict, is_ruled, verdict_cases, verdict_step, settled, left_with, approved_cases, revoke_cases, revoke_step}
 use Rattle.desk_model.specs.declared.command.Command.TheVariants.{HearUrl, HearLease, Move, Remove, Hold, Release, Lease, EndLease, Import, Verdict, Revoke, Bind, Unbind, Locals, Observe}
 use Rattle.desk_model.specs.declared.reply.Outcome.{Outcome}
 use Rattle.desk_model.specs.declared.reply.Refusal.TheVariants.{Things, Files, Binds}
@@ -162,7 +162,7 @@ module _ (octets : List ℕ) (update : ℤ) (hours : ℕ) (supported : Bool) (si
   abbrev with : List Thing → DeskTables
   with things = record { tables = record { things = things; classes = dns ∷ []; locals = []; names = test ∷ [] }; files = in_force 1000 ∷ []; stamp = Some 1001 }
 
-  -- what is answered with no end and no URL
+  -- what is answered with no expiry and no URL
   abbrev says : Word → Outcome
   says word = record { word = word; until = None; url = None }
 

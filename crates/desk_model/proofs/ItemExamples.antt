@@ -4,21 +4,21 @@ use Rattle.std.specs.Prelude.{option_map}
 use Rattle.mud_url.specs.Url.{is_canonical}
 use Rattle.mud_url.proofs.OnLiterals.{url_on_literals}
 use Rattle.mud_tables.specs.declared.thing.Thing.{Thing}
-use Rattle.mud_tables.specs.Ends.{are_ascending, have_ends}
+use Rattle.mud_tables.specs.Expiries.{are_ascending, have_expiries}
 use Rattle.mud_tables.specs.Things.{may_wait, are_leases, is_sound_thing, IsKeptThing}
 use Rattle.mud_tables.specs.Tables.{binds_of}
 use Rattle.mud_tables.specs.ThingItems.{thing_item, thing_items, first_thing_item, item_anew, in_second, is_taken, may_follow, with_thing_item}
 use Rattle.mud_tables.specs.BindItems.{class_items, locals_items, name_items, stamp_item, stamp_items, with_stamp_item}
 use Rattle.mud_tables.specs.TakenItems.{no_binds, bind_items, have_none, with_item}
 use Rattle.mud_tables.proofs.ItemLaws.{first_thing_back, stamp_back}
-use Rattle.mud_tables.proofs.Literals.{ends_compute, bulb_url, bare_bulb}
+use Rattle.mud_tables.proofs.Literals.{expiries_compute, bulb_url, bare_bulb}
 use Rattle.file_tables.specs.FileItems.{file_items}
 use Rattle.desk_model.specs.DeskTables.{DeskTables}
 use Rattle.desk_model.specs.Items.{items_of, KeptDesk, none_kept, desk_of, with_desk_item, desk_in, tables_in}
 use Rattle.desk_model.proofs.Taking.{kept_behind, take_thing, take_stamp}
 
 unfoldable kept_compute : Unit {0}
-unfolding ends_compute binds_of thing_items is_taken may_follow with_thing_item class_items locals_items name_items stamp_items with_stamp_item no_binds bind_items have_none with_item file_items items_of none_kept desk_of with_desk_item tables_in
+unfolding expiries_compute binds_of thing_items is_taken may_follow with_thing_item class_items locals_items name_items stamp_items with_stamp_item no_binds bind_items have_none with_item file_items items_of none_kept desk_of with_desk_item tables_in
 kept_compute = tt
 
 canonical : is_canonical bulb_url ≡ true
@@ -26,7 +26,7 @@ unfolding url_on_literals
 canonical = refl
 
 kept_bulb : IsKeptThing bare_bulb
-unfolding ends_compute may_wait are_leases is_sound_thing are_ascending have_ends
+unfolding expiries_compute may_wait are_leases is_sound_thing are_ascending have_expiries
 kept_bulb = record { sound = rw canonical refl; fits = record { mac = refl; url = lit< tt; pending = tt; leases = record { few = lit< tt; each = tt } } }
 
 abbrev one_bulb : DeskTables

@@ -1,4 +1,4 @@
--- A packet of a Thing passes where both ends let it pass.
+-- A packet of a Thing passes where both endpoints let it pass.
 use Rattle.std.proofs.Common.{◌≡◌, ℕ, Bool, true, false, cond, not, ◌&&◌, List, Option, Some, None, refl}
 use Rattle.mud_base.specs.declared.packet.Direction.{Direction}
 use Rattle.mud_base.specs.declared.packet.Direction.TheVariants.{From, To}
@@ -10,7 +10,7 @@ use Rattle.acl_model.specs.declared.ruling.Ruling.{Ruling}
 use Rattle.acl_model.specs.declared.ruling.Ruling.TheVariants.{DropHeld}
 use Rattle.mud_tables.specs.declared.thing.Thing.{Thing}
 use Rattle.mud_tables.specs.declared.segment.Segment.{Segment}
-use Rattle.packet_judge.specs.Verdicts.{Ends, ends_of, end_ruling, governed, is_managed, if_managed, verdict_on, verdict_of, rulings_of, accepts, forwarded}
+use Rattle.packet_judge.specs.Verdicts.{Endpoints, endpoints_of, endpoint_ruling, governed, is_managed, if_managed, verdict_on, verdict_of, rulings_of, accepts, forwarded}
 use Rattle.desk_model.specs.DeskTables.{DeskTables}
 use Rattle.desk_model.specs.Forwarding.{is_forwarded_by, lets_pass}
 use Rattle.desk_model.specs.Verdicts.{policy_at, verdict_at}
@@ -21,16 +21,16 @@ held_drops true ruling = refl
 held_drops false ruling = refl
 
 module _ (desk : DeskTables) (history : List Segment) (now : ℕ) where
-  end_lets_pass : (side : Direction) (fields : Fields) (end : Option Thing) → accepts (end_ruling (rulings_of desk.tables (policy_at desk) history now) side fields end) ≡ lets_pass desk history now side fields end
-  unfolding end_ruling rulings_of lets_pass accepts
-  end_lets_pass side fields None = refl
-  end_lets_pass side fields (Some thing) = held_drops thing.held (rulings_of desk.tables (policy_at desk) history now side thing fields)
+  endpoint_lets_pass : (side : Direction) (fields : Fields) (endpoint : Option Thing) → accepts (endpoint_ruling (rulings_of desk.tables (policy_at desk) history now) side fields endpoint) ≡ lets_pass desk history now side fields endpoint
+  unfolding endpoint_ruling rulings_of lets_pass accepts
+  endpoint_lets_pass side fields None = refl
+  endpoint_lets_pass side fields (Some thing) = held_drops thing.held (rulings_of desk.tables (policy_at desk) history now side thing fields)
 
-  ends_let_pass : (fields : Fields) (ends : Ends) → is_managed ends ≡ true → forwarded (if_managed ends (governed (rulings_of desk.tables (policy_at desk) history now) fields ends)) ≡ (lets_pass desk history now From fields ends.source && lets_pass desk history now To fields ends.destination)
+  endpoints_let_pass : (fields : Fields) (endpoints : Endpoints) → is_managed endpoints ≡ true → forwarded (if_managed endpoints (governed (rulings_of desk.tables (policy_at desk) history now) fields endpoints)) ≡ (lets_pass desk history now From fields endpoints.source && lets_pass desk history now To fields endpoints.destination)
   unfolding if_managed governed forwarded
-  ends_let_pass fields ends managed =
-      rw (managed, end_lets_pass From fields ends.source, end_lets_pass To fields ends.destination) refl
+  endpoints_let_pass fields endpoints managed =
+      rw (managed, endpoint_lets_pass From fields endpoints.source, endpoint_lets_pass To fields endpoints.destination) refl
 
-  pub packet_passes : (octets : List ℕ) (packet : PacketFrame) → frame_of octets ≡ frame.Packet packet → is_managed (ends_of desk.tables.things packet.octets) ≡ true → forwarded (verdict_at desk history now octets) ≡ is_forwarded_by desk history now packet
+  pub packet_passes : (octets : List ℕ) (packet : PacketFrame) → frame_of octets ≡ frame.Packet packet → is_managed (endpoints_of desk.tables.things packet.octets) ≡ true → forwarded (verdict_at desk history now octets) ≡ is_forwarded_by desk history now packet
   unfolding verdict_at verdict_of verdict_on
-  packet_passes octets packet e managed = rw e (ends_let_pass packet.fields (ends_of desk.tables.things packet.octets) managed)
+  packet_passes octets packet e managed = rw e (endpoints_let_pass packet.fields (endpoints_of desk.tables.things packet.octets) managed)

@@ -22,7 +22,7 @@ use Rattle.desk_model.specs.declared.reply.Reply.TheVariants.{Done, Refused, Kee
 use Rattle.desk_model.specs.DeskTables.{DeskTables, IsStamp, IsSound}
 use Rattle.desk_model.specs.Commands.{IsCommand, DeskAfter, DeskStep, TellsChange, command_step}
 use Rattle.desk_model.specs.Verdicts.{verdict_at}
-use Rattle.desk_model.specs.Sessions.{Session, IsSoundSession, Answered, MayAnswer, Runs, IsCall, Judged, MayJudge, opened, later, raised, answered, command_in, verdict_in, judged, frame_in}
+use Rattle.desk_model.specs.Sessions.{Session, IsSoundSession, Answered, AllowedReply, Runs, IsCall, Judged, AllowedVerdict, opened, later, raised, answered, command_in, verdict_in, judged, frame_in}
 use Rattle.desk_model.proofs.SoundSteps.{commands_sound}
 use Rattle.desk_model.proofs.ToldSteps.{commands_told}
 
@@ -129,13 +129,13 @@ module _ (session : Session) (now : ℕ) where
   refused_same command refusal e = answered_refused (command_step session.desk (later session now) command) refusal e
 
   -- what holds of the session that a command leaves, and of the session as it was, holds after every answer
-  after_answer : (P : Session → Type 0) (command : Command) → P session → P (command_in session now command).session → (reply : Reply) (after : Session) → MayAnswer session now command reply after → P after
+  after_answer : (P : Session → Type 0) (command : Command) → P session → P (command_in session now command).session → (reply : Reply) (after : Session) → AllowedReply session now command reply after → P after
   after_answer P command old new Memory after may = subst P (sym may.reply_is) old
   after_answer P command old new Keeper after may = subst P (sym may.reply_is.1) old
   after_answer P command old new (Done outcome) after may = subst (λ (a : Answered). P a.session) may.reply_is new
   after_answer P command old new (Refused refusal) after may = subst (λ (a : Answered). P a.session) may.reply_is new
 
-  pub command_sound : IsSoundSession session → (command : Command) → now ≤ last_moment → IsCommand command → (reply : Reply) (after : Session) → MayAnswer session now command reply after → IsSoundSession after
+  pub command_sound : IsSoundSession session → (command : Command) → now ≤ last_moment → IsCommand command → (reply : Reply) (after : Session) → AllowedReply session now command reply after → IsSoundSession after
   unfolding command_in
   command_sound sound command early is reply after may =
       let within : later session now ≤ last_moment = later_within session now sound.moment early in
@@ -143,11 +143,11 @@ module _ (session : Session) (now : ℕ) where
       (answered_sound sound within (command_step session.desk (later session now) command) (commands_sound session.desk sound.desk command (later session now) is within) (commands_told session.desk sound.desk command (later session now) is))
       reply after may
 
-  pub command_history : (command : Command) (reply : Reply) (after : Session) → MayAnswer session now command reply after → after.history ≡ session.history
+  pub command_history : (command : Command) (reply : Reply) (after : Session) → AllowedReply session now command reply after → after.history ≡ session.history
   unfolding command_in
   command_history command reply after may = after_answer (λ s. s.history ≡ session.history) command refl (answered_history (command_step session.desk (later session now) command)) reply after may
 
-  pub command_moment : (command : Command) (reply : Reply) (after : Session) → MayAnswer session now command reply after → session.moment ≤ after.moment
+  pub command_moment : (command : Command) (reply : Reply) (after : Session) → AllowedReply session now command reply after → session.moment ≤ after.moment
   unfolding command_in
   command_moment command reply after may = after_answer (λ s. session.moment ≤ s.moment) command (omega arith) (answered_moment (command_step session.desk (later session now) command)) reply after may
 
@@ -171,17 +171,17 @@ module _ (session : Session) (now : ℕ) where
   frame_keeps frame = (refl, refl)
 
   -- the same of a frame
-  after_verdict : (P : Session → Type 0) (frame : List ℕ) → P session → P (frame_in session now frame).session → (verdict : Result Verdict want.Memory) (after : Session) → MayJudge session now frame verdict after → P after
+  after_verdict : (P : Session → Type 0) (frame : List ℕ) → P session → P (frame_in session now frame).session → (verdict : Result Verdict want.Memory) (after : Session) → AllowedVerdict session now frame verdict after → P after
   after_verdict P frame old new (Ok verdict) after may = subst (λ (j : Judged). P j.session) may.verdict_is new
   after_verdict P frame old new (Err memory) after may = subst P (sym may.verdict_is.1) old
 
-  pub judged_sound : IsSoundSession session → (frame : List ℕ) → now ≤ last_moment → (verdict : Result Verdict want.Memory) (after : Session) → MayJudge session now frame verdict after → IsSoundSession after
+  pub judged_sound : IsSoundSession session → (frame : List ℕ) → now ≤ last_moment → (verdict : Result Verdict want.Memory) (after : Session) → AllowedVerdict session now frame verdict after → IsSoundSession after
   judged_sound sound frame early verdict after may = after_verdict IsSoundSession frame sound (frame_sound sound frame early) verdict after may
 
-  pub judged_desk : (frame : List ℕ) (verdict : Result Verdict want.Memory) (after : Session) → MayJudge session now frame verdict after → after.desk ≡ session.desk
+  pub judged_desk : (frame : List ℕ) (verdict : Result Verdict want.Memory) (after : Session) → AllowedVerdict session now frame verdict after → after.desk ≡ session.desk
   judged_desk frame verdict after may = after_verdict (λ s. s.desk ≡ session.desk) frame refl (frame_keeps frame).0 verdict after may
 
-  pub judged_moment : (frame : List ℕ) (verdict : Result Verdict want.Memory) (after : Session) → MayJudge session now frame verdict after → session.moment ≤ after.moment
+  pub judged_moment : (frame : List ℕ) (verdict : Result Verdict want.Memory) (after : Session) → AllowedVerdict session now frame verdict after → session.moment ≤ after.moment
   judged_moment frame verdict after may = after_verdict (λ s. session.moment ≤ s.moment) frame (omega arith) (subst (λ m. session.moment ≤ m) (sym (frame_keeps frame).1) (not_before session now)) verdict after may
 
 -- ---- Several commands
@@ -193,8 +193,8 @@ runs_sound session sound (call ∷ calls) each (reply ∷ replies) after run =
 runs_sound session sound [] each (reply ∷ replies) after run = absurd run
 runs_sound session sound (call ∷ calls) each [] after run = absurd run
 
-pub runs_push : (session : Session) (calls : List (ℕ × Command)) (replies : List Reply) (middle : Session) → Runs session calls replies middle → (now : ℕ) (command : Command) (reply : Reply) (after : Session) → MayAnswer middle now command reply after → Runs session (calls ++ (now, command) ∷ []) (replies ++ reply ∷ []) after
-runs_push session [] [] middle run now command reply after may = (after, subst (λ s. MayAnswer s now command reply after) run may, refl)
+pub runs_push : (session : Session) (calls : List (ℕ × Command)) (replies : List Reply) (middle : Session) → Runs session calls replies middle → (now : ℕ) (command : Command) (reply : Reply) (after : Session) → AllowedReply middle now command reply after → Runs session (calls ++ (now, command) ∷ []) (replies ++ reply ∷ []) after
+runs_push session [] [] middle run now command reply after may = (after, subst (λ s. AllowedReply s now command reply after) run may, refl)
 runs_push session (call ∷ calls) (said ∷ replies) middle run now command reply after may = (run.0, run.1, runs_push run.0 calls replies middle run.2 now command reply after may)
 runs_push session [] (said ∷ replies) middle run now command reply after may = absurd run
 runs_push session (call ∷ calls) [] middle run now command reply after may = absurd run

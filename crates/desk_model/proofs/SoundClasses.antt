@@ -7,7 +7,7 @@ use Rattle.mud_tables.specs.declared.bind.Class.{Class}
 use Rattle.mud_tables.specs.declared.bind.ClassRow.{ClassRow}
 use Rattle.mud_tables.specs.declared.bind_fault.BindFault.TheVariants.{NotBound}
 use Rattle.mud_tables.specs.Binds.{Binds, class_at, is_class, IsSoundClasses, IsSoundBinds}
-use Rattle.mud_tables.specs.BindSteps.{unbind_cases, unbind_step, unbind_class_step, with_classes}
+use Rattle.mud_tables.specs.BindCommands.{unbind_cases, unbind_step, unbind_class_step, with_classes}
 use Rattle.table_laws.proofs.BindLaws.{classes_sound}
 use Rattle.table_laws.proofs.KeptClasses.{unbind_sound, class_there}
 

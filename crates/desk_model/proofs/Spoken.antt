@@ -12,11 +12,11 @@ use Rattle.mud_tables.specs.declared.bind.Class.{Class}
 use Rattle.mud_tables.specs.declared.bind.ClassRow.{ClassRow}
 use Rattle.mud_tables.specs.declared.bind.NameRow.{NameRow}
 use Rattle.mud_tables.specs.declared.bind_fault.BindFault.{BindFault}
-use Rattle.mud_tables.specs.Ends.{end_of}
+use Rattle.mud_tables.specs.Expiries.{expiry_of}
 use Rattle.mud_tables.specs.Things.{thing_at}
 use Rattle.mud_tables.specs.Binds.{Binds, class_at, name_at, prefixes_in_order}
-use Rattle.mud_tables.specs.ThingSteps.{ThingStep, is_pending, url_cases, url_step, move_cases, move_step, remove_cases, remove_step, hold_cases, hold_step, release_cases, release_step, end_after, kept_lease, new_lease, known_lease, stranger_lease, lease_cases, lease_step, end_step}
-use Rattle.mud_tables.specs.BindSteps.{ClassStep, LocalStep, NameStep, BindStep, bind_cases, bind_step, unbind_cases, unbind_step, locals_cases, locals_step, addrs_of, least_dead, replacing, new_pair, kept_pair, observe_cases, observe_row, observe_step, with_classes, with_locals, with_names, bind_class_step, unbind_class_step, set_locals_step, observe_name_step}
+use Rattle.mud_tables.specs.ThingCommands.{ThingStep, is_pending, url_cases, url_step, move_cases, move_step, remove_cases, remove_step, hold_cases, hold_step, release_cases, release_step, expiry_after, kept_lease, new_lease, known_lease, stranger_lease, lease_cases, lease_step, end_step}
+use Rattle.mud_tables.specs.BindCommands.{ClassStep, LocalStep, NameStep, BindStep, bind_cases, bind_step, unbind_cases, unbind_step, locals_cases, locals_step, addrs_of, least_dead, replacing, new_pair, kept_pair, observe_cases, observe_row, observe_step, with_classes, with_locals, with_names, bind_class_step, unbind_class_step, set_locals_step, observe_name_step}
 use Rattle.mud_tables.specs.Tables.{binds_of}
 use Rattle.file_tables.specs.declared.approval.Approval.{Approval}
 use Rattle.file_tables.specs.declared.approval.OperatorVerdict.{OperatorVerdict}
@@ -25,7 +25,7 @@ use Rattle.file_tables.specs.declared.approval.Approval.TheVariants as approval
 use Rattle.file_tables.specs.declared.cached_file.CachedFile.{CachedFile}
 use Rattle.file_tables.specs.Held.{HeldFile, held_file}
 use Rattle.file_tables.specs.Files.{file_at}
-use Rattle.file_tables.specs.FileSteps.{FileStep, candidate_again, approved_again, new_candidate, beside_approved, beside_candidate, import_cases, import_read, import_step, approve, ruled, candidate_cases, verdict_cases, verdict_step, approved_cases, revoke_cases, revoke_step}
+use Rattle.file_tables.specs.FileCommands.{FileStep, candidate_again, approved_again, new_candidate, beside_approved, beside_candidate, import_cases, import_read, import_step, approve, ruled, candidate_cases, verdict_cases, verdict_step, approved_cases, revoke_cases, revoke_step}
 use Rattle.desk_model.specs.declared.command.Command.{Command}
 use Rattle.desk_model.specs.declared.command.Command.TheVariants.{HearUrl, HearLease, Move, Remove, Hold, Release, Lease, EndLease, Import, Verdict, Revoke, Bind, Unbind, Locals, Observe}
 use Rattle.desk_model.specs.DeskTables.{DeskTables}
@@ -86,7 +86,7 @@ known_says a until now things thing None = either _ _ _ (by _ refl) (fine _)
 lease_says : (a : Addr) (until now : ℕ) (heard : Bool) (things : List Thing) (found : Option Thing) → SaysThing (lease_cases a until now heard things found)
 unfolding lease_cases stranger_lease
 lease_says a until now heard things None = either _ _ _ (either _ _ _ (fine _) (fine _)) (by _ refl)
-lease_says a until now heard things (Some thing) = known_says a until now things thing (end_of a thing.leases)
+lease_says a until now heard things (Some thing) = known_says a until now things thing (expiry_of a thing.leases)
 
 end_says : (a : Addr) (things : List Thing) → SaysThing (end_step a things)
 unfolding end_step
@@ -224,12 +224,12 @@ module _ (desk : DeskTables) (now : ℕ) where
   pub says-command_step : (command : Command) → SaysRefusal (command_step desk now command)
   unfolding command_step url_step move_step remove_step hold_step release_step lease_step import_step verdict_step revoke_step bind_class_step unbind_class_step set_locals_step observe_name_step bind_step unbind_step locals_step observe_step observe_row binds_of
   says-command_step (HearUrl mac url) = of_things (url_step mac url desk.tables.things) (url_says mac url desk.tables.things (thing_at mac desk.tables.things))
-  says-command_step (HearLease mac a seconds) = of_things (lease_step mac a seconds now true desk.tables.things) (lease_says a (end_after now seconds) now true desk.tables.things (thing_at mac desk.tables.things))
+  says-command_step (HearLease mac a seconds) = of_things (lease_step mac a seconds now true desk.tables.things) (lease_says a (expiry_after now seconds) now true desk.tables.things (thing_at mac desk.tables.things))
   says-command_step (Move mac url) = of_things (move_step mac url desk.tables.things) (move_says url desk.tables.things (thing_at mac desk.tables.things))
   says-command_step (Remove mac) = of_things (remove_step mac desk.tables.things) (remove_says mac desk.tables.things (thing_at mac desk.tables.things))
   says-command_step (Hold mac) = of_things (hold_step mac desk.tables.things) (hold_says desk.tables.things (thing_at mac desk.tables.things))
   says-command_step (Release mac) = of_things (release_step mac desk.tables.things) (release_says desk.tables.things (thing_at mac desk.tables.things))
-  says-command_step (Lease mac a seconds) = of_things (lease_step mac a seconds now false desk.tables.things) (lease_says a (end_after now seconds) now false desk.tables.things (thing_at mac desk.tables.things))
+  says-command_step (Lease mac a seconds) = of_things (lease_step mac a seconds now false desk.tables.things) (lease_says a (expiry_after now seconds) now false desk.tables.things (thing_at mac desk.tables.things))
   says-command_step (EndLease a) = of_things (end_step a desk.tables.things) (end_says a desk.tables.things)
   says-command_step (Import octets fetched) = of_files (import_step octets fetched desk.files) (read_says (held_file octets fetched) desk.files (file_of octets))
   says-command_step (Verdict url digest v) = of_files (verdict_step url digest v desk.files) (verdict_says url digest v desk.files (file_at url desk.files))
@@ -243,4 +243,4 @@ module _ (desk : DeskTables) (now : ℕ) where
   says-command_step (Observe name a seconds) =
       of_binds (observe_name_step name a seconds now (binds_of desk.tables))
       (names_say (binds_of desk.tables) (observe_step name a seconds now desk.tables.names)
-      (observe_says name a _ now desk.tables.names (name_at name desk.tables.names) (end_of a (addrs_of (name_at name desk.tables.names)))))
+      (observe_says name a _ now desk.tables.names (name_at name desk.tables.names) (expiry_of a (addrs_of (name_at name desk.tables.names)))))

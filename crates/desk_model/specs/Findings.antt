@@ -1,4 +1,4 @@
--- What decides a frame: at each end the Thing, the ruling on its packet, and the entry that rules.
+-- What decides a frame: at each endpoint the Thing, the ruling on its packet, and the entry that rules.
 use Rattle.std.specs.Prelude.{ℕ, ◌-◌, List, slice_get, Option, Some, None}
 use Rattle.mud_base.specs.declared.packet.Direction.{Direction}
 use Rattle.mud_base.specs.declared.packet.Direction.TheVariants.{From, To}
@@ -12,9 +12,9 @@ use Rattle.acl_model.specs.FirstMatch.{file_entries}
 use Rattle.mud_tables.specs.declared.thing.Thing.{Thing}
 use Rattle.packet_judge.specs.declared.verdict.Verdict.{Verdict}
 use Rattle.packet_judge.specs.declared.verdict.Verdict.TheVariants.{Governed}
-use Rattle.packet_judge.specs.Verdicts.{ends_of}
+use Rattle.packet_judge.specs.Verdicts.{endpoints_of}
 
--- ---- An end
+-- ---- An endpoint
 
 -- the policy of each URL, where a file of it is approved
 abbrev pub Policies : Type 0
@@ -38,20 +38,20 @@ pub record Found : Type 0 where
   pub ruling : Ruling
   pub entry : Option Entry
 
--- nothing where nothing is decided, and where an end is no Thing
+-- nothing where nothing is decided, and where an endpoint is no Thing
 unfoldable pub found_at : Policies → Direction → Option Ruling → Option Thing → Option Found
 found_at policies side None thing = None
 found_at policies side (Some ruling) None = None
 found_at policies side (Some ruling) (Some thing) = Some (record { thing = thing; ruling = ruling; entry = deciding_entry policies side thing.url ruling })
 
--- ---- Both ends of a packet that is ruled on
+-- ---- Both endpoints of a packet that is ruled on
 
--- at the end that sent it
+-- at the endpoint that sent it
 unfoldable pub source_found : Policies → List Thing → Frame → Verdict → Option Found
-source_found policies things (Packet packet) (Governed source destination) = found_at policies From source (ends_of things packet.octets).source
+source_found policies things (Packet packet) (Governed source destination) = found_at policies From source (endpoints_of things packet.octets).source
 source_found policies things _ _ = None
 
--- at the end that it is for
+-- at the endpoint that it is for
 unfoldable pub destination_found : Policies → List Thing → Frame → Verdict → Option Found
-destination_found policies things (Packet packet) (Governed source destination) = found_at policies To destination (ends_of things packet.octets).destination
+destination_found policies things (Packet packet) (Governed source destination) = found_at policies To destination (endpoints_of things packet.octets).destination
 destination_found policies things _ _ = None

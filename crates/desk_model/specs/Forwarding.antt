@@ -8,19 +8,19 @@ use Rattle.mud_tables.specs.declared.thing.Thing.{Thing}
 use Rattle.mud_tables.specs.declared.segment.Segment.{Segment}
 use Rattle.mud_tables.specs.Tables.{ruling_of}
 use Rattle.mud_tables.specs.History.{begun_of}
-use Rattle.packet_judge.specs.Verdicts.{accepts, ends_of}
+use Rattle.packet_judge.specs.Verdicts.{accepts, endpoints_of}
 use Rattle.desk_model.specs.DeskTables.{DeskTables}
 use Rattle.desk_model.specs.Verdicts.{policy_at}
 
--- An end of a packet lets it pass: it is no Thing, or the operator doesn't hold it and the first matching entry of its URL's approved
--- file, and behind that of the defaults, accepts.
+-- An endpoint of a packet lets it pass: it is no Thing, or the operator doesn't hold it and the first matching entry of
+-- its URL's approved file, and behind that of the defaults, accepts.
 unfoldable pub lets_pass : DeskTables → List Segment → ℕ → Direction → Fields → Option Thing → Bool
 lets_pass desk history now side fields None = true
 lets_pass desk history now side fields (Some thing) =
     not thing.held && accepts (Some (ruling_of desk.tables now thing.url (policy_at desk thing.url) side fields (begun_of history side fields now)))
 
--- A packet is forwarded where the end that sent it and the end that it is for let it pass.
+-- A packet is forwarded where the endpoint that sent it and the endpoint that it is for let it pass.
 abbrev pub is_forwarded_by : DeskTables → List Segment → ℕ → PacketFrame → Bool
 is_forwarded_by desk history now packet =
-    lets_pass desk history now From packet.fields (ends_of desk.tables.things packet.octets).source
-    && lets_pass desk history now To packet.fields (ends_of desk.tables.things packet.octets).destination
+    lets_pass desk history now From packet.fields (endpoints_of desk.tables.things packet.octets).source
+    && lets_pass desk history now To packet.fields (endpoints_of desk.tables.things packet.octets).destination

@@ -67,7 +67,7 @@ ByReply session now command Keeper after = IsOkAnd (command_step session.desk (l
 ByReply session now command (Done outcome) after = command_in session now command ≡ record { reply = Done outcome; session = after }
 ByReply session now command (Refused refusal) after = command_in session now command ≡ record { reply = Refused refusal; session = after }
 
-pub record MayAnswer (session : Session) (now : ℕ) (command : Command) (reply : Reply) (after : Session) : Type 0 where
+pub record AllowedReply (session : Session) (now : ℕ) (command : Command) (reply : Reply) (after : Session) : Type 0 where
   pub reply_is : ByReply session now command reply after
 
 -- the reply is that the keeper failed
@@ -82,7 +82,7 @@ is_of_keeper Memory = false
 -- commands one after the other, each with its moment, what is answered to each, and the session after them
 abbrev pub Runs : Session → List (ℕ × Command) → List Reply → Session → Type 0
 Runs session [] [] after = after ≡ session
-Runs session (call ∷ calls) (reply ∷ replies) after = (next : Session) × MayAnswer session call.0 call.1 reply next × Runs next calls replies after
+Runs session (call ∷ calls) (reply ∷ replies) after = (next : Session) × AllowedReply session call.0 call.1 reply next × Runs next calls replies after
 Runs session [] (reply ∷ replies) after = ⊥
 Runs session (call ∷ calls) [] after = ⊥
 
@@ -119,5 +119,5 @@ abbrev pub ByVerdict : Session → ℕ → List ℕ → Result Verdict want.Memo
 ByVerdict session now frame (Ok verdict) after = frame_in session now frame ≡ record { verdict = verdict; session = after }
 ByVerdict session now frame (Err memory) after = IsNoted session now frame × (after ≡ session)
 
-pub record MayJudge (session : Session) (now : ℕ) (frame : List ℕ) (verdict : Result Verdict want.Memory) (after : Session) : Type 0 where
+pub record AllowedVerdict (session : Session) (now : ℕ) (frame : List ℕ) (verdict : Result Verdict want.Memory) (after : Session) : Type 0 where
   pub verdict_is : ByVerdict session now frame verdict after

@@ -11,7 +11,7 @@ use mud_url::MudUrl;
 #[derive(Clone, Copy, Debug)]
 pub struct Outcome {
     pub word: Word,
-    /// The end that is kept of a lease or of an address of a name.
+    /// The expiry that is kept of a lease or of an address of a name.
     pub until: Option<End>,
     /// The URL that a command on files is about.
     pub url: Option<MudUrl>,

@@ -14,7 +14,7 @@ ghost use Rattle.frame_view.specs.declared.views.Frame.TheVariants.{Packet};
 ghost use Rattle.frame_view.specs.Frame.{frame_of};
 ghost use Rattle.frame_view.specs.PacketFrame.{PacketFrame};
 ghost use Rattle.packet_judge.specs.declared.verdict.Verdict.{Verdict};
-ghost use Rattle.packet_judge.specs.Verdicts.{ends_of, end_ruling, is_managed, rulings_of, forwarded};
+ghost use Rattle.packet_judge.specs.Verdicts.{endpoints_of, endpoint_ruling, is_managed, rulings_of, forwarded};
 ghost use Rattle.desk_model.specs.declared.command.Command.{Command};
 ghost use Rattle.desk_model.specs.declared.reply.Refusal.{Refusal};
 ghost use Rattle.desk_model.specs.declared.reply.Reply.{Reply};
@@ -23,7 +23,7 @@ ghost use Rattle.desk_model.specs.DeskTables.{DeskTables, IsSound};
 ghost use Rattle.desk_model.specs.Commands.{IsCommand};
 ghost use Rattle.desk_model.specs.Forwarding.{is_forwarded_by};
 ghost use Rattle.desk_model.specs.Verdicts.{policy_at, policies, desk_bindings, ruling_at, verdict_at};
-ghost use Rattle.desk_model.specs.Sessions.{Session, IsSoundSession, MayAnswer, MayJudge, Runs, IsCall, opened, raised, command_in};
+ghost use Rattle.desk_model.specs.Sessions.{Session, IsSoundSession, AllowedReply, AllowedVerdict, Runs, IsCall, opened, raised, command_in};
 
 /// Every session stays sound.
 pub fn sessions_stay_sound()
@@ -33,11 +33,11 @@ pub fn sessions_stay_sound()
     // after the last one.
     ensures command { (session : Session) → IsSoundSession session → (now : ℕ) (command : Command)
         → now ≤ 253402300799 → IsCommand command → (reply : Reply) (after : Session)
-        → MayAnswer session now command reply after → IsSoundSession after }
+        → AllowedReply session now command reply after → IsSoundSession after }
     // So it is whatever is answered to a frame,
     ensures frame { (session : Session) → IsSoundSession session → (now : ℕ) (frame : List ℕ)
         → now ≤ 253402300799 → (verdict : Result Verdict want.Memory) (after : Session)
-        → MayJudge session now frame verdict after → IsSoundSession after }
+        → AllowedVerdict session now frame verdict after → IsSoundSession after }
     // and after a raise of the moment.
     ensures raise { (session : Session) → IsSoundSession session → (now : ℕ)
         → now ≤ 253402300799 → IsSoundSession (raised session now) }
@@ -47,11 +47,11 @@ pub fn sessions_stay_sound()
 pub fn sessions_keep()
     // Whatever is answered to a command, it leaves the history,
     ensures history { (session : Session) (now : ℕ) (command : Command) (reply : Reply)
-        (after : Session) → MayAnswer session now command reply after
+        (after : Session) → AllowedReply session now command reply after
         → after.history ≡ session.history }
     // and moments never go back.
     ensures moment { (session : Session) (now : ℕ) (command : Command) (reply : Reply)
-        (after : Session) → MayAnswer session now command reply after
+        (after : Session) → AllowedReply session now command reply after
         → session.moment ≤ after.moment }
     // A command that is refused leaves all as it was, the moment too.
     ensures refused { (session : Session) (now : ℕ) (command : Command) (refusal : Refusal)
@@ -60,7 +60,7 @@ pub fn sessions_keep()
     // Whatever is answered to a frame, it leaves the desk, and moments never go back.
     ensures judged { (session : Session) (now : ℕ) (frame : List ℕ)
         (verdict : Result Verdict want.Memory) (after : Session)
-        → MayJudge session now frame verdict after
+        → AllowedVerdict session now frame verdict after
         → (after.desk ≡ session.desk) × (session.moment ≤ after.moment) }
 {}
 
@@ -76,7 +76,7 @@ pub fn sessions_run()
     // One more may follow.
     ensures push { (session : Session) (calls : List (ℕ × Command)) (replies : List Reply)
         (middle : Session) → Runs session calls replies middle → (now : ℕ) (command : Command)
-        (reply : Reply) (after : Session) → MayAnswer middle now command reply after
+        (reply : Reply) (after : Session) → AllowedReply middle now command reply after
         → Runs session (calls ++ (now, command) ∷ []) (replies ++ reply ∷ []) after }
 {}
 
@@ -88,15 +88,16 @@ pub fn desks_rule()
     // No two bindings are of one key and one address.
     ensures bindings { (desk : DeskTables) → IsSound desk
         → IsTrue (are_apart same_spot (desk_bindings desk)) }
-    // In a verdict each end that is a Thing has its ruling.
-    ensures ends { (desk : DeskTables) (history : List Segment) (now : ℕ) (side : Direction)
+    // In a verdict each endpoint that is a Thing has its ruling.
+    ensures endpoints { (desk : DeskTables) (history : List Segment) (now : ℕ) (side : Direction)
         (thing : Thing) (fields : Fields)
-        → end_ruling (rulings_of desk.tables (policy_at desk) history now) side fields (Some thing)
+        → endpoint_ruling (rulings_of desk.tables (policy_at desk) history now) side fields (Some thing)
         ≡ Some (ruling_at desk now side thing fields (begun_of history side fields now)) }
-    // A packet with a Thing at its ends is forwarded exactly where no such Thing is held and the first
-    // matching entry of the approved file of each one's URL, and then of the defaults, accepts.
+    // A packet with a Thing at its endpoints is forwarded exactly where no such Thing is held and
+    // the first matching entry of the approved file of each one's URL, and then of the defaults,
+    // accepts.
     ensures passes { (desk : DeskTables) (history : List Segment) (now : ℕ) (octets : List ℕ)
         (packet : PacketFrame) → frame_of octets ≡ Packet packet
-        → is_managed (ends_of desk.tables.things packet.octets) ≡ true
+        → is_managed (endpoints_of desk.tables.things packet.octets) ≡ true
         → forwarded (verdict_at desk history now octets) ≡ is_forwarded_by desk history now packet }
 {}

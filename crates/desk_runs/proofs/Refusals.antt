@@ -9,10 +9,10 @@ use Rattle.mud_world.specs.Causes.{Counts, Rose, StopsAtFailure}
 use Rattle.mud_world.specs.Door.{DoorState, put_out}
 use Rattle.mud_world.specs.View.{DoorView}
 use Rattle.mud_world.proofs.Doors.{put_out_none}
-use Rattle.command_runs.specs.Due.{WroteFirst}
+use Rattle.command_runs.specs.Output.{WroteFirst}
 use Rattle.command_runs.specs.Ends.{IsSteady, IsStopped, IsStoppedWriting}
 use Rattle.command_runs.specs.Status.{each_status}
-use Rattle.command_runs.proofs.Dues.{wrote_none}
+use Rattle.command_runs.proofs.Outputs.{wrote_none}
 use Rattle.desk_items.specs.declared.fault.OpenFault.{OpenFault}
 use Rattle.desk_items.specs.declared.fault.OpenFault.TheVariants.{Keeper, Memory, BadItem}
 use Rattle.desk_items.specs.Opening.{IsFaultOf, IsOfCall}

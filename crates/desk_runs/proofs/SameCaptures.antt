@@ -3,15 +3,15 @@ use Rattle.std.proofs.Common.{◌≡◌, ℕ, List, ◌++◌, ap, ap₂, ◌∙�
 use Rattle.std.specs.Prelude.{codes, decimal}
 use Rattle.octet_buffer.specs.Packets.{Packet}
 use Rattle.capture_runs.specs.Same.{HoldTheSame}
-use Rattle.capture_runs.specs.Fold.{LineStep, LooksAtNoPlace, no_ending}
-use Rattle.capture_runs.proofs.SamePackets.{due_same}
+use Rattle.capture_runs.specs.Fold.{LineStep, LooksAtNoOffset, no_ending}
+use Rattle.capture_runs.proofs.SamePackets.{output_same}
 use Rattle.text_lines.specs.Numbers.{number_text}
 use Rattle.packet_judge.specs.declared.verdict.Verdict.{Verdict}
 use Rattle.reply_lines.specs.Verdicts.{verdict_text}
 use Rattle.desk_model.specs.DeskTables.{DeskTables}
 use Rattle.desk_model.specs.Sessions.{Session, opened, frame_in}
 use Rattle.desk_runs.specs.Judged.{judged_line, judged_step}
-use Rattle.desk_runs.specs.Store.{judged_due}
+use Rattle.desk_runs.specs.Store.{judged_output}
 
 line_made : Verdict → ℕ → ℕ → List ℕ
 line_made verdict number seconds = decimal number ++ number_text seconds ++ codes " " ++ verdict_text verdict ++ codes "\n"
@@ -26,11 +26,11 @@ made session number seconds octets = record {
   next = (frame_in session seconds octets).session;
 }
 
--- the place isn't looked at
-placeless : LooksAtNoPlace judged_step
+-- the offset isn't looked at
+offsetless : LooksAtNoOffset judged_step
 unfolding judged_line made
-placeless session p q number seconds octets =
+offsetless session p q number seconds octets =
     ap (λ (n : ℕ). made session n p.seconds p.octets) number ∙ ap₂ (λ (n : ℕ) (l : List ℕ). made session q.number n l) seconds octets
 
-pub judged_alike : (tables : DeskTables) (one other : List ℕ) → HoldTheSame one other → judged_due tables one ≡ judged_due tables other
-judged_alike tables one other same = due_same judged_step no_ending placeless (opened tables) one other same
+pub judged_alike : (tables : DeskTables) (one other : List ℕ) → HoldTheSame one other → judged_output tables one ≡ judged_output tables other
+judged_alike tables one other same = output_same judged_step no_ending offsetless (opened tables) one other same

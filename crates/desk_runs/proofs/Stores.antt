@@ -7,7 +7,7 @@ use Rattle.mud_world.specs.declared.item.Item.{Item}
 use Rattle.mud_world.specs.Boxed.{faults_of, Tells, kept_items}
 use Rattle.mud_world.specs.Door.{DoorState, with_left, put_out}
 use Rattle.mud_world.proofs.Doors.{put_out_none}
-use Rattle.command_runs.specs.Due.{Due, WritesDue, WritesPart, WroteFirst}
+use Rattle.command_runs.specs.Output.{Output, WritesOutput, WritesPart, WroteFirst}
 use Rattle.mud_world.specs.View.{DoorView}
 use Rattle.desk_model.specs.DeskTables.{DeskTables, IsSound}
 use Rattle.desk_model.specs.Items.{tables_in}
@@ -64,23 +64,23 @@ with_own_left text old new wrote =
     wrote ∙ subst (λ (left : List ℕ). put_out text old ≡ put_out text (with_left left old)) same refl
 
 -- nothing was written
-due_none : (due : Due) (old new : DoorState) → new ≡ old → WritesPart due old new
-due_none due old new same = record { read = []; count = 0; left_is = sym (ap (λ (s : DoorState). s.left) same); door_is = with_own_left [] old new (same ∙ sym (put_out_none old)) }
+output_none : (output : Output) (old new : DoorState) → new ≡ old → WritesPart output old new
+output_none output old new same = record { read = []; count = 0; left_is = sym (ap (λ (s : DoorState). s.left) same); door_is = with_own_left [] old new (same ∙ sym (put_out_none old)) }
 
-module _ (due : DeskTables → List ℕ → Due) (taken : DeskTables → DoorState → DoorState → Type 0) where
+module _ (output : DeskTables → List ℕ → Output) (taken : DeskTables → DoorState → DoorState → Type 0) where
   pub writes_opened : (tables : DeskTables) (old new : DoorView) (status : ℕ) → IsOfCapture status
-      → ((status ≡ 0) ⊎ (status ≡ 3) → WritesDue (due tables old.state.left) old.state new.state status)
-      → ((status ≡ 4) ⊎ (status ≡ 5) → WritesPart (due tables old.state.left) old.state new.state)
+      → ((status ≡ 0) ⊎ (status ≡ 3) → WritesOutput (output tables old.state.left) old.state new.state status)
+      → ((status ≡ 4) ⊎ (status ≡ 5) → WritesPart (output tables old.state.left) old.state new.state)
       → (new.reads ≢ old.reads → taken tables old.state new.state)
-      → WritesOfStore due taken (Ok tables) old new status
+      → WritesOfStore output taken (Ok tables) old new status
   writes_opened tables old new status is done part gone = record { good = λ six. no_six status is six; done = done; part = part; read = gone }
 
   pub writes_refused : (store : Result DeskTables Item) (old new : DoorView) (status : ℕ) → RefusesStore store old.state new.state status → new.reads ≡ old.reads
-      → WritesOfStore due taken store old new status
+      → WritesOfStore output taken store old new status
   writes_refused (Ok tables) old new status p reads = record {
     good = no_bad tables old.state new.state status p;
     done = λ which. not_read status p.statuses which;
-    part = λ which. due_none (due tables old.state.left) old.state new.state (nothing_written tables old.state new.state status p which);
+    part = λ which. output_none (output tables old.state.left) old.state new.state (nothing_written tables old.state new.state status p which);
     read = λ changed. absurd (changed reads);
   }
   writes_refused (Err item) old new status p reads = (p, reads)

@@ -7,7 +7,7 @@ use Rattle.text_lines.specs.Numbers.{number_text}
 use Rattle.desk_items.specs.declared.fault.OpenFault.{OpenFault}
 use Rattle.desk_items.specs.declared.fault.OpenFault.TheVariants as open_fault
 use Rattle.desk_model.specs.DeskTables.{DeskTables}
-use Rattle.command_runs.specs.Due.{WroteFirst}
+use Rattle.command_runs.specs.Output.{WroteFirst}
 use Rattle.command_runs.specs.Status.{Is, IsOneOf}
 use Rattle.command_runs.specs.declared.status.Status.{Status}
 use Rattle.command_runs.specs.declared.status.Status.TheVariants.{DoorFailed, NoMemory, BadItem, KeeperFailed}

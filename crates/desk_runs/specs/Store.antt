@@ -6,10 +6,10 @@ use Rattle.mud_world.specs.declared.keeper.Keeper.{Ghosts}
 use Rattle.mud_world.specs.declared.item.Item.{Item}
 use Rattle.mud_world.specs.Boxed.{faults_of, Tells, kept_items}
 use Rattle.mud_world.specs.Door.{DoorState}
-use Rattle.capture_runs.specs.Capture.{WritesTaken, due_of_capture}
+use Rattle.capture_runs.specs.Capture.{WritesTaken, output_of_capture}
 use Rattle.capture_runs.specs.Fold.{no_ending}
 use Rattle.command_runs.specs.Ends.{IsSteady, IsStopped}
-use Rattle.command_runs.specs.Due.{Due, WritesDue, WritesPart}
+use Rattle.command_runs.specs.Output.{Output, WritesOutput, WritesPart}
 use Rattle.mud_world.specs.View.{DoorView}
 use Rattle.desk_model.specs.DeskTables.{DeskTables, IsSound}
 use Rattle.desk_model.specs.Items.{tables_in}
@@ -21,15 +21,15 @@ use Rattle.desk_runs.specs.Refused.{RefusesStore, each_refusal}
 use Rattle.command_runs.specs.Status.{Is, IsNot, IsOneOf, each_status}
 use Rattle.command_runs.specs.declared.status.Status.TheVariants.{Done, Refused, DoorFailed, NoMemory, BadItem, KeeperFailed}
 
--- What a command makes of a capture by the tables of its store: what is due to the octets of a connection, and what was written
--- of it where a read failed.
-module _ (due : DeskTables → List ℕ → Due) (taken : DeskTables → DoorState → DoorState → Type 0) where
+-- What a command makes of a capture by the tables of its store: the output for the octets of a connection, and what was
+-- written of it where a read failed.
+module _ (output : DeskTables → List ℕ → Output) (taken : DeskTables → DoorState → DoorState → Type 0) where
   -- What is written by the tables of a store whose items are all records.
   pub record WritesByTables (tables : DeskTables) (old new : DoorView) (status : ℕ) : Type 0 where
-    -- With 0 and 3 all that is due was written, with 4 and 5 a first part of it. No item is there to be named with 6.
+    -- With 0 and 3 all of the output was written, with 4 and 5 a first part of it. No item is there to be named with 6.
     pub good : IsNot BadItem status
-    pub done : IsOneOf (Done ∷ Refused ∷ []) status → WritesDue (due tables old.state.left) old.state new.state status
-    pub part : IsOneOf (DoorFailed ∷ NoMemory ∷ []) status → WritesPart (due tables old.state.left) old.state new.state
+    pub done : IsOneOf (Done ∷ Refused ∷ []) status → WritesOutput (output tables old.state.left) old.state new.state status
+    pub part : IsOneOf (DoorFailed ∷ NoMemory ∷ []) status → WritesPart (output tables old.state.left) old.state new.state
     -- Where a read failed, what was made of the octets that were read was written.
     pub read : new.reads ≢ old.reads → taken tables old.state new.state
 
@@ -40,8 +40,8 @@ module _ (due : DeskTables → List ℕ → Due) (taken : DeskTables → DoorSta
   WritesOfStore (Err item) old new status = RefusesStore (Err item) old.state new.state status × (new.reads ≡ old.reads)
 
 -- of `judge`: the lines of the packets, in the session that begins with the tables of the store
-abbrev pub judged_due : DeskTables → List ℕ → Due
-judged_due tables octets = due_of_capture judged_step no_ending (opened tables) octets
+abbrev pub judged_output : DeskTables → List ℕ → Output
+judged_output tables octets = output_of_capture judged_step no_ending (opened tables) octets
 
 abbrev pub judged_taken : DeskTables → DoorState → DoorState → Type 0
 judged_taken tables old new = WritesTaken judged_step (opened tables) old new
@@ -77,15 +77,15 @@ module _ {X : Type 0} {F : X → Type 0} (members : (v : (x : X) × F x) → Gho
     pub kept : KeepsTables returned ⊎ IsUnopened keeper returned status
 
   -- A run over a store that reads a capture. `tells` says that the door tells its connections.
-  pub record ReadsByStore (due : DeskTables → List ℕ → Due) (taken : DeskTables → DoorState → DoorState → Type 0) (tells : Type 0) (keeper returned : DynBox X Global F) (old new : DoorView) (status : ℕ) : Type 0 where
+  pub record ReadsByStore (output : DeskTables → List ℕ → Output) (taken : DeskTables → DoorState → DoorState → Type 0) (tells : Type 0) (keeper returned : DynBox X Global F) (old new : DoorView) (status : ℕ) : Type 0 where
     -- A read or a write that fails ends the run.
     pub honest : RunsHonestly members each_status (IsStopped old new) (IsSteady old new) keeper returned status
-    -- The items that are kept when the run ends say what is due.
-    pub writes : tells → Tells members returned → WritesOfStore due taken (tables_in (kept_items members returned)) old new status
+    -- The items that are kept when the run ends say what the output is.
+    pub writes : tells → Tells members returned → WritesOfStore output taken (tables_in (kept_items members returned)) old new status
     pub leaves : LeavesStore keeper returned status
     -- The box that comes back is the one that was handed in. No port is bound, and the connection isn't left.
     pub same_turns : new.turns ≡ old.turns
 
   -- a run of `judge`
   abbrev pub JudgesStore : Type 0 → DynBox X Global F → DynBox X Global F → DoorView → DoorView → ℕ → Type 0
-  JudgesStore tells keeper returned old new status = ReadsByStore judged_due judged_taken tells keeper returned old new status
+  JudgesStore tells keeper returned old new status = ReadsByStore judged_output judged_taken tells keeper returned old new status

@@ -2,10 +2,10 @@
 ghost use Rattle.std.specs.Prelude.{◌≡◌, ◌≢◌, ◌++◌, IfOk, OnOk, OnErr, [], ◌∷◌};
 ghost use Rattle.sorted_rows.specs.Ledgers.{IsBlankOf};
 ghost use Rattle.pcap_read.specs.Captured.{packet_of};
-ghost use Rattle.capture_runs.specs.Capture.{WritesTaken, due_of_capture};
+ghost use Rattle.capture_runs.specs.Capture.{WritesTaken, output_of_capture};
 ghost use Rattle.capture_runs.specs.Fold.{no_ending};
 ghost use Rattle.command_runs.specs.Ends.{IsSteady, IsStopped};
-ghost use Rattle.command_runs.specs.Due.{WritesDue, WritesPart};
+ghost use Rattle.command_runs.specs.Output.{WritesOutput, WritesPart};
 ghost use Rattle.command_runs.specs.Status.{Is, IsNot, IsOneOf, status_number};
 ghost use Rattle.command_runs.specs.declared.status.Status.TheVariants.{Done, Refused, DoorFailed, NoMemory};
 ghost use Rattle.desk_model.specs.Sessions.{Session};
@@ -110,9 +110,9 @@ pub(crate) fn judge_capture<D: Door>(
     ensures steady { IsNot DoorFailed (status_number result.0) → IsSteady (D.view door.old) (D.view door.new) }
     // In whatever session the desk is, the lines are those of the packets in their order.
     ensures done { (s : Session) → IsIn s desk.state → D.tells → IsOneOf (Done ∷ Refused ∷ []) (status_number result.0) →
-        WritesDue (due_of_capture judged_step no_ending s (D.view door.old).state.left) (D.view door.old).state (D.view door.new).state (status_number result.0) }
+        WritesOutput (output_of_capture judged_step no_ending s (D.view door.old).state.left) (D.view door.old).state (D.view door.new).state (status_number result.0) }
     ensures part { (s : Session) → IsIn s desk.state → D.tells → IsOneOf (DoorFailed ∷ NoMemory ∷ []) (status_number result.0) →
-        WritesPart (due_of_capture judged_step no_ending s (D.view door.old).state.left) (D.view door.old).state (D.view door.new).state }
+        WritesPart (output_of_capture judged_step no_ending s (D.view door.old).state.left) (D.view door.old).state (D.view door.new).state }
     ensures taken { (s : Session) → IsIn s desk.state → D.tells → (D.view door.new).reads ≢ (D.view door.old).reads →
         WritesTaken judged_step s (D.view door.old).state (D.view door.new).state }
     ensures turns { (D.view door.new).turns ≡ (D.view door.old).turns }

@@ -2,7 +2,7 @@
 ghost use Rattle.std.specs.Prelude.{◌≡◌, ◌++◌, IfOk, OnOk, [], ◌∷◌};
 ghost use Rattle.mud_world.specs.Door.{put_out};
 ghost use Rattle.command_runs.specs.Ends.{IsStoppedWriting};
-ghost use Rattle.command_runs.specs.Due.{WroteFirst};
+ghost use Rattle.command_runs.specs.Output.{WroteFirst};
 ghost use Rattle.command_runs.specs.Status.{Is, IsNot, IsOneOf, status_number};
 ghost use Rattle.command_runs.specs.declared.status.Status.TheVariants.{DoorFailed, NoMemory, BadItem};
 ghost use Rattle.desk_items.specs.Opening.{IsOfCall};

@@ -2,24 +2,24 @@
 ghost use Rattle.std.specs.Prelude.{◌≡◌};
 ghost use Rattle.command_runs.specs.Status.{Is, status_number};
 ghost use Rattle.command_runs.specs.declared.status.Status.TheVariants.{KeeperFailed};
-ghost use Rattle.desk_items.specs.Taken.{kept_of};
+ghost use Rattle.desk_items.specs.Loaded.{kept_of};
 ghost use Rattle.desk_model.specs.Items.{none_kept};
 ghost use Rattle.desk_runs.specs.Store.{JudgesStore};
 
 use crate::judging::judge_capture;
 use crate::refusing::refuse_store;
 use command_runs::Status;
-use mud_desk::{Desk, Taken};
+use mud_desk::{Desk, Loaded};
 use mud_world::{Door, Keeper};
 use std::alloc::Global;
 
 /// Opens a desk over the keeper, and then reads a capture and writes the verdict on each of its
 /// packets. Where the store can't be opened, the capture isn't read. The box is handed back. Nothing
-/// was taken before, as [`Desk::open`] wants it: [`Taken::new`].
+/// was taken before, as [`Desk::open`] wants it: [`Loaded::new`].
 pub fn judge_store<D: Door>(
     alloc: Global,
     keeper: Box<dyn Keeper>,
-    nothing: Taken,
+    nothing: Loaded,
     door: &mut D,
 ) -> (Status, Box<dyn Keeper>)
     requires { kept_of nothing ≡ none_kept }

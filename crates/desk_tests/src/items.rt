@@ -3,7 +3,7 @@ ghost use Rattle.std.specs.Prelude.{◌≡◌, IsTrue};
 
 use crate::bulb::BULB;
 use crate::keepers::{self, desk_over};
-use desk_items::{OpenFault, Taken, open_items};
+use desk_items::{OpenFault, Loaded, open_items};
 use mud_base::{Bytes, Memory};
 use mud_world::{Item, Keeper, Put, keep};
 use std::alloc::Global;
@@ -72,7 +72,7 @@ fn add_two(alloc: Global, keeper: &mut Box<dyn Keeper>, kind: u8, body: &[u8]) -
 }
 
 /// Whether the item of the stamp is named as the first that is no record.
-fn names_stamp(answer: &Result<Taken, OpenFault>) -> bool {
+fn names_stamp(answer: &Result<Loaded, OpenFault>) -> bool {
     match answer {
         Err(OpenFault::BadItem(kind, key)) => *kind == 6 && key.len() == 0,
         _ => false,
@@ -107,7 +107,7 @@ fn add_all(alloc: Global, keeper: &mut Box<dyn Keeper>) -> Result<(), Fail> {
 }
 
 /// Asserts that one item of each of these kinds was taken.
-fn has_all(rt: &impl Abort, taken: &Taken) {
+fn has_all(rt: &impl Abort, taken: &Loaded) {
     assert_eq!(rt; taken.things.things().len(), 1);
     assert_eq!(rt; taken.files.files().len(), 1);
     assert_eq!(rt; taken.binds.classes().len(), 1);
@@ -119,7 +119,7 @@ fn has_all(rt: &impl Abort, taken: &Taken) {
 /// Asserts that all are read, and that the Thing is kept in version 2 from then on.
 fn reads_all(rt: &impl Abort, alloc: Global, keeper: &mut Box<dyn Keeper>) -> Result<(), Fail> {
     add_all(alloc, keeper)?;
-    let taken = open_items(alloc, keeper, Taken::new(alloc))?;
+    let taken = open_items(alloc, keeper, Loaded::new(alloc))?;
     has_all(rt, &taken);
     drop(taken);
     check_bodies(rt, alloc, keeper, SECOND, STAMP)
@@ -143,7 +143,7 @@ fn add_bad(alloc: Global, keeper: &mut Box<dyn Keeper>) -> Result<(), Fail> {
 /// Asserts that the first of them is named, and that the Thing stays in version 1.
 fn names_first(rt: &impl Abort, alloc: Global, keeper: &mut Box<dyn Keeper>) -> Result<(), Fail> {
     add_bad(alloc, keeper)?;
-    let answer = open_items(alloc, keeper, Taken::new(alloc));
+    let answer = open_items(alloc, keeper, Loaded::new(alloc));
     assert!(rt; names_stamp(&answer));
     drop(answer);
     check_bodies(rt, alloc, keeper, FIRST, b"")
@@ -159,7 +159,7 @@ fn the_first_bad_item_is_named(rt: HostRuntime) -> Result<(), Fail> {
 
 /// Asserts that the keeper fails.
 fn fails(rt: &impl Abort, alloc: Global, keeper: &mut Box<dyn Keeper>) {
-    let answer = open_items(alloc, keeper, Taken::new(alloc));
+    let answer = open_items(alloc, keeper, Loaded::new(alloc));
     assert!(rt; matches!(&answer, Err(OpenFault::Keeper)));
     drop(answer);
 }
@@ -171,7 +171,7 @@ fn fails_twice(rt: &impl Abort, alloc: Global, keeper: &mut Box<dyn Keeper>) -> 
     for _ in 0..2 {
         fails(rt, alloc, keeper);
     }
-    drop(open_items(alloc, keeper, Taken::new(alloc))?);
+    drop(open_items(alloc, keeper, Loaded::new(alloc))?);
     check_bodies(rt, alloc, keeper, SECOND, STAMP)
 }
 

@@ -1,6 +1,6 @@
 //! Two desks are given the same commands, made by chance. The one patches its rows from the first
-//! command to the last; the other is closed and opened again every now and then, so that its rows are
-//! made anew from what its keeper has kept. Both lend the same rows.
+//! command to the last; the other is closed and opened again every now and then, so that its rows
+//! are made anew from what its keeper has kept. Both lend the same rows.
 ghost use Rattle.sorted_rows.specs.Ledgers.{IsBlankOf};
 ghost use Rattle.desk_model.specs.Boxed.{IsKept};
 ghost use Rattle.mud_desk.specs.DeskState.{tables_of};
@@ -52,7 +52,7 @@ fn give<L: Ledger>(
     Ok(())
 }
 
-/// Whether two lists have the same rows, whatever the place of the owner in the table of policies.
+/// Whether two lists have the same rows, whatever the owner's slot in the table of policies.
 fn are_same(first: &[Row], second: &[Row]) -> bool {
     first.len() == second.len()
         && first.iter().zip(second).all(|(a, b)| {
@@ -129,8 +129,8 @@ fn give_both<L: Ledger>(
     give(alloc, anew, &mut again, steps)
 }
 
-/// Opens the second desk over its keeper, tells whether both lend the same rows, gives both the next
-/// commands, and closes the second desk again.
+/// Opens the second desk over its keeper, tells whether both lend the same rows, gives both the
+/// next commands, and closes the second desk again.
 fn compared<L: Ledger>(
     alloc: Global,
     patched: &mut Desk,

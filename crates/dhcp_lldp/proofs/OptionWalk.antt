@@ -11,7 +11,7 @@ use Rattle.dhcp_lldp.specs.OptionStep.{nothing_yet, with_content}
 
 abbrev pub at_end : Contents → Option ℕ → Result Contents HearFault
 at_end contents None = Ok contents
-at_end contents (Some place) = Err (faults.Cut place)
+at_end contents (Some offset) = Err (faults.Cut offset)
 
 abbrev pub then_contents : Result Contents HearFault → (Contents → Result Contents HearFault) → Result Contents HearFault
 then_contents (Ok contents) f = f contents
@@ -111,7 +111,7 @@ or_none (Some content) = refl
 
 at_end-answer : (contents : Contents) (cut : Option ℕ) → at_end contents cut ≡ answer false cut contents
 at_end-answer contents None = refl
-at_end-answer contents (Some place) = refl
+at_end-answer contents (Some offset) = refl
 
 walk_all : (options : List DhcpOption) (cut : Option ℕ) → IsAnswered options cut
 walk_all [] cut time kind url = simp (not_twice, or_none) (at_end-answer (record { lease_time = time; message_type = kind; mud_url = url }) cut)
@@ -126,9 +126,9 @@ pub walked_end : (contents : Contents) → walked contents no_more ≡ Ok conten
 unfolding walked
 walked_end contents = refl
 
-pub walked_cut : (contents : Contents) (place : ℕ) → walked contents (cut_at place) ≡ Err (faults.Cut place)
+pub walked_cut : (contents : Contents) (offset : ℕ) → walked contents (cut_at offset) ≡ Err (faults.Cut offset)
 unfolding walked
-walked_cut contents place = refl
+walked_cut contents offset = refl
 
 -- one more option, at the front of the listing
 pub walked_option : (contents next : Contents) (option : DhcpOption) (later l : Listing) → l ≡ with_option option later

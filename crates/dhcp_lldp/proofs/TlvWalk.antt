@@ -10,7 +10,7 @@ use Rattle.dhcp_lldp.specs.TlvStep.{SeenTlvs, nothing_seen, seen_in, seen_after}
 
 abbrev pub at_end : SeenTlvs → Option ℕ → Result SeenTlvs HearFault
 at_end seen None = cond (ltb seen.count 3) (Err faults.Order) (Ok seen)
-at_end seen (Some place) = Err (faults.Cut place)
+at_end seen (Some offset) = Err (faults.Cut offset)
 
 abbrev pub then_seen : Result SeenTlvs HearFault → (SeenTlvs → Result SeenTlvs HearFault) → Result SeenTlvs HearFault
 then_seen (Ok seen) f = f seen
@@ -59,7 +59,7 @@ module _ (tlv : Tlv) (more : List Tlv) (cut : Option ℕ) (later : IsAnswered mo
 walk_all : (tlvs : List Tlv) (cut : Option ℕ) → IsAnswered tlvs cut
 unfolding mud_string_of
 walk_all [] None count string = simp (add-zero, or_none) (ending (ltb count 3) (record { count = count; string = string }))
-walk_all [] (Some place) count string = refl
+walk_all [] (Some offset) count string = refl
 walk_all (tlv ∷ more) cut count string =
     at_tlv tlv more cut (walk_all more cut) count string (cases_Bool (is_out_of_order count tlv)) (cases_Bool (is_mud tlv))
 
@@ -75,9 +75,9 @@ pub walked_short : (seen : SeenTlvs) → ltb seen.count 3 ≡ true → walked se
 unfolding walked
 walked_short seen short = ap (λ b. cond b (Err faults.Order) (Ok seen)) short
 
-pub walked_cut : (seen : SeenTlvs) (place : ℕ) → walked seen (cut_at place) ≡ Err (faults.Cut place)
+pub walked_cut : (seen : SeenTlvs) (offset : ℕ) → walked seen (cut_at offset) ≡ Err (faults.Cut offset)
 unfolding walked
-walked_cut seen place = refl
+walked_cut seen offset = refl
 
 -- one more TLV, at the front of the listing
 pub walked_tlv : (seen next : SeenTlvs) (tlv : Tlv) (later l : Listing) → l ≡ with_tlv tlv later → Ok next ≡ seen_after seen tlv → walked next later ≡ walked seen l

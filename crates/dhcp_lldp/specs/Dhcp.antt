@@ -5,7 +5,7 @@ use Rattle.mud_base.specs.Faults.{row, unless}
 use Rattle.mud_base.specs.declared.addr.Mac.{Mac}
 use Rattle.mud_base.specs.declared.addr.Addr.TheVariants.{V4}
 use Rattle.mud_base.specs.Numbers.{big_32}
-use Rattle.mud_base.specs.Places.{octets_at, mac_at, is_group_at}
+use Rattle.mud_base.specs.Offsets.{octets_at, mac_at, is_group_at}
 use Rattle.dhcp_lldp.specs.declared.heard.Heard.{Heard}
 use Rattle.dhcp_lldp.specs.declared.heard.Heard.TheVariants.{Lease, Nothing}
 use Rattle.dhcp_lldp.specs.declared.heard.HearFault.{HearFault}
@@ -13,49 +13,49 @@ use Rattle.dhcp_lldp.specs.declared.heard.HearFault.TheVariants as faults
 use Rattle.dhcp_lldp.specs.Mud.{announced}
 use Rattle.dhcp_lldp.specs.Options.{Listing, listing, Contents, contents_of, option_fault}
 
--- The places of the fields that are read (section 2, figure 1)
-abbrev pub op_place : ℕ
-op_place = 0
+-- The offsets of the fields that are read (section 2, figure 1)
+abbrev pub op_offset : ℕ
+op_offset = 0
 
-abbrev pub htype_place : ℕ
-htype_place = 1
+abbrev pub htype_offset : ℕ
+htype_offset = 1
 
-abbrev pub hlen_place : ℕ
-hlen_place = 2
+abbrev pub hlen_offset : ℕ
+hlen_offset = 2
 
-abbrev pub yiaddr_place : ℕ
-yiaddr_place = 16
+abbrev pub yiaddr_offset : ℕ
+yiaddr_offset = 16
 
-abbrev pub chaddr_place : ℕ
-chaddr_place = 28
+abbrev pub chaddr_offset : ℕ
+chaddr_offset = 28
 
 -- the magic cookie, with which the field options begins, and the first option (section 3)
-abbrev pub cookie_place : ℕ
-cookie_place = 236
+abbrev pub cookie_offset : ℕ
+cookie_offset = 236
 
-abbrev pub options_place : ℕ
-options_place = 240
+abbrev pub options_offset : ℕ
+options_offset = 240
 
 -- a message of a client, and one of a server
 unfoldable pub is_request : List ℕ → Bool
-is_request message = slice_index message op_place == 1
+is_request message = slice_index message op_offset == 1
 
 unfoldable pub is_reply : List ℕ → Bool
-is_reply message = slice_index message op_place == 2
+is_reply message = slice_index message op_offset == 2
 
 -- htype 1 and hlen 6 are Ethernet's, and a client has an address of its own
 unfoldable pub is_ethernet : List ℕ → Bool
-is_ethernet message = slice_index message htype_place == 1 && slice_index message hlen_place == 6 && not (is_group_at chaddr_place message)
+is_ethernet message = slice_index message htype_offset == 1 && slice_index message hlen_offset == 6 && not (is_group_at chaddr_offset message)
 
 -- the octets 99, 130, 83 and 99 (section 3)
 unfoldable pub has_cookie : List ℕ → Bool
-has_cookie message = bytes_eq (octets_at 4 cookie_place message) (99 ∷ 130 ∷ 83 ∷ 99 ∷ [])
+has_cookie message = bytes_eq (octets_at 4 cookie_offset message) (99 ∷ 130 ∷ 83 ∷ 99 ∷ [])
 
 unfoldable pub yiaddr_of : List ℕ → ℕ
-yiaddr_of message = big_32 yiaddr_place message
+yiaddr_of message = big_32 yiaddr_offset message
 
 unfoldable pub options_of : List ℕ → Listing
-options_of message = listing 0 options_place (drop options_place message)
+options_of message = listing 0 options_offset (drop options_offset message)
 
 -- DHCPACK is the message type 5 (RFC 2132, section 9.6)
 unfoldable pub is_ack : Option (List ℕ) → Bool
@@ -77,13 +77,13 @@ granted mac yiaddr contents =
 -- what a message without a fault says, with the contents of its options
 unfoldable pub said : List ℕ → Contents → Result Heard HearFault
 said message contents =
-    if is_request message then announced (mac_at chaddr_place message) contents.mud_url
-    else (if is_reply message then Ok (granted (mac_at chaddr_place message) (yiaddr_of message) contents) else Ok Nothing)
+    if is_request message then announced (mac_at chaddr_offset message) contents.mud_url
+    else (if is_reply message then Ok (granted (mac_at chaddr_offset message) (yiaddr_of message) contents) else Ok Nothing)
 
 -- the table of faults, in its order
 abbrev pub rows : List ℕ → List (Option HearFault)
 rows message =
-    row (nat_lt (length message) options_place) (faults.Cut 0)
+    row (nat_lt (length message) options_offset) (faults.Cut 0)
     ∷ row (not (is_ethernet message)) faults.Hardware
     ∷ row (not (has_cookie message)) faults.Cookie
     ∷ option_fault (options_of message)

@@ -1,4 +1,4 @@
--- The numbers, names and places of the faults of a message.
+-- The numbers, names and offsets of the faults of a message.
 use Rattle.std.specs.Prelude.{ℕ, List, Option, Some, None, codes}
 use Rattle.mud_url.specs.declared.fault.UrlFault.{UrlFault}
 use Rattle.dhcp_lldp.specs.declared.heard.HearFault.{HearFault}
@@ -20,14 +20,14 @@ name_of Repeat = codes "Repeat"
 name_of Order = codes "Order"
 name_of (Url fault) = codes "Url"
 
--- the place in the message, of a fault that has one
-unfoldable pub place_of : HearFault → Option ℕ
-place_of (Cut at) = Some at
-place_of Cookie = None
-place_of Hardware = None
-place_of Repeat = None
-place_of Order = None
-place_of (Url fault) = None
+-- the offset in the message, of a fault that has one
+unfoldable pub offset_of : HearFault → Option ℕ
+offset_of (Cut at) = Some at
+offset_of Cookie = None
+offset_of Hardware = None
+offset_of Repeat = None
+offset_of Order = None
+offset_of (Url fault) = None
 
 -- the fault of the MUD URL
 unfoldable pub url_fault_of : HearFault → Option UrlFault

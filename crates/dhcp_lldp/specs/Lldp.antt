@@ -1,9 +1,9 @@
 -- What an LLDP frame says (IEEE 802.1AB).
 use Rattle.std.specs.Prelude.{nat_lt, ◌==◌, Bool, not, ◌&&◌, List, [], ◌∷◌, ℕ, length, drop, Option, Result}
 use Rattle.mud_base.specs.Faults.{row, unless}
-use Rattle.mud_base.specs.Ethernet.{source_place, type_place, head_len}
+use Rattle.mud_base.specs.Ethernet.{source_offset, type_offset, head_len}
 use Rattle.mud_base.specs.Numbers.{big_16}
-use Rattle.mud_base.specs.Places.{mac_at, is_group_at}
+use Rattle.mud_base.specs.Offsets.{mac_at, is_group_at}
 use Rattle.dhcp_lldp.specs.declared.heard.Heard.{Heard}
 use Rattle.dhcp_lldp.specs.declared.heard.HearFault.{HearFault}
 use Rattle.dhcp_lldp.specs.declared.heard.HearFault.TheVariants as faults
@@ -13,7 +13,7 @@ use Rattle.dhcp_lldp.specs.Tlvs.{Listing, listing, tlv_fault, mud_string_of}
 -- The TLVs stand behind the head of an Ethernet frame (clause 7). The type of LLDP is 88-CC, and a source has an address of its
 -- own.
 unfoldable pub is_lldp : List ℕ → Bool
-is_lldp frame = big_16 type_place frame == 0x88CC && not (is_group_at source_place frame)
+is_lldp frame = big_16 type_offset frame == 0x88CC && not (is_group_at source_offset frame)
 
 unfoldable pub tlvs_of : List ℕ → Listing
 tlvs_of frame = listing 0 head_len (drop head_len frame)
@@ -27,4 +27,4 @@ rows frame =
     ∷ []
 
 unfoldable pub lldp_of : List ℕ → Result Heard HearFault
-lldp_of frame = unless (rows frame) (announced (mac_at source_place frame) (mud_string_of (tlvs_of frame).tlvs))
+lldp_of frame = unless (rows frame) (announced (mac_at source_offset frame) (mud_string_of (tlvs_of frame).tlvs))

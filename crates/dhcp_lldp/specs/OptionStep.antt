@@ -7,12 +7,12 @@ use Rattle.dhcp_lldp.specs.declared.heard.HearFault.TheVariants.{Repeat}
 use Rattle.dhcp_lldp.specs.Options.{Contents, listing, no_more, cut_at, with_option}
 
 abbrev pub IsStep : List ℕ → Step → Type 0
-IsStep octets End = (place : ℕ) → listing 0 place octets ≡ no_more
-IsStep octets Cut = (place : ℕ) → listing 0 place octets ≡ cut_at place
-IsStep octets (Pad rest) = (length rest.now + 1 ≡ length octets) × ((place : ℕ) → listing 0 place octets ≡ listing 0 (place + 1) rest.now)
+IsStep octets End = (offset : ℕ) → listing 0 offset octets ≡ no_more
+IsStep octets Cut = (offset : ℕ) → listing 0 offset octets ≡ cut_at offset
+IsStep octets (Pad rest) = (length rest.now + 1 ≡ length octets) × ((offset : ℕ) → listing 0 offset octets ≡ listing 0 (offset + 1) rest.now)
 IsStep octets (Whole code content rest) =
     (length rest.now + length content.now + 2 ≡ length octets)
-    × ((place : ℕ) → listing 0 place octets ≡ with_option (record { code = code; content = content.now }) (listing 0 (place + (2 + length content.now)) rest.now))
+    × ((offset : ℕ) → listing 0 offset octets ≡ with_option (record { code = code; content = content.now }) (listing 0 (offset + (2 + length content.now)) rest.now))
 
 abbrev pub nothing_yet : Contents
 nothing_yet = record { lease_time = None; message_type = None; mud_url = None }

@@ -9,7 +9,7 @@ pub record DhcpOption : Type 0 where
   pub code : ℕ
   pub content : List ℕ
 
--- the whole options up to the end, and the place of the code of the one that is cut there
+-- the whole options up to the end, and the offset of the code of the one that is cut there
 pub record Listing : Type 0 where
   pub options : List DhcpOption
   pub cut : Option ℕ
@@ -18,7 +18,7 @@ abbrev pub no_more : Listing
 no_more = record { options = []; cut = None }
 
 abbrev pub cut_at : ℕ → Listing
-cut_at place = record { options = []; cut = Some place }
+cut_at offset = record { options = []; cut = Some offset }
 
 abbrev pub with_option : DhcpOption → Listing → Listing
 with_option first later = record { options = first ∷ later.options; cut = later.cut }
@@ -29,18 +29,18 @@ width behind = slice_index behind 0 + 1
 
 -- The options Pad (0) and End (255) are one octet (sections 3.1 and 3.2). Any other option is a code, a length octet and the content.
 abbrev pub at_code : ℕ → ℕ → List ℕ → Listing → Listing
-at_code place code behind later =
+at_code offset code behind later =
     if code == 0 then later
     else (if code == 255 then no_more
-    else (if nat_lt (length behind) (width behind) then cut_at place
+    else (if nat_lt (length behind) (width behind) then cut_at offset
     else with_option (record { code = code; content = drop 1 (take (width behind) behind) }) later))
 
--- The listing of the octets from a place on, where the first so many are the rest of an option. The end of the octets ends the
+-- The listing of the octets from an offset on, where the first so many are the rest of an option. The end of the octets ends the
 -- options too.
 abbrev pub listing : ℕ → ℕ → List ℕ → Listing
-listing skipped place [] = no_more
-listing (suc skipped) place (octet ∷ behind) = listing skipped (place + 1) behind
-listing zero place (code ∷ behind) = at_code place code behind (listing (if code == 0 then 0 else width behind) (place + 1) behind)
+listing skipped offset [] = no_more
+listing (suc skipped) offset (octet ∷ behind) = listing skipped (offset + 1) behind
+listing zero offset (code ∷ behind) = at_code offset code behind (listing (if code == 0 then 0 else width behind) (offset + 1) behind)
 
 abbrev pub has_code : ℕ → DhcpOption → Bool
 has_code code option = option.code == code

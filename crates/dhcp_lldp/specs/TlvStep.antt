@@ -7,11 +7,12 @@ use Rattle.dhcp_lldp.specs.declared.tlvs.Step.TheVariants.{End, Cut, Whole}
 use Rattle.dhcp_lldp.specs.Tlvs.{Tlv, listing, no_more, cut_at, with_tlv, prefix_len, is_out_of_order, is_mud, mud_string_of}
 
 abbrev pub IsStep : List ℕ → Step → Type 0
-IsStep octets End = (place : ℕ) → listing 0 place octets ≡ no_more
-IsStep octets Cut = (place : ℕ) → listing 0 place octets ≡ cut_at place
+IsStep octets End = (offset : ℕ) → listing 0 offset octets ≡ no_more
+IsStep octets Cut = (offset : ℕ) → listing 0 offset octets ≡ cut_at offset
 IsStep octets (Whole kind content rest) =
     (length rest.now + (2 + length content.now) ≤ length octets)
-    × ((place : ℕ) → listing 0 place octets ≡ with_tlv (record { kind = kind; content = content.now }) (listing 0 (place + (2 + length content.now)) rest.now))
+    × ((offset : ℕ) →
+    listing 0 offset octets ≡ with_tlv (record { kind = kind; content = content.now }) (listing 0 (offset + (2 + length content.now)) rest.now))
 
 -- how many TLVs were read, and the MUD string of one of them
 pub record SeenTlvs : Type 0 where

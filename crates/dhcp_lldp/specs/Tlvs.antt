@@ -10,7 +10,7 @@ pub record Tlv : Type 0 where
   pub kind : ℕ
   pub content : List ℕ
 
--- the whole TLVs up to the end, and the place of the header of the one that is cut there
+-- the whole TLVs up to the end, and the offset of the header of the one that is cut there
 pub record Listing : Type 0 where
   pub tlvs : List Tlv
   pub cut : Option ℕ
@@ -19,7 +19,7 @@ abbrev pub no_more : Listing
 no_more = record { tlvs = []; cut = None }
 
 abbrev pub cut_at : ℕ → Listing
-cut_at place = record { tlvs = []; cut = Some place }
+cut_at offset = record { tlvs = []; cut = Some offset }
 
 abbrev pub with_tlv : Tlv → Listing → Listing
 with_tlv first later = record { tlvs = first ∷ later.tlvs; cut = later.cut }
@@ -34,17 +34,17 @@ width header behind = 256 * (header % 2) + slice_index behind 0 + 1
 
 -- The End Of LLDPDU TLV, of type 0, is the last one (clause 8.5.1).
 abbrev pub at_header : ℕ → ℕ → List ℕ → Listing → Listing
-at_header place header behind later =
-    if nat_lt (length behind) (width header behind) then cut_at place
+at_header offset header behind later =
+    if nat_lt (length behind) (width header behind) then cut_at offset
     else with_tlv (record { kind = kind_of header; content = drop 1 (take (width header behind) behind) })
     (if kind_of header == 0 then no_more else later)
 
--- The listing of the octets from a place on, where the first so many are the rest of a TLV. The end of the octets ends the TLVs
+-- The listing of the octets from an offset on, where the first so many are the rest of a TLV. The end of the octets ends the TLVs
 -- too.
 abbrev pub listing : ℕ → ℕ → List ℕ → Listing
-listing skipped place [] = no_more
-listing (suc skipped) place (octet ∷ behind) = listing skipped (place + 1) behind
-listing zero place (header ∷ behind) = at_header place header behind (listing (width header behind) (place + 1) behind)
+listing skipped offset [] = no_more
+listing (suc skipped) offset (octet ∷ behind) = listing skipped (offset + 1) behind
+listing zero offset (header ∷ behind) = at_header offset header behind (listing (width header behind) (offset + 1) behind)
 
 -- The first three TLVs are Chassis ID (type 1), Port ID (2) and Time To Live (3), which don't come again (clause 8.2). An
 -- End Of LLDPDU is empty.

@@ -5,7 +5,7 @@ ghost use Rattle.dhcp_lldp.specs.Dhcp.{heard_of, is_request, is_reply, is_ethern
 use crate::contents::Contents;
 use crate::heard::{HearFault, Heard};
 use crate::mud::announced;
-use crate::options::{OPTIONS_PLACE, contents};
+use crate::options::{OPTIONS_OFFSET, contents};
 use mud_base::{Addr, Mac, big_32, is_group_at, mac_at, octets_at};
 
 /// The op of a client's message.
@@ -22,17 +22,17 @@ const COOKIE: [u8; 4] = [99, 130, 83, 99];
 const DHCPACK: u8 = 5;
 
 /// Where op stands in a message (section 2, figure 1).
-const OP_PLACE: usize = 0;
+const OP_OFFSET: usize = 0;
 /// Where htype stands in a message (section 2, figure 1).
-const HTYPE_PLACE: usize = 1;
+const HTYPE_OFFSET: usize = 1;
 /// Where hlen stands in a message (section 2, figure 1).
-const HLEN_PLACE: usize = 2;
+const HLEN_OFFSET: usize = 2;
 /// Where yiaddr stands in a message (section 2, figure 1).
-const YIADDR_PLACE: usize = 16;
+const YIADDR_OFFSET: usize = 16;
 /// Where chaddr stands in a message (section 2, figure 1).
-const CHADDR_PLACE: usize = 28;
+const CHADDR_OFFSET: usize = 28;
 /// Where the magic cookie stands in a message: at the front of the field options (section 3).
-const COOKIE_PLACE: usize = 236;
+const COOKIE_OFFSET: usize = 236;
 
 /// What a DHCPv4 message, the payload of a UDP datagram, says. A client's message announces a MUD
 /// URL by the option 161; a server's DHCPACK with a lease time and an address leases that address.
@@ -46,7 +46,7 @@ const COOKIE_PLACE: usize = 236;
 pub fn read_dhcp(octets: &[u8]) -> Result<Heard, HearFault>
     ensures { result ≡ heard_of octets.now }
 {
-    if octets.len() < OPTIONS_PLACE {
+    if octets.len() < OPTIONS_OFFSET {
         return Err(HearFault::Cut(0));
     }
     if !is_ethernet(octets) {
@@ -64,9 +64,9 @@ fn is_ethernet(message: &[u8]) -> bool
     requires { 240 ≤ length message.now }
     ensures { result ≡ is_ethernet message.now }
 {
-    message[HTYPE_PLACE] == ETHERNET
-        && message[HLEN_PLACE] == ETHERNET_LEN
-        && !is_group_at(message, CHADDR_PLACE)
+    message[HTYPE_OFFSET] == ETHERNET
+        && message[HLEN_OFFSET] == ETHERNET_LEN
+        && !is_group_at(message, CHADDR_OFFSET)
 }
 
 #[tactic(auto, unfolding(crate::specs::Dhcp::has_cookie))]
@@ -74,7 +74,7 @@ fn has_cookie(message: &[u8]) -> bool
     requires { 240 ≤ length message.now }
     ensures { result ≡ has_cookie message.now }
 {
-    octets_at(message, COOKIE_PLACE) == COOKIE
+    octets_at(message, COOKIE_OFFSET) == COOKIE
 }
 
 #[tactic(auto, unfolding(crate::specs::Dhcp::yiaddr_of))]
@@ -82,7 +82,7 @@ fn yiaddr(message: &[u8]) -> u32
     requires { 240 ≤ length message.now }
     ensures { result ≡ yiaddr_of message.now }
 {
-    big_32(message, YIADDR_PLACE)
+    big_32(message, YIADDR_OFFSET)
 }
 
 /// What a message without a fault says.
@@ -91,8 +91,8 @@ fn said(message: &[u8], contents: &Contents) -> Result<Heard, HearFault>
     requires { 240 ≤ length message.now }
     ensures { result ≡ said message.now contents.now }
 {
-    let mac = mac_at(message, CHADDR_PLACE);
-    match message[OP_PLACE] {
+    let mac = mac_at(message, CHADDR_OFFSET);
+    match message[OP_OFFSET] {
         BOOTREQUEST => announced(mac, contents.mud_url()),
         BOOTREPLY => Ok(granted(mac, yiaddr(message), contents)),
         _ => Ok(Heard::Nothing),

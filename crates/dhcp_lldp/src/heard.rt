@@ -16,11 +16,11 @@ pub enum Heard {
     Nothing,
 }
 
-/// Why a message is refused. Places count the octets of the message or frame from 0.
+/// Why a message is refused. Offsets count the octets of the message or frame from 0.
 #[derive(Clone, Copy, Debug, PartialEq, Eq)]
 pub enum HearFault {
-    /// The octets end before the fixed fields do, which is the place 0, or within the option or TLV
-    /// that begins at this place.
+    /// The octets end before the fixed fields do, which is the offset 0, or within the option or
+    /// TLV that begins at this offset.
     Cut(usize),
     /// The magic cookie isn't 99, 130, 83, 99 (RFC 2131, section 3).
     Cookie,
@@ -36,7 +36,7 @@ pub enum HearFault {
 }
 
 impl HearFault {
-    ghost use Rattle.dhcp_lldp.specs.Heard.{number_of, name_of, place_of, url_fault_of};
+    ghost use Rattle.dhcp_lldp.specs.Heard.{number_of, name_of, offset_of, url_fault_of};
 
     /// The number of the fault, from 1 in the order of the variants.
     #[tactic(auto, unfolding(crate::specs::Heard::number_of))]
@@ -68,10 +68,10 @@ impl HearFault {
         }
     }
 
-    /// The place of the fault in the message, where it has one.
-    #[tactic(auto, unfolding(crate::specs::Heard::place_of))]
-    pub fn place(&self) -> Option<usize>
-        ensures { result ≡ place_of self.now }
+    /// The offset of the fault in the message, where it has one.
+    #[tactic(auto, unfolding(crate::specs::Heard::offset_of))]
+    pub fn offset(&self) -> Option<usize>
+        ensures { result ≡ offset_of self.now }
     {
         match self {
             HearFault::Cut(at) => Some(*at),
@@ -79,7 +79,7 @@ impl HearFault {
         }
     }
 
-    /// The fault of the MUD URL, where that is what is wrong. Its places count from 0 in the MUD
+    /// The fault of the MUD URL, where that is what is wrong. Its offsets count from 0 in the MUD
     /// string.
     #[tactic(auto, unfolding(crate::specs::Heard::url_fault_of))]
     pub fn url(&self) -> Option<UrlFault>

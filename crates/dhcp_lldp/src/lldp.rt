@@ -6,7 +6,7 @@ ghost use Rattle.dhcp_lldp.specs.Lldp as spec;
 use crate::heard::{HearFault, Heard};
 use crate::mud::announced;
 use crate::tlvs::seen_tlvs;
-use mud_base::ethernet::{HEAD_LEN, SOURCE_PLACE, TYPE_PLACE};
+use mud_base::ethernet::{HEAD_LEN, SOURCE_OFFSET, TYPE_OFFSET};
 use mud_base::{big_16, is_group_at, mac_at};
 
 /// The type of LLDP (IEEE 802.1AB, clause 7).
@@ -31,7 +31,7 @@ pub fn read_lldp(frame: &[u8]) -> Result<Heard, HearFault>
         return Err(HearFault::Hardware);
     }
     let seen = seen_tlvs(frame)?;
-    announced(mac_at(frame, SOURCE_PLACE), seen.string())
+    announced(mac_at(frame, SOURCE_OFFSET), seen.string())
 }
 
 /// Whether this is an LLDP frame of a source that has an address of its own.
@@ -40,5 +40,5 @@ fn is_lldp(frame: &[u8]) -> bool
     requires { 14 ≤ length frame.now }
     ensures { result ≡ spec.is_lldp frame.now }
 {
-    big_16(frame, TYPE_PLACE) == LLDP && !is_group_at(frame, SOURCE_PLACE)
+    big_16(frame, TYPE_OFFSET) == LLDP && !is_group_at(frame, SOURCE_OFFSET)
 }

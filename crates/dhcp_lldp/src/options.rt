@@ -52,7 +52,7 @@ fn first_step(octets: &[u8]) -> Step<'_>
 }
 
 /// Where the options begin in a message, behind the magic cookie (RFC 2131, section 3).
-pub(crate) const OPTIONS_PLACE: usize = 240;
+pub(crate) const OPTIONS_OFFSET: usize = 240;
 
 /// The contents of the options that count.
 #[tactic(auto, using(crate::proofs::OptionWalk::walked_all, crate::proofs::OptionWalk::walked_end, crate::proofs::OptionWalk::walked_cut), unfolding(crate::specs::Dhcp::options_of))]
@@ -60,20 +60,20 @@ pub(crate) fn contents(message: &[u8]) -> Result<Contents<'_>, HearFault>
     requires { 240 ≤ length message.now }
     ensures { result ≡ unless_fault (option_fault (options_of message.now)) (Ok (contents_of (options_of message.now).options)) }
 {
-    let (_, mut rest) = message.split_at(OPTIONS_PLACE);
-    let mut place = OPTIONS_PLACE;
+    let (_, mut rest) = message.split_at(OPTIONS_OFFSET);
+    let mut offset = OPTIONS_OFFSET;
     let mut contents = Contents::new();
     'options: loop {
         match first_step(rest) {
             Step::End => return Ok(contents),
-            Step::Cut => return Err(HearFault::Cut(place)),
+            Step::Cut => return Err(HearFault::Cut(offset)),
             Step::Pad(behind) => {
-                place += 1;
+                offset += 1;
                 rest = behind;
             }
             Step::Whole(code, content, behind) => {
                 contents = contents.with(code, content)?;
-                place += 2 + content.len();
+                offset += 2 + content.len();
                 rest = behind;
             }
         }

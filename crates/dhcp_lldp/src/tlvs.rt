@@ -91,7 +91,7 @@ pub(crate) fn seen_tlvs(frame: &[u8]) -> Result<Seen<'_>, HearFault>
     ensures { result ≡ unless_fault (tlv_fault (tlvs_of frame.now)) (Ok (seen_in (tlvs_of frame.now).tlvs)) }
 {
     let (_, mut rest) = frame.split_at(HEAD_LEN);
-    let mut place = HEAD_LEN;
+    let mut offset = HEAD_LEN;
     let mut seen = Seen::new();
     'tlvs: loop {
         match first_step(rest) {
@@ -101,10 +101,10 @@ pub(crate) fn seen_tlvs(frame: &[u8]) -> Result<Seen<'_>, HearFault>
                 }
                 return Ok(seen);
             }
-            Step::Cut => return Err(HearFault::Cut(place)),
+            Step::Cut => return Err(HearFault::Cut(offset)),
             Step::Whole(kind, content, behind) => {
                 seen = seen.after(kind, content)?;
-                place += 2 + content.len();
+                offset += 2 + content.len();
                 rest = behind;
             }
         }

@@ -19,11 +19,11 @@ question name kind = name ++ 0 ∷ kind ∷ 0 ∷ 1 ∷ []
 abbrev answer : List ℕ → ℕ → ℕ → List ℕ → List ℕ
 answer owner kind ttl content = owner ++ 0 ∷ kind ∷ 0 ∷ 1 ∷ 0 ∷ 0 ∷ 0 ∷ ttl ∷ 0 ∷ length content ∷ content
 
--- a pointer to this place
+-- a pointer to this offset
 abbrev pointer : ℕ → List ℕ
-pointer place = 0xC0 ∷ place ∷ []
+pointer offset = 0xC0 ∷ offset ∷ []
 
--- the name test.example.com, whose label example stands at the place 17 of a message that asks for it
+-- the name test.example.com, whose label example stands at the offset 17 of a message that asks for it
 abbrev test : List ℕ
 test = 4 ∷ codes "test" ++ 7 ∷ codes "example" ++ 3 ∷ codes "com" ++ 0 ∷ []
 

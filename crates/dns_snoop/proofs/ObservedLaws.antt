@@ -22,7 +22,7 @@ use Rattle.dns_snoop.specs.declared.answers.Answers.{Answers}
 use Rattle.dns_snoop.specs.Names.{Label, text_of, chain_at, name_rows, run_at, behind_first, read_name_of}
 use Rattle.dns_snoop.specs.Records.{records_from, is_owned, row_of, gives_row, most_ttl, links, last_alias, least, rows_behind, rows_of}
 use Rattle.dns_snoop.specs.Messages.{is_answer, dots_from, dotted, question_of, question_by, asked_by, rows_if, answers_by, answers_to, answers_of}
-use Rattle.dns_snoop.specs.Observed.{MayBeObserved}
+use Rattle.dns_snoop.specs.Observed.{IsObservable}
 
 -- ---- The name is in lower case
 
@@ -70,12 +70,12 @@ name-at : (o : Option DnsFault) (said name : ReadName) → unless_fault o (Ok sa
 name-at (Some fault) said name is = cc
 name-at None said name is = cc
 
-name_lower : (message : List ℕ) (place : ℕ) (name : ReadName) → read_name_of message place ≡ Ok name → IsLower name.text
+name_lower : (message : List ℕ) (offset : ℕ) (name : ReadName) → read_name_of message offset ≡ Ok name → IsLower name.text
 unfolding read_name_of
-name_lower message place name is =
-    let labels = (chain_at message place).labels in
-    let said : ReadName = record { text = text_of labels; behind = behind_first (run_at message place).end } in
-    subst (λ (n : ReadName). IsLower n.text) (name-at (first_row (name_rows (chain_at message place))) said name is) (labels_lower labels)
+name_lower message offset name is =
+    let labels = (chain_at message offset).labels in
+    let said : ReadName = record { text = text_of labels; behind = behind_first (run_at message offset).end } in
+    subst (λ (n : ReadName). IsLower n.text) (name-at (first_row (name_rows (chain_at message offset))) said name is) (labels_lower labels)
 
 question-at : (o : Option DnsFault) (said question : Question) → unless_fault o (Ok said) ≡ Ok question → said ≡ question
 question-at (Some fault) said question is = cc
@@ -124,18 +124,18 @@ asked-host question name kind is =
     (first_so (question.class == 1 && is_host name) (question.kind == 1 || question.kind == 28)
     (when-some ((question.class == 1 && is_host name) && (question.kind == 1 || question.kind == 28)) question.kind kind is))
 
-observed : (name : List ℕ) → is_host name ≡ true → lowered name ≡ name → (row : Addr × ℕ) → IsBound row → MayBeObserved name row
+observed : (name : List ℕ) → is_host name ≡ true → lowered name ≡ name → (row : Addr × ℕ) → IsBound row → IsObservable name row
 observed name host lower row bound = record { host = host; lower = lower; some = bound.0; few = bound.1 }
 
 rows-observed : (message : List ℕ) (asked : Option ℕ) (name text : List ℕ) (rs : List Record) → ((kind : ℕ) → asked ≡ Some kind → is_host name ≡ true) → lowered name ≡ name
-    → All (MayBeObserved name) (rows_if message asked text rs)
+    → All (IsObservable name) (rows_if message asked text rs)
 unfolding rows_of
-rows-observed message None name text rs host lower = All-nil (MayBeObserved name)
+rows-observed message None name text rs host lower = All-nil (IsObservable name)
 rows-observed message (Some kind) name text rs host lower =
-    All-weaker IsBound (MayBeObserved name) (observed name (host kind refl) lower) (rows_behind message kind text [] rs) (rows_bound message kind text [] rs)
+    All-weaker IsBound (IsObservable name) (observed name (host kind refl) lower) (rows_behind message kind text [] rs) (rows_bound message kind text [] rs)
 
 abbrev IsAsked : Answers → Type 0
-IsAsked answers = All (MayBeObserved answers.name) answers.rows
+IsAsked answers = All (IsObservable answers.name) answers.rows
 
 answers-by : (message : List ℕ) (question : Question) (records : Result (List Record) DnsFault) (answers : Answers) → IsLower question.name → answers_by message question records ≡ Ok answers → IsAsked answers
 answers-by message question (Err fault) answers lower is = cc
@@ -152,7 +152,7 @@ answers-at : (o : Option DnsFault) (said : Result Answers DnsFault) (answers : A
 answers-at (Some fault) said answers is = cc
 answers-at None said answers is = is
 
-pub rows_observed : (message : List ℕ) (answers : Answers) → answers_of message ≡ Ok answers → All (MayBeObserved answers.name) answers.rows
+pub rows_observed : (message : List ℕ) (answers : Answers) → answers_of message ≡ Ok answers → All (IsObservable answers.name) answers.rows
 unfolding answers_of
 rows_observed message answers is =
     answers-to message (question_of message) answers (question_lower message)

@@ -48,7 +48,7 @@ run_goes_on text label later fits =
     (ap (λ n. unless (row_at faults.NameLong (first_beyond n later.labels) ∷ []) (with_end ((text ++ (length label.text ∷ lowered label.text)) ++ text_of later.labels) later.end)) (omega arith))
 
 pub run_too_long : (text : List ℕ) (label : Label) (later : Run) → 254 < length text + 1 + length label.text
-    → run_answer text (with_label label later) ≡ Err (faults.NameLong label.place)
+    → run_answer text (with_label label later) ≡ Err (faults.NameLong label.offset)
 unfolding run_answer first_beyond
 run_too_long text label later long = rw (lt-ltb 255 (1 + length text + (1 + length label.text)) (omega arith)) refl
 
@@ -61,7 +61,7 @@ pub run_fault_here : (text : List ℕ) (run : Run) (fault : DnsFault) (answer : 
 run_fault_here text run fault answer is same = sym (run_fails text fault) ∙ ap (run_answer text) (sym is) ∙ same
 
 pub run_long_here : (text : List ℕ) (run : Run) (label : Label) (later : Run) (answer : Result RunRead DnsFault) → run ≡ with_label label later → 254 < length text + 1 + length label.text
-    → run_answer text run ≡ answer → Err (faults.NameLong label.place) ≡ answer
+    → run_answer text run ≡ answer → Err (faults.NameLong label.offset) ≡ answer
 run_long_here text run label later answer is long same = sym (run_too_long text label later long) ∙ ap (run_answer text) (sym is) ∙ same
 
 pub run_label_here : (text read : List ℕ) (run : Run) (label : Label) (later : Run) (answer : Result RunRead DnsFault) → run ≡ with_label label later → length text + 1 + length label.text ≤ 254
@@ -87,7 +87,7 @@ chain_goes_on text label chain fits =
     (ap (λ n. unless (row_at faults.NameLong (first_beyond n chain.labels) ∷ chain.fault ∷ []) (Ok ((text ++ more) ++ text_of chain.labels))) (omega arith))
 
 chain_too_long : (text : List ℕ) (label : Label) (chain : Chain) → 254 < length text + 1 + length label.text
-    → chain_answer text (with_first label chain) ≡ Err (faults.NameLong label.place)
+    → chain_answer text (with_first label chain) ≡ Err (faults.NameLong label.offset)
 unfolding chain_answer first_beyond with_first
 chain_too_long text label chain long = rw (lt-ltb 255 (1 + length text + (1 + length label.text)) (omega arith)) refl
 
@@ -95,10 +95,10 @@ chain_fails : (text : List ℕ) (fault : DnsFault) → chain_answer text (broken
 unfolding chain_answer first_beyond
 chain_fails text fault = refl
 
-chain_ends : (text : List ℕ) (most run place : ℕ) (message : List ℕ) → chain_answer text (chain_behind most message run (End place)) ≡ Ok text
+chain_ends : (text : List ℕ) (most run offset : ℕ) (message : List ℕ) → chain_answer text (chain_behind most message run (End offset)) ≡ Ok text
 unfolding chain_answer first_beyond chain_behind text_of
-chain_ends text zero run place message = ap Ok (append-nil text)
-chain_ends text (suc most) run place message = ap Ok (append-nil text)
+chain_ends text zero run offset message = ap Ok (append-nil text)
+chain_ends text (suc most) run offset message = ap Ok (append-nil text)
 
 -- a run that was read, in front of what comes behind it
 ok-at : (labels : List Label) (end : Result RunEnd DnsFault) (text : List ℕ) (behind : RunEnd → Chain) (read : RunRead) → Ok read ≡ run_answer text (record { labels = labels; end = end })
@@ -111,14 +111,14 @@ ok-at [] (Ok end) text behind read is =
     rw same-read refl
 ok-at (label ∷ labels) (Err fault) text behind read is =
     elim (cases_Bool (ltb 254 (length text + 1 + length label.text))) [
-      | inl e ↦ let no : Ok read ≡ Err (faults.NameLong label.place) = is ∙ run_too_long text label (record { labels = labels; end = Err fault }) (ltb-true 254 (length text + 1 + length label.text) e) in cc
+      | inl e ↦ let no : Ok read ≡ Err (faults.NameLong label.offset) = is ∙ run_too_long text label (record { labels = labels; end = Err fault }) (ltb-true 254 (length text + 1 + length label.text) e) in cc
       | inr e ↦ let fits = ltb-false 254 (length text + 1 + length label.text) e in
           chain_goes_on text label (chained_by labels (Err fault) behind) fits
           ∙ ok-at labels (Err fault) (text ++ (length label.text ∷ lowered label.text)) behind read (is ∙ run_goes_on text label (record { labels = labels; end = Err fault }) fits)
     ]
 ok-at (label ∷ labels) (Ok end) text behind read is =
     elim (cases_Bool (ltb 254 (length text + 1 + length label.text))) [
-      | inl e ↦ let no : Ok read ≡ Err (faults.NameLong label.place) = is ∙ run_too_long text label (record { labels = labels; end = Ok end }) (ltb-true 254 (length text + 1 + length label.text) e) in cc
+      | inl e ↦ let no : Ok read ≡ Err (faults.NameLong label.offset) = is ∙ run_too_long text label (record { labels = labels; end = Ok end }) (ltb-true 254 (length text + 1 + length label.text) e) in cc
       | inr e ↦ let fits = ltb-false 254 (length text + 1 + length label.text) e in
           chain_goes_on text label (chained_by labels (Ok end) behind) fits
           ∙ ok-at labels (Ok end) (text ++ (length label.text ∷ lowered label.text)) behind read (is ∙ run_goes_on text label (record { labels = labels; end = Ok end }) fits)
@@ -138,8 +138,8 @@ err-at [] (Ok end) text behind fault is = err_not_ok fault (record { text = text
 err-at (label ∷ labels) (Err other) text behind fault is =
     elim (cases_Bool (ltb 254 (length text + 1 + length label.text))) [
       | inl e ↦ let long = ltb-true 254 (length text + 1 + length label.text) e in
-          let same : Err fault ≡ Err (faults.NameLong label.place) = is ∙ run_too_long text label (record { labels = labels; end = Err other }) long in
-          let this : fault ≡ faults.NameLong label.place = err_inj fault (faults.NameLong label.place) same in
+          let same : Err fault ≡ Err (faults.NameLong label.offset) = is ∙ run_too_long text label (record { labels = labels; end = Err other }) long in
+          let this : fault ≡ faults.NameLong label.offset = err_inj fault (faults.NameLong label.offset) same in
           chain_too_long text label (chained_by labels (Err other) behind) long ∙ ap Err (sym this)
       | inr e ↦ let fits = ltb-false 254 (length text + 1 + length label.text) e in
           chain_goes_on text label (chained_by labels (Err other) behind) fits
@@ -148,8 +148,8 @@ err-at (label ∷ labels) (Err other) text behind fault is =
 err-at (label ∷ labels) (Ok end) text behind fault is =
     elim (cases_Bool (ltb 254 (length text + 1 + length label.text))) [
       | inl e ↦ let long = ltb-true 254 (length text + 1 + length label.text) e in
-          let same : Err fault ≡ Err (faults.NameLong label.place) = is ∙ run_too_long text label (record { labels = labels; end = Ok end }) long in
-          let this : fault ≡ faults.NameLong label.place = err_inj fault (faults.NameLong label.place) same in
+          let same : Err fault ≡ Err (faults.NameLong label.offset) = is ∙ run_too_long text label (record { labels = labels; end = Ok end }) long in
+          let this : fault ≡ faults.NameLong label.offset = err_inj fault (faults.NameLong label.offset) same in
           chain_too_long text label (chained_by labels (Ok end) behind) long ∙ ap Err (sym this)
       | inr e ↦ let fits = ltb-false 254 (length text + 1 + length label.text) e in
           chain_goes_on text label (chained_by labels (Ok end) behind) fits
@@ -170,10 +170,10 @@ chained-same labels (Ok end) f g same = ap (λ (chain : Chain). record { labels 
 
 most-same : (most other : ℕ) (message : List ℕ) (start : ℕ) (end : RunEnd) → start ≤ most → start ≤ other → chain_behind most message start end ≡ chain_behind other message start end
 unfolding chain_behind
-most-same zero zero message start (End place) a b = refl
-most-same zero (suc other) message start (End place) a b = refl
-most-same (suc most) zero message start (End place) a b = refl
-most-same (suc most) (suc other) message start (End place) a b = refl
+most-same zero zero message start (End offset) a b = refl
+most-same zero (suc other) message start (End offset) a b = refl
+most-same (suc most) zero message start (End offset) a b = refl
+most-same (suc most) (suc other) message start (End offset) a b = refl
 most-same zero zero message start (Pointer at target) a b = refl
 most-same zero (suc other) message start (Pointer at target) a b = rw (le-ltb target start (omega arith)) refl
 most-same (suc most) zero message start (Pointer at target) a b = rw (le-ltb target start (omega arith)) refl
@@ -196,8 +196,8 @@ pointer_below (suc run) at target message below =
 
 -- ---- The ways out of a chain
 
-pub chain_end_here : (text : List ℕ) (most run place : ℕ) (message : List ℕ) (answer : Result (List ℕ) DnsFault) → chain_answer text (chain_behind most message run (End place)) ≡ answer → Ok text ≡ answer
-chain_end_here text most run place message answer same = sym (chain_ends text most run place message) ∙ same
+pub chain_end_here : (text : List ℕ) (most run offset : ℕ) (message : List ℕ) (answer : Result (List ℕ) DnsFault) → chain_answer text (chain_behind most message run (End offset)) ≡ answer → Ok text ≡ answer
+chain_end_here text most run offset message answer same = sym (chain_ends text most run offset message) ∙ same
 
 pub chain_pointer_here : (text : List ℕ) (run at target : ℕ) (message : List ℕ) (answer : Result (List ℕ) DnsFault) → run ≤ target
     → chain_answer text (chain_behind run message run (Pointer at target)) ≡ answer → Err (faults.Pointer at) ≡ answer
@@ -236,26 +236,26 @@ name_err-at : (o : Option DnsFault) (said : List ℕ) (behind : ℕ) (fault : Dn
 name_err-at (Some other) said behind fault is = let same : fault ≡ other = cc in ap Err same
 name_err-at None said behind fault is = cc
 
-name_ok : (message : List ℕ) (place : ℕ) (text : List ℕ) → Ok text ≡ chain_answer [] (chain_at message place) → Ok (as_read text (behind_first (run_at message place).end)) ≡ read_name_of message place
+name_ok : (message : List ℕ) (offset : ℕ) (text : List ℕ) → Ok text ≡ chain_answer [] (chain_at message offset) → Ok (as_read text (behind_first (run_at message offset).end)) ≡ read_name_of message offset
 unfolding read_name_of chain_answer as_read
-name_ok message place text is = name_ok-at (first_row (name_rows (chain_at message place))) text (text_of (chain_at message place).labels) (behind_first (run_at message place).end) is
+name_ok message offset text is = name_ok-at (first_row (name_rows (chain_at message offset))) text (text_of (chain_at message offset).labels) (behind_first (run_at message offset).end) is
 
-name_err : (message : List ℕ) (place : ℕ) (fault : DnsFault) → Err fault ≡ chain_answer [] (chain_at message place) → Err fault ≡ read_name_of message place
+name_err : (message : List ℕ) (offset : ℕ) (fault : DnsFault) → Err fault ≡ chain_answer [] (chain_at message offset) → Err fault ≡ read_name_of message offset
 unfolding read_name_of chain_answer as_read
-name_err message place fault is = name_err-at (first_row (name_rows (chain_at message place))) (text_of (chain_at message place).labels) (behind_first (run_at message place).end) fault is
+name_err message offset fault is = name_err-at (first_row (name_rows (chain_at message offset))) (text_of (chain_at message offset).labels) (behind_first (run_at message offset).end) fault is
 
-pub name_first_fails : (message : List ℕ) (place : ℕ) (fault : DnsFault) → Err fault ≡ run_answer [] (run_at message place) → Err fault ≡ read_name_of message place
+pub name_first_fails : (message : List ℕ) (offset : ℕ) (fault : DnsFault) → Err fault ≡ run_answer [] (run_at message offset) → Err fault ≡ read_name_of message offset
 unfolding chain_at
-name_first_fails message place fault is = name_err message place fault (sym (chained_err [] (run_at message place) (chain_behind place message place) fault is))
+name_first_fails message offset fault is = name_err message offset fault (sym (chained_err [] (run_at message offset) (chain_behind offset message offset) fault is))
 
-pub name_later_fails : (message : List ℕ) (place : ℕ) (first : RunRead) (fault : DnsFault) → Ok first ≡ run_answer [] (run_at message place) → Err fault ≡ chain_answer first.text (chain_behind place message place first.end)
-    → Err fault ≡ read_name_of message place
+pub name_later_fails : (message : List ℕ) (offset : ℕ) (first : RunRead) (fault : DnsFault) → Ok first ≡ run_answer [] (run_at message offset) → Err fault ≡ chain_answer first.text (chain_behind offset message offset first.end)
+    → Err fault ≡ read_name_of message offset
 unfolding chain_at
-name_later_fails message place first fault is later = name_err message place fault (later ∙ sym (chained_ok [] (run_at message place) (chain_behind place message place) first is))
+name_later_fails message offset first fault is later = name_err message offset fault (later ∙ sym (chained_ok [] (run_at message offset) (chain_behind offset message offset) first is))
 
-pub name_read : (message : List ℕ) (place : ℕ) (first : RunRead) (text : List ℕ) (behind : ℕ) → Ok first ≡ run_answer [] (run_at message place) → Ok text ≡ chain_answer first.text (chain_behind place message place first.end)
-    → behind ≡ behind_run first.end → Ok (record { text = text; behind = behind }) ≡ read_name_of message place
+pub name_read : (message : List ℕ) (offset : ℕ) (first : RunRead) (text : List ℕ) (behind : ℕ) → Ok first ≡ run_answer [] (run_at message offset) → Ok text ≡ chain_answer first.text (chain_behind offset message offset first.end)
+    → behind ≡ behind_run first.end → Ok (record { text = text; behind = behind }) ≡ read_name_of message offset
 unfolding chain_at as_read
-name_read message place first text behind is later end =
-    ap (λ (n : ℕ). Ok (as_read text n)) (end ∙ sym (ap behind_first (run_ended [] (run_at message place) first is)))
-    ∙ name_ok message place text (later ∙ sym (chained_ok [] (run_at message place) (chain_behind place message place) first is))
+name_read message offset first text behind is later end =
+    ap (λ (n : ℕ). Ok (as_read text n)) (end ∙ sym (ap behind_first (run_ended [] (run_at message offset) first is)))
+    ∙ name_ok message offset text (later ∙ sym (chained_ok [] (run_at message offset) (chain_behind offset message offset) first is))

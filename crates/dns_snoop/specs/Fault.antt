@@ -1,4 +1,4 @@
--- The numbers, names and places of the faults of a DNS message.
+-- The numbers, names and offsets of the faults of a DNS message.
 use Rattle.std.specs.Prelude.{ℕ, List, codes, Option, Some, None}
 use Rattle.dns_snoop.specs.declared.fault.DnsFault.{DnsFault}
 use Rattle.dns_snoop.specs.declared.fault.DnsFault.TheVariants.{Memory, Cut, NotAnswer, Label, Pointer, NameLong}
@@ -19,11 +19,11 @@ name_of (Label at) = codes "Label"
 name_of (Pointer at) = codes "Pointer"
 name_of (NameLong at) = codes "NameLong"
 
--- the place in the message, of a fault that has one
-unfoldable pub place_of : DnsFault → Option ℕ
-place_of Memory = None
-place_of (Cut at) = Some at
-place_of NotAnswer = None
-place_of (Label at) = Some at
-place_of (Pointer at) = Some at
-place_of (NameLong at) = Some at
+-- the offset in the message, of a fault that has one
+unfoldable pub offset_of : DnsFault → Option ℕ
+offset_of Memory = None
+offset_of (Cut at) = Some at
+offset_of NotAnswer = None
+offset_of (Label at) = Some at
+offset_of (Pointer at) = Some at
+offset_of (NameLong at) = Some at

@@ -4,7 +4,7 @@ use Rattle.mud_base.specs.declared.addr.Addr.{Addr}
 use Rattle.mud_url.specs.Host.{is_host, lowered}
 
 -- The name is a host name in lower case. The seconds are more than none, and those of a ttl: 31 bits (RFC 2181, section 8).
-pub record MayBeObserved (name : List ℕ) (row : Addr × ℕ) : Type 0 where
+pub record IsObservable (name : List ℕ) (row : Addr × ℕ) : Type 0 where
   pub host : is_host name ≡ true
   pub lower : lowered name ≡ name
   pub some : 0 < row.1

@@ -31,7 +31,7 @@ class_in = 1
 unfoldable pub is_amiss : ℕ → ℕ → ℕ → Bool
 is_amiss kind class len = class == class_in && ((kind == type_a && not (len == 4)) || (kind == type_aaaa && not (len == 16)))
 
--- the text of a name, where the name ends at this place
+-- the text of a name, where the name ends at this offset
 abbrev pub name_up_to : ℕ → Result ReadName DnsFault → Option (List ℕ)
 name_up_to end (Err fault) = None
 name_up_to end (Ok name) = if name.behind == end then Some name.text else None
@@ -39,8 +39,8 @@ name_up_to end (Ok name) = if name.behind == end then Some name.text else None
 -- The content of an alias, of any class, is one whole name; of another type nothing is kept. None where the content isn't of its
 -- type's form.
 unfoldable pub alias_in : List ℕ → ℕ → ℕ → ℕ → ℕ → Option (List ℕ)
-alias_in message kind class place len =
-    if kind == type_cname then name_up_to (place + len) (read_name_of message place)
+alias_in message kind class offset len =
+    if kind == type_cname then name_up_to (offset + len) (read_name_of message offset)
     else (if is_amiss kind class len then None else Some [])
 
 abbrev pub with_alias : DnsFault → Record → Option (List ℕ) → Result Record DnsFault
@@ -54,25 +54,25 @@ base_at message owner = record {
   kind = big_16 owner.behind message;
   class = big_16 (owner.behind + 2) message;
   ttl = big_32 (owner.behind + 4) message;
-  place = owner.behind + 10;
+  offset = owner.behind + 10;
   len = big_16 (owner.behind + 8) message;
   alias = [];
 }
 
 abbrev pub record_behind : List ℕ → ℕ → ReadName → Result Record DnsFault
-record_behind message place owner =
+record_behind message offset owner =
     unless (
-    row (nat_lt (length message - owner.behind) 10) (faults.Cut place)
-    ∷ row (nat_lt (length message - (owner.behind + 10)) (big_16 (owner.behind + 8) message)) (faults.Cut place)
+    row (nat_lt (length message - owner.behind) 10) (faults.Cut offset)
+    ∷ row (nat_lt (length message - (owner.behind + 10)) (big_16 (owner.behind + 8) message)) (faults.Cut offset)
     ∷ [])
-    (with_alias (faults.Cut place) (base_at message owner) (alias_in message (big_16 owner.behind message) (big_16 (owner.behind + 2) message) (owner.behind + 10) (big_16 (owner.behind + 8) message)))
+    (with_alias (faults.Cut offset) (base_at message owner) (alias_in message (big_16 owner.behind message) (big_16 (owner.behind + 2) message) (owner.behind + 10) (big_16 (owner.behind + 8) message)))
 
 abbrev pub record_by : List ℕ → ℕ → Result ReadName DnsFault → Result Record DnsFault
-record_by message place (Err fault) = Err fault
-record_by message place (Ok owner) = record_behind message place owner
+record_by message offset (Err fault) = Err fault
+record_by message offset (Ok owner) = record_behind message offset owner
 
 unfoldable pub record_at : List ℕ → ℕ → Result Record DnsFault
-record_at message place = record_by message place (read_name_of message place)
+record_at message offset = record_by message offset (read_name_of message offset)
 
 abbrev pub with_record : Record → Result (List Record) DnsFault → Result (List Record) DnsFault
 with_record first (Ok later) = Ok (first ∷ later)
@@ -80,12 +80,12 @@ with_record first (Err fault) = Err fault
 
 abbrev pub then_records : Result Record DnsFault → (ℕ → Result (List Record) DnsFault) → Result (List Record) DnsFault
 then_records (Err fault) behind = Err fault
-then_records (Ok first) behind = with_record first (behind (first.place + first.len))
+then_records (Ok first) behind = with_record first (behind (first.offset + first.len))
 
--- so many answers, the first of them at this place
+-- so many answers, the first of them at this offset
 unfoldable pub records_from : ℕ → List ℕ → ℕ → Result (List Record) DnsFault
-records_from zero message place = Ok []
-records_from (suc count) message place = then_records (record_at message place) (λ behind. records_from count message behind)
+records_from zero message offset = Ok []
+records_from (suc count) message offset = then_records (record_at message offset) (λ behind. records_from count message behind)
 
 -- ---- Links
 
@@ -113,7 +113,7 @@ least ttl [] = ttl
 least ttl (link ∷ links) = min link.ttl (least ttl links)
 
 abbrev pub address_in : List ℕ → Record → Addr
-address_in message r = if r.kind == type_a then V4 (big_32 r.place message) else V6 (big_128 r.place message)
+address_in message r = if r.kind == type_a then V4 (big_32 r.offset message) else V6 (big_128 r.offset message)
 
 -- a ttl has 31 bits (RFC 2181, section 8)
 abbrev pub most_ttl : ℕ

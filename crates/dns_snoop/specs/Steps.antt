@@ -10,13 +10,13 @@ use Rattle.dns_snoop.specs.declared.name.RunEnd.TheVariants.{End, Pointer}
 use Rattle.dns_snoop.specs.Names.{Run, Chain, ended, with_label, run_from, first_beyond, text_of}
 
 abbrev pub IsStep : ℕ → List ℕ → Step → Type 0
-IsStep place octets (step.Fault fault) = run_from 0 place octets ≡ ended (Err fault)
-IsStep place octets step.End = (1 ≤ length octets) × (run_from 0 place octets ≡ ended (Ok (End (place + 1))))
-IsStep place octets (step.Pointer target) = (2 ≤ length octets) × (run_from 0 place octets ≡ ended (Ok (Pointer place target)))
-IsStep place octets (step.Label label rest) =
+IsStep offset octets (step.Fault fault) = run_from 0 offset octets ≡ ended (Err fault)
+IsStep offset octets step.End = (1 ≤ length octets) × (run_from 0 offset octets ≡ ended (Ok (End (offset + 1))))
+IsStep offset octets (step.Pointer target) = (2 ≤ length octets) × (run_from 0 offset octets ≡ ended (Ok (Pointer offset target)))
+IsStep offset octets (step.Label label rest) =
     (length label.now ≤ 63)
     × (length rest.now + (1 + length label.now) ≡ length octets)
-    × (run_from 0 place octets ≡ with_label (record { place = place; text = label.now }) (run_from 0 (place + (1 + length label.now)) rest.now))
+    × (run_from 0 offset octets ≡ with_label (record { offset = offset; text = label.now }) (run_from 0 (offset + (1 + length label.now)) rest.now))
 
 -- the text of the labels up to the end of a run, and that end
 pub record RunRead : Type 0 where

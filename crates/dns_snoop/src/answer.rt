@@ -21,11 +21,11 @@ const A_LEN: usize = 4;
 const AAAA_LEN: usize = 16;
 
 /// Where the class stands behind the owner (RFC 1035, section 4.1.3).
-const CLASS_PLACE: usize = 2;
+const CLASS_OFFSET: usize = 2;
 /// Where the ttl stands behind the owner.
-const TTL_PLACE: usize = 4;
+const TTL_OFFSET: usize = 4;
 /// Where the length of the content stands behind the owner.
-const LEN_PLACE: usize = 8;
+const LEN_OFFSET: usize = 8;
 /// How many octets stand between the owner and the content.
 const FIELDS_LEN: usize = 10;
 
@@ -37,7 +37,7 @@ pub struct Record {
     pub kind: u16,
     pub class: u16,
     pub ttl: u32,
-    pub place: usize,
+    pub offset: usize,
     pub len: usize,
     pub alias: ShortText,
 }
@@ -64,17 +64,17 @@ fn is_amiss(kind: u16, class: u16, len: usize) -> bool
 /// The name that the content is, where the type is that of an alias, else the empty name. None
 /// where the content isn't of its type's form.
 #[tactic(auto, unfolding(crate::specs::Records::alias_in))]
-fn alias_in(message: &[u8], kind: u16, class: u16, place: usize, len: usize) -> Option<ShortText>
-    requires { place + len ≤ length message.now }
-    ensures alias { result ≡ spec.alias_in message.now kind class place len }
+fn alias_in(message: &[u8], kind: u16, class: u16, offset: usize, len: usize) -> Option<ShortText>
+    requires { offset + len ≤ length message.now }
+    ensures alias { result ≡ spec.alias_in message.now kind class offset len }
     ensures four { IfSome result (λ _. kind ≡ 1 → class ≡ 1 → len ≡ 4) }
     ensures sixteen { IfSome result (λ _. kind ≡ 28 → class ≡ 1 → len ≡ 16) }
 {
     if kind == CNAME {
-        let Ok(name) = read_name(message, place) else {
+        let Ok(name) = read_name(message, offset) else {
             return None;
         };
-        if name.behind != place + len {
+        if name.behind != offset + len {
             return None;
         }
         return Some(name.text);
@@ -85,37 +85,37 @@ fn alias_in(message: &[u8], kind: u16, class: u16, place: usize, len: usize) -> 
     Some(ShortText::new())
 }
 
-/// The answer at a place.
+/// The answer at an offset.
 #[tactic(auto, unfolding(crate::specs::Records::record_at))]
-pub(crate) fn read_record(message: &[u8], place: usize) -> Result<Record, DnsFault>
-    requires { place ≤ length message.now }
-    ensures read { result ≡ spec.record_at message.now place }
-    ensures within { IfOk result (λ r. r.place + r.len ≤ length message.now) }
+pub(crate) fn read_record(message: &[u8], offset: usize) -> Result<Record, DnsFault>
+    requires { offset ≤ length message.now }
+    ensures read { result ≡ spec.record_at message.now offset }
+    ensures within { IfOk result (λ r. r.offset + r.len ≤ length message.now) }
     ensures four { IfOk result (λ r. r.kind ≡ 1 → r.class ≡ 1 → r.len ≡ 4) }
     ensures sixteen { IfOk result (λ r. r.kind ≡ 28 → r.class ≡ 1 → r.len ≡ 16) }
 {
-    let owner = read_name(message, place)?;
+    let owner = read_name(message, offset)?;
     let at = owner.behind;
     if message.len() - at < FIELDS_LEN {
-        return Err(DnsFault::Cut(place));
+        return Err(DnsFault::Cut(offset));
     }
     let kind = big_16(message, at);
-    let class = big_16(message, at + CLASS_PLACE);
-    let ttl = big_32(message, at + TTL_PLACE);
-    let len = usize::from(big_16(message, at + LEN_PLACE));
+    let class = big_16(message, at + CLASS_OFFSET);
+    let ttl = big_32(message, at + TTL_OFFSET);
+    let len = usize::from(big_16(message, at + LEN_OFFSET));
     let content = at + FIELDS_LEN;
     if message.len() - content < len {
-        return Err(DnsFault::Cut(place));
+        return Err(DnsFault::Cut(offset));
     }
     let Some(alias) = alias_in(message, kind, class, content, len) else {
-        return Err(DnsFault::Cut(place));
+        return Err(DnsFault::Cut(offset));
     };
     Ok(Record {
         owner: owner.text,
         kind,
         class,
         ttl,
-        place: content,
+        offset: content,
         len,
         alias,
     })

@@ -2,7 +2,7 @@
 ghost use Rattle.std.specs.Prelude.{◌≡◌, ◌≤◌, length, drop, IfOk, IfSome, ◌⊎◌};
 ghost use Rattle.std.specs.List.{All};
 ghost use Rattle.dns_snoop.specs.Messages as spec;
-ghost use Rattle.dns_snoop.specs.Observed.{MayBeObserved};
+ghost use Rattle.dns_snoop.specs.Observed.{IsObservable};
 ghost use Rattle.dns_snoop.specs.Rows.{Answered};
 
 use crate::answer::{A, AAAA, IN};
@@ -16,13 +16,13 @@ use std::alloc::Global;
 /// How many octets the header has (RFC 1035, section 4.1.1).
 const HEADER_LEN: usize = 12;
 /// Where the flags QR, OPCODE and TC stand in the header.
-const QUERY_FLAGS_PLACE: usize = 2;
+const QUERY_FLAGS_OFFSET: usize = 2;
 /// Where RCODE stands in the header.
-const RCODE_PLACE: usize = 3;
+const RCODE_OFFSET: usize = 3;
 /// Where the number of questions stands in the header.
-const QUESTIONS_PLACE: usize = 4;
+const QUESTIONS_OFFSET: usize = 4;
 /// Where the number of answers stands in the header.
-const ANSWERS_PLACE: usize = 6;
+const ANSWERS_OFFSET: usize = 6;
 
 /// The bits QR, OPCODE and TC of their octet.
 const QUERY_FLAGS: u8 = 0xFA;
@@ -43,7 +43,7 @@ pub struct Answers {
     pub rows: Listed<(Addr, u32)>,
 }
 
-/// The question: its name, type and class, and the place behind it.
+/// The question: its name, type and class, and the offset behind it.
 #[derive(Clone, Copy)]
 pub struct Question {
     pub name: ShortText,
@@ -58,9 +58,9 @@ fn is_answer(payload: &[u8]) -> bool
     requires { 12 ≤ length payload.now }
     ensures { result ≡ spec.is_answer payload.now }
 {
-    payload[QUERY_FLAGS_PLACE] & QUERY_FLAGS == WHOLE_ANSWER
-        && payload[RCODE_PLACE] & RCODE == 0
-        && big_16(payload, QUESTIONS_PLACE) == 1
+    payload[QUERY_FLAGS_OFFSET] & QUERY_FLAGS == WHOLE_ANSWER
+        && payload[RCODE_OFFSET] & RCODE == 0
+        && big_16(payload, QUESTIONS_OFFSET) == 1
 }
 
 /// The question of a message.
@@ -131,8 +131,8 @@ fn asked_by(question: &Question, name: &[u8]) -> Option<u16>
     None
 }
 
-/// The addresses that a DNS message, the payload of a UDP datagram, answers for the name that it was
-/// asked for (RFC 1035). A fault is the first of these: `Cut(0)` where there are fewer than 12
+/// The addresses that a DNS message, the payload of a UDP datagram, answers for the name that it
+/// was asked for (RFC 1035). A fault is the first of these: `Cut(0)` where there are fewer than 12
 /// octets; `NotAnswer`; then those of the question, and of each answer in turn. All answers are
 /// read, also where none of them can give a row; authorities and additions aren't.
 ///
@@ -144,7 +144,7 @@ fn asked_by(question: &Question, name: &[u8]) -> Option<u16>
 #[tactic(auto, unfolding(crate::specs::Messages::answers_of))]
 pub fn read_answers(alloc: Global, payload: &[u8]) -> Result<Answers, DnsFault>
     ensures read { Answered result (spec.answers_of payload.now) }
-    ensures asked { IfOk result (λ answers. All (MayBeObserved answers.name) answers.rows) }
+    ensures asked { IfOk result (λ answers. All (IsObservable answers.name) answers.rows) }
 {
     if payload.len() < HEADER_LEN {
         return Err(DnsFault::Cut(0));
@@ -156,7 +156,7 @@ pub fn read_answers(alloc: Global, payload: &[u8]) -> Result<Answers, DnsFault>
     let dots = dots_of(&question.name);
     let name = behind_first(&dots);
     let asked = asked_by(&question, name);
-    let count = big_16(payload, ANSWERS_PLACE);
+    let count = big_16(payload, ANSWERS_OFFSET);
     let rows = read_rows(alloc, payload, count, question.behind, asked, question.name)?;
     let name = Bytes::new(alloc, name)?;
     Ok(Answers { name, rows })

@@ -3,22 +3,22 @@ ghost use Rattle.std.specs.Prelude.{◌≡◌};
 
 use mud_base::Memory;
 
-/// Why a DNS message isn't read. Places count the octets of the message from 0.
+/// Why a DNS message isn't read. Offsets count the octets of the message from 0.
 #[derive(Clone, Copy, Debug, PartialEq, Eq)]
 pub enum DnsFault {
     /// Memory was wanted and there was none.
     Memory,
-    /// The octets end before the header does, which is the place 0, within the label or pointer at
-    /// this place, or within the record that begins there; or the content of that record isn't of
+    /// The octets end before the header does, which is the offset 0, within the label or pointer at
+    /// this offset, or within the record that begins there; or the content of that record isn't of
     /// its type's form.
     Cut(usize),
     /// The message is no whole answer without an error to one question (RFC 1035, section 4.1.1).
     NotAnswer,
-    /// The octet at this place begins neither a label nor a pointer.
+    /// The octet at this offset begins neither a label nor a pointer.
     Label(usize),
-    /// The pointer at this place doesn't lead before the run of labels that it ends.
+    /// The pointer at this offset doesn't lead before the run of labels that it ends.
     Pointer(usize),
-    /// With the label at this place a name has more than 255 octets (RFC 1035, section 2.3.4).
+    /// With the label at this offset a name has more than 255 octets (RFC 1035, section 2.3.4).
     NameLong(usize),
 }
 
@@ -33,7 +33,7 @@ impl From<Memory> for DnsFault {
 }
 
 impl DnsFault {
-    ghost use Rattle.dns_snoop.specs.Fault.{number_of, name_of, place_of};
+    ghost use Rattle.dns_snoop.specs.Fault.{number_of, name_of, offset_of};
 
     /// The number of the fault, from 1 to 5. Want of memory has none, and gives 0.
     #[tactic(auto, unfolding(crate::specs::Fault::number_of))]
@@ -65,10 +65,10 @@ impl DnsFault {
         }
     }
 
-    /// The place of the fault in the message, where it has one.
-    #[tactic(auto, unfolding(crate::specs::Fault::place_of))]
-    pub fn place(&self) -> Option<usize>
-        ensures { result ≡ place_of self.now }
+    /// The offset of the fault in the message, where it has one.
+    #[tactic(auto, unfolding(crate::specs::Fault::offset_of))]
+    pub fn offset(&self) -> Option<usize>
+        ensures { result ≡ offset_of self.now }
     {
         match self {
             DnsFault::Cut(at)

@@ -11,13 +11,13 @@ use mud_base::ShortText;
 /// How a run of labels ends.
 #[derive(Clone, Copy)]
 pub enum RunEnd {
-    /// The name ends, and behind its last octet is this place.
+    /// The name ends, and behind its last octet is this offset.
     End(usize),
-    /// At a place a pointer leads to another.
+    /// At an offset a pointer leads to another.
     Pointer(usize, usize),
 }
 
-/// A name: each label behind its length, in lower case; and the place behind its first run, where
+/// A name: each label behind its length, in lower case; and the offset behind its first run, where
 /// the message goes on.
 #[derive(Clone, Copy)]
 pub struct ReadName {
@@ -38,26 +38,26 @@ fn read_run(message: &[u8], start: usize, text: &mut ShortText) -> Result<RunEnd
     ensures within { IfOk result (λ end. spec.behind_run end ≤ length message.now) }
 {
     let (_, mut rest) = message.split_at(start);
-    let mut place = start;
+    let mut offset = start;
     'labels: loop {
-        match first_step(rest, place) {
+        match first_step(rest, offset) {
             Step::Fault(fault) => return Err(fault),
-            Step::End => return Ok(RunEnd::End(place + 1)),
-            Step::Pointer(target) => return Ok(RunEnd::Pointer(place, target)),
+            Step::End => return Ok(RunEnd::End(offset + 1)),
+            Step::Pointer(target) => return Ok(RunEnd::Pointer(offset, target)),
             Step::Label(label, behind) => {
                 if text.len() + 1 + label.len() > MOST_OCTETS {
-                    return Err(DnsFault::NameLong(place));
+                    return Err(DnsFault::NameLong(offset));
                 }
                 add_label(text, label);
-                place += 1 + label.len();
+                offset += 1 + label.len();
                 rest = behind;
             }
         }
     }
 }
 
-/// Reads the runs to which pointers lead behind a run that begins at this place and ends so. Each of
-/// them begins before the one before it, so no pointer is met twice.
+/// Reads the runs to which pointers lead behind a run that begins at this offset and ends so. Each
+/// of them begins before the one before it, so no pointer is met twice.
 #[tactic(auto, using(crate::proofs::Walks::chain_end_here, crate::proofs::Walks::chain_pointer_here, crate::proofs::Walks::chain_err_here, crate::proofs::Walks::chain_ok_here))]
 fn follow(message: &[u8], start: usize, first: RunEnd, text: &mut ShortText) -> Result<(), DnsFault>
     requires start { start ≤ length message.now }
@@ -79,29 +79,29 @@ fn follow(message: &[u8], start: usize, first: RunEnd, text: &mut ShortText) -> 
     }
 }
 
-/// The place behind a name whose first run ends so.
+/// The offset behind a name whose first run ends so.
 #[tactic(auto, unfolding(crate::specs::Names::behind_run))]
 fn behind_run(end: RunEnd) -> usize
     requires { spec.behind_run end ≤ 18446744073709551615 }
     ensures { result ≡ spec.behind_run end }
 {
     match end {
-        RunEnd::End(place) => place,
+        RunEnd::End(offset) => offset,
         RunEnd::Pointer(at, _) => at + 2,
     }
 }
 
-/// The name at a place.
+/// The name at an offset.
 #[tactic(auto, unfolding(crate::specs::Names::read_name_of))]
-pub(crate) fn read_name(message: &[u8], place: usize) -> Result<ReadName, DnsFault>
-    requires { place ≤ length message.now }
-    ensures read { result ≡ spec.read_name_of message.now place }
+pub(crate) fn read_name(message: &[u8], offset: usize) -> Result<ReadName, DnsFault>
+    requires { offset ≤ length message.now }
+    ensures read { result ≡ spec.read_name_of message.now offset }
     ensures within { IfOk result (λ name. name.behind ≤ length message.now) }
     ensures short { IfOk result (λ name. length name.text ≤ 254) }
 {
     let mut text = ShortText::new();
-    let first = read_run(message, place, &mut text)?;
-    follow(message, place, first, &mut text)?;
+    let first = read_run(message, offset, &mut text)?;
+    follow(message, offset, first, &mut text)?;
     let behind = behind_run(first);
     Ok(ReadName { text, behind })
 }

@@ -64,14 +64,14 @@ fn least_after(answer: &Record, alias: &ShortText, least: Option<u32>) -> Option
 
 /// The address of an answer: its content, which has 4 or 16 octets.
 fn address_in(message: &[u8], answer: &Record) -> Addr
-    requires four { answer.now.kind ≡ 1 → answer.now.place + 4 ≤ length message.now }
-    requires sixteen { answer.now.kind ≢ 1 → answer.now.place + 16 ≤ length message.now }
+    requires four { answer.now.kind ≡ 1 → answer.now.offset + 4 ≤ length message.now }
+    requires sixteen { answer.now.kind ≢ 1 → answer.now.offset + 16 ≤ length message.now }
     ensures { result ≡ spec.address_in message.now answer.now }
 {
     if answer.kind == A {
-        return Addr::V4(big_32(message, answer.place));
+        return Addr::V4(big_32(message, answer.offset));
     }
-    Addr::V6(big_128(message, answer.place))
+    Addr::V6(big_128(message, answer.offset))
 }
 
 /// Whether an answer gives a row: it has this type and owner, and this bound is that of a row.
@@ -97,8 +97,8 @@ fn add_row(
     bound: u32,
 ) -> Result<(), Memory>
     requires kind { IfSome asked (λ kind. (kind ≡ 1) ⊎ (kind ≡ 28)) }
-    requires four { answer.now.kind ≡ 1 → answer.now.class ≡ 1 → answer.now.place + 4 ≤ length message.now }
-    requires sixteen { answer.now.kind ≡ 28 → answer.now.class ≡ 1 → answer.now.place + 16 ≤ length message.now }
+    requires four { answer.now.kind ≡ 1 → answer.now.class ≡ 1 → answer.now.offset + 4 ≤ length message.now }
+    requires sixteen { answer.now.kind ≡ 28 → answer.now.class ≡ 1 → answer.now.offset + 16 ≤ length message.now }
     ensures { OnOk result (rows.new ≡ rows.old ++ row_if message.now asked alias.now bound answer.now) }
 {
     let Some(kind) = asked else {
@@ -127,15 +127,15 @@ pub(crate) fn read_rows(
     let mut rows = Listed::new(alloc);
     let mut alias = name;
     let mut least = None;
-    let mut place = start;
+    let mut offset = start;
     let mut left = count;
     'answers: while left > 0 {
-        let answer = read_record(message, place)?;
+        let answer = read_record(message, offset)?;
         let bound = bound_with(least, answer.ttl);
         add_row(&mut rows, message, &answer, asked, &alias, bound)?;
         least = least_after(&answer, &alias, least);
         alias = alias_after(&answer, &alias);
-        place = answer.place + answer.len;
+        offset = answer.offset + answer.len;
         left -= 1;
     }
     Ok(rows)

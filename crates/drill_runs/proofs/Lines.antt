@@ -8,9 +8,9 @@ use Rattle.mud_world.specs.Boxed.{faults_of}
 use Rattle.mud_world.specs.Causes.{StopsAtFailure}
 use Rattle.mud_world.specs.Door.{DoorState, put_out}
 use Rattle.mud_world.specs.Whole.{WrotePart}
-use Rattle.command_runs.specs.Due.{WroteFirst}
+use Rattle.command_runs.specs.Output.{WroteFirst}
 use Rattle.mud_world.specs.View.{DoorView}
-use Rattle.command_runs.proofs.Dues.{wrote_none}
+use Rattle.command_runs.proofs.Outputs.{wrote_none}
 use Rattle.desk_model.specs.declared.command.Command.{Command}
 use Rattle.desk_model.specs.DeskTables.{DeskTables, IsSound}
 use Rattle.desk_model.specs.Sessions.{Session}
@@ -45,7 +45,7 @@ lines_of_desk packets s state things files lines is_in counted held is =
 pub wrote_first : (text : List ℕ) (old new : DoorState) → WrotePart text old new → WroteFirst text old new
 wrote_first text old new part = record { count = part.count; within = omega (arith, part.part); wrote = part.wrote }
 
--- a text that was due, under another name
+-- a text of an output, under another name
 pub wrote_same : (text other : List ℕ) (old new : DoorState) → other ≡ text → new ≡ put_out other old → new ≡ put_out text old
 wrote_same text other old new same wrote = wrote ∙ ap (λ (t : List ℕ). put_out t old) same
 

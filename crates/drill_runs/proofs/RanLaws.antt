@@ -11,7 +11,7 @@ use Rattle.desk_model.specs.declared.command.Command.{Command}
 use Rattle.desk_model.specs.declared.command.Command.TheVariants.{Import, Verdict}
 use Rattle.desk_model.specs.declared.reply.Reply.{Reply}
 use Rattle.desk_model.specs.declared.reply.Reply.TheVariants as reply
-use Rattle.desk_model.specs.Sessions.{Session, Answered, MayAnswer, command_in, is_of_keeper}
+use Rattle.desk_model.specs.Sessions.{Session, Answered, AllowedReply, command_in, is_of_keeper}
 use Rattle.desk_model.specs.Boxed.{IsKept}
 use Rattle.mud_desk.specs.DeskState.{DeskState, session_of, tables_of}
 use Rattle.mud_desk.specs.declared.desk.Desk.{Desk}
@@ -35,15 +35,15 @@ use Rattle.drill_runs.specs.Runs.{RanAll, RanPart}
 
 -- what a command may answer over a desk, in whatever session it is, and that it leaves the connections
 pub record Replies (command : Command) (answer : Reply) (before after : DeskState) : Type 0 where
-  pub may : (h : List Segment) → MayAnswer (session_of h before) command_moment command answer (session_of h after)
+  pub may : (h : List Segment) → AllowedReply (session_of h before) command_moment command answer (session_of h after)
   pub flows : after.flows ≡ before.flows
 
 module _ (command : Command) (s : Session) (before after : DeskState) (is_in : IsIn s before) where
   in_after : (answer : Reply) → Replies command answer before after → IsIn (session_of s.history after) after
   in_after answer replies = in_own s.history after (flows_stay s.history before after replies.flows is_in.forwarded)
 
-  may_in : (answer : Reply) → Replies command answer before after → MayAnswer s command_moment command answer (session_of s.history after)
-  may_in answer replies = subst (λ (x : Session). MayAnswer x command_moment command answer (session_of s.history after)) is_in.session_is (replies.may s.history)
+  may_in : (answer : Reply) → Replies command answer before after → AllowedReply s command_moment command answer (session_of s.history after)
+  may_in answer replies = subst (λ (x : Session). AllowedReply x command_moment command answer (session_of s.history after)) is_in.session_is (replies.may s.history)
 
   -- what is answered, and the session behind it
   in_next : (answer answered : Reply) → Replies command answer before after → command_in s command_moment command ≡ record { reply = answered; session = session_of s.history after } → IsIn (command_in s command_moment command).session after

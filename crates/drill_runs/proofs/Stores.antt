@@ -14,7 +14,7 @@ use Rattle.mud_tables.specs.declared.thing.Thing.{Thing}
 use Rattle.mud_tables.specs.declared.bind.ClassRow.{ClassRow}
 use Rattle.mud_tables.specs.declared.bind.NameRow.{NameRow}
 use Rattle.file_tables.specs.declared.cached_file.CachedFile.{CachedFile}
-use Rattle.command_runs.specs.Due.{WroteFirst}
+use Rattle.command_runs.specs.Output.{WroteFirst}
 use Rattle.mud_world.specs.View.{DoorView}
 use Rattle.desk_model.specs.DeskTables.{DeskTables, IsSound, empty_desk}
 use Rattle.desk_model.specs.Items.{items_of, tables_in}
@@ -89,7 +89,7 @@ module _ {X : Type 0} {F : X → Type 0} (members : (v : (x : X) × F x) → Gho
           fault = run.fault;
           steady = run.steady;
           keeper_fault = λ seven. subst (λ (n : ℕ). Rose n (faults_of members returned)) same_count (run.keeper_fault seven);
-          same_box = record { object = run.same_box.object ∙ same_box.object; place = run.same_box.place ∙ same_box.place };
+          same_box = record { object = run.same_box.object ∙ same_box.object; pointer = run.same_box.pointer ∙ same_box.pointer };
         };
         keeper_steady = λ other. run.keeper_steady other ∙ same_count;
         runs = λ told tell. inl (record {

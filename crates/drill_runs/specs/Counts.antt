@@ -39,7 +39,7 @@ is_no_match _ = false
 
 -- ---- Counts
 
--- the rulings in a verdict: one for each end that is a Thing
+-- the rulings in a verdict: one for each endpoint that is a Thing
 abbrev pub rulings_in : Verdict → List Ruling
 rulings_in (Governed source destination) = option_to_list source ++ option_to_list destination
 rulings_in Unmanaged = []

@@ -8,7 +8,7 @@ use Rattle.mud_world.specs.Causes.{Rose}
 use Rattle.mud_world.specs.Door.{put_out}
 use Rattle.mud_tables.specs.TakenItems.{is_empty}
 use Rattle.command_runs.specs.Ends.{IsStoppedWriting}
-use Rattle.command_runs.specs.Due.{WroteFirst}
+use Rattle.command_runs.specs.Output.{WroteFirst}
 use Rattle.mud_world.specs.View.{DoorView}
 use Rattle.desk_model.specs.declared.command.Command.{Command}
 use Rattle.desk_model.specs.DeskTables.{DeskTables, IsSound, empty_desk}

@@ -62,7 +62,7 @@ fn append_port(frame: &mut Bytes, port: u16) -> Result<(), Memory>
     frame.append(&[(port / 256) as u8, (port % 256) as u8])
 }
 
-/// Adds the addresses and ports of both ends, the sender's first.
+/// Adds the addresses and ports of both endpoints, the sender's first.
 fn append_ends(frame: &mut Bytes, source: (u32, u16), destination: (u32, u16)) -> Result<(), Memory>
     ensures { OnOk result (frame.new ≡ frame.old ++ octets_v4 source.0 ++ octets_v4 destination.0
         ++ spec.port_octets source.1 ++ spec.port_octets destination.1) }

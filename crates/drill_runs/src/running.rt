@@ -5,7 +5,7 @@ ghost use Rattle.mud_tables.specs.declared.segment.Segment.{Segment as SegmentVa
 ghost use Rattle.mud_world.specs.Boxed.{faults_of};
 ghost use Rattle.mud_world.specs.Causes.{Counts};
 ghost use Rattle.desk_model.specs.Commands.{IsAsked};
-ghost use Rattle.desk_model.specs.Sessions.{MayAnswer, is_of_keeper};
+ghost use Rattle.desk_model.specs.Sessions.{AllowedReply, is_of_keeper};
 ghost use Rattle.desk_model.specs.Boxed.{IsKept};
 ghost use Rattle.mud_desk.specs.DeskState.{session_of, tables_of};
 ghost use Rattle.mud_desk.specs.Stays.{KeepsConnections};
@@ -31,7 +31,7 @@ fn reply_to<L: Ledger>(desk: &mut Desk, command: Command, blank: Blank) -> Reply
     requires blank { IsBlankOf L.name L.parts blank }
     requires kept { IsKept Keeper-dyn desk.old.keeper (tables_of desk.old.state) }
     requires asked { IsAsked command }
-    ensures answer { (h : List SegmentValue) → MayAnswer (session_of h desk.old.state) command_moment command result (session_of h desk.new.state) }
+    ensures answer { (h : List SegmentValue) → AllowedReply (session_of h desk.old.state) command_moment command result (session_of h desk.new.state) }
     ensures stays { KeepsConnections Keeper-dyn desk.old desk.new }
     ensures cause { Counts (is_of_keeper result) (faults_of Keeper-dyn desk.old.keeper) (faults_of Keeper-dyn desk.new.keeper) }
 {

@@ -2,20 +2,20 @@
 ghost use Rattle.std.specs.Prelude.{◌≡◌};
 ghost use Rattle.command_runs.specs.Status.{Is, status_number};
 ghost use Rattle.command_runs.specs.declared.status.Status.TheVariants.{KeeperFailed};
-ghost use Rattle.desk_items.specs.Taken.{kept_of};
+ghost use Rattle.desk_items.specs.Loaded.{kept_of};
 ghost use Rattle.desk_model.specs.Items.{none_kept};
 ghost use Rattle.drill_runs.specs.Store.{DrillsStore};
 
 use crate::desk::{drill_desk, holds_nothing, refuse_full};
 use command_runs::Status;
 use desk_runs::refuse_store;
-use mud_desk::{Desk, Taken};
+use mud_desk::{Desk, Loaded};
 use mud_world::{Door, Keeper};
 use std::alloc::Global;
 
 /// Opens a desk over the keeper, and drills it with so many packets: the commands of the made network
 /// run, each kept as ever, its packets are judged, and the counts are written. Nothing was taken
-/// before, as [`Desk::open`] wants it: [`Taken::new`]. The box is handed back.
+/// before, as [`Desk::open`] wants it: [`Loaded::new`]. The box is handed back.
 ///
 /// | Status | It comes |
 /// |---|---|
@@ -28,7 +28,7 @@ use std::alloc::Global;
 pub fn run_drill<D: Door>(
     alloc: Global,
     keeper: Box<dyn Keeper>,
-    nothing: Taken,
+    nothing: Loaded,
     packets: u32,
     door: &mut D,
 ) -> (Status, Box<dyn Keeper>)

@@ -20,7 +20,7 @@ use Rattle.acl_model.specs.declared.ruling.Why.TheVariants.{NoFile, NoMatch}
 use Rattle.packet_judge.specs.declared.verdict.Verdict.{Verdict}
 use Rattle.packet_judge.specs.declared.verdict.Verdict.TheVariants.{Unmanaged, Link, Unreadable, Governed}
 use Rattle.packet_judge.specs.Verdicts.{forwarded}
-use Rattle.sorted_rows.specs.Placed.{same_place}
+use Rattle.sorted_rows.specs.Sortable.{same_sort_key}
 use Rattle.sorted_rows.proofs.Lists.{all-append, length-cond}
 use Rattle.drop_ledger.proofs.FirstRows.{first_add_up}
 use Rattle.drop_ledger.proofs.NumberLaws.{count_rows_total}
@@ -28,48 +28,48 @@ use Rattle.drop_ledger.specs.Counted.{AreKinds, count_of, count_rows, first_rows
 use Rattle.drop_ledger.specs.declared.rows.DeniedRow.{DeniedRow}
 use Rattle.drop_ledger.specs.declared.seen.Seen.{Seen}
 use Rattle.drop_ledger.specs.declared.seen.Ruled.{Ruled}
-use Rattle.drop_ledger.specs.Places.{six, side_number, thing_place, ruling_place, ruling_class, entry_number, peer_place, place_of_count, place_of_denied, place_of_other, count_of_row, denied_count, other_count, with_count}
+use Rattle.drop_ledger.specs.SortKeys.{six, side_number, thing_sort_key, ruling_sort_key, ruling_class, entry_number, peer_sort_key, sort_key_of_count, sort_key_of_denied, sort_key_of_other, count_of_row, denied_count, other_count, with_count}
 use Rattle.drop_ledger.specs.RowTypes.{count_stays, count_told, denied_stays, denied_told, other_stays, other_told}
 use Rattle.drop_ledger.specs.Seen.{hour_of, mac_on, ruling_on, ruled, ruled_on, rulings_in, rulings, is_governed, has_both, passes, drops, verdicts, HasFields, HasThing, is_ruled}
 use Rattle.drop_ledger.specs.Ledger.{count_row, counts_of, times_of, peer_row, row_with, row_by, denied_row, denials, other_row, denied_kinds, hour_in, times_ruled}
-use Rattle.drop_ledger.proofs.PlaceOrder.{front, length-six, length-thing_place, same_length}
+use Rattle.drop_ledger.proofs.SortKeyOrder.{front, length-six, length-thing_sort_key, same_length}
 
--- ---- Places
+-- ---- Sort keys
 
-same_place-front : (xs ys us vs : List ℕ) → length xs ≡ length ys → same_place (xs ++ us) (ys ++ vs) ≡ (same_place xs ys && same_place us vs)
-same_place-front [] [] us vs long = refl
-same_place-front [] (y ∷ ys) us vs long = absurd (omega arith)
-same_place-front (x ∷ xs) [] us vs long = absurd (omega arith)
-same_place-front (x ∷ xs) (y ∷ ys) us vs long = ap (λ b. nat_eq x y && b) (same_place-front xs ys us vs (omega arith)) ∙ sym (and_assoc (nat_eq x y) (same_place xs ys) (same_place us vs))
+same_sort_key-front : (xs ys us vs : List ℕ) → length xs ≡ length ys → same_sort_key (xs ++ us) (ys ++ vs) ≡ (same_sort_key xs ys && same_sort_key us vs)
+same_sort_key-front [] [] us vs long = refl
+same_sort_key-front [] (y ∷ ys) us vs long = absurd (omega arith)
+same_sort_key-front (x ∷ xs) [] us vs long = absurd (omega arith)
+same_sort_key-front (x ∷ xs) (y ∷ ys) us vs long = ap (λ b. nat_eq x y && b) (same_sort_key-front xs ys us vs (omega arith)) ∙ sym (and_assoc (nat_eq x y) (same_sort_key xs ys) (same_sort_key us vs))
 
--- the two sides are never at one place
-sent_apart : (m n : Mac) → same_place (thing_place m From) (thing_place n To) ≡ false
-unfolding thing_place side_number
-sent_apart m n = same_place-front (six m.0) (six n.0) (0 ∷ []) (1 ∷ []) (length-six m.0 ∙ sym (length-six n.0)) ∙ and-false (same_place (six m.0) (six n.0))
+-- the two sides are never at one sort key
+sent_apart : (m n : Mac) → same_sort_key (thing_sort_key m From) (thing_sort_key n To) ≡ false
+unfolding thing_sort_key side_number
+sent_apart m n = same_sort_key-front (six m.0) (six n.0) (0 ∷ []) (1 ∷ []) (length-six m.0 ∙ sym (length-six n.0)) ∙ and-false (same_sort_key (six m.0) (six n.0))
 
-received_apart : (m n : Mac) → same_place (thing_place m To) (thing_place n From) ≡ false
-unfolding thing_place side_number
-received_apart m n = same_place-front (six m.0) (six n.0) (1 ∷ []) (0 ∷ []) (length-six m.0 ∙ sym (length-six n.0)) ∙ and-false (same_place (six m.0) (six n.0))
+received_apart : (m n : Mac) → same_sort_key (thing_sort_key m To) (thing_sort_key n From) ≡ false
+unfolding thing_sort_key side_number
+received_apart m n = same_sort_key-front (six m.0) (six n.0) (1 ∷ []) (0 ∷ []) (length-six m.0 ∙ sym (length-six n.0)) ∙ and-false (same_sort_key (six m.0) (six n.0))
 
--- the first seven numbers of the place of what was denied say its Thing and side
-denied_begins : (r : DeniedRow) → take 7 (place_of_denied r) ≡ thing_place r.mac r.side
-unfolding place_of_denied
-denied_begins r = front 7 (thing_place r.mac r.side) (peer_place r.peer r.protocol r.port) (length-thing_place r.mac r.side)
+-- the first seven numbers of the sort key of what was denied say its Thing and side
+denied_begins : (r : DeniedRow) → take 7 (sort_key_of_denied r) ≡ thing_sort_key r.mac r.side
+unfolding sort_key_of_denied
+denied_begins r = front 7 (thing_sort_key r.mac r.side) (peer_sort_key r.peer r.protocol r.port) (length-thing_sort_key r.mac r.side)
 
 pub denied_are_kinds : AreKinds denied_kinds
-unfolding place_of_denied place_of_other other_row
+unfolding sort_key_of_denied sort_key_of_other other_row
 denied_are_kinds = record {
-  long = λ r. let sum : length (thing_place r.mac r.side ++ peer_place r.peer r.protocol r.port) ≡ length (thing_place r.mac r.side) + length (peer_place r.peer r.protocol r.port) = length-append (thing_place r.mac r.side) (peer_place r.peer r.protocol r.port) in
-      let seven : length (thing_place r.mac r.side) ≡ 7 = length-thing_place r.mac r.side in omega arith;
-  exact = λ o. length-thing_place o.mac o.side;
+  long = λ r. let sum : length (thing_sort_key r.mac r.side ++ peer_sort_key r.peer r.protocol r.port) ≡ length (thing_sort_key r.mac r.side) + length (peer_sort_key r.peer r.protocol r.port) = length-append (thing_sort_key r.mac r.side) (peer_sort_key r.peer r.protocol r.port) in
+      let seven : length (thing_sort_key r.mac r.side) ≡ 7 = length-thing_sort_key r.mac r.side in omega arith;
+  exact = λ o. length-thing_sort_key o.mac o.side;
   own = λ r. sym (denied_begins r);
 }
 
 -- ---- How often a Thing's side was ruled on
 
-ruled_more : (mac : Mac) (side : Direction) (r : Ruled) (rs : List Ruled) → times_ruled mac side (r ∷ rs) ≡ cond (same_place (thing_place mac side) (thing_place r.mac r.side)) 1 0 + times_ruled mac side rs
+ruled_more : (mac : Mac) (side : Direction) (r : Ruled) (rs : List Ruled) → times_ruled mac side (r ∷ rs) ≡ cond (same_sort_key (thing_sort_key mac side) (thing_sort_key r.mac r.side)) 1 0 + times_ruled mac side rs
 unfolding times_ruled count_of
-ruled_more mac side r rs = length-cond (same_place (thing_place mac side) (thing_place r.mac r.side)) (thing_place r.mac r.side) (filter (same_place (thing_place mac side)) (map (λ q. thing_place q.mac q.side) rs))
+ruled_more mac side r rs = length-cond (same_sort_key (thing_sort_key mac side) (thing_sort_key r.mac r.side)) (thing_sort_key r.mac r.side) (filter (same_sort_key (thing_sort_key mac side)) (map (λ q. thing_sort_key q.mac q.side) rs))
 
 times_none : (mac : Mac) (side : Direction) → times_ruled mac side [] ≡ 0
 unfolding times_ruled count_of
@@ -93,25 +93,25 @@ fewer_by x l y l' few true false both = absurd (false≢true (both refl))
 fewer_by x l y l' few false true both = omega arith
 fewer_by x l y l' few false false both = few
 
-count_begins : (r q : Ruled) → same_place (place_of_count (count_row r)) (place_of_count (count_row q)) ≡ true → same_place (thing_place r.mac r.side) (thing_place q.mac q.side) ≡ true
-unfolding place_of_count count_row
-count_begins r q e = first_so (same_place (thing_place r.mac r.side) (thing_place q.mac q.side)) (same_place (ruling_place r.ruling) (ruling_place q.ruling))
-    (sym (same_place-front (thing_place r.mac r.side) (thing_place q.mac q.side) (ruling_place r.ruling) (ruling_place q.ruling) (same_length r.mac q.mac r.side q.side)) ∙ e)
+count_begins : (r q : Ruled) → same_sort_key (sort_key_of_count (count_row r)) (sort_key_of_count (count_row q)) ≡ true → same_sort_key (thing_sort_key r.mac r.side) (thing_sort_key q.mac q.side) ≡ true
+unfolding sort_key_of_count count_row
+count_begins r q e = first_so (same_sort_key (thing_sort_key r.mac r.side) (thing_sort_key q.mac q.side)) (same_sort_key (ruling_sort_key r.ruling) (ruling_sort_key q.ruling))
+    (sym (same_sort_key-front (thing_sort_key r.mac r.side) (thing_sort_key q.mac q.side) (ruling_sort_key r.ruling) (ruling_sort_key q.ruling) (same_length r.mac q.mac r.side q.side)) ∙ e)
 
 -- a ruling is given no more often than the Thing's side is ruled on
-pub counted_few : (r : Ruled) (done : List Ruled) → count_of (place_of_count (count_row r)) (map place_of_count (map count_row done)) ≤ times_ruled r.mac r.side done
+pub counted_few : (r : Ruled) (done : List Ruled) → count_of (sort_key_of_count (count_row r)) (map sort_key_of_count (map count_row done)) ≤ times_ruled r.mac r.side done
 unfolding times_ruled count_of
 counted_few r [] = omega arith
-counted_few r (q ∷ done) = fewer_by (place_of_count (count_row q)) (filter (same_place (place_of_count (count_row r))) (map place_of_count (map count_row done)))
-    (thing_place q.mac q.side) (filter (same_place (thing_place r.mac r.side)) (map (λ p. thing_place p.mac p.side) done)) (counted_few r done)
-    (same_place (place_of_count (count_row r)) (place_of_count (count_row q))) (same_place (thing_place r.mac r.side) (thing_place q.mac q.side)) (count_begins r q)
+counted_few r (q ∷ done) = fewer_by (sort_key_of_count (count_row q)) (filter (same_sort_key (sort_key_of_count (count_row r))) (map sort_key_of_count (map count_row done)))
+    (thing_sort_key q.mac q.side) (filter (same_sort_key (thing_sort_key r.mac r.side)) (map (λ p. thing_sort_key p.mac p.side) done)) (counted_few r done)
+    (same_sort_key (sort_key_of_count (count_row r)) (sort_key_of_count (count_row q))) (same_sort_key (thing_sort_key r.mac r.side) (thing_sort_key q.mac q.side)) (count_begins r q)
 
-with_thing : (mac : Mac) (side : Direction) (fields : Option Fields) (row : DeniedRow) → row_with mac side fields ≡ Some row → thing_place row.mac row.side ≡ thing_place mac side
+with_thing : (mac : Mac) (side : Direction) (fields : Option Fields) (row : DeniedRow) → row_with mac side fields ≡ Some row → thing_sort_key row.mac row.side ≡ thing_sort_key mac side
 unfolding row_with peer_row
 with_thing mac side None row e = absurd (none-some row e)
-with_thing mac side (Some fields) row e = ap (λ d. thing_place d.mac d.side) (sym (same_Some (peer_row mac side fields) row e))
+with_thing mac side (Some fields) row e = ap (λ d. thing_sort_key d.mac d.side) (sym (same_Some (peer_row mac side fields) row e))
 
-by_thing : (ruling : Ruling) (r : Ruled) (row : DeniedRow) → row_by ruling r ≡ Some row → thing_place row.mac row.side ≡ thing_place r.mac r.side
+by_thing : (ruling : Ruling) (r : Ruled) (row : DeniedRow) → row_by ruling r ≡ Some row → thing_sort_key row.mac row.side ≡ thing_sort_key r.mac r.side
 unfolding row_by
 by_thing (DropDefault NoMatch) r row e = with_thing r.mac r.side r.fields row e
 by_thing (DropDefault NoFile) r row e = absurd (none-some row e)
@@ -121,41 +121,41 @@ by_thing (Drop n) r row e = absurd (none-some row e)
 by_thing DropHeld r row e = absurd (none-some row e)
 
 -- the row of what a ruling denied is of its Thing and side
-row_thing : (r : Ruled) (row : DeniedRow) → denied_row r ≡ Some row → thing_place row.mac row.side ≡ thing_place r.mac r.side
+row_thing : (r : Ruled) (row : DeniedRow) → denied_row r ≡ Some row → thing_sort_key row.mac row.side ≡ thing_sort_key r.mac r.side
 unfolding denied_row
 row_thing r row e = by_thing r.ruling r row e
 
-those_by : (t : List ℕ) (q : Ruled) (rows : List DeniedRow) (done : List Ruled) → length t ≡ 7 → length (those_of t (map place_of_denied rows)) ≤ count_of t (map (λ p. thing_place p.mac p.side) done) → (o : Option DeniedRow) → denied_row q ≡ o
-    → length (those_of t (map place_of_denied (cons_option o rows))) ≤ count_of t (map (λ p. thing_place p.mac p.side) (q ∷ done))
+those_by : (t : List ℕ) (q : Ruled) (rows : List DeniedRow) (done : List Ruled) → length t ≡ 7 → length (those_of t (map sort_key_of_denied rows)) ≤ count_of t (map (λ p. thing_sort_key p.mac p.side) done) → (o : Option DeniedRow) → denied_row q ≡ o
+    → length (those_of t (map sort_key_of_denied (cons_option o rows))) ≤ count_of t (map (λ p. thing_sort_key p.mac p.side) (q ∷ done))
 unfolding those_of count_of is_of
-those_by t q rows done seven few None is = longer (same_place t (thing_place q.mac q.side)) (thing_place q.mac q.side) (filter (same_place t) (map (λ p. thing_place p.mac p.side) done)) few
+those_by t q rows done seven few None is = longer (same_sort_key t (thing_sort_key q.mac q.side)) (thing_sort_key q.mac q.side) (filter (same_sort_key t) (map (λ p. thing_sort_key p.mac p.side) done)) few
   where
     longer : {n : ℕ} (b : Bool) (x : List ℕ) (l : List (List ℕ)) → n ≤ length l → n ≤ length (cond b (x ∷ l) l)
     longer true x l less = omega arith
     longer false x l less = less
 those_by t q rows done seven few (Some row) is =
-    fewer_by (place_of_denied row) (filter (is_of t) (map place_of_denied rows)) (thing_place q.mac q.side) (filter (same_place t) (map (λ p. thing_place p.mac p.side) done)) few
-    (is_of t (place_of_denied row)) (same_place t (thing_place q.mac q.side))
-    (λ e. ap (same_place t) (sym (row_thing q row is) ∙ sym (denied_begins row)) ∙ ap (λ n. same_place t (take n (place_of_denied row))) (sym seven) ∙ e)
+    fewer_by (sort_key_of_denied row) (filter (is_of t) (map sort_key_of_denied rows)) (thing_sort_key q.mac q.side) (filter (same_sort_key t) (map (λ p. thing_sort_key p.mac p.side) done)) few
+    (is_of t (sort_key_of_denied row)) (same_sort_key t (thing_sort_key q.mac q.side))
+    (λ e. ap (same_sort_key t) (sym (row_thing q row is) ∙ sym (denied_begins row)) ∙ ap (λ n. same_sort_key t (take n (sort_key_of_denied row))) (sym seven) ∙ e)
 
-those_few : (t : List ℕ) (done : List Ruled) → length t ≡ 7 → length (those_of t (map place_of_denied (denials done))) ≤ count_of t (map (λ p. thing_place p.mac p.side) done)
+those_few : (t : List ℕ) (done : List Ruled) → length t ≡ 7 → length (those_of t (map sort_key_of_denied (denials done))) ≤ count_of t (map (λ p. thing_sort_key p.mac p.side) done)
 unfolding denials those_of count_of
 those_few t [] seven = omega arith
 those_few t (q ∷ done) seven = those_by t q (denials done) done seven (those_few t done seven) (denied_row q) refl
 
 -- what is denied of a Thing's side is no more than it is ruled on
-pub denied_few : (r : Ruled) (row : DeniedRow) (done : List Ruled) → denied_row r ≡ Some row → length (those_of (take 7 (place_of_denied row)) (map place_of_denied (denials done))) ≤ times_ruled r.mac r.side done
+pub denied_few : (r : Ruled) (row : DeniedRow) (done : List Ruled) → denied_row r ≡ Some row → length (those_of (take 7 (sort_key_of_denied row)) (map sort_key_of_denied (denials done))) ≤ times_ruled r.mac r.side done
 unfolding times_ruled
 denied_few r row done is =
-    let begins : take 7 (place_of_denied row) ≡ thing_place r.mac r.side = denied_begins row ∙ row_thing r row is in
-    subst (λ t. length (those_of t (map place_of_denied (denials done))) ≤ count_of (thing_place r.mac r.side) (map (λ p. thing_place p.mac p.side) done)) (sym begins)
-    (those_few (thing_place r.mac r.side) done (length-thing_place r.mac r.side))
+    let begins : take 7 (sort_key_of_denied row) ≡ thing_sort_key r.mac r.side = denied_begins row ∙ row_thing r row is in
+    subst (λ t. length (those_of t (map sort_key_of_denied (denials done))) ≤ count_of (thing_sort_key r.mac r.side) (map (λ p. thing_sort_key p.mac p.side) done)) (sym begins)
+    (those_few (thing_sort_key r.mac r.side) done (length-thing_sort_key r.mac r.side))
 
 -- ---- One ruling more
 
-pub counts_more : (done : List Ruled) (r : Ruled) → count_rows place_of_count with_count (map count_row done ++ count_row r ∷ []) ≡ counts_of (done ++ r ∷ [])
+pub counts_more : (done : List Ruled) (r : Ruled) → count_rows sort_key_of_count with_count (map count_row done ++ count_row r ∷ []) ≡ counts_of (done ++ r ∷ [])
 unfolding counts_of
-counts_more done r = ap (count_rows place_of_count with_count) (sym (map-append count_row done (r ∷ [])))
+counts_more done r = ap (count_rows sort_key_of_count with_count) (sym (map-append count_row done (r ∷ [])))
 
 pub denials_more : (done : List Ruled) (r : Ruled) (o : Option DeniedRow) → denied_row r ≡ o → denials (done ++ r ∷ []) ≡ denials done ++ option_to_list o
 unfolding denials
@@ -176,9 +176,9 @@ rulings_more all s =
 
 times_end : (mac : Mac) (side : Direction) (o : Option Ruled) → times_ruled mac side (option_to_list o) ≤ 1
 times_end mac side None = let none = times_none mac side in omega (arith, none)
-times_end mac side (Some r) = let one = ruled_more mac side r [] in let none = times_none mac side in let few = few_if (same_place (thing_place mac side) (thing_place r.mac r.side)) in omega (arith, one, none, few)
+times_end mac side (Some r) = let one = ruled_more mac side r [] in let none = times_none mac side in let few = few_if (same_sort_key (thing_sort_key mac side) (thing_sort_key r.mac r.side)) in omega (arith, one, none, few)
 
-no_times : (mac : Mac) (side : Direction) (r : Ruled) → same_place (thing_place mac side) (thing_place r.mac r.side) ≡ false → times_ruled mac side (r ∷ []) ≡ 0
+no_times : (mac : Mac) (side : Direction) (r : Ruled) → same_sort_key (thing_sort_key mac side) (thing_sort_key r.mac r.side) ≡ false → times_ruled mac side (r ∷ []) ≡ 0
 no_times mac side r apart = ruled_more mac side r [] ∙ ap (λ b. cond b 1 0 + times_ruled mac side []) apart ∙ (let none = times_none mac side in omega (arith, none))
 
 -- the Thing that sends isn't on the other side
@@ -233,27 +233,27 @@ received_few mac all s =
 
 -- ---- What adds up
 
-not_counted : (t : List ℕ) (m : Mac) (d : Direction) (us : List ℕ) (done : List Ruled) → length t ≡ 7 → same_place (5 ∷ 0 ∷ []) us ≡ false
-    → length (cond (same_place (t ++ 5 ∷ 0 ∷ []) (thing_place m d ++ us)) ((thing_place m d ++ us) ∷ filter (same_place (t ++ 5 ∷ 0 ∷ [])) (map place_of_count (map count_row done))) (filter (same_place (t ++ 5 ∷ 0 ∷ [])) (map place_of_count (map count_row done)))) ≡ length (filter (same_place (t ++ 5 ∷ 0 ∷ [])) (map place_of_count (map count_row done)))
+not_counted : (t : List ℕ) (m : Mac) (d : Direction) (us : List ℕ) (done : List Ruled) → length t ≡ 7 → same_sort_key (5 ∷ 0 ∷ []) us ≡ false
+    → length (cond (same_sort_key (t ++ 5 ∷ 0 ∷ []) (thing_sort_key m d ++ us)) ((thing_sort_key m d ++ us) ∷ filter (same_sort_key (t ++ 5 ∷ 0 ∷ [])) (map sort_key_of_count (map count_row done))) (filter (same_sort_key (t ++ 5 ∷ 0 ∷ [])) (map sort_key_of_count (map count_row done)))) ≡ length (filter (same_sort_key (t ++ 5 ∷ 0 ∷ [])) (map sort_key_of_count (map count_row done)))
 not_counted t m d us done seven apart =
-    ap (λ b. length (cond b ((thing_place m d ++ us) ∷ filter (same_place (t ++ 5 ∷ 0 ∷ [])) (map place_of_count (map count_row done))) (filter (same_place (t ++ 5 ∷ 0 ∷ [])) (map place_of_count (map count_row done)))))
-    (same_place-front t (thing_place m d) (5 ∷ 0 ∷ []) us (seven ∙ sym (length-thing_place m d)) ∙ ap (λ b. same_place t (thing_place m d) && b) apart ∙ and-false (same_place t (thing_place m d)))
+    ap (λ b. length (cond b ((thing_sort_key m d ++ us) ∷ filter (same_sort_key (t ++ 5 ∷ 0 ∷ [])) (map sort_key_of_count (map count_row done))) (filter (same_sort_key (t ++ 5 ∷ 0 ∷ [])) (map sort_key_of_count (map count_row done)))))
+    (same_sort_key-front t (thing_sort_key m d) (5 ∷ 0 ∷ []) us (seven ∙ sym (length-thing_sort_key m d)) ∙ ap (λ b. same_sort_key t (thing_sort_key m d) && b) apart ∙ and-false (same_sort_key t (thing_sort_key m d)))
 
 no_match_by : (t : List ℕ) (m : Mac) (d : Direction) (r : Ruling) (f : Option Fields) (rows : List DeniedRow) (done : List Ruled) → IsSome f → length t ≡ 7
-    → length (those_of t (map place_of_denied rows)) ≡ count_of (t ++ 5 ∷ 0 ∷ []) (map place_of_count (map count_row done))
-    → length (those_of t (map place_of_denied (cons_option (row_by r (record { mac = m; side = d; ruling = r; fields = f })) rows))) ≡ count_of (t ++ 5 ∷ 0 ∷ []) (map place_of_count (map count_row ((record { mac = m; side = d; ruling = r; fields = f }) ∷ done)))
-unfolding those_of count_of row_by row_with place_of_count count_row ruling_place ruling_class entry_number is_of
+    → length (those_of t (map sort_key_of_denied rows)) ≡ count_of (t ++ 5 ∷ 0 ∷ []) (map sort_key_of_count (map count_row done))
+    → length (those_of t (map sort_key_of_denied (cons_option (row_by r (record { mac = m; side = d; ruling = r; fields = f })) rows))) ≡ count_of (t ++ 5 ∷ 0 ∷ []) (map sort_key_of_count (map count_row ((record { mac = m; side = d; ruling = r; fields = f }) ∷ done)))
+unfolding those_of count_of row_by row_with sort_key_of_count count_row ruling_sort_key ruling_class entry_number is_of
 no_match_by t m d (DropDefault NoMatch) None rows done has seven is = absurd (false≢true has)
 no_match_by t m d (DropDefault NoMatch) (Some f) rows done has seven is =
-    length-cond (is_of t (place_of_denied (peer_row m d f))) (place_of_denied (peer_row m d f)) (filter (is_of t) (map place_of_denied rows))
+    length-cond (is_of t (sort_key_of_denied (peer_row m d f))) (sort_key_of_denied (peer_row m d f)) (filter (is_of t) (map sort_key_of_denied rows))
     ∙ (λ i. cond (same i) 1 0 + is i)
-    ∙ sym (length-cond (same_place (t ++ 5 ∷ 0 ∷ []) (thing_place m d ++ 5 ∷ 0 ∷ [])) (thing_place m d ++ 5 ∷ 0 ∷ []) (filter (same_place (t ++ 5 ∷ 0 ∷ [])) (map place_of_count (map count_row done))))
+    ∙ sym (length-cond (same_sort_key (t ++ 5 ∷ 0 ∷ []) (thing_sort_key m d ++ 5 ∷ 0 ∷ [])) (thing_sort_key m d ++ 5 ∷ 0 ∷ []) (filter (same_sort_key (t ++ 5 ∷ 0 ∷ [])) (map sort_key_of_count (map count_row done))))
   where
-    same : is_of t (place_of_denied (peer_row m d f)) ≡ same_place (t ++ 5 ∷ 0 ∷ []) (thing_place m d ++ 5 ∷ 0 ∷ [])
-    same = ap (λ n. same_place t (take n (place_of_denied (peer_row m d f)))) seven
-        ∙ ap (same_place t) (denied_begins (peer_row m d f) ∙ with_thing m d (Some f) (peer_row m d f) refl)
-        ∙ sym (and-true (same_place t (thing_place m d)))
-        ∙ sym (same_place-front t (thing_place m d) (5 ∷ 0 ∷ []) (5 ∷ 0 ∷ []) (seven ∙ sym (length-thing_place m d)))
+    same : is_of t (sort_key_of_denied (peer_row m d f)) ≡ same_sort_key (t ++ 5 ∷ 0 ∷ []) (thing_sort_key m d ++ 5 ∷ 0 ∷ [])
+    same = ap (λ n. same_sort_key t (take n (sort_key_of_denied (peer_row m d f)))) seven
+        ∙ ap (same_sort_key t) (denied_begins (peer_row m d f) ∙ with_thing m d (Some f) (peer_row m d f) refl)
+        ∙ sym (and-true (same_sort_key t (thing_sort_key m d)))
+        ∙ sym (same_sort_key-front t (thing_sort_key m d) (5 ∷ 0 ∷ []) (5 ∷ 0 ∷ []) (seven ∙ sym (length-thing_sort_key m d)))
 no_match_by t m d (DropDefault NoFile) f rows done has seven is = is ∙ sym (not_counted t m d (4 ∷ 0 ∷ []) done seven refl)
 no_match_by t m d (Accept n) f rows done has seven is = is ∙ sym (not_counted t m d (0 ∷ n ∷ []) done seven refl)
 no_match_by t m d (AcceptDefault Dns) f rows done has seven is = is ∙ sym (not_counted t m d (2 ∷ 0 ∷ []) done seven refl)
@@ -261,7 +261,7 @@ no_match_by t m d (AcceptDefault Ntp) f rows done has seven is = is ∙ sym (not
 no_match_by t m d (Drop n) f rows done has seven is = is ∙ sym (not_counted t m d (1 ∷ n ∷ []) done seven refl)
 no_match_by t m d DropHeld f rows done has seven is = is ∙ sym (not_counted t m d (6 ∷ 0 ∷ []) done seven refl)
 
-pub no_match_times : (t : List ℕ) (done : List Ruled) → AllByRecursion (λ r. IsSome r.fields) done → length t ≡ 7 → length (those_of t (map place_of_denied (denials done))) ≡ count_of (t ++ 5 ∷ 0 ∷ []) (map place_of_count (map count_row done))
+pub no_match_times : (t : List ℕ) (done : List Ruled) → AllByRecursion (λ r. IsSome r.fields) done → length t ≡ 7 → length (those_of t (map sort_key_of_denied (denials done))) ≡ count_of (t ++ 5 ∷ 0 ∷ []) (map sort_key_of_count (map count_row done))
 unfolding denials denied_row those_of count_of
 no_match_times t [] have seven = refl
 no_match_times t (q ∷ done) have seven = no_match_by t q.mac q.side q.ruling q.fields (denials done) done have.0 seven (no_match_times t done have.1 seven)
@@ -287,16 +287,16 @@ rulings_have (s ∷ all) have = all-append (λ r. IsSome r.fields) (rulings_in s
 
 -- what is denied of a Thing's side, and the others, are as many as it was ruled so
 pub denied_sum : (mac : Mac) (side : Direction) (done : List Ruled) → AllByRecursion (λ r. IsSome r.fields) done
-    → sum_of place_of_denied denied_count (thing_place mac side) (first_rows denied_kinds (denials done)) + count_at place_of_other other_count (thing_place mac side) (late_rows denied_kinds (denials done)) ≡ times_of mac side (DropDefault NoMatch) done
-unfolding times_of place_of_count ruling_place ruling_class entry_number
+    → sum_of sort_key_of_denied denied_count (thing_sort_key mac side) (first_rows denied_kinds (denials done)) + count_at sort_key_of_other other_count (thing_sort_key mac side) (late_rows denied_kinds (denials done)) ≡ times_of mac side (DropDefault NoMatch) done
+unfolding times_of sort_key_of_count ruling_sort_key ruling_class entry_number
 denied_sum mac side done have =
-    first_add_up denied_kinds denied_are_kinds denied_stays denied_count denied_told other_stays other_count other_told (denials done) (thing_place mac side) (length-thing_place mac side)
-    ∙ no_match_times (thing_place mac side) done have (length-thing_place mac side)
+    first_add_up denied_kinds denied_are_kinds denied_stays denied_count denied_told other_stays other_count other_told (denials done) (thing_sort_key mac side) (length-thing_sort_key mac side)
+    ∙ no_match_times (thing_sort_key mac side) done have (length-thing_sort_key mac side)
 
 -- the counts of all rulings are as many as there are
 pub counts_sum : (done : List Ruled) → total count_of_row (counts_of done) ≡ length done
 unfolding counts_of
-counts_sum done = count_rows_total place_of_count with_count count_stays count_of_row count_told (map count_row done) ∙ length-map done count_row
+counts_sum done = count_rows_total sort_key_of_count with_count count_stays count_of_row count_told (map count_row done) ∙ length-map done count_row
 
 ruled_by : (a b : Option Ruling) (s : Seen) (f : Bool) → (is_some (option_map (ruled s From) a) || is_some (option_map (ruled s To) b)) ≡ true
     → length (option_to_list (option_map (ruled s From) a) ++ option_to_list (option_map (ruled s To) b)) ≡ cond f 1 0 + cond (not f) 1 0 + cond (is_some a && is_some b) 1 0
@@ -400,7 +400,7 @@ no_counts done e = sym (counts_sum done) ∙ ap (total count_of_row) e
 
 pub counts_none : (latest : List Seen) → hour_in latest ≡ None → counts_of (rulings latest) ≡ []
 unfolding counts_of count_rows
-counts_none latest e = ap (λ rs. count_rows place_of_count with_count (map count_row rs)) (hour_none latest e)
+counts_none latest e = ap (λ rs. count_rows sort_key_of_count with_count (map count_row rs)) (hour_none latest e)
 
 pub no_counts_no_hour : (latest : List Seen) → counts_of (rulings latest) ≡ [] → hour_in latest ≡ None
 no_counts_no_hour latest e = none_hour latest (no_counts (rulings latest) e)

@@ -6,6 +6,6 @@ mod KeptLaws
 pub mod LedgerLaws
 mod LeftLaws
 pub mod NumberLaws
-pub mod PlaceOrder
+pub mod SortKeyOrder
 pub mod RowSteps
 pub mod TallyLaws

@@ -11,7 +11,7 @@ use Rattle.acl_model.specs.Match.{peer_of}
 use Rattle.acl_model.specs.declared.ruling.Ruling.{Ruling}
 use Rattle.acl_model.specs.declared.ruling.Ruling.TheVariants.{Accept, AcceptDefault, Drop, DropDefault, DropHeld}
 use Rattle.acl_model.specs.declared.ruling.Why.TheVariants.{NoFile, NoMatch}
-use Rattle.sorted_rows.specs.Placed.{RowsAndRoom}
+use Rattle.sorted_rows.specs.Sortable.{RowsAndRoom}
 use Rattle.drop_ledger.specs.Counted.{Kinds, AreFirstRows, count_of, count_rows, kinds, sum_of, count_at}
 use Rattle.drop_ledger.specs.declared.rows.CountRow.{CountRow}
 use Rattle.drop_ledger.specs.declared.rows.DeniedRow.{DeniedRow}
@@ -19,7 +19,7 @@ use Rattle.drop_ledger.specs.declared.rows.OtherRow.{OtherRow}
 use Rattle.drop_ledger.specs.declared.seen.Seen.{Seen}
 use Rattle.drop_ledger.specs.declared.seen.Ruled.{Ruled}
 use Rattle.drop_ledger.specs.declared.totals.Totals.{Totals}
-use Rattle.drop_ledger.specs.Places.{thing_place, thing_len, place_of_count, place_of_denied, place_of_other, denied_count, other_count, with_count, with_denied, with_other}
+use Rattle.drop_ledger.specs.SortKeys.{thing_sort_key, thing_len, sort_key_of_count, sort_key_of_denied, sort_key_of_other, denied_count, other_count, with_count, with_denied, with_other}
 use Rattle.drop_ledger.specs.Seen.{hour_of, is_ruled, rulings, totals_in}
 
 -- ---- Counts of rulings
@@ -28,13 +28,13 @@ use Rattle.drop_ledger.specs.Seen.{hour_of, is_ruled, rulings, totals_in}
 unfoldable pub count_row : Ruled → CountRow
 count_row r = record { mac = r.mac; side = r.side; ruling = r.ruling; count = 0 }
 
--- for each Thing, side and ruling the number of such rulings, in the order of places
+-- for each Thing, side and ruling the number of such rulings, in the order of sort keys
 unfoldable pub counts_of : List Ruled → List CountRow
-counts_of done = count_rows place_of_count with_count (map count_row done)
+counts_of done = count_rows sort_key_of_count with_count (map count_row done)
 
 -- how often a ruling was given on a Thing's side
 unfoldable pub times_of : Mac → Direction → Ruling → List Ruled → ℕ
-times_of mac side ruling done = count_of (place_of_count (record { mac = mac; side = side; ruling = ruling; count = 0 })) (map place_of_count (map count_row done))
+times_of mac side ruling done = count_of (sort_key_of_count (record { mac = mac; side = side; ruling = ruling; count = 0 })) (map sort_key_of_count (map count_row done))
 
 -- ---- What was denied
 
@@ -78,7 +78,7 @@ abbrev pub most_peers : ℕ
 most_peers = 256
 
 abbrev pub denied_kinds : Kinds DeniedRow OtherRow
-denied_kinds = kinds place_of_denied with_denied place_of_other with_other other_row thing_len most_peers
+denied_kinds = kinds sort_key_of_denied with_denied sort_key_of_other with_other other_row thing_len most_peers
 
 -- these are the rows of what was denied: those of the peers, protocols and ports that appear first, and of the others together
 abbrev pub AreDenied : List Ruled → List DeniedRow → List OtherRow → Type 0
@@ -127,7 +127,7 @@ pub record IsSameTally (before after : TallyState) : Type 0 where
 
 -- how often the Thing on this side was ruled on
 unfoldable pub times_ruled : Mac → Direction → List Ruled → ℕ
-times_ruled mac side done = count_of (thing_place mac side) (map (λ r. thing_place r.mac r.side) done)
+times_ruled mac side done = count_of (thing_sort_key mac side) (map (λ r. thing_sort_key r.mac r.side) done)
 
 -- the counts are gone, and all else stays
 pub record IsClosed (before after : TallyState) : Type 0 where
@@ -144,4 +144,4 @@ no_match = DropDefault NoMatch
 
 -- the counts of a Thing's side in these rows of what was denied, with the others
 unfoldable pub denied_times : Mac → Direction → List DeniedRow → List OtherRow → ℕ
-denied_times mac side rows others = sum_of place_of_denied denied_count (thing_place mac side) rows + count_at place_of_other other_count (thing_place mac side) others
+denied_times mac side rows others = sum_of sort_key_of_denied denied_count (thing_sort_key mac side) rows + count_at sort_key_of_other other_count (thing_sort_key mac side) others

@@ -1,6 +1,6 @@
 pub mod Counted
 pub mod Ledger
-pub mod Places
+pub mod SortKeys
 pub mod Plan
 pub mod RowTypes
 pub mod Seen

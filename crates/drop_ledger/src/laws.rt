@@ -6,7 +6,7 @@ ghost use Rattle.mud_base.specs.declared.packet.Direction.{Direction as Directio
 ghost use Rattle.drop_ledger.specs.Counted.{first_rows, late_rows, total};
 ghost use Rattle.drop_ledger.specs.declared.seen.Seen.{Seen as SeenValue};
 ghost use Rattle.drop_ledger.specs.declared.seen.Ruled.{Ruled as RuledValue};
-ghost use Rattle.drop_ledger.specs.Places.{count_of_row};
+ghost use Rattle.drop_ledger.specs.SortKeys.{count_of_row};
 ghost use Rattle.drop_ledger.specs.Seen.{AreSums, HasFields, HasThing, rulings, totals_in};
 ghost use Rattle.drop_ledger.specs.Ledger.{counts_of, denials, denied_kinds, denied_times, no_match, times_of};
 

@@ -1,5 +1,5 @@
 //! Counts of the rulings on packets, and of what was denied since no entry matches: rows count how
-//! often places appear, of all places, or of those that appear first.
+//! often sort keys appear, of all sort keys, or of those that appear first.
 #![tactic(auto)]
 
 mod counted;

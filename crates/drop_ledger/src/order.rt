@@ -1,8 +1,8 @@
-//! How the parts of places stand to one another.
+//! How the parts of sort keys stand to one another.
 ghost use Rattle.std.specs.Prelude.{◌≡◌};
 ghost use Rattle.std.specs.Ordering.{nat_cmp};
-ghost use Rattle.sorted_rows.specs.Placed.{place_cmp};
-ghost use Rattle.drop_ledger.specs.Places as spec;
+ghost use Rattle.sorted_rows.specs.Sortable.{sort_key_cmp};
+ghost use Rattle.drop_ledger.specs.SortKeys as spec;
 
 use acl_model::{DefaultRule, Ruling, Why};
 use mud_base::{Addr, Direction, Mac, addr_order};
@@ -28,7 +28,7 @@ pub struct Peer {
 
 /// How two hardware addresses stand to one another: the first octet that differs decides.
 fn mac_order(own: &Mac, other: &Mac) -> Ordering
-    ensures { result ≡ place_cmp (spec.six own.now.0) (spec.six other.now.0) }
+    ensures { result ≡ sort_key_cmp (spec.six own.now.0) (spec.six other.now.0) }
 {
     let mut n = 0;
     while n < own.0.len() {
@@ -41,7 +41,7 @@ fn mac_order(own: &Mac, other: &Mac) -> Ordering
 }
 
 /// What the Thing sends comes before what is sent to it.
-#[tactic(auto, unfolding(crate::specs::Places::side_number))]
+#[tactic(auto, unfolding(crate::specs::SortKeys::side_number))]
 fn side_order(own: Direction, other: Direction) -> Ordering
     ensures { result ≡ nat_cmp (spec.side_number own) (spec.side_number other) }
 {
@@ -54,15 +54,15 @@ fn side_order(own: Direction, other: Direction) -> Ordering
 }
 
 /// By the hardware address, and then the side.
-#[tactic(auto, using(crate::proofs::PlaceOrder::place_rules))]
+#[tactic(auto, using(crate::proofs::SortKeyOrder::sort_key_rules))]
 pub(crate) fn thing_order(own: &ThingSide, other: &ThingSide) -> Ordering
-    ensures { result ≡ place_cmp (spec.thing_place own.now.mac own.now.side) (spec.thing_place other.now.mac other.now.side) }
+    ensures { result ≡ sort_key_cmp (spec.thing_sort_key own.now.mac own.now.side) (spec.thing_sort_key other.now.mac other.now.side) }
 {
     mac_order(&own.mac, &other.mac).then(side_order(own.side, other.side))
 }
 
 /// The class of a ruling, in the order in which rulings are written.
-#[tactic(auto, unfolding(crate::specs::Places::ruling_class))]
+#[tactic(auto, unfolding(crate::specs::SortKeys::ruling_class))]
 fn ruling_class(ruling: Ruling) -> u8
     ensures { result ≡ spec.ruling_class ruling }
 {
@@ -78,7 +78,7 @@ fn ruling_class(ruling: Ruling) -> u8
 }
 
 /// The number of the entry that rules, or 0 where no entry of a file does.
-#[tactic(auto, unfolding(crate::specs::Places::entry_number))]
+#[tactic(auto, unfolding(crate::specs::SortKeys::entry_number))]
 fn entry_number(ruling: Ruling) -> u16
     ensures { result ≡ spec.entry_number ruling }
 {
@@ -92,17 +92,17 @@ fn entry_number(ruling: Ruling) -> u16
 }
 
 /// By the class, and then the number of the entry.
-#[tactic(auto, using(crate::proofs::PlaceOrder::place_rules))]
+#[tactic(auto, using(crate::proofs::SortKeyOrder::sort_key_rules))]
 pub(crate) fn ruling_order(own: Ruling, other: Ruling) -> Ordering
-    ensures { result ≡ place_cmp (spec.ruling_place own) (spec.ruling_place other) }
+    ensures { result ≡ sort_key_cmp (spec.ruling_sort_key own) (spec.ruling_sort_key other) }
 {
     ruling_class(own)
         .cmp(&ruling_class(other))
         .then(entry_number(own).cmp(&entry_number(other)))
 }
 
-/// A port's place among ports: a missing one comes first.
-#[tactic(auto, unfolding(crate::specs::Places::port_number))]
+/// A port's number among ports: a missing one comes first.
+#[tactic(auto, unfolding(crate::specs::SortKeys::port_number))]
 fn port_number(port: Option<u16>) -> u32
     ensures { result ≡ spec.port_number port }
 {
@@ -113,9 +113,9 @@ fn port_number(port: Option<u16>) -> u32
 }
 
 /// By the address, then the protocol, then the port.
-#[tactic(auto, using(crate::proofs::PlaceOrder::place_rules))]
+#[tactic(auto, using(crate::proofs::SortKeyOrder::sort_key_rules))]
 pub(crate) fn peer_order(own: &Peer, other: &Peer) -> Ordering
-    ensures { result ≡ place_cmp (spec.peer_place own.now.addr own.now.protocol own.now.port) (spec.peer_place other.now.addr other.now.protocol other.now.port) }
+    ensures { result ≡ sort_key_cmp (spec.peer_sort_key own.now.addr own.now.protocol own.now.port) (spec.peer_sort_key other.now.addr other.now.protocol other.now.port) }
 {
     addr_order(own.addr, other.addr)
         .then(own.protocol.cmp(&other.protocol))

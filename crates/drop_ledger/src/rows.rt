@@ -5,7 +5,7 @@ use crate::Tallied;
 use crate::order::{Peer, ThingSide, peer_order, ruling_order, thing_order};
 use acl_model::Ruling;
 use mud_base::{Addr, Direction, Mac};
-use sorted_rows::{Placed, PrefixOf};
+use sorted_rows::{PrefixOf, Sortable};
 use std::cmp::Ordering;
 
 /// How often a ruling was given on the packets of a Thing on a side.
@@ -99,36 +99,36 @@ impl OtherRow {
 }
 
 /// By the Thing, the side and the ruling.
-impl Placed for CountRow {
-    ghost use Rattle.drop_ledger.specs.Places.{place_of_count};
+impl Sortable for CountRow {
+    ghost use Rattle.drop_ledger.specs.SortKeys.{sort_key_of_count};
 
-    ghost place = { place_of_count };
+    ghost sort_key = { sort_key_of_count };
 
-    #[tactic(auto, unfolding(crate::specs::Places::place_of_count), using(crate::proofs::PlaceOrder::row_rules))]
+    #[tactic(auto, unfolding(crate::specs::SortKeys::sort_key_of_count), using(crate::proofs::SortKeyOrder::row_rules))]
     fn order(&self, other: &CountRow) -> Ordering {
         thing_order(&self.thing(), &other.thing()).then(ruling_order(self.ruling, other.ruling))
     }
 }
 
 /// By the Thing, the side, the peer, the protocol and the port.
-impl Placed for DeniedRow {
-    ghost use Rattle.drop_ledger.specs.Places.{place_of_denied};
+impl Sortable for DeniedRow {
+    ghost use Rattle.drop_ledger.specs.SortKeys.{sort_key_of_denied};
 
-    ghost place = { place_of_denied };
+    ghost sort_key = { sort_key_of_denied };
 
-    #[tactic(auto, unfolding(crate::specs::Places::place_of_denied), using(crate::proofs::PlaceOrder::row_rules))]
+    #[tactic(auto, unfolding(crate::specs::SortKeys::sort_key_of_denied), using(crate::proofs::SortKeyOrder::row_rules))]
     fn order(&self, other: &DeniedRow) -> Ordering {
         thing_order(&self.thing(), &other.thing()).then(peer_order(&self.peer(), &other.peer()))
     }
 }
 
 /// By the Thing and the side.
-impl Placed for OtherRow {
-    ghost use Rattle.drop_ledger.specs.Places.{place_of_other};
+impl Sortable for OtherRow {
+    ghost use Rattle.drop_ledger.specs.SortKeys.{sort_key_of_other};
 
-    ghost place = { place_of_other };
+    ghost sort_key = { sort_key_of_other };
 
-    #[tactic(auto, unfolding(crate::specs::Places::place_of_other))]
+    #[tactic(auto, unfolding(crate::specs::SortKeys::sort_key_of_other))]
     fn order(&self, other: &OtherRow) -> Ordering {
         thing_order(&self.thing(), &other.thing())
     }
@@ -136,11 +136,11 @@ impl Placed for OtherRow {
 
 /// The rows of its Thing and side.
 impl PrefixOf<DeniedRow> for OtherRow {
-    ghost use Rattle.drop_ledger.specs.Places.{place_of_other};
+    ghost use Rattle.drop_ledger.specs.SortKeys.{sort_key_of_other};
 
-    ghost prefix = { place_of_other };
+    ghost prefix = { sort_key_of_other };
 
-    #[tactic(auto, unfolding(crate::specs::Places::place_of_other, crate::specs::Places::place_of_denied), using(crate::proofs::PlaceOrder::row_rules))]
+    #[tactic(auto, unfolding(crate::specs::SortKeys::sort_key_of_other, crate::specs::SortKeys::sort_key_of_denied), using(crate::proofs::SortKeyOrder::row_rules))]
     fn order_to_beginning(&self, row: &DeniedRow) -> Ordering {
         thing_order(&self.thing(), &row.thing())
     }
@@ -148,19 +148,19 @@ impl PrefixOf<DeniedRow> for OtherRow {
 
 impl Tallied for CountRow {
     ghost use Rattle.std.specs.Prelude.{refl};
-    ghost use Rattle.drop_ledger.specs.Places.{count_of_row, with_count};
+    ghost use Rattle.drop_ledger.specs.SortKeys.{count_of_row, with_count};
     ghost use Rattle.drop_ledger.specs.RowTypes.{count_stays, count_told};
 
     ghost count = { count_of_row };
 
     ghost counted = { with_count };
 
-    #[tactic(auto, unfolding(crate::specs::Places::count_of_row))]
+    #[tactic(auto, unfolding(crate::specs::SortKeys::count_of_row))]
     fn count(&self) -> u64 {
         self.count
     }
 
-    #[tactic(auto, unfolding(crate::specs::Places::with_count))]
+    #[tactic(auto, unfolding(crate::specs::SortKeys::with_count))]
     fn with_count(self, number: u64) -> CountRow {
         CountRow {
             count: number,
@@ -174,19 +174,19 @@ impl Tallied for CountRow {
 }
 
 impl Tallied for DeniedRow {
-    ghost use Rattle.drop_ledger.specs.Places.{denied_count, with_denied};
+    ghost use Rattle.drop_ledger.specs.SortKeys.{denied_count, with_denied};
     ghost use Rattle.drop_ledger.specs.RowTypes.{denied_stays, denied_told};
 
     ghost count = { denied_count };
 
     ghost counted = { with_denied };
 
-    #[tactic(auto, unfolding(crate::specs::Places::denied_count))]
+    #[tactic(auto, unfolding(crate::specs::SortKeys::denied_count))]
     fn count(&self) -> u64 {
         self.count
     }
 
-    #[tactic(auto, unfolding(crate::specs::Places::with_denied))]
+    #[tactic(auto, unfolding(crate::specs::SortKeys::with_denied))]
     fn with_count(self, number: u64) -> DeniedRow {
         DeniedRow {
             count: number,
@@ -200,19 +200,19 @@ impl Tallied for DeniedRow {
 }
 
 impl Tallied for OtherRow {
-    ghost use Rattle.drop_ledger.specs.Places.{other_count, with_other};
+    ghost use Rattle.drop_ledger.specs.SortKeys.{other_count, with_other};
     ghost use Rattle.drop_ledger.specs.RowTypes.{other_stays, other_told};
 
     ghost count = { other_count };
 
     ghost counted = { with_other };
 
-    #[tactic(auto, unfolding(crate::specs::Places::other_count))]
+    #[tactic(auto, unfolding(crate::specs::SortKeys::other_count))]
     fn count(&self) -> u64 {
         self.count
     }
 
-    #[tactic(auto, unfolding(crate::specs::Places::with_other))]
+    #[tactic(auto, unfolding(crate::specs::SortKeys::with_other))]
     fn with_count(self, number: u64) -> OtherRow {
         OtherRow {
             count: number,

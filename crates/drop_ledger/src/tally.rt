@@ -4,7 +4,7 @@ ghost use Rattle.std.specs.List.{AllByRecursion};
 ghost use Rattle.drop_ledger.specs.Seen.{AreSums, HasFields, hour_of, is_ruled, rulings};
 ghost use Rattle.drop_ledger.specs.Ledger.{StandsFor, MayFollow, HasRooms, IsSameTally, IsClosed, times_of, denied_times, no_match};
 ghost use Rattle.drop_ledger.specs.Counted.{total};
-ghost use Rattle.drop_ledger.specs.Places.{count_of_row};
+ghost use Rattle.drop_ledger.specs.SortKeys.{count_of_row};
 ghost use Rattle.mud_base.specs.declared.addr.Mac.{Mac as MacValue};
 ghost use Rattle.mud_base.specs.declared.packet.Direction.{Direction as DirectionValue};
 ghost use Rattle.drop_ledger.specs.Plan.{seen_planned};

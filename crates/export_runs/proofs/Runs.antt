@@ -16,8 +16,8 @@ use Rattle.desk_model.specs.Boxed.{IsKept, IsSameBox}
 use Rattle.desk_runs.specs.Refused.{RefusesStore}
 use Rattle.desk_runs.proofs.Refusals.{RunsRefused}
 use Rattle.desk_runs.proofs.Stores.{kept_tables, leaves_opened, no_bad, not_read, nothing_written}
-use Rattle.command_runs.proofs.Dues.{wrote_none}
-use Rattle.export_runs.specs.Exported.{export_due, WritesLists}
+use Rattle.command_runs.proofs.Outputs.{wrote_none}
+use Rattle.export_runs.specs.Exported.{export_output, WritesLists}
 use Rattle.export_runs.specs.Store.{ExportsStore, IsOfDesk, WritesExport, WritesThing}
 
 -- ---- Statuses
@@ -40,9 +40,9 @@ no_seven status is seven = absurd (grind arith)
 -- ---- What is written
 
 module _ (mac : Mac) (clock_tells : Type 0) (moments : List ℕ) (old new : DoorState) (status : ℕ) where
-  -- what is due of a desk was written, at what the clock gave
+  -- the output of a desk was written, at what the clock gave
   pub writes_desk : (desk : DeskTables) (clock : ℕ) → (clock_tells → clock ≡ next_moment moments) → IsOfDesk status
-      → WritesLists (export_due mac clock desk) old new status → WritesThing mac clock_tells moments desk old new status
+      → WritesLists (export_output mac clock desk) old new status → WritesThing mac clock_tells moments desk old new status
   writes_desk desk clock clock_is is wrote = record {
     clock = clock;
     clock_is = clock_is;

@@ -1,4 +1,4 @@
--- What is due of a Thing, by what is known of it.
+-- The output of a Thing, by what is known of it.
 use Rattle.std.proofs.Common.{◌≡◌, ℕ, suc, ◌+◌, ◌<◌, ◌≤◌, ◌⊎◌, Bool, true, false, cond, List, [], ◌∷◌, ◌++◌, length, drop, drop-cons, get_or, Option, Some, None, refl, sym, ap, subst, ◌∙◌, arith}
 use Rattle.std.specs.Prelude.{codes, flat_map}
 use Rattle.std.specs.Option.{option_map}
@@ -18,15 +18,15 @@ use Rattle.acl_rows.specs.View.{View, IsViewOf}
 use Rattle.acl_compile.specs.Compiled.{CompiledState}
 use Rattle.mud_tables.specs.declared.thing.Thing.{Thing}
 use Rattle.mud_tables.specs.Things.{thing_at, mac_of}
-use Rattle.sorted_rows.specs.Placed.{place_cmp, same_place}
-use Rattle.sorted_rows.proofs.PlacedLaws.{place_cmp_turned, same_place-cmp}
+use Rattle.sorted_rows.specs.Sortable.{sort_key_cmp, same_sort_key}
+use Rattle.sorted_rows.proofs.SortableLaws.{sort_key_cmp_turned, same_sort_key-cmp}
 use Rattle.packet_judge.specs.ByRows.{IsViewOver}
 use Rattle.desk_model.specs.DeskTables.{DeskTables}
 use Rattle.desk_model.specs.Verdicts.{policy_at, desk_bindings}
 use Rattle.desk_books.specs.CompiledDesk.{IsCompiledOf}
 use Rattle.mud_desk.proofs.Views.{view_over}
 use Rattle.mud_desk.specs.DeskState.{DeskState, tables_of, AreRulesOf}
-use Rattle.command_runs.specs.Due.{Due, WroteFirst}
+use Rattle.command_runs.specs.Output.{Output, WroteFirst}
 use Rattle.command_runs.specs.Moments.{listing_moment}
 use Rattle.rule_export.specs.Listed.{listed_of}
 use Rattle.rule_export.specs.Resolved.{wanted, resolved_of}
@@ -36,7 +36,7 @@ use Rattle.export_runs.specs.declared.lists.ListName.{ListName}
 use Rattle.export_runs.specs.declared.lists.ListName.TheVariants.{FromV4, FromV6, ToV4, ToV6}
 use Rattle.export_runs.specs.Lists.{side_of, family_of, front_of, back_of, all_lists, items_of, list_text, empty_lists, lists_text}
 use Rattle.export_runs.specs.Sources.{SourceParts, sources, view_for, source_items, source_text, sources_text, IsRuleView, AreSources, is_held, AreSourcesOf}
-use Rattle.export_runs.specs.Exported.{due_of, export_due, WritesLists}
+use Rattle.export_runs.specs.Exported.{output_of, export_output, WritesLists}
 
 -- ---- What the lists are made by
 
@@ -83,27 +83,27 @@ module _ (desk : DeskTables) (m : ℕ) (small : m < for_ever) (url : List ℕ) (
   texts_alike [] = refl
   texts_alike (name ∷ names) = λ i. text_alike name i ++ texts_alike names i
 
--- ---- What is due
+-- ---- The output
 
 none_of : (o : Option Thing) → None ≡ option_map is_held o → o ≡ None
 none_of None is = refl
 none_of (Some thing) is = absurd (none-some (is_held thing) is)
 
-due_empty : (desk : DeskTables) (m : ℕ) (o : Option Thing) → Some true ≡ option_map is_held o → due_of desk m o ≡ record { text = sources_text None; status = 0 }
-unfolding is_held due_of lists_text sources_text
-due_empty desk m None is = absurd (none-some true (sym is))
-due_empty desk m (Some thing) is =
-    let due : Bool → Due = λ held. record { text = cond held empty_lists (flat_map (list_text desk m thing.url) all_lists); status = 0 } in
-    ap due (sym (same_Some true thing.held is))
+output_empty : (desk : DeskTables) (m : ℕ) (o : Option Thing) → Some true ≡ option_map is_held o → output_of desk m o ≡ record { text = sources_text None; status = 0 }
+unfolding is_held output_of lists_text sources_text
+output_empty desk m None is = absurd (none-some true (sym is))
+output_empty desk m (Some thing) is =
+    let output : Bool → Output = λ held. record { text = cond held empty_lists (flat_map (list_text desk m thing.url) all_lists); status = 0 } in
+    ap output (sym (same_Some true thing.held is))
 
-due_listed : (desk : DeskTables) (m : ℕ) → m < for_ever → (o : Option Thing) (s : Option SourceParts) → Some false ≡ option_map is_held o → AreSourcesOf desk m o s → due_of desk m o ≡ record { text = sources_text s; status = 0 }
-unfolding is_held due_of lists_text sources_text
-due_listed desk m small None s is over = absurd (none-some false (sym is))
-due_listed desk m small (Some thing) None is over = absurd over
-due_listed desk m small (Some thing) (Some s) is over =
-    let due : Bool → Due = λ held. record { text = cond held empty_lists (flat_map (list_text desk m thing.url) all_lists); status = 0 } in
-    let with_text : List ℕ → Due = λ text. record { text = text; status = 0 } in
-    ap due (sym (same_Some false thing.held is)) ∙ ap with_text (sym (texts_alike desk m small thing.url s over all_lists))
+output_listed : (desk : DeskTables) (m : ℕ) → m < for_ever → (o : Option Thing) (s : Option SourceParts) → Some false ≡ option_map is_held o → AreSourcesOf desk m o s → output_of desk m o ≡ record { text = sources_text s; status = 0 }
+unfolding is_held output_of lists_text sources_text
+output_listed desk m small None s is over = absurd (none-some false (sym is))
+output_listed desk m small (Some thing) None is over = absurd over
+output_listed desk m small (Some thing) (Some s) is over =
+    let output : Bool → Output = λ held. record { text = cond held empty_lists (flat_map (list_text desk m thing.url) all_lists); status = 0 } in
+    let with_text : List ℕ → Output = λ text. record { text = text; status = 0 } in
+    ap output (sym (same_Some false thing.held is)) ∙ ap with_text (sym (texts_alike desk m small thing.url s over all_lists))
 
 -- ---- What is written
 
@@ -120,51 +120,51 @@ three_of : (status : ℕ) → IsOfFault status → (status ≡ 0) ⊎ (status �
 three_of status is which = grind arith
 
 module _ (desk : DeskTables) (mac : Mac) (clock : ℕ) (old new : DoorState) (status : ℕ) where
-  -- the text that is due was written, with 0
-  wrote_text : (due : Due) (text : List ℕ) → due ≡ record { text = text; status = 0 }
-      → IsOfLists status → (status ≡ 0 → new ≡ put_out text old) → ((status ≡ 4) ⊎ (status ≡ 5) → WroteFirst text old new) → WritesLists due old new status
-  wrote_text due text is of done part =
+  -- the text of the output was written, with 0
+  wrote_text : (output : Output) (text : List ℕ) → output ≡ record { text = text; status = 0 }
+      → IsOfLists status → (status ≡ 0 → new ≡ put_out text old) → ((status ≡ 4) ⊎ (status ≡ 5) → WroteFirst text old new) → WritesLists output old new status
+  wrote_text output text is of done part =
       let wrote : WritesLists (record { text = text; status = 0 }) old new status = record {
         status_is = λ which. zero_of status of which;
         done = λ which. done (zero_of status of which);
         part = part;
       } in
-      subst (λ (d : Due). WritesLists d old new status) (sym is) wrote
+      subst (λ (d : Output). WritesLists d old new status) (sym is) wrote
 
   pub wrote_empty : Some true ≡ option_map is_held (thing_at mac desk.tables.things)
       → IsOfLists status → (status ≡ 0 → new ≡ put_out (sources_text None) old) → ((status ≡ 4) ⊎ (status ≡ 5) → WroteFirst (sources_text None) old new)
-      → WritesLists (export_due mac clock desk) old new status
-  unfolding export_due
+      → WritesLists (export_output mac clock desk) old new status
+  unfolding export_output
   wrote_empty held of done part =
-      wrote_text (export_due mac clock desk) (sources_text None) (due_empty desk (listing_moment desk.stamp (Some clock)) (thing_at mac desk.tables.things) held) of done part
+      wrote_text (export_output mac clock desk) (sources_text None) (output_empty desk (listing_moment desk.stamp (Some clock)) (thing_at mac desk.tables.things) held) of done part
 
   pub wrote_lists : (m : ℕ) → m ≡ listing_moment desk.stamp (Some clock) → m < for_ever → (s : Option SourceParts)
       → Some false ≡ option_map is_held (thing_at mac desk.tables.things) → AreSourcesOf desk m (thing_at mac desk.tables.things) s
       → IsOfLists status → (status ≡ 0 → new ≡ put_out (sources_text s) old) → ((status ≡ 4) ⊎ (status ≡ 5) → WroteFirst (sources_text s) old new)
-      → WritesLists (export_due mac clock desk) old new status
-  unfolding export_due
+      → WritesLists (export_output mac clock desk) old new status
+  unfolding export_output
   wrote_lists m at small s held over of done part =
-      wrote_text (export_due mac clock desk) (sources_text s)
-      (ap (λ (n : ℕ). due_of desk n (thing_at mac desk.tables.things)) (sym at) ∙ due_listed desk m small (thing_at mac desk.tables.things) s held over) of done part
+      wrote_text (export_output mac clock desk) (sources_text s)
+      (ap (λ (n : ℕ). output_of desk n (thing_at mac desk.tables.things)) (sym at) ∙ output_listed desk m small (thing_at mac desk.tables.things) s held over) of done part
 
   pub wrote_fault : None ≡ option_map is_held (thing_at mac desk.tables.things)
       → IsOfFault status → (status ≡ 3 → new ≡ put_out (codes "fault NoThing\n") old) → ((status ≡ 4) ⊎ (status ≡ 5) → WroteFirst (codes "fault NoThing\n") old new)
-      → WritesLists (export_due mac clock desk) old new status
-  unfolding export_due due_of
+      → WritesLists (export_output mac clock desk) old new status
+  unfolding export_output output_of
   wrote_fault none is done part =
-      let wrote : WritesLists (due_of desk (listing_moment desk.stamp (Some clock)) None) old new status = record {
+      let wrote : WritesLists (output_of desk (listing_moment desk.stamp (Some clock)) None) old new status = record {
         status_is = λ which. three_of status is which;
         done = λ which. done (three_of status is which);
         part = part;
       } in
-      subst (λ (o : Option Thing). WritesLists (due_of desk (listing_moment desk.stamp (Some clock)) o) old new status) (sym (none_of (thing_at mac desk.tables.things) none)) wrote
+      subst (λ (o : Option Thing). WritesLists (output_of desk (listing_moment desk.stamp (Some clock)) o) old new status) (sym (none_of (thing_at mac desk.tables.things) none)) wrote
 
 -- ---- The Thing of a hardware address
 
-is_same : (mac : Mac) (thing : Thing) (o : Ordering) → place_cmp mac.0 (mac_of thing) ≡ o → same_place (mac_of thing) mac.0 ≡ is_eq (ordering_reverse o)
-is_same mac thing o is = same_place-cmp (mac_of thing) mac.0 (ordering_reverse o) (place_cmp_turned mac.0 (mac_of thing) o is)
+is_same : (mac : Mac) (thing : Thing) (o : Ordering) → sort_key_cmp mac.0 (mac_of thing) ≡ o → same_sort_key (mac_of thing) mac.0 ≡ is_eq (ordering_reverse o)
+is_same mac thing o is = same_sort_key-cmp (mac_of thing) mac.0 (ordering_reverse o) (sort_key_cmp_turned mac.0 (mac_of thing) o is)
 
-pub told_same : (mac : Mac) (thing : Thing) (o : Ordering) (b : Bool) → o ≡ place_cmp mac.0 (mac_of thing) → b ≡ is_eq (ordering_reverse o) → b ≡ same_place (mac_of thing) mac.0
+pub told_same : (mac : Mac) (thing : Thing) (o : Ordering) (b : Bool) → o ≡ sort_key_cmp mac.0 (mac_of thing) → b ≡ is_eq (ordering_reverse o) → b ≡ same_sort_key (mac_of thing) mac.0
 told_same mac thing o b is tells = tells ∙ sym (is_same mac thing o (sym is))
 
 module _ (mac : Mac) (things : List Thing) (i : ℕ) (thing : Thing) (within : i < length things) (is : thing ≡ get_or things i thing) where
@@ -174,11 +174,11 @@ module _ (mac : Mac) (things : List Thing) (i : ℕ) (thing : Thing) (within : i
       next : suc i ≡ i + 1
       next = omega arith
 
-  pub thing_here : same_place (mac_of thing) mac.0 ≡ true → thing_at mac (drop i things) ≡ Some thing
+  pub thing_here : same_sort_key (mac_of thing) mac.0 ≡ true → thing_at mac (drop i things) ≡ Some thing
   unfolding thing_at
   thing_here same = ap (thing_at mac) first_left ∙ ap (λ (b : Bool). cond b (Some thing) (thing_at mac (drop (i + 1) things))) same
 
-  pub thing_later : same_place (mac_of thing) mac.0 ≡ false → thing_at mac (drop (i + 1) things) ≡ thing_at mac (drop i things)
+  pub thing_later : same_sort_key (mac_of thing) mac.0 ≡ false → thing_at mac (drop (i + 1) things) ≡ thing_at mac (drop i things)
   unfolding thing_at
   thing_later other = sym (ap (thing_at mac) first_left ∙ ap (λ (b : Bool). cond b (Some thing) (thing_at mac (drop (i + 1) things))) other)
 

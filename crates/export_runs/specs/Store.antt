@@ -15,7 +15,7 @@ use Rattle.desk_model.specs.Items.{tables_in}
 use Rattle.desk_runs.specs.Honest.{RunsHonestly}
 use Rattle.desk_runs.specs.Refused.{RefusesStore}
 use Rattle.desk_runs.specs.Store.{LeavesStore}
-use Rattle.export_runs.specs.Exported.{export_due, WritesLists}
+use Rattle.export_runs.specs.Exported.{export_output, WritesLists}
 use Rattle.command_runs.specs.Status.{IsNot, IsOneOf, each_status}
 use Rattle.command_runs.specs.declared.status.Status.TheVariants.{Done, Refused, DoorFailed, NoMemory, BadItem}
 
@@ -26,7 +26,7 @@ pub record WritesThing (mac : Mac) (clock_tells : Type 0) (moments : List ℕ) (
   pub clock_is : clock_tells → clock ≡ next_moment moments
   -- No item is there to be named with 6.
   pub good : IsNot BadItem status
-  pub lists : WritesLists (export_due mac clock desk) old new status
+  pub lists : WritesLists (export_output mac clock desk) old new status
 
 -- What is written, by the tables of the store or its first item that is no record.
 abbrev pub WritesExport : Mac → Type 0 → List ℕ → Result DeskTables Item → DoorState → DoorState → ℕ → Type 0
@@ -43,7 +43,7 @@ module _ {X : Type 0} {F : X → Type 0} (members : (v : (x : X) × F x) → Gho
   pub record ExportsStore (mac : Mac) (tells clock_tells : Type 0) (moments : List ℕ) (keeper returned : DynBox X Global F) (old new : DoorView) (status : ℕ) : Type 0 where
     -- A write that fails ends the run.
     pub honest : RunsHonestly members each_status (IsStoppedWriting old new) (new.writes ≡ old.writes) keeper returned status
-    -- The items that are kept when the run ends say what is due.
+    -- The items that are kept when the run ends say what the output is.
     pub writes : tells → Tells members returned → WritesExport mac clock_tells moments (tables_in (kept_items members returned)) old.state new.state status
     pub leaves : LeavesStore members keeper returned status
     -- The box that comes back is the one that was handed in. No port is bound, the connection isn't left, and no read fails.

@@ -6,10 +6,10 @@ ghost use Rattle.mud_tables.specs.Things.{thing_at};
 ghost use Rattle.desk_model.specs.Boxed.{IsKept};
 ghost use Rattle.mud_desk.specs.DeskState.{tables_of};
 ghost use Rattle.command_runs.specs.Ends.{IsStoppedWriting};
-ghost use Rattle.command_runs.specs.Due.{WroteFirst};
+ghost use Rattle.command_runs.specs.Output.{WroteFirst};
 ghost use Rattle.command_runs.specs.Status.{Is, IsNot, IsOneOf, status_number};
 ghost use Rattle.command_runs.specs.declared.status.Status.TheVariants.{Done, Refused, DoorFailed, NoMemory};
-ghost use Rattle.export_runs.specs.Exported.{export_due, WritesLists};
+ghost use Rattle.export_runs.specs.Exported.{export_output, WritesLists};
 ghost use Rattle.export_runs.specs.Sources.{is_held, sources_text};
 ghost use Rattle.export_runs.specs.Store.{IsOfDesk, WritesThing};
 
@@ -69,7 +69,7 @@ fn export_thing<D: Door>(
     ensures statuses { IsOneOf (Done ∷ DoorFailed ∷ NoMemory ∷ []) (status_number result) }
     ensures fault { Is DoorFailed (status_number result) → IsStoppedWriting (D.view door.old) (D.view door.new) }
     ensures steady { IsNot DoorFailed (status_number result) → (D.view door.new).writes ≡ (D.view door.old).writes }
-    ensures writes { D.tells → WritesLists (export_due mac clock (tables_of desk.now.state))
+    ensures writes { D.tells → WritesLists (export_output mac clock (tables_of desk.now.state))
         (D.view door.old).state (D.view door.new).state (status_number result) }
     ensures turns { (D.view door.new).turns ≡ (D.view door.old).turns }
     ensures reads { (D.view door.new).reads ≡ (D.view door.old).reads }

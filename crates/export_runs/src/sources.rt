@@ -1,7 +1,7 @@
 //! What the lists of a Thing are made by.
 ghost use Rattle.std.specs.Prelude.{◌≡◌, IfOk, option_map};
 ghost use Rattle.sorted_rows.specs.Ledgers.{IsBlankOf};
-ghost use Rattle.sorted_rows.specs.Placed.{same_place};
+ghost use Rattle.sorted_rows.specs.Sortable.{same_sort_key};
 ghost use Rattle.mud_tables.specs.Things.{mac_of, thing_at};
 ghost use Rattle.mud_desk.specs.DeskState.{tables_of};
 ghost use Rattle.rule_export.specs.Resolved.{resolved_of, wanted};
@@ -82,7 +82,7 @@ impl<'a> Sources<'a> {
 
 /// Whether a Thing has this hardware address.
 fn is_of(thing: &Thing, mac: Mac) -> bool
-    ensures { result ≡ same_place (mac_of thing.now) mac.0 }
+    ensures { result ≡ same_sort_key (mac_of thing.now) mac.0 }
 {
     match mac.order_to(thing) {
         Ordering::Less => false,

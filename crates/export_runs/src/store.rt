@@ -3,7 +3,7 @@ ghost use Rattle.std.specs.Prelude.{◌≡◌, ◌⊎◌, [], ◌∷◌};
 ghost use Rattle.command_runs.specs.Status.{Is, IsOneOf, status_number};
 ghost use Rattle.command_runs.specs.declared.status.Status.TheVariants.{Done, Refused, BadItem, KeeperFailed};
 ghost use Rattle.mud_world.specs.Clock.{later_moments};
-ghost use Rattle.desk_items.specs.Taken.{kept_of};
+ghost use Rattle.desk_items.specs.Loaded.{kept_of};
 ghost use Rattle.desk_model.specs.Items.{none_kept};
 ghost use Rattle.export_runs.specs.Store.{ExportsStore};
 
@@ -11,7 +11,7 @@ use crate::desk::export_desk;
 use command_runs::Status;
 use desk_runs::refuse_store;
 use mud_base::Mac;
-use mud_desk::{Desk, Taken};
+use mud_desk::{Desk, Loaded};
 use mud_world::{Clock, Door, Keeper};
 use std::alloc::Global;
 
@@ -19,11 +19,11 @@ use std::alloc::Global;
 /// access lists with addresses alone (RFC 8519): at the later of the moment of the last change and of
 /// the one that the clock gives. Nothing is read of the door. The clock is asked once, where the store
 /// was opened and there is such a Thing. The box is handed back. Nothing was taken before, as
-/// [`Desk::open`] wants it: [`Taken::new`].
+/// [`Desk::open`] wants it: [`Loaded::new`].
 pub fn export_store<D: Door, C: Clock>(
     alloc: Global,
     keeper: Box<dyn Keeper>,
-    nothing: Taken,
+    nothing: Loaded,
     mac: Mac,
     door: &mut D,
     clock: &mut C,

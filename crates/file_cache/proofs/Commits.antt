@@ -1,7 +1,7 @@
 -- What taking a row out, changing it and putting it back makes of files.
 use Rattle.std.proofs.Common.{◌≡◌, ℕ, ◌+◌, ◌≤◌, cond, List, [], length, Option, Some, None, refl, sym, ap, ◌∙◌, arith, lit≤}
 use Rattle.std.specs.Prelude.{is_some}
-use Rattle.sorted_rows.specs.Placed.{row_at, set_row, without_row, PlacesAscend}
+use Rattle.sorted_rows.specs.Sortable.{row_at, set_row, without_row, SortKeysAscend}
 use Rattle.file_tables.specs.declared.cached_file.CachedFile.{CachedFile}
 use Rattle.file_tables.specs.declared.file_edit.FileEdit.{FileEdit}
 use Rattle.file_tables.specs.Files.{url_of, file_at, set_file, without_file, entry_count, IsSoundFiles}
@@ -18,7 +18,7 @@ unfolding edited_row
 room_left edit url None row old new made room is = let needs : room_for edit ≡ 1 = made_needs_room edit url row made in omega (arith, needs, room, is)
 room_left edit url (Some x) row old new made room is = omega (arith, is)
 
-module _ (files : List CachedFile) (ascend : PlacesAscend url_of files) (edit : FileEdit) (url : List ℕ) (o : Option CachedFile) (found : o ≡ row_at url_of url files) where
+module _ (files : List CachedFile) (ascend : SortKeysAscend url_of files) (edit : FileEdit) (url : List ℕ) (o : Option CachedFile) (found : o ≡ row_at url_of url files) where
   pub committed_row : (row : CachedFile) → edited_row edit url o ≡ Some row → set_row url_of row (without_row url_of url files) ≡ edited edit url files
   unfolding edited file_at put_file set_file
   committed_row row made =

@@ -9,7 +9,7 @@ use Rattle.file_tables.specs.declared.cached_file.CachedFile.{CachedFile}
 use Rattle.file_tables.specs.declared.cache_fault.CacheFault.TheVariants.{CacheFull, Digest, NoSignature, PolicyFull}
 use Rattle.file_tables.specs.Held.{HeldFile, digest_of}
 use Rattle.file_tables.specs.Files.{set_file, is_signed, entry_count}
-use Rattle.file_tables.specs.FileSteps.{import_cases, approved_row, approve, ruled, candidate_cases}
+use Rattle.file_tables.specs.FileCommands.{import_cases, approved_row, approve, ruled, candidate_cases}
 
 -- 128 URLs are held, and not this one
 no_room : (held : HeldFile) (file : UsageFile) (files : List CachedFile) → nat_le 128 (length files) ≡ true → import_cases held file files None ≡ Err CacheFull

@@ -7,7 +7,7 @@ use Rattle.mud_world.specs.Items.{IsDifference, ArePutsOf}
 use Rattle.file_tables.specs.declared.cached_file.CachedFile.{CachedFile}
 use Rattle.file_tables.specs.declared.cache_fault.CacheFault.{CacheFault}
 use Rattle.file_tables.specs.Files.{file_at, IsSoundFiles}
-use Rattle.file_tables.specs.FileSteps.{FilesAfter, FileStep, TellsChange}
+use Rattle.file_tables.specs.FileCommands.{FilesAfter, FileStep, TellsChange}
 use Rattle.file_tables.specs.FileEdits.{edited, edited_row, room_for, is_change}
 use Rattle.file_tables.specs.FileItems.{file_items, edit_puts, row_put}
 use Rattle.file_tables.specs.Policies.{policy_of}

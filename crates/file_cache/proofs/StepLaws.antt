@@ -5,7 +5,7 @@ use Rattle.std.specs.Option.{option_map}
 use Rattle.std.proofs.lemmas.Bool.{lt-ltb, le-ltb, le-leb, lt-leb}
 use Rattle.item_codec.specs.declared.word.Word as outcome
 use Rattle.item_codec.specs.declared.word.Word.TheVariants.{New, Same}
-use Rattle.sorted_rows.specs.Placed.{PlacesAscend}
+use Rattle.sorted_rows.specs.Sortable.{SortKeysAscend}
 use Rattle.mud_world.specs.declared.item.Item.{Item}
 use Rattle.mud_world.specs.declared.item.Put.TheVariants.{Set, Gone}
 use Rattle.usage_walk.specs.declared.fault.Broken.{Broken}
@@ -20,7 +20,7 @@ use Rattle.file_tables.specs.declared.file_edit.FileEdit.TheVariants.{Unchanged,
 use Rattle.file_tables.specs.Held.{HeldFile, held_file}
 use Rattle.file_tables.specs.Limits.{most_files}
 use Rattle.file_tables.specs.Files.{url_of, file_at, set_file, without_file, new_file, with_candidate, with_approved}
-use Rattle.file_tables.specs.FileSteps.{FileStep, candidate_again, approved_again, is_outdated_by, new_candidate, beside_approved, beside_candidate, import_cases, import_read, import_step}
+use Rattle.file_tables.specs.FileCommands.{FileStep, candidate_again, approved_again, is_outdated_by, new_candidate, beside_approved, beside_candidate, import_cases, import_read, import_step}
 use Rattle.file_tables.specs.FileEdits.{fetched_at, approved_at, made_row, changed_row, edited_row, put_file, edited, is_change}
 use Rattle.file_tables.specs.FileItems.{file_item, file_row, row_put, edit_puts}
 use Rattle.mud_world.specs.Items.{set_put, gone_put}
@@ -54,7 +54,7 @@ made_gone files url word edit o key found makes changes is =
       puts = ap (λ (k : List ℕ). Gone 2 k ∷ []) is ∙ sym (ap (λ (r : Option CachedFile). row_put url r ∷ []) row) ∙ sym (ap (λ b. cond b (row_put url (edited_row edit url (file_at url files)) ∷ []) []) changes);
     }
 
-pub made_none : (files : List CachedFile) (url : List ℕ) → PlacesAscend url_of files → IsMade (record { word = Same; url = url; changes = false; files = files }) files (no_change url)
+pub made_none : (files : List CachedFile) (url : List ℕ) → SortKeysAscend url_of files → IsMade (record { word = Same; url = url; changes = false; files = files }) files (no_change url)
 unfolding no_change edit_puts is_change
 made_none files url ascend = record { word = refl; url = refl; leads = unchanged Unchanged url files ascend refl; tells = refl; puts = refl }
 
@@ -64,7 +64,7 @@ goes_on step other files result is makes = subst (λ s. Makes s files result) (s
 
 -- ---- Imports
 
-module _ (files : List CachedFile) (ascend : PlacesAscend url_of files) (row : CachedFile) (found : file_at row.url files ≡ Some row) where
+module _ (files : List CachedFile) (ascend : SortKeysAscend url_of files) (row : CachedFile) (found : file_at row.url files ≡ Some row) where
   abbrev IsMadeBy : FileStep → PlannedFile → Type 0
   IsMadeBy step change = IsOkAnd step (λ after. IsMade after files change)
 

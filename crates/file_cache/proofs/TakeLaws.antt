@@ -4,7 +4,7 @@ use Rattle.std.specs.Prelude.{bytes_eq, nat_le, IsErr, IfOk, OnErr}
 use Rattle.std.specs.Option.{option_map_or}
 use Rattle.std.specs.Result.{result_ok}
 use Rattle.std.proofs.lemmas.Bool.{le-leb, leb-true, eqb-true, false≢true, false_from_ne_true}
-use Rattle.sorted_rows.specs.Placed.{comes_last}
+use Rattle.sorted_rows.specs.Sortable.{comes_last}
 use Rattle.sorted_rows.proofs.ListTests.{left_of}
 use Rattle.usage_walk.specs.declared.fault.Broken.{Broken}
 use Rattle.mud_file.specs.declared.usage_file.UsageFile.{UsageFile}
@@ -21,7 +21,7 @@ use Rattle.item_codec.proofs.RecordLaws.{some_is, bind_some, pass_some}
 use Rattle.file_tables.proofs.SoundFiles.{file_usage}
 use Rattle.file_tables.proofs.ReadFiles.{sound-push}
 use Rattle.std.proofs.Math.Bool.{and-false}
-use Rattle.mud_url.proofs.Places.{same_octets}
+use Rattle.mud_url.proofs.Offsets.{same_octets}
 
 module _ (url : List ℕ) (held : HeldFile) where
   pub late : (held.fetched ≤ last_moment → ⊥) → is_held url held ≡ false
@@ -135,7 +135,7 @@ module _ (files : List CachedFile) (row : CachedFile) where
   unfolding may_stand_behind
   behind_room taken room last = last ∙ and_true (comes_last url_of row files) ∙ ap (λ b. comes_last url_of row files && b) (sym room)
 
--- ---- Taken
+-- ---- What is taken
 
 pub kept_from : (item : Item) (row : CachedFile) → file_in item ≡ Some row → IsKeptFile row
 unfolding file_in if_sound_file

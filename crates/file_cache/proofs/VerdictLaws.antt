@@ -4,7 +4,7 @@ use Rattle.std.specs.Prelude.{bytes_eq, nat_lt, IsOkAnd}
 use Rattle.std.specs.Option.{option_map}
 use Rattle.std.proofs.lemmas.Bool.{lt-ltb, le-ltb}
 use Rattle.item_codec.specs.declared.word.Word.TheVariants as word
-use Rattle.sorted_rows.specs.Placed.{PlacesAscend}
+use Rattle.sorted_rows.specs.Sortable.{SortKeysAscend}
 use Rattle.mud_world.specs.declared.item.Item.{Item}
 use Rattle.file_tables.specs.declared.approval.Approval.{Approval}
 use Rattle.file_tables.specs.declared.approval.Approval.TheVariants as approval
@@ -17,7 +17,7 @@ use Rattle.file_tables.specs.declared.file_edit.FileEdit.TheVariants as edit
 use Rattle.file_tables.specs.Held.{HeldFile, digest_of}
 use Rattle.file_tables.specs.Limits.{most_policy_entries}
 use Rattle.file_tables.specs.Files.{url_of, file_at, set_file, without_file, with_candidate, with_approved, is_signed, entry_count}
-use Rattle.file_tables.specs.FileSteps.{FileStep, settled, left_with, approved_row, approve, ruled, candidate_cases, is_ruled, verdict_cases, verdict_step, approved_cases, revoke_cases, revoke_step}
+use Rattle.file_tables.specs.FileCommands.{FileStep, settled, left_with, approved_row, approve, ruled, candidate_cases, is_ruled, verdict_cases, verdict_step, approved_cases, revoke_cases, revoke_step}
 use Rattle.file_tables.specs.FileEdits.{approved_as, if_any, kept_row, changed_row, edited_row, is_change}
 use Rattle.file_tables.specs.FileItems.{file_item, file_row}
 use Rattle.file_cache.specs.Changes.{PlannedFile, no_change, set_change, gone_change}
@@ -118,7 +118,7 @@ module _ (url : List ℕ) (files : List CachedFile) (row : CachedFile) where
     unfolding verdict_cases
     not_ruled other = rw other refl
 
-    pub ruled_already : (change : PlannedFile) → PlacesAscend url_of files → is_ruled digest v row.approved ≡ true → change ≡ no_change url → IsOkAnd (verdict_cases url digest v files (Some row)) (λ after. IsMade after files change)
+    pub ruled_already : (change : PlannedFile) → SortKeysAscend url_of files → is_ruled digest v row.approved ≡ true → change ≡ no_change url → IsOkAnd (verdict_cases url digest v files (Some row)) (λ after. IsMade after files change)
     unfolding verdict_cases
     ruled_already change ascend same made = rw same (subst (λ (d : PlannedFile). IsMade (record { word = word.Same; url = url; changes = false; files = files }) files d) (sym made) (made_none files url ascend))
 

@@ -7,7 +7,7 @@ use Rattle.file_tables.specs.declared.cached_file.CachedFile.{CachedFile}
 use Rattle.file_tables.specs.declared.cache_fault.CacheFault.{CacheFault}
 use Rattle.file_tables.specs.declared.cache_fault.CacheFault.TheVariants.{Memory, File}
 use Rattle.file_tables.specs.Files.{IsSoundFiles}
-use Rattle.file_tables.specs.FileSteps.{FilesAfter, FileStep}
+use Rattle.file_tables.specs.FileCommands.{FilesAfter, FileStep}
 use Rattle.file_tables.specs.FileEdits.{edited, room_for, is_change}
 use Rattle.file_tables.specs.FileItems.{file_items, edit_puts}
 use Rattle.file_tables.specs.Policies.{policy_of, policy_change, policy_after}

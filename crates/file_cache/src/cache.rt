@@ -1,13 +1,13 @@
 //! The cache of usage files.
 ghost use Rattle.std.specs.Prelude.{◌≡◌, ◌≤◌, [], option_copied, IfOk, IfErr, IsOkAnd, OnOk, OnErr, if◌then◌else◌, false, Some, None};
 ghost use Rattle.std.specs.Option.{option_map};
-ghost use Rattle.sorted_rows.specs.Placed.{PlacesAscend};
+ghost use Rattle.sorted_rows.specs.Sortable.{SortKeysAscend};
 ghost use Rattle.file_tables.specs.Files.{url_of, file_at, IsSoundFiles};
 ghost use Rattle.file_tables.specs.FileEdits.{edited, room_for};
 ghost use Rattle.file_tables.specs.Policies.{candidate_policy};
 ghost use Rattle.file_tables.specs.Due.{due_count};
 ghost use Rattle.file_tables.specs.Limits.{last_moment};
-ghost use Rattle.file_tables.specs.FileSteps.{import_step, verdict_step, revoke_step};
+ghost use Rattle.file_tables.specs.FileCommands.{import_step, verdict_step, revoke_step};
 ghost use Rattle.file_tables.specs.FileItems.{with_file_item};
 ghost use Rattle.file_cache.specs.Planned.{IsPlanned, IsRefusal, IsMemory};
 
@@ -194,7 +194,7 @@ impl FileCache {
 
 /// Makes an edit of the row of a URL.
 fn commit_edit(files: &mut SortedRows<CachedFile>, url: MudUrl, edit: FileEdit)
-    requires ascend { PlacesAscend url_of files.old.rows }
+    requires ascend { SortKeysAscend url_of files.old.rows }
     requires room { room_for edit ≤ files.old.room }
     ensures { files.new.rows ≡ edited edit url files.old.rows }
 {

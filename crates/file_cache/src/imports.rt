@@ -1,12 +1,12 @@
 //! What the import of a usage file changes.
 ghost use Rattle.std.specs.Prelude.{◌≡◌, List, Some, None, Ok, IfOk, IfErr};
-ghost use Rattle.sorted_rows.specs.Placed.{PlacesAscend};
+ghost use Rattle.sorted_rows.specs.Sortable.{SortKeysAscend};
 ghost use Rattle.mud_file.specs.File.{file_of};
 ghost use Rattle.file_tables.specs.declared.cached_file.CachedFile.{CachedFile as Row};
 ghost use Rattle.file_tables.specs.Held.{held_file};
 ghost use Rattle.file_tables.specs.Files as files_spec;
 ghost use Rattle.file_tables.specs.Files.{url_of, file_at};
-ghost use Rattle.file_tables.specs.FileSteps as step;
+ghost use Rattle.file_tables.specs.FileCommands as step;
 ghost use Rattle.file_cache.specs.Planned.{Makes, IsUnread};
 
 use crate::change::CacheChange;
@@ -60,7 +60,7 @@ fn older_than_candidate(file: &UsageFile, row: &CachedFile) -> bool
 }
 
 /// Whether a file was generated before one of the held ones.
-#[tactic(auto, unfolding(file_tables::specs::FileSteps::is_outdated_by))]
+#[tactic(auto, unfolding(file_tables::specs::FileCommands::is_outdated_by))]
 fn is_outdated_by(row: &CachedFile, file: &UsageFile) -> bool
     ensures { result ≡ step.is_outdated_by row.now file.now }
 {
@@ -75,7 +75,7 @@ fn candidate_again(
     fetched: Moment,
 ) -> Result<CacheChange, CacheFault>
     requires { row.now.candidate ≡ Some candidate.now }
-    ensures { (files : List Row) → PlacesAscend url_of files → file_at row.now.url files ≡ Some row.now → Makes (step.candidate_again fetched row.now.url files row.now candidate.now) files result }
+    ensures { (files : List Row) → SortKeysAscend url_of files → file_at row.now.url files ≡ Some row.now → Makes (step.candidate_again fetched row.now.url files row.now candidate.now) files result }
 {
     if candidate.fetched().seconds() < fetched.seconds() {
         let again = Lent::fetched_at(candidate, fetched);
@@ -97,7 +97,7 @@ fn approved_again(
     fetched: Moment,
 ) -> Result<CacheChange, CacheFault>
     requires { row.now.approved ≡ Some (approved.now, approval) }
-    ensures { (files : List Row) → PlacesAscend url_of files → file_at row.now.url files ≡ Some row.now → Makes (step.approved_again fetched row.now.url files row.now (approved.now, approval)) files result }
+    ensures { (files : List Row) → SortKeysAscend url_of files → file_at row.now.url files ≡ Some row.now → Makes (step.approved_again fetched row.now.url files row.now (approved.now, approval)) files result }
 {
     if approved.fetched().seconds() < fetched.seconds() {
         let again = Lent::fetched_at(approved, fetched);
@@ -120,7 +120,7 @@ fn new_candidate(
 ) -> Result<CacheChange, CacheFault>
     requires read { file_of octets.now ≡ Ok file }
     requires own { file.url ≡ row.now.url }
-    ensures { (files : List Row) → PlacesAscend url_of files → file_at row.now.url files ≡ Some row.now → Makes (step.new_candidate (held_file octets.now fetched) file files row.now) files result }
+    ensures { (files : List Row) → SortKeysAscend url_of files → file_at row.now.url files ≡ Some row.now → Makes (step.new_candidate (held_file octets.now fetched) file files row.now) files result }
 {
     if is_outdated_by(row, &file) {
         drop(file);
@@ -150,7 +150,7 @@ fn beside_approved(
 ) -> Result<CacheChange, CacheFault>
     requires read { file_of octets.now ≡ Ok file }
     requires own { file.url ≡ row.now.url }
-    ensures { (files : List Row) → PlacesAscend url_of files → file_at row.now.url files ≡ Some row.now → Makes (step.beside_approved (held_file octets.now fetched) file files row.now row.now.approved) files result }
+    ensures { (files : List Row) → SortKeysAscend url_of files → file_at row.now.url files ≡ Some row.now → Makes (step.beside_approved (held_file octets.now fetched) file files row.now row.now.approved) files result }
 {
     match &row.approved {
         Some((approved, approval)) => {
@@ -175,7 +175,7 @@ fn beside_candidate(
 ) -> Result<CacheChange, CacheFault>
     requires read { file_of octets.now ≡ Ok file }
     requires own { file.url ≡ row.now.url }
-    ensures { (files : List Row) → PlacesAscend url_of files → file_at row.now.url files ≡ Some row.now → Makes (step.beside_candidate (held_file octets.now fetched) file files row.now row.now.candidate) files result }
+    ensures { (files : List Row) → SortKeysAscend url_of files → file_at row.now.url files ≡ Some row.now → Makes (step.beside_candidate (held_file octets.now fetched) file files row.now row.now.candidate) files result }
 {
     match &row.candidate {
         Some(candidate) => {
@@ -228,7 +228,7 @@ pub fn import(
     octets: &[u8],
     fetched: Moment,
 ) -> Result<CacheChange, CacheFault>
-    requires { PlacesAscend url_of files.now.rows }
+    requires { SortKeysAscend url_of files.now.rows }
     ensures { Makes (step.import_step octets.now fetched files.now.rows) files.now.rows result }
 {
     let file = read_file(alloc, octets)?;

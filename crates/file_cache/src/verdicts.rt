@@ -5,7 +5,7 @@ ghost use Rattle.file_tables.specs.declared.approval.OperatorVerdict.TheVariants
 ghost use Rattle.file_tables.specs.declared.cached_file.CachedFile.{CachedFile as Row};
 ghost use Rattle.file_tables.specs.Files as files_spec;
 ghost use Rattle.file_tables.specs.Files.{url_of, file_at, IsSoundFiles};
-ghost use Rattle.file_tables.specs.FileSteps as step;
+ghost use Rattle.file_tables.specs.FileCommands as step;
 ghost use Rattle.file_cache.specs.Planned.{Makes};
 
 use crate::change::CacheChange;
@@ -95,7 +95,7 @@ fn rule(
 }
 
 /// Whether a verdict gives this approval.
-#[tactic(auto, unfolding(file_tables::specs::FileSteps::is_verdict))]
+#[tactic(auto, unfolding(file_tables::specs::FileCommands::is_verdict))]
 fn is_verdict(verdict: OperatorVerdict, approval: Approval) -> bool
     ensures { result ≡ step.is_verdict verdict approval }
 {
@@ -107,7 +107,7 @@ fn is_verdict(verdict: OperatorVerdict, approval: Approval) -> bool
 }
 
 /// Whether the approved file has this digest and this approval already.
-#[tactic(auto, unfolding(file_tables::specs::FileSteps::is_ruled))]
+#[tactic(auto, unfolding(file_tables::specs::FileCommands::is_ruled))]
 fn is_ruled(row: &CachedFile, digest: &[u8], verdict: OperatorVerdict) -> bool
     ensures { result ≡ step.is_ruled digest.now verdict row.now.approved }
 {

@@ -4,13 +4,13 @@ use Rattle.std.specs.Option.{option_map}
 use Rattle.std.proofs.lemmas.Bool.{false≢true}
 use Rattle.std.proofs.lemmas.Option.{none-some, same_Some}
 use Rattle.std.proofs.lemmas.List.Elements.{All-from_recursion}
-use Rattle.sorted_rows.specs.Placed.{same_place, row_at, set_row, without_row, PlacesAscend}
+use Rattle.sorted_rows.specs.Sortable.{same_sort_key, row_at, set_row, without_row, SortKeysAscend}
 use Rattle.sorted_rows.specs.Changes.{RowChange, changed}
-use Rattle.sorted_rows.proofs.PlacedLaws.{ascend-set_row, ascend-without_row, row_at-set_row, row_at-set_row_same, row_at-without_row}
-use Rattle.sorted_rows.proofs.RowLaws.{same_rows, set_row_there, without_row_absent, place_row_at}
+use Rattle.sorted_rows.proofs.SortableLaws.{ascend-set_row, ascend-without_row, row_at-set_row, row_at-set_row_same, row_at-without_row}
+use Rattle.sorted_rows.proofs.RowLaws.{same_rows, set_row_there, without_row_absent, sort_key_row_at}
 use Rattle.mud_world.specs.declared.item.Item.{Item}
 use Rattle.mud_world.specs.declared.item.Put.{Put}
-use Rattle.mud_world.specs.Items.{place_of, put_one, IsDifference, AreItemsOf, set_put, gone_put, puts_of, kind_of_put, ArePutsOf}
+use Rattle.mud_world.specs.Items.{sort_key_of, put_one, IsDifference, AreItemsOf, set_put, gone_put, puts_of, kind_of_put, ArePutsOf}
 use Rattle.mud_world.proofs.ItemLaws.{same_put, puts_kept, row_at-items, ordered-items}
 use Rattle.file_tables.specs.declared.approval.Approval.{Approval}
 use Rattle.file_tables.specs.declared.cached_file.CachedFile.{CachedFile}
@@ -58,7 +58,7 @@ made_url Revoked url new e = absurd (none-some new e)
 pub edited_url : (edit : FileEdit) (url : List ℕ) (files : List CachedFile) (o : Option CachedFile) (new : CachedFile) → row_at url_of url files ≡ o → edited_row edit url o ≡ Some new → url_of new ≡ url
 unfolding edited_row url_of
 edited_url edit url files None new found e = sym (made_url edit url new e)
-edited_url edit url files (Some row) new found e = sym (changed_url edit row new e) ∙ place_row_at url_of url files row found
+edited_url edit url files (Some row) new found e = sym (changed_url edit row new e) ∙ sort_key_row_at url_of url files row found
 
 -- only a file that is offered makes a row
 pub made_needs_room : (edit : FileEdit) (url : List ℕ) (new : CachedFile) → made_row edit url ≡ Some new → room_for edit ≡ 1
@@ -77,29 +77,29 @@ same_either : (b : Bool) (x y : Option CachedFile) → cond b x (cond b None y) 
 same_either true x y = refl
 same_either false x y = refl
 
-pub put_back : (row : CachedFile) (p : List ℕ) (files : List CachedFile) → PlacesAscend url_of files → url_of row ≡ p → set_row url_of row (without_row url_of p files) ≡ set_row url_of row files
+pub put_back : (row : CachedFile) (p : List ℕ) (files : List CachedFile) → SortKeysAscend url_of files → url_of row ≡ p → set_row url_of row (without_row url_of p files) ≡ set_row url_of row files
 put_back row p files ascend own =
     same_rows url_of (set_row url_of row (without_row url_of p files)) (set_row url_of row files)
     (ascend-set_row url_of row (without_row url_of p files) (ascend-without_row url_of p files ascend))
     (ascend-set_row url_of row files ascend)
     (λ q. row_at-set_row url_of row (without_row url_of p files) q
-    ∙ ap (cond (same_place (url_of row) q) (Some row)) (row_at-without_row url_of p files q ascend ∙ ap (λ r. cond (same_place r q) None (row_at url_of q files)) (sym own))
-    ∙ same_either (same_place (url_of row) q) (Some row) (row_at url_of q files)
+    ∙ ap (cond (same_sort_key (url_of row) q) (Some row)) (row_at-without_row url_of p files q ascend ∙ ap (λ r. cond (same_sort_key r q) None (row_at url_of q files)) (sym own))
+    ∙ same_either (same_sort_key (url_of row) q) (Some row) (row_at url_of q files)
     ∙ sym (row_at-set_row url_of row files q))
 
 -- ---- Nothing changes
 
-unchanged_by : (url : List ℕ) (files : List CachedFile) (o : Option CachedFile) → PlacesAscend url_of files → row_at url_of url files ≡ o → put_file url o files ≡ files
+unchanged_by : (url : List ℕ) (files : List CachedFile) (o : Option CachedFile) → SortKeysAscend url_of files → row_at url_of url files ≡ o → put_file url o files ≡ files
 unfolding put_file without_file set_file
 unchanged_by url files None ascend found = without_row_absent url_of url files ascend found
-unchanged_by url files (Some row) ascend found = set_row_there url_of row files ascend (ap (λ p. row_at url_of p files) (place_row_at url_of url files row found) ∙ found)
+unchanged_by url files (Some row) ascend found = set_row_there url_of row files ascend (ap (λ p. row_at url_of p files) (sort_key_row_at url_of url files row found) ∙ found)
 
 unchanged_row : (url : List ℕ) (o : Option CachedFile) → edited_row Unchanged url o ≡ o
 unfolding edited_row made_row changed_row
 unchanged_row url None = refl
 unchanged_row url (Some row) = refl
 
-pub unchanged : (edit : FileEdit) (url : List ℕ) (files : List CachedFile) → PlacesAscend url_of files → is_change edit ≡ false → edited edit url files ≡ files
+pub unchanged : (edit : FileEdit) (url : List ℕ) (files : List CachedFile) → SortKeysAscend url_of files → is_change edit ≡ false → edited edit url files ≡ files
 unfolding is_change edited file_at
 unchanged Unchanged url files ascend e = ap (λ o. put_file url o files) (unchanged_row url (row_at url_of url files)) ∙ unchanged_by url files (row_at url_of url files) ascend refl
 unchanged (Offered held) url files ascend e = absurd (false≢true (sym e))
@@ -151,8 +151,8 @@ module _ (files : List CachedFile) (sound : IsSoundFiles files) where
       let change : RowChange CachedFile = record { gone = None; sets = row ∷ [] } in
       one_put (map file_item files) (map file_item (set_row url_of row files)) (set_put file_item row) (puts_kept url_of 2 file_item are_file_items change files)
       (λ same.
-      let there : row_at place_of (2 ∷ url_of row) (map file_item files) ≡ Some (file_item row) =
-      ap (λ p. row_at place_of p (map file_item files)) (sym (are_file_items row)) ∙ same_put (map file_item files) (set_put file_item row) (ordered-items url_of 2 file_item are_file_items files sound.ascend) same in
+      let there : row_at sort_key_of (2 ∷ url_of row) (map file_item files) ≡ Some (file_item row) =
+      ap (λ p. row_at sort_key_of p (map file_item files)) (sym (are_file_items row)) ∙ same_put (map file_item files) (set_put file_item row) (ordered-items url_of 2 file_item are_file_items files sound.ascend) same in
       let m : Mapped (row_at url_of (url_of row) files) (file_item row) =
       mapped_some (row_at url_of (url_of row) files) (file_item row) (sym (row_at-items url_of 2 file_item are_file_items (url_of row) files) ∙ there) in
       other (set_row_there url_of row files sound.ascend (m.is ∙ ap Some (file_exact m.row row (row_kept files (url_of row) m.row sound.each m.is) kept m.same))))

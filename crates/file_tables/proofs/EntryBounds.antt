@@ -2,12 +2,12 @@
 use Rattle.std.proofs.Common.{◌≡◌, ℕ, zero, suc, ◌+◌, ◌≤◌, ◌<◌, List, [], ◌∷◌, length, drop, get_or, Some, None, refl, ap, arith, add-one, drop-cons}
 use Rattle.mud_file.specs.declared.usage_file.UsageFile.{UsageFile}
 use Rattle.mud_file.proofs.Bounds.{read_files_are_bounded}
-use Rattle.sorted_rows.specs.Placed.{row_at, set_row}
+use Rattle.sorted_rows.specs.Sortable.{row_at, set_row}
 use Rattle.file_tables.specs.declared.approval.Approval.{Approval}
 use Rattle.file_tables.specs.declared.cached_file.CachedFile.{CachedFile}
 use Rattle.file_tables.specs.Held.{HeldFile, usage_in}
 use Rattle.file_tables.specs.Files.{url_of, file_at, set_file, entries_of, approved_entries, entry_count, IsSoundFiles}
-use Rattle.file_tables.specs.FileSteps.{approved_row}
+use Rattle.file_tables.specs.FileCommands.{approved_row}
 use Rattle.file_tables.proofs.Counts.{entries_found, entry_count-set_row, entry_count-without_row}
 use Rattle.file_tables.proofs.ItemLaws.{usage_read}
 

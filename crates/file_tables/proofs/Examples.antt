@@ -13,7 +13,7 @@ use Rattle.file_tables.specs.declared.cached_file.CachedFile.{CachedFile}
 use Rattle.file_tables.specs.declared.cache_fault.CacheFault.TheVariants.{NoCandidate, NotApproved}
 use Rattle.file_tables.specs.Held.{HeldFile, held_file, digest_of}
 use Rattle.file_tables.specs.Files.{url_of, file_at, set_file, without_file, with_candidate, with_approved}
-use Rattle.file_tables.specs.FileSteps.{done, left, settled, left_with, candidate_again, ruled, verdict_cases, verdict_step, approved_cases, revoke_cases, revoke_step}
+use Rattle.file_tables.specs.FileCommands.{done, left, settled, left_with, candidate_again, ruled, verdict_cases, verdict_step, approved_cases, revoke_cases, revoke_step}
 use Rattle.file_tables.specs.FileItems.{held_fields, approved_fields, approval_field, approval_number, file_body, file_item}
 use Rattle.file_tables.specs.Due.{latest, has_expired}
 

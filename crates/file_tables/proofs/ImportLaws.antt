@@ -6,14 +6,14 @@ use Rattle.std.proofs.lemmas.Bool.{false≢true}
 use Rattle.item_codec.specs.declared.word.Word.TheVariants.{Same}
 use Rattle.mud_file.specs.declared.usage_file.UsageFile.{UsageFile}
 use Rattle.mud_file.specs.File.{file_of}
-use Rattle.sorted_rows.specs.Placed.{same_place, row_at}
-use Rattle.sorted_rows.proofs.PlacedLaws.{row_at-set_row, same_place_itself}
+use Rattle.sorted_rows.specs.Sortable.{same_sort_key, row_at}
+use Rattle.sorted_rows.proofs.SortableLaws.{row_at-set_row, same_sort_key_itself}
 use Rattle.file_tables.specs.declared.approval.Approval.{Approval}
 use Rattle.file_tables.specs.declared.cached_file.CachedFile.{CachedFile}
 use Rattle.file_tables.specs.Held.{HeldFile, held_file}
 use Rattle.file_tables.specs.Files.{url_of, file_at, set_file, with_candidate, with_approved}
 use Rattle.file_tables.specs.FileEdits.{fetched_at, approved_at}
-use Rattle.file_tables.specs.FileSteps.{FileStep, done, left, candidate_again, approved_again, new_candidate, beside_approved, beside_candidate, import_cases, import_read, import_step}
+use Rattle.file_tables.specs.FileCommands.{FileStep, done, left, candidate_again, approved_again, new_candidate, beside_approved, beside_candidate, import_cases, import_read, import_step}
 use Rattle.file_tables.specs.Imports.{has_octets, has_approved_octets, holds_octets, but_moments, IsSameAgain}
 use Rattle.file_tables.proofs.SoundFiles.{url_found}
 
@@ -36,9 +36,9 @@ module _ (url : List ℕ) (files : List CachedFile) (row : CachedFile) (found : 
       record {
         word = refl;
         own =
-            ap (option_map but_moments) (row_at-set_row url_of new files url ∙ ap (λ b. cond b (Some new) (row_at url_of url files)) (ap (λ u. same_place u url) own ∙ same_place_itself url))
+            ap (option_map but_moments) (row_at-set_row url_of new files url ∙ ap (λ b. cond b (Some new) (row_at url_of url files)) (ap (λ u. same_sort_key u url) own ∙ same_sort_key_itself url))
             ∙ ap Some alike ∙ sym (ap (option_map but_moments) found);
-        others = λ other e. row_at-set_row url_of new files other ∙ ap (λ b. cond b (Some new) (row_at url_of other files)) (ap (λ u. same_place u other) own ∙ e);
+        others = λ other e. row_at-set_row url_of new files other ∙ ap (λ b. cond b (Some new) (row_at url_of other files)) (ap (λ u. same_sort_key u other) own ∙ e);
       }
 
   candidate_same : (fetched : ℕ) (c : HeldFile) → row.candidate ≡ Some c → IsAgain url files (candidate_again fetched url files row c)

@@ -5,8 +5,8 @@ use Rattle.std.specs.List.{filter_map}
 use Rattle.std.specs.Option.{option_map, option_and_then}
 use Rattle.acl_model.specs.declared.entry.Policy.{Policy}
 use Rattle.acl_model.specs.Policies.{policy_in}
-use Rattle.sorted_rows.specs.Placed.{same_place, row_at, PlacesAbove, PlacesAscend}
-use Rattle.sorted_rows.proofs.PlacedLaws.{row_at-set_row, row_at-without_row, row_at_above, same_place_exact}
+use Rattle.sorted_rows.specs.Sortable.{same_sort_key, row_at, SortKeysAbove, SortKeysAscend}
+use Rattle.sorted_rows.proofs.SortableLaws.{row_at-set_row, row_at-without_row, row_at_above, same_sort_key_exact}
 use Rattle.file_tables.specs.declared.approval.Approval.{Approval}
 use Rattle.file_tables.specs.declared.cached_file.CachedFile.{CachedFile}
 use Rattle.file_tables.specs.declared.file_edit.FileEdit.{FileEdit}
@@ -85,37 +85,37 @@ after_is Revoked url files = refl
 
 -- ---- The row of each URL
 
-put_at : (url u : List ℕ) (o : Option CachedFile) (files : List CachedFile) → PlacesAscend url_of files → ((row : CachedFile) → o ≡ Some row → url_of row ≡ url) → row_at url_of u (put_file url o files) ≡ cond (same_place url u) o (row_at url_of u files)
+put_at : (url u : List ℕ) (o : Option CachedFile) (files : List CachedFile) → SortKeysAscend url_of files → ((row : CachedFile) → o ≡ Some row → url_of row ≡ url) → row_at url_of u (put_file url o files) ≡ cond (same_sort_key url u) o (row_at url_of u files)
 unfolding put_file set_file without_file
 put_at url u None files ascend own = row_at-without_row url_of url files u ascend
-put_at url u (Some row) files ascend own = row_at-set_row url_of row files u ∙ ap (λ p. cond (same_place p u) (Some row) (row_at url_of u files)) (own row refl)
+put_at url u (Some row) files ascend own = row_at-set_row url_of row files u ∙ ap (λ p. cond (same_sort_key p u) (Some row) (row_at url_of u files)) (own row refl)
 
-by_place : (b : Bool) (x y : Option CachedFile) → option_and_then policy_in_row (cond b x y) ≡ cond b (option_and_then policy_in_row x) (option_and_then policy_in_row y)
-by_place true x y = refl
-by_place false x y = refl
+by_sort_key : (b : Bool) (x y : Option CachedFile) → option_and_then policy_in_row (cond b x y) ≡ cond b (option_and_then policy_in_row x) (option_and_then policy_in_row y)
+by_sort_key true x y = refl
+by_sort_key false x y = refl
 
-pub policy_edited : (edit : FileEdit) (url u : List ℕ) (files : List CachedFile) → PlacesAscend url_of files → policy_of (edited edit url files) u ≡ cond (bytes_eq url u) (policy_after (policy_change edit) files url) (policy_of files u)
+pub policy_edited : (edit : FileEdit) (url u : List ℕ) (files : List CachedFile) → SortKeysAscend url_of files → policy_of (edited edit url files) u ≡ cond (bytes_eq url u) (policy_after (policy_change edit) files url) (policy_of files u)
 unfolding policy_of edited file_at
 policy_edited edit url u files ascend =
     let new : Option CachedFile = edited_row edit url (row_at url_of url files) in
     ap (option_and_then policy_in_row) (put_at url u new files ascend (λ row e. edited_url edit url files (row_at url_of url files) row refl e))
-    ∙ by_place (same_place url u) new (row_at url_of u files)
-    ∙ ap (λ p. cond (same_place url u) p (option_and_then policy_in_row (row_at url_of u files))) (edited_policy edit url (row_at url_of url files) ∙ after_is edit url files)
+    ∙ by_sort_key (same_sort_key url u) new (row_at url_of u files)
+    ∙ ap (λ p. cond (same_sort_key url u) p (option_and_then policy_in_row (row_at url_of u files))) (edited_policy edit url (row_at url_of url files) ∙ after_is edit url files)
 
 -- ---- The list of policies
 
 -- the policies behind a row, by whether it has one
-row_of_list : (url : List ℕ) (x : CachedFile) (xs : List CachedFile) (p : Option Policy) → policy_in_row x ≡ p → policy_in (filter_map url_policy_in xs) url ≡ option_and_then policy_in_row (row_at url_of url xs) → ((own : same_place x.url url ≡ true) → row_at url_of url xs ≡ None) → (b : Bool) → same_place x.url url ≡ b → policy_in (filter_map url_policy_in (x ∷ xs)) url ≡ option_and_then policy_in_row (cond b (Some x) (row_at url_of url xs))
+row_of_list : (url : List ℕ) (x : CachedFile) (xs : List CachedFile) (p : Option Policy) → policy_in_row x ≡ p → policy_in (filter_map url_policy_in xs) url ≡ option_and_then policy_in_row (row_at url_of url xs) → ((own : same_sort_key x.url url ≡ true) → row_at url_of url xs ≡ None) → (b : Bool) → same_sort_key x.url url ≡ b → policy_in (filter_map url_policy_in (x ∷ xs)) url ≡ option_and_then policy_in_row (cond b (Some x) (row_at url_of url xs))
 unfolding url_policy_in policy_in
 row_of_list url x xs None none rest alone true e = rw none (rest ∙ ap (option_and_then policy_in_row) (alone e))
 row_of_list url x xs None none rest alone false e = rw none rest
 row_of_list url x xs (Some p) some rest alone true e = rw (some, e) refl
 row_of_list url x xs (Some p) some rest alone false e = rw (some, e) rest
 
-pub policy_in-policies_of : (files : List CachedFile) (url : List ℕ) → PlacesAscend url_of files → policy_in (policies_of files) url ≡ policy_of files url
+pub policy_in-policies_of : (files : List CachedFile) (url : List ℕ) → SortKeysAscend url_of files → policy_in (policies_of files) url ≡ policy_of files url
 unfolding policies_of policy_of file_at policy_in url_of
 policy_in-policies_of [] url ascend = refl
 policy_in-policies_of (x ∷ xs) url ascend =
     row_of_list url x xs (policy_in_row x) refl (policy_in-policies_of xs url ascend.1)
-    (λ own. row_at_above url_of url xs (subst (λ p. PlacesAbove url_of p xs) (same_place_exact x.url url own) ascend.0))
-    (same_place x.url url) refl
+    (λ own. row_at_above url_of url xs (subst (λ p. SortKeysAbove url_of p xs) (same_sort_key_exact x.url url own) ascend.0))
+    (same_sort_key x.url url) refl

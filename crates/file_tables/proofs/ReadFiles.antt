@@ -5,8 +5,8 @@ use Rattle.std.specs.List.{AllByRecursion}
 use Rattle.std.specs.Ordering.{is_lt}
 use Rattle.std.specs.declared.cmp.Ordering.TheVariants.{Less}
 use Rattle.std.proofs.lemmas.Bool.{ltb-true, lt-ltb, leb-true, le-leb}
-use Rattle.sorted_rows.specs.Placed.{place_cmp, PlacesAbove, PlacesAscend, comes_last}
-use Rattle.sorted_rows.proofs.PlacedLaws.{ascend-push}
+use Rattle.sorted_rows.specs.Sortable.{sort_key_cmp, SortKeysAbove, SortKeysAscend, comes_last}
+use Rattle.sorted_rows.proofs.SortableLaws.{ascend-push}
 use Rattle.sorted_rows.proofs.ListTests.{left_of, right_of, both}
 use Rattle.file_tables.specs.declared.cached_file.CachedFile.{CachedFile}
 use Rattle.file_tables.specs.Limits.{most_files, most_policy_entries}
@@ -36,13 +36,13 @@ sound-push files row sound good behind =
 
 -- ---- The other way round: each of sound rows may stand behind those before it
 
-before_row : (x : CachedFile) (xs : List CachedFile) (row : CachedFile) (ys : List CachedFile) → PlacesAbove url_of (url_of x) (xs ++ row ∷ ys) → place_cmp (url_of x) (url_of row) ≡ Less
+before_row : (x : CachedFile) (xs : List CachedFile) (row : CachedFile) (ys : List CachedFile) → SortKeysAbove url_of (url_of x) (xs ++ row ∷ ys) → sort_key_cmp (url_of x) (url_of row) ≡ Less
 before_row x [] row ys above = above.0
 before_row x (y ∷ xs) row ys above = before_row x xs row ys above.1
 
-comes_behind : (xs : List CachedFile) (row : CachedFile) (ys : List CachedFile) → PlacesAscend url_of (xs ++ row ∷ ys) → comes_last url_of row xs ≡ true
+comes_behind : (xs : List CachedFile) (row : CachedFile) (ys : List CachedFile) → SortKeysAscend url_of (xs ++ row ∷ ys) → comes_last url_of row xs ≡ true
 comes_behind [] row ys ascend = refl
-comes_behind (x ∷ xs) row ys ascend = both (is_lt (place_cmp (url_of x) (url_of row))) (comes_last url_of row xs) (ap is_lt (before_row x xs row ys ascend.0)) (comes_behind xs row ys ascend.1)
+comes_behind (x ∷ xs) row ys ascend = both (is_lt (sort_key_cmp (url_of x) (url_of row))) (comes_last url_of row xs) (ap is_lt (before_row x xs row ys ascend.0)) (comes_behind xs row ys ascend.1)
 
 fewer_before : (xs : List CachedFile) (row : CachedFile) (ys : List CachedFile) → length xs < length (xs ++ row ∷ ys)
 fewer_before [] row ys = omega arith

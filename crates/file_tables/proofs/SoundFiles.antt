@@ -10,9 +10,9 @@ use Rattle.item_codec.specs.declared.word.Word.TheVariants.{New, Same, Approved}
 use Rattle.usage_walk.specs.declared.fault.Broken.{Broken}
 use Rattle.mud_file.specs.declared.usage_file.UsageFile.{UsageFile}
 use Rattle.mud_file.specs.File.{file_of}
-use Rattle.sorted_rows.specs.Placed.{row_at, set_row}
-use Rattle.sorted_rows.proofs.PlacedLaws.{ascend-set_row, ascend-without_row}
-use Rattle.sorted_rows.proofs.RowLaws.{all-set_row, all-without_row, length-set_row, length-without_row, place_row_at}
+use Rattle.sorted_rows.specs.Sortable.{row_at, set_row}
+use Rattle.sorted_rows.proofs.SortableLaws.{ascend-set_row, ascend-without_row}
+use Rattle.sorted_rows.proofs.RowLaws.{all-set_row, all-without_row, length-set_row, length-without_row, sort_key_row_at}
 use Rattle.sorted_rows.proofs.IndexLaws.{set_row_length}
 use Rattle.sorted_rows.proofs.ListTests.{same_bytes, left_of, right_of, both, or_first}
 use Rattle.file_tables.specs.declared.approval.Approval.{Approval}
@@ -24,7 +24,7 @@ use Rattle.file_tables.specs.declared.cache_fault.CacheFault.TheVariants.{Older,
 use Rattle.file_tables.specs.Held.{HeldFile, held_file, usage_in, digest_of}
 use Rattle.file_tables.specs.Limits.{most_files, most_policy_entries, last_moment}
 use Rattle.file_tables.specs.Files.{url_of, file_at, set_file, without_file, new_file, with_candidate, with_approved, is_of_url, is_usage_of, is_signed, is_older, entries_of, approved_entries, entry_count, is_held, may_have, is_approved, is_outdated, may_follow, are_files, is_sound_file, IsKeptFile, IsSoundFiles}
-use Rattle.file_tables.specs.FileSteps.{FileStep, done, left, candidate_again, approved_again, older_than_approved, older_than_candidate, is_outdated_by, new_candidate, beside_approved, beside_candidate, import_cases, import_read, import_step, settled, left_with, approved_row, approve, ruled, candidate_cases, is_ruled, verdict_cases, verdict_step, approved_cases, revoke_cases, revoke_step}
+use Rattle.file_tables.specs.FileCommands.{FileStep, done, left, candidate_again, approved_again, older_than_approved, older_than_candidate, is_outdated_by, new_candidate, beside_approved, beside_candidate, import_cases, import_read, import_step, settled, left_with, approved_row, approve, ruled, candidate_cases, is_ruled, verdict_cases, verdict_step, approved_cases, revoke_cases, revoke_step}
 use Rattle.file_tables.proofs.Counts.{entries_found, entry_count-set_row, entry_count-without_row}
 
 -- ---- What holds of the files behind a step
@@ -38,16 +38,16 @@ pub cond_after : (P : List CachedFile → Type 0) (b : Bool) (x y : FileStep) �
 cond_after P true x y f g = f refl
 cond_after P false x y f g = g refl
 
--- the row of a URL stands at its place
-pub at_its_place : (files : List CachedFile) (url : List ℕ) (row : CachedFile) → file_at url files ≡ Some row → row_at url_of (url_of row) files ≡ Some row
+-- the row of a URL stands at its sort key
+pub at_its_sort_key : (files : List CachedFile) (url : List ℕ) (row : CachedFile) → file_at url files ≡ Some row → row_at url_of (url_of row) files ≡ Some row
 unfolding file_at
-at_its_place files url row found = subst (λ p. row_at url_of p files ≡ Some row) (sym (place_row_at url_of url files row found)) found
+at_its_sort_key files url row found = subst (λ p. row_at url_of p files ≡ Some row) (sym (sort_key_row_at url_of url files row found)) found
 
 pub url_found : (files : List CachedFile) (url : List ℕ) (row : CachedFile) → file_at url files ≡ Some row → row.url ≡ url
 unfolding file_at url_of
-url_found files url row found = place_row_at url_of url files row found
+url_found files url row found = sort_key_row_at url_of url files row found
 
--- what holds of each row holds of the one at a place
+-- what holds of each row holds of the one at a sort key
 pub row_kept : (files : List CachedFile) (p : List ℕ) (row : CachedFile) → AllByRecursion IsKeptFile files → row_at url_of p files ≡ Some row → IsKeptFile row
 row_kept [] p row all found = absurd (none-some row found)
 row_kept (x ∷ xs) p row all found = by_first _ found (row_kept xs p row all.1)
@@ -187,7 +187,7 @@ fewer_none n = omega arith
 
 module _ (files : List CachedFile) (sound : IsSoundFiles files) (url : List ℕ) (row : CachedFile) (found : file_at url files ≡ Some row) where
   there : row_at url_of (url_of row) files ≡ Some row
-  there = at_its_place files url row found
+  there = at_its_sort_key files url row found
 
   good : are_files row.url row.approved row.candidate ≡ true
   good = kept_at files sound url row found

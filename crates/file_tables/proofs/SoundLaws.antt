@@ -2,7 +2,7 @@
 use Rattle.std.proofs.Common.{Ok, Err}
 use Rattle.std.specs.Prelude.{IfOk}
 use Rattle.file_tables.specs.Files.{IsSoundFiles}
-use Rattle.file_tables.specs.FileSteps.{FileStep}
+use Rattle.file_tables.specs.FileCommands.{FileStep}
 use Rattle.file_tables.proofs.SoundFiles.{OfAfter}
 
 pub stays : (step : FileStep) → OfAfter IsSoundFiles step → IfOk step (λ after. IsSoundFiles after.files)

@@ -8,8 +8,8 @@ use Rattle.item_codec.specs.declared.word.Word.TheVariants.{New, Same, Rejected,
 use Rattle.usage_walk.specs.declared.fault.Broken.{Broken}
 use Rattle.mud_file.specs.declared.usage_file.UsageFile.{UsageFile}
 use Rattle.mud_file.specs.File.{file_of}
-use Rattle.sorted_rows.specs.Placed.{row_at, without_row, PlacesAscend}
-use Rattle.sorted_rows.proofs.PlacedLaws.{row_at-set_row_same, row_at-without_row, same_place_itself}
+use Rattle.sorted_rows.specs.Sortable.{row_at, without_row, SortKeysAscend}
+use Rattle.sorted_rows.proofs.SortableLaws.{row_at-set_row_same, row_at-without_row, same_sort_key_itself}
 use Rattle.sorted_rows.proofs.ListTests.{same_bytes}
 use Rattle.file_tables.specs.declared.approval.Approval.{Approval}
 use Rattle.file_tables.specs.declared.approval.Approval.TheVariants as approval
@@ -20,8 +20,8 @@ use Rattle.file_tables.specs.declared.cache_fault.CacheFault.TheVariants.{Older,
 use Rattle.file_tables.specs.Held.{HeldFile, held_file, digest_of}
 use Rattle.file_tables.specs.Limits.{most_files, most_policy_entries}
 use Rattle.file_tables.specs.Files.{url_of, file_at, set_file, without_file, new_file, with_candidate, with_approved, is_signed, entry_count}
-use Rattle.file_tables.specs.FileSteps.{TellsChange, FileStep, done, left, candidate_again, approved_again, older_than_approved, older_than_candidate, is_outdated_by, new_candidate, beside_approved, beside_candidate, import_cases, import_read, import_step, settled, left_with, approved_row, approve, ruled, candidate_cases, is_ruled, verdict_cases, verdict_step, approved_cases, revoke_cases, revoke_step}
-use Rattle.file_tables.proofs.SoundFiles.{at_its_place}
+use Rattle.file_tables.specs.FileCommands.{TellsChange, FileStep, done, left, candidate_again, approved_again, older_than_approved, older_than_candidate, is_outdated_by, new_candidate, beside_approved, beside_candidate, import_cases, import_read, import_step, settled, left_with, approved_row, approve, ruled, candidate_cases, is_ruled, verdict_cases, verdict_step, approved_cases, revoke_cases, revoke_step}
+use Rattle.file_tables.proofs.SoundFiles.{at_its_sort_key}
 
 -- the step, where it isn't refused, says truly whether these files change
 abbrev pub IsTold : List CachedFile → FileStep → Type 0
@@ -45,31 +45,31 @@ unfolding set_file
 put_other row files new e = new (sym (ap (row_at url_of (url_of row)) e) ∙ row_at-set_row_same url_of row files)
 
 -- it takes the place of another row
-place_other : (row old : CachedFile) (files : List CachedFile) → row_at url_of (url_of row) files ≡ Some old → (old ≡ row → ⊥) → set_file row files ≡ files → ⊥
-place_other row old files there other e = put_other row files (λ is. other (same_Some old row (sym there ∙ is))) e
+sort_key_other : (row old : CachedFile) (files : List CachedFile) → row_at url_of (url_of row) files ≡ Some old → (old ≡ row → ⊥) → set_file row files ≡ files → ⊥
+sort_key_other row old files there other e = put_other row files (λ is. other (same_Some old row (sym there ∙ is))) e
 
 later : (n m : ℕ) → nat_lt n m ≡ true → n ≡ m → ⊥
 later n m lt e = let below : n < m = ltb-true n m lt in omega (arith, below, e)
 
-module _ (files : List CachedFile) (ascend : PlacesAscend url_of files) (url : List ℕ) (row : CachedFile) (found : file_at url files ≡ Some row) where
+module _ (files : List CachedFile) (ascend : SortKeysAscend url_of files) (url : List ℕ) (row : CachedFile) (found : file_at url files ≡ Some row) where
   there : row_at url_of (url_of row) files ≡ Some row
-  there = at_its_place files url row found
+  there = at_its_sort_key files url row found
 
   -- the URL had a row and has none
   gone_other : without_file url files ≡ files → ⊥
   unfolding file_at without_file
   gone_other e =
       let none : row_at url_of url (without_row url_of url files) ≡ None =
-      row_at-without_row url_of url files url ascend ∙ ap (λ b. cond b None (row_at url_of url files)) (same_place_itself url) in
+      row_at-without_row url_of url files url ascend ∙ ap (λ b. cond b None (row_at url_of url files)) (same_sort_key_itself url) in
       none-some row (sym none ∙ ap (row_at url_of url) e ∙ found)
 
   other_candidate : (new : Option HeldFile) → (row.candidate ≡ new → ⊥) → set_file (with_candidate new row) files ≡ files → ⊥
   unfolding with_candidate url_of
-  other_candidate new other e = place_other (record row { candidate = new }) row files there (λ is. other (ap (λ (r : CachedFile). r.candidate) is)) e
+  other_candidate new other e = sort_key_other (record row { candidate = new }) row files there (λ is. other (ap (λ (r : CachedFile). r.candidate) is)) e
 
   other_approved : (new : Option (HeldFile × Approval)) → (row.approved ≡ new → ⊥) → set_file (with_approved new row) files ≡ files → ⊥
   unfolding with_approved url_of
-  other_approved new other e = place_other (record row { approved = new }) row files there (λ is. other (ap (λ (r : CachedFile). r.approved) is)) e
+  other_approved new other e = sort_key_other (record row { approved = new }) row files there (λ is. other (ap (λ (r : CachedFile). r.approved) is)) e
 
   candidate_again_told : (fetched : ℕ) (c : HeldFile) → row.candidate ≡ Some c → IsTold files (candidate_again fetched url files row c)
   unfolding candidate_again
@@ -116,7 +116,7 @@ module _ (files : List CachedFile) (ascend : PlacesAscend url_of files) (url : L
       let new : CachedFile = record row { approved = Some (c, a); candidate = None } in
       told_by files (nat_lt most_policy_entries (entry_count (set_file new files))) (Err PolicyFull) (done Approved url (set_file new files))
       (λ _. tt)
-      (λ _. as_other files (set_file new files) Approved url (place_other new row files there (λ is. none-some c (sym (ap (λ (r : CachedFile). r.candidate) is) ∙ e))))
+      (λ _. as_other files (set_file new files) Approved url (sort_key_other new row files there (λ is. none-some c (sym (ap (λ (r : CachedFile). r.candidate) is) ∙ e))))
 
   rejected_other : (c : HeldFile) → row.candidate ≡ Some c → (o : Option (HeldFile × Approval)) → settled url (with_candidate None row) o None files ≡ files → ⊥
   unfolding settled
@@ -144,7 +144,7 @@ module _ (files : List CachedFile) (ascend : PlacesAscend url_of files) (url : L
   approved_cases_told None e = tt
   approved_cases_told (Some a) e = as_other files (settled url (record row { approved = None }) None row.candidate files) Revoked url (revoked_other a e row.candidate)
 
-module _ (files : List CachedFile) (ascend : PlacesAscend url_of files) where
+module _ (files : List CachedFile) (ascend : SortKeysAscend url_of files) where
   import_cases_told : (held : HeldFile) (file : UsageFile) (o : Option CachedFile) → file_at file.url files ≡ o → IsTold files (import_cases held file files o)
   unfolding import_cases file_at url_of new_file
   import_cases_told held file None found =

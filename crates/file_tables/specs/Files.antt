@@ -2,7 +2,7 @@
 use Rattle.std.specs.Prelude.{ℕ, ◌+◌, ◌≤◌, Bool, true, false, not, ◌&&◌, nat_le, IsTrue, is_some, int_lt, List, [], ◌∷◌, length, bytes_eq, Option, Some, None}
 use Rattle.std.specs.List.{AllByRecursion}
 use Rattle.std.specs.Option.{option_map_or}
-use Rattle.sorted_rows.specs.Placed.{row_at, set_row, without_row, PlacesAscend}
+use Rattle.sorted_rows.specs.Sortable.{row_at, set_row, without_row, SortKeysAscend}
 use Rattle.mud_file.specs.declared.usage_file.UsageFile.{UsageFile}
 use Rattle.file_tables.specs.Held.{HeldFile, usage_in}
 use Rattle.file_tables.specs.declared.approval.Approval.{Approval}
@@ -111,7 +111,7 @@ abbrev pub IsKeptFile : CachedFile → Type 0
 IsKeptFile row = IsTrue (is_sound_file row)
 
 pub record IsSoundFiles (files : List CachedFile) : Type 0 where
-  pub ascend : PlacesAscend url_of files
+  pub ascend : SortKeysAscend url_of files
   pub each : AllByRecursion IsKeptFile files
   pub few : length files ≤ most_files
   pub entries : entry_count files ≤ most_policy_entries

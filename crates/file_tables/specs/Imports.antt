@@ -7,7 +7,7 @@ use Rattle.file_tables.specs.declared.cached_file.CachedFile.{CachedFile}
 use Rattle.file_tables.specs.Held.{HeldFile}
 use Rattle.file_tables.specs.Files.{file_at}
 use Rattle.file_tables.specs.FileEdits.{fetched_at, approved_at}
-use Rattle.file_tables.specs.FileSteps.{FilesAfter}
+use Rattle.file_tables.specs.FileCommands.{FilesAfter}
 
 abbrev pub has_octets : List ℕ → HeldFile → Bool
 has_octets octets held = bytes_eq octets held.octets

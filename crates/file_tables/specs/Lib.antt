@@ -2,7 +2,7 @@ pub mod FaultNames
 pub mod Held
 pub mod Limits
 pub mod Files
-pub mod FileSteps
+pub mod FileCommands
 pub mod FileEdits
 pub mod Imports
 pub mod Policies

@@ -3,7 +3,7 @@ use crate::approval::Approval;
 use crate::held::Held;
 use mud_base::octets_order;
 use mud_url::MudUrl;
-use sorted_rows::{KeyOf, Placed};
+use sorted_rows::{KeyOf, Sortable};
 use std::cmp::Ordering;
 
 /// The files of one URL: at least one of the two.
@@ -17,10 +17,10 @@ pub struct CachedFile {
     pub candidate: Option<Held>,
 }
 
-impl Placed for CachedFile {
+impl Sortable for CachedFile {
     ghost use Rattle.file_tables.specs.Files.{url_of};
 
-    ghost place = { url_of };
+    ghost sort_key = { url_of };
 
     #[tactic(auto, unfolding(crate::specs::Files::url_of))]
     fn order(&self, other: &CachedFile) -> Ordering {
@@ -32,7 +32,7 @@ impl Placed for CachedFile {
 impl KeyOf<CachedFile> for MudUrl {
     ghost use Rattle.file_tables.specs.Files.{url_of};
 
-    ghost place = { λ url. url };
+    ghost sort_key = { λ url. url };
 
     #[tactic(auto, unfolding(crate::specs::Files::url_of))]
     fn order_to(&self, file: &CachedFile) -> Ordering {

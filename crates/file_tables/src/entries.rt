@@ -4,7 +4,7 @@ ghost use Rattle.file_tables.specs.declared.approval.Approval.{Approval as Appro
 ghost use Rattle.file_tables.specs.Limits.{most_policy_entries};
 ghost use Rattle.file_tables.specs.Files as spec;
 ghost use Rattle.file_tables.specs.Files.{file_at, set_file, IsSoundFiles};
-ghost use Rattle.file_tables.specs.FileSteps.{approved_row};
+ghost use Rattle.file_tables.specs.FileCommands.{approved_row};
 
 use crate::cached_file::CachedFile;
 use crate::held::Held;

@@ -7,7 +7,7 @@ ghost use Rattle.file_tables.specs.Imports.{holds_octets, IsSameAgain};
 ghost use Rattle.file_tables.specs.declared.approval.OperatorVerdict.{OperatorVerdict};
 ghost use Rattle.file_tables.specs.declared.cached_file.CachedFile.{CachedFile};
 ghost use Rattle.file_tables.specs.Files.{file_at, is_held, IsSoundFiles};
-ghost use Rattle.file_tables.specs.FileSteps.{TellsChange, import_step, verdict_step, revoke_step};
+ghost use Rattle.file_tables.specs.FileCommands.{TellsChange, import_step, verdict_step, revoke_step};
 
 /// Every step on files keeps them sound.
 pub fn files_stay_sound()

@@ -3,7 +3,7 @@ use acl_model::Ruling;
 use console_bodies::{BodyFault, Member};
 use desk_model::Refusal;
 use dhcp_lldp::HearFault;
-use listing_bodies::{RuledEnd, body_fault_body, due_body, refusal_body, things_body, why_body};
+use listing_bodies::{RuledEndpoint, body_fault_body, due_body, refusal_body, things_body, why_body};
 use mud_base::{Addr, Bytes, End, Listed, Mac};
 use mud_tables::{Thing, ThingFault};
 use mud_url::{MudUrl, UrlFault, mud_url};
@@ -82,7 +82,7 @@ fn refusals_have_their_texts(rt: HostRuntime) -> Result<(), Fail> {
 #[test]
 fn what_decides_is_told(rt: HostRuntime) -> Result<(), Fail> {
     let url = mud_url(b"https://A").map_err(|_| "no URL")?;
-    let end = Some(RuledEnd {
+    let end = Some(RuledEndpoint {
         mac: MAC,
         url: &url,
         ruling: Ruling::DropHeld,

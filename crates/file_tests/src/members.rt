@@ -6,7 +6,7 @@ use std::test::Fail;
 use usage_walk::kinds::{list_where_there, number_at};
 use usage_walk::named::elements_of;
 use usage_walk::others::all_known;
-use usage_walk::path::{at_place, refuse_where, under_name};
+use usage_walk::path::{at_index, refuse_where, under_name};
 use usage_walk::{FileFault, Member, Row, Rule};
 
 /// Asserts that the fault is this rule at this path.
@@ -51,8 +51,8 @@ fn members_are_read(rt: HostRuntime) -> Result<(), Fail> {
 #[test]
 fn paths_are_made(rt: HostRuntime) -> Result<(), Fail> {
     let alloc = rt.alloc();
-    let place = at_place(alloc, b"", 17_000)?;
-    assert_eq!(rt; place.octets(), b"/17000".as_slice());
+    let index = at_index(alloc, b"", 17_000)?;
+    assert_eq!(rt; index.octets(), b"/17000".as_slice());
     let name = under_name(alloc, b"/a", b"~1/")?;
     assert_eq!(rt; name.octets(), b"/a/~01~1".as_slice());
     Ok(())

@@ -1,4 +1,4 @@
--- Two ends have one key, in whichever direction a packet goes between them, and no other two ends have it.
+-- Two endpoints have one key, in whichever direction a packet goes between them, and no other two endpoints have it.
 use Rattle.std.proofs.Common.{◌≡◌, ℕ, Bool, true, false, refl, sym, ap, ◌∙◌, subst}
 use Rattle.std.specs.Ordering.{nat_cmp, bool_cmp, ordering_then, is_eq}
 use Rattle.std.specs.BTreeMap.{is_at}
@@ -79,7 +79,7 @@ at_turned k l =
     (λ e. let P : Key → Type 0 = λ m. is_at (key_cmp k) m ≡ true in subst P (sym (at_same l k e)) (at_itself k))
     (λ e. let P : Key → Type 0 = λ m. is_at (key_cmp l) m ≡ true in subst P (sym (at_same k l e)) (at_itself l))
 
--- ---- Two ends are known by their key
+-- ---- Two endpoints are known by their key
 
 same_addr_from : (a b : Addr) → number_of a ≡ number_of b → is_long a ≡ is_long b → a ≡ b
 unfolding number_of is_long
@@ -95,7 +95,7 @@ key_exact p q e =
     (both_parts p.0 q.0 (same_addr_from p.0.0 q.0.0 (ap (λ k. k.first) e) (ap (λ k. k.first_long) e)) (ap (λ k. k.first_port) e))
     (both_parts p.1 q.1 (same_addr_from p.1.0 q.1.0 (ap (λ k. k.second) e) (ap (λ k. k.second_long) e)) (ap (λ k. k.second_port) e))
 
--- a packet is between two ends exactly where they have its key
+-- a packet is between two endpoints exactly where they have its key
 pub between_at : (a b : Endpoint) (p : Segment) → is_between a b p ≡ is_at (key_cmp (key_of p.source p.destination)) (key_of a b)
 unfolding key_of
 between_at a b p =

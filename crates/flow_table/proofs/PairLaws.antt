@@ -1,4 +1,4 @@
--- Two ends have one order, in whichever direction a packet goes between them.
+-- Two endpoints have one order, in whichever direction a packet goes between them.
 use Rattle.std.proofs.Common.{◌≡◌, ℕ, Bool, true, false, ◌&&◌, ◌||◌, ◌==◌, ◌⊎◌, inl, inr, refl, sym, ap, ◌∙◌, eq-eqb, rules}
 use Rattle.std.specs.Ordering.{nat_cmp, ordering_then, ordering_reverse, match_ordering}
 use Rattle.std.specs.declared.cmp.Ordering.{Ordering}
@@ -10,10 +10,10 @@ use Rattle.mud_base.specs.declared.addr.Addr.{Addr}
 use Rattle.mud_base.specs.declared.addr.Addr.TheVariants.{V4, V6}
 use Rattle.mud_base.specs.contracts.addr.AddrOrd.TheImpl as addr_ord
 use Rattle.mud_base.proofs.AddrOrder.{addr_cmp_total, same_from_tie}
-use Rattle.mud_tables.specs.History.{Endpoint, same_end, is_between}
+use Rattle.mud_tables.specs.History.{Endpoint, same_endpoint, is_between}
 use Rattle.mud_tables.specs.declared.segment.Segment.{Segment}
 use Rattle.mud_tables.proofs.RowSets.{same_addr_exact, same_addr_itself}
-use Rattle.flow_table.specs.Pairs.{Pair, end_cmp, pair_of}
+use Rattle.flow_table.specs.Pairs.{Pair, endpoint_cmp, pair_of}
 
 derived : (a b : Addr) → (addr_ord.ghosts).cmp a b ≡ addr_cmp a b
 unfolding addr_cmp
@@ -22,8 +22,8 @@ derived (V4 n) (V6 k) = refl
 derived (V6 n) (V4 k) = refl
 derived (V6 n) (V6 k) = refl
 
-end_by : (a b : Endpoint) → end_cmp a b ≡ ordering_then (addr_cmp a.0 b.0) (nat_cmp a.1 b.1)
-end_by a b = ap (λ o. ordering_then o (nat_cmp a.1 b.1)) (derived a.0 b.0)
+endpoint_by : (a b : Endpoint) → endpoint_cmp a b ≡ ordering_then (addr_cmp a.0 b.0) (nat_cmp a.1 b.1)
+endpoint_by a b = ap (λ o. ordering_then o (nat_cmp a.1 b.1)) (derived a.0 b.0)
 
 pub then_equal : (o r : Ordering) → ordering_then o r ≡ Equal → (o ≡ Equal) × (r ≡ Equal)
 then_equal Less r e = cc
@@ -38,27 +38,27 @@ then_reverse o r Greater q e f = rw e refl
 pub both_parts : {A B : Type 0} (a b : A × B) → a.0 ≡ b.0 → a.1 ≡ b.1 → a ≡ b
 both_parts a b e f = λ i. (e i, f i)
 
--- two ends as they stand
+-- two endpoints as they stand
 abbrev in_order : Endpoint → Endpoint → Pair
 in_order a b = (a, b)
 
-end_tie : (a b : Endpoint) → end_cmp a b ≡ Equal → a ≡ b
-end_tie a b e =
-    let both = then_equal (addr_cmp a.0 b.0) (nat_cmp a.1 b.1) (sym (end_by a b) ∙ e) in
+endpoint_tie : (a b : Endpoint) → endpoint_cmp a b ≡ Equal → a ≡ b
+endpoint_tie a b e =
+    let both = then_equal (addr_cmp a.0 b.0) (nat_cmp a.1 b.1) (sym (endpoint_by a b) ∙ e) in
     both_parts a b (same_from_tie a.0 b.0 both.0) (ranked a.1 b.1 Equal (sym both.1))
 
-end_itself : (a : Endpoint) → end_cmp a a ≡ Equal
-end_itself a = end_by a a ∙ ap (λ o. ordering_then o (nat_cmp a.1 a.1)) (tied_itself addr_cmp_total a.0) ∙ tied_itself nat_cmp_total a.1
+endpoint_itself : (a : Endpoint) → endpoint_cmp a a ≡ Equal
+endpoint_itself a = endpoint_by a a ∙ ap (λ o. ordering_then o (nat_cmp a.1 a.1)) (tied_itself addr_cmp_total a.0) ∙ tied_itself nat_cmp_total a.1
 
-end_reverse : (a b : Endpoint) → end_cmp a b ≡ ordering_reverse (end_cmp b a)
-end_reverse a b =
-    end_by a b ∙ then_reverse (addr_cmp a.0 b.0) (nat_cmp a.1 b.1) (addr_cmp b.0 a.0) (nat_cmp b.1 a.1) (addr_cmp_total.antisymm a.0 b.0) (nat_cmp_total.antisymm a.1 b.1) ∙ ap ordering_reverse (sym (end_by b a))
+endpoint_reverse : (a b : Endpoint) → endpoint_cmp a b ≡ ordering_reverse (endpoint_cmp b a)
+endpoint_reverse a b =
+    endpoint_by a b ∙ then_reverse (addr_cmp a.0 b.0) (nat_cmp a.1 b.1) (addr_cmp b.0 a.0) (nat_cmp b.1 a.1) (addr_cmp_total.antisymm a.0 b.0) (nat_cmp_total.antisymm a.1 b.1) ∙ ap ordering_reverse (sym (endpoint_by b a))
 
--- ---- Two ends in their order
+-- ---- Two endpoints in their order
 
 pair_either : (a b : Endpoint) → (pair_of a b ≡ (in_order a b)) ⊎ (pair_of a b ≡ (in_order b a))
 unfolding pair_of
-pair_either a b = by (end_cmp a b)
+pair_either a b = by (endpoint_cmp a b)
   where
     by : (o : Ordering) → (match_ordering o (in_order a b) (in_order a b) (in_order b a) ≡ (in_order a b)) ⊎ (match_ordering o (in_order a b) (in_order a b) (in_order b a) ≡ (in_order b a))
     by Less = inl refl
@@ -67,7 +67,7 @@ pair_either a b = by (end_cmp a b)
 
 pub pair_turned : (a b : Endpoint) → pair_of a b ≡ pair_of b a
 unfolding pair_of
-pair_turned a b = by (end_cmp a b) (end_cmp b a) (end_reverse a b) (end_tie a b)
+pair_turned a b = by (endpoint_cmp a b) (endpoint_cmp b a) (endpoint_reverse a b) (endpoint_tie a b)
   where
     by : (o p : Ordering) → o ≡ ordering_reverse p → (o ≡ Equal → a ≡ b) → match_ordering o (in_order a b) (in_order a b) (in_order b a) ≡ match_ordering p (in_order b a) (in_order b a) (in_order a b)
     by Less Less e f = cc
@@ -80,34 +80,34 @@ pair_turned a b = by (end_cmp a b) (end_cmp b a) (end_reverse a b) (end_tie a b)
     by Greater Equal e f = cc
     by Greater Greater e f = cc
 
-same_end_is : (a b : Endpoint) → same_end a b ≡ true → a ≡ b
-unfolding same_end
-same_end_is a b e =
+same_endpoint_is : (a b : Endpoint) → same_endpoint a b ≡ true → a ≡ b
+unfolding same_endpoint
+same_endpoint_is a b e =
     let both = and_parts (same_addr a.0 b.0) (a.1 == b.1) e in
     both_parts a b (same_addr_exact a.0 b.0 both.0) (number a.1 b.1 both.1)
   where
     number : (n k : ℕ) → (n == k) ≡ true → n ≡ k
     number n k e = search rules
 
-end_same : (a b : Endpoint) → a ≡ b → same_end a b ≡ true
-unfolding same_end
-end_same a b e = ap (λ c. same_addr a.0 c.0 && a.1 == c.1) (sym e) ∙ ap (λ c. c && a.1 == a.1) (same_addr_itself a.0) ∙ eq-eqb a.1 a.1 refl
+endpoint_same : (a b : Endpoint) → a ≡ b → same_endpoint a b ≡ true
+unfolding same_endpoint
+endpoint_same a b e = ap (λ c. same_addr a.0 c.0 && a.1 == c.1) (sym e) ∙ ap (λ c. c && a.1 == a.1) (same_addr_itself a.0) ∙ eq-eqb a.1 a.1 refl
 
 pub between_same : (a b : Endpoint) (p : Segment) → is_between a b p ≡ true → pair_of p.source p.destination ≡ pair_of a b
 unfolding is_between
-between_same a b p e = by (or_cases (same_end p.source a && same_end p.destination b) (same_end p.source b && same_end p.destination a) e)
+between_same a b p e = by (or_cases (same_endpoint p.source a && same_endpoint p.destination b) (same_endpoint p.source b && same_endpoint p.destination a) e)
   where
-    by : ((same_end p.source a && same_end p.destination b) ≡ true) ⊎ ((same_end p.source b && same_end p.destination a) ≡ true) → pair_of p.source p.destination ≡ pair_of a b
-    by (inl h) = let both = and_parts (same_end p.source a) (same_end p.destination b) h in let s : p.source ≡ a = same_end_is p.source a both.0 in let d : p.destination ≡ b = same_end_is p.destination b both.1 in cc
-    by (inr h) = let both = and_parts (same_end p.source b) (same_end p.destination a) h in let s : p.source ≡ b = same_end_is p.source b both.0 in let d : p.destination ≡ a = same_end_is p.destination a both.1 in let t : pair_of b a ≡ pair_of a b = pair_turned b a in cc
+    by : ((same_endpoint p.source a && same_endpoint p.destination b) ≡ true) ⊎ ((same_endpoint p.source b && same_endpoint p.destination a) ≡ true) → pair_of p.source p.destination ≡ pair_of a b
+    by (inl h) = let both = and_parts (same_endpoint p.source a) (same_endpoint p.destination b) h in let s : p.source ≡ a = same_endpoint_is p.source a both.0 in let d : p.destination ≡ b = same_endpoint_is p.destination b both.1 in cc
+    by (inr h) = let both = and_parts (same_endpoint p.source b) (same_endpoint p.destination a) h in let s : p.source ≡ b = same_endpoint_is p.source b both.0 in let d : p.destination ≡ a = same_endpoint_is p.destination a both.1 in let t : pair_of b a ≡ pair_of a b = pair_turned b a in cc
 
 straight : (a b : Endpoint) (p : Segment) → p.source ≡ a → p.destination ≡ b → is_between a b p ≡ true
 unfolding is_between
-straight a b p s d = ap (λ c. (c && same_end p.destination b) || (same_end p.source b && same_end p.destination a)) (end_same p.source a s) ∙ ap (λ c. c || (same_end p.source b && same_end p.destination a)) (end_same p.destination b d)
+straight a b p s d = ap (λ c. (c && same_endpoint p.destination b) || (same_endpoint p.source b && same_endpoint p.destination a)) (endpoint_same p.source a s) ∙ ap (λ c. c || (same_endpoint p.source b && same_endpoint p.destination a)) (endpoint_same p.destination b d)
 
 turned : (a b : Endpoint) (p : Segment) → p.source ≡ b → p.destination ≡ a → is_between a b p ≡ true
 unfolding is_between
-turned a b p s d = ap (λ c. (same_end p.source a && same_end p.destination b) || (c && same_end p.destination a)) (end_same p.source b s) ∙ ap (λ c. (same_end p.source a && same_end p.destination b) || c) (end_same p.destination a d) ∙ or_last (same_end p.source a && same_end p.destination b)
+turned a b p s d = ap (λ c. (same_endpoint p.source a && same_endpoint p.destination b) || (c && same_endpoint p.destination a)) (endpoint_same p.source b s) ∙ ap (λ c. (same_endpoint p.source a && same_endpoint p.destination b) || c) (endpoint_same p.destination a d) ∙ or_last (same_endpoint p.source a && same_endpoint p.destination b)
   where
     or_last : (c : Bool) → (c || true) ≡ true
     or_last true = refl

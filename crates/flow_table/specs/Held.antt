@@ -1,4 +1,4 @@
--- What a table of connections holds: two generations of places, and what it keeps by them.
+-- What a table of connections holds: two generations of slots, and what it keeps by them.
 use Rattle.std.specs.Prelude.{◌≡◌, ℕ, ◌≤◌, Bool, false, List, ◌∷◌, Option, Some, None}
 use Rattle.std.specs.Map.{lookup}
 use Rattle.std.specs.BTreeMap.{is_at}
@@ -8,7 +8,7 @@ use Rattle.flow_table.specs.Kept.{Flows, kept_after}
 use Rattle.flow_table.specs.Keys.{Key, key_cmp, key_of}
 
 -- The moment of the last packet, the moment at which the younger generation was begun, whether memory for one connection
--- more is ready, and the places of both generations.
+-- more is ready, and the slots of both generations.
 pub record Held : Type 0 where
   pub last : Option ℕ
   pub since : ℕ
@@ -16,26 +16,26 @@ pub record Held : Type 0 where
   pub younger : List (Key × Option Begun)
   pub elder : List (Key × Option Begun)
 
--- the places of a generation, with the one that stands apart, if there is one
+-- the slots of a generation, with the one that stands apart, if there is one
 unfoldable pub with_newest : Option (Key × Option Begun) → List (Key × Option Begun) → List (Key × Option Begun)
-with_newest None places = places
-with_newest (Some newest) places = newest ∷ places
+with_newest None slots = slots
+with_newest (Some newest) slots = newest ∷ slots
 
--- the place of a key in a generation
-unfoldable pub place_at : List (Key × Option Begun) → Key → Option (Option Begun)
-place_at places key = lookup (is_at (key_cmp key)) places
+-- the slot of a key in a generation
+unfoldable pub slot_at : List (Key × Option Begun) → Key → Option (Option Begun)
+slot_at slots key = lookup (is_at (key_cmp key)) slots
 
 unfoldable pub filled : Option (Option Begun) → Option Begun
 filled None = None
 filled (Some begun) = begun
 
--- what the place in the younger generation has, else that in the elder one
-unfoldable pub place_first : Option (Option Begun) → Option (Option Begun) → Option Begun
-place_first (Some begun) elder = begun
-place_first None elder = filled elder
+-- what the slot in the younger generation has, else that in the elder one
+unfoldable pub slot_first : Option (Option Begun) → Option (Option Begun) → Option Begun
+slot_first (Some begun) elder = begun
+slot_first None elder = filled elder
 
 unfoldable pub held_at : Held → Key → Option Begun
-held_at held key = place_first (place_at held.younger key) (place_at held.elder key)
+held_at held key = slot_first (slot_at held.younger key) (slot_at held.elder key)
 
 unfoldable pub held_between : Held → Endpoint → Endpoint → Option Begun
 held_between held a b = held_at held (key_of a b)
@@ -51,11 +51,11 @@ IsNoted (Some last) at = at ≤ last
 -- Nothing in the elder generation is later than the beginning of the younger one, and nothing is later than the last
 -- packet.
 pub record IsSound (held : Held) : Type 0 where
-  pub elder : (key : Key) (begun : Begun) → place_at held.elder key ≡ Some (Some begun) → begun.1 ≤ held.since
-  pub noted : (key : Key) (begun : Begun) → place_at held.elder key ≡ Some (Some begun) → IsNoted held.last begun.1
-  pub younger : (key : Key) (begun : Begun) → place_at held.younger key ≡ Some (Some begun) → IsNoted held.last begun.1
+  pub elder : (key : Key) (begun : Begun) → slot_at held.elder key ≡ Some (Some begun) → begun.1 ≤ held.since
+  pub noted : (key : Key) (begun : Begun) → slot_at held.elder key ≡ Some (Some begun) → IsNoted held.last begun.1
+  pub younger : (key : Key) (begun : Begun) → slot_at held.younger key ≡ Some (Some begun) → IsNoted held.last begun.1
 
--- the place of this key has what is kept after the packet, and each other place stays
+-- the slot of this key has what is kept after the packet, and each other slot stays
 pub record IsWritten (key : Key) (p : Segment) (before : List (Key × Option Begun)) (after : List (Key × Option Begun)) : Type 0 where
-  pub here : (begun : Option Begun) → place_at before key ≡ Some begun → place_at after key ≡ Some (kept_after p begun)
-  pub others : (other : Key) → is_at (key_cmp key) other ≡ false → place_at after other ≡ place_at before other
+  pub here : (begun : Option Begun) → slot_at before key ≡ Some begun → slot_at after key ≡ Some (kept_after p begun)
+  pub others : (other : Key) → is_at (key_cmp key) other ≡ false → slot_at after other ≡ slot_at before other

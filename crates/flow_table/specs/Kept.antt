@@ -17,7 +17,7 @@ unfoldable pub beginner_kept : Option Begun → ℕ → Option Endpoint
 beginner_kept None now = None
 beginner_kept (Some begun) now = if nat_le (now - begun.1) most_pause then Some begun.0 else None
 
--- what is kept of two ends after a packet between them
+-- what is kept of two endpoints after a packet between them
 unfoldable pub kept_after : Segment → Option Begun → Option Begun
 kept_after p kept =
     if opens p then Some (p.source, p.at)

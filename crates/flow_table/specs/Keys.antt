@@ -1,4 +1,5 @@
--- What two ends are looked for by: one key for both directions of a connection, and another one for each other pair.
+-- What two endpoints are looked for by: one key for both directions of a connection, and another one for each other
+-- pair.
 use Rattle.std.specs.Prelude.{ℕ, ◌+◌, ◌*◌, ◌%◌, ◌^◌, Bool, true, false}
 use Rattle.std.specs.declared.cmp.Ordering.{Ordering}
 use Rattle.mud_base.specs.declared.addr.Addr.{Addr}
@@ -23,16 +24,16 @@ is_long (V6 n) = true
 unfoldable pub last_bits : ℕ → ℕ
 last_bits n = n % 2 ^ 32
 
--- the key of two ends that stand in their order
+-- the key of two endpoints that stand in their order
 unfoldable pub key_in : Pair → Key
-key_in ends = record {
-  near = last_bits (number_of ends.0.0) * 2 ^ 32 + last_bits (number_of ends.1.0);
-  first_port = ends.0.1;
-  second_port = ends.1.1;
-  first_long = is_long ends.0.0;
-  second_long = is_long ends.1.0;
-  first = number_of ends.0.0;
-  second = number_of ends.1.0;
+key_in endpoints = record {
+  near = last_bits (number_of endpoints.0.0) * 2 ^ 32 + last_bits (number_of endpoints.1.0);
+  first_port = endpoints.0.1;
+  second_port = endpoints.1.1;
+  first_long = is_long endpoints.0.0;
+  second_long = is_long endpoints.1.0;
+  first = number_of endpoints.0.0;
+  second = number_of endpoints.1.0;
 }
 
 unfoldable pub key_of : Endpoint → Endpoint → Key

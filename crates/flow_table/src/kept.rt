@@ -30,8 +30,8 @@ fn is_kept(at: Moment, now: Moment) -> bool
     now.seconds().saturating_sub(at.seconds()) <= MOST_PAUSE
 }
 
-/// What is kept of two ends after a packet between them: a packet that opens begins the connection
-/// anew, one that resets ends it, and each other one keeps it up.
+/// What is kept of two endpoints after a packet between them: a packet that opens begins the
+/// connection anew, one that resets ends it, and each other one keeps it up.
 #[tactic(auto, unfolding(crate::specs::Kept::kept_after, mud_tables::specs::History::with_moment))]
 pub(crate) fn kept_after(packet: &Segment, kept: Option<Begun>) -> Option<Begun>
     ensures { result ≡ spec.kept_after packet.now kept }

@@ -1,7 +1,7 @@
-//! What the two ends of a connection are looked for by.
+//! What the two endpoints of a connection are looked for by.
 
-/// The two ends of a connection as whole numbers, the lesser end first. Keys are in the order of
-/// their members, and those of two connections mostly differ in the first.
+/// The two endpoints of a connection as whole numbers, the lesser endpoint first. Keys are in the
+/// order of their members, and those of two connections mostly differ in the first.
 #[derive(Clone, Copy, Debug, PartialEq, Eq, PartialOrd, Ord)]
 pub struct Key {
     /// The last 32 bits of the first address, and then those of the second.

@@ -1,4 +1,4 @@
-//! The two ends of a connection.
+//! The two endpoints of a connection.
 ghost use Rattle.std.specs.Prelude.{◌≡◌, ◌<◌, ◌^◌};
 ghost use Rattle.mud_base.specs.declared.addr.Addr.{Addr as AddrValue};
 ghost use Rattle.flow_table.specs.Pairs as spec;
@@ -9,10 +9,10 @@ use mud_base::Addr;
 use mud_tables::Endpoint;
 use std::cmp::Ordering;
 
-/// Two ends in one order: by address, and then by port.
+/// Two endpoints in one order: by address, and then by port.
 pub type Pair = (Endpoint, Endpoint);
 
-/// The two ends in one order, whichever of them sends.
+/// The two endpoints in one order, whichever of them sends.
 #[tactic(auto, unfolding(crate::specs::Pairs::pair_of))]
 fn pair_of(a: Endpoint, b: Endpoint) -> Pair
     ensures { result ≡ spec.pair_of a b }
@@ -55,7 +55,7 @@ fn last_bits(number: u128) -> u64
     (number % 0x1_0000_0000) as u64
 }
 
-/// The key of two ends that stand in their order.
+/// The endpoints of two ends that stand in their order.
 #[tactic(auto, unfolding(crate::specs::Keys::key_in))]
 fn key_in(one: Endpoint, other: Endpoint) -> Key
     ensures { result ≡ keys.key_in (one, other) }

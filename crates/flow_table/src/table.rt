@@ -4,7 +4,7 @@ ghost use Rattle.mud_tables.specs.History as history;
 ghost use Rattle.mud_tables.specs.History.{StandsFor};
 ghost use Rattle.mud_tables.specs.declared.segment.Segment.{Segment as SegmentValue};
 ghost use Rattle.flow_table.specs.Kept.{HasNoted, is_since, begun_kept};
-ghost use Rattle.flow_table.specs.Held.{held_at, place_at, place_first, filled, with_newest, flows_of, IsWritten};
+ghost use Rattle.flow_table.specs.Held.{held_at, slot_at, slot_first, filled, with_newest, flows_of, IsWritten};
 ghost use Rattle.flow_table.specs.Planned.{segment_planned, IsPlanned};
 
 use crate::kept::{Begun, beginner_kept, keep_up, kept_after};
@@ -26,20 +26,20 @@ mod tests;
 /// The connections that forwarded TCP packets made. Each is kept until its last packet is more than
 /// [`MOST_PAUSE`] seconds ago at least, and so it answers as the list of all these packets does.
 ///
-/// A connection that is new stands apart until the next packet is planned: its place is made then,
-/// which may take memory, so that a packet is noted without looking first whether it has a place.
+/// A connection that is new stands apart until the next packet is planned: its slot is made then,
+/// which may take memory, so that a packet is noted without looking first whether it has a slot.
 ///
 /// Connections stand in two generations. Where a packet is noted more than [`MOST_PAUSE`] seconds
-/// after the younger one was begun, the elder one goes as a whole and the younger one becomes it. So
-/// the table holds no more than the connections of some four hours, however long it is used, and a
-/// packet costs no more for it.
+/// after the younger one was begun, the elder one goes as a whole and the younger one becomes it.
+/// So the table holds no more than the connections of some four hours, however long it is used, and
+/// a packet costs no more for it.
 pub struct FlowTable {
     alloc: Global,
     /// The moment of the last packet that was noted.
     last: Option<Moment>,
     /// The moment at which the younger generation was begun, in seconds since 1970.
     since: u64,
-    /// The connection of the last packet, where the younger generation has no place for it yet.
+    /// The connection of the last packet, where the younger generation has no slot for it yet.
     newest: Option<(Key, Option<Begun>)>,
     younger: BTreeMap<Key, Option<Begun>>,
     elder: BTreeMap<Key, Option<Begun>>,
@@ -102,8 +102,8 @@ impl FlowTable {
         }
     }
 
-    /// What is kept of two ends: what stands apart or the younger generation has, and else the elder
-    /// one.
+    /// What is kept of two endpoints: what stands apart or the younger generation has, and else the
+    /// elder one.
     fn held(&self, key: &Key) -> Option<Begun>
         ensures { result ≡ held_at self.now key.now }
     {
@@ -114,8 +114,8 @@ impl FlowTable {
     }
 
     /// Who began the connection of a packet at a moment that isn't before the last one, as the
-    /// Thing on this side of it sees it (RFC 8520, 4.8): `From` where its own end did. None where
-    /// nobody is known to have, and for what isn't TCP.
+    /// Thing on this side of it sees it (RFC 8520, 4.8): `From` where its own endpoint did. None
+    /// where nobody is known to have, and for what isn't TCP.
     pub fn begun(&self, side: Direction, fields: &Fields, now: Moment) -> Option<Direction>
         requires { IsTrue (is_since (flows_of self.now).last now) }
         ensures kept { result ≡ begun_kept (flows_of self.now) side fields.now now }
@@ -142,8 +142,8 @@ impl FlowTable {
         }
     }
 
-    /// Takes the memory that a TCP packet needs, which will have been forwarded at this moment. What
-    /// the table means stays, also where there is no memory.
+    /// Takes the memory that a TCP packet needs, which will have been forwarded at this moment.
+    /// What the table means stays, also where there is no memory.
     pub fn plan(&mut self, fields: &Fields, now: Moment) -> Result<FlowPlan, Memory>
         requires since { IsTrue (is_since (flows_of self.old).last now) }
         requires tcp { IsSome (history.segment_of fields.now now) }
@@ -159,8 +159,8 @@ impl FlowTable {
         Ok(FlowPlan { packet })
     }
 
-    /// Makes the place of the connection that stands apart, if there is one, so that there is room for
-    /// another one.
+    /// Makes the slot of the connection that stands apart, if there is one, so that there is room
+    /// for another one.
     fn make_room(&mut self) -> Result<(), Memory>
         ensures same { flows_of self.new ≡ flows_of self.old }
         ensures room { OnOk result (IsTrue self.new.has_room) }
@@ -189,7 +189,7 @@ impl FlowTable {
             self.since = now;
             let begun = kept_after(&packet, kept);
             self.newest = Some((key, begun));
-        } else if !write_place(&mut self.younger, &key, &packet) {
+        } else if !write_slot(&mut self.younger, &key, &packet) {
             let before = kept_in(&self.elder, &key);
             let noted = kept_after(&packet, before);
             self.newest = Some((key, noted));
@@ -197,13 +197,13 @@ impl FlowTable {
     }
 }
 
-/// What stands apart, where it is of these two ends.
-#[tactic(auto, unfolding(crate::specs::Held::place_at, crate::specs::Held::with_newest))]
+/// What stands apart, where it is of these two endpoints.
+#[tactic(auto, unfolding(crate::specs::Held::slot_at, crate::specs::Held::with_newest))]
 fn apart(newest: &Option<(Key, Option<Begun>)>, key: &Key) -> Option<Option<Begun>>
-    ensures { result ≡ place_at (with_newest newest.now []) key.now }
+    ensures { result ≡ slot_at (with_newest newest.now []) key.now }
 {
     match newest {
-        Some((ends, begun)) => match key.cmp(ends) {
+        Some((endpoints, begun)) => match key.cmp(endpoints) {
             Ordering::Equal => Some(*begun),
             _ => None,
         },
@@ -211,13 +211,13 @@ fn apart(newest: &Option<(Key, Option<Begun>)>, key: &Key) -> Option<Option<Begu
     }
 }
 
-/// What two generations have of two ends: what the younger one has, and else the elder one.
+/// What two generations have of two endpoints: what the younger one has, and else the elder one.
 fn kept_first(
     younger: &BTreeMap<Key, Option<Begun>>,
     elder: &BTreeMap<Key, Option<Begun>>,
     key: &Key,
 ) -> Option<Begun>
-    ensures { result ≡ place_first (place_at younger.now.entries key.now) (place_at elder.now.entries key.now) }
+    ensures { result ≡ slot_first (slot_at younger.now.entries key.now) (slot_at elder.now.entries key.now) }
 {
     match younger.get(key) {
         Some(begun) => *begun,
@@ -225,26 +225,27 @@ fn kept_first(
     }
 }
 
-/// What a generation has of two ends.
-fn kept_in(places: &BTreeMap<Key, Option<Begun>>, key: &Key) -> Option<Begun>
-    ensures { result ≡ filled (place_at places.now.entries key.now) }
+/// What a generation has of two endpoints.
+fn kept_in(slots: &BTreeMap<Key, Option<Begun>>, key: &Key) -> Option<Begun>
+    ensures { result ≡ filled (slot_at slots.now.entries key.now) }
 {
-    match places.get(key) {
+    match slots.get(key) {
         Some(begun) => *begun,
         None => None,
     }
 }
 
-/// Writes what is kept after a packet into the place of its ends, and answers whether there is one.
-fn write_place(places: &mut BTreeMap<Key, Option<Begun>>, key: &Key, packet: &Segment) -> bool
-    ensures there { result ≡ true → IsSome (place_at places.old.entries key.now) }
-    ensures written { result ≡ true → IsWritten key.now packet.now places.old.entries places.new.entries }
-    ensures absent { result ≡ false → place_at places.old.entries key.now ≡ None }
-    ensures same { result ≡ false → places.new.entries ≡ places.old.entries }
+/// Writes what is kept after a packet into the slot of its endpoints, and answers whether there is
+/// one.
+fn write_slot(slots: &mut BTreeMap<Key, Option<Begun>>, key: &Key, packet: &Segment) -> bool
+    ensures there { result ≡ true → IsSome (slot_at slots.old.entries key.now) }
+    ensures written { result ≡ true → IsWritten key.now packet.now slots.old.entries slots.new.entries }
+    ensures absent { result ≡ false → slot_at slots.old.entries key.now ≡ None }
+    ensures same { result ≡ false → slots.new.entries ≡ slots.old.entries }
 {
-    match places.get_mut(key) {
-        Some(place) => {
-            keep_up(place, packet);
+    match slots.get_mut(key) {
+        Some(slot) => {
+            keep_up(slot, packet);
             true
         }
         None => false,

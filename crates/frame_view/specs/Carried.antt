@@ -1,6 +1,6 @@
 -- What an Ethernet frame carries, by the type and the tags in front of it.
 use Rattle.std.specs.Prelude.{ℕ, Bool, ◌&&◌, ◌||◌, ◌==◌, nat_le, nat_lt, List, [], length, drop, Option, Some, None, Result, Ok, Err, if◌then◌else◌}
-use Rattle.mud_base.specs.Ethernet.{type_place}
+use Rattle.mud_base.specs.Ethernet.{type_offset}
 use Rattle.mud_base.specs.Numbers.{big_16}
 use Rattle.frame_view.specs.declared.views.Part.{Part}
 use Rattle.frame_view.specs.declared.views.Part.TheVariants as part
@@ -48,4 +48,4 @@ payload_in (Err part) = []
 
 -- what a datagram of UDP in the frame holds, and nothing where it carries none
 unfoldable pub payload_of : List ℕ → List ℕ
-payload_of frame = payload_in (carried (drop type_place frame))
+payload_of frame = payload_in (carried (drop type_offset frame))

@@ -1,11 +1,11 @@
 -- The hardware addresses of an Ethernet frame (IEEE 802.3).
 use Rattle.std.specs.Prelude.{ℕ, List}
 use Rattle.mud_base.specs.declared.addr.Mac.{Mac}
-use Rattle.mud_base.specs.Ethernet.{destination_place, source_place}
-use Rattle.mud_base.specs.Places.{mac_at}
+use Rattle.mud_base.specs.Ethernet.{destination_offset, source_offset}
+use Rattle.mud_base.specs.Offsets.{mac_at}
 
 unfoldable pub destination_of : List ℕ → Mac
-destination_of frame = mac_at destination_place frame
+destination_of frame = mac_at destination_offset frame
 
 unfoldable pub source_of : List ℕ → Mac
-source_of frame = mac_at source_place frame
+source_of frame = mac_at source_offset frame

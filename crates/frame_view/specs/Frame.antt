@@ -1,6 +1,6 @@
 -- What the headers of an Ethernet frame say.
 use Rattle.std.specs.Prelude.{ℕ, nat_lt, List, length, drop, Option, Some, None, Result, Ok, Err, if◌then◌else◌}
-use Rattle.mud_base.specs.Ethernet.{type_place, head_len}
+use Rattle.mud_base.specs.Ethernet.{type_offset, head_len}
 use Rattle.frame_view.specs.declared.views.Part.{Part}
 use Rattle.frame_view.specs.declared.views.Part.TheVariants as part
 use Rattle.frame_view.specs.declared.views.Frame.{Frame}
@@ -16,4 +16,4 @@ answered frame (Err part) = Unreadable (Some frame) part
 -- What a frame is. Its head is that of Ethernet, whose type is the first one that is looked at (IEEE 802.3).
 unfoldable pub frame_of : List ℕ → Frame
 frame_of frame =
-    if nat_lt (length frame) head_len then (Unreadable None part.Ethernet) else (answered frame (carried (drop type_place frame)))
+    if nat_lt (length frame) head_len then (Unreadable None part.Ethernet) else (answered frame (carried (drop type_offset frame)))

@@ -13,31 +13,31 @@ use Rattle.frame_view.specs.Traffic.{codepoint, congestion}
 use Rattle.frame_view.specs.PacketFrame.{Contents}
 use Rattle.frame_view.specs.Upper.{transport_of, payload_of}
 
--- The places of the fields of the header. The version is the upper half of the first octet, the header's length the lower half.
-abbrev pub version_and_length_place : ℕ
-version_and_length_place = 0
+-- The offsets of the fields of the header. The version is the upper half of the first octet, the header's length the lower half.
+abbrev pub version_and_length_offset : ℕ
+version_and_length_offset = 0
 
-abbrev pub type_of_service_place : ℕ
-type_of_service_place = 1
+abbrev pub type_of_service_offset : ℕ
+type_of_service_offset = 1
 
-abbrev pub total_length_place : ℕ
-total_length_place = 2
+abbrev pub total_length_offset : ℕ
+total_length_offset = 2
 
 -- three bits of flags, and thirteen of the offset
-abbrev pub fragment_offset_place : ℕ
-fragment_offset_place = 6
+abbrev pub fragment_field_offset : ℕ
+fragment_field_offset = 6
 
-abbrev pub time_to_live_place : ℕ
-time_to_live_place = 8
+abbrev pub time_to_live_offset : ℕ
+time_to_live_offset = 8
 
-abbrev pub protocol_place : ℕ
-protocol_place = 9
+abbrev pub protocol_offset : ℕ
+protocol_offset = 9
 
-abbrev pub source_place : ℕ
-source_place = 12
+abbrev pub source_offset : ℕ
+source_offset = 12
 
-abbrev pub destination_place : ℕ
-destination_place = 16
+abbrev pub destination_offset : ℕ
+destination_offset = 16
 
 -- how many octets the header has at least
 abbrev pub least_header : ℕ
@@ -45,20 +45,20 @@ least_header = 20
 
 -- how many octets the header has: its length counts words of four octets
 unfoldable pub header_len : List ℕ → ℕ
-header_len packet = slice_index packet version_and_length_place % 16 * 4
+header_len packet = slice_index packet version_and_length_offset % 16 * 4
 
 -- what counts: up to the end that the total length names, or the frame's end where that is first
 unfoldable pub counted : List ℕ → List ℕ
-counted packet = take (big_16 total_length_place packet) packet
+counted packet = take (big_16 total_length_offset packet) packet
 
 -- version 4, and a header of at least five words, all of it among what counts
 unfoldable pub has_header : List ℕ → Bool
 has_header packet =
-    slice_index packet version_and_length_place / 16 == 4 && nat_le least_header (header_len packet) && nat_le (header_len packet) (length (counted packet))
+    slice_index packet version_and_length_offset / 16 == 4 && nat_le least_header (header_len packet) && nat_le (header_len packet) (length (counted packet))
 
 -- the fragment offset isn't 0
 unfoldable pub is_later_fragment : List ℕ → Bool
-is_later_fragment packet = not (big_16 fragment_offset_place packet % 8192 == 0)
+is_later_fragment packet = not (big_16 fragment_field_offset packet % 8192 == 0)
 
 -- what counts behind the header
 abbrev pub upper_octets : List ℕ → List ℕ
@@ -68,17 +68,17 @@ upper_octets packet = drop (header_len packet) (counted packet)
 unfoldable pub transport_in : List ℕ → Result Transport Part
 transport_in packet =
     if is_later_fragment packet then (Ok Absent)
-    else (transport_of 1 (slice_index packet protocol_place) (upper_octets packet))
+    else (transport_of 1 (slice_index packet protocol_offset) (upper_octets packet))
 
 abbrev pub fields_with : List ℕ → Transport → Fields
 fields_with packet transport = record {
-  src = V4 (big_32 source_place packet);
-  dst = V4 (big_32 destination_place packet);
-  protocol = slice_index packet protocol_place;
-  dscp = codepoint (slice_index packet type_of_service_place);
-  ecn = congestion (slice_index packet type_of_service_place);
-  length = big_16 total_length_place packet;
-  ttl = slice_index packet time_to_live_place;
+  src = V4 (big_32 source_offset packet);
+  dst = V4 (big_32 destination_offset packet);
+  protocol = slice_index packet protocol_offset;
+  dscp = codepoint (slice_index packet type_of_service_offset);
+  ecn = congestion (slice_index packet type_of_service_offset);
+  length = big_16 total_length_offset packet;
+  ttl = slice_index packet time_to_live_offset;
   transport = transport;
 }
 

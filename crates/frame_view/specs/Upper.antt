@@ -12,32 +12,32 @@ pub record Upper : Type 0 where
   pub transport : Transport
   pub payload : List ℕ
 
--- The places of the fields that are read: in the headers of TCP and UDP (RFC 9293, 3.1; RFC 768),
-abbrev pub source_port_place : ℕ
-source_port_place = 0
+-- The offsets of the fields that are read: in the headers of TCP and UDP (RFC 9293, 3.1; RFC 768),
+abbrev pub source_port_offset : ℕ
+source_port_offset = 0
 
-abbrev pub destination_port_place : ℕ
-destination_port_place = 2
+abbrev pub destination_port_offset : ℕ
+destination_port_offset = 2
 
 -- of TCP alone, where the data offset is the upper half of its octet,
-abbrev pub data_offset_place : ℕ
-data_offset_place = 12
+abbrev pub data_field_offset : ℕ
+data_field_offset = 12
 
-abbrev pub flags_place : ℕ
-flags_place = 13
+abbrev pub flags_offset : ℕ
+flags_offset = 13
 
 -- and in an ICMP message (RFC 792; RFC 4443, 2.1).
-abbrev pub icmp_type_place : ℕ
-icmp_type_place = 0
+abbrev pub icmp_type_offset : ℕ
+icmp_type_offset = 0
 
-abbrev pub icmp_code_place : ℕ
-icmp_code_place = 1
+abbrev pub icmp_code_offset : ℕ
+icmp_code_offset = 1
 
 -- Twenty octets, with a data offset of at least five words (RFC 9293, 3.1). Options aren't looked for.
 unfoldable pub tcp : List ℕ → Result Transport Part
 tcp octets =
-    if nat_le 20 (length octets) && nat_le 5 (slice_index octets data_offset_place / 16)
-    then Ok (Tcp (big_16 source_port_place octets) (big_16 destination_port_place octets) (slice_index octets flags_place))
+    if nat_le 20 (length octets) && nat_le 5 (slice_index octets data_field_offset / 16)
+    then Ok (Tcp (big_16 source_port_offset octets) (big_16 destination_port_offset octets) (slice_index octets flags_offset))
     else Err part.Transport
 
 -- how many octets the header of UDP has (RFC 768)
@@ -48,7 +48,7 @@ udp_len = 8
 unfoldable pub udp : List ℕ → Result Transport Part
 udp octets =
     if nat_le udp_len (length octets)
-    then Ok (Udp (big_16 source_port_place octets) (big_16 destination_port_place octets))
+    then Ok (Udp (big_16 source_port_offset octets) (big_16 destination_port_offset octets))
     else Err part.Transport
 
 -- What a datagram of UDP holds: all that counts behind its header. The length that it names isn't used. Of another transport
@@ -61,7 +61,7 @@ payload_of _ octets = []
 unfoldable pub icmp : List ℕ → Result Transport Part
 icmp octets =
     if nat_le 4 (length octets)
-    then Ok (Icmp (slice_index octets icmp_type_place) (slice_index octets icmp_code_place))
+    then Ok (Icmp (slice_index octets icmp_type_offset) (slice_index octets icmp_code_offset))
     else Err part.Transport
 
 -- By the protocol's number, where ICMP has the number `icmp_number`. Of another protocol nothing is read.

@@ -7,26 +7,26 @@ use crate::upper::{payload_of, transport_of};
 use crate::views::{Contents, Part};
 use mud_base::{Addr, Fields, Transport, big_16, big_32};
 
-// The places of the fields of the header (RFC 791, 3.1).
+// The offsets of the fields of the header (RFC 791, 3.1).
 
 /// Where the version stands, in the upper half of its octet, and the header's length, in the lower
 /// half.
-const VERSION_AND_LENGTH_PLACE: usize = 0;
+const VERSION_AND_LENGTH_OFFSET: usize = 0;
 /// Where the type of service stands.
-const TYPE_OF_SERVICE_PLACE: usize = 1;
+const TYPE_OF_SERVICE_OFFSET: usize = 1;
 /// Where the total length stands.
-const TOTAL_LENGTH_PLACE: usize = 2;
+const TOTAL_LENGTH_OFFSET: usize = 2;
 /// Where the flags stand, in the upper three bits of two octets, and the fragment offset, in the
 /// lower thirteen.
-const FRAGMENT_OFFSET_PLACE: usize = 6;
+const FRAGMENT_FIELD_OFFSET: usize = 6;
 /// Where the time to live stands.
-const TIME_TO_LIVE_PLACE: usize = 8;
+const TIME_TO_LIVE_OFFSET: usize = 8;
 /// Where the protocol stands.
-const PROTOCOL_PLACE: usize = 9;
+const PROTOCOL_OFFSET: usize = 9;
 /// Where the source address stands.
-const SOURCE_PLACE: usize = 12;
+const SOURCE_OFFSET: usize = 12;
 /// Where the destination address stands.
-const DESTINATION_PLACE: usize = 16;
+const DESTINATION_OFFSET: usize = 16;
 /// How many octets the header has at least.
 const LEAST_HEADER: usize = 20;
 
@@ -39,7 +39,7 @@ fn header_len(packet: &[u8]) -> usize
     requires { 20 ≤ length packet.now }
     ensures { result ≡ spec.header_len packet.now }
 {
-    (packet[VERSION_AND_LENGTH_PLACE] % 16) as usize * 4
+    (packet[VERSION_AND_LENGTH_OFFSET] % 16) as usize * 4
 }
 
 /// The octets that count: up to the end that the total length names, or the frame's end.
@@ -48,7 +48,7 @@ fn counted(packet: &[u8]) -> &[u8]
     requires { 20 ≤ length packet.now }
     ensures { result.now ≡ spec.counted packet.now }
 {
-    let total = big_16(packet, TOTAL_LENGTH_PLACE) as usize;
+    let total = big_16(packet, TOTAL_LENGTH_OFFSET) as usize;
     let (counted, _) = packet.split_at(total.min(packet.len()));
     counted
 }
@@ -63,7 +63,7 @@ fn has_header(packet: &[u8]) -> bool
         return false;
     }
     let header = header_len(packet);
-    packet[VERSION_AND_LENGTH_PLACE] / 16 == 4
+    packet[VERSION_AND_LENGTH_OFFSET] / 16 == 4
         && header >= LEAST_HEADER
         && header <= counted(packet).len()
 }
@@ -74,7 +74,7 @@ fn is_later_fragment(packet: &[u8]) -> bool
     requires { 20 ≤ length packet.now }
     ensures { result ≡ spec.is_later_fragment packet.now }
 {
-    big_16(packet, FRAGMENT_OFFSET_PLACE) % 8192 != 0
+    big_16(packet, FRAGMENT_FIELD_OFFSET) % 8192 != 0
 }
 
 /// What counts behind the header.
@@ -98,7 +98,7 @@ fn transport_in(packet: &[u8]) -> Result<Transport, Part>
     if is_later_fragment(packet) {
         return Ok(Transport::Absent);
     }
-    transport_of(ICMP, packet[PROTOCOL_PLACE], upper_octets(packet))
+    transport_of(ICMP, packet[PROTOCOL_OFFSET], upper_octets(packet))
 }
 
 /// What the headers say.
@@ -113,13 +113,13 @@ fn fields_of(packet: &[u8]) -> Result<Fields, Part>
     }
     let transport = transport_in(packet)?;
     Ok(Fields {
-        src: Addr::V4(big_32(packet, SOURCE_PLACE)),
-        dst: Addr::V4(big_32(packet, DESTINATION_PLACE)),
-        protocol: packet[PROTOCOL_PLACE],
-        dscp: codepoint(packet[TYPE_OF_SERVICE_PLACE]),
-        ecn: congestion(packet[TYPE_OF_SERVICE_PLACE]),
-        length: big_16(packet, TOTAL_LENGTH_PLACE),
-        ttl: packet[TIME_TO_LIVE_PLACE],
+        src: Addr::V4(big_32(packet, SOURCE_OFFSET)),
+        dst: Addr::V4(big_32(packet, DESTINATION_OFFSET)),
+        protocol: packet[PROTOCOL_OFFSET],
+        dscp: codepoint(packet[TYPE_OF_SERVICE_OFFSET]),
+        ecn: congestion(packet[TYPE_OF_SERVICE_OFFSET]),
+        length: big_16(packet, TOTAL_LENGTH_OFFSET),
+        ttl: packet[TIME_TO_LIVE_OFFSET],
         transport,
     })
 }

@@ -7,35 +7,35 @@ use crate::upper::{UpperLayer, payload_of, transport_of};
 use crate::views::{Contents, Part};
 use mud_base::{Addr, Fields, Transport, big_16, big_128};
 
-// The places of the fields of the header (RFC 8200, 3). It begins with four bits of version, eight
+// The offsets of the fields of the header (RFC 8200, 3). It begins with four bits of version, eight
 // of traffic class and twenty of flow label.
 
 /// Where the version stands, in the upper half of its octet, and the upper half of the traffic
 /// class, in the lower half.
-const VERSION_PLACE: usize = 0;
+const VERSION_OFFSET: usize = 0;
 /// Where the lower half of the traffic class stands, in the upper half of its octet.
-const TRAFFIC_CLASS_PLACE: usize = 1;
+const TRAFFIC_CLASS_OFFSET: usize = 1;
 /// Where the payload length stands.
-const PAYLOAD_LENGTH_PLACE: usize = 4;
+const PAYLOAD_LENGTH_OFFSET: usize = 4;
 /// Where the number of the next header stands.
-const NEXT_HEADER_PLACE: usize = 6;
+const NEXT_HEADER_OFFSET: usize = 6;
 /// Where the hop limit stands.
-const HOP_LIMIT_PLACE: usize = 7;
+const HOP_LIMIT_OFFSET: usize = 7;
 /// Where the source address stands.
-const SOURCE_PLACE: usize = 8;
+const SOURCE_OFFSET: usize = 8;
 /// Where the destination address stands.
-const DESTINATION_PLACE: usize = 24;
+const DESTINATION_OFFSET: usize = 24;
 /// How many octets the header has.
 const HEADER: usize = 40;
 
-// The places of the fields of an extension header (RFC 8200, 4.3 to 4.6).
+// The offsets of the fields of an extension header (RFC 8200, 4.3 to 4.6).
 
 /// Where the number of the next header stands.
-const EXTENSION_NEXT_PLACE: usize = 0;
+const EXTENSION_NEXT_OFFSET: usize = 0;
 /// Where the length stands, in units of eight octets without the first (not in a fragment header).
-const EXTENSION_LENGTH_PLACE: usize = 1;
+const EXTENSION_LENGTH_OFFSET: usize = 1;
 /// Where the offset stands in a fragment header, in the upper thirteen bits of two octets.
-const FRAGMENT_OFFSET_PLACE: usize = 2;
+const FRAGMENT_FIELD_OFFSET: usize = 2;
 /// How many octets an extension header has at least, and a fragment header always.
 const LEAST_EXTENSION: usize = 8;
 
@@ -52,7 +52,7 @@ fn has_header(packet: &[u8]) -> bool
     ensures value { result ≡ spec.has_header packet.now }
     ensures long { IsTrue result → 40 ≤ length packet.now }
 {
-    packet.len() >= HEADER && packet[VERSION_PLACE] / 16 == 6
+    packet.len() >= HEADER && packet[VERSION_OFFSET] / 16 == 6
 }
 
 /// The octets that count behind the header: as many as the payload length names, or up to the
@@ -63,7 +63,7 @@ fn payload(packet: &[u8]) -> &[u8]
     ensures { result.now ≡ spec.payload packet.now }
 {
     let (_, behind) = packet.split_at(HEADER);
-    let named = big_16(packet, PAYLOAD_LENGTH_PLACE) as usize;
+    let named = big_16(packet, PAYLOAD_LENGTH_OFFSET) as usize;
     let (counted, _) = behind.split_at(named.min(behind.len()));
     counted
 }
@@ -85,7 +85,7 @@ fn extension_len(number: u8, octets: &[u8]) -> usize
     if number == FRAGMENT {
         return LEAST_EXTENSION;
     }
-    (octets[EXTENSION_LENGTH_PLACE] as usize + 1) * 8
+    (octets[EXTENSION_LENGTH_OFFSET] as usize + 1) * 8
 }
 
 /// Whether an extension header ends behind what counts.
@@ -106,7 +106,7 @@ fn is_later_fragment(number: u8, octets: &[u8]) -> bool
     requires { 8 ≤ length octets.now }
     ensures { result ≡ spec.is_later_fragment number octets.now }
 {
-    number == FRAGMENT && big_16(octets, FRAGMENT_OFFSET_PLACE) / 8 != 0
+    number == FRAGMENT && big_16(octets, FRAGMENT_FIELD_OFFSET) / 8 != 0
 }
 
 /// The upper layer, where its number is this.
@@ -137,7 +137,7 @@ fn upper_behind(first: u8, octets: &[u8]) -> Result<UpperLayer<'_>, Part>
         if is_cut(number, rest) {
             return Err(Part::Extension);
         }
-        let next = rest[EXTENSION_NEXT_PLACE];
+        let next = rest[EXTENSION_NEXT_OFFSET];
         if is_later_fragment(number, rest) {
             return Ok(UpperLayer {
                 protocol: next,
@@ -159,7 +159,7 @@ fn upper_in(packet: &[u8]) -> Result<UpperLayer<'_>, Part>
     requires { 40 ≤ length packet.now }
     ensures { result ≡ spec.upper_in packet.now }
 {
-    upper_behind(packet[NEXT_HEADER_PLACE], payload(packet))
+    upper_behind(packet[NEXT_HEADER_OFFSET], payload(packet))
 }
 
 /// The traffic class, which stands between the version and the flow label.
@@ -168,7 +168,7 @@ fn traffic_class(packet: &[u8]) -> u8
     requires { 2 ≤ length packet.now }
     ensures { result ≡ spec.traffic_class packet.now }
 {
-    packet[VERSION_PLACE] % 16 * 16 + packet[TRAFFIC_CLASS_PLACE] / 16
+    packet[VERSION_OFFSET] % 16 * 16 + packet[TRAFFIC_CLASS_OFFSET] / 16
 }
 
 /// What the headers say, and what follows them.
@@ -183,13 +183,13 @@ fn contents_of(packet: &[u8]) -> Result<Contents<'_>, Part>
     let upper = upper_in(packet)?;
     let traffic = traffic_class(packet);
     let fields = Fields {
-        src: Addr::V6(big_128(packet, SOURCE_PLACE)),
-        dst: Addr::V6(big_128(packet, DESTINATION_PLACE)),
+        src: Addr::V6(big_128(packet, SOURCE_OFFSET)),
+        dst: Addr::V6(big_128(packet, DESTINATION_OFFSET)),
         protocol: upper.protocol,
         dscp: codepoint(traffic),
         ecn: congestion(traffic),
-        length: big_16(packet, PAYLOAD_LENGTH_PLACE),
-        ttl: packet[HOP_LIMIT_PLACE],
+        length: big_16(packet, PAYLOAD_LENGTH_OFFSET),
+        ttl: packet[HOP_LIMIT_OFFSET],
         transport: upper.transport,
     };
     Ok(Contents {
@@ -218,7 +218,7 @@ pub(crate) fn packet_of(packet: &[u8]) -> Result<Option<Contents<'_>>, Part>
     ensures { result ≡ spec.packet_of packet.now }
 {
     let contents = contents_of(packet)?;
-    if is_upkeep(packet[HOP_LIMIT_PLACE], contents.fields.transport) {
+    if is_upkeep(packet[HOP_LIMIT_OFFSET], contents.fields.transport) {
         return Ok(None);
     }
     Ok(Some(contents))

@@ -6,7 +6,7 @@ ghost use Rattle.frame_view.specs.Frame.{frame_of};
 use crate::views::{Contents, Frame, FrameView, PacketView, Part};
 use crate::{ipv4, ipv6};
 use mud_base::big_16;
-use mud_base::ethernet::{HEAD_LEN, TYPE_PLACE};
+use mud_base::ethernet::{HEAD_LEN, TYPE_OFFSET};
 
 /// The type of a customer's tag (IEEE 802.1Q).
 const CUSTOMER_TAG: u16 = 0x8100;
@@ -118,7 +118,7 @@ fn view_of_any(frame: &[u8]) -> Frame<'_>
     requires { 14 ≤ length frame.now }
     ensures { result ≡ frame_of frame.now }
 {
-    let (_, typed) = frame.split_at(TYPE_PLACE);
+    let (_, typed) = frame.split_at(TYPE_OFFSET);
     answered(frame, carried(typed))
 }
 
@@ -131,7 +131,7 @@ pub fn view(frame: &[u8]) -> Frame<'_>
     if frame.len() < HEAD_LEN {
         return Frame::Unreadable(None, Part::Ethernet);
     }
-    let (_, typed) = frame.split_at(TYPE_PLACE);
+    let (_, typed) = frame.split_at(TYPE_OFFSET);
     if first_type(typed) == IPV4 {
         return answered(frame, carried_plain(typed));
     }

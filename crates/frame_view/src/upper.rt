@@ -13,21 +13,21 @@ const TCP: u8 = 6;
 const UDP: u8 = 17;
 
 /// Where the port of the source stands in the headers of TCP and UDP (RFC 9293, 3.1; RFC 768).
-const SOURCE_PORT_PLACE: usize = 0;
+const SOURCE_PORT_OFFSET: usize = 0;
 /// Where the port of the destination stands in these headers.
-const DESTINATION_PORT_PLACE: usize = 2;
+const DESTINATION_PORT_OFFSET: usize = 2;
 /// Where the data offset stands in the header of TCP, in the upper half of its octet.
-const DATA_OFFSET_PLACE: usize = 12;
+const DATA_FIELD_OFFSET: usize = 12;
 /// Where the octet of flags stands in the header of TCP.
-const FLAGS_PLACE: usize = 13;
+const FLAGS_OFFSET: usize = 13;
 /// How many octets the header of TCP has at least.
 const TCP_LEN: usize = 20;
 /// How many octets the header of UDP has.
 const UDP_LEN: usize = 8;
 /// Where the type stands in an ICMP message (RFC 792; RFC 4443, 2.1).
-const ICMP_TYPE_PLACE: usize = 0;
+const ICMP_TYPE_OFFSET: usize = 0;
 /// Where the code stands in an ICMP message.
-const ICMP_CODE_PLACE: usize = 1;
+const ICMP_CODE_OFFSET: usize = 1;
 /// How many octets of an ICMP message stand in front of its body.
 const ICMP_LEN: usize = 4;
 
@@ -53,11 +53,11 @@ impl<'a> Model for UpperLayer<'a> {
 /// The ports of source and destination, with which the headers of TCP and UDP begin.
 fn ports(octets: &[u8]) -> (u16, u16)
     requires { 4 ≤ length octets.now }
-    ensures { result ≡ (numbers.big_16 spec.source_port_place octets.now, numbers.big_16 spec.destination_port_place octets.now) }
+    ensures { result ≡ (numbers.big_16 spec.source_port_offset octets.now, numbers.big_16 spec.destination_port_offset octets.now) }
 {
     (
-        big_16(octets, SOURCE_PORT_PLACE),
-        big_16(octets, DESTINATION_PORT_PLACE),
+        big_16(octets, SOURCE_PORT_OFFSET),
+        big_16(octets, DESTINATION_PORT_OFFSET),
     )
 }
 
@@ -67,14 +67,14 @@ fn ports(octets: &[u8]) -> (u16, u16)
 fn tcp(octets: &[u8]) -> Result<Transport, Part>
     ensures { result ≡ spec.tcp octets.now }
 {
-    if octets.len() < TCP_LEN || octets[DATA_OFFSET_PLACE] / 16 < 5 {
+    if octets.len() < TCP_LEN || octets[DATA_FIELD_OFFSET] / 16 < 5 {
         return Err(Part::Transport);
     }
     let (source, destination) = ports(octets);
     Ok(Transport::Tcp {
         source,
         destination,
-        flags: octets[FLAGS_PLACE],
+        flags: octets[FLAGS_OFFSET],
     })
 }
 
@@ -118,8 +118,8 @@ fn icmp(octets: &[u8]) -> Result<Transport, Part>
         return Err(Part::Transport);
     }
     Ok(Transport::Icmp {
-        kind: octets[ICMP_TYPE_PLACE],
-        code: octets[ICMP_CODE_PLACE],
+        kind: octets[ICMP_TYPE_OFFSET],
+        code: octets[ICMP_CODE_OFFSET],
     })
 }
 

@@ -3,7 +3,7 @@ ghost use Rattle.std.specs.Prelude.{◌≡◌, ◌≤◌, length};
 ghost use Rattle.frame_view.specs.Ethernet.{destination_of, source_of};
 ghost use Rattle.frame_view.specs.Carried.{payload_of};
 
-use mud_base::ethernet::{DESTINATION_PLACE, SOURCE_PLACE};
+use mud_base::ethernet::{DESTINATION_OFFSET, SOURCE_OFFSET};
 use mud_base::{Fields, Mac, mac_at};
 use std::marker::Model;
 
@@ -51,7 +51,7 @@ impl<'a> FrameView<'a> {
     pub fn destination(&self) -> Mac
         ensures { result ≡ destination_of self.now }
     {
-        mac_at(self.octets, DESTINATION_PLACE)
+        mac_at(self.octets, DESTINATION_OFFSET)
     }
 
     /// The hardware address that sent the frame.
@@ -59,7 +59,7 @@ impl<'a> FrameView<'a> {
     pub fn source(&self) -> Mac
         ensures { result ≡ source_of self.now }
     {
-        mac_at(self.octets, SOURCE_PLACE)
+        mac_at(self.octets, SOURCE_OFFSET)
     }
 }
 

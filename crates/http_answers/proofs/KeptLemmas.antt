@@ -69,12 +69,12 @@ front_fits octets text len fits filled is =
     ∙ sym (ap (λ n. take n (take len octets ++ text)) whole ∙ taken_behind len room (take len octets) text front)
 
 -- the octets in use, once as much of a text as fits was written behind them
-pub text_placed : (octets placed rest old text put : List ℕ) (whole len fits end : ℕ) → IsFilled octets len → whole ≡ 4096 → length placed ≡ 4096 → fits ≡ min (4096 - len) (length text)
-    → put ≡ take fits text → end ≡ len + length put → take end placed ≡ take len octets ++ put → old ≡ take len octets → take end (take whole (placed ++ rest)) ≡ kept (old ++ text)
-text_placed octets placed rest old text put whole len fits end filled full long is same stop front was =
+pub text_put_in : (octets after_put rest old text put : List ℕ) (whole len fits end : ℕ) → IsFilled octets len → whole ≡ 4096 → length after_put ≡ 4096 → fits ≡ min (4096 - len) (length text)
+    → put ≡ take fits text → end ≡ len + length put → take end after_put ≡ take len octets ++ put → old ≡ take len octets → take end (take whole (after_put ++ rest)) ≡ kept (old ++ text)
+text_put_in octets after_put rest old text put whole len fits end filled full long is same stop front was =
     let written : length put ≡ fits = ap length same ∙ length-take-le fits text (omega arith) in
-    take-take end whole (placed ++ rest) (omega (arith, filled.within))
-    ∙ take-append-le end placed rest (omega (arith, filled.within))
+    take-take end whole (after_put ++ rest) (omega (arith, filled.within))
+    ∙ take-append-le end after_put rest (omega (arith, filled.within))
     ∙ front
     ∙ ap (λ (t : List ℕ). take len octets ++ t) same
     ∙ front_fits octets text len fits filled is

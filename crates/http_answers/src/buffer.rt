@@ -28,8 +28,8 @@ impl Model for AnswerBuffer {
 /// The most octets of a text.
 const ROOM: usize = 4096;
 
-/// Copies a text to a place, and says where it ends.
-fn place(octets: &mut [u8], at: usize, text: &[u8]) -> usize
+/// Copies a text to an offset, and says where it ends.
+fn put_in(octets: &mut [u8], at: usize, text: &[u8]) -> usize
     requires { at + length text.now ≤ length octets.old }
     ensures front { take result octets.new ≡ take at octets.old ++ text.now }
     ensures end { result ≡ at + length text.now }
@@ -88,6 +88,6 @@ impl AnswerBuffer {
         ensures { self.new ≡ kept (self.old ++ text.now) }
     {
         let fits = (ROOM - self.len).min(text.len());
-        self.len = place(self.octets.as_mut_slice(), self.len, &text[..fits]);
+        self.len = put_in(self.octets.as_mut_slice(), self.len, &text[..fits]);
     }
 }

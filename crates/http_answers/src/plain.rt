@@ -6,7 +6,7 @@ ghost use Rattle.json.specs.Written.{PlainBetween};
 
 use std::simd::prelude::*;
 
-/// Whether none of the 8 octets from this place on needs an escape.
+/// Whether none of the 8 octets from this offset on needs an escape.
 #[inline(always)]
 fn are_8_plain(text: &[u8], at: usize) -> bool
     requires { at + 8 ≤ length text.now }
@@ -19,7 +19,7 @@ fn are_8_plain(text: &[u8], at: usize) -> bool
         == 0
 }
 
-/// Whether none of the 16 octets from this place on needs an escape.
+/// Whether none of the 16 octets from this offset on needs an escape.
 #[inline(always)]
 fn are_16_plain(text: &[u8], at: usize) -> bool
     requires { at + 16 ≤ length text.now }

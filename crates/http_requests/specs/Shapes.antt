@@ -12,7 +12,7 @@ use Rattle.http_requests.specs.Head.{IsHead, HasNoHead}
 use Rattle.http_requests.specs.Framing.{is_head, refusal_of, body_length, moment_of, closes, awaits_leave}
 use Rattle.http_requests.specs.Requests.{IsFault, path_of}
 
--- The shape is that of the head. Its places count from the front of the head.
+-- The shape is that of the head. Its offsets count from the front of the head.
 pub record IsShape (from : MomentFrom) (shape : RequestShape) (head : RequestHead) : Type 0 where
   pub method : span_bytes (print_request head) shape.method ≡ head.method
   pub path : span_bytes (print_request head) shape.path ≡ path_of head

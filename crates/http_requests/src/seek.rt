@@ -69,7 +69,7 @@ fn front_of(octets: &[u8]) -> &[u8]
     octets.split_at(MOST_HEAD.min(octets.len())).0
 }
 
-/// The place of the first `?`.
+/// The offset of the first `?`.
 fn first_question(target: &[u8]) -> Option<usize>
     ensures { result ≡ position (λ c. c == 63) target.now }
 {
@@ -83,7 +83,7 @@ fn path_len(target: &[u8]) -> usize
     ensures within { result ≤ length target.now }
 {
     match first_question(target) {
-        Some(place) => place,
+        Some(offset) => offset,
         None => target.len(),
     }
 }

@@ -8,9 +8,9 @@ use mud_base::Moment;
 /// Where the parts of a request stand, counted from the front of its head, and what its head says.
 #[derive(Clone, Copy, Debug)]
 pub struct RequestShape {
-    /// The method's place.
+    /// The method's offset.
     pub method: Span,
-    /// The place of the target up to its first `?`.
+    /// The offset of the target up to its first `?`.
     pub path: Span,
     /// How many octets the head has, at most 8,192.
     pub head_len: usize,

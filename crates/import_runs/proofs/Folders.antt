@@ -8,9 +8,9 @@ use Rattle.mud_world.specs.Door.{put_out}
 use Rattle.mud_world.proofs.Doors.{put_out_twice, put_out_none, rose_by_one}
 use Rattle.desk_model.specs.declared.reply.Reply.{Reply}
 use Rattle.desk_model.specs.declared.reply.Reply.TheVariants.{Done, Refused, Keeper, Memory}
-use Rattle.command_runs.specs.Due.{WroteFirst}
+use Rattle.command_runs.specs.Output.{WroteFirst}
 use Rattle.import_runs.specs.Entries.{Entry, is_of_memory, name_of, names_of_entries, line_with, lines_of, status_with, status_of, has_keeper_failed, keeper_count}
-use Rattle.import_runs.specs.Imports.{Standing, MayLead, Imports}
+use Rattle.import_runs.specs.Imports.{Standing, ImportsEntry, Imports}
 use Rattle.import_runs.specs.Runs.{Scene, ImportsAll, ImportsPart}
 use Rattle.mud_tables.proofs.RowSets.{take_one}
 
@@ -58,7 +58,7 @@ part_of_none files names before after session clock door faults = record {
 
 -- ---- One name
 
-module _ (files : Files) (name : List ℕ) (reply : Option Reply) (before after : Scene) (leads : MayLead files before.standing name reply after.standing) (counts : Counts (has_keeper_failed reply) before.faults after.faults) where
+module _ (files : Files) (name : List ℕ) (reply : Option Reply) (before after : Scene) (leads : ImportsEntry files before.standing name reply after.standing) (counts : Counts (has_keeper_failed reply) before.faults after.faults) where
   -- its line was written
   pub all_of_one : (status : ℕ) → status ≡ status_with reply → after.door ≡ put_out (line_with name reply) before.door → ImportsAll files (name ∷ []) before after status
   all_of_one status is wrote = record {

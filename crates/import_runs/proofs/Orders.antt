@@ -9,14 +9,14 @@ use Rattle.std.specs.Ordering.{is_lt, ordering_reverse}
 use Rattle.std.proofs.lemmas.Fn.{always_returns_same}
 use Rattle.std.proofs.lemmas.List.Sorted.{ranks_by, sorted_far, sum_by-IsPermutation}
 use Rattle.std.proofs.lemmas.List.Sums.{sum_by-cons}
-use Rattle.sorted_rows.specs.Placed.{place_cmp, same_place}
-use Rattle.sorted_rows.proofs.PlacedLaws.{place_cmp_exact, place_cmp_itself, same_place_itself, same_place_exact}
+use Rattle.sorted_rows.specs.Sortable.{sort_key_cmp, same_sort_key}
+use Rattle.sorted_rows.proofs.SortableLaws.{sort_key_cmp_exact, sort_key_cmp_itself, same_sort_key_itself, same_sort_key_exact}
 use Rattle.import_runs.specs.Order.{with_name, in_order}
 use denote.Param.Members.{Mut}
 use denote.Ref.{Bor}
 
 abbrev is_before : List ℕ → List ℕ → Bool
-is_before x y = is_lt (place_cmp x y)
+is_before x y = is_lt (sort_key_cmp x y)
 
 order : IsStrictWeakOrder is_before
 order = ranks_by nat_list_cmp_total (λ x. x)
@@ -44,7 +44,7 @@ ascend_of (x ∷ xs) far =
 -- ---- How often a name is there
 
 abbrev tally : List ℕ → List ℕ → ℕ
-tally z name = if same_place name z then 1 else 0
+tally z name = if same_sort_key name z then 1 else 0
 
 abbrev number_of : List ℕ → List (List ℕ) → ℕ
 number_of z [] = 0
@@ -55,28 +55,28 @@ number_is_sum z [] = refl
 number_is_sum z (name ∷ names) = sum_by-cons (tally z) name names ∙ ap (λ (n : ℕ). tally z name + n) (number_is_sum z names)
 
 tally_itself : (x : List ℕ) → tally x x ≡ 1
-tally_itself x = ap (λ (same : Bool). if same then 1 else 0) (same_place_itself x)
+tally_itself x = ap (λ (same : Bool). if same then 1 else 0) (same_sort_key_itself x)
 
-tally_other : (x y z : List ℕ) → is_before x y ≡ true → is_before z y ≡ false → (same : Bool) → same_place z x ≡ same → tally x z ≡ 0
+tally_other : (x y z : List ℕ) → is_before x y ≡ true → is_before z y ≡ false → (same : Bool) → same_sort_key z x ≡ same → tally x z ≡ 0
 tally_other x y z before least true e =
-    let is : z ≡ x = same_place_exact z x e in
+    let is : z ≡ x = same_sort_key_exact z x e in
     let never : is_before x y ≡ false = subst (λ (w : List ℕ). is_before w y ≡ false) is least in
     absurd (cc (before, never))
 tally_other x y z before least false e = ap (λ (same : Bool). if same then 1 else 0) e
 
 none_before : (x y : List ℕ) (names : List (List ℕ)) → is_before x y ≡ true → IsLeast y names → number_of x names ≡ 0
 none_before x y [] before least = refl
-none_before x y (z ∷ zs) before least = omega (arith, tally_other x y z before least.0 (same_place z x) refl, none_before x y zs before least.1)
+none_before x y (z ∷ zs) before least = omega (arith, tally_other x y z before least.0 (same_sort_key z x) refl, none_before x y zs before least.1)
 
 -- a name that is before all of a list isn't in it
 is_missing : (x y : List ℕ) (xs ys : List (List ℕ)) → IsLeast y ys → number_of x (x ∷ xs) ≡ number_of x (y ∷ ys) → is_before x y ≡ true → ⊥
 is_missing x y xs ys least same before =
-    let none : number_of x (y ∷ ys) ≡ 0 = none_before x y (y ∷ ys) before (ap is_lt (place_cmp_itself y), least) in
+    let none : number_of x (y ∷ ys) ≡ 0 = none_before x y (y ∷ ys) before (ap is_lt (sort_key_cmp_itself y), least) in
     absurd (omega (arith, same, none, tally_itself x))
 
-same_first : (x y : List ℕ) (xs ys : List (List ℕ)) → IsLeast x xs → IsLeast y ys → ((z : List ℕ) → number_of z (x ∷ xs) ≡ number_of z (y ∷ ys)) → (o : Ordering) → place_cmp x y ≡ o → x ≡ y
+same_first : (x y : List ℕ) (xs ys : List (List ℕ)) → IsLeast x xs → IsLeast y ys → ((z : List ℕ) → number_of z (x ∷ xs) ≡ number_of z (y ∷ ys)) → (o : Ordering) → sort_key_cmp x y ≡ o → x ≡ y
 same_first x y xs ys low high same Less e = absurd (is_missing x y xs ys high (same x) (ap is_lt e))
-same_first x y xs ys low high same Equal e = place_cmp_exact x y e
+same_first x y xs ys low high same Equal e = sort_key_cmp_exact x y e
 same_first x y xs ys low high same Greater e =
     absurd (is_missing y x ys xs low (sym (same y)) (ap is_lt (nat_list_cmp_total.antisymm y x ∙ ap ordering_reverse e)))
 
@@ -85,7 +85,7 @@ same_lists [] [] up also same = refl
 same_lists [] (y ∷ ys) up also same = absurd (omega (arith, same y, tally_itself y))
 same_lists (x ∷ xs) [] up also same = absurd (omega (arith, same x, tally_itself x))
 same_lists (x ∷ xs) (y ∷ ys) up also same =
-    let e : x ≡ y = same_first x y xs ys up.0 also.0 same (place_cmp x y) refl in
+    let e : x ≡ y = same_first x y xs ys up.0 also.0 same (sort_key_cmp x y) refl in
     ap₂ (λ (z : List ℕ) (zs : List (List ℕ)). z ∷ zs) e (same_lists xs ys up.1 also.1 (λ z. omega (arith, same z, ap (tally z) e)))
 
 -- ---- The names in order
@@ -128,7 +128,7 @@ unfolding in_order
 number_in_order z [] = refl
 number_in_order z (name ∷ names) = number_with_name z name (in_order names) ∙ ap (λ (n : ℕ). tally z name + n) (number_in_order z names)
 
-sorted_is : (listed names : List (List ℕ)) → IsPermutation listed names → IsSorted place_cmp names → names ≡ in_order listed
+sorted_is : (listed names : List (List ℕ)) → IsPermutation listed names → IsSorted sort_key_cmp names → names ≡ in_order listed
 sorted_is listed names all sorted =
     same_lists names (in_order listed) (ascend_of names (sorted_far is_before order names sorted)) (ascend_in_order listed)
     (λ z. sym (number_is_sum z names) ∙ sum_by-IsPermutation (tally z) listed names all ∙ number_is_sum z listed ∙ sym (number_in_order z listed))
@@ -136,7 +136,7 @@ sorted_is listed names all sorted =
 -- what a sort ensures whose closure compares names by their octets
 pub sorted_by_octets : {F : Type 0} {g : Mut F (Bor (List ℕ) × (Bor (List ℕ) × Unit {0})) Ordering} {f : F} (listed names : List (List ℕ)) → IsPermutation listed names
     → ((lt : List ℕ → List ℕ → Bool) → IsStrictWeakOrder lt → ComparesAs g lt f → IsSortedBy lt names)
-    → ((a : Bor (List ℕ) × (Bor (List ℕ) × Unit {0})) (r : Ordering) (f' : F) → Called g f a r f' → (r ≡ place_cmp a.0.now a.1.0.now) × (f' ≡ f))
+    → ((a : Bor (List ℕ) × (Bor (List ℕ) × Unit {0})) (r : Ordering) (f' : F) → Called g f a r f' → (r ≡ sort_key_cmp a.0.now a.1.0.now) × (f' ≡ f))
     → names ≡ in_order listed
 sorted_by_octets {g = g} {f = f} listed names all up answers =
     sorted_is listed names all

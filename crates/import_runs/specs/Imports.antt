@@ -5,7 +5,7 @@ use Rattle.mud_world.specs.Clock.{next_moment, later_moments}
 use Rattle.mud_world.specs.Files.{content_of, read_part}
 use Rattle.desk_model.specs.declared.command.Command.TheVariants.{Import}
 use Rattle.desk_model.specs.declared.reply.Reply.{Reply}
-use Rattle.desk_model.specs.Sessions.{Session, MayAnswer}
+use Rattle.desk_model.specs.Sessions.{Session, AllowedReply}
 use Rattle.import_runs.specs.Names.{fetched_in}
 use Rattle.import_runs.specs.Entries.{Entry, is_of_memory}
 
@@ -26,14 +26,14 @@ ByForm files before name None after = (fetched_in name ≡ None) × (after ≡ b
 ByForm files before name (Some reply) after =
     (fetched : ℕ)
     × (fetched_in name ≡ Some fetched)
-    × MayAnswer before.session (next_moment before.moments) (Import (octets_of files name) fetched) reply after.session
+    × AllowedReply before.session (next_moment before.moments) (Import (octets_of files name) fetched) reply after.session
     × (is_of_memory reply ≡ false)
     × (after.moments ≡ later_moments before.moments)
 
-pub record MayLead (files : List (List ℕ × List ℕ)) (before : Standing) (name : List ℕ) (reply : Option Reply) (after : Standing) : Type 0 where
+pub record ImportsEntry (files : List (List ℕ × List ℕ)) (before : Standing) (name : List ℕ) (reply : Option Reply) (after : Standing) : Type 0 where
   pub leads : ByForm files before name reply after
 
 -- the names of the entries, one after the other, may lead from one standing to another
 abbrev pub Imports : List (List ℕ × List ℕ) → Standing → List Entry → Standing → Type 0
 Imports files before [] after = after ≡ before
-Imports files before (entry ∷ entries) after = (next : Standing) × MayLead files before entry.name entry.reply next × Imports files next entries after
+Imports files before (entry ∷ entries) after = (next : Standing) × ImportsEntry files before entry.name entry.reply next × Imports files next entries after

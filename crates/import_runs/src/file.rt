@@ -9,12 +9,12 @@ ghost use Rattle.desk_model.specs.Boxed.{IsKept};
 ghost use Rattle.mud_desk.specs.DeskState.{session_of, tables_of};
 ghost use Rattle.mud_desk.specs.Stays.{KeepsConnections};
 ghost use Rattle.command_runs.specs.Ends.{IsStoppedByDoorOrSpool, IsStoppedWriting};
-ghost use Rattle.command_runs.specs.Due.{WroteFirst};
+ghost use Rattle.command_runs.specs.Output.{WroteFirst};
 ghost use Rattle.command_runs.specs.Status.{IsOneOf, status_number};
 ghost use Rattle.command_runs.specs.declared.status.Status.TheVariants.{Done, Refused, KeeperFailed};
 ghost use Rattle.import_runs.specs.Entries.{has_keeper_failed, is_of_memory};
 ghost use Rattle.import_runs.specs.Entries as entries;
-ghost use Rattle.import_runs.specs.Imports.{MayLead};
+ghost use Rattle.import_runs.specs.Imports.{ImportsEntry};
 ghost use Rattle.import_runs.specs.Scenes.{standing, scene};
 ghost use Rattle.import_runs.specs.Runs.{ImportsPart, ImportsAll};
 ghost use Rattle.command_runs.specs.Stops.{has_failed};
@@ -53,7 +53,7 @@ fn reply_to<L: Ledger, P: Spool, C: Clock>(
 ) -> Result<Option<Reply>, Stop>
     requires kept { IsKept Keeper-dyn desk.old.keeper (tables_of desk.old.state) }
     ensures stays { KeepsConnections Keeper-dyn desk.old desk.new }
-    ensures leads { P.tells → C.tells → IfOk result (λ reply. (h : List SegmentValue) → MayLead (P.view spool.old).files
+    ensures leads { P.tells → C.tells → IfOk result (λ reply. (h : List SegmentValue) → ImportsEntry (P.view spool.old).files
         (standing h desk.old.state (C.moments clock.old)) name.now reply (standing h desk.new.state (C.moments clock.new))) }
     ensures keeper { IfOk result (λ reply. Counts (has_keeper_failed reply) (faults_of Keeper-dyn desk.old.keeper) (faults_of Keeper-dyn desk.new.keeper)) }
     ensures statuses { IfOk result (λ reply. (entries.status_with reply ≡ 0) ⊎ ((entries.status_with reply ≡ 3) ⊎ (entries.status_with reply ≡ 7))) }

@@ -41,15 +41,15 @@ fn first_dash(text: &[u8]) -> Option<usize>
 }
 
 /// What stands before the first dash, and what behind it; all and nothing where there is none.
-#[tactic(auto, using(mud_base::proofs::Slashes::place_is, mud_base::proofs::Slashes::place_within, mud_base::proofs::Slashes::before_none, mud_base::proofs::Slashes::after_none))]
+#[tactic(auto, using(mud_base::proofs::Slashes::offset_is, mud_base::proofs::Slashes::offset_within, mud_base::proofs::Slashes::before_none, mud_base::proofs::Slashes::after_none))]
 fn around_dash(text: &[u8]) -> (&[u8], &[u8])
     ensures before { result.0.now ≡ before_first spec.is_dash text.now }
     ensures after { result.1.now ≡ after_first spec.is_dash text.now }
 {
     match first_dash(text) {
-        Some(place) => {
-            let (before, _) = text.split_at(place);
-            let (_, after) = text.split_at(place + 1);
+        Some(offset) => {
+            let (before, _) = text.split_at(offset);
+            let (_, after) = text.split_at(offset + 1);
             (before, after)
         }
         None => (text, &[]),

@@ -15,7 +15,7 @@ moment : number 8 1000 ≡ 0 ∷ 0 ∷ 0 ∷ 0 ∷ 0 ∷ 0 ∷ 3 ∷ 0xe8 ∷ []
 unfolding number
 moment = refl
 
--- the end that means for ever
+-- the expiry that means for ever
 never : number 8 18446744073709551615 ≡ 255 ∷ 255 ∷ 255 ∷ 255 ∷ 255 ∷ 255 ∷ 255 ∷ 255 ∷ []
 unfolding number
 never = refl

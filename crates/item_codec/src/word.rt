@@ -20,7 +20,7 @@ pub enum Word {
     Released,
     /// A lease was heard of a hardware address that no Thing has.
     Stranger,
-    /// The end of what was kept has changed.
+    /// The expiry of what was kept has changed.
     Renewed,
     /// A lease is no longer kept.
     Ended,

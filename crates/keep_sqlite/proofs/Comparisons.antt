@@ -15,10 +15,10 @@ use Rattle.sqlite_sql.specs.declared.ops.CompareOp.TheVariants.{Eq}
 use Rattle.sqlite_sql.specs.Ops.{binary, is_true, from_truth}
 use Rattle.sqlite_sql.specs.Term.{holds}
 use Rattle.std.specs.Prelude.{Some}
-use Rattle.sorted_rows.specs.Placed.{place_cmp, same_place}
-use Rattle.sorted_rows.proofs.PlacedLaws.{same_place-cmp}
+use Rattle.sorted_rows.specs.Sortable.{sort_key_cmp, same_sort_key}
+use Rattle.sorted_rows.proofs.SortableLaws.{same_sort_key-cmp}
 use Rattle.mud_world.specs.declared.item.Item.{Item}
-use Rattle.mud_world.specs.Items.{place_of}
+use Rattle.mud_world.specs.Items.{sort_key_of}
 use Rattle.keep_sqlite.specs.Rows.{stored}
 use Rattle.keep_sqlite.proofs.Texts.{delete_query}
 
@@ -44,13 +44,13 @@ both_equal Equal Equal = refl
 both_equal Equal Greater = refl
 both_equal Greater u = refl
 
--- both keys are equal exactly where the place is the same
-pub same_keys : (a b : ℕ) (s t : List ℕ) → (is_true (binary (Compare Eq Binary) (Int (pos a)) (Int (pos b))) && (is_true (binary (Compare Eq Binary) (Blob s) (Blob t)) && true)) ≡ same_place (a ∷ s) (b ∷ t)
+-- both keys are equal exactly where the sort key is the same
+pub same_keys : (a b : ℕ) (s t : List ℕ) → (is_true (binary (Compare Eq Binary) (Int (pos a)) (Int (pos b))) && (is_true (binary (Compare Eq Binary) (Blob s) (Blob t)) && true)) ≡ same_sort_key (a ∷ s) (b ∷ t)
 same_keys a b s t =
     ap (λ c. c && (is_true (binary (Compare Eq Binary) (Blob s) (Blob t)) && true)) (equal_ints (pos a) (pos b) ∙ ap is_eq (cmp_naturals a b))
     ∙ ap (λ c. is_eq (nat_cmp a b) && (c && true)) (equal_blobs s t)
     ∙ sym (both_equal (nat_cmp a b) (slice_cmp nat_cmp s t))
-    ∙ sym (same_place-cmp (a ∷ s) (b ∷ t) (place_cmp (a ∷ s) (b ∷ t)) refl)
+    ∙ sym (same_sort_key-cmp (a ∷ s) (b ∷ t) (sort_key_cmp (a ∷ s) (b ∷ t)) refl)
 
-pub deletes_test : (kind : ℕ) (key : List ℕ) (id : ℤ) (item : Item) → list_all (holds ((Int (pos kind) ∷ Blob key ∷ []) ∷ stored id item ∷ [])) delete_query.filter ≡ same_place (place_of item) (kind ∷ key)
+pub deletes_test : (kind : ℕ) (key : List ℕ) (id : ℤ) (item : Item) → list_all (holds ((Int (pos kind) ∷ Blob key ∷ []) ∷ stored id item ∷ [])) delete_query.filter ≡ same_sort_key (sort_key_of item) (kind ∷ key)
 deletes_test kind key id item = same_keys item.kind kind item.key key

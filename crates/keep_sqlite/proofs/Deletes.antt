@@ -21,13 +21,13 @@ use Rattle.sqlite.specs.Listing.{understood}
 use Rattle.sqlite.specs.Effect.{Database}
 use Rattle.sqlite.specs.State.{State, mode_of, Executes}
 use Rattle.sqlite.proofs.Callers.{statement_of, runs_as, one_step}
-use Rattle.sorted_rows.specs.Placed.{same_place, without_row}
-use Rattle.mud_world.specs.Items.{place_of}
+use Rattle.sorted_rows.specs.Sortable.{same_sort_key, without_row}
+use Rattle.mud_world.specs.Items.{sort_key_of}
 use Rattle.keep_sqlite.specs.Table.{item_table, item_schema}
 use Rattle.keep_sqlite.specs.Rows.{items_in, items_of, id_of, AreDistinct, IsItemRow, HoldsItems}
 use Rattle.keep_sqlite.proofs.Texts.{delete_text, delete_query, delete_is, delete_plain}
 use Rattle.keep_sqlite.proofs.Parts.{went, same_value, one_table, map_map}
-use Rattle.keep_sqlite.proofs.Lookups.{place_in, items-filter}
+use Rattle.keep_sqlite.proofs.Lookups.{sort_key_in, items-filter}
 use Rattle.keep_sqlite.proofs.Ids.{is_among, without_all_is, among_chosen, all-filter, distinct-filter}
 use Rattle.keep_sqlite.proofs.Comparisons.{deletes_test}
 
@@ -38,9 +38,9 @@ module _ (kind : ℕ) (key : List ℕ) where
   abbrev test : Row → Bool
   test row = list_all (holds (params ∷ row ∷ [])) delete_query.filter
 
-  test_is : (rows : List Row) → AllByRecursion IsItemRow rows → AllByRecursion (λ r. test r ≡ same_place (place_in r) (kind ∷ key)) rows
+  test_is : (rows : List Row) → AllByRecursion IsItemRow rows → AllByRecursion (λ r. test r ≡ same_sort_key (sort_key_in r) (kind ∷ key)) rows
   test_is [] all = tt
-  test_is (r ∷ rs) all = (subst (λ r. test r ≡ same_place (place_in r) (kind ∷ key)) (sym all.0.3) (deletes_test kind key all.0.0 all.0.1), test_is rs all.1)
+  test_is (r ∷ rs) all = (subst (λ r. test r ≡ same_sort_key (sort_key_in r) (kind ∷ key)) (sym all.0.3) (deletes_test kind key all.0.0 all.0.1), test_is rs all.1)
 
   joined : (f g h : Row → Bool) (rows : List Row) → AllByRecursion (λ r. f r ≡ g r) rows → AllByRecursion (λ r. g r ≡ h r) rows → AllByRecursion (λ r. f r ≡ h r) rows
   joined f g h [] one two = tt
@@ -58,18 +58,18 @@ module _ (kind : ℕ) (key : List ℕ) where
       ap (map (λ (o : Output). id_of o.1)) kept ∙ map_map (λ r. output delete_query (params ∷ r ∷ [])) (λ (o : Output). id_of o.1) (filter test (db 0)) in
       subst (λ xs. IsPermutation (map id_of (filter test (db 0))) xs) (sym shown) (subst (λ xs. IsPermutation xs (map (λ (o : Output). id_of o.1) a.ordered)) front (IsPermutation-map (λ (o : Output). id_of o.1) a.kept a.ordered a.same))
 
-  chooses : (rows : List Row) (ids : _) → AllByRecursion IsItemRow rows → AreDistinct rows → IsPermutation (map id_of (filter test rows)) ids → AllByRecursion (λ r. is_among ids r ≡ same_place (place_in r) (kind ∷ key)) rows
+  chooses : (rows : List Row) (ids : _) → AllByRecursion IsItemRow rows → AreDistinct rows → IsPermutation (map id_of (filter test rows)) ids → AllByRecursion (λ r. is_among ids r ≡ same_sort_key (sort_key_in r) (kind ∷ key)) rows
   chooses rows ids items apart order =
       let swap = any_of rows in
-      joined (is_among ids) (is_among (map id_of (filter test rows))) (λ r. same_place (place_in r) (kind ∷ key)) rows swap
-      (joined (is_among (map id_of (filter test rows))) test (λ r. same_place (place_in r) (kind ∷ key)) rows (among_chosen test rows items apart) (test_is rows items))
+      joined (is_among ids) (is_among (map id_of (filter test rows))) (λ r. same_sort_key (sort_key_in r) (kind ∷ key)) rows swap
+      (joined (is_among (map id_of (filter test rows))) test (λ r. same_sort_key (sort_key_in r) (kind ∷ key)) rows (among_chosen test rows items apart) (test_is rows items))
     where
       any_of : (xs : List Row) → AllByRecursion (λ r. is_among ids r ≡ is_among (map id_of (filter test rows)) r) xs
       any_of [] = tt
       any_of (x ∷ xs) = (sym (list_any-IsPermutation (λ n. has_rowid n x) (map id_of (filter test rows)) ids order), any_of xs)
 
-  -- the items are those of before without the one of the place
-  pub deletes : (old new : State) (r : Result ℕ Error) → HoldsItems old.now → Executes delete_text params old new r → OnOk r (HoldsItems new.now × (items_of new.now ≡ without_row place_of (kind ∷ key) (items_of old.now)))
+  -- the items are those of before without the one of the sort key
+  pub deletes : (old new : State) (r : Result ℕ Error) → HoldsItems old.now → Executes delete_text params old new r → OnOk r (HoldsItems new.now × (items_of new.now ≡ without_row sort_key_of (kind ∷ key) (items_of old.now)))
   deletes old new (Err e) holds h = tt
   deletes old new (Ok count) holds h =
       let db = old.now.trees in

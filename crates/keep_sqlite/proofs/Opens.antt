@@ -17,17 +17,17 @@ use Rattle.sqlite_schema.specs.declared.schema.Constraint.TheVariants.{Datatype}
 use Rattle.sqlite_schema.specs.Rules.{are_typed, has_computed, Keeps}
 use Rattle.sqlite.specs.Effect.{Database, IsDatabase}
 use Rattle.sqlite.specs.State.{State}
-use Rattle.sorted_rows.specs.Placed.{same_place, row_at, PlacesAscend}
+use Rattle.sorted_rows.specs.Sortable.{same_sort_key, row_at, SortKeysAscend}
 use Rattle.std.specs.declared.cmp.Ordering.TheVariants.{Less}
-use Rattle.sorted_rows.proofs.PlacedLaws.{same_place_itself, same_place_exact, same_place-cmp}
+use Rattle.sorted_rows.proofs.SortableLaws.{same_sort_key_itself, same_sort_key_exact, same_sort_key-cmp}
 use Rattle.sorted_rows.proofs.RowLaws.{same_rows}
 use Rattle.sorted_rows.proofs.Lists.{all-map}
 use Rattle.mud_world.specs.declared.item.Item.{Item}
-use Rattle.mud_world.specs.Items.{place_of, IsOrdered}
+use Rattle.mud_world.specs.Items.{sort_key_of, IsOrdered}
 use Rattle.keep_sqlite.specs.Table.{item_table, item_schema}
 use Rattle.keep_sqlite.specs.Rows.{item_in, items_in, items_of, id_of, IsItemRow, AreDistinct, HoldsItems}
 use Rattle.keep_sqlite.specs.Selections.{item_shown, ShowsItem, ShowsId, AreUnequal, shown_row, shown_id, HaveIds, HaveItems}
-use Rattle.keep_sqlite.proofs.Lookups.{place_in, found, item_at, items_ascend}
+use Rattle.keep_sqlite.proofs.Lookups.{sort_key_in, found, item_at, items_ascend}
 use Rattle.keep_sqlite.proofs.Ids.{eq_exact, int_itself}
 
 -- ---- what holds of what is shown holds of the rows
@@ -120,59 +120,59 @@ distinct_rows rows answer same rise = distinct_from rows (λ n.
 
 -- ---- the items that are shown are those of the rows
 
-first_at : (items : List Item) → IsOrdered items → AllByRecursion (λ item. row_at place_of (place_of item) items ≡ Some item) items
+first_at : (items : List Item) → IsOrdered items → AllByRecursion (λ item. row_at sort_key_of (sort_key_of item) items ≡ Some item) items
 first_at [] up = tt
-first_at (x ∷ xs) up = (ap (λ b. cond b (Some x) (row_at place_of (place_of x) xs)) (same_place_itself (place_of x)), later xs xs up.0 (first_at xs up.1))
+first_at (x ∷ xs) up = (ap (λ b. cond b (Some x) (row_at sort_key_of (sort_key_of x) xs)) (same_sort_key_itself (sort_key_of x)), later xs xs up.0 (first_at xs up.1))
   where
-    later : (ys all : List Item) → Rattle.sorted_rows.specs.Placed.PlacesAbove place_of (place_of x) ys → AllByRecursion (λ item. row_at place_of (place_of item) all ≡ Some item) ys → AllByRecursion (λ item. row_at place_of (place_of item) (x ∷ all) ≡ Some item) ys
+    later : (ys all : List Item) → Rattle.sorted_rows.specs.Sortable.SortKeysAbove sort_key_of (sort_key_of x) ys → AllByRecursion (λ item. row_at sort_key_of (sort_key_of item) all ≡ Some item) ys → AllByRecursion (λ item. row_at sort_key_of (sort_key_of item) (x ∷ all) ≡ Some item) ys
     later [] all above each = tt
-    later (y ∷ ys) all above each = (ap (λ b. cond b (Some x) (row_at place_of (place_of y) all)) (same_place-cmp (place_of x) (place_of y) Less above.0) ∙ each.0, later ys all above.1 each.1)
+    later (y ∷ ys) all above each = (ap (λ b. cond b (Some x) (row_at sort_key_of (sort_key_of y) all)) (same_sort_key-cmp (sort_key_of x) (sort_key_of y) Less above.0) ∙ each.0, later ys all above.1 each.1)
 
--- a place that some row has is found
-found_some : (rows : List Row) → AllByRecursion (λ r. found (place_in r) rows ≡ None → ⊥) rows
+-- a sort key that some row has is found
+found_some : (rows : List Row) → AllByRecursion (λ r. found (sort_key_in r) rows ≡ None → ⊥) rows
 found_some [] = tt
-found_some (r ∷ rs) = ((λ none. none-some (item_in r) (sym none ∙ ap (λ b. cond b (Some (item_in r)) (found (place_in r) rs)) (same_place_itself (place_in r)))), more rs (found_some rs))
+found_some (r ∷ rs) = ((λ none. none-some (item_in r) (sym none ∙ ap (λ b. cond b (Some (item_in r)) (found (sort_key_in r) rs)) (same_sort_key_itself (sort_key_in r)))), more rs (found_some rs))
   where
-    more : (xs : List Row) → AllByRecursion (λ x. found (place_in x) rs ≡ None → ⊥) xs → AllByRecursion (λ x. found (place_in x) (r ∷ rs) ≡ None → ⊥) xs
+    more : (xs : List Row) → AllByRecursion (λ x. found (sort_key_in x) rs ≡ None → ⊥) xs → AllByRecursion (λ x. found (sort_key_in x) (r ∷ rs) ≡ None → ⊥) xs
     more [] each = tt
-    more (x ∷ xs) each = ((λ none. by (same_place (place_in r) (place_in x)) none), more xs each.1)
+    more (x ∷ xs) each = ((λ none. by (same_sort_key (sort_key_in r) (sort_key_in x)) none), more xs each.1)
       where
-        by : (b : Bool) → cond b (Some (item_in r)) (found (place_in x) rs) ≡ None → ⊥
+        by : (b : Bool) → cond b (Some (item_in r)) (found (sort_key_in x) rs) ≡ None → ⊥
         by true none = none-some (item_in r) (sym none)
         by false none = each.0 none
 
-same_at : (p : List ℕ) (rows : List Row) (items : List Item) → AllByRecursion (λ r. row_at place_of (place_in r) items ≡ Some (item_in r)) rows → AllByRecursion (λ item. found (place_of item) rows ≡ None → ⊥) items
-    → row_at place_of p items ≡ found p rows
+same_at : (p : List ℕ) (rows : List Row) (items : List Item) → AllByRecursion (λ r. row_at sort_key_of (sort_key_in r) items ≡ Some (item_in r)) rows → AllByRecursion (λ item. found (sort_key_of item) rows ≡ None → ⊥) items
+    → row_at sort_key_of p items ≡ found p rows
 same_at p rows items each back = by (found p rows) refl
   where
-    hit : (xs : List Row) (x : Item) → AllByRecursion (λ r. row_at place_of (place_in r) items ≡ Some (item_in r)) xs → found p xs ≡ Some x → row_at place_of p items ≡ Some x
+    hit : (xs : List Row) (x : Item) → AllByRecursion (λ r. row_at sort_key_of (sort_key_in r) items ≡ Some (item_in r)) xs → found p xs ≡ Some x → row_at sort_key_of p items ≡ Some x
     hit [] x all e = absurd (none-some x e)
-    hit (r ∷ rs) x all e = at (hit rs x all.1) (same_place (place_in r) p) refl e
+    hit (r ∷ rs) x all e = at (hit rs x all.1) (same_sort_key (sort_key_in r) p) refl e
       where
-        at : (found p rs ≡ Some x → row_at place_of p items ≡ Some x) → (b : Bool) → same_place (place_in r) p ≡ b → cond b (Some (item_in r)) (found p rs) ≡ Some x → row_at place_of p items ≡ Some x
-        at rest true same e = ap (λ q. row_at place_of q items) (sym (same_place_exact (place_in r) p same)) ∙ all.0 ∙ e
+        at : (found p rs ≡ Some x → row_at sort_key_of p items ≡ Some x) → (b : Bool) → same_sort_key (sort_key_in r) p ≡ b → cond b (Some (item_in r)) (found p rs) ≡ Some x → row_at sort_key_of p items ≡ Some x
+        at rest true same e = ap (λ q. row_at sort_key_of q items) (sym (same_sort_key_exact (sort_key_in r) p same)) ∙ all.0 ∙ e
         at rest false other e = rest e
 
-    miss : (xs : List Item) → AllByRecursion (λ item. found (place_of item) rows ≡ None → ⊥) xs → found p rows ≡ None → row_at place_of p xs ≡ None
+    miss : (xs : List Item) → AllByRecursion (λ item. found (sort_key_of item) rows ≡ None → ⊥) xs → found p rows ≡ None → row_at sort_key_of p xs ≡ None
     miss [] all none = refl
-    miss (x ∷ xs) all none = at (miss xs all.1 none) (same_place (place_of x) p) refl
+    miss (x ∷ xs) all none = at (miss xs all.1 none) (same_sort_key (sort_key_of x) p) refl
       where
-        at : row_at place_of p xs ≡ None → (b : Bool) → same_place (place_of x) p ≡ b → cond b (Some x) (row_at place_of p xs) ≡ None
-        at rest true same = absurd (all.0 (ap (λ q. found q rows) (same_place_exact (place_of x) p same) ∙ none))
+        at : row_at sort_key_of p xs ≡ None → (b : Bool) → same_sort_key (sort_key_of x) p ≡ b → cond b (Some x) (row_at sort_key_of p xs) ≡ None
+        at rest true same = absurd (all.0 (ap (λ q. found q rows) (same_sort_key_exact (sort_key_of x) p same) ∙ none))
         at rest false other = rest
 
-    by : (o : Option Item) → found p rows ≡ o → row_at place_of p items ≡ found p rows
+    by : (o : Option Item) → found p rows ≡ o → row_at sort_key_of p items ≡ found p rows
     by (Some x) e = hit rows x each e ∙ sym e
     by None e = miss items back e ∙ sym e
 
 pub shown_items : (rows answer : List Row) → IsPermutation (map shown_row rows) answer → IsOrdered (map item_shown answer) → map item_shown answer ≡ items_in rows
 shown_items rows answer same up =
     let items = map item_shown answer in
-    let each = all_unmap (λ s. row_at place_of (place_of (item_shown s)) items ≡ Some (item_shown s)) shown_row rows
-    (across (λ s. row_at place_of (place_of (item_shown s)) items ≡ Some (item_shown s)) (map shown_row rows) answer same (all_unmap (λ item. row_at place_of (place_of item) items ≡ Some item) item_shown answer (first_at items up))) in
-    let back = all-map (λ item. found (place_of item) rows ≡ None → ⊥) item_shown answer
-    (across (λ s. found (place_of (item_shown s)) rows ≡ None → ⊥) answer (map shown_row rows) (IsPermutation-sym (map shown_row rows) answer same) (all-map (λ s. found (place_of (item_shown s)) rows ≡ None → ⊥) shown_row rows (found_some rows))) in
-    same_rows place_of items (items_in rows) up (items_ascend rows) (λ p. same_at p rows items each back ∙ sym (item_at rows p))
+    let each = all_unmap (λ s. row_at sort_key_of (sort_key_of (item_shown s)) items ≡ Some (item_shown s)) shown_row rows
+    (across (λ s. row_at sort_key_of (sort_key_of (item_shown s)) items ≡ Some (item_shown s)) (map shown_row rows) answer same (all_unmap (λ item. row_at sort_key_of (sort_key_of item) items ≡ Some item) item_shown answer (first_at items up))) in
+    let back = all-map (λ item. found (sort_key_of item) rows ≡ None → ⊥) item_shown answer
+    (across (λ s. found (sort_key_of (item_shown s)) rows ≡ None → ⊥) answer (map shown_row rows) (IsPermutation-sym (map shown_row rows) answer same) (all-map (λ s. found (sort_key_of (item_shown s)) rows ≡ None → ⊥) shown_row rows (found_some rows))) in
+    same_rows sort_key_of items (items_in rows) up (items_ascend rows) (λ p. same_at p rows items each back ∙ sym (item_at rows p))
 
 -- what an open has shown of a database
 pub holds_from : (first mid new : State) (items : List Item) → IsDatabase first.now → first.now.schema ≡ item_schema → mid.now ≡ first.now → new.now ≡ mid.now → HaveIds (first.now.trees 0) → HaveItems (mid.now.trees 0) → items ≡ items_of mid.now

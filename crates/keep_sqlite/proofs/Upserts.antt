@@ -33,17 +33,17 @@ use Rattle.sqlite.specs.State.{State, mode_of, Executes}
 use Rattle.sqlite.proofs.Callers.{statement_of, runs_as, one_step, one_permutation}
 use Rattle.std.specs.List.Sorted.{IsPermutation}
 use Rattle.std.proofs.Math.Bool.{and-true}
-use Rattle.sorted_rows.specs.Placed.{same_place, set_row}
-use Rattle.sorted_rows.proofs.PlacedLaws.{same_place_exact}
+use Rattle.sorted_rows.specs.Sortable.{same_sort_key, set_row}
+use Rattle.sorted_rows.proofs.SortableLaws.{same_sort_key_exact}
 use Rattle.mud_world.specs.declared.item.Item.{Item}
-use Rattle.mud_world.specs.Items.{place_of}
+use Rattle.mud_world.specs.Items.{sort_key_of}
 use Rattle.keep_sqlite.specs.Table.{item_table, item_schema}
 use Rattle.keep_sqlite.specs.Rows.{stored, item_in, items_in, items_of, id_of, IsItemRow, AreDistinct, HoldsItems}
 use Rattle.keep_sqlite.proofs.Texts.{upsert_text, update_query, upsert_clause, upsert_is, upsert_plain}
-use Rattle.keep_sqlite.proofs.Lookups.{place_in, Apart, items_ascend, items-filter, items-put_row, set-without}
+use Rattle.keep_sqlite.proofs.Lookups.{sort_key_in, Apart, items_ascend, items-filter, items-put_row, set-without}
 use Rattle.keep_sqlite.proofs.Ids.{has_rowid_is, has_its_rowid, all-filter, all-put_row, distinct-filter, distinct-put_row}
 use Rattle.keep_sqlite.proofs.Comparisons.{equal_ints}
-use Rattle.keep_sqlite.proofs.Unique.{all_from, any_false, conflicts_is, only_one, chooses_place}
+use Rattle.keep_sqlite.proofs.Unique.{all_from, any_false, conflicts_is, only_one, chooses_sort_key}
 use Rattle.keep_sqlite.proofs.Parts.{went, same_value, one_table}
 
 -- ---- what the columns make of the values
@@ -66,10 +66,10 @@ cast_int n = either _ (Int n)
 pub record Sets (old new : List Row) (item : Item) : Type 0 where
   pub rows : AllByRecursion IsItemRow new
   pub distinct : AreDistinct new
-  pub items : items_in new ≡ set_row place_of item (items_in old)
+  pub items : items_in new ≡ set_row sort_key_of item (items_in old)
 
 sets_fresh : (old : List Row) (id : ℤ) (item : Item) → item.kind < 256 → AllByRecursion IsItemRow old → AreDistinct old → AllByRecursion (λ r. has_rowid id r ≡ false) old
-    → AllByRecursion (λ r. same_place (place_in r) (place_of item) ≡ false) old → Sets old (put_row (stored id item) old) item
+    → AllByRecursion (λ r. same_sort_key (sort_key_in r) (sort_key_of item) ≡ false) old → Sets old (put_row (stored id item) old) item
 sets_fresh old id item low items apart fresh other = record {
   rows = all-put_row IsItemRow (stored id item) old (id, item, low, refl) items;
   distinct = distinct-put_row (stored id item) old (far old items fresh) apart;
@@ -80,22 +80,22 @@ sets_fresh old id item low items apart fresh other = record {
     far [] all fresh = tt
     far (r ∷ rs) all fresh = ((λ e. false≢true (sym fresh.0 ∙ ap (λ n. has_rowid n r) e ∙ has_its_rowid r all.0)), far rs all.1 fresh.1)
 
-    aparts : (rows : List Row) → AllByRecursion (λ r. has_rowid id r ≡ false) rows → AllByRecursion (λ r. same_place (place_in r) (place_of item) ≡ false) rows → AllByRecursion (Apart (stored id item)) rows
+    aparts : (rows : List Row) → AllByRecursion (λ r. has_rowid id r ≡ false) rows → AllByRecursion (λ r. same_sort_key (sort_key_in r) (sort_key_of item) ≡ false) rows → AllByRecursion (Apart (stored id item)) rows
     aparts [] fresh other = tt
     aparts (r ∷ rs) fresh other = (((λ e. false≢true (sym fresh.0 ∙ ap is_eq e)), other.0), aparts rs fresh.1 other.1)
 
--- the row of the place is replaced
-sets_there : (db : Database) → HoldsItems db → (r : Row) → Has (db.trees 0) r → (item : Item) → item.kind < 256 → place_in r ≡ place_of item
+-- the row of the sort key is replaced
+sets_there : (db : Database) → HoldsItems db → (r : Row) → Has (db.trees 0) r → (item : Item) → item.kind < 256 → sort_key_in r ≡ sort_key_of item
     → Sets (db.trees 0) (put_row (stored (id_of r) item) (filter (λ s. not (has_rowid (id_of r) s)) (db.trees 0))) item
 sets_there db holds r has item low same =
     let rows = db.trees 0 in
     let left = filter (λ s. not (has_rowid (id_of r) s)) rows in
-    let chosen = subst (λ p. AllByRecursion (λ s. has_rowid (id_of r) s ≡ same_place (place_in s) p) rows) same (chooses_place db holds r has) in
-    let more = sets_fresh left (id_of r) item low (all-filter IsItemRow _ rows holds.rows) (distinct-filter _ rows holds.distinct) (passes rows) (others left (all-filter (λ s. has_rowid (id_of r) s ≡ same_place (place_in s) (place_of item)) _ rows chosen) (passes rows)) in
+    let chosen = subst (λ p. AllByRecursion (λ s. has_rowid (id_of r) s ≡ same_sort_key (sort_key_in s) p) rows) same (chooses_sort_key db holds r has) in
+    let more = sets_fresh left (id_of r) item low (all-filter IsItemRow _ rows holds.rows) (distinct-filter _ rows holds.distinct) (passes rows) (others left (all-filter (λ s. has_rowid (id_of r) s ≡ same_sort_key (sort_key_in s) (sort_key_of item)) _ rows chosen) (passes rows)) in
     record {
       rows = more.rows;
       distinct = more.distinct;
-      items = more.items ∙ ap (set_row place_of item) (items-filter (place_of item) (has_rowid (id_of r)) rows chosen) ∙ set-without item (items_in rows) (items_ascend rows);
+      items = more.items ∙ ap (set_row sort_key_of item) (items-filter (sort_key_of item) (has_rowid (id_of r)) rows chosen) ∙ set-without item (items_in rows) (items_ascend rows);
     }
   where
     passes : (rows : List Row) → AllByRecursion (λ s. has_rowid (id_of r) s ≡ false) (filter (λ s. not (has_rowid (id_of r) s)) rows)
@@ -107,8 +107,8 @@ sets_there db holds r has item low same =
         by rest true e = rest
         by rest false e = (e, rest)
 
-    others : (rows : List Row) → AllByRecursion (λ s. has_rowid (id_of r) s ≡ same_place (place_in s) (place_of item)) rows → AllByRecursion (λ s. has_rowid (id_of r) s ≡ false) rows
-        → AllByRecursion (λ s. same_place (place_in s) (place_of item) ≡ false) rows
+    others : (rows : List Row) → AllByRecursion (λ s. has_rowid (id_of r) s ≡ same_sort_key (sort_key_in s) (sort_key_of item)) rows → AllByRecursion (λ s. has_rowid (id_of r) s ≡ false) rows
+        → AllByRecursion (λ s. same_sort_key (sort_key_in s) (sort_key_of item) ≡ false) rows
     others [] all none = tt
     others (s ∷ ss) all none = (sym all.0 ∙ none.0, others ss all.1 none.1)
 
@@ -127,8 +127,8 @@ module _ (item : Item) (low : item.kind < 256) where
     task = record { limit = limit; keys = Enforced; schema = item_schema; table = item_table; params = params }
 
     module _ (db : Database) (holds : HoldsItems db) (id : ℤ) where
-      -- no row has the place
-      puts : (one : Written) → AllByRecursion (λ r. same_place (place_in r) (place_of item) ≡ false) (db.trees 0) → Puts task (stored id item) db.trees (Ok one) → Sets (db.trees 0) (one.trees 0) item
+      -- no row has the sort key
+      puts : (one : Written) → AllByRecursion (λ r. same_sort_key (sort_key_in r) (sort_key_of item) ≡ false) (db.trees 0) → Puts task (stored id item) db.trees (Ok one) → Sets (db.trees 0) (one.trees 0) item
       puts one other h =
           let put = went h in
           let applies = one_step item_schema Enforced db.trees put.0 (edit_of db.trees item_table [] Given 0 (stored id item ∷ [])) refl put.1 in
@@ -143,8 +143,8 @@ module _ (item : Item) (low : item.kind < 256) where
           not_and true e = absurd (false≢true e)
           not_and false e = refl
 
-      -- a row that has the place
-      module _ (r : Row) (has : Has (db.trees 0) r) (same : place_in r ≡ place_of item) where
+      -- a row that has the sort key
+      module _ (r : Row) (has : Has (db.trees 0) r) (same : sort_key_in r ≡ sort_key_of item) where
         abbrev given : Row
         given = params ++ Int (id_of r) ∷ shown item_table (stored id item)
 
@@ -204,7 +204,7 @@ module _ (item : Item) (low : item.kind < 256) where
       meets [] one conf h =
           puts one (all_from (db.trees 0) (λ r there.
           let item_row = all_has IsItemRow (db.trees 0) r holds.rows there in
-          elim (cases_Bool (same_place (place_in r) (place_of item))) [
+          elim (cases_Bool (same_sort_key (sort_key_in r) (sort_key_of item))) [
             | inl same ↦ absurd (conf.complete r there (conflicts_is (stored id item) r new_is item_row ∙ same))
             | inr other ↦ other
           ])) (clears h.0 h.2)
@@ -215,7 +215,7 @@ module _ (item : Item) (low : item.kind < 256) where
       meets (there ∷ more) one conf h =
           let it = conf.sound there (inl refl) in
           let item_row = all_has IsItemRow (db.trees 0) it.0 holds.rows it.1 in
-          let same : place_in it.0 ≡ place_of item = same_place_exact (place_in it.0) (place_of item) (sym (conflicts_is (stored id item) it.0 new_is item_row) ∙ it.2) in
+          let same : sort_key_in it.0 ≡ sort_key_of item = same_sort_key_exact (sort_key_in it.0) (sort_key_of item) (sym (conflicts_is (stored id item) it.0 new_is item_row) ∙ it.2) in
           let id_is : rowid it.0 ≡ Int (id_of it.0) = ap rowid item_row.3 ∙ sym (ap (λ x. Int (id_of x)) item_row.3) in
           updates it.0 it.1 same one (subst (λ v. Updates task (record { lets = []; body = update_query }) (params ++ v ∷ shown item_table (stored id item)) db.trees (Ok one)) (ap rowid it.3 ∙ id_is) h)
 
@@ -228,7 +228,7 @@ module _ (item : Item) (low : item.kind < 256) where
         judged (Some why) j = absurd (let e = j in cc)
 
   -- the items are those of before with this one in its place
-  pub upserts : (old new : State) (r : Result ℕ Error) → HoldsItems old.now → Executes upsert_text params old new r → OnOk r (HoldsItems new.now × (items_of new.now ≡ set_row place_of item (items_of old.now)))
+  pub upserts : (old new : State) (r : Result ℕ Error) → HoldsItems old.now → Executes upsert_text params old new r → OnOk r (HoldsItems new.now × (items_of new.now ≡ set_row sort_key_of item (items_of old.now)))
   upserts old new (Err e) holds h = tt
   upserts old new (Ok count) holds h =
       let db = old.now.trees in

@@ -8,9 +8,9 @@ use Rattle.sqlite_trees.specs.Tree.{Trees, rowid}
 use Rattle.sqlite.specs.Edit.{id_in}
 use Rattle.sqlite.specs.Effect.{Database, IsDatabase}
 use Rattle.sqlite.specs.Table.{Table}
-use Rattle.sorted_rows.specs.Placed.{set_row}
+use Rattle.sorted_rows.specs.Sortable.{set_row}
 use Rattle.mud_world.specs.declared.item.Item.{Item}
-use Rattle.mud_world.specs.Items.{place_of}
+use Rattle.mud_world.specs.Items.{sort_key_of}
 use Rattle.keep_sqlite.specs.Table.{item_schema, no_schema}
 
 abbrev pub kind_in : Value → ℕ
@@ -28,7 +28,7 @@ item_in row = record { kind = kind_in (column row 1); key = octets_in (column ro
 -- the items of the rows, each in its place by kind and then key, whatever the order of the rows
 abbrev pub items_in : List Row → List Item
 items_in [] = []
-items_in (row ∷ rows) = set_row place_of (item_in row) (items_in rows)
+items_in (row ∷ rows) = set_row sort_key_of (item_in row) (items_in rows)
 
 -- the row of an item: the rowid, and then the columns
 abbrev pub stored : ℤ → Item → Row

@@ -62,7 +62,7 @@ fn put_one<S: Alter>(tx: &mut Transaction<'_, S>, put: &Put) -> Result<(), Error
     }
 }
 
-/// Puts an item in, instead of the one of its place if there is one.
+/// Puts an item in, instead of the one of its sort key if there is one.
 fn set<S: Alter>(
     tx: &mut Transaction<'_, S>,
     kind: u8,
@@ -82,7 +82,7 @@ fn set<S: Alter>(
     Ok(())
 }
 
-/// Takes out the item of a place, if there is one.
+/// Takes out the item of a sort key, if there is one.
 fn take_out<S: Alter>(tx: &mut Transaction<'_, S>, kind: u8, key: &Bytes) -> Result<(), Error>
     ensures same_reference { tx.new.conn.ghost_name ≡ tx.old.conn.ghost_name }
     ensures crash { LeavesNothing S.Store tx.old.conn.now tx.new.conn.now }

@@ -16,7 +16,7 @@ ghost use Rattle.keep_sqlite.specs.Batches.{LeavesNothing, Stays};
 use crate::refusal::{Refusal, refusal_of};
 use mud_base::{Bytes, Listed};
 use mud_world::Item;
-use sorted_rows::Placed;
+use sorted_rows::Sortable;
 use sqlite::types::ValueRef;
 use sqlite::{Alter, Connection, Error, Row};
 use std::alloc::Global;
@@ -105,7 +105,7 @@ fn item_in(alloc: Global, row: &Row) -> Result<Item, Refusal>
     Ok(Item { kind, key, body })
 }
 
-/// Whether each item's place is before the next one's.
+/// Whether each item's sort key is before the next one's.
 fn are_ordered(items: &[Item]) -> bool
     ensures { IsTrue result → IsOrdered items.now }
 {

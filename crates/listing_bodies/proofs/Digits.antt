@@ -30,18 +30,18 @@ three_digits n low high =
     ∙ ap (λ (first : ℕ). (48 + first) ∷ (48 + n / 10 % 10) ∷ (48 + n % 10) ∷ []) hundreds
 
 -- the digits of an octet, one behind the other
-pub one_placed : (s a : List ℕ) (n : ℕ) → n < 10 → a ≡ s ++ (48 + n) ∷ [] → a ≡ s ++ decimal n
-one_placed s a n low first = first ∙ ap (λ (digits : List ℕ). s ++ digits) (sym (decimal_digit n low))
+pub one_put : (s a : List ℕ) (n : ℕ) → n < 10 → a ≡ s ++ (48 + n) ∷ [] → a ≡ s ++ decimal n
+one_put s a n low first = first ∙ ap (λ (digits : List ℕ). s ++ digits) (sym (decimal_digit n low))
 
-pub two_placed : (s a b : List ℕ) (n : ℕ) → 10 ≤ n → n < 100 → a ≡ s ++ (48 + n / 10) ∷ [] → b ≡ a ++ (48 + n % 10) ∷ [] → b ≡ s ++ decimal n
-two_placed s a b n low high first second =
+pub two_put : (s a b : List ℕ) (n : ℕ) → 10 ≤ n → n < 100 → a ≡ s ++ (48 + n / 10) ∷ [] → b ≡ a ++ (48 + n % 10) ∷ [] → b ≡ s ++ decimal n
+two_put s a b n low high first second =
     second
     ∙ ap (λ (front : List ℕ). front ++ (48 + n % 10) ∷ []) first
     ∙ append_assoc s ((48 + n / 10) ∷ []) ((48 + n % 10) ∷ [])
     ∙ ap (λ (digits : List ℕ). s ++ digits) (sym (two_digits n low high))
 
-pub three_placed : (s a b c : List ℕ) (n : ℕ) → 100 ≤ n → n < 256 → a ≡ s ++ (48 + n / 100) ∷ [] → b ≡ a ++ (48 + n / 10 % 10) ∷ [] → c ≡ b ++ (48 + n % 10) ∷ [] → c ≡ s ++ decimal n
-three_placed s a b c n low high first second third =
+pub three_put : (s a b c : List ℕ) (n : ℕ) → 100 ≤ n → n < 256 → a ≡ s ++ (48 + n / 100) ∷ [] → b ≡ a ++ (48 + n / 10 % 10) ∷ [] → c ≡ b ++ (48 + n % 10) ∷ [] → c ≡ s ++ decimal n
+three_put s a b c n low high first second third =
     third
     ∙ ap (λ (front : List ℕ). front ++ (48 + n % 10) ∷ []) (second ∙ ap (λ (front : List ℕ). front ++ (48 + n / 10 % 10) ∷ []) first ∙ append_assoc s ((48 + n / 100) ∷ []) ((48 + n / 10 % 10) ∷ []))
     ∙ append_assoc s ((48 + n / 100) ∷ (48 + n / 10 % 10) ∷ []) ((48 + n % 10) ∷ [])

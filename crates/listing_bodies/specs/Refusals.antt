@@ -20,16 +20,16 @@ use Rattle.console_bodies.specs.declared.fault.BodyFault.{BodyFault}
 use Rattle.console_bodies.specs.declared.fault.BodyFault.TheVariants as fault
 use Rattle.console_bodies.specs.Members.{name_of}
 
--- where a fault is, where it has a place
-unfoldable pub place_member : Option ℕ → List ℕ
-place_member None = []
-place_member (Some place) = codes "\"at\":" ++ decimal place ++ codes ","
+-- where a fault is, where it has an offset
+unfoldable pub offset_member : Option ℕ → List ℕ
+offset_member None = []
+offset_member (Some offset) = codes "\"at\":" ++ decimal offset ++ codes ","
 
 unfoldable pub refused_members : ℕ → List ℕ → List ℕ
 refused_members number name = codes "\"refused\":" ++ decimal number ++ codes ",\"rule\":" ++ quoted name
 
 unfoldable pub url_fault_text : UrlFault → List ℕ
-url_fault_text f = codes "{" ++ place_member (url_fault.place_of f) ++ refused_members (url_fault.number_of f) (url_fault.name_of f) ++ codes "}"
+url_fault_text f = codes "{" ++ offset_member (url_fault.offset_of f) ++ refused_members (url_fault.number_of f) (url_fault.name_of f) ++ codes "}"
 
 unfoldable pub url_member : Option UrlFault → List ℕ
 url_member None = []
@@ -38,7 +38,7 @@ url_member (Some f) = codes ",\"url\":" ++ url_fault_text f
 -- ---- Bodies of requests
 
 unfoldable pub heard_fault_body : HearFault → List ℕ
-heard_fault_body f = codes "{" ++ place_member (hear_fault.place_of f) ++ refused_members (hear_fault.number_of f) (hear_fault.name_of f) ++ url_member (hear_fault.url_fault_of f) ++ codes "}"
+heard_fault_body f = codes "{" ++ offset_member (hear_fault.offset_of f) ++ refused_members (hear_fault.number_of f) (hear_fault.name_of f) ++ url_member (hear_fault.url_fault_of f) ++ codes "}"
 
 unfoldable pub json_body : List ℕ
 json_body = codes "{\"rule\":\"json\"}"

@@ -24,11 +24,11 @@ use Rattle.listing_bodies.specs.Lists.{list_text, listing_body}
 unfoldable pub until_end : ℕ → List ℕ
 until_end until = codes ",\"until\":" ++ until_text until ++ codes "}"
 
-unfoldable pub ending_of : Addr → ℕ → List ℕ
-ending_of address until = codes "{\"address\":" ++ quoted (addr_text address) ++ until_end until
+unfoldable pub expiring_of : Addr → ℕ → List ℕ
+expiring_of address until = codes "{\"address\":" ++ quoted (addr_text address) ++ until_end until
 
-abbrev pub ending_text : Addr × ℕ → List ℕ
-ending_text row = ending_of row.0 row.1
+abbrev pub expiring_text : Addr × ℕ → List ℕ
+expiring_text row = expiring_of row.0 row.1
 
 unfoldable pub url_end : List ℕ → List ℕ
 url_end url = codes ",\"url\":" ++ quoted url ++ codes "}"
@@ -42,7 +42,7 @@ network_text prefix = quoted (prefix_text prefix)
 -- ---- Things
 
 unfoldable pub leases_text : Thing → List ℕ
-leases_text t = codes "{\"held\":" ++ truth_text t.held ++ codes ",\"leases\":" ++ list_text ending_text t.leases
+leases_text t = codes "{\"held\":" ++ truth_text t.held ++ codes ",\"leases\":" ++ list_text expiring_text t.leases
 
 unfoldable pub urls_text : Option (List ℕ) → List ℕ → List ℕ
 urls_text pending url = codes ",\"pending\":" ++ url_text pending ++ url_end url
@@ -72,7 +72,7 @@ unfoldable pub locals_body : List PrefixParts → List ℕ
 locals_body locals = listing_body network_text (codes "locals") locals
 
 unfoldable pub endings_text : List (Addr × ℕ) → List ℕ
-endings_text rows = codes "{\"addresses\":" ++ list_text ending_text rows
+endings_text rows = codes "{\"addresses\":" ++ list_text expiring_text rows
 
 unfoldable pub name_end : List ℕ → List ℕ
 name_end name = codes ",\"name\":" ++ quoted name ++ codes "}"

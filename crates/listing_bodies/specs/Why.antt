@@ -8,7 +8,7 @@ use Rattle.acl_model.specs.declared.ruling.Ruling.{Ruling}
 use Rattle.acl_model.specs.declared.ruling.Ruling.TheVariants.{Accept, AcceptDefault, Drop, DropDefault, DropHeld}
 use Rattle.packet_judge.specs.declared.verdict.Verdict.{Verdict}
 use Rattle.reply_lines.specs.Verdicts.{ruling_text, verdict_text}
-use Rattle.listing_bodies.specs.declared.why.RuledEnd.{RuledEnd}
+use Rattle.listing_bodies.specs.declared.why.RuledEndpoint.{RuledEndpoint}
 use Rattle.listing_bodies.specs.Rows.{url_end}
 
 -- the number of the entry that a ruling names
@@ -37,13 +37,13 @@ mac_member mac = codes ",\"mac\":" ++ quoted (mac_text mac)
 unfoldable pub ruling_member : Ruling → List ℕ
 ruling_member ruling = codes ",\"ruling\":" ++ quoted (ruling_text ruling)
 
-unfoldable pub end_text : RuledEnd → List ℕ
-end_text end = entry_text (entry_number end.ruling) (option_map (λ e. e.now) end.entry) ++ mac_member end.mac ++ ruling_member end.ruling ++ url_end end.url.now
+unfoldable pub endpoint_text : RuledEndpoint → List ℕ
+endpoint_text ruled = entry_text (entry_number ruled.ruling) (option_map (λ e. e.now) ruled.entry) ++ mac_member ruled.mac ++ ruling_member ruled.ruling ++ url_end ruled.url.now
 
--- null where an end is no Thing, and where nothing is decided
-unfoldable pub side_text : Option RuledEnd → List ℕ
+-- null where an endpoint is no Thing, and where nothing is decided
+unfoldable pub side_text : Option RuledEndpoint → List ℕ
 side_text None = codes "null"
-side_text (Some end) = end_text end
+side_text (Some ruled) = endpoint_text ruled
 
 unfoldable pub verdict_text_member : List ℕ → List ℕ
 verdict_text_member text = codes ",\"verdict\":" ++ quoted text
@@ -54,5 +54,5 @@ verdict_member verdict = verdict_text_member (verdict_text verdict)
 unfoldable pub verdict_end : Verdict → List ℕ
 verdict_end verdict = verdict_member verdict ++ codes "}"
 
-unfoldable pub why_body : Option RuledEnd → Option RuledEnd → Verdict → List ℕ
+unfoldable pub why_body : Option RuledEndpoint → Option RuledEndpoint → Verdict → List ℕ
 why_body source destination verdict = codes "{\"from\":" ++ side_text source ++ codes ",\"to\":" ++ side_text destination ++ verdict_end verdict

@@ -39,8 +39,8 @@ fn mac_octets(mac: Mac) -> [u8; 17]
 /// The most octets of the text of an IPv4 address.
 const LONGEST_V4: usize = 15;
 
-/// Writes an octet at a place, and says where the next one stands.
-fn place(text: &mut [u8; LONGEST_V4], at: usize, octet: u8) -> usize
+/// Writes an octet at an offset, and says where the next one stands.
+fn put_octet(text: &mut [u8; LONGEST_V4], at: usize, octet: u8) -> usize
     requires { at < 15 }
     ensures text { take result text.new ≡ take at text.old ++ octet ∷ [] }
     ensures end { result ≡ at + 1 }
@@ -49,39 +49,39 @@ fn place(text: &mut [u8; LONGEST_V4], at: usize, octet: u8) -> usize
     at + 1
 }
 
-/// Writes the decimal digits of an octet at a place, and says where they end.
-#[tactic(auto, using(crate::proofs::Digits::one_placed, crate::proofs::Digits::two_placed, crate::proofs::Digits::three_placed))]
-fn place_decimal(text: &mut [u8; LONGEST_V4], at: usize, octet: u8) -> usize
+/// Writes the decimal digits of an octet at an offset, and says where they end.
+#[tactic(auto, using(crate::proofs::Digits::one_put, crate::proofs::Digits::two_put, crate::proofs::Digits::three_put))]
+fn put_decimal(text: &mut [u8; LONGEST_V4], at: usize, octet: u8) -> usize
     requires { at ≤ 12 }
     ensures text { take result text.new ≡ take at text.old ++ decimal octet }
     ensures end { result ≤ at + 3 }
 {
     if octet < 10 {
-        return place(text, at, b'0' + octet);
+        return put_octet(text, at, b'0' + octet);
     }
     if octet < 100 {
-        let second = place(text, at, b'0' + octet / 10);
-        return place(text, second, b'0' + octet % 10);
+        let second = put_octet(text, at, b'0' + octet / 10);
+        return put_octet(text, second, b'0' + octet % 10);
     }
-    let second = place(text, at, b'0' + octet / 100);
-    let third = place(text, second, b'0' + octet / 10 % 10);
-    place(text, third, b'0' + octet % 10)
+    let second = put_octet(text, at, b'0' + octet / 100);
+    let third = put_octet(text, second, b'0' + octet / 10 % 10);
+    put_octet(text, third, b'0' + octet % 10)
 }
 
 /// Writes the text of an IPv4 address, and says where it ends.
 #[tactic(auto, unfolding(mud_base::specs::Texts::octets_v4))]
-fn place_dotted(text: &mut [u8; LONGEST_V4], number: u32) -> usize
+fn put_dotted(text: &mut [u8; LONGEST_V4], number: u32) -> usize
     ensures text { take result text.new ≡ ipv4_text (of.octets_v4 number) }
     ensures end { result ≤ 15 }
 {
     let octets = number.to_be_bytes();
-    let first = place_decimal(text, 0, octets[0]);
-    let dot = place(text, first, b'.');
-    let second = place_decimal(text, dot, octets[1]);
-    let dot = place(text, second, b'.');
-    let third = place_decimal(text, dot, octets[2]);
-    let dot = place(text, third, b'.');
-    place_decimal(text, dot, octets[3])
+    let first = put_decimal(text, 0, octets[0]);
+    let dot = put_octet(text, first, b'.');
+    let second = put_decimal(text, dot, octets[1]);
+    let dot = put_octet(text, second, b'.');
+    let third = put_decimal(text, dot, octets[2]);
+    let dot = put_octet(text, third, b'.');
+    put_decimal(text, dot, octets[3])
 }
 
 /// Adds the text of an IPv4 address.
@@ -89,7 +89,7 @@ fn append_dotted(body: &mut Bytes, number: u32) -> Result<(), Memory>
     ensures { OnOk result (body.new ≡ body.old ++ quoted (ipv4_text (of.octets_v4 number))) }
 {
     let mut text = [0; LONGEST_V4];
-    let end = place_dotted(&mut text, number);
+    let end = put_dotted(&mut text, number);
     append_quoted(body, &text[..end])
 }
 

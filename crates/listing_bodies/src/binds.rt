@@ -66,7 +66,7 @@ fn append_addresses(alloc: Global, body: &mut Bytes, addrs: &[Addr]) -> Result<(
     append_list(alloc, body, addrs)
 }
 
-/// Adds the member that is a list of addresses with their ends, as the first one.
+/// Adds the member that is a list of addresses with their expiries, as the first one.
 #[tactic(auto, unfolding(crate::specs::Rows::endings_text))]
 fn append_endings(alloc: Global, body: &mut Bytes, rows: &[(Addr, End)]) -> Result<(), Memory>
     ensures { OnOk result (body.new ≡ body.old ++ spec.endings_text rows.now) }

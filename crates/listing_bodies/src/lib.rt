@@ -14,4 +14,4 @@ pub use binds::{classes_body, due_body, locals_body, names_body};
 pub use files::files_body;
 pub use refusals::{body_fault_body, refusal_body, refusal_status};
 pub use things::things_body;
-pub use why::{RuledEnd, why_body};
+pub use why::{RuledEndpoint, why_body};

@@ -13,16 +13,16 @@ use mud_url::UrlFault;
 use std::alloc::Global;
 use text_lines::append_decimal;
 
-/// Adds the member that says where a fault is, where it has a place.
-#[tactic(auto, unfolding(crate::specs::Refusals::place_member))]
-fn append_place(body: &mut Bytes, place: Option<usize>) -> Result<(), Memory>
-    ensures { OnOk result (body.new ≡ body.old ++ spec.place_member place) }
+/// Adds the member that says where a fault is, where it has an offset.
+#[tactic(auto, unfolding(crate::specs::Refusals::offset_member))]
+fn append_offset(body: &mut Bytes, offset: Option<usize>) -> Result<(), Memory>
+    ensures { OnOk result (body.new ≡ body.old ++ spec.offset_member offset) }
 {
-    match place {
+    match offset {
         None => Ok(()),
-        Some(place) => {
+        Some(offset) => {
             body.append(b"\"at\":")?;
-            append_decimal(body, place as u64)?;
+            append_decimal(body, offset as u64)?;
             body.append(b",")
         }
     }
@@ -45,7 +45,7 @@ fn append_url_fault(body: &mut Bytes, fault: UrlFault) -> Result<(), Memory>
     ensures { OnOk result (body.new ≡ body.old ++ spec.url_fault_text fault) }
 {
     body.append(b"{")?;
-    append_place(body, fault.place())?;
+    append_offset(body, fault.offset())?;
     append_refused(body, fault.number(), fault.name())?;
     body.append(b"}")
 }
@@ -70,7 +70,7 @@ fn heard_fault_body(alloc: Global, fault: HearFault) -> Result<Bytes, Memory>
     ensures { IfOk result (λ body. body ≡ spec.heard_fault_body fault) }
 {
     let mut body = Bytes::new(alloc, b"{")?;
-    append_place(&mut body, fault.place())?;
+    append_offset(&mut body, fault.offset())?;
     append_refused(&mut body, fault.number(), fault.name())?;
     append_url_member(&mut body, fault.url())?;
     body.append(b"}")?;

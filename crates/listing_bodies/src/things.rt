@@ -1,4 +1,4 @@
-//! Things, and addresses with their ends.
+//! Things, and addresses with their expiries.
 ghost use Rattle.std.specs.Prelude.{◌≡◌, ◌++◌, OnOk, IfOk, codes};
 ghost use Rattle.http_answers.specs.Texts.{url_text};
 ghost use Rattle.listing_bodies.specs.Texts.{truth_text, until_text};
@@ -13,7 +13,7 @@ use mud_url::MudUrl;
 use std::alloc::Global;
 use text_lines::append_decimal;
 
-/// Adds an end: its seconds, or null for what never ends.
+/// Adds an expiry: its seconds, or null for what never expires.
 #[tactic(auto, unfolding(crate::specs::Texts::until_text))]
 fn append_until(body: &mut Bytes, until: End) -> Result<(), Memory>
     ensures { OnOk result (body.new ≡ body.old ++ until_text until) }
@@ -24,7 +24,7 @@ fn append_until(body: &mut Bytes, until: End) -> Result<(), Memory>
     append_decimal(body, until.0)
 }
 
-/// Adds the member that says when something ends, as the last one.
+/// Adds the member that says when something expires, as the last one.
 #[tactic(auto, unfolding(crate::specs::Rows::until_end))]
 fn append_until_end(body: &mut Bytes, until: End) -> Result<(), Memory>
     ensures { OnOk result (body.new ≡ body.old ++ spec.until_end until) }
@@ -44,10 +44,10 @@ pub(crate) fn append_url_end(body: &mut Bytes, url: &MudUrl) -> Result<(), Memor
     body.push(b'}')
 }
 
-/// Adds an address with its end.
-#[tactic(auto, unfolding(crate::specs::Rows::ending_of))]
-fn append_ending(alloc: Global, body: &mut Bytes, address: Addr, until: End) -> Result<(), Memory>
-    ensures { OnOk result (body.new ≡ body.old ++ spec.ending_of address until) }
+/// Adds an address with its expiry.
+#[tactic(auto, unfolding(crate::specs::Rows::expiring_of))]
+fn append_expiring(alloc: Global, body: &mut Bytes, address: Addr, until: End) -> Result<(), Memory>
+    ensures { OnOk result (body.new ≡ body.old ++ spec.expiring_of address until) }
 {
     body.append(b"{\"address\":")?;
     append_address(alloc, body, address)?;
@@ -55,12 +55,12 @@ fn append_ending(alloc: Global, body: &mut Bytes, address: Addr, until: End) -> 
 }
 
 impl JsonRow for (Addr, End) {
-    ghost use Rattle.listing_bodies.specs.Rows.{ending_text};
+    ghost use Rattle.listing_bodies.specs.Rows.{expiring_text};
 
-    ghost text = { ending_text };
+    ghost text = { expiring_text };
 
     fn append(&self, alloc: Global, body: &mut Bytes) -> Result<(), Memory> {
-        append_ending(alloc, body, self.0, self.1)
+        append_expiring(alloc, body, self.0, self.1)
     }
 }
 

@@ -15,9 +15,9 @@ use reply_lines::{append_ruling, append_verdict};
 use std::alloc::Global;
 use text_lines::append_decimal;
 
-/// The Thing at an end of a frame, and what is decided on its packet.
+/// The Thing at an endpoint of a frame, and what is decided on its packet.
 #[derive(Clone, Copy)]
-pub struct RuledEnd<'a> {
+pub struct RuledEndpoint<'a> {
     /// Its hardware address.
     pub mac: Mac,
     /// Its URL, by whose file it is judged.
@@ -97,25 +97,25 @@ fn append_mac_member(body: &mut Bytes, mac: Mac) -> Result<(), Memory>
     append_mac(body, mac)
 }
 
-/// Adds what is decided at an end.
-#[tactic(auto, unfolding(crate::specs::Why::end_text))]
-fn append_end(alloc: Global, body: &mut Bytes, end: &RuledEnd<'_>) -> Result<(), Memory>
-    ensures { OnOk result (body.new ≡ body.old ++ spec.end_text end.now) }
+/// Adds what is decided at an endpoint.
+#[tactic(auto, unfolding(crate::specs::Why::endpoint_text))]
+fn append_endpoint(alloc: Global, body: &mut Bytes, ruled: &RuledEndpoint<'_>) -> Result<(), Memory>
+    ensures { OnOk result (body.new ≡ body.old ++ spec.endpoint_text ruled.now) }
 {
-    append_entry(body, entry_number(end.ruling), end.entry)?;
-    append_mac_member(body, end.mac)?;
-    append_ruling_member(alloc, body, end.ruling)?;
-    append_url_end(body, end.url)
+    append_entry(body, entry_number(ruled.ruling), ruled.entry)?;
+    append_mac_member(body, ruled.mac)?;
+    append_ruling_member(alloc, body, ruled.ruling)?;
+    append_url_end(body, ruled.url)
 }
 
-/// Adds what is decided at an end, or null where it is no Thing or nothing is decided.
+/// Adds what is decided at an endpoint, or null where it is no Thing or nothing is decided.
 #[tactic(auto, unfolding(crate::specs::Why::side_text))]
-fn append_side(alloc: Global, body: &mut Bytes, end: &Option<RuledEnd<'_>>) -> Result<(), Memory>
-    ensures { OnOk result (body.new ≡ body.old ++ spec.side_text end.now) }
+fn append_side(alloc: Global, body: &mut Bytes, ruled: &Option<RuledEndpoint<'_>>) -> Result<(), Memory>
+    ensures { OnOk result (body.new ≡ body.old ++ spec.side_text ruled.now) }
 {
-    match end {
+    match ruled {
         None => body.append(b"null"),
-        Some(end) => append_end(alloc, body, end),
+        Some(ruled) => append_endpoint(alloc, body, ruled),
     }
 }
 
@@ -147,13 +147,13 @@ fn append_verdict_end(alloc: Global, body: &mut Bytes, verdict: &Verdict) -> Res
     body.append(b"}")
 }
 
-/// The body that says what decides a frame: at the end that sent it, at the end that it is for, and
-/// in all.
+/// The body that says what decides a frame: at the endpoint that sent it, at the one that it is
+/// for, and in all.
 #[tactic(auto, unfolding(crate::specs::Why::why_body))]
 pub fn why_body(
     alloc: Global,
-    source: &Option<RuledEnd<'_>>,
-    destination: &Option<RuledEnd<'_>>,
+    source: &Option<RuledEndpoint<'_>>,
+    destination: &Option<RuledEndpoint<'_>>,
     verdict: &Verdict,
 ) -> Result<Bytes, Memory>
     ensures { IfOk result (λ body. body ≡ spec.why_body source.now destination.now verdict.now) }

@@ -58,7 +58,7 @@ fn words(rt: &HostRuntime) -> io::Result<Vec<String>> {
 
 /// The words that name the store and the folder of a command. A command without a store keeps
 /// nothing, and one without a folder lists none.
-fn places(alloc: Global, words: &[String]) -> (&str, &str) {
+fn operands(alloc: Global, words: &[String]) -> (&str, &str) {
     let Some(command) = command_of(alloc, words) else {
         return (IN_MEMORY, "");
     };
@@ -82,7 +82,7 @@ fn take_streams(rt: &HostRuntime) -> [io::Result<<HostRuntime as Files>::File>; 
 fn run_words(rt: HostRuntime, words: &[String]) -> io::Result<u8> {
     let alloc = rt.alloc();
     let _streams = take_streams(&rt);
-    let (store, folder) = places(alloc, words);
+    let (store, folder) = operands(alloc, words);
     let keeper: Box<dyn Keeper> = if store == IN_MEMORY {
         Box::new(alloc, MemoryKeeper::new(alloc, Listed::new(alloc)))?
     } else {

@@ -26,7 +26,7 @@ get_or-bytes_high_first zero n i h = absurd (omega arith)
 get_or-bytes_high_first (suc m) n zero h = ap (λ j. byte_at j n) (omega arith)
 get_or-bytes_high_first (suc m) n (suc i) h = get_or-bytes_high_first m n i (omega arith) ∙ ap (λ j. byte_at j n) (omega arith)
 
--- what the octet at a place is worth in the number
+-- what the octet at an offset is worth in the number
 worth_at : (m n i : ℕ) → i < m → byte_worth (m - 1 - i) (get_or (bytes_high_first m n) i 0) ≡ n / 256 ^ (m - 1 - i) % 256 * 256 ^ (m - 1 - i)
 worth_at m n i h =
     ap (byte_worth (m - 1 - i)) (get_or-bytes_high_first m n i h ∙ byte_at_is (m - 1 - i) n) ∙ byte_worth_is (m - 1 - i) _
@@ -52,7 +52,7 @@ first_octet m n fits =
     pow_pos zero = omega arith
     pow_pos (suc k) = rw (pow-suc 256 k) (omega (arith, pow_pos k))
 
--- the octets up to a place are worth the number without what stands behind them
+-- the octets up to an offset are worth the number without what stands behind them
 front_sum : (m n k : ℕ) → k < m → n < 256 ^ m → sum_through (λ i. byte_worth (m - 1 - i) (get_or (bytes_high_first m n) i 0)) k ≡ n / 256 ^ (m - 1 - k) * 256 ^ (m - 1 - k)
 front_sum zero n zero h fits = absurd (omega arith)
 front_sum (suc m) n zero h fits =

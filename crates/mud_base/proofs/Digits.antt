@@ -18,7 +18,7 @@ pub digits_other : (most n c : ℕ) (cs : List ℕ) → is_ascii_digit c ≡ fal
 unfolding digits_upto
 digits_other most n c cs other = rw other refl
 
--- the same at a place of a text
+-- the same at an offset of a text
 pub digits_step : (most n : ℕ) (text : List ℕ) (i : ℕ) → i < length text → is_ascii_digit (get_or text i 0) ≡ true → digits_upto most n (drop i text) ≡ digits_upto most (n * 10 + (get_or text i 0 - 48)) (drop (i + 1) text)
 digits_step most n text i here digit = ap (digits_upto most n) (drop-cons text i 0 here) ∙ digits_more most n (get_or text i 0) (drop (suc i) text) digit ∙ ap (λ k. digits_upto most (n * 10 + (get_or text i 0 - 48)) (drop k text)) (sym (add-one i))
 

@@ -1,7 +1,7 @@
 -- Fields of a few octets, computed by the definitions.
 use Rattle.std.specs.Prelude.{◌≡◌, ℕ, List, [], ◌∷◌, ◌++◌, true, false, refl}
 use Rattle.mud_base.specs.declared.number.ByteOrder.TheVariants.{Big, Little}
-use Rattle.mud_base.specs.Places.{mac_at, is_group_at}
+use Rattle.mud_base.specs.Offsets.{mac_at, is_group_at}
 use Rattle.mud_base.specs.Numbers.{big_16, big_32, big_128, number_16, number_32}
 use Rattle.mud_base.proofs.FieldsOnLiterals.{fields_on_literals}
 

@@ -21,16 +21,16 @@ lowered-hex_value c d e =
     let small : digit_value c < 16 = ltb-true _ _ below in
     (rw is at small, lowered_digit c small ∙ ap digit_char is)
 
--- the lowered digits at a place are those of the octet
-record LowersTo (text : List ℕ) (place octet : ℕ) : Type 0 where
-  high : to_ascii_lowercase (get_or text place 0) ≡ digit_char (octet / 16)
-  low : to_ascii_lowercase (get_or text (place + 1) 0) ≡ digit_char (octet % 16)
+-- the lowered digits at an offset are those of the octet
+record LowersTo (text : List ℕ) (offset octet : ℕ) : Type 0 where
+  high : to_ascii_lowercase (get_or text offset 0) ≡ digit_char (octet / 16)
+  low : to_ascii_lowercase (get_or text (offset + 1) 0) ≡ digit_char (octet % 16)
 
-octet_at_lowers : (text : List ℕ) (place octet : ℕ) → octet_at text place ≡ Some octet → LowersTo text place octet
+octet_at_lowers : (text : List ℕ) (offset octet : ℕ) → octet_at text offset ≡ Some octet → LowersTo text offset octet
 unfolding octet_at
-octet_at_lowers text place octet e =
-    option_and_then_some _ (hex_value (get_or text place 0)) octet e λ h is_high e'.
-    option_and_then_some _ (hex_value (get_or text (place + 1) 0)) octet e' λ l is_low e''.
+octet_at_lowers text offset octet e =
+    option_and_then_some _ (hex_value (get_or text offset 0)) octet e λ h is_high e'.
+    option_and_then_some _ (hex_value (get_or text (offset + 1) 0)) octet e' λ l is_low e''.
     let whole : h * 16 + l ≡ octet = same_Some _ _ e'' in
     let (h_small, high) = lowered-hex_value _ h is_high in
     let (l_small, low) = lowered-hex_value _ l is_low in

@@ -23,9 +23,9 @@ hex_value-digit_char d small =
     ap (λ v. cond (ltb v 16) (Some v) None) value ∙ ap (λ b. cond b (Some d) None) (lt-ltb d 16 small)
 
 -- two hex digits of an octet spell it
-octet_at-digits : (text : List ℕ) (place octet : ℕ) → octet < 2 ^ 8 → get_or text place 0 ≡ digit_char (octet / 16) → get_or text (place + 1) 0 ≡ digit_char (octet % 16) → octet_at text place ≡ Some octet
+octet_at-digits : (text : List ℕ) (offset octet : ℕ) → octet < 2 ^ 8 → get_or text offset 0 ≡ digit_char (octet / 16) → get_or text (offset + 1) 0 ≡ digit_char (octet % 16) → octet_at text offset ≡ Some octet
 unfolding octet_at
-octet_at-digits text place octet small high low =
+octet_at-digits text offset octet small high low =
     let whole : octet / 16 * 16 + octet % 16 ≡ octet = omega arith in
     rw (high, low, hex_value-digit_char (octet / 16) (omega arith), hex_value-digit_char (octet % 16) (omega arith)) (ap Some whole)
 

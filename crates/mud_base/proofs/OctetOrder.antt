@@ -129,7 +129,7 @@ module _ (n : ℕ) (xs ys : List ℕ) (p : n + 8 ≤ length xs) (q : n + 8 ≤ l
   other_long : 8 ≤ length (drop n ys)
   other_long = omega (arith, q, length-drop n ys)
 
-  -- where the numbers in the eight octets from a place on differ, they decide what is from there on
+  -- where the numbers in the eight octets from an offset on differ, they decide what is from there on
   pub eights_apart : (big_64 n xs ≡ big_64 n ys → ⊥) → nat_cmp (big_64 n xs) (big_64 n ys) ≡ slice_cmp nat_cmp (drop n xs) (drop n ys)
   unfolding big_64
   eights_apart apart =
@@ -143,7 +143,7 @@ module _ (n : ℕ) (xs ys : List ℕ) (p : n + 8 ≤ length xs) (q : n + 8 ≤ l
       sym (ap₂ (slice_cmp nat_cmp) (drop-drop j n xs) (drop-drop j n ys))
       ∙ same_fronts 8 (drop n xs) (drop n ys) long other_long (octets_behind n xs ox) (octets_behind n ys oy) (eight_are (drop n xs) long ∙ same ∙ sym (eight_are (drop n ys) other_long)) j few
 
-  -- where they are the same, what is from a place up to behind them on decides
+  -- where they are the same, what is from an offset up to behind them on decides
   pub eights_alike : big_64 n xs ≡ big_64 n ys → ((k : ℕ) → k ≤ n → slice_cmp nat_cmp (drop k xs) (drop k ys) ≡ slice_cmp nat_cmp xs ys)
       → (k : ℕ) → k ≤ n + 8 → slice_cmp nat_cmp (drop k xs) (drop k ys) ≡ slice_cmp nat_cmp xs ys
   eights_alike same before k within =

@@ -3,7 +3,7 @@ use Rattle.std.proofs.Common.{◌≡◌, ℕ, ◌<◌, ◌≤◌, Bool, cond, lt
 use Rattle.std.specs.List.{before_first, position, position_or_len}
 use Rattle.std.proofs.lemmas.Bool.{cond_both, ltb-true, ltb-false}
 
--- the place that `position` answers is the length of what stands before it
+-- the offset that `position` answers is the length of what stands before it
 pub position_is : (n m : ℕ) (k : ℕ) → Some k ≡ cond (ltb n m) (Some n) None → (n ≡ k) × (k < m)
 position_is n m k =
     cond_both (ltb n m) (Some n) None (λ o. Some k ≡ o → (n ≡ k) × (k < m)) (λ t e. let same : n ≡ k = cc in (same, omega (arith, ltb-true n m t))) (λ t e. cc)

@@ -7,11 +7,11 @@ use Rattle.std.proofs.lemmas.Grind.{common_steps}
 use Rattle.std.specs.List.{position, position_or_len, before_first, after_first}
 
 module _ (p : ℕ → Bool) (text : List ℕ) where
-  pub place_is : (place : ℕ) → position p text ≡ Some place → position_or_len p text ≡ place
-  place_is place found = grind (arith, nat_tests)
+  pub offset_is : (offset : ℕ) → position p text ≡ Some offset → position_or_len p text ≡ offset
+  offset_is offset found = grind (arith, nat_tests)
 
-  pub place_within : (place : ℕ) → position p text ≡ Some place → place < length text
-  place_within place found = grind (arith, nat_tests)
+  pub offset_within : (offset : ℕ) → position p text ≡ Some offset → offset < length text
+  offset_within offset found = grind (arith, nat_tests)
 
   over : position p text ≡ None → length text ≤ position_or_len p text
   over none = grind (arith, nat_tests)

@@ -5,9 +5,9 @@ use Rattle.std.specs.Prelude.{ℕ, Bool, List, [], ◌∷◌, Option, Some, None
 abbrev pub row : {F : Type 0} → Bool → F → Option F
 row holds fault = if holds then Some fault else None
 
--- a row whose fault names the place where it was found
+-- a row whose fault names the offset where it was found
 abbrev pub row_at : {F : Type 0} → (ℕ → F) → Option ℕ → Option F
-row_at fault place = option_map fault place
+row_at fault offset = option_map fault offset
 
 abbrev pub first_row : {F : Type 0} → List (Option F) → Option F
 first_row [] = None

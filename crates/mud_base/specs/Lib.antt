@@ -4,7 +4,7 @@ pub mod Ethernet
 pub mod Faults
 pub mod Numbers
 pub mod Padded
-pub mod Places
+pub mod Offsets
 pub mod Reading
 pub mod Readings
 pub mod Texts

@@ -21,16 +21,16 @@ o >>= f = option_and_then f o
 unfoldable pub hex_value : ℕ → Option ℕ
 hex_value c = if is_digit c 16 then Some (digit_value c) else None
 
--- the octet that the two hex digits at this place spell
+-- the octet that the two hex digits at this offset spell
 unfoldable pub octet_at : List ℕ → ℕ → Option ℕ
-octet_at text place = do
-  high ← hex_value (slice_index text place)
-  low ← hex_value (slice_index text (place + 1))
+octet_at text offset = do
+  high ← hex_value (slice_index text offset)
+  low ← hex_value (slice_index text (offset + 1))
   Some (high * 16 + low)
 
 -- a colon behind each pair of 17 octets but the last
 unfoldable pub has_mac_colons : List ℕ → Bool
-has_mac_colons text = list_all (λ place. slice_index text place == 58) (2 ∷ 5 ∷ 8 ∷ 11 ∷ 14 ∷ [])
+has_mac_colons text = list_all (λ offset. slice_index text offset == 58) (2 ∷ 5 ∷ 8 ∷ 11 ∷ 14 ∷ [])
 
 -- the hardware address of a text: six pairs of hex digits of either case, with colons between them
 unfoldable pub mac_in : List ℕ → Option Mac

@@ -1,5 +1,5 @@
 //! The values that every part of the manager speaks of: hardware and IP addresses, prefixes,
-//! moments, octet strings, lists, and the texts of them; fields of octets by their place, so many
+//! moments, octet strings, lists, and the texts of them; fields of octets by their offset, so many
 //! octets, a hardware address, or a number in either order of its octets; and readings of values
 //! that were taken apart, as a list of checks in an order, and a meaning.
 #![tactic(auto)]
@@ -14,9 +14,9 @@ pub mod listed;
 pub mod memory;
 pub mod moment;
 pub mod number;
+mod offset;
 pub mod order;
 pub mod packet;
-mod place;
 pub mod prefix;
 pub mod read;
 pub mod refusal;
@@ -31,9 +31,9 @@ pub use listed::Listed;
 pub use memory::Memory;
 pub use moment::{End, Moment};
 pub use number::{ByteOrder, big_16, big_32, big_64, big_128, number_16, number_32};
+pub use offset::{is_group_at, mac_at, octets_at};
 pub use order::octets_order;
 pub use packet::{Direction, Fields, Transport};
-pub use place::{is_group_at, mac_at, octets_at};
 pub use prefix::Prefix;
 pub use read::{addr_of, mac_of, moment_of, prefix_of};
 pub use refusal::Refusal;

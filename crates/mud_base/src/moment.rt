@@ -1,4 +1,4 @@
-//! Moments and ends, in whole seconds.
+//! Moments and expiries, in whole seconds.
 ghost use Rattle.std.specs.Prelude.{◌≡◌, ◌≤◌, min, SomeIff};
 
 use std::marker::Model;
@@ -51,8 +51,8 @@ impl Moment {
     }
 }
 
-/// When something ends, in seconds like a [`Moment`]; [`End::NEVER`] means for ever. Contracts see
-/// it as that number.
+/// When something expires, in seconds like a [`Moment`]; [`End::NEVER`] means for ever. Contracts
+/// see it as that number.
 #[derive(Clone, Copy, Debug, PartialEq, Eq, PartialOrd, Ord)]
 pub struct End(pub u64);
 
@@ -67,6 +67,6 @@ impl Model for End {
 }
 
 impl End {
-    /// The end of what lasts for ever.
+    /// The expiry of what lasts for ever.
     pub const NEVER: u64 = u64::MAX;
 }

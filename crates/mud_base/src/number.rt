@@ -1,8 +1,8 @@
-//! Numbers at a place.
+//! Numbers at an offset.
 ghost use Rattle.std.specs.Prelude.{◌≡◌, ◌+◌, ◌≤◌, length};
 ghost use Rattle.mud_base.specs.Numbers as spec;
 
-use crate::place::octets_at;
+use crate::offset::octets_at;
 
 /// The order of the octets of a number.
 #[derive(Clone, Copy, Debug, PartialEq, Eq)]
@@ -14,62 +14,62 @@ pub enum ByteOrder {
     Little,
 }
 
-/// The number in the two octets from a place on, the most significant one first.
+/// The number in the two octets from an offset on, the most significant one first.
 #[tactic(auto, unfolding(crate::specs::Numbers::big_16))]
-pub fn big_16(octets: &[u8], place: usize) -> u16
-    requires { place + 2 ≤ length octets.now }
-    ensures { result ≡ spec.big_16 place octets.now }
+pub fn big_16(octets: &[u8], offset: usize) -> u16
+    requires { offset + 2 ≤ length octets.now }
+    ensures { result ≡ spec.big_16 offset octets.now }
 {
-    u16::from_be_bytes(octets_at(octets, place))
+    u16::from_be_bytes(octets_at(octets, offset))
 }
 
-/// The number in the four octets from a place on, the most significant one first.
+/// The number in the four octets from an offset on, the most significant one first.
 #[tactic(auto, unfolding(crate::specs::Numbers::big_32))]
-pub fn big_32(octets: &[u8], place: usize) -> u32
-    requires { place + 4 ≤ length octets.now }
-    ensures { result ≡ spec.big_32 place octets.now }
+pub fn big_32(octets: &[u8], offset: usize) -> u32
+    requires { offset + 4 ≤ length octets.now }
+    ensures { result ≡ spec.big_32 offset octets.now }
 {
-    u32::from_be_bytes(octets_at(octets, place))
+    u32::from_be_bytes(octets_at(octets, offset))
 }
 
-/// The number in the eight octets from a place on, the most significant one first.
+/// The number in the eight octets from an offset on, the most significant one first.
 #[tactic(auto, unfolding(crate::specs::Numbers::big_64))]
-pub fn big_64(octets: &[u8], place: usize) -> u64
-    requires { place + 8 ≤ length octets.now }
-    ensures { result ≡ spec.big_64 place octets.now }
+pub fn big_64(octets: &[u8], offset: usize) -> u64
+    requires { offset + 8 ≤ length octets.now }
+    ensures { result ≡ spec.big_64 offset octets.now }
 {
-    u64::from_be_bytes(octets_at(octets, place))
+    u64::from_be_bytes(octets_at(octets, offset))
 }
 
-/// The number in the sixteen octets from a place on, the most significant one first.
+/// The number in the sixteen octets from an offset on, the most significant one first.
 #[tactic(auto, unfolding(crate::specs::Numbers::big_128))]
-pub fn big_128(octets: &[u8], place: usize) -> u128
-    requires { place + 16 ≤ length octets.now }
-    ensures { result ≡ spec.big_128 place octets.now }
+pub fn big_128(octets: &[u8], offset: usize) -> u128
+    requires { offset + 16 ≤ length octets.now }
+    ensures { result ≡ spec.big_128 offset octets.now }
 {
-    u128::from_be_bytes(octets_at(octets, place))
+    u128::from_be_bytes(octets_at(octets, offset))
 }
 
-/// The number in the two octets from a place on, in this order.
+/// The number in the two octets from an offset on, in this order.
 #[tactic(auto, unfolding(crate::specs::Numbers::number_16))]
-pub fn number_16(order: ByteOrder, octets: &[u8], place: usize) -> u16
-    requires { place + 2 ≤ length octets.now }
-    ensures { result ≡ spec.number_16 order place octets.now }
+pub fn number_16(order: ByteOrder, octets: &[u8], offset: usize) -> u16
+    requires { offset + 2 ≤ length octets.now }
+    ensures { result ≡ spec.number_16 order offset octets.now }
 {
     match order {
-        ByteOrder::Big => big_16(octets, place),
-        ByteOrder::Little => u16::from_le_bytes(octets_at(octets, place)),
+        ByteOrder::Big => big_16(octets, offset),
+        ByteOrder::Little => u16::from_le_bytes(octets_at(octets, offset)),
     }
 }
 
-/// The number in the four octets from a place on, in this order.
+/// The number in the four octets from an offset on, in this order.
 #[tactic(auto, unfolding(crate::specs::Numbers::number_32))]
-pub fn number_32(order: ByteOrder, octets: &[u8], place: usize) -> u32
-    requires { place + 4 ≤ length octets.now }
-    ensures { result ≡ spec.number_32 order place octets.now }
+pub fn number_32(order: ByteOrder, octets: &[u8], offset: usize) -> u32
+    requires { offset + 4 ≤ length octets.now }
+    ensures { result ≡ spec.number_32 order offset octets.now }
 {
     match order {
-        ByteOrder::Big => big_32(octets, place),
-        ByteOrder::Little => u32::from_le_bytes(octets_at(octets, place)),
+        ByteOrder::Big => big_32(octets, offset),
+        ByteOrder::Little => u32::from_le_bytes(octets_at(octets, offset)),
     }
 }

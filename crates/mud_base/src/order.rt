@@ -18,13 +18,13 @@ fn order_behind_eight(own: &[u8], other: &[u8]) -> Ordering
     ensures { result ≡ slice_cmp nat_cmp own.now other.now }
 {
     let both = own.len().min(other.len());
-    let mut place = 8;
-    while both - place > 8 {
-        let (eight, other_eight) = (big_64(own, place), big_64(other, place));
+    let mut offset = 8;
+    while both - offset > 8 {
+        let (eight, other_eight) = (big_64(own, offset), big_64(other, offset));
         if eight != other_eight {
             return eight.cmp(&other_eight);
         }
-        place += 8;
+        offset += 8;
     }
     let (last, other_last) = (big_64(own, both - 8), big_64(other, both - 8));
     if last != other_last {

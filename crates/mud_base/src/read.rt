@@ -23,12 +23,12 @@ fn hex_value(digit: u8) -> Option<u8>
 }
 
 #[tactic(auto, unfolding(crate::specs::Reading::octet_at))]
-fn octet_at(text: &[u8], place: usize) -> Option<u8>
-    requires { place + 1 < length text.now }
-    ensures { result ≡ spec.octet_at text.now place }
+fn octet_at(text: &[u8], offset: usize) -> Option<u8>
+    requires { offset + 1 < length text.now }
+    ensures { result ≡ spec.octet_at text.now offset }
 {
-    let high = hex_value(text[place])?;
-    let low = hex_value(text[place + 1])?;
+    let high = hex_value(text[offset])?;
+    let low = hex_value(text[offset + 1])?;
     Some(high * 16 + low)
 }
 
@@ -103,15 +103,15 @@ fn first_slash(text: &[u8]) -> Option<usize>
 }
 
 /// What stands before and after the first slash. With no slash nothing stands after it.
-#[tactic(auto, using(crate::proofs::Slashes::place_is, crate::proofs::Slashes::place_within, crate::proofs::Slashes::before_none, crate::proofs::Slashes::after_none))]
+#[tactic(auto, using(crate::proofs::Slashes::offset_is, crate::proofs::Slashes::offset_within, crate::proofs::Slashes::before_none, crate::proofs::Slashes::after_none))]
 fn around_slash(text: &[u8]) -> (&[u8], &[u8])
     ensures before { result.0.now ≡ before_first spec.is_slash text.now }
     ensures after { result.1.now ≡ after_first spec.is_slash text.now }
 {
     match first_slash(text) {
-        Some(place) => {
-            let (before, _) = text.split_at(place);
-            let (_, after) = text.split_at(place + 1);
+        Some(offset) => {
+            let (before, _) = text.split_at(offset);
+            let (_, after) = text.split_at(offset + 1);
             (before, after)
         }
         None => (text, &[]),

@@ -82,7 +82,7 @@ module _ {X : Type 0} {F : X → Type 0} (members : (v : (x : X) × F x) → Gho
           fault = fault;
           steady = steady;
           keeper_fault = λ seven. subst (λ (n : ℕ). Rose n (faults_of members ended.keeper)) same_count (failed seven);
-          same_box = record { object = stays.same_box.object ∙ same_box.object; place = stays.same_box.place ∙ same_box.place };
+          same_box = record { object = stays.same_box.object ∙ same_box.object; pointer = stays.same_box.pointer ∙ same_box.pointer };
         };
         keeper_steady = λ which. unfailed (read_of_import status is which) ∙ same_count;
         runs = λ told tell. inl (record {

@@ -14,8 +14,8 @@ use Rattle.command_words.specs.declared.command.Message.TheVariants.{Dhcp, Lldp}
 use Rattle.mud_file.specs.File.{file_of}
 use Rattle.mud_cli.specs.declared.answer.Input.{Input}
 use Rattle.mud_cli.specs.declared.answer.Input.TheVariants as input
-use Rattle.command_runs.specs.Due.{WritesDue, WritesPart}
-use Rattle.mud_cli.specs.Answers.{answer_to, most_of, status_of, due_of_input}
+use Rattle.command_runs.specs.Output.{WritesOutput, WritesPart}
+use Rattle.mud_cli.specs.Answers.{answer_to, most_of, status_of, output_of_input}
 use Rattle.mud_cli.specs.Check.Answer.{checking}
 use Rattle.mud_cli.specs.Hear.Answer.{answer_of, hearing_within}
 
@@ -49,23 +49,23 @@ answer_to_whole (input.Message Lldp) octets old mid whole = alike_whole 65535 (h
 answer_to_whole input.UsageFile octets old mid whole = alike_whole 262144 (λ octets. checking (file_of octets)) octets old mid checking_of_more whole
 
 -- the answer to what was read, written whole
-pub writes_due : (what : Input) (answer : Answer) (octets : List ℕ) (old mid new : DoorState) → ReadWhole octets (most_of what) old mid → answer ≡ answer_to what octets → new ≡ put_out answer.text mid → WritesDue (due_of_input what old.left) old new (status_of answer)
-writes_due what answer octets old mid new whole answer_is wrote =
-    let due : answer ≡ answer_to what old.left = answer_is ∙ answer_to_whole what octets old mid whole in
+pub writes_output : (what : Input) (answer : Answer) (octets : List ℕ) (old mid new : DoorState) → ReadWhole octets (most_of what) old mid → answer ≡ answer_to what octets → new ≡ put_out answer.text mid → WritesOutput (output_of_input what old.left) old new (status_of answer)
+writes_output what answer octets old mid new whole answer_is wrote =
+    let output : answer ≡ answer_to what old.left = answer_is ∙ answer_to_whole what octets old mid whole in
     record {
       read = octets;
-      status_is = ap status_of due;
+      status_is = ap status_of output;
       left_is = whole.took.left ∙ ap (λ (s : DoorState). octets ++ s.left) (sym wrote);
-      door_is = wrote ∙ ap (λ (a : Answer). put_out a.text mid) due ∙ ap (put_out (answer_to what old.left).text) whole.took.rest ∙ ap (λ (s : DoorState). put_out (answer_to what old.left).text (with_left s.left old)) (sym wrote);
+      door_is = wrote ∙ ap (λ (a : Answer). put_out a.text mid) output ∙ ap (put_out (answer_to what old.left).text) whole.took.rest ∙ ap (λ (s : DoorState). put_out (answer_to what old.left).text (with_left s.left old)) (sym wrote);
     }
 
 -- and in part
-pub writes_part : (what : Input) (answer : Answer) (octets : List ℕ) (old mid new : DoorState) → ReadWhole octets (most_of what) old mid → answer ≡ answer_to what octets → WrotePart answer.text mid new → WritesPart (due_of_input what old.left) old new
+pub writes_part : (what : Input) (answer : Answer) (octets : List ℕ) (old mid new : DoorState) → ReadWhole octets (most_of what) old mid → answer ≡ answer_to what octets → WrotePart answer.text mid new → WritesPart (output_of_input what old.left) old new
 writes_part what answer octets old mid new whole answer_is part =
-    let due : answer ≡ answer_to what old.left = answer_is ∙ answer_to_whole what octets old mid whole in
+    let output : answer ≡ answer_to what old.left = answer_is ∙ answer_to_whole what octets old mid whole in
     record {
       read = octets;
       count = part.count;
       left_is = whole.took.left ∙ ap (λ (s : DoorState). octets ++ s.left) (sym part.wrote);
-      door_is = part.wrote ∙ ap (λ (a : Answer). put_out (take part.count a.text) mid) due ∙ ap (put_out (take part.count (answer_to what old.left).text)) whole.took.rest ∙ ap (λ (s : DoorState). put_out (take part.count (answer_to what old.left).text) (with_left s.left old)) (sym part.wrote);
+      door_is = part.wrote ∙ ap (λ (a : Answer). put_out (take part.count a.text) mid) output ∙ ap (put_out (take part.count (answer_to what old.left).text)) whole.took.rest ∙ ap (λ (s : DoorState). put_out (take part.count (answer_to what old.left).text) (with_left s.left old)) (sym part.wrote);
     }

@@ -3,20 +3,20 @@ use Rattle.std.proofs.Common.{◌≡◌, ℕ, List, ◌++◌, ap, ap₂, ◌∙�
 use Rattle.std.specs.Prelude.{codes, decimal}
 use Rattle.frame_view.specs.Frame.{frame_of}
 use Rattle.capture_runs.specs.Same.{HoldTheSame}
-use Rattle.capture_runs.specs.Capture.{due_of_capture}
-use Rattle.capture_runs.specs.Fold.{LineStep, LooksAtNoPlace, no_ending}
-use Rattle.capture_runs.proofs.SamePackets.{due_same}
+use Rattle.capture_runs.specs.Capture.{output_of_capture}
+use Rattle.capture_runs.specs.Fold.{LineStep, LooksAtNoOffset, no_ending}
+use Rattle.capture_runs.proofs.SamePackets.{output_same}
 use Rattle.text_lines.specs.Numbers.{number_text}
 use Rattle.mud_cli.specs.Frames.Lines.{frame_text, packet_line, frame_step}
 
 made : ℕ → ℕ → List ℕ → LineStep (Unit {0})
 made number seconds octets = record { line = decimal number ++ number_text seconds ++ frame_text (frame_of octets) ++ codes "\n"; next = tt }
 
--- the place isn't looked at
-placeless : LooksAtNoPlace frame_step
+-- the offset isn't looked at
+offsetless : LooksAtNoOffset frame_step
 unfolding packet_line made
-placeless nothing p q number seconds octets =
+offsetless nothing p q number seconds octets =
     ap (λ (n : ℕ). made n p.seconds p.octets) number ∙ ap₂ (λ (n : ℕ) (l : List ℕ). made q.number n l) seconds octets
 
-pub framed_alike : (one other : List ℕ) → HoldTheSame one other → due_of_capture frame_step no_ending tt one ≡ due_of_capture frame_step no_ending tt other
-framed_alike one other same = due_same frame_step no_ending placeless tt one other same
+pub framed_alike : (one other : List ℕ) → HoldTheSame one other → output_of_capture frame_step no_ending tt one ≡ output_of_capture frame_step no_ending tt other
+framed_alike one other same = output_same frame_step no_ending offsetless tt one other same

@@ -1,9 +1,9 @@
--- What is due to the input of each command that reads the door and writes what it says.
+-- The output for the input of each command that reads the door and writes what it says.
 use Rattle.std.specs.Prelude.{ℕ, Bool, true, false, List, [], Option, Some, None, if◌then◌else◌}
 use Rattle.mud_file.specs.File.{file_of}
-use Rattle.capture_runs.specs.Capture.{due_of_capture}
+use Rattle.capture_runs.specs.Capture.{output_of_capture}
 use Rattle.capture_runs.specs.Fold.{no_ending}
-use Rattle.command_runs.specs.Due.{Due}
+use Rattle.command_runs.specs.Output.{Output}
 use Rattle.mud_cli.specs.Check.Answer.{checking}
 use Rattle.mud_cli.specs.Frames.Lines.{frame_step}
 use Rattle.mud_cli.specs.Hear.Answer.{answer_of}
@@ -28,9 +28,9 @@ answer_to input.UsageFile octets = checking (file_of octets)
 abbrev pub status_of : Answer → ℕ
 status_of answer = if answer.refused then 3 else 0
 
--- what is due to an input that is read as a whole
-abbrev pub due_of_input : Input → List ℕ → Due
-due_of_input what octets = record { text = (answer_to what octets).text; status = status_of (answer_to what octets) }
+-- the output for an input that is read as a whole
+abbrev pub output_of_input : Input → List ℕ → Output
+output_of_input what octets = record { text = (answer_to what octets).text; status = status_of (answer_to what octets) }
 
 -- ---- Commands
 
@@ -41,12 +41,12 @@ reads_input Check = true
 reads_input Frames = true
 reads_input _ = false
 
--- what is due to such a command, over the octets that can be read; of another command nothing is said here
-abbrev pub due_of : Command → List ℕ → Due
-due_of (Hear message) octets = due_of_input (input.Message message) octets
-due_of Check octets = due_of_input input.UsageFile octets
-due_of Frames octets = due_of_capture frame_step no_ending tt octets
-due_of _ octets = record { text = []; status = 0 }
+-- the output of such a command, over the octets that can be read; of another command nothing is said here
+abbrev pub output_of : Command → List ℕ → Output
+output_of (Hear message) octets = output_of_input (input.Message message) octets
+output_of Check octets = output_of_input input.UsageFile octets
+output_of Frames octets = output_of_capture frame_step no_ending tt octets
+output_of _ octets = record { text = []; status = 0 }
 
 -- the most octets that it reads, where it reads its input as a whole: one more than the input has at most
 abbrev pub most_read : Command → Option ℕ

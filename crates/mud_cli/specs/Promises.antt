@@ -3,9 +3,9 @@ use Rattle.std.specs.Prelude.{◌≡◌, ◌≢◌, ℕ, ◌≤◌, List, ◌++�
 use Rattle.mud_world.specs.Door.{DoorState}
 use Rattle.capture_runs.specs.Capture.{WritesTaken}
 use Rattle.command_runs.specs.Ends.{IsSteady, IsStopped}
-use Rattle.command_runs.specs.Due.{WritesDue, WritesPart}
+use Rattle.command_runs.specs.Output.{WritesOutput, WritesPart}
 pub use Rattle.mud_world.specs.View.{DoorView}
-use Rattle.mud_cli.specs.Answers.{due_of, most_read}
+use Rattle.mud_cli.specs.Answers.{output_of, most_read}
 use Rattle.mud_cli.specs.Frames.Lines.{frame_step}
 use Rattle.command_words.specs.declared.command.Command.{Command}
 use Rattle.command_words.specs.declared.command.Command.TheVariants.{Frames}
@@ -25,9 +25,9 @@ pub record Promises (tells : Type 0) (command : Command) (old new : DoorView) (s
   pub statuses : IsOneOf (Done ∷ Refused ∷ DoorFailed ∷ NoMemory ∷ []) status
   pub fault : Is DoorFailed status → IsStopped old new
   pub steady : IsNot DoorFailed status → IsSteady old new
-  -- With 0 and 3 all that is due was written, with 4 and 5 a first part of it.
-  pub done : tells → IsOneOf (Done ∷ Refused ∷ []) status → WritesDue (due_of command old.state.left) old.state new.state status
-  pub part : tells → IsOneOf (DoorFailed ∷ NoMemory ∷ []) status → WritesPart (due_of command old.state.left) old.state new.state
+  -- With 0 and 3 all of the output was written, with 4 and 5 a first part of it.
+  pub done : tells → IsOneOf (Done ∷ Refused ∷ []) status → WritesOutput (output_of command old.state.left) old.state new.state status
+  pub part : tells → IsOneOf (DoorFailed ∷ NoMemory ∷ []) status → WritesPart (output_of command old.state.left) old.state new.state
   -- Where a read of a capture failed, the lines of the packets in the octets that were read were written.
   pub taken : tells → command ≡ Frames → new.reads ≢ old.reads → WritesTaken frame_step tt old.state new.state
   -- Of a message or a usage file at most one octet too many is read.

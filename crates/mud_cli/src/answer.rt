@@ -1,10 +1,10 @@
 //! Commands that read an input as a whole before they answer.
 ghost use Rattle.std.specs.Prelude.{◌≡◌, ◌+◌, IfOk, [], ◌∷◌};
 ghost use Rattle.command_runs.specs.Ends.{IsSteady, IsStopped};
-ghost use Rattle.command_runs.specs.Due.{WritesDue, WritesPart};
+ghost use Rattle.command_runs.specs.Output.{WritesOutput, WritesPart};
 ghost use Rattle.command_runs.specs.Status.{Is, IsNot, IsOneOf, status_number};
 ghost use Rattle.command_runs.specs.declared.status.Status.TheVariants.{Done, Refused, DoorFailed, NoMemory};
-ghost use Rattle.mud_cli.specs.Answers.{answer_to, due_of_input};
+ghost use Rattle.mud_cli.specs.Answers.{answer_to, output_of_input};
 ghost use Rattle.mud_cli.specs.Answers as answers;
 ghost use Rattle.mud_cli.specs.Promises.{ReadUpTo};
 
@@ -70,8 +70,8 @@ pub(crate) fn answer_input<D: Door>(alloc: Global, input: Input, door: &mut D) -
     ensures statuses { IsOneOf (Done ∷ Refused ∷ DoorFailed ∷ NoMemory ∷ []) (status_number result) }
     ensures fault { Is DoorFailed (status_number result) → IsStopped (D.view door.old) (D.view door.new) }
     ensures steady { IsNot DoorFailed (status_number result) → IsSteady (D.view door.old) (D.view door.new) }
-    ensures done { D.tells → IsOneOf (Done ∷ Refused ∷ []) (status_number result) → WritesDue (due_of_input input (D.view door.old).state.left) (D.view door.old).state (D.view door.new).state (status_number result) }
-    ensures part { D.tells → IsOneOf (DoorFailed ∷ NoMemory ∷ []) (status_number result) → WritesPart (due_of_input input (D.view door.old).state.left) (D.view door.old).state (D.view door.new).state }
+    ensures done { D.tells → IsOneOf (Done ∷ Refused ∷ []) (status_number result) → WritesOutput (output_of_input input (D.view door.old).state.left) (D.view door.old).state (D.view door.new).state (status_number result) }
+    ensures part { D.tells → IsOneOf (DoorFailed ∷ NoMemory ∷ []) (status_number result) → WritesPart (output_of_input input (D.view door.old).state.left) (D.view door.old).state (D.view door.new).state }
     ensures within { D.tells → ReadUpTo (answers.most_of input + 1) (D.view door.old).state (D.view door.new).state }
     ensures turns { (D.view door.new).turns ≡ (D.view door.old).turns }
 {

@@ -2,7 +2,7 @@
 ghost use Rattle.std.specs.Prelude.{◌≡◌};
 ghost use Rattle.command_runs.specs.Status.{status_number};
 ghost use Rattle.mud_world.specs.View.{viewed};
-ghost use Rattle.desk_items.specs.Taken.{kept_of};
+ghost use Rattle.desk_items.specs.Loaded.{kept_of};
 ghost use Rattle.desk_model.specs.Items.{none_kept};
 ghost use Rattle.mud_cli.specs.Import.Store.{ImportsStore};
 ghost use Rattle.mud_world.specs.View.{outside};
@@ -10,17 +10,17 @@ ghost use Rattle.mud_world.specs.View.{outside};
 use command_runs::Status;
 use desk_runs::refuse_store;
 use import_runs::import_files;
-use mud_desk::{Desk, Taken};
+use mud_desk::{Desk, Loaded};
 use mud_world::{Clock, Door, Keeper, Spool};
 use std::alloc::Global;
 
 /// Opens a desk over the keeper, and then imports the usage files of the folder into it. Where the
 /// store can't be opened, the folder isn't listed. The box is handed back. Nothing was taken before,
-/// as [`Desk::open`] wants it: [`Taken::new`].
+/// as [`Desk::open`] wants it: [`Loaded::new`].
 pub(crate) fn import_store<D: Door, P: Spool, C: Clock>(
     alloc: Global,
     keeper: Box<dyn Keeper>,
-    nothing: Taken,
+    nothing: Loaded,
     door: &mut D,
     spool: &mut P,
     clock: &mut C,

@@ -1,7 +1,7 @@
 //! A law of what `frames` writes, on a function that does nothing.
 ghost use Rattle.std.specs.Prelude.{◌≡◌, ℕ, List};
 ghost use Rattle.capture_runs.specs.Same.{HoldTheSame};
-ghost use Rattle.capture_runs.specs.Capture.{due_of_capture};
+ghost use Rattle.capture_runs.specs.Capture.{output_of_capture};
 ghost use Rattle.capture_runs.specs.Fold.{no_ending};
 ghost use Rattle.mud_cli.specs.Frames.Lines.{frame_step};
 
@@ -10,5 +10,5 @@ ghost use Rattle.mud_cli.specs.Frames.Lines.{frame_step};
 #[tactic(auto, using(crate::proofs::SameCaptures::framed_alike))]
 pub fn captures_that_hold_the_same_have_the_same_lines()
     ensures { (one : List ℕ) (other : List ℕ) → HoldTheSame one other
-        → due_of_capture frame_step no_ending tt one ≡ due_of_capture frame_step no_ending tt other }
+        → output_of_capture frame_step no_ending tt one ≡ output_of_capture frame_step no_ending tt other }
 {}

@@ -15,7 +15,7 @@ use console_runs::{replay_store, serve_store};
 use desk_runs::judge_store;
 use drill_runs::run_drill;
 use export_runs::export_store;
-use mud_desk::Taken;
+use mud_desk::Loaded;
 use mud_world::{Clock, Door, Keeper, Spool};
 use report_runs::report_store;
 use snoop_runs::snoop_store;
@@ -41,17 +41,17 @@ fn run_command<D: Door, P: Spool, C: Clock>(
         Command::Hear(message) => (answer_input(alloc, Input::Message(message), door), keeper),
         Command::Check => (answer_input(alloc, Input::UsageFile, door), keeper),
         Command::Frames => (write_capture(alloc, door, &mut FrameLines), keeper),
-        Command::Judge => judge_store(alloc, keeper, Taken::new(alloc), door),
-        Command::Snoop => snoop_store(alloc, keeper, Taken::new(alloc), door),
-        Command::Tally => tally_store(alloc, keeper, Taken::new(alloc), door),
-        Command::Import => import_store(alloc, keeper, Taken::new(alloc), door, spool, clock),
-        Command::Replay => replay_store(alloc, keeper, Taken::new(alloc), door),
+        Command::Judge => judge_store(alloc, keeper, Loaded::new(alloc), door),
+        Command::Snoop => snoop_store(alloc, keeper, Loaded::new(alloc), door),
+        Command::Tally => tally_store(alloc, keeper, Loaded::new(alloc), door),
+        Command::Import => import_store(alloc, keeper, Loaded::new(alloc), door, spool, clock),
+        Command::Replay => replay_store(alloc, keeper, Loaded::new(alloc), door),
         Command::Serve { port, count } => {
-            serve_store(alloc, keeper, Taken::new(alloc), door, clock, port, count)
+            serve_store(alloc, keeper, Loaded::new(alloc), door, clock, port, count)
         }
-        Command::Report(kind) => report_store(alloc, keeper, Taken::new(alloc), kind, door, clock),
-        Command::Export(mac) => export_store(alloc, keeper, Taken::new(alloc), mac, door, clock),
-        Command::Drill(packets) => run_drill(alloc, keeper, Taken::new(alloc), packets, door),
+        Command::Report(kind) => report_store(alloc, keeper, Loaded::new(alloc), kind, door, clock),
+        Command::Export(mac) => export_store(alloc, keeper, Loaded::new(alloc), mac, door, clock),
+        Command::Drill(packets) => run_drill(alloc, keeper, Loaded::new(alloc), packets, door),
     }
 }
 

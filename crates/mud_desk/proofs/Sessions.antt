@@ -26,10 +26,10 @@ use Rattle.desk_model.specs.DeskTables.{DeskTables, IsSound}
 use Rattle.desk_model.specs.Commands.{DeskStep, command_step, IsTyped, IsAsked, TellsChange}
 use Rattle.desk_model.specs.Items.{items_of}
 use Rattle.desk_model.specs.Verdicts.{verdict_at}
-use Rattle.desk_model.specs.Sessions.{Session, Answered, answered, command_in, MayAnswer, MayJudge, later, verdict_in, frame_in, judged, is_of_keeper}
+use Rattle.desk_model.specs.Sessions.{Session, Answered, answered, command_in, AllowedReply, AllowedVerdict, later, verdict_in, frame_in, judged, is_of_keeper}
 use Rattle.desk_model.proofs.ToldSteps.{commands_told}
 use Rattle.desk_books.specs.CompiledDesk.{IsCompiledOf}
-use Rattle.mud_desk.specs.Grounds.{grounds, AreGroundsOf}
+use Rattle.mud_desk.specs.RuleInputs.{rule_inputs, AreRuleInputsOf}
 use Rattle.mud_desk.proofs.Since.{since_later}
 use Rattle.desk_books.specs.Books.{Books, desk_of}
 use Rattle.desk_books.specs.Changes.{PlannedChange, desk_after}
@@ -138,22 +138,22 @@ module _ (before mid : DeskState) (command : Command) (n : ℕ) (same : tables_o
     here = runs_at (session_of h before) now command n is
 
     pub done : (after : DeskState) (change : PlannedChange) → IsPlannedIn change → tables_of after ≡ desk_after change (tables_of mid) → after.moment ≡ n
-        → MayAnswer (session_of h before) now command (Done change.outcome) (session_of h after)
+        → AllowedReply (session_of h before) now command (Done change.outcome) (session_of h after)
     unfolding session_of tables_of answered_at
     done after change planned desk moment =
         record { reply_is = here ∙ step_done (session_of h before) n mid.books change (session_of h after) desk refl moment (command_step (tables_of before) n command) planned }
 
     pub refused : (refusal : Refusal) → mid.moment ≡ before.moment → (is_want_of_memory refusal ≡ false → command_step (tables_of before) n command ≡ Err refusal)
-        → MayAnswer (session_of h before) now command (reply_of refusal) (session_of h mid)
+        → AllowedReply (session_of h before) now command (reply_of refusal) (session_of h mid)
     unfolding session_of answered_at reply_of
     refused refusal moment says = by (is_want_of_memory refusal) refl
       where
-        by : (b : Bool) → is_want_of_memory refusal ≡ b → MayAnswer (session_of h before) now command (if b then Memory else Refused refusal) (session_of h mid)
+        by : (b : Bool) → is_want_of_memory refusal ≡ b → AllowedReply (session_of h before) now command (if b then Memory else Refused refusal) (session_of h mid)
         by true wanted = record { reply_is = same_session h before mid same moment }
         by false spoken = record { reply_is = here ∙ step_refused (session_of h before) n refusal (session_of h mid) (same_session h before mid same moment) (command_step (tables_of before) n command) (says spoken) }
 
     pub failed : (change : PlannedChange) → IsPlannedIn change → change.batch ≢ [] → mid.moment ≡ before.moment
-        → MayAnswer (session_of h before) now command Keeper (session_of h mid)
+        → AllowedReply (session_of h before) now command Keeper (session_of h mid)
     unfolding session_of later
     failed change planned some moment = record {
       reply_is = (
@@ -162,7 +162,7 @@ module _ (before mid : DeskState) (command : Command) (n : ℕ) (same : tables_o
       );
     }
 
-    pub wanted : mid.moment ≡ before.moment → MayAnswer (session_of h before) now command Memory (session_of h mid)
+    pub wanted : mid.moment ≡ before.moment → AllowedReply (session_of h before) now command Memory (session_of h mid)
     wanted moment = record { reply_is = same_session h before mid same moment }
 
 pub never_of_keeper : (refusal : Refusal) (n : ℕ) → Counts (is_of_keeper (reply_of refusal)) n n
@@ -175,11 +175,11 @@ never_of_keeper refusal n = by (is_want_of_memory refusal)
 
 -- ---- A frame
 
-pub grounds_of : (h : List Segment) (state : DeskState) (things : List Thing) (compiled : CompiledState) (locals : List Prefix) (flows : Flows)
+pub rule_inputs_of : (h : List Segment) (state : DeskState) (things : List Thing) (compiled : CompiledState) (locals : List Prefix) (flows : Flows)
     → things ≡ state.books.things.things → compiled ≡ state.books.compiled → locals ≡ (tables_of state).tables.locals → IsCompiledOf (tables_of state) state.books.compiled
-    → StandsFor h flows → AreGroundsOf (tables_of state) h (grounds things compiled locals flows)
+    → StandsFor h flows → AreRuleInputsOf (tables_of state) h (rule_inputs things compiled locals flows)
 unfolding tables_of
-grounds_of h state things compiled locals flows is_things is_compiled is_locals of stands = record {
+rule_inputs_of h state things compiled locals flows is_things is_compiled is_locals of stands = record {
   things = is_things;
   compiled = subst (IsCompiledOf (tables_of state)) (sym is_compiled) of;
   locals = is_locals;
@@ -192,7 +192,7 @@ verdict_here h before stamp n frame is = ap (λ k. verdict_at (tables_of before)
 
 -- a frame was judged in the session
 abbrev pub IsJudged : List Segment → DeskState → ℕ → List ℕ → Result Verdict want.Memory → DeskState → Type 0
-IsJudged history before now frame verdict after = LeadsOnFrom history before after (λ (s t : Session). MayJudge s now frame verdict t)
+IsJudged history before now frame verdict after = LeadsOnFrom history before after (λ (s t : Session). AllowedVerdict s now frame verdict t)
 
 module _ (h : List Segment) (before after : DeskState) (stamp n : ℕ) (frame : List ℕ) (is : n ≡ max before.moment stamp) where
   pub judged_so : (v : Verdict) → v ≡ verdict_at (tables_of before) h n frame → StandsFor (history_after h (frame_of frame) v n) (flows_of after.flows) → after.books ≡ before.books → after.moment ≡ n

@@ -18,7 +18,7 @@ same_tables before after same = ap desk_of same
 
 module _ {X : Type 0} {F : X → Type 0} (members : (v : (x : X) × F x) → Ghosts (F v.0)) where
   same_box : (before after : DynBox X Global F) → after ≡ before → IsSameBox before after
-  same_box before after same = record { object = ap (λ b. b.vtable) same; place = ap (λ b. b.ptr) same }
+  same_box before after same = record { object = ap (λ b. b.vtable) same; pointer = ap (λ b. b.ptr) same }
 
   -- the keeper wasn't called, and the lists are the same
   pub stays_untold : {before after : Desk X F} → after.keeper ≡ before.keeper → tables_of after.state ≡ tables_of before.state
@@ -58,7 +58,7 @@ module _ {X : Type 0} {F : X → Type 0} (members : (v : (x : X) × F x) → Gho
   stays_further p q = record {
     kept = q.kept;
     told = λ tells. p.told (q.told tells);
-    same_box = record { object = q.same_box.object ∙ p.same_box.object; place = q.same_box.place ∙ p.same_box.place };
+    same_box = record { object = q.same_box.object ∙ p.same_box.object; pointer = q.same_box.pointer ∙ p.same_box.pointer };
   }
 
   pub keeps_further : {a b c : Desk X F} → KeepsConnections members a b → KeepsConnections members b c → KeepsConnections members a c

@@ -4,7 +4,7 @@ use Rattle.mud_base.specs.declared.packet.Direction.{Direction}
 use Rattle.mud_base.specs.declared.packet.Fields.{Fields}
 use Rattle.mud_tables.specs.declared.thing.Thing.{Thing}
 use Rattle.mud_tables.specs.declared.segment.Segment.{Segment}
-use Rattle.mud_tables.specs.Ends.{for_ever}
+use Rattle.mud_tables.specs.Expiries.{for_ever}
 use Rattle.mud_tables.specs.Bindings.{bindings_of, ruling_by_bindings}
 use Rattle.mud_tables.specs.History.{begun_of}
 use Rattle.table_laws.proofs.Stores.{tests_alike}
@@ -15,9 +15,9 @@ use Rattle.packet_judge.specs.Verdicts.{rulings_of, verdict_on, verdict_of}
 use Rattle.packet_judge.proofs.OverTables.{over_tables}
 use Rattle.desk_model.specs.DeskTables.{DeskTables}
 use Rattle.desk_model.specs.Verdicts.{policy_at, desk_bindings, verdict_at}
-use Rattle.mud_desk.specs.Grounds.{Grounds, AreGroundsOf, ruling_on}
+use Rattle.mud_desk.specs.RuleInputs.{RuleInputs, AreRuleInputsOf, ruling_on}
 
-module _ (desk : DeskTables) (h : List Segment) (g : Grounds) (of : AreGroundsOf desk h g) (now : ℕ) (small : now < for_ever) (since : IsTrue (is_since g.flows.last now)) where
+module _ (desk : DeskTables) (h : List Segment) (g : RuleInputs) (of : AreRuleInputsOf desk h g) (now : ℕ) (small : now < for_ever) (since : IsTrue (is_since g.flows.last now)) where
   ruling_alike : (side : Direction) (thing : Thing) (fields : Fields) → ruling_on g now side thing fields ≡ rulings_of desk.tables (policy_at desk) h now side thing fields
   unfolding ruling_on rulings_of desk_bindings
   ruling_alike side thing fields =

@@ -5,7 +5,7 @@ use Rattle.frame_view.specs.declared.views.Frame.TheVariants.{Packet}
 use Rattle.mud_tables.specs.declared.thing.Thing.{Thing}
 use Rattle.packet_judge.specs.declared.verdict.Verdict.{Verdict}
 use Rattle.packet_judge.specs.declared.verdict.Verdict.TheVariants.{Governed}
-use Rattle.packet_judge.specs.Verdicts.{ends_of}
+use Rattle.packet_judge.specs.Verdicts.{endpoints_of}
 use Rattle.desk_model.specs.Findings.{Policies, Found, source_found, destination_found}
 use Rattle.mud_desk.specs.declared.findings.RuledThing.{RuledThing}
 use Rattle.mud_desk.specs.declared.findings.Findings.{Findings}
@@ -21,5 +21,5 @@ pub record AreFindingsOn (policies : Policies) (things : List Thing) (frame : Fr
 
 -- a packet that is for no Thing, as one for a group, has no ruling there
 abbrev pub HasRulingsOfThings : List Thing → Frame → Verdict → Type 0
-HasRulingsOfThings things (Packet packet) (Governed source destination) = (ends_of things packet.octets).destination ≡ None → destination ≡ None
+HasRulingsOfThings things (Packet packet) (Governed source destination) = (endpoints_of things packet.octets).destination ≡ None → destination ≡ None
 HasRulingsOfThings things _ _ = Unit {0}

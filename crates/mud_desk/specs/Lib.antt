@@ -1,5 +1,5 @@
 pub mod Answers
 pub mod DeskState
 pub mod Findings
-pub mod Grounds
+pub mod RuleInputs
 pub mod Stays

@@ -9,12 +9,12 @@ ghost use Rattle.packet_judge.specs.Verdicts.{steps_on};
 ghost use Rattle.desk_model.specs.DeskTables.{IsSound};
 ghost use Rattle.desk_model.specs.Commands.{IsAsked, command_step};
 ghost use Rattle.desk_model.specs.Items.{none_kept, tables_in};
-ghost use Rattle.desk_model.specs.Sessions.{MayAnswer, MayJudge, verdict_in, is_of_keeper};
+ghost use Rattle.desk_model.specs.Sessions.{AllowedReply, AllowedVerdict, verdict_in, is_of_keeper};
 ghost use Rattle.desk_model.specs.Verdicts.{policy_at};
 ghost use Rattle.desk_books.specs.CompiledDesk.{IsCompiledOf};
-ghost use Rattle.desk_items.specs.Taken.{kept_of};
+ghost use Rattle.desk_items.specs.Loaded.{kept_of};
 ghost use Rattle.desk_items.specs.Opening.{IsFaultOf};
-ghost use Rattle.mud_desk.specs.Grounds.{rows_read, ruling_steps};
+ghost use Rattle.mud_desk.specs.RuleInputs.{rows_read, ruling_steps};
 ghost use Rattle.mud_desk.specs.Findings.{AreFindingsOn};
 ghost use Rattle.mud_desk.specs.DeskState.{tables_of, session_of, HasForwarded, LeadsOn, IsBegun, AreRulesOf};
 ghost use Rattle.desk_model.specs.Boxed.{IsKept, IsSameBox};
@@ -25,7 +25,7 @@ use crate::Findings;
 use crate::keeping::keep_batch;
 use crate::state::{State, later};
 use acl_rows::RuleView;
-use desk_items::{OpenFault, Taken, open_items};
+use desk_items::{OpenFault, Loaded, open_items};
 use desk_model::types::command_fits;
 use desk_model::{Command, Reply};
 use file_tables::CachedFile;
@@ -60,7 +60,7 @@ impl Desk {
     /// is no record, the first one in the keeper's order is named, and nothing was written. Each
     /// Thing whose record is of the first version is written anew in the second; the lists and the
     /// moment of their last change stay. A refusal hands the box back. Nothing was taken before:
-    /// [`Taken::new`].
+    /// [`Loaded::new`].
     ///
     /// Without that condition a caller in another crate would have to reckon with another keeper in
     /// the box. So it is with that of each call that takes the desk to change it, or gives the box back.
@@ -68,7 +68,7 @@ impl Desk {
     pub fn open(
         alloc: Global,
         keeper: Box<dyn Keeper>,
-        nothing: Taken,
+        nothing: Loaded,
     ) -> Result<Desk, (OpenFault, Box<dyn Keeper>)>
         requires { kept_of nothing ≡ none_kept }
         // The desk's lists are those that the keeper told before, and are kept now.
@@ -142,7 +142,7 @@ impl Desk {
     ) -> Reply
         requires kept { IsKept Keeper-dyn self.old.keeper (tables_of self.old.state) }
         requires asked { IsAsked command }
-        ensures answer { (h : List SegmentValue) → MayAnswer (session_of h self.old.state) now command result (session_of h self.new.state) }
+        ensures answer { (h : List SegmentValue) → AllowedReply (session_of h self.old.state) now command result (session_of h self.new.state) }
         ensures stays { KeepsConnections Keeper-dyn self.old self.new }
         // What is compiled of the lists isn't made anew for a refusal, a failure of the keeper or want of memory.
         ensures compiled { StaysUnlessDone result self.old.state.books.compiled self.new.state.books.compiled }
@@ -182,7 +182,7 @@ impl Desk {
     ) -> Result<Verdict, Memory>
         requires kept { IsKept Keeper-dyn self.old.keeper (tables_of self.old.state) }
         ensures stays { StaysKept Keeper-dyn self.old self.new }
-        ensures judged { LeadsOn self.old.state self.new.state (λ session after. MayJudge session stamp frame.now result after) }
+        ensures judged { LeadsOn self.old.state self.new.state (λ session after. AllowedVerdict session stamp frame.now result after) }
         ensures books { self.new.state.books ≡ self.old.state.books }
         ensures keeper { self.new.keeper ≡ self.old.keeper }
         // Each ruling reads at least the rows that the Thing's file has of the peer,
@@ -199,8 +199,8 @@ impl Desk {
     /// entries by which it is given, with nothing changed. It takes no memory.
     pub fn why(&self, frame: &[u8], stamp: Moment) -> Findings<'_>
         ensures verdict { (h : List SegmentValue) → HasForwarded h self.now.state → result.verdict ≡ verdict_in (session_of h self.now.state) stamp frame.now }
-        // At each end these are the Thing of the desk, the ruling of the verdict, and the entry of its number in the
-        // Thing's approved file.
+        // At each endpoint these are the Thing of the desk, the ruling of the verdict, and the
+        // entry of its number in the Thing's approved file.
         ensures found { AreFindingsOn (policy_at (tables_of self.now.state)) (tables_of self.now.state).tables.things (frame_of frame.now) result }
     {
         self.state.why::<Brand>(frame, stamp, Blank::new(1))

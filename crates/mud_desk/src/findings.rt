@@ -15,7 +15,7 @@ use mud_url::MudUrl;
 use packet_judge::Verdict;
 use thing_book::ThingBook;
 
-/// A Thing at an end of a frame, and what is decided on its packet.
+/// A Thing at an endpoint of a frame, and what is decided on its packet.
 #[derive(Clone, Copy)]
 pub struct RuledThing<'a> {
     /// The Thing.
@@ -26,8 +26,8 @@ pub struct RuledThing<'a> {
     pub entry: Option<&'a Entry>,
 }
 
-/// What decides a frame, at each end and in all. An end is None where it is no Thing, and where
-/// nothing is decided.
+/// What decides a frame, at each endpoint and in all. An endpoint is None where it is no Thing, and
+/// where nothing is decided.
 #[derive(Clone, Copy)]
 pub struct Findings<'a> {
     /// The Thing that sent the frame.
@@ -85,7 +85,7 @@ fn deciding_entry<'a>(
     }
 }
 
-/// What is found at an end with this hardware address and this ruling.
+/// What is found at an endpoint with this hardware address and this ruling.
 #[tactic(auto, unfolding(desk_model::specs::Findings::found_at, crate::specs::Findings::found_in))]
 fn ruled_thing<'a>(
     things: &'a ThingBook,
@@ -106,8 +106,9 @@ fn ruled_thing<'a>(
     })
 }
 
-/// What is found of a packet with these rulings: of the Thing that sent it, and of the Thing that it
-/// is for. Where it is for no Thing, as where it is for a group, there is no ruling for that end.
+/// What is found of a packet with these rulings: of the Thing that sent it, and of the Thing that
+/// it is for. Where it is for no Thing, as where it is for a group, there is no ruling for that
+/// endpoint.
 #[tactic(auto, using(crate::proofs::Rulings::found_from, crate::proofs::Rulings::found_for))]
 fn packet_findings<'a>(
     things: &'a ThingBook,

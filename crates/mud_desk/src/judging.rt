@@ -10,11 +10,11 @@ ghost use Rattle.packet_judge.specs.Verdicts.{history_after, steps_on};
 ghost use Rattle.desk_model.specs.DeskTables.{DeskTables};
 ghost use Rattle.desk_model.specs.Verdicts.{verdict_at};
 ghost use Rattle.acl_compile.specs.Plans.{policy_held};
-ghost use Rattle.mud_desk.specs.Grounds.{AreGroundsOf, grounds, rows_read, ruling_steps};
+ghost use Rattle.mud_desk.specs.RuleInputs.{AreRuleInputsOf, rule_inputs, rows_read, ruling_steps};
 ghost use Rattle.mud_desk.specs.Findings.{AreFindingsOn};
 
 use crate::findings::{Findings, findings_with};
-use crate::office::Office;
+use crate::desk_rules::DeskRules;
 use acl_compile::Compiled;
 use flow_table::FlowTable;
 use frame_view::{Frame, view};
@@ -27,7 +27,7 @@ use thing_book::ThingBook;
 /// What decides a frame at a moment that isn't before that of the last packet noted, by the Things,
 /// by what is compiled, and by the local networks and the connections: the verdict, and the Things,
 /// rulings and entries by which it is given. Its steps are those of the rulings that it takes: one
-/// for each end of a packet that is a Thing and isn't held. It takes no memory.
+/// for each endpoint of a packet that is a Thing and isn't held. It takes no memory.
 pub fn why<'a, L: Ledger>(
     frame: &[u8],
     things: &'a ThingBook,
@@ -40,7 +40,7 @@ pub fn why<'a, L: Ledger>(
     requires since { IsTrue (is_since (flows_of flows.now).last now) }
     // Where these are a desk's, and the connections those of a history, it is the verdict of the desk.
     ensures verdict { (desk : DeskTables) (h : List SegmentValue)
-        → AreGroundsOf desk h (grounds things.now.things compiled.now locals.now (flows_of flows.now))
+        → AreRuleInputsOf desk h (rule_inputs things.now.things compiled.now locals.now (flows_of flows.now))
         → result.verdict ≡ verdict_at desk h now frame.now }
     ensures found { AreFindingsOn (policy_held compiled.now.slots) things.now.things (frame_of frame.now) result }
     // Each ruling reads at least the rows that the Thing's file has of the peer,
@@ -52,14 +52,14 @@ pub fn why<'a, L: Ledger>(
 {
     let _seconds = now.seconds();
     let view = view(frame);
-    let office = Office {
+    let desk_rules = DeskRules {
         things,
         compiled,
         locals,
         flows,
         now,
     };
-    let verdict = packet_judge::judge(&view, &office, steps);
+    let verdict = packet_judge::judge(&view, &desk_rules, steps);
     findings_with(things, compiled, &view, verdict)
 }
 
@@ -103,7 +103,7 @@ pub fn judge<L: Ledger>(
 ) -> Result<Verdict, Memory>
     requires since { IsTrue (is_since (flows_of flows.old).last now) }
     ensures verdict { IfOk result (λ verdict. (desk : DeskTables) (h : List SegmentValue)
-        → AreGroundsOf desk h (grounds things.now.things compiled.now locals.now (flows_of flows.old))
+        → AreRuleInputsOf desk h (rule_inputs things.now.things compiled.now locals.now (flows_of flows.old))
         → verdict ≡ verdict_at desk h now frame.now) }
     // The connections are those of the history, with the packet of this frame where it counts.
     ensures stands { IfOk result (λ verdict. (h : List SegmentValue)
@@ -111,7 +111,7 @@ pub fn judge<L: Ledger>(
         → StandsFor (history_after h (frame_of frame.now) verdict now) (flows_of flows.new)) }
     ensures err { OnErr result (flows_of flows.new ≡ flows_of flows.old) }
     ensures wanted { OnErr result ((desk : DeskTables) (h : List SegmentValue)
-        → AreGroundsOf desk h (grounds things.now.things compiled.now locals.now (flows_of flows.old))
+        → AreRuleInputsOf desk h (rule_inputs things.now.things compiled.now locals.now (flows_of flows.old))
         → IsSome (spec.noted_fields (frame_of frame.now) (verdict_at desk h now frame.now))) }
     // Any later moment isn't before that of the last packet noted.
     ensures since { (m : ℕ) → now ≤ m → IsTrue (is_since (flows_of flows.new).last m) }
@@ -121,14 +121,14 @@ pub fn judge<L: Ledger>(
 {
     let _seconds = now.seconds();
     let view = view(frame);
-    let office = Office {
+    let desk_rules = DeskRules {
         things,
         compiled,
         locals,
         flows: &*flows,
         now,
     };
-    let verdict = packet_judge::judge(&view, &office, steps);
+    let verdict = packet_judge::judge(&view, &desk_rules, steps);
     note(flows, &view, &verdict, now)?;
     Ok(verdict)
 }

@@ -18,7 +18,7 @@ pub(crate) fn keep_batch(keeper: &mut Box<dyn Keeper>, batch: &[Put]) -> Result<
     ensures opened { IsOpen Keeper-dyn keeper.new }
     ensures cause { Counts (has_failed result) (faults_of Keeper-dyn keeper.old) (faults_of Keeper-dyn keeper.new) }
     ensures object { keeper.new.vtable ≡ keeper.old.vtable }
-    ensures place { keeper.new.ptr ≡ keeper.old.ptr }
+    ensures pointer { keeper.new.ptr ≡ keeper.old.ptr }
 {
     if batch.is_empty() {
         return Ok(());

@@ -7,11 +7,11 @@ pub mod desk;
 mod findings;
 mod judging;
 mod keeping;
-mod office;
+mod desk_rules;
 pub mod state;
 
 pub use desk::Desk;
-pub use desk_items::{OpenFault, Taken};
+pub use desk_items::{OpenFault, Loaded};
 pub use desk_model::{Command, Outcome, Refusal, Reply};
 pub use findings::{Findings, RuledThing};
 pub use judging::{judge, why};

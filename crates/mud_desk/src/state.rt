@@ -11,11 +11,11 @@ ghost use Rattle.packet_judge.specs.Verdicts.{steps_on};
 ghost use Rattle.desk_model.specs.DeskTables.{IsSound};
 ghost use Rattle.desk_model.specs.Refusals.{is_want_of_memory};
 ghost use Rattle.desk_model.specs.Commands.{IsAsked, command_step};
-ghost use Rattle.desk_model.specs.Sessions.{MayJudge, verdict_in};
+ghost use Rattle.desk_model.specs.Sessions.{AllowedVerdict, verdict_in};
 ghost use Rattle.desk_model.specs.Verdicts.{policy_at};
 ghost use Rattle.desk_books.specs.CompiledDesk.{IsCompiledOf};
-ghost use Rattle.desk_items.specs.Taken.{taken_desk};
-ghost use Rattle.mud_desk.specs.Grounds.{rows_read, ruling_steps};
+ghost use Rattle.desk_items.specs.Loaded.{loaded_desk};
+ghost use Rattle.mud_desk.specs.RuleInputs.{rows_read, ruling_steps};
 ghost use Rattle.mud_desk.specs.Findings.{AreFindingsOn};
 ghost use Rattle.desk_books.specs.Changes.{desk_after};
 ghost use Rattle.desk_books.specs.Planned.{IsPlanned, IsReady, IsPaid};
@@ -23,7 +23,7 @@ ghost use Rattle.mud_desk.specs.DeskState.{DeskState as Value, tables_of, sessio
 
 use crate::{Findings, judge, why};
 use desk_books::{DeskBooks, DeskChange};
-use desk_items::Taken;
+use desk_items::Loaded;
 use desk_model::{Command, Refusal};
 use flow_table::FlowTable;
 use mud_base::{Memory, Moment};
@@ -72,8 +72,8 @@ pub(crate) fn later(a: Moment, b: Moment) -> Moment
 impl State {
     /// A session begins: nothing was forwarded in it, and its moment is that of the last change.
     #[tactic(auto, using(crate::proofs::Sessions::timely_new), unfolding(crate::specs::DeskState::tables_of, crate::specs::DeskState::session_of, desk_model::specs::Sessions::opened, desk_model::specs::Items::desk_of))]
-    pub(crate) fn of(alloc: Global, taken: Taken) -> Result<State, Memory>
-        ensures { IfOk result (IsBegun (taken_desk taken)) }
+    pub(crate) fn of(alloc: Global, taken: Loaded) -> Result<State, Memory>
+        ensures { IfOk result (IsBegun (loaded_desk taken)) }
     {
         let moment = taken.stamp.unwrap_or(Moment::at_most_last(0));
         let books = DeskBooks::of(alloc, taken.things, taken.files, taken.binds, taken.stamp)?;
@@ -159,7 +159,7 @@ impl State {
         stamp: Moment,
         steps: &mut Steps<L>,
     ) -> Result<Verdict, Memory>
-        ensures judged { LeadsOn self.old self.new (λ session after. MayJudge session stamp frame.now result after) }
+        ensures judged { LeadsOn self.old self.new (λ session after. AllowedVerdict session stamp frame.now result after) }
         ensures books { self.new.books ≡ self.old.books }
         ensures least { steps.old + steps_on (rows_read self.old.books.compiled) (tables_of self.old).tables.things (frame_of frame.now) ≤ steps.new }
         ensures most { (b : ℕ) → length self.old.books.compiled.rows < 2 ^ b

@@ -1,4 +1,4 @@
--- Two and four digits at a place.
+-- Two and four digits at an offset.
 use Rattle.std.proofs.Common.{◌≡◌, ℕ, ◌+◌, ◌-◌, ◌*◌, ◌≤◌, ◌<◌, Bool, true, false, List, [], ◌∷◌, length, take, drop, get_or, refl, arith, suc, slice_index_or, drop-cons, add-one, ap, ◌∙◌, sym}
 use Rattle.std.specs.Prelude.{Some, None, option_map, option_and_then}
 use Rattle.std.specs.List.{prefix_len}
@@ -9,21 +9,21 @@ use Rattle.mud_base.specs.Decimal.{digits_upto}
 use Rattle.mud_base.proofs.Digits.{digits_more, digits_other, digits_none, digits_above}
 use Rattle.mud_file.specs.DateTime.{number_at, behind_digits}
 
--- the octets at a place and behind it
-drop_two : (text : List ℕ) (place : ℕ) → place + 2 ≤ length text → drop place text ≡ get_or text place 0 ∷ get_or text (place + 1) 0 ∷ drop (suc (suc place)) text
-drop_two text place within =
-    let second : drop (suc place) text ≡ get_or text (suc place) 0 ∷ drop (suc (suc place)) text = drop-cons text (suc place) 0 (omega arith) in
-    rw (add-one place) (drop-cons text place 0 (omega arith) ∙ ap (λ more. get_or text place 0 ∷ more) second)
+-- the octets at an offset and behind it
+drop_two : (text : List ℕ) (offset : ℕ) → offset + 2 ≤ length text → drop offset text ≡ get_or text offset 0 ∷ get_or text (offset + 1) 0 ∷ drop (suc (suc offset)) text
+drop_two text offset within =
+    let second : drop (suc offset) text ≡ get_or text (suc offset) 0 ∷ drop (suc (suc offset)) text = drop-cons text (suc offset) 0 (omega arith) in
+    rw (add-one offset) (drop-cons text offset 0 (omega arith) ∙ ap (λ more. get_or text offset 0 ∷ more) second)
 
-two_octets : (most place : ℕ) (text : List ℕ) → place + 2 ≤ length text → number_at most 2 place text ≡ digits_upto most 0 (get_or text place 0 ∷ get_or text (place + 1) 0 ∷ [])
+two_octets : (most offset : ℕ) (text : List ℕ) → offset + 2 ≤ length text → number_at most 2 offset text ≡ digits_upto most 0 (get_or text offset 0 ∷ get_or text (offset + 1) 0 ∷ [])
 unfolding number_at
-two_octets most place text within = let both = drop_two text place within in grind (arith, nat_tests)
+two_octets most offset text within = let both = drop_two text offset within in grind (arith, nat_tests)
 
 digit_most : (c : ℕ) → is_ascii_digit c ≡ true → c ≤ 57
 digit_most c digit = grind (arith, nat_tests)
 
-pub no_tens : (most place : ℕ) (text : List ℕ) → place + 2 ≤ length text → is_ascii_digit (get_or text place 0) ≡ false → number_at most 2 place text ≡ None
-no_tens most place text within other = two_octets most place text within ∙ digits_other most 0 (get_or text place 0) (get_or text (place + 1) 0 ∷ []) other
+pub no_tens : (most offset : ℕ) (text : List ℕ) → offset + 2 ≤ length text → is_ascii_digit (get_or text offset 0) ≡ false → number_at most 2 offset text ≡ None
+no_tens most offset text within other = two_octets most offset text within ∙ digits_other most 0 (get_or text offset 0) (get_or text (offset + 1) 0 ∷ []) other
 
 both_digits : (most k a b n : ℕ) (more : List ℕ) → is_ascii_digit a ≡ true → is_ascii_digit b ≡ true → n ≡ (k * 10 + (a - 48)) * 10 + (b - 48) → digits_upto most k (a ∷ b ∷ more) ≡ digits_upto most n more
 both_digits most k a b n more tens ones e =
@@ -32,19 +32,19 @@ both_digits most k a b n more tens ones e =
 first_only : (most k a b : ℕ) (more : List ℕ) → is_ascii_digit a ≡ true → is_ascii_digit b ≡ false → digits_upto most k (a ∷ b ∷ more) ≡ None
 first_only most k a b more tens ones = digits_more most k a (b ∷ more) tens ∙ digits_other most (k * 10 + (a - 48)) b more ones
 
-pub no_ones : (most place : ℕ) (text : List ℕ) → place + 2 ≤ length text → is_ascii_digit (get_or text place 0) ≡ true → is_ascii_digit (get_or text (place + 1) 0) ≡ false → number_at most 2 place text ≡ None
-no_ones most place text within digit other =
-    two_octets most place text within ∙ first_only most 0 (get_or text place 0) (get_or text (place + 1) 0) [] digit other
+pub no_ones : (most offset : ℕ) (text : List ℕ) → offset + 2 ≤ length text → is_ascii_digit (get_or text offset 0) ≡ true → is_ascii_digit (get_or text (offset + 1) 0) ≡ false → number_at most 2 offset text ≡ None
+no_ones most offset text within digit other =
+    two_octets most offset text within ∙ first_only most 0 (get_or text offset 0) (get_or text (offset + 1) 0) [] digit other
 
-pub two_are : (most place : ℕ) (text : List ℕ) → place + 2 ≤ length text → is_ascii_digit (get_or text place 0) ≡ true → is_ascii_digit (get_or text (place + 1) 0) ≡ true
-    → (n : ℕ) → n ≡ (get_or text place 0 - 48) * 10 + (get_or text (place + 1) 0 - 48) → n ≤ most → number_at most 2 place text ≡ Some n
-two_are most place text within tens ones n e most_is =
-    two_octets most place text within ∙ both_digits most 0 (get_or text place 0) (get_or text (place + 1) 0) n [] tens ones (omega arith) ∙ digits_none most n most_is
+pub two_are : (most offset : ℕ) (text : List ℕ) → offset + 2 ≤ length text → is_ascii_digit (get_or text offset 0) ≡ true → is_ascii_digit (get_or text (offset + 1) 0) ≡ true
+    → (n : ℕ) → n ≡ (get_or text offset 0 - 48) * 10 + (get_or text (offset + 1) 0 - 48) → n ≤ most → number_at most 2 offset text ≡ Some n
+two_are most offset text within tens ones n e most_is =
+    two_octets most offset text within ∙ both_digits most 0 (get_or text offset 0) (get_or text (offset + 1) 0) n [] tens ones (omega arith) ∙ digits_none most n most_is
 
-pub two_above : (most place : ℕ) (text : List ℕ) → place + 2 ≤ length text → is_ascii_digit (get_or text place 0) ≡ true → is_ascii_digit (get_or text (place + 1) 0) ≡ true
-    → (n : ℕ) → n ≡ (get_or text place 0 - 48) * 10 + (get_or text (place + 1) 0 - 48) → most < n → number_at most 2 place text ≡ None
-two_above most place text within tens ones n e above =
-    two_octets most place text within ∙ both_digits most 0 (get_or text place 0) (get_or text (place + 1) 0) n [] tens ones (omega arith) ∙ digits_above most n [] above
+pub two_above : (most offset : ℕ) (text : List ℕ) → offset + 2 ≤ length text → is_ascii_digit (get_or text offset 0) ≡ true → is_ascii_digit (get_or text (offset + 1) 0) ≡ true
+    → (n : ℕ) → n ≡ (get_or text offset 0 - 48) * 10 + (get_or text (offset + 1) 0 - 48) → most < n → number_at most 2 offset text ≡ None
+two_above most offset text within tens ones n e above =
+    two_octets most offset text within ∙ both_digits most 0 (get_or text offset 0) (get_or text (offset + 1) 0) n [] tens ones (omega arith) ∙ digits_above most n [] above
 
 century : (a b : ℕ) → is_ascii_digit a ≡ true → is_ascii_digit b ≡ true → digits_upto 99 0 (a ∷ b ∷ []) ≡ Some ((a - 48) * 10 + (b - 48))
 century a b ea eb =

@@ -141,10 +141,10 @@ abbrev list_value : Data
 list_value = obj ((codes "name", txt (codes "l")) ∷ (codes "type", txt (codes "ipv6-acl-type")) ∷ (codes "aces", obj ((codes "ace", list (entry_value (codes "a") ∷ entry_value (codes "b") ∷ [])) ∷ [])) ∷ [])
 
 abbrev the_list : Element
-the_list = record { place = 3; name = codes "l"; value = list_value }
+the_list = record { index = 3; name = codes "l"; value = list_value }
 
 abbrev the_name : Element
-the_name = record { place = 1; name = codes "l"; value = null }
+the_name = record { index = 1; name = codes "l"; value = null }
 
 abbrev behind : ℕ → Result (List Entry) Broken
 behind count = answer (next_list From [] (the_list ∷ []) (replicate count (plain (codes "z"))) the_name)

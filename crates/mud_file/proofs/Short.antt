@@ -13,9 +13,9 @@ either_none : {A : Type 0} (b : Bool) (o : Option A) → o ≡ None → (if b th
 either_none true o e = e
 either_none false o e = refl
 
-no_number : (most count place : ℕ) (text : List ℕ) → length text < place + count → number_at most count place text ≡ None
+no_number : (most count offset : ℕ) (text : List ℕ) → length text < offset + count → number_at most count offset text ≡ None
 unfolding number_at
-no_number most count place text short = grind (arith, nat_tests)
+no_number most count offset text short = grind (arith, nat_tests)
 
 no_second : (text : List ℕ) → length text < 8 → second_in text ≡ None
 unfolding second_in

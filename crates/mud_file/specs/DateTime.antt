@@ -10,9 +10,9 @@ infixl 10 ◌>>=◌
 abbrev ◌>>=◌ : {A B : Type 0} → Option A → (A → Option B) → Option B
 o >>= f = option_and_then f o
 
--- the number that so many digits at this place of the text spell, where it is at most `most`
+-- the number that so many digits at this offset of the text spell, where it is at most `most`
 unfoldable pub number_at : ℕ → ℕ → ℕ → List ℕ → Option ℕ
-number_at most count place text = if nat_le (place + count) (length text) then digits_upto most 0 (take count (drop place text)) else None
+number_at most count offset text = if nat_le (offset + count) (length text) then digits_upto most 0 (take count (drop offset text)) else None
 
 -- the Gregorian calendar has the date
 abbrev pub is_date : ℕ → ℕ → ℕ → Bool
@@ -61,8 +61,8 @@ unfoldable pub signed : ℕ → ℕ → Option ℤ
 signed sign seconds = if sign == byte "+" then Some (pos seconds) else (if sign == byte "-" then Some (neg_ℤ (pos seconds)) else None)
 
 -- `Z`, or `hh:mm` behind a sign: by how many seconds the local time is ahead of UTC
-unfoldable pub offset_in : List ℕ → Option ℤ
-offset_in zone = if bytes_eq zone (codes "Z") then Some (pos 0) else (if length zone == 6 then (do
+unfoldable pub time_offset_in : List ℕ → Option ℤ
+time_offset_in zone = if bytes_eq zone (codes "Z") then Some (pos 0) else (if length zone == 6 then (do
   minutes ← minutes_in (drop 1 zone)
   signed (slice_index zone 0) (minutes * 60)) else None)
 
@@ -72,5 +72,5 @@ unfoldable pub seconds_in : List ℕ → Option ℤ
 seconds_in text = if slice_index text 10 == byte "T" then (do
   day ← day_in text
   second ← second_in (drop 11 text)
-  offset ← offset_in (without_fraction (drop 19 text))
-  Some (((day *ℤ pos 86400) +ℤ pos second) -ℤ offset)) else None
+  time_offset ← time_offset_in (without_fraction (drop 19 text))
+  Some (((day *ℤ pos 86400) +ℤ pos second) -ℤ time_offset)) else None

@@ -11,7 +11,7 @@ use Rattle.serde_json.specs.Data.{Data, null}
 use Rattle.usage_walk.specs.declared.fault.Rule.TheVariants as rule
 use Rattle.usage_walk.specs.declared.member.Member.TheVariants as members
 use Rattle.mud_base.specs.Readings.{done, ◌>>=◌, wanted, refused_where, over}
-use Rattle.usage_walk.specs.Reading.{Reading, under, at_place, fault_at}
+use Rattle.usage_walk.specs.Reading.{Reading, under, at_index, fault_at}
 use Rattle.usage_walk.specs.Kinds.{object_of, object_at, text_at, object_where_there, list_where_there}
 use Rattle.usage_walk.specs.Named.{Element, element_named}
 use Rattle.usage_match.specs.declared.entry_tests.ListType.{ListType}
@@ -136,7 +136,7 @@ with_entry list path before d = do
   done (before ++ entry ∷ [])
 
 unfoldable pub next_entry : ListHead → List Entry → Data → Reading (List Entry)
-next_entry list before d = with_entry list (at_place list.path (length before)) before d
+next_entry list before d = with_entry list (at_index list.path (length before)) before d
 
 unfoldable pub entries_in : ListHead → List Data → Reading (List Entry)
 entries_in list ds = over (next_entry list) [] ds
@@ -174,11 +174,11 @@ abbrev pub acls_path : List ℕ
 acls_path = under (under [] members.Acls) members.Acl
 
 abbrev pub no_element : Element
-no_element = record { place = 0; name = []; value = null }
+no_element = record { index = 0; name = []; value = null }
 
 -- the access list of this name, which the list of names at this path has
 unfoldable pub acl_named : List ℕ → List Element → Element → Reading Element
-acl_named path acls name = wanted no_element (fault_at rule.NoSuchAcl (under (at_place path name.place) members.Name)) (element_named name.name acls)
+acl_named path acls name = wanted no_element (fault_at rule.NoSuchAcl (under (at_index path name.index) members.Name)) (element_named name.name acls)
 
 -- the most entries of a direction
 abbrev pub most_entries : ℕ
@@ -188,7 +188,7 @@ most_entries = 128
 unfoldable pub next_list : Direction → List ℕ → List Element → List Entry → Element → Reading (List Entry)
 next_list side path acls so_far name = do
   acl ← acl_named path acls name
-  entries ← list_at side (most_entries - length so_far) (at_place acls_path acl.place) acl
+  entries ← list_at side (most_entries - length so_far) (at_index acls_path acl.index) acl
   done (so_far ++ entries)
 
 -- all entries of the direction: those of the lists of these names, which stand at this path

@@ -8,7 +8,7 @@ use Rattle.usage_walk.specs.declared.fault.Broken.{Broken}
 use Rattle.usage_walk.specs.declared.fault.Rule.TheVariants as rule
 use Rattle.usage_walk.specs.declared.member.Member.TheVariants as members
 use Rattle.mud_base.specs.Readings.{done, ◌>>=◌, wanted, refused_where, over}
-use Rattle.usage_walk.specs.Reading.{Reading, under, at_place, fault_at}
+use Rattle.usage_walk.specs.Reading.{Reading, under, at_index, fault_at}
 use Rattle.usage_walk.specs.Kinds.{text_of, text_at, number_at, number_where_there, truth_at, text_where_there, list_where_there}
 use Rattle.mud_file.specs.declared.usage_file.Head.{Head}
 
@@ -73,7 +73,7 @@ signature_at path d = text_where_there path members.MudSignature (Some d)
 -- the next extension of the list at this path, behind those before it
 unfoldable pub extension_at : List ℕ → List (List ℕ) → Data → Reading (List (List ℕ))
 extension_at path before d = do
-  name ← text_of (at_place path (length before)) d
+  name ← text_of (at_index path (length before)) d
   done (before ++ name ∷ [])
 
 unfoldable pub extensions_in : List ℕ → List Data → Reading (List (List ℕ))

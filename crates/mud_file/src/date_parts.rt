@@ -19,15 +19,15 @@ fn digit_value(octet: u8) -> Option<u8>
     }
 }
 
-/// The number that the two digits at this place spell, where it is at most `most`.
+/// The number that the two digits at this offset spell, where it is at most `most`.
 #[tactic(auto, using(crate::proofs::Digits::no_tens, crate::proofs::Digits::no_ones, crate::proofs::Digits::two_are, crate::proofs::Digits::two_above))]
-fn two_digits(most: u8, place: usize, text: &[u8]) -> Option<u8>
-    requires { place + 2 ≤ length text.now }
-    ensures value { result ≡ spec.number_at most 2 place text.now }
+fn two_digits(most: u8, offset: usize, text: &[u8]) -> Option<u8>
+    requires { offset + 2 ≤ length text.now }
+    ensures value { result ≡ spec.number_at most 2 offset text.now }
     ensures within { IfSome result (λ number. number ≤ most) }
 {
-    let tens = digit_value(text[place])?;
-    let ones = digit_value(text[place + 1])?;
+    let tens = digit_value(text[offset])?;
+    let ones = digit_value(text[offset + 1])?;
     let number = tens * 10 + ones;
     if number <= most { Some(number) } else { None }
 }
@@ -60,7 +60,8 @@ fn day_number(year: u16, month: u8, day: u8) -> Option<i32>
     }
 }
 
-/// The number of the day at the front, `YYYY-MM-DD`, counted from 1970-01-01 and negative before it.
+/// The number of the day at the front, `YYYY-MM-DD`, counted from 1970-01-01 and negative before
+/// it.
 #[tactic(auto, unfolding(crate::specs::DateTime::day_in))]
 pub(crate) fn day_of(text: &[u8]) -> Option<i32>
     requires { 10 ≤ length text.now }
@@ -165,9 +166,9 @@ fn signed(sign: u8, seconds: u32) -> Option<i32>
 }
 
 /// By how many seconds the local time is ahead of UTC, from `Z` or from `hh:mm` behind a sign.
-#[tactic(auto, unfolding(crate::specs::DateTime::offset_in))]
-pub(crate) fn offset_of(zone: &[u8]) -> Option<i32>
-    ensures value { result ≡ spec.offset_in zone.now }
+#[tactic(auto, unfolding(crate::specs::DateTime::time_offset_in))]
+pub(crate) fn time_offset_of(zone: &[u8]) -> Option<i32>
+    ensures value { result ≡ spec.time_offset_in zone.now }
     ensures bound { IfSome result (IsWithin 86399) }
 {
     if zone == b"Z".as_slice() {

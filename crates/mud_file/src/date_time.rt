@@ -3,17 +3,17 @@ ghost use Rattle.std.specs.Prelude.{◌≡◌, ◌<◌, pos, ◌+ℤ◌, ◌-ℤ
 ghost use Rattle.jiff_core.specs.Calendar.{IsEpochDay, IsWithin};
 ghost use Rattle.mud_file.specs.DateTime as spec;
 
-use crate::date_parts::{day_of, offset_of, second_of, without_fraction};
+use crate::date_parts::{day_of, second_of, time_offset_of, without_fraction};
 
 /// The seconds from 1970-01-01T00:00:00Z to a second of a day, where the local time is ahead of UTC
-/// by `offset` seconds.
-fn seconds(day: i32, second: u32, offset: i32) -> i64
+/// by `time_offset` seconds.
+fn seconds(day: i32, second: u32, time_offset: i32) -> i64
     requires day { IsEpochDay day }
     requires second { second < 86400 }
-    requires offset { IsWithin 86399 offset }
-    ensures { result ≡ ((day *ℤ pos 86400) +ℤ pos second) -ℤ offset }
+    requires time_offset { IsWithin 86399 time_offset }
+    ensures { result ≡ ((day *ℤ pos 86400) +ℤ pos second) -ℤ time_offset }
 {
-    i64::from(day) * 86_400 + i64::from(second) - i64::from(offset)
+    i64::from(day) * 86_400 + i64::from(second) - i64::from(time_offset)
 }
 
 /// The whole seconds from 1970-01-01T00:00:00Z to the date and time that a text writes, negative
@@ -37,6 +37,6 @@ pub fn seconds_of(text: &[u8]) -> Option<i64>
     let (_, zone) = text.split_at(19);
     let day = day_of(text)?;
     let second = second_of(time)?;
-    let offset = offset_of(without_fraction(zone))?;
-    Some(seconds(day, second, offset))
+    let time_offset = time_offset_of(without_fraction(zone))?;
+    Some(seconds(day, second, time_offset))
 }

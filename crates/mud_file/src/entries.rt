@@ -12,7 +12,7 @@ use serde_json::Value;
 use std::alloc::Global;
 use usage_match::{ListType, Tests, tests_at};
 use usage_walk::kinds::{object_at, object_here, text_at};
-use usage_walk::path::{at_place, refusal, refuse_here_where, under};
+use usage_walk::path::{at_index, refusal, refuse_here_where, under};
 use usage_walk::{FileFault, Member, Rule};
 
 /// The access list whose entries are read.
@@ -184,7 +184,7 @@ fn next_entry(
 ) -> Result<(), FileFault>
     ensures { Gives (λ _. entries.new) result (spec.next_entry (list_head list.now) entries.old (view value.now)) }
 {
-    let path = at_place(alloc, list.path, entries.len())?;
+    let path = at_index(alloc, list.path, entries.len())?;
     add_entry(alloc, list, entries, value, path.octets())
 }
 

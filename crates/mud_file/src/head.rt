@@ -14,7 +14,7 @@ use std::alloc::Global;
 use usage_walk::kinds::{
     list_where_there, number_at, number_where_there, text_at, text_here, text_where_there, truth_at,
 };
-use usage_walk::path::{at_place, refusal, refuse_where, under};
+use usage_walk::path::{at_index, refusal, refuse_where, under};
 use usage_walk::{Broken, FileFault, Member, Rule};
 
 /// Reads the version of the format.
@@ -143,7 +143,7 @@ fn next_extension(
 ) -> Result<(), FileFault>
     ensures { Gives (λ _. extensions.new) result (spec.extension_at path.now extensions.old (view value.now)) }
 {
-    let path = at_place(alloc, path, extensions.len())?;
+    let path = at_index(alloc, path, extensions.len())?;
     let text = text_here(alloc, value, path.octets())?;
     extensions.push(Bytes::new(alloc, text.as_bytes())?)?;
     Ok(())

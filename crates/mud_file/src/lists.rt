@@ -18,7 +18,7 @@ use serde_json::Value;
 use std::alloc::Global;
 use usage_match::ListType;
 use usage_walk::kinds::{list_where_there, object_where_there, text_at};
-use usage_walk::path::{at_place, refusal, under};
+use usage_walk::path::{at_index, refusal, under};
 use usage_walk::{Element, Elements, FileFault, Member, Rule};
 
 /// The most entries of a direction.
@@ -89,20 +89,20 @@ fn list_entries(
     entries_in(alloc, &list, values)
 }
 
-/// Where the access list with this place stands.
-fn acl_path(alloc: Global, place: usize) -> Result<Bytes, Memory>
-    ensures { IfOk result (λ found. found ≡ walk.at_place spec.acls_path place) }
+/// Where the access list with this index stands.
+fn acl_path(alloc: Global, index: usize) -> Result<Bytes, Memory>
+    ensures { IfOk result (λ found. found ≡ walk.at_index spec.acls_path index) }
 {
     let acls = under(alloc, &[], Member::Acls)?;
     let list = under(alloc, acls.octets(), Member::Acl)?;
-    at_place(alloc, list.octets(), place)
+    at_index(alloc, list.octets(), index)
 }
 
-/// The refusal of the name with this place in the list at this path, which no access list has.
-fn no_such_acl(alloc: Global, path: &[u8], place: usize) -> FileFault
-    ensures { Refuses result (fault_at rule.NoSuchAcl (walk.under (walk.at_place path.now place) members.Name)) }
+/// The refusal of the name with this index in the list at this path, which no access list has.
+fn no_such_acl(alloc: Global, path: &[u8], index: usize) -> FileFault
+    ensures { Refuses result (fault_at rule.NoSuchAcl (walk.under (walk.at_index path.now index) members.Name)) }
 {
-    match at_place(alloc, path, place) {
+    match at_index(alloc, path, index) {
         Ok(path) => refusal(alloc, Rule::NoSuchAcl, path.octets(), Member::Name),
         Err(Memory) => FileFault::Memory,
     }
@@ -120,7 +120,7 @@ fn acl_named<'a>(
 {
     match acls.named(name.name) {
         Some(acl) => Ok(acl),
-        None => Err(no_such_acl(alloc, path, name.place)),
+        None => Err(no_such_acl(alloc, path, name.index)),
     }
 }
 
@@ -146,13 +146,14 @@ fn with_list(
     ensures { Gives (λ e. e) result (spec.next_list side path.now (elements_view acls.now) so_far (element_view name.entry)) }
 {
     let acl = acl_named(alloc, acls, name, path)?;
-    let path = acl_path(alloc, acl.place)?;
+    let path = acl_path(alloc, acl.index)?;
     let room = MOST_ENTRIES.saturating_sub(so_far.len());
     let entries = list_entries(alloc, side, room, acl, path.octets())?;
     Ok(joined(so_far, entries)?)
 }
 
-/// All entries of the direction: those of the access lists of these names, which stand at this path.
+/// All entries of the direction: those of the access lists of these names, which stand at this
+/// path.
 #[tactic(auto, unfolding(crate::specs::Entries::entries_of), using(crate::proofs::Elements::over_taken, crate::proofs::Elements::over_refused, crate::proofs::Elements::over_past))]
 pub fn entries_of(
     alloc: Global,

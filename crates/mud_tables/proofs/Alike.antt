@@ -12,7 +12,7 @@ use Rattle.acl_model.specs.declared.entry.Policy.{Policy}
 use Rattle.acl_model.specs.Keys.{key_of}
 use Rattle.acl_model.specs.Match.{peer_of, near_met, near_matches, rest_matches, entry_matches}
 use Rattle.acl_model.specs.FirstMatch.{ruling_by}
-use Rattle.mud_tables.specs.Ends.{for_ever}
+use Rattle.mud_tables.specs.Expiries.{for_ever}
 use Rattle.mud_tables.specs.Tables.{Tables, meets, ruling_of}
 use Rattle.mud_tables.specs.Bindings.{bindings_of, key_met, selector_met, members_met, matches_by_bindings, ruling_by_bindings}
 use Rattle.mud_tables.proofs.Members.{has_live-host, has_live-model, has_live-class, has_live-mine, has_live-name}

@@ -9,26 +9,26 @@ use Rattle.std.proofs.lemmas.Option.{same_Some, none-some}
 use Rattle.mud_base.specs.Addresses.{same_addr}
 use Rattle.mud_base.specs.declared.addr.Addr.{Addr}
 use Rattle.mud_base.specs.declared.addr.Mac.{Mac}
-use Rattle.sorted_rows.specs.Placed.{place_cmp, same_place, PlacesAscend, row_at, set_row, without_row}
-use Rattle.sorted_rows.specs.Addresses.{end_place}
-use Rattle.sorted_rows.proofs.PlacedLaws.{same_place_exact, row_at-set_row, row_at-without_row}
+use Rattle.sorted_rows.specs.Sortable.{sort_key_cmp, same_sort_key, SortKeysAscend, row_at, set_row, without_row}
+use Rattle.sorted_rows.specs.Addresses.{expiry_sort_key}
+use Rattle.sorted_rows.proofs.SortableLaws.{same_sort_key_exact, row_at-set_row, row_at-without_row}
 use Rattle.mud_tables.specs.declared.thing.Thing.{Thing}
-use Rattle.mud_tables.specs.Ends.{Ends, has_address, end_of, with_end, without_address, live_rows, is_live}
+use Rattle.mud_tables.specs.Expiries.{Expiries, has_address, expiry_of, with_expiry, without_address, live_rows, is_live}
 use Rattle.mud_tables.specs.Things.{IsAlone, mac_of, set_thing, without_thing, new_thing, holds, with_leases, released, without_lease}
 use Rattle.mud_tables.proofs.RowSets.{same_addr_exact, any_first, any_later, any_by, row_at-map}
 pub use Rattle.sorted_rows.proofs.ListTests.{any_kept, any_without}
 
 -- ---- Which addresses rows of addresses have
 
-pub without_address_none : (a : Addr) (rows : Ends) → has_address a (without_address a rows) ≡ true → ⊥
+pub without_address_none : (a : Addr) (rows : Expiries) → has_address a (without_address a rows) ≡ true → ⊥
 unfolding has_address without_address
 without_address_none a rows e = any_without (λ r. same_addr r.0 a) rows e
 
-pub without_address_less : (a b : Addr) (rows : Ends) → has_address b (without_address a rows) ≡ true → has_address b rows ≡ true
+pub without_address_less : (a b : Addr) (rows : Expiries) → has_address b (without_address a rows) ≡ true → has_address b rows ≡ true
 unfolding has_address without_address
 without_address_less a b rows e = any_kept (λ r. same_addr r.0 b) (λ r. not (same_addr r.0 a)) rows e
 
-pub live_rows_less : (now : ℕ) (b : Addr) (rows : Ends) → has_address b (live_rows now rows) ≡ true → has_address b rows ≡ true
+pub live_rows_less : (now : ℕ) (b : Addr) (rows : Expiries) → has_address b (live_rows now rows) ≡ true → has_address b rows ≡ true
 unfolding has_address live_rows
 live_rows_less now b rows e = any_kept (λ r. same_addr r.0 b) (λ r. is_live r.1 now) rows e
 
@@ -39,27 +39,27 @@ any_first_row p row x rows rest new old later Less e = any_by p row (x ∷ rows)
 any_first_row p row x rows rest new old later Equal e = any_by p row rows new (λ is. old (any_later p x rows is)) e
 any_first_row p row x rows rest new old later Greater e = any_by p x rest (λ is. old (any_first p x rows is)) (later (λ is. old (any_later p x rows is))) e
 
-any-set_row : {R : Type 0} {P : Type 0} (place : R → List ℕ) (p : R → Bool) (row : R) (rows : List R) → (p row ≡ true → P) → (list_any p rows ≡ true → P) → list_any p (set_row place row rows) ≡ true → P
-any-set_row place p row [] new old e = any_by p row [] new old e
-any-set_row place p row (x ∷ xs) new old e = any_first_row p row x xs (set_row place row xs) new old (λ old' e'. any-set_row place p row xs new old' e') (place_cmp (place row) (place x)) e
+any-set_row : {R : Type 0} {P : Type 0} (sort_key : R → List ℕ) (p : R → Bool) (row : R) (rows : List R) → (p row ≡ true → P) → (list_any p rows ≡ true → P) → list_any p (set_row sort_key row rows) ≡ true → P
+any-set_row sort_key p row [] new old e = any_by p row [] new old e
+any-set_row sort_key p row (x ∷ xs) new old e = any_first_row p row x xs (set_row sort_key row xs) new old (λ old' e'. any-set_row sort_key p row xs new old' e') (sort_key_cmp (sort_key row) (sort_key x)) e
 
-pub with_end_by : {P : Type 0} (a b : Addr) (until : ℕ) (rows : Ends) → (same_addr a b ≡ true → P) → (has_address b rows ≡ true → P) → has_address b (with_end a until rows) ≡ true → P
-unfolding with_end has_address
-with_end_by a b until rows new old e = any-set_row end_place (λ s. same_addr s.0 b) (a, until) rows new old e
+pub with_expiry_by : {P : Type 0} (a b : Addr) (until : ℕ) (rows : Expiries) → (same_addr a b ≡ true → P) → (has_address b rows ≡ true → P) → has_address b (with_expiry a until rows) ≡ true → P
+unfolding with_expiry has_address
+with_expiry_by a b until rows new old e = any-set_row expiry_sort_key (λ s. same_addr s.0 b) (a, until) rows new old e
 
--- the end of an address is there where the rows have the address
-pub has_end : (a : Addr) (rows : Ends) (until : ℕ) → end_of a rows ≡ Some until → has_address a rows ≡ true
-unfolding end_of has_address
-has_end a [] until e = absurd (none-some until e)
-has_end a (r ∷ rows) until e = by_first (same_addr r.0 a) refl (has_end a rows until)
+-- the expiry of an address is there where the rows have the address
+pub has_expiry : (a : Addr) (rows : Expiries) (until : ℕ) → expiry_of a rows ≡ Some until → has_address a rows ≡ true
+unfolding expiry_of has_address
+has_expiry a [] until e = absurd (none-some until e)
+has_expiry a (r ∷ rows) until e = by_first (same_addr r.0 a) refl (has_expiry a rows until)
   where
-    by_first : (b : Bool) → same_addr r.0 a ≡ b → (end_of a rows ≡ Some until → has_address a rows ≡ true) → has_address a (r ∷ rows) ≡ true
+    by_first : (b : Bool) → same_addr r.0 a ≡ b → (expiry_of a rows ≡ Some until → has_address a rows ≡ true) → has_address a (r ∷ rows) ≡ true
     by_first true is later = any_first (λ s. same_addr s.0 a) r rows is
-    by_first false is later = any_later (λ s. same_addr s.0 a) r rows (later (sym (ap (λ b. cond b (Some r.1) (end_of a rows)) is) ∙ e))
+    by_first false is later = any_later (λ s. same_addr s.0 a) r rows (later (sym (ap (λ b. cond b (Some r.1) (expiry_of a rows)) is) ∙ e))
 
 -- ---- Things that have no address that they hadn't
 
--- the Thing at each place was there, and had each address that it has
+-- the Thing at each sort key was there, and had each address that it has
 pub record HadBefore (things : List Thing) (q : List ℕ) (u : Thing) : Type 0 where
   pub old : Thing
   pub there : row_at mac_of q things ≡ Some old
@@ -75,10 +75,10 @@ same_before : (things : List Thing) (q : List ℕ) (u : Thing) → row_at mac_of
 same_before things q u there = record { old = u; there = there; had = λ a h. h }
 
 -- a Thing goes
-pub alone-without_thing : (mac : Mac) (things : List Thing) → PlacesAscend mac_of things → IsAlone things → IsAlone (without_thing mac things)
+pub alone-without_thing : (mac : Mac) (things : List Thing) → SortKeysAscend mac_of things → IsAlone things → IsAlone (without_thing mac things)
 unfolding without_thing
 alone-without_thing mac things ascend alone = alone_less things (without_row mac_of mac.0 things) alone (λ q u e.
-    same_before things q u (kept q u (same_place mac.0 q) (sym (row_at-without_row mac_of mac.0 things q ascend) ∙ e)))
+    same_before things q u (kept q u (same_sort_key mac.0 q) (sym (row_at-without_row mac_of mac.0 things q ascend) ∙ e)))
   where
     kept : (q : List ℕ) (u : Thing) (b : Bool) → cond b None (row_at mac_of q things) ≡ Some u → row_at mac_of q things ≡ Some u
     kept q u true e = absurd (none-some u e)
@@ -126,15 +126,15 @@ IsApart t things = (a : Addr) (q : List ℕ) (u : Thing) → row_at mac_of q thi
 pub alone-set_thing : (t : Thing) (things : List Thing) → IsAlone things → IsApart t things → IsAlone (set_thing t things)
 unfolding set_thing
 alone-set_thing t things alone apart a p q u v at_p at_q has_u has_v =
-    by_tests (same_place (mac_of t) p) (same_place (mac_of t) q) refl refl (sym (row_at-set_row mac_of t things p) ∙ at_p) (sym (row_at-set_row mac_of t things q) ∙ at_q)
+    by_tests (same_sort_key (mac_of t) p) (same_sort_key (mac_of t) q) refl refl (sym (row_at-set_row mac_of t things p) ∙ at_p) (sym (row_at-set_row mac_of t things q) ∙ at_q)
   where
-    by_tests : (b c : Bool) → same_place (mac_of t) p ≡ b → same_place (mac_of t) q ≡ c → cond b (Some t) (row_at mac_of p things) ≡ Some u → cond c (Some t) (row_at mac_of q things) ≡ Some v → p ≡ q
-    by_tests true true here there e f = sym (same_place_exact (mac_of t) p here) ∙ same_place_exact (mac_of t) q there
-    by_tests true false here there e f = sym (same_place_exact (mac_of t) p here) ∙ apart a q v f (ap (holds a) (same_Some t u e) ∙ has_u) has_v
-    by_tests false true here there e f = sym (apart a p u e (ap (holds a) (same_Some t v f) ∙ has_v) has_u) ∙ same_place_exact (mac_of t) q there
+    by_tests : (b c : Bool) → same_sort_key (mac_of t) p ≡ b → same_sort_key (mac_of t) q ≡ c → cond b (Some t) (row_at mac_of p things) ≡ Some u → cond c (Some t) (row_at mac_of q things) ≡ Some v → p ≡ q
+    by_tests true true here there e f = sym (same_sort_key_exact (mac_of t) p here) ∙ same_sort_key_exact (mac_of t) q there
+    by_tests true false here there e f = sym (same_sort_key_exact (mac_of t) p here) ∙ apart a q v f (ap (holds a) (same_Some t u e) ∙ has_u) has_v
+    by_tests false true here there e f = sym (apart a p u e (ap (holds a) (same_Some t v f) ∙ has_v) has_u) ∙ same_sort_key_exact (mac_of t) q there
     by_tests false false here there e f = alone a p q u v e f has_u has_v
 
--- it has no address that the Thing of its place hadn't
+-- it has no address that the Thing of its sort key hadn't
 pub apart_before : (t old : Thing) (things : List Thing) → IsAlone things → row_at mac_of (mac_of t) things ≡ Some old → ((a : Addr) → holds a t ≡ true → holds a old ≡ true) → IsApart t things
 apart_before t old things alone there had a q u at_q has_t has_u = alone a (mac_of t) q old u there at_q (had a has_t) has_u
 
@@ -149,19 +149,19 @@ module _ (things : List Thing) (alone : IsAlone things) where
   -- nor has one whose leases stay
   pub same_leases : (t thing : Thing) → mac_of t ≡ mac_of thing → t.leases ≡ thing.leases → row_at mac_of (mac_of thing) things ≡ Some thing → IsApart t things
   unfolding holds
-  same_leases t thing place leases there = apart_before t thing things alone (ap (λ p. row_at mac_of p things) place ∙ there) (λ a h. sym (ap (has_address a) leases) ∙ h)
+  same_leases t thing sort_key leases there = apart_before t thing things alone (ap (λ p. row_at mac_of p things) sort_key ∙ there) (λ a h. sym (ap (has_address a) leases) ∙ h)
 
-  -- the Thing that has the address gets another end for it
-  pub ended_apart : (a : Addr) (until old : ℕ) (thing : Thing) → row_at mac_of (mac_of thing) things ≡ Some thing → end_of a thing.leases ≡ Some old → IsApart (with_leases (with_end a until thing.leases) thing) things
+  -- the Thing that has the address gets another expiry for it
+  pub ended_apart : (a : Addr) (until old : ℕ) (thing : Thing) → row_at mac_of (mac_of thing) things ≡ Some thing → expiry_of a thing.leases ≡ Some old → IsApart (with_leases (with_expiry a until thing.leases) thing) things
   unfolding mac_of holds with_leases
-  ended_apart a until old thing there kept = apart_before (with_leases (with_end a until thing.leases) thing) thing things alone there (λ b h.
-      with_end_by a b until thing.leases (λ same. subst (λ c. has_address c thing.leases ≡ true) (same_addr_exact a b same) (has_end a thing.leases old kept)) (λ was. was) h)
+  ended_apart a until old thing there kept = apart_before (with_leases (with_expiry a until thing.leases) thing) thing things alone there (λ b h.
+      with_expiry_by a b until thing.leases (λ same. subst (λ c. has_address c thing.leases ≡ true) (same_addr_exact a b same) (has_expiry a thing.leases old kept)) (λ was. was) h)
 
   -- a Thing that gets the address after it has left each Thing
-  pub fresh_apart : (a : Addr) (until now : ℕ) (thing : Thing) → row_at mac_of (mac_of thing) things ≡ Some thing → IsApart (with_leases (with_end a until (live_rows now thing.leases)) thing) (without_lease a things)
+  pub fresh_apart : (a : Addr) (until now : ℕ) (thing : Thing) → row_at mac_of (mac_of thing) things ≡ Some thing → IsApart (with_leases (with_expiry a until (live_rows now thing.leases)) thing) (without_lease a things)
   unfolding mac_of holds with_leases
   fresh_apart a until now thing there b q u at_q has_t has_u =
-      with_end_by a b until (live_rows now thing.leases)
+      with_expiry_by a b until (live_rows now thing.leases)
       (λ same. absurd (left_none a things q u at_q (subst (λ c. has_address c u.leases ≡ true) (sym (same_addr_exact a b same)) has_u)))
       (λ was. let old : HadBefore things q u = left_before a things q u at_q in
       alone b (mac_of thing) q thing old.old there old.there (live_rows_less now b thing.leases was) (old.had b has_u))

@@ -12,8 +12,8 @@ use Rattle.mud_tables.specs.declared.bind.ClassRow.{ClassRow}
 use Rattle.mud_tables.specs.declared.bind.NameRow.{NameRow}
 use Rattle.mud_tables.specs.declared.bind_fault.BindFault.TheVariants.{ClassesFull, ClassFull, NotBound, LocalsFull, NamesFull, NameFull}
 use Rattle.mud_tables.specs.Binds.{class_at, name_at, name_row}
-use Rattle.mud_tables.specs.BindSteps.{classes_done, locals_done, observed, bind_cases, bind_step, unbind_step, locals_step, least_dead, addrs_of, replacing, new_pair, observe_cases, observe_row, observe_step}
-use Rattle.mud_tables.specs.Ends.{end_of}
+use Rattle.mud_tables.specs.BindCommands.{classes_done, locals_done, observed, bind_cases, bind_step, unbind_step, locals_step, least_dead, addrs_of, replacing, new_pair, observe_cases, observe_row, observe_step}
+use Rattle.mud_tables.specs.Expiries.{expiry_of}
 use Rattle.mud_tables.proofs.Literals.{binds_compute, bulb_addr, switch_addr, dns_addr, test_addr, bulb_url, dns_class, test_name}
 
 -- ---- Classes
@@ -145,7 +145,7 @@ first_seen : observe_step test_name test_addr 60 1000 [] ≡ observed New 1060 (
 unfolding binds_compute
 first_seen = refl
 
--- the end that is kept is later
+-- the expiry that is kept is later
 seen_shorter : observe_step test_name test_addr 30 1000 (named 1060 ∷ []) ≡ observed Same 1060 (named 1060 ∷ [])
 unfolding binds_compute
 seen_shorter = refl
@@ -158,7 +158,7 @@ seen_longer : observe_step test_name test_addr 61 1000 (named 1060 ∷ []) ≡ o
 unfolding binds_compute
 seen_longer = refl
 
--- the end itself is past: the pair is new
+-- the expiry itself is past: the pair is new
 seen_at_end : observe_step test_name test_addr 30 1060 (named 1060 ∷ []) ≡ observed New 1090 (named 1090 ∷ [])
 unfolding binds_compute
 seen_at_end = refl
@@ -195,7 +195,7 @@ one_has_ended = refl
 
 -- a name that isn't kept, where 4,096 are: it is refused where each of them has a live address
 no_room_for_name : (name : List ℕ) (a : Addr) (ttl now : ℕ) (names : List NameRow) → name_at name names ≡ None → nat_le 4096 (length names) ≡ true → least_dead now names ≡ None → observe_step name a ttl now names ≡ Err NamesFull
-unfolding observe_step observe_row addrs_of end_of observe_cases new_pair replacing
+unfolding observe_step observe_row addrs_of expiry_of observe_cases new_pair replacing
 no_room_for_name name a ttl now names unknown full none = rw (unknown, full, none) refl
 
 -- else it takes the place of the least that has none

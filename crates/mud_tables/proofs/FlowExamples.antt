@@ -47,7 +47,7 @@ past_pause : begun_of (with_packet called answer 8442) To answer 8443 ≡ None
 unfolding flows_compute
 past_pause = refl
 
--- ---- Ends
+-- ---- The endpoints
 
 -- the other side sees that its peer began
 seen_from_server : begun_of called From answer 1001 ≡ Some To
@@ -93,12 +93,12 @@ call_noted : MayKeep (last_moment called) (begun_between called (bulb_addr, 5000
 unfolding flows_compute
 call_noted = inl refl
 
--- of the ends in either order
+-- of the endpoints in either order
 turned_noted : MayKeep (last_moment called) (begun_between called (test_addr, 443) (bulb_addr, 50000)) (one_flow.kept (test_addr, 443) (bulb_addr, 50000))
 unfolding flows_compute
 turned_noted = inl refl
 
--- and of no other pair of ends
+-- and of no other pair of endpoints
 others_noted : MayKeep (last_moment called) (begun_between called (bulb_addr, 50001) (test_addr, 443)) (one_flow.kept (bulb_addr, 50001) (test_addr, 443))
 unfolding flows_compute
 others_noted = refl

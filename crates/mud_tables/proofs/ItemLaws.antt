@@ -18,12 +18,12 @@ use Rattle.mud_tables.specs.declared.bind.Class.{Class}
 use Rattle.mud_tables.specs.declared.bind.Class.TheVariants.{Uri, Mine}
 use Rattle.mud_tables.specs.declared.bind.ClassRow.{ClassRow}
 use Rattle.mud_tables.specs.declared.bind.NameRow.{NameRow}
-use Rattle.mud_tables.specs.Ends.{Ends}
+use Rattle.mud_tables.specs.Expiries.{Expiries}
 use Rattle.mud_tables.specs.Fits.{FitsThing}
 use Rattle.mud_tables.specs.Things.{is_sound_thing, IsKeptThing, mac_of}
 use Rattle.mud_tables.specs.Binds.{key_of_class, class_key, class_row, is_sound_class, name_row, is_sound_name, IsKeptClass, IsKeptName}
 use Rattle.mud_tables.specs.BindItems.{class_item, class_of_key, if_sound_class, class_in, locals_item, are_locals, if_sound_locals, locals_in, name_item, if_sound_name, name_in, stamp_item, moment_of_body, if_moment, stamp_in, IsKeptLocals, IsClassItem, IsLocalsItem, IsNameItem}
-use Rattle.mud_tables.specs.ItemFields.{address, v4_in, v6_in, address_in, IsAddr, ending, ending_in, IsEnding, network, network_in, IsNetwork}
+use Rattle.mud_tables.specs.ItemFields.{address, v4_in, v6_in, address_in, IsAddr, expiring, expiring_in, IsExpiring, network, network_in, IsNetwork}
 use Rattle.mud_tables.specs.ThingItems.{thing_fields, hold_octet, thing_body, thing_item, first_thing_item, hold_in, thing_of, if_sound_thing, thing_in, IsThingItem}
 
 -- ---- Addresses
@@ -106,11 +106,11 @@ address_alone octets x fits e =
 pub address_form : IsForm address IsAddr address_in
 address_form = record { back = address_back; alone = λ octets a rest fits e. address_alone octets (a, rest) fits e }
 
--- ---- Addresses with ends, and prefixes
+-- ---- Addresses with expiries, and prefixes
 
-pub ending_form : IsForm ending IsEnding ending_in
-unfolding ending ending_in
-ending_form =
+pub expiring_form : IsForm expiring IsExpiring expiring_in
+unfolding expiring expiring_in
+expiring_form =
     pair_form address IsAddr address_in (number 8) (λ n. n < 256 ^ 8) (number_in 8)
     (λ (a : Addr) (n : ℕ). (a, n)) (λ (r : Addr × ℕ). r.0) (λ (r : Addr × ℕ). r.1) (λ _. refl) (λ _ _. refl) (λ _ _. refl) address_form eight_form
 
@@ -128,8 +128,8 @@ network_form =
 abbrev url_form : IsForm (optional string) (OptionFits (λ s. length s < 2 ^ 32)) (optional_in string_in)
 url_form = optional_form string (λ s. length s < 2 ^ 32) string_in string_form
 
-abbrev leases_form : IsForm (elements ending) (ListFits IsEnding) (elements_in ending_in)
-leases_form = elements_form ending IsEnding ending_in ending_form
+abbrev leases_form : IsForm (elements expiring) (ListFits IsExpiring) (elements_in expiring_in)
+leases_form = elements_form expiring IsExpiring expiring_in expiring_form
 
 abbrev some_pair : Bool → Option (Bool × List ℕ)
 some_pair b = Some (b, [])
@@ -146,11 +146,11 @@ octet_alone : (n : ℕ) → n < 256 ^ 1 → number_in 1 (number 1 n) ≡ Some (n
 octet_alone n below = ap (number_in 1) (sym (append-nil (number 1 n))) ∙ octet_form.back n [] below
 
 -- what both versions say, with more behind it, field by field
-fields_behind : (thing : Thing) (rest : List ℕ) → thing_fields thing ++ rest ≡ string thing.url ++ (optional string thing.pending ++ (elements ending thing.leases ++ rest))
+fields_behind : (thing : Thing) (rest : List ℕ) → thing_fields thing ++ rest ≡ string thing.url ++ (optional string thing.pending ++ (elements expiring thing.leases ++ rest))
 unfolding thing_fields
 fields_behind thing rest =
-    append_assoc (string thing.url) (optional string thing.pending ++ elements ending thing.leases) rest
-    ∙ ap (λ (t : List ℕ). string thing.url ++ t) (append_assoc (optional string thing.pending) (elements ending thing.leases) rest)
+    append_assoc (string thing.url) (optional string thing.pending ++ elements expiring thing.leases) rest
+    ∙ ap (λ (t : List ℕ). string thing.url ++ t) (append_assoc (optional string thing.pending) (elements expiring thing.leases) rest)
 
 -- a body of either version, with its hold
 thing_of_back : (version : ℕ) (thing : Thing) (hold : List ℕ) → 1 ≤ version → version ≤ 2 → FitsThing thing → hold_in version hold ≡ Some (thing.held, []) → thing_of thing.mac.0 (version_of version ++ (thing_fields thing ++ hold)) ≡ Some thing
@@ -158,9 +158,9 @@ unfolding thing_of
 thing_of_back version thing hold least most fits held =
     ap (λ (t : List ℕ). thing_of thing.mac.0 (version_of version ++ t)) (fields_behind thing hold)
     ∙ rw (
-      version_to_back 2 version (string thing.url ++ (optional string thing.pending ++ (elements ending thing.leases ++ hold))) least most (omega (arith, most)),
-      string_form.back thing.url (optional string thing.pending ++ (elements ending thing.leases ++ hold)) fits.url,
-      url_form.back thing.pending (elements ending thing.leases ++ hold) fits.pending,
+      version_to_back 2 version (string thing.url ++ (optional string thing.pending ++ (elements expiring thing.leases ++ hold))) least most (omega (arith, most)),
+      string_form.back thing.url (optional string thing.pending ++ (elements expiring thing.leases ++ hold)) fits.url,
+      url_form.back thing.pending (elements expiring thing.leases ++ hold) fits.pending,
       leases_form.back thing.leases hold fits.leases,
       held,
       end_back,
@@ -220,16 +220,16 @@ record IsThingRead (key body : List ℕ) (thing : Thing) : Type 0 where
   body_is : IsThingBody body thing
   fits : FitsThing thing
 
-abbrev read_thing : List ℕ → List ℕ → Option (List ℕ) → Ends → Bool → Thing
+abbrev read_thing : List ℕ → List ℕ → Option (List ℕ) → Expiries → Bool → Thing
 read_thing key url pending leases held = record { mac = record { 0 = key }; url = url; pending = pending; leases = leases; held = held }
 
 thing_of_alone : (key body : List ℕ) (thing : Thing) → length key ≡ 6 → IsOctets body → thing_of key body ≡ Some thing → IsThingRead key body thing
 unfolding thing_of thing_fields
 thing_of_alone key body thing six fits e =
-    let a = bind_some (version_to_in 2 body) (λ version. string_in version.1 >>= λ url. optional_in string_in url.1 >>= λ pending. elements_in ending_in pending.1 >>= λ leases. hold_in version.0 leases.1 >>= λ held. end_in held.1 >>= λ ended. Some (read_thing key url.0 pending.0 leases.0 held.0)) thing e in
-    let b = bind_some (string_in a.0.1) (λ url. optional_in string_in url.1 >>= λ pending. elements_in ending_in pending.1 >>= λ leases. hold_in a.0.0 leases.1 >>= λ held. end_in held.1 >>= λ ended. Some (read_thing key url.0 pending.0 leases.0 held.0)) thing a.2 in
-    let c = bind_some (optional_in string_in b.0.1) (λ pending. elements_in ending_in pending.1 >>= λ leases. hold_in a.0.0 leases.1 >>= λ held. end_in held.1 >>= λ ended. Some (read_thing key b.0.0 pending.0 leases.0 held.0)) thing b.2 in
-    let d = bind_some (elements_in ending_in c.0.1) (λ leases. hold_in a.0.0 leases.1 >>= λ held. end_in held.1 >>= λ ended. Some (read_thing key b.0.0 c.0.0 leases.0 held.0)) thing c.2 in
+    let a = bind_some (version_to_in 2 body) (λ version. string_in version.1 >>= λ url. optional_in string_in url.1 >>= λ pending. elements_in expiring_in pending.1 >>= λ leases. hold_in version.0 leases.1 >>= λ held. end_in held.1 >>= λ ended. Some (read_thing key url.0 pending.0 leases.0 held.0)) thing e in
+    let b = bind_some (string_in a.0.1) (λ url. optional_in string_in url.1 >>= λ pending. elements_in expiring_in pending.1 >>= λ leases. hold_in a.0.0 leases.1 >>= λ held. end_in held.1 >>= λ ended. Some (read_thing key url.0 pending.0 leases.0 held.0)) thing a.2 in
+    let c = bind_some (optional_in string_in b.0.1) (λ pending. elements_in expiring_in pending.1 >>= λ leases. hold_in a.0.0 leases.1 >>= λ held. end_in held.1 >>= λ ended. Some (read_thing key b.0.0 pending.0 leases.0 held.0)) thing b.2 in
+    let d = bind_some (elements_in expiring_in c.0.1) (λ leases. hold_in a.0.0 leases.1 >>= λ held. end_in held.1 >>= λ ended. Some (read_thing key b.0.0 c.0.0 leases.0 held.0)) thing c.2 in
     let h = bind_some (hold_in a.0.0 d.0.1) (λ held. end_in held.1 >>= λ ended. Some (read_thing key b.0.0 c.0.0 d.0.0 held.0)) thing d.2 in
     let f = bind_some (end_in h.0.1) (λ ended. Some (read_thing key b.0.0 c.0.0 d.0.0 h.0.0)) thing h.2 in
     let version = version_to_alone 2 body a.0 fits a.1 in
@@ -237,10 +237,10 @@ thing_of_alone key body thing six fits e =
     let pending = url_form.alone b.0.1 c.0.0 c.0.1 url.0.left c.1 in
     let leases = leases_form.alone c.0.1 d.0.0 d.0.1 pending.0.left d.1 in
     let hold = hold_alone a.0.0 d.0.1 h.0 leases.0.left h.1 in
-    let read_2 = then_read b.0.1 (optional string c.0.0) c.0.1 (elements ending d.0.0) d.0.1 pending.0 leases.0 in
-    let read_1 = then_read a.0.1 (string b.0.0) b.0.1 (optional string c.0.0 ++ elements ending d.0.0) d.0.1 url.0 read_2 in
+    let read_2 = then_read b.0.1 (optional string c.0.0) c.0.1 (elements expiring d.0.0) d.0.1 pending.0 leases.0 in
+    let read_1 = then_read a.0.1 (string b.0.0) b.0.1 (optional string c.0.0 ++ elements expiring d.0.0) d.0.1 url.0 read_2 in
     let made : Thing = read_thing key b.0.0 c.0.0 d.0.0 h.0.0 in
-    let read_0 : IsRead body (version_of a.0.0 ++ thing_fields made) d.0.1 = then_read body (version_of a.0.0) a.0.1 (string b.0.0 ++ (optional string c.0.0 ++ elements ending d.0.0)) d.0.1 version.read read_1 in
+    let read_0 : IsRead body (version_of a.0.0 ++ thing_fields made) d.0.1 = then_read body (version_of a.0.0) a.0.1 (string b.0.0 ++ (optional string c.0.0 ++ elements expiring d.0.0)) d.0.1 version.read read_1 in
     subst (λ (t : Thing). IsThingRead key body t) {x = made} (some_is made thing f.2)
     (record {
       key_is = refl;
@@ -331,17 +331,17 @@ locals_alone item locals octets e =
 
 pub name_back : (row : NameRow) → IsKeptName row → name_in (name_item row) ≡ Some row
 unfolding name_in name_item name_row if_sound_name
-name_back row kept = rw (list_body_back ending IsEnding ending_in ending_form row.addrs kept.fits, kept.sound) refl
+name_back row kept = rw (list_body_back expiring IsExpiring expiring_in expiring_form row.addrs kept.fits, kept.sound) refl
 
 pub name_alone : (item : Item) (row : NameRow) → IsOctets item.body → name_in item ≡ Some row → IsNameItem item row
 unfolding name_in name_item name_row if_sound_name
 name_alone item row octets e =
-    let kind = pass_some (eqb item.kind 5) row (list_body_in ending_in item.body >>= λ addrs. if_sound_name (name_row item.key addrs)) e in
-    let addrs = bind_some (list_body_in ending_in item.body) (λ addrs. if_sound_name (name_row item.key addrs)) row kind.1 in
+    let kind = pass_some (eqb item.kind 5) row (list_body_in expiring_in item.body >>= λ addrs. if_sound_name (name_row item.key addrs)) e in
+    let addrs = bind_some (list_body_in expiring_in item.body) (λ addrs. if_sound_name (name_row item.key addrs)) row kind.1 in
     let s = pass_some (is_sound_name (name_row item.key addrs.0)) row (Some (name_row item.key addrs.0)) addrs.2 in
-    let body = list_body_alone ending IsEnding ending_in ending_form item.body addrs.0 octets addrs.1 in
+    let body = list_body_alone expiring IsExpiring expiring_in expiring_form item.body addrs.0 octets addrs.1 in
     subst (λ (x : NameRow). IsNameItem item x) (some_is (name_row item.key addrs.0) row s.1)
-    (record { same = same_item item 5 item.key (list_body ending addrs.0) (eqb-true item.kind 5 kind.0) refl body.0; kept = record { sound = s.0; fits = body.1 } })
+    (record { same = same_item item 5 item.key (list_body expiring addrs.0) (eqb-true item.kind 5 kind.0) refl body.0; kept = record { sound = s.0; fits = body.1 } })
 
 -- ---- The stamp
 

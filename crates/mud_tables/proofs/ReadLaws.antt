@@ -5,7 +5,7 @@ use Rattle.mud_base.specs.declared.addr.Addr.{Addr}
 use Rattle.mud_base.specs.declared.addr.Addr.TheVariants.{V4, V6}
 use Rattle.item_codec.specs.Records.{number_in}
 use Rattle.mud_tables.specs.Binds.{prefix_with}
-use Rattle.mud_tables.specs.ItemFields.{v4_in, v6_in, address_in, ending_in, network_in}
+use Rattle.mud_tables.specs.ItemFields.{v4_in, v6_in, address_in, expiring_in, network_in}
 
 module _ (octets : List ℕ) where
   pub v4_none : number_in 4 octets ≡ None → v4_in octets ≡ None
@@ -44,17 +44,17 @@ module _ (octets : List ℕ) where
   unfolding address_in
   address_other n rest e f g = rw (e, f, g) refl
 
-  pub ending_none : address_in octets ≡ None → ending_in octets ≡ None
-  unfolding ending_in
-  ending_none e = rw e refl
+  pub expiring_none : address_in octets ≡ None → expiring_in octets ≡ None
+  unfolding expiring_in
+  expiring_none e = rw e refl
 
-  pub ending_half : (a : Addr) (middle : List ℕ) → address_in octets ≡ Some (a, middle) → number_in 8 middle ≡ None → ending_in octets ≡ None
-  unfolding ending_in
-  ending_half a middle e f = rw (e, f) refl
+  pub expiring_half : (a : Addr) (middle : List ℕ) → address_in octets ≡ Some (a, middle) → number_in 8 middle ≡ None → expiring_in octets ≡ None
+  unfolding expiring_in
+  expiring_half a middle e f = rw (e, f) refl
 
-  pub ending_some : (a : Addr) (until : ℕ) (middle rest : List ℕ) → address_in octets ≡ Some (a, middle) → number_in 8 middle ≡ Some (until, rest) → ending_in octets ≡ Some ((a, until), rest)
-  unfolding ending_in
-  ending_some a until middle rest e f = rw (e, f) refl
+  pub expiring_some : (a : Addr) (until : ℕ) (middle rest : List ℕ) → address_in octets ≡ Some (a, middle) → number_in 8 middle ≡ Some (until, rest) → expiring_in octets ≡ Some ((a, until), rest)
+  unfolding expiring_in
+  expiring_some a until middle rest e f = rw (e, f) refl
 
   pub network_none : address_in octets ≡ None → network_in octets ≡ None
   unfolding network_in
@@ -74,6 +74,6 @@ pub ruleset v6_rules = (v6_none, v6_half, v6_some)
 
 pub ruleset address_rules = (address_none, address_four, address_six, address_other)
 
-pub ruleset ending_rules = (ending_none, ending_half, ending_some)
+pub ruleset expiring_rules = (expiring_none, expiring_half, expiring_some)
 
 pub ruleset network_rules = (network_none, network_half, network_some)

@@ -8,12 +8,12 @@ use Rattle.std.proofs.lemmas.Bool.{false≢true, ltb-true, lt-ltb}
 use Rattle.std.proofs.lemmas.Option.{none-some}
 use Rattle.mud_base.specs.Addresses.{same_addr}
 use Rattle.mud_base.specs.declared.addr.Addr.{Addr}
-use Rattle.sorted_rows.specs.Placed.{place_cmp, same_place, PlacesAbove, PlacesAscend, row_at, comes_last}
-use Rattle.sorted_rows.proofs.PlacedLaws.{less_from_is_lt, set_row_last, same_place_itself, same_place-cmp}
+use Rattle.sorted_rows.specs.Sortable.{sort_key_cmp, same_sort_key, SortKeysAbove, SortKeysAscend, row_at, comes_last}
+use Rattle.sorted_rows.proofs.SortableLaws.{less_from_is_lt, set_row_last, same_sort_key_itself, same_sort_key-cmp}
 use Rattle.sorted_rows.proofs.RowSets.{Passing, found_passing, passing_found}
 use Rattle.mud_tables.specs.declared.thing.Thing.{Thing}
 use Rattle.mud_tables.specs.Limits.{most_things}
-use Rattle.mud_tables.specs.Ends.{has_address}
+use Rattle.mud_tables.specs.Expiries.{has_address}
 use Rattle.mud_tables.specs.Things.{mac_of, holds, IsKeptThing, IsSoundThings, set_thing}
 use Rattle.mud_tables.specs.ThingItems.{is_taken, may_follow}
 use Rattle.mud_tables.proofs.RowSets.{same_addr_exact, same_addr_itself, left_of, right_of, both, not_true, is_not, any_first, any_later, any_by, any_more, fewer_before, behind_others}
@@ -35,27 +35,27 @@ sound-push things thing sound good follows =
 
 -- ---- The other way round: each of sound Things may follow those before it
 
--- the row of a place, where others stand behind or before
+-- the row of a sort key, where others stand behind or before
 at_first : (xs : List Thing) (ys : List Thing) (p : List ℕ) (u : Thing) → row_at mac_of p xs ≡ Some u → row_at mac_of p (xs ++ ys) ≡ Some u
 at_first [] ys p u there = absurd (none-some u there)
-at_first (x ∷ xs) ys p u there = by_test (same_place (mac_of x) p) there (at_first xs ys p u)
+at_first (x ∷ xs) ys p u there = by_test (same_sort_key (mac_of x) p) there (at_first xs ys p u)
   where
     by_test : (b : Bool) → cond b (Some x) (row_at mac_of p xs) ≡ Some u → (row_at mac_of p xs ≡ Some u → row_at mac_of p (xs ++ ys) ≡ Some u) → cond b (Some x) (row_at mac_of p (xs ++ ys)) ≡ Some u
     by_test true e rest = e
     by_test false e rest = rest e
 
 at_last : (xs : List Thing) (t : Thing) (ys : List Thing) → comes_last mac_of t xs ≡ true → row_at mac_of (mac_of t) (xs ++ t ∷ ys) ≡ Some t
-at_last [] t ys last = ap (λ b. cond b (Some t) (row_at mac_of (mac_of t) ys)) (same_place_itself (mac_of t))
+at_last [] t ys last = ap (λ b. cond b (Some t) (row_at mac_of (mac_of t) ys)) (same_sort_key_itself (mac_of t))
 at_last (x ∷ xs) t ys last =
     ap (λ b. cond b (Some x) (row_at mac_of (mac_of t) (xs ++ t ∷ ys)))
-    (same_place-cmp (mac_of x) (mac_of t) Less (less_from_is_lt (place_cmp (mac_of x) (mac_of t)) (left_of (is_lt (place_cmp (mac_of x) (mac_of t))) (comes_last mac_of t xs) last)))
-    ∙ at_last xs t ys (right_of (is_lt (place_cmp (mac_of x) (mac_of t))) (comes_last mac_of t xs) last)
+    (same_sort_key-cmp (mac_of x) (mac_of t) Less (less_from_is_lt (sort_key_cmp (mac_of x) (mac_of t)) (left_of (is_lt (sort_key_cmp (mac_of x) (mac_of t))) (comes_last mac_of t xs) last)))
+    ∙ at_last xs t ys (right_of (is_lt (sort_key_cmp (mac_of x) (mac_of t))) (comes_last mac_of t xs) last)
 
--- a Thing before it has another place
+-- a Thing before it has another sort key
 before_other : (xs : List Thing) (t u : Thing) → comes_last mac_of t xs ≡ true → row_at mac_of (mac_of t) xs ≡ Some u → ⊥
 before_other [] t u last there = none-some u there
-before_other (x ∷ xs) t u last there = before_other xs t u (right_of (is_lt (place_cmp (mac_of x) (mac_of t))) (comes_last mac_of t xs) last)
-    (sym (ap (λ b. cond b (Some x) (row_at mac_of (mac_of t) xs)) (same_place-cmp (mac_of x) (mac_of t) Less (less_from_is_lt (place_cmp (mac_of x) (mac_of t)) (left_of (is_lt (place_cmp (mac_of x) (mac_of t))) (comes_last mac_of t xs) last)))) ∙ there)
+before_other (x ∷ xs) t u last there = before_other xs t u (right_of (is_lt (sort_key_cmp (mac_of x) (mac_of t))) (comes_last mac_of t xs) last)
+    (sym (ap (λ b. cond b (Some x) (row_at mac_of (mac_of t) xs)) (same_sort_key-cmp (mac_of x) (mac_of t) Less (less_from_is_lt (sort_key_cmp (mac_of x) (mac_of t)) (left_of (is_lt (sort_key_cmp (mac_of x) (mac_of t))) (comes_last mac_of t xs) last)))) ∙ there)
 
 -- one of the leases is of an address that one before it has
 pub record Taking (xs : List Thing) (t : Thing) : Type 0 where
@@ -73,11 +73,11 @@ taking xs t e = among t.leases (λ a h. h) e
         (λ here. record { addr = r.0; own = has r.0 (any_first (λ s. same_addr s.0 r.0) r rows (same_addr_itself r.0)); other = here })
         (among rows (λ a h. has a (any_later (λ s. same_addr s.0 a) r rows h))) e
 
-before_up : (xs ys : List Thing) → PlacesAscend mac_of (xs ++ ys) → PlacesAscend mac_of xs
+before_up : (xs ys : List Thing) → SortKeysAscend mac_of (xs ++ ys) → SortKeysAscend mac_of xs
 before_up [] ys up = tt
 before_up (x ∷ xs) ys up = (above xs up.0, before_up xs ys up.1)
   where
-    above : (zs : List Thing) → PlacesAbove mac_of (mac_of x) (zs ++ ys) → PlacesAbove mac_of (mac_of x) zs
+    above : (zs : List Thing) → SortKeysAbove mac_of (mac_of x) (zs ++ ys) → SortKeysAbove mac_of (mac_of x) zs
     above [] a = tt
     above (z ∷ zs) a = (a.0, above zs a.1)
 

@@ -141,7 +141,7 @@ tables = record { things = bulb ∷ []; classes = dns_row ∷ []; locals = []; n
 abbrev question : Fields
 question = record { src = bulb_addr; dst = dns_addr; protocol = 17; dscp = 0; ecn = 0; length = 60; ttl = 64; transport = packet.Udp 40000 53 }
 
--- ---- A name that ends
+-- ---- A name that expires
 
 until_end : ruling_of tables 1059 bulb_url (Some bulb_policy) From call (Some From) ≡ Accept 1
 unfolding rulings_compute
@@ -232,7 +232,7 @@ reply_at_bulb : ruling_of both_tables 1001 bulb_url (Some bulb_policy) To reply 
 unfolding rulings_compute flows_compute
 reply_at_bulb = refl
 
--- ---- A lease that went to another Thing, and ends at 1100: the address is the maker's until then
+-- ---- A lease that went to another Thing, and expires at 1100: the address is the maker's until then
 
 abbrev moved_tables : Tables
 moved_tables = record tables { things = bare_bulb ∷ record bare_switch { leases = (bulb_addr, 1100) ∷ [] } ∷ [] }

@@ -11,21 +11,21 @@ use Rattle.mud_base.specs.declared.addr.Mac.{Mac}
 use Rattle.mud_url.specs.Url.{is_canonical}
 use Rattle.item_codec.specs.declared.word.Word.TheVariants.{New, Same, Pending, Moved, Held, Released, Stranger, Renewed, Ended}
 use Rattle.item_codec.specs.Records.{OptionFits}
-use Rattle.sorted_rows.specs.Placed.{row_at}
-use Rattle.sorted_rows.proofs.PlacedLaws.{ascend-set_row, ascend-without_row}
-use Rattle.sorted_rows.proofs.RowLaws.{all-set_row, all-without_row, ascend-map, length-set_row, length-without_row, place_row_at}
+use Rattle.sorted_rows.specs.Sortable.{row_at}
+use Rattle.sorted_rows.proofs.SortableLaws.{ascend-set_row, ascend-without_row}
+use Rattle.sorted_rows.proofs.RowLaws.{all-set_row, all-without_row, ascend-map, length-set_row, length-without_row, sort_key_row_at}
 use Rattle.sorted_rows.proofs.Lists.{filter_few}
 use Rattle.mud_tables.specs.declared.thing.Thing.{Thing}
 use Rattle.mud_tables.specs.declared.thing_fault.ThingFault.TheVariants.{ThingsFull, NoThing, NoPending, LeasesFull, NoLease}
 use Rattle.mud_tables.specs.Limits.{most_things, most_leases}
-use Rattle.mud_tables.specs.ItemFields.{IsAddr, IsEnding}
+use Rattle.mud_tables.specs.ItemFields.{IsAddr, IsExpiring}
 use Rattle.mud_tables.specs.Fits.{FitsThing}
-use Rattle.mud_tables.specs.Ends.{Ends, is_live, is_end, for_ever, end_of, with_end, without_address, live_rows, live_count, are_ascending, have_ends}
+use Rattle.mud_tables.specs.Expiries.{Expiries, is_live, is_expiry, for_ever, expiry_of, with_expiry, without_address, live_rows, live_count, are_ascending, have_expiries}
 use Rattle.mud_tables.specs.Things.{mac_of, thing_at, set_thing, without_thing, holds, with_leases, released, without_lease, new_thing, may_wait, are_leases, is_sound_thing, IsKeptThing, IsSoundThings}
-use Rattle.mud_tables.specs.ThingSteps.{ThingStep, done, leased_until, left, left_until, is_pending, url_cases, url_step, move_cases, move_step, remove_cases, remove_step, with_hold, hold_cases, hold_step, release_cases, release_step, end_after, kept_lease, new_lease, known_lease, stranger_lease, lease_cases, lease_step, end_step}
+use Rattle.mud_tables.specs.ThingCommands.{ThingStep, done, leased_until, left, left_until, is_pending, url_cases, url_step, move_cases, move_step, remove_cases, remove_step, with_hold, hold_cases, hold_step, release_cases, release_step, expiry_after, kept_lease, new_lease, known_lease, stranger_lease, lease_cases, lease_step, end_step}
 use Rattle.mud_tables.proofs.RowSets.{left_of, right_of, both, first_of_three, all_at}
 use Rattle.mud_tables.proofs.AloneLaws.{IsApart, alone-set_thing, alone-without_thing, alone-without_lease, row_at-without_lease, has_none, same_leases, ended_apart, fresh_apart}
-use Rattle.mud_tables.proofs.LeaseLaws.{with_end_ascends, filter_ascends, with_end_ends, filter_ends, all_kept, with_end_all, with_end_grown, with_end_long, set_row_long}
+use Rattle.mud_tables.proofs.LeaseLaws.{with_expiry_ascends, filter_ascends, with_expiry_have, filter_expiries, all_kept, with_expiry_all, with_expiry_grown, with_expiry_long, set_row_long}
 use Rattle.mud_tables.proofs.UrlLengths.{canonical_fits}
 
 -- ---- What holds of the Things behind a step
@@ -39,29 +39,29 @@ pub cond_after : (P : List Thing → Type 0) (b : Bool) (x y : ThingStep) → (b
 cond_after P true x y f g = f refl
 cond_after P false x y f g = g refl
 
--- the Thing of a hardware address stands at its place
-pub at_its_place : (things : List Thing) (mac : Mac) (thing : Thing) → thing_at mac things ≡ Some thing → row_at mac_of (mac_of thing) things ≡ Some thing
+-- the Thing of a hardware address stands at its sort key
+pub at_its_sort_key : (things : List Thing) (mac : Mac) (thing : Thing) → thing_at mac things ≡ Some thing → row_at mac_of (mac_of thing) things ≡ Some thing
 unfolding thing_at
-at_its_place things mac thing found = subst (λ p. row_at mac_of p things ≡ Some thing) (sym (place_row_at mac_of mac.0 things thing found)) found
+at_its_sort_key things mac thing found = subst (λ p. row_at mac_of p things ≡ Some thing) (sym (sort_key_row_at mac_of mac.0 things thing found)) found
 
 -- ---- Leases
 
-pub record AreKeptLeases (rows : Ends) : Type 0 where
+pub record AreKeptLeases (rows : Expiries) : Type 0 where
   pub ascend : are_ascending rows ≡ true
-  pub ends : have_ends rows ≡ true
+  pub expiries : have_expiries rows ≡ true
   pub few : length rows ≤ most_leases
-  pub fit : AllByRecursion IsEnding rows
+  pub fit : AllByRecursion IsExpiring rows
 
-leases_to : (rows : Ends) → AreKeptLeases rows → are_leases rows ≡ true
+leases_to : (rows : Expiries) → AreKeptLeases rows → are_leases rows ≡ true
 unfolding are_leases
-leases_to rows s = both (are_ascending rows && have_ends rows) (nat_le (length rows) most_leases) (both (are_ascending rows) (have_ends rows) s.ascend s.ends) (le-leb (length rows) most_leases s.few)
+leases_to rows s = both (are_ascending rows && have_expiries rows) (nat_le (length rows) most_leases) (both (are_ascending rows) (have_expiries rows) s.ascend s.expiries) (le-leb (length rows) most_leases s.few)
 
-leases_from : (rows : Ends) → are_leases rows ≡ true → AllByRecursion IsEnding rows → AreKeptLeases rows
+leases_from : (rows : Expiries) → are_leases rows ≡ true → AllByRecursion IsExpiring rows → AreKeptLeases rows
 unfolding are_leases
 leases_from rows e fit = record {
-  ascend = first_of_three (are_ascending rows) (have_ends rows) (nat_le (length rows) most_leases) e;
-  ends = right_of (are_ascending rows) (have_ends rows) (left_of (are_ascending rows && have_ends rows) (nat_le (length rows) most_leases) e);
-  few = leb-true (length rows) most_leases (right_of (are_ascending rows && have_ends rows) (nat_le (length rows) most_leases) e);
+  ascend = first_of_three (are_ascending rows) (have_expiries rows) (nat_le (length rows) most_leases) e;
+  expiries = right_of (are_ascending rows) (have_expiries rows) (left_of (are_ascending rows && have_expiries rows) (nat_le (length rows) most_leases) e);
+  few = leb-true (length rows) most_leases (right_of (are_ascending rows && have_expiries rows) (nat_le (length rows) most_leases) e);
   fit = fit;
 }
 
@@ -103,17 +103,17 @@ from_parts thing url waits leases mac = record {
 }
 
 -- other leases of a Thing
-kept_with : (rows : Ends) (thing : Thing) → IsKeptThing thing → AreKeptLeases rows → IsKeptThing (with_leases rows thing)
+kept_with : (rows : Expiries) (thing : Thing) → IsKeptThing thing → AreKeptLeases rows → IsKeptThing (with_leases rows thing)
 unfolding with_leases
 kept_with rows thing kept leases = let p : IsKeptByParts thing = parts_of thing kept in from_parts (record thing { leases = rows }) p.url p.waits leases p.fits.mac
 
 leases_of : (thing : Thing) → IsKeptThing thing → AreKeptLeases thing.leases
 leases_of thing kept = (parts_of thing kept).leases
 
-fewer_leases : (q : Addr × ℕ → Bool) (rows : Ends) → AreKeptLeases rows → AreKeptLeases (filter q rows)
-fewer_leases q rows s = record { ascend = filter_ascends q rows s.ascend; ends = filter_ends q rows s.ends; few = omega (arith, s.few, filter_few q rows); fit = all_kept IsEnding q rows s.fit }
+fewer_leases : (q : Addr × ℕ → Bool) (rows : Expiries) → AreKeptLeases rows → AreKeptLeases (filter q rows)
+fewer_leases q rows s = record { ascend = filter_ascends q rows s.ascend; expiries = filter_expiries q rows s.expiries; few = omega (arith, s.few, filter_few q rows); fit = all_kept IsExpiring q rows s.fit }
 
-live_leases : (now : ℕ) (rows : Ends) → AreKeptLeases rows → AreKeptLeases (live_rows now rows)
+live_leases : (now : ℕ) (rows : Expiries) → AreKeptLeases rows → AreKeptLeases (live_rows now rows)
 unfolding live_rows
 live_leases now rows s = fewer_leases (λ r. is_live r.1 now) rows s
 
@@ -121,33 +121,33 @@ released_kept : (a : Addr) (thing : Thing) → IsKeptThing thing → IsKeptThing
 unfolding released without_address
 released_kept a thing kept = kept_with (without_address a thing.leases) thing kept (fewer_leases _ thing.leases (leases_of thing kept))
 
--- an end fits its field
-end_fits : (until : ℕ) → is_end until ≡ true → until < 2 ^ 64
-unfolding is_end
-end_fits until e = by_test (until == for_ever) refl e
+-- an expiry fits its field
+expiry_fits : (until : ℕ) → is_expiry until ≡ true → until < 2 ^ 64
+unfolding is_expiry
+expiry_fits until e = by_test (until == for_ever) refl e
   where
     by_test : (b : Bool) → (until == for_ever) ≡ b → (b || nat_lt until (2 ^ 40)) ≡ true → until < 2 ^ 64
     by_test true same e = omega (arith, eqb-true until for_ever same)
     by_test false other e = omega (arith, ltb-true until (2 ^ 40) e)
 
--- the end of what is leased for so many seconds
-pub end_after_is : (now seconds : ℕ) → now ≤ 253402300799 → seconds < 2 ^ 32 → is_end (end_after now seconds) ≡ true
-unfolding is_end end_after
-end_after_is now seconds early short = by_test (seconds == 4294967295)
+-- the expiry of what is leased for so many seconds
+pub expiry_after_is : (now seconds : ℕ) → now ≤ 253402300799 → seconds < 2 ^ 32 → is_expiry (expiry_after now seconds) ≡ true
+unfolding is_expiry expiry_after
+expiry_after_is now seconds early short = by_test (seconds == 4294967295)
   where
     later : (b : Bool) (n : ℕ) → n < 2 ^ 40 → (b || nat_lt n (2 ^ 40)) ≡ true
     later true n h = refl
     later false n h = lt-ltb n (2 ^ 40) h
 
-    by_test : (b : Bool) → is_end (cond b for_ever (now + seconds)) ≡ true
+    by_test : (b : Bool) → is_expiry (cond b for_ever (now + seconds)) ≡ true
     by_test true = refl
     by_test false = later (now + seconds == for_ever) (now + seconds) (omega (arith, early, short))
 
 -- ---- URLs and holds
 
 new_kept : (mac : Mac) (url : List ℕ) → is_canonical url ≡ true → length mac.0 ≡ 6 → IsKeptThing (new_thing mac url)
-unfolding new_thing may_wait are_ascending have_ends
-new_kept mac url e six = from_parts (new_thing mac url) e refl (record { ascend = refl; ends = refl; few = lit≤ tt; fit = tt }) six
+unfolding new_thing may_wait are_ascending have_expiries
+new_kept mac url e six = from_parts (new_thing mac url) e refl (record { ascend = refl; expiries = refl; few = lit≤ tt; fit = tt }) six
 
 waits_kept : (thing : Thing) (url : List ℕ) → IsKeptThing thing → is_canonical url ≡ true → bytes_eq url thing.url ≡ false → IsKeptThing (record thing { pending = Some url })
 unfolding may_wait
@@ -193,7 +193,7 @@ module _ (things : List Thing) (sound : IsSoundThings things) where
 
   -- a Thing with its own leases is put in its place
   put_same : (t old : Thing) → mac_of t ≡ mac_of old → t.leases ≡ old.leases → row_at mac_of (mac_of old) things ≡ Some old → IsKeptThing t → IsSoundThings (set_thing t things)
-  put_same t old place leases there good = put_there t old (ap (λ p. row_at mac_of p things) place ∙ there) good (same_leases things sound.alone t old place leases there)
+  put_same t old sort_key leases there good = put_there t old (ap (λ p. row_at mac_of p things) sort_key ∙ there) good (same_leases things sound.alone t old sort_key leases there)
 
   removed_sound : (mac : Mac) → IsSoundThings (without_thing mac things)
   unfolding without_thing
@@ -230,7 +230,7 @@ module _ (things : List Thing) (sound : IsSoundThings things) where
       cond_after IsSoundThings (nat_le most_things (length things)) (Err ThingsFull) (done New (set_thing (new_thing mac url) things))
       (λ _. tt) (λ room. put_new things sound (new_thing mac url) (new_kept mac url e six) (has_none things sound.alone mac url) (leb-false most_things (length things) room))
   url_cases_sound mac url six e (Some thing) found =
-      let there : row_at mac_of (mac_of thing) things ≡ Some thing = at_its_place things mac thing found in
+      let there : row_at mac_of (mac_of thing) things ≡ Some thing = at_its_sort_key things mac thing found in
       let waits : Thing = record thing { pending = Some url } in
       cond_after IsSoundThings (bytes_eq url thing.url) (left Same things) (cond (is_pending url thing.pending) (left Same things) (done Pending (set_thing waits things)))
       (λ _. sound)
@@ -245,7 +245,7 @@ module _ (things : List Thing) (sound : IsSoundThings things) where
   unfolding move_cases mac_of
   move_cases_sound mac url None found = tt
   move_cases_sound mac url (Some thing) found =
-      let there : row_at mac_of (mac_of thing) things ≡ Some thing = at_its_place things mac thing found in
+      let there : row_at mac_of (mac_of thing) things ≡ Some thing = at_its_sort_key things mac thing found in
       let moved : Thing = record thing { url = url; pending = None } in
       cond_after IsSoundThings (bytes_eq url thing.url) (left Same things) (cond (is_pending url thing.pending) (done Moved (set_thing moved things)) (Err NoPending))
       (λ _. sound)
@@ -270,7 +270,7 @@ module _ (things : List Thing) (sound : IsSoundThings things) where
   put_hold : (held : Bool) (mac : Mac) (thing : Thing) → thing_at mac things ≡ Some thing → IsSoundThings (set_thing (with_hold held thing) things)
   unfolding with_hold mac_of
   put_hold held mac thing found =
-      let there : row_at mac_of (mac_of thing) things ≡ Some thing = at_its_place things mac thing found in
+      let there : row_at mac_of (mac_of thing) things ≡ Some thing = at_its_sort_key things mac thing found in
       put_same things sound (with_hold held thing) thing refl refl there (hold_kept held thing (kept_at things sound (mac_of thing) thing there))
 
   hold_cases_sound : (mac : Mac) (o : Option Thing) → thing_at mac things ≡ o → OfAfter IsSoundThings (hold_cases things o)
@@ -302,45 +302,45 @@ module _ (things : List Thing) (sound : IsSoundThings things) where
   released_some : (a : Addr) (thing : Thing) → row_at mac_of (mac_of thing) things ≡ Some thing → row_at mac_of (mac_of thing) (without_lease a things) ≡ Some (released a thing)
   released_some a thing there = row_at-without_lease a things (mac_of thing) ∙ ap (option_map (released a)) there
 
-  new_lease_sound : (a : Addr) (until now : ℕ) (thing : Thing) → is_end until ≡ true → IsAddr a → row_at mac_of (mac_of thing) things ≡ Some thing → OfAfter IsSoundThings (new_lease a until now things thing)
+  new_lease_sound : (a : Addr) (until now : ℕ) (thing : Thing) → is_expiry until ≡ true → IsAddr a → row_at mac_of (mac_of thing) things ≡ Some thing → OfAfter IsSoundThings (new_lease a until now things thing)
   unfolding new_lease live_count mac_of with_leases
   new_lease_sound a until now thing end fits there =
-      let rows : Ends = live_rows now thing.leases in
-      let leased : Thing = with_leases (with_end a until rows) thing in
+      let rows : Expiries = live_rows now thing.leases in
+      let leased : Thing = with_leases (with_expiry a until rows) thing in
       let good : IsKeptThing thing = kept_at things sound (mac_of thing) thing there in
       let live : AreKeptLeases rows = live_leases now thing.leases (leases_of thing good) in
       cond_after IsSoundThings (nat_le most_leases (live_count now thing.leases)) (Err LeasesFull) (leased_until until New (set_thing leased (without_lease a things)))
       (λ _. tt)
       (λ room. put_there (without_lease a things) (left_sound things sound a) leased (released a thing) (released_some a thing there)
-      (kept_with (with_end a until rows) thing good (record {
-        ascend = with_end_ascends a until rows live.ascend;
-        ends = with_end_ends a until rows end live.ends;
-        few = few_more (length rows) (length (with_end a until rows)) (leb-false most_leases (live_count now thing.leases) room) (with_end_grown a until rows);
-        fit = with_end_all IsEnding a until rows (fits, end_fits until end) live.fit;
+      (kept_with (with_expiry a until rows) thing good (record {
+        ascend = with_expiry_ascends a until rows live.ascend;
+        expiries = with_expiry_have a until rows end live.expiries;
+        few = few_more (length rows) (length (with_expiry a until rows)) (leb-false most_leases (live_count now thing.leases) room) (with_expiry_grown a until rows);
+        fit = with_expiry_all IsExpiring a until rows (fits, expiry_fits until end) live.fit;
       }))
       (fresh_apart things sound.alone a until now thing there))
     where
       few_more : (n m : ℕ) → n < most_leases → m ≤ n + 1 → m ≤ most_leases
       few_more n m h k = omega arith
 
-  kept_lease_sound : (a : Addr) (until old : ℕ) (thing : Thing) → is_end until ≡ true → IsAddr a → row_at mac_of (mac_of thing) things ≡ Some thing → end_of a thing.leases ≡ Some old → OfAfter IsSoundThings (kept_lease a until things thing old)
+  kept_lease_sound : (a : Addr) (until old : ℕ) (thing : Thing) → is_expiry until ≡ true → IsAddr a → row_at mac_of (mac_of thing) things ≡ Some thing → expiry_of a thing.leases ≡ Some old → OfAfter IsSoundThings (kept_lease a until things thing old)
   unfolding kept_lease mac_of with_leases
   kept_lease_sound a until old thing end fits there kept =
-      let leased : Thing = with_leases (with_end a until thing.leases) thing in
+      let leased : Thing = with_leases (with_expiry a until thing.leases) thing in
       let good : IsKeptThing thing = kept_at things sound (mac_of thing) thing there in
       let leases : AreKeptLeases thing.leases = leases_of thing good in
       cond_after IsSoundThings (old == until) (left_until until things) (leased_until until Renewed (set_thing leased things))
       (λ _. sound)
       (λ _. put_there things sound leased thing there
-      (kept_with (with_end a until thing.leases) thing good (record {
-        ascend = with_end_ascends a until thing.leases leases.ascend;
-        ends = with_end_ends a until thing.leases end leases.ends;
-        few = subst (λ n. n ≤ most_leases) (sym (with_end_long a until old thing.leases leases.ascend kept)) leases.few;
-        fit = with_end_all IsEnding a until thing.leases (fits, end_fits until end) leases.fit;
+      (kept_with (with_expiry a until thing.leases) thing good (record {
+        ascend = with_expiry_ascends a until thing.leases leases.ascend;
+        expiries = with_expiry_have a until thing.leases end leases.expiries;
+        few = subst (λ n. n ≤ most_leases) (sym (with_expiry_long a until old thing.leases leases.ascend kept)) leases.few;
+        fit = with_expiry_all IsExpiring a until thing.leases (fits, expiry_fits until end) leases.fit;
       }))
       (ended_apart things sound.alone a until old thing there kept))
 
-  known_lease_sound : (a : Addr) (until now : ℕ) (thing : Thing) → is_end until ≡ true → IsAddr a → row_at mac_of (mac_of thing) things ≡ Some thing → (o : Option ℕ) → end_of a thing.leases ≡ o → OfAfter IsSoundThings (known_lease a until now things thing o)
+  known_lease_sound : (a : Addr) (until now : ℕ) (thing : Thing) → is_expiry until ≡ true → IsAddr a → row_at mac_of (mac_of thing) things ≡ Some thing → (o : Option ℕ) → expiry_of a thing.leases ≡ o → OfAfter IsSoundThings (known_lease a until now things thing o)
   unfolding known_lease
   known_lease_sound a until now thing end fits there (Some old) kept = kept_lease_sound a until old thing end fits there kept
   known_lease_sound a until now thing end fits there None kept = new_lease_sound a until now thing end fits there
@@ -349,11 +349,11 @@ module _ (things : List Thing) (sound : IsSoundThings things) where
   unfolding stranger_lease
   stranger_sound a = cond_after IsSoundThings (list_any (holds a) things) (done Stranger (without_lease a things)) (left Stranger things) (λ _. left_sound things sound a) (λ _. sound)
 
-  lease_cases_sound : (mac : Mac) (a : Addr) (until now : ℕ) (heard : Bool) → is_end until ≡ true → IsAddr a → (o : Option Thing) → thing_at mac things ≡ o → OfAfter IsSoundThings (lease_cases a until now heard things o)
+  lease_cases_sound : (mac : Mac) (a : Addr) (until now : ℕ) (heard : Bool) → is_expiry until ≡ true → IsAddr a → (o : Option Thing) → thing_at mac things ≡ o → OfAfter IsSoundThings (lease_cases a until now heard things o)
   unfolding lease_cases
   lease_cases_sound mac a until now heard end fits None found = cond_after IsSoundThings heard (stranger_lease a things) (Err NoThing) (λ _. stranger_sound a) (λ _. tt)
-  lease_cases_sound mac a until now heard end fits (Some thing) found = known_lease_sound a until now thing end fits (at_its_place things mac thing found) (end_of a thing.leases) refl
+  lease_cases_sound mac a until now heard end fits (Some thing) found = known_lease_sound a until now thing end fits (at_its_sort_key things mac thing found) (expiry_of a thing.leases) refl
 
   pub sound-lease_step : (mac : Mac) (a : Addr) (seconds now : ℕ) (heard : Bool) → IsAddr a → now ≤ 253402300799 → seconds < 2 ^ 32 → OfAfter IsSoundThings (lease_step mac a seconds now heard things)
   unfolding lease_step
-  sound-lease_step mac a seconds now heard fits early short = lease_cases_sound mac a (end_after now seconds) now heard (end_after_is now seconds early short) fits (thing_at mac things) refl
+  sound-lease_step mac a seconds now heard fits early short = lease_cases_sound mac a (expiry_after now seconds) now heard (expiry_after_is now seconds early short) fits (thing_at mac things) refl

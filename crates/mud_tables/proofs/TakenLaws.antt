@@ -6,8 +6,8 @@ use Rattle.std.proofs.lemmas.Bool.{eqb-true, ltb-true, lt-ltb, leb-true, le-leb}
 use Rattle.std.proofs.lemmas.Option.{none-some}
 use Rattle.std.proofs.lemmas.List.{append-nil, nil_from_length, length-append}
 use Rattle.mud_base.specs.declared.prefix.Prefix.{Prefix}
-use Rattle.sorted_rows.specs.Placed.{PlacesAscend, comes_last}
-use Rattle.sorted_rows.proofs.PlacedLaws.{ascend-push}
+use Rattle.sorted_rows.specs.Sortable.{SortKeysAscend, comes_last}
+use Rattle.sorted_rows.proofs.SortableLaws.{ascend-push}
 use Rattle.sorted_rows.proofs.Lists.{all_push}
 use Rattle.mud_world.specs.declared.item.Item.{Item}
 use Rattle.item_codec.specs.Spelling.{IsOctets}
@@ -30,9 +30,9 @@ use Rattle.mud_tables.proofs.ReadThings.{sound-push, follows-sound}
 
 -- ---- One row more, read from its item
 
-module _ {R : Type 0} (place : R → List ℕ) (most : ℕ) (read : Item → Option R) where
+module _ {R : Type 0} (sort_key : R → List ℕ) (most : ℕ) (read : Item → Option R) where
   abbrev pushes : List R → R → Bool
-  pushes rows row = comes_last place row rows && nat_lt (length rows) most
+  pushes rows row = comes_last sort_key row rows && nat_lt (length rows) most
 
   abbrev with_read : List R → Item → Option (List R)
   with_read rows item = read item >>= λ row. cond (pushes rows row) (Some (rows ++ row ∷ [])) None
@@ -40,7 +40,7 @@ module _ {R : Type 0} (place : R → List ℕ) (most : ℕ) (read : Item → Opt
   pub record IsPushed (rows : List R) (item : Item) (after : List R) : Type 0 where
     pub row : R
     pub is : read item ≡ Some row
-    pub last : comes_last place row rows ≡ true
+    pub last : comes_last sort_key row rows ≡ true
     pub room : length rows < most
     pub after_is : rows ++ row ∷ [] ≡ after
 
@@ -51,14 +51,14 @@ module _ {R : Type 0} (place : R → List ℕ) (most : ℕ) (read : Item → Opt
       record {
         row = b.0;
         is = b.1;
-        last = left_of (comes_last place b.0 rows) (nat_lt (length rows) most) p.0;
-        room = ltb-true (length rows) most (right_of (comes_last place b.0 rows) (nat_lt (length rows) most) p.0);
+        last = left_of (comes_last sort_key b.0 rows) (nat_lt (length rows) most) p.0;
+        room = ltb-true (length rows) most (right_of (comes_last sort_key b.0 rows) (nat_lt (length rows) most) p.0);
         after_is = some_is (rows ++ b.0 ∷ []) after p.1;
       }
 
-  read_behind : (item : Item) (xs : List R) (t : R) (ys : List R) → PlacesAscend place (xs ++ t ∷ ys) → length (xs ++ t ∷ ys) ≤ most → read item ≡ Some t → with_read xs item ≡ Some (xs ++ t ∷ [])
+  read_behind : (item : Item) (xs : List R) (t : R) (ys : List R) → SortKeysAscend sort_key (xs ++ t ∷ ys) → length (xs ++ t ∷ ys) ≤ most → read item ≡ Some t → with_read xs item ≡ Some (xs ++ t ∷ [])
   read_behind item xs t ys up few is =
-      rw (is, behind_others place xs t ys up, lt-ltb (length xs) most (omega (arith, fewer_before xs t ys, few))) refl
+      rw (is, behind_others sort_key xs t ys up, lt-ltb (length xs) most (omega (arith, fewer_before xs t ys, few))) refl
 
 one_more : {A : Type 0} (xs : List A) (x : A) (n : ℕ) → length xs < n → length (xs ++ x ∷ []) ≤ n
 one_more xs x n room = omega (arith, room, length-append xs (x ∷ []))

@@ -6,9 +6,9 @@ use Rattle.mud_base.specs.declared.addr.Mac.{Mac}
 use Rattle.item_codec.specs.declared.word.Word.TheVariants.{New, Same, Pending, Moved, Removed, Held, Released, Stranger, Renewed, Ended}
 use Rattle.mud_tables.specs.declared.thing.Thing.{Thing}
 use Rattle.mud_tables.specs.declared.thing_fault.ThingFault.TheVariants.{ThingsFull, NoThing, NoPending, LeasesFull, NoLease}
-use Rattle.mud_tables.specs.Ends.{for_ever}
+use Rattle.mud_tables.specs.Expiries.{for_ever}
 use Rattle.mud_tables.specs.Things.{thing_at}
-use Rattle.mud_tables.specs.ThingSteps.{done, leased_until, left, left_until, url_cases, url_step, move_step, remove_step, hold_step, release_step, lease_step, end_step}
+use Rattle.mud_tables.specs.ThingCommands.{done, leased_until, left, left_until, url_cases, url_step, move_step, remove_step, hold_step, release_step, lease_step, end_step}
 use Rattle.mud_tables.proofs.Literals.{things_compute, mac_1, mac_2, mac_9, bulb_addr, switch_addr, bulb_url, next_url, switch_url, bulb, bare_bulb, bare_switch}
 
 -- ---- URLs
@@ -125,7 +125,7 @@ same_lease : lease_step mac_1 bulb_addr 86400 1000 true (bulb ∷ []) ≡ left_u
 unfolding things_compute
 same_lease = refl
 
--- the end is replaced, by an earlier one too
+-- the expiry is replaced, by an earlier one too
 renewed_lease : lease_step mac_1 bulb_addr 60 1000 true (bulb ∷ []) ≡ leased_until 1060 Renewed (record bulb { leases = (bulb_addr, 1060) ∷ [] } ∷ [])
 unfolding things_compute
 renewed_lease = refl
@@ -175,7 +175,7 @@ renewal_of_four : lease_step mac_1 (V4 2) 60 1001 false (busy ∷ []) ≡ leased
 unfolding things_compute
 renewal_of_four = refl
 
--- ---- Ends
+-- ---- The operator ends a lease
 
 end_lease : end_step bulb_addr (bulb ∷ []) ≡ done Ended (bare_bulb ∷ [])
 unfolding things_compute

@@ -9,19 +9,19 @@ use Rattle.mud_base.specs.declared.addr.Addr.{Addr}
 use Rattle.mud_base.specs.declared.addr.Mac.{Mac}
 use Rattle.item_codec.specs.declared.word.Word as outcome
 use Rattle.item_codec.specs.declared.word.Word.TheVariants.{New, Same, Pending, Moved, Removed, Held, Released, Stranger, Renewed, Ended}
-use Rattle.sorted_rows.specs.Placed.{row_at, without_row, PlacesAscend}
-use Rattle.sorted_rows.proofs.PlacedLaws.{row_at-set_row_same, row_at-without_row, same_place_itself}
+use Rattle.sorted_rows.specs.Sortable.{row_at, without_row, SortKeysAscend}
+use Rattle.sorted_rows.proofs.SortableLaws.{row_at-set_row_same, row_at-without_row, same_sort_key_itself}
 use Rattle.sorted_rows.proofs.ListTests.{same_bytes}
 use Rattle.sorted_rows.proofs.RowSets.{Passing, found_passing}
 use Rattle.mud_tables.specs.declared.thing.Thing.{Thing}
 use Rattle.mud_tables.specs.declared.thing_fault.ThingFault.TheVariants.{ThingsFull, NoThing, NoPending, LeasesFull, NoLease}
 use Rattle.mud_tables.specs.Limits.{most_things, most_leases}
-use Rattle.mud_tables.specs.Ends.{Ends, end_of, with_end, live_rows, live_count}
+use Rattle.mud_tables.specs.Expiries.{Expiries, expiry_of, with_expiry, live_rows, live_count}
 use Rattle.mud_tables.specs.Things.{mac_of, thing_at, set_thing, without_thing, holds, with_leases, without_lease, new_thing}
-use Rattle.mud_tables.specs.ThingSteps.{TellsChange, ThingStep, done, leased_until, left, left_until, is_pending, url_cases, url_step, move_cases, move_step, remove_cases, remove_step, with_hold, hold_cases, hold_step, release_cases, release_step, end_after, kept_lease, new_lease, known_lease, stranger_lease, lease_cases, lease_step, end_step}
+use Rattle.mud_tables.specs.ThingCommands.{TellsChange, ThingStep, done, leased_until, left, left_until, is_pending, url_cases, url_step, move_cases, move_step, remove_cases, remove_step, with_hold, hold_cases, hold_step, release_cases, release_step, expiry_after, kept_lease, new_lease, known_lease, stranger_lease, lease_cases, lease_step, end_step}
 use Rattle.mud_tables.proofs.AloneLaws.{left_none}
-use Rattle.mud_tables.proofs.LeaseLaws.{end_of-with_end}
-use Rattle.mud_tables.proofs.SoundThings.{at_its_place}
+use Rattle.mud_tables.proofs.LeaseLaws.{expiry_of-with_expiry}
+use Rattle.mud_tables.proofs.SoundThings.{at_its_sort_key}
 
 -- ---- What a step says
 
@@ -49,8 +49,8 @@ unfolding set_thing
 put_other t old things new e = new (sym (ap (row_at mac_of (mac_of t)) e) ∙ row_at-set_row_same mac_of t old)
 
 -- it takes the place of another Thing
-place_other : (t thing : Thing) (old things : List Thing) → row_at mac_of (mac_of t) things ≡ Some thing → (thing ≡ t → ⊥) → set_thing t old ≡ things → ⊥
-place_other t thing old things there other e = put_other t old things (λ is. other (same_Some thing t (sym there ∙ is))) e
+sort_key_other : (t thing : Thing) (old things : List Thing) → row_at mac_of (mac_of t) things ≡ Some thing → (thing ≡ t → ⊥) → set_thing t old ≡ things → ⊥
+sort_key_other t thing old things there other e = put_other t old things (λ is. other (same_Some thing t (sym there ∙ is))) e
 
 waits_itself : (url : List ℕ) (pending : Option (List ℕ)) → pending ≡ Some url → is_pending url pending ≡ true
 unfolding is_pending
@@ -58,12 +58,12 @@ waits_itself url None e = absurd (none-some url e)
 waits_itself url (Some pending) e = same_bytes url pending (sym (same_Some pending url e))
 
 -- a Thing that has the address loses it
-left_other : (a : Addr) (things : List Thing) → PlacesAscend mac_of things → list_any (holds a) things ≡ true → without_lease a things ≡ things → ⊥
+left_other : (a : Addr) (things : List Thing) → SortKeysAscend mac_of things → list_any (holds a) things ≡ true → without_lease a things ≡ things → ⊥
 left_other a things ascend some e =
     let holder : Passing mac_of (holds a) things = found_passing mac_of (holds a) things ascend some in
     left_none a things holder.at holder.row (ap (row_at mac_of holder.at) e ∙ holder.there) holder.passes
 
-module _ (things : List Thing) (ascend : PlacesAscend mac_of things) where
+module _ (things : List Thing) (ascend : SortKeysAscend mac_of things) where
   -- ---- URLs and holds
 
   url_cases_told : (mac : Mac) (url : List ℕ) (o : Option Thing) → thing_at mac things ≡ o → IsTold things (url_cases mac url things o)
@@ -73,12 +73,12 @@ module _ (things : List Thing) (ascend : PlacesAscend mac_of things) where
       (λ _. tt) (λ _. as_other things (set_thing (new_thing mac url) things) New None (put_other (new_thing mac url) things things (λ is. none-some (new_thing mac url) (sym found ∙ is))))
   url_cases_told mac url (Some thing) found =
       let waits : Thing = record thing { pending = Some url } in
-      let there : row_at mac_of (mac_of thing) things ≡ Some thing = at_its_place things mac thing found in
+      let there : row_at mac_of (mac_of thing) things ≡ Some thing = at_its_sort_key things mac thing found in
       told_by things (bytes_eq url thing.url) (left Same things) (cond (is_pending url thing.pending) (left Same things) (done Pending (set_thing waits things)))
       (λ _. as_before things Same None)
       (λ _. told_by things (is_pending url thing.pending) (left Same things) (done Pending (set_thing waits things))
       (λ _. as_before things Same None)
-      (λ new. as_other things (set_thing waits things) Pending None (place_other waits thing things things there (λ is. false≢true (sym new ∙ waits_itself url thing.pending (ap (λ (t : Thing). t.pending) is))))))
+      (λ new. as_other things (set_thing waits things) Pending None (sort_key_other waits thing things things there (λ is. false≢true (sym new ∙ waits_itself url thing.pending (ap (λ (t : Thing). t.pending) is))))))
 
   pub told-url_step : (mac : Mac) (url : List ℕ) → IsTold things (url_step mac url things)
   unfolding url_step
@@ -89,11 +89,11 @@ module _ (things : List Thing) (ascend : PlacesAscend mac_of things) where
   move_cases_told mac url None found = tt
   move_cases_told mac url (Some thing) found =
       let moved : Thing = record thing { url = url; pending = None } in
-      let there : row_at mac_of (mac_of thing) things ≡ Some thing = at_its_place things mac thing found in
+      let there : row_at mac_of (mac_of thing) things ≡ Some thing = at_its_sort_key things mac thing found in
       told_by things (bytes_eq url thing.url) (left Same things) (cond (is_pending url thing.pending) (done Moved (set_thing moved things)) (Err NoPending))
       (λ _. as_before things Same None)
       (λ other. told_by things (is_pending url thing.pending) (done Moved (set_thing moved things)) (Err NoPending)
-      (λ _. as_other things (set_thing moved things) Moved None (place_other moved thing things things there (λ is. false≢true (sym other ∙ same_bytes url thing.url (sym (ap (λ (t : Thing). t.url) is))))))
+      (λ _. as_other things (set_thing moved things) Moved None (sort_key_other moved thing things things there (λ is. false≢true (sym other ∙ same_bytes url thing.url (sym (ap (λ (t : Thing). t.url) is))))))
       (λ _. tt))
 
   pub told-move_step : (mac : Mac) (url : List ℕ) → IsTold things (move_step mac url things)
@@ -105,7 +105,7 @@ module _ (things : List Thing) (ascend : PlacesAscend mac_of things) where
   unfolding thing_at without_thing
   gone_other mac thing found e =
       let none : row_at mac_of mac.0 (without_row mac_of mac.0 things) ≡ None =
-      row_at-without_row mac_of mac.0 things mac.0 ascend ∙ ap (λ b. cond b None (row_at mac_of mac.0 things)) (same_place_itself mac.0) in
+      row_at-without_row mac_of mac.0 things mac.0 ascend ∙ ap (λ b. cond b None (row_at mac_of mac.0 things)) (same_sort_key_itself mac.0) in
       none-some thing (sym none ∙ ap (row_at mac_of mac.0) e ∙ found)
 
   remove_cases_told : (mac : Mac) (o : Option Thing) → thing_at mac things ≡ o → IsTold things (remove_cases mac things o)
@@ -119,7 +119,7 @@ module _ (things : List Thing) (ascend : PlacesAscend mac_of things) where
 
   other_hold : (held : Bool) (mac : Mac) (thing : Thing) → thing_at mac things ≡ Some thing → (thing.held ≡ held → ⊥) → set_thing (with_hold held thing) things ≡ things → ⊥
   unfolding with_hold mac_of
-  other_hold held mac thing found other = place_other (with_hold held thing) thing things things (at_its_place things mac thing found) (λ is. other (ap (λ (t : Thing). t.held) is))
+  other_hold held mac thing found other = sort_key_other (with_hold held thing) thing things things (at_its_sort_key things mac thing found) (λ is. other (ap (λ (t : Thing). t.held) is))
 
   hold_cases_told : (mac : Mac) (o : Option Thing) → thing_at mac things ≡ o → IsTold things (hold_cases things o)
   unfolding hold_cases
@@ -153,31 +153,31 @@ module _ (things : List Thing) (ascend : PlacesAscend mac_of things) where
       told_by things (list_any (holds a) things) (done Ended (without_lease a things)) (Err NoLease)
       (λ some. as_other things (without_lease a things) Ended None (left_other a things ascend some)) (λ _. tt)
 
-  -- the Thing had no such end for the address
-  other_end : (a : Addr) (until : ℕ) (rows : Ends) (thing : Thing) (old : List Thing) → row_at mac_of (mac_of thing) things ≡ Some thing → (end_of a thing.leases ≡ Some until → ⊥) → set_thing (with_leases (with_end a until rows) thing) old ≡ things → ⊥
+  -- the Thing had no such expiry for the address
+  other_expiry : (a : Addr) (until : ℕ) (rows : Expiries) (thing : Thing) (old : List Thing) → row_at mac_of (mac_of thing) things ≡ Some thing → (expiry_of a thing.leases ≡ Some until → ⊥) → set_thing (with_leases (with_expiry a until rows) thing) old ≡ things → ⊥
   unfolding with_leases mac_of
-  other_end a until rows thing old there other =
-      place_other (with_leases (with_end a until rows) thing) thing old things there
-      (λ is. other (ap (λ (t : Thing). end_of a t.leases) is ∙ end_of-with_end a until rows))
+  other_expiry a until rows thing old there other =
+      sort_key_other (with_leases (with_expiry a until rows) thing) thing old things there
+      (λ is. other (ap (λ (t : Thing). expiry_of a t.leases) is ∙ expiry_of-with_expiry a until rows))
 
-  kept_lease_told : (a : Addr) (until old : ℕ) (thing : Thing) → row_at mac_of (mac_of thing) things ≡ Some thing → end_of a thing.leases ≡ Some old → IsTold things (kept_lease a until things thing old)
+  kept_lease_told : (a : Addr) (until old : ℕ) (thing : Thing) → row_at mac_of (mac_of thing) things ≡ Some thing → expiry_of a thing.leases ≡ Some old → IsTold things (kept_lease a until things thing old)
   unfolding kept_lease
   kept_lease_told a until old thing there kept =
-      let leased : Thing = with_leases (with_end a until thing.leases) thing in
+      let leased : Thing = with_leases (with_expiry a until thing.leases) thing in
       told_by things (old == until) (left_until until things) (leased_until until Renewed (set_thing leased things))
       (λ _. as_before things Same (Some until))
-      (λ other. as_other things (set_thing leased things) Renewed (Some until) (other_end a until thing.leases thing things there
+      (λ other. as_other things (set_thing leased things) Renewed (Some until) (other_expiry a until thing.leases thing things there
       (λ is. false≢true (sym other ∙ (Decides-eqb old until).1 (same_Some old until (sym kept ∙ is))))))
 
-  new_lease_told : (a : Addr) (until now : ℕ) (thing : Thing) → row_at mac_of (mac_of thing) things ≡ Some thing → end_of a thing.leases ≡ None → IsTold things (new_lease a until now things thing)
+  new_lease_told : (a : Addr) (until now : ℕ) (thing : Thing) → row_at mac_of (mac_of thing) things ≡ Some thing → expiry_of a thing.leases ≡ None → IsTold things (new_lease a until now things thing)
   unfolding new_lease
   new_lease_told a until now thing there free =
-      let leased : Thing = with_leases (with_end a until (live_rows now thing.leases)) thing in
+      let leased : Thing = with_leases (with_expiry a until (live_rows now thing.leases)) thing in
       told_by things (nat_le most_leases (live_count now thing.leases)) (Err LeasesFull) (leased_until until New (set_thing leased (without_lease a things)))
       (λ _. tt)
-      (λ _. as_other things (set_thing leased (without_lease a things)) New (Some until) (other_end a until (live_rows now thing.leases) thing (without_lease a things) there (λ is. none-some until (sym free ∙ is))))
+      (λ _. as_other things (set_thing leased (without_lease a things)) New (Some until) (other_expiry a until (live_rows now thing.leases) thing (without_lease a things) there (λ is. none-some until (sym free ∙ is))))
 
-  known_lease_told : (a : Addr) (until now : ℕ) (thing : Thing) → row_at mac_of (mac_of thing) things ≡ Some thing → (o : Option ℕ) → end_of a thing.leases ≡ o → IsTold things (known_lease a until now things thing o)
+  known_lease_told : (a : Addr) (until now : ℕ) (thing : Thing) → row_at mac_of (mac_of thing) things ≡ Some thing → (o : Option ℕ) → expiry_of a thing.leases ≡ o → IsTold things (known_lease a until now things thing o)
   unfolding known_lease
   known_lease_told a until now thing there (Some old) kept = kept_lease_told a until old thing there kept
   known_lease_told a until now thing there None free = new_lease_told a until now thing there free
@@ -191,8 +191,8 @@ module _ (things : List Thing) (ascend : PlacesAscend mac_of things) where
   lease_cases_told : (mac : Mac) (a : Addr) (until now : ℕ) (heard : Bool) (o : Option Thing) → thing_at mac things ≡ o → IsTold things (lease_cases a until now heard things o)
   unfolding lease_cases
   lease_cases_told mac a until now heard None found = told_by things heard (stranger_lease a things) (Err NoThing) (λ _. stranger_told a) (λ _. tt)
-  lease_cases_told mac a until now heard (Some thing) found = known_lease_told a until now thing (at_its_place things mac thing found) (end_of a thing.leases) refl
+  lease_cases_told mac a until now heard (Some thing) found = known_lease_told a until now thing (at_its_sort_key things mac thing found) (expiry_of a thing.leases) refl
 
   pub told-lease_step : (mac : Mac) (a : Addr) (seconds now : ℕ) (heard : Bool) → IsTold things (lease_step mac a seconds now heard things)
   unfolding lease_step
-  told-lease_step mac a seconds now heard = lease_cases_told mac a (end_after now seconds) now heard (thing_at mac things) refl
+  told-lease_step mac a seconds now heard = lease_cases_told mac a (expiry_after now seconds) now heard (thing_at mac things) refl

@@ -1,7 +1,7 @@
 -- The items in which classes, local networks, names and the stamp are kept, and when an item is one.
 use Rattle.std.specs.Prelude.{◌≡◌, ℕ, Bool, ◌&&◌, ◌==◌, nat_lt, nat_le, IsTrue, List, [], ◌∷◌, ◌++◌, length, map, Option, Some, None, if◌then◌else◌}
 use Rattle.std.specs.List.{list_all}
-use Rattle.sorted_rows.specs.Placed.{comes_last}
+use Rattle.sorted_rows.specs.Sortable.{comes_last}
 use Rattle.mud_base.specs.declared.prefix.Prefix.{Prefix}
 use Rattle.mud_world.specs.declared.item.Item.{Item}
 use Rattle.item_codec.specs.Spelling.{number, version}
@@ -13,7 +13,7 @@ use Rattle.mud_tables.specs.declared.bind.NameRow.{NameRow}
 use Rattle.mud_tables.specs.Limits.{most_classes, most_locals, most_names}
 use Rattle.mud_tables.specs.Binds.{class_key, class_row, is_sound_class, are_prefixes, is_prefix, name_of, name_row, is_sound_name, IsKeptClass, IsKeptName}
 use Rattle.mud_tables.specs.Fits.{FitsLocals}
-use Rattle.mud_tables.specs.ItemFields.{address, address_in, ending, ending_in, network, network_in}
+use Rattle.mud_tables.specs.ItemFields.{address, address_in, expiring, expiring_in, network, network_in}
 
 -- ---- Classes: kind 3; the key is 1 and the URI, or 2 and the MUD URL; the body has the addresses
 
@@ -73,10 +73,10 @@ unfoldable pub with_locals_item : List Prefix → Item → Option (List Prefix)
 with_locals_item [] item = locals_in item
 with_locals_item (prefix ∷ more) item = None
 
--- ---- Names: kind 5; the key is the name; the body has the addresses with their ends
+-- ---- Names: kind 5; the key is the name; the body has the addresses with their expiries
 
 unfoldable pub name_item : NameRow → Item
-name_item row = record { kind = 5; key = row.name; body = list_body ending row.addrs }
+name_item row = record { kind = 5; key = row.name; body = list_body expiring row.addrs }
 
 unfoldable pub name_items : List NameRow → List Item
 name_items names = map name_item names
@@ -84,12 +84,12 @@ name_items names = map name_item names
 unfoldable pub if_sound_name : NameRow → Option NameRow
 if_sound_name row = if is_sound_name row then Some row else None
 
--- the name of an item: a host name in lower case, with 1 to 64 addresses in their order, each once, and ends that are for
--- ever or below 2^40
+-- the name of an item: a host name in lower case, with 1 to 64 addresses in their order, each once, and expiries that
+-- are for ever or below 2^40
 unfoldable pub name_in : Item → Option NameRow
 name_in item =
     if item.kind == 5 then (do
-      addrs ← list_body_in ending_in item.body
+      addrs ← list_body_in expiring_in item.body
       if_sound_name (name_row item.key addrs)) else None
 
 -- the names with that of the item, where it is one that may stand behind them

@@ -6,9 +6,9 @@ use Rattle.mud_tables.specs.declared.bind.Class.{Class}
 use Rattle.mud_tables.specs.declared.bind.ClassRow.{ClassRow}
 use Rattle.mud_tables.specs.declared.bind.NameRow.{NameRow}
 use Rattle.mud_tables.specs.Limits.{most_names}
-use Rattle.mud_tables.specs.Ends.{is_live, end_of, with_end, live_rows}
+use Rattle.mud_tables.specs.Expiries.{is_live, expiry_of, with_expiry, live_rows}
 use Rattle.mud_tables.specs.Binds.{key_of_class, class_at, class_row, has_addr, with_addr, without_addr, name_at, name_row}
-use Rattle.mud_tables.specs.BindSteps.{addrs_of, least_dead}
+use Rattle.mud_tables.specs.BindCommands.{addrs_of, least_dead}
 
 abbrev pub no_rows : {R : Type 0} → RowChange R
 no_rows = record { gone = None; sets = [] }
@@ -49,10 +49,10 @@ unfoldable pub new_pair_change : List ℕ → Addr → ℕ → ℕ → List Name
 new_pair_change name a until now names None =
     if nat_le most_names (length names) then replacing_change name a until (least_dead now names)
     else one_row (name_row name ((a, until) ∷ []))
-new_pair_change name a until now names (Some row) = one_row (name_row name (with_end a until (live_rows now row.addrs)))
+new_pair_change name a until now names (Some row) = one_row (name_row name (with_expiry a until (live_rows now row.addrs)))
 
 unfoldable pub kept_pair_change : List ℕ → Addr → ℕ → Option NameRow → ℕ → RowChange NameRow
-kept_pair_change name a until row old = if nat_lt old until then one_row (name_row name (with_end a until (addrs_of row))) else no_rows
+kept_pair_change name a until row old = if nat_lt old until then one_row (name_row name (with_expiry a until (addrs_of row))) else no_rows
 
 unfoldable pub observe_cases_change : List ℕ → Addr → ℕ → ℕ → List NameRow → Option NameRow → Option ℕ → RowChange NameRow
 observe_cases_change name a until now names row None = new_pair_change name a until now names row
@@ -61,7 +61,7 @@ observe_cases_change name a until now names row (Some old) =
     else new_pair_change name a until now names row
 
 unfoldable pub observe_row_change : List ℕ → Addr → ℕ → ℕ → List NameRow → Option NameRow → RowChange NameRow
-observe_row_change name a until now names row = observe_cases_change name a until now names row (end_of a (addrs_of row))
+observe_row_change name a until now names row = observe_cases_change name a until now names row (expiry_of a (addrs_of row))
 
 unfoldable pub observe_change : List ℕ → Addr → ℕ → ℕ → List NameRow → RowChange NameRow
 observe_change name a ttl now names = observe_row_change name a (now + ttl) now names (name_at name names)

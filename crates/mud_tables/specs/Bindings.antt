@@ -23,7 +23,7 @@ use Rattle.mud_tables.specs.declared.bind.Class.{Class}
 use Rattle.mud_tables.specs.declared.bind.Class.TheVariants as class
 use Rattle.mud_tables.specs.declared.bind.ClassRow.{ClassRow}
 use Rattle.mud_tables.specs.declared.bind.NameRow.{NameRow}
-use Rattle.mud_tables.specs.Ends.{is_live, for_ever}
+use Rattle.mud_tables.specs.Expiries.{is_live, for_ever}
 use Rattle.mud_tables.specs.Tables.{Tables}
 
 abbrev pub binding : MemberKey → Addr → ℕ → Binding

@@ -3,9 +3,9 @@ use Rattle.std.specs.Prelude.{ℕ, ◌≤◌, Bool, true, false, not, ◌&&◌, 
 use Rattle.std.specs.List.{list_any, list_all, AllByRecursion}
 use Rattle.std.specs.Char.{is_ascii_graphic}
 use Rattle.mud_base.specs.Addresses.{same_addr, addr_bits, masked}
-use Rattle.sorted_rows.specs.Placed.{row_at, set_row, without_row, PlacesAscend}
-use Rattle.sorted_rows.specs.Addresses.{addr_place, prefix_place}
-use Rattle.sorted_rows.specs.Ascending.{places_ascend}
+use Rattle.sorted_rows.specs.Sortable.{row_at, set_row, without_row, SortKeysAscend}
+use Rattle.sorted_rows.specs.Addresses.{addr_sort_key, prefix_sort_key}
+use Rattle.sorted_rows.specs.Ascending.{sort_keys_ascend}
 use Rattle.mud_base.specs.declared.addr.Addr.{Addr}
 use Rattle.mud_base.specs.declared.prefix.Prefix.{Prefix}
 use Rattle.mud_url.specs.Host.{is_host, lowered}
@@ -17,7 +17,7 @@ use Rattle.mud_tables.specs.declared.bind.NameRow.{NameRow}
 use Rattle.mud_tables.specs.Limits.{most_classes, most_class_addresses, most_locals, most_names, most_name_addresses}
 use Rattle.mud_tables.specs.ItemFields.{IsNetwork}
 use Rattle.mud_tables.specs.Fits.{FitsClass, FitsName}
-use Rattle.mud_tables.specs.Ends.{Ends, is_live, are_ascending, have_ends}
+use Rattle.mud_tables.specs.Expiries.{Expiries, is_live, are_ascending, have_expiries}
 
 -- ---- Classes
 
@@ -45,21 +45,21 @@ without_class c classes = without_row class_key (key_of_class c) classes
 unfoldable pub class_row : Class → List Addr → ClassRow
 class_row c addrs = record { class = c; addrs = addrs }
 
--- ---- Addresses without ends
+-- ---- Addresses without expiries
 
 unfoldable pub has_addr : Addr → List Addr → Bool
 has_addr a addrs = list_any (λ b. same_addr b a) addrs
 
 -- the addresses with this one, in its place
 unfoldable pub with_addr : Addr → List Addr → List Addr
-with_addr a addrs = set_row addr_place a addrs
+with_addr a addrs = set_row addr_sort_key a addrs
 
 unfoldable pub without_addr : Addr → List Addr → List Addr
 without_addr a addrs = filter (λ b. not (same_addr b a)) addrs
 
 -- in their order, each address once
 unfoldable pub are_addrs : List Addr → Bool
-are_addrs addrs = places_ascend addr_place addrs
+are_addrs addrs = sort_keys_ascend addr_sort_key addrs
 
 -- ---- Local networks: prefixes in order, each once
 
@@ -71,7 +71,7 @@ same_prefix p q = same_addr p.addr q.addr && p.len == q.len
 
 -- the prefixes with this one, in its place: that of its address, and then the lesser length
 unfoldable pub with_prefix : Prefix → List Prefix → List Prefix
-with_prefix p prefixes = set_row prefix_place p prefixes
+with_prefix p prefixes = set_row prefix_sort_key p prefixes
 
 -- the prefixes in order, each once
 unfoldable pub prefixes_in_order : List Prefix → List Prefix
@@ -86,7 +86,7 @@ same_prefixes (p ∷ ps) [] = false
 
 -- in their order, each prefix once
 unfoldable pub are_prefixes : List Prefix → Bool
-are_prefixes prefixes = places_ascend prefix_place prefixes
+are_prefixes prefixes = sort_keys_ascend prefix_sort_key prefixes
 
 -- ---- Names
 
@@ -103,7 +103,7 @@ set_name row names = set_row name_of row names
 unfoldable pub without_name : List ℕ → List NameRow → List NameRow
 without_name name names = without_row name_of name names
 
-unfoldable pub name_row : List ℕ → Ends → NameRow
+unfoldable pub name_row : List ℕ → Expiries → NameRow
 name_row name addrs = record { name = name; addrs = addrs }
 
 unfoldable pub has_live_row : ℕ → NameRow → Bool
@@ -140,7 +140,7 @@ is_name name = is_host name && bytes_eq (lowered name) name
 
 unfoldable pub is_sound_name : NameRow → Bool
 is_sound_name row =
-    is_name row.name && are_ascending row.addrs && have_ends row.addrs && nat_lt 0 (length row.addrs) && nat_le (length row.addrs) most_name_addresses
+    is_name row.name && are_ascending row.addrs && have_expiries row.addrs && nat_lt 0 (length row.addrs) && nat_le (length row.addrs) most_name_addresses
 
 -- a row that can be kept: it is sound, and fits the fields of its item
 pub record IsKeptClass (row : ClassRow) : Type 0 where
@@ -156,7 +156,7 @@ pub record IsKeptName (row : NameRow) : Type 0 where
   pub fits : FitsName row
 
 pub record IsSoundClasses (classes : List ClassRow) : Type 0 where
-  pub ascend : PlacesAscend class_key classes
+  pub ascend : SortKeysAscend class_key classes
   pub each : AllByRecursion IsKeptClass classes
   pub few : length classes ≤ most_classes
 
@@ -166,7 +166,7 @@ pub record IsSoundLocals (locals : List Prefix) : Type 0 where
   pub few : length locals ≤ most_locals
 
 pub record IsSoundNames (names : List NameRow) : Type 0 where
-  pub ascend : PlacesAscend name_of names
+  pub ascend : SortKeysAscend name_of names
   pub each : AllByRecursion IsKeptName names
   pub few : length names ≤ most_names
 

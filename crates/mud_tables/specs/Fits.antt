@@ -6,14 +6,14 @@ use Rattle.item_codec.specs.Records.{OptionFits, ListFits}
 use Rattle.mud_tables.specs.declared.thing.Thing.{Thing}
 use Rattle.mud_tables.specs.declared.bind.ClassRow.{ClassRow}
 use Rattle.mud_tables.specs.declared.bind.NameRow.{NameRow}
-use Rattle.mud_tables.specs.ItemFields.{IsAddr, IsEnding, IsNetwork}
+use Rattle.mud_tables.specs.ItemFields.{IsAddr, IsExpiring, IsNetwork}
 
 -- a hardware address has six octets, and each number and length fits its field
 pub record FitsThing (thing : Thing) : Type 0 where
   pub mac : length thing.mac.0 ≡ 6
   pub url : length thing.url < 2 ^ 32
   pub pending : OptionFits (λ url. length url < 2 ^ 32) thing.pending
-  pub leases : ListFits IsEnding thing.leases
+  pub leases : ListFits IsExpiring thing.leases
 
 abbrev pub FitsClass : ClassRow → Type 0
 FitsClass row = ListFits IsAddr row.addrs
@@ -22,4 +22,4 @@ abbrev pub FitsLocals : List Prefix → Type 0
 FitsLocals locals = ListFits IsNetwork locals
 
 abbrev pub FitsName : NameRow → Type 0
-FitsName row = ListFits IsEnding row.addrs
+FitsName row = ListFits IsExpiring row.addrs

@@ -12,7 +12,7 @@ use Rattle.mud_base.specs.declared.packet.Direction.TheVariants.{From, To}
 pub use Rattle.mud_tables.specs.declared.segment.Segment.{Segment}
 use Rattle.mud_tables.specs.Limits.{most_pause}
 
--- an end of a connection: an address and a port
+-- an endpoint of a connection: an address and a port
 abbrev pub Endpoint : Type 0
 Endpoint = Addr × ℕ
 
@@ -26,12 +26,12 @@ segment_in src dst now packet.Absent = None
 unfoldable pub segment_of : Fields → ℕ → Option Segment
 segment_of fields now = segment_in fields.src fields.dst now fields.transport
 
-unfoldable pub same_end : Endpoint → Endpoint → Bool
-same_end a b = same_addr a.0 b.0 && a.1 == b.1
+unfoldable pub same_endpoint : Endpoint → Endpoint → Bool
+same_endpoint a b = same_addr a.0 b.0 && a.1 == b.1
 
--- the packet is between these two ends, in either direction
+-- the packet is between these two endpoints, in either direction
 unfoldable pub is_between : Endpoint → Endpoint → Segment → Bool
-is_between a b p = (same_end p.source a && same_end p.destination b) || (same_end p.source b && same_end p.destination a)
+is_between a b p = (same_endpoint p.source a && same_endpoint p.destination b) || (same_endpoint p.source b && same_endpoint p.destination a)
 
 unfoldable pub between : Endpoint → Endpoint → List Segment → List Segment
 between a b history = filter (is_between a b) history
@@ -69,7 +69,7 @@ beginner_since (p ∷ ps) now =
     if list_any resets ps then None
     else (if is_unbroken p.at (map moment_of ps ++ now ∷ []) then Some p.source else None)
 
--- who began what is between two ends, by the packets that were forwarded up to this moment
+-- who began what is between two endpoints, by the packets that were forwarded up to this moment
 unfoldable pub beginner_of : List Segment → Endpoint → Endpoint → ℕ → Option Endpoint
 beginner_of history a b now = beginner_since (since_opened (between a b history)) now
 
@@ -77,15 +77,15 @@ beginner_of history a b now = beginner_since (since_opened (between a b history)
 unfoldable pub beginner : List Segment → Segment → Option Endpoint
 beginner history p = if opens p then Some p.source else beginner_of history p.source p.destination p.at
 
--- the end of a Thing on this side
-unfoldable pub own_end : Direction → Segment → Endpoint
-own_end From p = p.source
-own_end To p = p.destination
+-- the endpoint of a Thing on this side
+unfoldable pub own_endpoint : Direction → Segment → Endpoint
+own_endpoint From p = p.source
+own_endpoint To p = p.destination
 
--- From where the Thing's own end began it, else To
+-- From where the Thing's own endpoint began it, else To
 unfoldable pub side_of : Direction → Segment → Option Endpoint → Option Direction
 side_of side p None = None
-side_of side p (Some began) = if same_end began (own_end side p) then Some From else Some To
+side_of side p (Some began) = if same_endpoint began (own_endpoint side p) then Some From else Some To
 
 unfoldable pub begun_in : List Segment → Direction → Option Segment → Option Direction
 begun_in history side None = None
@@ -109,8 +109,8 @@ with_packet history fields now = with_segment history (segment_of fields now)
 abbrev pub Begun : Type 0
 Begun = Endpoint × ℕ
 
--- What a table means: the moment of the last packet that was noted; and of each pair of ends who began what is between
--- them and the moment of the last packet, or nothing.
+-- What a table means: the moment of the last packet that was noted; and of each pair of endpoints who began what is
+-- between them and the moment of the last packet, or nothing.
 pub record Flows : Type 0 where
   pub last : Option ℕ
   pub kept : Endpoint → Endpoint → Option Begun
@@ -130,7 +130,7 @@ is_forward (p ∷ (q ∷ ps)) = nat_le p.at q.at && is_forward (q ∷ ps)
 unfoldable pub with_moment : ℕ → Endpoint → Begun
 with_moment m began = (began, m)
 
--- what the history says of two ends, at the moment of their last packet
+-- what the history says of two endpoints, at the moment of their last packet
 unfoldable pub begun_at : List Segment → Endpoint → Endpoint → Option ℕ → Option Begun
 begun_at history a b None = None
 begun_at history a b (Some m) = option_map (with_moment m) (beginner_of history a b m)

@@ -1,4 +1,4 @@
--- The fields of kept items: addresses, ends, prefixes.
+-- The fields of kept items: addresses, expiries, prefixes.
 use Rattle.std.specs.Prelude.{ℕ, ◌+◌, ◌*◌, ◌/◌, ◌%◌, ◌^◌, ◌<◌, ◌==◌, List, ◌++◌, Some, None, if◌then◌else◌}
 use Rattle.mud_base.specs.declared.addr.Addr.{Addr}
 use Rattle.mud_base.specs.declared.addr.Addr.TheVariants.{V4, V6}
@@ -32,19 +32,19 @@ abbrev pub IsAddr : Addr → Type 0
 IsAddr (V4 n) = n < 2 ^ 32
 IsAddr (V6 n) = n < 2 ^ 128
 
--- ---- An address and its end, in eight octets
+-- ---- An address and its expiry, in eight octets
 
-unfoldable pub ending : Addr × ℕ → List ℕ
-ending r = address r.0 ++ number 8 r.1
+unfoldable pub expiring : Addr × ℕ → List ℕ
+expiring r = address r.0 ++ number 8 r.1
 
-unfoldable pub ending_in : Reading (Addr × ℕ)
-ending_in octets = do
+unfoldable pub expiring_in : Reading (Addr × ℕ)
+expiring_in octets = do
   a ← address_in octets
   until ← number_in 8 a.1
   Some ((a.0, until.0), until.1)
 
-abbrev pub IsEnding : Addr × ℕ → Type 0
-IsEnding r = IsAddr r.0 × (r.1 < 2 ^ 64)
+abbrev pub IsExpiring : Addr × ℕ → Type 0
+IsExpiring r = IsAddr r.0 × (r.1 < 2 ^ 64)
 
 -- ---- A prefix: its address, and its length in one octet
 

@@ -1,13 +1,13 @@
 pub mod FaultNames
 pub mod Limits
-pub mod Ends
+pub mod Expiries
 pub mod ItemFields
 pub mod Fits
 pub mod Things
-pub mod ThingSteps
+pub mod ThingCommands
 pub mod ThingChanges
 pub mod Binds
-pub mod BindSteps
+pub mod BindCommands
 pub mod BindRowChanges
 pub mod Tables
 pub mod Bindings

@@ -19,7 +19,7 @@ use Rattle.mud_tables.specs.declared.bind.Class.{Class}
 use Rattle.mud_tables.specs.declared.bind.Class.TheVariants as class
 use Rattle.mud_tables.specs.declared.bind.ClassRow.{ClassRow}
 use Rattle.mud_tables.specs.declared.bind.NameRow.{NameRow}
-use Rattle.mud_tables.specs.Ends.{has_live}
+use Rattle.mud_tables.specs.Expiries.{has_live}
 use Rattle.mud_tables.specs.Things.{IsSoundThings, thing_at}
 use Rattle.mud_tables.specs.Binds.{Binds, same_class, has_addr, IsSoundClasses, IsSoundLocals, IsSoundNames}
 
@@ -77,7 +77,7 @@ is_leased test a now things = list_any (λ thing. test thing && has_lease a now 
 unfoldable pub is_bound : Class → Addr → List ClassRow → Bool
 is_bound c a classes = list_any (λ row. same_class row.class c && has_addr a row.addrs) classes
 
--- the name has the address with a live end
+-- the name has the address with a live expiry
 unfoldable pub is_named : List ℕ → Addr → ℕ → List NameRow → Bool
 is_named name a now names = list_any (λ row. bytes_eq row.name name && has_live a now row.addrs) names
 

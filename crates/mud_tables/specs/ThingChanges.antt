@@ -4,9 +4,9 @@ use Rattle.mud_base.specs.declared.addr.Addr.{Addr}
 use Rattle.mud_base.specs.declared.addr.Mac.{Mac}
 use Rattle.sorted_rows.specs.Changes.{RowChange}
 use Rattle.mud_tables.specs.declared.thing.Thing.{Thing}
-use Rattle.mud_tables.specs.Ends.{end_of, with_end, live_rows}
+use Rattle.mud_tables.specs.Expiries.{expiry_of, with_expiry, live_rows}
 use Rattle.mud_tables.specs.Things.{thing_at, holds, released, with_leases}
-use Rattle.mud_tables.specs.ThingSteps.{end_after}
+use Rattle.mud_tables.specs.ThingCommands.{expiry_after}
 
 abbrev pub puts_in : List Thing → RowChange Thing
 puts_in things = record { gone = None; sets = things }
@@ -17,7 +17,7 @@ released_holders a things = map (released a) (filter (holds a) things)
 
 -- the Thing with the address, and with those of its leases that are live
 unfoldable pub leased : Addr → ℕ → ℕ → Thing → Thing
-leased a until now thing = with_leases (with_end a until (live_rows now thing.leases)) thing
+leased a until now thing = with_leases (with_expiry a until (live_rows now thing.leases)) thing
 
 -- a new lease: first the Thing that has the address, without it, and then the Thing that gets it
 unfoldable pub new_lease_change : Addr → ℕ → ℕ → List Thing → Thing → RowChange Thing
@@ -27,9 +27,9 @@ new_lease_change a until now things thing = puts_in (released_holders a things +
 unfoldable pub end_change : Addr → List Thing → RowChange Thing
 end_change a things = puts_in (released_holders a things)
 
--- the Thing has the address already: its lease gets another end, or nothing changes
+-- the Thing has the address already: its lease gets another expiry, or nothing changes
 unfoldable pub kept_lease_change : Addr → ℕ → Thing → ℕ → RowChange Thing
-kept_lease_change a until thing old = if old == until then puts_in [] else puts_in (with_leases (with_end a until thing.leases) thing ∷ [])
+kept_lease_change a until thing old = if old == until then puts_in [] else puts_in (with_leases (with_expiry a until thing.leases) thing ∷ [])
 
 unfoldable pub known_lease_change : Addr → ℕ → ℕ → List Thing → Thing → Option ℕ → RowChange Thing
 known_lease_change a until now things thing None = new_lease_change a until now things thing
@@ -37,8 +37,8 @@ known_lease_change a until now things thing (Some old) = kept_lease_change a unt
 
 unfoldable pub lease_cases_change : Addr → ℕ → ℕ → List Thing → Option Thing → RowChange Thing
 lease_cases_change a until now things None = end_change a things
-lease_cases_change a until now things (Some thing) = known_lease_change a until now things thing (end_of a thing.leases)
+lease_cases_change a until now things (Some thing) = known_lease_change a until now things thing (expiry_of a thing.leases)
 
 -- the rows that a lease changes, where it isn't refused
 unfoldable pub lease_change : Mac → Addr → ℕ → ℕ → List Thing → RowChange Thing
-lease_change mac a seconds now things = lease_cases_change a (end_after now seconds) now things (thing_at mac things)
+lease_change mac a seconds now things = lease_cases_change a (expiry_after now seconds) now things (thing_at mac things)

@@ -1,20 +1,20 @@
 -- The items in which Things are kept, and when an item is one.
 use Rattle.std.specs.Prelude.{◌≡◌, ℕ, Bool, true, false, not, ◌&&◌, ◌==◌, nat_lt, List, [], ◌∷◌, ◌++◌, length, map, Option, Some, None, if◌then◌else◌, ◌⊎◌}
 use Rattle.std.specs.List.{list_any}
-use Rattle.sorted_rows.specs.Placed.{comes_last}
+use Rattle.sorted_rows.specs.Sortable.{comes_last}
 use Rattle.mud_world.specs.declared.item.Item.{Item}
 use Rattle.item_codec.specs.Spelling.{number, string, version_of}
 use Rattle.item_codec.specs.Records.{Reading, ◌>>=◌, number_in, string_in, version_to_in, end_in, optional, optional_in, elements, elements_in}
 use Rattle.mud_tables.specs.declared.thing.Thing.{Thing}
 use Rattle.mud_tables.specs.Limits.{most_things}
 use Rattle.mud_tables.specs.Things.{mac_of, holds, is_sound_thing, IsKeptThing}
-use Rattle.mud_tables.specs.ItemFields.{ending, ending_in}
+use Rattle.mud_tables.specs.ItemFields.{expiring, expiring_in}
 
 -- ---- An item of kind 1: its key is the hardware address, and its body is of the version 2 or 1
 
 -- what both versions say: the URL, the URL that waits or none, and the leases
 unfoldable pub thing_fields : Thing → List ℕ
-thing_fields thing = string thing.url ++ (optional string thing.pending ++ elements ending thing.leases)
+thing_fields thing = string thing.url ++ (optional string thing.pending ++ elements expiring thing.leases)
 
 unfoldable pub hold_octet : Bool → List ℕ
 hold_octet true = number 1 1
@@ -49,7 +49,7 @@ thing_of key body = do
   version ← version_to_in 2 body
   url ← string_in version.1
   pending ← optional_in string_in url.1
-  leases ← elements_in ending_in pending.1
+  leases ← elements_in expiring_in pending.1
   held ← hold_in version.0 leases.1
   ended ← end_in held.1
   Some (record { mac = record { 0 = key }; url = url.0; pending = pending.0; leases = leases.0; held = held.0 })
@@ -58,7 +58,7 @@ unfoldable pub if_sound_thing : Thing → Option Thing
 if_sound_thing thing = if is_sound_thing thing then Some thing else None
 
 -- the Thing of an item: the URLs are canonical, the URL that waits is another one, and there are at most four leases in
--- the order of their addresses, each address once, with ends that are for ever or below 2^40
+-- the order of their addresses, each address once, with expiries that are for ever or below 2^40
 unfoldable pub thing_in : Item → Option Thing
 thing_in item =
     if item.kind == 1 && length item.key == 6 then (do

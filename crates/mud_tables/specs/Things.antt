@@ -1,14 +1,14 @@
 -- The list of Things, in the order of their hardware addresses.
 use Rattle.std.specs.Prelude.{◌≡◌, ℕ, ◌≤◌, Bool, true, false, not, ◌&&◌, nat_le, IsTrue, List, [], length, map, bytes_eq, Option, Some, None}
 use Rattle.std.specs.List.{AllByRecursion}
-use Rattle.sorted_rows.specs.Placed.{row_at, set_row, without_row, PlacesAscend}
+use Rattle.sorted_rows.specs.Sortable.{row_at, set_row, without_row, SortKeysAscend}
 use Rattle.mud_base.specs.declared.addr.Addr.{Addr}
 use Rattle.mud_base.specs.declared.addr.Mac.{Mac}
 use Rattle.mud_url.specs.Url.{is_canonical}
 use Rattle.mud_tables.specs.declared.thing.Thing.{Thing}
 use Rattle.mud_tables.specs.Limits.{most_things, most_leases}
 use Rattle.mud_tables.specs.Fits.{FitsThing}
-use Rattle.mud_tables.specs.Ends.{Ends, has_address, without_address, are_ascending, have_ends}
+use Rattle.mud_tables.specs.Expiries.{Expiries, has_address, without_address, are_ascending, have_expiries}
 
 -- Things are kept by their hardware addresses
 unfoldable pub mac_of : Thing → List ℕ
@@ -33,7 +33,7 @@ new_thing mac url = record { mac = mac; url = url; pending = None; leases = []; 
 unfoldable pub holds : Addr → Thing → Bool
 holds a thing = has_address a thing.leases
 
-unfoldable pub with_leases : Ends → Thing → Thing
+unfoldable pub with_leases : Expiries → Thing → Thing
 with_leases leases thing = record thing { leases = leases }
 
 -- the Thing without a lease of the address
@@ -52,8 +52,8 @@ may_wait url None = true
 may_wait url (Some pending) = is_canonical pending && not (bytes_eq pending url)
 
 -- the leases of one Thing
-unfoldable pub are_leases : Ends → Bool
-are_leases rows = are_ascending rows && have_ends rows && nat_le (length rows) most_leases
+unfoldable pub are_leases : Expiries → Bool
+are_leases rows = are_ascending rows && have_expiries rows && nat_le (length rows) most_leases
 
 unfoldable pub is_sound_thing : Thing → Bool
 is_sound_thing thing = is_canonical thing.url && may_wait thing.url thing.pending && are_leases thing.leases
@@ -63,12 +63,12 @@ pub record IsKeptThing (thing : Thing) : Type 0 where
   pub sound : IsTrue (is_sound_thing thing)
   pub fits : FitsThing thing
 
--- an address is in the leases of one Thing: two that have it stand at one place
+-- an address is in the leases of one Thing: two that have it stand at one sort key
 abbrev pub IsAlone : List Thing → Type 0
 IsAlone things = (a : Addr) (p q : List ℕ) (t u : Thing) → row_at mac_of p things ≡ Some t → row_at mac_of q things ≡ Some u → IsTrue (holds a t) → IsTrue (holds a u) → p ≡ q
 
 pub record IsSoundThings (things : List Thing) : Type 0 where
-  pub ascend : PlacesAscend mac_of things
+  pub ascend : SortKeysAscend mac_of things
   pub each : AllByRecursion IsKeptThing things
   pub few : length things ≤ most_things
   pub alone : IsAlone things

@@ -3,7 +3,7 @@ ghost use Rattle.std.specs.Prelude.{◌≡◌, IfOk, Some, None, if◌then◌els
 ghost use Rattle.mud_tables.specs.Binds as spec;
 
 use mud_base::{Addr, Listed, Memory, Prefix, same_addr};
-use sorted_rows::placed::lists;
+use sorted_rows::sortable::lists;
 use std::alloc::Global;
 
 /// Whether the address is one of these.

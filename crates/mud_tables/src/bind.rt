@@ -3,7 +3,7 @@ ghost use Rattle.std.specs.Prelude.{◌≡◌, IfOk};
 
 use mud_base::{Addr, Bytes, End, Listed, Memory, octets_order};
 use mud_url::MudUrl;
-use sorted_rows::{KeyOf, Placed};
+use sorted_rows::{KeyOf, Sortable};
 use std::cmp::Ordering;
 
 /// A class of addresses that the operator fills.
@@ -30,13 +30,13 @@ pub struct ClassRow {
 pub struct NameRow {
     /// A host name in lower case.
     pub name: Bytes,
-    /// The addresses with their ends, in the order of the addresses, each once. An address whose
-    /// end has come may still stand here.
+    /// The addresses with their expiries, in the order of the addresses, each once. An address
+    /// whose expiry has come may still stand here.
     pub addrs: Listed<(Addr, End)>,
 }
 
 impl Class {
-    ghost use Rattle.sorted_rows.specs.Placed.{place_cmp};
+    ghost use Rattle.sorted_rows.specs.Sortable.{sort_key_cmp};
     ghost use Rattle.mud_tables.specs.Binds.{key_of_class};
 
     /// An equal class.
@@ -52,7 +52,7 @@ impl Class {
     /// How it stands to another class: those by URI before those by MUD URL, and then by text.
     #[tactic(auto, unfolding(crate::specs::Binds::key_of_class))]
     pub fn order(&self, other: &Class) -> Ordering
-        ensures { result ≡ place_cmp (key_of_class self.now) (key_of_class other.now) }
+        ensures { result ≡ sort_key_cmp (key_of_class self.now) (key_of_class other.now) }
     {
         match (self, other) {
             (Class::Uri(own), Class::Uri(other)) => octets_order(own.octets(), other.octets()),
@@ -63,10 +63,10 @@ impl Class {
     }
 }
 
-impl Placed for ClassRow {
+impl Sortable for ClassRow {
     ghost use Rattle.mud_tables.specs.Binds.{class_key};
 
-    ghost place = { class_key };
+    ghost sort_key = { class_key };
 
     #[tactic(auto, unfolding(crate::specs::Binds::class_key))]
     fn order(&self, other: &ClassRow) -> Ordering {
@@ -77,7 +77,7 @@ impl Placed for ClassRow {
 impl KeyOf<ClassRow> for Class {
     ghost use Rattle.mud_tables.specs.Binds.{key_of_class};
 
-    ghost place = { key_of_class };
+    ghost sort_key = { key_of_class };
 
     #[tactic(auto, unfolding(crate::specs::Binds::class_key))]
     fn order_to(&self, row: &ClassRow) -> Ordering {
@@ -85,10 +85,10 @@ impl KeyOf<ClassRow> for Class {
     }
 }
 
-impl Placed for NameRow {
+impl Sortable for NameRow {
     ghost use Rattle.mud_tables.specs.Binds.{name_of};
 
-    ghost place = { name_of };
+    ghost sort_key = { name_of };
 
     #[tactic(auto, unfolding(crate::specs::Binds::name_of))]
     fn order(&self, other: &NameRow) -> Ordering {
@@ -101,7 +101,7 @@ impl Placed for NameRow {
 pub struct NameKey<'a>(pub &'a [u8]);
 
 impl KeyOf<NameRow> for NameKey<'_> {
-    ghost place = { λ key. key.0.now };
+    ghost sort_key = { λ key. key.0.now };
 
     #[tactic(auto, unfolding(crate::specs::Binds::name_of))]
     fn order_to(&self, row: &NameRow) -> Ordering {

@@ -1,5 +1,5 @@
-//! The fields of kept items: addresses, ends and prefixes, how they are written and how they are
-//! read back.
+//! The fields of kept items: addresses, expiries and prefixes, how they are written and how they
+//! are read back.
 ghost use Rattle.std.specs.Prelude.{◌≡◌, ◌++◌, ◌^◌, ◌<◌, OnOk, MatchOption, IfSome, Some, None};
 ghost use Rattle.item_codec.specs.Spelling.{IsWidth};
 ghost use Rattle.item_codec.specs.Records.{number_in};
@@ -33,10 +33,10 @@ pub fn write_address(writer: &mut FieldWriter, addr: Addr) -> Result<(), Memory>
     Ok(())
 }
 
-/// Writes an address and its end, in eight octets.
-#[tactic(auto, unfolding(crate::specs::ItemFields::ending))]
-pub fn write_ending(writer: &mut FieldWriter, row: (Addr, End)) -> Result<(), Memory>
-    ensures { OnOk result (writer.new ≡ writer.old ++ spec.ending row) }
+/// Writes an address and its expiry, in eight octets.
+#[tactic(auto, unfolding(crate::specs::ItemFields::expiring))]
+pub fn write_expiring(writer: &mut FieldWriter, row: (Addr, End)) -> Result<(), Memory>
+    ensures { OnOk result (writer.new ≡ writer.old ++ spec.expiring row) }
 {
     write_address(writer, row.0)?;
     writer.number(8, row.1.0)?;
@@ -102,10 +102,10 @@ fn read_v6(reader: &mut FieldReader<'_>) -> Option<Addr>
     Some(Addr::V6(high as u128 * HALF + low as u128))
 }
 
-/// Reads an address and its end.
-#[tactic(auto, using(crate::proofs::ReadLaws::ending_rules))]
-pub fn read_ending(reader: &mut FieldReader<'_>) -> Option<(Addr, End)>
-    ensures { MatchOption result (spec.ending_in reader.old ≡ None) (λ row. spec.ending_in reader.old ≡ Some (row, reader.new)) }
+/// Reads an address and its expiry.
+#[tactic(auto, using(crate::proofs::ReadLaws::expiring_rules))]
+pub fn read_expiring(reader: &mut FieldReader<'_>) -> Option<(Addr, End)>
+    ensures { MatchOption result (spec.expiring_in reader.old ≡ None) (λ row. spec.expiring_in reader.old ≡ Some (row, reader.new)) }
 {
     let addr = read_address(reader)?;
     let until = read_number(reader, 8)?;

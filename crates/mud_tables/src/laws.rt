@@ -12,7 +12,7 @@ ghost use Rattle.item_codec.specs.Spelling.{IsOctets};
 ghost use Rattle.mud_tables.specs.declared.thing.Thing.{Thing};
 ghost use Rattle.mud_tables.specs.declared.bind.ClassRow.{ClassRow};
 ghost use Rattle.mud_tables.specs.declared.bind.NameRow.{NameRow};
-ghost use Rattle.mud_tables.specs.Ends.{for_ever};
+ghost use Rattle.mud_tables.specs.Expiries.{for_ever};
 ghost use Rattle.mud_tables.specs.Things.{IsKeptThing};
 ghost use Rattle.mud_tables.specs.Binds.{IsKeptClass, IsKeptName};
 ghost use Rattle.mud_tables.specs.Tables.{Tables, meets, ruling_of};

@@ -7,7 +7,7 @@
 pub mod addrs;
 pub mod bind;
 pub mod bind_fault;
-pub mod ends;
+pub mod expiries;
 pub mod fields;
 pub mod item_laws;
 pub mod laws;

@@ -4,15 +4,15 @@ ghost use Rattle.mud_tables.specs.History as spec;
 
 use mud_base::{Addr, Direction, Fields, Moment, Transport, same_addr};
 
-/// An end of a connection: an address and a port.
+/// An endpoint of a connection: an address and a port.
 pub type Endpoint = (Addr, u16);
 
 /// A TCP packet that had a ruling and was forwarded.
 #[derive(Clone, Copy, Debug)]
 pub struct Segment {
-    /// The end that sent it.
+    /// The endpoint that sent it.
     pub source: Endpoint,
-    /// The end that it goes to.
+    /// The endpoint that it goes to.
     pub destination: Endpoint,
     /// The octet of its flags (RFC 9293, 3.1): FIN 1, SYN 2, RST 4, PSH 8, ACK 16.
     pub flags: u8,
@@ -42,10 +42,10 @@ pub fn segment_of(fields: &Fields, now: Moment) -> Option<Segment>
     }
 }
 
-/// Whether both are one end.
-#[tactic(auto, unfolding(crate::specs::History::same_end))]
-fn same_end(a: Endpoint, b: Endpoint) -> bool
-    ensures { result ≡ spec.same_end a b }
+/// Whether both are one endpoint.
+#[tactic(auto, unfolding(crate::specs::History::same_endpoint))]
+fn same_endpoint(a: Endpoint, b: Endpoint) -> bool
+    ensures { result ≡ spec.same_endpoint a b }
 {
     same_addr(a.0, b.0) && a.1 == b.1
 }
@@ -67,9 +67,9 @@ impl Segment {
         self.flags & 4 == 4
     }
 
-    /// Who began its connection, as a Thing on this side of it sees it: `From` where the Thing's own
-    /// end did, and else `To`.
-    #[tactic(auto, unfolding(crate::specs::History::side_of, crate::specs::History::own_end))]
+    /// Who began its connection, as a Thing on this side of it sees it: `From` where the Thing's
+    /// own endpoint did, and else `To`.
+    #[tactic(auto, unfolding(crate::specs::History::side_of, crate::specs::History::own_endpoint))]
     pub fn side_of(&self, side: Direction, began: Option<Endpoint>) -> Option<Direction>
         ensures { result ≡ spec.side_of side self.now began }
     {
@@ -80,7 +80,7 @@ impl Segment {
             Direction::From => self.source,
             Direction::To => self.destination,
         };
-        if same_end(began, own) {
+        if same_endpoint(began, own) {
             Some(Direction::From)
         } else {
             Some(Direction::To)

@@ -9,7 +9,7 @@ ghost use Rattle.mud_tables.specs.BindItems.{are_locals};
 
 use crate::addrs::{are_addrs, are_prefixes, prefix_of_parts};
 use crate::bind::{Class, ClassRow, NameRow};
-use crate::ends::{are_ascending, have_ends};
+use crate::expiries::{are_ascending, have_expiries};
 use crate::limits::{MOST_CLASS_ADDRESSES, MOST_LEASES, MOST_LOCALS, MOST_NAME_ADDRESSES};
 use crate::thing::Thing;
 use mud_base::{Addr, End, Prefix};
@@ -17,12 +17,12 @@ use mud_url::MudUrl;
 use mud_url::host::is_host;
 
 /// Whether these are the leases of a Thing: at most four, in the order of their addresses, each
-/// address once, with ends that are for ever or below 2^40 seconds.
+/// address once, with expiries that are for ever or below 2^40 seconds.
 #[tactic(auto, unfolding(crate::specs::Things::are_leases))]
 pub fn are_leases(rows: &[(Addr, End)]) -> bool
     ensures { result ≡ are_leases rows.now }
 {
-    are_ascending(rows) && have_ends(rows) && rows.len() <= MOST_LEASES
+    are_ascending(rows) && have_expiries(rows) && rows.len() <= MOST_LEASES
 }
 
 /// Whether a Thing may be kept: its URLs are canonical, the URL that waits is another than its own,
@@ -92,7 +92,7 @@ fn is_graphic(text: &[u8]) -> bool
 }
 
 /// Whether a name may be kept: a host name in lower case, with 1 to 64 addresses in their order,
-/// each once, with ends that are for ever or below 2^40 seconds.
+/// each once, with expiries that are for ever or below 2^40 seconds.
 #[tactic(auto, unfolding(crate::specs::Binds::is_sound_name))]
 pub fn is_sound_name(row: &NameRow) -> bool
     ensures { result ≡ spec.is_sound_name row.now }
@@ -100,7 +100,7 @@ pub fn is_sound_name(row: &NameRow) -> bool
     let addrs = row.addrs.as_slice();
     is_name(row.name.octets())
         && are_ascending(addrs)
-        && have_ends(addrs)
+        && have_expiries(addrs)
         && !addrs.is_empty()
         && addrs.len() <= MOST_NAME_ADDRESSES
 }

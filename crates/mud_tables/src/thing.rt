@@ -1,16 +1,16 @@
 //! Things and their leases.
 ghost use Rattle.std.specs.Prelude.{◌≡◌};
-ghost use Rattle.sorted_rows.specs.Placed.{place_cmp};
+ghost use Rattle.sorted_rows.specs.Sortable.{sort_key_cmp};
 
 use mud_base::{Addr, End, Listed, Mac};
 use mud_url::MudUrl;
-use sorted_rows::{KeyOf, Placed};
+use sorted_rows::{KeyOf, Sortable};
 use std::cmp::Ordering;
 
 /// How two hardware addresses stand to one another: the first octet that differs decides. It stops
 /// there, so it takes a small part of the time of a comparison of slices.
 fn mac_order(own: &Mac, other: &Mac) -> Ordering
-    ensures { result ≡ place_cmp own.now.0 other.now.0 }
+    ensures { result ≡ sort_key_cmp own.now.0 other.now.0 }
 {
     let mut n = 0;
     while n < own.0.len() {
@@ -31,18 +31,18 @@ pub struct Thing {
     pub url: MudUrl,
     /// Another URL that it announced later, which waits for the operator.
     pub pending: Option<MudUrl>,
-    /// Its addresses with the ends of their leases, in the order of the addresses, each once. A
-    /// lease whose end has come may still stand here.
+    /// Its addresses with the expiries of their leases, in the order of the addresses, each once. A
+    /// lease whose expiry has come may still stand here.
     pub leases: Listed<(Addr, End)>,
     /// Whether the operator holds it: all its packets are dropped, whatever its usage file says. A
     /// new Thing isn't held, and a hold ends with a release or with the Thing.
     pub held: bool,
 }
 
-impl Placed for Thing {
+impl Sortable for Thing {
     ghost use Rattle.mud_tables.specs.Things.{mac_of};
 
-    ghost place = { mac_of };
+    ghost sort_key = { mac_of };
 
     #[tactic(auto, unfolding(crate::specs::Things::mac_of))]
     fn order(&self, other: &Thing) -> Ordering {
@@ -54,7 +54,7 @@ impl Placed for Thing {
 impl KeyOf<Thing> for Mac {
     ghost use Rattle.mud_tables.specs.Things.{mac_of};
 
-    ghost place = { λ mac. mac.0 };
+    ghost sort_key = { λ mac. mac.0 };
 
     #[tactic(auto, unfolding(crate::specs::Things::mac_of))]
     fn order_to(&self, thing: &Thing) -> Ordering {

@@ -6,7 +6,7 @@ ghost use Rattle.mud_url.specs.Url.{is_canonical};
 ghost use Rattle.mud_tables.specs.declared.thing.Thing.{Thing};
 ghost use Rattle.mud_tables.specs.ItemFields.{IsAddr};
 ghost use Rattle.mud_tables.specs.Things.{IsKeptThing, IsSoundThings};
-ghost use Rattle.mud_tables.specs.ThingSteps.{TellsChange, url_step, move_step, remove_step, hold_step, release_step, lease_step, end_step};
+ghost use Rattle.mud_tables.specs.ThingCommands.{TellsChange, url_step, move_step, remove_step, hold_step, release_step, lease_step, end_step};
 ghost use Rattle.mud_tables.specs.ThingItems.{may_follow};
 
 /// Every step on Things keeps them sound.

@@ -10,7 +10,7 @@ rfc_8520 : url_of (codes "https://lighting.example.com/lightbulb2000") ≡ Ok (c
 unfolding url_on_literals
 rfc_8520 = refl
 
--- each fault, with its place
+-- each fault, with its offset
 nothing : url_of (codes "") ≡ Err Empty
 unfolding url_on_literals
 nothing = refl

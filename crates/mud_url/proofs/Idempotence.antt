@@ -49,9 +49,9 @@ test_is_off : (t : Bool) (fault : UrlFault) → row t fault ≡ None → t ≡ f
 test_is_off true fault e = cc
 test_is_off false fault e = refl
 
-place_is_off : (fault : ℕ → UrlFault) (o : Option ℕ) → row_at fault o ≡ None → o ≡ None
-place_is_off fault None e = refl
-place_is_off fault (Some at) e = cc
+offset_is_off : (fault : ℕ → UrlFault) (o : Option ℕ) → row_at fault o ≡ None → o ≡ None
+offset_is_off fault None e = refl
+offset_is_off fault (Some at) e = cc
 
 -- what a URL without a fault has
 pub sound_parts : (url : List ℕ) → first_row (faults url) ≡ None → (length url ≤ 255) × AreSound (lowered (host_part url)) (port_part url) (path_and_query url)
@@ -62,7 +62,7 @@ sound_parts url none =
         host_is = is_host-lowered (host_part url) ∙ not-false _ (test_is_off _ Host off.1.1.1.1.1.1.0);
         host_is_low = lowered-lowered (host_part url);
         port_is = not-false _ (test_is_off _ Port off.1.1.1.1.1.1.1.0);
-        path_is = path_fault_from _ 0 (path_and_query url) (place_is_off Path _ off.1.1.1.1.1.1.1.1.0);
+        path_is = path_fault_from _ 0 (path_and_query url) (offset_is_off Path _ off.1.1.1.1.1.1.1.1.0);
         path_begins = (parts_of url).path_begins;
       },
     )

@@ -6,5 +6,5 @@ pub mod Idempotence
 pub mod Octets
 pub mod OnLiterals
 pub mod Paths
-pub mod Places
+pub mod Offsets
 pub mod Written

@@ -1,4 +1,4 @@
--- The numbers, names and places of the faults of a MUD URL.
+-- The numbers, names and offsets of the faults of a MUD URL.
 use Rattle.std.specs.Prelude.{ℕ, List, codes, Option, Some, None}
 use Rattle.mud_url.specs.declared.fault.UrlFault.{UrlFault}
 use Rattle.mud_url.specs.declared.fault.UrlFault.TheVariants.{Empty, Octet, Scheme, Host, Port, Path, UserInfo, Fragment, Long}
@@ -25,13 +25,13 @@ name_of UserInfo = codes "UserInfo"
 name_of Fragment = codes "Fragment"
 name_of Long = codes "Long"
 
-unfoldable pub place_of : UrlFault → Option ℕ
-place_of (Octet at) = Some at
-place_of (Path at) = Some at
-place_of Empty = None
-place_of Scheme = None
-place_of Host = None
-place_of Port = None
-place_of UserInfo = None
-place_of Fragment = None
-place_of Long = None
+unfoldable pub offset_of : UrlFault → Option ℕ
+offset_of (Octet at) = Some at
+offset_of (Path at) = Some at
+offset_of Empty = None
+offset_of Scheme = None
+offset_of Host = None
+offset_of Port = None
+offset_of UserInfo = None
+offset_of Fragment = None
+offset_of Long = None

@@ -55,7 +55,7 @@ begins_with_hex_pair (c ∷ d ∷ more) = is_ascii_hexdigit c && is_ascii_hexdig
 unfoldable pub may_stand : ℕ → List ℕ → Bool
 may_stand c more = is_path_octet c || (c == 37 && begins_with_hex_pair more)
 
--- the place of the first octet that may not stand, where the text begins at this place
+-- the offset of the first octet that may not stand, where the text begins at this offset
 unfoldable pub path_fault : ℕ → List ℕ → Option ℕ
 path_fault at [] = None
 path_fault at (c ∷ more) = if may_stand c more then path_fault (at + 1) more else Some at

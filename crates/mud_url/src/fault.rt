@@ -1,7 +1,7 @@
 //! What can be wrong with a MUD URL.
 ghost use Rattle.std.specs.Prelude.{◌≡◌};
 
-/// Why octets are no MUD URL. A place is that of an octet, counted from 0 in the octets that were
+/// Why octets are no MUD URL. An offset is that of an octet, counted from 0 in the octets that were
 /// given.
 #[derive(Clone, Copy, Debug, PartialEq, Eq)]
 pub enum UrlFault {
@@ -28,7 +28,7 @@ pub enum UrlFault {
 }
 
 impl UrlFault {
-    ghost use Rattle.mud_url.specs.Fault.{number_of, name_of, place_of};
+    ghost use Rattle.mud_url.specs.Fault.{number_of, name_of, offset_of};
 
     /// The number of the fault, from 1 to 9.
     #[tactic(auto, unfolding(crate::specs::Fault::number_of))]
@@ -66,10 +66,10 @@ impl UrlFault {
         }
     }
 
-    /// The place of the fault, where it has one.
-    #[tactic(auto, unfolding(crate::specs::Fault::place_of))]
-    pub fn place(&self) -> Option<usize>
-        ensures { result ≡ place_of self.now }
+    /// The offset of the fault, where it has one.
+    #[tactic(auto, unfolding(crate::specs::Fault::offset_of))]
+    pub fn offset(&self) -> Option<usize>
+        ensures { result ≡ offset_of self.now }
     {
         match self {
             UrlFault::Octet(at) | UrlFault::Path(at) => Some(*at),

@@ -26,14 +26,14 @@ pub(crate) fn begins_with_scheme(url: &[u8]) -> bool
     front.eq_ignore_ascii_case(SCHEME)
 }
 
-/// The place of the first octet outside 21 to 7E hex.
+/// The offset of the first octet outside 21 to 7E hex.
 pub(crate) fn first_not_graphic(url: &[u8]) -> Option<usize>
     ensures { result ≡ position (λ c. not (is_ascii_graphic c)) url.now }
 {
     url.iter().position(|octet| !octet.is_ascii_graphic())
 }
 
-/// The place of the first `/` or `?`.
+/// The offset of the first `/` or `?`.
 fn first_slash_or_question(text: &[u8]) -> Option<usize>
     ensures { result ≡ position spec.is_slash_or_question text.now }
 {
@@ -41,7 +41,7 @@ fn first_slash_or_question(text: &[u8]) -> Option<usize>
         .position(|octet| *octet == b'/' || *octet == b'?')
 }
 
-/// The place of the first `:`.
+/// The offset of the first `:`.
 fn first_colon(text: &[u8]) -> Option<usize>
     ensures { result ≡ position spec.is_colon text.now }
 {
@@ -49,7 +49,7 @@ fn first_colon(text: &[u8]) -> Option<usize>
 }
 
 /// The authority, up to the first `/` or `?` behind the scheme.
-#[tactic(auto, using(crate::proofs::Places::before_first_found, crate::proofs::Places::before_first_none), unfolding(crate::specs::Url::authority))]
+#[tactic(auto, using(crate::proofs::Offsets::before_first_found, crate::proofs::Offsets::before_first_none), unfolding(crate::specs::Url::authority))]
 pub fn authority(url: &[u8]) -> &[u8]
     ensures { result.now ≡ spec.authority url.now }
 {
@@ -61,7 +61,7 @@ pub fn authority(url: &[u8]) -> &[u8]
 }
 
 /// What stands behind the authority.
-#[tactic(auto, using(crate::proofs::Places::authority_within), unfolding(crate::specs::Url::path_and_query))]
+#[tactic(auto, using(crate::proofs::Offsets::authority_within), unfolding(crate::specs::Url::path_and_query))]
 pub(crate) fn path_and_query(url: &[u8]) -> &[u8]
     ensures { result.now ≡ spec.path_and_query url.now }
 {
@@ -69,7 +69,7 @@ pub(crate) fn path_and_query(url: &[u8]) -> &[u8]
     rest.split_at(authority(url).len()).1
 }
 
-/// The place of the first `?`.
+/// The offset of the first `?`.
 fn first_question(text: &[u8]) -> Option<usize>
     ensures { result ≡ position spec.is_question text.now }
 {
@@ -77,7 +77,7 @@ fn first_question(text: &[u8]) -> Option<usize>
 }
 
 /// The path, without the query.
-#[tactic(auto, using(crate::proofs::Places::before_first_found, crate::proofs::Places::before_first_none), unfolding(crate::specs::Url::path_part))]
+#[tactic(auto, using(crate::proofs::Offsets::before_first_found, crate::proofs::Offsets::before_first_none), unfolding(crate::specs::Url::path_part))]
 pub fn path_part(url: &[u8]) -> &[u8]
     ensures { result.now ≡ spec.path_part url.now }
 {
@@ -89,7 +89,7 @@ pub fn path_part(url: &[u8]) -> &[u8]
 }
 
 /// The host, before the first `:` of the authority.
-#[tactic(auto, using(crate::proofs::Places::before_first_found, crate::proofs::Places::before_first_none), unfolding(crate::specs::Url::host_part))]
+#[tactic(auto, using(crate::proofs::Offsets::before_first_found, crate::proofs::Offsets::before_first_none), unfolding(crate::specs::Url::host_part))]
 pub fn host_part(url: &[u8]) -> &[u8]
     ensures { result.now ≡ spec.host_part url.now }
 {
@@ -101,7 +101,7 @@ pub fn host_part(url: &[u8]) -> &[u8]
 }
 
 /// The port, behind the first `:` of the authority.
-#[tactic(auto, using(crate::proofs::Places::after_first_found, crate::proofs::Places::after_first_none), unfolding(crate::specs::Url::port_part))]
+#[tactic(auto, using(crate::proofs::Offsets::after_first_found, crate::proofs::Offsets::after_first_none), unfolding(crate::specs::Url::port_part))]
 pub(crate) fn port_part(url: &[u8]) -> &[u8]
     ensures { result.now ≡ spec.port_part url.now }
 {
@@ -173,7 +173,7 @@ fn may_stand(octet: u8, more: &[u8]) -> bool
     octet == b'%' && begins_with_hex_pair(more)
 }
 
-/// The place of the first octet that can't stand in a path or a query, counted from `start`.
+/// The offset of the first octet that can't stand in a path or a query, counted from `start`.
 #[tactic(auto, unfolding(crate::specs::Url::path_fault))]
 pub(crate) fn path_fault(start: usize, text: &[u8]) -> Option<usize>
     requires { start + length text.now < 2 ^ 64 }

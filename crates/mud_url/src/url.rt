@@ -145,7 +145,7 @@ fn first_fault(url: &[u8]) -> Option<UrlFault>
     first_path_fault(url).map(UrlFault::Path)
 }
 
-/// The place of the first octet of a URL that can't stand in its path or query.
+/// The offset of the first octet of a URL that can't stand in its path or query.
 #[tactic(auto, using(crate::proofs::Bounds::lengths))]
 fn first_path_fault(url: &[u8]) -> Option<usize>
     requires { length url.now ≤ 255 }
@@ -180,7 +180,7 @@ fn without_last_zero(octets: &[u8]) -> &[u8]
     }
 }
 
-/// The place of the first space.
+/// The offset of the first space.
 fn first_space(text: &[u8]) -> Option<usize>
     ensures { result ≡ position spec.is_space text.now }
 {
@@ -188,7 +188,7 @@ fn first_space(text: &[u8]) -> Option<usize>
 }
 
 /// What stands before the first space.
-#[tactic(auto, using(crate::proofs::Places::before_first_found, crate::proofs::Places::before_first_none), unfolding(crate::specs::Url::before_space))]
+#[tactic(auto, using(crate::proofs::Offsets::before_first_found, crate::proofs::Offsets::before_first_none), unfolding(crate::specs::Url::before_space))]
 fn before_space(text: &[u8]) -> &[u8]
     ensures { result.now ≡ spec.before_space text.now }
 {
@@ -199,8 +199,8 @@ fn before_space(text: &[u8]) -> &[u8]
 }
 
 /// The MUD URL of a MUD string (RFC 8520, 10): one zero octet at its end is dropped, at most 255
-/// octets may be left, and what follows the first space is ignored. Places are those in the string.
-/// It takes no memory.
+/// octets may be left, and what follows the first space is ignored. Offsets are those in the
+/// string. It takes no memory.
 #[tactic(auto, unfolding(crate::specs::Url::string_of))]
 pub fn mud_string(octets: &[u8]) -> Result<MudUrl, UrlFault>
     ensures { result ≡ string_of octets.now }
@@ -213,7 +213,7 @@ pub fn mud_string(octets: &[u8]) -> Result<MudUrl, UrlFault>
 }
 
 /// The MUD URL that octets spell, where this is its text.
-#[tactic(auto, using(crate::proofs::Places::same_octets), unfolding(crate::specs::Url::reads_as))]
+#[tactic(auto, using(crate::proofs::Offsets::same_octets), unfolding(crate::specs::Url::reads_as))]
 fn read_as(octets: &[u8], text: &[u8]) -> Option<MudUrl>
     ensures { result ≡ (if spec.reads_as octets.now text.now then Some text.now else None) }
 {

@@ -12,7 +12,7 @@ length-connections_of [] (w ∷ ws) e = absurd (omega arith)
 length-connections_of (p ∷ ps) [] e = refl
 length-connections_of (p ∷ ps) (w ∷ ws) e = ap suc (length-connections_of ps ws (omega arith))
 
--- the connection at a place
+-- the connection at an index
 pub get_or-connections_of : (inputs : List (List (List ℕ))) (wires : List WireState) (i : ℕ) (p : List (List ℕ)) (w : WireState) (c : Connection) → length wires ≡ length inputs → i < length wires → get_or (connections_of inputs wires) i c ≡ connection_of (get_or inputs i p) (get_or wires i w)
 get_or-connections_of [] [] i p w c e h = absurd (omega arith)
 get_or-connections_of [] (v ∷ vs) i p w c e h = absurd (omega arith)
@@ -40,9 +40,9 @@ nowhere = record { left = []; written = [] }
 before : Option ℕ → List Connection → List Connection → DoorState
 before bound past ahead = record { bound = bound; stands = false; past = past; left = []; written = []; ahead = ahead }
 
--- the place behind the one at which the door stands
-abbrev pub place_after : Bool → ℕ → ℕ
-place_after stands at = cond stands (at + 1) at
+-- the index behind the one at which the door stands
+abbrev pub index_after : Bool → ℕ → ℕ
+index_after stands at = cond stands (at + 1) at
 
 -- a door that stands at a connection
 pub state_standing : (bound : Option ℕ) (at : ℕ) (cs : List Connection) (c : Connection) → at < length cs → state_at bound true at cs ≡ entered bound (take at cs) (get_or cs at c ∷ drop (at + 1) cs)
@@ -60,7 +60,7 @@ connections_at bound true at (c ∷ cs) h =
     ∙ take-append-drop at (c ∷ cs)
 
 -- a door that leaves its connection stands before the next one
-pub departed_at : (bound : Option ℕ) (stands : Bool) (at : ℕ) (cs : List Connection) → (stands ≡ true → at < length cs) → departed (state_at bound stands at cs) ≡ state_at bound false (place_after stands at) cs
+pub departed_at : (bound : Option ℕ) (stands : Bool) (at : ℕ) (cs : List Connection) → (stands ≡ true → at < length cs) → departed (state_at bound stands at cs) ≡ state_at bound false (index_after stands at) cs
 unfolding before
 departed_at bound false at cs h = ap (λ (front : List Connection). before bound front (drop at cs)) (append-nil (take at cs))
 departed_at bound true at [] h = absurd (omega (arith, h refl))
@@ -69,12 +69,12 @@ departed_at bound true at (c ∷ cs) h =
     ∙ ap (λ (front : List Connection). before bound front (drop (at + 1) (c ∷ cs))) (sym (take_more (c ∷ cs) at c (h refl)))
 
 -- the connections that come
-pub ahead_at : (bound : Option ℕ) (stands : Bool) (at : ℕ) (cs : List Connection) → (stands ≡ true → at < length cs) → (state_at bound stands at cs).ahead ≡ drop (place_after stands at) cs
+pub ahead_at : (bound : Option ℕ) (stands : Bool) (at : ℕ) (cs : List Connection) → (stands ≡ true → at < length cs) → (state_at bound stands at cs).ahead ≡ drop (index_after stands at) cs
 ahead_at bound false at cs h = refl
 ahead_at bound true at [] h = absurd (omega (arith, h refl))
 ahead_at bound true at (c ∷ cs) h = ap (λ (s : DoorState). s.ahead) (state_standing bound at (c ∷ cs) c (h refl))
 
--- whether there is a connection from a place on
+-- whether there is a connection from an index on
 pub has_more_at : (at : ℕ) (cs : List Connection) → has_more (drop at cs) ≡ ltb at (length cs)
 has_more_at at cs =
     elim (cases_lt at (length cs)) [
@@ -83,22 +83,22 @@ has_more_at at cs =
     ]
 
 -- what going on makes of a door, wherever it stands
-pub gone_on_at : (bound : Option ℕ) (stands : Bool) (at : ℕ) (cs : List Connection) → (stands ≡ true → at < length cs) → gone_on (state_at bound stands at cs) (state_at bound stands at cs).ahead ≡ state_at bound (ltb (place_after stands at) (length cs)) (place_after stands at) cs
+pub gone_on_at : (bound : Option ℕ) (stands : Bool) (at : ℕ) (cs : List Connection) → (stands ≡ true → at < length cs) → gone_on (state_at bound stands at cs) (state_at bound stands at cs).ahead ≡ state_at bound (ltb (index_after stands at) (length cs)) (index_after stands at) cs
 gone_on_at bound stands at cs h =
-    let place = place_after stands at in
+    let index = index_after stands at in
     let s = state_at bound stands at cs in
-    let left : departed s ≡ state_at bound false place cs = departed_at bound stands at cs h in
-    elim (cases_lt place (length cs)) [
+    let left : departed s ≡ state_at bound false index cs = departed_at bound stands at cs h in
+    elim (cases_lt index (length cs)) [
       | inl within ↦
-          let c = get_or cs place nowhere in
-          ap (gone_on s) (ahead_at bound stands at cs h ∙ drop_more cs place nowhere within)
-          ∙ ap (λ (t : DoorState). entered t.bound t.past (c ∷ drop (place + 1) cs)) left
-          ∙ sym (state_standing bound place cs nowhere within)
-          ∙ ap (λ (now : Bool). state_at bound now place cs) (sym (lt-ltb place (length cs) within))
+          let c = get_or cs index nowhere in
+          ap (gone_on s) (ahead_at bound stands at cs h ∙ drop_more cs index nowhere within)
+          ∙ ap (λ (t : DoorState). entered t.bound t.past (c ∷ drop (index + 1) cs)) left
+          ∙ sym (state_standing bound index cs nowhere within)
+          ∙ ap (λ (now : Bool). state_at bound now index cs) (sym (lt-ltb index (length cs) within))
       | inr past ↦
-          ap (gone_on s) (ahead_at bound stands at cs h ∙ drop_all place cs past)
+          ap (gone_on s) (ahead_at bound stands at cs h ∙ drop_all index cs past)
           ∙ left
-          ∙ ap (λ (now : Bool). state_at bound now place cs) (sym (le-ltb place (length cs) past))
+          ∙ ap (λ (now : Bool). state_at bound now index cs) (sym (le-ltb index (length cs) past))
     ]
 
 -- a door that is bound anew
@@ -110,7 +110,7 @@ bound_anew_at port bound true at (c ∷ cs) h =
     ap (bound_anew port) (state_standing bound at (c ∷ cs) c (h refl))
     ∙ ap (before (Some port) (take at (c ∷ cs))) (sym (drop_more (c ∷ cs) at c (h refl)))
 
--- another connection at the place where the door stands
+-- another connection at the index where the door stands
 pub with_here_at : (bound : Option ℕ) (at : ℕ) (cs : List Connection) (c : Connection) → at < length cs → state_at bound true at (set cs at c) ≡ with_here c (state_at bound true at cs)
 with_here_at bound at cs c h =
     let within : at < length (set cs at c) = omega (arith, length-set cs at c) in

@@ -1,4 +1,4 @@
--- Two puts about one place are no difference, though they lead from the items before to those after.
+-- Two puts about one sort key are no difference, though they lead from the items before to those after.
 use Rattle.std.proofs.Common.{◌≡◌, [], ◌∷◌, refl}
 use Rattle.std.proofs.lemmas.Bool.{false≢true}
 use Rattle.mud_world.specs.declared.item.Item.{Item}

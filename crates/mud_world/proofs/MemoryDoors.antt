@@ -8,7 +8,7 @@ use Rattle.mud_world.specs.MemoryConnections.{connections_of, entered, room_of, 
 use Rattle.mud_world.specs.MemoryDoor.{memory_state, piece_left, pieces_here, room_left, wire_here}
 use Rattle.mud_world.proofs.Doors.{put_here, took_here}
 use Rattle.mud_world.proofs.Wires.{front_of_left, none_left}
-use Rattle.mud_world.proofs.Connections.{ahead_at, bound_anew_at, changed_at, connections_at, departed_at, get_or-connections_of, gone_on_at, has_more_at, here_at, length-connections_of, nowhere, place_after}
+use Rattle.mud_world.proofs.Connections.{ahead_at, bound_anew_at, changed_at, connections_at, departed_at, get_or-connections_of, gone_on_at, has_more_at, here_at, length-connections_of, nowhere, index_after}
 
 -- its connections, each by its pieces and its wire
 abbrev pub all_of : MemoryDoor → List Connection
@@ -79,21 +79,21 @@ pub bound_anew_door : (d : MemoryDoor) (port : ℕ) → state_at (Some port) fal
 unfolding memory_state
 bound_anew_door d port = sym (bound_anew_at port d.bound d.stands d.at (all_of d) (stands_at d))
 
-pub departed_door : (d : MemoryDoor) (at : ℕ) → at ≡ place_after d.stands d.at → state_at d.bound false at (all_of d) ≡ departed (memory_state d)
+pub departed_door : (d : MemoryDoor) (at : ℕ) → at ≡ index_after d.stands d.at → state_at d.bound false at (all_of d) ≡ departed (memory_state d)
 unfolding memory_state
 departed_door d at e =
     ap (λ (n : ℕ). state_at d.bound false n (all_of d)) e ∙ sym (departed_at d.bound d.stands d.at (all_of d) (stands_at d))
 
-pub more_door : (d : MemoryDoor) (at : ℕ) → at ≡ place_after d.stands d.at → ltb at (length d.wires.items) ≡ has_more (memory_state d).ahead
+pub more_door : (d : MemoryDoor) (at : ℕ) → at ≡ index_after d.stands d.at → ltb at (length d.wires.items) ≡ has_more (memory_state d).ahead
 unfolding memory_state
 more_door d at e =
     ap₂ ltb e (sym (length-all_of d))
-    ∙ sym (ap has_more (ahead_at d.bound d.stands d.at (all_of d) (stands_at d)) ∙ has_more_at (place_after d.stands d.at) (all_of d))
+    ∙ sym (ap has_more (ahead_at d.bound d.stands d.at (all_of d) (stands_at d)) ∙ has_more_at (index_after d.stands d.at) (all_of d))
 
-pub gone_on_door : (d : MemoryDoor) (at : ℕ) (stands : Bool) → at ≡ place_after d.stands d.at → stands ≡ ltb at (length d.wires.items) → state_at d.bound stands at (all_of d) ≡ gone_on (memory_state d) (memory_state d).ahead
+pub gone_on_door : (d : MemoryDoor) (at : ℕ) (stands : Bool) → at ≡ index_after d.stands d.at → stands ≡ ltb at (length d.wires.items) → state_at d.bound stands at (all_of d) ≡ gone_on (memory_state d) (memory_state d).ahead
 unfolding memory_state
 gone_on_door d at stands e now =
-    let there : stands ≡ ltb (place_after d.stands d.at) (length (all_of d)) = now ∙ ap₂ ltb e (sym (length-all_of d)) in
+    let there : stands ≡ ltb (index_after d.stands d.at) (length (all_of d)) = now ∙ ap₂ ltb e (sym (length-all_of d)) in
     ap₂ (λ (b : Bool) (n : ℕ). state_at d.bound b n (all_of d)) there e
     ∙ sym (gone_on_at d.bound d.stands d.at (all_of d) (stands_at d))
 

@@ -23,11 +23,11 @@ rest_past p ps n h = grind (arith, nat_tests)
 pub rest_here : (p : List ℕ) (ps : List (List ℕ)) (n : ℕ) → n < length p → rest_of n (p ∷ ps) ≡ drop n p
 rest_here p ps n h = grind (arith, nat_tests)
 
--- pieces from a place on
+-- pieces from an index on
 pieces_from : (pieces : List (List ℕ)) (i : ℕ) (p : List ℕ) → i < length pieces → p ≡ get_or pieces i p → drop i pieces ≡ p ∷ drop (i + 1) pieces
 pieces_from pieces i p h e = drop_more pieces i p h ∙ ap (λ (q : List ℕ). q ∷ drop (i + 1) pieces) (sym e)
 
--- the same, for the piece at a place
+-- the same, for the piece at an index
 pub left_on : (pieces : List (List ℕ)) (i n len : ℕ) (p : List ℕ) → i < length pieces → p ≡ get_or pieces i p → len ≡ length p → len ≤ n → left_of (n - len) (drop (i + 1) pieces) ≡ left_of n (drop i pieces)
 left_on pieces i n len p h e same within =
     let past : length p ≤ n = omega arith in

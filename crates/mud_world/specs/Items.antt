@@ -3,7 +3,7 @@ use Rattle.std.specs.Prelude.{◌≡◌, ℕ, ◌<◌, Bool, true, false, not, �
 use Rattle.std.specs.List.{AllByRecursion}
 use Rattle.std.specs.Option.{option_map}
 use Rattle.std.specs.Ordering.{is_eq}
-use Rattle.sorted_rows.specs.Placed.{place_cmp, set_row, without_row, PlacesAscend}
+use Rattle.sorted_rows.specs.Sortable.{sort_key_cmp, set_row, without_row, SortKeysAscend}
 use Rattle.sorted_rows.specs.Changes.{RowChange, with_found}
 use Rattle.mud_world.specs.declared.item.Item.{Item}
 use Rattle.mud_world.specs.declared.item.Put.{Put}
@@ -11,44 +11,44 @@ use Rattle.mud_world.specs.declared.item.Put.TheVariants.{Set, Gone}
 use Rattle.mud_world.specs.declared.fault.KeepFault.{KeepFault}
 use Rattle.mud_world.specs.declared.fault.KeepFault.TheVariants.{Failed, Memory}
 
--- The place of an item: its kind, and then the octets of its key.
-abbrev pub place_of : Item → List ℕ
-place_of item = item.kind ∷ item.key
+-- The sort key of an item: its kind, and then the octets of its key.
+abbrev pub sort_key_of : Item → List ℕ
+sort_key_of item = item.kind ∷ item.key
 
--- the items after one put: the item in its place, instead of the one that was there, or no item of the place
+-- the items after one put: the item in its place, instead of the one that was there, or no item of the sort key
 abbrev pub put_one : List Item → Put → List Item
-put_one items (Set item) = set_row place_of item items
-put_one items (Gone kind key) = without_row place_of (kind ∷ key) items
+put_one items (Set item) = set_row sort_key_of item items
+put_one items (Gone kind key) = without_row sort_key_of (kind ∷ key) items
 
 -- the items after the puts, in order
 abbrev pub put_all : List Item → List Put → List Item
 put_all items [] = items
 put_all items (p ∷ ps) = put_all (put_one items p) ps
 
--- the place that a put is about
-abbrev pub place_of_put : Put → List ℕ
-place_of_put (Set item) = place_of item
-place_of_put (Gone kind key) = kind ∷ key
+-- the sort key that a put is about
+abbrev pub sort_key_of_put : Put → List ℕ
+sort_key_of_put (Set item) = sort_key_of item
+sort_key_of_put (Gone kind key) = kind ∷ key
 
--- no put of the list is about the place
+-- no put of the list is about the sort key
 abbrev pub is_apart : List ℕ → List Put → Bool
-is_apart place [] = true
-is_apart place (p ∷ ps) = not (is_eq (place_cmp place (place_of_put p))) && is_apart place ps
+is_apart sort_key [] = true
+is_apart sort_key (p ∷ ps) = not (is_eq (sort_key_cmp sort_key (sort_key_of_put p))) && is_apart sort_key ps
 
--- no two puts are about one place
+-- no two puts are about one sort key
 abbrev pub are_apart : List Put → Bool
 are_apart [] = true
-are_apart (p ∷ ps) = is_apart (place_of_put p) ps && are_apart ps
+are_apart (p ∷ ps) = is_apart (sort_key_of_put p) ps && are_apart ps
 
--- A batch has 1 to 4 puts with distinct places.
+-- A batch has 1 to 4 puts with distinct sort keys.
 abbrev pub is_batch : List Put → Bool
 is_batch puts = nat_lt 0 (length puts) && nat_le (length puts) 4 && are_apart puts
 
--- The items are in the order of their places, each place once.
+-- The items are in the order of their sort keys, each sort key once.
 abbrev pub IsOrdered : List Item → Type 0
-IsOrdered items = PlacesAscend place_of items
+IsOrdered items = SortKeysAscend sort_key_of items
 
--- The puts lead from the items before to the items after, each of them changes something, and no two are about one place. So
+-- The puts lead from the items before to the items after, each of them changes something, and no two are about one sort key. So
 -- they are what differs, in some order. A change of a book has at most two puts, and none of the stamp's kind: the desk adds
 -- that one.
 pub record IsDifference (before after : List Item) (puts : List Put) : Type 0 where
@@ -56,7 +56,7 @@ pub record IsDifference (before after : List Item) (puts : List Put) : Type 0 wh
   pub needed : All (λ put. ¬ (put_one before put ≡ before)) puts
   pub apart : IsTrue (are_apart puts)
 
--- the item that a put leaves at its place
+-- the item that a put leaves at its sort key
 abbrev pub item_after : Put → Option Item
 item_after (Set item) = Some item
 item_after (Gone kind key) = None
@@ -81,9 +81,9 @@ AreOfHigherKinds kind items = AllByRecursion (λ item. kind < item.kind) items
 
 -- ---- Rows that are kept as items
 
--- each row's place is the key of its item, which is of the kind
+-- each row's sort key is the key of its item, which is of the kind
 abbrev pub AreItemsOf : {R : Type 0} → (R → List ℕ) → ℕ → (R → Item) → Type 0
-AreItemsOf {R = R} place kind item = (row : R) → place_of (item row) ≡ kind ∷ place row
+AreItemsOf {R = R} sort_key kind item = (row : R) → sort_key_of (item row) ≡ kind ∷ sort_key row
 
 unfoldable pub set_put : {R : Type 0} → (R → Item) → R → Put
 set_put item row = Set (item row)

@@ -15,7 +15,7 @@ abbrev pub entered : Option ℕ → List Connection → List Connection → Door
 entered bound past [] = record { bound = bound; stands = true; past = past; left = []; written = []; ahead = [] }
 entered bound past (c ∷ cs) = record { bound = bound; stands = true; past = past; left = c.left; written = c.written; ahead = cs }
 
--- a door at the connection of that place, or before it
+-- a door at the connection of that index, or before it
 abbrev pub state_at : Option ℕ → Bool → ℕ → List Connection → DoorState
 state_at bound true at cs = entered bound (take at cs) (drop at cs)
 state_at bound false at cs = record { bound = bound; stands = false; past = take at cs; left = []; written = []; ahead = drop at cs }

@@ -19,7 +19,7 @@ pub fn open_box(keeper: &mut Box<dyn Keeper>, alloc: Global) -> Result<Listed<It
     ensures still { OnErr result (opened keeper.new ≡ opened keeper.old) }
     ensures cause { Counts (has_failed result) (faults keeper.old) (faults keeper.new) }
     ensures object { keeper.new.vtable ≡ keeper.old.vtable }
-    ensures place { keeper.new.ptr ≡ keeper.old.ptr }
+    ensures pointer { keeper.new.ptr ≡ keeper.old.ptr }
 {
     keeper.open(alloc)
 }
@@ -35,7 +35,7 @@ pub fn keep(keeper: &mut Box<dyn Keeper>, batch: &[Put]) -> Result<(), KeepFault
     ensures opened { opened keeper.new ≡ opened keeper.old }
     ensures cause { Counts (has_failed result) (faults keeper.old) (faults keeper.new) }
     ensures object { keeper.new.vtable ≡ keeper.old.vtable }
-    ensures place { keeper.new.ptr ≡ keeper.old.ptr }
+    ensures pointer { keeper.new.ptr ≡ keeper.old.ptr }
 {
     keeper.apply(batch)
 }

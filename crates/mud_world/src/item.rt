@@ -1,10 +1,10 @@
 //! The items that a keeper keeps, and the changes of them.
 ghost use Rattle.std.specs.Prelude.{◌≡◌, ◌∷◌, IfOk};
-ghost use Rattle.sorted_rows.specs.Placed.{place_cmp};
-ghost use Rattle.mud_world.specs.Items.{place_of};
+ghost use Rattle.sorted_rows.specs.Sortable.{sort_key_cmp};
+ghost use Rattle.mud_world.specs.Items.{sort_key_of};
 
 use mud_base::{Bytes, Memory, octets_order};
-use sorted_rows::{KeyOf, Placed};
+use sorted_rows::{KeyOf, Sortable};
 use std::cmp::Ordering;
 
 /// An item. Items are ordered by kind and then by the octets of the key, and no two have the same
@@ -31,15 +31,15 @@ impl Item {
     }
 }
 
-impl Placed for Item {
-    ghost place = { place_of };
+impl Sortable for Item {
+    ghost sort_key = { sort_key_of };
 
     fn order(&self, other: &Item) -> Ordering {
-        place_order(self.kind, self.key.octets(), other.kind, other.key.octets())
+        sort_key_order(self.kind, self.key.octets(), other.kind, other.key.octets())
     }
 }
 
-/// The place of an item: a kind, and the octets of a key.
+/// The sort key of an item: a kind, and the octets of a key.
 #[derive(Clone, Copy)]
 pub struct ItemKey<'a> {
     pub kind: u8,
@@ -47,16 +47,16 @@ pub struct ItemKey<'a> {
 }
 
 impl KeyOf<Item> for ItemKey<'_> {
-    ghost place = { λ place. place.kind ∷ place.key.now };
+    ghost sort_key = { λ item_key. item_key.kind ∷ item_key.key.now };
 
     fn order_to(&self, row: &Item) -> Ordering {
-        place_order(self.kind, self.key, row.kind, row.key.octets())
+        sort_key_order(self.kind, self.key, row.kind, row.key.octets())
     }
 }
 
-/// How one place stands to another: by the kinds, and then by the octets of the keys.
-fn place_order(kind: u8, key: &[u8], other_kind: u8, other_key: &[u8]) -> Ordering
-    ensures { result ≡ place_cmp (kind ∷ key.now) (other_kind ∷ other_key.now) }
+/// How one sort key stands to another: by the kinds, and then by the octets of the keys.
+fn sort_key_order(kind: u8, key: &[u8], other_kind: u8, other_key: &[u8]) -> Ordering
+    ensures { result ≡ sort_key_cmp (kind ∷ key.now) (other_kind ∷ other_key.now) }
 {
     match kind.cmp(&other_kind) {
         Ordering::Less => Ordering::Less,

@@ -139,8 +139,9 @@ fn pieces_at(inputs: &Listed<Listed<Bytes>>, at: usize) -> &[Bytes]
     inputs.as_slice()[at].as_slice()
 }
 
-/// The place behind the connection at which a door stands, or else the place before which it stands.
-fn place_after(stands: bool, at: usize, count: usize) -> usize
+/// The index behind the connection at which a door stands, or else the index before which it
+/// stands.
+fn index_after(stands: bool, at: usize, count: usize) -> usize
     requires { stands ≡ true → at < count }
     ensures { result ≡ (if stands then at + 1 else at) }
 {
@@ -197,7 +198,7 @@ impl Door for MemoryDoor {
         ensures script { SameScript self.old self.new }
         ensures cause { Counts (is_err result) self.old.turn_count self.new.turn_count }
     {
-        self.at = place_after(self.stands, self.at, self.wires.len());
+        self.at = index_after(self.stands, self.at, self.wires.len());
         self.stands = false;
         if is_to_fail(&self.failing_next, &mut self.calls.next) {
             raise(&mut self.turn_count);

@@ -1,7 +1,7 @@
 //! Copies of items, and the puts of a batch among sorted items.
 ghost use Rattle.std.specs.Prelude.{◌≡◌, ◌+◌, ◌≤◌, ◌∷◌, IfOk, OnOk, OnErr, vec_len};
-ghost use Rattle.sorted_rows.specs.Placed.{without_row};
-ghost use Rattle.mud_world.specs.Items.{place_of, put_all, put_one, IsOrdered};
+ghost use Rattle.sorted_rows.specs.Sortable.{without_row};
+ghost use Rattle.mud_world.specs.Items.{sort_key_of, put_all, put_one, IsOrdered};
 
 use crate::item::{Item, ItemKey, Put};
 use mud_base::{Listed, Memory};
@@ -64,11 +64,11 @@ fn put_once(items: &mut SortedRows<Item>, put: Put)
     }
 }
 
-/// Takes out the item of a place, if there is one.
+/// Takes out the item of a sort key, if there is one.
 fn take_out(items: &mut SortedRows<Item>, kind: u8, key: &[u8])
-    ensures rows { items.new.rows ≡ without_row place_of (kind ∷ key.now) items.old.rows }
+    ensures rows { items.new.rows ≡ without_row sort_key_of (kind ∷ key.now) items.old.rows }
     ensures room { items.old.room ≤ items.new.room }
 {
-    let place = ItemKey { kind, key };
-    drop(items.remove(&place));
+    let item_key = ItemKey { kind, key };
+    drop(items.remove(&item_key));
 }

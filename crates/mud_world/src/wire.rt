@@ -71,7 +71,7 @@ impl Wire {
     pub(crate) fn read(&mut self, pieces: &[Bytes], buf: &mut [u8]) -> usize
         ensures { WireRead pieces.now self.old self.new result buf.new }
     {
-        let (piece, offset) = next_place(pieces, self.piece, self.offset);
+        let (piece, offset) = next_octet(pieces, self.piece, self.offset);
         let count = copy_front(octets_at(pieces, piece, offset), buf);
         self.piece = piece;
         self.offset = offset + count;
@@ -79,8 +79,8 @@ impl Wire {
     }
 }
 
-/// The same place, but in a piece that has octets behind it, if there is one.
-fn next_place(pieces: &[Bytes], piece: usize, offset: usize) -> (usize, usize)
+/// The same octet, but in a piece that has octets behind it, if there is one.
+fn next_octet(pieces: &[Bytes], piece: usize, offset: usize) -> (usize, usize)
     ensures left { left_of result.1 (drop result.0 pieces.now) ≡ left_of offset (drop piece pieces.now) }
     ensures rest { rest_of result.1 (drop result.0 pieces.now) ≡ rest_of offset (drop piece pieces.now) }
     ensures there { result.0 < length pieces.now → result.1 < length (slice_index_or pieces.now result.0 []) }
@@ -98,7 +98,7 @@ fn next_place(pieces: &[Bytes], piece: usize, offset: usize) -> (usize, usize)
     (at, behind)
 }
 
-/// The octets of a piece behind a place, none where there is no such piece.
+/// The octets of a piece behind an offset, none where there is no such piece.
 fn octets_at(pieces: &[Bytes], piece: usize, offset: usize) -> &[u8]
     requires { piece < length pieces.now → offset < length (slice_index_or pieces.now piece []) }
     ensures octets { result.now ≡ rest_of offset (drop piece pieces.now) }

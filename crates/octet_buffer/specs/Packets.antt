@@ -1,10 +1,10 @@
 -- The packets of a capture, in whichever format.
 use Rattle.std.specs.Prelude.{ℕ, List, [], ◌∷◌, ◌++◌, Option, Some, None}
 
--- a packet: its number, counted from 1, its place, its seconds and its octets
+-- a packet: its number, counted from 1, its offset, its seconds and its octets
 pub record Packet : Type 0 where
   pub number : ℕ
-  pub place : ℕ
+  pub offset : ℕ
   pub seconds : ℕ
   pub octets : List ℕ
 

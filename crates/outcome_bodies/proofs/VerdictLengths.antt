@@ -16,7 +16,7 @@ use Rattle.acl_model.specs.declared.ruling.Why.TheVariants.{NoFile, NoMatch}
 use Rattle.packet_judge.specs.Verdicts.{forwarded}
 use Rattle.packet_judge.specs.declared.verdict.Verdict.{Verdict}
 use Rattle.packet_judge.specs.declared.verdict.Verdict.TheVariants.{Unmanaged, Link, Unreadable, Governed}
-use Rattle.reply_lines.specs.Verdicts.{part_name, unreadable_text, default_name, why_name, ruling_text, end_text, passing_text, reason_text, verdict_text}
+use Rattle.reply_lines.specs.Verdicts.{part_name, unreadable_text, default_name, why_name, ruling_text, endpoint_text, passing_text, reason_text, verdict_text}
 use Rattle.outcome_bodies.specs.Verdicts.{verdict_body, RulingFits, VerdictFits}
 
 two : (a b : List ℕ) (m n : ℕ) → length a ≤ m → length b ≤ n → length (a ++ b) ≤ m + n
@@ -51,8 +51,8 @@ short_ruling (Drop n) fits = let word : length (codes "drop:") ≤ 5 = lit≤ tt
 short_ruling (DropDefault why) fits = short_why why
 short_ruling DropHeld fits = lit≤ tt
 
-short_end : (name : List ℕ) (ruling : Option Ruling) → length name ≤ 10 → RulingFits ruling → length (end_text name ruling) ≤ 50
-unfolding end_text
+short_end : (name : List ℕ) (ruling : Option Ruling) → length name ≤ 10 → RulingFits ruling → length (endpoint_text name ruling) ≤ 50
+unfolding endpoint_text
 short_end name None short fits = lit≤ tt
 short_end name (Some ruling) short fits = two name (ruling_text ruling) 10 40 short (short_ruling ruling fits)
 
@@ -65,7 +65,7 @@ unfolding reason_text
 short_reason Unmanaged fits = lit≤ tt
 short_reason Link fits = lit≤ tt
 short_reason (Unreadable p) fits = short_unreadable p
-short_reason (Governed source destination) fits = two (end_text (codes " from=") source) (end_text (codes " to=") destination) 50 50 (short_end (codes " from=") source (lit≤ tt) fits.0) (short_end (codes " to=") destination (lit≤ tt) fits.1)
+short_reason (Governed source destination) fits = two (endpoint_text (codes " from=") source) (endpoint_text (codes " to=") destination) 50 50 (short_end (codes " from=") source (lit≤ tt) fits.0) (short_end (codes " to=") destination (lit≤ tt) fits.1)
 
 short_passing_by : (passes : Bool) → length (if passes then codes "pass" else codes "drop") ≤ 4
 short_passing_by true = lit≤ tt

@@ -12,7 +12,7 @@ use Rattle.desk_model.specs.declared.reply.Outcome.{Outcome}
 unfoldable pub rule_body : List ℕ → List ℕ
 rule_body rule = codes "{\"rule\":" ++ quoted rule ++ codes "}"
 
--- the seconds of an end; null for what never ends, and where there is none
+-- the seconds of an expiry; null for what never expires, and where there is none
 unfoldable pub until_text : Option ℕ → List ℕ
 until_text None = codes "null"
 until_text (Some end) = if end == 2 ^ 64 - 1 then codes "null" else decimal end
@@ -26,7 +26,7 @@ until_body word until = codes "{\"result\":" ++ quoted (text_of word) ++ codes "
 unfoldable pub url_body : done_word.Word → Option (List ℕ) → List ℕ
 url_body word url = codes "{\"result\":" ++ quoted (text_of word) ++ codes ",\"url\":" ++ url_text url ++ codes "}"
 
--- what a statement did; of a lease and of a name with the end that is kept
+-- what a statement did; of a lease and of a name with the expiry that is kept
 unfoldable pub stated_body : Statement → Outcome → List ℕ
 stated_body statement.Lease o = until_body o.word o.until
 stated_body statement.Observe o = until_body o.word o.until

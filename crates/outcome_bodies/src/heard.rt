@@ -4,7 +4,7 @@ ghost use Rattle.json.specs.Print.{quoted};
 ghost use Rattle.http_answers.specs.Kept.{kept};
 ghost use Rattle.outcome_bodies.specs.Heards as spec;
 
-use crate::outcomes::end_fits;
+use crate::outcomes::expiry_fits;
 use crate::puts::{put_until, put_word};
 use desk_model::Outcome;
 use dhcp_lldp::Heard;
@@ -141,7 +141,7 @@ pub fn write_heard(buffer: &mut AnswerBuffer, heard: &Heard, texts: &HeardTexts,
     ensures { buffer.new ≡ spec.heard_body heard.now outcome.now }
 {
     heard_fits(heard);
-    end_fits(outcome.until);
+    expiry_fits(outcome.until);
     buffer.clear();
     put_heard(buffer, heard, texts, outcome);
 }

@@ -43,7 +43,7 @@ fn put_result(buffer: &mut AnswerBuffer, word: Word)
     buffer.put(b"}");
 }
 
-/// Adds what a command did, with the end that is kept, as far as it fits.
+/// Adds what a command did, with the expiry that is kept, as far as it fits.
 #[tactic(auto, unfolding(crate::specs::Outcomes::until_body), using(http_answers::proofs::KeptLemmas::kept_behind))]
 fn put_result_until(buffer: &mut AnswerBuffer, word: Word, until: Option<End>)
     ensures { buffer.new ≡ kept (buffer.old ++ spec.until_body word until) }
@@ -95,13 +95,13 @@ fn put_stated(buffer: &mut AnswerBuffer, statement: Statement, outcome: &Outcome
 pub fn write_stated(buffer: &mut AnswerBuffer, statement: Statement, outcome: &Outcome)
     ensures { buffer.new ≡ spec.stated_body statement outcome.now }
 {
-    end_fits(outcome.until);
+    expiry_fits(outcome.until);
     buffer.clear();
     put_stated(buffer, statement, outcome);
 }
 
-/// An end fits its 64 bits.
-pub(crate) fn end_fits(until: Option<End>)
+/// An expiry fits its 64 bits.
+pub(crate) fn expiry_fits(until: Option<End>)
     ensures { spec.EndFits until }
 {
     if let Some(End(seconds)) = until {

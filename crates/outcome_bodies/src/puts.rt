@@ -19,7 +19,7 @@ pub(crate) fn put_word(buffer: &mut AnswerBuffer, word: Word)
     put_quoted(buffer, word.text().as_bytes());
 }
 
-/// Adds an end: its seconds, or null for what never ends and where there is none.
+/// Adds an expiry: its seconds, or null for what never expires and where there is none.
 #[tactic(auto, unfolding(crate::specs::Outcomes::until_text))]
 pub(crate) fn put_until(buffer: &mut AnswerBuffer, until: Option<End>)
     ensures { buffer.new ≡ kept (buffer.old ++ spec.until_text until) }

@@ -35,11 +35,11 @@ pub(crate) fn put_ruling(buffer: &mut AnswerBuffer, ruling: Ruling)
     }
 }
 
-/// Adds the ruling of an end behind its name inside a JSON string, where the end is a Thing, as far
+/// Adds the ruling of an endpoint behind its name inside a JSON string, where it is a Thing, as far
 /// as it fits.
-#[tactic(auto, unfolding(reply_lines::specs::Verdicts::end_text), using(http_answers::proofs::KeptLemmas::kept_escaped, http_answers::proofs::KeptLemmas::kept_none))]
+#[tactic(auto, unfolding(reply_lines::specs::Verdicts::endpoint_text), using(http_answers::proofs::KeptLemmas::kept_escaped, http_answers::proofs::KeptLemmas::kept_none))]
 fn put_end(buffer: &mut AnswerBuffer, name: &[u8], ruling: Option<Ruling>)
-    ensures { buffer.new ≡ kept (buffer.old ++ escape (line.end_text name.now ruling)) }
+    ensures { buffer.new ≡ kept (buffer.old ++ escape (line.endpoint_text name.now ruling)) }
 {
     match ruling {
         None => {
@@ -52,10 +52,10 @@ fn put_end(buffer: &mut AnswerBuffer, name: &[u8], ruling: Option<Ruling>)
     }
 }
 
-/// Adds the rulings of both ends inside a JSON string, as far as they fit.
+/// Adds the rulings of both endpoints inside a JSON string, as far as they fit.
 #[tactic(auto, using(http_answers::proofs::KeptLemmas::kept_escaped))]
 fn put_ends(buffer: &mut AnswerBuffer, source: Option<Ruling>, destination: Option<Ruling>)
-    ensures { buffer.new ≡ kept (buffer.old ++ escape (line.end_text (codes " from=") source ++ line.end_text (codes " to=") destination)) }
+    ensures { buffer.new ≡ kept (buffer.old ++ escape (line.endpoint_text (codes " from=") source ++ line.endpoint_text (codes " to=") destination)) }
 {
     put_end(buffer, b" from=", source);
     put_end(buffer, b" to=", destination);

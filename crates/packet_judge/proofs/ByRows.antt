@@ -7,7 +7,7 @@ use Rattle.std.proofs.lemmas.Option.{same_Some, none-some}
 use Rattle.std.proofs.lemmas.Slice.Eq.{bytes_eq-Decides}
 use Rattle.std.specs.Cmp.{first_so, second_so}
 use Rattle.std.proofs.Math.Bool.{and-false}
-use Rattle.sorted_rows.specs.Placed.{PlacesAscend}
+use Rattle.sorted_rows.specs.Sortable.{SortKeysAscend}
 use Rattle.mud_base.specs.declared.packet.Direction.{Direction}
 use Rattle.mud_base.specs.declared.packet.Direction.TheVariants.{From, To}
 use Rattle.acl_model.specs.declared.entry.Entry.{Entry}
@@ -27,16 +27,16 @@ use Rattle.acl_model.specs.Policies.{UrlPolicy}
 use Rattle.acl_rows.specs.declared.row.Owner.{Owner}
 use Rattle.acl_rows.specs.declared.row.Owner.TheVariants.{Url, Default}
 use Rattle.acl_rows.specs.declared.row.Row.{Row}
-use Rattle.acl_model.specs.Places.{binding_place}
-use Rattle.acl_rows.specs.Rows.{for_ever, row, entry_at, end_at, held_by, slot_policy, default_held, Slots, Holder, rows_of}
+use Rattle.acl_model.specs.SortKeys.{binding_sort_key}
+use Rattle.acl_rows.specs.Rows.{for_ever, row, entry_at, expiry_at, held_by, slot_policy, default_held, Slots, Holder, rows_of}
 use Rattle.acl_rows.specs.View.{Part, part, View, rows_at, rows_of_side, wide_from, in_slot, holder_from, IsPartOf, IsFilePart}
-use Rattle.acl_rows.proofs.Sound.{end_at-entry}
-use Rattle.acl_rows.proofs.AtPlaces.{row_at-rows_of, ascend-rows_of}
+use Rattle.acl_rows.proofs.Sound.{expiry_at-entry}
+use Rattle.acl_rows.proofs.AtSortKeys.{row_at-rows_of, ascend-rows_of}
 use Rattle.mud_tables.specs.Bindings.{selector_met, members_met, matches_by_bindings, ruling_by_bindings}
 use Rattle.packet_judge.specs.ByRows.{Asked, passes, passes_at, row_passes, peer_rows, first_row, first_wide, first_in, ruling_at, default_at, ruling_in, ruling_by_rows, policy_held, IsViewOver}
 use Rattle.packet_judge.proofs.Least.{IsLeastFrom, least_alike, least-lesser, least_first, least_later}
 use Rattle.packet_judge.proofs.Rulings.{at_number, IsRest, all_rest, rest_next, rest_none, first_ruling-least, wide-least}
-use Rattle.packet_judge.proofs.LiveBindings.{live_end, entry_alike}
+use Rattle.packet_judge.proofs.LiveBindings.{live_expiry, entry_alike}
 use Rattle.packet_judge.proofs.FirstRow.{live_row, hit, row_test, least-peer_rows}
 
 -- what passes is of the entry's family
@@ -67,22 +67,22 @@ unfolding entries_of
 entries_default From = refl
 entries_default To = refl
 
-module _ (slots : Slots) (bindings : List Binding) (ascend : PlacesAscend binding_place bindings) (asked : Asked) (small : asked.moment < for_ever) (side : Direction) (among : ℕ) where
+module _ (slots : Slots) (bindings : List Binding) (ascend : SortKeysAscend binding_sort_key bindings) (asked : Asked) (small : asked.moment < for_ever) (side : Direction) (among : ℕ) where
   unfoldable pub own_part : Owner → UrlPolicy → Part
   own_part owner held = part_of (rows_of slots bindings) side owner held.policy among
 
-  live_made : (owner : Owner) (n : ℕ) (o : Option ℕ) → live_row owner side (peer_of side asked.fields) asked.moment (λ m. true) (option_map (row owner side (peer_of side asked.fields) n) o) ≡ live_end asked.moment o
-  unfolding live_row live_end row
+  live_made : (owner : Owner) (n : ℕ) (o : Option ℕ) → live_row owner side (peer_of side asked.fields) asked.moment (λ m. true) (option_map (row owner side (peer_of side asked.fields) n) o) ≡ live_expiry asked.moment o
+  unfolding live_row live_expiry row
   live_made owner n None = refl
   live_made owner n (Some u) = refl
 
   number_by : (owner : Owner) (held : UrlPolicy) → held_by slots owner ≡ Some held → (n : ℕ) (o : Option Entry) → entry_at n (entries_of side held.policy) ≡ o
-      → ((live_end asked.moment (end_at slots bindings owner side (peer_of side asked.fields) n) && option_map_or (passes asked side) o false) || option_map_or (λ e. not (is_membered e) && passes asked side e) o false)
+      → ((live_expiry asked.moment (expiry_at slots bindings owner side (peer_of side asked.fields) n) && option_map_or (passes asked side) o false) || option_map_or (λ e. not (is_membered e) && passes asked side e) o false)
       ≡ option_map_or (matched bindings asked held.url side) o false
   unfolding matched matches_by_bindings passes
   number_by owner held h n None is = ap (λ b. b || false) (and-false _)
   number_by owner held h n (Some e) is =
-      ap (λ (u : Option ℕ). (live_end asked.moment u && passes asked side e) || (not (is_membered e) && passes asked side e)) (end_at-entry slots bindings owner side (peer_of side asked.fields) n held e h is)
+      ap (λ (u : Option ℕ). (live_expiry asked.moment u && passes asked side e) || (not (is_membered e) && passes asked side e)) (expiry_at-entry slots bindings owner side (peer_of side asked.fields) n held e h is)
       ∙ entry_alike bindings ascend held.url e (peer_of side asked.fields) asked.moment small (passes asked side e) (passes_family asked side e)
 
   number_alike : (owner : Owner) (held : UrlPolicy) → held_by slots owner ≡ Some held → (n : ℕ)
@@ -93,7 +93,7 @@ module _ (slots : Slots) (bindings : List Binding) (ascend : PlacesAscend bindin
       ap (λ (r : Option Row). (live_row owner side (peer_of side asked.fields) asked.moment (λ m. true) r && option_map_or (passes asked side) (entry_at n (entries_of side held.policy)) false) || option_map_or (λ e. not (is_membered e) && passes asked side e) (entry_at n (entries_of side held.policy)) false)
       (row_at-rows_of slots bindings owner side (peer_of side asked.fields) n)
       ∙ ap (λ (b : Bool). (b && option_map_or (passes asked side) (entry_at n (entries_of side held.policy)) false) || option_map_or (λ e. not (is_membered e) && passes asked side e) (entry_at n (entries_of side held.policy)) false)
-      (live_made owner n (end_at slots bindings owner side (peer_of side asked.fields) n))
+      (live_made owner n (expiry_at slots bindings owner side (peer_of side asked.fields) n))
       ∙ number_by owner held h n (entry_at n (entries_of side held.policy)) refl
 
   none_at_zero : (owner : Owner) (held : UrlPolicy) → hit owner side (peer_of side asked.fields) asked.moment (passes_at asked (own_part owner held)) (rows_of slots bindings) 0 ≡ false
@@ -181,7 +181,7 @@ holder_sound all url n (Some held ∷ slots) h tail is =
 
 -- ---- The whole ruling
 
-module _ (slots : Slots) (bindings : List Binding) (ascend : PlacesAscend binding_place bindings) (asked : Asked) (small : asked.moment < for_ever) (side : Direction) (url : List ℕ) where
+module _ (slots : Slots) (bindings : List Binding) (ascend : SortKeysAscend binding_sort_key bindings) (asked : Asked) (small : asked.moment < for_ever) (side : Direction) (url : List ℕ) where
   abbrev rows : List Row
   rows = rows_of slots bindings
 

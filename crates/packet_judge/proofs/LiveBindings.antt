@@ -1,4 +1,4 @@
--- An entry has a live end at an address exactly where each of its keys has a live binding there.
+-- An entry has a live expiry at an address exactly where each of its keys has a live binding there.
 use Rattle.std.proofs.Common.{◌≡◌, ℕ, ◌≤◌, ◌<◌, ◌⊎◌, inl, inr, Bool, true, false, cond, ◌&&◌, ◌||◌, min, List, [], ◌∷◌, Option, Some, None, refl, sym, ap, ◌∙◌, arith}
 use Rattle.std.specs.Prelude.{find, not, nat_lt}
 use Rattle.std.specs.Option.{is_some, option_map, option_map_or, option_and_then}
@@ -7,8 +7,8 @@ use Rattle.std.specs.declared.cmp.Ordering.TheVariants.{Less, Equal}
 use Rattle.std.proofs.lemmas.Bool.{false≢true, lt-ltb, ltb-true, false_from_ne_true}
 use Rattle.std.specs.Cmp.{first_so, second_so}
 use Rattle.std.proofs.Math.Bool.{or-false, and-true, and_assoc, and_comm}
-use Rattle.sorted_rows.specs.Placed.{place_cmp, PlacesAbove, PlacesAscend}
-use Rattle.sorted_rows.proofs.PlacedLaws.{place_cmp_itself}
+use Rattle.sorted_rows.specs.Sortable.{sort_key_cmp, SortKeysAbove, SortKeysAscend}
+use Rattle.sorted_rows.proofs.SortableLaws.{sort_key_cmp_itself}
 use Rattle.sorted_rows.proofs.AscendLaws.{both_ways}
 use Rattle.sorted_rows.proofs.ListTests.{or_first, or_second}
 use Rattle.mud_base.specs.Addresses.{same_addr}
@@ -20,25 +20,25 @@ use Rattle.acl_model.specs.declared.binding.Binding.{Binding}
 use Rattle.acl_model.specs.Keys.{key_of, is_member, is_membered, same_key}
 use Rattle.acl_model.specs.Match.{is_in_family}
 use Rattle.acl_model.proofs.KeyLaws.{same_key-Decides, is_some-key_of}
-use Rattle.acl_model.specs.Places.{bound_place, binding_place}
+use Rattle.acl_model.specs.SortKeys.{bound_sort_key, binding_sort_key}
 use Rattle.acl_model.specs.Changes.{until_of, is_bound_to, bound_until}
-use Rattle.acl_rows.specs.Rows.{for_ever, member_keys, least_end, entry_end}
+use Rattle.acl_rows.specs.Rows.{for_ever, member_keys, least_expiry, entry_expiry}
 use Rattle.acl_model.proofs.BindingLaws.{same_addr-Decides}
-use Rattle.mud_tables.specs.Ends.{is_live}
+use Rattle.mud_tables.specs.Expiries.{is_live}
 use Rattle.mud_tables.specs.Bindings.{is_met_by, has_live_binding, key_met, selector_met, members_met}
 use Rattle.packet_judge.proofs.Least.{le_or_gt}
 
--- ---- Live ends
+-- ---- Live expiries
 
-unfoldable pub live_end : ℕ → Option ℕ → Bool
-live_end now o = option_map_or (λ u. is_live u now) o false
+unfoldable pub live_expiry : ℕ → Option ℕ → Bool
+live_expiry now o = option_map_or (λ u. is_live u now) o false
 
-pub bound_at : (key : MemberKey) (a : Addr) (b : Binding) → is_bound_to key a b ≡ true → binding_place b ≡ bound_place key a
-unfolding is_bound_to binding_place
+pub bound_at : (key : MemberKey) (a : Addr) (b : Binding) → is_bound_to key a b ≡ true → binding_sort_key b ≡ bound_sort_key key a
+unfolding is_bound_to binding_sort_key
 bound_at key a b e =
     let of_key : b.key ≡ key = sym ((same_key-Decides key b.key).0 (first_so (same_key key b.key) (same_addr a b.addr) e)) in
     let at : b.addr ≡ a = sym ((same_addr-Decides a b.addr).0 (second_so (same_key key b.key) (same_addr a b.addr) e)) in
-    λ i. bound_place (of_key i) (at i)
+    λ i. bound_sort_key (of_key i) (at i)
 
 key_turned : (key own : MemberKey) → same_key own key ≡ same_key key own
 key_turned key own = both_ways (same_key own key) (same_key key own) (λ e. (same_key-Decides key own).1 (sym ((same_key-Decides own key).0 e))) (λ e. (same_key-Decides own key).1 (sym ((same_key-Decides key own).0 e)))
@@ -55,29 +55,29 @@ met_bound key a now b =
 less≢equal : Less ≡ Equal → ⊥
 less≢equal e = cc
 
--- above the place of a key and address there is no binding of them
-none_above : (key : MemberKey) (a : Addr) (now : ℕ) (p : List ℕ) (bs : List Binding) → p ≡ bound_place key a → PlacesAbove binding_place p bs → list_any (is_met_by key a now) bs ≡ false
+-- above the sort key of a key and address there is no binding of them
+none_above : (key : MemberKey) (a : Addr) (now : ℕ) (p : List ℕ) (bs : List Binding) → p ≡ bound_sort_key key a → SortKeysAbove binding_sort_key p bs → list_any (is_met_by key a now) bs ≡ false
 none_above key a now p [] is above = refl
 none_above key a now p (b ∷ bs) is above =
     let no : is_met_by key a now b ≡ false = false_from_ne_true (is_met_by key a now b) (λ met.
     let bound : is_bound_to key a b ≡ true = first_so (is_bound_to key a b) (is_live b.until now) (sym (met_bound key a now b) ∙ met) in
-    less≢equal (sym above.0 ∙ ap (place_cmp p) (bound_at key a b bound ∙ sym is) ∙ place_cmp_itself p)) in
+    less≢equal (sym above.0 ∙ ap (sort_key_cmp p) (bound_at key a b bound ∙ sym is) ∙ sort_key_cmp_itself p)) in
     ap (λ c. c || list_any (is_met_by key a now) bs) no ∙ none_above key a now p bs is above.1
 
-live_by : (key : MemberKey) (a : Addr) (now : ℕ) (b : Binding) (bs : List Binding) → PlacesAbove binding_place (binding_place b) bs → list_any (is_met_by key a now) bs ≡ live_end now (option_map until_of (find (is_bound_to key a) bs))
-    → (c : Bool) → is_bound_to key a b ≡ c → (is_met_by key a now b || list_any (is_met_by key a now) bs) ≡ live_end now (option_map until_of (cond c (Some b) (find (is_bound_to key a) bs)))
-unfolding live_end until_of
+live_by : (key : MemberKey) (a : Addr) (now : ℕ) (b : Binding) (bs : List Binding) → SortKeysAbove binding_sort_key (binding_sort_key b) bs → list_any (is_met_by key a now) bs ≡ live_expiry now (option_map until_of (find (is_bound_to key a) bs))
+    → (c : Bool) → is_bound_to key a b ≡ c → (is_met_by key a now b || list_any (is_met_by key a now) bs) ≡ live_expiry now (option_map until_of (cond c (Some b) (find (is_bound_to key a) bs)))
+unfolding live_expiry until_of
 live_by key a now b bs above rest true e =
-    ap (λ t. is_met_by key a now b || t) (none_above key a now (binding_place b) bs (bound_at key a b e) above)
+    ap (λ t. is_met_by key a now b || t) (none_above key a now (binding_sort_key b) bs (bound_at key a b e) above)
     ∙ or-false (is_met_by key a now b)
     ∙ met_bound key a now b
     ∙ ap (λ t. t && is_live b.until now) e
 live_by key a now b bs above rest false e =
     ap (λ t. t || list_any (is_met_by key a now) bs) (met_bound key a now b ∙ ap (λ t. t && is_live b.until now) e) ∙ rest
 
--- where each key and address has one binding, its end tells
-pub has_live-end : (bindings : List Binding) (key : MemberKey) (a : Addr) (now : ℕ) → PlacesAscend binding_place bindings → has_live_binding bindings key a now ≡ live_end now (bound_until bindings key a)
-unfolding has_live_binding bound_until live_end
+-- where each key and address has one binding, its expiry tells
+pub has_live-end : (bindings : List Binding) (key : MemberKey) (a : Addr) (now : ℕ) → SortKeysAscend binding_sort_key bindings → has_live_binding bindings key a now ≡ live_expiry now (bound_until bindings key a)
+unfolding has_live_binding bound_until live_expiry
 has_live-end [] key a now ascend = refl
 has_live-end (b ∷ bs) key a now ascend = live_by key a now b bs ascend.0 (has_live-end bs key a now ascend.1) (is_bound_to key a b) refl
 
@@ -103,9 +103,9 @@ and_false false = refl
 abbrev has_live : List Binding → Addr → ℕ → MemberKey → Bool
 has_live bindings a now key = has_live_binding bindings key a now
 
-least_by : (bindings : List Binding) (a : Addr) (now m : ℕ) (key : MemberKey) (keys : List MemberKey) → ((k : ℕ) → live_end now (least_end bindings a k keys) ≡ (is_live k now && list_all (has_live bindings a now) keys))
-    → (o : Option ℕ) → has_live bindings a now key ≡ live_end now o → live_end now (option_and_then (λ (end : ℕ). least_end bindings a (min m end) keys) o) ≡ (is_live m now && (has_live bindings a now key && list_all (has_live bindings a now) keys))
-unfolding live_end
+least_by : (bindings : List Binding) (a : Addr) (now m : ℕ) (key : MemberKey) (keys : List MemberKey) → ((k : ℕ) → live_expiry now (least_expiry bindings a k keys) ≡ (is_live k now && list_all (has_live bindings a now) keys))
+    → (o : Option ℕ) → has_live bindings a now key ≡ live_expiry now o → live_expiry now (option_and_then (λ (end : ℕ). least_expiry bindings a (min m end) keys) o) ≡ (is_live m now && (has_live bindings a now key && list_all (has_live bindings a now) keys))
+unfolding live_expiry
 least_by bindings a now m key keys rest None e = and_false (is_live m now) ∙ ap (λ (b : Bool). is_live m now && (b && list_all (has_live bindings a now) keys)) (sym e)
 least_by bindings a now m key keys rest (Some u) e =
     rest (min m u)
@@ -113,16 +113,16 @@ least_by bindings a now m key keys rest (Some u) e =
     ∙ and_assoc (is_live m now) (is_live u now) (list_all (has_live bindings a now) keys)
     ∙ ap (λ (b : Bool). is_live m now && (b && list_all (has_live bindings a now) keys)) (sym e)
 
--- the least end is live where each is
-pub live-least_end : (bindings : List Binding) → PlacesAscend binding_place bindings → (a : Addr) (now m : ℕ) (keys : List MemberKey) → live_end now (least_end bindings a m keys) ≡ (is_live m now && list_all (has_live bindings a now) keys)
-unfolding least_end live_end
-live-least_end bindings ascend a now m [] = by (is_live m now)
+-- the least expiry is live where each is
+pub live-least_expiry : (bindings : List Binding) → SortKeysAscend binding_sort_key bindings → (a : Addr) (now m : ℕ) (keys : List MemberKey) → live_expiry now (least_expiry bindings a m keys) ≡ (is_live m now && list_all (has_live bindings a now) keys)
+unfolding least_expiry live_expiry
+live-least_expiry bindings ascend a now m [] = by (is_live m now)
   where
     by : (b : Bool) → b ≡ (b && true)
     by true = refl
     by false = refl
-live-least_end bindings ascend a now m (key ∷ keys) =
-    least_by bindings a now m key keys (λ k. live-least_end bindings ascend a now k keys) (bound_until bindings key a) (has_live-end bindings key a now ascend)
+live-least_expiry bindings ascend a now m (key ∷ keys) =
+    least_by bindings a now m key keys (λ k. live-least_expiry bindings ascend a now k keys) (bound_until bindings key a) (has_live-end bindings key a now ascend)
 
 -- ---- Keys and selectors
 
@@ -160,20 +160,20 @@ both_false false true false = refl
 both_false false false true = refl
 both_false false false false = refl
 
-entry_by : (bindings : List Binding) → PlacesAscend binding_place bindings → (url : List ℕ) (entry : Entry) (a : Addr) (now : ℕ) → now < for_ever → (p : Bool) → (p ≡ true → is_in_family entry.family a ≡ true) → (q membered : Bool) → p ≡ q → is_membered entry ≡ membered
-    → ((live_end now (cond (membered && is_in_family entry.family a) (least_end bindings a for_ever (member_keys url entry)) None) && q) || (not membered && q)) ≡ (members_met bindings url entry a now && q)
-unfolding members_met member_keys is_membered live_end is_live
+entry_by : (bindings : List Binding) → SortKeysAscend binding_sort_key bindings → (url : List ℕ) (entry : Entry) (a : Addr) (now : ℕ) → now < for_ever → (p : Bool) → (p ≡ true → is_in_family entry.family a ≡ true) → (q membered : Bool) → p ≡ q → is_membered entry ≡ membered
+    → ((live_expiry now (cond (membered && is_in_family entry.family a) (least_expiry bindings a for_ever (member_keys url entry)) None) && q) || (not membered && q)) ≡ (members_met bindings url entry a now && q)
+unfolding members_met member_keys is_membered live_expiry is_live
 entry_by bindings ascend url entry a now small p family false membered e is = both_false _ (not membered) _
 entry_by bindings ascend url entry a now small p family true true e is =
     or-false _ ∙ ap (λ (b : Bool). b && true)
-    (ap (λ (b : Bool). live_end now (cond b (least_end bindings a for_ever (member_keys url entry)) None)) (family e)
-    ∙ live-least_end bindings ascend a now for_ever (member_keys url entry)
+    (ap (λ (b : Bool). live_expiry now (cond b (least_expiry bindings a for_ever (member_keys url entry)) None)) (family e)
+    ∙ live-least_expiry bindings ascend a now for_ever (member_keys url entry)
     ∙ ap (λ (b : Bool). b && list_all (has_live bindings a now) (member_keys url entry)) (lt-ltb now for_ever small)
     ∙ keys_met bindings url a now entry.selectors)
 entry_by bindings ascend url entry a now small p family true false e is = sym (and-true _ ∙ wide_met bindings url a now entry.selectors is)
 
--- a live end, or no member selector, is what the bindings say, where the other tests ask for the family
-pub entry_alike : (bindings : List Binding) → PlacesAscend binding_place bindings → (url : List ℕ) (entry : Entry) (a : Addr) (now : ℕ) → now < for_ever → (p : Bool) → (p ≡ true → is_in_family entry.family a ≡ true)
-    → ((live_end now (entry_end bindings url entry a) && p) || (not (is_membered entry) && p)) ≡ (members_met bindings url entry a now && p)
-unfolding entry_end
+-- a live expiry, or no member selector, is what the bindings say, where the other tests ask for the family
+pub entry_alike : (bindings : List Binding) → SortKeysAscend binding_sort_key bindings → (url : List ℕ) (entry : Entry) (a : Addr) (now : ℕ) → now < for_ever → (p : Bool) → (p ≡ true → is_in_family entry.family a ≡ true)
+    → ((live_expiry now (entry_expiry bindings url entry a) && p) || (not (is_membered entry) && p)) ≡ (members_met bindings url entry a now && p)
+unfolding entry_expiry
 entry_alike bindings ascend url entry a now small p family = entry_by bindings ascend url entry a now small p family p (is_membered entry) refl refl

@@ -13,7 +13,7 @@ use Rattle.acl_model.specs.declared.binding.Binding.{Binding}
 use Rattle.acl_model.specs.Keys.{key_of}
 use Rattle.acl_model.specs.Match.{peer_of, near_matches, rest_matches}
 use Rattle.acl_model.specs.FirstMatch.{ruling_by}
-use Rattle.mud_tables.specs.Ends.{for_ever}
+use Rattle.mud_tables.specs.Expiries.{for_ever}
 use Rattle.mud_tables.specs.Tables.{Tables, ruling_of}
 use Rattle.mud_tables.specs.Bindings.{bindings_of, is_met_by, has_live_binding, key_met, selector_met, members_met, matches_by_bindings, ruling_by_bindings}
 use Rattle.mud_tables.proofs.Alike.{rulings_alike}

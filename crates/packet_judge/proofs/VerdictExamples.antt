@@ -128,7 +128,7 @@ cut_off : of_bulb 1001 (take 50 call) ≡ Unreadable part.Transport
 unfolding verdicts_compute
 cut_off = refl
 
--- the server's name ends
+-- the server's name expires
 until_end : map (λ now. of_bulb now call) (1059 ∷ 1060 ∷ []) ≡ Governed (Some (Accept 1)) None ∷ Governed (Some (DropDefault NoMatch)) None ∷ []
 unfolding verdicts_compute
 until_end = refl
@@ -150,7 +150,7 @@ server : (of_bulb 1001 (back_frame (codes "02")) ≡ Governed None (Some (DropDe
 unfolding verdicts_compute
 server = (refl, refl, refl)
 
--- both ends are Things, and the knock isn't forwarded, so that nobody began what the reply is part of
+-- both endpoints are Things, and the knock isn't forwarded, so that nobody began what the reply is part of
 two_things : (verdict_in (bulb ∷ switch ∷ []) both_policies [] 1001 knock ≡ Governed (Some (Accept 2)) (Some (DropDefault NoMatch)))
     × (history_after [] (frame_of knock) (Governed (Some (Accept 2)) (Some (DropDefault NoMatch))) 1001 ≡ [])
     × (verdict_in (bulb ∷ switch ∷ []) both_policies [] 1002 reply ≡ Governed (Some (DropDefault NoMatch)) (Some (DropDefault NoMatch)))

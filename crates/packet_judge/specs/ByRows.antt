@@ -5,7 +5,7 @@ use Rattle.std.specs.Option.{option_map_or}
 use Rattle.mud_base.specs.declared.prefix.Prefix.{Prefix}
 use Rattle.mud_base.specs.declared.packet.Direction.{Direction}
 use Rattle.mud_base.specs.declared.packet.Fields.{Fields}
-use Rattle.sorted_rows.specs.Placed.{PlacesAscend}
+use Rattle.sorted_rows.specs.Sortable.{SortKeysAscend}
 use Rattle.acl_model.specs.declared.entry.Entry.{Entry}
 use Rattle.acl_model.specs.declared.entry.Policy.{Policy}
 use Rattle.acl_model.specs.declared.binding.Binding.{Binding}
@@ -16,11 +16,11 @@ use Rattle.acl_model.specs.declared.ruling.Why.{Why}
 use Rattle.acl_model.specs.declared.ruling.Why.TheVariants.{NoFile, NoMatch}
 use Rattle.acl_model.specs.Match.{peer_of, near_matches, rest_matches}
 use Rattle.acl_model.specs.FirstMatch.{ruled_by}
-use Rattle.acl_model.specs.Places.{binding_place}
+use Rattle.acl_model.specs.SortKeys.{binding_sort_key}
 use Rattle.acl_rows.specs.declared.row.Row.{Row}
 use Rattle.acl_rows.specs.Rows.{Slots, Holder, entry_at, rows_of}
 use Rattle.acl_rows.specs.View.{Part, View, rows_at, holder_from, IsViewOf}
-use Rattle.mud_tables.specs.Ends.{is_live}
+use Rattle.mud_tables.specs.Expiries.{is_live}
 
 -- ---- What is asked
 
@@ -98,6 +98,6 @@ policy_held h = h.1.policy
 
 -- The view is the one of a URL and a side over the rows of these policies and bindings, and this policy is held for the URL.
 pub record IsViewOver (slots : Slots) (bindings : List Binding) (url : List ℕ) (policy : Option Policy) (side : Direction) (view : View) : Type 0 where
-  pub ascend : PlacesAscend binding_place bindings
+  pub ascend : SortKeysAscend binding_sort_key bindings
   pub held : option_map policy_held (holder_from url 0 slots) ≡ policy
   pub lends : IsViewOf slots (rows_of slots bindings) url side view

@@ -1,4 +1,4 @@
--- The verdict on a frame, by the rulings on the packets of the Things at its ends.
+-- The verdict on a frame, by the rulings on the packets of the Things at its endpoints.
 use Rattle.std.specs.Prelude.{ℕ, ◌+◌, ◌&&◌, ◌||◌, Bool, true, false, List, Option, Some, None, is_some, if◌then◌else◌}
 use Rattle.std.specs.Option.{option_and_then}
 use Rattle.mud_base.specs.declared.packet.Direction.{Direction}
@@ -23,12 +23,12 @@ use Rattle.packet_judge.specs.declared.verdict.Verdict.TheVariants.{Unmanaged, L
 -- ---- The Things of a frame
 
 -- the Thing that sent it, and the one that it is for
-pub record Ends : Type 0 where
+pub record Endpoints : Type 0 where
   pub source : Option Thing
   pub destination : Option Thing
 
-unfoldable pub ends_of : List Thing → List ℕ → Ends
-ends_of things octets = record { source = source_thing (source_of octets) things; destination = destination_thing (destination_of octets) things }
+unfoldable pub endpoints_of : List Thing → List ℕ → Endpoints
+endpoints_of things octets = record { source = source_thing (source_of octets) things; destination = destination_thing (destination_of octets) things }
 
 -- ---- The verdict
 
@@ -36,28 +36,28 @@ ends_of things octets = record { source = source_thing (source_of octets) things
 abbrev pub Rulings : Type 0
 Rulings = Direction → Thing → Fields → Ruling
 
--- an end that is no Thing has no ruling, and what a held Thing sends or receives is dropped whatever its file says
-unfoldable pub end_ruling : Rulings → Direction → Fields → Option Thing → Option Ruling
-end_ruling rulings side fields None = None
-end_ruling rulings side fields (Some thing) = Some (if thing.held then DropHeld else (rulings side thing fields))
+-- an endpoint that is no Thing has no ruling, and what a held Thing sends or receives is dropped whatever its file says
+unfoldable pub endpoint_ruling : Rulings → Direction → Fields → Option Thing → Option Ruling
+endpoint_ruling rulings side fields None = None
+endpoint_ruling rulings side fields (Some thing) = Some (if thing.held then DropHeld else (rulings side thing fields))
 
-unfoldable pub governed : Rulings → Fields → Ends → Verdict
-governed rulings fields ends = Governed (end_ruling rulings From fields ends.source) (end_ruling rulings To fields ends.destination)
+unfoldable pub governed : Rulings → Fields → Endpoints → Verdict
+governed rulings fields endpoints = Governed (endpoint_ruling rulings From fields endpoints.source) (endpoint_ruling rulings To fields endpoints.destination)
 
--- a frame is managed where one of its ends is a Thing
-unfoldable pub is_managed : Ends → Bool
-is_managed ends = is_some ends.source || is_some ends.destination
+-- a frame is managed where one of its endpoints is a Thing
+unfoldable pub is_managed : Endpoints → Bool
+is_managed endpoints = is_some endpoints.source || is_some endpoints.destination
 
-unfoldable pub if_managed : Ends → Verdict → Verdict
-if_managed ends verdict = if is_managed ends then verdict else Unmanaged
+unfoldable pub if_managed : Endpoints → Verdict → Verdict
+if_managed endpoints verdict = if is_managed endpoints then verdict else Unmanaged
 
--- The first that holds: there is no Ethernet head; neither end is a Thing; the frame keeps the link up; a part of it can't
--- be read; else its packet is ruled on for each end that is a Thing.
+-- The first that holds: there is no Ethernet head; neither endpoint is a Thing; the frame keeps the link up; a part of
+-- it can't be read; else its packet is ruled on for each endpoint that is a Thing.
 unfoldable pub verdict_on : Rulings → List Thing → Frame → Verdict
 verdict_on rulings things (frame.Unreadable None part) = Unreadable part
-verdict_on rulings things (frame.Unreadable (Some octets) part) = if_managed (ends_of things octets) (Unreadable part)
-verdict_on rulings things (frame.Link octets) = if_managed (ends_of things octets) Link
-verdict_on rulings things (frame.Packet packet) = if_managed (ends_of things packet.octets) (governed rulings packet.fields (ends_of things packet.octets))
+verdict_on rulings things (frame.Unreadable (Some octets) part) = if_managed (endpoints_of things octets) (Unreadable part)
+verdict_on rulings things (frame.Link octets) = if_managed (endpoints_of things octets) Link
+verdict_on rulings things (frame.Packet packet) = if_managed (endpoints_of things packet.octets) (governed rulings packet.fields (endpoints_of things packet.octets))
 
 unfoldable pub verdict_of : Rulings → List Thing → List ℕ → Verdict
 verdict_of rulings things octets = verdict_on rulings things (frame_of octets)
@@ -106,13 +106,13 @@ history_after history frame verdict now = with_segment history (noted_segment fr
 -- ---- Steps
 
 -- the sum of the steps of the rulings that are taken: a held Thing takes none
-unfoldable pub end_steps : (Direction → Thing → Fields → ℕ) → Direction → Fields → Option Thing → ℕ
-end_steps steps side fields None = 0
-end_steps steps side fields (Some thing) = if thing.held then 0 else (steps side thing fields)
+unfoldable pub endpoint_steps : (Direction → Thing → Fields → ℕ) → Direction → Fields → Option Thing → ℕ
+endpoint_steps steps side fields None = 0
+endpoint_steps steps side fields (Some thing) = if thing.held then 0 else (steps side thing fields)
 
 unfoldable pub steps_on : (Direction → Thing → Fields → ℕ) → List Thing → Frame → ℕ
 steps_on steps things (frame.Unreadable octets part) = 0
 steps_on steps things (frame.Link octets) = 0
 steps_on steps things (frame.Packet packet) =
-    let ends = ends_of things packet.octets in
-    end_steps steps From packet.fields ends.source + end_steps steps To packet.fields ends.destination
+    let endpoints = endpoints_of things packet.octets in
+    endpoint_steps steps From packet.fields endpoints.source + endpoint_steps steps To packet.fields endpoints.destination

@@ -17,7 +17,7 @@ use sorted_rows::Steps;
 use std::sync::ledger::Ledger;
 
 /// What knows the Things and rules on their packets.
-pub trait Arbiter {
+pub trait RuleSource {
     /// The Things.
     ghost things: { Self → List ThingValue };
 
@@ -60,104 +60,104 @@ fn is_group(mac: Mac) -> bool
 }
 
 /// The Thing that sent a frame.
-#[tactic(auto, unfolding(mud_tables::specs::Tables::source_thing, crate::specs::Verdicts::ends_of))]
-fn source_thing<'a, A: Arbiter>(arbiter: &'a A, frame: &FrameView<'_>) -> Option<&'a Thing>
-    ensures { option_copied result ≡ (spec.ends_of (A.things arbiter.now) frame.now).source }
+#[tactic(auto, unfolding(mud_tables::specs::Tables::source_thing, crate::specs::Verdicts::endpoints_of))]
+fn source_thing<'a, A: RuleSource>(rules: &'a A, frame: &FrameView<'_>) -> Option<&'a Thing>
+    ensures { option_copied result ≡ (spec.endpoints_of (A.things rules.now) frame.now).source }
 {
-    arbiter.thing(frame.source())
+    rules.thing(frame.source())
 }
 
 /// The Thing that a frame is for; None where it is for a group.
-#[tactic(auto, unfolding(mud_tables::specs::Tables::destination_thing, crate::specs::Verdicts::ends_of))]
-fn destination_thing<'a, A: Arbiter>(arbiter: &'a A, frame: &FrameView<'_>) -> Option<&'a Thing>
-    ensures { option_copied result ≡ (spec.ends_of (A.things arbiter.now) frame.now).destination }
+#[tactic(auto, unfolding(mud_tables::specs::Tables::destination_thing, crate::specs::Verdicts::endpoints_of))]
+fn destination_thing<'a, A: RuleSource>(rules: &'a A, frame: &FrameView<'_>) -> Option<&'a Thing>
+    ensures { option_copied result ≡ (spec.endpoints_of (A.things rules.now) frame.now).destination }
 {
     let destination = frame.destination();
     if is_group(destination) {
         return None;
     }
-    arbiter.thing(destination)
+    rules.thing(destination)
 }
 
-/// Whether one of the frame's ends is a Thing.
+/// Whether one of the frame's endpoints is a Thing.
 #[tactic(auto, unfolding(crate::specs::Verdicts::is_managed))]
-fn is_managed<A: Arbiter>(arbiter: &A, frame: &FrameView<'_>) -> bool
-    ensures { result ≡ spec.is_managed (spec.ends_of (A.things arbiter.now) frame.now) }
+fn is_managed<A: RuleSource>(rules: &A, frame: &FrameView<'_>) -> bool
+    ensures { result ≡ spec.is_managed (spec.endpoints_of (A.things rules.now) frame.now) }
 {
-    source_thing(arbiter, frame).is_some() || destination_thing(arbiter, frame).is_some()
+    source_thing(rules, frame).is_some() || destination_thing(rules, frame).is_some()
 }
 
-/// The ruling of one end of a packet; None where it is no Thing. For a Thing that is held no ruling
-/// is taken.
-#[tactic(auto, unfolding(crate::specs::Verdicts::end_ruling, crate::specs::Verdicts::end_steps))]
-fn end_ruling<A: Arbiter, L: Ledger>(
-    arbiter: &A,
+/// The ruling of one endpoint of a packet; None where it is no Thing. For a Thing that is held no
+/// ruling is taken.
+#[tactic(auto, unfolding(crate::specs::Verdicts::endpoint_ruling, crate::specs::Verdicts::endpoint_steps))]
+fn endpoint_ruling<A: RuleSource, L: Ledger>(
+    rules: &A,
     side: Direction,
     thing: Option<&Thing>,
     packet: &PacketView<'_>,
     steps: &mut Steps<L>,
 ) -> Option<Ruling>
-    ensures value { result ≡ spec.end_ruling (A.ruling arbiter.now) side packet.now.fields (option_copied thing.entry) }
-    ensures least { steps.old + spec.end_steps (A.least arbiter.now) side packet.now.fields (option_copied thing.entry) ≤ steps.new }
-    ensures most { (b : ℕ) → A.fits arbiter.now b → steps.new ≤ steps.old + spec.end_steps (A.most arbiter.now b) side packet.now.fields (option_copied thing.entry) }
+    ensures value { result ≡ spec.endpoint_ruling (A.ruling rules.now) side packet.now.fields (option_copied thing.entry) }
+    ensures least { steps.old + spec.endpoint_steps (A.least rules.now) side packet.now.fields (option_copied thing.entry) ≤ steps.new }
+    ensures most { (b : ℕ) → A.fits rules.now b → steps.new ≤ steps.old + spec.endpoint_steps (A.most rules.now b) side packet.now.fields (option_copied thing.entry) }
 {
     let thing = thing?;
     if thing.held {
         return Some(Ruling::DropHeld);
     }
-    Some(arbiter.rule(side, thing, packet, steps))
+    Some(rules.rule(side, thing, packet, steps))
 }
 
 /// The verdict on a frame that carries a packet.
-#[tactic(auto, unfolding(crate::specs::Verdicts::verdict_on, crate::specs::Verdicts::if_managed, crate::specs::Verdicts::is_managed, crate::specs::Verdicts::governed, crate::specs::Verdicts::steps_on, crate::specs::Verdicts::end_steps))]
+#[tactic(auto, unfolding(crate::specs::Verdicts::verdict_on, crate::specs::Verdicts::if_managed, crate::specs::Verdicts::is_managed, crate::specs::Verdicts::governed, crate::specs::Verdicts::steps_on, crate::specs::Verdicts::endpoint_steps))]
 #[inline(always)]
-fn judge_packet<A: Arbiter, L: Ledger>(
+fn judge_packet<A: RuleSource, L: Ledger>(
     packet: &PacketView<'_>,
-    arbiter: &A,
+    rules: &A,
     steps: &mut Steps<L>,
 ) -> Verdict
-    ensures verdict { result ≡ spec.verdict_on (A.ruling arbiter.now) (A.things arbiter.now) (Frame.Packet packet.now) }
-    ensures least { steps.old + spec.steps_on (A.least arbiter.now) (A.things arbiter.now) (Frame.Packet packet.now) ≤ steps.new }
-    ensures most { (b : ℕ) → A.fits arbiter.now b → steps.new ≤ steps.old + spec.steps_on (A.most arbiter.now b) (A.things arbiter.now) (Frame.Packet packet.now) }
+    ensures verdict { result ≡ spec.verdict_on (A.ruling rules.now) (A.things rules.now) (Frame.Packet packet.now) }
+    ensures least { steps.old + spec.steps_on (A.least rules.now) (A.things rules.now) (Frame.Packet packet.now) ≤ steps.new }
+    ensures most { (b : ℕ) → A.fits rules.now b → steps.new ≤ steps.old + spec.steps_on (A.most rules.now b) (A.things rules.now) (Frame.Packet packet.now) }
 {
     let frame = packet.frame();
-    let source = source_thing(arbiter, &frame);
-    let destination = destination_thing(arbiter, &frame);
+    let source = source_thing(rules, &frame);
+    let destination = destination_thing(rules, &frame);
     match (source, destination) {
         (None, None) => Verdict::Unmanaged,
         (source, destination) => {
-            let source = end_ruling(arbiter, Direction::From, source, packet, steps);
-            let destination = end_ruling(arbiter, Direction::To, destination, packet, steps);
+            let source = endpoint_ruling(rules, Direction::From, source, packet, steps);
+            let destination = endpoint_ruling(rules, Direction::To, destination, packet, steps);
             Verdict::Governed(source, destination)
         }
     }
 }
 
 /// The verdict on a frame. Its steps are those of the rulings that the verdict takes: one for each
-/// end of a packet that is a Thing and isn't held. It takes no memory.
+/// endpoint of a packet that is a Thing and isn't held. It takes no memory.
 #[tactic(auto, unfolding(crate::specs::Verdicts::verdict_on, crate::specs::Verdicts::if_managed, crate::specs::Verdicts::steps_on))]
 #[inline(always)]
-pub fn judge<A: Arbiter, L: Ledger>(frame: &Frame<'_>, arbiter: &A, steps: &mut Steps<L>) -> Verdict
-    ensures verdict { result ≡ spec.verdict_on (A.ruling arbiter.now) (A.things arbiter.now) frame.now }
-    ensures least { steps.old + spec.steps_on (A.least arbiter.now) (A.things arbiter.now) frame.now ≤ steps.new }
-    ensures most { (b : ℕ) → A.fits arbiter.now b → steps.new ≤ steps.old + spec.steps_on (A.most arbiter.now b) (A.things arbiter.now) frame.now }
+pub fn judge<A: RuleSource, L: Ledger>(frame: &Frame<'_>, rules: &A, steps: &mut Steps<L>) -> Verdict
+    ensures verdict { result ≡ spec.verdict_on (A.ruling rules.now) (A.things rules.now) frame.now }
+    ensures least { steps.old + spec.steps_on (A.least rules.now) (A.things rules.now) frame.now ≤ steps.new }
+    ensures most { (b : ℕ) → A.fits rules.now b → steps.new ≤ steps.old + spec.steps_on (A.most rules.now b) (A.things rules.now) frame.now }
 {
     match frame {
         Frame::Unreadable(None, part) => Verdict::Unreadable(*part),
         Frame::Unreadable(Some(head), part) => {
-            if is_managed(arbiter, head) {
+            if is_managed(rules, head) {
                 Verdict::Unreadable(*part)
             } else {
                 Verdict::Unmanaged
             }
         }
         Frame::Link(head) => {
-            if is_managed(arbiter, head) {
+            if is_managed(rules, head) {
                 Verdict::Link
             } else {
                 Verdict::Unmanaged
             }
         }
-        Frame::Packet(packet) => judge_packet(packet, arbiter, steps),
+        Frame::Packet(packet) => judge_packet(packet, rules, steps),
     }
 }

@@ -8,6 +8,6 @@ mod ruling;
 mod verdict;
 
 pub use acl_model::{DefaultRule, Ruling, Why};
-pub use judging::{Arbiter, judge};
+pub use judging::{RuleSource, judge};
 pub use ruling::rule;
 pub use verdict::{Verdict, forwarded, noted_fields};

@@ -65,7 +65,7 @@ impl<'a> Question<'a> {
     }
 
     /// Whether the row is live, and the other tests of its entry pass.
-    #[tactic(auto, unfolding(crate::specs::ByRows::row_passes, mud_tables::specs::Ends::is_live))]
+    #[tactic(auto, unfolding(crate::specs::ByRows::row_passes, mud_tables::specs::Expiries::is_live))]
     fn row_passes(&self, part: &RulePart<'_>, row: &Row) -> bool
         ensures { result ≡ by.row_passes self.now part.now row.now }
     {

@@ -10,14 +10,14 @@ use mud_base::{Fields, Transport};
 /// What is decided on a frame.
 #[derive(Clone, Copy, Debug, PartialEq, Eq)]
 pub enum Verdict {
-    /// Neither end is a Thing.
+    /// Neither endpoint is a Thing.
     Unmanaged,
     /// It isn't IP, or it keeps the link up.
     Link,
     /// This part of it can't be read.
     Unreadable(Part),
-    /// It carries an IP packet. The ruling on the packet of the Thing that sent it comes first, then
-    /// that of the Thing that it is for; None for an end that is no Thing.
+    /// It carries an IP packet. The ruling on the packet of the Thing that sent it comes first,
+    /// then that of the Thing that it is for; None for an endpoint that is no Thing.
     Governed(Option<Ruling>, Option<Ruling>),
 }
 

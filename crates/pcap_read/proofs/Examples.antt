@@ -24,7 +24,7 @@ abbrev ten : List ℕ
 ten = replicate 10 0
 
 abbrev first : Packet
-first = record { number = 1; place = 24; seconds = 1059; octets = frame }
+first = record { number = 1; offset = 24; seconds = 1059; octets = frame }
 
 header_alone : packets_of header ≡ whole
 unfolding captures_on_literals
@@ -52,13 +52,13 @@ octets_cut = refl
 
 -- the original length isn't looked at
 long_original : packets_of (header ++ 7 ∷ 0 ∷ 0 ∷ 0 ∷ 9 ∷ 0 ∷ 0 ∷ 0 ∷ 1 ∷ 0 ∷ 0 ∷ 0 ∷ 0xDC ∷ 5 ∷ 0 ∷ 0 ∷ 0xAA ∷ [])
-    ≡ record { all = record { number = 1; place = 24; seconds = 7; octets = 0xAA ∷ [] } ∷ []; fault = None }
+    ≡ record { all = record { number = 1; offset = 24; seconds = 7; octets = 0xAA ∷ [] } ∷ []; fault = None }
 unfolding captures_on_literals
 long_original = refl
 
 -- an empty packet, and a second one
 two_packets : packets_of (header ++ 7 ∷ 0 ∷ 0 ∷ 0 ∷ replicate 12 0 ++ 8 ∷ 0 ∷ 0 ∷ 0 ∷ 0 ∷ 0 ∷ 0 ∷ 0 ∷ 2 ∷ 0 ∷ 0 ∷ 0 ∷ 2 ∷ 0 ∷ 0 ∷ 0 ∷ 0xAA ∷ 0xBB ∷ [])
-    ≡ record { all = record { number = 1; place = 24; seconds = 7; octets = [] } ∷ record { number = 2; place = 40; seconds = 8; octets = 0xAA ∷ 0xBB ∷ [] } ∷ []; fault = None }
+    ≡ record { all = record { number = 1; offset = 24; seconds = 7; octets = [] } ∷ record { number = 2; offset = 40; seconds = 8; octets = 0xAA ∷ 0xBB ∷ [] } ∷ []; fault = None }
 unfolding captures_on_literals
 two_packets = refl
 
@@ -68,11 +68,11 @@ big_header magic = magic ++ 0 ∷ 2 ∷ 0 ∷ 4 ∷ replicate 12 0 ++ 0 ∷ 0 �
 abbrev big_packet : List ℕ
 big_packet = 0 ∷ 0 ∷ 4 ∷ 0x23 ∷ 0 ∷ 0 ∷ 0 ∷ 0 ∷ 0 ∷ 0 ∷ 0 ∷ 1 ∷ 0 ∷ 0 ∷ 0 ∷ 1 ∷ 0xAA ∷ []
 
-big_endian : packets_of (big_header (0xA1 ∷ 0xB2 ∷ 0xC3 ∷ 0xD4 ∷ []) ++ big_packet) ≡ record { all = record { number = 1; place = 24; seconds = 1059; octets = 0xAA ∷ [] } ∷ []; fault = None }
+big_endian : packets_of (big_header (0xA1 ∷ 0xB2 ∷ 0xC3 ∷ 0xD4 ∷ []) ++ big_packet) ≡ record { all = record { number = 1; offset = 24; seconds = 1059; octets = 0xAA ∷ [] } ∷ []; fault = None }
 unfolding captures_on_literals
 big_endian = refl
 
-nanoseconds : packets_of (big_header (0xA1 ∷ 0xB2 ∷ 0x3C ∷ 0x4D ∷ []) ++ big_packet) ≡ record { all = record { number = 1; place = 24; seconds = 1059; octets = 0xAA ∷ [] } ∷ []; fault = None }
+nanoseconds : packets_of (big_header (0xA1 ∷ 0xB2 ∷ 0x3C ∷ 0x4D ∷ []) ++ big_packet) ≡ record { all = record { number = 1; offset = 24; seconds = 1059; octets = 0xAA ∷ [] } ∷ []; fault = None }
 unfolding captures_on_literals
 nanoseconds = refl
 

@@ -49,39 +49,39 @@ module _ (h k : List ℕ) (s t : DoorState) (f : Fetched h k s t) where
   -- The head of a packet
 
   pub head_failed : (c : Cursor) → length k < 16 → EndsIn faults.ReadFault (behind (packets_at c) h) s t
-  head_failed c short = ends faults.ReadFault (packets_at c) h k s t f (head_lacks c.order c.count c.place k short) (λ other. absurd (other refl))
+  head_failed c short = ends faults.ReadFault (packets_at c) h k s t f (head_lacks c.order c.count c.offset k short) (λ other. absurd (other refl))
 
   pub head_ends_many : (c : Cursor) → 0 < length k → 100000000 ≤ c.count → EndsIn faults.Many (behind (packets_at c) h) s t
   unfolding all_of
   head_ends_many c some many =
-      ends faults.Many (packets_at c) h k s t f (ap all_of (head_many c.order c.count c.place k some many))
-      (λ _. head_many c.order c.count c.place (k ++ t.left) (omega (arith, length-append k t.left)) many)
+      ends faults.Many (packets_at c) h k s t f (ap all_of (head_many c.order c.count c.offset k some many))
+      (λ _. head_many c.order c.count c.offset (k ++ t.left) (omega (arith, length-append k t.left)) many)
 
-  pub head_ends_cut : (c : Cursor) → 0 < length k → length k < 16 → c.count < 100000000 → t.left ≡ [] → EndsIn (faults.Cut c.place) (behind (packets_at c) h) s t
+  pub head_ends_cut : (c : Cursor) → 0 < length k → length k < 16 → c.count < 100000000 → t.left ≡ [] → EndsIn (faults.Cut c.offset) (behind (packets_at c) h) s t
   head_ends_cut c some short few none =
-      let here = head_short c.order c.count c.place k some short few in
-      ends (faults.Cut c.place) (packets_at c) h k s t f (head_lacks c.order c.count c.place k short)
+      let here = head_short c.order c.count c.offset k some short few in
+      ends (faults.Cut c.offset) (packets_at c) h k s t f (head_lacks c.order c.count c.offset k short)
       (λ _. ap (λ (rest : List ℕ). packets_at c (k ++ rest)) none ∙ ap (packets_at c) (append-nil k) ∙ here)
 
-  long_behind : (c : Cursor) (more : List ℕ) → 16 ≤ length k → c.count < 100000000 → 262144 < captured_len c.order (take 16 k) → packets_at c (k ++ more) ≡ broken (faults.Long c.place)
+  long_behind : (c : Cursor) (more : List ℕ) → 16 ≤ length k → c.count < 100000000 → 262144 < captured_len c.order (take 16 k) → packets_at c (k ++ more) ≡ broken (faults.Long c.offset)
   long_behind c more enough few long =
-      head_long c.order c.count c.place (k ++ more) (omega (arith, length-append k more)) few (rw (take-append-le 16 k more enough) long)
+      head_long c.order c.count c.offset (k ++ more) (omega (arith, length-append k more)) few (rw (take-append-le 16 k more enough) long)
 
   pub head_ends_long : (c : Cursor) (head : List ℕ) (len : ℕ) → 16 ≤ length k → c.count < 100000000 → head ≡ take 16 k → len ≡ captured_len c.order head → 262144 < len
-      → EndsIn (faults.Long c.place) (behind (packets_at c) h) s t
+      → EndsIn (faults.Long c.offset) (behind (packets_at c) h) s t
   unfolding all_of
   head_ends_long c head len enough few front is long =
       let same : len ≡ captured_len c.order (take 16 k) = is ∙ ap (captured_len c.order) front in
       let beyond : 262144 < captured_len c.order (take 16 k) = omega arith in
-      ends (faults.Long c.place) (packets_at c) h k s t f
+      ends (faults.Long c.offset) (packets_at c) h k s t f
       (ap all_of (ap (packets_at c) (sym (append-nil k)) ∙ long_behind c [] enough few beyond))
       (λ _. long_behind c t.left enough few beyond)
 
   whole_behind : (c : Cursor) (more : List ℕ) → 16 ≤ length k → c.count < 100000000 → captured_len c.order (take 16 k) ≤ 262144
-      → packets_at c (k ++ more) ≡ body_from c.order c.count c.place (seconds_of c.order (take 16 k)) (captured_len c.order (take 16 k)) (drop 16 k ++ more)
+      → packets_at c (k ++ more) ≡ body_from c.order c.count c.offset (seconds_of c.order (take 16 k)) (captured_len c.order (take 16 k)) (drop 16 k ++ more)
   whole_behind c more enough few fits =
       let front = take-append-le 16 k more enough in
-      head_whole c.order c.count c.place (k ++ more) (omega (arith, length-append k more)) few (rw front fits)
+      head_whole c.order c.count c.offset (k ++ more) (omega (arith, length-append k more)) few (rw front fits)
       ∙ rw (front, drop-append-le 16 k more enough) refl
 
   pub head_follows : (c : Cursor) (head m : List ℕ) (found : Head) → 16 ≤ length k → c.count < 100000000 → head ≡ take 16 k
@@ -93,28 +93,28 @@ module _ (h k : List ℕ) (s t : DoorState) (f : Fetched h k s t) where
       let within : captured_len c.order (take 16 k) ≤ 262144 = omega arith in
       follows (packets_at c) (behind (behind_head c (Some found)) m) h k s t f
       (λ more. whole_behind c more enough few within
-      ∙ ap₂ (λ (n len : ℕ). body_from c.order c.count c.place n len (drop 16 k ++ more)) (sym said) (sym counted)
-      ∙ ap (λ (octets : List ℕ). body_from c.order c.count c.place found.seconds found.len (octets ++ more)) (sym rest))
+      ∙ ap₂ (λ (n len : ℕ). body_from c.order c.count c.offset n len (drop 16 k ++ more)) (sym said) (sym counted)
+      ∙ ap (λ (octets : List ℕ). body_from c.order c.count c.offset found.seconds found.len (octets ++ more)) (sym rest))
 
 -- Behind a head
 
 module _ (c : Cursor) (head : Head) (g : List ℕ → Packets) (h k : List ℕ) (s t u : DoorState)
     (before : Follows g (behind (behind_head c (Some head)) h) s t) (f : Fetched h k t u) where
   abbrev body : List ℕ → Packets
-  body = body_from c.order c.count c.place head.seconds head.len
+  body = body_from c.order c.count c.offset head.seconds head.len
 
   pub body_failed : length k < head.len → EndsIn faults.ReadFault g s u
   unfolding all_of
   body_failed short =
       ends_more faults.ReadFault g (behind body h) s t u before
-      (ends faults.ReadFault body h k t u f (ap all_of (body_short c.order c.count c.place head.seconds head.len k short)) (λ other. absurd (other refl)))
+      (ends faults.ReadFault body h k t u f (ap all_of (body_short c.order c.count c.offset head.seconds head.len k short)) (λ other. absurd (other refl)))
 
-  pub body_cut : length k < head.len → u.left ≡ [] → EndsIn (faults.Cut c.place) g s u
+  pub body_cut : length k < head.len → u.left ≡ [] → EndsIn (faults.Cut c.offset) g s u
   unfolding all_of
   body_cut short none =
-      let here = body_short c.order c.count c.place head.seconds head.len k short in
-      ends_more (faults.Cut c.place) g (behind body h) s t u before
-      (ends (faults.Cut c.place) body h k t u f (ap all_of here)
+      let here = body_short c.order c.count c.offset head.seconds head.len k short in
+      ends_more (faults.Cut c.offset) g (behind body h) s t u before
+      (ends (faults.Cut c.offset) body h k t u f (ap all_of here)
       (λ _. ap (λ (rest : List ℕ). body (k ++ rest)) none ∙ ap body (append-nil k) ∙ here))
 
   pub body_follows : (given rest : List ℕ) → head.len ≤ length k → given ≡ take head.len k → rest ≡ drop head.len k
@@ -122,7 +122,7 @@ module _ (c : Cursor) (head : Head) (g : List ℕ → Packets) (h k : List ℕ) 
   body_follows given rest enough front back =
       follows_more g (behind body h) (behind (behind_packet c (Some head) given) rest) s t u before
       (follows body (behind (behind_packet c (Some head) given) rest) h k t u f
-      (λ more. body_whole c.order c.count c.place head.seconds head.len k more enough
+      (λ more. body_whole c.order c.count c.offset head.seconds head.len k more enough
       ∙ ap₂ (λ (octets later : List ℕ). behind_packet c (Some head) octets (later ++ more)) (sym front) (sym back)))
 
 -- where the octets held tell what comes next, no octet is wanted behind the head

@@ -4,9 +4,9 @@ use Rattle.mud_world.specs.Door.{DoorState}
 use Rattle.octet_buffer.specs.Packets.{Packet, with_packet, with_next}
 use Rattle.octet_buffer.specs.Reading.{Follows}
 use Rattle.pcap_read.specs.Packets.{Packets}
-use Rattle.pcap_read.specs.Taken.{Taken, to_come}
+use Rattle.pcap_read.specs.CaptureState.{CaptureState, to_come}
 
-pub first_of_all : (old new : Taken) (packet : Packet) (s t : DoorState) → Follows (to_come old) (λ more. with_next new.packet (to_come new more)) s t → new.packet ≡ Some packet
+pub first_of_all : (old new : CaptureState) (packet : Packet) (s t : DoorState) → Follows (to_come old) (λ more. with_next new.packet (to_come new more)) s t → new.packet ≡ Some packet
     → (later : Packets) × (to_come old s.left ≡ with_packet packet later)
 first_of_all old new packet s t p is = (
   to_come new t.left,

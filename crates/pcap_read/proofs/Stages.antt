@@ -12,10 +12,10 @@ use Rattle.pcap_read.proofs.Steps.{head_none}
 use Rattle.octet_buffer.specs.Reading.{Follows}
 
 at_stage : Progress → List ℕ → Stage → Packets
-at_stage progress octets stage = coming_at stage progress.count progress.place octets
+at_stage progress octets stage = coming_at stage progress.count progress.offset octets
 
 all_at : Progress → List ℕ → Stage → List Packet
-all_at progress octets stage = (coming_at stage progress.count progress.place octets).all
+all_at progress octets stage = (coming_at stage progress.count progress.offset octets).all
 
 pub follows_as : (f g h : List ℕ → Packets) (s t : DoorState) → Follows f g s t → ((more : List ℕ) → g more ≡ h more) → Follows f h s t
 follows_as f g h s t p same = record { octets = p.octets; took = p.took; same = λ more. p.same more ∙ same more }
@@ -23,7 +23,7 @@ follows_as f g h s t p same = record { octets = p.octets; took = p.took; same = 
 -- a reader between two packets, at the end of the octets
 pub stopped : (progress : Progress) (order : ByteOrder) → progress.stage ≡ Reading order → coming progress [] ≡ whole
 unfolding at_stage
-stopped progress order reading = ap (at_stage progress []) reading ∙ head_none order progress.count progress.place
+stopped progress order reading = ap (at_stage progress []) reading ∙ head_none order progress.count progress.offset
 
 pub none_from : {A : Type 0} (found : Option A) → is_some found ≡ false → found ≡ None
 none_from None e = refl

@@ -31,34 +31,34 @@ header_refused held more fault long is = header_long held more long ∙ ap (λ r
 
 -- The rest of a packet
 
-skipped-from : (order : ByteOrder) (skipped count place : ℕ) (octets : List ℕ) → packets_from order skipped count place octets ≡ packets_from order 0 count (place + skipped) (drop skipped octets)
+skipped-from : (order : ByteOrder) (skipped count offset : ℕ) (octets : List ℕ) → packets_from order skipped count offset octets ≡ packets_from order 0 count (offset + skipped) (drop skipped octets)
 unfolding packets_from
-skipped-from order zero count place octets = ap (λ n. packets_from order 0 count n octets) (omega arith)
-skipped-from order (suc skipped) count place [] = refl
-skipped-from order (suc skipped) count place (octet ∷ behind) =
-    skipped-from order skipped count (place + 1) behind ∙ ap (λ n. packets_from order 0 count n (drop skipped behind)) (omega arith)
+skipped-from order zero count offset octets = ap (λ n. packets_from order 0 count n octets) (omega arith)
+skipped-from order (suc skipped) count offset [] = refl
+skipped-from order (suc skipped) count offset (octet ∷ behind) =
+    skipped-from order skipped count (offset + 1) behind ∙ ap (λ n. packets_from order 0 count n (drop skipped behind)) (omega arith)
 
 -- The head of a packet
 
-pub head_none : (order : ByteOrder) (count place : ℕ) → packets_from order 0 count place [] ≡ whole
+pub head_none : (order : ByteOrder) (count offset : ℕ) → packets_from order 0 count offset [] ≡ whole
 unfolding packets_from
-head_none order count place = refl
+head_none order count offset = refl
 
-pub head_many : (order : ByteOrder) (count place : ℕ) (octets : List ℕ) → 0 < length octets → 100000000 ≤ count → packets_from order 0 count place octets ≡ broken faults.Many
+pub head_many : (order : ByteOrder) (count offset : ℕ) (octets : List ℕ) → 0 < length octets → 100000000 ≤ count → packets_from order 0 count offset octets ≡ broken faults.Many
 unfolding packets_from
-head_many order count place [] some many = absurd (omega arith)
-head_many order count place (octet ∷ octets) some many = rw (le-leb 100000000 count many) refl
+head_many order count offset [] some many = absurd (omega arith)
+head_many order count offset (octet ∷ octets) some many = rw (le-leb 100000000 count many) refl
 
-pub head_short : (order : ByteOrder) (count place : ℕ) (octets : List ℕ) → 0 < length octets → length octets < 16 → count < 100000000 → packets_from order 0 count place octets ≡ broken (faults.Cut place)
+pub head_short : (order : ByteOrder) (count offset : ℕ) (octets : List ℕ) → 0 < length octets → length octets < 16 → count < 100000000 → packets_from order 0 count offset octets ≡ broken (faults.Cut offset)
 unfolding packets_from
-head_short order count place [] some short few = absurd (omega arith)
-head_short order count place (octet ∷ octets) some short few =
+head_short order count offset [] some short few = absurd (omega arith)
+head_short order count offset (octet ∷ octets) some short few =
     rw (lt-leb 100000000 count few, lt-ltb (length (octet ∷ octets)) 16 short) refl
 
-pub head_long : (order : ByteOrder) (count place : ℕ) (octets : List ℕ) → 16 ≤ length octets → count < 100000000 → 262144 < captured_len order (take 16 octets) → packets_from order 0 count place octets ≡ broken (faults.Long place)
+pub head_long : (order : ByteOrder) (count offset : ℕ) (octets : List ℕ) → 16 ≤ length octets → count < 100000000 → 262144 < captured_len order (take 16 octets) → packets_from order 0 count offset octets ≡ broken (faults.Long offset)
 unfolding packets_from
-head_long order count place [] enough few long = absurd (omega arith)
-head_long order count place (octet ∷ octets) enough few long =
+head_long order count offset [] enough few long = absurd (omega arith)
+head_long order count offset (octet ∷ octets) enough few long =
     rw (lt-leb 100000000 count few, le-ltb (length (octet ∷ octets)) 16 enough, lt-ltb 262144 (captured_len order (take 16 (octet ∷ octets))) long) refl
 
 same_test : (n m len : ℕ) → n ≡ 16 + m → (ltb m len ≡ true) ⊎ (ltb m len ≡ false) → ltb n (16 + len) ≡ ltb m len
@@ -66,31 +66,31 @@ same_test n m len is (inl below) = let short = ltb-true m len below in lt-ltb n 
 same_test n m len is (inr beyond) = let long = ltb-false m len beyond in le-ltb n (16 + len) (omega arith) ∙ sym beyond
 
 abbrev choice : Bool → ℕ → Packet → Packets → Packets
-choice short place first later = cond short (broken (faults.Cut place)) (with_packet first later)
+choice short offset first later = cond short (broken (faults.Cut offset)) (with_packet first later)
 
-pub head_whole : (order : ByteOrder) (count place : ℕ) (octets : List ℕ) → 16 ≤ length octets → count < 100000000 → captured_len order (take 16 octets) ≤ 262144
-    → packets_from order 0 count place octets ≡ body_from order count place (seconds_of order (take 16 octets)) (captured_len order (take 16 octets)) (drop 16 octets)
+pub head_whole : (order : ByteOrder) (count offset : ℕ) (octets : List ℕ) → 16 ≤ length octets → count < 100000000 → captured_len order (take 16 octets) ≤ 262144
+    → packets_from order 0 count offset octets ≡ body_from order count offset (seconds_of order (take 16 octets)) (captured_len order (take 16 octets)) (drop 16 octets)
 unfolding packets_from body_from
-head_whole order count place [] enough few fits = absurd (omega arith)
-head_whole order count place (octet ∷ octets) enough few fits =
+head_whole order count offset [] enough few fits = absurd (omega arith)
+head_whole order count offset (octet ∷ octets) enough few fits =
     let all = octet ∷ octets in
     let len = captured_len order (take 16 all) in
     let body = drop 16 all in
     let size : length all ≡ 16 + length body = omega (arith, length-drop 16 all) in
     let test = same_test (length all) (length body) len size (cases_Bool (ltb (length body) len)) in
-    let at : place + 1 + (15 + len) ≡ place + 16 + len = omega arith in
+    let at : offset + 1 + (15 + len) ≡ offset + 16 + len = omega arith in
     let front : 15 + len ≡ 15 + len = refl in
-    let later : packets_from order (15 + len) (count + 1) (place + 1) octets ≡ packets_from order 0 (count + 1) (place + 16 + len) (drop len body) =
-    skipped-from order (15 + len) (count + 1) (place + 1) octets
+    let later : packets_from order (15 + len) (count + 1) (offset + 1) octets ≡ packets_from order 0 (count + 1) (offset + 16 + len) (drop len body) =
+    skipped-from order (15 + len) (count + 1) (offset + 1) octets
     ∙ ap₂ (λ (n : ℕ) (rest : List ℕ). packets_from order 0 (count + 1) n rest) at (sym (drop-drop len 15 octets)) in
     rw (lt-leb 100000000 count few, le-ltb (length all) 16 enough, le-ltb 262144 len fits)
-    (ap₂ (λ (short : Bool) (packets : Packets). choice short place (record { number = count + 1; place = place; seconds = seconds_of order (take 16 all); octets = take len body }) packets) test later)
+    (ap₂ (λ (short : Bool) (packets : Packets). choice short offset (record { number = count + 1; offset = offset; seconds = seconds_of order (take 16 all); octets = take len body }) packets) test later)
 
 -- where a head isn't whole, no packet is
-pub head_lacks : (order : ByteOrder) (count place : ℕ) (octets : List ℕ) → length octets < 16 → (packets_from order 0 count place octets).all ≡ []
+pub head_lacks : (order : ByteOrder) (count offset : ℕ) (octets : List ℕ) → length octets < 16 → (packets_from order 0 count offset octets).all ≡ []
 unfolding packets_from
-head_lacks order count place [] short = refl
-head_lacks order count place (octet ∷ octets) short =
+head_lacks order count offset [] short = refl
+head_lacks order count offset (octet ∷ octets) short =
     elim (cases_Bool (leb 100000000 count)) [
       | inl many ↦ rw many refl
       | inr few ↦ rw (few, lt-ltb (length (octet ∷ octets)) 16 short) refl
@@ -98,15 +98,15 @@ head_lacks order count place (octet ∷ octets) short =
 
 -- Behind a head
 
-pub body_whole : (order : ByteOrder) (count place seconds len : ℕ) (held more : List ℕ) → len ≤ length held
-    → body_from order count place seconds len (held ++ more) ≡ with_packet (record { number = count + 1; place = place; seconds = seconds; octets = take len held }) (packets_from order 0 (count + 1) (place + 16 + len) (drop len held ++ more))
+pub body_whole : (order : ByteOrder) (count offset seconds len : ℕ) (held more : List ℕ) → len ≤ length held
+    → body_from order count offset seconds len (held ++ more) ≡ with_packet (record { number = count + 1; offset = offset; seconds = seconds; octets = take len held }) (packets_from order 0 (count + 1) (offset + 16 + len) (drop len held ++ more))
 unfolding body_from
-body_whole order count place seconds len held more enough =
+body_whole order count offset seconds len held more enough =
     rw (le-ltb (length (held ++ more)) len (omega (arith, length-append held more)), take-append-le len held more enough, drop-append-le len held more enough) refl
 
-pub body_short : (order : ByteOrder) (count place seconds len : ℕ) (octets : List ℕ) → length octets < len → body_from order count place seconds len octets ≡ broken (faults.Cut place)
+pub body_short : (order : ByteOrder) (count offset seconds len : ℕ) (octets : List ℕ) → length octets < len → body_from order count offset seconds len octets ≡ broken (faults.Cut offset)
 unfolding body_from
-body_short order count place seconds len octets short = rw (lt-ltb (length octets) len short) refl
+body_short order count offset seconds len octets short = rw (lt-ltb (length octets) len short) refl
 
 -- Octets that tell what comes next
 

@@ -1,4 +1,4 @@
--- The numbers, names and places of the faults of a capture.
+-- The numbers, names and offsets of the faults of a capture.
 use Rattle.std.specs.Prelude.{ℕ, Bool, true, false, List, codes, Option, Some, None, Result, Ok, Err}
 use Rattle.pcap_read.specs.declared.fault.CapFault.{CapFault}
 use Rattle.pcap_read.specs.declared.fault.CapFault.TheVariants.{Magic, Version, LinkType, Cut, Long, ReadFault, Many}
@@ -21,14 +21,14 @@ name_of (Long at) = codes "Long"
 name_of ReadFault = codes "ReadFault"
 name_of Many = codes "Many"
 
-unfoldable pub place_of : CapFault → Option ℕ
-place_of Magic = None
-place_of Version = None
-place_of LinkType = None
-place_of (Cut at) = Some at
-place_of (Long at) = Some at
-place_of ReadFault = None
-place_of Many = None
+unfoldable pub offset_of : CapFault → Option ℕ
+offset_of Magic = None
+offset_of Version = None
+offset_of LinkType = None
+offset_of (Cut at) = Some at
+offset_of (Long at) = Some at
+offset_of ReadFault = None
+offset_of Many = None
 
 abbrev pub is_read_fault : CapFault → Bool
 is_read_fault Magic = false

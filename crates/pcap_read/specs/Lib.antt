@@ -4,4 +4,4 @@ pub mod Next
 pub mod Packets
 pub mod Parts
 pub mod Reading
-pub mod Taken
+pub mod CaptureState

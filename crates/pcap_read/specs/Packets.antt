@@ -13,34 +13,34 @@ abbrev pub Packets : Type 0
 Packets = Told CapFault
 
 -- The header has 24 octets (section 4): the magic number, the version in two numbers, two reserved ones, the snap length and the
--- link type. The magic number tells the order of the octets of all numbers. Here the places of those that are read:
-abbrev pub magic_place : ℕ
-magic_place = 0
+-- link type. The magic number tells the order of the octets of all numbers. Here the offsets of those that are read:
+abbrev pub magic_offset : ℕ
+magic_offset = 0
 
-abbrev pub major_version_place : ℕ
-major_version_place = 4
+abbrev pub major_version_offset : ℕ
+major_version_offset = 4
 
-abbrev pub minor_version_place : ℕ
-minor_version_place = 6
+abbrev pub minor_version_offset : ℕ
+minor_version_offset = 6
 
-abbrev pub link_type_place : ℕ
-link_type_place = 20
+abbrev pub link_type_offset : ℕ
+link_type_offset = 20
 
 abbrev pub header_len : ℕ
 header_len = 24
 
 -- the magic numbers of captures in microseconds and in nanoseconds
 unfoldable pub has_magic : ByteOrder → List ℕ → Bool
-has_magic order header = number_32 order magic_place header == 0xA1B2C3D4 || number_32 order magic_place header == 0xA1B23C4D
+has_magic order header = number_32 order magic_offset header == 0xA1B2C3D4 || number_32 order magic_offset header == 0xA1B23C4D
 
 unfoldable pub order_in : List ℕ → Option ByteOrder
 order_in header = if has_magic Big header then Some Big else (if has_magic Little header then Some Little else None)
 
 unfoldable pub is_version_2_4 : ByteOrder → List ℕ → Bool
-is_version_2_4 order header = number_16 order major_version_place header == 2 && number_16 order minor_version_place header == 4
+is_version_2_4 order header = number_16 order major_version_offset header == 2 && number_16 order minor_version_offset header == 4
 
 unfoldable pub is_ethernet : ByteOrder → List ℕ → Bool
-is_ethernet order header = number_32 order link_type_place header == 1
+is_ethernet order header = number_32 order link_type_offset header == 1
 
 abbrev pub header_by : Option ByteOrder → List ℕ → Result ByteOrder CapFault
 header_by None header = Err faults.Magic
@@ -56,44 +56,44 @@ unfoldable pub header_of : List ℕ → Result ByteOrder CapFault
 header_of header = header_by (order_in header) header
 
 -- The head of a packet has 16 octets (section 5): its seconds, a fraction, how many octets were captured, and how many there were.
--- Here the places of those that are read:
-abbrev pub seconds_place : ℕ
-seconds_place = 0
+-- Here the offsets of those that are read:
+abbrev pub seconds_offset : ℕ
+seconds_offset = 0
 
-abbrev pub captured_len_place : ℕ
-captured_len_place = 8
+abbrev pub captured_len_offset : ℕ
+captured_len_offset = 8
 
 abbrev pub head_len : ℕ
 head_len = 16
 
 unfoldable pub seconds_of : ByteOrder → List ℕ → ℕ
-seconds_of order head = number_32 order seconds_place head
+seconds_of order head = number_32 order seconds_offset head
 
 unfoldable pub captured_len : ByteOrder → List ℕ → ℕ
-captured_len order head = number_32 order captured_len_place head
+captured_len order head = number_32 order captured_len_offset head
 
 -- The packet whose head begins these octets, behind so many packets, and those behind it. At most 100,000,000 packets are read,
 -- each of at most 262,144 octets.
 abbrev pub at_head : ByteOrder → ℕ → ℕ → List ℕ → Packets → Packets
-at_head order count place octets later =
+at_head order count offset octets later =
     if nat_le 100000000 count then broken faults.Many
-    else (if nat_lt (length octets) head_len then broken (faults.Cut place)
-    else (if nat_lt 262144 (captured_len order (take head_len octets)) then broken (faults.Long place)
-    else (if nat_lt (length octets) (head_len + captured_len order (take head_len octets)) then broken (faults.Cut place)
+    else (if nat_lt (length octets) head_len then broken (faults.Cut offset)
+    else (if nat_lt 262144 (captured_len order (take head_len octets)) then broken (faults.Long offset)
+    else (if nat_lt (length octets) (head_len + captured_len order (take head_len octets)) then broken (faults.Cut offset)
     else with_packet (record {
       number = count + 1;
-      place = place;
+      offset = offset;
       seconds = seconds_of order (take head_len octets);
       octets = take (captured_len order (take head_len octets)) (drop head_len octets);
     }) later)))
 
--- The packets in the octets from a place on, behind so many packets, where the first so many octets are the rest of a packet.
+-- The packets in the octets from an offset on, behind so many packets, where the first so many octets are the rest of a packet.
 unfoldable pub packets_from : ByteOrder → ℕ → ℕ → ℕ → List ℕ → Packets
-packets_from order skipped count place [] = whole
-packets_from order (suc skipped) count place (octet ∷ behind) = packets_from order skipped count (place + 1) behind
-packets_from order zero count place (octet ∷ behind) =
-    at_head order count place (octet ∷ behind)
-    (packets_from order (15 + captured_len order (take head_len (octet ∷ behind))) (count + 1) (place + 1) behind)
+packets_from order skipped count offset [] = whole
+packets_from order (suc skipped) count offset (octet ∷ behind) = packets_from order skipped count (offset + 1) behind
+packets_from order zero count offset (octet ∷ behind) =
+    at_head order count offset (octet ∷ behind)
+    (packets_from order (15 + captured_len order (take head_len (octet ∷ behind))) (count + 1) (offset + 1) behind)
 
 abbrev pub behind_header : Result ByteOrder CapFault → List ℕ → Packets
 behind_header (Err fault) octets = broken fault

@@ -1,4 +1,4 @@
--- The packets that are to come, at each place where a reader can stand.
+-- The packets that are to come, at each offset where a reader can stand.
 use Rattle.std.specs.Prelude.{ℕ, ◌+◌, ◌-◌, ◌==◌, nat_lt, nat_le, Bool, true, false, not, ◌||◌, if◌then◌else◌, List, length, take, drop, Option, Some, None}
 use Rattle.mud_base.specs.declared.number.ByteOrder.{ByteOrder}
 use Rattle.pcap_read.specs.declared.fault.CapFault.TheVariants as faults
@@ -14,40 +14,40 @@ use Rattle.pcap_read.specs.Packets.{Packets, head_len, captured_len, packets_fro
 
 -- behind the head of a packet: its octets, and the packets that come then
 unfoldable pub body_from : ByteOrder → ℕ → ℕ → ℕ → ℕ → List ℕ → Packets
-body_from order count place seconds len octets =
-    if nat_lt (length octets) len then broken (faults.Cut place)
-    else with_packet (record { number = count + 1; place = place; seconds = seconds; octets = take len octets })
-    (packets_from order 0 (count + 1) (place + 16 + len) (drop len octets))
+body_from order count offset seconds len octets =
+    if nat_lt (length octets) len then broken (faults.Cut offset)
+    else with_packet (record { number = count + 1; offset = offset; seconds = seconds; octets = take len octets })
+    (packets_from order 0 (count + 1) (offset + 16 + len) (drop len octets))
 
 -- between two packets
 abbrev pub packets_at : Cursor → List ℕ → Packets
-packets_at cursor octets = packets_from cursor.order 0 cursor.count cursor.place octets
+packets_at cursor octets = packets_from cursor.order 0 cursor.count cursor.offset octets
 
 -- behind a head, or between two packets where there is none
 abbrev pub behind_head : Cursor → Option Head → List ℕ → Packets
 behind_head cursor None octets = packets_at cursor octets
-behind_head cursor (Some head) octets = body_from cursor.order cursor.count cursor.place head.seconds head.len octets
+behind_head cursor (Some head) octets = body_from cursor.order cursor.count cursor.offset head.seconds head.len octets
 
 -- with a packet that was given, or between two packets where there is none
 abbrev pub behind_packet : Cursor → Option Head → List ℕ → List ℕ → Packets
 behind_packet cursor None given octets = packets_at cursor octets
 behind_packet cursor (Some head) given octets =
-    with_packet (record { number = cursor.count + 1; place = cursor.place; seconds = head.seconds; octets = given })
-    (packets_from cursor.order 0 (cursor.count + 1) (cursor.place + 16 + head.len) octets)
+    with_packet (record { number = cursor.count + 1; offset = cursor.offset; seconds = head.seconds; octets = given })
+    (packets_from cursor.order 0 (cursor.count + 1) (cursor.offset + 16 + head.len) octets)
 
 -- at a stage, behind so many packets and octets
 abbrev pub coming_at : Stage → ℕ → ℕ → List ℕ → Packets
-coming_at Start count place octets = packets_of octets
-coming_at (Reading order) count place octets = packets_from order 0 count place octets
-coming_at (Failed fault) count place octets = broken fault
+coming_at Start count offset octets = packets_of octets
+coming_at (Reading order) count offset octets = packets_from order 0 count offset octets
+coming_at (Failed fault) count offset octets = broken fault
 
 abbrev pub coming : Progress → List ℕ → Packets
-coming progress octets = coming_at progress.stage progress.count progress.place octets
+coming progress octets = coming_at progress.stage progress.count progress.offset octets
 
 -- the packet that was given, if any
 abbrev pub packet_in : Option Current → List ℕ → Option Packet
 packet_in None given = None
-packet_in (Some current) given = Some (record { number = current.number; place = current.at; seconds = current.seconds; octets = given })
+packet_in (Some current) given = Some (record { number = current.number; offset = current.at; seconds = current.seconds; octets = given })
 
 -- with the packet that was given, if any
 abbrev pub coming_next : Next → List ℕ → List ℕ → Packets

@@ -17,7 +17,7 @@ EndsIn fault before old new = sources.EndsIn ReadFault fault before old new
 -- The numbers of packets and octets stay in their bounds.
 pub record IsWithin (progress : Progress) : Type 0 where
   pub few : progress.count ≤ 100000000
-  pub near : progress.place ≤ 24 + 262160 * progress.count
+  pub near : progress.offset ≤ 24 + 262160 * progress.count
 
 -- whether the source failed in a call, where it hadn't failed before
 abbrev pub fails : Stage → Bool → Bool

@@ -13,8 +13,8 @@ ghost use Rattle.octet_buffer.specs.Packets.{with_next};
 ghost use Rattle.pcap_read.specs.Parts.{is_broken, most_to_come};
 ghost use Rattle.octet_buffer.specs.Reading.{Follows};
 ghost use Rattle.pcap_read.specs.Reading.{EndsIn, fails};
-ghost use Rattle.pcap_read.specs.Taken as spec;
-ghost use Rattle.pcap_read.specs.Taken.{AtEnd, at_start, to_come};
+ghost use Rattle.pcap_read.specs.CaptureState as spec;
+ghost use Rattle.pcap_read.specs.CaptureState.{AtEnd, at_start, to_come};
 
 use crate::fault::CapFault;
 use crate::reader::{Captured, Reader};
@@ -31,9 +31,9 @@ pub struct Capture<S> {
 }
 
 impl<S> Model for Capture<S> {
-    ghost use Rattle.pcap_read.specs.Taken.{Taken};
+    ghost use Rattle.pcap_read.specs.CaptureState.{CaptureState};
 
-    ghost Value = { S × Taken };
+    ghost Value = { S × CaptureState };
 
     ghost view = { λ c. (c.source, c.reader) };
 }
@@ -84,7 +84,7 @@ impl<S: Door> Capture<S> {
         requires { IsSome self.now.1.packet }
         ensures { self.now.1.packet ≡ Some (record {
           number = result.number;
-          place = result.at;
+          offset = result.at;
           seconds = result.seconds;
           octets = result.octets.now;
         }) }

@@ -3,7 +3,7 @@ ghost use Rattle.std.specs.Prelude.{◌≡◌};
 
 use mud_world::Failed;
 
-/// Why a capture is refused, or ends before its octets do. Places count the octets of the capture
+/// Why a capture is refused, or ends before its octets do. Offsets count the octets of the capture
 /// from 0.
 #[derive(Clone, Copy, Debug, PartialEq, Eq)]
 pub enum CapFault {
@@ -14,10 +14,10 @@ pub enum CapFault {
     Version,
     /// The link type isn't Ethernet, all four octets counted.
     LinkType,
-    /// The octets end before the header does, which is the place 0, or within the packet whose head
-    /// stands at this place.
+    /// The octets end before the header does, which is the offset 0, or within the packet whose
+    /// head stands at this offset.
     Cut(u64),
-    /// The packet whose head stands at this place has more than 262,144 octets.
+    /// The packet whose head stands at this offset has more than 262,144 octets.
     Long(u64),
     /// The source failed. Its count of failed reads rose in the call that answered this first.
     ReadFault,
@@ -36,7 +36,7 @@ impl From<Failed> for CapFault {
 }
 
 impl CapFault {
-    ghost use Rattle.pcap_read.specs.Fault.{number_of, name_of, place_of};
+    ghost use Rattle.pcap_read.specs.Fault.{number_of, name_of, offset_of};
 
     /// The number of the fault, from 1 in the order of the variants.
     #[tactic(auto, unfolding(crate::specs::Fault::number_of))]
@@ -70,10 +70,10 @@ impl CapFault {
         }
     }
 
-    /// The place of the fault, where it has one.
-    #[tactic(auto, unfolding(crate::specs::Fault::place_of))]
-    pub fn place(&self) -> Option<u64>
-        ensures { result ≡ place_of self.now }
+    /// The offset of the fault, where it has one.
+    #[tactic(auto, unfolding(crate::specs::Fault::offset_of))]
+    pub fn offset(&self) -> Option<u64>
+        ensures { result ≡ offset_of self.now }
     {
         match self {
             CapFault::Cut(at) | CapFault::Long(at) => Some(*at),

@@ -6,9 +6,9 @@ ghost use Rattle.pcap_read.specs.Parts as spec;
 use mud_base::{ByteOrder, number_32};
 
 /// Where the seconds stand in a head (draft-ietf-opsawg-pcap, section 5).
-const SECONDS_PLACE: usize = 0;
+const SECONDS_OFFSET: usize = 0;
 /// Where the captured length stands in a head (section 5).
-const CAPTURED_LEN_PLACE: usize = 8;
+const CAPTURED_LEN_OFFSET: usize = 8;
 /// How many octets a head has (section 5).
 pub(crate) const HEAD_LEN: usize = 16;
 /// The most octets of a packet.
@@ -31,8 +31,8 @@ pub(crate) fn head_in(order: ByteOrder, head: &[u8]) -> Head
     ensures len { result.len ≡ captured_len order head.now }
 {
     Head {
-        seconds: number_32(order, head, SECONDS_PLACE),
-        len: number_32(order, head, CAPTURED_LEN_PLACE) as usize,
+        seconds: number_32(order, head, SECONDS_OFFSET),
+        len: number_32(order, head, CAPTURED_LEN_OFFSET) as usize,
     }
 }
 

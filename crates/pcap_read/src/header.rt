@@ -7,13 +7,13 @@ use crate::fault::CapFault;
 use mud_base::{ByteOrder, number_16, number_32};
 
 /// Where the magic number stands in the header (draft-ietf-opsawg-pcap, section 4).
-const MAGIC_PLACE: usize = 0;
+const MAGIC_OFFSET: usize = 0;
 /// Where the major version stands in the header (section 4).
-const MAJOR_VERSION_PLACE: usize = 4;
+const MAJOR_VERSION_OFFSET: usize = 4;
 /// Where the minor version stands in the header (section 4).
-const MINOR_VERSION_PLACE: usize = 6;
+const MINOR_VERSION_OFFSET: usize = 6;
 /// Where the link type stands in the header (section 4).
-const LINK_TYPE_PLACE: usize = 20;
+const LINK_TYPE_OFFSET: usize = 20;
 /// How many octets the header has (section 4).
 pub(crate) const HEADER_LEN: usize = 24;
 /// The magic number of captures whose fractions of seconds are microseconds.
@@ -33,7 +33,7 @@ fn has_magic(order: ByteOrder, header: &[u8]) -> bool
     requires { 24 ≤ length header.now }
     ensures { result ≡ spec.has_magic order header.now }
 {
-    let magic = number_32(order, header, MAGIC_PLACE);
+    let magic = number_32(order, header, MAGIC_OFFSET);
     magic == MICROSECONDS || magic == NANOSECONDS
 }
 
@@ -58,8 +58,8 @@ fn is_version_2_4(order: ByteOrder, header: &[u8]) -> bool
     requires { 24 ≤ length header.now }
     ensures { result ≡ spec.is_version_2_4 order header.now }
 {
-    number_16(order, header, MAJOR_VERSION_PLACE) == MAJOR_VERSION
-        && number_16(order, header, MINOR_VERSION_PLACE) == MINOR_VERSION
+    number_16(order, header, MAJOR_VERSION_OFFSET) == MAJOR_VERSION
+        && number_16(order, header, MINOR_VERSION_OFFSET) == MINOR_VERSION
 }
 
 /// Whether a header has the link type Ethernet.
@@ -68,7 +68,7 @@ fn is_ethernet(order: ByteOrder, header: &[u8]) -> bool
     requires { 24 ≤ length header.now }
     ensures { result ≡ spec.is_ethernet order header.now }
 {
-    number_32(order, header, LINK_TYPE_PLACE) == ETHERNET
+    number_32(order, header, LINK_TYPE_OFFSET) == ETHERNET
 }
 
 /// The order of the octets of all numbers, or what is wrong with the header.

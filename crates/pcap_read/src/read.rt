@@ -81,12 +81,12 @@ fn read_head<D: Door>(
         return Err(CapFault::Many);
     }
     if !is_enough {
-        return Err(CapFault::Cut(cursor.place));
+        return Err(CapFault::Cut(cursor.offset));
     }
     let (head, _) = held.split_at(HEAD_LEN);
     let head = head_in(cursor.order, head);
     if head.len > MOST_OCTETS {
-        return Err(CapFault::Long(cursor.place));
+        return Err(CapFault::Long(cursor.offset));
     }
     buffer.hand_out(HEAD_LEN);
     Ok(Some(head))
@@ -115,13 +115,13 @@ fn read_packet<D: Door>(
         return Ok(None);
     };
     if !fetch(source, buffer, head.len)? {
-        return Err(CapFault::Cut(cursor.place));
+        return Err(CapFault::Cut(cursor.offset));
     }
     buffer.hand_out(head.len);
     Ok(Some(head))
 }
 
-/// The place between two packets at which a reader stands, once the header is read.
+/// The offset between two packets at which a reader stands, once the header is read.
 fn begin<D: Door>(
     source: &mut D,
     buffer: &mut Buffer<MOST_OCTETS>,
@@ -130,7 +130,7 @@ fn begin<D: Door>(
     requires { IsWithin progress }
     ensures ok { D.tells → IfOk result (λ cursor.
         Follows (behind (coming progress) buffer.old.held) (behind (packets_at cursor) buffer.new.held) (D.view source.old).state (D.view source.new).state) }
-    ensures within { IfOk result (λ cursor. (cursor.count ≤ 100000000) × (cursor.place ≤ 24 + 262160 * cursor.count)) }
+    ensures within { IfOk result (λ cursor. (cursor.count ≤ 100000000) × (cursor.offset ≤ 24 + 262160 * cursor.count)) }
     ensures most { IfOk result (λ cursor. 100000000 - cursor.count ≤ most_to_come progress) }
     ensures failed { (fault : CapFault) → progress.stage ≡ Failed fault → (result ≡ Err fault) × (source.new ≡ source.old) }
     ensures unread { IsTrue (is_ready_at progress.stage progress.count buffer.old.held) → source.new ≡ source.old }
@@ -149,13 +149,13 @@ fn begin<D: Door>(
             Ok(Cursor {
                 order,
                 count: 0,
-                place: HEADER_LEN as u64,
+                offset: HEADER_LEN as u64,
             })
         }
         Stage::Reading(order) => Ok(Cursor {
             order,
             count: progress.count,
-            place: progress.place,
+            offset: progress.offset,
         }),
         Stage::Failed(fault) => Err(fault),
     }
@@ -164,7 +164,7 @@ fn begin<D: Door>(
 /// Where a reader stands behind a packet, if one was found.
 fn next_of(cursor: Cursor, found: Option<Head>) -> Next
     requires few { cursor.count ≤ 100000000 }
-    requires near { cursor.place ≤ 24 + 262160 * cursor.count }
+    requires near { cursor.offset ≤ 24 + 262160 * cursor.count }
     requires found { ForSome found (λ head. (head.len ≤ 262144) × (cursor.count < 100000000)) }
     ensures coming { (given octets : List ℕ) → behind_packet cursor found given octets ≡ coming_next result given octets }
     ensures within { IsWithin result.progress }
@@ -178,7 +178,7 @@ fn next_of(cursor: Cursor, found: Option<Head>) -> Next
             progress: Progress {
                 stage,
                 count: cursor.count,
-                place: cursor.place,
+                offset: cursor.offset,
             },
             current: None,
         };
@@ -187,11 +187,11 @@ fn next_of(cursor: Cursor, found: Option<Head>) -> Next
         progress: Progress {
             stage,
             count: cursor.count + 1,
-            place: cursor.place + 16 + head.len as u64,
+            offset: cursor.offset + 16 + head.len as u64,
         },
         current: Some(Current {
             number: cursor.count + 1,
-            at: cursor.place,
+            at: cursor.offset,
             seconds: head.seconds,
         }),
     }

@@ -8,8 +8,8 @@ ghost use Rattle.octet_buffer.specs.Packets.{with_next};
 ghost use Rattle.pcap_read.specs.Parts.{is_broken, most_to_come};
 ghost use Rattle.octet_buffer.specs.Reading.{Follows};
 ghost use Rattle.pcap_read.specs.Reading.{EndsIn, fails};
-ghost use Rattle.pcap_read.specs.Taken as spec;
-ghost use Rattle.pcap_read.specs.Taken.{AtEnd, at_start, at_start_holding, to_come};
+ghost use Rattle.pcap_read.specs.CaptureState as spec;
+ghost use Rattle.pcap_read.specs.CaptureState.{AtEnd, at_start, at_start_holding, to_come};
 
 use crate::fault::CapFault;
 use crate::head::{MOST_OCTETS, is_decided};
@@ -46,9 +46,9 @@ pub struct Reader {
 impl Model for Reader {
     ghost use Rattle.pcap_read.specs.Parts.{packet_in};
     ghost use Rattle.pcap_read.specs.Reading.{IsWithin};
-    ghost use Rattle.pcap_read.specs.Taken.{Taken};
+    ghost use Rattle.pcap_read.specs.CaptureState.{CaptureState};
 
-    ghost Value = { Taken };
+    ghost Value = { CaptureState };
 
     ghost view = { λ r. record {
       progress = r.progress;
@@ -86,7 +86,7 @@ impl Reader {
             progress: Progress {
                 stage: Stage::Start,
                 count: 0,
-                place: 0,
+                offset: 0,
             },
             current: None,
         }
@@ -132,7 +132,7 @@ impl Reader {
         requires { IsSome self.now.packet }
         ensures { self.now.packet ≡ Some (record {
           number = result.number;
-          place = result.at;
+          offset = result.at;
           seconds = result.seconds;
           octets = result.octets.now;
         }) }

@@ -13,21 +13,21 @@ pub enum Stage {
     Failed(CapFault),
 }
 
-/// How far a capture was read, how many packets were handed out, and the place of the next head.
+/// How far a capture was read, how many packets were handed out, and the offset of the next head.
 #[derive(Clone, Copy, Debug)]
 pub struct Progress {
     pub stage: Stage,
     pub count: u32,
-    pub place: u64,
+    pub offset: u64,
 }
 
-/// A place between two packets: the order of numbers, how many packets stand before it, and the
+/// An offset between two packets: the order of numbers, how many packets stand before it, and the
 /// octet where the next head begins.
 #[derive(Clone, Copy, Debug)]
 pub struct Cursor {
     pub order: ByteOrder,
     pub count: u32,
-    pub place: u64,
+    pub offset: u64,
 }
 
 /// What is known of a packet beside its octets.

@@ -40,7 +40,7 @@ section_alone : ng_packets_of (section 1 0) ≡ whole
 unfolding blocks_on_literals
 section_alone = refl
 
-one_packet : ng_packets_of (begun ++ packet 6) ≡ one (record { number = 1; place = 48; seconds = 1059; octets = frame })
+one_packet : ng_packets_of (begun ++ packet 6) ≡ one (record { number = 1; offset = 48; seconds = 1059; octets = frame })
 unfolding blocks_on_literals
 one_packet = refl
 
@@ -57,7 +57,7 @@ unfolding blocks_on_literals
 obsolete_packet = refl
 
 -- a block of another type is passed over, and its last number is looked at
-other_block : ng_packets_of (begun ++ packet 5 ++ packet 6) ≡ one (record { number = 1; place = 136; seconds = 1059; octets = frame })
+other_block : ng_packets_of (begun ++ packet 5 ++ packet 6) ≡ one (record { number = 1; offset = 136; seconds = 1059; octets = frame })
 unfolding blocks_on_literals
 other_block = refl
 
@@ -101,17 +101,17 @@ abbrev with_options : ℕ → List ℕ → List ℕ
 with_options total options = 1 ∷ 0 ∷ 0 ∷ 0 ∷ total ∷ 0 ∷ 0 ∷ 0 ∷ 1 ∷ 0 ∷ 0 ∷ 0 ∷ 0 ∷ 0 ∷ 4 ∷ 0 ∷ (options ++ total ∷ 0 ∷ 0 ∷ 0 ∷ [])
 
 -- thousandths of a second: 1,059,000,000 of them are 1,059,000 seconds
-thousandths : ng_packets_of (section 1 0 ++ with_options 32 (described_by 3 (0 ∷ 0 ∷ 0 ∷ 0 ∷ [])) ++ packet 6) ≡ one (record { number = 1; place = 60; seconds = 1059000; octets = frame })
+thousandths : ng_packets_of (section 1 0 ++ with_options 32 (described_by 3 (0 ∷ 0 ∷ 0 ∷ 0 ∷ [])) ++ packet 6) ≡ one (record { number = 1; offset = 60; seconds = 1059000; octets = frame })
 unfolding blocks_on_literals
 thousandths = refl
 
 -- 2^20 parts of a second: 1,059,000,000 / 1,048,576
-power_of_two : ng_packets_of (section 1 0 ++ with_options 28 (described_by 0x94 []) ++ packet 6) ≡ one (record { number = 1; place = 56; seconds = 1009; octets = frame })
+power_of_two : ng_packets_of (section 1 0 ++ with_options 28 (described_by 0x94 []) ++ packet 6) ≡ one (record { number = 1; offset = 56; seconds = 1009; octets = frame })
 unfolding blocks_on_literals
 power_of_two = refl
 
 -- of two options the last one counts
-last_option : ng_packets_of (section 1 0 ++ with_options 36 (described_by 0 (described_by 3 [])) ++ packet 6) ≡ one (record { number = 1; place = 64; seconds = 1059000; octets = frame })
+last_option : ng_packets_of (section 1 0 ++ with_options 36 (described_by 0 (described_by 3 [])) ++ packet 6) ≡ one (record { number = 1; offset = 64; seconds = 1059000; octets = frame })
 unfolding blocks_on_literals
 last_option = refl
 
@@ -124,13 +124,13 @@ unfolding blocks_on_literals
 resolution_2_31 = refl
 
 -- an offset of one second
-offset : ng_packets_of (section 1 0 ++ with_options 32 (14 ∷ 0 ∷ 8 ∷ 0 ∷ 1 ∷ replicate 7 0)) ≡ broken (faults.Resolution 28)
+time_offset : ng_packets_of (section 1 0 ++ with_options 32 (14 ∷ 0 ∷ 8 ∷ 0 ∷ 1 ∷ replicate 7 0)) ≡ broken (faults.Resolution 28)
 unfolding blocks_on_literals
-offset = refl
+time_offset = refl
 
-no_offset : ng_packets_of (section 1 0 ++ with_options 32 (14 ∷ 0 ∷ 8 ∷ 0 ∷ replicate 8 0)) ≡ whole
+no_time_offset : ng_packets_of (section 1 0 ++ with_options 32 (14 ∷ 0 ∷ 8 ∷ 0 ∷ replicate 8 0)) ≡ whole
 unfolding blocks_on_literals
-no_offset = refl
+no_time_offset = refl
 
 -- a comment of five octets for which the body has no room
 option_passes : ng_packets_of (section 1 0 ++ with_options 28 (1 ∷ 0 ∷ 5 ∷ 0 ∷ replicate 4 65)) ≡ broken (faults.Length 28)
@@ -153,7 +153,7 @@ unfolding blocks_on_literals
 long_packet = refl
 
 -- captured lengths of 56, which is all between the head and the last number, and of 57
-captured_56 : ng_packets_of (begun ++ take 20 (packet 6) ++ 56 ∷ drop 21 (packet 6)) ≡ one (record { number = 1; place = 48; seconds = 1059; octets = frame ++ 0 ∷ 0 ∷ [] })
+captured_56 : ng_packets_of (begun ++ take 20 (packet 6) ++ 56 ∷ drop 21 (packet 6)) ≡ one (record { number = 1; offset = 48; seconds = 1059; octets = frame ++ 0 ∷ 0 ∷ [] })
 unfolding blocks_on_literals
 captured_56 = refl
 
@@ -162,7 +162,7 @@ unfolding blocks_on_literals
 captured_57 = refl
 
 -- 2^32 - 1 seconds in whole seconds, and one more
-latest : ng_packets_of (section 1 0 ++ with_options 28 (described_by 0 []) ++ take 16 (packet 6) ++ 255 ∷ 255 ∷ 255 ∷ 255 ∷ drop 20 (packet 6)) ≡ one (record { number = 1; place = 56; seconds = 4294967295; octets = frame })
+latest : ng_packets_of (section 1 0 ++ with_options 28 (described_by 0 []) ++ take 16 (packet 6) ++ 255 ∷ 255 ∷ 255 ∷ 255 ∷ drop 20 (packet 6)) ≡ one (record { number = 1; offset = 56; seconds = 4294967295; octets = frame })
 unfolding blocks_on_literals
 latest = refl
 
@@ -179,12 +179,12 @@ big =
 
 both_orders : ng_packets_of (begun ++ packet 6 ++ big)
     ≡ record {
-      all = record { number = 1; place = 48; seconds = 1059; octets = frame } ∷ record { number = 2; place = 184; seconds = 1059; octets = 0xAA ∷ [] } ∷ [];
+      all = record { number = 1; offset = 48; seconds = 1059; octets = frame } ∷ record { number = 2; offset = 184; seconds = 1059; octets = 0xAA ∷ [] } ∷ [];
       fault = None;
     }
 unfolding blocks_on_literals
 both_orders = refl
 
-head_cut : ng_packets_of (begun ++ packet 6 ++ take 11 (packet 6)) ≡ record { all = record { number = 1; place = 48; seconds = 1059; octets = frame } ∷ []; fault = Some (faults.Cut 136) }
+head_cut : ng_packets_of (begun ++ packet 6 ++ take 11 (packet 6)) ≡ record { all = record { number = 1; offset = 48; seconds = 1059; octets = frame } ∷ []; fault = Some (faults.Cut 136) }
 unfolding blocks_on_literals
 head_cut = refl

@@ -45,13 +45,13 @@ module _ (at : Standing) (h k : List ℕ) (s t : DoorState) (f : Fetched h k s t
   pub head_failed : length k < 12 → EndsIn faults.ReadFault (behind (blocks_at at) h) s t
   head_failed short = ends faults.ReadFault (blocks_at at) h k s t f (blocks_lack at k short) (λ other. absurd (other refl))
 
-  pub head_many : 0 < length k → 100000000 ≤ at.blocks → EndsIn (faults.Many at.place) (behind (blocks_at at) h) s t
+  pub head_many : 0 < length k → 100000000 ≤ at.blocks → EndsIn (faults.Many at.offset) (behind (blocks_at at) h) s t
   head_many some many =
-      broken_now (faults.Many at.place)
-      (λ more. blocks_broken at (k ++ more) (faults.Many at.place) (omega (arith, length-append k more)) (rows_many at (k ++ more) many))
+      broken_now (faults.Many at.offset)
+      (λ more. blocks_broken at (k ++ more) (faults.Many at.offset) (omega (arith, length-append k more)) (rows_many at (k ++ more) many))
 
-  pub head_cut : 0 < length k → at.blocks < 100000000 → length k < 12 → t.left ≡ [] → EndsIn (faults.Cut at.place) (behind (blocks_at at) h) s t
-  head_cut some few short none = broken_here (faults.Cut at.place) (blocks_broken at k (faults.Cut at.place) some (rows_short at k few short)) none
+  pub head_cut : 0 < length k → at.blocks < 100000000 → length k < 12 → t.left ≡ [] → EndsIn (faults.Cut at.offset) (behind (blocks_at at) h) s t
+  head_cut some few short none = broken_here (faults.Cut at.offset) (blocks_broken at k (faults.Cut at.offset) some (rows_short at k few short)) none
 
   pub head_refused : (octets : List ℕ) (answer : Head) (fault : NgFault) → 12 ≤ length k → at.blocks < 100000000 → octets ≡ take 12 k → Err fault ≡ unless (head_rows at octets) (Ok answer)
       → EndsIn fault (behind (blocks_at at) h) s t
@@ -80,7 +80,7 @@ module _ (at : Standing) (head : Head) (h k : List ℕ) (s t : DoorState) (b : B
   now : Begins at head k
   now = begins_more at head h k s t b f
 
-  cut : length k < head.total → blocks_at at k ≡ broken (faults.Cut at.place)
+  cut : length k < head.total → blocks_at at k ≡ broken (faults.Cut at.offset)
   unfolding now
   cut short = ap (blocks_at at) (sym (append-nil k)) ∙ block_cut at head k now [] (omega (arith, length-append k []))
 
@@ -88,8 +88,8 @@ module _ (at : Standing) (head : Head) (h k : List ℕ) (s t : DoorState) (b : B
   unfolding all_of
   whole_failed short = ends faults.ReadFault (blocks_at at) h k s t f (ap all_of (cut short)) (λ other. absurd (other refl))
 
-  pub whole_cut : length k < head.total → t.left ≡ [] → EndsIn (faults.Cut at.place) (behind (blocks_at at) h) s t
-  whole_cut short none = broken_here at h k s t f (faults.Cut at.place) (cut short) none
+  pub whole_cut : length k < head.total → t.left ≡ [] → EndsIn (faults.Cut at.offset) (behind (blocks_at at) h) s t
+  whole_cut short none = broken_here at h k s t f (faults.Cut at.offset) (cut short) none
 
   module _ (block : List ℕ) (enough : head.total ≤ length k) (front : block ≡ take head.total k) where
     long : (more : List ℕ) → head.total ≤ length (k ++ more)
@@ -101,9 +101,9 @@ module _ (at : Standing) (head : Head) (h k : List ℕ) (s t : DoorState) (b : B
     last : (more : List ℕ) → number_32 head.order (head.total - 4) (take head.total (k ++ more)) ≡ number_32 head.order (head.total - 4) block
     last more = ap (number_32 head.order (head.total - 4)) (same more)
 
-    pub whole_ends : number_32 head.order (head.total - 4) block ≢ head.total → EndsIn (faults.Length at.place) (behind (blocks_at at) h) s t
+    pub whole_ends : number_32 head.order (head.total - 4) block ≢ head.total → EndsIn (faults.Length at.offset) (behind (blocks_at at) h) s t
     whole_ends other =
-        broken_now at h k s t f (faults.Length at.place)
+        broken_now at h k s t f (faults.Length at.offset)
         (λ more. block_ends at head k now more (long more) (λ is. other (sym (last more) ∙ is)))
 
     module _ (ended : number_32 head.order (head.total - 4) block ≡ head.total) (answer : Option Current) where
@@ -164,14 +164,14 @@ packets_over OtherPacket at block later over = refl
 packets_over Other at block later over = refl
 
 module _ (at : Standing) (head : Head) (h : List ℕ) (s t : DoorState) (b : Begins at head h) where
-  short_ends : (p : FallsShort head.total h s t) → blocks_at at (h ++ p.octets) ≡ broken (faults.Cut at.place)
+  short_ends : (p : FallsShort head.total h s t) → blocks_at at (h ++ p.octets) ≡ broken (faults.Cut at.offset)
   short_ends p = block_cut at head h b p.octets p.short
 
   pub over_failed : FallsShort head.total h s t → EndsIn faults.ReadFault (behind (blocks_at at) h) s t
   unfolding all_of
   over_failed p = record { octets = p.octets; took = p.took; none = ap all_of (short_ends p); broken = λ other. absurd (other refl) }
 
-  pub over_cut : FallsShort head.total h s t → t.left ≡ [] → EndsIn (faults.Cut at.place) (behind (blocks_at at) h) s t
+  pub over_cut : FallsShort head.total h s t → t.left ≡ [] → EndsIn (faults.Cut at.offset) (behind (blocks_at at) h) s t
   unfolding all_of
   over_cut p none = record {
     octets = p.octets;
@@ -218,9 +218,9 @@ module _ (at : Standing) (head : Head) (h : List ℕ) (s t : DoorState) (b : Beg
       broken = λ _. here t.left;
     }
 
-    pub over_ends : number_32 head.order 0 k ≢ head.total → EndsIn (faults.Length at.place) (behind (blocks_at at) h) s t
+    pub over_ends : number_32 head.order 0 k ≢ head.total → EndsIn (faults.Length at.offset) (behind (blocks_at at) h) s t
     over_ends other =
-        over_now (faults.Length at.place)
+        over_now (faults.Length at.offset)
         (λ more. block_ends at head h b (p.octets ++ more) (there more) (λ is. other (sym (last_number more) ∙ is)))
 
     module _ (ended : number_32 head.order 0 k ≡ head.total) (answer : Option Current) (over : is_read head.kind ≡ false) where
@@ -235,7 +235,7 @@ module _ (at : Standing) (head : Head) (h : List ℕ) (s t : DoorState) (b : Beg
 
       standing_over : (block : List ℕ) → standing_behind head at block ≡ standing_behind head at []
       unfolding standing_behind
-      standing_over block = ap (λ (section : Section). record { section = section; blocks = at.blocks + 1; packets = (standing_behind head at []).packets; place = at.place + head.total }) (section_over head.kind head.order at.section block over)
+      standing_over block = ap (λ (section : Section). record { section = section; blocks = at.blocks + 1; packets = (standing_behind head at []).packets; offset = at.offset + head.total }) (section_over head.kind head.order at.section block over)
 
       pub over_follows : (found : Option Current) (m : List ℕ) (new : Standing) → Ok found ≡ unless (body_rows head at []) (Ok answer) → new ≡ standing_behind head at [] → m ≡ drop 4 k
           → Follows (behind (blocks_at at) h) (behind (blocks_at new) m) s t

@@ -4,9 +4,9 @@ use Rattle.mud_world.specs.Door.{DoorState}
 use Rattle.octet_buffer.specs.Packets.{Packet, with_packet, with_next}
 use Rattle.octet_buffer.specs.Reading.{Follows}
 use Rattle.pcapng_read.specs.Blocks.{NgPackets}
-use Rattle.pcapng_read.specs.Taken.{NgTaken, to_come}
+use Rattle.pcapng_read.specs.CaptureState.{NgState, to_come}
 
-pub first_of_all : (old new : NgTaken) (packet : Packet) (s t : DoorState) → Follows (to_come old) (λ more. with_next new.packet (to_come new more)) s t → new.packet ≡ Some packet
+pub first_of_all : (old new : NgState) (packet : Packet) (s t : DoorState) → Follows (to_come old) (λ more. with_next new.packet (to_come new more)) s t → new.packet ≡ Some packet
     → (later : NgPackets) × (to_come old s.left ≡ with_packet packet later)
 first_of_all old new packet s t p is = (
   to_come new t.left,

@@ -96,10 +96,10 @@ blocks_go at head (octet ∷ behind) some none is least =
 
 -- The head of a block
 
-pub rows_many : (at : Standing) (octets : List ℕ) → 100000000 ≤ at.blocks → first_row (block_rows at octets) ≡ Some (faults.Many at.place)
+pub rows_many : (at : Standing) (octets : List ℕ) → 100000000 ≤ at.blocks → first_row (block_rows at octets) ≡ Some (faults.Many at.offset)
 rows_many at octets many = rw (le-leb 100000000 at.blocks many) refl
 
-pub rows_short : (at : Standing) (octets : List ℕ) → at.blocks < 100000000 → length octets < 12 → first_row (block_rows at octets) ≡ Some (faults.Cut at.place)
+pub rows_short : (at : Standing) (octets : List ℕ) → at.blocks < 100000000 → length octets < 12 → first_row (block_rows at octets) ≡ Some (faults.Cut at.offset)
 rows_short at octets few short = rw (lt-leb 100000000 at.blocks few, lt-ltb (length octets) 12 short) refl
 
 rows_of : (at : Standing) (k more : List ℕ) → 12 ≤ length k → at.blocks < 100000000
@@ -134,13 +134,13 @@ module _ (at : Standing) (head : Head) (k : List ℕ) (b : Begins at head k) whe
       ∙ first_none (head_rows at (take 12 k)) (rest_rows (head_of at.section.order (take 12 k)) at (k ++ more)) b.sound
       ∙ ap (λ (h : Head). first_row (rest_rows h at (k ++ more))) (sym b.says)
 
-  pub block_cut : (more : List ℕ) → length (k ++ more) < head.total → blocks_at at (k ++ more) ≡ broken (faults.Cut at.place)
-  block_cut more short = blocks_broken at (k ++ more) (faults.Cut at.place) (some more) (rows_behind more ∙ rw (lt-ltb (length (k ++ more)) head.total short) refl)
+  pub block_cut : (more : List ℕ) → length (k ++ more) < head.total → blocks_at at (k ++ more) ≡ broken (faults.Cut at.offset)
+  block_cut more short = blocks_broken at (k ++ more) (faults.Cut at.offset) (some more) (rows_behind more ∙ rw (lt-ltb (length (k ++ more)) head.total short) refl)
 
   pub block_ends : (more : List ℕ) → head.total ≤ length (k ++ more) → number_32 head.order (head.total - 4) (take head.total (k ++ more)) ≢ head.total
-      → blocks_at at (k ++ more) ≡ broken (faults.Length at.place)
+      → blocks_at at (k ++ more) ≡ broken (faults.Length at.offset)
   block_ends more enough other =
-      blocks_broken at (k ++ more) (faults.Length at.place) (some more)
+      blocks_broken at (k ++ more) (faults.Length at.offset) (some more)
       (rows_behind more ∙ rw (le-ltb (length (k ++ more)) head.total enough, ne_eqb (number_32 head.order (head.total - 4) (take head.total (k ++ more))) head.total other) refl)
 
   rows_body : (more : List ℕ) → head.total ≤ length (k ++ more) → number_32 head.order (head.total - 4) (take head.total (k ++ more)) ≡ head.total

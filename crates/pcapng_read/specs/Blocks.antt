@@ -13,7 +13,7 @@ use Rattle.pcapng_read.specs.declared.head.Head.{Head}
 use Rattle.pcapng_read.specs.declared.standing.Section.{Section}
 use Rattle.pcapng_read.specs.declared.standing.Standing.{Standing}
 use Rattle.pcapng_read.specs.Interfaces.{Interface}
-use Rattle.pcapng_read.specs.Options.{Listing, options_from, content_of, units_in, is_one, has_no_offset}
+use Rattle.pcapng_read.specs.Options.{Listing, options_from, content_of, units_in, is_one, has_no_time_offset}
 
 -- the packets of a capture, and why they end
 abbrev pub NgPackets : Type 0
@@ -21,7 +21,7 @@ NgPackets = Told NgFault
 
 -- A capture is block after block (section 3.1): type, total length (4 octets each), body, and the total length again. `Standing`
 -- says what is known between two blocks: the section, which has the order of the octets of its numbers and its interfaces; how many
--- blocks and packets stand before; and the place.
+-- blocks and packets stand before; and the offset.
 
 -- ---- The head of a block: its first 12 octets
 
@@ -74,10 +74,10 @@ is_read Other = false
 abbrev pub head_rows : Standing → List ℕ → List (Option NgFault)
 head_rows at octets =
     let head = head_of at.section.order octets in
-    row (at.blocks == 0 && not (is_section octets)) (faults.Magic at.place)
-    ∷ row (not (is_some (own_order at.section.order octets))) (faults.Magic at.place)
-    ∷ row (not (head.total % 4 == 0) || nat_lt head.total (least_of head.kind)) (faults.Length at.place)
-    ∷ row (is_read head.kind && nat_lt 524288 head.total) (faults.Long at.place)
+    row (at.blocks == 0 && not (is_section octets)) (faults.Magic at.offset)
+    ∷ row (not (is_some (own_order at.section.order octets))) (faults.Magic at.offset)
+    ∷ row (not (head.total % 4 == 0) || nat_lt head.total (least_of head.kind)) (faults.Length at.offset)
+    ∷ row (is_read head.kind && nat_lt 524288 head.total) (faults.Long at.offset)
     ∷ []
 
 -- ---- A section header: magic number, version in two numbers, section length (not looked at), options (not read)
@@ -92,9 +92,9 @@ options_in order block = options_from order 0 (drop 16 (take (length block - 4) 
 
 -- the faults of its options: code 9 is the resolution of the time, code 14 its offset
 abbrev pub option_rows : ℕ → Listing → List (Option NgFault)
-option_rows place options =
-    row (options.passes || not (is_one (content_of 9 options))) (faults.Length place)
-    ∷ row (not (is_some (units_in (content_of 9 options))) || not (has_no_offset (content_of 14 options))) (faults.Resolution place)
+option_rows offset options =
+    row (options.passes || not (is_one (content_of 9 options))) (faults.Length offset)
+    ∷ row (not (is_some (units_in (content_of 9 options))) || not (has_no_time_offset (content_of 14 options))) (faults.Resolution offset)
     ∷ []
 
 abbrev pub interface_of : ByteOrder → List ℕ → Interface
@@ -123,22 +123,22 @@ captured_len order block = number_32 order 20 block
 
 -- the link type 1 is Ethernet
 abbrev pub packet_rows : ℕ → Section → List ℕ → List (Option NgFault)
-packet_rows place section block =
-    row (not (is_some (interface_in section block))) (faults.Interface place)
-    ∷ row (not (link_of (interface_in section block) == 1)) (faults.LinkType place)
-    ∷ row (nat_lt 262144 (captured_len section.order block)) (faults.Long place)
-    ∷ row (nat_lt (length block - 32) (captured_len section.order block)) (faults.Length place)
-    ∷ row (nat_lt 4294967295 (seconds_of section block)) (faults.Late place)
+packet_rows offset section block =
+    row (not (is_some (interface_in section block))) (faults.Interface offset)
+    ∷ row (not (link_of (interface_in section block) == 1)) (faults.LinkType offset)
+    ∷ row (nat_lt 262144 (captured_len section.order block)) (faults.Long offset)
+    ∷ row (nat_lt (length block - 32) (captured_len section.order block)) (faults.Length offset)
+    ∷ row (nat_lt 4294967295 (seconds_of section block)) (faults.Late offset)
     ∷ []
 
 -- ---- Any block: the faults of its body in their order, and what it leaves
 
 abbrev pub body_rows_of : Kind → ByteOrder → Standing → List ℕ → List (Option NgFault)
-body_rows_of SectionHeader order at block = row (not (is_read_version order block)) (faults.Version at.place) ∷ []
+body_rows_of SectionHeader order at block = row (not (is_read_version order block)) (faults.Version at.offset) ∷ []
 body_rows_of InterfaceDescription order at block =
-    row (nat_le 64 (length at.section.interfaces)) (faults.Many at.place) ∷ option_rows at.place (options_in order block)
-body_rows_of EnhancedPacket order at block = packet_rows at.place at.section block
-body_rows_of OtherPacket order at block = row true (faults.PacketForm at.place) ∷ []
+    row (nat_le 64 (length at.section.interfaces)) (faults.Many at.offset) ∷ option_rows at.offset (options_in order block)
+body_rows_of EnhancedPacket order at block = packet_rows at.offset at.section block
+body_rows_of OtherPacket order at block = row true (faults.PacketForm at.offset) ∷ []
 body_rows_of Other order at block = []
 
 unfoldable pub body_rows : Head → Standing → List ℕ → List (Option NgFault)
@@ -166,7 +166,7 @@ packets_in SectionHeader at block = []
 packets_in InterfaceDescription at block = []
 packets_in EnhancedPacket at block = record {
   number = at.packets + 1;
-  place = at.place;
+  offset = at.offset;
   seconds = seconds_of at.section block;
   octets = take (captured_len at.section.order block) (drop 28 block);
 } ∷ []
@@ -178,7 +178,7 @@ standing_behind head at block = record {
   section = section_behind head.kind head.order at.section block;
   blocks = at.blocks + 1;
   packets = packets_behind head.kind at.packets;
-  place = at.place + head.total;
+  offset = at.offset + head.total;
 }
 
 -- ---- Block after block
@@ -186,15 +186,15 @@ standing_behind head at block = record {
 -- the faults of the block that begins these octets, behind its head
 abbrev pub rest_rows : Head → Standing → List ℕ → List (Option NgFault)
 rest_rows head at octets =
-    row (nat_lt (length octets) head.total) (faults.Cut at.place)
-    ∷ row (not (number_32 head.order (head.total - 4) (take head.total octets) == head.total)) (faults.Length at.place)
+    row (nat_lt (length octets) head.total) (faults.Cut at.offset)
+    ∷ row (not (number_32 head.order (head.total - 4) (take head.total octets) == head.total)) (faults.Length at.offset)
     ∷ body_rows head at (take head.total octets)
 
 -- All faults of the block that begins these octets, in their order. At most 100,000,000 blocks are read.
 abbrev pub block_rows : Standing → List ℕ → List (Option NgFault)
 block_rows at octets =
-    row (nat_le 100000000 at.blocks) (faults.Many at.place)
-    ∷ row (nat_lt (length octets) 12) (faults.Cut at.place)
+    row (nat_le 100000000 at.blocks) (faults.Many at.offset)
+    ∷ row (nat_lt (length octets) 12) (faults.Cut at.offset)
     ∷ (head_rows at (take 12 octets) ++ rest_rows (head_of at.section.order (take 12 octets)) at octets)
 
 abbrev pub unless_broken : Option NgFault → NgPackets → NgPackets
@@ -217,7 +217,7 @@ blocks_from zero at (octet ∷ behind) =
     (with_block head at octets (blocks_from (head.total - 1) (standing_behind head at (take head.total octets)) behind))
 
 abbrev pub at_start : Standing
-at_start = record { section = record { order = Big; interfaces = [] }; blocks = 0; packets = 0; place = 0 }
+at_start = record { section = record { order = Big; interfaces = [] }; blocks = 0; packets = 0; offset = 0 }
 
 -- the packets of a capture
 unfoldable pub ng_packets_of : List ℕ → NgPackets

@@ -1,4 +1,4 @@
--- The numbers, names and places of the faults of a capture.
+-- The numbers, names and offsets of the faults of a capture.
 use Rattle.std.specs.Prelude.{ℕ, Bool, true, false, List, codes, Option, Some, None, Result, Ok, Err}
 use Rattle.pcapng_read.specs.declared.fault.NgFault.{NgFault}
 use Rattle.pcapng_read.specs.declared.fault.NgFault.TheVariants.{Magic, Version, LinkType, Cut, Long, ReadFault, Many, Length, PacketForm, Resolution, Interface, Late}
@@ -31,19 +31,19 @@ name_of (Resolution at) = codes "Resolution"
 name_of (Interface at) = codes "Interface"
 name_of (Late at) = codes "Late"
 
-unfoldable pub place_of : NgFault → Option ℕ
-place_of (Magic at) = Some at
-place_of (Version at) = Some at
-place_of (LinkType at) = Some at
-place_of (Cut at) = Some at
-place_of (Long at) = Some at
-place_of ReadFault = None
-place_of (Many at) = Some at
-place_of (Length at) = Some at
-place_of (PacketForm at) = Some at
-place_of (Resolution at) = Some at
-place_of (Interface at) = Some at
-place_of (Late at) = Some at
+unfoldable pub offset_of : NgFault → Option ℕ
+offset_of (Magic at) = Some at
+offset_of (Version at) = Some at
+offset_of (LinkType at) = Some at
+offset_of (Cut at) = Some at
+offset_of (Long at) = Some at
+offset_of ReadFault = None
+offset_of (Many at) = Some at
+offset_of (Length at) = Some at
+offset_of (PacketForm at) = Some at
+offset_of (Resolution at) = Some at
+offset_of (Interface at) = Some at
+offset_of (Late at) = Some at
 
 abbrev pub is_read_fault : NgFault → Bool
 is_read_fault (Magic at) = false

@@ -6,4 +6,4 @@ pub mod OptionStep
 pub mod Options
 pub mod Parts
 pub mod Reading
-pub mod Taken
+pub mod CaptureState

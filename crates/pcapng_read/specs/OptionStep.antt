@@ -15,15 +15,15 @@ IsStep order octets (Whole code content rest) =
 -- the contents of the options that are looked at
 pub record Contents : Type 0 where
   pub resolution : Option (List ℕ)
-  pub offset : Option (List ℕ)
+  pub time_offset : Option (List ℕ)
 
 abbrev pub nothing_yet : Contents
-nothing_yet = record { resolution = None; offset = None }
+nothing_yet = record { resolution = None; time_offset = None }
 
 abbrev pub with_content : Contents → ℕ → List ℕ → Contents
 with_content contents code content = record {
   resolution = if code == 9 then Some content else contents.resolution;
-  offset = if code == 14 then Some content else contents.offset;
+  time_offset = if code == 14 then Some content else contents.time_offset;
 }
 
 abbrev pub unless_passed : Bool → Contents → Option Contents
@@ -33,4 +33,5 @@ unless_passed false contents = Some contents
 -- the contents of the last options, or those found before where there are none; none where an option passes the body
 unfoldable pub contents_behind : Contents → Listing → Option Contents
 contents_behind found listing =
-    unless_passed listing.passes (record { resolution = last_with 9 found.resolution listing.options; offset = last_with 14 found.offset listing.options })
+    unless_passed listing.passes
+    (record { resolution = last_with 9 found.resolution listing.options; time_offset = last_with 14 found.time_offset listing.options })

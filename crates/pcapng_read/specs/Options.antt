@@ -67,6 +67,6 @@ units_in None = Some 1000000
 units_in (Some content) = units_of (slice_index content 0)
 
 -- Whether the option isn't there, or its eight octets are all 0 (section 4.2, if_tsoffset).
-abbrev pub has_no_offset : Option (List ℕ) → Bool
-has_no_offset None = true
-has_no_offset (Some content) = bytes_eq content (replicate 8 0)
+abbrev pub has_no_time_offset : Option (List ℕ) → Bool
+has_no_time_offset None = true
+has_no_time_offset (Some content) = bytes_eq content (replicate 8 0)

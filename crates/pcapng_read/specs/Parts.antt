@@ -1,4 +1,4 @@
--- The packets that are to come, at each place where a reader can stand.
+-- The packets that are to come, at each offset where a reader can stand.
 use Rattle.std.specs.Prelude.{◌≡◌, ℕ, ◌+◌, ◌-◌, ◌*◌, ◌<◌, ◌≤◌, nat_lt, nat_le, Bool, true, false, ◌&&◌, if◌then◌else◌, List, length, take, drop, Option, Some, None}
 use Rattle.mud_base.specs.Faults.{first_row}
 use Rattle.mud_base.specs.declared.number.ByteOrder.{ByteOrder}
@@ -15,7 +15,7 @@ use Rattle.pcapng_read.specs.Blocks.{NgPackets, head_of, head_rows, least_of, is
 
 -- what is known of the packet of a block beside its octets
 abbrev pub current_of : Standing → List ℕ → Current
-current_of at block = record { number = at.packets + 1; at = at.place; seconds = seconds_of at.section block; len = captured_len at.section.order block }
+current_of at block = record { number = at.packets + 1; at = at.offset; seconds = seconds_of at.section block; len = captured_len at.section.order block }
 
 -- the same of any block
 abbrev pub current_in : Kind → Standing → List ℕ → Option Current
@@ -45,18 +45,18 @@ pub record Begins (at : Standing) (head : Head) (held : List ℕ) : Type 0 where
   pub least : least_of head.kind ≤ head.total
   pub most : is_read head.kind ≡ true → head.total ≤ 524288
 
--- the numbers of a place between two blocks stay in their bounds
+-- the numbers of an offset between two blocks stay in their bounds
 pub record IsWithin (at : Standing) : Type 0 where
   pub few : at.blocks ≤ 100000000
   pub fewer : at.packets ≤ at.blocks
-  pub near : at.place ≤ 4294967295 * at.blocks
+  pub near : at.offset ≤ 4294967295 * at.blocks
 
 -- the packet of the block that was given, if it has one
 abbrev pub packet_in : Option Current → List ℕ → Option Packet
 packet_in None given = None
 packet_in (Some current) given = Some (record {
   number = current.number;
-  place = current.at;
+  offset = current.at;
   seconds = current.seconds;
   octets = take current.len (drop 28 given);
 })

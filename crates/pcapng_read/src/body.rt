@@ -15,23 +15,23 @@ use crate::standing::{Current, Standing};
 use mud_base::{ByteOrder, number_16, number_32};
 
 /// Where the major version stands in a section header (section 4.1).
-const MAJOR_VERSION_PLACE: usize = 12;
+const MAJOR_VERSION_OFFSET: usize = 12;
 /// Where the minor version stands in a section header (section 4.1).
-const MINOR_VERSION_PLACE: usize = 14;
+const MINOR_VERSION_OFFSET: usize = 14;
 /// The major version of the format.
 const MAJOR_VERSION: u16 = 1;
 /// The minor versions of the format that are read.
 const MINOR_VERSIONS: (u16, u16) = (0, 2);
 /// Where the number of the interface stands in an enhanced packet (section 4.3).
-const INTERFACE_PLACE: usize = 8;
+const INTERFACE_OFFSET: usize = 8;
 /// Where the upper half of the time stands in an enhanced packet (section 4.3).
-const TIME_HIGH_PLACE: usize = 12;
+const TIME_HIGH_OFFSET: usize = 12;
 /// Where the lower half of the time stands in an enhanced packet (section 4.3).
-const TIME_LOW_PLACE: usize = 16;
+const TIME_LOW_OFFSET: usize = 16;
 /// Where the captured length stands in an enhanced packet (section 4.3).
-const CAPTURED_LEN_PLACE: usize = 20;
+const CAPTURED_LEN_OFFSET: usize = 20;
 /// Where the octets begin in an enhanced packet (section 4.3).
-pub(crate) const OCTETS_PLACE: usize = 28;
+pub(crate) const OCTETS_OFFSET: usize = 28;
 /// How many octets an enhanced packet has beside those that were captured (section 4.3).
 const AROUND_OCTETS: usize = 32;
 /// The most octets of a packet.
@@ -47,8 +47,8 @@ fn is_read_version(order: ByteOrder, block: &[u8]) -> bool
     requires { 28 ≤ length block.now }
     ensures { result ≡ spec.is_read_version order block.now }
 {
-    let minor = number_16(order, block, MINOR_VERSION_PLACE);
-    number_16(order, block, MAJOR_VERSION_PLACE) == MAJOR_VERSION
+    let minor = number_16(order, block, MINOR_VERSION_OFFSET);
+    number_16(order, block, MAJOR_VERSION_OFFSET) == MAJOR_VERSION
         && (minor == MINOR_VERSIONS.0 || minor == MINOR_VERSIONS.1)
 }
 
@@ -57,8 +57,8 @@ fn time_in(order: ByteOrder, block: &[u8]) -> u64
     requires { 32 ≤ length block.now }
     ensures { result ≡ 4294967296 * number_at order 12 block.now + number_at order 16 block.now }
 {
-    let high = number_32(order, block, TIME_HIGH_PLACE);
-    let low = number_32(order, block, TIME_LOW_PLACE);
+    let high = number_32(order, block, TIME_HIGH_OFFSET);
+    let low = number_32(order, block, TIME_LOW_OFFSET);
     HALF_OF_TIME * u64::from(high) + u64::from(low)
 }
 
@@ -67,32 +67,32 @@ fn time_in(order: ByteOrder, block: &[u8]) -> u64
 fn packet_in(standing: &Standing, block: &[u8]) -> Result<Current, NgFault>
     requires whole { 32 ≤ length block.now }
     requires few { standing.now.packets < 100000000 }
-    ensures value { result ≡ unless (spec.packet_rows standing.now.place standing.now.section block.now) (Ok (current_of standing.now block.now)) }
+    ensures value { result ≡ unless (spec.packet_rows standing.now.offset standing.now.section block.now) (Ok (current_of standing.now block.now)) }
     ensures within { IfOk result (λ current. 32 + current.len ≤ length block.now) }
 {
-    let place = standing.place;
+    let offset = standing.offset;
     let order = standing.section.order;
-    let number = number_32(order, block, INTERFACE_PLACE) as usize;
+    let number = number_32(order, block, INTERFACE_OFFSET) as usize;
     let Some(interface) = standing.section.interfaces.get(number) else {
-        return Err(NgFault::Interface(place));
+        return Err(NgFault::Interface(offset));
     };
     if interface.link() != ETHERNET {
-        return Err(NgFault::LinkType(place));
+        return Err(NgFault::LinkType(offset));
     }
-    let len = number_32(order, block, CAPTURED_LEN_PLACE) as usize;
+    let len = number_32(order, block, CAPTURED_LEN_OFFSET) as usize;
     if len > MOST_CAPTURED {
-        return Err(NgFault::Long(place));
+        return Err(NgFault::Long(offset));
     }
     if len > block.len() - AROUND_OCTETS {
-        return Err(NgFault::Length(place));
+        return Err(NgFault::Length(offset));
     }
     let seconds = time_in(order, block) / interface.units();
     if seconds > u64::from(u32::MAX) {
-        return Err(NgFault::Late(place));
+        return Err(NgFault::Late(offset));
     }
     Ok(Current {
         number: standing.packets + 1,
-        at: place,
+        at: offset,
         seconds: seconds as u32,
         len,
     })
@@ -106,11 +106,11 @@ fn go_behind(standing: &mut Standing, head: Head)
     ensures { standing.new ≡ record standing.old {
       blocks = standing.old.blocks + 1;
       packets = spec.packets_behind head.kind standing.old.packets;
-      place = standing.old.place + head.total;
+      offset = standing.old.offset + head.total;
     } }
 {
     standing.blocks += 1;
-    standing.place += head.total as u64;
+    standing.offset += head.total as u64;
     if head.kind == Kind::EnhancedPacket {
         standing.packets += 1;
     }
@@ -140,20 +140,20 @@ pub(crate) fn take_block(
     match head.kind {
         Kind::SectionHeader => {
             if !is_read_version(head.order, block) {
-                return Err(NgFault::Version(standing.place));
+                return Err(NgFault::Version(standing.offset));
             }
             standing.section.order = head.order;
             standing.section.interfaces.clear();
         }
         Kind::InterfaceDescription => {
             if standing.section.interfaces.len() >= MOST_INTERFACES {
-                return Err(NgFault::Many(standing.place));
+                return Err(NgFault::Many(standing.offset));
             }
-            let interface = interface_in(head.order, block, standing.place)?;
+            let interface = interface_in(head.order, block, standing.offset)?;
             standing.section.interfaces.push(interface);
         }
         Kind::EnhancedPacket => found = Some(packet_in(standing, block)?),
-        Kind::OtherPacket => return Err(NgFault::PacketForm(standing.place)),
+        Kind::OtherPacket => return Err(NgFault::PacketForm(standing.offset)),
         Kind::Other => {}
     }
     go_behind(standing, head);

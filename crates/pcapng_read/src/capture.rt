@@ -12,8 +12,8 @@ ghost use Rattle.octet_buffer.specs.Packets.{with_next};
 ghost use Rattle.pcapng_read.specs.Parts.{most_to_come};
 ghost use Rattle.octet_buffer.specs.Reading.{Follows};
 ghost use Rattle.pcapng_read.specs.Reading.{EndsIn, fails};
-ghost use Rattle.pcapng_read.specs.Taken as spec;
-ghost use Rattle.pcapng_read.specs.Taken.{AtEnd, at_start, to_come};
+ghost use Rattle.pcapng_read.specs.CaptureState as spec;
+ghost use Rattle.pcapng_read.specs.CaptureState.{AtEnd, at_start, to_come};
 
 use crate::fault::NgFault;
 use crate::reader::NgReader;
@@ -31,9 +31,9 @@ pub struct NgCapture<S> {
 }
 
 impl<S> Model for NgCapture<S> {
-    ghost use Rattle.pcapng_read.specs.Taken.{NgTaken};
+    ghost use Rattle.pcapng_read.specs.CaptureState.{NgState};
 
-    ghost Value = { S × NgTaken };
+    ghost Value = { S × NgState };
 
     ghost view = { λ c. (c.source, c.reader) };
 }
@@ -85,7 +85,7 @@ impl<S: Door> NgCapture<S> {
         requires { IsSome self.now.1.packet }
         ensures { self.now.1.packet ≡ Some (record {
           number = result.number;
-          place = result.at;
+          offset = result.at;
           seconds = result.seconds;
           octets = result.octets.now;
         }) }

@@ -3,12 +3,12 @@ ghost use Rattle.std.specs.Prelude.{◌≡◌};
 
 use mud_world::Failed;
 
-/// Why a capture is refused, or ends before its octets do. Places count the octets of the capture
+/// Why a capture is refused, or ends before its octets do. Offsets count the octets of the capture
 /// from 0, and name the beginning of a block.
 #[derive(Clone, Copy, Debug, PartialEq, Eq)]
 pub enum NgFault {
-    /// The first block is no section header, or the magic number of a section header has neither order
-    /// of octets.
+    /// The first block is no section header, or the magic number of a section header has neither
+    /// order of octets.
     Magic(u64),
     /// The version of a section is neither 1.0 nor 1.2.
     Version(u64),
@@ -16,8 +16,8 @@ pub enum NgFault {
     LinkType(u64),
     /// The octets end within a block.
     Cut(u64),
-    /// A section, an interface or a packet has more than 524,288 octets, or more than 262,144 octets were
-    /// captured of a packet.
+    /// A section, an interface or a packet has more than 524,288 octets, or more than 262,144
+    /// octets were captured of a packet.
     Long(u64),
     /// The source failed. Its count of failed reads rose in the call that answered this first.
     ReadFault,
@@ -46,7 +46,7 @@ impl From<Failed> for NgFault {
 }
 
 impl NgFault {
-    ghost use Rattle.pcapng_read.specs.Fault.{number_of, name_of, place_of};
+    ghost use Rattle.pcapng_read.specs.Fault.{number_of, name_of, offset_of};
 
     /// The number of the fault, from 1 in the order of the variants.
     #[tactic(auto, unfolding(crate::specs::Fault::number_of))]
@@ -90,10 +90,10 @@ impl NgFault {
         }
     }
 
-    /// The place of the fault, where it has one.
-    #[tactic(auto, unfolding(crate::specs::Fault::place_of))]
-    pub fn place(&self) -> Option<u64>
-        ensures { result ≡ place_of self.now }
+    /// The offset of the fault, where it has one.
+    #[tactic(auto, unfolding(crate::specs::Fault::offset_of))]
+    pub fn offset(&self) -> Option<u64>
+        ensures { result ≡ offset_of self.now }
     {
         match self {
             NgFault::ReadFault => None,

@@ -9,11 +9,11 @@ use crate::standing::Standing;
 use mud_base::{ByteOrder, number_32};
 
 /// Where the type stands in a head.
-const TYPE_PLACE: usize = 0;
+const TYPE_OFFSET: usize = 0;
 /// Where the total length stands in a head.
-const TOTAL_PLACE: usize = 4;
+const TOTAL_OFFSET: usize = 4;
 /// Where the magic number stands in the head of a section header (section 4.1).
-const MAGIC_PLACE: usize = 8;
+const MAGIC_OFFSET: usize = 8;
 /// How many octets the head of any block has.
 pub(crate) const HEAD_LEN: usize = 12;
 /// The type of a section header (section 4.1).
@@ -60,7 +60,7 @@ fn is_section(head: &[u8]) -> bool
     requires { 12 ≤ length head.now }
     ensures { result ≡ spec.is_section head.now }
 {
-    number_32(ByteOrder::Big, head, TYPE_PLACE) == SECTION_HEADER
+    number_32(ByteOrder::Big, head, TYPE_OFFSET) == SECTION_HEADER
 }
 
 /// The order in which the magic number of a section header stands.
@@ -69,10 +69,10 @@ fn order_in(head: &[u8]) -> Option<ByteOrder>
     requires { 12 ≤ length head.now }
     ensures { result ≡ spec.order_in head.now }
 {
-    if number_32(ByteOrder::Big, head, MAGIC_PLACE) == MAGIC {
+    if number_32(ByteOrder::Big, head, MAGIC_OFFSET) == MAGIC {
         return Some(ByteOrder::Big);
     }
-    if number_32(ByteOrder::Little, head, MAGIC_PLACE) == MAGIC {
+    if number_32(ByteOrder::Little, head, MAGIC_OFFSET) == MAGIC {
         return Some(ByteOrder::Little);
     }
     None
@@ -100,7 +100,7 @@ fn kind_of(order: ByteOrder, head: &[u8]) -> Kind
     if is_section(head) {
         return Kind::SectionHeader;
     }
-    match number_32(order, head, TYPE_PLACE) {
+    match number_32(order, head, TYPE_OFFSET) {
         INTERFACE_DESCRIPTION => Kind::InterfaceDescription,
         ENHANCED_PACKET => Kind::EnhancedPacket,
         PACKET | SIMPLE_PACKET => Kind::OtherPacket,
@@ -118,7 +118,7 @@ pub(crate) fn head_of(order: ByteOrder, head: &[u8]) -> Head
     Head {
         kind: kind_of(order, head),
         order,
-        total: number_32(order, head, TOTAL_PLACE) as usize,
+        total: number_32(order, head, TOTAL_OFFSET) as usize,
     }
 }
 
@@ -155,19 +155,19 @@ pub(crate) fn head_in(standing: &Standing, octets: &[u8]) -> Result<Head, NgFaul
     ensures most { IfOk result (λ head. spec.is_read head.kind ≡ true → head.total ≤ 524288) }
     ensures unfailing { has_failed result ≡ false }
 {
-    let place = standing.place;
+    let offset = standing.offset;
     if standing.blocks == 0 && !is_section(octets) {
-        return Err(NgFault::Magic(place));
+        return Err(NgFault::Magic(offset));
     }
     if own_order(standing.section.order, octets).is_none() {
-        return Err(NgFault::Magic(place));
+        return Err(NgFault::Magic(offset));
     }
     let head = head_of(standing.section.order, octets);
     if head.total % 4 != 0 || head.total < least_of(head.kind) {
-        return Err(NgFault::Length(place));
+        return Err(NgFault::Length(offset));
     }
     if is_read(head.kind) && head.total > MOST_OCTETS {
-        return Err(NgFault::Long(place));
+        return Err(NgFault::Long(offset));
     }
     Ok(head)
 }

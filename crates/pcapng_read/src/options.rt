@@ -11,27 +11,27 @@ use mud_base::{ByteOrder, number_16};
 use std::marker::Model;
 
 /// Where the code stands in an option.
-const CODE_PLACE: usize = 0;
+const CODE_OFFSET: usize = 0;
 /// Where the length of the content stands in an option.
-const LEN_PLACE: usize = 2;
+const LEN_OFFSET: usize = 2;
 /// Where the content begins in an option.
-const CONTENT_PLACE: usize = 4;
+const CONTENT_OFFSET: usize = 4;
 /// The end of the options (section 3.5.1, opt_endofopt).
 const END: u16 = 0;
 /// The resolution of the time (section 4.2, if_tsresol).
 const RESOLUTION: u16 = 9;
 /// The offset of the time (section 4.2, if_tsoffset).
-const OFFSET: u16 = 14;
+const TIME_OFFSET: u16 = 14;
 /// The content of an offset that is 0.
-const NO_OFFSET: [u8; 8] = [0; 8];
+const NO_TIME_OFFSET: [u8; 8] = [0; 8];
 /// How many units a second has where the resolution isn't said.
 const MICROSECONDS: u64 = 1_000_000;
 /// The bit of a resolution that says that it is a power of two.
 const POWER_OF_TWO: u8 = 128;
 /// Where the link type stands in an interface description (section 4.2).
-const LINK_PLACE: usize = 8;
+const LINK_OFFSET: usize = 8;
 /// Where the options begin in an interface description (section 4.2).
-const OPTIONS_PLACE: usize = 16;
+const OPTIONS_OFFSET: usize = 16;
 
 /// What stands at the front of some octets of the options.
 #[derive(Drop)]
@@ -57,15 +57,15 @@ fn behind(octets: &[u8], count: usize) -> &[u8]
 fn first_step(order: ByteOrder, octets: &[u8]) -> Step<'_>
     ensures { IsStep order octets.now result }
 {
-    if octets.len() < CONTENT_PLACE {
+    if octets.len() < CONTENT_OFFSET {
         return Step::End;
     }
-    let code = number_16(order, octets, CODE_PLACE);
+    let code = number_16(order, octets, CODE_OFFSET);
     if code == END {
         return Step::End;
     }
-    let len = usize::from(number_16(order, octets, LEN_PLACE));
-    let (_, rest) = octets.split_at(CONTENT_PLACE);
+    let len = usize::from(number_16(order, octets, LEN_OFFSET));
+    let (_, rest) = octets.split_at(CONTENT_OFFSET);
     if rest.len() < len {
         return Step::Beyond;
     }
@@ -77,7 +77,7 @@ fn first_step(order: ByteOrder, octets: &[u8]) -> Step<'_>
 #[derive(Drop)]
 struct Contents<'a> {
     resolution: Option<&'a [u8]>,
-    offset: Option<&'a [u8]>,
+    time_offset: Option<&'a [u8]>,
 }
 
 impl<'a> Model for Contents<'a> {
@@ -86,7 +86,7 @@ impl<'a> Model for Contents<'a> {
 
     ghost Value = { OptionContents };
 
-    ghost view = { λ c. record { resolution = option_copied c.resolution; offset = option_copied c.offset } };
+    ghost view = { λ c. record { resolution = option_copied c.resolution; time_offset = option_copied c.time_offset } };
 }
 
 impl<'a> Contents<'a> {
@@ -99,7 +99,7 @@ impl<'a> Contents<'a> {
     {
         Contents {
             resolution: None,
-            offset: None,
+            time_offset: None,
         }
     }
 
@@ -112,8 +112,8 @@ impl<'a> Contents<'a> {
                 resolution: Some(content),
                 ..self
             },
-            OFFSET => Contents {
-                offset: Some(content),
+            TIME_OFFSET => Contents {
+                time_offset: Some(content),
                 ..self
             },
             _ => self,
@@ -128,10 +128,10 @@ impl<'a> Contents<'a> {
     }
 
     /// The content of the offset.
-    fn offset(&self) -> Option<&'a [u8]>
-        ensures { option_copied result ≡ self.now.offset }
+    fn time_offset(&self) -> Option<&'a [u8]>
+        ensures { option_copied result ≡ self.now.time_offset }
     {
-        self.offset
+        self.time_offset
     }
 }
 
@@ -192,35 +192,39 @@ fn units_in(content: Option<&[u8]>) -> Option<u64>
 }
 
 /// Whether an offset isn't there, or is 0.
-fn has_no_offset(content: Option<&[u8]>) -> bool
-    ensures { result ≡ spec.has_no_offset (option_copied content.entry) }
+fn has_no_time_offset(content: Option<&[u8]>) -> bool
+    ensures { result ≡ spec.has_no_time_offset (option_copied content.entry) }
 {
     match content {
         None => true,
-        Some(content) => content == NO_OFFSET.as_slice(),
+        Some(content) => content == NO_TIME_OFFSET.as_slice(),
     }
 }
 
 /// The interface that a block describes, or what is wrong with its options.
 #[tactic(auto, unfolding(crate::specs::OptionStep::contents_behind))]
-pub(crate) fn interface_in(order: ByteOrder, block: &[u8], place: u64) -> Result<Interface, NgFault>
+pub(crate) fn interface_in(
+    order: ByteOrder,
+    block: &[u8],
+    offset: u64,
+) -> Result<Interface, NgFault>
     requires { 20 ≤ length block.now }
-    ensures { result ≡ unless (option_rows place (options_in order block.now)) (Ok (interface_of order block.now)) }
+    ensures { result ≡ unless (option_rows offset (options_in order block.now)) (Ok (interface_of order block.now)) }
 {
     let (body, _) = block.split_at(block.len() - 4);
-    let (_, options) = body.split_at(OPTIONS_PLACE);
+    let (_, options) = body.split_at(OPTIONS_OFFSET);
     let Some(contents) = contents_in(order, options) else {
-        return Err(NgFault::Length(place));
+        return Err(NgFault::Length(offset));
     };
     let resolution = contents.resolution();
     if !is_one(resolution) {
-        return Err(NgFault::Length(place));
+        return Err(NgFault::Length(offset));
     }
     let Some(units) = units_in(resolution) else {
-        return Err(NgFault::Resolution(place));
+        return Err(NgFault::Resolution(offset));
     };
-    if !has_no_offset(contents.offset()) {
-        return Err(NgFault::Resolution(place));
+    if !has_no_time_offset(contents.time_offset()) {
+        return Err(NgFault::Resolution(offset));
     }
-    Ok(Interface::new(number_16(order, block, LINK_PLACE), units))
+    Ok(Interface::new(number_16(order, block, LINK_OFFSET), units))
 }

@@ -46,10 +46,10 @@ fn read_head<D: Door>(
         return Ok(None);
     }
     if standing.blocks >= MOST_BLOCKS {
-        return Err(NgFault::Many(standing.place));
+        return Err(NgFault::Many(standing.offset));
     }
     if !is_enough {
-        return Err(NgFault::Cut(standing.place));
+        return Err(NgFault::Cut(standing.offset));
     }
     let (octets, _) = held.split_at(HEAD_LEN);
     let head = head_in(standing, octets)?;
@@ -82,11 +82,11 @@ fn read_whole<D: Door>(
     ensures writes { (D.view source.new).writes ≡ (D.view source.old).writes }
 {
     if !fetch(source, buffer, head.total)? {
-        return Err(NgFault::Cut(standing.place));
+        return Err(NgFault::Cut(standing.offset));
     }
     let (block, _) = buffer.held().split_at(head.total);
     if number_32(head.order, block, head.total - LAST_LEN) as usize != head.total {
-        return Err(NgFault::Length(standing.place));
+        return Err(NgFault::Length(standing.offset));
     }
     let found = take_block(standing, head, block)?;
     buffer.hand_out(head.total);
@@ -172,10 +172,10 @@ fn read_over<D: Door>(
     ensures writes { (D.view source.new).writes ≡ (D.view source.old).writes }
 {
     if !pass_to_last(source, buffer, head.total)? {
-        return Err(NgFault::Cut(standing.place));
+        return Err(NgFault::Cut(standing.offset));
     }
     if number_32(head.order, buffer.held(), 0) as usize != head.total {
-        return Err(NgFault::Length(standing.place));
+        return Err(NgFault::Length(standing.offset));
     }
     take_block(standing, head, &[])?;
     buffer.hand_out(LAST_LEN);

@@ -8,10 +8,10 @@ ghost use Rattle.pcapng_read.specs.Fault.{has_failed};
 ghost use Rattle.pcapng_read.specs.Parts as parts;
 ghost use Rattle.pcapng_read.specs.Parts.{most_to_come};
 ghost use Rattle.pcapng_read.specs.Reading.{EndsIn, fails};
-ghost use Rattle.pcapng_read.specs.Taken as spec;
-ghost use Rattle.pcapng_read.specs.Taken.{AtEnd, at_start, at_start_holding, to_come};
+ghost use Rattle.pcapng_read.specs.CaptureState as spec;
+ghost use Rattle.pcapng_read.specs.CaptureState.{AtEnd, at_start, at_start_holding, to_come};
 
-use crate::body::OCTETS_PLACE;
+use crate::body::OCTETS_OFFSET;
 use crate::fault::NgFault;
 use crate::head::{HEAD_LEN, Kind, MOST_OCTETS, head_of};
 use crate::read::step;
@@ -60,9 +60,9 @@ impl Model for NgReader {
     ghost use Rattle.std.specs.Prelude.{◌+◌, ◌≤◌, length};
     ghost use Rattle.std.specs.Option.{ForSome};
     ghost use Rattle.pcapng_read.specs.Parts.{IsWithin, packet_in};
-    ghost use Rattle.pcapng_read.specs.Taken.{NgTaken};
+    ghost use Rattle.pcapng_read.specs.CaptureState.{NgState};
 
-    ghost Value = { NgTaken };
+    ghost Value = { NgState };
 
     ghost view = { λ r. record {
       fault = r.fault;
@@ -147,13 +147,13 @@ impl NgReader {
         requires { IsSome self.now.packet }
         ensures { self.now.packet ≡ Some (record {
           number = result.number;
-          place = result.at;
+          offset = result.at;
           seconds = result.seconds;
           octets = result.octets.now;
         }) }
     {
         let current = self.current.unwrap();
-        let (_, octets) = self.buffer.given().split_at(OCTETS_PLACE);
+        let (_, octets) = self.buffer.given().split_at(OCTETS_OFFSET);
         let (octets, _) = octets.split_at(current.len);
         Captured {
             number: current.number,

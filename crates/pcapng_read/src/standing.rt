@@ -12,18 +12,18 @@ pub struct Section {
     pub interfaces: Interfaces,
 }
 
-/// A place between two blocks: the section, how many blocks and how many packets stand before it,
+/// An offset between two blocks: the section, how many blocks and how many packets stand before it,
 /// and the octet where the next block begins.
 #[derive(Drop)]
 pub struct Standing {
     pub section: Section,
     pub blocks: u32,
     pub packets: u32,
-    pub place: u64,
+    pub offset: u64,
 }
 
 impl Standing {
-    /// The place before the first block.
+    /// The offset before the first block.
     pub(crate) fn new() -> Standing
         ensures { result ≡ at_start }
     {
@@ -34,7 +34,7 @@ impl Standing {
             },
             blocks: 0,
             packets: 0,
-            place: 0,
+            offset: 0,
         }
     }
 }

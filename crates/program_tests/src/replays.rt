@@ -1,5 +1,5 @@
-//! Two requests on one connection, cut at each place, and with each call of the door and of the keeper
-//! failing.
+//! Two requests on one connection, cut at each offset, and with each call of the door and of the
+//! keeper failing.
 use crate::items::{AT_5, AT_6, CLASS_ITEM, LOCALS_ITEM};
 use crate::memory::{Call, Kept, NONE, Run, door_to, outside_of};
 use crate::requests::{BOUND_BODY, BOUND_HEAD, CLASS, LOCALS, SET_BODY, SET_HEAD, UNKEPT};
@@ -39,7 +39,8 @@ static REQUESTS: [&[u8]; 2] = [LOCALS, CLASS];
 /// What comes of them, however they are cut.
 static ANSWERED: Run<'static> = ALL;
 
-/// Replays the connection of these pieces over a store that keeps nothing: both requests are answered.
+/// Replays the connection of these pieces over a store that keeps nothing: both requests are
+/// answered.
 fn check_cut(rt: &impl Abort, alloc: Global, number: usize, pieces: &[&[u8]]) {
     let mut outside = outside_of(rt, alloc, &ONE, &[], &[], &ANSWERED);
     outside.door = door_to(rt, alloc, pieces, NONE);

@@ -39,10 +39,10 @@ ruling_text (Drop n) = codes "drop:" ++ decimal n
 ruling_text (DropDefault why) = why_name why
 ruling_text DropHeld = codes "drop:held"
 
--- the ruling of an end that is a Thing, behind the name of the end
-unfoldable pub end_text : List ℕ → Option Ruling → List ℕ
-end_text name None = []
-end_text name (Some ruling) = name ++ ruling_text ruling
+-- the ruling of an endpoint that is a Thing, behind the name of the endpoint
+unfoldable pub endpoint_text : List ℕ → Option Ruling → List ℕ
+endpoint_text name None = []
+endpoint_text name (Some ruling) = name ++ ruling_text ruling
 
 -- whether the packet passes
 unfoldable pub passing_text : Verdict → List ℕ
@@ -53,7 +53,7 @@ unfoldable pub reason_text : Verdict → List ℕ
 reason_text Unmanaged = codes " unmanaged"
 reason_text Link = codes " link"
 reason_text (Unreadable part) = unreadable_text part
-reason_text (Governed source destination) = end_text (codes " from=") source ++ end_text (codes " to=") destination
+reason_text (Governed source destination) = endpoint_text (codes " from=") source ++ endpoint_text (codes " to=") destination
 
 unfoldable pub verdict_text : Verdict → List ℕ
 verdict_text verdict = passing_text verdict ++ reason_text verdict

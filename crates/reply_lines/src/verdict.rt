@@ -39,10 +39,10 @@ pub fn append_ruling(line: &mut Bytes, ruling: Ruling) -> Result<(), Memory>
     }
 }
 
-/// Adds the ruling of an end behind its name, where the end is a Thing.
-#[tactic(auto, unfolding(crate::specs::Verdicts::end_text))]
-fn append_end(line: &mut Bytes, name: &[u8], ruling: Option<Ruling>) -> Result<(), Memory>
-    ensures { OnOk result (line.new ≡ line.old ++ spec.end_text name.now ruling) }
+/// Adds the ruling of an endpoint behind its name, where it is a Thing.
+#[tactic(auto, unfolding(crate::specs::Verdicts::endpoint_text))]
+fn append_endpoint(line: &mut Bytes, name: &[u8], ruling: Option<Ruling>) -> Result<(), Memory>
+    ensures { OnOk result (line.new ≡ line.old ++ spec.endpoint_text name.now ruling) }
 {
     match ruling {
         None => Ok(()),
@@ -63,8 +63,8 @@ fn append_reason(line: &mut Bytes, verdict: &Verdict) -> Result<(), Memory>
         Verdict::Link => line.append(b" link"),
         Verdict::Unreadable(part) => append_unreadable(line, *part),
         Verdict::Governed(source, destination) => {
-            append_end(line, b" from=", *source)?;
-            append_end(line, b" to=", *destination)
+            append_endpoint(line, b" from=", *source)?;
+            append_endpoint(line, b" to=", *destination)
         }
     }
 }
@@ -90,7 +90,7 @@ fn append_accepted(line: &mut Bytes, words: &[u8], number: u16) -> Result<(), Me
 
 /// Adds a verdict: `pass` or `drop`, and the ruling of each end that is a Thing, or why none is
 /// ruled on.
-#[tactic(auto, unfolding(crate::specs::Verdicts::verdict_text, crate::specs::Verdicts::passing_text, crate::specs::Verdicts::reason_text, crate::specs::Verdicts::end_text, crate::specs::Verdicts::ruling_text, packet_judge::specs::Verdicts::forwarded, packet_judge::specs::Verdicts::accepts))]
+#[tactic(auto, unfolding(crate::specs::Verdicts::verdict_text, crate::specs::Verdicts::passing_text, crate::specs::Verdicts::reason_text, crate::specs::Verdicts::endpoint_text, crate::specs::Verdicts::ruling_text, packet_judge::specs::Verdicts::forwarded, packet_judge::specs::Verdicts::accepts))]
 #[inline(always)]
 pub fn append_verdict(line: &mut Bytes, verdict: &Verdict) -> Result<(), Memory>
     ensures { OnOk result (line.new ≡ line.old ++ spec.verdict_text verdict.now) }

@@ -5,17 +5,17 @@ use Rattle.mud_base.specs.declared.addr.Addr.TheVariants.{V4, V6}
 use Rattle.mud_base.proofs.OnLiterals.{texts_on_literals}
 use Rattle.mud_tables.specs.declared.thing.Thing.{Thing}
 use Rattle.mud_tables.specs.declared.bind.Class.TheVariants.{Uri, Mine}
-use Rattle.mud_tables.specs.Ends.{for_ever}
+use Rattle.mud_tables.specs.Expiries.{for_ever}
 use Rattle.mud_tables.proofs.Literals.{mac_1, bulb_addr, dns_addr, test_addr, bulb_url, next_url, switch_url, dns_class, test_name, bulb, bare_bulb}
 use Rattle.file_tables.specs.Held.{HeldFile}
 use Rattle.file_tables.specs.declared.approval.Approval.TheVariants.{Verified, Waived}
 use Rattle.file_tables.specs.declared.cached_file.CachedFile.{CachedFile}
-use Rattle.text_lines.specs.Numbers.{end_text}
-use Rattle.report_runs.specs.Rows.{word_part, ending_part, pending_word, hold_word, thing_line, lease_line, thing_lines, approved_word, candidate_word, file_line, class_part, class_line, class_lines, local_line, name_line, name_lines, due_line}
+use Rattle.text_lines.specs.Numbers.{expiry_text}
+use Rattle.report_runs.specs.Rows.{word_part, expiring_part, pending_word, hold_word, thing_line, lease_line, thing_lines, approved_word, candidate_word, file_line, class_part, class_line, class_lines, local_line, name_line, name_lines, due_line}
 use Rattle.file_tables.specs.Words.{approval_word}
 
 unfoldable lines_compute : ⊤
-unfolding texts_on_literals end_text word_part ending_part pending_word hold_word thing_line lease_line thing_lines approval_word approved_word candidate_word file_line class_part class_line class_lines local_line name_line name_lines due_line
+unfolding texts_on_literals expiry_text word_part expiring_part pending_word hold_word thing_line lease_line thing_lines approval_word approved_word candidate_word file_line class_part class_line class_lines local_line name_line name_lines due_line
 lines_compute = tt
 
 -- ---- Things

@@ -8,9 +8,9 @@ use Rattle.mud_world.specs.Boxed.{faults_of, Tells, kept_items}
 use Rattle.mud_world.specs.Causes.{StopsAtFailure}
 use Rattle.mud_world.specs.Door.{DoorState, put_out}
 use Rattle.command_words.specs.declared.command.ReportKind.{ReportKind}
-use Rattle.command_runs.specs.Due.{WroteFirst}
+use Rattle.command_runs.specs.Output.{WroteFirst}
 use Rattle.mud_world.specs.View.{DoorView}
-use Rattle.command_runs.proofs.Dues.{wrote_none}
+use Rattle.command_runs.proofs.Outputs.{wrote_none}
 use Rattle.desk_model.specs.DeskTables.{DeskTables, IsSound}
 use Rattle.desk_model.specs.Items.{tables_in}
 use Rattle.desk_model.specs.Boxed.{IsKept, IsSameBox}

@@ -13,15 +13,15 @@ use Rattle.file_tables.specs.Held.{HeldFile}
 use Rattle.file_tables.specs.declared.approval.Approval.{Approval}
 use Rattle.file_tables.specs.declared.cached_file.CachedFile.{CachedFile}
 use Rattle.file_tables.specs.Words.{approval_word}
-use Rattle.text_lines.specs.Numbers.{end_text}
+use Rattle.text_lines.specs.Numbers.{expiry_text}
 
 -- a space and the word
 unfoldable pub word_part : List ℕ → List ℕ
 word_part word = codes " " ++ word
 
--- an address and its end, as the last words of a line
-unfoldable pub ending_part : Addr → ℕ → List ℕ
-ending_part address end = codes " " ++ addr_text address ++ codes " " ++ end_text end ++ codes "\n"
+-- an address and its expiry, as the last words of a line
+unfoldable pub expiring_part : Addr → ℕ → List ℕ
+expiring_part address expiry = codes " " ++ addr_text address ++ codes " " ++ expiry_text expiry ++ codes "\n"
 
 -- ---- Things
 
@@ -38,7 +38,7 @@ unfoldable pub thing_line : Thing → List ℕ
 thing_line thing = codes "thing " ++ mac_text thing.mac ++ word_part thing.url ++ word_part (pending_word thing.pending) ++ word_part (hold_word thing.held) ++ codes "\n"
 
 unfoldable pub lease_line : Mac → Addr × ℕ → List ℕ
-lease_line mac lease = codes "lease " ++ mac_text mac ++ ending_part lease.0 lease.1
+lease_line mac lease = codes "lease " ++ mac_text mac ++ expiring_part lease.0 lease.1
 
 -- a Thing, and then its leases
 unfoldable pub thing_lines : Thing → List ℕ
@@ -76,7 +76,7 @@ unfoldable pub local_line : PrefixParts → List ℕ
 local_line prefix = codes "local " ++ prefix_text prefix ++ codes "\n"
 
 unfoldable pub name_line : List ℕ → Addr × ℕ → List ℕ
-name_line name observed = codes "name " ++ name ++ ending_part observed.0 observed.1
+name_line name observed = codes "name " ++ name ++ expiring_part observed.0 observed.1
 
 -- a line for each address of the name
 unfoldable pub name_lines : NameRow → List ℕ

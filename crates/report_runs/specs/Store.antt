@@ -8,7 +8,7 @@ use Rattle.mud_world.specs.Boxed.{Tells, kept_items}
 use Rattle.mud_world.specs.Door.{DoorState, put_out}
 use Rattle.command_words.specs.declared.command.ReportKind.{ReportKind}
 use Rattle.command_runs.specs.Ends.{IsStoppedWriting}
-use Rattle.command_runs.specs.Due.{WroteFirst}
+use Rattle.command_runs.specs.Output.{WroteFirst}
 use Rattle.mud_world.specs.View.{DoorView}
 use Rattle.desk_model.specs.DeskTables.{DeskTables}
 use Rattle.desk_model.specs.Items.{tables_in}
@@ -40,7 +40,7 @@ module _ {X : Type 0} {F : X → Type 0} (members : (v : (x : X) × F x) → Gho
   pub record ReportsStore (kind : ReportKind) (tells clock_tells : Type 0) (moments : List ℕ) (keeper returned : DynBox X Global F) (old new : DoorView) (status : ℕ) : Type 0 where
     -- A write that fails ends the run.
     pub honest : RunsHonestly members each_but_refused (IsStoppedWriting old new) (new.writes ≡ old.writes) keeper returned status
-    -- The items that are kept when the run ends say what is due.
+    -- The items that are kept when the run ends say what the output is.
     pub writes : tells → Tells members returned → WritesReport kind clock_tells moments (tables_in (kept_items members returned)) old.state new.state status
     pub leaves : LeavesStore members keeper returned status
     -- The box that comes back is the one that was handed in. No port is bound, the connection isn't left, and no read fails.

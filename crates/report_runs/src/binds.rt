@@ -2,7 +2,7 @@
 ghost use Rattle.std.specs.Prelude.{◌≡◌, ◌++◌, OnOk, flat_map};
 ghost use Rattle.report_runs.specs.Rows as spec;
 
-use crate::row::{ReportRow, append_ending};
+use crate::row::{ReportRow, append_expiring};
 use mud_base::{Addr, Bytes, End, Memory, Prefix};
 use mud_tables::{Class, ClassRow, NameRow};
 use std::alloc::Global;
@@ -92,7 +92,7 @@ fn append_observed(
 {
     line.append(b"name ")?;
     line.append(name)?;
-    append_ending(alloc, line, observed.0, observed.1)
+    append_expiring(alloc, line, observed.0, observed.1)
 }
 
 /// Adds the lines of the addresses of a name, in their order.

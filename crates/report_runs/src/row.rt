@@ -4,7 +4,7 @@ ghost use Rattle.report_runs.specs.Rows as spec;
 
 use mud_base::{Addr, Bytes, End, Memory};
 use std::alloc::Global;
-use text_lines::{append_addr, append_end};
+use text_lines::{append_addr, append_expiry};
 
 /// A row of a table.
 pub trait ReportRow {
@@ -27,19 +27,19 @@ pub(crate) fn append_word(line: &mut Bytes, word: &[u8]) -> Result<(), Memory>
     line.append(word)
 }
 
-/// Adds an address and its end, as the last words of a line.
-#[tactic(auto, unfolding(crate::specs::Rows::ending_part))]
-pub(crate) fn append_ending(
+/// Adds an address and its expiry, as the last words of a line.
+#[tactic(auto, unfolding(crate::specs::Rows::expiring_part))]
+pub(crate) fn append_expiring(
     alloc: Global,
     line: &mut Bytes,
     address: Addr,
-    end: End,
+    expiry: End,
 ) -> Result<(), Memory>
-    ensures { OnOk result (line.new ≡ line.old ++ spec.ending_part address end) }
+    ensures { OnOk result (line.new ≡ line.old ++ spec.expiring_part address expiry) }
 {
     line.append(b" ")?;
     append_addr(alloc, line, address)?;
     line.append(b" ")?;
-    append_end(line, end)?;
+    append_expiry(line, expiry)?;
     line.append(b"\n")
 }

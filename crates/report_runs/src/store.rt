@@ -2,7 +2,7 @@
 ghost use Rattle.std.specs.Prelude.{◌≡◌, ◌⊎◌, false, [], ◌∷◌};
 ghost use Rattle.command_runs.specs.Status.{Is, IsOneOf, status_number};
 ghost use Rattle.command_runs.specs.declared.status.Status.TheVariants.{Done, BadItem, KeeperFailed};
-ghost use Rattle.desk_items.specs.Taken.{kept_of};
+ghost use Rattle.desk_items.specs.Loaded.{kept_of};
 ghost use Rattle.desk_model.specs.Items.{none_kept};
 ghost use Rattle.report_runs.specs.Store.{ReportsStore};
 ghost use Rattle.report_runs.specs.Tables.{asks_clock, moments_after};
@@ -11,18 +11,18 @@ use crate::table::report_desk;
 use command_runs::Status;
 use command_words::ReportKind;
 use desk_runs::refuse_store;
-use mud_desk::{Desk, Taken};
+use mud_desk::{Desk, Loaded};
 use mud_world::{Clock, Door, Keeper};
 use std::alloc::Global;
 
 /// Opens a desk over the keeper, and then writes one of its tables, a row after the other in the
 /// order in which they are listed. Nothing is read of the door. Where the store can't be opened, no
 /// row is written, and the clock isn't asked. The box is handed back. Nothing was taken before, as
-/// [`Desk::open`] wants it: [`Taken::new`].
+/// [`Desk::open`] wants it: [`Loaded::new`].
 pub fn report_store<D: Door, C: Clock>(
     alloc: Global,
     keeper: Box<dyn Keeper>,
-    nothing: Taken,
+    nothing: Loaded,
     kind: ReportKind,
     door: &mut D,
     clock: &mut C,

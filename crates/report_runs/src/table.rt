@@ -5,7 +5,7 @@ ghost use Rattle.mud_world.specs.Door.{put_out};
 ghost use Rattle.desk_model.specs.Boxed.{IsKept};
 ghost use Rattle.mud_desk.specs.DeskState.{tables_of};
 ghost use Rattle.command_runs.specs.Ends.{IsStoppedWriting};
-ghost use Rattle.command_runs.specs.Due.{WroteFirst};
+ghost use Rattle.command_runs.specs.Output.{WroteFirst};
 ghost use Rattle.command_runs.specs.Status.{Is, IsNot, IsOneOf, status_number};
 ghost use Rattle.command_runs.specs.declared.status.Status.TheVariants.{Done, DoorFailed, NoMemory};
 ghost use Rattle.command_runs.specs.Stops.{has_failed};

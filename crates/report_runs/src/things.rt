@@ -2,7 +2,7 @@
 ghost use Rattle.std.specs.Prelude.{◌≡◌, ◌++◌, OnOk, flat_map};
 ghost use Rattle.report_runs.specs.Rows as spec;
 
-use crate::row::{ReportRow, append_ending, append_word};
+use crate::row::{ReportRow, append_expiring, append_word};
 use mud_base::{Addr, Bytes, End, Mac, Memory};
 use mud_tables::Thing;
 use mud_url::MudUrl;
@@ -53,7 +53,7 @@ fn append_lease(
 {
     line.append(b"lease ")?;
     append_mac(alloc, line, mac)?;
-    append_ending(alloc, line, lease.0, lease.1)
+    append_expiring(alloc, line, lease.0, lease.1)
 }
 
 /// Adds the lines of leases, in their order.

@@ -5,21 +5,21 @@ use Rattle.std.specs.Option.{option_map, option_map_or}
 use Rattle.std.specs.List.{list_any, AllByRecursion}
 use Rattle.std.proofs.lemmas.Bool.{false≢true, eqb-true}
 use Rattle.std.proofs.lemmas.Option.{none-some}
-use Rattle.sorted_rows.specs.Placed.{same_place, row_at}
+use Rattle.sorted_rows.specs.Sortable.{same_sort_key, row_at}
 use Rattle.sorted_rows.proofs.RowLaws.{ascend-filter}
 use Rattle.sorted_rows.proofs.RowSets.{tested_at, kept_at, covered}
 use Rattle.acl_model.specs.declared.binding.Binding.{Binding}
 use Rattle.sorted_rows.specs.declared.edit.Edit.{Edit}
-use Rattle.sorted_rows.specs.Edits.{edit_place}
+use Rattle.sorted_rows.specs.Edits.{edit_sort_key}
 use Rattle.acl_rows.specs.declared.row.Row.{Row}
-use Rattle.acl_rows.specs.Places.{row_place}
-use Rattle.acl_rows.specs.Rows.{row, Slots, rows_of, end_at}
-use Rattle.acl_rows.proofs.AtPlaces.{row_at-rows_of, ascend-rows_of}
-use Rattle.row_changes.specs.Patch.{edit_end, end_for, IsPatch, same_row, is_missing, rows_apart}
+use Rattle.acl_rows.specs.SortKeys.{row_sort_key}
+use Rattle.acl_rows.specs.Rows.{row, Slots, rows_of, expiry_at}
+use Rattle.acl_rows.proofs.AtSortKeys.{row_at-rows_of, ascend-rows_of}
+use Rattle.row_changes.specs.Patch.{edit_expiry, expiry_for, IsPatch, same_row, is_missing, rows_apart}
 
 -- ---- Edits
 
--- a row is missing where another end stands at its place, or none
+-- a row is missing where another expiry stands at its sort key, or none
 missing_by : (u : ℕ) (o : Option ℕ) (b : Bool) → o ≢ Some u → b ≡ option_map_or (λ v. nat_eq v u) o false → not b ≡ true
 missing_by u None b other is = ap not is
 missing_by u (Some v) b other is = by (nat_eq v u) refl
@@ -32,8 +32,8 @@ module _ (slots : Slots) (bindings : List Binding) (e : Row) where
   the_row : ℕ → Row
   the_row u = row e.owner e.side e.addr e.entry u
 
-  found : (u : ℕ) → end_for slots bindings e ≡ Some u → row_at row_place (row_place e) (rows_of slots bindings) ≡ Some (row e.owner e.side e.addr e.entry u)
-  unfolding row_place end_for
+  found : (u : ℕ) → expiry_for slots bindings e ≡ Some u → row_at row_sort_key (row_sort_key e) (rows_of slots bindings) ≡ Some (row e.owner e.side e.addr e.entry u)
+  unfolding row_sort_key expiry_for
   found u is = row_at-rows_of slots bindings e.owner e.side e.addr e.entry ∙ ap (option_map (row e.owner e.side e.addr e.entry)) is
 
   until_row : (u : ℕ) (o : Option ℕ) → option_map_or (λ (x : Row). nat_eq x.until u) (option_map (row e.owner e.side e.addr e.entry) o) false ≡ option_map_or (λ v. nat_eq v u) o false
@@ -41,17 +41,17 @@ module _ (slots : Slots) (bindings : List Binding) (e : Row) where
   until_row u None = refl
   until_row u (Some v) = refl
 
-  missing : (u : ℕ) → end_for slots bindings e ≢ Some u → is_missing (rows_of slots bindings) (row e.owner e.side e.addr e.entry u) ≡ true
-  unfolding is_missing same_row end_for row row_place
+  missing : (u : ℕ) → expiry_for slots bindings e ≢ Some u → is_missing (rows_of slots bindings) (row e.owner e.side e.addr e.entry u) ≡ true
+  unfolding is_missing same_row expiry_for row row_sort_key
   missing u other =
-      missing_by u (end_at slots bindings e.owner e.side e.addr e.entry) _ other
-      (tested_at row_place (row_place e) (λ x. nat_eq x.until u) (rows_of slots bindings) (ascend-rows_of slots bindings)
+      missing_by u (expiry_at slots bindings e.owner e.side e.addr e.entry) _ other
+      (tested_at row_sort_key (row_sort_key e) (λ x. nat_eq x.until u) (rows_of slots bindings) (ascend-rows_of slots bindings)
       ∙ ap (λ (o : Option Row). option_map_or (λ x. nat_eq x.until u) o false) (row_at-rows_of slots bindings e.owner e.side e.addr e.entry)
-      ∙ until_row u (end_at slots bindings e.owner e.side e.addr e.entry))
+      ∙ until_row u (expiry_at slots bindings e.owner e.side e.addr e.entry))
 
 module _ (slots : Slots) (bindings : List Binding) (slots' : Slots) (bindings' : List Binding) where
   abbrev Covers : List Row → Edit Row → Type 0
-  Covers rows e = list_any (λ r. same_place (row_place r) (edit_place row_place e)) rows ≡ true
+  Covers rows e = list_any (λ r. same_sort_key (row_sort_key r) (edit_sort_key row_sort_key e)) rows ≡ true
 
   abbrev old : List Row
   old = rows_of slots bindings
@@ -60,33 +60,33 @@ module _ (slots : Slots) (bindings : List Binding) (slots' : Slots) (bindings' :
   new = rows_of slots' bindings'
 
   abbrev Says : Edit Row → Type 0
-  Says e = edit_end e ≡ end_for slots' bindings' e.row
+  Says e = edit_expiry e ≡ expiry_for slots' bindings' e.row
 
   abbrev IsOther : Edit Row → Type 0
-  IsOther e = edit_end e ≢ end_for slots bindings e.row
+  IsOther e = edit_expiry e ≢ expiry_for slots bindings e.row
 
-  coming_end : (e : Edit Row) → e.comes ≡ true → edit_end e ≡ Some e.row.until
-  unfolding edit_end
-  coming_end e comes = ap (λ (b : Bool). cond b (Some e.row.until) None) comes
+  coming_expiry : (e : Edit Row) → e.comes ≡ true → edit_expiry e ≡ Some e.row.until
+  unfolding edit_expiry
+  coming_expiry e comes = ap (λ (b : Bool). cond b (Some e.row.until) None) comes
 
-  going_end : (e : Edit Row) → e.comes ≡ false → edit_end e ≡ None
-  unfolding edit_end
-  going_end e goes = ap (λ (b : Bool). cond b (Some e.row.until) None) goes
+  going_expiry : (e : Edit Row) → e.comes ≡ false → edit_expiry e ≡ None
+  unfolding edit_expiry
+  going_expiry e goes = ap (λ (b : Bool). cond b (Some e.row.until) None) goes
 
   put_covers : (e : Edit Row) → e.comes ≡ true → Says e → IsOther e → Covers (filter (is_missing old) new) e
-  unfolding edit_place
+  unfolding edit_sort_key
   put_covers e comes says other =
-      let is : edit_end e ≡ Some e.row.until = coming_end e comes in
-      kept_at row_place (row_place e.row) (is_missing old) (row e.row.owner e.row.side e.row.addr e.row.entry e.row.until) new (missing slots bindings e.row e.row.until (λ same. other (is ∙ sym same))) (found slots' bindings' e.row e.row.until (sym says ∙ is))
+      let is : edit_expiry e ≡ Some e.row.until = coming_expiry e comes in
+      kept_at row_sort_key (row_sort_key e.row) (is_missing old) (row e.row.owner e.row.side e.row.addr e.row.entry e.row.until) new (missing slots bindings e.row e.row.until (λ same. other (is ∙ sym same))) (found slots' bindings' e.row e.row.until (sym says ∙ is))
 
-  take_by : (e : Edit Row) (o : Option ℕ) → end_for slots bindings e.row ≡ o → edit_end e ≡ None → Says e → IsOther e → Covers (filter (is_missing new) old) e
-  unfolding edit_place
+  take_by : (e : Edit Row) (o : Option ℕ) → expiry_for slots bindings e.row ≡ o → edit_expiry e ≡ None → Says e → IsOther e → Covers (filter (is_missing new) old) e
+  unfolding edit_sort_key
   take_by e None was is says other = absurd (other (is ∙ sym was))
   take_by e (Some u) was is says other =
-      kept_at row_place (row_place e.row) (is_missing new) (row e.row.owner e.row.side e.row.addr e.row.entry u) old (missing slots' bindings' e.row u (λ same. none-some u (sym (sym says ∙ is) ∙ same))) (found slots bindings e.row u was)
+      kept_at row_sort_key (row_sort_key e.row) (is_missing new) (row e.row.owner e.row.side e.row.addr e.row.entry u) old (missing slots' bindings' e.row u (λ same. none-some u (sym (sym says ∙ is) ∙ same))) (found slots bindings e.row u was)
 
   take_covers : (e : Edit Row) → e.comes ≡ false → Says e → IsOther e → Covers (filter (is_missing new) old) e
-  take_covers e goes says other = take_by e (end_for slots bindings e.row) refl (going_end e goes) says other
+  take_covers e goes says other = take_by e (expiry_for slots bindings e.row) refl (going_expiry e goes) says other
 
   puts : Edit Row → Bool
   puts e = e.comes
@@ -120,9 +120,9 @@ module _ (slots : Slots) (bindings : List Binding) (slots' : Slots) (bindings' :
   unfolding rows_apart puts takes
   few_edits edits patch =
       let come : length (filter puts edits) ≤ length (filter (is_missing old) new) =
-      covered (edit_place row_place) row_place (filter (is_missing old) new) (filter puts edits) (ascend-filter (edit_place row_place) puts edits patch.ascend) (ascend-filter row_place (is_missing old) new (ascend-rows_of slots' bindings'))
+      covered (edit_sort_key row_sort_key) row_sort_key (filter (is_missing old) new) (filter puts edits) (ascend-filter (edit_sort_key row_sort_key) puts edits patch.ascend) (ascend-filter row_sort_key (is_missing old) new (ascend-rows_of slots' bindings'))
       (all_filter puts (Covers (filter (is_missing old) new)) put_covers edits patch.each patch.change) in
       let go : length (filter takes edits) ≤ length (filter (is_missing new) old) =
-      covered (edit_place row_place) row_place (filter (is_missing new) old) (filter takes edits) (ascend-filter (edit_place row_place) takes edits patch.ascend) (ascend-filter row_place (is_missing new) old (ascend-rows_of slots bindings))
+      covered (edit_sort_key row_sort_key) row_sort_key (filter (is_missing new) old) (filter takes edits) (ascend-filter (edit_sort_key row_sort_key) takes edits patch.ascend) (ascend-filter row_sort_key (is_missing new) old (ascend-rows_of slots bindings))
       (all_filter takes (Covers (filter (is_missing new) old)) (λ e passes. take_covers e (not_comes e.comes passes)) edits patch.each patch.change) in
       omega (arith, count edits)

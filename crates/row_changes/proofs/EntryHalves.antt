@@ -57,7 +57,7 @@ pub all_stand : (entries all : List Entry) → entries ≡ all → StandFrom 1 e
 unfolding entry_at
 all_stand entries all is i e at = subst (λ (k : ℕ). entry_at k all ≡ Some e) {x = suc i} {y = 1 + i} (omega arith) (subst (λ (xs : List Entry). slice_get xs i ≡ Some e) is at)
 
--- ---- Their places
+-- ---- Their sort keys
 
 numbered-halves : (n m : ℕ) (entries : List Entry) → numbered n entries ≡ numbered n (take m entries) ++ numbered (n + m) (drop m entries)
 unfolding numbered

@@ -7,8 +7,8 @@ use Rattle.std.specs.Option.{is_some}
 use Rattle.std.proofs.Math.Nat.{mul-le-mul_right}
 use Rattle.std.proofs.lemmas.Option.{none-some, same_Some, slice_get_read}
 use Rattle.std.proofs.lemmas.Bool.{or_left, or_right}
-use Rattle.sorted_rows.specs.Placed.{row_at, set_row, rows_under, index_in, PlacesAscend}
-use Rattle.sorted_rows.proofs.PlacedLaws.{index_in_row}
+use Rattle.sorted_rows.specs.Sortable.{row_at, set_row, rows_under, index_in, SortKeysAscend}
+use Rattle.sorted_rows.proofs.SortableLaws.{index_in_row}
 use Rattle.mud_base.specs.declared.addr.Addr.{Addr}
 use Rattle.mud_base.specs.declared.packet.Direction.{Direction}
 use Rattle.acl_model.specs.declared.entry.Entry.{Entry}
@@ -16,25 +16,25 @@ use Rattle.acl_model.specs.declared.entry.Selector.{Selector}
 use Rattle.acl_model.specs.declared.binding.MemberKey.{MemberKey}
 use Rattle.acl_model.specs.declared.binding.Binding.{Binding}
 use Rattle.acl_model.specs.Keys.{key_of, is_member, is_membered}
-use Rattle.acl_model.specs.Places.{key_kind, key_text, key_place, text_place, binding_place}
+use Rattle.acl_model.specs.SortKeys.{key_kind, key_text, member_sort_key, text_sort_key, binding_sort_key}
 use Rattle.acl_model.specs.Changes.{without_bindings, replaced}
 use Rattle.acl_model.proofs.KeyLaws.{is_some-key_of}
 use Rattle.acl_model.specs.FirstMatch.{entries_of}
 use Rattle.acl_model.specs.Policies.{UrlPolicy}
 use Rattle.sorted_rows.specs.declared.edit.Edit.{Edit}
-use Rattle.sorted_rows.specs.Edits.{edit, edit_place}
+use Rattle.sorted_rows.specs.Edits.{edit, edit_sort_key}
 use Rattle.acl_rows.specs.declared.row.Owner.{Owner}
 use Rattle.acl_rows.specs.declared.row.Row.{Row}
 use Rattle.acl_rows.specs.declared.row.RowKey.{RowKey}
-use Rattle.acl_rows.specs.Places.{row_place, row_key_place}
+use Rattle.acl_rows.specs.SortKeys.{row_sort_key, named_sort_key}
 use Rattle.acl_rows.specs.ByAddress.{rows_of_peer, index_beside}
-use Rattle.acl_rows.specs.Rows.{Slots, rows_of, member_keys, held_by, entry_at, entry_end}
-use Rattle.acl_rows.proofs.Sound.{end_at-entry}
-use Rattle.row_changes.specs.Touched.{row_key, key_end, changed_edits}
+use Rattle.acl_rows.specs.Rows.{Slots, rows_of, member_keys, held_by, entry_at, entry_expiry}
+use Rattle.acl_rows.proofs.Sound.{expiry_at-entry}
+use Rattle.row_changes.specs.Touched.{row_key, key_expiry, changed_edits}
 use Rattle.row_changes.specs.PolicyTouched.{bound_under, bound_key, first_key_touches}
 use Rattle.row_changes.specs.EntryKeys.{key_parts}
-use Rattle.row_changes.specs.Change.{ChangeState, after, end_of_row}
-use Rattle.row_changes.specs.Fresh.{Fresh, fresh_of, row_with, end_kept, one_fresh, more_fresh, first_of, rest_of, membered_count, AreOfPeer, gone_edit, left_edits}
+use Rattle.row_changes.specs.Change.{ChangeState, after, expiry_of_row}
+use Rattle.row_changes.specs.Fresh.{Fresh, fresh_of, row_with, expiry_kept, one_fresh, more_fresh, first_of, rest_of, membered_count, AreOfPeer, gone_edit, left_edits}
 use Rattle.row_changes.proofs.OneEdit.{asked_edit, was}
 
 -- ---- The first key
@@ -53,7 +53,7 @@ pub no_key : (o : Option MemberKey) (keys : List MemberKey) → (let q : Option 
 no_key None keys is = refl
 no_key (Some key) keys is = absurd (none-some (key_parts key) is)
 
--- ---- One more place
+-- ---- One more sort key
 
 module _ (slots : Slots) (bindings : List Binding) (new : Slots) where
   pub more_fresh-append : (xs ys : List RowKey) (s : Fresh) → more_fresh slots bindings new (xs ++ ys) s ≡ more_fresh slots bindings new ys (more_fresh slots bindings new xs s)
@@ -69,21 +69,21 @@ module _ (slots : Slots) (bindings : List Binding) (new : Slots) where
   unfolding more_fresh
   none-more s = refl
 
--- the end that is asked at the place of an entry
-pub entry_asked : (new : Slots) (bindings : List Binding) (owner : Owner) (side : Direction) (a : Addr) (n : ℕ) (held : UrlPolicy) (entry : Entry) → held_by new owner ≡ Some held → entry_at n (entries_of side held.policy) ≡ Some entry → entry_end bindings held.url entry a ≡ key_end new bindings (row_key owner side a n)
-unfolding key_end
-entry_asked new bindings owner side a n held entry holds stands = sym (end_at-entry new bindings owner side a n held entry holds stands)
+-- the expiry that is asked at the sort key of an entry
+pub entry_asked : (new : Slots) (bindings : List Binding) (owner : Owner) (side : Direction) (a : Addr) (n : ℕ) (held : UrlPolicy) (entry : Entry) → held_by new owner ≡ Some held → entry_at n (entries_of side held.policy) ≡ Some entry → entry_expiry bindings held.url entry a ≡ key_expiry new bindings (row_key owner side a n)
+unfolding key_expiry
+entry_asked new bindings owner side a n held entry holds stands = sym (expiry_at-entry new bindings owner side a n held entry holds stands)
 
 module _ (slots : Slots) (bindings : List Binding) (new : Slots) (rows : List Row) (kept : rows ≡ rows_of slots bindings) (key : RowKey) where
   -- the edit of a key, and its row where one stood and one is asked for
-  pub fresh_is : (old until : Option ℕ) (edits : List (Edit Row)) (s : Fresh) → old ≡ end_of_row (row_at row_place (row_key_place key) rows) → until ≡ key_end new bindings key
-      → edits ≡ changed_edits key (index_beside key.owner key.side key.addr (row_key_place key) rows) old until s.edits
-      → fresh_of edits (row_with key (end_kept old until) s.rows) ≡ one_fresh slots bindings new key s
+  pub fresh_is : (old until : Option ℕ) (edits : List (Edit Row)) (s : Fresh) → old ≡ expiry_of_row (row_at row_sort_key (named_sort_key key) rows) → until ≡ key_expiry new bindings key
+      → edits ≡ changed_edits key (index_beside key.owner key.side key.addr (named_sort_key key) rows) old until s.edits
+      → fresh_of edits (row_with key (expiry_kept old until) s.rows) ≡ one_fresh slots bindings new key s
   unfolding one_fresh
   fresh_is old until edits s was' is made =
-      let asked = made ∙ ap (λ (o : Option ℕ). changed_edits key (index_beside key.owner key.side key.addr (row_key_place key) rows) o until s.edits) was' ∙ asked_edit slots bindings new rows kept key until s.edits is in
+      let asked = made ∙ ap (λ (o : Option ℕ). changed_edits key (index_beside key.owner key.side key.addr (named_sort_key key) rows) o until s.edits) was' ∙ asked_edit slots bindings new rows kept key until s.edits is in
       let stood = was' ∙ was slots bindings new rows kept key in
-      λ i. fresh_of (asked i) (row_with key (end_kept (stood i) (is i)) s.rows)
+      λ i. fresh_of (asked i) (row_with key (expiry_kept (stood i) (is i)) s.rows)
 
 -- ---- The next one of a list
 
@@ -117,10 +117,10 @@ no_first bindings owner side n [] is = refl
 no_first bindings owner side n (key ∷ keys) is = absurd (none-some (key_parts key) is)
 
 pub some_first : (bindings : List Binding) (owner : Owner) (side : Direction) (n : ℕ) (kind : ℕ) (text : List ℕ) (keys : List MemberKey) → (let q : Option (ℕ × List ℕ) = Some (kind, text) in q ≡ option_map key_parts (first_of keys))
-    → first_key_touches bindings owner side n keys ≡ map (bound_key owner side n) (rows_under binding_place (text_place kind text) bindings)
-unfolding first_of first_key_touches bound_under key_parts key_place
+    → first_key_touches bindings owner side n keys ≡ map (bound_key owner side n) (rows_under binding_sort_key (text_sort_key kind text) bindings)
+unfolding first_of first_key_touches bound_under key_parts member_sort_key
 some_first bindings owner side n kind text [] is = absurd (none-some (kind, text) (sym is))
-some_first bindings owner side n kind text (key ∷ keys) is = (λ i. map (bound_key owner side n) (rows_under binding_place (text_place (sym (parts key is) i).0 (sym (parts key is) i).1) bindings))
+some_first bindings owner side n kind text (key ∷ keys) is = (λ i. map (bound_key owner side n) (rows_under binding_sort_key (text_sort_key (sym (parts key is) i).0 (sym (parts key is) i).1) bindings))
   where
     parts : (key : MemberKey) → (let q : Option (ℕ × List ℕ) = Some (kind, text) in q ≡ Some (key_kind key, key_text key)) → (let p : ℕ × List ℕ = (kind, text) in p ≡ (key_kind key, key_text key))
     parts key is = same_Some (kind, text) (key_kind key, key_text key) is
@@ -142,14 +142,14 @@ counts_one url entry p first = ap (λ (b : Bool). length (cond b (entry ∷ []) 
 
 -- ---- Steps
 
-pub one_more_place : (start now end i n u : ℕ) → i < n → now ≤ start + i * u → end ≤ now + u → end ≤ start + n * u
-one_more_place start now end i n u lt so_far one =
+pub one_more_sort_key : (start now end i n u : ℕ) → i < n → now ≤ start + i * u → end ≤ now + u → end ≤ start + n * u
+one_more_sort_key start now end i n u lt so_far one =
     let up : i + 1 ≤ n = omega arith in
     let most : (i + 1) * u ≤ n * u = mul-le-mul_right u up in
     omega (arith, most)
 
-pub all_places : (start now i n u : ℕ) → i ≤ n → now ≤ start + i * u → now ≤ start + n * u
-all_places start now i n u le so_far =
+pub all_sort_keys : (start now i n u : ℕ) → i ≤ n → now ≤ start + i * u → now ≤ start + n * u
+all_sort_keys start now i n u le so_far =
     let most : i * u ≤ n * u = mul-le-mul_right u le in
     omega (arith, most)
 
@@ -161,32 +161,32 @@ peer_here P (x ∷ xs) zero r all at = subst P (same_Some x r at) all.0
 peer_here P (x ∷ xs) (suc i) r all at = peer_here P xs i r all.1 at
 
 -- among all rows of its owner, side and address a row has its own index
-own_edit : (all own : List Row) (i n : ℕ) (r : Row) → PlacesAscend row_place own → AreOfPeer own all → i < length own → r ≡ get_or own i r → n ≡ i → edit r false (Ok n) ≡ gone_edit all r
+own_edit : (all own : List Row) (i n : ℕ) (r : Row) → SortKeysAscend row_sort_key own → AreOfPeer own all → i < length own → r ≡ get_or own i r → n ≡ i → edit r false (Ok n) ≡ gone_edit all r
 unfolding index_beside
 own_edit all own i n r up peer lt is here =
     let at : slice_get own i ≡ Some r = slice_get_read own (length own) i r refl lt is in
     let same : own ≡ rows_of_peer r.owner r.side r.addr all = peer_here (λ x. own ≡ rows_of_peer x.owner x.side x.addr all) own i r peer at in
-    ap (edit r false) (ap Ok here ∙ sym (index_in_row row_place own i r up at) ∙ ap (index_in row_place (row_place r)) same)
+    ap (edit r false) (ap Ok here ∙ sym (index_in_row row_sort_key own i r up at) ∙ ap (index_in row_sort_key (row_sort_key r)) same)
 
-next_left : (all new own : List Row) (i : ℕ) (r : Row) (edits : List (Edit Row)) → i < length own → r ≡ get_or own i r → (b : Bool) → is_some (row_at row_place (row_place r) new) ≡ b
-    → left_edits all new (drop i own) edits ≡ left_edits all new (drop (i + 1) own) (cond b edits (set_row (edit_place row_place) (gone_edit all r) edits))
+next_left : (all new own : List Row) (i : ℕ) (r : Row) (edits : List (Edit Row)) → i < length own → r ≡ get_or own i r → (b : Bool) → is_some (row_at row_sort_key (row_sort_key r) new) ≡ b
+    → left_edits all new (drop i own) edits ≡ left_edits all new (drop (i + 1) own) (cond b edits (set_row (edit_sort_key row_sort_key) (gone_edit all r) edits))
 unfolding left_edits
 next_left all new own i r edits lt is b kept =
     ap (λ (xs : List Row). left_edits all new xs edits) (drop-cons own i r lt ∙ (λ j. sym is j ∷ drop (next j) own))
-    ∙ ap (λ (c : Bool). left_edits all new (drop (i + 1) own) (cond c edits (set_row (edit_place row_place) (gone_edit all r) edits))) kept
+    ∙ ap (λ (c : Bool). left_edits all new (drop (i + 1) own) (cond c edits (set_row (edit_sort_key row_sort_key) (gone_edit all r) edits))) kept
   where
     next : suc i ≡ i + 1
     next = omega arith
 
 -- the next row is among the new ones
-pub left_stays : (all new own : List Row) (i : ℕ) (r : Row) (edits after : List (Edit Row)) → i < length own → r ≡ get_or own i r → is_some (row_at row_place (row_place r) new) ≡ true → after ≡ edits
+pub left_stays : (all new own : List Row) (i : ℕ) (r : Row) (edits after : List (Edit Row)) → i < length own → r ≡ get_or own i r → is_some (row_at row_sort_key (row_sort_key r) new) ≡ true → after ≡ edits
     → left_edits all new (drop i own) edits ≡ left_edits all new (drop (i + 1) own) after
 left_stays all new own i r edits after lt is there same = next_left all new own i r edits lt is true there ∙ ap (left_edits all new (drop (i + 1) own)) (sym same)
 
 -- the next row goes
-pub left_goes : (all new own : List Row) (i n : ℕ) (r : Row) (edits after : List (Edit Row)) → PlacesAscend row_place own → AreOfPeer own all → i < length own → r ≡ get_or own i r → n ≡ i
-    → is_some (row_at row_place (row_place r) new) ≡ false → after ≡ set_row (edit_place row_place) (edit r false (Ok n)) edits → left_edits all new (drop i own) edits ≡ left_edits all new (drop (i + 1) own) after
+pub left_goes : (all new own : List Row) (i n : ℕ) (r : Row) (edits after : List (Edit Row)) → SortKeysAscend row_sort_key own → AreOfPeer own all → i < length own → r ≡ get_or own i r → n ≡ i
+    → is_some (row_at row_sort_key (row_sort_key r) new) ≡ false → after ≡ set_row (edit_sort_key row_sort_key) (edit r false (Ok n)) edits → left_edits all new (drop i own) edits ≡ left_edits all new (drop (i + 1) own) after
 left_goes all new own i n r edits after up peer lt is here gone made =
     next_left all new own i r edits lt is false gone
-    ∙ ap (λ (e : Edit Row). left_edits all new (drop (i + 1) own) (set_row (edit_place row_place) e edits)) (sym (own_edit all own i n r up peer lt is here))
+    ∙ ap (λ (e : Edit Row). left_edits all new (drop (i + 1) own) (set_row (edit_sort_key row_sort_key) e edits)) (sym (own_edit all own i n r up peer lt is here))
     ∙ ap (left_edits all new (drop (i + 1) own)) (sym made)

@@ -4,14 +4,14 @@ use Rattle.std.specs.Prelude.{filter}
 use Rattle.std.specs.List.{AllByRecursion}
 use Rattle.std.specs.Map.{values_of}
 use Rattle.std.specs.declared.cmp.Ordering.TheVariants.{Less}
-use Rattle.sorted_rows.specs.Placed.{row_at, is_under, RowsAndRoom, PlacesAbove, PlacesAscend}
-use Rattle.sorted_rows.proofs.PlacedLaws.{same_place_itself, same_place-cmp}
+use Rattle.sorted_rows.specs.Sortable.{row_at, is_under, RowsAndRoom, SortKeysAbove, SortKeysAscend}
+use Rattle.sorted_rows.proofs.SortableLaws.{same_sort_key_itself, same_sort_key-cmp}
 use Rattle.mud_base.specs.declared.addr.Addr.{Addr}
 use Rattle.mud_base.specs.declared.packet.Direction.{Direction}
 use Rattle.sorted_rows.specs.declared.edit.Edit.{Edit}
 use Rattle.acl_rows.specs.declared.row.Owner.{Owner}
 use Rattle.acl_rows.specs.declared.row.Row.{Row}
-use Rattle.acl_rows.specs.Places.{side_place, row_place}
+use Rattle.acl_rows.specs.SortKeys.{side_sort_key, row_sort_key}
 use Rattle.acl_rows.specs.View.{rows_of_side}
 use Rattle.acl_rows.specs.ByAddress.{rows_of_peer, grouped, AreGroups}
 use Rattle.acl_shelves.proofs.Numbers.{AreOne}
@@ -38,21 +38,21 @@ module _ {R : Type 0} (t : R → Bool) where
   all_pass [] = tt
   all_pass (x ∷ xs) = passes_by x xs (all_pass xs) (t x) refl
 
--- ---- The row of a place
+-- ---- The row of a sort key
 
-module _ {R : Type 0} (place : R → List ℕ) where
-  behind : (y : R) (ys zs : List R) → PlacesAbove place (place y) zs → AllByRecursion (λ x. row_at place (place x) ys ≡ Some x) zs → AllByRecursion (λ x. row_at place (place x) (y ∷ ys) ≡ Some x) zs
+module _ {R : Type 0} (sort_key : R → List ℕ) where
+  behind : (y : R) (ys zs : List R) → SortKeysAbove sort_key (sort_key y) zs → AllByRecursion (λ x. row_at sort_key (sort_key x) ys ≡ Some x) zs → AllByRecursion (λ x. row_at sort_key (sort_key x) (y ∷ ys) ≡ Some x) zs
   behind y ys [] above there = tt
   behind y ys (z ∷ zs) above there = (
-    ap (λ (b : Bool). cond b (Some y) (row_at place (place z) ys)) (same_place-cmp (place y) (place z) Less above.0) ∙ there.0,
+    ap (λ (b : Bool). cond b (Some y) (row_at sort_key (sort_key z) ys)) (same_sort_key-cmp (sort_key y) (sort_key z) Less above.0) ∙ there.0,
     behind y ys zs above.1 there.1,
   )
 
-  -- each row is the one of its place
-  pub each_there : (rows : List R) → PlacesAscend place rows → AllByRecursion (λ x. row_at place (place x) rows ≡ Some x) rows
+  -- each row is the one of its sort key
+  pub each_there : (rows : List R) → SortKeysAscend sort_key rows → AllByRecursion (λ x. row_at sort_key (sort_key x) rows ≡ Some x) rows
   each_there [] up = tt
   each_there (y ∷ ys) up = (
-    ap (λ (b : Bool). cond b (Some y) (row_at place (place y) ys)) (same_place_itself (place y)),
+    ap (λ (b : Bool). cond b (Some y) (row_at sort_key (sort_key y) ys)) (same_sort_key_itself (sort_key y)),
     behind y ys ys up.0 (each_there ys up.1),
   )
 
@@ -72,34 +72,34 @@ split_all : {R : Type 0} (P : R → Type 0) (xs ys : List R) → AllByRecursion 
 split_all P [] ys all = (tt, all)
 split_all P (x ∷ xs) ys all = (let rest = split_all P xs ys all.1 in ((all.0, rest.0), rest.1))
 
-module _ (owner : Owner) (side : Direction) (all shelf : List Row) (are : shelf ≡ rows_of_side owner side all) where
+module _ (owner : Owner) (side : Direction) (all bucket : List Row) (are : bucket ≡ rows_of_side owner side all) where
   abbrev IsOwn : Row → Type 0
-  IsOwn r = is_under row_place (side_place owner side) r ≡ true
+  IsOwn r = is_under row_sort_key (side_sort_key owner side) r ≡ true
 
-  peer_of_shelf : (r : Row) → IsOwn r → rows_of_peer r.owner r.side r.addr shelf ≡ rows_of_peer r.owner r.side r.addr all
-  peer_of_shelf r own =
+  peer_of_bucket : (r : Row) → IsOwn r → rows_of_peer r.owner r.side r.addr bucket ≡ rows_of_peer r.owner r.side r.addr all
+  peer_of_bucket r own =
       let one : AreOne r.owner owner r.side side = side_is owner side r own in
       ap (rows_of_peer r.owner r.side r.addr) (are ∙ (λ i. rows_of_side (sym one.owner i) (sym one.side i) all)) ∙ peer_beside r.owner r.side r.addr all
 
-  group_peer : (group rs : List Row) → AllByRecursion (λ r. group ≡ rows_of_peer r.owner r.side r.addr shelf) rs → AllByRecursion IsOwn rs → AllByRecursion (λ r. group ≡ rows_of_peer r.owner r.side r.addr all) rs
+  group_peer : (group rs : List Row) → AllByRecursion (λ r. group ≡ rows_of_peer r.owner r.side r.addr bucket) rs → AllByRecursion IsOwn rs → AllByRecursion (λ r. group ≡ rows_of_peer r.owner r.side r.addr all) rs
   group_peer group [] each own = tt
-  group_peer group (r ∷ rs) each own = (each.0 ∙ peer_of_shelf r own.0, group_peer group rs each.1 own.1)
+  group_peer group (r ∷ rs) each own = (each.0 ∙ peer_of_bucket r own.0, group_peer group rs each.1 own.1)
 
-  peers_by : (gs : List (Addr × RowsAndRoom Row)) → AllByRecursion (λ g. AllByRecursion (λ r. g.1.rows ≡ rows_of_peer r.owner r.side r.addr shelf) g.1.rows) gs → AllByRecursion IsOwn (grouped gs) → AllByRecursion (λ (g : RowsAndRoom Row). AreOfPeer g.rows all) (values_of gs)
+  peers_by : (gs : List (Addr × RowsAndRoom Row)) → AllByRecursion (λ g. AllByRecursion (λ r. g.1.rows ≡ rows_of_peer r.owner r.side r.addr bucket) g.1.rows) gs → AllByRecursion IsOwn (grouped gs) → AllByRecursion (λ (g : RowsAndRoom Row). AreOfPeer g.rows all) (values_of gs)
   unfolding grouped
   peers_by [] each own = tt
   peers_by (g ∷ gs) each own = (let both = split_all IsOwn g.1.rows (grouped gs) own in (group_peer g.1.rows g.1.rows each.0 both.0, peers_by gs each.1 both.1))
 
-  own_all : AllByRecursion IsOwn shelf
+  own_all : AllByRecursion IsOwn bucket
   unfolding rows_of_side
-  own_all = subst (AllByRecursion IsOwn) (sym are) (all_pass (is_under row_place (side_place owner side)) all)
+  own_all = subst (AllByRecursion IsOwn) (sym are) (all_pass (is_under row_sort_key (side_sort_key owner side)) all)
 
   -- each group has all rows of its owner, side and address
-  pub groups_peers : (gs : List (Addr × RowsAndRoom Row)) → AreGroups gs shelf → AllByRecursion (λ (g : RowsAndRoom Row). AreOfPeer g.rows all) (values_of gs)
+  pub groups_peers : (gs : List (Addr × RowsAndRoom Row)) → AreGroups gs bucket → AllByRecursion (λ (g : RowsAndRoom Row). AreOfPeer g.rows all) (values_of gs)
   groups_peers gs groups = peers_by gs groups.each (subst (AllByRecursion IsOwn) (sym groups.all) own_all)
 
   -- and the groups together have those of the owner and side
-  pub groups_all : (gs : List (Addr × RowsAndRoom Row)) → AreGroups gs shelf → rows_in (values_of gs) ≡ rows_of_side owner side all
+  pub groups_all : (gs : List (Addr × RowsAndRoom Row)) → AreGroups gs bucket → rows_in (values_of gs) ≡ rows_of_side owner side all
   groups_all gs groups = sym (grouped_values gs) ∙ groups.all ∙ are
 
 -- the edits of some rows after those of others

@@ -9,7 +9,7 @@ mod FreshJoined
 pub mod FreshLaws
 pub mod Groups
 pub mod Halves
-pub mod LeastEnds
+pub mod LeastExpiries
 pub mod Loops
 pub mod OneEdit
 pub mod Patches

@@ -1,11 +1,11 @@
 -- The edits of what goes, and then of what comes, are the patch of a change.
 use Rattle.std.proofs.Common.{◌≡◌, ℕ, ◌+◌, ◌*◌, ◌^◌, ◌<◌, ◌≤◌, List, [], ◌++◌, length, sym, ap, subst, ◌∙◌}
 use Rattle.std.proofs.lemmas.Grind.{flat_map-append}
-use Rattle.sorted_rows.specs.Placed.{PlacesAscend}
+use Rattle.sorted_rows.specs.Sortable.{SortKeysAscend}
 use Rattle.acl_model.specs.declared.binding.Binding.{Binding}
 use Rattle.sorted_rows.specs.declared.edit.Edit.{Edit}
 use Rattle.acl_rows.specs.declared.row.Row.{Row}
-use Rattle.acl_model.specs.Places.{binding_place}
+use Rattle.acl_model.specs.SortKeys.{binding_sort_key}
 use Rattle.acl_rows.specs.Rows.{Slots}
 use Rattle.row_changes.specs.Patch.{IsPatch}
 use Rattle.acl_rows.specs.declared.row.RowKey.{RowKey}
@@ -20,7 +20,7 @@ pub touches-append : (slots : Slots) (gone come : List Binding) → touches slot
 unfolding touches
 touches-append slots gone come = flat_map-append (binding_touches slots) gone come
 
-pub planned : (c : ChangeState) (edits : List (Edit Row)) → PlacesAscend binding_place c.bindings → edits ≡ more_edits c (touches c.slots c.come) (more_edits c (touches c.slots c.gone) []) → IsPatch c.slots c.bindings c.slots (after c) edits
+pub planned : (c : ChangeState) (edits : List (Edit Row)) → SortKeysAscend binding_sort_key c.bindings → edits ≡ more_edits c (touches c.slots c.come) (more_edits c (touches c.slots c.gone) []) → IsPatch c.slots c.bindings c.slots (after c) edits
 unfolding more_edits after
 planned c edits up is =
     subst (IsPatch c.slots c.bindings c.slots (after c))

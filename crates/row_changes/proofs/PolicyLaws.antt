@@ -52,15 +52,15 @@ unfolding wide_from
 wide_all es i numbers past far =
     sym (append-nil numbers) ∙ ap (λ (xs : List Entry). numbers ++ wide_from (i + 1) xs) (sym (drop_all i es past)) ∙ far
 
-pub part_from : (rows shelf : List Row) (owner : Owner) (policy : Policy) (outgoing incoming wide : List ℕ) (es : List Entry) → shelf ≡ rows_of_side owner From rows → HasWide policy outgoing incoming → es ≡ policy.outgoing → wide ≡ outgoing
-    → IsPartOf rows From owner policy (part From es wide shelf (length shelf))
+pub part_from : (rows bucket : List Row) (owner : Owner) (policy : Policy) (outgoing incoming wide : List ℕ) (es : List Entry) → bucket ≡ rows_of_side owner From rows → HasWide policy outgoing incoming → es ≡ policy.outgoing → wide ≡ outgoing
+    → IsPartOf rows From owner policy (part From es wide bucket (length bucket))
 unfolding entries_of
-part_from rows shelf owner policy outgoing incoming wide es own has is numbers = record { side_is = refl; entries = is; wide = numbers ∙ has.outgoing_is; rows_are = own; among = omega arith }
+part_from rows bucket owner policy outgoing incoming wide es own has is numbers = record { side_is = refl; entries = is; wide = numbers ∙ has.outgoing_is; rows_are = own; among = omega arith }
 
-pub part_to : (rows shelf : List Row) (owner : Owner) (policy : Policy) (outgoing incoming wide : List ℕ) (es : List Entry) → shelf ≡ rows_of_side owner To rows → HasWide policy outgoing incoming → es ≡ policy.incoming → wide ≡ incoming
-    → IsPartOf rows To owner policy (part To es wide shelf (length shelf))
+pub part_to : (rows bucket : List Row) (owner : Owner) (policy : Policy) (outgoing incoming wide : List ℕ) (es : List Entry) → bucket ≡ rows_of_side owner To rows → HasWide policy outgoing incoming → es ≡ policy.incoming → wide ≡ incoming
+    → IsPartOf rows To owner policy (part To es wide bucket (length bucket))
 unfolding entries_of
-part_to rows shelf owner policy outgoing incoming wide es own has is numbers = record { side_is = refl; entries = is; wide = numbers ∙ has.incoming_is; rows_are = own; among = omega arith }
+part_to rows bucket owner policy outgoing incoming wide es own has is numbers = record { side_is = refl; entries = is; wide = numbers ∙ has.incoming_is; rows_are = own; among = omega arith }
 
 pub default_counts : HasCounts default_policy
 unfolding entries_of

@@ -9,19 +9,19 @@ use Rattle.std.proofs.lemmas.Bool.Decides.{eqb_tells}
 use Rattle.std.proofs.lemmas.Option.{same_Some, none-some}
 use Rattle.std.proofs.lemmas.List.Folds.{list_any-append}
 use Rattle.std.specs.Cmp.{first_so, second_so}
-use Rattle.sorted_rows.specs.Placed.{same_place, row_at, is_under}
-use Rattle.sorted_rows.proofs.PlacedLaws.{same_place_itself, same_place_exact}
+use Rattle.sorted_rows.specs.Sortable.{same_sort_key, row_at, is_under}
+use Rattle.sorted_rows.proofs.SortableLaws.{same_sort_key_itself, same_sort_key_exact}
 use Rattle.mud_base.specs.Addresses.{same_addr}
 use Rattle.mud_base.specs.declared.addr.Addr.{Addr}
 use Rattle.mud_base.specs.declared.packet.Direction.{Direction}
 use Rattle.mud_base.specs.declared.packet.Direction.TheVariants.{From, To}
-use Rattle.sorted_rows.specs.Addresses.{addr_place}
+use Rattle.sorted_rows.specs.Addresses.{addr_sort_key}
 use Rattle.sorted_rows.proofs.ListTests.{or_first, or_second, any-flat_map}
 use Rattle.acl_model.specs.declared.entry.Entry.{Entry}
 use Rattle.acl_model.specs.declared.binding.MemberKey.{MemberKey}
 use Rattle.acl_model.specs.declared.binding.Binding.{Binding}
 use Rattle.acl_model.specs.Keys.{is_membered, same_key}
-use Rattle.acl_model.specs.Places.{key_place, bound_place, binding_place}
+use Rattle.acl_model.specs.SortKeys.{member_sort_key, bound_sort_key, binding_sort_key}
 use Rattle.acl_model.specs.Changes.{is_bound_to}
 use Rattle.acl_model.specs.FirstMatch.{entries_of}
 use Rattle.acl_model.specs.Policies.{UrlPolicy}
@@ -30,12 +30,12 @@ use Rattle.acl_model.proofs.KeyLaws.{same_key-Decides}
 use Rattle.acl_rows.specs.declared.row.Owner.{Owner}
 use Rattle.acl_rows.specs.declared.row.Owner.TheVariants.{Url, Default}
 use Rattle.acl_rows.specs.declared.row.Row.{Row}
-use Rattle.acl_rows.specs.Places.{owner_class, owner_number, owner_place, side_place, peer_place, place_at, row_place, row_key_place}
-use Rattle.acl_rows.specs.Rows.{for_ever, member_keys, entry_end, row, numbered, Slots, held_by, entry_at, held_end, end_at, rows_of}
+use Rattle.acl_rows.specs.SortKeys.{owner_class, owner_number, owner_sort_key, side_sort_key, peer_sort_key, sort_key_at, row_sort_key, named_sort_key}
+use Rattle.acl_rows.specs.Rows.{for_ever, member_keys, entry_expiry, row, numbered, Slots, held_by, entry_at, held_expiry, expiry_at, rows_of}
 use Rattle.acl_rows.proofs.Coordinates.{AreSame, same_coordinates}
-use Rattle.acl_rows.proofs.Sound.{HasKeys, has_keys, IsBound, first_bound, HasEnd, has_end, IsHeld, is_held, any_entry}
-use Rattle.acl_rows.proofs.AtPlaces.{row_at-rows_of}
-use Rattle.row_changes.specs.Patch.{end_for, IsPatch}
+use Rattle.acl_rows.proofs.Sound.{HasKeys, has_keys, IsBound, first_bound, HasExpiry, has_expiry, IsHeld, is_held, any_entry}
+use Rattle.acl_rows.proofs.AtSortKeys.{row_at-rows_of}
+use Rattle.row_changes.specs.Patch.{expiry_for, IsPatch}
 use Rattle.row_changes.specs.Touched.{with_edits}
 use Rattle.row_changes.specs.PolicyTouched.{bound_under, bound_key, first_key_touches, entry_touches, side_policy_touches, new_touches, owner_rows, key_of_row, is_left, left_touches, policy_touches, IsSlotChange}
 use Rattle.row_changes.proofs.Untouched.{touches_at}
@@ -72,44 +72,44 @@ module _ {A : Type 0} (r : A → Bool) where
   any_found [] c e = absurd (none-some c e)
   any_found (x ∷ xs) c e = found_by x c xs (any_found xs c) (r x) e
 
-any_by : (p : List ℕ) (x y : Row) (xs : List Row) (b : Bool) → (row_at row_place p xs ≡ Some y → list_any (λ z. same_place (row_place z) p) xs ≡ true) → cond b (Some x) (row_at row_place p xs) ≡ Some y → (b || list_any (λ z. same_place (row_place z) p) xs) ≡ true
+any_by : (p : List ℕ) (x y : Row) (xs : List Row) (b : Bool) → (row_at row_sort_key p xs ≡ Some y → list_any (λ z. same_sort_key (row_sort_key z) p) xs ≡ true) → cond b (Some x) (row_at row_sort_key p xs) ≡ Some y → (b || list_any (λ z. same_sort_key (row_sort_key z) p) xs) ≡ true
 any_by p x y xs true rest e = refl
 any_by p x y xs false rest e = rest e
 
-any_row : (p : List ℕ) (y : Row) (rows : List Row) → row_at row_place p rows ≡ Some y → list_any (λ z. same_place (row_place z) p) rows ≡ true
+any_row : (p : List ℕ) (y : Row) (rows : List Row) → row_at row_sort_key p rows ≡ Some y → list_any (λ z. same_sort_key (row_sort_key z) p) rows ≡ true
 any_row p y [] e = absurd (none-some y e)
-any_row p y (x ∷ xs) e = any_by p x y xs (same_place (row_place x) p) (any_row p y xs) e
+any_row p y (x ∷ xs) e = any_by p x y xs (same_sort_key (row_sort_key x) p) (any_row p y xs) e
 
 -- ---- Rows that aren't asked for any more are touched
 
 module _ (owner : Owner) (side : Direction) (a : Addr) (n : ℕ) where
   abbrev is_here : Row → Bool
-  is_here x = same_place (row_place x) (place_at owner side a n)
+  is_here x = same_sort_key (row_sort_key x) (sort_key_at owner side a n)
 
-  of_owner : (x : Row) → is_here x ≡ true → is_under row_place (owner_place owner) x ≡ true
-  unfolding place_at peer_place side_place owner_place owner_class owner_number
+  of_owner : (x : Row) → is_here x ≡ true → is_under row_sort_key (owner_sort_key owner) x ≡ true
+  unfolding sort_key_at peer_sort_key side_sort_key owner_sort_key owner_class owner_number
   of_owner x e =
       let itself : (nat_eq (owner_class owner) (owner_class owner) && (nat_eq (owner_number owner) (owner_number owner) && true)) ≡ true = rw (eq-eqb (owner_class owner) (owner_class owner) refl, eq-eqb (owner_number owner) (owner_number owner) refl) refl in
-      subst (λ (p : List ℕ). starts_with nat_eq p (owner_class owner ∷ (owner_number owner ∷ [])) ≡ true) (sym (same_place_exact (row_place x) (place_at owner side a n) e)) itself
+      subst (λ (p : List ℕ). starts_with nat_eq p (owner_class owner ∷ (owner_number owner ∷ [])) ≡ true) (sym (same_sort_key_exact (row_sort_key x) (sort_key_at owner side a n) e)) itself
 
-  left_here : (slots : Slots) (bindings : List Binding) → end_at slots bindings owner side a n ≡ None → (x : Row) → is_here x ≡ true → is_left slots bindings x ≡ true
-  unfolding is_left end_for row_place
+  left_here : (slots : Slots) (bindings : List Binding) → expiry_at slots bindings owner side a n ≡ None → (x : Row) → is_here x ≡ true → is_left slots bindings x ≡ true
+  unfolding is_left expiry_for row_sort_key
   left_here slots bindings none x e =
-      let same : AreSame x.owner owner x.side side x.addr a x.entry n = same_coordinates x.owner owner x.side side x.addr a x.entry n (same_place_exact (row_place x) (place_at owner side a n) e) in
-      ap is_none ((λ i. end_at slots bindings (same.owner i) (same.side i) (same.addr i) (same.number i)) ∙ none)
+      let same : AreSame x.owner owner x.side side x.addr a x.entry n = same_coordinates x.owner owner x.side side x.addr a x.entry n (same_sort_key_exact (row_sort_key x) (sort_key_at owner side a n) e) in
+      ap is_none ((λ i. expiry_at slots bindings (same.owner i) (same.side i) (same.addr i) (same.number i)) ∙ none)
 
   key_here : (x : Row) → is_here x ≡ true → touches_at owner side a n (key_of_row x) ≡ true
-  unfolding key_of_row row_key_place row_place
+  unfolding key_of_row named_sort_key row_sort_key
   key_here x e = e
 
-  -- where there was an end and is none, there is a row that is touched
-  left_touched : (slots slots' : Slots) (bindings : List Binding) (u : ℕ) → end_at slots bindings owner side a n ≡ Some u → end_at slots' bindings owner side a n ≡ None → list_any (touches_at owner side a n) (left_touches slots' bindings (rows_of slots bindings) owner) ≡ true
+  -- where there was an expiry and is none, there is a row that is touched
+  left_touched : (slots slots' : Slots) (bindings : List Binding) (u : ℕ) → expiry_at slots bindings owner side a n ≡ Some u → expiry_at slots' bindings owner side a n ≡ None → list_any (touches_at owner side a n) (left_touches slots' bindings (rows_of slots bindings) owner) ≡ true
   unfolding left_touches owner_rows
   left_touched slots slots' bindings u e none =
       any_map is_here (touches_at owner side a n) key_of_row key_here _
       (any_filter is_here (is_left slots' bindings) (left_here slots' bindings none) _
-      (any_filter is_here (is_under row_place (owner_place owner)) of_owner (rows_of slots bindings)
-      (any_row (place_at owner side a n) (row owner side a n u) (rows_of slots bindings) (row_at-rows_of slots bindings owner side a n ∙ ap (option_map (row owner side a n)) e))))
+      (any_filter is_here (is_under row_sort_key (owner_sort_key owner)) of_owner (rows_of slots bindings)
+      (any_row (sort_key_at owner side a n) (row owner side a n u) (rows_of slots bindings) (row_at-rows_of slots bindings owner side a n ∙ ap (option_map (row owner side a n)) e))))
 
   -- ---- Addresses of the first key are touched
 
@@ -117,31 +117,31 @@ module _ (owner : Owner) (side : Direction) (a : Addr) (n : ℕ) where
   begins [] q = refl
   begins (x ∷ p) q = ap (λ (b : Bool). b && starts_with nat_eq (p ++ q) p) (eq-eqb x x refl) ∙ begins p q
 
-  under_key : (key : MemberKey) (b : Binding) → is_bound_to key a b ≡ true → is_under binding_place (key_place key) b ≡ true
-  unfolding is_bound_to binding_place bound_place
+  under_key : (key : MemberKey) (b : Binding) → is_bound_to key a b ≡ true → is_under binding_sort_key (member_sort_key key) b ≡ true
+  unfolding is_bound_to binding_sort_key bound_sort_key
   under_key key b e =
       let same : key ≡ b.key = (same_key-Decides key b.key).0 (first_so (same_key key b.key) (same_addr a b.addr) e) in
-      subst (λ (k : MemberKey). starts_with nat_eq (key_place k ++ addr_place b.addr) (key_place key) ≡ true) same (begins (key_place key) (addr_place b.addr))
+      subst (λ (k : MemberKey). starts_with nat_eq (member_sort_key k ++ addr_sort_key b.addr) (member_sort_key key) ≡ true) same (begins (member_sort_key key) (addr_sort_key b.addr))
 
   bound_here : (key : MemberKey) (b : Binding) → is_bound_to key a b ≡ true → touches_at owner side a n (bound_key owner side n b) ≡ true
-  unfolding is_bound_to bound_key row_key_place
-  bound_here key b e = subst (λ (y : Addr). same_place (place_at owner side y n) (place_at owner side a n) ≡ true) (same_addr_exact a b.addr (second_so (same_key key b.key) (same_addr a b.addr) e)) (same_place_itself (place_at owner side a n))
+  unfolding is_bound_to bound_key named_sort_key
+  bound_here key b e = subst (λ (y : Addr). same_sort_key (sort_key_at owner side y n) (sort_key_at owner side a n) ≡ true) (same_addr_exact a b.addr (second_so (same_key key b.key) (same_addr a b.addr) e)) (same_sort_key_itself (sort_key_at owner side a n))
 
   bound_touched : (key : MemberKey) (c : Binding) (bs : List Binding) → find (is_bound_to key a) bs ≡ Some c → list_any (touches_at owner side a n) (map (bound_key owner side n) (bound_under key bs)) ≡ true
   unfolding bound_under
   bound_touched key c bs e =
       any_map (is_bound_to key a) (touches_at owner side a n) (bound_key owner side n) (bound_here key) _
-      (any_filter (is_bound_to key a) (is_under binding_place (key_place key)) (under_key key) bs (any_found (is_bound_to key a) bs c e))
+      (any_filter (is_bound_to key a) (is_under binding_sort_key (member_sort_key key)) (under_key key) bs (any_found (is_bound_to key a) bs c e))
 
-entry_touched : (bindings : List Binding) (owner : Owner) (side : Direction) (a : Addr) (n u : ℕ) (held : UrlPolicy) (entry : Entry) → entry_end bindings held.url entry a ≡ Some u → list_any (touches_at owner side a n) (entry_touches bindings owner held side (n, entry)) ≡ true
+entry_touched : (bindings : List Binding) (owner : Owner) (side : Direction) (a : Addr) (n u : ℕ) (held : UrlPolicy) (entry : Entry) → entry_expiry bindings held.url entry a ≡ Some u → list_any (touches_at owner side a n) (entry_touches bindings owner held side (n, entry)) ≡ true
 unfolding entry_touches first_key_touches member_keys is_membered
 entry_touched bindings owner side a n u held entry e =
-    let ends : HasEnd bindings held.url entry a u = has_end bindings held.url entry a u e in
-    let keys : HasKeys (member_keys held.url entry) = has_keys held.url entry.selectors ends.membered in
-    let bound : IsBound bindings keys.key a = first_bound bindings a for_ever u (member_keys held.url entry) keys ends.least in
+    let expiry : HasExpiry bindings held.url entry a u = has_expiry bindings held.url entry a u e in
+    let keys : HasKeys (member_keys held.url entry) = has_keys held.url entry.selectors expiry.membered in
+    let bound : IsBound bindings keys.key a = first_bound bindings a for_ever u (member_keys held.url entry) keys expiry.least in
     subst (λ (ks : List MemberKey). list_any (touches_at owner side a n) (first_key_touches bindings owner side n ks) ≡ true) (sym keys.are) (bound_touched owner side a n keys.key bound.binding bindings bound.found)
 
-side_touched : (bindings : List Binding) (owner : Owner) (side : Direction) (a : Addr) (n u : ℕ) (held : UrlPolicy) (entry : Entry) → entry_at n (entries_of side held.policy) ≡ Some entry → entry_end bindings held.url entry a ≡ Some u → list_any (touches_at owner side a n) (side_policy_touches bindings owner held side) ≡ true
+side_touched : (bindings : List Binding) (owner : Owner) (side : Direction) (a : Addr) (n u : ℕ) (held : UrlPolicy) (entry : Entry) → entry_at n (entries_of side held.policy) ≡ Some entry → entry_expiry bindings held.url entry a ≡ Some u → list_any (touches_at owner side a n) (side_policy_touches bindings owner held side) ≡ true
 unfolding side_policy_touches
 side_touched bindings owner side a n u held entry stands e =
     any-flat_map (touches_at owner side a n) (entry_touches bindings owner held side) (numbered 1 (entries_of side held.policy))
@@ -151,46 +151,46 @@ both_sides : (bindings : List Binding) (owner : Owner) (side : Direction) (a : A
 both_sides bindings owner From a n held e = list_any-append (touches_at owner From a n) (side_policy_touches bindings owner held From) (side_policy_touches bindings owner held To) ∙ or_left _ _ e
 both_sides bindings owner To a n held e = list_any-append (touches_at owner To a n) (side_policy_touches bindings owner held From) (side_policy_touches bindings owner held To) ∙ or_right (list_any (touches_at owner To a n) (side_policy_touches bindings owner held From)) _ e
 
-pub new_by : (slots' : Slots) (bindings : List Binding) (owner : Owner) (side : Direction) (a : Addr) (n u : ℕ) (new : Option UrlPolicy) → held_by slots' owner ≡ new → end_at slots' bindings owner side a n ≡ Some u → list_any (touches_at owner side a n) (new_touches bindings owner new) ≡ true
+pub new_by : (slots' : Slots) (bindings : List Binding) (owner : Owner) (side : Direction) (a : Addr) (n u : ℕ) (new : Option UrlPolicy) → held_by slots' owner ≡ new → expiry_at slots' bindings owner side a n ≡ Some u → list_any (touches_at owner side a n) (new_touches bindings owner new) ≡ true
 unfolding new_touches
 new_by slots' bindings owner side a n u None is e = let held : IsHeld slots' bindings owner side a n u = is_held slots' bindings owner side a n u e in absurd (none-some held.held (sym is ∙ held.holds))
 new_by slots' bindings owner side a n u (Some policy) is e =
     let held : IsHeld slots' bindings owner side a n u = is_held slots' bindings owner side a n u e in
     let same : held.held ≡ policy = same_Some held.held policy (sym held.holds ∙ is) in
-    both_sides bindings owner side a n policy (side_touched bindings owner side a n u policy held.entry (ap (λ (h : UrlPolicy). entry_at n (entries_of side h.policy)) (sym same) ∙ held.stands) (ap (λ (h : UrlPolicy). entry_end bindings h.url held.entry a) (sym same) ∙ held.ends))
+    both_sides bindings owner side a n policy (side_touched bindings owner side a n u policy held.entry (ap (λ (h : UrlPolicy). entry_at n (entries_of side h.policy)) (sym same) ∙ held.stands) (ap (λ (h : UrlPolicy). entry_expiry bindings h.url held.entry a) (sym same) ∙ held.expiry))
 
 -- ---- What isn't touched stays
 
 module _ (slots slots' : Slots) (bindings : List Binding) (i : ℕ) (new : Option UrlPolicy) (change : IsSlotChange slots slots' i new) where
-  other_owner : (owner : Owner) (side : Direction) (a : Addr) (n : ℕ) → held_by slots' owner ≡ held_by slots owner → end_at slots' bindings owner side a n ≡ end_at slots bindings owner side a n
-  unfolding end_at
-  other_owner owner side a n same = ap (option_and_then (held_end bindings side a n)) same
+  other_owner : (owner : Owner) (side : Direction) (a : Addr) (n : ℕ) → held_by slots' owner ≡ held_by slots owner → expiry_at slots' bindings owner side a n ≡ expiry_at slots bindings owner side a n
+  unfolding expiry_at
+  other_owner owner side a n same = ap (option_and_then (held_expiry bindings side a n)) same
 
   own_by : (side : Direction) (a : Addr) (n : ℕ) → list_any (touches_at (Url i) side a n) (new_touches bindings (Url i) new) ≡ false → list_any (touches_at (Url i) side a n) (left_touches slots' bindings (rows_of slots bindings) (Url i)) ≡ false
-      → (o w : Option ℕ) → end_at slots' bindings (Url i) side a n ≡ o → end_at slots bindings (Url i) side a n ≡ w → o ≡ w
+      → (o w : Option ℕ) → expiry_at slots' bindings (Url i) side a n ≡ o → expiry_at slots bindings (Url i) side a n ≡ w → o ≡ w
   own_by side a n fresh left None None is was = refl
   own_by side a n fresh left None (Some u) is was = absurd (false≢true (sym left ∙ left_touched (Url i) side a n slots slots' bindings u was is))
   own_by side a n fresh left (Some u) w is was = absurd (false≢true (sym fresh ∙ new_by slots' bindings (Url i) side a n u new change.here is))
 
-  own : (side : Direction) (a : Addr) (n : ℕ) → list_any (touches_at (Url i) side a n) (policy_touches slots' bindings (rows_of slots bindings) (Url i) new) ≡ false → end_at slots' bindings (Url i) side a n ≡ end_at slots bindings (Url i) side a n
+  own : (side : Direction) (a : Addr) (n : ℕ) → list_any (touches_at (Url i) side a n) (policy_touches slots' bindings (rows_of slots bindings) (Url i) new) ≡ false → expiry_at slots' bindings (Url i) side a n ≡ expiry_at slots bindings (Url i) side a n
   unfolding policy_touches
   own side a n none =
       let each : (list_any (touches_at (Url i) side a n) (new_touches bindings (Url i) new) || list_any (touches_at (Url i) side a n) (left_touches slots' bindings (rows_of slots bindings) (Url i))) ≡ false =
       sym (list_any-append (touches_at (Url i) side a n) (new_touches bindings (Url i) new) (left_touches slots' bindings (rows_of slots bindings) (Url i))) ∙ none in
-      own_by side a n (or_first _ _ each) (or_second (list_any (touches_at (Url i) side a n) (new_touches bindings (Url i) new)) _ each) (end_at slots' bindings (Url i) side a n) (end_at slots bindings (Url i) side a n) refl refl
+      own_by side a n (or_first _ _ each) (or_second (list_any (touches_at (Url i) side a n) (new_touches bindings (Url i) new)) _ each) (expiry_at slots' bindings (Url i) side a n) (expiry_at slots bindings (Url i) side a n) refl refl
 
-  by_number : (j : ℕ) (side : Direction) (a : Addr) (n : ℕ) → list_any (touches_at (Url j) side a n) (policy_touches slots' bindings (rows_of slots bindings) (Url i) new) ≡ false → ((nat_eq j i ≡ true) × (j ≡ i)) ⊎ ((nat_eq j i ≡ false) × (j ≢ i)) → end_at slots' bindings (Url j) side a n ≡ end_at slots bindings (Url j) side a n
+  by_number : (j : ℕ) (side : Direction) (a : Addr) (n : ℕ) → list_any (touches_at (Url j) side a n) (policy_touches slots' bindings (rows_of slots bindings) (Url i) new) ≡ false → ((nat_eq j i ≡ true) × (j ≡ i)) ⊎ ((nat_eq j i ≡ false) × (j ≢ i)) → expiry_at slots' bindings (Url j) side a n ≡ expiry_at slots bindings (Url j) side a n
   by_number j side a n none (inl same) =
       let at : j ≡ i = same.1 in
-      subst (λ (k : ℕ). end_at slots' bindings (Url k) side a n ≡ end_at slots bindings (Url k) side a n) (sym at)
+      subst (λ (k : ℕ). expiry_at slots' bindings (Url k) side a n ≡ expiry_at slots bindings (Url k) side a n) (sym at)
       (own side a n (subst (λ (k : ℕ). list_any (touches_at (Url k) side a n) (policy_touches slots' bindings (rows_of slots bindings) (Url i) new) ≡ false) at none))
   by_number j side a n none (inr other) = other_owner (Url j) side a n (change.others j other.1)
 
-  pub policy_untouched : (owner : Owner) (side : Direction) (a : Addr) (n : ℕ) → list_any (touches_at owner side a n) (policy_touches slots' bindings (rows_of slots bindings) (Url i) new) ≡ false → end_at slots' bindings owner side a n ≡ end_at slots bindings owner side a n
+  pub policy_untouched : (owner : Owner) (side : Direction) (a : Addr) (n : ℕ) → list_any (touches_at owner side a n) (policy_touches slots' bindings (rows_of slots bindings) (Url i) new) ≡ false → expiry_at slots' bindings owner side a n ≡ expiry_at slots bindings owner side a n
   unfolding held_by
   policy_untouched (Url j) side a n none = by_number j side a n none (eqb_tells j i)
   policy_untouched Default side a n none = other_owner Default side a n refl
 
-  -- the edits of the places that a policy touches
+  -- the edits of the sort keys that a policy touches
   pub policy_patch : IsPatch slots bindings slots' bindings (with_edits slots bindings slots' bindings (policy_touches slots' bindings (rows_of slots bindings) (Url i) new) [])
   policy_patch = patch_of slots bindings slots' bindings (policy_touches slots' bindings (rows_of slots bindings) (Url i) new) policy_untouched

@@ -8,8 +8,8 @@ use Rattle.std.proofs.lemmas.List.{drop_all, take_more}
 use Rattle.std.proofs.lemmas.List.Folds.{list_any-append}
 use Rattle.std.proofs.lemmas.Option.{same_Some, none-some}
 use Rattle.std.proofs.Math.Bool.{or-false, and-true}
-use Rattle.sorted_rows.specs.Placed.{same_place, row_at, set_row, without_row, PlacesAscend}
-use Rattle.sorted_rows.proofs.PlacedLaws.{same_place_exact, row_at-set_row, row_at-without_row}
+use Rattle.sorted_rows.specs.Sortable.{same_sort_key, row_at, set_row, without_row, SortKeysAscend}
+use Rattle.sorted_rows.proofs.SortableLaws.{same_sort_key_exact, row_at-set_row, row_at-without_row}
 use Rattle.mud_base.specs.declared.packet.Direction.{Direction}
 use Rattle.mud_base.specs.declared.packet.Direction.TheVariants.{From, To}
 use Rattle.acl_model.specs.declared.binding.MemberKey.{MemberKey}
@@ -18,12 +18,12 @@ use Rattle.acl_model.specs.declared.entry.Entry.{Entry}
 use Rattle.acl_model.specs.declared.entry.Policy.{Policy}
 use Rattle.acl_model.specs.FirstMatch.{entries_of}
 use Rattle.acl_model.specs.Keys.{key_of}
-use Rattle.acl_model.specs.Places.{key_kind, key_text, text_place, key_place}
+use Rattle.acl_model.specs.SortKeys.{key_kind, key_text, text_sort_key, member_sort_key}
 use Rattle.acl_rows.specs.Rows.{numbered}
 use Rattle.row_changes.specs.declared.group.EntrySpot.{EntrySpot}
 use Rattle.row_changes.specs.declared.group.KeyEntries.{KeyEntries}
 use Rattle.row_changes.specs.EntryKeys.{key_parts}
-use Rattle.row_changes.specs.Spots.{is_keyed, spot_if, spot, entry_spots, side_spots, policy_spots, group_place, spots_of, spots_in}
+use Rattle.row_changes.specs.Spots.{is_keyed, spot_if, spot, entry_spots, side_spots, policy_spots, group_sort_key, spots_of, spots_in}
 
 -- what follows where a call succeeds
 pub on_ok_then : (A B : Type 0) {T E : Type 0} (r : Result T E) → (A → B) → OnOk r A → OnOk r B
@@ -33,16 +33,16 @@ on_ok_then A B (Err e) f a = a
 -- ---- Keys of selectors
 
 option_keyed : (kind : ℕ) (text p : List ℕ) (o : Option MemberKey) → (let q : Option (ℕ × List ℕ) = Some (kind, text) in q ≡ option_map key_parts o)
-    → option_map_or (λ own. same_place (key_place own) p) o false ≡ same_place (text_place kind text) p
-unfolding key_parts key_place
+    → option_map_or (λ own. same_sort_key (member_sort_key own) p) o false ≡ same_sort_key (text_sort_key kind text) p
+unfolding key_parts member_sort_key
 option_keyed kind text p None is = absurd (none-some (kind, text) (sym is))
-option_keyed kind text p (Some own) is = ap (λ (x : ℕ × List ℕ). same_place (text_place x.0 x.1) p) (sym (same_Some (kind, text) (key_kind own, key_text own) is))
+option_keyed kind text p (Some own) is = ap (λ (x : ℕ × List ℕ). same_sort_key (text_sort_key x.0 x.1) p) (sym (same_Some (kind, text) (key_kind own, key_text own) is))
 
-pub keyed_some : (kind : ℕ) (text p url : List ℕ) (s : Selector) → (let q : Option (ℕ × List ℕ) = Some (kind, text) in q ≡ option_map key_parts (key_of url s)) → is_keyed url p s ≡ same_place (text_place kind text) p
+pub keyed_some : (kind : ℕ) (text p url : List ℕ) (s : Selector) → (let q : Option (ℕ × List ℕ) = Some (kind, text) in q ≡ option_map key_parts (key_of url s)) → is_keyed url p s ≡ same_sort_key (text_sort_key kind text) p
 unfolding is_keyed
 keyed_some kind text p url s is = option_keyed kind text p (key_of url s) is
 
-option_unkeyed : (p : List ℕ) (o : Option MemberKey) → (let q : Option (ℕ × List ℕ) = None in q ≡ option_map key_parts o) → option_map_or (λ own. same_place (key_place own) p) o false ≡ false
+option_unkeyed : (p : List ℕ) (o : Option MemberKey) → (let q : Option (ℕ × List ℕ) = None in q ≡ option_map key_parts o) → option_map_or (λ own. same_sort_key (member_sort_key own) p) o false ≡ false
 option_unkeyed p None is = refl
 option_unkeyed p (Some own) is = absurd (none-some (key_parts own) is)
 
@@ -52,21 +52,21 @@ keyed_none p url s is = option_unkeyed p (key_of url s) is
 
 -- ---- One more entry of a key
 
-at_key : (q p : List ℕ) (rows : List KeyEntries) (h : KeyEntries) (s : EntrySpot) (b : Bool) → same_place q p ≡ b → h.spots ≡ spots_in rows q ++ s ∷ []
-    → spots_of (cond b (Some h) (cond b None (row_at group_place p rows))) ≡ spots_in rows p ++ spot_if b s
+at_key : (q p : List ℕ) (rows : List KeyEntries) (h : KeyEntries) (s : EntrySpot) (b : Bool) → same_sort_key q p ≡ b → h.spots ≡ spots_in rows q ++ s ∷ []
+    → spots_of (cond b (Some h) (cond b None (row_at group_sort_key p rows))) ≡ spots_in rows p ++ spot_if b s
 unfolding spots_of spots_in spot_if
-at_key q p rows h s true same spots = spots ∙ ap (λ (x : List ℕ). spots_in rows x ++ s ∷ []) (same_place_exact q p same)
+at_key q p rows h s true same spots = spots ∙ ap (λ (x : List ℕ). spots_in rows x ++ s ∷ []) (same_sort_key_exact q p same)
 at_key q p rows h s false same spots = sym (append-nil (spots_in rows p))
 
-pub added : (rows rest new : List KeyEntries) (q : List ℕ) (h : KeyEntries) (s : EntrySpot) → PlacesAscend group_place rows → group_place h ≡ q → h.spots ≡ spots_in rows q ++ s ∷ []
-    → rest ≡ without_row group_place q rows → new ≡ set_row group_place h rest → (p : List ℕ) → spots_in new p ≡ spots_in rows p ++ spot_if (same_place q p) s
+pub added : (rows rest new : List KeyEntries) (q : List ℕ) (h : KeyEntries) (s : EntrySpot) → SortKeysAscend group_sort_key rows → group_sort_key h ≡ q → h.spots ≡ spots_in rows q ++ s ∷ []
+    → rest ≡ without_row group_sort_key q rows → new ≡ set_row group_sort_key h rest → (p : List ℕ) → spots_in new p ≡ spots_in rows p ++ spot_if (same_sort_key q p) s
 unfolding spots_in
-added rows rest new q h s up place spots without is p =
-    ap (λ (xs : List KeyEntries). spots_of (row_at group_place p xs)) (is ∙ ap (set_row group_place h) without)
-    ∙ ap spots_of (row_at-set_row group_place h (without_row group_place q rows) p)
-    ∙ ap (λ (x : List ℕ). spots_of (cond (same_place x p) (Some h) (row_at group_place p (without_row group_place q rows)))) place
-    ∙ ap (λ (o : Option KeyEntries). spots_of (cond (same_place q p) (Some h) o)) (row_at-without_row group_place q rows p up)
-    ∙ at_key q p rows h s (same_place q p) refl spots
+added rows rest new q h s up sort_key spots without is p =
+    ap (λ (xs : List KeyEntries). spots_of (row_at group_sort_key p xs)) (is ∙ ap (set_row group_sort_key h) without)
+    ∙ ap spots_of (row_at-set_row group_sort_key h (without_row group_sort_key q rows) p)
+    ∙ ap (λ (x : List ℕ). spots_of (cond (same_sort_key x p) (Some h) (row_at group_sort_key p (without_row group_sort_key q rows)))) sort_key
+    ∙ ap (λ (o : Option KeyEntries). spots_of (cond (same_sort_key q p) (Some h) o)) (row_at-without_row group_sort_key q rows p up)
+    ∙ at_key q p rows h s (same_sort_key q p) refl spots
 
 -- ---- One more selector of an entry
 
@@ -74,29 +74,29 @@ pub nothing_more : (xs : List EntrySpot) (b c : Bool) (s : EntrySpot) → b ≡ 
 unfolding spot_if
 nothing_more xs b c s is = sym (ap (λ (x : Bool). xs ++ spot_if (x && not c) s) is ∙ append-nil xs)
 
-known_by : (xs : List EntrySpot) (url q p : List ℕ) (earlier : List Selector) (s : EntrySpot) (b : Bool) → same_place q p ≡ b → list_any (is_keyed url q) earlier ≡ true
+known_by : (xs : List EntrySpot) (url q p : List ℕ) (earlier : List Selector) (s : EntrySpot) (b : Bool) → same_sort_key q p ≡ b → list_any (is_keyed url q) earlier ≡ true
     → xs ≡ xs ++ spot_if (b && not (list_any (is_keyed url p) earlier)) s
 unfolding spot_if
 known_by xs url q p earlier s true same there =
-    sym (ap (λ (x : Bool). xs ++ spot_if (not x) s) (ap (λ (x : List ℕ). list_any (is_keyed url x) earlier) (sym (same_place_exact q p same)) ∙ there) ∙ append-nil xs)
+    sym (ap (λ (x : Bool). xs ++ spot_if (not x) s) (ap (λ (x : List ℕ). list_any (is_keyed url x) earlier) (sym (same_sort_key_exact q p same)) ∙ there) ∙ append-nil xs)
 known_by xs url q p earlier s false same there = sym (append-nil xs)
 
 -- the key of a selector is known from an earlier one
-pub known_more : (xs : List EntrySpot) (url q p : List ℕ) (earlier : List Selector) (x : Selector) (s : EntrySpot) → is_keyed url p x ≡ same_place q p → list_any (is_keyed url q) earlier ≡ true
+pub known_more : (xs : List EntrySpot) (url q p : List ℕ) (earlier : List Selector) (x : Selector) (s : EntrySpot) → is_keyed url p x ≡ same_sort_key q p → list_any (is_keyed url q) earlier ≡ true
     → xs ≡ xs ++ spot_if (is_keyed url p x && not (list_any (is_keyed url p) earlier)) s
 known_more xs url q p earlier x s is there =
-    known_by xs url q p earlier s (same_place q p) refl there
+    known_by xs url q p earlier s (same_sort_key q p) refl there
     ∙ ap (λ (b : Bool). xs ++ spot_if (b && not (list_any (is_keyed url p) earlier)) s) (sym is)
 
-new_by : (url q p : List ℕ) (earlier : List Selector) (b : Bool) → same_place q p ≡ b → list_any (is_keyed url q) earlier ≡ false → b ≡ (b && not (list_any (is_keyed url p) earlier))
-new_by url q p earlier true same none = sym (ap not (ap (λ (x : List ℕ). list_any (is_keyed url x) earlier) (sym (same_place_exact q p same)) ∙ none))
+new_by : (url q p : List ℕ) (earlier : List Selector) (b : Bool) → same_sort_key q p ≡ b → list_any (is_keyed url q) earlier ≡ false → b ≡ (b && not (list_any (is_keyed url p) earlier))
+new_by url q p earlier true same none = sym (ap not (ap (λ (x : List ℕ). list_any (is_keyed url x) earlier) (sym (same_sort_key_exact q p same)) ∙ none))
 new_by url q p earlier false same none = refl
 
 -- no earlier one has it
-pub new_more : (xs : List EntrySpot) (url q p : List ℕ) (earlier : List Selector) (x : Selector) (s : EntrySpot) → is_keyed url p x ≡ same_place q p → list_any (is_keyed url q) earlier ≡ false
-    → xs ++ spot_if (same_place q p) s ≡ xs ++ spot_if (is_keyed url p x && not (list_any (is_keyed url p) earlier)) s
+pub new_more : (xs : List EntrySpot) (url q p : List ℕ) (earlier : List Selector) (x : Selector) (s : EntrySpot) → is_keyed url p x ≡ same_sort_key q p → list_any (is_keyed url q) earlier ≡ false
+    → xs ++ spot_if (same_sort_key q p) s ≡ xs ++ spot_if (is_keyed url p x && not (list_any (is_keyed url p) earlier)) s
 new_more xs url q p earlier x s is none =
-    ap (λ (b : Bool). xs ++ spot_if b s) (new_by url q p earlier (same_place q p) refl none)
+    ap (λ (b : Bool). xs ++ spot_if b s) (new_by url q p earlier (same_sort_key q p) refl none)
     ∙ ap (λ (b : Bool). xs ++ spot_if (b && not (list_any (is_keyed url p) earlier)) s) (sym is)
 
 both_spots : (xs : List EntrySpot) (a b : Bool) (s : EntrySpot) → (xs ++ spot_if a s) ++ spot_if (b && not a) s ≡ xs ++ spot_if (a || b) s

@@ -1,14 +1,14 @@
--- The entries of an index, as the places that a change of bindings touches.
+-- The entries of an index, as the sort keys that a change of bindings touches.
 use Rattle.std.proofs.Common.{◌≡◌, ℕ, zero, suc, ◌+◌, ◌<◌, Bool, true, false, cond, List, [], ◌∷◌, ◌++◌, ◌-◌, ◌*◌, ◌≤◌, length, map, drop, get_or, Option, Some, None, slice_get, refl, sym, ap, subst, ◌∙◌, arith}
 use Rattle.std.specs.Prelude.{flat_map, is_some}
 use Rattle.std.specs.List.{list_any, AllByRecursion}
 use Rattle.std.specs.Option.{option_map_or}
 use Rattle.std.proofs.Math.Seq.{drop-cons}
 use Rattle.std.proofs.lemmas.List.{map-append}
-use Rattle.sorted_rows.specs.Placed.{same_place}
+use Rattle.sorted_rows.specs.Sortable.{same_sort_key}
 use Rattle.sorted_rows.proofs.AscendLaws.{both_ways}
-use Rattle.sorted_rows.proofs.PlacedLaws.{same_place_itself, same_place_exact}
-use Rattle.sorted_rows.specs.Addresses.{addr_place}
+use Rattle.sorted_rows.proofs.SortableLaws.{same_sort_key_itself, same_sort_key_exact}
+use Rattle.sorted_rows.specs.Addresses.{addr_sort_key}
 use Rattle.sorted_rows.proofs.Lists.{all-append}
 use Rattle.mud_base.specs.declared.addr.Addr.{Addr}
 use Rattle.mud_base.specs.declared.addr.Addr.TheVariants.{V4}
@@ -20,10 +20,10 @@ use Rattle.acl_model.specs.declared.entry.Entry.{Entry}
 use Rattle.acl_model.specs.declared.entry.Policy.{Policy}
 use Rattle.acl_model.specs.FirstMatch.{entries_of}
 use Rattle.acl_model.specs.Keys.{key_of, same_key, has_key}
-use Rattle.acl_model.specs.Places.{key_place, bound_place}
+use Rattle.acl_model.specs.SortKeys.{member_sort_key, bound_sort_key}
 use Rattle.acl_model.specs.Policies.{UrlPolicy}
 use Rattle.acl_model.proofs.KeyLaws.{same_key-Decides}
-use Rattle.acl_model.proofs.PlaceLaws.{bound_place_exact}
+use Rattle.acl_model.proofs.SortKeyLaws.{bound_sort_key_exact}
 use Rattle.acl_rows.specs.declared.row.Owner.{Owner}
 use Rattle.acl_rows.specs.declared.row.RowKey.{RowKey}
 use Rattle.acl_rows.specs.Rows.{numbered, entry_at, member_keys}
@@ -33,33 +33,33 @@ use Rattle.row_changes.specs.Touched.{row_key, entry_touch, side_touches, holder
 use Rattle.row_changes.specs.declared.group.EntrySpot.{EntrySpot}
 use Rattle.row_changes.specs.Spots.{is_keyed, spot, spot_if, entry_spots, side_spots, policy_spots}
 
--- ---- A key and its place
+-- ---- A key and its sort key
 
 some_addr : Addr
 some_addr = V4 0
 
-places_same : (a b : MemberKey) → key_place a ≡ key_place b → a ≡ b
-unfolding bound_place
-places_same a b e = (bound_place_exact a b some_addr some_addr (ap (λ (p : List ℕ). p ++ addr_place some_addr) e)).0
+sort_keys_same : (a b : MemberKey) → member_sort_key a ≡ member_sort_key b → a ≡ b
+unfolding bound_sort_key
+sort_keys_same a b e = (bound_sort_key_exact a b some_addr some_addr (ap (λ (p : List ℕ). p ++ addr_sort_key some_addr) e)).0
 
-key_spot : (a b : MemberKey) → same_place (key_place a) (key_place b) ≡ same_key a b
+key_spot : (a b : MemberKey) → same_sort_key (member_sort_key a) (member_sort_key b) ≡ same_key a b
 key_spot a b =
-    both_ways (same_place (key_place a) (key_place b)) (same_key a b)
-    (λ e. (same_key-Decides a b).1 (places_same a b (same_place_exact (key_place a) (key_place b) e)))
-    (λ e. subst (λ (k : MemberKey). same_place (key_place a) (key_place k) ≡ true) ((same_key-Decides a b).0 e) (same_place_itself (key_place a)))
+    both_ways (same_sort_key (member_sort_key a) (member_sort_key b)) (same_key a b)
+    (λ e. (same_key-Decides a b).1 (sort_keys_same a b (same_sort_key_exact (member_sort_key a) (member_sort_key b) e)))
+    (λ e. subst (λ (k : MemberKey). same_sort_key (member_sort_key a) (member_sort_key k) ≡ true) ((same_key-Decides a b).0 e) (same_sort_key_itself (member_sort_key a)))
 
-option_keyed : (key : MemberKey) (o : Option MemberKey) → option_map_or (λ own. same_place (key_place own) (key_place key)) o false ≡ option_map_or (λ own. same_key own key) o false
+option_keyed : (key : MemberKey) (o : Option MemberKey) → option_map_or (λ own. same_sort_key (member_sort_key own) (member_sort_key key)) o false ≡ option_map_or (λ own. same_key own key) o false
 option_keyed key None = refl
 option_keyed key (Some own) = key_spot own key
 
-keyed_is : (url : List ℕ) (key : MemberKey) (s : Selector) → is_keyed url (key_place key) s ≡ has_key url key s
+keyed_is : (url : List ℕ) (key : MemberKey) (s : Selector) → is_keyed url (member_sort_key key) s ≡ has_key url key s
 unfolding is_keyed has_key
 keyed_is url key s = option_keyed key (key_of url s)
 
-any_keyed : (url : List ℕ) (key : MemberKey) (ss : List Selector) → list_any (is_keyed url (key_place key)) ss ≡ list_any (has_key url key) ss
+any_keyed : (url : List ℕ) (key : MemberKey) (ss : List Selector) → list_any (is_keyed url (member_sort_key key)) ss ≡ list_any (has_key url key) ss
 any_keyed url key ss = (λ i. list_any (λ (s : Selector). keyed_is url key s i) ss)
 
--- ---- The places of the entries of an index
+-- ---- The sort keys of the entries of an index
 
 abbrev pub spot_key : Owner → Addr → EntrySpot → RowKey
 spot_key owner a s = row_key owner s.side a s.number
@@ -69,26 +69,26 @@ unfolding spot_if
 picked owner a s true = refl
 picked owner a s false = refl
 
-one_entry : (key : MemberKey) (a : Addr) (owner : Owner) (held : UrlPolicy) (side : Direction) (e : ℕ × Entry) → map (spot_key owner a) (entry_spots held.url (key_place key) side e) ≡ entry_touch key a (owner, held) side e
+one_entry : (key : MemberKey) (a : Addr) (owner : Owner) (held : UrlPolicy) (side : Direction) (e : ℕ × Entry) → map (spot_key owner a) (entry_spots held.url (member_sort_key key) side e) ≡ entry_touch key a (owner, held) side e
 unfolding entry_spots entry_touch
 one_entry key a owner held side e =
     ap (λ (b : Bool). map (spot_key owner a) (spot_if b (spot side e.0))) (any_keyed held.url key e.1.selectors)
     ∙ picked owner a (spot side e.0) (list_any (has_key held.url key) e.1.selectors)
 
-entries_touched : (key : MemberKey) (a : Addr) (owner : Owner) (held : UrlPolicy) (side : Direction) (es : List (ℕ × Entry)) → map (spot_key owner a) (flat_map (entry_spots held.url (key_place key) side) es) ≡ flat_map (entry_touch key a (owner, held) side) es
+entries_touched : (key : MemberKey) (a : Addr) (owner : Owner) (held : UrlPolicy) (side : Direction) (es : List (ℕ × Entry)) → map (spot_key owner a) (flat_map (entry_spots held.url (member_sort_key key) side) es) ≡ flat_map (entry_touch key a (owner, held) side) es
 entries_touched key a owner held side [] = refl
 entries_touched key a owner held side (e ∷ es) =
-    map-append (spot_key owner a) (entry_spots held.url (key_place key) side e) (flat_map (entry_spots held.url (key_place key) side) es)
+    map-append (spot_key owner a) (entry_spots held.url (member_sort_key key) side e) (flat_map (entry_spots held.url (member_sort_key key) side) es)
     ∙ (λ i. one_entry key a owner held side e i ++ entries_touched key a owner held side es i)
 
-side_touched : (key : MemberKey) (a : Addr) (owner : Owner) (held : UrlPolicy) (side : Direction) → map (spot_key owner a) (side_spots held.url (key_place key) side (entries_of side held.policy)) ≡ side_touches key a (owner, held) side
+side_touched : (key : MemberKey) (a : Addr) (owner : Owner) (held : UrlPolicy) (side : Direction) → map (spot_key owner a) (side_spots held.url (member_sort_key key) side (entries_of side held.policy)) ≡ side_touches key a (owner, held) side
 unfolding side_spots side_touches
 side_touched key a owner held side = entries_touched key a owner held side (numbered 1 (entries_of side held.policy))
 
-pub spots_touched : (key : MemberKey) (a : Addr) (owner : Owner) (held : UrlPolicy) → map (spot_key owner a) (policy_spots held.url held.policy (key_place key)) ≡ holder_touches key a (owner, held)
+pub spots_touched : (key : MemberKey) (a : Addr) (owner : Owner) (held : UrlPolicy) → map (spot_key owner a) (policy_spots held.url held.policy (member_sort_key key)) ≡ holder_touches key a (owner, held)
 unfolding policy_spots holder_touches
 spots_touched key a owner held =
-    map-append (spot_key owner a) (side_spots held.url (key_place key) From (entries_of From held.policy)) (side_spots held.url (key_place key) To (entries_of To held.policy))
+    map-append (spot_key owner a) (side_spots held.url (member_sort_key key) From (entries_of From held.policy)) (side_spots held.url (member_sort_key key) To (entries_of To held.policy))
     ∙ (λ i. side_touched key a owner held From i ++ side_touched key a owner held To i)
 
 -- ---- They stand in the policy

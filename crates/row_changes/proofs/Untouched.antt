@@ -1,12 +1,12 @@
--- A change of bindings touches the places of its own addresses and keys alone.
+-- A change of bindings touches the sort keys of its own addresses and keys alone.
 use Rattle.std.proofs.Common.{◌≡◌, ℕ, Bool, true, false, cond, ◌&&◌, ◌||◌, min, List, [], ◌∷◌, ◌++◌, Option, Some, None, refl, sym, ap, subst, ◌∙◌}
 use Rattle.std.specs.Option.{option_map_or, option_and_then}
 use Rattle.std.specs.List.{list_any, filter_map, cons_option, AllByRecursion}
 use Rattle.std.proofs.lemmas.List.Folds.{list_any-append}
 use Rattle.std.specs.Cmp.{first_so, second_so}
 use Rattle.std.proofs.lemmas.Bool.{and_from, or_left, or_right}
-use Rattle.sorted_rows.specs.Placed.{same_place, PlacesAscend}
-use Rattle.sorted_rows.proofs.PlacedLaws.{same_place_itself}
+use Rattle.sorted_rows.specs.Sortable.{same_sort_key, SortKeysAscend}
+use Rattle.sorted_rows.proofs.SortableLaws.{same_sort_key_itself}
 use Rattle.sorted_rows.proofs.ListTests.{or_first, or_second, any-flat_map}
 use Rattle.mud_base.specs.Addresses.{same_addr}
 use Rattle.mud_base.specs.declared.addr.Addr.{Addr}
@@ -20,13 +20,13 @@ use Rattle.acl_model.specs.Keys.{key_of, has_key, is_membered, same_key}
 use Rattle.acl_model.specs.Match.{is_in_family}
 use Rattle.acl_model.specs.FirstMatch.{entries_of}
 use Rattle.acl_model.specs.Policies.{UrlPolicy}
-use Rattle.acl_model.specs.Places.{binding_place}
+use Rattle.acl_model.specs.SortKeys.{binding_sort_key}
 use Rattle.acl_model.specs.Changes.{is_bound_to, bound_until, replaced}
 use Rattle.acl_model.proofs.BindingLaws.{same_addr_exact}
 use Rattle.acl_rows.specs.declared.row.Owner.{Owner}
 use Rattle.acl_rows.specs.declared.row.RowKey.{RowKey}
-use Rattle.acl_rows.specs.Places.{place_at, row_key_place}
-use Rattle.acl_rows.specs.Rows.{for_ever, member_keys, least_end, entry_end, numbered, Holder, holders_from, Slots, held_by, entry_at, held_end, end_at}
+use Rattle.acl_rows.specs.SortKeys.{sort_key_at, named_sort_key}
+use Rattle.acl_rows.specs.Rows.{for_ever, member_keys, least_expiry, entry_expiry, numbered, Holder, holders_from, Slots, held_by, entry_at, held_expiry, expiry_at}
 use Rattle.acl_rows.proofs.Sound.{held_complete, any_entry}
 use Rattle.row_changes.specs.Touched.{row_key, entry_touch, side_touches, holder_touches, binding_touches, touches}
 use Rattle.row_changes.proofs.Bound.{any_none_implied, bound_until-untouched}
@@ -46,7 +46,7 @@ bound_concerns url s ss key a is b e =
 concerns_more : (url : List ℕ) (s : Selector) (ss : List Selector) (a : Addr) (b : Binding) → concerns url ss a b ≡ true → concerns url (s ∷ ss) a b ≡ true
 concerns_more url s ss a b e = and_from (same_addr a b.addr) _ (first_so (same_addr a b.addr) _ e) (or_right (has_key url b.key s) _ (second_so (same_addr a b.addr) _ e))
 
-module _ (gone come bindings : List Binding) (up : PlacesAscend binding_place bindings) (a : Addr) where
+module _ (gone come bindings : List Binding) (up : SortKeysAscend binding_sort_key bindings) (a : Addr) where
   abbrev IsKept : MemberKey → Type 0
   IsKept key = bound_until (replaced gone come bindings) key a ≡ bound_until bindings key a
 
@@ -66,33 +66,33 @@ module _ (gone come bindings : List Binding) (up : PlacesAscend binding_place bi
       (keys_kept url ss (any_none_implied (concerns url ss a) (concerns url (s ∷ ss) a) (concerns_more url s ss a) gone left) (any_none_implied (concerns url ss a) (concerns url (s ∷ ss) a) (concerns_more url s ss a) come came))
       (key_of url s) refl
 
-  least_by : (m : ℕ) (keys : List MemberKey) → ((k : ℕ) → least_end (replaced gone come bindings) a k keys ≡ least_end bindings a k keys) → (o : Option ℕ) → option_and_then (λ (end : ℕ). least_end (replaced gone come bindings) a (min m end) keys) o ≡ option_and_then (λ (end : ℕ). least_end bindings a (min m end) keys) o
+  least_by : (m : ℕ) (keys : List MemberKey) → ((k : ℕ) → least_expiry (replaced gone come bindings) a k keys ≡ least_expiry bindings a k keys) → (o : Option ℕ) → option_and_then (λ (end : ℕ). least_expiry (replaced gone come bindings) a (min m end) keys) o ≡ option_and_then (λ (end : ℕ). least_expiry bindings a (min m end) keys) o
   least_by m keys rest None = refl
   least_by m keys rest (Some end) = rest (min m end)
 
-  least_kept : (m : ℕ) (keys : List MemberKey) → AllByRecursion IsKept keys → least_end (replaced gone come bindings) a m keys ≡ least_end bindings a m keys
-  unfolding least_end
+  least_kept : (m : ℕ) (keys : List MemberKey) → AllByRecursion IsKept keys → least_expiry (replaced gone come bindings) a m keys ≡ least_expiry bindings a m keys
+  unfolding least_expiry
   least_kept m [] all = refl
   least_kept m (key ∷ keys) all =
-      ap (option_and_then (λ (end : ℕ). least_end (replaced gone come bindings) a (min m end) keys)) all.0
+      ap (option_and_then (λ (end : ℕ). least_expiry (replaced gone come bindings) a (min m end) keys)) all.0
       ∙ least_by m keys (λ k. least_kept k keys all.1) (bound_until bindings key a)
 
-  entry_kept : (url : List ℕ) (entry : Entry) → list_any (concerns url entry.selectors a) gone ≡ false → list_any (concerns url entry.selectors a) come ≡ false → entry_end (replaced gone come bindings) url entry a ≡ entry_end bindings url entry a
-  unfolding entry_end member_keys
+  entry_kept : (url : List ℕ) (entry : Entry) → list_any (concerns url entry.selectors a) gone ≡ false → list_any (concerns url entry.selectors a) come ≡ false → entry_expiry (replaced gone come bindings) url entry a ≡ entry_expiry bindings url entry a
+  unfolding entry_expiry member_keys
   entry_kept url entry left came = ap (λ (o : Option ℕ). cond (is_membered entry && is_in_family entry.family a) o None) (least_kept for_ever (member_keys url entry) (keys_kept url entry.selectors left came))
 
--- ---- The places that are touched
+-- ---- The sort keys that are touched
 
 abbrev pub touches_at : Owner → Direction → Addr → ℕ → RowKey → Bool
-touches_at owner side a n t = same_place (row_key_place t) (place_at owner side a n)
+touches_at owner side a n t = same_sort_key (named_sort_key t) (sort_key_at owner side a n)
 
 module _ (slots : Slots) (owner : Owner) (side : Direction) (a : Addr) (n : ℕ) (held : UrlPolicy) (holds : held_by slots owner ≡ Some held) (entry : Entry) where
   entry_touched : (b : Binding) → concerns held.url entry.selectors a b ≡ true → list_any (touches_at owner side a n) (entry_touch b.key b.addr (owner, held) side (n, entry)) ≡ true
-  unfolding entry_touch row_key_place
+  unfolding entry_touch named_sort_key
   entry_touched b e =
       let here : b.addr ≡ a = sym (same_addr_exact a b.addr (first_so (same_addr a b.addr) _ e)) in
       ap (λ (c : Bool). list_any (touches_at owner side a n) (cond c (row_key owner side b.addr n ∷ []) [])) (second_so (same_addr a b.addr) _ e)
-      ∙ or_left _ _ (subst (λ (x : Addr). same_place (place_at owner side x n) (place_at owner side a n) ≡ true) (sym here) (same_place_itself (place_at owner side a n)))
+      ∙ or_left _ _ (subst (λ (x : Addr). same_sort_key (sort_key_at owner side x n) (sort_key_at owner side a n) ≡ true) (sym here) (same_sort_key_itself (sort_key_at owner side a n)))
 
   side_touched : (b : Binding) → entry_at n (entries_of side held.policy) ≡ Some entry → concerns held.url entry.selectors a b ≡ true → list_any (touches_at owner side a n) (side_touches b.key b.addr (owner, held) side) ≡ true
   unfolding side_touches
@@ -119,20 +119,20 @@ not_concerned slots owner side a n held entry holds stands changed none =
     any_none_implied (concerns held.url entry.selectors a) (λ (b : Binding). list_any (touches_at owner side a n) (binding_touches slots b)) (binding_touched slots owner side a n held entry holds stands) changed
     (sym (any-flat_map (touches_at owner side a n) (binding_touches slots) changed) ∙ none)
 
-module _ (slots : Slots) (gone come bindings : List Binding) (up : PlacesAscend binding_place bindings) (owner : Owner) (side : Direction) (a : Addr) (n : ℕ) (none : list_any (touches_at owner side a n) (touches slots (gone ++ come)) ≡ false) where
-  untouched_entry : (held : UrlPolicy) → held_by slots owner ≡ Some held → (o : Option Entry) → entry_at n (entries_of side held.policy) ≡ o → option_and_then (λ (entry : Entry). entry_end (replaced gone come bindings) held.url entry a) o ≡ option_and_then (λ (entry : Entry). entry_end bindings held.url entry a) o
+module _ (slots : Slots) (gone come bindings : List Binding) (up : SortKeysAscend binding_sort_key bindings) (owner : Owner) (side : Direction) (a : Addr) (n : ℕ) (none : list_any (touches_at owner side a n) (touches slots (gone ++ come)) ≡ false) where
+  untouched_entry : (held : UrlPolicy) → held_by slots owner ≡ Some held → (o : Option Entry) → entry_at n (entries_of side held.policy) ≡ o → option_and_then (λ (entry : Entry). entry_expiry (replaced gone come bindings) held.url entry a) o ≡ option_and_then (λ (entry : Entry). entry_expiry bindings held.url entry a) o
   untouched_entry held h None is = refl
   untouched_entry held h (Some entry) is =
       let all : list_any (concerns held.url entry.selectors a) (gone ++ come) ≡ false = not_concerned slots owner side a n held entry h is (gone ++ come) none in
       let each : (list_any (concerns held.url entry.selectors a) gone || list_any (concerns held.url entry.selectors a) come) ≡ false = sym (list_any-append (concerns held.url entry.selectors a) gone come) ∙ all in
       entry_kept gone come bindings up a held.url entry (or_first _ _ each) (or_second (list_any (concerns held.url entry.selectors a) gone) _ each)
 
-  untouched_holder : (o : Option UrlPolicy) → held_by slots owner ≡ o → option_and_then (held_end (replaced gone come bindings) side a n) o ≡ option_and_then (held_end bindings side a n) o
-  unfolding held_end
+  untouched_holder : (o : Option UrlPolicy) → held_by slots owner ≡ o → option_and_then (held_expiry (replaced gone come bindings) side a n) o ≡ option_and_then (held_expiry bindings side a n) o
+  unfolding held_expiry
   untouched_holder None is = refl
   untouched_holder (Some held) is = untouched_entry held is (entry_at n (entries_of side held.policy)) refl
 
-  -- at a place that isn't touched the end stays
-  pub untouched : end_at slots (replaced gone come bindings) owner side a n ≡ end_at slots bindings owner side a n
-  unfolding end_at
+  -- at a sort key that isn't touched the expiry stays
+  pub untouched : expiry_at slots (replaced gone come bindings) owner side a n ≡ expiry_at slots bindings owner side a n
+  unfolding expiry_at
   untouched = untouched_holder (held_by slots owner) refl

@@ -1,19 +1,19 @@
 -- The edits of a change of bindings.
 use Rattle.std.specs.Prelude.{◌≡◌, ◌+◌, ◌≤◌, Bool, List, length}
 use Rattle.acl_model.specs.declared.binding.Binding.{Binding}
-use Rattle.acl_model.specs.Places.{binding_place}
+use Rattle.acl_model.specs.SortKeys.{binding_sort_key}
 use Rattle.acl_model.specs.Changes.{replaced}
 use Rattle.sorted_rows.specs.declared.edit.Edit.{Edit}
 use Rattle.sorted_rows.specs.Edits.{edit, edited}
-use Rattle.acl_shelves.specs.BindingShelves.{index_by_key, AreFoundByKey}
+use Rattle.acl_shelves.specs.BindingBuckets.{index_by_key, AreFoundByKey}
 
 -- the edit of a binding that comes or goes, among these
 unfoldable pub binding_edit : List Binding → Bool → Binding → Edit Binding
 binding_edit bindings comes b = edit b comes (index_by_key b bindings)
 
 -- With the edits these bindings have gone and those have come. There are no more edits than bindings that go or come, and
--- each has the index of its place among the bindings of its key.
+-- each has the index of its sort key among the bindings of its key.
 pub record AreEditsOf (gone come bindings : List Binding) (edits : List (Edit Binding)) : Type 0 where
-  pub made : edited binding_place edits bindings ≡ replaced gone come bindings
+  pub made : edited binding_sort_key edits bindings ≡ replaced gone come bindings
   pub few : length edits ≤ length gone + length come
   pub found : AreFoundByKey bindings edits

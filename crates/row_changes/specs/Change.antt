@@ -1,12 +1,12 @@
 -- A change of bindings, over what is kept.
 use Rattle.std.specs.Prelude.{◌≡◌, ℕ, List, [], min, Option, Some, None}
 use Rattle.std.specs.Option.{option_map}
-use Rattle.sorted_rows.specs.Placed.{row_at}
+use Rattle.sorted_rows.specs.Sortable.{row_at}
 use Rattle.mud_base.specs.declared.addr.Addr.{Addr}
 use Rattle.acl_model.specs.declared.binding.MemberKey.{MemberKey}
 use Rattle.acl_model.specs.declared.binding.Binding.{Binding}
 use Rattle.acl_model.specs.Policies.{UrlPolicy}
-use Rattle.acl_model.specs.Places.{binding_place}
+use Rattle.acl_model.specs.SortKeys.{binding_sort_key}
 use Rattle.acl_model.specs.Changes.{until_of, bound_until, replaced}
 use Rattle.sorted_rows.specs.declared.edit.Edit.{Edit}
 use Rattle.sorted_rows.specs.Edits.{edited}
@@ -29,32 +29,33 @@ change_state slots bindings rows gone come = record { slots = slots; bindings = 
 -- the rows that are kept are those of the policies and bindings, and with these edits the bindings have gone and come
 pub record IsOver (slots : Slots) (bindings : List Binding) (rows : List Row) (gone come : List Binding) (edits : List (Edit Binding)) : Type 0 where
   pub kept : rows ≡ rows_of slots bindings
-  pub made : edited binding_place edits bindings ≡ replaced gone come bindings
+  pub made : edited binding_sort_key edits bindings ≡ replaced gone come bindings
 
 -- the bindings after the change
 unfoldable pub after : ChangeState → List Binding
 after c = replaced c.gone c.come c.bindings
 
--- the edits with those of one more place, and of more places
+-- the edits with those of one more sort key, and of more sort keys
 unfoldable pub one_edit : ChangeState → RowKey → List (Edit Row) → List (Edit Row)
 one_edit c t edits = with_edit c.slots c.bindings c.slots (after c) t edits
 
 unfoldable pub more_edits : ChangeState → List RowKey → List (Edit Row) → List (Edit Row)
 more_edits c ts edits = with_edits c.slots c.bindings c.slots (after c) ts edits
 
--- the end of the binding of a place
-abbrev pub end_in : List ℕ → List Binding → Option ℕ
-end_in p bindings = option_map until_of (row_at binding_place p bindings)
+-- the expiry of the binding of a sort key
+abbrev pub expiry_in : List ℕ → List Binding → Option ℕ
+expiry_in p bindings = option_map until_of (row_at binding_sort_key p bindings)
 
-unfoldable pub end_of_row : Option Row → Option ℕ
-end_of_row r = option_map (λ x. x.until) r
+unfoldable pub expiry_of_row : Option Row → Option ℕ
+expiry_of_row r = option_map (λ x. x.until) r
 
--- the lesser of an end and that of the binding of a selector's key, where it has one; a selector with no key asks for none
-unfoldable pub met_end : List Binding → Addr → ℕ → Option MemberKey → Option ℕ
-met_end bindings a m None = Some m
-met_end bindings a m (Some key) = option_map (min m) (bound_until bindings key a)
+-- the lesser of an expiry and that of the binding of a selector's key, where it has one; a selector with no key asks
+-- for none
+unfoldable pub met_expiry : List Binding → Addr → ℕ → Option MemberKey → Option ℕ
+met_expiry bindings a m None = Some m
+met_expiry bindings a m (Some key) = option_map (min m) (bound_until bindings key a)
 
--- the places that a slot's policy has at an address
+-- the sort keys that a slot's policy has at an address
 unfoldable pub slot_touches : MemberKey → Addr → ℕ → Option UrlPolicy → List RowKey
 slot_touches key a n None = []
 slot_touches key a n (Some held) = holder_touches key a (Url n, held)

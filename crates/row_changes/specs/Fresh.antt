@@ -1,7 +1,7 @@
 -- The edits that the rows of a new policy lead to, and those of the rows that stay.
 use Rattle.std.specs.Prelude.{◌≡◌, ℕ, ◌+◌, false, List, [], ◌∷◌, filter, flat_map, length, slice_get, is_some, Option, Some, None, if◌then◌else◌}
 use Rattle.std.specs.List.{AllByRecursion, filter_map}
-use Rattle.sorted_rows.specs.Placed.{row_at, set_row, set_rows, PlacesAscend}
+use Rattle.sorted_rows.specs.Sortable.{row_at, set_row, set_rows, SortKeysAscend}
 use Rattle.mud_base.specs.declared.packet.Direction.{Direction}
 use Rattle.mud_base.specs.declared.packet.Direction.TheVariants.{From, To}
 use Rattle.acl_model.specs.declared.binding.Binding.{Binding}
@@ -13,13 +13,13 @@ use Rattle.acl_model.specs.Changes.{bound_until}
 use Rattle.acl_model.specs.FirstMatch.{entries_of}
 use Rattle.acl_model.specs.Policies.{UrlPolicy}
 use Rattle.sorted_rows.specs.declared.edit.Edit.{Edit}
-use Rattle.sorted_rows.specs.Edits.{edit, edit_place}
+use Rattle.sorted_rows.specs.Edits.{edit, edit_sort_key}
 use Rattle.acl_rows.specs.declared.row.Row.{Row}
 use Rattle.acl_rows.specs.declared.row.RowKey.{RowKey}
-use Rattle.acl_rows.specs.Places.{row_place}
+use Rattle.acl_rows.specs.SortKeys.{row_sort_key}
 use Rattle.acl_rows.specs.ByAddress.{rows_of_peer, index_beside}
 use Rattle.acl_rows.specs.Rows.{Slots, Holder, row, held_by, numbered, entry_at, member_keys}
-use Rattle.row_changes.specs.Touched.{key_end, with_edit}
+use Rattle.row_changes.specs.Touched.{key_expiry, with_edit}
 use Rattle.row_changes.specs.PolicyTouched.{entry_touches}
 
 -- ---- New rows
@@ -32,18 +32,18 @@ pub record Fresh : Type 0 where
 abbrev pub fresh_of : List (Edit Row) → List Row → Fresh
 fresh_of edits rows = record { edits = edits; rows = rows }
 
--- the rows with that of a key, where there is an end
+-- the rows with that of a key, where there is an expiry
 unfoldable pub row_with : RowKey → Option ℕ → List Row → List Row
 row_with key None rows = rows
-row_with key (Some u) rows = set_row row_place (row key.owner key.side key.addr key.entry u) rows
+row_with key (Some u) rows = set_row row_sort_key (row key.owner key.side key.addr key.entry u) rows
 
--- the new end, where there was an end before
-unfoldable pub end_kept : Option ℕ → Option ℕ → Option ℕ
-end_kept None new = None
-end_kept (Some old) new = new
+-- the new expiry, where there was an expiry before
+unfoldable pub expiry_kept : Option ℕ → Option ℕ → Option ℕ
+expiry_kept None new = None
+expiry_kept (Some old) new = new
 
 unfoldable pub one_fresh : Slots → List Binding → Slots → RowKey → Fresh → Fresh
-one_fresh slots bindings slots' key s = fresh_of (with_edit slots bindings slots' bindings key s.edits) (row_with key (end_kept (key_end slots bindings key) (key_end slots' bindings key)) s.rows)
+one_fresh slots bindings slots' key s = fresh_of (with_edit slots bindings slots' bindings key s.edits) (row_with key (expiry_kept (key_expiry slots bindings key) (key_expiry slots' bindings key)) s.rows)
 
 unfoldable pub more_fresh : Slots → List Binding → Slots → List RowKey → Fresh → Fresh
 more_fresh slots bindings slots' [] s = s
@@ -51,13 +51,13 @@ more_fresh slots bindings slots' (key ∷ keys) s = more_fresh slots bindings sl
 
 -- edits and rows put among others
 unfoldable pub joined : Fresh → Fresh → Fresh
-joined more s = fresh_of (set_rows (edit_place row_place) more.edits s.edits) (set_rows row_place more.rows s.rows)
+joined more s = fresh_of (set_rows (edit_sort_key row_sort_key) more.edits s.edits) (set_rows row_sort_key more.rows s.rows)
 
 -- what these keys ask for, whatever table it is that has the policy then
 abbrev pub ArePlanned : Slots → List Binding → Holder → List RowKey → Fresh → Type 0
 ArePlanned slots bindings h keys fresh = (new : Slots) → held_by new h.0 ≡ Some h.1 → fresh ≡ more_fresh slots bindings new keys (fresh_of [] [])
 
--- the places of these entries, the first of which has this number
+-- the sort keys of these entries, the first of which has this number
 unfoldable pub entries_touches : List Binding → Holder → Direction → ℕ → List Entry → List RowKey
 entries_touches bindings h side n entries = flat_map (entry_touches bindings h.0 h.1 side) (numbered n entries)
 
@@ -65,10 +65,10 @@ entries_touches bindings h side n entries = flat_map (entry_touches bindings h.0
 abbrev pub StandFrom : ℕ → List Entry → List Entry → Type 0
 StandFrom n entries all = (i : ℕ) (entry : Entry) → slice_get entries i ≡ Some entry → entry_at (n + i) all ≡ Some entry
 
--- both are in the order of their places
+-- both are in the order of their sort keys
 pub record AreSorted (s : Fresh) : Type 0 where
-  pub edits : PlacesAscend (edit_place row_place) s.edits
-  pub rows : PlacesAscend row_place s.rows
+  pub edits : SortKeysAscend (edit_sort_key row_sort_key) s.edits
+  pub rows : SortKeysAscend row_sort_key s.rows
 
 -- the first of a list
 unfoldable pub first_of : {A : Type 0} → List A → Option A
@@ -102,9 +102,9 @@ AreOfPeer own all = AllByRecursion (λ r. own ≡ rows_of_peer r.owner r.side r.
 
 -- the edit by which a row goes, which stands among these
 abbrev pub gone_edit : List Row → Row → Edit Row
-gone_edit all r = edit r false (index_beside r.owner r.side r.addr (row_place r) all)
+gone_edit all r = edit r false (index_beside r.owner r.side r.addr (row_sort_key r) all)
 
--- the edits by which those of some rows go whose places aren't among the rows that stay; the first list has all rows that are kept
+-- the edits by which those of some rows go whose sort keys aren't among the rows that stay; the first list has all rows that are kept
 unfoldable pub left_edits : List Row → List Row → List Row → List (Edit Row) → List (Edit Row)
 left_edits all new [] edits = edits
-left_edits all new (r ∷ rs) edits = left_edits all new rs (if is_some (row_at row_place (row_place r) new) then edits else set_row (edit_place row_place) (gone_edit all r) edits)
+left_edits all new (r ∷ rs) edits = left_edits all new rs (if is_some (row_at row_sort_key (row_sort_key r) new) then edits else set_row (edit_sort_key row_sort_key) (gone_edit all r) edits)

@@ -1,28 +1,28 @@
--- Which places a policy that comes, goes or is replaced touches.
+-- Which sort keys a policy that comes, goes or is replaced touches.
 use Rattle.std.specs.Prelude.{◌≡◌, ◌≢◌, ℕ, Bool, List, [], ◌∷◌, ◌++◌, map, filter, flat_map, is_none, Option, Some, None}
-use Rattle.sorted_rows.specs.Placed.{rows_under}
+use Rattle.sorted_rows.specs.Sortable.{rows_under}
 use Rattle.mud_base.specs.declared.packet.Direction.{Direction}
 use Rattle.mud_base.specs.declared.packet.Direction.TheVariants.{From, To}
 use Rattle.acl_model.specs.declared.entry.Entry.{Entry}
 use Rattle.acl_model.specs.declared.binding.MemberKey.{MemberKey}
 use Rattle.acl_model.specs.declared.binding.Binding.{Binding}
-use Rattle.acl_model.specs.Places.{binding_place, key_place}
+use Rattle.acl_model.specs.SortKeys.{binding_sort_key, member_sort_key}
 use Rattle.acl_model.specs.FirstMatch.{entries_of}
 use Rattle.acl_model.specs.Policies.{UrlPolicy}
 use Rattle.acl_rows.specs.declared.row.Owner.{Owner}
 use Rattle.acl_rows.specs.declared.row.Owner.TheVariants.{Url}
 use Rattle.acl_rows.specs.declared.row.Row.{Row}
 use Rattle.acl_rows.specs.declared.row.RowKey.{RowKey}
-use Rattle.acl_rows.specs.Places.{owner_place, row_place}
+use Rattle.acl_rows.specs.SortKeys.{owner_sort_key, row_sort_key}
 use Rattle.acl_rows.specs.Rows.{Slots, member_keys, numbered, held_by}
-use Rattle.row_changes.specs.Patch.{end_for}
+use Rattle.row_changes.specs.Patch.{expiry_for}
 use Rattle.row_changes.specs.Touched.{row_key}
 
 -- ---- New rows: an entry at the address of each binding of its first key
 
 -- the bindings of a key
 unfoldable pub bound_under : MemberKey → List Binding → List Binding
-bound_under key bindings = rows_under binding_place (key_place key) bindings
+bound_under key bindings = rows_under binding_sort_key (member_sort_key key) bindings
 
 unfoldable pub bound_key : Owner → Direction → ℕ → Binding → RowKey
 bound_key owner side n b = row_key owner side b.addr n
@@ -45,13 +45,13 @@ new_touches bindings owner (Some held) = side_policy_touches bindings owner held
 
 -- the rows of an owner
 unfoldable pub owner_rows : Owner → List Row → List Row
-owner_rows owner rows = rows_under row_place (owner_place owner) rows
+owner_rows owner rows = rows_under row_sort_key (owner_sort_key owner) rows
 
 unfoldable pub key_of_row : Row → RowKey
 key_of_row r = row_key r.owner r.side r.addr r.entry
 
 unfoldable pub is_left : Slots → List Binding → Row → Bool
-is_left slots bindings r = is_none (end_for slots bindings r)
+is_left slots bindings r = is_none (expiry_for slots bindings r)
 
 unfoldable pub left_touches : Slots → List Binding → List Row → Owner → List RowKey
 left_touches slots bindings rows owner = map key_of_row (filter (is_left slots bindings) (owner_rows owner rows))
@@ -59,7 +59,7 @@ left_touches slots bindings rows owner = map key_of_row (filter (is_left slots b
 unfoldable pub policy_touches : Slots → List Binding → List Row → Owner → Option UrlPolicy → List RowKey
 policy_touches slots bindings rows owner new = new_touches bindings owner new ++ left_touches slots bindings rows owner
 
--- the table has this in the place, and else what it had
+-- the table has this in the slot, and else what it had
 pub record IsSlotChange (slots slots' : Slots) (i : ℕ) (new : Option UrlPolicy) : Type 0 where
   pub here : held_by slots' (Url i) ≡ new
   pub others : (j : ℕ) → j ≢ i → held_by slots' (Url j) ≡ held_by slots (Url j)

@@ -37,16 +37,16 @@ abbrev pub PolicyKeys : ℕ → Option UrlPolicy → Type 0
 PolicyKeys s None = Unit {0}
 PolicyKeys s (Some held) = (owner : Owner) → HolderKeys s (owner, held)
 
--- the steps of one place that is touched, where no entry has more than `s` member selectors, and the bindings and the rows
+-- the steps of one sort key that is touched, where no entry has more than `s` member selectors, and the bindings and the rows
 -- can be counted with `b` and `k` binary digits
-abbrev pub place_steps : ℕ → ℕ → ℕ → ℕ
-place_steps s b k = (s + 1) * (b + k + 2)
+abbrev pub sort_key_steps : ℕ → ℕ → ℕ → ℕ
+sort_key_steps s b k = (s + 1) * (b + k + 2)
 
--- the least number of steps in which a place is looked for among the rows of its owner, side and address: none where there
+-- the least number of steps in which a sort key is looked for among the rows of its owner, side and address: none where there
 -- are none
 unfoldable pub least_step : List Row → RowKey → ℕ
 least_step rows key = min 1 (length (rows_of_peer key.owner key.side key.addr rows))
 
--- the same of these places, together
+-- the same of these sort keys, together
 unfoldable pub least_steps : List Row → List RowKey → ℕ
 least_steps rows keys = sum_by (least_step rows) keys

@@ -1,7 +1,7 @@
--- Which places a change of bindings touches, and the edits that follow.
+-- Which sort keys a change of bindings touches, and the edits that follow.
 use Rattle.std.specs.Prelude.{ℕ, ◌==◌, Bool, true, false, List, [], ◌∷◌, ◌++◌, flat_map, Option, Some, None, Result, unwrap_or, is_some, if◌then◌else◌}
 use Rattle.std.specs.List.{list_any}
-use Rattle.sorted_rows.specs.Placed.{set_row}
+use Rattle.sorted_rows.specs.Sortable.{set_row}
 use Rattle.mud_base.specs.declared.addr.Addr.{Addr}
 use Rattle.mud_base.specs.declared.packet.Direction.{Direction}
 use Rattle.mud_base.specs.declared.packet.Direction.TheVariants.{From, To}
@@ -11,20 +11,20 @@ use Rattle.acl_model.specs.declared.binding.Binding.{Binding}
 use Rattle.acl_model.specs.Keys.{has_key}
 use Rattle.acl_model.specs.FirstMatch.{entries_of}
 use Rattle.sorted_rows.specs.declared.edit.Edit.{Edit}
-use Rattle.sorted_rows.specs.Edits.{edit_place}
+use Rattle.sorted_rows.specs.Edits.{edit_sort_key}
 use Rattle.acl_rows.specs.declared.row.Owner.{Owner}
 use Rattle.acl_rows.specs.declared.row.Row.{Row}
 use Rattle.acl_rows.specs.declared.row.RowKey.{RowKey}
-use Rattle.acl_rows.specs.Places.{row_place, row_key_place}
+use Rattle.acl_rows.specs.SortKeys.{row_sort_key, named_sort_key}
 use Rattle.acl_rows.specs.ByAddress.{index_beside}
-use Rattle.acl_rows.specs.Rows.{Slots, Holder, row, rows_of, numbered, holders_from, end_at}
+use Rattle.acl_rows.specs.Rows.{Slots, Holder, row, rows_of, numbered, holders_from, expiry_at}
 
--- ---- The places that are touched
+-- ---- The sort keys that are touched
 
 abbrev pub row_key : Owner → Direction → Addr → ℕ → RowKey
 row_key owner side a n = record { owner = owner; side = side; addr = a; entry = n }
 
--- the place of an entry at an address, where the entry has the key
+-- the sort key of an entry at an address, where the entry has the key
 unfoldable pub entry_touch : MemberKey → Addr → Holder → Direction → ℕ × Entry → List RowKey
 entry_touch key a h side e = if list_any (has_key h.1.url key) e.1.selectors then row_key h.0 side a e.0 ∷ [] else []
 
@@ -43,27 +43,27 @@ touches slots changed = flat_map (binding_touches slots) changed
 
 -- ---- The edits
 
-unfoldable pub same_end : Option ℕ → Option ℕ → Bool
-same_end None None = true
-same_end (Some m) (Some n) = m == n
-same_end None (Some n) = false
-same_end (Some m) None = false
+unfoldable pub same_expiry : Option ℕ → Option ℕ → Bool
+same_expiry None None = true
+same_expiry (Some m) (Some n) = m == n
+same_expiry None (Some n) = false
+same_expiry (Some m) None = false
 
--- the edit of a place by which its row has the new end; where there is none, the row with the old one goes
+-- the edit of a sort key by which its row has the new expiry; where there is none, the row with the old one goes
 unfoldable pub edit_of : RowKey → Result ℕ ℕ → Option ℕ → Option ℕ → Edit Row
 edit_of key found old new = record { row = row key.owner key.side key.addr key.entry (unwrap_or new (unwrap_or old 0)); comes = is_some new; found = found }
 
--- the edits with that of a place, where its end changes
+-- the edits with that of a sort key, where its expiry changes
 unfoldable pub changed_edits : RowKey → Result ℕ ℕ → Option ℕ → Option ℕ → List (Edit Row) → List (Edit Row)
-changed_edits key found old new edits = if same_end new old then edits else set_row (edit_place row_place) (edit_of key found old new) edits
+changed_edits key found old new edits = if same_expiry new old then edits else set_row (edit_sort_key row_sort_key) (edit_of key found old new) edits
 
-unfoldable pub key_end : Slots → List Binding → RowKey → Option ℕ
-key_end slots bindings key = end_at slots bindings key.owner key.side key.addr key.entry
+unfoldable pub key_expiry : Slots → List Binding → RowKey → Option ℕ
+key_expiry slots bindings key = expiry_at slots bindings key.owner key.side key.addr key.entry
 
 unfoldable pub with_edit : Slots → List Binding → Slots → List Binding → RowKey → List (Edit Row) → List (Edit Row)
-with_edit slots bindings slots' bindings' key edits = changed_edits key (index_beside key.owner key.side key.addr (row_key_place key) (rows_of slots bindings)) (key_end slots bindings key) (key_end slots' bindings' key) edits
+with_edit slots bindings slots' bindings' key edits = changed_edits key (index_beside key.owner key.side key.addr (named_sort_key key) (rows_of slots bindings)) (key_expiry slots bindings key) (key_expiry slots' bindings' key) edits
 
--- the edits of these places, one after the other
+-- the edits of these sort keys, one after the other
 unfoldable pub with_edits : Slots → List Binding → Slots → List Binding → List RowKey → List (Edit Row) → List (Edit Row)
 with_edits slots bindings slots' bindings' [] edits = edits
 with_edits slots bindings slots' bindings' (key ∷ keys) edits = with_edits slots bindings slots' bindings' keys (with_edit slots bindings slots' bindings' key edits)

@@ -1,13 +1,13 @@
 //! The edits of bindings that go and come.
 ghost use Rattle.std.specs.Prelude.{◌≡◌, ℕ, ◌+◌, ◌*◌, ◌^◌, ◌<◌, ◌≤◌, ◌++◌, [], length, OnOk, IfOk, true, false, map};
-ghost use Rattle.sorted_rows.specs.Placed.{set_rows};
-ghost use Rattle.acl_model.specs.Places.{binding_place};
+ghost use Rattle.sorted_rows.specs.Sortable.{set_rows};
+ghost use Rattle.acl_model.specs.SortKeys.{binding_sort_key};
 ghost use Rattle.acl_model.specs.Changes.{replaced};
-ghost use Rattle.sorted_rows.specs.Edits.{edit_place};
+ghost use Rattle.sorted_rows.specs.Edits.{edit_sort_key};
 ghost use Rattle.row_changes.specs.Bindings.{binding_edit, AreEditsOf};
 
 use acl_model::Binding;
-use acl_shelves::BindingShelves;
+use acl_shelves::BindingBuckets;
 use mud_base::Memory;
 use sorted_rows::{Edit, SortedRows, Steps, plan_edit};
 use std::alloc::Global;
@@ -18,13 +18,14 @@ const MANY: usize = 16;
 
 /// Adds the edit of each of these bindings, which come or go, to those that are planned.
 fn plan_each<L: Ledger>(
-    bindings: &BindingShelves,
+    bindings: &BindingBuckets,
     changed: &[Binding],
     comes: bool,
     edits: &mut SortedRows<Edit<Binding>>,
     steps: &mut Steps<L>,
 ) -> Result<(), Memory>
-    ensures ok { OnOk result (edits.new.rows ≡ set_rows (edit_place binding_place) (map (binding_edit bindings.now.rows comes) changed.now) edits.old.rows) }
+    ensures ok { OnOk result (edits.new.rows
+        ≡ set_rows (edit_sort_key binding_sort_key) (map (binding_edit bindings.now.rows comes) changed.now) edits.old.rows) }
     ensures least { steps.old ≤ steps.new }
     ensures most { (b : ℕ) → length bindings.now.rows < 2 ^ b → steps.new ≤ steps.old + length changed.now * b }
 {
@@ -36,16 +37,16 @@ fn plan_each<L: Ledger>(
 }
 
 /// The edits by which these bindings come, or go. Those of each half are planned by themselves and
-/// then put together in one pass over both, so bindings in another order than that of their places
-/// don't each move the edits of all others.
+/// then put together in one pass over both, so bindings in another order than that of their sort
+/// keys don't each move the edits of all others.
 fn plan_bindings<L: Ledger>(
     alloc: Global,
-    bindings: &BindingShelves,
+    bindings: &BindingBuckets,
     changed: &[Binding],
     comes: bool,
     steps: &mut Steps<L>,
 ) -> Result<SortedRows<Edit<Binding>>, Memory>
-    ensures ok { IfOk result (λ edits. edits.rows ≡ set_rows (edit_place binding_place) (map (binding_edit bindings.now.rows comes) changed.now) []) }
+    ensures ok { IfOk result (λ edits. edits.rows ≡ set_rows (edit_sort_key binding_sort_key) (map (binding_edit bindings.now.rows comes) changed.now) []) }
     ensures least { steps.old ≤ steps.new }
     ensures most { (b : ℕ) → length bindings.now.rows < 2 ^ b → steps.new ≤ steps.old + length changed.now * b }
 {
@@ -64,7 +65,7 @@ fn plan_bindings<L: Ledger>(
 /// The edits by which these bindings go, and those come.
 pub fn edits_of<L: Ledger>(
     alloc: Global,
-    bindings: &BindingShelves,
+    bindings: &BindingBuckets,
     gone: &[Binding],
     come: &[Binding],
     steps: &mut Steps<L>,

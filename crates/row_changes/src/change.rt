@@ -2,24 +2,24 @@
 ghost use Rattle.std.specs.Prelude.{◌≡◌, ℕ, ◌+◌, ◌*◌, ◌^◌, ◌<◌, ◌≤◌, length, min, OnOk, Some, slice_get, IfOk, ◌++◌, ◌∷◌, [], is_some, true};
 ghost use Rattle.std.specs.Option.{option_map};
 ghost use Rattle.std.specs.List.{filter_map};
-ghost use Rattle.sorted_rows.specs.Placed.{row_at, set_row};
+ghost use Rattle.sorted_rows.specs.Sortable.{row_at, set_row};
 ghost use Rattle.mud_url.specs.Url.{host_of};
 ghost use Rattle.acl_model.specs.Keys.{key_of};
-ghost use Rattle.acl_model.specs.Places.{binding_place, key_place};
+ghost use Rattle.acl_model.specs.SortKeys.{binding_sort_key, member_sort_key};
 ghost use Rattle.acl_model.specs.Changes.{for_ever, until_of, replaced};
 ghost use Rattle.acl_model.specs.FirstMatch.{entries_of};
 ghost use Rattle.acl_model.specs.Policies.{url_policy};
-ghost use Rattle.sorted_rows.specs.Edits.{edit, edit_place, edited, row_after};
-ghost use Rattle.acl_rows.specs.Places.{row_place, row_key_place};
+ghost use Rattle.sorted_rows.specs.Edits.{edit, edit_sort_key, edited, row_after};
+ghost use Rattle.acl_rows.specs.SortKeys.{row_sort_key, named_sort_key};
 ghost use Rattle.acl_rows.specs.ByAddress.{index_beside};
 ghost use Rattle.acl_rows.specs.Rows as spec;
 ghost use Rattle.row_changes.specs.Patch.{IsPatch};
 ghost use Rattle.row_changes.specs.Touched.{changed_edits, row_key};
 ghost use Rattle.row_changes.specs.Spots.{policy_spots};
 ghost use Rattle.row_changes.specs.Touched as touched;
-ghost use Rattle.row_changes.specs.Keys.{place_of_text};
+ghost use Rattle.row_changes.specs.Keys.{sort_key_of_text};
 ghost use Rattle.row_changes.specs.Fresh.{AreBoundFirst};
-ghost use Rattle.row_changes.specs.Change.{end_in, met_end, end_of_row, after, more_edits, slot_touches, change_state};
+ghost use Rattle.row_changes.specs.Change.{expiry_in, met_expiry, expiry_of_row, after, more_edits, slot_touches, change_state};
 ghost use Rattle.row_changes.specs.Steps.{key_steps, least_step, least_steps, EntriesFit, HolderFits};
 ghost use Rattle.row_changes.specs.Policies.{HasCounts, AllHeld};
 
@@ -27,7 +27,7 @@ use crate::policies::{Held, HeldDefaults};
 use crate::{EntrySpot, KeyIndex, selector_key};
 use acl_model::{Binding, BoundKey, Entry, MemberKey, Policy, Selector, is_in_family};
 use acl_rows::{FoundRow, Owner, PackedAddr, Row, RowKey};
-use acl_shelves::{BindingShelves, RowShelves};
+use acl_shelves::{BindingBuckets, RowBuckets};
 use mud_base::{Addr, Direction, End, Memory};
 use mud_url::MudUrl;
 use sorted_rows::{Edit, KeyOf, SortedRows, Steps};
@@ -36,14 +36,14 @@ use std::cmp::Ordering;
 use std::marker::Model;
 use std::sync::ledger::Ledger;
 
-/// The end of a binding that is kept.
+/// The expiry of a binding that is kept.
 #[tactic(auto, unfolding(acl_model::specs::Changes::until_of))]
-fn kept_end<L: Ledger>(
-    bindings: &BindingShelves,
+fn kept_expiry<L: Ledger>(
+    bindings: &BindingBuckets,
     key: &BoundKey<'_>,
     steps: &mut Steps<L>,
 ) -> Option<End>
-    ensures value { result ≡ option_map until_of (row_at binding_place (place_of_text key.entry.now.key.kind key.entry.now.key.text.now key.entry.now.addr) bindings.now.rows) }
+    ensures value { result ≡ option_map until_of (row_at binding_sort_key (sort_key_of_text key.entry.now.key.kind key.entry.now.key.text.now key.entry.now.addr) bindings.now.rows) }
     ensures least { steps.old ≤ steps.new }
     ensures most { (b : ℕ) → length bindings.now.rows < 2 ^ b → steps.new ≤ steps.old + b }
 {
@@ -53,8 +53,8 @@ fn kept_end<L: Ledger>(
     }
 }
 
-/// A policy that is held, with its URL's text and host and its index by keys, and whose rows are its
-/// own.
+/// A policy that is held, with its URL's text and host and its index by keys, and whose rows are
+/// its own.
 #[derive(Drop, Debug)]
 pub struct Holding<'a> {
     owner: Owner,
@@ -79,8 +79,8 @@ impl<'a> Model for Holding<'a> {
 #[derive(Drop)]
 pub struct Change<'a> {
     pub(crate) slots: &'a [Option<Held>],
-    pub(crate) bindings: &'a BindingShelves,
-    pub(crate) rows: &'a RowShelves,
+    pub(crate) bindings: &'a BindingBuckets,
+    pub(crate) rows: &'a RowBuckets,
     gone: &'a [Binding],
     come: &'a [Binding],
     edits: &'a SortedRows<Edit<Binding>>,
@@ -101,19 +101,19 @@ impl<'a> Model for Change<'a> {
 struct OfBound<'a>(BoundKey<'a>);
 
 impl KeyOf<Edit<Binding>> for OfBound<'_> {
-    ghost use Rattle.row_changes.specs.Keys.{place_of_text};
+    ghost use Rattle.row_changes.specs.Keys.{sort_key_of_text};
 
-    ghost place = { λ of. place_of_text of.0.key.kind of.0.key.text.now of.0.addr };
+    ghost sort_key = { λ of. sort_key_of_text of.0.key.kind of.0.key.text.now of.0.addr };
 
-    #[tactic(auto, unfolding(sorted_rows::specs::Edits::edit_place))]
+    #[tactic(auto, unfolding(sorted_rows::specs::Edits::edit_sort_key))]
     fn order_to(&self, edit: &Edit<Binding>) -> Ordering {
         self.0.order_to(&edit.row)
     }
 }
 
-/// The end of the binding of an edit's place once the edit is made.
+/// The expiry of the binding of an edit's sort key once the edit is made.
 #[tactic(auto, unfolding(sorted_rows::specs::Edits::row_after, acl_model::specs::Changes::until_of))]
-fn end_after(edit: &Edit<Binding>) -> Option<End>
+fn expiry_after(edit: &Edit<Binding>) -> Option<End>
     ensures { result ≡ option_map until_of (row_after edit.now) }
 {
     if edit.comes {
@@ -124,49 +124,49 @@ fn end_after(edit: &Edit<Binding>) -> Option<End>
 }
 
 impl<'a> Change<'a> {
-    /// The end of the binding of a key and an address after the change. Its edit is looked up
+    /// The expiry of the binding of a key and an address after the change. Its edit is looked up
     /// first: the edits are the call's own, so that is no step.
-    fn bound_end<L: Ledger>(&self, key: &BoundKey<'_>, steps: &mut Steps<L>) -> Option<End>
-        ensures value { result ≡ end_in (place_of_text key.entry.now.key.kind key.entry.now.key.text.now key.entry.now.addr) (after self.now) }
+    fn bound_expiry<L: Ledger>(&self, key: &BoundKey<'_>, steps: &mut Steps<L>) -> Option<End>
+        ensures value { result ≡ expiry_in (sort_key_of_text key.entry.now.key.kind key.entry.now.key.text.now key.entry.now.addr) (after self.now) }
         ensures least { steps.old ≤ steps.new }
         ensures most { (b : ℕ) → length self.now.bindings < 2 ^ b → steps.new ≤ steps.old + b }
     {
         let bindings = self.bindings;
         bindings.tell_order();
         match self.edits.get(&OfBound(*key)) {
-            Some(edit) => end_after(edit),
-            None => kept_end(bindings, key, steps),
+            Some(edit) => expiry_after(edit),
+            None => kept_expiry(bindings, key, steps),
         }
     }
 
-    /// The lesser of an end and that of the binding of a selector's key after the change. None where
-    /// there is no such binding; a selector with no key asks for none.
-    fn selector_end<L: Ledger>(
+    /// The lesser of an expiry and that of the binding of a selector's key after the change. None
+    /// where there is no such binding; a selector with no key asks for none.
+    fn selector_expiry<L: Ledger>(
         &self,
         selector: &Selector,
         url: &[u8],
         host: &[u8],
         addr: Addr,
-        end: End,
+        expiry: End,
         steps: &mut Steps<L>,
     ) -> Option<End>
         requires { host.now ≡ host_of url.now }
-        ensures value { result ≡ met_end (after self.now) addr end (key_of url.now selector.now) }
+        ensures value { result ≡ met_expiry (after self.now) addr expiry (key_of url.now selector.now) }
         ensures least { steps.old ≤ steps.new }
         ensures most { (b : ℕ) → length self.now.bindings < 2 ^ b → steps.new ≤ steps.old + key_steps b (key_of url.now selector.now) }
     {
         match selector_key(selector, url, host) {
-            None => Some(end),
+            None => Some(expiry),
             Some(key) => {
-                let until = self.bound_end(&BoundKey { key, addr }, steps);
-                lesser(end, until)
+                let until = self.bound_expiry(&BoundKey { key, addr }, steps);
+                lesser(expiry, until)
             }
         }
     }
 
-    /// The least of an end and those of the bindings of an address and the keys of these selectors
-    /// after the change. None where one of them isn't bound.
-    fn least_end<L: Ledger>(
+    /// The least of an expiry and those of the bindings of an address and the keys of these
+    /// selectors after the change. None where one of them isn't bound.
+    fn least_expiry<L: Ledger>(
         &self,
         selectors: &[Selector],
         url: &[u8],
@@ -176,23 +176,24 @@ impl<'a> Change<'a> {
         steps: &mut Steps<L>,
     ) -> Option<End>
         requires { host.now ≡ host_of url.now }
-        ensures value { result ≡ spec.least_end (after self.now) addr first (filter_map (key_of url.now) selectors.now) }
+        ensures value { result ≡ spec.least_expiry (after self.now) addr first (filter_map (key_of url.now) selectors.now) }
         ensures least { steps.old ≤ steps.new }
         ensures most { (b : ℕ) → length self.now.bindings < 2 ^ b → steps.new ≤ steps.old + length (filter_map (key_of url.now) selectors.now) * b }
     {
-        let mut end = first;
+        let mut expiry = first;
         for selector in selectors {
-            match self.selector_end(selector, url, host, addr, end, steps) {
+            match self.selector_expiry(selector, url, host, addr, expiry, steps) {
                 None => return None,
-                Some(next) => end = next,
+                Some(next) => expiry = next,
             }
         }
-        Some(end)
+        Some(expiry)
     }
 
-    /// Until when an address meets the member selectors of an entry after the change, where it does.
-    #[tactic(auto, unfolding(acl_rows::specs::Rows::entry_end, acl_rows::specs::Rows::member_keys))]
-    pub(crate) fn entry_end<L: Ledger>(
+    /// Until when an address meets the member selectors of an entry after the change, where it
+    /// does.
+    #[tactic(auto, unfolding(acl_rows::specs::Rows::entry_expiry, acl_rows::specs::Rows::member_keys))]
+    pub(crate) fn entry_expiry<L: Ledger>(
         &self,
         entry: &Entry,
         url: &[u8],
@@ -201,7 +202,7 @@ impl<'a> Change<'a> {
         steps: &mut Steps<L>,
     ) -> Option<End>
         requires { host.now ≡ host_of url.now }
-        ensures value { result ≡ spec.entry_end (after self.now) url.now entry.now addr }
+        ensures value { result ≡ spec.entry_expiry (after self.now) url.now entry.now addr }
         ensures least { steps.old ≤ steps.new }
         ensures most { (b : ℕ) → length self.now.bindings < 2 ^ b → steps.new ≤ steps.old + length (spec.member_keys url.now entry.now) * b }
     {
@@ -209,12 +210,12 @@ impl<'a> Change<'a> {
             return None;
         }
         let selectors = entry.selectors.as_slice();
-        self.least_end(selectors, url, host, addr, End(End::NEVER), steps)
+        self.least_expiry(selectors, url, host, addr, End(End::NEVER), steps)
     }
 
-    /// The same at the address of a binding of the entry's first key. The end by that key is the
+    /// The same at the address of a binding of the entry's first key. The expiry by that key is the
     /// binding's, so only the keys of the selectors behind are looked up.
-    pub(crate) fn bound_entry_end<L: Ledger>(
+    pub(crate) fn bound_entry_expiry<L: Ledger>(
         &self,
         entry: &Entry,
         behind: &[Selector],
@@ -225,7 +226,7 @@ impl<'a> Change<'a> {
     ) -> Option<End>
         requires host { host.now ≡ host_of url.now }
         requires first { AreBoundFirst (after self.now) url.now entry.now behind.now (binding.now ∷ []) }
-        ensures value { result ≡ spec.entry_end (after self.now) url.now entry.now binding.now.addr }
+        ensures value { result ≡ spec.entry_expiry (after self.now) url.now entry.now binding.now.addr }
         ensures least { steps.old ≤ steps.new }
         ensures most { (b : ℕ) → length self.now.bindings < 2 ^ b → steps.new ≤ steps.old + length (spec.member_keys url.now entry.now) * b }
     {
@@ -233,10 +234,11 @@ impl<'a> Change<'a> {
             return None;
         }
         tell_most(binding.until);
-        self.least_end(behind, url, host, binding.addr, binding.until, steps)
+        self.least_expiry(behind, url, host, binding.addr, binding.until, steps)
     }
 
-    /// The edit by which the row of a key has this end, or by which it goes: where that changes it.
+    /// The edit by which the row of a key has this expiry, or by which it goes: where that changes
+    /// it.
     pub(crate) fn plan_row<L: Ledger>(
         &self,
         key: RowKey,
@@ -244,7 +246,7 @@ impl<'a> Change<'a> {
         edits: &mut SortedRows<Edit<Row>>,
         steps: &mut Steps<L>,
     ) -> Result<(), Memory>
-        ensures ok { OnOk result (edits.new.rows ≡ changed_edits key (index_beside key.owner key.side key.addr (row_key_place key) self.now.rows) (end_of_row (row_at row_place (row_key_place key) self.now.rows)) until edits.old.rows) }
+        ensures ok { OnOk result (edits.new.rows ≡ changed_edits key (index_beside key.owner key.side key.addr (named_sort_key key) self.now.rows) (expiry_of_row (row_at row_sort_key (named_sort_key key) self.now.rows)) until edits.old.rows) }
         ensures least { steps.old + least_step self.now.rows key ≤ steps.new }
         ensures most { (b : ℕ) → length self.now.rows < 2 ^ b → steps.new ≤ steps.old + b }
     {
@@ -271,7 +273,7 @@ impl<'a> Change<'a> {
     {
         let _kept = &self.slots;
         let entry = holding.entry(*spot);
-        let until = self.entry_end(entry, holding.url(), holding.host(), addr, steps);
+        let until = self.entry_expiry(entry, holding.url(), holding.host(), addr, steps);
         let row = RowKey {
             owner: holding.owner(),
             side: spot.side,
@@ -385,7 +387,7 @@ impl<'a> Change<'a> {
     }
 
     /// The edits of the change: with them the rows are those made anew of the bindings after it.
-    /// Each place that is touched is looked for among the rows of its owner, side and address.
+    /// Each sort key that is touched is looked for among the rows of its owner, side and address.
     pub fn plan<L: Ledger>(
         &self,
         alloc: Global,
@@ -414,14 +416,14 @@ impl<'a> Change<'a> {
     /// A change of bindings over these, and the edits by which they go and come.
     pub fn new(
         slots: &'a [Option<Held>],
-        bindings: &'a BindingShelves,
-        rows: &'a RowShelves,
+        bindings: &'a BindingBuckets,
+        rows: &'a RowBuckets,
         gone: &'a [Binding],
         come: &'a [Binding],
         edits: &'a SortedRows<Edit<Binding>>,
     ) -> Change<'a>
         requires kept { rows.now.rows ≡ spec.rows_of slots.now bindings.now.rows }
-        requires made { edited binding_place edits.now.rows bindings.now.rows ≡ replaced gone.now come.now bindings.now.rows }
+        requires made { edited binding_sort_key edits.now.rows bindings.now.rows ≡ replaced gone.now come.now bindings.now.rows }
         ensures { result ≡ change_state slots.now bindings.now.rows rows.now.rows gone.now come.now }
     {
         Change {
@@ -489,9 +491,9 @@ impl<'a> Holding<'a> {
     }
 
     /// The entries that have a key: those for what the Thing sends first.
-    #[tactic(auto, unfolding(acl_model::specs::Places::key_place))]
+    #[tactic(auto, unfolding(acl_model::specs::SortKeys::member_sort_key))]
     fn spots(&self, key: &MemberKey) -> &'a [EntrySpot]
-        ensures { result.now ≡ policy_spots self.now.1.url self.now.1.policy (key_place key.now) }
+        ensures { result.now ≡ policy_spots self.now.1.url self.now.1.policy (member_sort_key key.now) }
     {
         let keys = self.keys;
         keys.spots(&key.key_text())
@@ -519,7 +521,7 @@ impl<'a> Holding<'a> {
     }
 }
 
-/// The row of a key with this end.
+/// The row of a key with this expiry.
 #[tactic(auto, unfolding(acl_rows::specs::Rows::row))]
 pub(crate) fn row_until(key: RowKey, until: End) -> Row
     ensures { result ≡ spec.row key.owner key.side key.addr key.entry until }
@@ -533,9 +535,9 @@ pub(crate) fn row_until(key: RowKey, until: End) -> Row
     }
 }
 
-/// Plans that the row of this key, which was looked for, has the new end, or that it goes where there
-/// is none: where that changes it.
-#[tactic(auto, unfolding(crate::specs::Touched::changed_edits, crate::specs::Touched::same_end, crate::specs::Touched::edit_of))]
+/// Plans that the row of this key, which was looked for, has the new expiry, or that it goes where
+/// there is none: where that changes it.
+#[tactic(auto, unfolding(crate::specs::Touched::changed_edits, crate::specs::Touched::same_expiry, crate::specs::Touched::edit_of))]
 pub(crate) fn plan_found(
     edits: &mut SortedRows<Edit<Row>>,
     key: RowKey,
@@ -546,22 +548,22 @@ pub(crate) fn plan_found(
 {
     match (found.until, new) {
         (None, None) => Ok(()),
-        (None, Some(end)) => add_edit(edits, &row_until(key, end), true, found.index),
+        (None, Some(expiry)) => add_edit(edits, &row_until(key, expiry), true, found.index),
         (Some(old), None) => add_edit(edits, &row_until(key, old), false, found.index),
-        (Some(old), Some(end)) if end.0 == old.0 => Ok(()),
-        (Some(_), Some(end)) => add_edit(edits, &row_until(key, end), true, found.index),
+        (Some(old), Some(expiry)) if expiry.0 == old.0 => Ok(()),
+        (Some(_), Some(expiry)) => add_edit(edits, &row_until(key, expiry), true, found.index),
     }
 }
 
-/// Adds the edit of a row to those that are planned, as `plan_edit` does. Places that come in their
-/// order are not looked for.
+/// Adds the edit of a row to those that are planned, as `plan_edit` does. Sort keys that come in
+/// their order are not looked for.
 pub(crate) fn add_edit(
     edits: &mut SortedRows<Edit<Row>>,
     row: &Row,
     comes: bool,
     found: Result<usize, usize>,
 ) -> Result<(), Memory>
-    ensures { OnOk result (edits.new.rows ≡ set_row (edit_place row_place) (edit row.now comes found) edits.old.rows) }
+    ensures { OnOk result (edits.new.rows ≡ set_row (edit_sort_key row_sort_key) (edit row.now comes found) edits.old.rows) }
 {
     edits.reserve(1)?;
     let last = Edit {
@@ -579,16 +581,16 @@ pub(crate) fn add_edit(
     Ok(())
 }
 
-/// Does nothing: its contract says that no end is after that of what lasts for ever.
-fn tell_most(end: End)
-    ensures { end ≤ for_ever }
+/// Does nothing: its contract says that no expiry is after that of what lasts for ever.
+fn tell_most(expiry: End)
+    ensures { expiry ≤ for_ever }
 {
-    let _seconds = end.0;
+    let _seconds = expiry.0;
 }
 
-/// The lesser of two ends, where there is a second one.
-fn lesser(end: End, until: Option<End>) -> Option<End>
-    ensures { result ≡ option_map (min end) until }
+/// The lesser of two expiries, where there is a second one.
+fn lesser(expiry: End, until: Option<End>) -> Option<End>
+    ensures { result ≡ option_map (min expiry) until }
 {
-    until.map(|until| End(end.0.min(until.0)))
+    until.map(|until| End(expiry.0.min(until.0)))
 }

@@ -9,7 +9,7 @@ use acl_model::{KeyText, Selector};
 
 /// The kind and the text of the key of a member selector, in the file of the URL with this text
 /// and host; None where the selector isn't one.
-#[tactic(auto, unfolding(acl_model::specs::Places::key_kind, acl_model::specs::Places::key_text, crate::specs::EntryKeys::key_parts, acl_model::specs::Keys::key_of))]
+#[tactic(auto, unfolding(acl_model::specs::SortKeys::key_kind, acl_model::specs::SortKeys::key_text, crate::specs::EntryKeys::key_parts, acl_model::specs::Keys::key_of))]
 pub fn selector_key<'a>(
     selector: &'a Selector,
     url: &'a [u8],

@@ -1,15 +1,15 @@
 //! The edits that the rows of a new policy lead to, and those of the rows that stay.
 ghost use Rattle.std.specs.Prelude.{◌≡◌, ℕ, ◌+◌, ◌*◌, ◌^◌, ◌<◌, ◌≤◌, length, OnOk, IfOk, Some, List, [], ◌∷◌, map};
 ghost use Rattle.acl_model.specs.FirstMatch.{entries_of};
-ghost use Rattle.sorted_rows.specs.Placed.{PlacesAscend};
+ghost use Rattle.sorted_rows.specs.Sortable.{SortKeysAscend};
 ghost use Rattle.acl_rows.specs.declared.row.Row.{Row as RowValue};
-ghost use Rattle.acl_rows.specs.Places.{row_place};
+ghost use Rattle.acl_rows.specs.SortKeys.{row_sort_key};
 ghost use Rattle.acl_rows.specs.Rows.{Slots, held_by, entry_at, member_keys};
-ghost use Rattle.row_changes.specs.Touched.{key_end};
+ghost use Rattle.row_changes.specs.Touched.{key_expiry};
 ghost use Rattle.row_changes.specs.PolicyTouched.{bound_key, entry_touches, side_policy_touches, new_touches};
 ghost use Rattle.row_changes.specs.Policies.{HasCounts};
 ghost use Rattle.row_changes.specs.Steps.{EntriesFit, HolderFits};
-ghost use Rattle.row_changes.specs.Fresh.{fresh_of, row_with, end_kept, AreBoundFirst, one_fresh, more_fresh, joined, membered_count, policy_count, entries_touches, ArePlanned, StandFrom, AreOfPeer, left_edits, AreSorted};
+ghost use Rattle.row_changes.specs.Fresh.{fresh_of, row_with, expiry_kept, AreBoundFirst, one_fresh, more_fresh, joined, membered_count, policy_count, entries_touches, ArePlanned, StandFrom, AreOfPeer, left_edits, AreSorted};
 
 use crate::change::{Change, Holding, add_edit, plan_found, row_until};
 use crate::keys::first_key;
@@ -21,8 +21,8 @@ use std::alloc::Global;
 use std::marker::Model;
 use std::sync::ledger::Ledger;
 
-/// Edits that are planned, and of the rows that a new policy asks for those at whose places a row
-/// stands already.
+/// Edits that are planned, and of the rows that a new policy asks for those at whose sort keys a
+/// row stands already.
 #[derive(Drop)]
 pub(crate) struct FreshRows {
     pub(crate) edits: SortedRows<Edit<Row>>,
@@ -48,7 +48,8 @@ impl FreshRows {
         }
     }
 
-    /// Puts these edits and rows among those that are planned, each of which is moved at most twice.
+    /// Puts these edits and rows among those that are planned, each of which is moved at most
+    /// twice.
     #[tactic(auto, unfolding(crate::specs::Fresh::joined))]
     fn add(&mut self, more: FreshRows) -> Result<(), Memory>
         ensures ok { OnOk result (self.new ≡ joined more self.old) }
@@ -63,8 +64,8 @@ impl FreshRows {
 }
 
 impl<'a> Change<'a> {
-    /// Plans the row of a key, which is asked for until this end or not at all.
-    #[tactic(auto, unfolding(crate::specs::Change::end_of_row, acl_rows::specs::ByAddress::until_of_row))]
+    /// Plans the row of a key, which is asked for until this expiry or not at all.
+    #[tactic(auto, unfolding(crate::specs::Change::expiry_of_row, acl_rows::specs::ByAddress::until_of_row))]
     fn plan_fresh<L: Ledger>(
         &self,
         key: RowKey,
@@ -72,7 +73,7 @@ impl<'a> Change<'a> {
         fresh: &mut FreshRows,
         steps: &mut Steps<L>,
     ) -> Result<(), Memory>
-        ensures ok { OnOk result ((new : Slots) → until ≡ key_end new self.now.bindings key → fresh.new ≡ one_fresh self.now.slots self.now.bindings new key fresh.old) }
+        ensures ok { OnOk result ((new : Slots) → until ≡ key_expiry new self.now.bindings key → fresh.new ≡ one_fresh self.now.slots self.now.bindings new key fresh.old) }
         ensures least { steps.old ≤ steps.new }
         ensures most { (k : ℕ) → length self.now.rows < 2 ^ k → steps.new ≤ steps.old + k }
     {
@@ -104,7 +105,7 @@ impl<'a> Change<'a> {
             → length (member_keys holding.now.1.url entry.now) * b + k ≤ u → steps.new ≤ steps.old + u }
     {
         let url = holding.url();
-        let until = self.bound_entry_end(entry, behind, url, holding.host(), binding, steps);
+        let until = self.bound_entry_expiry(entry, behind, url, holding.host(), binding, steps);
         let key = RowKey {
             owner: holding.owner(),
             side,
@@ -142,7 +143,8 @@ impl<'a> Change<'a> {
         Ok(())
     }
 
-    /// The rows of an entry: at the addresses of the bindings of its first key. Each of these is read.
+    /// The rows of an entry: at the addresses of the bindings of its first key. Each of these is
+    /// read.
     #[tactic(auto, unfolding(crate::specs::PolicyTouched::entry_touches))]
     fn entry_fresh<L: Ledger>(
         &self,
@@ -256,30 +258,30 @@ impl<'a> Change<'a> {
     }
 }
 
-/// Adds the row of a key with its new end, where it has one and a row was found.
-#[tactic(auto, unfolding(crate::specs::Fresh::row_with, crate::specs::Fresh::end_kept))]
+/// Adds the row of a key with its new expiry, where it has one and a row was found.
+#[tactic(auto, unfolding(crate::specs::Fresh::row_with, crate::specs::Fresh::expiry_kept))]
 fn keep_row(
     rows: &mut SortedRows<Row>,
     key: &RowKey,
     found: &FoundRow,
     until: &Option<End>,
 ) -> Result<(), Memory>
-    ensures { OnOk result (rows.new.rows ≡ row_with key.now (end_kept found.now.until until.now) rows.old.rows) }
+    ensures { OnOk result (rows.new.rows ≡ row_with key.now (expiry_kept found.now.until until.now) rows.old.rows) }
 {
     match (&found.until, until) {
-        (Some(_), Some(end)) => {
+        (Some(_), Some(expiry)) => {
             rows.reserve(1)?;
-            rows.put(row_until(*key, *end));
+            rows.put(row_until(*key, *expiry));
             Ok(())
         }
         _ => Ok(()),
     }
 }
 
-/// Plans that those of these rows go whose places aren't among the rows that stay. They are all rows of
-/// one owner, side and address.
+/// Plans that those of these rows go whose sort keys aren't among the rows that stay. They are all
+/// rows of one owner, side and address.
 pub(crate) fn plan_left(own: &[Row], fresh: &mut FreshRows) -> Result<(), Memory>
-    requires { PlacesAscend row_place own.now }
+    requires { SortKeysAscend row_sort_key own.now }
     ensures rows { fresh.new.rows ≡ fresh.old.rows }
     ensures ok { OnOk result ((all : List RowValue) → AreOfPeer own.now all → fresh.new.edits ≡ left_edits all fresh.old.rows own.now fresh.old.edits) }
 {

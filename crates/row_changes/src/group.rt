@@ -1,12 +1,12 @@
 //! Keys, each with the entries that have it.
 ghost use Rattle.std.specs.Prelude.{◌≡◌, ℕ, ◌++◌, List, OnOk, IfOk};
-ghost use Rattle.sorted_rows.specs.Placed.{place_cmp, same_place, without_row};
-ghost use Rattle.acl_model.specs.Places.{text_place};
-ghost use Rattle.row_changes.specs.Spots.{group_place, spots_in, spot_if};
+ghost use Rattle.sorted_rows.specs.Sortable.{sort_key_cmp, same_sort_key, without_row};
+ghost use Rattle.acl_model.specs.SortKeys.{text_sort_key};
+ghost use Rattle.row_changes.specs.Spots.{group_sort_key, spots_in, spot_if};
 
 use acl_model::{KeyText, order_keys};
 use mud_base::{Bytes, Direction, Listed, Memory};
-use sorted_rows::{KeyOf, Placed, SortedRows};
+use sorted_rows::{KeyOf, Sortable, SortedRows};
 use std::alloc::Global;
 use std::cmp::Ordering;
 
@@ -29,9 +29,9 @@ pub struct KeyEntries {
 
 impl KeyEntries {
     /// The kind and the text.
-    #[tactic(auto, unfolding(crate::specs::Spots::group_place))]
+    #[tactic(auto, unfolding(crate::specs::Spots::group_sort_key))]
     fn key_text(&self) -> KeyText<'_>
-        ensures { text_place result.kind result.text.now ≡ group_place self.now }
+        ensures { text_sort_key result.kind result.text.now ≡ group_sort_key self.now }
     {
         KeyText {
             kind: self.kind,
@@ -47,10 +47,10 @@ impl KeyEntries {
     }
 }
 
-impl Placed for KeyEntries {
-    ghost use Rattle.row_changes.specs.Spots.{group_place};
+impl Sortable for KeyEntries {
+    ghost use Rattle.row_changes.specs.Spots.{group_sort_key};
 
-    ghost place = { group_place };
+    ghost sort_key = { group_sort_key };
 
     fn order(&self, other: &KeyEntries) -> Ordering {
         order_keys(self.key_text(), other.key_text())
@@ -58,9 +58,9 @@ impl Placed for KeyEntries {
 }
 
 impl KeyOf<KeyEntries> for KeyText<'_> {
-    ghost use Rattle.acl_model.specs.Places.{text_place};
+    ghost use Rattle.acl_model.specs.SortKeys.{text_sort_key};
 
-    ghost place = { λ own. text_place own.kind own.text.now };
+    ghost sort_key = { λ own. text_sort_key own.kind own.text.now };
 
     fn order_to(&self, row: &KeyEntries) -> Ordering {
         order_keys(*self, row.key_text())
@@ -68,15 +68,15 @@ impl KeyOf<KeyEntries> for KeyText<'_> {
 }
 
 /// Takes out what is kept of a key; where nothing is, it begins with no entry.
-#[tactic(auto, unfolding(crate::specs::Spots::group_place, crate::specs::Spots::spots_in, crate::specs::Spots::spots_of))]
+#[tactic(auto, unfolding(crate::specs::Spots::group_sort_key, crate::specs::Spots::spots_in, crate::specs::Spots::spots_of))]
 fn taken(
     alloc: Global,
     groups: &mut SortedRows<KeyEntries>,
     key: &KeyText<'_>,
 ) -> Result<KeyEntries, Memory>
-    ensures rest { OnOk result (groups.new.rows ≡ without_row group_place (text_place key.entry.now.kind key.entry.now.text.now) groups.old.rows) }
-    ensures place { IfOk result (λ taken. group_place taken ≡ text_place key.entry.now.kind key.entry.now.text.now) }
-    ensures spots { IfOk result (λ taken. taken.spots ≡ spots_in groups.old.rows (text_place key.entry.now.kind key.entry.now.text.now)) }
+    ensures rest { OnOk result (groups.new.rows ≡ without_row group_sort_key (text_sort_key key.entry.now.kind key.entry.now.text.now) groups.old.rows) }
+    ensures sort_key { IfOk result (λ taken. group_sort_key taken ≡ text_sort_key key.entry.now.kind key.entry.now.text.now) }
+    ensures spots { IfOk result (λ taken. taken.spots ≡ spots_in groups.old.rows (text_sort_key key.entry.now.kind key.entry.now.text.now)) }
 {
     match groups.remove(key) {
         Some(kept) => Ok(kept),
@@ -95,7 +95,7 @@ pub(crate) fn add_spot(
     key: &KeyText<'_>,
     spot: EntrySpot,
 ) -> Result<(), Memory>
-    ensures { OnOk result ((p : List ℕ) → spots_in groups.new.rows p ≡ spots_in groups.old.rows p ++ spot_if (same_place (text_place key.entry.now.kind key.entry.now.text.now) p) spot) }
+    ensures { OnOk result ((p : List ℕ) → spots_in groups.new.rows p ≡ spots_in groups.old.rows p ++ spot_if (same_sort_key (text_sort_key key.entry.now.kind key.entry.now.text.now) p) spot) }
 {
     let _ascending = groups.rows();
     let mut group = taken(alloc, groups, key)?;

@@ -2,7 +2,7 @@
 ghost use Rattle.std.specs.Prelude.{◌≡◌, ℕ, ◌≤◌, ◌++◌, ◌&&◌, List, not, length, OnOk, IfOk};
 ghost use Rattle.std.specs.List.{list_any};
 ghost use Rattle.mud_url.specs.Url.{host_of};
-ghost use Rattle.acl_model.specs.Places.{text_place};
+ghost use Rattle.acl_model.specs.SortKeys.{text_sort_key};
 ghost use Rattle.row_changes.specs.Spots.{is_keyed, spot_if, spots_in, side_spots, policy_spots};
 
 use crate::entry_keys::selector_key;
@@ -49,7 +49,7 @@ impl KeyIndex {
     /// The entries with a key, in their order: those for what the Thing sends first.
     #[tactic(auto, unfolding(crate::specs::Spots::spots_in, crate::specs::Spots::spots_of))]
     pub fn spots(&self, key: &KeyText<'_>) -> &[EntrySpot]
-        ensures { result.now ≡ spots_in self.now (text_place key.entry.now.kind key.entry.now.text.now) }
+        ensures { result.now ≡ spots_in self.now (text_sort_key key.entry.now.kind key.entry.now.text.now) }
     {
         match self.groups.get(key) {
             Some(group) => group.spots(),
@@ -62,7 +62,7 @@ impl KeyIndex {
 #[tactic(auto, unfolding(crate::specs::Spots::is_keyed))]
 fn selector_is_keyed(selector: &Selector, url: &[u8], host: &[u8], key: &KeyText<'_>) -> bool
     requires { host.now ≡ host_of url.now }
-    ensures { result ≡ is_keyed url.now (text_place key.entry.now.kind key.entry.now.text.now) selector.now }
+    ensures { result ≡ is_keyed url.now (text_sort_key key.entry.now.kind key.entry.now.text.now) selector.now }
 {
     match selector_key(selector, url, host) {
         None => false,
@@ -73,7 +73,7 @@ fn selector_is_keyed(selector: &Selector, url: &[u8], host: &[u8], key: &KeyText
 /// Whether one of these selectors has this key.
 fn are_keyed(selectors: &[Selector], url: &[u8], host: &[u8], key: &KeyText<'_>) -> bool
     requires { host.now ≡ host_of url.now }
-    ensures { result ≡ list_any (is_keyed url.now (text_place key.entry.now.kind key.entry.now.text.now)) selectors.now }
+    ensures { result ≡ list_any (is_keyed url.now (text_sort_key key.entry.now.kind key.entry.now.text.now)) selectors.now }
 {
     selectors
         .iter()

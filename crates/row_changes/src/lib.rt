@@ -1,5 +1,5 @@
 //! The edits of rows and of bindings that a change leads to: one of bindings, which go and come, or
-//! one of the policy in a place of the table. And the policies as they are held there, with the
+//! one of the policy in a slot of the table. And the policies as they are held there, with the
 //! entries that have each key at hand, so that nothing else is read where an address is bound to
 //! the key or isn't any more.
 #![tactic(auto)]

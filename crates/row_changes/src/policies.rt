@@ -9,7 +9,7 @@ ghost use Rattle.row_changes.specs.Policies.{HasCounts, IsIndexOf};
 use crate::KeyIndex;
 use acl_model::{DefaultRule, Entry, Policy, default_entry};
 use acl_rows::{Owner, RulePart};
-use acl_shelves::RowShelves;
+use acl_shelves::RowBuckets;
 use mud_base::{Direction, Listed, Memory};
 use mud_url::MudUrl;
 use std::alloc::Global;
@@ -140,7 +140,7 @@ impl CompiledPolicy {
 
     /// What a ruling reads of one side of it, over rows among which those of the owner stand. The
     /// rows of an address stand by themselves.
-    pub fn part<'a>(&'a self, owner: Owner, side: Direction, rows: &'a RowShelves) -> RulePart<'a>
+    pub fn part<'a>(&'a self, owner: Owner, side: Direction, rows: &'a RowBuckets) -> RulePart<'a>
         ensures { IsPartOf rows.now.rows side owner self.now result }
     {
         match side {

@@ -1,29 +1,29 @@
 //! The edits of rows that a policy leads to which comes, goes or is replaced.
 ghost use Rattle.std.specs.Prelude.{◌≡◌, ℕ, ◌+◌, ◌*◌, ◌^◌, ◌<◌, ◌≤◌, [], length, IfOk, OnOk};
-ghost use Rattle.sorted_rows.specs.Placed.{PlacesAscend};
+ghost use Rattle.sorted_rows.specs.Sortable.{SortKeysAscend};
 ghost use Rattle.acl_rows.specs.declared.row.Owner.TheVariants as owner_of;
-ghost use Rattle.acl_rows.specs.Places.{row_place};
+ghost use Rattle.acl_rows.specs.SortKeys.{row_sort_key};
 ghost use Rattle.acl_rows.specs.Rows.{Slots, rows_of, held_by};
 ghost use Rattle.acl_rows.specs.View.{rows_of_side};
 ghost use Rattle.row_changes.specs.Patch.{IsPatch};
 ghost use Rattle.row_changes.specs.PolicyTouched.{new_touches, owner_rows, IsSlotChange};
 ghost use Rattle.row_changes.specs.Fresh.{fresh_of, more_fresh, policy_count, left_edits};
-ghost use Rattle.row_changes.specs.Steps.{HaveKeys, PolicyKeys, place_steps};
+ghost use Rattle.row_changes.specs.Steps.{HaveKeys, PolicyKeys, sort_key_steps};
 
 use crate::change::{Change, Holding};
 use crate::fresh::{FreshRows, plan_left};
 use crate::policies::Held;
 use acl_rows::{Owner, Row};
-use acl_shelves::{BindingShelves, RowShelves};
+use acl_shelves::{BindingBuckets, RowBuckets};
 use mud_base::{Direction, Memory};
 use sorted_rows::{Edit, SortedRows, Steps};
 use std::alloc::Global;
 use std::sync::ledger::Ledger;
 
-/// Plans that those rows of an owner and side go whose places aren't among the rows that stay. Each row of
-/// the owner and side is one step.
+/// Plans that those rows of an owner and side go whose sort keys aren't among the rows that stay.
+/// Each row of the owner and side is one step.
 fn plan_side<L: Ledger>(
-    rows: &RowShelves,
+    rows: &RowBuckets,
     owner: Owner,
     side: Direction,
     fresh: &mut FreshRows,
@@ -40,15 +40,15 @@ fn plan_side<L: Ledger>(
     Ok(())
 }
 
-/// Plans that those rows of an owner go whose places aren't among the rows that stay. Each row of the
-/// owner is one step.
+/// Plans that those rows of an owner go whose sort keys aren't among the rows that stay. Each row
+/// of the owner is one step.
 fn plan_own<L: Ledger>(
-    rows: &RowShelves,
+    rows: &RowBuckets,
     owner: Owner,
     fresh: &mut FreshRows,
     steps: &mut Steps<L>,
 ) -> Result<(), Memory>
-    requires { PlacesAscend row_place rows.now.rows }
+    requires { SortKeysAscend row_sort_key rows.now.rows }
     ensures ok { OnOk result (fresh.new.edits ≡ left_edits rows.now.rows fresh.old.rows (rows_of_side owner Direction.To rows.now.rows) (left_edits rows.now.rows fresh.old.rows (rows_of_side owner Direction.From rows.now.rows) fresh.old.edits)) }
     ensures read { OnOk result (steps.old + length (owner_rows owner rows.now.rows) ≤ steps.new) }
     ensures most { steps.new ≤ steps.old + length (owner_rows owner rows.now.rows) }
@@ -57,8 +57,8 @@ fn plan_own<L: Ledger>(
     plan_side(rows, owner, Direction::To, fresh, steps)
 }
 
-/// The edits of the rows that the policy of an owner asks for, where there is one, and those of these
-/// rows that stay.
+/// The edits of the rows that the policy of an owner asks for, where there is one, and those of
+/// these rows that stay.
 fn fresh_rows<L: Ledger>(
     alloc: Global,
     change: &Change<'_>,
@@ -79,13 +79,13 @@ fn fresh_rows<L: Ledger>(
     }
 }
 
-/// The edits of rows for this policy in a place of the table, or for none. The rows of that place
+/// The edits of rows for this policy in a slot of the table, or for none. The rows of that slot
 /// are read, and the bindings of the first key of each new entry.
 pub fn slot_rows<L: Ledger>(
     alloc: Global,
     slots: &[Option<Held>],
-    bindings: &BindingShelves,
-    rows: &RowShelves,
+    bindings: &BindingBuckets,
+    rows: &RowBuckets,
     index: u16,
     held: &Option<Held>,
     steps: &mut Steps<L>,
@@ -94,7 +94,7 @@ pub fn slot_rows<L: Ledger>(
     ensures ok { IfOk result (λ edits. (new : Slots) → IsSlotChange slots.now new index held.now → IsPatch slots.now bindings.now.rows new bindings.now.rows edits.rows) }
     ensures read { OnOk result (steps.old + length (owner_rows (owner_of.Url index) rows.now.rows) + length (new_touches bindings.now.rows (owner_of.Url index) held.now) ≤ steps.new) }
     ensures most { (s b k : ℕ) → HaveKeys s slots.now → PolicyKeys s held.now → length bindings.now.rows < 2 ^ b → length rows.now.rows < 2 ^ k
-        → steps.new ≤ steps.old + length (owner_rows (owner_of.Url index) rows.now.rows) + (policy_count held.now + length (new_touches bindings.now.rows (owner_of.Url index) held.now) + 1) * place_steps s b k }
+        → steps.new ≤ steps.old + length (owner_rows (owner_of.Url index) rows.now.rows) + (policy_count held.now + length (new_touches bindings.now.rows (owner_of.Url index) held.now) + 1) * sort_key_steps s b k }
 {
     let owner = Owner::Url(index);
     let unchanged = SortedRows::new(alloc);

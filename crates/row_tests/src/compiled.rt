@@ -1,5 +1,6 @@
-//! What is compiled of a light bulb and a switch of one maker, where 192.0.2.10 is leased to the bulb.
-//! Each entry allows the Things of the maker; the bulb's file has one for its server before it.
+//! What is compiled of a light bulb and a switch of one maker, where 192.0.2.10 is leased to the
+//! bulb. Each entry allows the Things of the maker; the bulb's file has one for its server before
+//! it.
 ghost use Rattle.sorted_rows.specs.Ledgers.{IsBlankOf};
 
 use acl_compile::Compiled;
@@ -18,7 +19,7 @@ mod made;
 /// 192.0.2.10
 const BULB: Addr = Addr::V4(0xc000_020a);
 
-/// When the lease ends.
+/// When the lease expires.
 const LEASED: End = End(87400);
 
 const BULB_URL: &[u8] = b"https://lighting.example.com/lightbulb2000";
@@ -85,9 +86,9 @@ fn to_maker(alloc: Global) -> Result<Binding, Memory> {
 }
 
 /// The row of an entry at the leased address.
-fn row(place: u16, entry: u16) -> Row {
+fn row(slot_number: u16, entry: u16) -> Row {
     Row {
-        owner: Owner::Url(place),
+        owner: Owner::Url(slot_number),
         side: Direction::From,
         addr: PackedAddr::new(BULB),
         entry,
@@ -114,7 +115,7 @@ fn hold<L: Ledger>(
     policy: &Policy,
     steps: &mut Steps<L>,
 ) -> Result<bool, Memory> {
-    if !compiled.has_place(url) {
+    if !compiled.has_slot(url) {
         return Ok(false);
     }
     if policy.outgoing.len() > 128 {
@@ -128,13 +129,13 @@ fn hold<L: Ledger>(
     Ok(true)
 }
 
-/// Plans that no policy is held for the URL, and does it. False where there is no place for the URL.
+/// Plans that no policy is held for the URL, and does it. False where there is no slot for the URL.
 fn release<L: Ledger>(
     compiled: &mut Compiled,
     url: &MudUrl,
     steps: &mut Steps<L>,
 ) -> Result<bool, Memory> {
-    if !compiled.has_place(url) {
+    if !compiled.has_slot(url) {
         return Ok(false);
     }
     let plan = compiled.plan_policy(url, None, steps)?;
@@ -152,7 +153,7 @@ fn first_row<L: Ledger>(compiled: &Compiled, url: &MudUrl, steps: &mut Steps<L>)
 fn nothing_is_compiled_at_first(rt: HostRuntime) -> Result<(), Fail> {
     let url = mud_url(BULB_URL)?;
     let compiled = Compiled::new(rt.alloc())?;
-    assert!(rt; compiled.has_place(&url));
+    assert!(rt; compiled.has_slot(&url));
     let view = compiled.view(&url, Direction::To);
     assert!(rt; view.file_part().is_none());
     assert_eq!(rt; view.default_part().count(), 2);

@@ -7,7 +7,7 @@ mod binds;
 #[cfg(test)]
 mod compiled;
 #[cfg(test)]
-mod endings;
+mod expiry_rows;
 #[cfg(test)]
 mod policies;
 #[cfg(test)]

@@ -75,7 +75,7 @@ fn a_policy_is_copied(rt: HostRuntime) -> Result<(), Fail> {
     Ok(filled?)
 }
 
-/// The address 192.0.2.7 of a name, up to this end.
+/// The address 192.0.2.7 of a name, up to this expiry.
 fn binding(alloc: Global, until: u64) -> Result<Binding, Memory> {
     Ok(Binding {
         key: MemberKey::Name(Bytes::new(alloc, b"test.example.com")?),

@@ -11,7 +11,7 @@ use std::test::Fail;
 /// 192.0.2.53
 pub(crate) const DNS: Addr = Addr::V4(0xc000_0235);
 
-/// The row of an entry at an address, up to this end.
+/// The row of an entry at an address, up to this expiry.
 pub(crate) fn row(owner: Owner, side: Direction, addr: Addr, entry: u16, until: u64) -> Row
     ensures owner { result.owner ≡ owner }
     ensures side { result.side ≡ side }

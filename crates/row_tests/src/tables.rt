@@ -2,7 +2,7 @@
 use mud_base::{Addr, Bytes, Listed, Mac};
 use mud_tables::{BindFault, Class, ClassRow, NameKey, NameRow, Thing, ThingFault};
 use mud_url::mud_url;
-use sorted_rows::{KeyOf, Placed};
+use sorted_rows::{KeyOf, Sortable};
 use std::alloc::Global;
 use std::cmp::Ordering;
 use std::test::Fail;

@@ -9,7 +9,7 @@ use frame_view::{Frame, PacketView, Part, view};
 use mud_base::{Direction, Listed, Mac, Moment};
 use mud_tables::Thing;
 use mud_url::mud_url;
-use packet_judge::{Arbiter, Verdict, forwarded, judge, noted_fields, rule};
+use packet_judge::{RuleSource, Verdict, forwarded, judge, noted_fields, rule};
 use sorted_rows::{SortedRows, Steps};
 use std::alloc::Global;
 use std::marker::Brand;
@@ -36,7 +36,7 @@ struct Porter {
     things: SortedRows<Thing>,
 }
 
-impl Arbiter for Porter {
+impl RuleSource for Porter {
     ghost use Rattle.acl_model.specs.declared.ruling.Ruling.TheVariants.{Accept};
 
     ghost things = { λ p. p.things.rows };

@@ -6,8 +6,8 @@ use Rattle.std.specs.List.{list_any, list_all, filter}
 use Rattle.std.proofs.Math.Nat.{div-one}
 use Rattle.std.proofs.lemmas.Bool.{false≢true, eqb-true, eq-eqb}
 use Rattle.std.proofs.Math.Bool.{or-false, and_assoc, and-false}
-use Rattle.sorted_rows.specs.Placed.{same_place, PlacesAscend, is_under}
-use Rattle.sorted_rows.proofs.PlacedLaws.{same_place_exact, same_place_itself}
+use Rattle.sorted_rows.specs.Sortable.{same_sort_key, SortKeysAscend, is_under}
+use Rattle.sorted_rows.proofs.SortableLaws.{same_sort_key_exact, same_sort_key_itself}
 use Rattle.sorted_rows.proofs.RowSets.{tested_at}
 use Rattle.sorted_rows.proofs.ListTests.{both_ways, left_of, right_of, both, any-map, or_first}
 use Rattle.mud_base.specs.Addresses.{same_addr, addr_bits, same_front, prefix_holds}
@@ -25,21 +25,21 @@ use Rattle.acl_model.specs.declared.binding.Binding.{Binding}
 use Rattle.acl_model.specs.Keys.{is_member, is_membered}
 use Rattle.acl_model.specs.Match.{peer_of, is_in_family, family_matches, own_of, own_passes, header_matches, layer_matches, near_met, near_matches, rest_matches}
 use Rattle.acl_model.specs.FirstMatch.{entries_of}
-use Rattle.acl_model.specs.Places.{binding_place}
+use Rattle.acl_model.specs.SortKeys.{binding_sort_key}
 use Rattle.acl_model.specs.Policies.{UrlPolicy}
 use Rattle.acl_model.proofs.BindingLaws.{same_addr_exact, same_addr_itself}
 use Rattle.acl_rows.specs.declared.row.Owner.{Owner}
 use Rattle.acl_rows.specs.declared.row.Row.{Row}
-use Rattle.acl_rows.specs.Places.{row_place, place_at, peer_place, side_place}
-use Rattle.acl_rows.specs.Rows.{for_ever, row, member_keys, least_end, entry_at, entry_end, held_by, Slots, rows_of}
+use Rattle.acl_rows.specs.SortKeys.{row_sort_key, sort_key_at, peer_sort_key, side_sort_key}
+use Rattle.acl_rows.specs.Rows.{for_ever, row, member_keys, least_expiry, entry_at, entry_expiry, held_by, Slots, rows_of}
 use Rattle.acl_rows.specs.View.{View, rows_of_side, is_at}
 use Rattle.acl_rows.proofs.Coordinates.{AreSame, same_coordinates}
-use Rattle.acl_rows.proofs.Parts.{under_peer, placed_under}
-use Rattle.acl_rows.proofs.Sound.{end_at-entry}
-use Rattle.acl_rows.proofs.AtPlaces.{row_at-rows_of, ascend-rows_of}
-use Rattle.mud_tables.specs.Ends.{is_live}
+use Rattle.acl_rows.proofs.Parts.{under_peer, sort_key_under}
+use Rattle.acl_rows.proofs.Sound.{expiry_at-entry}
+use Rattle.acl_rows.proofs.AtSortKeys.{row_at-rows_of, ascend-rows_of}
+use Rattle.mud_tables.specs.Expiries.{is_live}
 use Rattle.mud_tables.specs.Bindings.{members_met, matches_by_bindings}
-use Rattle.packet_judge.proofs.LiveBindings.{live_end, entry_alike}
+use Rattle.packet_judge.proofs.LiveBindings.{live_expiry, entry_alike}
 use Rattle.packet_judge.proofs.FirstRow.{under_at}
 use Rattle.rule_export.specs.Networks.{is_near, has_near, near_networks}
 use Rattle.rule_export.proofs.ChoiceLaws.{any_alike}
@@ -141,72 +141,72 @@ module _ (slots : Slots) (bindings : List Binding) (w : Wanted) (o : Owner) (s :
   row_test r = is_live r.until w.moment && near_matches e a w.locals
 
   abbrev asked : Row → Bool
-  asked r = is_under row_place (side_place o s) r && (is_wanted w n e r && prefix_holds (host_network r) a)
+  asked r = is_under row_sort_key (side_sort_key o s) r && (is_wanted w n e r && prefix_holds (host_network r) a)
 
   record Coincide (r : Row) : Type 0 where
-    pub under : is_under row_place (side_place o s) r ≡ true
+    pub under : is_under row_sort_key (side_sort_key o s) r ≡ true
     pub addr : r.addr ≡ a
     pub entry : r.entry ≡ n
 
-  coincide : (r : Row) → same_place (row_place r) (place_at o s a n) ≡ true → Coincide r
-  unfolding row_place
+  coincide : (r : Row) → same_sort_key (row_sort_key r) (sort_key_at o s a n) ≡ true → Coincide r
+  unfolding row_sort_key
   coincide r same =
-      let under : is_under row_place (peer_place o s a) r ≡ true = placed_under o s a n r same in
-      let is : AreSame r.owner o r.side s r.addr a r.entry n = same_coordinates r.owner o r.side s r.addr a r.entry n (same_place_exact (row_place r) (place_at o s a n) same) in
-      record { under = left_of (is_under row_place (side_place o s) r) (is_at a r) (sym (under_peer o s a r) ∙ under); addr = is.addr; entry = is.number }
+      let under : is_under row_sort_key (peer_sort_key o s a) r ≡ true = sort_key_under o s a n r same in
+      let is : AreSame r.owner o r.side s r.addr a r.entry n = same_coordinates r.owner o r.side s r.addr a r.entry n (same_sort_key_exact (row_sort_key r) (sort_key_at o s a n) same) in
+      record { under = left_of (is_under row_sort_key (side_sort_key o s) r) (is_at a r) (sym (under_peer o s a r) ∙ under); addr = is.addr; entry = is.number }
 
-  coinciding : (r : Row) → Coincide r → same_place (row_place r) (place_at o s a n) ≡ true
+  coinciding : (r : Row) → Coincide r → same_sort_key (row_sort_key r) (sort_key_at o s a n) ≡ true
   unfolding is_at
   coinciding r c =
       let at : is_at a r ≡ true = ap (same_addr a) c.addr ∙ same_addr_itself a in
-      let under : is_under row_place (peer_place o s a) r ≡ true = under_peer o s a r ∙ both (is_under row_place (side_place o s) r) (is_at a r) c.under at in
-      let place : row_place r ≡ place_at o s a n = under_at o s a r under ∙ ap (place_at o s a) c.entry in
-      subst (λ p. same_place p (place_at o s a n) ≡ true) (sym place) (same_place_itself (place_at o s a n))
+      let under : is_under row_sort_key (peer_sort_key o s a) r ≡ true = under_peer o s a r ∙ both (is_under row_sort_key (side_sort_key o s) r) (is_at a r) c.under at in
+      let sort_key : row_sort_key r ≡ sort_key_at o s a n = under_at o s a r under ∙ ap (sort_key_at o s a) c.entry in
+      subst (λ p. same_sort_key p (sort_key_at o s a n) ≡ true) (sym sort_key) (same_sort_key_itself (sort_key_at o s a n))
 
-  to_place : (r : Row) → asked r ≡ true → (same_place (row_place r) (place_at o s a n) && row_test r) ≡ true
+  to_sort_key : (r : Row) → asked r ≡ true → (same_sort_key (row_sort_key r) (sort_key_at o s a n) && row_test r) ≡ true
   unfolding is_wanted host_network prefix_holds row_test
-  to_place r h =
-      let under = left_of (is_under row_place (side_place o s) r) _ h in
-      let rest = right_of (is_under row_place (side_place o s) r) _ h in
+  to_sort_key r h =
+      let under = left_of (is_under row_sort_key (side_sort_key o s) r) _ h in
+      let rest = right_of (is_under row_sort_key (side_sort_key o s) r) _ h in
       let want : is_wanted w n e r ≡ true = left_of (is_wanted w n e r) (prefix_holds (host_network r) a) rest in
       let addr : r.addr ≡ a = sym (same_addr_exact a r.addr (sym (host_holds r.addr a) ∙ right_of (is_wanted w n e r) (prefix_holds (host_network r) a) rest)) in
       let entry : r.entry ≡ n = eqb-true r.entry n (left_of (nat_eq r.entry n) _ want) in
       let live : (is_live r.until w.moment && (is_in_family w.family r.addr && near_matches e r.addr w.locals)) ≡ true = right_of (nat_eq r.entry n) _ want in
       let near : near_matches e a w.locals ≡ true = subst (λ x. near_matches e x w.locals ≡ true) addr (right_of (is_in_family w.family r.addr) _ (right_of (is_live r.until w.moment) _ live)) in
-      both (same_place (row_place r) (place_at o s a n)) (row_test r) (coinciding r (record { under = under; addr = addr; entry = entry }))
+      both (same_sort_key (row_sort_key r) (sort_key_at o s a n)) (row_test r) (coinciding r (record { under = under; addr = addr; entry = entry }))
       (both (is_live r.until w.moment) (near_matches e a w.locals) (left_of (is_live r.until w.moment) _ live) near)
 
-  from_place : (r : Row) → (same_place (row_place r) (place_at o s a n) && row_test r) ≡ true → asked r ≡ true
+  from_sort_key : (r : Row) → (same_sort_key (row_sort_key r) (sort_key_at o s a n) && row_test r) ≡ true → asked r ≡ true
   unfolding is_wanted host_network prefix_holds row_test
-  from_place r h =
-      let c : Coincide r = coincide r (left_of (same_place (row_place r) (place_at o s a n)) (row_test r) h) in
-      let t : row_test r ≡ true = right_of (same_place (row_place r) (place_at o s a n)) (row_test r) h in
+  from_sort_key r h =
+      let c : Coincide r = coincide r (left_of (same_sort_key (row_sort_key r) (sort_key_at o s a n)) (row_test r) h) in
+      let t : row_test r ≡ true = right_of (same_sort_key (row_sort_key r) (sort_key_at o s a n)) (row_test r) h in
       let want : is_wanted w n e r ≡ true =
       both (nat_eq r.entry n) _ (eq-eqb r.entry n c.entry) (both (is_live r.until w.moment) _ (left_of (is_live r.until w.moment) _ t)
       (both (is_in_family w.family r.addr) _ (ap (is_in_family w.family) c.addr ∙ of) (subst (λ x. near_matches e x w.locals ≡ true) (sym c.addr) (right_of (is_live r.until w.moment) _ t)))) in
-      both (is_under row_place (side_place o s) r) _ c.under (both (is_wanted w n e r) _ want (host_holds r.addr a ∙ subst (λ x. same_addr a x ≡ true) (sym c.addr) (same_addr_itself a)))
+      both (is_under row_sort_key (side_sort_key o s) r) _ c.under (both (is_wanted w n e r) _ want (host_holds r.addr a ∙ subst (λ x. same_addr a x ≡ true) (sym c.addr) (same_addr_itself a)))
 
-  on_end : (u : Option ℕ) → option_map_or row_test (option_map (row o s a n) u) false ≡ (live_end w.moment u && near_matches e a w.locals)
-  unfolding row_test row live_end
-  on_end None = refl
-  on_end (Some u) = refl
+  on_expiry : (u : Option ℕ) → option_map_or row_test (option_map (row o s a n) u) false ≡ (live_expiry w.moment u && near_matches e a w.locals)
+  unfolding row_test row live_expiry
+  on_expiry None = refl
+  on_expiry (Some u) = refl
 
-  -- one of the networks of the rows holds the address exactly where its end is live, and it meets the near selectors
-  pub any_member : list_any (λ p. prefix_holds p a) (member_networks w (rows_of_side o s all) n e) ≡ (live_end w.moment (entry_end bindings held.url e a) && near_matches e a w.locals)
+  -- one of the networks of the rows holds the address exactly where its expiry is live, and it meets the near selectors
+  pub any_member : list_any (λ p. prefix_holds p a) (member_networks w (rows_of_side o s all) n e) ≡ (live_expiry w.moment (entry_expiry bindings held.url e a) && near_matches e a w.locals)
   unfolding member_networks wanted_networks rows_of_side
   any_member =
-      any-in_order (λ p. prefix_holds p a) (map host_network (filter (is_wanted w n e) (filter (is_under row_place (side_place o s)) all)))
-      ∙ any-map (λ p. prefix_holds p a) host_network (filter (is_wanted w n e) (filter (is_under row_place (side_place o s)) all))
-      ∙ any-filter (λ r. prefix_holds (host_network r) a) (is_wanted w n e) (filter (is_under row_place (side_place o s)) all)
-      ∙ any-filter (λ r. is_wanted w n e r && prefix_holds (host_network r) a) (is_under row_place (side_place o s)) all
-      ∙ any_alike asked (λ r. same_place (row_place r) (place_at o s a n) && row_test r) all (λ r. both_ways (asked r) (same_place (row_place r) (place_at o s a n) && row_test r) (to_place r) (from_place r))
-      ∙ tested_at row_place (place_at o s a n) row_test all (ascend-rows_of slots bindings)
-      ∙ ap (λ x. option_map_or row_test x false) (row_at-rows_of slots bindings o s a n ∙ ap (option_map (row o s a n)) (end_at-entry slots bindings o s a n held e holds numbered))
-      ∙ on_end (entry_end bindings held.url e a)
+      any-in_order (λ p. prefix_holds p a) (map host_network (filter (is_wanted w n e) (filter (is_under row_sort_key (side_sort_key o s)) all)))
+      ∙ any-map (λ p. prefix_holds p a) host_network (filter (is_wanted w n e) (filter (is_under row_sort_key (side_sort_key o s)) all))
+      ∙ any-filter (λ r. prefix_holds (host_network r) a) (is_wanted w n e) (filter (is_under row_sort_key (side_sort_key o s)) all)
+      ∙ any-filter (λ r. is_wanted w n e r && prefix_holds (host_network r) a) (is_under row_sort_key (side_sort_key o s)) all
+      ∙ any_alike asked (λ r. same_sort_key (row_sort_key r) (sort_key_at o s a n) && row_test r) all (λ r. both_ways (asked r) (same_sort_key (row_sort_key r) (sort_key_at o s a n) && row_test r) (to_sort_key r) (from_sort_key r))
+      ∙ tested_at row_sort_key (sort_key_at o s a n) row_test all (ascend-rows_of slots bindings)
+      ∙ ap (λ x. option_map_or row_test x false) (row_at-rows_of slots bindings o s a n ∙ ap (option_map (row o s a n)) (expiry_at-entry slots bindings o s a n held e holds numbered))
+      ∙ on_expiry (entry_expiry bindings held.url e a)
 
 -- ---- The whole match of an entry
 
-module _ (slots : Slots) (bindings : List Binding) (ascend : PlacesAscend binding_place bindings) (w : Wanted) (small : w.moment < for_ever) (one : w.family ≢ family.Both) (view : View) (fields : Fields) (begun : Option Direction) (of : family_matches w.family fields ≡ true) where
+module _ (slots : Slots) (bindings : List Binding) (ascend : SortKeysAscend binding_sort_key bindings) (w : Wanted) (small : w.moment < for_ever) (one : w.family ≢ family.Both) (view : View) (fields : Fields) (begun : Option Direction) (of : family_matches w.family fields ≡ true) where
   -- the match by the bindings
   unfoldable pub matched : List ℕ → Entry → Bool
   matched url e = matches_by_bindings bindings w.locals w.moment url view.side fields begun e
@@ -233,9 +233,9 @@ module _ (slots : Slots) (bindings : List Binding) (ascend : PlacesAscend bindin
   member_by url e live alike = and_assoc live (near e) (rest e) ∙ sym (or-false (live && (near e && rest e))) ∙ alike
 
   wide_by : (url : List ℕ) (e : Entry) → is_membered e ≡ false → (near e && rest e) ≡ matched url e
-  unfolding matched matches_by_bindings entry_end live_end
+  unfolding matched matches_by_bindings entry_expiry live_expiry
   wide_by url e plain =
-      sym (λ i. (live_end w.moment (cond (plain i && is_in_family e.family at_peer) (least_end bindings at_peer for_ever (member_keys url e)) None) && (near e && rest e)) || (not (plain i) && (near e && rest e)))
+      sym (λ i. (live_expiry w.moment (cond (plain i && is_in_family e.family at_peer) (least_expiry bindings at_peer for_ever (member_keys url e)) None) && (near e && rest e)) || (not (plain i) && (near e && rest e)))
       ∙ entry_alike bindings ascend url e at_peer w.moment small (near e && rest e) (of_entry e)
 
   other_version : (url : List ℕ) (e : Entry) → covers e.family w.family ≡ false → false ≡ matched url e
@@ -254,8 +254,8 @@ module _ (slots : Slots) (bindings : List Binding) (ascend : PlacesAscend bindin
     unfolding network_holds has_near near_matches is_membered
     nets_by true d is near_is =
         ap (λ x. x && rest e) (some_holds (member_networks w rows n e) ∙ any_member slots bindings w o view.side held holds n e numbered at_peer (peer_version w.family view.side fields of))
-        ∙ member_by held.url e (live_end w.moment (entry_end bindings held.url e at_peer))
-        (ap (λ b. (live_end w.moment (entry_end bindings held.url e at_peer) && (near e && rest e)) || (not b && (near e && rest e))) (sym is)
+        ∙ member_by held.url e (live_expiry w.moment (entry_expiry bindings held.url e at_peer))
+        (ap (λ b. (live_expiry w.moment (entry_expiry bindings held.url e at_peer) && (near e && rest e)) || (not b && (near e && rest e))) (sym is)
         ∙ entry_alike bindings ascend held.url e at_peer w.moment small (near e && rest e) (of_entry e))
     nets_by false true is near_is =
         ap (λ x. x && rest e) (some_holds (near_networks w.family w.locals e) ∙ networks_hold w.family w.locals e at_peer near_is (peer_version w.family view.side fields of))

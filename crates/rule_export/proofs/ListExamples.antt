@@ -22,11 +22,11 @@ use Rattle.packet_judge.proofs.OnLiterals.{verdicts_compute}
 use Rattle.rule_export.specs.declared.item.RuleNumber.{RuleNumber}
 use Rattle.rule_export.specs.declared.item.RuleNumber.TheVariants as rule
 use Rattle.rule_export.specs.declared.item.Resolved.{Resolved}
-use Rattle.rule_export.specs.Listed.{covers, items_from, item_of, end_addrs, thing_addrs, class_addrs, name_addrs, table_addrs, addr_network, is_listed, addr_networks, listed_networks, listed_items, listed_file, listed_default, listed_of}
+use Rattle.rule_export.specs.Listed.{covers, items_from, item_of, row_addrs, thing_addrs, class_addrs, name_addrs, table_addrs, addr_network, is_listed, addr_networks, listed_networks, listed_items, listed_file, listed_default, listed_of}
 use Rattle.rule_export.proofs.Examples.{networks_compute}
 
 unfoldable lists_compute : ⊤
-unfolding verdicts_compute networks_compute addr_bits covers items_from end_addrs thing_addrs class_addrs name_addrs table_addrs addr_network is_listed addr_networks listed_networks listed_items listed_file listed_default listed_of
+unfolding verdicts_compute networks_compute addr_bits covers items_from row_addrs thing_addrs class_addrs name_addrs table_addrs addr_network is_listed addr_networks listed_networks listed_items listed_file listed_default listed_of
 lists_compute = tt
 
 -- ---- The tables: the bulb (192.0.2.10) and a switch of its maker (192.0.2.11) with leases, the DNS server (192.0.2.53), the local
@@ -71,12 +71,13 @@ policy = record {
 }
 
 abbrev item : RuleNumber → ℕ → Option Prefix → Resolved
-item r place network = record { rule = r; place = place; network = network }
+item r number network = record { rule = r; number = number; network = network }
 
 abbrev alone : Addr → Option Prefix
 alone a = Some (record { addr = a; len = 32 })
 
--- the name's address ends at 1060: before, the first entry has an item, and then none; the items of each entry are counted from 1
+-- the name's address expires at 1060: before, the first entry has an item, and then none; the items of each entry are
+-- counted from 1
 before_the_end : map item_of (listed_of tables 1059 bulb_url family.V4 (Some policy) From)
     ≡ item (rule.File 1) 1 (alone test_addr)
     ∷ item (rule.File 2) 1 (alone bulb_addr)

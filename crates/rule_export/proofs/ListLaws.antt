@@ -3,7 +3,7 @@ use Rattle.std.proofs.Common.{◌≡◌, ◌≢◌, ℕ, ◌+◌, ◌<◌, Bool,
 use Rattle.std.specs.Prelude.{find, flat_map}
 use Rattle.std.specs.Option.{option_map, option_and_then}
 use Rattle.std.specs.List.{list_any}
-use Rattle.sorted_rows.specs.Placed.{PlacesAscend}
+use Rattle.sorted_rows.specs.Sortable.{SortKeysAscend}
 use Rattle.mud_base.specs.declared.addr.Family.TheVariants as family
 use Rattle.mud_base.specs.declared.prefix.Prefix.{Prefix}
 use Rattle.mud_base.specs.declared.packet.Direction.{Direction}
@@ -23,7 +23,7 @@ use Rattle.acl_model.specs.Keys.{key_of}
 use Rattle.acl_model.specs.Match.{family_matches}
 use Rattle.acl_model.specs.Defaults.{default_entry, default_policy, defaults_of}
 use Rattle.acl_model.specs.FirstMatch.{entries_of, ruled_by, first_ruling, default_ruling, ruling_by}
-use Rattle.acl_model.specs.Places.{binding_place}
+use Rattle.acl_model.specs.SortKeys.{binding_sort_key}
 use Rattle.acl_model.specs.Policies.{UrlPolicy}
 use Rattle.acl_rows.specs.declared.row.Owner.{Owner}
 use Rattle.acl_rows.specs.declared.row.Owner.TheVariants.{Default}
@@ -60,7 +60,7 @@ module _ (t : Resolved → Bool) where
   pub first_items : (r : RuleNumber) (k : ℕ) (networks : List (Option Prefix)) (ys : List Resolved) → first (items_from r k networks ++ ys) ≡ cond (list_any t (items_from r k networks)) (Some r) (first ys)
   unfolding items_from rule_of
   first_items r k [] ys = refl
-  first_items r k (n ∷ ns) ys = first_by r (record { rule = r; place = k; network = n }) (items_from r (k + 1) ns) ys refl (first_items r (k + 1) ns ys) (t (record { rule = r; place = k; network = n }))
+  first_items r k (n ∷ ns) ys = first_by r (record { rule = r; number = k; network = n }) (items_from r (k + 1) ns) ys refl (first_items r (k + 1) ns ys) (t (record { rule = r; number = k; network = n }))
 
   entry_by : (r : RuleNumber) (k : ℕ) (networks : List (Option Prefix)) (ys : List Resolved) (c : Bool) → first (cond c (items_from r k networks) [] ++ ys) ≡ cond (list_any t (cond c (items_from r k networks) [])) (Some r) (first ys)
   entry_by r k networks ys true = first_items r k networks ys
@@ -85,7 +85,7 @@ append_assoc : {A : Type 0} (xs ys zs : List A) → (xs ++ ys) ++ zs ≡ xs ++ (
 append_assoc [] ys zs = refl
 append_assoc (x ∷ xs) ys zs = ap (λ l. x ∷ l) (append_assoc xs ys zs)
 
-module _ (slots : Slots) (bindings : List Binding) (ascend : PlacesAscend binding_place bindings) (w : Wanted) (small : w.moment < for_ever) (one : w.family ≢ family.Both) (view : View) (fields : Fields) (begun : Option Direction) (of : family_matches w.family fields ≡ true) where
+module _ (slots : Slots) (bindings : List Binding) (ascend : SortKeysAscend binding_sort_key bindings) (w : Wanted) (small : w.moment < for_ever) (one : w.family ≢ family.Both) (view : View) (fields : Fields) (begun : Option Direction) (of : family_matches w.family fields ≡ true) where
   abbrev test : Resolved → Bool
   test item = item_passes view fields begun item
 

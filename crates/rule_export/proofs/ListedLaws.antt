@@ -142,8 +142,8 @@ module _ (tables : Tables) (now : ℕ) (url : List ℕ) (version : Family) (side
     unfolding items_from listed_rule
     first_items r e k [] ys = refl
     first_items r e k (n ∷ ns) ys =
-        first_by r (list_item e (record { rule = r; place = k; network = n })) (map (list_item e) (items_from r (k + 1) ns)) ys refl (first_items r e (k + 1) ns ys)
-        (test (list_item e (record { rule = r; place = k; network = n })))
+        first_by r (list_item e (record { rule = r; number = k; network = n })) (map (list_item e) (items_from r (k + 1) ns)) ys refl (first_items r e (k + 1) ns ys)
+        (test (list_item e (record { rule = r; number = k; network = n })))
 
     first_entry : (r : RuleNumber) (e : Entry) (ys : List ListItem) → first (listed_items tables now url version r e ++ ys) ≡ cond (matches e) (Some r) (first ys)
     unfolding listed_items

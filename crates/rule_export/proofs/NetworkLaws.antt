@@ -4,8 +4,8 @@ use Rattle.std.specs.Prelude.{flat_map}
 use Rattle.std.specs.List.{filter_map, list_any, list_all, filter}
 use Rattle.std.proofs.lemmas.Bool.{false≢true}
 use Rattle.std.proofs.Math.Bool.{or-false}
-use Rattle.sorted_rows.specs.Placed.{set_row, set_rows}
-use Rattle.sorted_rows.specs.Addresses.{addr_place, prefix_place}
+use Rattle.sorted_rows.specs.Sortable.{set_row, set_rows}
+use Rattle.sorted_rows.specs.Addresses.{addr_sort_key, prefix_sort_key}
 use Rattle.sorted_rows.proofs.ListTests.{any-flat_map}
 use Rattle.mud_base.specs.Addresses.{prefix_holds, same_front}
 use Rattle.mud_base.specs.declared.addr.Addr.{Addr}
@@ -23,26 +23,26 @@ use Rattle.rule_export.proofs.PrefixLaws.{of_address}
 use Rattle.rule_export.proofs.ChoiceLaws.{any_alike, any-filter_map, commons, with_first, one_commons, more_commons, all_lists}
 use Rattle.rule_export.proofs.RowTests.{any-ordered, ordered_alike}
 
--- ---- Places
+-- ---- Sort keys
 
-parts_by : (a b : Addr) (l k : ℕ) → addr_place a ++ l ∷ [] ≡ addr_place b ++ k ∷ [] → (a ≡ b) × (l ≡ k)
-unfolding addr_place
+parts_by : (a b : Addr) (l k : ℕ) → addr_sort_key a ++ l ∷ [] ≡ addr_sort_key b ++ k ∷ [] → (a ≡ b) × (l ≡ k)
+unfolding addr_sort_key
 parts_by (V4 n) (V4 m) l k e = (cc, cc)
 parts_by (V4 n) (V6 m) l k e = absurd cc
 parts_by (V6 n) (V4 m) l k e = absurd cc
 parts_by (V6 n) (V6 m) l k e = (cc, cc)
 
-pub prefix_place_exact : (p q : Prefix) → prefix_place p ≡ prefix_place q → p ≡ q
-unfolding prefix_place
-prefix_place_exact p q e = let parts = parts_by p.addr q.addr p.len q.len e in λ i. record { addr = parts.0 i; len = parts.1 i }
+pub prefix_sort_key_exact : (p q : Prefix) → prefix_sort_key p ≡ prefix_sort_key q → p ≡ q
+unfolding prefix_sort_key
+prefix_sort_key_exact p q e = let parts = parts_by p.addr q.addr p.len q.len e in λ i. record { addr = parts.0 i; len = parts.1 i }
 
 pub any-in_order : (t : Prefix → Bool) (ps : List Prefix) → list_any t (in_order ps) ≡ list_any t ps
 unfolding in_order
-any-in_order t ps = any-ordered prefix_place prefix_place_exact t ps
+any-in_order t ps = any-ordered prefix_sort_key prefix_sort_key_exact t ps
 
 pub in_order_alike : (ps qs : List Prefix) → ((t : Prefix → Bool) → list_any t ps ≡ list_any t qs) → in_order ps ≡ in_order qs
 unfolding in_order
-in_order_alike ps qs alike = ordered_alike prefix_place prefix_place_exact ps qs alike
+in_order_alike ps qs alike = ordered_alike prefix_sort_key prefix_sort_key_exact ps qs alike
 
 -- ---- What an address meets
 
@@ -176,11 +176,11 @@ module _ (family : Family) (locals : List Prefix) where
 -- ---- One local network at a time
 
 abbrev pub put : List Prefix → List Prefix → List Prefix
-put ps rows = set_rows prefix_place ps rows
+put ps rows = set_rows prefix_sort_key ps rows
 
 pub put-append : (ps qs rows : List Prefix) → put (ps ++ qs) rows ≡ put qs (put ps rows)
 put-append [] qs rows = refl
-put-append (p ∷ ps) qs rows = put-append ps qs (set_row prefix_place p rows)
+put-append (p ∷ ps) qs rows = put-append ps qs (set_row prefix_sort_key p rows)
 
 module _ (f : Prefix → List Prefix) (g : Prefix → Bool) where
   abbrev pub kept_from : List Prefix → List Prefix

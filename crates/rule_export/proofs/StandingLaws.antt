@@ -20,10 +20,10 @@ use Rattle.mud_tables.specs.declared.bind.Class.{Class}
 use Rattle.mud_tables.specs.declared.bind.Class.TheVariants as class
 use Rattle.mud_tables.specs.declared.bind.ClassRow.{ClassRow}
 use Rattle.mud_tables.specs.declared.bind.NameRow.{NameRow}
-use Rattle.mud_tables.specs.Ends.{is_live, has_live, Ends}
+use Rattle.mud_tables.specs.Expiries.{is_live, has_live, Expiries}
 use Rattle.mud_tables.specs.Binds.{same_class, has_addr}
 use Rattle.mud_tables.specs.Tables.{Tables, has_lease, has_host, has_url, is_leased, is_bound, is_named, meets}
-use Rattle.rule_export.specs.Listed.{end_addrs, thing_addrs, class_addrs, name_addrs, table_addrs, addr_network, is_listed, addr_networks}
+use Rattle.rule_export.specs.Listed.{row_addrs, thing_addrs, class_addrs, name_addrs, table_addrs, addr_network, is_listed, addr_networks}
 use Rattle.rule_export.proofs.ChoiceLaws.{any_alike}
 use Rattle.rule_export.proofs.EntryLaws.{any-filter, host_holds}
 use Rattle.rule_export.proofs.NetworkLaws.{any-in_order}
@@ -45,11 +45,11 @@ module _ (tables : Tables) (now : ℕ) (url : List ℕ) (a : Addr) where
   turned : (b : Addr) → same_addr b a ≡ true → same_addr a b ≡ true
   turned b e = subst (λ c. same_addr a c ≡ true) (sym (same_addr_exact b a e)) (same_addr_itself a)
 
-  live_stands : (ends : Ends) → has_live a now ends ≡ true → stands (end_addrs ends) ≡ true
-  unfolding has_live end_addrs
-  live_stands ends e =
-      any-map (same_addr a) (λ r. r.0) ends
-      ∙ any_more (λ r. same_addr r.0 a && is_live r.1 now) (λ r. same_addr a r.0) ends (λ r h. turned r.0 (left_of (same_addr r.0 a) (is_live r.1 now) h)) e
+  live_stands : (expiries : Expiries) → has_live a now expiries ≡ true → stands (row_addrs expiries) ≡ true
+  unfolding has_live row_addrs
+  live_stands expiries e =
+      any-map (same_addr a) (λ r. r.0) expiries
+      ∙ any_more (λ r. same_addr r.0 a && is_live r.1 now) (λ r. same_addr a r.0) expiries (λ r h. turned r.0 (left_of (same_addr r.0 a) (is_live r.1 now) h)) e
 
   addr_stands : (addrs : List Addr) → has_addr a addrs ≡ true → stands addrs ≡ true
   unfolding has_addr

@@ -5,7 +5,7 @@ use Rattle.std.specs.Option.{option_map, option_map_or, option_and_then}
 use Rattle.std.specs.List.{list_any, list_all, filter, AllByRecursion}
 use Rattle.std.proofs.lemmas.Bool.{false≢true}
 use Rattle.std.proofs.Math.Bool.{or-false}
-use Rattle.sorted_rows.specs.Placed.{PlacesAscend}
+use Rattle.sorted_rows.specs.Sortable.{SortKeysAscend}
 use Rattle.sorted_rows.proofs.ListTests.{both_ways, left_of, right_of, any_first, any_later, any_by, any_more, any-map}
 use Rattle.sorted_rows.proofs.Lists.{all-append}
 use Rattle.mud_base.specs.Addresses.{prefix_holds}
@@ -26,21 +26,21 @@ use Rattle.acl_model.specs.Keys.{key_of, is_membered}
 use Rattle.acl_model.specs.Match.{is_in_family, near_met, near_matches}
 use Rattle.acl_model.specs.Defaults.{default_entry, default_policy, defaults_of}
 use Rattle.acl_model.specs.FirstMatch.{entries_of}
-use Rattle.acl_model.specs.Places.{binding_place}
+use Rattle.acl_model.specs.SortKeys.{binding_sort_key}
 use Rattle.acl_model.specs.Policies.{UrlPolicy}
 use Rattle.acl_model.proofs.BindingLaws.{same_addr_exact, same_addr_itself}
 use Rattle.acl_rows.specs.declared.row.Owner.{Owner}
 use Rattle.acl_rows.specs.declared.row.Owner.TheVariants.{Default}
 use Rattle.acl_rows.specs.declared.row.Row.{Row}
-use Rattle.acl_rows.specs.Rows.{for_ever, entry_end, numbered, entry_at, held_by, default_held, Slots, Holder, rows_of}
+use Rattle.acl_rows.specs.Rows.{for_ever, entry_expiry, numbered, entry_at, held_by, default_held, Slots, Holder, rows_of}
 use Rattle.acl_rows.specs.View.{Part, View, rows_of_side, holder_from, IsPartOf, IsFilePart}
-use Rattle.mud_tables.specs.Ends.{is_live}
+use Rattle.mud_tables.specs.Expiries.{is_live}
 use Rattle.mud_tables.specs.Tables.{Tables, meets}
 use Rattle.mud_tables.specs.Bindings.{bindings_of, is_met_by, has_live_binding, key_met, selector_met, members_met}
 use Rattle.mud_tables.proofs.Alike.{met_by_binding}
 use Rattle.table_laws.proofs.Stores.{tests_alike}
 use Rattle.packet_judge.specs.ByRows.{policy_held, IsViewOver}
-use Rattle.packet_judge.proofs.LiveBindings.{live_end, entry_alike}
+use Rattle.packet_judge.proofs.LiveBindings.{live_expiry, entry_alike}
 use Rattle.packet_judge.proofs.Rulings.{IsRest, all_rest, rest_next, rest_first}
 use Rattle.packet_judge.proofs.ByRows.{entries_default, holder_sound, IsHolder}
 use Rattle.rule_export.specs.declared.item.RuleNumber.{RuleNumber}
@@ -123,7 +123,7 @@ in_covered family.V4 family.Both a c of = absurd (false≢true c)
 in_covered family.V6 family.V4 a c of = absurd (false≢true c)
 in_covered family.V6 family.Both a c of = absurd (false≢true c)
 
-module _ (slots : Slots) (bindings : List Binding) (ascend : PlacesAscend binding_place bindings) (tables : Tables) (same : HaveSame bindings (bindings_of tables))
+module _ (slots : Slots) (bindings : List Binding) (ascend : SortKeysAscend binding_sort_key bindings) (tables : Tables) (same : HaveSame bindings (bindings_of tables))
     (w : Wanted) (same_locals : w.locals ≡ tables.locals) (small : w.moment < for_ever) (side : Direction) (url : List ℕ) where
   abbrev rows_for : Owner → List Row
   rows_for o = rows_of_side o side (rows_of slots bindings)
@@ -163,11 +163,11 @@ module _ (slots : Slots) (bindings : List Binding) (ascend : PlacesAscend bindin
         ∙ ap (λ ps. list_any (λ p. prefix_holds p a) ps) (hosts_of kept)
         ∙ h)
 
-    member_met : (a : Addr) → is_membered e ≡ true → is_in_family w.family a ≡ true → (live_end w.moment (entry_end bindings held.url e a) && near_matches e a w.locals) ≡ is_listed tables w.moment url w.family e a
+    member_met : (a : Addr) → is_membered e ≡ true → is_in_family w.family a ≡ true → (live_expiry w.moment (entry_expiry bindings held.url e a) && near_matches e a w.locals) ≡ is_listed tables w.moment url w.family e a
     unfolding is_listed
     member_met a member of =
-        sym (or-false (live_end w.moment (entry_end bindings held.url e a) && near_matches e a w.locals))
-        ∙ ap (λ b. (live_end w.moment (entry_end bindings held.url e a) && near_matches e a w.locals) || (not b && near_matches e a w.locals)) (sym member)
+        sym (or-false (live_expiry w.moment (entry_expiry bindings held.url e a) && near_matches e a w.locals))
+        ∙ ap (λ b. (live_expiry w.moment (entry_expiry bindings held.url e a) && near_matches e a w.locals) || (not b && near_matches e a w.locals)) (sym member)
         ∙ entry_alike bindings ascend held.url e a w.moment small (near_matches e a w.locals) (λ near. in_covered e.family w.family a covered of)
         ∙ entry_met bindings tables same w.locals same_locals w.moment small held.url a e
         ∙ named a

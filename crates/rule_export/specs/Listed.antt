@@ -19,7 +19,7 @@ use Rattle.acl_model.specs.FirstMatch.{file_entries}
 use Rattle.mud_tables.specs.declared.thing.Thing.{Thing}
 use Rattle.mud_tables.specs.declared.bind.ClassRow.{ClassRow}
 use Rattle.mud_tables.specs.declared.bind.NameRow.{NameRow}
-use Rattle.mud_tables.specs.Ends.{Ends}
+use Rattle.mud_tables.specs.Expiries.{Expiries}
 use Rattle.mud_tables.specs.Tables.{Tables, meets}
 use Rattle.rule_export.specs.Networks.{has_near, in_order, near_networks}
 use Rattle.rule_export.specs.declared.item.RuleNumber.{RuleNumber}
@@ -38,7 +38,7 @@ covers _ _ = false
 -- an item for each network, numbered from `k` on
 unfoldable pub items_from : RuleNumber → ℕ → List (Option Prefix) → List Resolved
 items_from r k [] = []
-items_from r k (network ∷ networks) = record { rule = r; place = k; network = network } ∷ items_from r (k + 1) networks
+items_from r k (network ∷ networks) = record { rule = r; number = k; network = network } ∷ items_from r (k + 1) networks
 
 -- an item, and the entry that it comes from
 pub record ListItem : Type 0 where
@@ -51,19 +51,19 @@ item_of listed = listed.item
 abbrev pub list_item : Entry → Resolved → ListItem
 list_item entry item = record { item = item; entry = entry }
 
--- ---- The addresses that stand in the tables: of leases, of classes and of names, whether their ends are live or not
+-- ---- The addresses that stand in the tables: of leases, of classes and of names, whether their expiries are live or not
 
-unfoldable pub end_addrs : Ends → List Addr
-end_addrs ends = map (λ r. r.0) ends
+unfoldable pub row_addrs : Expiries → List Addr
+row_addrs expiries = map (λ r. r.0) expiries
 
 unfoldable pub thing_addrs : Thing → List Addr
-thing_addrs thing = end_addrs thing.leases
+thing_addrs thing = row_addrs thing.leases
 
 unfoldable pub class_addrs : ClassRow → List Addr
 class_addrs row = row.addrs
 
 unfoldable pub name_addrs : NameRow → List Addr
-name_addrs row = end_addrs row.addrs
+name_addrs row = row_addrs row.addrs
 
 unfoldable pub table_addrs : Tables → List Addr
 table_addrs tables = flat_map thing_addrs tables.things ++ flat_map class_addrs tables.classes ++ flat_map name_addrs tables.names

@@ -6,8 +6,8 @@ use Rattle.std.specs.Option.{option_and_then}
 use Rattle.mud_base.specs.Addresses.{prefix_holds}
 use Rattle.mud_base.specs.declared.addr.Family.{Family}
 use Rattle.mud_base.specs.declared.prefix.Prefix.{Prefix}
-use Rattle.sorted_rows.specs.Placed.{RowsAndRoom, set_rows}
-use Rattle.sorted_rows.specs.Addresses.{prefix_place}
+use Rattle.sorted_rows.specs.Sortable.{RowsAndRoom, set_rows}
+use Rattle.sorted_rows.specs.Addresses.{prefix_sort_key}
 use Rattle.acl_model.specs.declared.entry.Selector.{Selector}
 use Rattle.acl_model.specs.declared.entry.Selector.TheVariants as asks
 use Rattle.acl_model.specs.declared.entry.Entry.{Entry}
@@ -54,7 +54,7 @@ has_near entry = list_any is_near entry.selectors
 
 -- in ascending order by address and length, each once
 unfoldable pub in_order : List Prefix → List Prefix
-in_order ps = set_rows prefix_place ps []
+in_order ps = set_rows prefix_sort_key ps []
 
 -- the prefixes that each near selector names
 unfoldable pub near_names : Family → List Prefix → Entry → List (List Prefix)

@@ -20,9 +20,9 @@ rule_text (rule.File n) = codes "e" ++ decimal n
 rule_text (rule.Default Dns) = codes "dns"
 rule_text (rule.Default Ntp) = codes "ntp"
 
--- the rule and the place of the item among those of its entry
+-- the rule and the number of the item among those of its entry
 unfoldable pub item_name : Resolved → List ℕ
-item_name item = rule_text item.rule ++ codes "-" ++ decimal item.place
+item_name item = rule_text item.rule ++ codes "-" ++ decimal item.number
 
 -- the text of an item by its entry, whose Thing is on this side
 unfoldable pub item_text : Direction → Family → Resolved → Entry → List ℕ

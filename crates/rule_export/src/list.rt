@@ -1,7 +1,7 @@
 //! The items of a resolved list.
 ghost use Rattle.std.specs.Prelude.{◌≡◌, ℕ, ◌+◌, ◌≤◌, length, [], ◌∷◌, ◌++◌, Some, OnOk, IfOk, option_map, map};
-ghost use Rattle.sorted_rows.specs.Placed.{set_rows};
-ghost use Rattle.sorted_rows.specs.Addresses.{prefix_place};
+ghost use Rattle.sorted_rows.specs.Sortable.{set_rows};
+ghost use Rattle.sorted_rows.specs.Addresses.{prefix_sort_key};
 ghost use Rattle.acl_rows.specs.ByAddress.{grouped};
 ghost use Rattle.rule_export.specs.Networks.{rows_in};
 ghost use Rattle.rule_export.specs.Listed as listed;
@@ -36,7 +36,7 @@ impl<'a> Model for Wants<'a> {
 
 /// Whether the row is of this entry, is live, and its address is of the version and meets the entry's
 /// near selectors.
-#[tactic(auto, unfolding(crate::specs::Resolved::is_wanted, mud_tables::specs::Ends::is_live))]
+#[tactic(auto, unfolding(crate::specs::Resolved::is_wanted, mud_tables::specs::Expiries::is_live))]
 fn is_wanted(w: &Wants<'_>, n: u16, entry: &Entry, row: &Row) -> bool
     ensures { result ≡ spec.is_wanted w.now n entry.now row.now }
 {
@@ -66,7 +66,7 @@ fn put_wanted(
     entry: &Entry,
     row: &Row,
 ) -> Result<(), Memory>
-    ensures { OnOk result (networks.new.rows ≡ set_rows prefix_place (spec.wanted_networks w.now n entry.now (row.now ∷ [])) networks.old.rows) }
+    ensures { OnOk result (networks.new.rows ≡ set_rows prefix_sort_key (spec.wanted_networks w.now n entry.now (row.now ∷ [])) networks.old.rows) }
 {
     if !is_wanted(w, n, entry, row) {
         return Ok(());
@@ -87,7 +87,7 @@ fn put_rows(
     entry: &Entry,
     rows: &[Row],
 ) -> Result<(), Memory>
-    ensures { OnOk result (networks.new.rows ≡ set_rows prefix_place (spec.wanted_networks w.now n entry.now rows.now) networks.old.rows) }
+    ensures { OnOk result (networks.new.rows ≡ set_rows prefix_sort_key (spec.wanted_networks w.now n entry.now rows.now) networks.old.rows) }
 {
     for row in rows {
         put_wanted(networks, w, n, entry, row)?;
@@ -104,7 +104,8 @@ fn put_groups(
     entry: &Entry,
     groups: &BTreeMap<Addr, SortedRows<Row>>,
 ) -> Result<(), Memory>
-    ensures { OnOk result (networks.new.rows ≡ set_rows prefix_place (spec.wanted_networks w.now n entry.now (grouped groups.now.entries)) networks.old.rows) }
+    ensures { OnOk result (networks.new.rows
+        ≡ set_rows prefix_sort_key (spec.wanted_networks w.now n entry.now (grouped groups.now.entries)) networks.old.rows) }
 {
     for group in groups.values() {
         put_rows(networks, w, n, entry, group.rows())?;
@@ -150,12 +151,12 @@ fn push_items(
 ) -> Result<(), Memory>
     ensures { OnOk result (list.new ≡ list.old ++ listed.items_from rule 1 (map Some networks.now)) }
 {
-    let mut place: u64 = 0;
+    let mut number: u64 = 0;
     for network in networks {
-        place += 1;
+        number += 1;
         list.push(Resolved {
             rule,
-            place,
+            number,
             network: Some(*network),
         })?;
     }
@@ -186,7 +187,7 @@ fn push_entry(
         Some(networks) => push_items(list, rule, networks.rows()),
         None => list.push(Resolved {
             rule,
-            place: 1,
+            number: 1,
             network: None,
         }),
     }

@@ -1,8 +1,8 @@
 //! The networks of an entry.
 ghost use Rattle.std.specs.Prelude.{◌≡◌, IfOk, OnOk, option_map};
 ghost use Rattle.std.specs.List.{filter_map};
-ghost use Rattle.sorted_rows.specs.Placed.{set_rows};
-ghost use Rattle.sorted_rows.specs.Addresses.{prefix_place};
+ghost use Rattle.sorted_rows.specs.Sortable.{set_rows};
+ghost use Rattle.sorted_rows.specs.Addresses.{prefix_sort_key};
 ghost use Rattle.rule_export.specs.Networks as spec;
 
 use crate::near_laws::choices_are_joint;
@@ -35,7 +35,7 @@ fn common_part(p: Prefix, q: Prefix) -> Option<Prefix>
 
 /// Puts a network in, where there is one.
 fn put_some(networks: &mut SortedRows<Prefix>, network: Option<Prefix>) -> Result<(), Memory>
-    ensures { OnOk result (networks.new.rows ≡ set_rows prefix_place (spec.listed network) networks.old.rows) }
+    ensures { OnOk result (networks.new.rows ≡ set_rows prefix_sort_key (spec.listed network) networks.old.rows) }
 {
     if let Some(network) = network {
         networks.reserve(1)?;
@@ -46,7 +46,7 @@ fn put_some(networks: &mut SortedRows<Prefix>, network: Option<Prefix>) -> Resul
 
 /// Puts in what one prefix has in common with each of these.
 fn put_common(networks: &mut SortedRows<Prefix>, p: Prefix, rest: &[Prefix]) -> Result<(), Memory>
-    ensures { OnOk result (networks.new.rows ≡ set_rows prefix_place (filter_map (spec.common_part p) rest.now) networks.old.rows) }
+    ensures { OnOk result (networks.new.rows ≡ set_rows prefix_sort_key (filter_map (spec.common_part p) rest.now) networks.old.rows) }
 {
     for q in rest {
         put_some(networks, common_part(p, *q))?;
@@ -61,7 +61,7 @@ fn put_joined(
     p: Prefix,
     rest: &Option<SortedRows<Prefix>>,
 ) -> Result<(), Memory>
-    ensures { OnOk result (networks.new.rows ≡ set_rows prefix_place (spec.joined_with (option_map spec.rows_in rest.now) p) networks.old.rows) }
+    ensures { OnOk result (networks.new.rows ≡ set_rows prefix_sort_key (spec.joined_with (option_map spec.rows_in rest.now) p) networks.old.rows) }
 {
     match rest {
         None => put_some(networks, Some(p)),
@@ -77,7 +77,7 @@ fn put_locals(
     locals: &[Prefix],
     rest: &Option<SortedRows<Prefix>>,
 ) -> Result<(), Memory>
-    ensures { OnOk result (networks.new.rows ≡ set_rows prefix_place (spec.joined_locals family locals.now (option_map spec.rows_in rest.now)) networks.old.rows) }
+    ensures { OnOk result (networks.new.rows ≡ set_rows prefix_sort_key (spec.joined_locals family locals.now (option_map spec.rows_in rest.now)) networks.old.rows) }
 {
     for p in locals {
         if is_in_family(family, p.addr()) {

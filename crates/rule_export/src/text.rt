@@ -26,7 +26,7 @@ fn append_rule(line: &mut Bytes, rule: RuleNumber) -> Result<(), Memory>
     }
 }
 
-/// The name of an item: the word of its rule, and its place among the items of its entry.
+/// The name of an item: the word of its rule, and its number among the items of its entry.
 #[tactic(auto, unfolding(crate::specs::Text::item_name))]
 fn item_name(alloc: Global, item: &Resolved) -> Result<Bytes, Memory>
     ensures { IfOk result (λ name. name ≡ spec.item_name item.now) }
@@ -34,7 +34,7 @@ fn item_name(alloc: Global, item: &Resolved) -> Result<Bytes, Memory>
     let mut name = Bytes::empty(alloc);
     append_rule(&mut name, item.rule)?;
     name.append(b"-")?;
-    append_decimal(&mut name, item.place)?;
+    append_decimal(&mut name, item.number)?;
     Ok(name)
 }
 

@@ -6,7 +6,7 @@ ghost use Rattle.desk_model.specs.Boxed.{IsKept, IsSameBox};
 ghost use Rattle.mud_desk.specs.DeskState.{tables_of};
 
 use mud_base::{Bytes, Memory};
-use mud_desk::{Desk, OpenFault, Taken};
+use mud_desk::{Desk, OpenFault, Loaded};
 use mud_world::Keeper;
 use std::alloc::Global;
 
@@ -17,7 +17,7 @@ pub(crate) fn opened(alloc: Global, keeper: Box<dyn Keeper>) -> Result<Desk, Ope
     ensures kept { IfOk result (λ desk. IsKept Keeper-dyn desk.keeper (tables_of desk.state)) }
     ensures same_box { IfOk result (λ desk. IsSameBox keeper desk.keeper) }
 {
-    match Desk::open(alloc, keeper, Taken::new(alloc)) {
+    match Desk::open(alloc, keeper, Loaded::new(alloc)) {
         Ok(desk) => Ok(desk),
         Err((fault, keeper)) => {
             drop(keeper);

@@ -14,7 +14,7 @@ use Rattle.dns_snoop.specs.Messages.{answers_of}
 use Rattle.snoop_runs.specs.Entries.{Heard, Entry, calls_of, heard_lines, entry_lines, failures, keeper_count}
 use Rattle.snoop_runs.specs.Learning.{heard_in}
 use Rattle.snoop_runs.specs.Learnt.{Learns, LearnsFirst}
-use Rattle.snoop_runs.specs.Packets.{session_behind, IsJudgedIn, MayGo, MayStop, GoesOn, StopsAt}
+use Rattle.snoop_runs.specs.Packets.{session_behind, IsJudgedIn, SnoopsPacket, SnoopsSome, GoesOn, StopsAt}
 
 -- the connections stay, so the desk is in the session with the same packets forwarded
 stands_in : (h : List Segment) (middle after : DeskState) → HasForwarded h middle → after.flows ≡ middle.flows → IsIn (session_of h after) after

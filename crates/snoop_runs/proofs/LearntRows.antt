@@ -10,7 +10,7 @@ use Rattle.desk_model.specs.declared.command.Command.{Command}
 use Rattle.desk_model.specs.declared.command.Command.TheVariants.{Observe}
 use Rattle.desk_model.specs.declared.reply.Reply.{Reply}
 use Rattle.desk_model.specs.declared.reply.Reply.TheVariants.{Memory}
-use Rattle.desk_model.specs.Sessions.{Session, MayAnswer, Runs, is_of_keeper}
+use Rattle.desk_model.specs.Sessions.{Session, AllowedReply, Runs, is_of_keeper}
 use Rattle.dns_snoop.specs.declared.answers.Answers.{Answers}
 use Rattle.dns_snoop.specs.declared.fault.DnsFault.{DnsFault}
 use Rattle.dns_snoop.specs.declared.fault.DnsFault.TheVariants as dns
@@ -85,7 +85,7 @@ failed_one : (failed : Bool) → failed ≡ nat_lt 0 ((if failed then 1 else 0) 
 failed_one true = refl
 failed_one false = refl
 
-module _ (m : ℕ) (n : List ℕ) (row : Addr × ℕ) (reply : Reply) (a b : Session) (f g : ℕ) (may : MayAnswer a m (Observe n row.0 row.1) reply b) (told : reply ≢ Memory) (counts : Counts (is_of_keeper reply) f g) where
+module _ (m : ℕ) (n : List ℕ) (row : Addr × ℕ) (reply : Reply) (a b : Session) (f g : ℕ) (may : AllowedReply a m (Observe n row.0 row.1) reply b) (told : reply ≢ Memory) (counts : Counts (is_of_keeper reply) f g) where
   pub learns_one : (old new : List ℕ) (failed : Bool) → new ≡ old ++ name_line n row reply → failed ≡ is_of_keeper reply → Learns m (names_of n (row ∷ [])) a b old new f g failed
   learns_one old new failed added is = record {
     replies = reply ∷ [];

@@ -10,17 +10,17 @@ use Rattle.capture_runs.specs.declared.fault.CaptureFault.{CaptureFault}
 use Rattle.capture_runs.proofs.Numbered.{IsNumbered, numbered}
 use Rattle.capture_runs.specs.Capture.{end_line, status_at}
 use Rattle.capture_runs.proofs.SamePackets.{first_same, rest_same}
-use Rattle.command_runs.specs.Due.{WritesDue}
+use Rattle.command_runs.specs.Output.{WritesOutput}
 use Rattle.desk_model.specs.Sessions.{Session, Judged, Runs, frame_in}
 use Rattle.desk_runs.specs.Judged.{judged_packet}
 use Rattle.desk_runs.proofs.SameCaptures.{line_alike}
 use Rattle.dns_snoop.specs.Messages.{answers_of}
 use Rattle.snoop_runs.specs.Entries.{Entry, packets_of, calls_of, entry_lines, heard_lines, lines_of, failures, keeper_count, status_with}
 use Rattle.snoop_runs.specs.Learning.{heard_in}
-use Rattle.snoop_runs.specs.Packets.{MayGo, Snoops}
-use Rattle.snoop_runs.specs.Runs.{scene, due_of_entries, SnoopsAll}
+use Rattle.snoop_runs.specs.Packets.{SnoopsPacket, Snoops}
+use Rattle.snoop_runs.specs.Runs.{scene, output_of_entries, SnoopsAll}
 
--- the packets differ in their place alone
+-- the packets differ in their offset alone
 record AreAlike (p q : Packet) : Type 0 where
   pub number : p.number ≡ q.number
   pub seconds : p.seconds ≡ q.seconds
@@ -35,7 +35,7 @@ unfolding entry_lines with_packet
 entry_alike entry q alike =
     sym (ap (λ (line : List ℕ). line ++ heard_lines entry.heard entry.replies) (line_alike entry.verdict entry.packet q alike.number alike.seconds))
 
-may_alike : (before after : Session) (entry : Entry) (q : Packet) → AreAlike entry.packet q → MayGo before entry after → MayGo before (with_packet q entry) after
+may_alike : (before after : Session) (entry : Entry) (q : Packet) → AreAlike entry.packet q → SnoopsPacket before entry after → SnoopsPacket before (with_packet q entry) after
 unfolding with_packet
 may_alike before after entry q alike may =
     let same : judged_packet before entry.packet ≡ judged_packet before q = ap₂ (λ (n : ℕ) (l : List ℕ). frame_in before n l) alike.seconds alike.octets in
@@ -72,7 +72,7 @@ likewise count before after (entry ∷ entries) (q ∷ qs) first other same run 
     let more = likewise (count + 1) run.0 after entries qs first.1 other.1 (rest_same entry.packet q (packets_of entries) qs same) run.2 in
     behind entry q qs entries before run.0 after alike run.1 more
   where
-    behind : (entry : Entry) (q : Packet) (qs : List Packet) (entries : List Entry) (before next after : Session) → AreAlike entry.packet q → MayGo before entry next → Likewise next after entries qs
+    behind : (entry : Entry) (q : Packet) (qs : List Packet) (entries : List Entry) (before next after : Session) → AreAlike entry.packet q → SnoopsPacket before entry next → Likewise next after entries qs
         → Likewise before after (entry ∷ entries) (q ∷ qs)
     behind entry q qs entries before next after alike may more = record {
       others = with_packet q entry ∷ more.others;
@@ -91,7 +91,7 @@ snooped_alike one other before after door now faults faults_now status h p =
     let made = likewise 0 before after p.entries (captured_of other).all (subst (λ (l : List Packet). IsNumbered 0 l) all_is (numbered one)) (numbered other)
     (ap (map seen_of) (sym all_is) ∙ h.same) p.run in
     let ended : (captured_of other).fault ≡ p.end = h.other_whole ∙ sym h.whole ∙ end_is in
-    let text : (due_of_entries p.entries p.end).text ≡ (due_of_entries made.others p.end).text = sym (ap (λ (l : List ℕ). l ++ end_line p.end) made.lines) in
+    let text : (output_of_entries p.entries p.end).text ≡ (output_of_entries made.others p.end).text = sym (ap (λ (l : List ℕ). l ++ end_line p.end) made.lines) in
     record {
       entries = made.others;
       end = p.end;

@@ -12,17 +12,17 @@ use Rattle.capture_runs.specs.Reading.{packet_at, to_come}
 use Rattle.capture_runs.specs.declared.fault.CaptureFault.{CaptureFault}
 use Rattle.capture_runs.specs.declared.reader.CaptureReader.{CaptureReader}
 use Rattle.capture_runs.proofs.Runs.{captured_all, none_in_few}
-use Rattle.capture_runs.specs.Capture.{due_behind, end_line, status_at}
+use Rattle.capture_runs.specs.Capture.{output_behind, end_line, status_at}
 use Rattle.capture_runs.specs.Runs.{HasAll, HasDone, HasGoneOn, WroteSome, WroteTaken}
 use Rattle.capture_runs.proofs.Done.{has_done_more}
 use Rattle.capture_runs.proofs.Ends.{part_of_some, part_of_done}
-use Rattle.command_runs.specs.Due.{Due, WritesDue, WritesPart}
+use Rattle.command_runs.specs.Output.{Output, WritesOutput, WritesPart}
 use Rattle.desk_model.specs.Sessions.{Session}
 use Rattle.desk_runs.specs.Judged.{IsIn}
 use Rattle.mud_desk.specs.DeskState.{DeskState}
 use Rattle.snoop_runs.specs.Entries.{Entry, packet_in, packets_of, entry_lines, lines_of, failures, keeper_count, status_with}
-use Rattle.snoop_runs.specs.Packets.{MayGo, Snoops, Stops, GoesOn, StopsAt}
-use Rattle.snoop_runs.specs.Runs.{due_of_entries, tail_of, SnoopsAll, SnoopsPart, SnoopsTaken}
+use Rattle.snoop_runs.specs.Packets.{SnoopsPacket, Snoops, Stops, GoesOn, StopsAt}
+use Rattle.snoop_runs.specs.Runs.{output_of_entries, tail_of, SnoopsAll, SnoopsPart, SnoopsTaken}
 use Rattle.snoop_runs.specs.Leads.{LeadsToAll, LeadsToPart, LeadsToTaken}
 use Rattle.snoop_runs.proofs.LearntRows.{either_count}
 
@@ -39,8 +39,8 @@ count_append : (es fs : List Entry) → keeper_count (es ++ fs) ≡ keeper_count
 count_append [] fs = omega arith
 count_append (e ∷ es) fs = omega (arith, count_append es fs)
 
-snoops_append : (a : Session) (es : List Entry) (b : Session) → Snoops a es b → (e : Entry) (c : Session) → MayGo b e c → Snoops a (es ++ e ∷ []) c
-snoops_append a [] b run e c may = (c, subst (λ (s : Session). MayGo s e c) run may, refl)
+snoops_append : (a : Session) (es : List Entry) (b : Session) → Snoops a es b → (e : Entry) (c : Session) → SnoopsPacket b e c → Snoops a (es ++ e ∷ []) c
+snoops_append a [] b run e c may = (c, subst (λ (s : Session). SnoopsPacket s e c) run may, refl)
 snoops_append a (d ∷ es) b run e c may = (run.0, run.1, snoops_append run.0 es b run.2 e c may)
 
 -- ---- How far a run is
@@ -182,7 +182,7 @@ module _ (s : Session) (first : DoorState) (f : ℕ) (state : DeskState) (now : 
         by false e = kept e ∙ is ∙ sym (ap (λ (b : Bool). if b then 7 else status_at end) (sym p.failed_is ∙ e))
         by true e = seven e ∙ sym (ap (λ (b : Bool). if b then 7 else status_at end) (sym p.failed_is ∙ e))
 
-    pub all_at_end : (u : DoorState) (status result : ℕ) → WritesDue (due_behind (lines_of p.entries) end) first u status → (failed ≡ false → result ≡ status) → (failed ≡ true → result ≡ 7)
+    pub all_at_end : (u : DoorState) (status result : ℕ) → WritesOutput (output_behind (lines_of p.entries) end) first u status → (failed ≡ false → result ≡ status) → (failed ≡ true → result ≡ 7)
         → LeadsToAll s first f state u g result
     all_at_end u status result w kept seven = record {
       after = p.after;
@@ -197,7 +197,7 @@ module _ (s : Session) (first : DoorState) (f : ℕ) (state : DeskState) (now : 
       };
     }
 
-    pub part_at_end : (u : DoorState) → WritesPart (due_behind (lines_of p.entries) end) first u → LeadsToPart s first f state u g
+    pub part_at_end : (u : DoorState) → WritesPart (output_behind (lines_of p.entries) end) first u → LeadsToPart s first f state u g
     part_at_end u w = record {
       after = p.after;
       stands = p.stands;

@@ -19,13 +19,13 @@ pub record IsJudgedIn (session : Session) (entry : Entry) : Type 0 where
   pub heard : entry.heard ≡ option_map answers_of (heard_in session.desk.tables.classes entry.packet.octets entry.verdict)
 
 -- The packet is judged, and then each address is observed at the moment of the session behind it.
-pub record MayGo (before : Session) (entry : Entry) (after : Session) : Type 0 where
+pub record SnoopsPacket (before : Session) (entry : Entry) (after : Session) : Type 0 where
   pub judged : IsJudgedIn before entry
   pub run : Runs (session_behind before entry.packet) (calls_of (session_behind before entry.packet).moment entry.heard) entry.replies after
   pub told : NoneOfMemory entry.replies
 
 -- The same with some of the addresses, from the first on.
-pub record MayStop (before : Session) (entry : Entry) (after : Session) : Type 0 where
+pub record SnoopsSome (before : Session) (entry : Entry) (after : Session) : Type 0 where
   pub judged : IsJudgedIn before entry
   pub run : Runs (session_behind before entry.packet) (take (length entry.replies) (calls_of (session_behind before entry.packet).moment entry.heard)) entry.replies after
   pub told : NoneOfMemory entry.replies
@@ -33,12 +33,12 @@ pub record MayStop (before : Session) (entry : Entry) (after : Session) : Type 0
 -- packets one after the other
 abbrev pub Snoops : Session → List Entry → Session → Type 0
 Snoops before [] after = after ≡ before
-Snoops before (entry ∷ entries) after = (next : Session) × MayGo before entry next × Snoops next entries after
+Snoops before (entry ∷ entries) after = (next : Session) × SnoopsPacket before entry next × Snoops next entries after
 
 -- none, or one packet of whose addresses some were observed
 abbrev pub Stops : Session → List Entry → Session → Type 0
 Stops before [] after = after ≡ before
-Stops before (entry ∷ []) after = MayStop before entry after
+Stops before (entry ∷ []) after = SnoopsSome before entry after
 Stops before (entry ∷ other ∷ entries) after = ⊥
 
 -- A packet was judged and learnt from, and its lines were added. The desk is in the session behind it.
@@ -46,7 +46,7 @@ pub record GoesOn (packet : Packet) (before : Session) (state : DeskState) (old 
   pub entry : Entry
   pub after : Session
   pub packet_is : entry.packet ≡ packet
-  pub may : MayGo before entry after
+  pub may : SnoopsPacket before entry after
   pub stands : IsIn after state
   pub added : new ≡ old ++ entry_lines entry
   pub failed_is : failed ≡ nat_lt 0 (failures entry.replies)

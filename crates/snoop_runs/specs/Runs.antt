@@ -7,7 +7,7 @@ use Rattle.capture_runs.specs.Captures.{captured_of}
 use Rattle.capture_runs.specs.declared.fault.CaptureFault.{CaptureFault}
 use Rattle.capture_runs.specs.Capture.{end_line, status_at}
 use Rattle.capture_runs.specs.Runs.{WroteTaken}
-use Rattle.command_runs.specs.Due.{Due, WritesDue, WritesPart}
+use Rattle.command_runs.specs.Output.{Output, WritesOutput, WritesPart}
 use Rattle.desk_model.specs.Sessions.{Session}
 use Rattle.snoop_runs.specs.Entries.{Entry, packets_of, lines_of, keeper_count, status_with}
 use Rattle.snoop_runs.specs.Packets.{Snoops, Stops}
@@ -21,9 +21,9 @@ pub record Scene : Type 0 where
 abbrev pub scene : Session → DoorState → ℕ → Scene
 scene session door faults = record { session = session; door = door; faults = faults }
 
--- what is due to entries that are all of a capture, which ends so
-abbrev pub due_of_entries : List Entry → Option CaptureFault → Due
-due_of_entries entries end = record { text = lines_of entries ++ end_line end; status = status_with (keeper_count entries) (status_at end) }
+-- the output for entries that are all of a capture, which ends so
+abbrev pub output_of_entries : List Entry → Option CaptureFault → Output
+output_of_entries entries end = record { text = lines_of entries ++ end_line end; status = status_with (keeper_count entries) (status_at end) }
 
 -- All packets were gone through in order, their lines and that of the fault at the end were written, and the status is 7 where the
 -- keeper failed at a name, and else that of the end. The keeper's count rose by at least the number of the lines that say that it failed.
@@ -32,7 +32,7 @@ pub record SnoopsAll (before after : Scene) (status : ℕ) : Type 0 where
   pub end : Option CaptureFault
   pub captured : captured_of before.door.left ≡ record { all = packets_of entries; fault = end }
   pub run : Snoops before.session entries after.session
-  pub wrote : WritesDue (due_of_entries entries end) before.door after.door status
+  pub wrote : WritesOutput (output_of_entries entries end) before.door after.door status
   pub paid : RoseBy (keeper_count entries) before.faults after.faults
 
 -- what is written behind the lines of entries, where these packets are left

@@ -7,7 +7,7 @@ use mud_base::{Addr, Bytes, Memory};
 use mud_desk::Reply;
 use reply_lines::append_reply_words;
 use std::alloc::Global;
-use text_lines::{append_addr, append_number, append_place};
+use text_lines::{append_addr, append_number, append_offset};
 
 /// Adds the line of an address that was learnt for a name, for so many seconds: `name`, all three,
 /// and what was replied to its observation.
@@ -30,14 +30,14 @@ pub(crate) fn append_name(
     lines.append(b"\n")
 }
 
-/// Adds the line of a DNS message that isn't read: `dns fault`, the fault's name, and its place where
-/// it has one.
+/// Adds the line of a DNS message that isn't read: `dns fault`, the fault's name, and its offset
+/// where it has one.
 #[tactic(auto, unfolding(crate::specs::Lines::dns_fault_line))]
 pub(crate) fn append_dns_fault(lines: &mut Bytes, fault: DnsFault) -> Result<(), Memory>
     ensures { OnOk result (lines.new ≡ lines.old ++ spec.dns_fault_line fault) }
 {
     lines.append(b"dns fault ")?;
     lines.append(fault.name().as_bytes())?;
-    append_place(lines, fault.place().map(|place| place as u64))?;
+    append_offset(lines, fault.offset().map(|offset| offset as u64))?;
     lines.append(b"\n")
 }

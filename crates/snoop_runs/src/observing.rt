@@ -4,9 +4,9 @@ ghost use Rattle.std.specs.List.{All};
 ghost use Rattle.mud_tables.specs.declared.segment.Segment.{Segment as SegmentValue};
 ghost use Rattle.mud_world.specs.Boxed.{faults_of};
 ghost use Rattle.mud_world.specs.Causes.{Counts};
-ghost use Rattle.desk_model.specs.Sessions.{MayAnswer, is_of_keeper};
+ghost use Rattle.desk_model.specs.Sessions.{AllowedReply, is_of_keeper};
 ghost use Rattle.dns_snoop.specs.Messages.{answers_of};
-ghost use Rattle.dns_snoop.specs.Observed.{MayBeObserved};
+ghost use Rattle.dns_snoop.specs.Observed.{IsObservable};
 ghost use Rattle.desk_model.specs.Boxed.{IsKept};
 ghost use Rattle.mud_desk.specs.DeskState.{session_of, tables_of};
 ghost use Rattle.mud_desk.specs.Stays.{KeepsConnections};
@@ -57,9 +57,9 @@ fn observe<L: Ledger>(
     steps: &mut Steps<L>,
 ) -> Result<Reply, Memory>
     requires kept { IsKept Keeper-dyn desk.old.keeper (tables_of desk.old.state) }
-    requires asked { MayBeObserved name.now row }
+    requires asked { IsObservable name.now row }
     ensures stays { KeepsConnections Keeper-dyn desk.old desk.new }
-    ensures answer { (h : List SegmentValue) → IfOk result (λ reply. MayAnswer (session_of h desk.old.state) now (Command.Observe name.now row.0 row.1) reply (session_of h desk.new.state)) }
+    ensures answer { (h : List SegmentValue) → IfOk result (λ reply. AllowedReply (session_of h desk.old.state) now (Command.Observe name.now row.0 row.1) reply (session_of h desk.new.state)) }
     ensures told { IfOk result (λ reply. reply ≢ Reply.Memory) }
     ensures still { OnErr result ((h : List SegmentValue) → session_of h desk.new.state ≡ session_of h desk.old.state) }
     ensures cause { IfOk result (λ reply. Counts (is_of_keeper reply) (faults_of Keeper-dyn desk.old.keeper) (faults_of Keeper-dyn desk.new.keeper)) }
@@ -81,7 +81,7 @@ fn learn_row<L: Ledger>(
     steps: &mut Steps<L>,
 ) -> Result<bool, Memory>
     requires kept { IsKept Keeper-dyn desk.old.keeper (tables_of desk.old.state) }
-    requires asked { MayBeObserved name.now row }
+    requires asked { IsObservable name.now row }
     ensures stays { KeepsConnections Keeper-dyn desk.old desk.new }
     ensures all { (h : List SegmentValue) → IfOk result (λ failed. Learns now (names_of name.now (row ∷ [])) (session_of h desk.old.state) (session_of h desk.new.state)
         lines.old lines.new (faults_of Keeper-dyn desk.old.keeper) (faults_of Keeper-dyn desk.new.keeper) failed) }
@@ -105,7 +105,7 @@ fn learn_rows<L: Ledger>(
     steps: &mut Steps<L>,
 ) -> Result<bool, Memory>
     requires kept { IsKept Keeper-dyn desk.old.keeper (tables_of desk.old.state) }
-    requires asked { All (MayBeObserved answers.now.name) answers.now.rows }
+    requires asked { All (IsObservable answers.now.name) answers.now.rows }
     ensures stays { KeepsConnections Keeper-dyn desk.old desk.new }
     ensures all { (h : List SegmentValue) → IfOk result (λ failed. Learns now (Some (Ok answers.now)) (session_of h desk.old.state) (session_of h desk.new.state)
         lines.old lines.new (faults_of Keeper-dyn desk.old.keeper) (faults_of Keeper-dyn desk.new.keeper) failed) }

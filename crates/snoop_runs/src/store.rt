@@ -1,20 +1,20 @@
 //! The command `snoop`, from the opening of its store to its status.
 ghost use Rattle.std.specs.Prelude.{◌≡◌};
 ghost use Rattle.command_runs.specs.Status.{status_number};
-ghost use Rattle.desk_items.specs.Taken.{kept_of};
+ghost use Rattle.desk_items.specs.Loaded.{kept_of};
 ghost use Rattle.desk_model.specs.Items.{none_kept};
 ghost use Rattle.snoop_runs.specs.Store.{SnoopsStore};
 
 use crate::capture::snoop_capture;
 use command_runs::Status;
 use desk_runs::refuse_store;
-use mud_desk::{Desk, Taken};
+use mud_desk::{Desk, Loaded};
 use mud_world::{Door, Keeper};
 use std::alloc::Global;
 
 /// Opens a desk over the keeper, and then judges the packets of a capture and learns names from the
 /// answers of DNS servers in it. Where the store can't be opened, the capture isn't read. The box is
-/// handed back. Nothing was taken before, as [`Desk::open`] wants it: [`Taken::new`].
+/// handed back. Nothing was taken before, as [`Desk::open`] wants it: [`Loaded::new`].
 ///
 /// | Status | It comes |
 /// |---|---|
@@ -27,7 +27,7 @@ use std::alloc::Global;
 pub fn snoop_store<D: Door>(
     alloc: Global,
     keeper: Box<dyn Keeper>,
-    nothing: Taken,
+    nothing: Loaded,
     door: &mut D,
 ) -> (Status, Box<dyn Keeper>)
     requires { kept_of nothing ≡ none_kept }

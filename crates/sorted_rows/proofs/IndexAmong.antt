@@ -1,4 +1,4 @@
--- The index of a place, sought from the front.
+-- The index of a sort key, sought from the front.
 use Rattle.std.proofs.Common.{ℕ, ◌+◌, Result, Ok, Err}
 
 -- so many rows later

@@ -11,7 +11,7 @@ pub mod ListTests
 pub mod Lists
 pub mod MergeLaws
 pub mod Orders
-pub mod PlacedLaws
+pub mod SortableLaws
 pub mod ProbeLaws
 pub mod Results
 pub mod RowLaws

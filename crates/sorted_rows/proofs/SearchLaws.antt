@@ -55,7 +55,7 @@ module _ (os : List Ordering) (falls : AnswersFall os) (t t' low high at : ℕ) 
   is_few : 2 ^ t' ≤ 2 * length os + 1
   is_few = one_more (2 ^ t) (2 ^ t') (high - low) (length os) (doubled t t' one_step) narrowed.narrow (omega arith)
 
-  -- the row that was read is after the place sought
+  -- the row that was read is after the sort key sought
   pub narrowed_below : get_or os at Equal ≡ Less → 2 * (at - low) ≤ high - low → IsNarrowed os t' low at
   narrowed_below less half = record {
     low_le = low_le;
@@ -66,7 +66,7 @@ module _ (os : List Ordering) (falls : AnswersFall os) (t t' low high at : ℕ) 
     few = is_few;
   }
 
-  -- the row that was read is before the place sought
+  -- the row that was read is before the sort key sought
   pub narrowed_above : get_or os at Equal ≡ Greater → 2 * (high - (at + 1)) ≤ high - low → IsNarrowed os t' (at + 1) high
   narrowed_above greater half = record {
     low_le = omega arith;

@@ -4,6 +4,6 @@ pub mod Changes
 pub mod Edits
 pub mod Ledgers
 pub mod Merging
-pub mod Placed
+pub mod Sortable
 pub mod Runs
 pub mod Search

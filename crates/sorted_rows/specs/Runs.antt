@@ -24,7 +24,7 @@ AreRun [] = Unit {0}
 AreRun (edit ∷ edits) = GoOn edit edits × AreRun edits
 
 -- of some edits the last ones are made, and the others are left
-pub record AreMade {R : Type 0} (place : R → List ℕ) (edits left : List (Edit R)) (old new : List R) : Type 0 where
+pub record AreMade {R : Type 0} (sort_key : R → List ℕ) (edits left : List (Edit R)) (old new : List R) : Type 0 where
   pub made : List (Edit R)
   pub split : edits ≡ left ++ made
-  pub rows : new ≡ edited place made old
+  pub rows : new ≡ edited sort_key made old

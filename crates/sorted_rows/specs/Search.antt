@@ -3,7 +3,7 @@ use Rattle.std.specs.Prelude.{◌≡◌, ℕ, ◌<◌, ◌≤◌, List, length, 
 use Rattle.std.specs.Ordering.{ordering_index}
 use Rattle.std.specs.declared.cmp.Ordering.{Ordering}
 use Rattle.std.specs.declared.cmp.Ordering.TheVariants.{Less, Equal, Greater}
-use Rattle.sorted_rows.specs.Placed.{place_cmp, prefix_cmp}
+use Rattle.sorted_rows.specs.Sortable.{sort_key_cmp, prefix_cmp}
 
 -- the answers go from `Greater` over `Equal` to `Less`
 abbrev pub AnswersFall : List Ordering → Type 0
@@ -36,9 +36,9 @@ pub record IsGap (os : List Ordering) (i : ℕ) : Type 0 where
   pub before : AllGreaterBefore os i
   pub after : AllLessFrom os i
 
--- how a place, and a beginning of places, stand to a row
-abbrev pub place_answer : {R : Type 0} → (R → List ℕ) → List ℕ → R → Ordering
-place_answer place p x = place_cmp p (place x)
+-- how a sort key, and a beginning of sort keys, stand to a row
+abbrev pub sort_key_answer : {R : Type 0} → (R → List ℕ) → List ℕ → R → Ordering
+sort_key_answer sort_key p x = sort_key_cmp p (sort_key x)
 
 abbrev pub prefix_answer : {R : Type 0} → (R → List ℕ) → List ℕ → R → Ordering
-prefix_answer place p x = prefix_cmp p (place x)
+prefix_answer sort_key p x = prefix_cmp p (sort_key x)

@@ -1,27 +1,27 @@
 //! Addresses, addresses with their ends, and prefixes, as rows.
-use crate::placed::{KeyOf, Placed};
+use crate::sortable::{KeyOf, Sortable};
 use mud_base::{Addr, End, Prefix, addr_order};
 use std::cmp::Ordering;
 
 /// IPv4 before IPv6, and then the lesser number.
-impl Placed for Addr {
-    ghost use Rattle.sorted_rows.specs.Addresses.{addr_place};
+impl Sortable for Addr {
+    ghost use Rattle.sorted_rows.specs.Addresses.{addr_sort_key};
 
-    ghost place = { addr_place };
+    ghost sort_key = { addr_sort_key };
 
-    #[tactic(auto, using(crate::proofs::AddressLaws::place_rules))]
+    #[tactic(auto, using(crate::proofs::AddressLaws::sort_key_rules))]
     fn order(&self, other: &Addr) -> Ordering {
         addr_order(*self, *other)
     }
 }
 
 /// By the address alone.
-impl Placed for (Addr, End) {
-    ghost use Rattle.sorted_rows.specs.Addresses.{end_place};
+impl Sortable for (Addr, End) {
+    ghost use Rattle.sorted_rows.specs.Addresses.{expiry_sort_key};
 
-    ghost place = { end_place };
+    ghost sort_key = { expiry_sort_key };
 
-    #[tactic(auto, unfolding(crate::specs::Addresses::end_place))]
+    #[tactic(auto, unfolding(crate::specs::Addresses::expiry_sort_key))]
     fn order(&self, other: &(Addr, End)) -> Ordering {
         self.0.order(&other.0)
     }
@@ -29,23 +29,23 @@ impl Placed for (Addr, End) {
 
 /// An address with its end is found by the address.
 impl KeyOf<(Addr, End)> for Addr {
-    ghost use Rattle.sorted_rows.specs.Addresses.{addr_place};
+    ghost use Rattle.sorted_rows.specs.Addresses.{addr_sort_key};
 
-    ghost place = { addr_place };
+    ghost sort_key = { addr_sort_key };
 
-    #[tactic(auto, unfolding(crate::specs::Addresses::end_place))]
+    #[tactic(auto, unfolding(crate::specs::Addresses::expiry_sort_key))]
     fn order_to(&self, row: &(Addr, End)) -> Ordering {
         self.order(&row.0)
     }
 }
 
 /// By the address, and then the lesser length.
-impl Placed for Prefix {
-    ghost use Rattle.sorted_rows.specs.Addresses.{prefix_place};
+impl Sortable for Prefix {
+    ghost use Rattle.sorted_rows.specs.Addresses.{prefix_sort_key};
 
-    ghost place = { prefix_place };
+    ghost sort_key = { prefix_sort_key };
 
-    #[tactic(auto, using(crate::proofs::AddressLaws::place_rules))]
+    #[tactic(auto, using(crate::proofs::AddressLaws::sort_key_rules))]
     fn order(&self, other: &Prefix) -> Ordering {
         self.addr()
             .order(&other.addr())

@@ -4,11 +4,11 @@ ghost use Rattle.sorted_rows.specs.Edits.{AreFound};
 ghost use Rattle.sorted_rows.specs.Runs.{GoesOn, AreRun, AreMade};
 
 use crate::edit::{Edit, make_edit};
-use crate::{Placed, SortedRows, Steps};
+use crate::{Sortable, SortedRows, Steps};
 use std::sync::ledger::Ledger;
 
 /// Whether the second edit goes on with the run of the first.
-fn goes_on<R: Placed>(edit: &Edit<R>, next: &Edit<R>) -> bool
+fn goes_on<R: Sortable>(edit: &Edit<R>, next: &Edit<R>) -> bool
     ensures { IsTrue result → GoesOn edit.now next.now }
 {
     match (edit.found, next.found) {
@@ -21,7 +21,7 @@ fn goes_on<R: Placed>(edit: &Edit<R>, next: &Edit<R>) -> bool
 }
 
 /// The index from which on the last of these edits are one run, not before `start`.
-fn run_start<R: Placed>(edits: &[Edit<R>], start: usize) -> usize
+fn run_start<R: Sortable>(edits: &[Edit<R>], start: usize) -> usize
     requires { start < length edits.now }
     ensures start { start ≤ result }
     ensures end { result < length edits.now }
@@ -35,7 +35,7 @@ fn run_start<R: Placed>(edits: &[Edit<R>], start: usize) -> usize
 }
 
 /// Makes the last of these edits, not before `start`: as many as move the rows behind them once.
-pub(crate) fn make_run<R: Placed + Drop, L: Ledger>(
+pub(crate) fn make_run<R: Sortable + Drop, L: Ledger>(
     rows: &mut SortedRows<R>,
     edits: &mut SortedRows<Edit<R>>,
     start: usize,
@@ -43,9 +43,9 @@ pub(crate) fn make_run<R: Placed + Drop, L: Ledger>(
 )
     requires start { start < length edits.old.rows }
     requires room { length edits.old.rows ≤ rows.old.room + start }
-    requires found { AreFound R.place rows.old.rows (drop start edits.old.rows) }
-    ensures made { AreMade R.place edits.old.rows edits.new.rows rows.old.rows rows.new.rows }
-    ensures found { AreFound R.place rows.new.rows (drop start edits.new.rows) }
+    requires found { AreFound R.sort_key rows.old.rows (drop start edits.old.rows) }
+    ensures made { AreMade R.sort_key edits.old.rows edits.new.rows rows.old.rows rows.new.rows }
+    ensures found { AreFound R.sort_key rows.new.rows (drop start edits.new.rows) }
     ensures start { start ≤ length edits.new.rows }
     ensures fewer { length edits.new.rows < length edits.old.rows }
     ensures room { rows.old.room + length edits.new.rows ≤ rows.new.room + length edits.old.rows }

@@ -8,9 +8,9 @@ use Rattle.std.proofs.lemmas.Option.{same_Some, none-some}
 use Rattle.mud_base.specs.Addresses.{same_addr}
 use Rattle.mud_base.specs.declared.addr.Addr.{Addr}
 use Rattle.mud_base.specs.declared.prefix.Prefix.{Prefix}
-use Rattle.sorted_rows.specs.Placed.{PlacesAscend, row_at, set_row, without_row}
-use Rattle.sorted_rows.specs.Addresses.{addr_place}
-use Rattle.sorted_rows.proofs.PlacedLaws.{same_place_itself, row_at-set_row_same, row_at-without_row}
+use Rattle.sorted_rows.specs.Sortable.{SortKeysAscend, row_at, set_row, without_row}
+use Rattle.sorted_rows.specs.Addresses.{addr_sort_key}
+use Rattle.sorted_rows.proofs.SortableLaws.{same_sort_key_itself, row_at-set_row_same, row_at-without_row}
 use Rattle.acl_model.proofs.BindingLaws.{same_addr_itself}
 use Rattle.item_codec.specs.declared.word.Word.{Word}
 use Rattle.item_codec.specs.declared.word.Word.TheVariants.{New, Same, Renewed, Bound, Unbound, Set}
@@ -19,10 +19,10 @@ use Rattle.mud_tables.specs.declared.bind.ClassRow.{ClassRow}
 use Rattle.mud_tables.specs.declared.bind.NameRow.{NameRow}
 use Rattle.mud_tables.specs.declared.bind_fault.BindFault.TheVariants.{ClassesFull, ClassFull, NotBound, LocalsFull, NameFull}
 use Rattle.mud_tables.specs.Limits.{most_classes, most_class_addresses, most_locals, most_names, most_name_addresses}
-use Rattle.mud_tables.specs.Ends.{Ends, is_live, end_of, with_end, live_rows, live_count}
+use Rattle.mud_tables.specs.Expiries.{Expiries, is_live, expiry_of, with_expiry, live_rows, live_count}
 use Rattle.mud_tables.specs.Binds.{key_of_class, class_key, class_at, set_class, without_class, class_row, has_addr, with_addr, without_addr, same_prefix, same_prefixes, prefixes_in_order, name_of, name_at, set_name, without_name, name_row}
-use Rattle.mud_tables.specs.BindSteps.{ClassStep, classes_done, bind_cases, bind_step, classes_without, unbind_cases, unbind_step, LocalStep, locals_done, locals_cases, locals_step, NameStep, observed, addrs_of, least_dead, replacing, new_pair, kept_pair, observe_cases, observe_row, observe_step, is_change}
-use Rattle.mud_tables.proofs.LeaseLaws.{end_of-with_end}
+use Rattle.mud_tables.specs.BindCommands.{ClassStep, classes_done, bind_cases, bind_step, classes_without, unbind_cases, unbind_step, LocalStep, locals_done, locals_cases, locals_step, NameStep, observed, addrs_of, least_dead, replacing, new_pair, kept_pair, observe_cases, observe_row, observe_step, is_change}
+use Rattle.mud_tables.proofs.LeaseLaws.{expiry_of-with_expiry}
 use Rattle.sorted_rows.proofs.ListTests.{both, any_without}
 use Rattle.sorted_rows.proofs.RowSets.{passing_found}
 
@@ -41,14 +41,14 @@ tells_other : {A : Type 0} (word : Word) (before after : A) → is_change word �
 tells_other word before after is differ = record { stays = λ e. absurd (false≢true (sym e ∙ is)); other = λ _. differ }
 
 -- a list with a row put in is another one than a list that hasn't this row
-put_differs : {R : Type 0} (place : R → List ℕ) (row : R) (rest before : List R) → (row_at place (place row) before ≡ Some row → ⊥) → set_row place row rest ≡ before → ⊥
-put_differs place row rest before hasn't e = hasn't (ap (row_at place (place row)) (sym e) ∙ row_at-set_row_same place row rest)
+put_differs : {R : Type 0} (sort_key : R → List ℕ) (row : R) (rest before : List R) → (row_at sort_key (sort_key row) before ≡ Some row → ⊥) → set_row sort_key row rest ≡ before → ⊥
+put_differs sort_key row rest before hasn't e = hasn't (ap (row_at sort_key (sort_key row)) (sym e) ∙ row_at-set_row_same sort_key row rest)
 
 -- ---- Classes
 
 has_its_addr : (a : Addr) (bs : List Addr) → has_addr a (with_addr a bs) ≡ true
 unfolding has_addr with_addr
-has_its_addr a bs = passing_found addr_place (λ b. same_addr b a) (set_row addr_place a bs) (addr_place a) a (row_at-set_row_same addr_place a bs) (same_addr_itself a)
+has_its_addr a bs = passing_found addr_sort_key (λ b. same_addr b a) (set_row addr_sort_key a bs) (addr_sort_key a) a (row_at-set_row_same addr_sort_key a bs) (same_addr_itself a)
 
 hasn't_addr : (a : Addr) (bs : List Addr) → has_addr a (without_addr a bs) ≡ true → ⊥
 unfolding has_addr without_addr
@@ -82,11 +82,11 @@ module _ (c : Class) (a : Addr) (classes : List ClassRow) where
   unfolding bind_step
   bind_tells = bind_cases_tell (class_at c classes) refl
 
-  module _ (ascend : PlacesAscend class_key classes) where
+  module _ (ascend : SortKeysAscend class_key classes) where
     unbound_tell : (row : ClassRow) → class_at c classes ≡ Some row → (bs : List Addr) → (has_addr a row.addrs ≡ has_addr a bs → ⊥) → Tells Unbound classes (classes_without c bs classes)
     unfolding classes_without without_class set_class class_at class_key class_row is_change
     unbound_tell row is [] differ = tells_other Unbound classes (without_row class_key (key_of_class c) classes) refl
-        (λ e. none-some row (sym (row_at-without_row class_key (key_of_class c) classes (key_of_class c) ascend ∙ ap (λ b. cond b None (row_at class_key (key_of_class c) classes)) (same_place_itself (key_of_class c)))
+        (λ e. none-some row (sym (row_at-without_row class_key (key_of_class c) classes (key_of_class c) ascend ∙ ap (λ b. cond b None (row_at class_key (key_of_class c) classes)) (same_sort_key_itself (key_of_class c)))
         ∙ ap (row_at class_key (key_of_class c)) e ∙ is))
     unbound_tell row is (b ∷ bs) differ = tells_other Unbound classes (set_row class_key (class_row c (b ∷ bs)) classes) refl
         (put_differs class_key (class_row c (b ∷ bs)) classes classes (λ f. differ (ap (λ (r : ClassRow). has_addr a r.addrs) (same_Some row (class_row c (b ∷ bs)) (sym is ∙ f)))))
@@ -152,33 +152,33 @@ module _ (name : List ℕ) (a : Addr) (until now : ℕ) (later : now < until) (n
   replacing_tell is (Some dead) = tells_other New names (set_row name_of one (without_name dead.name names)) refl (put_differs name_of one (without_name dead.name names) names (λ f. none-some one (sym is ∙ f)))
 
   -- a row with other addresses
-  other_ends : (word : Word) (row : NameRow) (rows : Ends) → is_change word ≡ true → name_at name names ≡ Some row → (end_of a row.addrs ≡ Some until → ⊥) → end_of a rows ≡ Some until → Tells word names (set_name (name_row name rows) names)
+  other_expiries : (word : Word) (row : NameRow) (rows : Expiries) → is_change word ≡ true → name_at name names ≡ Some row → (expiry_of a row.addrs ≡ Some until → ⊥) → expiry_of a rows ≡ Some until → Tells word names (set_name (name_row name rows) names)
   unfolding set_name name_at name_of name_row
-  other_ends word row rows changes is differ new = tells_other word names (set_row name_of (name_row name rows) names) changes
-      (put_differs name_of (name_row name rows) names names (λ f. differ (ap (λ (r : NameRow). end_of a r.addrs) (same_Some row (name_row name rows) (sym is ∙ f)) ∙ new)))
+  other_expiries word row rows changes is differ new = tells_other word names (set_row name_of (name_row name rows) names) changes
+      (put_differs name_of (name_row name rows) names names (λ f. differ (ap (λ (r : NameRow). expiry_of a r.addrs) (same_Some row (name_row name rows) (sym is ∙ f)) ∙ new)))
 
-  new_pair_tells : (o : Option NameRow) → name_at name names ≡ o → (end_of a (addrs_of o) ≡ Some until → ⊥) → TellsNames (new_pair name a until now names o)
+  new_pair_tells : (o : Option NameRow) → name_at name names ≡ o → (expiry_of a (addrs_of o) ≡ Some until → ⊥) → TellsNames (new_pair name a until now names o)
   unfolding new_pair addrs_of set_name name_at name_of name_row is_change
   new_pair_tells None is differ = by_names (nat_le most_names (length names)) (replacing name a until names (least_dead now names)) (observed New until (set_name one names))
       (λ _. replacing_tell is (least_dead now names))
       (λ _. tells_other New names (set_row name_of one names) refl (put_differs name_of one names names (λ f. none-some one (sym is ∙ f))))
   new_pair_tells (Some row) is differ =
-      let rows : Ends = with_end a until (live_rows now row.addrs) in
+      let rows : Expiries = with_expiry a until (live_rows now row.addrs) in
       by_names (nat_le most_name_addresses (live_count now row.addrs)) (Err NameFull) (observed New until (set_name (name_row name rows) names))
       (λ _. tt)
-      (λ _. other_ends New row rows refl is differ (end_of-with_end a until (live_rows now row.addrs)))
+      (λ _. other_expiries New row rows refl is differ (expiry_of-with_expiry a until (live_rows now row.addrs)))
 
-  kept_pair_tells : (o : Option NameRow) (old : ℕ) → name_at name names ≡ o → end_of a (addrs_of o) ≡ Some old → TellsNames (kept_pair name a until names o old)
-  unfolding kept_pair addrs_of end_of is_change
+  kept_pair_tells : (o : Option NameRow) (old : ℕ) → name_at name names ≡ o → expiry_of a (addrs_of o) ≡ Some old → TellsNames (kept_pair name a until names o old)
+  unfolding kept_pair addrs_of expiry_of is_change
   kept_pair_tells None old is kept = absurd (none-some old kept)
-  kept_pair_tells (Some row) old is kept = by_names (nat_lt old until) (observed Renewed until (set_name (name_row name (with_end a until row.addrs)) names)) (observed Same old names)
-      (λ sooner. other_ends Renewed row (with_end a until row.addrs) refl is (λ e. not_itself old until (same_Some old until (sym kept ∙ e)) (ltb-true old until sooner)) (end_of-with_end a until row.addrs))
+  kept_pair_tells (Some row) old is kept = by_names (nat_lt old until) (observed Renewed until (set_name (name_row name (with_expiry a until row.addrs)) names)) (observed Same old names)
+      (λ sooner. other_expiries Renewed row (with_expiry a until row.addrs) refl is (λ e. not_itself old until (same_Some old until (sym kept ∙ e)) (ltb-true old until sooner)) (expiry_of-with_expiry a until row.addrs))
       (λ _. tells_same names)
     where
       not_itself : (n m : ℕ) → n ≡ m → n < m → ⊥
       not_itself n m e less = omega (arith, e, less)
 
-  observe_cases_tell : (o : Option NameRow) → name_at name names ≡ o → (e : Option ℕ) → end_of a (addrs_of o) ≡ e → TellsNames (observe_cases name a until now names o e)
+  observe_cases_tell : (o : Option NameRow) → name_at name names ≡ o → (e : Option ℕ) → expiry_of a (addrs_of o) ≡ e → TellsNames (observe_cases name a until now names o e)
   unfolding observe_cases is_live
   observe_cases_tell o is None none = new_pair_tells o is (λ f. none-some until (sym none ∙ f))
   observe_cases_tell o is (Some old) kept = by_names (nat_lt now old) (kept_pair name a until names o old) (new_pair name a until now names o)
@@ -193,4 +193,4 @@ sooner now ttl some = omega (arith, some)
 
 pub observe_tells : (name : List ℕ) (a : Addr) (ttl now : ℕ) (names : List NameRow) → (some : 0 < ttl) → TellsNames name a (now + ttl) now (sooner now ttl some) names (observe_step name a ttl now names)
 unfolding observe_step observe_row
-observe_tells name a ttl now names some = observe_cases_tell name a (now + ttl) now (sooner now ttl some) names (name_at name names) refl (end_of a (addrs_of (name_at name names))) refl
+observe_tells name a ttl now names some = observe_cases_tell name a (now + ttl) now (sooner now ttl some) names (name_at name names) refl (expiry_of a (addrs_of (name_at name names))) refl

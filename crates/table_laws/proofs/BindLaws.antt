@@ -8,7 +8,7 @@ use Rattle.mud_tables.specs.declared.bind.Class.{Class}
 use Rattle.mud_tables.specs.declared.bind.ClassRow.{ClassRow}
 use Rattle.mud_tables.specs.declared.bind.NameRow.{NameRow}
 use Rattle.mud_tables.specs.Binds.{Binds, IsSoundClasses, IsSoundLocals, IsSoundNames, IsSoundBinds}
-use Rattle.mud_tables.specs.BindSteps.{ClassStep, LocalStep, NameStep, is_change, with_classes, with_locals, with_names}
+use Rattle.mud_tables.specs.BindCommands.{ClassStep, LocalStep, NameStep, is_change, with_classes, with_locals, with_names}
 use Rattle.table_laws.proofs.SoundClasses.{OfClasses}
 use Rattle.table_laws.proofs.SoundLocals.{OfLocals}
 use Rattle.table_laws.proofs.SoundNames.{OfNames}

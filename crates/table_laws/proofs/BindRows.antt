@@ -4,41 +4,41 @@ use Rattle.std.specs.Prelude.{nat_le, nat_lt, IfOk}
 use Rattle.std.proofs.lemmas.Option.{none-some}
 use Rattle.mud_base.specs.declared.addr.Addr.{Addr}
 use Rattle.item_codec.specs.declared.word.Word.TheVariants.{New, Same, Renewed, Bound, Unbound}
-use Rattle.sorted_rows.specs.Placed.{same_place, PlacesAscend, row_at}
-use Rattle.sorted_rows.specs.Changes.{RowChange, changed, places_of, is_plain}
-use Rattle.sorted_rows.proofs.PlacedLaws.{same_place_exact}
+use Rattle.sorted_rows.specs.Sortable.{same_sort_key, SortKeysAscend, row_at}
+use Rattle.sorted_rows.specs.Changes.{RowChange, changed, sort_keys_of, is_plain}
+use Rattle.sorted_rows.proofs.SortableLaws.{same_sort_key_exact}
 use Rattle.acl_model.specs.Changes.{IsBindingChange}
 use Rattle.mud_tables.specs.declared.bind.Class.{Class}
 use Rattle.mud_tables.specs.declared.bind.ClassRow.{ClassRow}
 use Rattle.mud_tables.specs.declared.bind.NameRow.{NameRow}
 use Rattle.mud_tables.specs.declared.bind_fault.BindFault.TheVariants.{ClassesFull, ClassFull, NotBound, NameFull}
 use Rattle.mud_tables.specs.Limits.{most_classes, most_class_addresses, most_names, most_name_addresses}
-use Rattle.mud_tables.specs.Ends.{Ends, is_live, end_of, with_end, live_rows, live_count}
+use Rattle.mud_tables.specs.Expiries.{Expiries, is_live, expiry_of, with_expiry, live_rows, live_count}
 use Rattle.mud_tables.specs.Tables.{Tables}
 use Rattle.mud_tables.specs.Bindings.{class_bindings, name_bindings, bindings_of}
 use Rattle.mud_tables.specs.BindingChanges.{gone_of, come_of}
 use Rattle.mud_tables.specs.Binds.{class_key, class_at, set_class, without_class, class_row, has_addr, with_addr, without_addr, name_of, name_at, set_name, without_name, name_row, has_live_row, IsSoundClasses, IsSoundNames}
-use Rattle.mud_tables.specs.BindSteps.{ClassStep, classes_done, bind_cases, bind_step, classes_without, unbind_cases, unbind_step, NameStep, observed, addrs_of, least_dead, replacing, new_pair, kept_pair, observe_cases, observe_row, observe_step}
+use Rattle.mud_tables.specs.BindCommands.{ClassStep, classes_done, bind_cases, bind_step, classes_without, unbind_cases, unbind_step, NameStep, observed, addrs_of, least_dead, replacing, new_pair, kept_pair, observe_cases, observe_row, observe_step}
 use Rattle.mud_tables.specs.BindRowChanges.{no_rows, one_row, bind_cases_change, bind_change, class_left, unbind_cases_change, unbind_change, replacing_change, new_pair_change, kept_pair_change, observe_cases_change, observe_row_change, observe_change}
 use Rattle.table_laws.proofs.SoundRows.{found_there}
 use Rattle.table_laws.proofs.SoundClasses.{OfClasses, cond_classes}
 use Rattle.table_laws.proofs.SoundNames.{OfNames, cond_names}
 use Rattle.table_laws.proofs.BookChanges.{class_book_change, name_book_change}
 
--- the change of rows makes the list, and touches no place twice
-pub record Makes {R : Type 0} (place : R → List ℕ) (change : RowChange R) (rows after : List R) : Type 0 where
-  pub is : changed place change rows ≡ after
-  pub plain : is_plain place change ≡ true
+-- the change of rows makes the list, and touches no sort key twice
+pub record Makes {R : Type 0} (sort_key : R → List ℕ) (change : RowChange R) (rows after : List R) : Type 0 where
+  pub is : changed sort_key change rows ≡ after
+  pub plain : is_plain sort_key change ≡ true
 
-nothing : {R : Type 0} (place : R → List ℕ) (rows : List R) → Makes place no_rows rows rows
-unfolding changed places_of is_plain
-nothing place rows = record { is = refl; plain = refl }
+nothing : {R : Type 0} (sort_key : R → List ℕ) (rows : List R) → Makes sort_key no_rows rows rows
+unfolding changed sort_keys_of is_plain
+nothing sort_key rows = record { is = refl; plain = refl }
 
 -- ---- Classes
 
 module _ (c : Class) (a : Addr) (classes : List ClassRow) where
   put_class : (row : ClassRow) → Makes class_key (one_row row) classes (set_class row classes)
-  unfolding changed places_of is_plain set_class
+  unfolding changed sort_keys_of is_plain set_class
   put_class row = record { is = refl; plain = refl }
 
   bound_or_full : (row : ClassRow) (b : Bool)
@@ -59,7 +59,7 @@ module _ (c : Class) (a : Addr) (classes : List ClassRow) where
   bind_makes = bind_cases_make (class_at c classes)
 
   left_makes : (bs : List Addr) → Makes class_key (class_left c bs) classes (classes_without c bs classes)
-  unfolding changed places_of is_plain class_left classes_without set_class without_class
+  unfolding changed sort_keys_of is_plain class_left classes_without set_class without_class
   left_makes [] = record { is = refl; plain = refl }
   left_makes (b ∷ bs) = record { is = refl; plain = refl }
 
@@ -75,21 +75,21 @@ module _ (c : Class) (a : Addr) (classes : List ClassRow) where
 
 -- ---- Names
 
-module _ (name : List ℕ) (a : Addr) (until now : ℕ) (names : List NameRow) (ascend : PlacesAscend name_of names) where
+module _ (name : List ℕ) (a : Addr) (until now : ℕ) (names : List NameRow) (ascend : SortKeysAscend name_of names) where
   put_name : (row : NameRow) → Makes name_of (one_row row) names (set_name row names)
-  unfolding changed places_of is_plain set_name
+  unfolding changed sort_keys_of is_plain set_name
   put_name row = record { is = refl; plain = refl }
 
-  one_other : (p q : List ℕ) → (p ≡ q → ⊥) → (b : Bool) → same_place p q ≡ b → (not (b || false) && true) ≡ true
-  one_other p q other true e = absurd (other (same_place_exact p q e))
+  one_other : (p q : List ℕ) → (p ≡ q → ⊥) → (b : Bool) → same_sort_key p q ≡ b → (not (b || false) && true) ≡ true
+  one_other p q other true e = absurd (other (same_sort_key_exact p q e))
   one_other p q other false e = refl
 
   replacing_makes : name_at name names ≡ None → (o : Option NameRow) → least_dead now names ≡ o → OfNames (Makes name_of (replacing_change name a until o) names) (replacing name a until names o)
-  unfolding changed places_of is_plain replacing replacing_change set_name without_name least_dead name_at name_of name_row
+  unfolding changed sort_keys_of is_plain replacing replacing_change set_name without_name least_dead name_at name_of name_row
   replacing_makes unknown None is = tt
   replacing_makes unknown (Some dead) is =
       let there : row_at name_of (name_of dead) names ≡ Some dead = found_there name_of (λ row. not (has_live_row now row)) names dead ascend is in
-      record { is = refl; plain = one_other dead.name name (λ e. none-some dead (sym unknown ∙ subst (λ p. row_at name_of p names ≡ Some dead) e there)) (same_place dead.name name) refl }
+      record { is = refl; plain = one_other dead.name name (λ e. none-some dead (sym unknown ∙ subst (λ p. row_at name_of p names ≡ Some dead) e there)) (same_sort_key dead.name name) refl }
 
   by_room : name_at name names ≡ None → (b : Bool)
       → OfNames (Makes name_of (cond b (replacing_change name a until (least_dead now names)) (one_row (name_row name ((a, until) ∷ [])))) names) (cond b (replacing name a until names (least_dead now names)) (observed New until (set_name (name_row name ((a, until) ∷ [])) names)))
@@ -100,16 +100,16 @@ module _ (name : List ℕ) (a : Addr) (until now : ℕ) (names : List NameRow) (
   unfolding new_pair new_pair_change
   new_pair_makes None is = by_room is (nat_le most_names (length names))
   new_pair_makes (Some row) is =
-      let new : NameRow = name_row name (with_end a until (live_rows now row.addrs)) in
+      let new : NameRow = name_row name (with_expiry a until (live_rows now row.addrs)) in
       cond_names (Makes name_of (one_row new) names) (nat_le most_name_addresses (live_count now row.addrs)) (Err NameFull) (observed New until (set_name new names)) (λ _. tt) (λ _. put_name new)
 
-  by_end : (rows : Ends) (old : ℕ) (b : Bool) → OfNames (Makes name_of (cond b (one_row (name_row name (with_end a until rows))) no_rows) names) (cond b (observed Renewed until (set_name (name_row name (with_end a until rows)) names)) (observed Same old names))
-  by_end rows old true = put_name (name_row name (with_end a until rows))
-  by_end rows old false = nothing name_of names
+  by_expiry : (rows : Expiries) (old : ℕ) (b : Bool) → OfNames (Makes name_of (cond b (one_row (name_row name (with_expiry a until rows))) no_rows) names) (cond b (observed Renewed until (set_name (name_row name (with_expiry a until rows)) names)) (observed Same old names))
+  by_expiry rows old true = put_name (name_row name (with_expiry a until rows))
+  by_expiry rows old false = nothing name_of names
 
   kept_pair_makes : (o : Option NameRow) (old : ℕ) → OfNames (Makes name_of (kept_pair_change name a until o old) names) (kept_pair name a until names o old)
   unfolding kept_pair kept_pair_change
-  kept_pair_makes o old = by_end (addrs_of o) old (nat_lt old until)
+  kept_pair_makes o old = by_expiry (addrs_of o) old (nat_lt old until)
 
   by_life : (o : Option NameRow) (old : ℕ) → name_at name names ≡ o → (b : Bool) → OfNames (Makes name_of (cond b (kept_pair_change name a until o old) (new_pair_change name a until now names o)) names) (cond b (kept_pair name a until names o old) (new_pair name a until now names o))
   by_life o old is true = kept_pair_makes o old
@@ -120,9 +120,9 @@ module _ (name : List ℕ) (a : Addr) (until now : ℕ) (names : List NameRow) (
   observe_cases_make o is None = new_pair_makes o is
   observe_cases_make o is (Some old) = by_life o old is (is_live old now)
 
-pub observe_makes : (name : List ℕ) (a : Addr) (ttl now : ℕ) (names : List NameRow) → PlacesAscend name_of names → OfNames (Makes name_of (observe_change name a ttl now names) names) (observe_step name a ttl now names)
+pub observe_makes : (name : List ℕ) (a : Addr) (ttl now : ℕ) (names : List NameRow) → SortKeysAscend name_of names → OfNames (Makes name_of (observe_change name a ttl now names) names) (observe_step name a ttl now names)
 unfolding observe_step observe_row observe_change observe_row_change
-observe_makes name a ttl now names ascend = observe_cases_make name a (now + ttl) now names ascend (name_at name names) refl (end_of a (addrs_of (name_at name names)))
+observe_makes name a ttl now names ascend = observe_cases_make name a (now + ttl) now names ascend (name_at name names) refl (expiry_of a (addrs_of (name_at name names)))
 
 -- ---- The bindings
 

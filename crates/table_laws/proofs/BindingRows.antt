@@ -3,11 +3,11 @@ use Rattle.std.proofs.Common.{◌≡◌, ℕ, Bool, true, not, ◌&&◌, List, [
 use Rattle.std.specs.Prelude.{flat_map, nat_le, nat_lt}
 use Rattle.std.specs.List.{list_any}
 use Rattle.std.proofs.lemmas.Bool.{false≢true}
-use Rattle.sorted_rows.specs.Placed.{same_place}
-use Rattle.sorted_rows.specs.Addresses.{addr_place, end_place}
-use Rattle.sorted_rows.proofs.AddressLaws.{same_addr-place}
+use Rattle.sorted_rows.specs.Sortable.{same_sort_key}
+use Rattle.sorted_rows.specs.Addresses.{addr_sort_key, expiry_sort_key}
+use Rattle.sorted_rows.proofs.AddressLaws.{same_addr-sort_key}
 use Rattle.sorted_rows.proofs.AscendLaws.{ascend_from}
-use Rattle.sorted_rows.proofs.RowLaws.{place_row_at}
+use Rattle.sorted_rows.proofs.RowLaws.{sort_key_row_at}
 use Rattle.mud_base.specs.Addresses.{same_addr}
 use Rattle.mud_base.specs.declared.addr.Addr.{Addr}
 use Rattle.mud_url.specs.Url.{host_of, is_canonical}
@@ -21,7 +21,7 @@ use Rattle.mud_tables.specs.declared.bind.Class.TheVariants as class
 use Rattle.mud_tables.specs.declared.bind.ClassRow.{ClassRow}
 use Rattle.mud_tables.specs.declared.bind.NameRow.{NameRow}
 use Rattle.mud_tables.specs.Limits.{most_leases, most_class_addresses, most_name_addresses}
-use Rattle.mud_tables.specs.Ends.{Ends, has_address, are_ascending, have_ends}
+use Rattle.mud_tables.specs.Expiries.{Expiries, has_address, are_ascending, have_expiries}
 use Rattle.mud_tables.specs.Things.{mac_of, holds, may_wait, are_leases, is_sound_thing, IsKeptThing, IsSoundThings}
 use Rattle.mud_tables.specs.Binds.{key_of_class, class_key, name_of, are_addrs, is_class, is_sound_class, is_name, is_sound_name, IsKeptClass, IsKeptName, IsSoundClasses, IsSoundNames}
 use Rattle.mud_tables.specs.Bindings.{binding, bindings_of_lease, thing_bindings, member_key, class_binding, class_bindings, name_binding, name_bindings}
@@ -40,13 +40,13 @@ use Rattle.mud_tables.proofs.RowSets.{first_of_three, all_at}
 abbrev pub same_first : Addr × ℕ → Addr × ℕ → Bool
 same_first r s = same_addr r.0 s.0
 
-ends_apart : (rows : Ends) → are_ascending rows ≡ true → are_apart same_first rows ≡ true
-unfolding are_ascending end_place
-ends_apart rows e = apart-unmap same_place same_first end_place (λ r s same. sym (same_addr-place r.0 s.0) ∙ same) rows (apart-ascend end_place rows (ascend_from end_place rows e))
+expiries_apart : (rows : Expiries) → are_ascending rows ≡ true → are_apart same_first rows ≡ true
+unfolding are_ascending expiry_sort_key
+expiries_apart rows e = apart-unmap same_sort_key same_first expiry_sort_key (λ r s same. sym (same_addr-sort_key r.0 s.0) ∙ same) rows (apart-ascend expiry_sort_key rows (ascend_from expiry_sort_key rows e))
 
 addrs_apart : (addrs : List Addr) → are_addrs addrs ≡ true → are_apart same_addr addrs ≡ true
 unfolding are_addrs
-addrs_apart addrs e = apart-unmap same_place same_addr addr_place (λ a b same. sym (same_addr-place a b) ∙ same) addrs (apart-ascend addr_place addrs (ascend_from addr_place addrs e))
+addrs_apart addrs e = apart-unmap same_sort_key same_addr addr_sort_key (λ a b same. sym (same_addr-sort_key a b) ∙ same) addrs (apart-ascend addr_sort_key addrs (ascend_from addr_sort_key addrs e))
 
 -- ---- Things
 
@@ -75,7 +75,7 @@ lease_apart : (t : Thing) (r : Addr × ℕ) → are_apart same_spot (bindings_of
 unfolding bindings_of_lease same_spot same_key
 lease_apart t r = refl
 
-leases_apart : (t : Thing) (rows : Ends) → are_apart same_first rows ≡ true → are_apart same_spot (flat_map (bindings_of_lease t) rows) ≡ true
+leases_apart : (t : Thing) (rows : Expiries) → are_apart same_first rows ≡ true → are_apart same_spot (flat_map (bindings_of_lease t) rows) ≡ true
 leases_apart t [] e = refl
 leases_apart t (r ∷ rows) e = apart-append same_spot same_spot_itself (bindings_of_lease t r) (flat_map (bindings_of_lease t) rows) (lease_apart t r)
     (leases_apart t rows (right_of (not (list_any (same_first r) rows)) (are_apart same_first rows) e))
@@ -88,7 +88,7 @@ thing_apart : (t : Thing) → is_sound_thing t ≡ true → are_apart same_spot 
 unfolding is_sound_thing are_leases thing_bindings
 thing_apart t sound =
     let leases : are_leases t.leases ≡ true = right_of (is_canonical t.url && may_wait t.url t.pending) (are_leases t.leases) sound in
-    leases_apart t t.leases (ends_apart t.leases (first_of_three (are_ascending t.leases) (have_ends t.leases) (nat_le (length t.leases) most_leases) leases))
+    leases_apart t t.leases (expiries_apart t.leases (first_of_three (are_ascending t.leases) (have_expiries t.leases) (nat_le (length t.leases) most_leases) leases))
 
 pub things_bind : (things : List Thing) → IsSoundThings things → IsBindingRows mac_of thing_bindings things
 things_bind things sound = record {
@@ -122,9 +122,9 @@ pub class_bound : (b : Binding) (row : ClassRow) → list_any (same_spot b) (cla
 unfolding class_bindings
 class_bound b row e = class_spot b row row.addrs e
 
-class_place : (b : Binding) (row : ClassRow) → list_any (same_spot b) (class_bindings row) ≡ true → key_octets b.key ≡ class_key row
+class_sort_key : (b : Binding) (row : ClassRow) → list_any (same_spot b) (class_bindings row) ≡ true → key_octets b.key ≡ class_key row
 unfolding class_key
-class_place b row e = ap key_octets (class_bound b row e) ∙ octets_of_class row.class
+class_sort_key b row e = ap key_octets (class_bound b row e) ∙ octets_of_class row.class
 
 class_apart : (row : ClassRow) → is_sound_class row ≡ true → are_apart same_spot (class_bindings row) ≡ true
 unfolding is_sound_class class_bindings class_binding
@@ -135,13 +135,13 @@ class_apart row sound =
 pub classes_bind : (classes : List ClassRow) → IsSoundClasses classes → IsBindingRows class_key class_bindings classes
 classes_bind classes sound = record {
   ascend = sound.ascend;
-  one = λ b p q x y at_p at_q has_x has_y. sym (place_row_at class_key p classes x at_p) ∙ sym (class_place b x has_x) ∙ class_place b y has_y ∙ place_row_at class_key q classes y at_q;
+  one = λ b p q x y at_p at_q has_x has_y. sym (sort_key_row_at class_key p classes x at_p) ∙ sym (class_sort_key b x has_x) ∙ class_sort_key b y has_y ∙ sort_key_row_at class_key q classes y at_q;
   each = λ p x there. class_apart x (all_at class_key IsKeptClass classes p x sound.each there).sound;
 }
 
 -- ---- Names
 
-name_spot : (b : Binding) (row : NameRow) (rows : Ends) → list_any (same_spot b) (map (name_binding row) rows) ≡ true → b.key ≡ of_key.Name row.name
+name_spot : (b : Binding) (row : NameRow) (rows : Expiries) → list_any (same_spot b) (map (name_binding row) rows) ≡ true → b.key ≡ of_key.Name row.name
 unfolding name_binding
 name_spot b row [] e = absurd (false≢true e)
 name_spot b row (r ∷ rows) e = any_by (same_spot b) (name_binding row r) (map (name_binding row) rows) (spot_key b (name_binding row r)) (name_spot b row rows) e
@@ -150,21 +150,21 @@ pub name_bound : (b : Binding) (row : NameRow) → list_any (same_spot b) (name_
 unfolding name_bindings
 name_bound b row e = name_spot b row row.addrs e
 
-name_place : (b : Binding) (row : NameRow) → list_any (same_spot b) (name_bindings row) ≡ true → key_octets b.key ≡ name_of row
+name_sort_key : (b : Binding) (row : NameRow) → list_any (same_spot b) (name_bindings row) ≡ true → key_octets b.key ≡ name_of row
 unfolding name_of key_octets
-name_place b row e = ap key_octets (name_bound b row e)
+name_sort_key b row e = ap key_octets (name_bound b row e)
 
 name_apart : (row : NameRow) → is_sound_name row ≡ true → are_apart same_spot (name_bindings row) ≡ true
 unfolding is_sound_name name_bindings name_binding
 name_apart row sound =
-    let ends : (is_name row.name && are_ascending row.addrs && have_ends row.addrs) ≡ true = first_of_three (is_name row.name && are_ascending row.addrs && have_ends row.addrs) (nat_lt 0 (length row.addrs)) (nat_le (length row.addrs) most_name_addresses) sound in
-    let rows : (is_name row.name && are_ascending row.addrs) ≡ true = left_of (is_name row.name && are_ascending row.addrs) (have_ends row.addrs) ends in
+    let expiries : (is_name row.name && are_ascending row.addrs && have_expiries row.addrs) ≡ true = first_of_three (is_name row.name && are_ascending row.addrs && have_expiries row.addrs) (nat_lt 0 (length row.addrs)) (nat_le (length row.addrs) most_name_addresses) sound in
+    let rows : (is_name row.name && are_ascending row.addrs) ≡ true = left_of (is_name row.name && are_ascending row.addrs) (have_expiries row.addrs) expiries in
     apart-map same_spot same_first (name_binding row) (λ r s e. same_turned s.0 r.0 (spot_addr (name_binding row r) (name_binding row s) e)) row.addrs
-    (ends_apart row.addrs (right_of (is_name row.name) (are_ascending row.addrs) rows))
+    (expiries_apart row.addrs (right_of (is_name row.name) (are_ascending row.addrs) rows))
 
 pub names_bind : (names : List NameRow) → IsSoundNames names → IsBindingRows name_of name_bindings names
 names_bind names sound = record {
   ascend = sound.ascend;
-  one = λ b p q x y at_p at_q has_x has_y. sym (place_row_at name_of p names x at_p) ∙ sym (name_place b x has_x) ∙ name_place b y has_y ∙ place_row_at name_of q names y at_q;
+  one = λ b p q x y at_p at_q has_x has_y. sym (sort_key_row_at name_of p names x at_p) ∙ sym (name_sort_key b x has_x) ∙ name_sort_key b y has_y ∙ sort_key_row_at name_of q names y at_q;
   each = λ p x there. name_apart x (all_at name_of IsKeptName names p x sound.each there).sound;
 }

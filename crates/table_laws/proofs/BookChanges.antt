@@ -8,7 +8,7 @@ use Rattle.mud_tables.specs.Things.{mac_of, IsSoundThings}
 use Rattle.mud_tables.specs.Binds.{class_key, name_of, IsSoundClasses, IsSoundNames}
 use Rattle.mud_tables.specs.Tables.{Tables}
 use Rattle.mud_tables.specs.Bindings.{thing_bindings, class_bindings, name_bindings, bindings_of}
-use Rattle.sorted_rows.specs.Changes.{RowChange, changed, is_plain, places_of}
+use Rattle.sorted_rows.specs.Changes.{RowChange, changed, is_plain, sort_keys_of}
 use Rattle.acl_model.specs.Changes.{IsBindingChange}
 use Rattle.mud_tables.specs.BindingChanges.{gone_of, come_of}
 use Rattle.table_laws.proofs.Differences.{gone_at, come_at}
@@ -24,10 +24,10 @@ unfolding is_plain
 thing_book_change tables change old new once =
     let after : List Thing = changed mac_of change tables.things in
     renamed (bindings_of tables) (bindings_of (record tables { things = after }))
-    (gone_at mac_of thing_bindings (places_of mac_of change) tables.things after) (gone_of mac_of thing_bindings change tables.things)
-    (come_at mac_of thing_bindings (places_of mac_of change) tables.things after) (come_of mac_of thing_bindings change tables.things)
+    (gone_at mac_of thing_bindings (sort_keys_of mac_of change) tables.things after) (gone_of mac_of thing_bindings change tables.things)
+    (come_at mac_of thing_bindings (sort_keys_of mac_of change) tables.things after) (come_of mac_of thing_bindings change tables.things)
     (gone_is mac_of thing_bindings change tables.things old.ascend once) (come_is mac_of thing_bindings change tables.things old.ascend once)
-    (things_change tables after (places_of mac_of change) old new once (elsewhere_same mac_of thing_bindings change tables.things old.ascend))
+    (things_change tables after (sort_keys_of mac_of change) old new once (elsewhere_same mac_of thing_bindings change tables.things old.ascend))
 
 pub class_book_change : (tables : Tables) (change : RowChange ClassRow) → IsSoundClasses tables.classes → IsSoundClasses (changed class_key change tables.classes) → is_plain class_key change ≡ true
     → IsBindingChange (bindings_of tables) (bindings_of (record tables { classes = changed class_key change tables.classes })) (gone_of class_key class_bindings change tables.classes) (come_of class_key class_bindings change tables.classes)
@@ -35,10 +35,10 @@ unfolding is_plain
 class_book_change tables change old new once =
     let after : List ClassRow = changed class_key change tables.classes in
     renamed (bindings_of tables) (bindings_of (record tables { classes = after }))
-    (gone_at class_key class_bindings (places_of class_key change) tables.classes after) (gone_of class_key class_bindings change tables.classes)
-    (come_at class_key class_bindings (places_of class_key change) tables.classes after) (come_of class_key class_bindings change tables.classes)
+    (gone_at class_key class_bindings (sort_keys_of class_key change) tables.classes after) (gone_of class_key class_bindings change tables.classes)
+    (come_at class_key class_bindings (sort_keys_of class_key change) tables.classes after) (come_of class_key class_bindings change tables.classes)
     (gone_is class_key class_bindings change tables.classes old.ascend once) (come_is class_key class_bindings change tables.classes old.ascend once)
-    (classes_change tables after (places_of class_key change) old new once (elsewhere_same class_key class_bindings change tables.classes old.ascend))
+    (classes_change tables after (sort_keys_of class_key change) old new once (elsewhere_same class_key class_bindings change tables.classes old.ascend))
 
 pub name_book_change : (tables : Tables) (change : RowChange NameRow) → IsSoundNames tables.names → IsSoundNames (changed name_of change tables.names) → is_plain name_of change ≡ true
     → IsBindingChange (bindings_of tables) (bindings_of (record tables { names = changed name_of change tables.names })) (gone_of name_of name_bindings change tables.names) (come_of name_of name_bindings change tables.names)
@@ -46,7 +46,7 @@ unfolding is_plain
 name_book_change tables change old new once =
     let after : List NameRow = changed name_of change tables.names in
     renamed (bindings_of tables) (bindings_of (record tables { names = after }))
-    (gone_at name_of name_bindings (places_of name_of change) tables.names after) (gone_of name_of name_bindings change tables.names)
-    (come_at name_of name_bindings (places_of name_of change) tables.names after) (come_of name_of name_bindings change tables.names)
+    (gone_at name_of name_bindings (sort_keys_of name_of change) tables.names after) (gone_of name_of name_bindings change tables.names)
+    (come_at name_of name_bindings (sort_keys_of name_of change) tables.names after) (come_of name_of name_bindings change tables.names)
     (gone_is name_of name_bindings change tables.names old.ascend once) (come_is name_of name_bindings change tables.names old.ascend once)
-    (names_change tables after (places_of name_of change) old new once (elsewhere_same name_of name_bindings change tables.names old.ascend))
+    (names_change tables after (sort_keys_of name_of change) old new once (elsewhere_same name_of name_bindings change tables.names old.ascend))

@@ -7,17 +7,17 @@ use Rattle.acl_model.specs.Keys.{same_key}
 use Rattle.mud_tables.specs.declared.thing.Thing.{Thing}
 use Rattle.mud_tables.specs.Things.{mac_of}
 use Rattle.mud_tables.specs.Bindings.{binding, bindings_of_lease, thing_bindings}
-use Rattle.sorted_rows.specs.Changes.{RowChange, changed, places_of, old_rows}
+use Rattle.sorted_rows.specs.Changes.{RowChange, changed, sort_keys_of, old_rows}
 use Rattle.acl_model.specs.Changes.{same_spot, same_binding, has_binding, those_not_in}
 use Rattle.mud_tables.specs.BindingChanges.{gone_of, come_of}
 use Rattle.mud_tables.specs.ThingChanges.{released_holders, leased, new_lease_change, kept_lease_change}
 use Rattle.mud_tables.proofs.Literals.{things_compute, bulb_addr, bulb_url, switch_url, next_url, bulb, bare_switch}
 
 unfoldable pub changes_compute : Unit {0}
-unfolding things_compute same_key bindings_of_lease thing_bindings same_spot same_binding has_binding those_not_in changed places_of old_rows gone_of come_of released_holders leased new_lease_change kept_lease_change
+unfolding things_compute same_key bindings_of_lease thing_bindings same_spot same_binding has_binding those_not_in changed sort_keys_of old_rows gone_of come_of released_holders leased new_lease_change kept_lease_change
 changes_compute = tt
 
--- the switch gets the address of the bulb with the same end: the host, that of both, keeps it
+-- the switch gets the address of the bulb with the same expiry: the host, that of both, keeps it
 taken : RowChange Thing
 taken = new_lease_change bulb_addr 87400 1000 (bulb ∷ bare_switch ∷ []) bare_switch
 
@@ -52,7 +52,7 @@ goes-gone : gone_of mac_of thing_bindings goes (bulb ∷ bare_switch ∷ []) ≡
 unfolding changes_compute goes host_of host_part authority
 goes-gone = refl
 
--- a renewed lease goes with its old end and comes with the new one
+-- a renewed lease goes with its old expiry and comes with the new one
 renews : RowChange Thing
 renews = kept_lease_change bulb_addr 90000 bulb 87400
 

@@ -3,7 +3,7 @@ use Rattle.std.proofs.Common.{◌≡◌, ℕ, Bool, true, false, cond, not, ◌&
 use Rattle.std.specs.Prelude.{flat_map}
 use Rattle.std.specs.List.{list_any, filter}
 use Rattle.std.proofs.lemmas.Bool.{false≢true}
-use Rattle.sorted_rows.specs.Placed.{same_place, PlacesAscend, row_at}
+use Rattle.sorted_rows.specs.Sortable.{same_sort_key, SortKeysAscend, row_at}
 use Rattle.acl_model.specs.declared.binding.Binding.{Binding}
 use Rattle.acl_model.proofs.BindingLaws.{same_spot_itself, spot_of_same, same_binding_exact}
 use Rattle.sorted_rows.specs.Changes.{are_apart, with_found, rows_at}
@@ -60,110 +60,110 @@ apart-those_not_in others xs e = apart-filter same_spot (λ c. not (has_binding 
 
 -- ---- Rows and their bindings
 
--- the bindings that go, where the rows at these places change
+-- the bindings that go, where the rows at these sort keys change
 unfoldable pub gone_at : {R : Type 0} → (R → List ℕ) → (R → List Binding) → List (List ℕ) → List R → List R → List Binding
-gone_at place bindings places before after = those_not_in (flat_map bindings (rows_at place places after)) (flat_map bindings (rows_at place places before))
+gone_at sort_key bindings sort_keys before after = those_not_in (flat_map bindings (rows_at sort_key sort_keys after)) (flat_map bindings (rows_at sort_key sort_keys before))
 
 -- and those that come
 unfoldable pub come_at : {R : Type 0} → (R → List ℕ) → (R → List Binding) → List (List ℕ) → List R → List R → List Binding
-come_at place bindings places before after = gone_at place bindings places after before
+come_at sort_key bindings sort_keys before after = gone_at sort_key bindings sort_keys after before
 
-module _ {R : Type 0} (place : R → List ℕ) (f : R → List Binding) where
-  -- a key and an address are bound by the row of one place
+module _ {R : Type 0} (sort_key : R → List ℕ) (f : R → List Binding) where
+  -- a key and an address are bound by the row of one sort key
   abbrev pub IsOneRow : List R → Type 0
-  IsOneRow rows = (b : Binding) (p q : List ℕ) (x y : R) → row_at place p rows ≡ Some x → row_at place q rows ≡ Some y → list_any (same_spot b) (f x) ≡ true → list_any (same_spot b) (f y) ≡ true → p ≡ q
+  IsOneRow rows = (b : Binding) (p q : List ℕ) (x y : R) → row_at sort_key p rows ≡ Some x → row_at sort_key q rows ≡ Some y → list_any (same_spot b) (f x) ≡ true → list_any (same_spot b) (f y) ≡ true → p ≡ q
 
-  -- at each other place both have the same row
+  -- at each other sort key both have the same row
   abbrev pub IsElsewhereSame : List (List ℕ) → List R → List R → Type 0
-  IsElsewhereSame places before after = (q : List ℕ) → list_any (same_place q) places ≡ false → row_at place q after ≡ row_at place q before
+  IsElsewhereSame sort_keys before after = (q : List ℕ) → list_any (same_sort_key q) sort_keys ≡ false → row_at sort_key q after ≡ row_at sort_key q before
 
-  -- a binding of the rows at places is one of the rows
-  at_among : (b : Binding) (places : List (List ℕ)) (rows : List R) → has_binding b (flat_map f (rows_at place places rows)) ≡ true → has_binding b (flat_map f rows) ≡ true
+  -- a binding of the rows at sort keys is one of the rows
+  at_among : (b : Binding) (sort_keys : List (List ℕ)) (rows : List R) → has_binding b (flat_map f (rows_at sort_key sort_keys rows)) ≡ true → has_binding b (flat_map f rows) ≡ true
   unfolding has_binding
-  at_among b places rows e =
-      let r : PassingAt place (λ x. list_any (same_binding b) (f x)) places rows = found_at place (λ x. list_any (same_binding b) (f x)) places rows (sym (any-flat_map (same_binding b) f (rows_at place places rows)) ∙ e) in
-      any-flat_map (same_binding b) f rows ∙ passing_found place (λ x. list_any (same_binding b) (f x)) rows r.at r.row r.there r.passes
+  at_among b sort_keys rows e =
+      let r : PassingAt sort_key (λ x. list_any (same_binding b) (f x)) sort_keys rows = found_at sort_key (λ x. list_any (same_binding b) (f x)) sort_keys rows (sym (any-flat_map (same_binding b) f (rows_at sort_key sort_keys rows)) ∙ e) in
+      any-flat_map (same_binding b) f rows ∙ passing_found sort_key (λ x. list_any (same_binding b) (f x)) rows r.at r.row r.there r.passes
 
-  -- a binding of the rows, of which one at the places has its key and address, is among those of the rows at the places
-  among_at : (b : Binding) (places : List (List ℕ)) (rows : List R) (p : List ℕ) (x : R) → list_any (same_place p) places ≡ true → row_at place p rows ≡ Some x → has_binding b (f x) ≡ true → has_binding b (flat_map f (rows_at place places rows)) ≡ true
+  -- a binding of the rows, of which one at the sort keys has its key and address, is among those of the rows at the sort keys
+  among_at : (b : Binding) (sort_keys : List (List ℕ)) (rows : List R) (p : List ℕ) (x : R) → list_any (same_sort_key p) sort_keys ≡ true → row_at sort_key p rows ≡ Some x → has_binding b (f x) ≡ true → has_binding b (flat_map f (rows_at sort_key sort_keys rows)) ≡ true
   unfolding has_binding
-  among_at b places rows p x one there e = any-flat_map (same_binding b) f (rows_at place places rows) ∙ at_found place (λ y. list_any (same_binding b) (f y)) p x places rows one there e
+  among_at b sort_keys rows p x one there e = any-flat_map (same_binding b) f (rows_at sort_key sort_keys rows) ∙ at_found sort_key (λ y. list_any (same_binding b) (f y)) p x sort_keys rows one there e
 
-  module _ (places : List (List ℕ)) (before after : List R) (up : PlacesAscend place before) (up' : PlacesAscend place after) (one : IsOneRow before) (rest : IsElsewhereSame places before after) where
-    -- a binding of a row at the places that goes there is nowhere else afterwards: no other row had its key and address
-    stays_nowhere : (b : Binding) → has_binding b (flat_map f (rows_at place places before)) ≡ true → not (has_binding b (flat_map f (rows_at place places after))) ≡ true → has_binding b (flat_map f after) ≡ true → ⊥
+  module _ (sort_keys : List (List ℕ)) (before after : List R) (up : SortKeysAscend sort_key before) (up' : SortKeysAscend sort_key after) (one : IsOneRow before) (rest : IsElsewhereSame sort_keys before after) where
+    -- a binding of a row at the sort keys that goes there is nowhere else afterwards: no other row had its key and address
+    stays_nowhere : (b : Binding) → has_binding b (flat_map f (rows_at sort_key sort_keys before)) ≡ true → not (has_binding b (flat_map f (rows_at sort_key sort_keys after))) ≡ true → has_binding b (flat_map f after) ≡ true → ⊥
     unfolding has_binding
     stays_nowhere b was gone is =
-        let old : PassingAt place (λ x. list_any (same_binding b) (f x)) places before = found_at place (λ x. list_any (same_binding b) (f x)) places before (sym (any-flat_map (same_binding b) f (rows_at place places before)) ∙ was) in
-        let new : Passing place (λ x. list_any (same_binding b) (f x)) after = found_passing place (λ x. list_any (same_binding b) (f x)) after up' (sym (any-flat_map (same_binding b) f after) ∙ is) in
-        by_place old new (list_any (same_place new.at) places) refl
+        let old : PassingAt sort_key (λ x. list_any (same_binding b) (f x)) sort_keys before = found_at sort_key (λ x. list_any (same_binding b) (f x)) sort_keys before (sym (any-flat_map (same_binding b) f (rows_at sort_key sort_keys before)) ∙ was) in
+        let new : Passing sort_key (λ x. list_any (same_binding b) (f x)) after = found_passing sort_key (λ x. list_any (same_binding b) (f x)) after up' (sym (any-flat_map (same_binding b) f after) ∙ is) in
+        by_sort_key old new (list_any (same_sort_key new.at) sort_keys) refl
       where
-        by_place : (old : PassingAt place (λ x. list_any (same_binding b) (f x)) places before) (new : Passing place (λ x. list_any (same_binding b) (f x)) after) (t : Bool) → list_any (same_place new.at) places ≡ t → ⊥
-        by_place old new true there = is_not (has_binding b (flat_map f (rows_at place places after))) gone (among_at b places after new.at new.row there new.there new.passes)
-        by_place old new false there = false≢true (sym there ∙ subst (λ p. list_any (same_place p) places ≡ true)
+        by_sort_key : (old : PassingAt sort_key (λ x. list_any (same_binding b) (f x)) sort_keys before) (new : Passing sort_key (λ x. list_any (same_binding b) (f x)) after) (t : Bool) → list_any (same_sort_key new.at) sort_keys ≡ t → ⊥
+        by_sort_key old new true there = is_not (has_binding b (flat_map f (rows_at sort_key sort_keys after))) gone (among_at b sort_keys after new.at new.row there new.there new.passes)
+        by_sort_key old new false there = false≢true (sym there ∙ subst (λ p. list_any (same_sort_key p) sort_keys ≡ true)
             (one b old.at new.at old.row new.row old.there (sym (rest new.at there) ∙ new.there) (spot_among b (f old.row) old.passes) (spot_among b (f new.row) new.passes))
             old.one_of)
 
-    -- a binding that was and is no more is one of a row at the places
-    was_there : (b : Binding) → has_binding b (flat_map f before) ≡ true → not (has_binding b (flat_map f after)) ≡ true → has_binding b (flat_map f (rows_at place places before)) ≡ true
+    -- a binding that was and is no more is one of a row at the sort keys
+    was_there : (b : Binding) → has_binding b (flat_map f before) ≡ true → not (has_binding b (flat_map f after)) ≡ true → has_binding b (flat_map f (rows_at sort_key sort_keys before)) ≡ true
     unfolding has_binding
     was_there b was none =
-        let old : Passing place (λ x. list_any (same_binding b) (f x)) before = found_passing place (λ x. list_any (same_binding b) (f x)) before up (sym (any-flat_map (same_binding b) f before) ∙ was) in
-        by_place old (list_any (same_place old.at) places) refl
+        let old : Passing sort_key (λ x. list_any (same_binding b) (f x)) before = found_passing sort_key (λ x. list_any (same_binding b) (f x)) before up (sym (any-flat_map (same_binding b) f before) ∙ was) in
+        by_sort_key old (list_any (same_sort_key old.at) sort_keys) refl
       where
-        by_place : (old : Passing place (λ x. list_any (same_binding b) (f x)) before) (t : Bool) → list_any (same_place old.at) places ≡ t → has_binding b (flat_map f (rows_at place places before)) ≡ true
-        by_place old true there = among_at b places before old.at old.row there old.there old.passes
-        by_place old false there = absurd (is_not (has_binding b (flat_map f after)) none
-            (any-flat_map (same_binding b) f after ∙ passing_found place (λ x. list_any (same_binding b) (f x)) after old.at old.row (rest old.at there ∙ old.there) old.passes))
+        by_sort_key : (old : Passing sort_key (λ x. list_any (same_binding b) (f x)) before) (t : Bool) → list_any (same_sort_key old.at) sort_keys ≡ t → has_binding b (flat_map f (rows_at sort_key sort_keys before)) ≡ true
+        by_sort_key old true there = among_at b sort_keys before old.at old.row there old.there old.passes
+        by_sort_key old false there = absurd (is_not (has_binding b (flat_map f after)) none
+            (any-flat_map (same_binding b) f after ∙ passing_found sort_key (λ x. list_any (same_binding b) (f x)) after old.at old.row (rest old.at there ∙ old.there) old.passes))
 
-    pub has-gone_at : (b : Binding) → has_binding b (gone_at place f places before after) ≡ (has_binding b (flat_map f before) && not (has_binding b (flat_map f after)))
+    pub has-gone_at : (b : Binding) → has_binding b (gone_at sort_key f sort_keys before after) ≡ (has_binding b (flat_map f before) && not (has_binding b (flat_map f after)))
     unfolding gone_at
     has-gone_at b =
-        let olds : Bool = has_binding b (flat_map f (rows_at place places before)) in
-        let news : Bool = has_binding b (flat_map f (rows_at place places after)) in
-        has-those_not_in b (flat_map f (rows_at place places after)) (flat_map f (rows_at place places before))
+        let olds : Bool = has_binding b (flat_map f (rows_at sort_key sort_keys before)) in
+        let news : Bool = has_binding b (flat_map f (rows_at sort_key sort_keys after)) in
+        has-those_not_in b (flat_map f (rows_at sort_key sort_keys after)) (flat_map f (rows_at sort_key sort_keys before))
         ∙ both_ways (olds && not news) (has_binding b (flat_map f before) && not (has_binding b (flat_map f after)))
         (λ e. both (has_binding b (flat_map f before)) (not (has_binding b (flat_map f after)))
-        (at_among b places before (left_of olds (not news) e))
+        (at_among b sort_keys before (left_of olds (not news) e))
         (not_true (has_binding b (flat_map f after)) (stays_nowhere b (left_of olds (not news) e) (right_of olds (not news) e))))
         (λ e. let was : has_binding b (flat_map f before) ≡ true = left_of (has_binding b (flat_map f before)) (not (has_binding b (flat_map f after))) e in
         let none : not (has_binding b (flat_map f after)) ≡ true = right_of (has_binding b (flat_map f before)) (not (has_binding b (flat_map f after))) e in
-        both olds (not news) (was_there b was none) (not_true news (λ new. is_not (has_binding b (flat_map f after)) none (at_among b places after new))))
+        both olds (not news) (was_there b was none) (not_true news (λ new. is_not (has_binding b (flat_map f after)) none (at_among b sort_keys after new))))
 
   -- ---- No two of one key and address
 
-  apart_with : (q : List ℕ) (qs : List (List ℕ)) (rows : List R) → IsOneRow rows → ((p : List ℕ) (x : R) → row_at place p rows ≡ Some x → are_apart same_spot (f x) ≡ true) → not (list_any (same_place q) qs) ≡ true → are_apart same_spot (flat_map f (rows_at place qs rows)) ≡ true
-      → (o : Option R) → row_at place q rows ≡ o → are_apart same_spot (flat_map f (with_found o (rows_at place qs rows))) ≡ true
+  apart_with : (q : List ℕ) (qs : List (List ℕ)) (rows : List R) → IsOneRow rows → ((p : List ℕ) (x : R) → row_at sort_key p rows ≡ Some x → are_apart same_spot (f x) ≡ true) → not (list_any (same_sort_key q) qs) ≡ true → are_apart same_spot (flat_map f (rows_at sort_key qs rows)) ≡ true
+      → (o : Option R) → row_at sort_key q rows ≡ o → are_apart same_spot (flat_map f (with_found o (rows_at sort_key qs rows))) ≡ true
   apart_with q qs rows one each once rest None there = rest
   apart_with q qs rows one each once rest (Some x) there =
-      apart-append same_spot same_spot_itself (f x) (flat_map f (rows_at place qs rows)) (each q x there) rest (λ b here later.
-      let r : PassingAt place (λ y. list_any (same_spot b) (f y)) qs rows = found_at place (λ y. list_any (same_spot b) (f y)) qs rows (sym (any-flat_map (same_spot b) f (rows_at place qs rows)) ∙ later) in
-      is_not (list_any (same_place q) qs) once (subst (λ p. list_any (same_place p) qs ≡ true) (sym (one b q r.at x r.row there r.there here r.passes)) r.one_of))
+      apart-append same_spot same_spot_itself (f x) (flat_map f (rows_at sort_key qs rows)) (each q x there) rest (λ b here later.
+      let r : PassingAt sort_key (λ y. list_any (same_spot b) (f y)) qs rows = found_at sort_key (λ y. list_any (same_spot b) (f y)) qs rows (sym (any-flat_map (same_spot b) f (rows_at sort_key qs rows)) ∙ later) in
+      is_not (list_any (same_sort_key q) qs) once (subst (λ p. list_any (same_sort_key p) qs ≡ true) (sym (one b q r.at x r.row there r.there here r.passes)) r.one_of))
 
-  pub apart-rows_at : (qs : List (List ℕ)) (rows : List R) → IsOneRow rows → ((p : List ℕ) (x : R) → row_at place p rows ≡ Some x → are_apart same_spot (f x) ≡ true) → are_apart same_place qs ≡ true → are_apart same_spot (flat_map f (rows_at place qs rows)) ≡ true
+  pub apart-rows_at : (qs : List (List ℕ)) (rows : List R) → IsOneRow rows → ((p : List ℕ) (x : R) → row_at sort_key p rows ≡ Some x → are_apart same_spot (f x) ≡ true) → are_apart same_sort_key qs ≡ true → are_apart same_spot (flat_map f (rows_at sort_key qs rows)) ≡ true
   apart-rows_at [] rows one each once = refl
   apart-rows_at (q ∷ qs) rows one each once = apart_with q qs rows one each
-      (left_of (not (list_any (same_place q) qs)) (are_apart same_place qs) once)
-      (apart-rows_at qs rows one each (right_of (not (list_any (same_place q) qs)) (are_apart same_place qs) once))
-      (row_at place q rows) refl
+      (left_of (not (list_any (same_sort_key q) qs)) (are_apart same_sort_key qs) once)
+      (apart-rows_at qs rows one each (right_of (not (list_any (same_sort_key q) qs)) (are_apart same_sort_key qs) once))
+      (row_at sort_key q rows) refl
 
-  -- ---- What the rows at the places take away and bring is the difference
+  -- ---- What the rows at the sort keys take away and bring is the difference
 
   -- rows in their order, of which each has one binding for a key and address, and no two have one
   pub record IsBindingRows (rows : List R) : Type 0 where
-    pub ascend : PlacesAscend place rows
+    pub ascend : SortKeysAscend sort_key rows
     pub one : IsOneRow rows
-    pub each : (p : List ℕ) (x : R) → row_at place p rows ≡ Some x → are_apart same_spot (f x) ≡ true
+    pub each : (p : List ℕ) (x : R) → row_at sort_key p rows ≡ Some x → are_apart same_spot (f x) ≡ true
 
-  elsewhere_back : (places : List (List ℕ)) (before after : List R) → IsElsewhereSame places before after → IsElsewhereSame places after before
-  elsewhere_back places before after same q other = sym (same q other)
+  elsewhere_back : (sort_keys : List (List ℕ)) (before after : List R) → IsElsewhereSame sort_keys before after → IsElsewhereSame sort_keys after before
+  elsewhere_back sort_keys before after same q other = sym (same q other)
 
-  pub binding_change : (places : List (List ℕ)) (before after : List R) → IsBindingRows before → IsBindingRows after → are_apart same_place places ≡ true → IsElsewhereSame places before after
-      → IsBindingChange (flat_map f before) (flat_map f after) (gone_at place f places before after) (come_at place f places before after)
+  pub binding_change : (sort_keys : List (List ℕ)) (before after : List R) → IsBindingRows before → IsBindingRows after → are_apart same_sort_key sort_keys ≡ true → IsElsewhereSame sort_keys before after
+      → IsBindingChange (flat_map f before) (flat_map f after) (gone_at sort_key f sort_keys before after) (come_at sort_key f sort_keys before after)
   unfolding gone_at come_at
-  binding_change places before after old new once same = record {
-    went = has-gone_at places before after old.ascend new.ascend old.one same;
-    came = has-gone_at places after before new.ascend old.ascend new.one (elsewhere_back places before after same);
-    gone_once = apart-those_not_in (flat_map f (rows_at place places after)) (flat_map f (rows_at place places before)) (apart-rows_at places before old.one old.each once);
-    come_once = apart-those_not_in (flat_map f (rows_at place places before)) (flat_map f (rows_at place places after)) (apart-rows_at places after new.one new.each once);
+  binding_change sort_keys before after old new once same = record {
+    went = has-gone_at sort_keys before after old.ascend new.ascend old.one same;
+    came = has-gone_at sort_keys after before new.ascend old.ascend new.one (elsewhere_back sort_keys before after same);
+    gone_once = apart-those_not_in (flat_map f (rows_at sort_key sort_keys after)) (flat_map f (rows_at sort_key sort_keys before)) (apart-rows_at sort_keys before old.one old.each once);
+    come_once = apart-those_not_in (flat_map f (rows_at sort_key sort_keys before)) (flat_map f (rows_at sort_key sort_keys after)) (apart-rows_at sort_keys after new.one new.each once);
   }

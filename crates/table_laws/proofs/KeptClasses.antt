@@ -1,7 +1,7 @@
 -- An address is taken out of a class only where the class is kept, and then it is one that may be kept.
 use Rattle.std.proofs.Common.{◌≡◌, true, ◌&&◌, List, length, Option, Some, None, subst}
 use Rattle.std.specs.Prelude.{nat_lt, nat_le}
-use Rattle.sorted_rows.proofs.RowLaws.{place_row_at}
+use Rattle.sorted_rows.proofs.RowLaws.{sort_key_row_at}
 use Rattle.sorted_rows.proofs.ListTests.{left_of}
 use Rattle.mud_base.specs.declared.addr.Addr.{Addr}
 use Rattle.mud_tables.specs.declared.bind.Class.{Class}
@@ -9,7 +9,7 @@ use Rattle.mud_tables.specs.declared.bind.Class.TheVariants.{Uri, Mine}
 use Rattle.mud_tables.specs.declared.bind.ClassRow.{ClassRow}
 use Rattle.mud_tables.specs.Limits.{most_class_addresses}
 use Rattle.mud_tables.specs.Binds.{key_of_class, class_key, class_at, are_addrs, is_class, is_sound_class, IsKeptClass, IsSoundClasses}
-use Rattle.mud_tables.specs.BindSteps.{unbind_cases, unbind_step}
+use Rattle.mud_tables.specs.BindCommands.{unbind_cases, unbind_step}
 use Rattle.mud_tables.proofs.RowSets.{all_at, first_of_three}
 use Rattle.table_laws.proofs.SoundClasses.{OfClasses, sound-unbind_step}
 
@@ -30,7 +30,7 @@ kept_class row kept =
 pub class_there : (c : Class) (classes : List ClassRow) (row : ClassRow) → IsSoundClasses classes → class_at c classes ≡ Some row → is_class c ≡ true
 unfolding class_at class_key
 class_there c classes row sound there =
-    subst (λ d. is_class d ≡ true) (one_class row.class c (place_row_at class_key (key_of_class c) classes row there))
+    subst (λ d. is_class d ≡ true) (one_class row.class c (sort_key_row_at class_key (key_of_class c) classes row there))
     (kept_class row (all_at class_key IsKeptClass classes (key_of_class c) row sound.each there))
 
 pub unbind_sound : (c : Class) (a : Addr) (classes : List ClassRow) → IsSoundClasses classes → (found : Option ClassRow) → class_at c classes ≡ found → OfClasses IsSoundClasses (unbind_step c a classes)

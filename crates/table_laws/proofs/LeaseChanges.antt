@@ -7,13 +7,13 @@ use Rattle.std.proofs.lemmas.List.{map-append}
 use Rattle.std.proofs.lemmas.Option.{none-some}
 use Rattle.mud_base.specs.Addresses.{same_addr}
 use Rattle.mud_base.specs.declared.addr.Addr.{Addr}
-use Rattle.sorted_rows.specs.Placed.{place_cmp, same_place, PlacesAbove, PlacesAscend, row_at, set_row, set_rows}
-use Rattle.sorted_rows.proofs.PlacedLaws.{same_place_exact, same_place_itself, row_at_above, row_at-set_row, ascend-set_rows, set_rows-push}
-use Rattle.sorted_rows.proofs.RowLaws.{same_rows, ascend-filter, ascend-map, place_row_at}
+use Rattle.sorted_rows.specs.Sortable.{sort_key_cmp, same_sort_key, SortKeysAbove, SortKeysAscend, row_at, set_row, set_rows}
+use Rattle.sorted_rows.proofs.SortableLaws.{same_sort_key_exact, same_sort_key_itself, row_at_above, row_at-set_row, ascend-set_rows, set_rows-push}
+use Rattle.sorted_rows.proofs.RowLaws.{same_rows, ascend-filter, ascend-map, sort_key_row_at}
 use Rattle.mud_tables.specs.declared.thing.Thing.{Thing}
-use Rattle.mud_tables.specs.Ends.{Ends, has_address, end_of, without_address}
+use Rattle.mud_tables.specs.Expiries.{Expiries, has_address, expiry_of, without_address}
 use Rattle.mud_tables.specs.Things.{mac_of, holds, released, with_leases, set_thing, without_lease}
-use Rattle.sorted_rows.specs.Changes.{are_apart, changed, places_of, is_plain}
+use Rattle.sorted_rows.specs.Changes.{are_apart, changed, sort_keys_of, is_plain}
 use Rattle.mud_tables.specs.ThingChanges.{released_holders, leased, new_lease_change, end_change}
 use Rattle.sorted_rows.proofs.ListTests.{left_of, right_of, any_by, any-map}
 use Rattle.sorted_rows.proofs.RowSets.{Passing, found_passing}
@@ -32,40 +32,40 @@ pub keep_if : {A : Type 0} → (A → Bool) → Option A → Option A
 keep_if t None = None
 keep_if t (Some x) = cond (t x) (Some x) None
 
-module _ {R : Type 0} (place : R → List ℕ) where
-  -- ---- The rows behind several that are put in, of which no two are of one place
+module _ {R : Type 0} (sort_key : R → List ℕ) where
+  -- ---- The rows behind several that are put in, of which no two are of one sort key
 
-  none_at : (p : List ℕ) (rows : List R) → list_any (same_place p) (map place rows) ≡ false → row_at place p rows ≡ None
+  none_at : (p : List ℕ) (rows : List R) → list_any (same_sort_key p) (map sort_key rows) ≡ false → row_at sort_key p rows ≡ None
   none_at p [] e = refl
   none_at p (x ∷ xs) e =
-      ap (λ b. cond b (Some x) (row_at place p xs)) (differ_turned p (place x) (or_first (same_place p (place x)) (list_any (same_place p) (map place xs)) e))
-      ∙ none_at p xs (or_second (same_place p (place x)) (list_any (same_place p) (map place xs)) e)
+      ap (λ b. cond b (Some x) (row_at sort_key p xs)) (differ_turned p (sort_key x) (or_first (same_sort_key p (sort_key x)) (list_any (same_sort_key p) (map sort_key xs)) e))
+      ∙ none_at p xs (or_second (same_sort_key p (sort_key x)) (list_any (same_sort_key p) (map sort_key xs)) e)
 
-  row_at_more : (x : R) (p : List ℕ) (xs : List R) (o : Option R) → list_any (same_place (place x)) (map place xs) ≡ false → (b : Bool) → same_place (place x) p ≡ b → or_else (row_at place p xs) (cond b (Some x) o) ≡ or_else (cond b (Some x) (row_at place p xs)) o
+  row_at_more : (x : R) (p : List ℕ) (xs : List R) (o : Option R) → list_any (same_sort_key (sort_key x)) (map sort_key xs) ≡ false → (b : Bool) → same_sort_key (sort_key x) p ≡ b → or_else (row_at sort_key p xs) (cond b (Some x) o) ≡ or_else (cond b (Some x) (row_at sort_key p xs)) o
   unfolding or_else
-  row_at_more x p xs o none true is = ap (λ r. or_else r (Some x)) (subst (λ q. row_at place q xs ≡ None) (same_place_exact (place x) p is) (none_at (place x) xs none))
+  row_at_more x p xs o none true is = ap (λ r. or_else r (Some x)) (subst (λ q. row_at sort_key q xs ≡ None) (same_sort_key_exact (sort_key x) p is) (none_at (sort_key x) xs none))
   row_at_more x p xs o none false is = refl
 
-  pub row_at-apart_rows : (new rows : List R) (p : List ℕ) → are_apart same_place (map place new) ≡ true → row_at place p (set_rows place new rows) ≡ or_else (row_at place p new) (row_at place p rows)
+  pub row_at-apart_rows : (new rows : List R) (p : List ℕ) → are_apart same_sort_key (map sort_key new) ≡ true → row_at sort_key p (set_rows sort_key new rows) ≡ or_else (row_at sort_key p new) (row_at sort_key p rows)
   unfolding or_else
   row_at-apart_rows [] rows p once = refl
   row_at-apart_rows (x ∷ xs) rows p once =
-      row_at-apart_rows xs (set_row place x rows) p (right_of (not (list_any (same_place (place x)) (map place xs))) (are_apart same_place (map place xs)) once)
-      ∙ ap (or_else (row_at place p xs)) (row_at-set_row place x rows p)
-      ∙ row_at_more x p xs (row_at place p rows) (not_false (list_any (same_place (place x)) (map place xs)) (left_of (not (list_any (same_place (place x)) (map place xs))) (are_apart same_place (map place xs)) once)) (same_place (place x) p) refl
+      row_at-apart_rows xs (set_row sort_key x rows) p (right_of (not (list_any (same_sort_key (sort_key x)) (map sort_key xs))) (are_apart same_sort_key (map sort_key xs)) once)
+      ∙ ap (or_else (row_at sort_key p xs)) (row_at-set_row sort_key x rows p)
+      ∙ row_at_more x p xs (row_at sort_key p rows) (not_false (list_any (same_sort_key (sort_key x)) (map sort_key xs)) (left_of (not (list_any (same_sort_key (sort_key x)) (map sort_key xs))) (are_apart same_sort_key (map sort_key xs)) once)) (same_sort_key (sort_key x) p) refl
 
-  -- the row of a place among those that pass a test
-  filter_more : (t : R → Bool) (p : List ℕ) (x : R) (xs : List R) → PlacesAbove place (place x) xs → row_at place p (filter t xs) ≡ keep_if t (row_at place p xs) → (b : Bool) → t x ≡ b → (c : Bool) → same_place (place x) p ≡ c → row_at place p (cond b (x ∷ filter t xs) (filter t xs)) ≡ keep_if t (cond c (Some x) (row_at place p xs))
+  -- the row of a sort key among those that pass a test
+  filter_more : (t : R → Bool) (p : List ℕ) (x : R) (xs : List R) → SortKeysAbove sort_key (sort_key x) xs → row_at sort_key p (filter t xs) ≡ keep_if t (row_at sort_key p xs) → (b : Bool) → t x ≡ b → (c : Bool) → same_sort_key (sort_key x) p ≡ c → row_at sort_key p (cond b (x ∷ filter t xs) (filter t xs)) ≡ keep_if t (cond c (Some x) (row_at sort_key p xs))
   unfolding keep_if
-  filter_more t p x xs above rest true is true at = ap (λ b. cond b (Some x) (row_at place p (filter t xs))) at ∙ sym (ap (λ b. cond b (Some x) None) is)
-  filter_more t p x xs above rest true is false at = ap (λ b. cond b (Some x) (row_at place p (filter t xs))) at ∙ rest
-  filter_more t p x xs above rest false is true at = rest ∙ ap (keep_if t) (subst (λ q. row_at place q xs ≡ None) (same_place_exact (place x) p at) (row_at_above place (place x) xs above)) ∙ sym (ap (λ b. cond b (Some x) None) is)
+  filter_more t p x xs above rest true is true at = ap (λ b. cond b (Some x) (row_at sort_key p (filter t xs))) at ∙ sym (ap (λ b. cond b (Some x) None) is)
+  filter_more t p x xs above rest true is false at = ap (λ b. cond b (Some x) (row_at sort_key p (filter t xs))) at ∙ rest
+  filter_more t p x xs above rest false is true at = rest ∙ ap (keep_if t) (subst (λ q. row_at sort_key q xs ≡ None) (same_sort_key_exact (sort_key x) p at) (row_at_above sort_key (sort_key x) xs above)) ∙ sym (ap (λ b. cond b (Some x) None) is)
   filter_more t p x xs above rest false is false at = rest
 
-  pub row_at-filter : (t : R → Bool) (p : List ℕ) (rows : List R) → PlacesAscend place rows → row_at place p (filter t rows) ≡ keep_if t (row_at place p rows)
+  pub row_at-filter : (t : R → Bool) (p : List ℕ) (rows : List R) → SortKeysAscend sort_key rows → row_at sort_key p (filter t rows) ≡ keep_if t (row_at sort_key p rows)
   unfolding keep_if
   row_at-filter t p [] up = refl
-  row_at-filter t p (x ∷ xs) up = filter_more t p x xs up.0 (row_at-filter t p xs up.1) (t x) refl (same_place (place x) p) refl
+  row_at-filter t p (x ∷ xs) up = filter_more t p x xs up.0 (row_at-filter t p xs up.1) (t x) refl (same_sort_key (sort_key x) p) refl
 
   -- ---- Rows that pass a test are changed, and the others would stay as they are
 
@@ -78,16 +78,16 @@ module _ {R : Type 0} (place : R → List ℕ) where
       by_test true is = refl
       by_test false is = ap Some (sym (stays x is))
 
-  pub set_rows-changed : (f : R → R) (t : R → Bool) → ((x : R) → place (f x) ≡ place x) → ((x : R) → t x ≡ false → f x ≡ x) → (rows : List R) → PlacesAscend place rows → set_rows place (map f (filter t rows)) rows ≡ map f rows
+  pub set_rows-changed : (f : R → R) (t : R → Bool) → ((x : R) → sort_key (f x) ≡ sort_key x) → ((x : R) → t x ≡ false → f x ≡ x) → (rows : List R) → SortKeysAscend sort_key rows → set_rows sort_key (map f (filter t rows)) rows ≡ map f rows
   set_rows-changed f t kept stays rows up =
-      same_rows place (set_rows place (map f (filter t rows)) rows) (map f rows) (ascend-set_rows place (map f (filter t rows)) rows up) (image_up rows up) (λ p.
-      row_at-apart_rows (map f (filter t rows)) rows p (apart-ascend place (map f (filter t rows)) (image_up (filter t rows) (ascend-filter place t rows up)))
-      ∙ ap (λ o. or_else o (row_at place p rows)) (row_at-map place f kept p (filter t rows) ∙ ap (option_map f) (row_at-filter t p rows up))
-      ∙ changed_by f t stays (row_at place p rows)
-      ∙ sym (row_at-map place f kept p rows))
+      same_rows sort_key (set_rows sort_key (map f (filter t rows)) rows) (map f rows) (ascend-set_rows sort_key (map f (filter t rows)) rows up) (image_up rows up) (λ p.
+      row_at-apart_rows (map f (filter t rows)) rows p (apart-ascend sort_key (map f (filter t rows)) (image_up (filter t rows) (ascend-filter sort_key t rows up)))
+      ∙ ap (λ o. or_else o (row_at sort_key p rows)) (row_at-map sort_key f kept p (filter t rows) ∙ ap (option_map f) (row_at-filter t p rows up))
+      ∙ changed_by f t stays (row_at sort_key p rows)
+      ∙ sym (row_at-map sort_key f kept p rows))
     where
-      image_up : (rows : List R) → PlacesAscend place rows → PlacesAscend place (map f rows)
-      image_up rows up = ascend-map place place f (λ x y i. place_cmp (kept x i) (kept y i)) rows up
+      image_up : (rows : List R) → SortKeysAscend sort_key rows → SortKeysAscend sort_key (map f rows)
+      image_up rows up = ascend-map sort_key sort_key f (λ x y i. sort_key_cmp (kept x i) (kept y i)) rows up
 
 -- ---- An address leaves the Thing that has it
 
@@ -99,14 +99,14 @@ stays_itself : (a : Addr) (t : Thing) → holds a t ≡ false → released a t �
 unfolding holds has_address released with_leases without_address
 stays_itself a t e = λ i. record t { leases = stays_all (λ r. same_addr r.0 a) t.leases e i }
 
-module _ (a : Addr) (things : List Thing) (up : PlacesAscend mac_of things) where
+module _ (a : Addr) (things : List Thing) (up : SortKeysAscend mac_of things) where
   set_rows-released : set_rows mac_of (released_holders a things) things ≡ without_lease a things
   unfolding released_holders without_lease
   set_rows-released = set_rows-changed mac_of (released a) (holds a) (keeps_mac a) (stays_itself a) things up
 
-  holders_up : PlacesAscend mac_of (released_holders a things)
+  holders_up : SortKeysAscend mac_of (released_holders a things)
   unfolding released_holders
-  holders_up = ascend-map mac_of mac_of (released a) (λ x y i. place_cmp (keeps_mac a x i) (keeps_mac a y i)) (filter (holds a) things) (ascend-filter mac_of (holds a) things up)
+  holders_up = ascend-map mac_of mac_of (released a) (λ x y i. sort_key_cmp (keeps_mac a x i) (keeps_mac a y i)) (filter (holds a) things) (ascend-filter mac_of (holds a) things up)
 
   pub end_changed : changed mac_of (end_change a things) things ≡ without_lease a things
   unfolding changed end_change
@@ -122,7 +122,7 @@ module _ (a : Addr) (things : List Thing) (up : PlacesAscend mac_of things) wher
   end_unchanged e = end_changed ∙ none_leaves things e
 
   pub end_plain : is_plain mac_of (end_change a things) ≡ true
-  unfolding is_plain places_of end_change
+  unfolding is_plain sort_keys_of end_change
   end_plain = apart-ascend mac_of (released_holders a things) holders_up
 
   pub new_lease_changed : (until now : ℕ) (thing : Thing) → changed mac_of (new_lease_change a until now things thing) things ≡ set_thing (leased a until now thing) (without_lease a things)
@@ -131,38 +131,38 @@ module _ (a : Addr) (things : List Thing) (up : PlacesAscend mac_of things) wher
 
   -- ---- The Thing that gets the address isn't one that has it
 
-  none_has : (rows : Ends) → end_of a rows ≡ None → has_address a rows ≡ false
-  unfolding end_of has_address
+  none_has : (rows : Expiries) → expiry_of a rows ≡ None → has_address a rows ≡ false
+  unfolding expiry_of has_address
   none_has [] e = refl
   none_has (r ∷ rows) e = by_test (same_addr r.0 a) refl (none_has rows)
     where
-      by_test : (b : Bool) → same_addr r.0 a ≡ b → (end_of a rows ≡ None → list_any (λ s. same_addr s.0 a) rows ≡ false) → (same_addr r.0 a || list_any (λ s. same_addr s.0 a) rows) ≡ false
-      by_test true is rest = absurd (none-some r.1 (sym (sym (ap (λ b. cond b (Some r.1) (end_of a rows)) is) ∙ e)))
-      by_test false is rest = ap (λ b. b || list_any (λ s. same_addr s.0 a) rows) is ∙ rest (sym (ap (λ b. cond b (Some r.1) (end_of a rows)) is) ∙ e)
+      by_test : (b : Bool) → same_addr r.0 a ≡ b → (expiry_of a rows ≡ None → list_any (λ s. same_addr s.0 a) rows ≡ false) → (same_addr r.0 a || list_any (λ s. same_addr s.0 a) rows) ≡ false
+      by_test true is rest = absurd (none-some r.1 (sym (sym (ap (λ b. cond b (Some r.1) (expiry_of a rows)) is) ∙ e)))
+      by_test false is rest = ap (λ b. b || list_any (λ s. same_addr s.0 a) rows) is ∙ rest (sym (ap (λ b. cond b (Some r.1) (expiry_of a rows)) is) ∙ e)
 
-  holder_among : (m : List ℕ) → list_any (same_place m) (map mac_of (released_holders a things)) ≡ true → list_any (λ t. same_place m (mac_of t)) (filter (holds a) things) ≡ true
+  holder_among : (m : List ℕ) → list_any (same_sort_key m) (map mac_of (released_holders a things)) ≡ true → list_any (λ t. same_sort_key m (mac_of t)) (filter (holds a) things) ≡ true
   unfolding released_holders mac_of released with_leases
-  holder_among m e = sym (any-map (λ t. same_place m (mac_of t)) (released a) (filter (holds a) things)) ∙ sym (any-map (same_place m) mac_of (map (released a) (filter (holds a) things))) ∙ e
+  holder_among m e = sym (any-map (λ t. same_sort_key m (mac_of t)) (released a) (filter (holds a) things)) ∙ sym (any-map (same_sort_key m) mac_of (map (released a) (filter (holds a) things))) ∙ e
 
-  no_holder : (thing : Thing) → row_at mac_of (mac_of thing) things ≡ Some thing → holds a thing ≡ false → list_any (same_place (mac_of thing)) (map mac_of (released_holders a things)) ≡ true → ⊥
+  no_holder : (thing : Thing) → row_at mac_of (mac_of thing) things ≡ Some thing → holds a thing ≡ false → list_any (same_sort_key (mac_of thing)) (map mac_of (released_holders a things)) ≡ true → ⊥
   unfolding keep_if
   no_holder thing there none found =
-      let r : Passing mac_of (λ t. same_place (mac_of thing) (mac_of t)) (filter (holds a) things) = found_passing mac_of (λ t. same_place (mac_of thing) (mac_of t)) (filter (holds a) things) (ascend-filter mac_of (holds a) things up) (holder_among (mac_of thing) found) in
-      let at : r.at ≡ mac_of thing = sym (place_row_at mac_of r.at (filter (holds a) things) r.row r.there) ∙ sym (same_place_exact (mac_of thing) (mac_of r.row) r.passes) in
+      let r : Passing mac_of (λ t. same_sort_key (mac_of thing) (mac_of t)) (filter (holds a) things) = found_passing mac_of (λ t. same_sort_key (mac_of thing) (mac_of t)) (filter (holds a) things) (ascend-filter mac_of (holds a) things up) (holder_among (mac_of thing) found) in
+      let at : r.at ≡ mac_of thing = sym (sort_key_row_at mac_of r.at (filter (holds a) things) r.row r.there) ∙ sym (same_sort_key_exact (mac_of thing) (mac_of r.row) r.passes) in
       none-some r.row (sym (ap (λ b. cond b (Some thing) None) none) ∙ sym (ap (keep_if (holds a)) there) ∙ sym (row_at-filter mac_of (holds a) (mac_of thing) things up) ∙ subst (λ p. row_at mac_of p (filter (holds a) things) ≡ Some r.row) at r.there)
 
-  not_held : (thing : Thing) → end_of a thing.leases ≡ None → holds a thing ≡ false
+  not_held : (thing : Thing) → expiry_of a thing.leases ≡ None → holds a thing ≡ false
   unfolding holds
   not_held thing e = none_has thing.leases e
 
-  last_one : (until now : ℕ) (thing : Thing) (p : List ℕ) → list_any (same_place p) (mac_of (leased a until now thing) ∷ []) ≡ true → p ≡ mac_of thing
+  last_one : (until now : ℕ) (thing : Thing) (p : List ℕ) → list_any (same_sort_key p) (mac_of (leased a until now thing) ∷ []) ≡ true → p ≡ mac_of thing
   unfolding mac_of leased with_leases
-  last_one until now thing p e = any_by (same_place p) (mac_of (leased a until now thing)) [] (same_place_exact p (mac_of (leased a until now thing))) (λ f. absurd (false≢true f)) e
+  last_one until now thing p e = any_by (same_sort_key p) (mac_of (leased a until now thing)) [] (same_sort_key_exact p (mac_of (leased a until now thing))) (λ f. absurd (false≢true f)) e
 
-  pub new_lease_plain : (until now : ℕ) (thing : Thing) → row_at mac_of (mac_of thing) things ≡ Some thing → end_of a thing.leases ≡ None → is_plain mac_of (new_lease_change a until now things thing) ≡ true
-  unfolding is_plain places_of new_lease_change
+  pub new_lease_plain : (until now : ℕ) (thing : Thing) → row_at mac_of (mac_of thing) things ≡ Some thing → expiry_of a thing.leases ≡ None → is_plain mac_of (new_lease_change a until now things thing) ≡ true
+  unfolding is_plain sort_keys_of new_lease_change
   new_lease_plain until now thing there none =
-      ap (are_apart same_place) (map-append mac_of (released_holders a things) (leased a until now thing ∷ []))
-      ∙ apart-append same_place same_place_itself (map mac_of (released_holders a things)) (mac_of (leased a until now thing) ∷ [])
+      ap (are_apart same_sort_key) (map-append mac_of (released_holders a things) (leased a until now thing ∷ []))
+      ∙ apart-append same_sort_key same_sort_key_itself (map mac_of (released_holders a things)) (mac_of (leased a until now thing) ∷ [])
       (apart-ascend mac_of (released_holders a things) holders_up) refl
-      (λ p here last. no_holder thing there (not_held thing none) (subst (λ q. list_any (same_place q) (map mac_of (released_holders a things)) ≡ true) (last_one until now thing p last) here))
+      (λ p here last. no_holder thing there (not_held thing none) (subst (λ q. list_any (same_sort_key q) (map mac_of (released_holders a things)) ≡ true) (last_one until now thing p last) here))

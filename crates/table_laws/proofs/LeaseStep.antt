@@ -5,22 +5,22 @@ use Rattle.std.specs.List.{list_any}
 use Rattle.mud_base.specs.declared.addr.Addr.{Addr}
 use Rattle.mud_base.specs.declared.addr.Mac.{Mac}
 use Rattle.item_codec.specs.declared.word.Word.TheVariants.{New, Stranger, Renewed}
-use Rattle.sorted_rows.specs.Placed.{row_at}
+use Rattle.sorted_rows.specs.Sortable.{row_at}
 use Rattle.mud_tables.specs.declared.thing.Thing.{Thing}
 use Rattle.mud_tables.specs.declared.thing_fault.ThingFault.TheVariants.{NoThing, LeasesFull}
 use Rattle.mud_tables.specs.Limits.{most_leases}
-use Rattle.mud_tables.specs.Ends.{end_of, with_end, live_count}
+use Rattle.mud_tables.specs.Expiries.{expiry_of, with_expiry, live_count}
 use Rattle.mud_tables.specs.Things.{mac_of, thing_at, set_thing, with_leases, without_lease, holds, IsSoundThings}
 use Rattle.mud_tables.specs.ItemFields.{IsAddr}
-use Rattle.mud_tables.specs.ThingSteps.{ThingStep, done, leased_until, left, left_until, end_after, kept_lease, new_lease, known_lease, stranger_lease, lease_cases, lease_step}
+use Rattle.mud_tables.specs.ThingCommands.{ThingStep, done, leased_until, left, left_until, expiry_after, kept_lease, new_lease, known_lease, stranger_lease, lease_cases, lease_step}
 use Rattle.mud_tables.specs.Tables.{Tables}
 use Rattle.mud_tables.specs.Bindings.{thing_bindings, bindings_of}
-use Rattle.sorted_rows.specs.Changes.{RowChange, changed, places_of, is_plain}
+use Rattle.sorted_rows.specs.Changes.{RowChange, changed, sort_keys_of, is_plain}
 use Rattle.acl_model.specs.Changes.{IsBindingChange}
 use Rattle.mud_tables.specs.BindingChanges.{gone_of, come_of}
 use Rattle.mud_tables.specs.ThingChanges.{leased, new_lease_change, end_change, puts_in, known_lease_change, kept_lease_change, lease_cases_change, lease_change}
 use Rattle.table_laws.proofs.LeaseChanges.{end_changed, end_unchanged, end_plain, new_lease_changed, new_lease_plain}
-use Rattle.mud_tables.proofs.SoundThings.{OfAfter, cond_after, at_its_place, sound-lease_step}
+use Rattle.mud_tables.proofs.SoundThings.{OfAfter, cond_after, at_its_sort_key, sound-lease_step}
 use Rattle.table_laws.proofs.BookChanges.{thing_book_change}
 
 -- the change of rows makes the list
@@ -30,12 +30,12 @@ pub record Leads (change : RowChange Thing) (things after : List Thing) : Type 0
 
 module _ (things : List Thing) (sound : IsSoundThings things) where
   kept_leads : (a : Addr) (until now old : ℕ) (thing : Thing) → (b : Bool) → old == until ≡ b
-      → OfAfter (Leads (cond b (puts_in []) (puts_in (with_leases (with_end a until thing.leases) thing ∷ []))) things) (cond b (left_until until things) (leased_until until Renewed (set_thing (with_leases (with_end a until thing.leases) thing) things)))
-  unfolding changed places_of is_plain set_thing
+      → OfAfter (Leads (cond b (puts_in []) (puts_in (with_leases (with_expiry a until thing.leases) thing ∷ []))) things) (cond b (left_until until things) (leased_until until Renewed (set_thing (with_leases (with_expiry a until thing.leases) thing) things)))
+  unfolding changed sort_keys_of is_plain set_thing
   kept_leads a until now old thing true e = record { is = refl; plain = refl }
   kept_leads a until now old thing false e = record { is = refl; plain = refl }
 
-  known_leads : (a : Addr) (until now : ℕ) (thing : Thing) → row_at mac_of (mac_of thing) things ≡ Some thing → (o : Option ℕ) → end_of a thing.leases ≡ o → OfAfter (Leads (known_lease_change a until now things thing o) things) (known_lease a until now things thing o)
+  known_leads : (a : Addr) (until now : ℕ) (thing : Thing) → row_at mac_of (mac_of thing) things ≡ Some thing → (o : Option ℕ) → expiry_of a thing.leases ≡ o → OfAfter (Leads (known_lease_change a until now things thing o) things) (known_lease a until now things thing o)
   unfolding known_lease known_lease_change kept_lease kept_lease_change new_lease leased
   known_leads a until now thing there (Some old) kept = kept_leads a until now old thing (old == until) refl
   known_leads a until now thing there None none =
@@ -51,11 +51,11 @@ module _ (things : List Thing) (sound : IsSoundThings things) where
   cases_leads : (mac : Mac) (a : Addr) (until now : ℕ) (heard : Bool) (o : Option Thing) → thing_at mac things ≡ o → OfAfter (Leads (lease_cases_change a until now things o) things) (lease_cases a until now heard things o)
   unfolding lease_cases lease_cases_change
   cases_leads mac a until now heard None found = cond_after (Leads (end_change a things) things) heard (stranger_lease a things) (Err NoThing) (λ _. stranger_leads a) (λ _. tt)
-  cases_leads mac a until now heard (Some thing) found = known_leads a until now thing (at_its_place things mac thing found) (end_of a thing.leases) refl
+  cases_leads mac a until now heard (Some thing) found = known_leads a until now thing (at_its_sort_key things mac thing found) (expiry_of a thing.leases) refl
 
   pub lease_leads : (mac : Mac) (a : Addr) (seconds now : ℕ) (heard : Bool) → OfAfter (Leads (lease_change mac a seconds now things) things) (lease_step mac a seconds now heard things)
   unfolding lease_step lease_change
-  lease_leads mac a seconds now heard = cases_leads mac a (end_after now seconds) now heard (thing_at mac things) refl
+  lease_leads mac a seconds now heard = cases_leads mac a (expiry_after now seconds) now heard (thing_at mac things) refl
 
 told : (tables : Tables) (change : RowChange Thing) (step : ThingStep) → IsSoundThings tables.things → OfAfter (Leads change tables.things) step → OfAfter IsSoundThings step
     → IfOk step (λ after. IsBindingChange (bindings_of tables) (bindings_of (record tables { things = after.things })) (gone_of mac_of thing_bindings change tables.things) (come_of mac_of thing_bindings change tables.things))

@@ -6,12 +6,12 @@ pub mod BindingRows
 pub mod BookChanges
 mod ChangeExamples
 pub mod Differences
-pub mod EndRows
+pub mod ExpiryRows
 pub mod KeptClasses
 pub mod LeaseChanges
 pub mod LeaseStep
 pub mod OldRows
-pub mod Places
+pub mod Indices
 pub mod RowChanges
 pub mod SoundClasses
 pub mod SoundLocals

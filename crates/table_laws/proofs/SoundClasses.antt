@@ -5,10 +5,10 @@ use Rattle.std.specs.List.{AllByRecursion}
 use Rattle.std.proofs.lemmas.Bool.{leb-true, leb-false, le-leb, lt-ltb, ltb-true}
 use Rattle.mud_base.specs.Addresses.{same_addr}
 use Rattle.mud_base.specs.declared.addr.Addr.{Addr}
-use Rattle.sorted_rows.specs.Placed.{set_row, without_row}
-use Rattle.sorted_rows.specs.Addresses.{addr_place}
+use Rattle.sorted_rows.specs.Sortable.{set_row, without_row}
+use Rattle.sorted_rows.specs.Addresses.{addr_sort_key}
 use Rattle.sorted_rows.proofs.AscendLaws.{ascend_from, ascend_to}
-use Rattle.sorted_rows.proofs.PlacedLaws.{ascend-set_row}
+use Rattle.sorted_rows.proofs.SortableLaws.{ascend-set_row}
 use Rattle.sorted_rows.proofs.RowLaws.{all-set_row, ascend-filter, length-set_row}
 use Rattle.mud_tables.specs.declared.bind.Class.{Class}
 use Rattle.mud_tables.specs.declared.bind.ClassRow.{ClassRow}
@@ -17,7 +17,7 @@ use Rattle.item_codec.specs.declared.word.Word.TheVariants.{Same, Bound, Unbound
 use Rattle.mud_tables.specs.Limits.{most_classes, most_class_addresses}
 use Rattle.mud_tables.specs.Binds.{key_of_class, class_key, class_at, set_class, without_class, class_row, has_addr, with_addr, without_addr, are_addrs, is_class, is_sound_class, IsKeptClass, IsSoundClasses}
 use Rattle.mud_tables.specs.ItemFields.{IsAddr}
-use Rattle.mud_tables.specs.BindSteps.{ClassStep, classes_done, bind_cases, bind_step, classes_without, unbind_cases, unbind_step}
+use Rattle.mud_tables.specs.BindCommands.{ClassStep, classes_done, bind_cases, bind_step, classes_without, unbind_cases, unbind_step}
 use Rattle.sorted_rows.proofs.ListTests.{left_of, right_of, both}
 use Rattle.sorted_rows.proofs.Lists.{filter_few}
 use Rattle.mud_tables.proofs.RowSets.{first_of_three}
@@ -29,23 +29,23 @@ use Rattle.mud_tables.proofs.RowSets.{all_at}
 
 with_addr_ascends : (a : Addr) (bs : List Addr) → are_addrs bs ≡ true → are_addrs (with_addr a bs) ≡ true
 unfolding are_addrs with_addr
-with_addr_ascends a bs e = ascend_to addr_place (set_row addr_place a bs) (ascend-set_row addr_place a bs (ascend_from addr_place bs e))
+with_addr_ascends a bs e = ascend_to addr_sort_key (set_row addr_sort_key a bs) (ascend-set_row addr_sort_key a bs (ascend_from addr_sort_key bs e))
 
 without_addr_ascends : (a : Addr) (bs : List Addr) → are_addrs bs ≡ true → are_addrs (without_addr a bs) ≡ true
 unfolding are_addrs without_addr
-without_addr_ascends a bs e = ascend_to addr_place (without_addr a bs) (ascend-filter addr_place (λ b. not (same_addr b a)) bs (ascend_from addr_place bs e))
+without_addr_ascends a bs e = ascend_to addr_sort_key (without_addr a bs) (ascend-filter addr_sort_key (λ b. not (same_addr b a)) bs (ascend_from addr_sort_key bs e))
 
 with_addr_grown : (a : Addr) (bs : List Addr) → length (with_addr a bs) ≤ length bs + 1
 unfolding with_addr
-with_addr_grown a bs = (length-set_row addr_place a bs).grown
+with_addr_grown a bs = (length-set_row addr_sort_key a bs).grown
 
 with_addr_kept : (a : Addr) (bs : List Addr) → length bs ≤ length (with_addr a bs)
 unfolding with_addr
-with_addr_kept a bs = (length-set_row addr_place a bs).kept
+with_addr_kept a bs = (length-set_row addr_sort_key a bs).kept
 
 with_addr_each : (a : Addr) (bs : List Addr) → IsAddr a → AllByRecursion IsAddr bs → AllByRecursion IsAddr (with_addr a bs)
 unfolding with_addr
-with_addr_each a bs fine fit = all-set_row addr_place IsAddr a bs fine fit
+with_addr_each a bs fine fit = all-set_row addr_sort_key IsAddr a bs fine fit
 
 without_addr_each : (a : Addr) (bs : List Addr) → AllByRecursion IsAddr bs → AllByRecursion IsAddr (without_addr a bs)
 unfolding without_addr

@@ -4,16 +4,16 @@ use Rattle.std.specs.Prelude.{nat_lt}
 use Rattle.std.specs.List.{AllByRecursion}
 use Rattle.std.proofs.lemmas.Bool.{ltb-false}
 use Rattle.mud_base.specs.declared.prefix.Prefix.{Prefix}
-use Rattle.sorted_rows.specs.Placed.{PlacesAscend}
-use Rattle.sorted_rows.specs.Addresses.{prefix_place}
+use Rattle.sorted_rows.specs.Sortable.{SortKeysAscend}
+use Rattle.sorted_rows.specs.Addresses.{prefix_sort_key}
 use Rattle.sorted_rows.proofs.AscendLaws.{ascend_to}
-use Rattle.sorted_rows.proofs.PlacedLaws.{ascend-set_row}
+use Rattle.sorted_rows.proofs.SortableLaws.{ascend-set_row}
 use Rattle.sorted_rows.proofs.RowLaws.{all-set_row}
 use Rattle.item_codec.specs.declared.word.Word.TheVariants.{Same, Set}
 use Rattle.mud_tables.specs.declared.bind_fault.BindFault.TheVariants.{LocalsFull}
 use Rattle.mud_tables.specs.Limits.{most_locals}
 use Rattle.mud_tables.specs.Binds.{with_prefix, prefixes_in_order, same_prefixes, are_prefixes, IsKeptNetwork, IsSoundLocals}
-use Rattle.mud_tables.specs.BindSteps.{LocalStep, locals_done, locals_cases, locals_step}
+use Rattle.mud_tables.specs.BindCommands.{LocalStep, locals_done, locals_cases, locals_step}
 
 -- a refusal changes nothing, and else this holds
 abbrev pub OfLocals : (List Prefix → Type 0) → LocalStep → Type 0
@@ -24,15 +24,15 @@ pub cond_locals : (P : List Prefix → Type 0) (b : Bool) (x y : LocalStep) → 
 cond_locals P true x y f g = f refl
 cond_locals P false x y f g = g refl
 
-in_order_ascend : (prefixes : List Prefix) → PlacesAscend prefix_place (prefixes_in_order prefixes)
+in_order_ascend : (prefixes : List Prefix) → SortKeysAscend prefix_sort_key (prefixes_in_order prefixes)
 unfolding prefixes_in_order with_prefix
 in_order_ascend [] = tt
-in_order_ascend (p ∷ ps) = ascend-set_row prefix_place p (prefixes_in_order ps) (in_order_ascend ps)
+in_order_ascend (p ∷ ps) = ascend-set_row prefix_sort_key p (prefixes_in_order ps) (in_order_ascend ps)
 
 in_order_each : (P : Prefix → Type 0) (prefixes : List Prefix) → AllByRecursion P prefixes → AllByRecursion P (prefixes_in_order prefixes)
 unfolding prefixes_in_order with_prefix
 in_order_each P [] all = tt
-in_order_each P (p ∷ ps) all = all-set_row prefix_place P p (prefixes_in_order ps) all.0 (in_order_each P ps all.1)
+in_order_each P (p ∷ ps) all = all-set_row prefix_sort_key P p (prefixes_in_order ps) all.0 (in_order_each P ps all.1)
 
 pub sound-locals_step : (prefixes locals : List Prefix) → AllByRecursion IsKeptNetwork prefixes → IsSoundLocals locals → OfLocals IsSoundLocals (locals_step prefixes locals)
 unfolding locals_step locals_cases are_prefixes
@@ -42,4 +42,4 @@ sound-locals_step prefixes locals each sound =
     (λ _. tt)
     (λ few. cond_locals IsSoundLocals (same_prefixes ordered locals) (locals_done Same locals) (locals_done Set ordered)
     (λ _. sound)
-    (λ _. record { ascend = ascend_to prefix_place ordered (in_order_ascend prefixes); each = in_order_each IsKeptNetwork prefixes each; few = ltb-false most_locals (length ordered) few }))
+    (λ _. record { ascend = ascend_to prefix_sort_key ordered (in_order_ascend prefixes); each = in_order_each IsKeptNetwork prefixes each; few = ltb-false most_locals (length ordered) few }))

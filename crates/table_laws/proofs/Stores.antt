@@ -3,21 +3,21 @@ use Rattle.std.proofs.Common.{◌≡◌, ℕ, Bool, true, false, cond, not, ◌|
 use Rattle.std.specs.List.{list_any}
 use Rattle.std.proofs.lemmas.Bool.{false≢true}
 use Rattle.std.proofs.lemmas.Option.{same_Some, none-some}
-use Rattle.sorted_rows.specs.Placed.{same_place, PlacesAscend, row_at, set_row, set_rows, without_row}
-use Rattle.sorted_rows.proofs.PlacedLaws.{same_place_exact, row_at-set_row_same, row_at-without_row, ascend-without_row, ascend-set_rows}
-use Rattle.sorted_rows.proofs.RowLaws.{place_row_at}
+use Rattle.sorted_rows.specs.Sortable.{same_sort_key, SortKeysAscend, row_at, set_row, set_rows, without_row}
+use Rattle.sorted_rows.proofs.SortableLaws.{same_sort_key_exact, row_at-set_row_same, row_at-without_row, ascend-without_row, ascend-set_rows}
+use Rattle.sorted_rows.proofs.RowLaws.{sort_key_row_at}
 use Rattle.acl_model.specs.declared.binding.Binding.{Binding}
 use Rattle.sorted_rows.specs.Changes.{are_apart}
-use Rattle.acl_model.specs.Places.{binding_place}
+use Rattle.acl_model.specs.SortKeys.{binding_sort_key}
 use Rattle.acl_model.specs.Changes.{same_spot, same_binding, has_binding, IsBindingChange, without_bindings, replaced, HaveSame}
 use Rattle.sorted_rows.proofs.ListTests.{both_ways, left_of, right_of, both, is_not, any_first, any_later, any_by, any_more, any-map}
 use Rattle.sorted_rows.proofs.RowSets.{Passing, found_passing, passing_found}
 use Rattle.sorted_rows.proofs.ListTests.{apart-map}
-use Rattle.acl_model.proofs.PlaceLaws.{binding_place_exact, ascend-without_bindings}
+use Rattle.acl_model.proofs.SortKeyLaws.{binding_sort_key_exact, ascend-without_bindings}
 use Rattle.acl_model.proofs.BindingLaws.{same_spot_itself, spot_of_same, spot_shared, same_binding_exact, same_binding_itself}
 use Rattle.table_laws.proofs.Differences.{spot_among}
 use Rattle.sorted_rows.proofs.ListTests.{not_false}
-use Rattle.sorted_rows.proofs.ChangeLaws.{same_place_turned, row_at-set_rows_other}
+use Rattle.sorted_rows.proofs.ChangeLaws.{same_sort_key_turned, row_at-set_rows_other}
 
 -- of two that have a key and an address in common, one list without such two has but one
 pub same_among : (b c : Binding) (xs : List Binding) → are_apart same_spot xs ≡ true → has_binding b xs ≡ true → has_binding c xs ≡ true → same_spot b c ≡ true → b ≡ c
@@ -40,37 +40,37 @@ same_among b c (x ∷ xs) apart of_b of_c spot =
 
 -- ---- What a store has
 
-same_at : (b c : Binding) → same_spot b c ≡ true → binding_place b ≡ binding_place c
-same_at b c e = same_place_exact (binding_place b) (binding_place c) (binding_place_exact b c ∙ e)
+same_at : (b c : Binding) → same_spot b c ≡ true → binding_sort_key b ≡ binding_sort_key c
+same_at b c e = same_sort_key_exact (binding_sort_key b) (binding_sort_key c) (binding_sort_key_exact b c ∙ e)
 
-has_at : (b : Binding) (rows : List Binding) → PlacesAscend binding_place rows → has_binding b rows ≡ true → row_at binding_place (binding_place b) rows ≡ Some b
+has_at : (b : Binding) (rows : List Binding) → SortKeysAscend binding_sort_key rows → has_binding b rows ≡ true → row_at binding_sort_key (binding_sort_key b) rows ≡ Some b
 unfolding has_binding
 has_at b rows up e =
-    let r : Passing binding_place (same_binding b) rows = found_passing binding_place (same_binding b) rows up e in
+    let r : Passing binding_sort_key (same_binding b) rows = found_passing binding_sort_key (same_binding b) rows up e in
     let is : b ≡ r.row = same_binding_exact b r.row r.passes in
-    subst (λ c. row_at binding_place (binding_place c) rows ≡ Some c) (sym is) (subst (λ p. row_at binding_place p rows ≡ Some r.row) (sym (place_row_at binding_place r.at rows r.row r.there)) r.there)
+    subst (λ c. row_at binding_sort_key (binding_sort_key c) rows ≡ Some c) (sym is) (subst (λ p. row_at binding_sort_key p rows ≡ Some r.row) (sym (sort_key_row_at binding_sort_key r.at rows r.row r.there)) r.there)
 
-at_has : (b : Binding) (rows : List Binding) → row_at binding_place (binding_place b) rows ≡ Some b → has_binding b rows ≡ true
+at_has : (b : Binding) (rows : List Binding) → row_at binding_sort_key (binding_sort_key b) rows ≡ Some b → has_binding b rows ≡ true
 unfolding has_binding
-at_has b rows e = passing_found binding_place (same_binding b) rows (binding_place b) b e (same_binding_itself b)
+at_has b rows e = passing_found binding_sort_key (same_binding b) rows (binding_sort_key b) b e (same_binding_itself b)
 
 -- ---- What is put in, and taken away
 
-put_found : (new rows : List Binding) (c : Binding) → are_apart same_place (map binding_place new) ≡ true → has_binding c new ≡ true → row_at binding_place (binding_place c) (set_rows binding_place new rows) ≡ Some c
+put_found : (new rows : List Binding) (c : Binding) → are_apart same_sort_key (map binding_sort_key new) ≡ true → has_binding c new ≡ true → row_at binding_sort_key (binding_sort_key c) (set_rows binding_sort_key new rows) ≡ Some c
 unfolding has_binding
 put_found [] rows c once e = absurd (false≢true e)
 put_found (x ∷ xs) rows c once e = any_by (same_binding c) x xs
-    (λ here. subst (λ y. row_at binding_place (binding_place y) (set_rows binding_place xs (set_row binding_place x rows)) ≡ Some y) (sym (same_binding_exact c x here))
-    (row_at-set_rows_other binding_place xs (set_row binding_place x rows) (binding_place x) (not_false (list_any (same_place (binding_place x)) (map binding_place xs)) (left_of (not (list_any (same_place (binding_place x)) (map binding_place xs))) (are_apart same_place (map binding_place xs)) once)) ∙ row_at-set_row_same binding_place x rows))
-    (put_found xs (set_row binding_place x rows) c (right_of (not (list_any (same_place (binding_place x)) (map binding_place xs))) (are_apart same_place (map binding_place xs)) once)) e
+    (λ here. subst (λ y. row_at binding_sort_key (binding_sort_key y) (set_rows binding_sort_key xs (set_row binding_sort_key x rows)) ≡ Some y) (sym (same_binding_exact c x here))
+    (row_at-set_rows_other binding_sort_key xs (set_row binding_sort_key x rows) (binding_sort_key x) (not_false (list_any (same_sort_key (binding_sort_key x)) (map binding_sort_key xs)) (left_of (not (list_any (same_sort_key (binding_sort_key x)) (map binding_sort_key xs))) (are_apart same_sort_key (map binding_sort_key xs)) once)) ∙ row_at-set_row_same binding_sort_key x rows))
+    (put_found xs (set_row binding_sort_key x rows) c (right_of (not (list_any (same_sort_key (binding_sort_key x)) (map binding_sort_key xs))) (are_apart same_sort_key (map binding_sort_key xs)) once)) e
 
-without_at : (p : List ℕ) (gone rows : List Binding) → PlacesAscend binding_place rows → row_at binding_place p (without_bindings gone rows) ≡ cond (list_any (same_place p) (map binding_place gone)) None (row_at binding_place p rows)
+without_at : (p : List ℕ) (gone rows : List Binding) → SortKeysAscend binding_sort_key rows → row_at binding_sort_key p (without_bindings gone rows) ≡ cond (list_any (same_sort_key p) (map binding_sort_key gone)) None (row_at binding_sort_key p rows)
 unfolding without_bindings
 without_at p [] rows up = refl
 without_at p (b ∷ gone) rows up =
-    without_at p gone (without_row binding_place (binding_place b) rows) (ascend-without_row binding_place (binding_place b) rows up)
-    ∙ ap (cond (list_any (same_place p) (map binding_place gone)) None) (row_at-without_row binding_place (binding_place b) rows p up ∙ ap (λ t. cond t None (row_at binding_place p rows)) (same_place_turned (binding_place b) p))
-    ∙ either (same_place p (binding_place b)) (list_any (same_place p) (map binding_place gone)) (row_at binding_place p rows)
+    without_at p gone (without_row binding_sort_key (binding_sort_key b) rows) (ascend-without_row binding_sort_key (binding_sort_key b) rows up)
+    ∙ ap (cond (list_any (same_sort_key p) (map binding_sort_key gone)) None) (row_at-without_row binding_sort_key (binding_sort_key b) rows p up ∙ ap (λ t. cond t None (row_at binding_sort_key p rows)) (same_sort_key_turned (binding_sort_key b) p))
+    ∙ either (same_sort_key p (binding_sort_key b)) (list_any (same_sort_key p) (map binding_sort_key gone)) (row_at binding_sort_key p rows)
   where
     either : (b c : Bool) (o : Option Binding) → cond c None (cond b None o) ≡ cond (b || c) None o
     either true true o = refl
@@ -80,32 +80,32 @@ without_at p (b ∷ gone) rows up =
 
 -- ---- The change is that of the store
 
-module _ (store before after gone come : List Binding) (up : PlacesAscend binding_place store) (same : HaveSame store before) (one : are_apart same_spot before ≡ true) (one' : are_apart same_spot after ≡ true) (change : IsBindingChange before after gone come) where
+module _ (store before after gone come : List Binding) (up : SortKeysAscend binding_sort_key store) (same : HaveSame store before) (one : are_apart same_spot before ≡ true) (one' : are_apart same_spot after ≡ true) (change : IsBindingChange before after gone come) where
   abbrev store' : List Binding
-  store' = set_rows binding_place come (without_bindings gone store)
+  store' = set_rows binding_sort_key come (without_bindings gone store)
 
-  up' : PlacesAscend binding_place store'
-  up' = ascend-set_rows binding_place come (without_bindings gone store) (ascend-without_bindings gone store up)
+  up' : SortKeysAscend binding_sort_key store'
+  up' = ascend-set_rows binding_sort_key come (without_bindings gone store) (ascend-without_bindings gone store up)
 
-  come_places : are_apart same_place (map binding_place come) ≡ true
-  come_places = apart-map same_place same_spot binding_place (λ x y e. sym (binding_place_exact x y) ∙ e) come change.come_once
+  come_sort_keys : are_apart same_sort_key (map binding_sort_key come) ≡ true
+  come_sort_keys = apart-map same_sort_key same_spot binding_sort_key (λ x y e. sym (binding_sort_key_exact x y) ∙ e) come change.come_once
 
-  -- one of a list has its place
-  pub record AtPlace (b : Binding) (xs : List Binding) : Type 0 where
+  -- one of a list has its sort key
+  pub record AtSortKey (b : Binding) (xs : List Binding) : Type 0 where
     pub it : Binding
     pub among : has_binding it xs ≡ true
     pub spot : same_spot b it ≡ true
 
-  found_place : (b : Binding) (xs : List Binding) → list_any (same_place (binding_place b)) (map binding_place xs) ≡ true → AtPlace b xs
+  found_sort_key : (b : Binding) (xs : List Binding) → list_any (same_sort_key (binding_sort_key b)) (map binding_sort_key xs) ≡ true → AtSortKey b xs
   unfolding has_binding
-  found_place b [] e = absurd (false≢true e)
-  found_place b (x ∷ xs) e = any_by (same_place (binding_place b)) (binding_place x) (map binding_place xs)
-      (λ here. record { it = x; among = any_first (same_binding x) x xs (same_binding_itself x); spot = sym (binding_place_exact b x) ∙ here })
-      (λ later. let r : AtPlace b xs = found_place b xs later in record { it = r.it; among = any_later (same_binding r.it) x xs r.among; spot = r.spot })
+  found_sort_key b [] e = absurd (false≢true e)
+  found_sort_key b (x ∷ xs) e = any_by (same_sort_key (binding_sort_key b)) (binding_sort_key x) (map binding_sort_key xs)
+      (λ here. record { it = x; among = any_first (same_binding x) x xs (same_binding_itself x); spot = sym (binding_sort_key_exact b x) ∙ here })
+      (λ later. let r : AtSortKey b xs = found_sort_key b xs later in record { it = r.it; among = any_later (same_binding r.it) x xs r.among; spot = r.spot })
       e
 
-  place_among : (b : Binding) (xs : List Binding) → has_binding b xs ≡ true → list_any (same_place (binding_place b)) (map binding_place xs) ≡ true
-  place_among b xs e = any-map (same_place (binding_place b)) binding_place xs ∙ any_more (same_spot b) (λ x. same_place (binding_place b) (binding_place x)) xs (λ x h. binding_place_exact b x ∙ h) (spot_among b xs e)
+  sort_key_among : (b : Binding) (xs : List Binding) → has_binding b xs ≡ true → list_any (same_sort_key (binding_sort_key b)) (map binding_sort_key xs) ≡ true
+  sort_key_among b xs e = any-map (same_sort_key (binding_sort_key b)) binding_sort_key xs ∙ any_more (same_spot b) (λ x. same_sort_key (binding_sort_key b) (binding_sort_key x)) xs (λ x h. binding_sort_key_exact b x ∙ h) (spot_among b xs e)
 
   -- one that comes is there afterwards, and one that goes was there
   came_is : (b : Binding) → has_binding b come ≡ true → has_binding b after ≡ true
@@ -118,47 +118,47 @@ module _ (store before after gone come : List Binding) (up : PlacesAscend bindin
   went_isn't b e = is_not (has_binding b after) (right_of (has_binding b before) (not (has_binding b after)) (sym (change.went b) ∙ e))
 
   -- elsewhere the store stays
-  stays_at : (b : Binding) → list_any (same_place (binding_place b)) (map binding_place come) ≡ false → row_at binding_place (binding_place b) store' ≡ cond (list_any (same_place (binding_place b)) (map binding_place gone)) None (row_at binding_place (binding_place b) store)
-  stays_at b other = row_at-set_rows_other binding_place come (without_bindings gone store) (binding_place b) other ∙ without_at (binding_place b) gone store up
+  stays_at : (b : Binding) → list_any (same_sort_key (binding_sort_key b)) (map binding_sort_key come) ≡ false → row_at binding_sort_key (binding_sort_key b) store' ≡ cond (list_any (same_sort_key (binding_sort_key b)) (map binding_sort_key gone)) None (row_at binding_sort_key (binding_sort_key b) store)
+  stays_at b other = row_at-set_rows_other binding_sort_key come (without_bindings gone store) (binding_sort_key b) other ∙ without_at (binding_sort_key b) gone store up
 
   kept_there : (b : Binding) → has_binding b store' ≡ true → has_binding b after ≡ true
-  kept_there b e = by_come (list_any (same_place (binding_place b)) (map binding_place come)) refl (has_at b store' up' e)
+  kept_there b e = by_come (list_any (same_sort_key (binding_sort_key b)) (map binding_sort_key come)) refl (has_at b store' up' e)
     where
       -- it was in the store and didn't go
-      stayed : row_at binding_place (binding_place b) store ≡ Some b → (list_any (same_place (binding_place b)) (map binding_place gone) ≡ true → ⊥) → (t : Bool) → has_binding b after ≡ t → has_binding b after ≡ true
+      stayed : row_at binding_sort_key (binding_sort_key b) store ≡ Some b → (list_any (same_sort_key (binding_sort_key b)) (map binding_sort_key gone) ≡ true → ⊥) → (t : Bool) → has_binding b after ≡ t → has_binding b after ≡ true
       stayed there stays true is = is
-      stayed there stays false is = absurd (stays (place_among b gone (change.went b ∙ both (has_binding b before) (not (has_binding b after)) (sym (same b) ∙ at_has b store there) (ap not is))))
+      stayed there stays false is = absurd (stays (sort_key_among b gone (change.went b ∙ both (has_binding b before) (not (has_binding b after)) (sym (same b) ∙ at_has b store there) (ap not is))))
 
-      by_gone : (t : Bool) → list_any (same_place (binding_place b)) (map binding_place gone) ≡ t → cond t None (row_at binding_place (binding_place b) store) ≡ Some b → has_binding b after ≡ true
+      by_gone : (t : Bool) → list_any (same_sort_key (binding_sort_key b)) (map binding_sort_key gone) ≡ t → cond t None (row_at binding_sort_key (binding_sort_key b) store) ≡ Some b → has_binding b after ≡ true
       by_gone true is there = absurd (none-some b there)
       by_gone false is there = stayed there (λ e. false≢true (sym is ∙ e)) (has_binding b after) refl
 
-      by_come : (t : Bool) → list_any (same_place (binding_place b)) (map binding_place come) ≡ t → row_at binding_place (binding_place b) store' ≡ Some b → has_binding b after ≡ true
+      by_come : (t : Bool) → list_any (same_sort_key (binding_sort_key b)) (map binding_sort_key come) ≡ t → row_at binding_sort_key (binding_sort_key b) store' ≡ Some b → has_binding b after ≡ true
       by_come true is there =
-          let r : AtPlace b come = found_place b come is in
-          let same_one : r.it ≡ b = same_Some r.it b (sym (subst (λ p. row_at binding_place p store' ≡ Some r.it) (sym (same_at b r.it r.spot)) (put_found come (without_bindings gone store) r.it come_places r.among)) ∙ there) in
+          let r : AtSortKey b come = found_sort_key b come is in
+          let same_one : r.it ≡ b = same_Some r.it b (sym (subst (λ p. row_at binding_sort_key p store' ≡ Some r.it) (sym (same_at b r.it r.spot)) (put_found come (without_bindings gone store) r.it come_sort_keys r.among)) ∙ there) in
           came_is b (subst (λ c. has_binding c come ≡ true) same_one r.among)
-      by_come false is there = by_gone (list_any (same_place (binding_place b)) (map binding_place gone)) refl (sym (stays_at b is) ∙ there)
+      by_come false is there = by_gone (list_any (same_sort_key (binding_sort_key b)) (map binding_sort_key gone)) refl (sym (stays_at b is) ∙ there)
 
   there_kept : (b : Binding) → has_binding b after ≡ true → has_binding b store' ≡ true
-  there_kept b e = at_has b store' (by_come (list_any (same_place (binding_place b)) (map binding_place come)) refl)
+  there_kept b e = at_has b store' (by_come (list_any (same_sort_key (binding_sort_key b)) (map binding_sort_key come)) refl)
     where
-      was : list_any (same_place (binding_place b)) (map binding_place come) ≡ false → (t : Bool) → has_binding b before ≡ t → has_binding b before ≡ true
+      was : list_any (same_sort_key (binding_sort_key b)) (map binding_sort_key come) ≡ false → (t : Bool) → has_binding b before ≡ t → has_binding b before ≡ true
       was other true is = is
-      was other false is = absurd (false≢true (sym other ∙ place_among b come (change.came b ∙ both (has_binding b after) (not (has_binding b before)) e (ap not is))))
+      was other false is = absurd (false≢true (sym other ∙ sort_key_among b come (change.came b ∙ both (has_binding b after) (not (has_binding b before)) e (ap not is))))
 
-      by_gone : list_any (same_place (binding_place b)) (map binding_place come) ≡ false → (t : Bool) → list_any (same_place (binding_place b)) (map binding_place gone) ≡ t → cond t None (row_at binding_place (binding_place b) store) ≡ Some b
+      by_gone : list_any (same_sort_key (binding_sort_key b)) (map binding_sort_key come) ≡ false → (t : Bool) → list_any (same_sort_key (binding_sort_key b)) (map binding_sort_key gone) ≡ t → cond t None (row_at binding_sort_key (binding_sort_key b) store) ≡ Some b
       by_gone other true is =
-          let r : AtPlace b gone = found_place b gone is in
+          let r : AtSortKey b gone = found_sort_key b gone is in
           absurd (went_isn't r.it r.among (subst (λ c. has_binding c after ≡ true) (same_among b r.it before one (was other (has_binding b before) refl) (went_was r.it r.among) r.spot) e))
       by_gone other false is = has_at b store up (same b ∙ was other (has_binding b before) refl)
 
-      by_come : (t : Bool) → list_any (same_place (binding_place b)) (map binding_place come) ≡ t → row_at binding_place (binding_place b) store' ≡ Some b
+      by_come : (t : Bool) → list_any (same_sort_key (binding_sort_key b)) (map binding_sort_key come) ≡ t → row_at binding_sort_key (binding_sort_key b) store' ≡ Some b
       by_come true is =
-          let r : AtPlace b come = found_place b come is in
+          let r : AtSortKey b come = found_sort_key b come is in
           let same_one : b ≡ r.it = same_among b r.it after one' e (came_is r.it r.among) r.spot in
-          put_found come (without_bindings gone store) b come_places (subst (λ c. has_binding c come ≡ true) (sym same_one) r.among)
-      by_come false is = stays_at b is ∙ by_gone is (list_any (same_place (binding_place b)) (map binding_place gone)) refl
+          put_found come (without_bindings gone store) b come_sort_keys (subst (λ c. has_binding c come ≡ true) (sym same_one) r.among)
+      by_come false is = stays_at b is ∙ by_gone is (list_any (same_sort_key (binding_sort_key b)) (map binding_sort_key gone)) refl
 
   pub replaced_same : HaveSame (replaced gone come store) after
   unfolding replaced

@@ -6,8 +6,8 @@ use Rattle.std.specs.Option.{option_map}
 use Rattle.std.proofs.lemmas.Bool.{false≢true}
 use Rattle.std.proofs.lemmas.Option.{none-some}
 use Rattle.std.proofs.lemmas.List.Folds.{list_any-append}
-use Rattle.sorted_rows.specs.Placed.{same_place, row_at}
-use Rattle.sorted_rows.proofs.PlacedLaws.{row_at_above, row_at_row}
+use Rattle.sorted_rows.specs.Sortable.{same_sort_key, row_at}
+use Rattle.sorted_rows.proofs.SortableLaws.{row_at_above, row_at_row}
 use Rattle.mud_base.specs.declared.addr.Addr.{Addr}
 use Rattle.mud_url.specs.Url.{host_of}
 use Rattle.acl_model.specs.declared.binding.MemberKey.{MemberKey}
@@ -34,21 +34,21 @@ use Rattle.table_laws.proofs.BindingRows.{spot_key, class_bound, name_bound, thi
 
 -- ---- All rows of a part
 
-module _ {R : Type 0} (place : R → List ℕ) (f : R → List Binding) where
-  pub apart-flat_map : (rows : List R) → IsBindingRows place f rows → are_apart same_spot (flat_map f rows) ≡ true
+module _ {R : Type 0} (sort_key : R → List ℕ) (f : R → List Binding) where
+  pub apart-flat_map : (rows : List R) → IsBindingRows sort_key f rows → are_apart same_spot (flat_map f rows) ≡ true
   apart-flat_map [] sound = refl
   apart-flat_map (x ∷ xs) sound =
-      let still : (p : List ℕ) (y : R) → row_at place p xs ≡ Some y → row_at place p (x ∷ xs) ≡ Some y = λ p y there. at_later place p x y xs sound.ascend.0 there (same_place (place x) p) refl in
-      apart-append same_spot same_spot_itself (f x) (flat_map f xs) (sound.each (place x) x (row_at_row place (x ∷ xs) 0 x sound.ascend refl))
+      let still : (p : List ℕ) (y : R) → row_at sort_key p xs ≡ Some y → row_at sort_key p (x ∷ xs) ≡ Some y = λ p y there. at_later sort_key p x y xs sound.ascend.0 there (same_sort_key (sort_key x) p) refl in
+      apart-append same_spot same_spot_itself (f x) (flat_map f xs) (sound.each (sort_key x) x (row_at_row sort_key (x ∷ xs) 0 x sound.ascend refl))
       (apart-flat_map xs (record {
         ascend = sound.ascend.1;
         one = λ b p q y z at_p at_q. sound.one b p q y z (still p y at_p) (still q z at_q);
         each = λ p y there. sound.each p y (still p y there);
       }))
       (λ b here later.
-      let r : Passing place (λ y. list_any (same_spot b) (f y)) xs = found_passing place (λ y. list_any (same_spot b) (f y)) xs sound.ascend.1 (sym (any-flat_map (same_spot b) f xs) ∙ later) in
-      let same : place x ≡ r.at = sound.one b (place x) r.at x r.row (row_at_row place (x ∷ xs) 0 x sound.ascend refl) (still r.at r.row r.there) here r.passes in
-      none-some r.row (sym (subst (λ p. row_at place p xs ≡ None) same (row_at_above place (place x) xs sound.ascend.0)) ∙ r.there))
+      let r : Passing sort_key (λ y. list_any (same_spot b) (f y)) xs = found_passing sort_key (λ y. list_any (same_spot b) (f y)) xs sound.ascend.1 (sym (any-flat_map (same_spot b) f xs) ∙ later) in
+      let same : sort_key x ≡ r.at = sound.one b (sort_key x) r.at x r.row (row_at_row sort_key (x ∷ xs) 0 x sound.ascend refl) (still r.at r.row r.there) here r.passes in
+      none-some r.row (sym (subst (λ p. row_at sort_key p xs ≡ None) same (row_at_above sort_key (sort_key x) xs sound.ascend.0)) ∙ r.there))
 
 -- ---- The three parts have keys of their own
 
@@ -115,7 +115,7 @@ bindings_apart tables sound =
     (apart-flat_map name_of name_bindings tables.names (names_bind tables.names sound.names))
     (both_names tables.things tables.classes tables.names)
 
--- so an address is bound to a key until the end of its binding
+-- so an address is bound to a key until the expiry of its binding
 bound_here : (b x : Binding) → same_spot b x ≡ is_bound_to b.key b.addr x
 unfolding is_bound_to same_spot
 bound_here b x = refl
@@ -180,37 +180,37 @@ change_behind others before after gone come of_before of_after change =
 
 -- ---- Rows of one table change
 
-pub things_change : (tables : Tables) (things : List Thing) (places : List (List ℕ)) → IsSoundThings tables.things → IsSoundThings things → are_apart same_place places ≡ true → IsElsewhereSame mac_of thing_bindings places tables.things things
-    → IsBindingChange (bindings_of tables) (bindings_of (record tables { things = things })) (gone_at mac_of thing_bindings places tables.things things) (come_at mac_of thing_bindings places tables.things things)
+pub things_change : (tables : Tables) (things : List Thing) (sort_keys : List (List ℕ)) → IsSoundThings tables.things → IsSoundThings things → are_apart same_sort_key sort_keys ≡ true → IsElsewhereSame mac_of thing_bindings sort_keys tables.things things
+    → IsBindingChange (bindings_of tables) (bindings_of (record tables { things = things })) (gone_at mac_of thing_bindings sort_keys tables.things things) (come_at mac_of thing_bindings sort_keys tables.things things)
 unfolding bindings_of things_bindings classes_bindings names_bindings
-things_change tables things places old new once same =
+things_change tables things sort_keys old new once same =
     let of_things : List Thing → List Binding = λ ts. flat_map thing_bindings ts in
     let of_classes : List Binding = flat_map class_bindings tables.classes in
     let of_names : List Binding = flat_map name_bindings tables.names in
-    let gone : List Binding = gone_at mac_of thing_bindings places tables.things things in
-    let come : List Binding = come_at mac_of thing_bindings places tables.things things in
+    let gone : List Binding = gone_at mac_of thing_bindings sort_keys tables.things things in
+    let come : List Binding = come_at mac_of thing_bindings sort_keys tables.things things in
     change_before (of_things tables.things ++ of_classes) (of_things things ++ of_classes) of_names gone come (both_names tables.things tables.classes tables.names) (both_names things tables.classes tables.names)
     (change_before (of_things tables.things) (of_things things) of_classes gone come (things_classes tables.things tables.classes) (things_classes things tables.classes)
-    (binding_change mac_of thing_bindings places tables.things things (things_bind tables.things old) (things_bind things new) once same))
+    (binding_change mac_of thing_bindings sort_keys tables.things things (things_bind tables.things old) (things_bind things new) once same))
 
-pub classes_change : (tables : Tables) (classes : List ClassRow) (places : List (List ℕ)) → IsSoundClasses tables.classes → IsSoundClasses classes → are_apart same_place places ≡ true → IsElsewhereSame class_key class_bindings places tables.classes classes
-    → IsBindingChange (bindings_of tables) (bindings_of (record tables { classes = classes })) (gone_at class_key class_bindings places tables.classes classes) (come_at class_key class_bindings places tables.classes classes)
+pub classes_change : (tables : Tables) (classes : List ClassRow) (sort_keys : List (List ℕ)) → IsSoundClasses tables.classes → IsSoundClasses classes → are_apart same_sort_key sort_keys ≡ true → IsElsewhereSame class_key class_bindings sort_keys tables.classes classes
+    → IsBindingChange (bindings_of tables) (bindings_of (record tables { classes = classes })) (gone_at class_key class_bindings sort_keys tables.classes classes) (come_at class_key class_bindings sort_keys tables.classes classes)
 unfolding bindings_of things_bindings classes_bindings names_bindings
-classes_change tables classes places old new once same =
+classes_change tables classes sort_keys old new once same =
     let of_things : List Binding = flat_map thing_bindings tables.things in
     let of_classes : List ClassRow → List Binding = λ rows. flat_map class_bindings rows in
     let of_names : List Binding = flat_map name_bindings tables.names in
-    let gone : List Binding = gone_at class_key class_bindings places tables.classes classes in
-    let come : List Binding = come_at class_key class_bindings places tables.classes classes in
+    let gone : List Binding = gone_at class_key class_bindings sort_keys tables.classes classes in
+    let come : List Binding = come_at class_key class_bindings sort_keys tables.classes classes in
     change_before (of_things ++ of_classes tables.classes) (of_things ++ of_classes classes) of_names gone come (both_names tables.things tables.classes tables.names) (both_names tables.things classes tables.names)
     (change_behind of_things (of_classes tables.classes) (of_classes classes) gone come (things_classes tables.things tables.classes) (things_classes tables.things classes)
-    (binding_change class_key class_bindings places tables.classes classes (classes_bind tables.classes old) (classes_bind classes new) once same))
+    (binding_change class_key class_bindings sort_keys tables.classes classes (classes_bind tables.classes old) (classes_bind classes new) once same))
 
-pub names_change : (tables : Tables) (names : List NameRow) (places : List (List ℕ)) → IsSoundNames tables.names → IsSoundNames names → are_apart same_place places ≡ true → IsElsewhereSame name_of name_bindings places tables.names names
-    → IsBindingChange (bindings_of tables) (bindings_of (record tables { names = names })) (gone_at name_of name_bindings places tables.names names) (come_at name_of name_bindings places tables.names names)
+pub names_change : (tables : Tables) (names : List NameRow) (sort_keys : List (List ℕ)) → IsSoundNames tables.names → IsSoundNames names → are_apart same_sort_key sort_keys ≡ true → IsElsewhereSame name_of name_bindings sort_keys tables.names names
+    → IsBindingChange (bindings_of tables) (bindings_of (record tables { names = names })) (gone_at name_of name_bindings sort_keys tables.names names) (come_at name_of name_bindings sort_keys tables.names names)
 unfolding bindings_of things_bindings classes_bindings names_bindings
-names_change tables names places old new once same =
+names_change tables names sort_keys old new once same =
     let others : List Binding = flat_map thing_bindings tables.things ++ flat_map class_bindings tables.classes in
-    change_behind others (flat_map name_bindings tables.names) (flat_map name_bindings names) (gone_at name_of name_bindings places tables.names names) (come_at name_of name_bindings places tables.names names)
+    change_behind others (flat_map name_bindings tables.names) (flat_map name_bindings names) (gone_at name_of name_bindings sort_keys tables.names names) (come_at name_of name_bindings sort_keys tables.names names)
     (both_names tables.things tables.classes tables.names) (both_names tables.things tables.classes names)
-    (binding_change name_of name_bindings places tables.names names (names_bind tables.names old) (names_bind names new) once same)
+    (binding_change name_of name_bindings sort_keys tables.names names (names_bind tables.names old) (names_bind names new) once same)

@@ -1,10 +1,10 @@
 //! Laws of the bindings that the tables hold, and of how they change.
 ghost use Rattle.std.specs.Prelude.{◌≡◌, Bool, IsTrue, List, Some};
 ghost use Rattle.std.specs.List.{list_any};
-ghost use Rattle.sorted_rows.specs.Placed.{PlacesAscend};
+ghost use Rattle.sorted_rows.specs.Sortable.{SortKeysAscend};
 ghost use Rattle.sorted_rows.specs.Changes.{RowChange, changed, is_plain, are_apart};
 ghost use Rattle.acl_model.specs.declared.binding.Binding.{Binding};
-ghost use Rattle.acl_model.specs.Places.{binding_place};
+ghost use Rattle.acl_model.specs.SortKeys.{binding_sort_key};
 ghost use Rattle.acl_model.specs.Changes.{same_spot, has_binding, HaveSame, IsBindingChange, bound_until, replaced};
 ghost use Rattle.mud_tables.specs.declared.thing.Thing.{Thing};
 ghost use Rattle.mud_tables.specs.declared.bind.ClassRow.{ClassRow};
@@ -19,14 +19,14 @@ ghost use Rattle.mud_tables.specs.BindingChanges.{gone_of, come_of};
 pub fn tables_bind_once()
     ensures apart { (tables : Tables) → IsSoundTables tables
         → IsTrue (are_apart same_spot (bindings_of tables)) }
-    // So the address of a binding is bound to its key until its end.
+    // So the address of a binding is bound to its key until its expiry.
     ensures until { (tables : Tables) → IsSoundTables tables → (b : Binding)
         → IsTrue (has_binding b (bindings_of tables))
         → bound_until (bindings_of tables) b.key b.addr ≡ Some b.until }
 {}
 
 /// Rows of one of the tables change: what goes and comes with the rows that are touched is the
-/// difference of the bindings of all tables. The list is sound before and after, and no place is
+/// difference of the bindings of all tables. The list is sound before and after, and no sort key is
 /// touched twice.
 pub fn rows_change_bindings()
     ensures things { (tables : Tables) (change : RowChange Thing) → IsSoundThings tables.things
@@ -51,12 +51,12 @@ pub fn rows_change_bindings()
         (come_of name_of name_bindings change tables.names) }
 {}
 
-/// A store, in the order of the places of bindings, that has the bindings of the tables before a
+/// A store, in the order of the sort keys of bindings, that has the bindings of the tables before a
 /// change.
 pub fn stores_follow_tables()
     // Without those that go, and then with those that come, it has the bindings after the change.
     ensures follows { (store before after gone come : List Binding)
-        → PlacesAscend binding_place store → HaveSame store before
+        → SortKeysAscend binding_sort_key store → HaveSame store before
         → IsTrue (are_apart same_spot before) → IsTrue (are_apart same_spot after)
         → IsBindingChange before after gone come
         → HaveSame (replaced gone come store) after }

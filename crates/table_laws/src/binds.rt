@@ -14,7 +14,7 @@ ghost use Rattle.mud_tables.specs.Bindings.{class_bindings, name_bindings, bindi
 ghost use Rattle.mud_tables.specs.BindingChanges.{gone_of, come_of};
 ghost use Rattle.mud_tables.specs.ItemFields.{IsAddr};
 ghost use Rattle.mud_tables.specs.Binds.{Binds, IsSoundBinds, IsSoundClasses, IsSoundNames, IsKeptNetwork, class_key, is_class, name_of, is_name};
-ghost use Rattle.mud_tables.specs.BindSteps.{bind_step, unbind_step, observe_step, bind_class_step, unbind_class_step, set_locals_step, observe_name_step};
+ghost use Rattle.mud_tables.specs.BindCommands.{bind_step, unbind_step, observe_step, bind_class_step, unbind_class_step, set_locals_step, observe_name_step};
 
 /// The three lists as parts of the tables.
 pub fn binds_are_parts_of_tables()
@@ -60,15 +60,15 @@ pub fn binds_change_as_told()
     ensures locals { (binds : Binds) (prefixes : List Prefix)
         → IfOk (set_locals_step prefixes binds)
         (λ after. (after.changes ≡ false) ↔ (after.binds ≡ binds)) }
-    // An address is observed for a second at least: for none, an end that comes now could take the
-    // place of the same end.
+    // An address is observed for a second at least: for none, an expiry that comes now could take
+    // sort key of the same expiry.
     ensures observe { (binds : Binds) (name : List ℕ) (a : Addr) (ttl now : ℕ) → 0 < ttl
         → IfOk (observe_name_step name a ttl now binds)
         (λ after. (after.changes ≡ false) ↔ (after.binds ≡ binds)) }
 {}
 
-/// The rows that a command on classes or names changes: they make its list, and no place is touched
-/// twice.
+/// The rows that a command on classes or names changes: they make its list, and no sort key is
+/// touched twice.
 pub fn binds_change_rows()
     ensures bind { (classes : List ClassRow) (class : Class) (a : Addr)
         → IfOk (bind_step class a classes)

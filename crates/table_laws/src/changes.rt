@@ -1,6 +1,6 @@
 //! The bindings that go and come with a change of rows.
 ghost use Rattle.std.specs.Prelude.{◌≡◌, ◌≤◌, ◌<◌, [], ◌++◌, length, map, flat_map, is_some, IfOk, IfSome, OnOk, position};
-ghost use Rattle.sorted_rows.specs.Placed.{row_at};
+ghost use Rattle.sorted_rows.specs.Sortable.{row_at};
 ghost use Rattle.sorted_rows.specs.Changes.{old_rows, with_found, gone_row};
 ghost use Rattle.acl_model.specs.Changes.{has_binding};
 ghost use Rattle.acl_model.specs.Changes as spec;
@@ -16,28 +16,28 @@ use std::alloc::Global;
 
 /// Where the binding stands first among others.
 #[tactic(auto, unfolding(crate::specs::Lent::is_lent))]
-fn place_of(binding: &LentBinding<'_>, others: &[LentBinding<'_>]) -> Option<usize>
+fn index_in_list(binding: &LentBinding<'_>, others: &[LentBinding<'_>]) -> Option<usize>
     ensures { result ≡ position (is_lent binding.now) others.now }
 {
     others.iter().position(|other| binding.is_same(other))
 }
 
-/// Where the binding stands among others, looked for from this place on, and then before it.
-fn place_from(from: usize, binding: &LentBinding<'_>, others: &[LentBinding<'_>]) -> Option<usize>
+/// Where the binding stands among others, looked for from this index on, and then before it.
+fn index_from(from: usize, binding: &LentBinding<'_>, others: &[LentBinding<'_>]) -> Option<usize>
     requires { from ≤ length others.now }
     ensures found { is_some result ≡ has_binding (lent_binding binding.now) (map lent_binding others.now) }
-    ensures within { IfSome result (λ place. place < length others.now) }
+    ensures within { IfSome result (λ index. index < length others.now) }
 {
     let (before, behind) = others.split_at(from);
-    match place_of(binding, behind) {
-        Some(place) => Some(from + place),
-        None => place_of(binding, before),
+    match index_in_list(binding, behind) {
+        Some(index) => Some(from + index),
+        None => index_in_list(binding, before),
     }
 }
 
 /// Copies of those bindings that aren't among the others, in their order. A binding with another
-/// end is another one. Each is looked for behind the last one that was found, so that in lists of
-/// one order all that stay cost one look at each of the others, and each that doesn't stay costs
+/// expiry is another one. Each is looked for behind the last one that was found, so that in lists
+/// of one order all that stay cost one look at each of the others, and each that doesn't stay costs
 /// one more. No contract counts the looks.
 fn those_not_in(
     alloc: Global,
@@ -49,8 +49,8 @@ fn those_not_in(
     let mut left = Listed::new(alloc);
     let mut next = 0;
     for binding in bindings {
-        match place_from(next, binding, others) {
-            Some(place) => next = place + 1,
+        match index_from(next, binding, others) {
+            Some(index) => next = index + 1,
             None => left.push(binding.to_binding(alloc)?)?,
         }
     }
@@ -77,7 +77,7 @@ fn add_bindings_at<'a, R: BindingRow, K: KeyOf<R>>(
     key: &K,
     rows: &'a SortedRows<R>,
 ) -> Result<(), Memory>
-    ensures { OnOk result (map lent_binding list.new ≡ map lent_binding list.old ++ flat_map R.bindings (with_found (row_at R.place (K.place key.now) rows.now.rows) [])) }
+    ensures { OnOk result (map lent_binding list.new ≡ map lent_binding list.old ++ flat_map R.bindings (with_found (row_at R.sort_key (K.sort_key key.now) rows.now.rows) [])) }
 {
     match rows.get(key) {
         Some(row) => row.add_bindings(list),
@@ -91,7 +91,7 @@ fn bindings_gone<'a, K: KeyOf<R>, R: BindingRow>(
     change: &Change<K, R>,
     rows: &'a SortedRows<R>,
 ) -> Result<Listed<LentBinding<'a>>, Memory>
-    ensures { IfOk result (λ list. map lent_binding list ≡ flat_map R.bindings (with_found (gone_row R.place change.now.gone rows.now.rows) [])) }
+    ensures { IfOk result (λ list. map lent_binding list ≡ flat_map R.bindings (with_found (gone_row R.sort_key change.now.gone rows.now.rows) [])) }
 {
     let mut list = Listed::new(alloc);
     match change.gone() {
@@ -103,13 +103,13 @@ fn bindings_gone<'a, K: KeyOf<R>, R: BindingRow>(
     }
 }
 
-/// The bindings of the rows that stand at the places that a change touches.
+/// The bindings of the rows that stand at the sort keys that a change touches.
 fn old_bindings<'a, K: KeyOf<R>, R: BindingRow>(
     alloc: Global,
     change: &Change<K, R>,
     rows: &'a SortedRows<R>,
 ) -> Result<Listed<LentBinding<'a>>, Memory>
-    ensures { IfOk result (λ list. map lent_binding list ≡ flat_map R.bindings (old_rows R.place change.now rows.now.rows)) }
+    ensures { IfOk result (λ list. map lent_binding list ≡ flat_map R.bindings (old_rows R.sort_key change.now rows.now.rows)) }
 {
     let mut list = bindings_gone(alloc, change, rows)?;
     for row in change.sets() {
@@ -125,8 +125,8 @@ pub fn changed_bindings<K: KeyOf<R>, R: BindingRow>(
     change: &Change<K, R>,
     rows: &SortedRows<R>,
 ) -> Result<(Listed<Binding>, Listed<Binding>), Memory>
-    ensures gone { IfOk result (λ lists. lists.0 ≡ gone_of R.place R.bindings change.now rows.now.rows) }
-    ensures come { IfOk result (λ lists. lists.1 ≡ come_of R.place R.bindings change.now rows.now.rows) }
+    ensures gone { IfOk result (λ lists. lists.0 ≡ gone_of R.sort_key R.bindings change.now rows.now.rows) }
+    ensures come { IfOk result (λ lists. lists.1 ≡ come_of R.sort_key R.bindings change.now rows.now.rows) }
 {
     let old = old_bindings(alloc, change, rows)?;
     let new = bindings_of(alloc, change.sets())?;

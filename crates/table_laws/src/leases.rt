@@ -7,7 +7,7 @@ ghost use Rattle.acl_model.specs.Changes.{IsBindingChange};
 ghost use Rattle.mud_tables.specs.declared.thing.Thing.{Thing};
 ghost use Rattle.mud_tables.specs.ItemFields.{IsAddr};
 ghost use Rattle.mud_tables.specs.Things.{mac_of, IsSoundThings};
-ghost use Rattle.mud_tables.specs.ThingSteps.{lease_step};
+ghost use Rattle.mud_tables.specs.ThingCommands.{lease_step};
 ghost use Rattle.mud_tables.specs.ThingChanges.{lease_change};
 ghost use Rattle.mud_tables.specs.Tables.{Tables};
 ghost use Rattle.mud_tables.specs.Bindings.{thing_bindings, bindings_of};
@@ -22,7 +22,7 @@ pub fn leases_change_two_rows()
         → IfOk (lease_step mac a seconds now heard things)
         (λ after. changed mac_of (lease_change mac a seconds now things) things
         ≡ after.things) }
-    // It touches no place twice.
+    // It touches no sort key twice.
     ensures plain { (things : List Thing) → IsSoundThings things → (mac : Mac) (a : Addr)
         (seconds now : ℕ) (heard : Bool)
         → IfOk (lease_step mac a seconds now heard things)

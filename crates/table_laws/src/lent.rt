@@ -24,14 +24,14 @@ pub enum LentKey<'a> {
     Name(&'a [u8]),
 }
 
-/// An address and what it is bound to until its end, lent.
+/// An address and what it is bound to until its expiry, lent.
 #[derive(Clone, Copy, Debug)]
 pub struct LentBinding<'a> {
     /// What the address is bound to.
     pub key: LentKey<'a>,
     /// The address.
     pub addr: Addr,
-    /// When the binding ends.
+    /// When the binding expires.
     pub until: End,
 }
 
@@ -79,9 +79,9 @@ impl LentBinding<'_> {
         })
     }
 
-    /// Whether both are one binding: of one key, address and end. The keys, whose texts are long,
-    /// are looked at last.
-    #[tactic(auto, using(crate::proofs::Places::tests_in_order), unfolding(crate::specs::Lent::lent_binding, acl_model::specs::Changes::same_binding, acl_model::specs::Changes::same_spot))]
+    /// Whether both are one binding: of one key, address and expiry. The keys, whose texts are
+    /// long, are looked at last.
+    #[tactic(auto, using(crate::proofs::Indices::tests_in_order), unfolding(crate::specs::Lent::lent_binding, acl_model::specs::Changes::same_binding, acl_model::specs::Changes::same_spot))]
     pub(crate) fn is_same(&self, other: &LentBinding<'_>) -> bool
         ensures { result ≡ same_binding (lent_binding self.now) (lent_binding other.now) }
     {

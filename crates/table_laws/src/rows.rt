@@ -7,10 +7,10 @@ ghost use Rattle.table_laws.specs.Lent.{lent_key, lent_binding};
 use crate::lent::{LentBinding, LentKey};
 use mud_base::{End, Listed, Memory};
 use mud_tables::{Class, ClassRow, NameRow, Thing};
-use sorted_rows::Placed;
+use sorted_rows::Sortable;
 
 /// A row that binds addresses.
-pub trait BindingRow: Placed {
+pub trait BindingRow: Sortable {
     /// Its bindings.
     ghost bindings: { Self → List BindingValue };
 

@@ -14,14 +14,14 @@ use Rattle.octet_buffer.specs.Packets.{Packet}
 use Rattle.acl_model.specs.declared.ruling.Ruling.{Ruling}
 use Rattle.packet_judge.specs.declared.verdict.Verdict.{Verdict}
 use Rattle.packet_judge.specs.declared.verdict.Verdict.TheVariants.{Unmanaged, Link, Unreadable, Governed}
-use Rattle.packet_judge.specs.Verdicts.{Rulings, Ends, ends_of, end_ruling, governed, is_managed, if_managed, verdict_on, verdict_of}
+use Rattle.packet_judge.specs.Verdicts.{Rulings, Endpoints, endpoints_of, endpoint_ruling, governed, is_managed, if_managed, verdict_on, verdict_of}
 use Rattle.drop_ledger.specs.Counted.{total}
 use Rattle.desk_model.specs.Verdicts.{verdict_at}
 use Rattle.desk_model.specs.Sessions.{Session, frame_in, judged, verdict_in}
 use Rattle.desk_runs.specs.Judged.{judged_packet}
 use Rattle.drop_ledger.specs.declared.seen.Seen.{Seen}
 use Rattle.drop_ledger.specs.declared.seen.Ruled.{Ruled}
-use Rattle.drop_ledger.specs.Places.{count_of_row}
+use Rattle.drop_ledger.specs.SortKeys.{count_of_row}
 use Rattle.drop_ledger.specs.Seen.{hour_of, ruling_on, ruled, ruled_on, is_ruled, is_governed, rulings_in, rulings, HasFields, HasThing}
 use Rattle.drop_ledger.specs.Ledger.{counts_of}
 use Rattle.drop_ledger.proofs.LedgerLaws.{none_ruled, counts_sum}
@@ -48,10 +48,10 @@ mapped_some : {A B : Type 0} (f : A → B) (o : Option A) → is_some (option_ma
 mapped_some f None = refl
 mapped_some f (Some a) = refl
 
-end_some : (rulings : Rulings) (side : Direction) (fields : Fields) (o : Option Thing) → is_some (end_ruling rulings side fields o) ≡ is_some o
-unfolding end_ruling
-end_some rulings side fields None = refl
-end_some rulings side fields (Some thing) = refl
+endpoint_some : (rulings : Rulings) (side : Direction) (fields : Fields) (o : Option Thing) → is_some (endpoint_ruling rulings side fields o) ≡ is_some o
+unfolding endpoint_ruling
+endpoint_some rulings side fields None = refl
+endpoint_some rulings side fields (Some thing) = refl
 
 ruled_as : (s : Seen) (a b : Option Ruling) → s.verdict ≡ Governed a b → is_ruled s ≡ (is_some a || is_some b)
 unfolding ruled_on ruling_on
@@ -59,27 +59,27 @@ ruled_as s a b is =
     (λ i. is_some (option_map (ruled s From) (ruling_on (is i) From)) || is_some (option_map (ruled s To) (ruling_on (is i) To)))
     ∙ (λ i. mapped_some (ruled s From) a i || mapped_some (ruled s To) b i)
 
-governed_right : (rulings : Rulings) (s : Seen) (fields : Fields) (ends : Ends) → s.fields ≡ Some fields → (b : Bool) → is_managed ends ≡ b → s.verdict ≡ cond b (governed rulings fields ends) Unmanaged → IsRight s
+governed_right : (rulings : Rulings) (s : Seen) (fields : Fields) (endpoints : Endpoints) → s.fields ≡ Some fields → (b : Bool) → is_managed endpoints ≡ b → s.verdict ≡ cond b (governed rulings fields endpoints) Unmanaged → IsRight s
 unfolding governed is_managed is_governed
-governed_right rulings s fields ends has false managed is = ungoverned s Unmanaged is refl
-governed_right rulings s fields ends has true managed is = record {
+governed_right rulings s fields endpoints has false managed is = ungoverned s Unmanaged is refl
+governed_right rulings s fields endpoints has true managed is = record {
   fields = λ given. ap is_some has;
   thing = λ given.
-      ruled_as s (end_ruling rulings From fields ends.source) (end_ruling rulings To fields ends.destination) is
-      ∙ (λ i. end_some rulings From fields ends.source i || end_some rulings To fields ends.destination i)
+      ruled_as s (endpoint_ruling rulings From fields endpoints.source) (endpoint_ruling rulings To fields endpoints.destination) is
+      ∙ (λ i. endpoint_some rulings From fields endpoints.source i || endpoint_some rulings To fields endpoints.destination i)
       ∙ managed;
 }
 
 frame_right : (rulings : Rulings) (things : List Thing) (moment : ℕ) (f : Frame) → IsRight (seen_as moment (verdict_on rulings things f) f)
 unfolding seen_as verdict_on if_managed is_governed
 frame_right rulings things moment (frame.Packet packet) =
-    governed_right rulings (seen_as moment (verdict_on rulings things (frame.Packet packet)) (frame.Packet packet)) packet.fields (ends_of things packet.octets) refl (is_managed (ends_of things packet.octets)) refl refl
+    governed_right rulings (seen_as moment (verdict_on rulings things (frame.Packet packet)) (frame.Packet packet)) packet.fields (endpoints_of things packet.octets) refl (is_managed (endpoints_of things packet.octets)) refl refl
 frame_right rulings things moment (frame.Link octets) =
-    ungoverned (seen_as moment (verdict_on rulings things (frame.Link octets)) (frame.Link octets)) (cond (is_managed (ends_of things octets)) Link Unmanaged) refl (without (is_managed (ends_of things octets)) Link refl)
+    ungoverned (seen_as moment (verdict_on rulings things (frame.Link octets)) (frame.Link octets)) (cond (is_managed (endpoints_of things octets)) Link Unmanaged) refl (without (is_managed (endpoints_of things octets)) Link refl)
 frame_right rulings things moment (frame.Unreadable None part) =
     ungoverned (seen_as moment (verdict_on rulings things (frame.Unreadable None part)) (frame.Unreadable None part)) (Unreadable part) refl refl
 frame_right rulings things moment (frame.Unreadable (Some octets) part) =
-    ungoverned (seen_as moment (verdict_on rulings things (frame.Unreadable (Some octets) part)) (frame.Unreadable (Some octets) part)) (cond (is_managed (ends_of things octets)) (Unreadable part) Unmanaged) refl (without (is_managed (ends_of things octets)) (Unreadable part) refl)
+    ungoverned (seen_as moment (verdict_on rulings things (frame.Unreadable (Some octets) part)) (frame.Unreadable (Some octets) part)) (cond (is_managed (endpoints_of things octets)) (Unreadable part) Unmanaged) refl (without (is_managed (endpoints_of things octets)) (Unreadable part) refl)
 
 seen_right : (session : Session) (packet : Packet) → IsRight (seen_of (judged_packet session packet) packet)
 unfolding seen_of frame_in judged verdict_in verdict_at verdict_of

@@ -5,10 +5,10 @@ use Rattle.octet_buffer.specs.Packets.{Packet}
 use Rattle.capture_runs.specs.Captures.{captured_of}
 use Rattle.capture_runs.specs.Same.{HoldTheSame, Seen as Held, seen_of as held_of}
 use Rattle.capture_runs.specs.declared.fault.CaptureFault.{CaptureFault}
-use Rattle.capture_runs.specs.Capture.{due_behind}
+use Rattle.capture_runs.specs.Capture.{output_behind}
 use Rattle.desk_model.specs.Sessions.{Session, frame_in}
 use Rattle.drop_ledger.specs.declared.seen.Seen.{Seen}
-use Rattle.tally_runs.specs.Store.{due_of_tally}
+use Rattle.tally_runs.specs.Store.{output_of_tally}
 use Rattle.tally_runs.specs.Tallied.{seen_as, seen_of, seen_in, tally_text}
 
 -- what is counted, told from the seconds and octets alone
@@ -25,8 +25,8 @@ counted_is session (packet ∷ packets) =
     ap (λ (more : List Seen). seen_as (frame_in session packet.seconds packet.octets).session.moment (frame_in session packet.seconds packet.octets).verdict (frame_of packet.octets) ∷ more)
     (counted_is (frame_in session packet.seconds packet.octets).session packets)
 
-pub tallied_alike : (session : Session) (one other : List ℕ) → HoldTheSame one other → due_of_tally session one ≡ due_of_tally session other
+pub tallied_alike : (session : Session) (one other : List ℕ) → HoldTheSame one other → output_of_tally session one ≡ output_of_tally session other
 tallied_alike session one other h =
-    ap₂ (λ (all : List Seen) (fault : Option CaptureFault). due_behind (tally_text all) fault)
+    ap₂ (λ (all : List Seen) (fault : Option CaptureFault). output_behind (tally_text all) fault)
     (counted_is session (captured_of one).all ∙ ap (counted session) h.same ∙ sym (counted_is session (captured_of other).all))
     (h.whole ∙ sym h.other_whole)

@@ -4,13 +4,13 @@ ghost use Rattle.capture_runs.specs.Same.{HoldTheSame};
 ghost use Rattle.capture_runs.specs.Fold.{lines_from, state_after};
 ghost use Rattle.desk_model.specs.Sessions.{Session};
 ghost use Rattle.drop_ledger.specs.Counted.{first_rows, late_rows, total};
-ghost use Rattle.drop_ledger.specs.Places.{count_of_row};
+ghost use Rattle.drop_ledger.specs.SortKeys.{count_of_row};
 ghost use Rattle.drop_ledger.specs.Seen.{AreSums, rulings, totals_in};
 ghost use Rattle.drop_ledger.specs.Ledger.{counts_of, denials, denied_kinds, denied_times, no_match, times_of};
 ghost use Rattle.mud_base.specs.declared.addr.Mac.{Mac};
 ghost use Rattle.mud_base.specs.declared.packet.Direction.{Direction};
 ghost use Rattle.octet_buffer.specs.Packets.{Packet};
-ghost use Rattle.tally_runs.specs.Store.{due_of_tally};
+ghost use Rattle.tally_runs.specs.Store.{output_of_tally};
 ghost use Rattle.tally_runs.specs.Tallied.{begun, hours, in_hour, seen_in, tally_ending, tally_step, tally_text};
 
 /// The lines that are written as packets come, and those at their end, are the lines that the list of
@@ -36,5 +36,5 @@ pub fn tally_adds_up()
 /// formats they are.
 #[tactic(auto, using(crate::proofs::SameCaptures::tallied_alike))]
 pub fn captures_that_hold_the_same_are_counted_alike()
-    ensures { (session : Session) (one : List ℕ) (other : List ℕ) → HoldTheSame one other → due_of_tally session one ≡ due_of_tally session other }
+    ensures { (session : Session) (one : List ℕ) (other : List ℕ) → HoldTheSame one other → output_of_tally session one ≡ output_of_tally session other }
 {}

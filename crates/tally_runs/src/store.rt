@@ -2,23 +2,23 @@
 ghost use Rattle.std.specs.Prelude.{◌≡◌, ◌≢◌, [], ◌∷◌};
 ghost use Rattle.capture_runs.specs.Capture.{WritesTaken};
 ghost use Rattle.command_runs.specs.Ends.{IsSteady, IsStopped};
-ghost use Rattle.command_runs.specs.Due.{WritesDue, WritesPart};
+ghost use Rattle.command_runs.specs.Output.{WritesOutput, WritesPart};
 ghost use Rattle.command_runs.specs.Status.{Is, IsNot, IsOneOf, status_number};
 ghost use Rattle.command_runs.specs.declared.status.Status.TheVariants.{Done, Refused, DoorFailed, NoMemory, KeeperFailed};
-ghost use Rattle.desk_items.specs.Taken.{kept_of};
+ghost use Rattle.desk_items.specs.Loaded.{kept_of};
 ghost use Rattle.desk_model.specs.Items.{none_kept};
 ghost use Rattle.desk_model.specs.Sessions.{Session};
 ghost use Rattle.desk_runs.specs.Judged.{IsIn};
 ghost use Rattle.desk_model.specs.Boxed.{IsKept};
 ghost use Rattle.mud_desk.specs.DeskState.{tables_of};
-ghost use Rattle.tally_runs.specs.Store.{TalliesStore, due_of_tally};
+ghost use Rattle.tally_runs.specs.Store.{TalliesStore, output_of_tally};
 ghost use Rattle.tally_runs.specs.Tallied.{begun, tally_step};
 
 use crate::counting::TalliedLines;
 use capture_runs::write_capture;
 use command_runs::Status;
 use desk_runs::refuse_store;
-use mud_desk::{Desk, Taken};
+use mud_desk::{Desk, Loaded};
 use mud_world::{Door, Keeper};
 use std::alloc::Global;
 
@@ -32,9 +32,9 @@ fn tally_capture<D: Door>(alloc: Global, desk: Desk, door: &mut D) -> (Status, B
     ensures steady { IsNot DoorFailed (status_number result.0) → IsSteady (D.view door.old) (D.view door.new) }
     // In whatever session the desk is, the lines are those that the list of the packets tells.
     ensures done { (s : Session) → IsIn s desk.state → D.tells → IsOneOf (Done ∷ Refused ∷ []) (status_number result.0) →
-        WritesDue (due_of_tally s (D.view door.old).state.left) (D.view door.old).state (D.view door.new).state (status_number result.0) }
+        WritesOutput (output_of_tally s (D.view door.old).state.left) (D.view door.old).state (D.view door.new).state (status_number result.0) }
     ensures part { (s : Session) → IsIn s desk.state → D.tells → IsOneOf (DoorFailed ∷ NoMemory ∷ []) (status_number result.0) →
-        WritesPart (due_of_tally s (D.view door.old).state.left) (D.view door.old).state (D.view door.new).state }
+        WritesPart (output_of_tally s (D.view door.old).state.left) (D.view door.old).state (D.view door.new).state }
     ensures taken { (s : Session) → IsIn s desk.state → D.tells → (D.view door.new).reads ≢ (D.view door.old).reads →
         WritesTaken tally_step (begun s) (D.view door.old).state (D.view door.new).state }
     ensures turns { (D.view door.new).turns ≡ (D.view door.old).turns }
@@ -50,11 +50,11 @@ fn tally_capture<D: Door>(alloc: Global, desk: Desk, door: &mut D) -> (Status, B
 
 /// Opens a desk over the keeper, and then reads a capture and writes its tally. Where the store can't
 /// be opened, the capture isn't read. The box is handed back. Nothing was taken before, as
-/// [`Desk::open`] wants it: [`Taken::new`].
+/// [`Desk::open`] wants it: [`Loaded::new`].
 pub fn tally_store<D: Door>(
     alloc: Global,
     keeper: Box<dyn Keeper>,
-    nothing: Taken,
+    nothing: Loaded,
     door: &mut D,
 ) -> (Status, Box<dyn Keeper>)
     requires { kept_of nothing ≡ none_kept }

@@ -3,7 +3,7 @@ use Rattle.std.proofs.Common.{◌≡◌, ℕ, suc, ◌+◌, ◌-◌, ◌≤◌, 
 use Rattle.std.proofs.Math.ListN.{replicate}
 use Rattle.std.proofs.lemmas.List.{get_or-replicate, get_or-take, take_all}
 
-module _ (one both first second : List ℕ) (behind start : ℕ) (placed : behind + length second ≡ 21) (some : 1 ≤ behind) (long : length one ≡ 22) where
+module _ (one both first second : List ℕ) (behind start : ℕ) (behind_is : behind + length second ≡ 21) (some : 1 ≤ behind) (long : length one ≡ 22) where
   space_there : take behind one ≡ take behind (replicate 22 32) → get_or one (behind - 1) 0 ≡ 32
   space_there same =
       sym (get_or-take behind one (behind - 1) 0 (omega arith))

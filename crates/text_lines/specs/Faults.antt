@@ -2,11 +2,11 @@
 use Rattle.std.specs.Prelude.{ℕ, List, [], ◌++◌, codes, Option, Some, None}
 use Rattle.mud_url.specs.Fault as url_fault
 use Rattle.mud_url.specs.declared.fault.UrlFault.{UrlFault}
-use Rattle.text_lines.specs.Numbers.{place_text}
+use Rattle.text_lines.specs.Numbers.{offset_text}
 
--- the fault's name, and its place where it has one
+-- the fault's name, and its offset where it has one
 unfoldable pub url_fault_text : UrlFault → List ℕ
-url_fault_text fault = url_fault.name_of fault ++ place_text (url_fault.place_of fault)
+url_fault_text fault = url_fault.name_of fault ++ offset_text (url_fault.offset_of fault)
 
 -- a space and the fault, where there is one
 unfoldable pub url_part : Option UrlFault → List ℕ

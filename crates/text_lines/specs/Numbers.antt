@@ -10,10 +10,10 @@ unfoldable pub two_text : ℕ → ℕ → List ℕ
 two_text first second = decimal first ++ codes " " ++ decimal second ++ codes " "
 
 -- a space and the number, where there is one
-unfoldable pub place_text : Option ℕ → List ℕ
-place_text None = []
-place_text (Some place) = number_text place
+unfoldable pub offset_text : Option ℕ → List ℕ
+offset_text None = []
+offset_text (Some offset) = number_text offset
 
--- what lasts for ever never ends, and its end is the last number of 64 bits
-unfoldable pub end_text : ℕ → List ℕ
-end_text end = if end == 2 ^ 64 - 1 then codes "never" else decimal end
+-- what lasts for ever never expires, and its expiry is the last number of 64 bits
+unfoldable pub expiry_text : ℕ → List ℕ
+expiry_text expiry = if expiry == 2 ^ 64 - 1 then codes "never" else decimal expiry

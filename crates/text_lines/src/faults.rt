@@ -3,7 +3,7 @@ ghost use Rattle.std.specs.Prelude.{◌≡◌, ◌++◌, OnErr, OnOk};
 ghost use Rattle.text_lines.specs.Added.{AddedPart};
 ghost use Rattle.text_lines.specs.Faults as spec;
 
-use crate::numbers::append_place;
+use crate::numbers::append_offset;
 use mud_base::{Bytes, Memory};
 use mud_url::{MudUrl, UrlFault};
 
@@ -15,14 +15,14 @@ pub fn append_url(line: &mut Bytes, url: &MudUrl) -> Result<(), Memory>
     line.append(url.text())
 }
 
-/// Adds the name of a URL's fault, and behind a space its place where it has one.
+/// Adds the name of a URL's fault, and behind a space its offset where it has one.
 #[tactic(auto, unfolding(crate::specs::Faults::url_fault_text))]
 pub fn append_url_fault(line: &mut Bytes, fault: UrlFault) -> Result<(), Memory>
     ensures ok { OnOk result (line.new ≡ line.old ++ spec.url_fault_text fault) }
     ensures part { OnErr result (AddedPart (spec.url_fault_text fault) line.old line.new) }
 {
     line.append(fault.name().as_bytes())?;
-    append_place(line, fault.place().map(|place| place as u64))
+    append_offset(line, fault.offset().map(|offset| offset as u64))
 }
 
 /// Adds a space and a URL's fault, where there is one.

@@ -10,6 +10,6 @@ pub mod paths;
 pub use addresses::{append_addr, append_mac, append_prefix};
 pub use faults::{append_url, append_url_fault, append_url_part};
 pub use numbers::{
-    append_decimal, append_end, append_number, append_place, append_signed, append_two,
+    append_decimal, append_expiry, append_number, append_offset, append_signed, append_two,
 };
 pub use paths::append_path_part;

@@ -2,7 +2,7 @@
 ghost use Rattle.std.specs.Prelude.{◌≡◌, ◌++◌, OnErr, OnOk, decimal};
 ghost use Rattle.std.specs.Fmt.{signed_decimal};
 ghost use Rattle.text_lines.specs.Added.{AddedPart};
-ghost use Rattle.text_lines.specs.Numbers.{end_text, number_text, place_text, two_text};
+ghost use Rattle.text_lines.specs.Numbers.{expiry_text, number_text, offset_text, two_text};
 
 use itoa::{Buffer, write_digits};
 use mud_base::{Bytes, End, Memory};
@@ -24,8 +24,8 @@ pub fn append_decimal(line: &mut Bytes, number: u64) -> Result<(), Memory>
 /// How many octets two numbers take at most, each with a space behind it.
 const MOST_OF_TWO: usize = 22;
 
-/// Adds two numbers with a space behind each. They are written into one buffer, the second one first,
-/// and added at once. Without memory the line stays as it was.
+/// Adds two numbers with a space behind each. They are written into one buffer, the second one
+/// first, and added at once. Without memory the line stays as it was.
 pub fn append_two(line: &mut Bytes, first: u32, second: u32) -> Result<(), Memory>
     ensures ok { OnOk result (line.new ≡ line.old ++ two_text first second) }
     ensures err { OnErr result (line.new ≡ line.old) }
@@ -46,16 +46,16 @@ pub fn append_signed(line: &mut Bytes, number: i64) -> Result<(), Memory>
     line.append(digits.format(number).as_bytes())
 }
 
-/// Adds an end: `never`, or its seconds. Without memory the line stays as it was.
-#[tactic(auto, unfolding(crate::specs::Numbers::end_text))]
-pub fn append_end(line: &mut Bytes, end: End) -> Result<(), Memory>
-    ensures ok { OnOk result (line.new ≡ line.old ++ end_text end) }
+/// Adds an expiry: `never`, or its seconds. Without memory the line stays as it was.
+#[tactic(auto, unfolding(crate::specs::Numbers::expiry_text))]
+pub fn append_expiry(line: &mut Bytes, expiry: End) -> Result<(), Memory>
+    ensures ok { OnOk result (line.new ≡ line.old ++ expiry_text expiry) }
     ensures err { OnErr result (line.new ≡ line.old) }
 {
-    if end.0 == End::NEVER {
+    if expiry.0 == End::NEVER {
         return line.append(b"never");
     }
-    append_decimal(line, end.0)
+    append_decimal(line, expiry.0)
 }
 
 /// Adds a space and the number.
@@ -68,14 +68,14 @@ pub fn append_number(line: &mut Bytes, number: u64) -> Result<(), Memory>
     append_decimal(line, number)
 }
 
-/// Adds a space and the place, where there is one.
-#[tactic(auto, unfolding(crate::specs::Numbers::place_text))]
-pub fn append_place(line: &mut Bytes, place: Option<u64>) -> Result<(), Memory>
-    ensures ok { OnOk result (line.new ≡ line.old ++ place_text place) }
-    ensures part { OnErr result (AddedPart (place_text place) line.old line.new) }
+/// Adds a space and the offset, where there is one.
+#[tactic(auto, unfolding(crate::specs::Numbers::offset_text))]
+pub fn append_offset(line: &mut Bytes, offset: Option<u64>) -> Result<(), Memory>
+    ensures ok { OnOk result (line.new ≡ line.old ++ offset_text offset) }
+    ensures part { OnErr result (AddedPart (offset_text offset) line.old line.new) }
 {
-    match place {
+    match offset {
         None => Ok(()),
-        Some(place) => append_number(line, place),
+        Some(offset) => append_number(line, offset),
     }
 }

@@ -4,7 +4,7 @@ use Rattle.std.specs.Prelude.{IfOk}
 use Rattle.std.proofs.lemmas.Result.{IfOk-at_ok}
 use Rattle.sorted_rows.specs.Changes.{RowChange}
 use Rattle.mud_tables.specs.declared.thing.Thing.{Thing}
-use Rattle.mud_tables.specs.ThingSteps.{ThingStep}
+use Rattle.mud_tables.specs.ThingCommands.{ThingStep}
 use Rattle.thing_book.specs.declared.plan.Plan.{Plan}
 use Rattle.thing_book.specs.RowChanges.{IsSaid}
 

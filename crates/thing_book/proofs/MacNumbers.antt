@@ -7,7 +7,7 @@ use Rattle.std.specs.declared.cmp.Ordering.TheVariants.{Less, Equal, Greater}
 use Rattle.std.specs.Cmp.{nat_cmp_is}
 use Rattle.std.proofs.lemmas.Cmp.{ranked}
 use Rattle.std.proofs.lemmas.Nat.{mul-add-lt}
-use Rattle.sorted_rows.specs.Placed.{place_cmp}
+use Rattle.sorted_rows.specs.Sortable.{sort_key_cmp}
 use Rattle.sorted_rows.proofs.Orders.{then_equal}
 
 same_first : (h a b : ℕ) (o : Ordering) → o ≡ nat_cmp a b → nat_cmp (h + a) (h + b) ≡ o
@@ -39,7 +39,7 @@ low_first p = omega arith
 
 six : (a b c d e f a' b' c' d' e' f' : ℕ) → b < 256 → c < 256 → d < 256 → e < 256 → f < 256 → b' < 256 → c' < 256 → d' < 256 → e' < 256 → f' < 256
     → nat_cmp (a * 1099511627776 + (b * 4294967296 + (c * 16777216 + (d * 65536 + (e * 256 + f))))) (a' * 1099511627776 + (b' * 4294967296 + (c' * 16777216 + (d' * 65536 + (e' * 256 + f')))))
-    ≡ place_cmp (a ∷ b ∷ c ∷ d ∷ e ∷ f ∷ []) (a' ∷ b' ∷ c' ∷ d' ∷ e' ∷ f' ∷ [])
+    ≡ sort_key_cmp (a ∷ b ∷ c ∷ d ∷ e ∷ f ∷ []) (a' ∷ b' ∷ c' ∷ d' ∷ e' ∷ f' ∷ [])
 six a b c d e f a' b' c' d' e' f' b< c< d< e< f< b'< c'< d'< e'< f'< =
     first 1099511627776 a a' (b * 4294967296 + (c * 16777216 + (d * 65536 + (e * 256 + f)))) (b' * 4294967296 + (c' * 16777216 + (d' * 65536 + (e' * 256 + f')))) (omega arith) (omega arith)
     ∙ ap (ordering_then (nat_cmp a a')) (first 4294967296 b b' (c * 16777216 + (d * 65536 + (e * 256 + f))) (c' * 16777216 + (d' * 65536 + (e' * 256 + f'))) (omega arith) (omega arith)
@@ -57,9 +57,9 @@ six_octets (a ∷ b ∷ c ∷ d ∷ e ∷ []) long = absurd (omega arith)
 six_octets (a ∷ b ∷ c ∷ d ∷ e ∷ f ∷ []) long = refl
 six_octets (a ∷ b ∷ c ∷ d ∷ e ∷ f ∷ g ∷ p) long = absurd (omega arith)
 
-pub mac_cmp : (p q : List ℕ) → length p ≡ 6 → length q ≡ 6 → ((k : ℕ) → get_or p k 0 < 256) → ((k : ℕ) → get_or q k 0 < 256) → nat_cmp (spelled p) (spelled q) ≡ place_cmp p q
+pub mac_cmp : (p q : List ℕ) → length p ≡ 6 → length q ≡ 6 → ((k : ℕ) → get_or p k 0 < 256) → ((k : ℕ) → get_or q k 0 < 256) → nat_cmp (spelled p) (spelled q) ≡ sort_key_cmp p q
 mac_cmp p q lp lq op oq =
     ap₂ nat_cmp (low_first p) (low_first q)
     ∙ six (get_or p 0 0) (get_or p 1 0) (get_or p 2 0) (get_or p 3 0) (get_or p 4 0) (get_or p 5 0) (get_or q 0 0) (get_or q 1 0) (get_or q 2 0) (get_or q 3 0) (get_or q 4 0) (get_or q 5 0)
     (op 1) (op 2) (op 3) (op 4) (op 5) (oq 1) (oq 2) (oq 3) (oq 4) (oq 5)
-    ∙ ap₂ place_cmp (six_octets p lp) (six_octets q lq)
+    ∙ ap₂ sort_key_cmp (six_octets p lp) (six_octets q lq)

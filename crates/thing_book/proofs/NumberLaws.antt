@@ -15,10 +15,10 @@ use Rattle.std.proofs.Math.ListN.{set, replicate}
 use Rattle.std.proofs.lemmas.Bool.{cases_eq, cases_lt}
 use Rattle.std.proofs.lemmas.List.{length-map, length-set, length-replicate, length-take-le, get_or-take, get_or-set_same, get_or-set_other, take_all}
 use Rattle.std.proofs.lemmas.Option.{slice_get_past, slice_get_read}
-use Rattle.sorted_rows.specs.Placed.{place_cmp, same_place, PlacesAbove, PlacesAscend, row_at}
-use Rattle.sorted_rows.specs.Search.{place_answer}
+use Rattle.sorted_rows.specs.Sortable.{sort_key_cmp, same_sort_key, SortKeysAbove, SortKeysAscend, row_at}
+use Rattle.sorted_rows.specs.Search.{sort_key_answer}
 use Rattle.sorted_rows.proofs.Lists.{all_push}
-use Rattle.sorted_rows.proofs.PlacedLaws.{row_at_found, same_place_exact}
+use Rattle.sorted_rows.proofs.SortableLaws.{row_at_found, same_sort_key_exact}
 use Rattle.sorted_rows.proofs.ProbeLaws.{index_in_met}
 use Rattle.mud_base.specs.declared.addr.Mac.{Mac}
 use Rattle.mud_tables.specs.declared.thing.Thing.{Thing}
@@ -32,27 +32,27 @@ length_numbers things numbers are = ap length are.numbers_are ∙ length-map thi
 
 -- ---- Numbers rise as hardware addresses do
 
-order : (mac : Mac) → IsMac mac → (thing : Thing) → HasMac thing → place_cmp mac.0 (mac_of thing) ≡ nat_cmp (mac_number mac) (thing_number thing)
+order : (mac : Mac) → IsMac mac → (thing : Thing) → HasMac thing → sort_key_cmp mac.0 (mac_of thing) ≡ nat_cmp (mac_number mac) (thing_number thing)
 unfolding mac_of
 order mac own thing other = sym (mac_cmp mac.0 thing.mac.0 own.six other.six own.octets other.octets)
 
-less_number : (x y : Thing) → HasMac x → HasMac y → place_cmp (mac_of x) (mac_of y) ≡ Less → thing_number x < thing_number y
+less_number : (x y : Thing) → HasMac x → HasMac y → sort_key_cmp (mac_of x) (mac_of y) ≡ Less → thing_number x < thing_number y
 unfolding mac_of
 less_number x y own other lt = ranked (thing_number x) (thing_number y) Less (sym lt ∙ order x.mac own y other)
 
-above_number : (x : Thing) → HasMac x → (xs : List Thing) → AllByRecursion HasMac xs → PlacesAbove mac_of (mac_of x) xs → (j : ℕ) → j < length xs → thing_number x < get_or (map thing_number xs) j 0
+above_number : (x : Thing) → HasMac x → (xs : List Thing) → AllByRecursion HasMac xs → SortKeysAbove mac_of (mac_of x) xs → (j : ℕ) → j < length xs → thing_number x < get_or (map thing_number xs) j 0
 above_number x own [] all above j lt = absurd (omega arith)
 above_number x own (y ∷ ys) all above zero lt = less_number x y own all.0 above.0
 above_number x own (y ∷ ys) all above (suc j) lt = above_number x own ys all.1 above.1 j (omega arith)
 
-rise : (xs : List Thing) → AllByRecursion HasMac xs → PlacesAscend mac_of xs → (i j : ℕ) → i ≤ j → j < length xs → get_or (map thing_number xs) i 0 ≤ get_or (map thing_number xs) j 0
+rise : (xs : List Thing) → AllByRecursion HasMac xs → SortKeysAscend mac_of xs → (i j : ℕ) → i ≤ j → j < length xs → get_or (map thing_number xs) i 0 ≤ get_or (map thing_number xs) j 0
 rise [] all up i j le lt = absurd (omega arith)
 rise (x ∷ xs) all up zero zero le lt = omega arith
 rise (x ∷ xs) all up zero (suc j) le lt = omega (arith, above_number x all.0 xs all.1 up.0 j (omega arith))
 rise (x ∷ xs) all up (suc i) zero le lt = absurd (omega arith)
 rise (x ∷ xs) all up (suc i) (suc j) le lt = rise xs all.1 up.1 i j (omega arith) (omega arith)
 
-pub rising : (things : List Thing) (numbers : List ℕ) → AreNumbersOf things numbers → PlacesAscend mac_of things → AreRising numbers
+pub rising : (things : List Thing) (numbers : List ℕ) → AreNumbersOf things numbers → SortKeysAscend mac_of things → AreRising numbers
 rising things numbers are up =
     subst AreRising (sym are.numbers_are) (λ i j le lt. let long : length (map thing_number things) ≡ length things = length-map things thing_number in rise things are.each up i j le (omega arith))
 
@@ -60,17 +60,17 @@ rising things numbers are up =
 
 module _ (mac : Mac) (own : IsMac mac) where
   -- a search by hardware addresses would be answered so
-  answer : (things : List Thing) → AllByRecursion HasMac things → (i : ℕ) (e : Ordering) → i < length things → get_or (map (place_answer mac_of mac.0) things) i e ≡ nat_cmp (mac_number mac) (get_or (map thing_number things) i 0)
+  answer : (things : List Thing) → AllByRecursion HasMac things → (i : ℕ) (e : Ordering) → i < length things → get_or (map (sort_key_answer mac_of mac.0) things) i e ≡ nat_cmp (mac_number mac) (get_or (map thing_number things) i 0)
   answer [] all i e lt = absurd (omega arith)
   answer (x ∷ xs) all zero e lt = order mac own x all.0
   answer (x ∷ xs) all (suc i) e lt = answer xs all.1 i e (omega arith)
 
-  found_there : (things : List Thing) → AllByRecursion HasMac things → PlacesAscend mac_of things → (i : ℕ) → i < length things → get_or (map thing_number things) i 0 ≡ mac_number mac → row_at mac_of mac.0 things ≡ slice_get things i
+  found_there : (things : List Thing) → AllByRecursion HasMac things → SortKeysAscend mac_of things → (i : ℕ) → i < length things → get_or (map thing_number things) i 0 ≡ mac_number mac → row_at mac_of mac.0 things ≡ slice_get things i
   found_there things all up i lt same =
       row_at_found mac_of mac.0 things i up
       (index_in_met mac_of mac.0 things i up (answer things all i Less lt ∙ sym (nat_cmp_is (mac_number mac) (get_or (map thing_number things) i 0) Equal (sym same))))
 
-  pub found : (things : List Thing) (numbers : List ℕ) → AreNumbersOf things numbers → PlacesAscend mac_of things → (i : ℕ) → i < length numbers → get_or numbers i 0 ≡ mac_number mac → row_at mac_of mac.0 things ≡ slice_get things i
+  pub found : (things : List Thing) (numbers : List ℕ) → AreNumbersOf things numbers → SortKeysAscend mac_of things → (i : ℕ) → i < length numbers → get_or numbers i 0 ≡ mac_number mac → row_at mac_of mac.0 things ≡ slice_get things i
   found things numbers are up i lt same =
       found_there things are.each up i
       (let long : length numbers ≡ length things = length_numbers things numbers are in omega arith)
@@ -79,10 +79,10 @@ module _ (mac : Mac) (own : IsMac mac) where
 absent_there : (mac : Mac) (things : List Thing) → ((k : ℕ) → k < length things → get_or (map thing_number things) k 0 ≢ mac_number mac) → row_at mac_of mac.0 things ≡ None
 unfolding mac_of
 absent_there mac [] none = refl
-absent_there mac (x ∷ xs) none = by_first (same_place x.mac.0 mac.0) refl (absent_there mac xs (λ k lt. none (suc k) (omega arith)))
+absent_there mac (x ∷ xs) none = by_first (same_sort_key x.mac.0 mac.0) refl (absent_there mac xs (λ k lt. none (suc k) (omega arith)))
   where
-    by_first : (b : Bool) → same_place x.mac.0 mac.0 ≡ b → row_at mac_of mac.0 xs ≡ None → cond b (Some x) (row_at mac_of mac.0 xs) ≡ None
-    by_first true e rest = absurd (none 0 (omega arith) (ap (λ (octets : List ℕ). from_be_bytes w64 (0 ∷ 0 ∷ octets)) (same_place_exact x.mac.0 mac.0 e)))
+    by_first : (b : Bool) → same_sort_key x.mac.0 mac.0 ≡ b → row_at mac_of mac.0 xs ≡ None → cond b (Some x) (row_at mac_of mac.0 xs) ≡ None
+    by_first true e rest = absurd (none 0 (omega arith) (ap (λ (octets : List ℕ). from_be_bytes w64 (0 ∷ 0 ∷ octets)) (same_sort_key_exact x.mac.0 mac.0 e)))
     by_first false e rest = rest
 
 pub absent : (mac : Mac) (things : List Thing) (numbers : List ℕ) → AreNumbersOf things numbers → ((k : ℕ) → k < length numbers → get_or numbers k 0 ≢ mac_number mac) → row_at mac_of mac.0 things ≡ None

@@ -8,21 +8,21 @@ use Rattle.std.proofs.lemmas.Bool.{false_from_ne_true}
 use Rattle.mud_base.specs.declared.addr.Addr.{Addr}
 use Rattle.mud_base.specs.declared.addr.Mac.{Mac}
 use Rattle.mud_url.specs.Url.{is_canonical}
-use Rattle.sorted_rows.specs.Placed.{row_at, set_rows, RowsAndRoom}
-use Rattle.sorted_rows.specs.Changes.{RowChange, changed, places_of, rows_at, with_found, without_gone}
+use Rattle.sorted_rows.specs.Sortable.{row_at, set_rows, RowsAndRoom}
+use Rattle.sorted_rows.specs.Changes.{RowChange, changed, sort_keys_of, rows_at, with_found, without_gone}
 use Rattle.sorted_rows.proofs.ChangeLaws.{new_rows}
 use Rattle.mud_world.specs.declared.item.Put.{Put}
-use Rattle.mud_world.specs.Items.{place_of, place_of_put, item_after, set_put, gone_put, puts_of, IsDifference, IsOrdered}
+use Rattle.mud_world.specs.Items.{sort_key_of, sort_key_of_put, item_after, set_put, gone_put, puts_of, IsDifference, IsOrdered}
 use Rattle.mud_world.proofs.ItemLaws.{puts_of_kind, puts_length, ordered-items, said, put_same}
 use Rattle.acl_model.specs.Changes.{IsBindingChange}
 use Rattle.mud_tables.specs.declared.thing.Thing.{Thing}
 use Rattle.mud_tables.specs.Things.{mac_of, IsKeptThing, IsSoundThings}
 use Rattle.mud_tables.specs.ThingItems.{thing_item, thing_items, thing_in}
-use Rattle.mud_tables.specs.ThingSteps.{ThingsAfter, TellsChange, ThingStep}
+use Rattle.mud_tables.specs.ThingCommands.{ThingsAfter, TellsChange, ThingStep}
 use Rattle.mud_tables.specs.Tables.{Tables}
 use Rattle.mud_tables.specs.Bindings.{thing_bindings, bindings_of}
 use Rattle.mud_tables.specs.BindingChanges.{gone_of, come_of}
-use Rattle.mud_tables.specs.ThingSteps.{url_step, move_step, remove_step, hold_step, release_step, lease_step, end_step}
+use Rattle.mud_tables.specs.ThingCommands.{url_step, move_step, remove_step, hold_step, release_step, lease_step, end_step}
 use Rattle.mud_tables.specs.ThingChanges.{lease_change, end_change}
 use Rattle.mud_tables.specs.ItemFields.{IsAddr}
 use Rattle.mud_tables.proofs.SoundThings.{OfAfter, sound-url_step, sound-move_step, sound-remove_step, sound-hold_step, sound-release_step, sound-lease_step, sound-end_step}
@@ -45,20 +45,20 @@ one_item x y kept kept' e = same_Some x y (sym (thing_back x kept) ∙ ap thing_
 
 -- ---- Rows that are put in
 
-found_all : {R : Type 0} (place : R → List ℕ) (P : R → Type 0) (ps : List (List ℕ)) (rows : List R) → AllByRecursion P rows → AllByRecursion P (rows_at place ps rows)
-found_all place P [] rows all = tt
-found_all place P (p ∷ ps) rows all = with_one (row_at place p rows) refl (found_all place P ps rows all)
+found_all : {R : Type 0} (sort_key : R → List ℕ) (P : R → Type 0) (ps : List (List ℕ)) (rows : List R) → AllByRecursion P rows → AllByRecursion P (rows_at sort_key ps rows)
+found_all sort_key P [] rows all = tt
+found_all sort_key P (p ∷ ps) rows all = with_one (row_at sort_key p rows) refl (found_all sort_key P ps rows all)
   where
-    with_one : (o : Option _) → row_at place p rows ≡ o → AllByRecursion P (rows_at place ps rows) → AllByRecursion P (with_found o (rows_at place ps rows))
+    with_one : (o : Option _) → row_at sort_key p rows ≡ o → AllByRecursion P (rows_at sort_key ps rows) → AllByRecursion P (with_found o (rows_at sort_key ps rows))
     with_one None e rest = rest
-    with_one (Some x) e rest = (all_at place P rows p x all e, rest)
+    with_one (Some x) e rest = (all_at sort_key P rows p x all e, rest)
 
 module _ (things : List Thing) (sound : IsSoundThings things) (change : RowChange Thing) (after : List Thing) (sound' : IsSoundThings after) (makes : Makes things change after) where
   -- each Thing that is put in can be kept
   sets_kept : AllByRecursion IsKeptThing change.sets
   sets_kept =
       subst (AllByRecursion IsKeptThing) (new_rows mac_of change things sound.ascend makes.plain)
-      (found_all mac_of IsKeptThing (places_of mac_of change) (changed mac_of change things) (subst (AllByRecursion IsKeptThing) (sym makes.leads) sound'.each))
+      (found_all mac_of IsKeptThing (sort_keys_of mac_of change) (changed mac_of change things) (subst (AllByRecursion IsKeptThing) (sym makes.leads) sound'.each))
 
   differ : IsDifference (thing_items things) (thing_items after) (puts_of 1 thing_item change)
   unfolding thing_items
@@ -67,7 +67,7 @@ module _ (things : List Thing) (sound : IsSoundThings things) (change : RowChang
       (kept_differ mac_of 1 thing_item are_things IsKeptThing one_item things sound.ascend sound.each change sets_kept makes.plain makes.needed)
 
   few_puts : length (puts_of 1 thing_item change) ≤ 2
-  few_puts = let long : length (puts_of 1 thing_item change) ≡ length (places_of mac_of change) = puts_length mac_of 1 thing_item are_things change in omega (arith, long, makes.few)
+  few_puts = let long : length (puts_of 1 thing_item change) ≡ length (sort_keys_of mac_of change) = puts_length mac_of 1 thing_item are_things change in omega (arith, long, makes.few)
 
   bind : (tables : Tables) → tables.things ≡ things → IsBindingChange (bindings_of tables) (bindings_of (record tables { things = after })) (gone_of mac_of thing_bindings change things) (come_of mac_of thing_bindings change things)
   bind tables e =
@@ -92,8 +92,8 @@ module _ (things : List Thing) (sound : IsSoundThings things) (change : RowChang
   first_changes e [] difference = refl
   first_changes e (put ∷ puts) difference =
       let up : IsOrdered (map thing_item things) = ordered-items mac_of 1 thing_item are_things things sound.ascend in
-      let there : row_at place_of (place_of_put put) (map thing_item things) ≡ item_after put =
-      ap (λ ts. row_at place_of (place_of_put put) (map thing_item ts)) (sym e) ∙ (said (map thing_item things) (map thing_item after) (put ∷ puts) up difference).0 in
+      let there : row_at sort_key_of (sort_key_of_put put) (map thing_item things) ≡ item_after put =
+      ap (λ ts. row_at sort_key_of (sort_key_of_put put) (map thing_item ts)) (sym e) ∙ (said (map thing_item things) (map thing_item after) (put ∷ puts) up difference).0 in
       absurd (difference.needed 0 put (omega arith) (put_same (map thing_item things) put up there))
 
 -- ---- The step

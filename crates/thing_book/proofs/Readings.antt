@@ -9,8 +9,8 @@ use Rattle.mud_base.specs.declared.addr.Addr.{Addr}
 use Rattle.mud_base.specs.declared.addr.Mac.{Mac}
 use Rattle.mud_url.specs.Url.{is_canonical}
 use Rattle.item_codec.specs.Records.{each_in, string_in, version_to_in, end_in, optional_in, elements_in, ◌>>=◌}
-use Rattle.mud_tables.specs.Ends.{Ends}
-use Rattle.mud_tables.specs.ItemFields.{ending_in}
+use Rattle.mud_tables.specs.Expiries.{Expiries}
+use Rattle.mud_tables.specs.ItemFields.{expiring_in}
 use Rattle.mud_tables.specs.declared.thing.Thing.{Thing}
 use Rattle.mud_tables.specs.Things.{may_wait, are_leases, is_sound_thing}
 use Rattle.mud_tables.specs.ThingItems.{hold_in, if_sound_thing, thing_of}
@@ -19,39 +19,39 @@ use Rattle.thing_book.specs.Said.{pending_said}
 -- ---- Rows that are read one behind the other
 
 -- what is read behind these rows
-unfoldable pub behind : Ends → Ends × List ℕ → Ends × List ℕ
+unfoldable pub behind : Expiries → Expiries × List ℕ → Expiries × List ℕ
 behind rows r = (rows ++ r.0, r.1)
 
-pub first_behind : (o : Option (Ends × List ℕ)) → o ≡ option_map (behind []) o
+pub first_behind : (o : Option (Expiries × List ℕ)) → o ≡ option_map (behind []) o
 unfolding behind
 first_behind None = refl
 first_behind (Some r) = refl
 
 -- no row is left to be read
-pub last_behind : (count left : ℕ) (octets rest : List ℕ) (rows : Ends) → each_in ending_in count octets ≡ option_map (behind rows) (each_in ending_in left rest) → left ≡ 0 → each_in ending_in count octets ≡ Some (rows, rest)
+pub last_behind : (count left : ℕ) (octets rest : List ℕ) (rows : Expiries) → each_in expiring_in count octets ≡ option_map (behind rows) (each_in expiring_in left rest) → left ≡ 0 → each_in expiring_in count octets ≡ Some (rows, rest)
 unfolding behind each_in
-last_behind count left octets rest rows e none = e ∙ ap (λ n. option_map (behind rows) (each_in ending_in n rest)) none ∙ ap (λ all. Some (all, rest)) (append-nil rows)
+last_behind count left octets rest rows e none = e ∙ ap (λ n. option_map (behind rows) (each_in expiring_in n rest)) none ∙ ap (λ all. Some (all, rest)) (append-nil rows)
 
-more_behind : (rows : Ends) (row : Addr × ℕ) (o : Option (Ends × List ℕ)) → option_map (behind rows) (o >>= λ others. Some (row ∷ others.0, others.1)) ≡ option_map (behind (rows ++ row ∷ [])) o
+more_behind : (rows : Expiries) (row : Addr × ℕ) (o : Option (Expiries × List ℕ)) → option_map (behind rows) (o >>= λ others. Some (row ∷ others.0, others.1)) ≡ option_map (behind (rows ++ row ∷ [])) o
 unfolding behind
 more_behind rows row None = refl
 more_behind rows row (Some r) = ap (λ all. Some (all, r.1)) (sym (append_assoc rows (row ∷ []) r.0))
 
 -- one row more is read
-pub row_behind : (left n : ℕ) (octets rest : List ℕ) (rows : Ends) (row : Addr × ℕ) → left ≡ suc n → ending_in octets ≡ Some (row, rest)
-    → option_map (behind rows) (each_in ending_in left octets) ≡ option_map (behind (rows ++ row ∷ [])) (each_in ending_in n rest)
+pub row_behind : (left n : ℕ) (octets rest : List ℕ) (rows : Expiries) (row : Addr × ℕ) → left ≡ suc n → expiring_in octets ≡ Some (row, rest)
+    → option_map (behind rows) (each_in expiring_in left octets) ≡ option_map (behind (rows ++ row ∷ [])) (each_in expiring_in n rest)
 unfolding each_in
 row_behind left n octets rest rows row one e =
-    ap (λ k. option_map (behind rows) (each_in ending_in k octets)) one
-    ∙ ap (λ o. option_map (behind rows) (o >>= λ first. each_in ending_in n first.1 >>= λ others. Some (first.0 ∷ others.0, others.1))) e
-    ∙ more_behind rows row (each_in ending_in n rest)
+    ap (λ k. option_map (behind rows) (each_in expiring_in k octets)) one
+    ∙ ap (λ o. option_map (behind rows) (o >>= λ first. each_in expiring_in n first.1 >>= λ others. Some (first.0 ∷ others.0, others.1))) e
+    ∙ more_behind rows row (each_in expiring_in n rest)
 
 -- a row can't be read
-pub none_behind : (left n : ℕ) (octets : List ℕ) (rows : Ends) → left ≡ suc n → ending_in octets ≡ None → option_map (behind rows) (each_in ending_in left octets) ≡ None
+pub none_behind : (left n : ℕ) (octets : List ℕ) (rows : Expiries) → left ≡ suc n → expiring_in octets ≡ None → option_map (behind rows) (each_in expiring_in left octets) ≡ None
 unfolding each_in
 none_behind left n octets rows one e =
-    ap (λ k. option_map (behind rows) (each_in ending_in k octets)) one
-    ∙ ap (λ o. option_map (behind rows) (o >>= λ first. each_in ending_in n first.1 >>= λ others. Some (first.0 ∷ others.0, others.1))) e
+    ap (λ k. option_map (behind rows) (each_in expiring_in k octets)) one
+    ∙ ap (λ o. option_map (behind rows) (o >>= λ first. each_in expiring_in n first.1 >>= λ others. Some (first.0 ∷ others.0, others.1))) e
 
 -- ---- A body, field by field
 
@@ -79,11 +79,11 @@ module _ (key body : List ℕ) where
       no_pending e = rw (e1, e2, e) refl
 
       module _ (pending : Option (List ℕ)) (r3 : List ℕ) (e3 : optional_in string_in r2 ≡ Some (pending, r3)) where
-        pub no_leases : elements_in ending_in r3 ≡ None → thing_of key body ≡ None
+        pub no_leases : elements_in expiring_in r3 ≡ None → thing_of key body ≡ None
         unfolding thing_of
         no_leases e = rw (e1, e2, e3, e) refl
 
-        module _ (leases : Ends) (r4 : List ℕ) (e4 : elements_in ending_in r3 ≡ Some (leases, r4)) where
+        module _ (leases : Expiries) (r4 : List ℕ) (e4 : elements_in expiring_in r3 ≡ Some (leases, r4)) where
           pub no_hold : hold_in version r4 ≡ None → thing_of key body ≡ None
           unfolding thing_of
           no_hold e = rw (e1, e2, e3, e4, e) refl
@@ -138,7 +138,7 @@ unfolding if_sound_thing is_sound_thing
 not_pending thing e = ap (λ b. cond b (Some thing) None) (not_both (is_canonical thing.url) (may_wait thing.url thing.pending) (are_leases thing.leases) (none_waits thing.url thing.pending e))
 
 -- the Thing that was made of what is said
-pub sound_or_not : (mac : Mac) (url url' : List ℕ) (pending pending' : Option (List ℕ)) (leases : Ends) (held b : Bool) → url ≡ url' → pending ≡ pending'
+pub sound_or_not : (mac : Mac) (url url' : List ℕ) (pending pending' : Option (List ℕ)) (leases : Expiries) (held b : Bool) → url ≡ url' → pending ≡ pending'
     → b ≡ is_sound_thing (record { mac = mac; url = url; pending = pending; leases = leases; held = held })
     → cond b (Some (record { mac = mac; url = url; pending = pending; leases = leases; held = held })) None ≡ if_sound_thing (record { mac = mac; url = url'; pending = pending'; leases = leases; held = held })
 unfolding if_sound_thing

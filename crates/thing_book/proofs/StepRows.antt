@@ -1,4 +1,4 @@
--- The rows that each command changes make its list, touch no place twice, and change something at each.
+-- The rows that each command changes make its list, touch no sort key twice, and change something at each.
 use Rattle.std.proofs.Common.{◌≡◌, ℕ, ◌≤◌, ◌==◌, Bool, true, false, cond, List, [], ◌∷◌, ◌++◌, length, map, Option, Some, None, Err, refl, sym, ap, ◌∙◌, arith, lit≤}
 use Rattle.std.specs.Prelude.{bytes_eq, nat_le, IfOk}
 use Rattle.std.specs.List.{list_any, filter, AllByRecursion}
@@ -8,33 +8,33 @@ use Rattle.std.proofs.lemmas.List.{length-map, length-append}
 use Rattle.mud_base.specs.declared.addr.Addr.{Addr}
 use Rattle.mud_base.specs.declared.addr.Mac.{Mac}
 use Rattle.item_codec.specs.declared.word.Word.TheVariants.{New, Same, Pending, Moved, Held, Released, Stranger, Renewed, Ended}
-use Rattle.sorted_rows.specs.Placed.{row_at, PlacesAbove, PlacesAscend, same_place}
-use Rattle.sorted_rows.specs.Changes.{RowChange, IsNeededChange, changed, is_plain, places_of}
-use Rattle.sorted_rows.proofs.PlacedLaws.{row_at_above, same_place_itself}
+use Rattle.sorted_rows.specs.Sortable.{row_at, SortKeysAbove, SortKeysAscend, same_sort_key}
+use Rattle.sorted_rows.specs.Changes.{RowChange, IsNeededChange, changed, is_plain, sort_keys_of}
+use Rattle.sorted_rows.proofs.SortableLaws.{row_at_above, same_sort_key_itself}
 use Rattle.sorted_rows.proofs.RowLaws.{set_row_there}
 use Rattle.mud_tables.specs.declared.thing.Thing.{Thing}
 use Rattle.mud_tables.specs.declared.thing_fault.ThingFault.TheVariants.{ThingsFull, NoThing, NoPending, LeasesFull, NoLease}
 use Rattle.mud_tables.specs.Limits.{most_things, most_leases}
-use Rattle.mud_tables.specs.Ends.{end_of, with_end, live_rows, live_count}
+use Rattle.mud_tables.specs.Expiries.{expiry_of, with_expiry, live_rows, live_count}
 use Rattle.mud_tables.specs.Things.{mac_of, thing_at, set_thing, without_thing, holds, with_leases, released, without_lease, new_thing, IsAlone, IsSoundThings}
-use Rattle.mud_tables.specs.ThingSteps.{TellsChange, ThingStep, done, leased_until, left, left_until, is_pending, url_cases, url_step, move_cases, move_step, remove_cases, remove_step, with_hold, hold_cases, hold_step, release_cases, release_step, end_after, kept_lease, new_lease, known_lease, stranger_lease, lease_cases, lease_step, end_step}
+use Rattle.mud_tables.specs.ThingCommands.{TellsChange, ThingStep, done, leased_until, left, left_until, is_pending, url_cases, url_step, move_cases, move_step, remove_cases, remove_step, with_hold, hold_cases, hold_step, release_cases, release_step, expiry_after, kept_lease, new_lease, known_lease, stranger_lease, lease_cases, lease_step, end_step}
 use Rattle.mud_tables.specs.ThingChanges.{puts_in, released_holders, leased, new_lease_change, end_change, kept_lease_change, known_lease_change, lease_cases_change, lease_change}
 use Rattle.sorted_rows.proofs.ListTests.{or_first, or_second}
 use Rattle.sorted_rows.proofs.Lists.{all-map, all_push}
 use Rattle.sorted_rows.proofs.RowSets.{Passing, found_passing, at_later}
 use Rattle.mud_tables.proofs.AloneLaws.{without_address_none}
-use Rattle.mud_tables.proofs.LeaseLaws.{end_of-with_end}
-use Rattle.mud_tables.proofs.SoundThings.{at_its_place}
+use Rattle.mud_tables.proofs.LeaseLaws.{expiry_of-with_expiry}
+use Rattle.mud_tables.proofs.SoundThings.{at_its_sort_key}
 use Rattle.mud_tables.proofs.ToldThings.{told-url_step, told-move_step, told-hold_step, told-release_step, told-lease_step}
 use Rattle.table_laws.proofs.LeaseChanges.{end_changed, end_unchanged, end_plain, new_lease_changed, new_lease_plain}
 use Rattle.thing_book.specs.RowChanges.{url_cases_change, url_change, waiting_for, moved_to, move_cases_change, move_change, remove_change, hold_cases_change, hold_change, release_cases_change, release_change}
 
--- the change makes the list from the Things, touches at most two places, none of them twice, and changes something at each
+-- the change makes the list from the Things, touches at most two sort keys, none of them twice, and changes something at each
 pub record Makes (things : List Thing) (change : RowChange Thing) (after : List Thing) : Type 0 where
   pub leads : changed mac_of change things ≡ after
   pub plain : is_plain mac_of change ≡ true
   pub needed : IsNeededChange mac_of things change
-  pub few : length (places_of mac_of change) ≤ 2
+  pub few : length (sort_keys_of mac_of change) ≤ 2
 
 -- it does so where the step isn't refused
 abbrev pub MakesStep : List Thing → RowChange Thing → ThingStep → Type 0
@@ -48,16 +48,16 @@ by_step : (things : List Thing) (b : Bool) (change : RowChange Thing) (x y : Thi
 by_step things true change x y f g = f refl
 by_step things false change x y f g = g refl
 
-module _ (things : List Thing) (ascend : PlacesAscend mac_of things) where
+module _ (things : List Thing) (ascend : SortKeysAscend mac_of things) where
   -- ---- Changes of one row, and of none
 
   unchanged : Makes things (puts_in []) things
-  unfolding changed is_plain places_of
+  unfolding changed is_plain sort_keys_of
   unchanged = record { leads = refl; plain = refl; needed = record { gone = tt; sets = tt }; few = lit≤ tt }
 
   -- a Thing is put in that wasn't there
   one_put : (t : Thing) → (row_at mac_of (mac_of t) things ≡ Some t → ⊥) → Makes things (puts_in (t ∷ [])) (set_thing t things)
-  unfolding changed is_plain places_of set_thing
+  unfolding changed is_plain sort_keys_of set_thing
   one_put t new = record { leads = refl; plain = refl; needed = record { gone = tt; sets = (new, tt) }; few = lit≤ tt }
 
   -- the list is another one, so the Thing wasn't there
@@ -115,7 +115,7 @@ module _ (things : List Thing) (ascend : PlacesAscend mac_of things) where
   move_step_makes mac url = move_makes url (thing_at mac things) (told-move_step things ascend mac url)
 
   remove_makes : (mac : Mac) (o : Option Thing) → thing_at mac things ≡ o → MakesStep things (remove_change mac) (remove_cases mac things o)
-  unfolding remove_cases remove_change changed is_plain places_of thing_at without_thing
+  unfolding remove_cases remove_change changed is_plain sort_keys_of thing_at without_thing
   remove_makes mac None found = tt
   remove_makes mac (Some thing) found = record { leads = refl; plain = refl; needed = record { gone = λ none. none-some thing (sym none ∙ found); sets = tt }; few = lit≤ tt }
 
@@ -163,34 +163,34 @@ all_passing P q (x ∷ xs) all = by_test (q x) refl (all_passing P q xs all.1)
     by_test true is rest = ((is, all.0), rest)
     by_test false is rest = rest
 
--- each of them stands at its place
+-- each of them stands at its sort key
 abbrev StandsIn : List Thing → Thing → Type 0
 StandsIn things t = row_at mac_of (mac_of t) things ≡ Some t
 
-all_stand : (ts : List Thing) → PlacesAscend mac_of ts → AllByRecursion (StandsIn ts) ts
+all_stand : (ts : List Thing) → SortKeysAscend mac_of ts → AllByRecursion (StandsIn ts) ts
 all_stand [] up = tt
 all_stand (t ∷ ts) up = (
-  ap (λ b. cond b (Some t) (row_at mac_of (mac_of t) ts)) (same_place_itself (mac_of t)),
-  all_weaker (StandsIn ts) (StandsIn (t ∷ ts)) ts (λ u there. at_later mac_of (mac_of u) t u ts up.0 there (same_place (mac_of t) (mac_of u)) refl) (all_stand ts up.1),
+  ap (λ b. cond b (Some t) (row_at mac_of (mac_of t) ts)) (same_sort_key_itself (mac_of t)),
+  all_weaker (StandsIn ts) (StandsIn (t ∷ ts)) ts (λ u there. at_later mac_of (mac_of u) t u ts up.0 there (same_sort_key (mac_of t) (mac_of u)) refl) (all_stand ts up.1),
 )
 
 none_pass : {A : Type 0} (q : A → Bool) (xs : List A) → list_any q xs ≡ false → length (filter q xs) ≡ 0
 none_pass q [] e = refl
 none_pass q (x ∷ xs) e = ap (λ b. length (cond b (x ∷ filter q xs) (filter q xs))) (or_first (q x) (list_any q xs) e) ∙ none_pass q xs (or_second (q x) (list_any q xs) e)
 
-alone_behind : (t : Thing) (ts : List Thing) → PlacesAbove mac_of (mac_of t) ts → IsAlone (t ∷ ts) → IsAlone ts
+alone_behind : (t : Thing) (ts : List Thing) → SortKeysAbove mac_of (mac_of t) ts → IsAlone (t ∷ ts) → IsAlone ts
 alone_behind t ts above alone a p q x y there there' =
-    alone a p q x y (at_later mac_of p t x ts above there (same_place (mac_of t) p) refl) (at_later mac_of q t y ts above there' (same_place (mac_of t) q) refl)
+    alone a p q x y (at_later mac_of p t x ts above there (same_sort_key (mac_of t) p) refl) (at_later mac_of q t y ts above there' (same_sort_key (mac_of t) q) refl)
 
 -- where one Thing has the address, none behind it has
-not_behind : (a : Addr) (t : Thing) (ts : List Thing) → PlacesAscend mac_of (t ∷ ts) → IsAlone (t ∷ ts) → holds a t ≡ true → (b : Bool) → list_any (holds a) ts ≡ b → b ≡ false
+not_behind : (a : Addr) (t : Thing) (ts : List Thing) → SortKeysAscend mac_of (t ∷ ts) → IsAlone (t ∷ ts) → holds a t ≡ true → (b : Bool) → list_any (holds a) ts ≡ b → b ≡ false
 not_behind a t ts up alone has false e = refl
 not_behind a t ts up alone has true e =
     let other : Passing mac_of (holds a) ts = found_passing mac_of (holds a) ts up.1 e in
-    let at : mac_of t ≡ other.at = alone a (mac_of t) other.at t other.row (all_stand (t ∷ ts) up).0 (at_later mac_of other.at t other.row ts up.0 other.there (same_place (mac_of t) other.at) refl) has other.passes in
+    let at : mac_of t ≡ other.at = alone a (mac_of t) other.at t other.row (all_stand (t ∷ ts) up).0 (at_later mac_of other.at t other.row ts up.0 other.there (same_sort_key (mac_of t) other.at) refl) has other.passes in
     absurd (none-some other.row (sym (row_at_above mac_of (mac_of t) ts up.0) ∙ ap (λ p. row_at mac_of p ts) at ∙ other.there))
 
-one_holder : (a : Addr) (ts : List Thing) → PlacesAscend mac_of ts → IsAlone ts → length (filter (holds a) ts) ≤ 1
+one_holder : (a : Addr) (ts : List Thing) → SortKeysAscend mac_of ts → IsAlone ts → length (filter (holds a) ts) ≤ 1
 one_holder a [] up alone = lit≤ tt
 one_holder a (t ∷ ts) up alone = by_test (holds a t) refl (one_holder a ts up.1 (alone_behind t ts up.0 alone))
   where
@@ -217,7 +217,7 @@ module _ (things : List Thing) (sound : IsSoundThings things) (a : Addr) where
   holders_new = all-map IsNew (released a) (filter (holds a) things) (all_weaker (λ t. (holds a t ≡ true) × StandsIn things t) (λ t. IsNew (released a t)) (filter (holds a) things) loses_it (all_passing (StandsIn things) (holds a) things (all_stand things sound.ascend)))
 
   end_makes : (after : List Thing) → changed mac_of (end_change a things) things ≡ after → Makes things (end_change a things) after
-  unfolding end_change places_of
+  unfolding end_change sort_keys_of
   end_makes after leads = record {
     leads = leads;
     plain = end_plain a things sound.ascend;
@@ -237,14 +237,14 @@ module _ (things : List Thing) (sound : IsSoundThings things) (a : Addr) where
       by_step things (list_any (holds a) things) (end_change a things) (done Stranger (without_lease a things)) (left Stranger things)
       (λ _. end_makes (without_lease a things) (end_changed a things sound.ascend)) (λ none. end_makes things (end_unchanged a things sound.ascend none))
 
-  leased_new : (until now : ℕ) (thing : Thing) → row_at mac_of (mac_of thing) things ≡ Some thing → end_of a thing.leases ≡ None → IsNew (leased a until now thing)
+  leased_new : (until now : ℕ) (thing : Thing) → row_at mac_of (mac_of thing) things ≡ Some thing → expiry_of a thing.leases ≡ None → IsNew (leased a until now thing)
   unfolding mac_of leased with_leases
   leased_new until now thing there none there' =
-      none-some until (sym none ∙ ap (λ (t : Thing). end_of a t.leases) (same_Some thing (leased a until now thing) (sym there ∙ there')) ∙ end_of-with_end a until (live_rows now thing.leases))
+      none-some until (sym none ∙ ap (λ (t : Thing). expiry_of a t.leases) (same_Some thing (leased a until now thing) (sym there ∙ there')) ∙ expiry_of-with_expiry a until (live_rows now thing.leases))
 
-  new_lease_makes : (until now : ℕ) (thing : Thing) → row_at mac_of (mac_of thing) things ≡ Some thing → end_of a thing.leases ≡ None
+  new_lease_makes : (until now : ℕ) (thing : Thing) → row_at mac_of (mac_of thing) things ≡ Some thing → expiry_of a thing.leases ≡ None
       → Makes things (new_lease_change a until now things thing) (set_thing (leased a until now thing) (without_lease a things))
-  unfolding new_lease_change places_of
+  unfolding new_lease_change sort_keys_of
   new_lease_makes until now thing there none =
       let t : Thing = leased a until now thing in
       record {
@@ -257,14 +257,14 @@ module _ (things : List Thing) (sound : IsSoundThings things) (a : Addr) where
   kept_lease_makes : (until old : ℕ) (thing : Thing) → IfOk (kept_lease a until things thing old) (TellsChange things) → MakesStep things (kept_lease_change a until thing old) (kept_lease a until things thing old)
   unfolding kept_lease kept_lease_change
   kept_lease_makes until old thing told =
-      let t : Thing = with_leases (with_end a until thing.leases) thing in
+      let t : Thing = with_leases (with_expiry a until thing.leases) thing in
       let same : Bool = old == until in
       let new : ThingStep = leased_until until Renewed (set_thing t things) in
       by_case things same (puts_in []) (puts_in (t ∷ [])) (left_until until things) new
       (λ _. unchanged things sound.ascend)
       (λ other. one_told things sound.ascend t ((told_right things sound.ascend same (left_until until things) new told other).other refl))
 
-  known_lease_makes : (until now : ℕ) (thing : Thing) → row_at mac_of (mac_of thing) things ≡ Some thing → (o : Option ℕ) → end_of a thing.leases ≡ o
+  known_lease_makes : (until now : ℕ) (thing : Thing) → row_at mac_of (mac_of thing) things ≡ Some thing → (o : Option ℕ) → expiry_of a thing.leases ≡ o
       → IfOk (known_lease a until now things thing o) (TellsChange things) → MakesStep things (known_lease_change a until now things thing o) (known_lease a until now things thing o)
   unfolding known_lease known_lease_change new_lease leased
   known_lease_makes until now thing there (Some old) kept told = kept_lease_makes until old thing told
@@ -276,8 +276,8 @@ module _ (things : List Thing) (sound : IsSoundThings things) (a : Addr) where
       → MakesStep things (lease_cases_change a until now things o) (lease_cases a until now heard things o)
   unfolding lease_cases lease_cases_change
   lease_makes mac until now heard None found told = by_step things heard (end_change a things) (stranger_lease a things) (Err NoThing) (λ _. stranger_makes) (λ _. tt)
-  lease_makes mac until now heard (Some thing) found told = known_lease_makes until now thing (at_its_place things mac thing found) (end_of a thing.leases) refl told
+  lease_makes mac until now heard (Some thing) found told = known_lease_makes until now thing (at_its_sort_key things mac thing found) (expiry_of a thing.leases) refl told
 
   pub lease_step_makes : (mac : Mac) (seconds now : ℕ) (heard : Bool) → MakesStep things (lease_change mac a seconds now things) (lease_step mac a seconds now heard things)
   unfolding lease_step lease_change
-  lease_step_makes mac seconds now heard = lease_makes mac (end_after now seconds) now heard (thing_at mac things) refl (told-lease_step things sound.ascend mac a seconds now heard)
+  lease_step_makes mac seconds now heard = lease_makes mac (expiry_after now seconds) now heard (thing_at mac things) refl (told-lease_step things sound.ascend mac a seconds now heard)

@@ -1,4 +1,5 @@
--- The change that a plan is: its word, its end and its rows, with the puts and the bindings that follow from the rows.
+-- The change that a plan is: its word, its expiry and its rows, with the puts and the bindings that follow from the
+-- rows.
 use Rattle.std.specs.Prelude.{◌<◌, ◌^◌, List, length}
 use Rattle.mud_world.specs.Items.{puts_of}
 use Rattle.mud_tables.specs.declared.thing.Thing.{Thing}

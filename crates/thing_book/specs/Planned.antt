@@ -10,7 +10,7 @@ use Rattle.mud_tables.specs.declared.thing.Thing.{Thing}
 use Rattle.mud_tables.specs.declared.thing_fault.ThingFault.{ThingFault}
 use Rattle.mud_tables.specs.declared.thing_fault.ThingFault.TheVariants.{Memory}
 use Rattle.mud_tables.specs.Things.{mac_of, IsSoundThings}
-use Rattle.mud_tables.specs.ThingSteps.{ThingsAfter, ThingStep}
+use Rattle.mud_tables.specs.ThingCommands.{ThingsAfter, ThingStep}
 use Rattle.mud_tables.specs.ThingItems.{thing_items}
 use Rattle.mud_tables.specs.Tables.{Tables}
 use Rattle.mud_tables.specs.Bindings.{bindings_of}
@@ -20,8 +20,8 @@ pub record Things : Type 0 where
   pub things : List Thing
   pub room : ℕ
 
--- what is answered, the end that is kept for a lease, the rows that change, the puts that the change means without that of
--- the stamp, and the bindings that go and that come
+-- what is answered, the expiry that is kept for a lease, the rows that change, the puts that the change means without
+-- that of the stamp, and the bindings that go and that come
 pub record PlannedThings : Type 0 where
   pub word : outcome.Word
   pub until : Option ℕ

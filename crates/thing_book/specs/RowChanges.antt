@@ -4,7 +4,7 @@ use Rattle.mud_base.specs.declared.addr.Mac.{Mac}
 use Rattle.sorted_rows.specs.Changes.{RowChange}
 use Rattle.mud_tables.specs.declared.thing.Thing.{Thing}
 use Rattle.mud_tables.specs.Things.{thing_at, new_thing}
-use Rattle.mud_tables.specs.ThingSteps.{ThingsAfter, ThingStep, is_pending, with_hold}
+use Rattle.mud_tables.specs.ThingCommands.{ThingsAfter, ThingStep, is_pending, with_hold}
 use Rattle.mud_tables.specs.ThingChanges.{puts_in}
 use Rattle.thing_book.specs.declared.plan.Plan.{Plan}
 

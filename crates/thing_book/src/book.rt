@@ -2,7 +2,7 @@
 ghost use Rattle.std.specs.Prelude.{◌≡◌, ◌≤◌, ◌<◌, [], ◌∷◌, ◌++◌, length, false, Some, None, IsTrue, IfOk, IfErr, OnErr, option_copied, slice_get, if◌then◌else◌};
 ghost use Rattle.sorted_rows.specs.Changes.{changed};
 ghost use Rattle.mud_tables.specs.Things.{mac_of, thing_at, IsSoundThings};
-ghost use Rattle.mud_tables.specs.ThingSteps.{url_step, move_step, remove_step, hold_step, release_step, lease_step, end_step};
+ghost use Rattle.mud_tables.specs.ThingCommands.{url_step, move_step, remove_step, hold_step, release_step, lease_step, end_step};
 ghost use Rattle.mud_tables.specs.ThingItems.{thing_items, may_follow, with_thing_item};
 ghost use Rattle.thing_book.specs.Numbers.{AreNumbersOf};
 ghost use Rattle.thing_book.specs.Planned.{IsPlanOf, IsReady, IsRefusal};
@@ -149,13 +149,13 @@ impl ThingBook {
         or_memory(ThingChange::made(self.alloc, &mut self.things, plan))
     }
 
-    /// A hardware address has an address for so many seconds from a moment on, or for ever where they
-    /// are 4,294,967,295: heard in a DHCP message, or stated by the operator. The first case that
-    /// holds counts. No Thing has the hardware address: the address leaves the Thing that has it
-    /// where that was heard (`stranger`), and else [`ThingFault::NoThing`]. The Thing has the address
-    /// with that end (`same`), or with another one, which is replaced (`renewed`). It has four live
-    /// leases: [`ThingFault::LeasesFull`]. Otherwise its leases that aren't live go, the address
-    /// leaves another Thing that has it, and this one gets it (`new`).
+    /// A hardware address has an address for so many seconds from a moment on, or for ever where
+    /// they are 4,294,967,295: heard in a DHCP message, or stated by the operator. The first case
+    /// that holds counts. No Thing has the hardware address: the address leaves the Thing that has
+    /// it where that was heard (`stranger`), and else [`ThingFault::NoThing`]. The Thing has the
+    /// address with that expiry (`same`), or with another one, which is replaced (`renewed`). It
+    /// has four live leases: [`ThingFault::LeasesFull`]. Otherwise its leases that aren't live go,
+    /// the address leaves another Thing that has it, and this one gets it (`new`).
     pub fn plan_lease(
         &mut self,
         mac: Mac,
@@ -198,11 +198,11 @@ impl ThingBook {
     }
 
     /// The item in which the Thing at this index of the list is kept.
-    pub fn item_of(&self, place: usize) -> Result<Item, Memory>
-        requires { place < length self.now.things }
-        ensures { IfOk result (λ item. slice_get (thing_items self.now.things) place ≡ Some item) }
+    pub fn item_of(&self, index: usize) -> Result<Item, Memory>
+        requires { index < length self.now.things }
+        ensures { IfOk result (λ item. slice_get (thing_items self.now.things) index ≡ Some item) }
     {
-        item_of(self.alloc, &self.things.rows()[place])
+        item_of(self.alloc, &self.things.rows()[index])
     }
 
     /// Takes the Thing of an item behind those that were taken before, and no call has planned a

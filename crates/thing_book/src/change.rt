@@ -44,7 +44,7 @@ impl ThingChange {
         self.word
     }
 
-    /// The end that is kept for a lease.
+    /// The expiry that is kept for a lease.
     pub fn until(&self) -> Option<End>
         ensures { result ≡ self.now.until }
     {
@@ -68,7 +68,7 @@ impl ThingChange {
         mem::replace(&mut self.puts, none)
     }
 
-    /// The bindings that go with the change. One whose end changes goes and comes.
+    /// The bindings that go with the change. One whose expiry changes goes and comes.
     pub fn gone(&self) -> &[Binding]
         ensures { result.now ≡ self.now.gone }
     {

@@ -6,7 +6,7 @@ ghost use Rattle.item_codec.specs.Spelling.{string};
 ghost use Rattle.item_codec.specs.Records.{optional, elements};
 ghost use Rattle.sorted_rows.specs.Changes.{with_found};
 ghost use Rattle.mud_world.specs.Items.{puts_of, set_put, gone_put};
-ghost use Rattle.mud_tables.specs.ItemFields.{ending};
+ghost use Rattle.mud_tables.specs.ItemFields.{expiring};
 ghost use Rattle.mud_tables.specs.ThingItems.{thing_fields, hold_octet, thing_body};
 ghost use Rattle.mud_tables.specs.ThingItems as spec;
 ghost use Rattle.thing_book.specs.Changes.{HasFewLeases};
@@ -14,7 +14,7 @@ ghost use Rattle.thing_book.specs.Changes.{HasFewLeases};
 use item_codec::FieldWriter;
 use mud_base::{Addr, Bytes, End, Listed, Mac, Memory};
 use mud_tables::Thing;
-use mud_tables::fields::write_ending;
+use mud_tables::fields::write_expiring;
 use mud_url::MudUrl;
 use mud_world::{Item, Put};
 use sorted_rows::Change;
@@ -103,22 +103,22 @@ fn write_pending(writer: &mut FieldWriter, pending: &Option<MudUrl>) -> Result<(
     }
 }
 
-/// Writes leases: their count, and each address with its end.
+/// Writes leases: their count, and each address with its expiry.
 #[tactic(auto, unfolding(item_codec::specs::Records::elements, item_codec::specs::Spelling::list))]
 fn write_leases(writer: &mut FieldWriter, leases: &[(Addr, End)]) -> Result<(), Memory>
     requires { length leases.now < 2 ^ 16 }
-    ensures { OnOk result (writer.new ≡ writer.old ++ elements ending leases.now) }
+    ensures { OnOk result (writer.new ≡ writer.old ++ elements expiring leases.now) }
 {
     writer.number(2, leases.len() as u64)?;
-    write_endings(writer, leases)
+    write_expirings(writer, leases)
 }
 
-/// Writes each address with its end.
-fn write_endings(writer: &mut FieldWriter, leases: &[(Addr, End)]) -> Result<(), Memory>
-    ensures { OnOk result (writer.new ≡ writer.old ++ flat_map ending leases.now) }
+/// Writes each address with its expiry.
+fn write_expirings(writer: &mut FieldWriter, leases: &[(Addr, End)]) -> Result<(), Memory>
+    ensures { OnOk result (writer.new ≡ writer.old ++ flat_map expiring leases.now) }
 {
     for row in leases {
-        write_ending(writer, *row)?;
+        write_expiring(writer, *row)?;
     }
     Ok(())
 }

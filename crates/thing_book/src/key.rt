@@ -52,7 +52,7 @@ impl ThingKey {
 impl KeyOf<Thing> for ThingKey {
     ghost use Rattle.mud_tables.specs.Things.{mac_of};
 
-    ghost place = { λ mac. mac.0 };
+    ghost sort_key = { λ mac. mac.0 };
 
     #[tactic(auto, unfolding(mud_tables::specs::Things::mac_of))]
     fn order_to(&self, thing: &Thing) -> Ordering {

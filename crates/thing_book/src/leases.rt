@@ -3,10 +3,10 @@ ghost use Rattle.std.specs.Prelude.{◌≡◌, ◌++◌, ◌∷◌, [], ℕ, Lis
 ghost use Rattle.std.specs.List.{list_any};
 ghost use Rattle.mud_tables.specs.declared.thing.Thing.{Thing as ThingValue};
 ghost use Rattle.item_codec.specs.declared.word.Word.TheVariants as word;
-ghost use Rattle.mud_tables.specs.Ends as ends;
+ghost use Rattle.mud_tables.specs.Expiries as spec;
 ghost use Rattle.mud_tables.specs.ThingItems.{is_taken};
 ghost use Rattle.mud_tables.specs.Things.{thing_at, holds, released};
-ghost use Rattle.mud_tables.specs.ThingSteps.{end_after, end_step, kept_lease, known_lease, lease_cases, lease_step, new_lease, stranger_lease};
+ghost use Rattle.mud_tables.specs.ThingCommands.{expiry_after, end_step, kept_lease, known_lease, lease_cases, lease_step, new_lease, stranger_lease};
 ghost use Rattle.mud_tables.specs.ThingChanges.{end_change, kept_lease_change, known_lease_change, lease_cases_change, lease_change, leased, new_lease_change, released_holders};
 ghost use Rattle.thing_book.specs.Planned.{IsRefusal};
 ghost use Rattle.thing_book.specs.RowChanges.{IsSaid};
@@ -15,7 +15,7 @@ use crate::copies::copy_of;
 use crate::plan::{Plan, or_memory, thing_of};
 use item_codec::Word;
 use mud_base::{Addr, End, Listed, Mac, Memory, Moment};
-use mud_tables::ends::{end_of, has_address, live_count, live_rows, with_end, without_address};
+use mud_tables::expiries::{expiry_of, has_address, live_count, live_rows, with_expiry, without_address};
 use mud_tables::limits::MOST_LEASES;
 use mud_tables::{Thing, ThingFault};
 use sorted_rows::SortedRows;
@@ -32,10 +32,10 @@ struct Lease {
     now: Moment,
 }
 
-/// The end of a lease of so many seconds.
-#[tactic(auto, unfolding(mud_tables::specs::ThingSteps::end_after))]
-fn end_after(now: Moment, seconds: u32) -> End
-    ensures { result ≡ end_after now seconds }
+/// The expiry of a lease of so many seconds.
+#[tactic(auto, unfolding(mud_tables::specs::ThingCommands::expiry_after))]
+fn expiry_after(now: Moment, seconds: u32) -> End
+    ensures { result ≡ expiry_after now seconds }
 {
     if seconds == FOR_EVER {
         return End(End::NEVER);
@@ -44,7 +44,7 @@ fn end_after(now: Moment, seconds: u32) -> End
 }
 
 /// A hardware address has an address for so many seconds from a moment on.
-#[tactic(auto, unfolding(mud_tables::specs::ThingSteps::lease_step, mud_tables::specs::ThingChanges::lease_change))]
+#[tactic(auto, unfolding(mud_tables::specs::ThingCommands::lease_step, mud_tables::specs::ThingChanges::lease_change))]
 pub(crate) fn lease_for(
     alloc: Global,
     things: &SortedRows<Thing>,
@@ -58,12 +58,12 @@ pub(crate) fn lease_for(
         (lease_change mac addr seconds now things.now.rows)) }
     ensures err { IfErr result (IsRefusal (lease_step mac addr seconds now heard things.now.rows)) }
 {
-    let until = end_after(now, seconds);
+    let until = expiry_after(now, seconds);
     lease_to(alloc, things, mac, Lease { addr, until, now }, heard)
 }
 
-/// A hardware address has an address until some end.
-#[tactic(auto, unfolding(mud_tables::specs::ThingSteps::lease_cases, mud_tables::specs::ThingChanges::lease_cases_change))]
+/// A hardware address has an address until some expiry.
+#[tactic(auto, unfolding(mud_tables::specs::ThingCommands::lease_cases, mud_tables::specs::ThingChanges::lease_cases_change))]
 fn lease_to(
     alloc: Global,
     things: &SortedRows<Thing>,
@@ -88,7 +88,7 @@ fn lease_to(
 }
 
 /// No Thing has the hardware address: the address leaves the Thing that has it.
-#[tactic(auto, unfolding(mud_tables::specs::ThingSteps::stranger_lease, mud_tables::specs::ThingChanges::end_change))]
+#[tactic(auto, unfolding(mud_tables::specs::ThingCommands::stranger_lease, mud_tables::specs::ThingChanges::end_change))]
 fn lease_stranger(alloc: Global, things: &[Thing], addr: Addr) -> Result<Plan, Memory>
     ensures { IfOk result (IsSaid (stranger_lease addr things.now) (end_change addr things.now)) }
 {
@@ -97,7 +97,7 @@ fn lease_stranger(alloc: Global, things: &[Thing], addr: Addr) -> Result<Plan, M
 }
 
 /// The lease of a Thing.
-#[tactic(auto, unfolding(mud_tables::specs::ThingSteps::known_lease, mud_tables::specs::ThingChanges::known_lease_change))]
+#[tactic(auto, unfolding(mud_tables::specs::ThingCommands::known_lease, mud_tables::specs::ThingChanges::known_lease_change))]
 fn lease_known(
     alloc: Global,
     things: &[Thing],
@@ -105,18 +105,18 @@ fn lease_known(
     lease: Lease,
 ) -> Result<Plan, ThingFault>
     ensures ok { IfOk result
-        (IsSaid (known_lease lease.addr lease.until lease.now things.now thing.now (ends.end_of lease.addr thing.now.leases))
-        (known_lease_change lease.addr lease.until lease.now things.now thing.now (ends.end_of lease.addr thing.now.leases))) }
-    ensures err { IfErr result (IsRefusal (known_lease lease.addr lease.until lease.now things.now thing.now (ends.end_of lease.addr thing.now.leases))) }
+        (IsSaid (known_lease lease.addr lease.until lease.now things.now thing.now (spec.expiry_of lease.addr thing.now.leases))
+        (known_lease_change lease.addr lease.until lease.now things.now thing.now (spec.expiry_of lease.addr thing.now.leases))) }
+    ensures err { IfErr result (IsRefusal (known_lease lease.addr lease.until lease.now things.now thing.now (spec.expiry_of lease.addr thing.now.leases))) }
 {
-    match end_of(lease.addr, thing.leases.as_slice()) {
+    match expiry_of(lease.addr, thing.leases.as_slice()) {
         Some(old) => or_memory(lease_kept(alloc, thing, lease, old)),
         None => lease_new(alloc, things, thing, lease),
     }
 }
 
-/// The Thing has the address already, with an end.
-#[tactic(auto, unfolding(mud_tables::specs::ThingSteps::kept_lease, mud_tables::specs::ThingChanges::kept_lease_change, mud_tables::specs::Things::with_leases))]
+/// The Thing has the address already, with an expiry.
+#[tactic(auto, unfolding(mud_tables::specs::ThingCommands::kept_lease, mud_tables::specs::ThingChanges::kept_lease_change, mud_tables::specs::Things::with_leases))]
 fn lease_kept(alloc: Global, thing: &Thing, lease: Lease, old: End) -> Result<Plan, Memory>
     ensures { (things : List ThingValue)
         → IfOk result (IsSaid (kept_lease lease.addr lease.until things thing.now old) (kept_lease_change lease.addr lease.until thing.now old)) }
@@ -125,12 +125,12 @@ fn lease_kept(alloc: Global, thing: &Thing, lease: Lease, old: End) -> Result<Pl
         return Ok(Plan::unchanged(alloc, Word::Same, Some(lease.until)));
     }
     let mut renewed = copy_of(alloc, thing)?;
-    renewed.leases = with_end(alloc, lease.addr, lease.until, thing.leases.as_slice())?;
+    renewed.leases = with_expiry(alloc, lease.addr, lease.until, thing.leases.as_slice())?;
     Plan::putting_one(alloc, renewed, Word::Renewed, Some(lease.until))
 }
 
 /// The Thing hasn't the address yet.
-#[tactic(auto, unfolding(mud_tables::specs::ThingSteps::new_lease, mud_tables::specs::ThingChanges::new_lease_change))]
+#[tactic(auto, unfolding(mud_tables::specs::ThingCommands::new_lease, mud_tables::specs::ThingChanges::new_lease_change))]
 fn lease_new(
     alloc: Global,
     things: &[Thing],
@@ -167,7 +167,7 @@ fn leased(alloc: Global, thing: &Thing, lease: Lease) -> Result<Thing, Memory>
 {
     let live = live_rows(alloc, lease.now, thing.leases.as_slice())?;
     let mut made = copy_of(alloc, thing)?;
-    made.leases = with_end(alloc, lease.addr, lease.until, live.as_slice())?;
+    made.leases = with_expiry(alloc, lease.addr, lease.until, live.as_slice())?;
     Ok(made)
 }
 
@@ -184,7 +184,7 @@ pub(crate) fn end_lease(
     end_among(alloc, things.rows(), addr)
 }
 
-#[tactic(auto, unfolding(mud_tables::specs::ThingSteps::end_step, mud_tables::specs::ThingChanges::end_change))]
+#[tactic(auto, unfolding(mud_tables::specs::ThingCommands::end_step, mud_tables::specs::ThingChanges::end_change))]
 fn end_among(alloc: Global, things: &[Thing], addr: Addr) -> Result<Plan, ThingFault>
     ensures ok { IfOk result (IsSaid (end_step addr things.now) (end_change addr things.now)) }
     ensures err { IfErr result (IsRefusal (end_step addr things.now)) }

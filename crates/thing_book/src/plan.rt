@@ -12,7 +12,7 @@ use mud_tables::{Thing, ThingFault};
 use sorted_rows::{Change, SortedRows};
 use std::alloc::Global;
 
-/// What a command answers, the end that it keeps for a lease, and the rows that it changes.
+/// What a command answers, the expiry that it keeps for a lease, and the rows that it changes.
 #[derive(Drop, Debug)]
 pub struct Plan {
     pub word: Word,

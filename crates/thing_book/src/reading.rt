@@ -5,7 +5,7 @@ ghost use Rattle.item_codec.specs.Spelling.{IsWidth};
 ghost use Rattle.item_codec.specs.Records.{number_in, string_in, version_to_in, end_in, optional_in, each_in, elements_in};
 ghost use Rattle.item_codec.specs.Reading.{list_at};
 ghost use Rattle.std.specs.Result.{result_ok};
-ghost use Rattle.mud_tables.specs.ItemFields.{ending_in};
+ghost use Rattle.mud_tables.specs.ItemFields.{expiring_in};
 ghost use Rattle.mud_tables.specs.Things.{IsKeptThing};
 ghost use Rattle.mud_tables.specs.ThingItems.{hold_in, if_sound_thing, thing_in, thing_of};
 ghost use Rattle.thing_book.specs.Said.{pending_said, thing_said};
@@ -15,7 +15,7 @@ use crate::ranges::all_are_octets;
 use item_codec::FieldReader;
 use mud_base::{Addr, End, Listed, Mac, Memory};
 use mud_tables::Thing;
-use mud_tables::fields::read_ending;
+use mud_tables::fields::read_expiring;
 use mud_tables::sound::is_sound_thing;
 use mud_url::MudUrl;
 use mud_url::url::canonical_url;
@@ -99,32 +99,32 @@ fn read_pending<'a>(reader: &mut FieldReader<'a>) -> Option<Option<&'a [u8]>>
     }
 }
 
-/// Reads the leases: their count, and each address with its end.
+/// Reads the leases: their count, and each address with its expiry.
 #[tactic(auto, unfolding(item_codec::specs::Records::elements_in))]
 fn read_leases(
     alloc: Global,
     reader: &mut FieldReader<'_>,
 ) -> Result<Option<Listed<(Addr, End)>>, Memory>
-    ensures { IfOk result (λ leases. MatchOption leases (elements_in ending_in reader.old ≡ None) (λ rows. elements_in ending_in reader.old ≡ Some (rows, reader.new))) }
+    ensures { IfOk result (λ leases. MatchOption leases (elements_in expiring_in reader.old ≡ None) (λ rows. elements_in expiring_in reader.old ≡ Some (rows, reader.new))) }
 {
     match read_count(reader) {
-        Some(count) => read_endings(alloc, reader, count),
+        Some(count) => read_expirings(alloc, reader, count),
         None => Ok(None),
     }
 }
 
-/// Reads so many addresses with their ends.
-fn read_endings(
+/// Reads so many addresses with their expiries.
+fn read_expirings(
     alloc: Global,
     reader: &mut FieldReader<'_>,
     count: u16,
 ) -> Result<Option<Listed<(Addr, End)>>, Memory>
-    ensures { IfOk result (λ leases. MatchOption leases (each_in ending_in count reader.old ≡ None) (λ rows. each_in ending_in count reader.old ≡ Some (rows, reader.new))) }
+    ensures { IfOk result (λ leases. MatchOption leases (each_in expiring_in count reader.old ≡ None) (λ rows. each_in expiring_in count reader.old ≡ Some (rows, reader.new))) }
 {
     let mut rows = Listed::new(alloc);
     let mut left = count;
     while left > 0 {
-        let Some(row) = read_ending(reader) else {
+        let Some(row) = read_expiring(reader) else {
             return Ok(None);
         };
         rows.push(row)?;

@@ -8,7 +8,7 @@ use Rattle.usage_walk.specs.declared.member.Member.TheVariants as members
 use Rattle.usage_walk.specs.declared.row.Row.{Row}
 use Rattle.usage_walk.specs.Names as names
 use Rattle.mud_base.specs.Readings.{answer}
-use Rattle.usage_walk.specs.Reading.{fault_at, under, at_place, under_name}
+use Rattle.usage_walk.specs.Reading.{fault_at, under, at_index, under_name}
 use Rattle.usage_walk.specs.Kinds.{is_empty_leaf, text_at, number_at, truth_at, object_at, text_where_there, number_where_there, object_where_there, list_where_there, leaf_where_there}
 use Rattle.usage_walk.specs.Named.{elements_of}
 use Rattle.usage_walk.specs.Others.{all_known}
@@ -34,9 +34,9 @@ member_path : under (codes "/a") members.Acls ≡ codes "/a/ietf-access-control-
 unfolding walk_on_literals
 member_path = refl
 
-place_path : at_place [] 128 ≡ codes "/128"
+index_path : at_index [] 128 ≡ codes "/128"
 unfolding walk_on_literals
-place_path = refl
+index_path = refl
 
 escaped_path : under_name (codes "/a") (codes "b~/c") ≡ codes "/a/b~0~1c"
 unfolding walk_on_literals
@@ -136,7 +136,7 @@ named_x = named (string (codes "x"))
 abbrev named_y : Data
 named_y = named (string (codes "y"))
 
-two_names : answer (elements_of here (named_y ∷ named_x ∷ [])) ≡ Ok (record { place = 0; name = codes "y"; value = named_y } ∷ record { place = 1; name = codes "x"; value = named_x } ∷ [])
+two_names : answer (elements_of here (named_y ∷ named_x ∷ [])) ≡ Ok (record { index = 0; name = codes "y"; value = named_y } ∷ record { index = 1; name = codes "x"; value = named_x } ∷ [])
 unfolding walk_on_literals
 two_names = refl
 

@@ -37,12 +37,12 @@ unfolding is_named
 is_named_view name [] = refl
 is_named_view name (e ∷ es) = any_if (bytes_eq e.name.now name) _ e (find (has_name name) es) (is_named_view name es)
 
-abbrev at_that_place : Element → ℕ → named.Element
-at_that_place e place = record { place = place; name = e.name.now; value = view e.value.now }
+abbrev at_that_index : Element → ℕ → named.Element
+at_that_index e index = record { index = index; name = e.name.now; value = view e.value.now }
 
-pub elements_push : (es : List Element) (e : Element) → e.place ≡ length es → elements_view (es ++ e ∷ []) ≡ elements_view es ++ element (elements_view es) e.name.now (view e.value.now) ∷ []
+pub elements_push : (es : List Element) (e : Element) → e.index ≡ length es → elements_view (es ++ e ∷ []) ≡ elements_view es ++ element (elements_view es) e.name.now (view e.value.now) ∷ []
 unfolding element
-elements_push es e place = map_push element_view es e ∙ ap (λ (p : ℕ). elements_view es ++ at_that_place e p ∷ []) (place ∙ sym (length-map es element_view))
+elements_push es e index = map_push element_view es e ∙ ap (λ (p : ℕ). elements_view es ++ at_that_index e p ∷ []) (index ∙ sym (length-map es element_view))
 
 or_none : (found : Option Element) → option_or found None ≡ found
 or_none None = refl

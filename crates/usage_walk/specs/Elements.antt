@@ -9,7 +9,7 @@ use Rattle.usage_walk.specs.Named as named
 use denote.Ref.{Bor}
 
 abbrev pub element_view : Element → named.Element
-element_view e = record { place = e.place; name = e.name.now; value = view e.value.now }
+element_view e = record { index = e.index; name = e.name.now; value = view e.value.now }
 
 abbrev pub elements_view : List Element → List named.Element
 elements_view elements = map element_view elements

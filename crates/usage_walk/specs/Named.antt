@@ -5,12 +5,12 @@ use Rattle.serde_json.specs.Data.{Data}
 use Rattle.usage_walk.specs.declared.fault.Rule.TheVariants.{RepeatedName}
 use Rattle.usage_walk.specs.declared.member.Member.TheVariants.{Name}
 use Rattle.mud_base.specs.Readings.{done, ◌>>=◌, refused_where, over}
-use Rattle.usage_walk.specs.Reading.{Reading, under, at_place, fault_at}
+use Rattle.usage_walk.specs.Reading.{Reading, under, at_index, fault_at}
 use Rattle.usage_walk.specs.Kinds.{object_of, text_at}
 
--- an object with a name, and its place in its list, counted from 0
+-- an object with a name, and its index in its list, counted from 0
 pub record Element : Type 0 where
-  pub place : ℕ
+  pub index : ℕ
   pub name : List ℕ
   pub value : Data
 
@@ -23,7 +23,7 @@ unfoldable pub element_named : List ℕ → List Element → Option Element
 element_named name elements = find (λ e. bytes_eq e.name name) elements
 
 unfoldable pub element : List Element → List ℕ → Data → Element
-element before name d = record { place = length before; name = name; value = d }
+element before name d = record { index = length before; name = name; value = d }
 
 -- a name is new among these
 unfoldable pub new_name : List ℕ → List ℕ → List Element → Reading (Unit {0})
@@ -43,7 +43,7 @@ next_element path before d = do
   with_named path before name found
 
 unfoldable pub element_at : List ℕ → List Element → Data → Reading (List Element)
-element_at path before d = next_element (at_place path (length before)) before d
+element_at path before d = next_element (at_index path (length before)) before d
 
 unfoldable pub elements_of : List ℕ → List Data → Reading (List Element)
 elements_of path ds = over (element_at path) [] ds

@@ -16,8 +16,8 @@ Reading A = of.Reading Broken A
 unfoldable pub under : List ℕ → Member → List ℕ
 under path member = path ++ 47 ∷ name_of member
 
-unfoldable pub at_place : List ℕ → ℕ → List ℕ
-at_place path place = path ++ 47 ∷ decimal place
+unfoldable pub at_index : List ℕ → ℕ → List ℕ
+at_index path index = path ++ 47 ∷ decimal index
 
 -- `~` is written as `~0`, and `/` as `~1` (RFC 6901, 3)
 abbrev pub escape : ℕ → List ℕ

@@ -9,7 +9,7 @@ ghost use Rattle.usage_walk.specs.Elements.{element_view, elements_view};
 use crate::fault::{FileFault, Rule};
 use crate::kinds::{object_here, text_at};
 use crate::member::Member;
-use crate::path::{at_place, refusal};
+use crate::path::{at_index, refusal};
 use mud_base::Memory;
 use serde_json::Value;
 use std::alloc::Global;
@@ -19,8 +19,8 @@ use std::marker::Model;
 /// An object of a list, with its name.
 #[derive(Clone, Copy)]
 pub struct Element<'a> {
-    /// Its place in the list, from 0.
-    pub place: usize,
+    /// Its index in the list, from 0.
+    pub index: usize,
     /// Its name.
     pub name: &'a str,
     /// The object.
@@ -98,7 +98,7 @@ impl<'a> Elements<'a> {
             return Ok(false);
         }
         let element = Element {
-            place: self.elements.len(),
+            index: self.elements.len(),
             name,
             value,
         };
@@ -156,7 +156,7 @@ fn element_at<'a>(
 ) -> Result<(), FileFault>
     ensures { Gives (λ _. elements_view elements.new) result (spec.element_at path.now (elements_view elements.old) (view value.now)) }
 {
-    let path = at_place(alloc, path, elements.len())?;
+    let path = at_index(alloc, path, elements.len())?;
     next_element(alloc, elements, value, path.octets())
 }
 

@@ -2,7 +2,7 @@
 ghost use Rattle.std.specs.Prelude.{◌≡◌, IfOk};
 ghost use Rattle.mud_base.specs.Readings.{Gives, Refuses, refused_where};
 ghost use Rattle.mud_base.specs.declared.refusal.Refusal.TheVariants as told;
-ghost use Rattle.usage_walk.specs.Reading.{at_place, fault_at, under, under_name};
+ghost use Rattle.usage_walk.specs.Reading.{at_index, fault_at, under, under_name};
 ghost use Rattle.usage_walk.specs.Reading as spec;
 
 use crate::fault::{Broken, FileFault, Rule};
@@ -22,14 +22,14 @@ pub fn under(alloc: Global, path: &[u8], member: Member) -> Result<Bytes, Memory
     Ok(text)
 }
 
-/// The path of an element of the list at this path, by its place from 0.
-#[tactic(auto, unfolding(crate::specs::Reading::at_place))]
-pub fn at_place(alloc: Global, path: &[u8], place: usize) -> Result<Bytes, Memory>
-    ensures { IfOk result (λ found. found ≡ spec.at_place path.now place) }
+/// The path of an element of the list at this path, by its index from 0.
+#[tactic(auto, unfolding(crate::specs::Reading::at_index))]
+pub fn at_index(alloc: Global, path: &[u8], index: usize) -> Result<Bytes, Memory>
+    ensures { IfOk result (λ found. found ≡ spec.at_index path.now index) }
 {
     let mut text = Bytes::new(alloc, path)?;
     text.push(b'/')?;
-    text.append(Buffer::new().format(place).as_bytes())?;
+    text.append(Buffer::new().format(index).as_bytes())?;
     Ok(text)
 }
 

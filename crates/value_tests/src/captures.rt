@@ -1,5 +1,5 @@
-//! Each call of the reader of captures with ample memory: over a source whose second read fails, over a
-//! capture that is cut, and over octets that were taken before.
+//! Each call of the reader of captures with ample memory: over a source whose second read fails,
+//! over a capture that is cut, and over octets that were taken before.
 use crate::doors::{door_of, piece_of};
 use mud_base::Memory;
 use mud_world::MemoryDoor;
@@ -21,12 +21,12 @@ fn door(alloc: Global, octets: &[u8]) -> Result<MemoryDoor, Memory> {
     door_of(alloc, piece_of(alloc, octets)?, 4)
 }
 
-/// Asserts that the capture goes on to a packet at this place.
-fn goes_on(rt: &impl Abort, capture: &mut Capture<&mut MemoryDoor>, place: u64) {
+/// Asserts that the capture goes on to a packet at this offset.
+fn goes_on(rt: &impl Abort, capture: &mut Capture<&mut MemoryDoor>, offset: u64) {
     match capture.advance() {
         Ok(true) => {
             let packet = capture.packet();
-            assert!(rt; packet.at == place && packet.seconds == 1059);
+            assert!(rt; packet.at == offset && packet.seconds == 1059);
             assert!(rt; packet.octets == [1, 2].as_slice());
         }
         _ => assert!(rt; false, "no packet"),

@@ -103,10 +103,10 @@ fn names_faults(rt: HostRuntime) {
             Some(UrlFault::Scheme),
         ),
     ];
-    for (fault, number, name, place, url) in table {
+    for (fault, number, name, offset, url) in table {
         assert_eq!(rt; fault.number(), number);
         assert_eq!(rt; fault.name(), name);
-        assert_eq!(rt; fault.place(), place);
+        assert_eq!(rt; fault.offset(), offset);
         assert_eq!(rt; fault.url(), url);
     }
 }

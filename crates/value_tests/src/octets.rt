@@ -9,7 +9,7 @@ const OCTETS: [u8; 18] = [
 ];
 
 #[test]
-fn fields_are_read_by_their_place(rt: HostRuntime) {
+fn fields_are_read_by_their_offset(rt: HostRuntime) {
     let octets = OCTETS.as_slice();
     assert_eq!(rt; octets_at(octets, 1), [2_u8, 3, 4]);
     assert_eq!(rt; mac_at(octets, 2), Mac([3, 4, 5, 6, 7, 8]));

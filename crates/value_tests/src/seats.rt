@@ -1,10 +1,10 @@
 //! Seats of a hall, by row and number: each call once at a type of rows, with ample memory.
 ghost use Rattle.std.specs.Prelude.{◌≡◌, ◌+◌, ◌-◌, ◌*◌, ◌^◌, ◌<◌, ◌≤◌, ◌∷◌, [], length, vec_len};
-ghost use Rattle.sorted_rows.specs.Placed.{index_in};
+ghost use Rattle.sorted_rows.specs.Sortable.{index_in};
 ghost use Rattle.sorted_rows.specs.Ledgers.{IsBlankOf};
 
 use mud_base::Listed;
-use sorted_rows::{Change, HoldsRow, KeyOf, Placed, PrefixOf, SortedRows, Steps};
+use sorted_rows::{Change, HoldsRow, KeyOf, PrefixOf, Sortable, SortedRows, Steps};
 use std::alloc::Global;
 use std::cmp::Ordering;
 use std::marker::Brand;
@@ -19,8 +19,8 @@ struct Seat {
     guest: u16,
 }
 
-impl Placed for Seat {
-    ghost place = { λ s. s.row ∷ s.number ∷ [] };
+impl Sortable for Seat {
+    ghost sort_key = { λ s. s.row ∷ s.number ∷ [] };
 
     fn order(&self, other: &Seat) -> Ordering {
         self.row
@@ -36,7 +36,7 @@ struct Ticket<'a> {
 }
 
 impl<'a> KeyOf<Seat> for Ticket<'a> {
-    ghost place = { λ t. t.row.now ∷ t.number ∷ [] };
+    ghost sort_key = { λ t. t.row.now ∷ t.number ∷ [] };
 
     fn order_to(&self, seat: &Seat) -> Ordering {
         self.row.cmp(&seat.row).then(self.number.cmp(&seat.number))
@@ -153,8 +153,8 @@ fn counted_calls_do_the_same(rt: HostRuntime) -> Result<(), Fail> {
 #[derive(Drop, Debug)]
 struct Coming(Seat);
 
-impl Placed for Coming {
-    ghost place = { λ c. c.0.row ∷ c.0.number ∷ [] };
+impl Sortable for Coming {
+    ghost sort_key = { λ c. c.0.row ∷ c.0.number ∷ [] };
 
     fn order(&self, other: &Coming) -> Ordering {
         self.0.order(&other.0)

@@ -4,22 +4,22 @@ use mud_url::{MudUrl, UrlFault, mud_url};
 use std::alloc::Global;
 use std::test::Fail;
 use text_lines::{
-    append_addr, append_decimal, append_end, append_mac, append_number, append_path_part,
-    append_place, append_prefix, append_signed, append_url, append_url_fault, append_url_part,
+    append_addr, append_decimal, append_expiry, append_mac, append_number, append_offset,
+    append_path_part, append_prefix, append_signed, append_url, append_url_fault, append_url_part,
 };
 
-/// Adds numbers, places and ends.
+/// Adds numbers, offsets and ends.
 fn add_numbers(line: &mut Bytes) -> Result<(), Memory> {
     append_decimal(line, 0)?;
     append_number(line, u64::MAX)?;
-    append_place(line, None)?;
-    append_place(line, Some(12))?;
+    append_offset(line, None)?;
+    append_offset(line, Some(12))?;
     line.append(b" ")?;
     append_signed(line, -7)?;
     line.append(b" ")?;
-    append_end(line, End(u64::MAX - 1))?;
+    append_expiry(line, End(u64::MAX - 1))?;
     line.append(b" ")?;
-    append_end(line, End(End::NEVER))
+    append_expiry(line, End(End::NEVER))
 }
 
 #[test]

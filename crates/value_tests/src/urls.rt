@@ -32,7 +32,7 @@ fn reads_urls(rt: HostRuntime) -> Result<(), Fail> {
 
 #[test]
 fn names_faults(rt: HostRuntime) {
-    for (given, number, name, place) in [
+    for (given, number, name, offset) in [
         ("", 1, "Empty", None),
         ("https://a/ b", 2, "Octet", Some(10)),
         ("http://a/", 3, "Scheme", None),
@@ -45,12 +45,12 @@ fn names_faults(rt: HostRuntime) {
         let fault = mud_url(given.as_bytes()).expect_err(&rt, given);
         assert_eq!(rt; fault.number(), number);
         assert_eq!(rt; fault.name(), name);
-        assert_eq!(rt; fault.place(), place);
+        assert_eq!(rt; fault.offset(), offset);
     }
     assert_eq!(rt; mud_string(&[b'a'; 256]), Err(UrlFault::Long));
     assert_eq!(rt; UrlFault::Long.number(), 9);
     assert_eq!(rt; UrlFault::Long.name(), "Long");
-    assert_eq!(rt; UrlFault::Long.place(), None);
+    assert_eq!(rt; UrlFault::Long.offset(), None);
 }
 
 #[test]

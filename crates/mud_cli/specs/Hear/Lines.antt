@@ -4,7 +4,7 @@ use Rattle.mud_base.specs.Texts.{mac_text, addr_text}
 use Rattle.mud_base.specs.declared.addr.Mac.{Mac}
 use Rattle.mud_base.specs.declared.addr.Addr.{Addr}
 use Rattle.text_lines.specs.Faults.{url_part}
-use Rattle.text_lines.specs.Numbers.{place_text}
+use Rattle.text_lines.specs.Numbers.{offset_text}
 use Rattle.dhcp_lldp.specs.Heard as hear_fault
 use Rattle.dhcp_lldp.specs.declared.heard.Heard.{Heard}
 use Rattle.dhcp_lldp.specs.declared.heard.Heard.TheVariants.{Url, Lease, Nothing}
@@ -26,11 +26,11 @@ heard_line (Url mac url) = url_line mac url
 heard_line (Lease mac addr seconds) = lease_line mac addr seconds
 heard_line Nothing = nothing_line
 
--- ---- Faults: the rule's name, then its place where it has one
+-- ---- Faults: the rule's name, then its offset where it has one
 
 unfoldable pub fault_line : HearFault → List ℕ
 fault_line fault =
-    codes "fault " ++ hear_fault.name_of fault ++ place_text (hear_fault.place_of fault) ++ url_part (hear_fault.url_fault_of fault) ++ codes "\n"
+    codes "fault " ++ hear_fault.name_of fault ++ offset_text (hear_fault.offset_of fault) ++ url_part (hear_fault.url_fault_of fault) ++ codes "\n"
 
 unfoldable pub too_long_line : List ℕ
 too_long_line = codes "fault Long\n"

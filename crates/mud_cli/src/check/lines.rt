@@ -79,8 +79,8 @@ fn append_entry(
 fn append_entries(lines: &mut Bytes, side: Direction, entries: &[Entry]) -> Result<(), Memory>
     ensures { OnOk result (lines.new ≡ lines.old ++ spec.entry_lines side 1 entries.now) }
 {
-    'entries: for (place, entry) in entries.iter().enumerate() {
-        append_entry(lines, side, place as u64 + 1, entry)?;
+    'entries: for (index, entry) in entries.iter().enumerate() {
+        append_entry(lines, side, index as u64 + 1, entry)?;
     }
     Ok(())
 }

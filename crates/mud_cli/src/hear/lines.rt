@@ -7,7 +7,7 @@ use mud_base::{Addr, Bytes, Mac, Memory};
 use mud_url::MudUrl;
 use std::alloc::Global;
 use text_lines::{
-    append_addr, append_decimal, append_mac, append_place, append_url, append_url_part,
+    append_addr, append_decimal, append_mac, append_offset, append_url, append_url_part,
 };
 
 /// `url MAC URL`.
@@ -58,14 +58,14 @@ pub(crate) fn heard_line(alloc: Global, heard: &Heard) -> Result<Bytes, Memory>
     }
 }
 
-/// The line of a refused message: `fault`, the rule's name, and its place where it has one.
+/// The line of a refused message: `fault`, the rule's name, and its offset where it has one.
 #[tactic(auto, unfolding(crate::specs::Hear::Lines::fault_line))]
 pub(crate) fn fault_line(alloc: Global, fault: &HearFault) -> Result<Bytes, Memory>
     ensures { IfOk result (λ line. line ≡ spec.fault_line fault.now) }
 {
     let mut line = Bytes::new(alloc, b"fault ")?;
     line.append(fault.name().as_bytes())?;
-    append_place(&mut line, fault.place().map(|place| place as u64))?;
+    append_offset(&mut line, fault.offset().map(|offset| offset as u64))?;
     append_url_part(&mut line, fault.url())?;
     line.append(b"\n")?;
     Ok(line)

@@ -1,5 +1,5 @@
-//! Changes that are made by chance, and the rows after each of them. They are compared with those of
-//! all pairs of an entry and an address, which are made anew from plain tables.
+//! Changes that are made by chance, and the rows after each of them. They are compared with those
+//! of all pairs of an entry and an address, which are made anew from plain tables.
 ghost use Rattle.std.specs.Prelude.{◌<◌};
 ghost use Rattle.sorted_rows.specs.Ledgers.{IsBlankOf};
 
@@ -64,8 +64,8 @@ fn asking(family: Family, letters: &[u8]) -> Asked {
 }
 
 /// The entries of the first file: the first three are for what the Thing sends.
-fn first_file(place: usize) -> Asked {
-    match place {
+fn first_file(index: usize) -> Asked {
+    match index {
         0 => asking(Family::Both, b"d"),
         1 => asking(Family::Both, b"s"),
         2 => asking(Family::Both, b"fd"),
@@ -76,8 +76,8 @@ fn first_file(place: usize) -> Asked {
 }
 
 /// The entries of the second file, likewise.
-fn second_file(place: usize) -> Asked {
-    match place {
+fn second_file(index: usize) -> Asked {
+    match index {
         0 => asking(Family::V4, b"f"),
         1 => asking(Family::Both, b"fsd"),
         2 => asking(Family::V6, b""),
@@ -87,11 +87,11 @@ fn second_file(place: usize) -> Asked {
 }
 
 /// An entry of one of the files.
-fn asked_of(file: usize, place: usize) -> Asked {
+fn asked_of(file: usize, index: usize) -> Asked {
     if file == 0 {
-        first_file(place)
+        first_file(index)
     } else {
-        second_file(place)
+        second_file(index)
     }
 }
 
@@ -100,8 +100,8 @@ fn asked_of(file: usize, place: usize) -> Asked {
 struct Plain {
     /// The URLs with a file, and the file.
     files: Vec<(usize, usize)>,
-    /// Of each binding the key, the address and the end. The keys are the makers and the class.
-    ends: Vec<(usize, usize, u64)>,
+    /// Of each binding the key, the address and the expiry. The keys are the makers and the class.
+    expiries: Vec<(usize, usize, u64)>,
 }
 
 impl Plain {
@@ -124,21 +124,21 @@ impl Plain {
         Ok(())
     }
 
-    /// The end of the binding of a key and an address.
-    fn end(&self, key: usize, addr: usize) -> Option<u64> {
-        for (own, other, end) in &self.ends {
+    /// The expiry of the binding of a key and an address.
+    fn expiry(&self, key: usize, addr: usize) -> Option<u64> {
+        for (own, other, expiry) in &self.expiries {
             if *own == key && *other == addr {
-                return Some(*end);
+                return Some(*expiry);
             }
         }
         None
     }
 
-    /// Gives the binding of a key and an address this end, or takes it away.
-    fn set_end(&mut self, key: usize, addr: usize, end: Option<u64>) -> Result<(), Memory> {
-        self.ends.retain(|own| own.0 != key || own.1 != addr);
-        if let Some(end) = end {
-            self.ends.push((key, addr, end))?;
+    /// Gives the binding of a key and an address this expiry, or takes it away.
+    fn set_expiry(&mut self, key: usize, addr: usize, expiry: Option<u64>) -> Result<(), Memory> {
+        self.expiries.retain(|own| own.0 != key || own.1 != addr);
+        if let Some(expiry) = expiry {
+            self.expiries.push((key, addr, expiry))?;
         }
         Ok(())
     }
@@ -179,7 +179,7 @@ fn made_key(alloc: Global, n: usize) -> Result<MemberKey, Memory> {
     }
 }
 
-/// Adds the binding of an address to a key, where it has an end.
+/// Adds the binding of an address to a key, where it has an expiry.
 fn push_bound(
     alloc: Global,
     bindings: &mut Vec<Binding>,
@@ -197,7 +197,7 @@ fn push_bound(
     Ok(())
 }
 
-/// The binding of an address to a key goes, comes or gets another end.
+/// The binding of an address to a key goes, comes or gets another expiry.
 fn rebind(
     alloc: Global,
     plain: &mut Plain,
@@ -207,12 +207,12 @@ fn rebind(
     gone: &mut Vec<Binding>,
     come: &mut Vec<Binding>,
 ) -> Result<(), Memory> {
-    push_bound(alloc, gone, key, addr, plain.end(key, addr))?;
+    push_bound(alloc, gone, key, addr, plain.expiry(key, addr))?;
     push_bound(alloc, come, key, addr, until)?;
-    plain.set_end(key, addr, until)
+    plain.set_expiry(key, addr, until)
 }
 
-/// The bindings of an address to one or two of the keys go, come or get other ends.
+/// The bindings of an address to one or two of the keys go, come or get other expiries.
 fn rebind_some(
     alloc: Global,
     plain: &mut Plain,
@@ -221,7 +221,7 @@ fn rebind_some(
     come: &mut Vec<Binding>,
 ) -> Result<(), Memory> {
     let (addr, key) = (chance.below(4), chance.below(3));
-    let until = chance.few().map(|end| end as u64);
+    let until = chance.few().map(|expiry| expiry as u64);
     rebind(alloc, plain, key, addr, until, gone, come)?;
     if key < 2 && chance.below(2) == 0 {
         rebind(alloc, plain, key + 1, addr, until, gone, come)?;
@@ -282,15 +282,15 @@ fn made_entry(alloc: Global, asked: Asked) -> Result<Entry, Memory> {
     }
 }
 
-/// Adds the entries of a file at these places.
+/// Adds the entries of a file at these indices.
 fn push_entries(
     alloc: Global,
     file: usize,
-    places: [usize; 3],
+    indices: [usize; 3],
     entries: &mut Listed<Entry>,
 ) -> Result<(), Memory> {
-    for place in places {
-        entries.push(made_entry(alloc, asked_of(file, place))?)?;
+    for index in indices {
+        entries.push(made_entry(alloc, asked_of(file, index))?)?;
     }
     Ok(())
 }
@@ -338,19 +338,20 @@ fn change_held<L: Ledger>(
     Ok(hold_made(alloc, compiled, &url, file, steps)?)
 }
 
-/// The lesser of an end and that of a binding, where one is asked for; None where there is none.
-fn met(end: u64, is_asked: bool, bound: Option<u64>) -> Option<u64> {
+/// The lesser of an expiry and that of a binding, where one is asked for; None where there is none.
+fn met(expiry: u64, is_asked: bool, bound: Option<u64>) -> Option<u64> {
     if !is_asked {
-        return Some(end);
+        return Some(expiry);
     }
     match bound {
         None => None,
-        Some(bound) => Some(end.min(bound)),
+        Some(bound) => Some(expiry.min(bound)),
     }
 }
 
-/// Until when an entry in the file of a URL is met by an address: the least end of what it asks for.
-fn end_of(plain: &Plain, url: usize, asked: Asked, addr: usize) -> Option<u64> {
+/// Until when an entry in the file of a URL is met by an address: the least expiry of what it asks
+/// for.
+fn expiry_of(plain: &Plain, url: usize, asked: Asked, addr: usize) -> Option<u64> {
     let is_in = match asked.family {
         Family::V4 => addr < 2,
         Family::V6 => addr >= 2,
@@ -359,12 +360,12 @@ fn end_of(plain: &Plain, url: usize, asked: Asked, addr: usize) -> Option<u64> {
     if !is_in || !(asked.first || asked.same || asked.dns) {
         return None;
     }
-    let end = met(u64::MAX, asked.first, plain.end(0, addr))?;
-    let end = met(end, asked.same, plain.end(url / 2, addr))?;
-    met(end, asked.dns, plain.end(2, addr))
+    let expiry = met(u64::MAX, asked.first, plain.expiry(0, addr))?;
+    let expiry = met(expiry, asked.same, plain.expiry(url / 2, addr))?;
+    met(expiry, asked.dns, plain.expiry(2, addr))
 }
 
-/// The numbers and the ends of the rows that these entries have at an address.
+/// The numbers and the expiries of the rows that these entries have at an address.
 fn made_rows(
     alloc: Global,
     plain: &Plain,
@@ -374,14 +375,14 @@ fn made_rows(
 ) -> Result<Vec<(usize, u64)>, Memory> {
     let mut rows = Vec::new(alloc);
     for (i, asked) in entries.iter().enumerate() {
-        if let Some(end) = end_of(plain, url, *asked, addr) {
-            rows.push((i, end))?;
+        if let Some(expiry) = expiry_of(plain, url, *asked, addr) {
+            rows.push((i, expiry))?;
         }
     }
     Ok(rows)
 }
 
-/// Whether a row is of this address, and of the entry of this index until this end.
+/// Whether a row is of this address, and of the entry of this index until this expiry.
 fn is_row(row: &Row, addr: Addr, made: (usize, u64)) -> bool {
     row.addr.addr() == addr
         && usize::from(row.entry).checked_sub(1) == Some(made.0)
@@ -539,8 +540,8 @@ fn changes_made<L: Ledger>(alloc: Global, count: usize, blank: Blank) -> Result<
 {
     let mut steps = Steps::<L>::new(blank);
     let mut compiled = Compiled::new(alloc)?;
-    let (files, ends) = (Vec::new(alloc), Vec::new(alloc));
-    let mut plain = Plain { files, ends };
+    let (files, expiries) = (Vec::new(alloc), Vec::new(alloc));
+    let mut plain = Plain { files, expiries };
     let made = changes_agree(alloc, &mut compiled, &mut plain, count, &mut steps);
     drop(plain);
     drop(compiled);

@@ -1,16 +1,16 @@
 use Rattle.std.proofs.Common.{◌≡◌, ◌+◌, length}
-use Rattle.acl_model.specs.Places.{binding_place}
+use Rattle.acl_model.specs.SortKeys.{binding_sort_key}
 use Rattle.sorted_rows.specs.Edits.{edited}
-use Rattle.acl_shelves.specs.BindingShelves.{HasRoomByKey}
-use Rattle.acl_shelves.specs.BindingParts.{joined, room_in, AreShelved, AreFoundIn}
+use Rattle.acl_shelves.specs.BindingBuckets.{HasRoomByKey}
+use Rattle.acl_shelves.specs.BindingParts.{joined, room_in, AreBucketed, AreFoundIn}
 use Rattle.acl_shelves.proofs.binding_parts.make_all.Given as goal
 
 abbrev pub invariant-loop-left : goal.invariant-loop-left
 invariant-loop-left g l = record {
-  shelved : AreShelved l.shelves.items;
-  rows : edited binding_place l.left.rows (joined l.shelves.items) ≡ edited binding_place l.fn.edits.rows (joined l.initial.shelves.items);
-  found : AreFoundIn l.shelves.items l.left.rows;
-  room : HasRoomByKey l.left.rows (room_in l.shelves.items);
+  bucketed : AreBucketed l.buckets.items;
+  rows : edited binding_sort_key l.left.rows (joined l.buckets.items) ≡ edited binding_sort_key l.fn.edits.rows (joined l.initial.buckets.items);
+  found : AreFoundIn l.buckets.items l.left.rows;
+  room : HasRoomByKey l.left.rows (room_in l.buckets.items);
   counted : l.steps + length l.left.rows ≡ l.initial.steps + length l.fn.edits.rows;
 }
 

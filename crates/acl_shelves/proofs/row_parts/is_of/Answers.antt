@@ -1,7 +1,7 @@
 use Rattle.std.proofs.Common.{sym, ap, ◌∙◌}
 use Rattle.std.specs.Ordering.{is_eq}
-use Rattle.sorted_rows.specs.Edits.{edit_place}
-use Rattle.acl_rows.specs.Places.{peer_place, row_place}
+use Rattle.sorted_rows.specs.Edits.{edit_sort_key}
+use Rattle.acl_rows.specs.SortKeys.{peer_sort_key, row_sort_key}
 use Rattle.acl_shelves.proofs.LastLaws.{under_is}
 use Rattle.acl_shelves.proofs.row_parts.is_of.Goals as goal
 
@@ -9,4 +9,4 @@ pub returns : goal.returns
 returns c =
     c.is_eq.ensures
     ∙ ap is_eq c.order_to_beginning.ensures
-    ∙ sym (under_is (edit_place row_place) (peer_place c.args.peer.owner c.args.peer.side c.args.peer.addr) c.args.edit.now)
+    ∙ sym (under_is (edit_sort_key row_sort_key) (peer_sort_key c.args.peer.owner c.args.peer.side c.args.peer.addr) c.args.edit.now)

@@ -1,5 +1,5 @@
 use Rattle.std.proofs.Common.{arith}
-use Rattle.acl_shelves.proofs.RoomLaws.{kept_twice, shelves_more}
+use Rattle.acl_shelves.proofs.RoomLaws.{kept_twice, buckets_more}
 use Rattle.acl_shelves.proofs.row_parts.make_room.Goals as goal
 
 pub clear_for-requires-clause-sorted : goal.clear_for-requires-clause-sorted
@@ -8,11 +8,11 @@ clear_for-requires-clause-sorted c = c.add_for.ensures.kept.sorted
 pub reserve_for-requires-clause-sorted : goal.reserve_for-requires-clause-sorted
 reserve_for-requires-clause-sorted c = c.clear_for.ensures.sorted
 
-pub reserve_for-requires-clause-shelved : goal.reserve_for-requires-clause-shelved
-reserve_for-requires-clause-shelved c =
-    shelves_more c.args.edits.now.rows c.add_for.new.shelves.len c.clear_for.new.shelves.len (omega (arith, c.clear_for.ensures.len, c.add_for.new.shelves.ok.0, c.clear_for.new.shelves.ok.0)) c.in_ok-add_for.ensures.ok
+pub reserve_for-requires-clause-bucketed : goal.reserve_for-requires-clause-bucketed
+reserve_for-requires-clause-bucketed c =
+    buckets_more c.args.edits.now.rows c.add_for.new.buckets.len c.clear_for.new.buckets.len (omega (arith, c.clear_for.ensures.len, c.add_for.new.buckets.ok.0, c.clear_for.new.buckets.ok.0)) c.in_ok-add_for.ensures.ok
 
 pub returns-clause-kept : goal.returns-clause-kept
 returns-clause-kept c =
-    kept_twice c.args.shelves.now.items c.add_for.new.shelves.items c.reserve_for.new.shelves.items c.add_for.ensures.kept
-    (kept_twice c.add_for.new.shelves.items c.clear_for.new.shelves.items c.reserve_for.new.shelves.items c.clear_for.ensures c.reserve_for.ensures.kept.kept)
+    kept_twice c.args.buckets.now.items c.add_for.new.buckets.items c.reserve_for.new.buckets.items c.add_for.ensures.kept
+    (kept_twice c.add_for.new.buckets.items c.clear_for.new.buckets.items c.reserve_for.new.buckets.items c.clear_for.ensures c.reserve_for.ensures.kept.kept)

@@ -6,7 +6,7 @@ use Rattle.acl_shelves.proofs.row_parts.reserve_for.Given as goal
 
 abbrev pub invariant-loop-edit : goal.invariant-loop-edit
 invariant-loop-edit l = record {
-  kept : AreRoomier l.initial.shelves.items l.shelves.items;
-  each : HaveOwnRoom l.edits.rows l.shelves.items l.edit-index;
-  last : (p : Peer) → l.last ≡ Some p → HasRoomFor p.owner p.side p.addr l.edits.rows l.shelves.items;
+  kept : AreRoomier l.initial.buckets.items l.buckets.items;
+  each : HaveOwnRoom l.edits.rows l.buckets.items l.edit-index;
+  last : (p : Peer) → l.last ≡ Some p → HasRoomFor p.owner p.side p.addr l.edits.rows l.buckets.items;
 }

@@ -3,18 +3,18 @@ use Rattle.std.specs.Prelude.{flat_map}
 use Rattle.std.proofs.lemmas.List.{take_all}
 use Rattle.item_codec.specs.Spelling.{version, list}
 use Rattle.item_codec.specs.Records.{elements, list_body}
-use Rattle.mud_tables.specs.Ends.{Ends}
-use Rattle.mud_tables.specs.ItemFields.{ending}
+use Rattle.mud_tables.specs.Expiries.{Expiries}
+use Rattle.mud_tables.specs.ItemFields.{expiring}
 use Rattle.mud_tables.specs.BindItems.{name_item}
 use Rattle.bind_book.proofs.items.name_item.Goals as goal
 
 pub returns : goal.returns
 unfolding name_item list_body elements
 returns c =
-    let addrs : Ends = c.args.row.now.addrs in
-    let body : c.into_bytes.result ≡ list_body ending addrs =
+    let addrs : Expiries = c.args.row.now.addrs in
+    let body : c.into_bytes.result ≡ list_body expiring addrs =
     c.into_bytes.ensures ∙ c.loop-kept.invariant
-    ∙ ap (λ rows. version ++ list (length c.as_slice-addrs.result.now) ++ flat_map ending rows) (take_all c.loop-kept.kept-index c.as_slice-addrs.result.now c.loop-kept-test.false)
-    ∙ ap (λ rows. version ++ list (length rows) ++ flat_map ending rows) c.as_slice-addrs.ensures
-    ∙ append_assoc version (list (length addrs)) (flat_map ending addrs) in
+    ∙ ap (λ rows. version ++ list (length c.as_slice-addrs.result.now) ++ flat_map expiring rows) (take_all c.loop-kept.kept-index c.as_slice-addrs.result.now c.loop-kept-test.false)
+    ∙ ap (λ rows. version ++ list (length rows) ++ flat_map expiring rows) c.as_slice-addrs.ensures
+    ∙ append_assoc version (list (length addrs)) (flat_map expiring addrs) in
     λ i. record { kind = 5; key = c.in_ok-key.ensures i; body = body i }

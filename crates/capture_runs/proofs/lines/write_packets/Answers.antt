@@ -2,7 +2,7 @@ use Rattle.std.proofs.Common.{rules, ◌≡◌, ◌++◌, ◌∙◌, ◌⊎◌, 
 use Rattle.pcap_read.specs.Captured.{packet_of}
 use Rattle.command_runs.specs.Status.{status_number}
 use Rattle.capture_runs.specs.Fold.{lines_from, state_after}
-use Rattle.capture_runs.proofs.Folded.{on_ok, on_err, left_none, left_more, left_err, has_written_none, has_written_more, part_at_failure, part_at_packet, due_at_end, part_at_end, taken_at_failure}
+use Rattle.capture_runs.proofs.Folded.{on_ok, on_err, left_none, left_more, left_err, has_written_none, has_written_more, part_at_failure, part_at_packet, output_at_end, part_at_end, taken_at_failure}
 use Rattle.capture_runs.proofs.lines.write_packets.Goals as goal
 
 pub packets-init : goal.packets-init
@@ -22,7 +22,7 @@ returns-in-Ended-clause-done g c = λ s first keeps tells start which.
     let now = c.packets.invariant.written s first keeps tells start in
     let text = lines_from writer.step s now.packets in
     let all = c.in-Ended.ensures.led now.packets text first tells now.done in
-    due_at_end writer.step writer.ending s now.packets None first (g.D.Door.view c.go_on.new.door).state (g.D.Door.view c.finish.new.door).state c.go_on.new.lines all (status_number c.finish.result)
+    output_at_end writer.step writer.ending s now.packets None first (g.D.Door.view c.go_on.new.door).state (g.D.Door.view c.finish.new.door).state c.go_on.new.lines all (status_number c.finish.result)
     (c.finish.ensures.done (state_after writer.step s now.packets) now.packets text first now.kept tells all which)
 
 pub returns-in-Ended-clause-part : goal.returns-in-Ended-clause-part
@@ -40,7 +40,7 @@ returns-in-Broken-clause-done g c = λ s first keeps tells start which.
     let now = c.packets.invariant.written s first keeps tells start in
     let text = lines_from writer.step s now.packets in
     let all = c.in-Broken.ensures.led now.packets text first tells now.done in
-    due_at_end writer.step writer.ending s now.packets (Some c.in-Broken.fault) first (g.D.Door.view c.go_on.new.door).state (g.D.Door.view c.finish-in-Broken.new.door).state c.go_on.new.lines all (status_number c.finish-in-Broken.result)
+    output_at_end writer.step writer.ending s now.packets (Some c.in-Broken.fault) first (g.D.Door.view c.go_on.new.door).state (g.D.Door.view c.finish-in-Broken.new.door).state c.go_on.new.lines all (status_number c.finish-in-Broken.result)
     (c.finish-in-Broken.ensures.done (state_after writer.step s now.packets) now.packets text first now.kept tells all which)
 
 pub returns-in-Broken-clause-part : goal.returns-in-Broken-clause-part

@@ -1,5 +1,5 @@
 use Rattle.std.proofs.Common.{rules, ◌≡◌, ◌++◌}
-use Rattle.command_runs.specs.Due.{WroteFirst}
+use Rattle.command_runs.specs.Output.{WroteFirst}
 use Rattle.capture_runs.specs.Capture.{end_line}
 use Rattle.capture_runs.proofs.Ends.{part_of_all, part_here_none}
 use Rattle.capture_runs.proofs.run.end_capture.Goals as goal

@@ -2,7 +2,7 @@ use Rattle.std.proofs.Common.{rules, ◌≡◌, false, []}
 use Rattle.mud_world.specs.Whole.{WrotePart}
 use Rattle.mud_world.proofs.Doors.{took_none}
 use Rattle.capture_runs.specs.Fault.{is_read_fault}
-use Rattle.command_runs.specs.Due.{WroteFront}
+use Rattle.command_runs.specs.Output.{WroteFront}
 use Rattle.capture_runs.proofs.Done.{goes_on, has_broken, has_done_less, wrote_none, wrote_part}
 use Rattle.capture_runs.proofs.run.go_on.Goals as goal
 

@@ -2,7 +2,7 @@ use Rattle.std.proofs.Common.{Err, ap, subst, sym, ◌∙◌}
 use Rattle.std.specs.Prelude.{max}
 use Rattle.mud_desk.specs.DeskState.{session_of, LeadsOnFrom}
 use Rattle.console.specs.Replies.{Reply, reply}
-use Rattle.console.specs.Requests.{MayReply}
+use Rattle.console.specs.Requests.{AllowedResponse}
 use Rattle.console.specs.declared.refusals.ReplyHead.{ReplyHead}
 use Rattle.console.proofs.Answered.{plain_is, leads_asked, leads_unasked}
 use Rattle.console.proofs.Wants.{wants_by_question, wants_by_refusal}
@@ -13,7 +13,7 @@ returns-in-Ok-clause-reply g c = λ from r parts h forwarded.
     let before = c.args.desk.now.state in
     let after = c.answer_question.new.desk.state in
     let said = reply c.answer_question.result c.answer_question.new.body in
-    subst (λ (w : Reply). LeadsOnFrom h before after (λ s t. MayReply s c.args.given r w t)) (sym (plain_is c.plain.result c.answer_question.result c.answer_question.new.body c.plain.ensures))
+    subst (λ (w : Reply). LeadsOnFrom h before after (λ s t. AllowedResponse s c.args.given r w t)) (sym (plain_is c.plain.result c.answer_question.result c.answer_question.new.body c.plain.ensures))
     (leads_asked from r c.args.request.now parts h before c.args.given c.later-now.result (c.later-now.ensures ∙ ap (λ m. max m c.args.given) c.moment.ensures) after said
     c.in-Ok.question c.in-Ok.ensures.question (c.answer_question.ensures.reply h forwarded))
 

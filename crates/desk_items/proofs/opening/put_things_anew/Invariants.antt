@@ -4,10 +4,10 @@ use Rattle.mud_world.specs.Items.{IsOrdered}
 use Rattle.desk_model.specs.Items.{in_second_version}
 use Rattle.desk_items.proofs.opening.put_things_anew.Given as goal
 
-abbrev pub invariant-loop-place : goal.invariant-loop-place
-invariant-loop-place g l = record {
+abbrev pub invariant-loop-index : goal.invariant-loop-index
+invariant-loop-index g l = record {
   told : Tells (goal.Keeper-dyn g) l.keeper → Tells (goal.Keeper-dyn g) l.initial.keeper;
-  items : Tells (goal.Keeper-dyn g) l.keeper → kept_items (goal.Keeper-dyn g) l.keeper ≡ in_second_version (take l.place l.list) ++ drop l.place l.list;
+  items : Tells (goal.Keeper-dyn g) l.keeper → kept_items (goal.Keeper-dyn g) l.keeper ≡ in_second_version (take l.index l.list) ++ drop l.index l.list;
   ordered : Tells (goal.Keeper-dyn g) l.keeper → IsOrdered (kept_items (goal.Keeper-dyn g) l.keeper);
   opened : IsOpen (goal.Keeper-dyn g) l.keeper;
   steady : faults_of (goal.Keeper-dyn g) l.keeper ≡ faults_of (goal.Keeper-dyn g) l.initial.keeper;

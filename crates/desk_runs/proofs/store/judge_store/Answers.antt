@@ -6,7 +6,7 @@ use Rattle.mud_desk.specs.DeskState.{tables_of}
 use Rattle.desk_runs.proofs.JudgedPackets.{in_begun}
 use Rattle.desk_runs.proofs.Refusals.{runs_refused}
 use Rattle.desk_runs.proofs.Runs.{opened_over, refused_over}
-use Rattle.desk_runs.specs.Store.{judged_due, judged_taken}
+use Rattle.desk_runs.specs.Store.{judged_output, judged_taken}
 use Rattle.desk_runs.proofs.store.judge_store.Goals as goal
 
 pub returns-in-Ok-clause-judged : goal.returns-in-Ok-clause-judged
@@ -22,7 +22,7 @@ returns-in-Ok-clause-judged g c =
     opened_over (goal.Keeper-dyn g) c.args.keeper desk.keeper door.tells
     (door.view old)
     (door.view new)
-    (status_number c.judge_capture.result.0) judged_due judged_taken
+    (status_number c.judge_capture.result.0) judged_output judged_taken
     tables store.tables store.sound store.kept store.steady store.same_box
     run.statuses run.fault run.steady (run.done (opened tables) is_in) (run.part (opened tables) is_in) (run.taken (opened tables) is_in) run.turns
     c.judge_capture.result.1 run.keeper
@@ -34,7 +34,7 @@ returns-in-Err-clause-judged g c =
     let new = c.refuse_store.new.door in
     let store = c.in-Err.ensures in
     let run = c.refuse_store.ensures in
-    refused_over (goal.Keeper-dyn g) c.args.keeper c.in-Err.keeper door.tells (door.view old) (door.view new) (status_number c.refuse_store.result) judged_due judged_taken
+    refused_over (goal.Keeper-dyn g) c.args.keeper c.in-Err.keeper door.tells (door.view old) (door.view new) (status_number c.refuse_store.result) judged_output judged_taken
     (runs_refused (goal.Keeper-dyn g) c.args.keeper c.in-Err.keeper door.tells (door.view old) (door.view new) (status_number c.refuse_store.result)
     c.in-Err.fault store.bad store.left store.cause store.handed_back
     run.statuses run.fault run.steady run.done run.part (λ call. ap (λ d. (door.view d).state) (run.untouched call)) run.turns run.reads)

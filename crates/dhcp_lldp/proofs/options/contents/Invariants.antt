@@ -7,8 +7,8 @@ use Rattle.dhcp_lldp.proofs.options.contents.Given as goal
 
 abbrev pub invariant-options : goal.invariant-options
 invariant-options l = record {
-  same : walked l.contents (listing 0 l.place l.rest) ≡ walked nothing_yet (options_of l.message);
-  room : l.place + length l.rest ≡ length l.message;
+  same : walked l.contents (listing 0 l.offset l.rest) ≡ walked nothing_yet (options_of l.message);
+  room : l.offset + length l.rest ≡ length l.message;
 }
 
 abbrev pub decreases-options : goal.decreases-options

@@ -7,9 +7,9 @@ use Rattle.dhcp_lldp.proofs.tlvs.seen_tlvs.Given as goal
 
 abbrev pub invariant-tlvs : goal.invariant-tlvs
 invariant-tlvs l = record {
-  same : walked l.seen (listing 0 l.place l.rest) ≡ walked nothing_seen (tlvs_of l.frame);
-  room : l.place + length l.rest ≤ length l.frame;
-  count : l.seen.count ≤ l.place;
+  same : walked l.seen (listing 0 l.offset l.rest) ≡ walked nothing_seen (tlvs_of l.frame);
+  room : l.offset + length l.rest ≤ length l.frame;
+  count : l.seen.count ≤ l.offset;
 }
 
 abbrev pub decreases-tlvs : goal.decreases-tlvs

@@ -8,15 +8,15 @@ use Rattle.dns_snoop.proofs.name.read_name.Goals as goal
 pub returns-in_err-first-clause-read : goal.returns-in_err-first-clause-read
 returns-in_err-first-clause-read c =
     let p = err_from_is_err_and c.from_residual.result c.from_residual.ensures.1 in
-    rw (p.1, p.2) (name_first_fails c.args.message.now c.args.place _ (c.in_err-first.ensures.read ∙ ap (λ t. run_answer t (run_at c.args.message.now c.args.place)) c.new-text.ensures))
+    rw (p.1, p.2) (name_first_fails c.args.message.now c.args.offset _ (c.in_err-first.ensures.read ∙ ap (λ t. run_answer t (run_at c.args.message.now c.args.offset)) c.new-text.ensures))
 
 pub returns-in_err-follow-clause-read : goal.returns-in_err-follow-clause-read
 returns-in_err-follow-clause-read c =
     let p = err_from_is_err_and c.from_residual-in_err-follow.result c.from_residual-in_err-follow.ensures.1 in
-    rw (p.1, p.2) (name_later_fails c.args.message.now c.args.place (record { text = c.read_run.new.text; end = c.in_ok-first.first }) _
-    (c.in_ok-first.ensures.read ∙ ap (λ t. run_answer t (run_at c.args.message.now c.args.place)) c.new-text.ensures) c.in_err-follow.ensures.read)
+    rw (p.1, p.2) (name_later_fails c.args.message.now c.args.offset (record { text = c.read_run.new.text; end = c.in_ok-first.first }) _
+    (c.in_ok-first.ensures.read ∙ ap (λ t. run_answer t (run_at c.args.message.now c.args.offset)) c.new-text.ensures) c.in_err-follow.ensures.read)
 
 pub returns-clause-read : goal.returns-clause-read
 returns-clause-read c =
-    name_read c.args.message.now c.args.place (record { text = c.read_run.new.text; end = c.in_ok-first.first }) c.follow.new.text c.behind_run-behind.result
-    (c.in_ok-first.ensures.read ∙ ap (λ t. run_answer t (run_at c.args.message.now c.args.place)) c.new-text.ensures) c.in_ok-follow.ensures.read c.behind_run-behind.ensures
+    name_read c.args.message.now c.args.offset (record { text = c.read_run.new.text; end = c.in_ok-first.first }) c.follow.new.text c.behind_run-behind.result
+    (c.in_ok-first.ensures.read ∙ ap (λ t. run_answer t (run_at c.args.message.now c.args.offset)) c.new-text.ensures) c.in_ok-follow.ensures.read c.behind_run-behind.ensures

@@ -5,8 +5,8 @@ use Rattle.dns_snoop.proofs.name.read_run.Given as goal
 
 abbrev pub invariant-labels : goal.invariant-labels
 invariant-labels l = record {
-  same : run_answer l.text (run_from 0 l.place l.rest) ≡ run_answer l.initial.text (run_at l.message l.fn.start);
-  room : l.place + length l.rest ≡ length l.message;
+  same : run_answer l.text (run_from 0 l.offset l.rest) ≡ run_answer l.initial.text (run_at l.message l.fn.start);
+  room : l.offset + length l.rest ≡ length l.message;
   short : length l.text ≤ 254;
 }
 

@@ -5,7 +5,7 @@ use Rattle.drill_runs.proofs.judging.judge_frame.Goals as goal
 
 -- a packet at these seconds
 abbrev packet_at : ℕ → List ℕ → Packet
-packet_at seconds octets = record { number = 0; place = 0; seconds = seconds; octets = octets }
+packet_at seconds octets = record { number = 0; offset = 0; seconds = seconds; octets = octets }
 
 pub returns-clause-verdict : goal.returns-clause-verdict
 returns-clause-verdict g c = λ s in_session.

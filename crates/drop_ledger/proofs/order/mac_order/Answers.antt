@@ -1,7 +1,7 @@
 use Rattle.std.proofs.Common.{◌≡◌, length, refl, sym, ◌∙◌, arith}
-use Rattle.sorted_rows.specs.Placed.{place_cmp}
+use Rattle.sorted_rows.specs.Sortable.{sort_key_cmp}
 use Rattle.sorted_rows.proofs.Orders.{alike, apart, behind}
-use Rattle.drop_ledger.proofs.PlaceOrder.{six_all}
+use Rattle.drop_ledger.proofs.SortKeyOrder.{six_all}
 use Rattle.drop_ledger.proofs.order.mac_order.Goals as goal
 
 pub loop-n-init : goal.loop-n-init
@@ -12,7 +12,7 @@ returns-then-own-n c =
     let own : length c.args.own.now.0 ≡ 6 = omega arith in
     let other : length c.args.other.now.0 ≡ 6 = omega arith in
     c.cmp.ensures ∙ apart c.loop-n.n c.args.own.now.0 c.args.other.now.0 (omega arith) (omega arith) c.if-own-n.true ∙ c.loop-n.invariant.1
-    ∙ (λ i. place_cmp (sym (six_all c.args.own.now.0 own) i) (sym (six_all c.args.other.now.0 other) i))
+    ∙ (λ i. sort_key_cmp (sym (six_all c.args.own.now.0 own) i) (sym (six_all c.args.other.now.0 other) i))
 
 pub loop-n-preserved : goal.loop-n-preserved
 loop-n-preserved c = (omega arith, sym (alike c.loop-n.n c.args.own.now.0 c.args.other.now.0 (omega arith) (omega arith) c.if-own-n.false) ∙ c.loop-n.invariant.1)
@@ -23,4 +23,4 @@ returns c =
     let own : length c.args.own.now.0 ≡ 6 = omega arith in
     let other : length c.args.other.now.0 ≡ 6 = omega arith in
     sym (behind c.loop-n.n c.args.own.now.0 c.args.other.now.0 (omega (arith, all)) (omega (arith, all))) ∙ c.loop-n.invariant.1
-    ∙ (λ i. place_cmp (sym (six_all c.args.own.now.0 own) i) (sym (six_all c.args.other.now.0 other) i))
+    ∙ (λ i. sort_key_cmp (sym (six_all c.args.own.now.0 own) i) (sym (six_all c.args.other.now.0 other) i))

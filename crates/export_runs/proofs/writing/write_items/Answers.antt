@@ -1,6 +1,6 @@
 use Rattle.std.proofs.Common.{List, sym, subst, OnErr}
 use Rattle.std.specs.Prelude.{flat_map}
-use Rattle.command_runs.specs.Due.{WroteFirst}
+use Rattle.command_runs.specs.Output.{WroteFirst}
 use Rattle.rule_export.specs.declared.item.Resolved.{Resolved}
 use Rattle.rule_export.specs.Text.{resolved_text, behind_comma, items_text, with_commas}
 use Rattle.command_runs.proofs.Written.{part_of_second}

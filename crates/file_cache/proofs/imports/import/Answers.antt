@@ -1,7 +1,7 @@
 use Rattle.std.proofs.Common.{◌≡◌, Some, None, sym, ap, ◌∙◌}
 use Rattle.std.specs.Option.{option_copied}
 use Rattle.std.proofs.lemmas.Result.{err_from_is_err_and}
-use Rattle.sorted_rows.specs.Placed.{row_at}
+use Rattle.sorted_rows.specs.Sortable.{row_at}
 use Rattle.file_tables.specs.Files.{url_of, file_at}
 use Rattle.file_tables.proofs.SoundFiles.{url_found}
 use Rattle.file_cache.proofs.StepLaws.{goes_on, unread, file_known, file_unknown}

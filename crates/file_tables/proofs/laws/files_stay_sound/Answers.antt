@@ -1,4 +1,4 @@
-use Rattle.file_tables.specs.FileSteps.{import_step, verdict_step, revoke_step}
+use Rattle.file_tables.specs.FileCommands.{import_step, verdict_step, revoke_step}
 use Rattle.file_tables.proofs.SoundFiles.{sound-import_step, sound-verdict_step, sound-revoke_step}
 use Rattle.file_tables.proofs.SoundLaws.{stays}
 use Rattle.file_tables.proofs.laws.files_stay_sound.Goals as goal

@@ -1,11 +1,11 @@
 use Rattle.std.proofs.Common.{ap}
-use Rattle.flow_table.specs.Held.{place_at, filled}
+use Rattle.flow_table.specs.Held.{slot_at, filled}
 use Rattle.flow_table.proofs.table.kept_in.Goals as goal
 
 pub returns-in-Some : goal.returns-in-Some
-unfolding place_at filled
+unfolding slot_at filled
 returns-in-Some c = ap filled c.in-Some.ensures.value
 
 pub returns-in-None : goal.returns-in-None
-unfolding place_at filled
+unfolding slot_at filled
 returns-in-None c = ap filled c.in-None.ensures.value

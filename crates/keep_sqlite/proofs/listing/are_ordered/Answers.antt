@@ -3,14 +3,14 @@ use Rattle.std.specs.List.{IsAllAdjacentAnswer}
 use Rattle.std.specs.Ordering.{is_lt}
 use Rattle.std.proofs.lemmas.Bool.{false≢true}
 use Rattle.std.proofs.lemmas.List.Sorted.{answers_always}
-use Rattle.sorted_rows.specs.Placed.{place_cmp, PlacesAscend}
-use Rattle.sorted_rows.proofs.PlacedLaws.{less_from_is_lt, ascend_from_neighbours}
-use Rattle.mud_world.specs.Items.{place_of}
+use Rattle.sorted_rows.specs.Sortable.{sort_key_cmp, SortKeysAscend}
+use Rattle.sorted_rows.proofs.SortableLaws.{less_from_is_lt, ascend_from_neighbours}
+use Rattle.mud_world.specs.Items.{sort_key_of}
 use Rattle.keep_sqlite.proofs.listing.are_ordered.Goals as goal
 
-told : {R : Type 0} (place : R → List ℕ) (rows : List R) (r : Bool) → IsAllAdjacentAnswer (λ x y b. b ≡ is_lt (place_cmp (place x) (place y))) rows r → IsTrue r → PlacesAscend place rows
-told place rows true near held = ascend_from_neighbours place rows (λ k d lt. less_from_is_lt _ (sym (near k d lt)))
-told place rows false near held = absurd (false≢true held)
+told : {R : Type 0} (sort_key : R → List ℕ) (rows : List R) (r : Bool) → IsAllAdjacentAnswer (λ x y b. b ≡ is_lt (sort_key_cmp (sort_key x) (sort_key y))) rows r → IsTrue r → SortKeysAscend sort_key rows
+told sort_key rows true near held = ascend_from_neighbours sort_key rows (λ k d lt. less_from_is_lt _ (sym (near k d lt)))
+told sort_key rows false near held = absurd (false≢true held)
 
 pub returns : goal.returns
-returns c = told place_of c.args.items.now c.is_sorted_by.result (c.is_sorted_by.ensures.cases (λ x y. is_lt (place_cmp (place_of x) (place_of y))) (answers_always _ _ _ (λ f a r q h. search rules)))
+returns c = told sort_key_of c.args.items.now c.is_sorted_by.result (c.is_sorted_by.ensures.cases (λ x y. is_lt (sort_key_cmp (sort_key_of x) (sort_key_of y))) (answers_always _ _ _ (λ f a r q h. search rules)))

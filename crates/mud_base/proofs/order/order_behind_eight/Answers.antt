@@ -9,8 +9,8 @@ from_first : (xs ys : List ℕ) (k : ℕ) → k ≤ 0 → slice_cmp nat_cmp (dro
 from_first xs ys zero le = refl
 from_first xs ys (suc k) le = absurd (omega (arith, le))
 
-pub loop-place-init : goal.loop-place-init
-loop-place-init c =
+pub loop-offset-init : goal.loop-offset-init
+loop-offset-init c =
     let own : List ℕ = c.args.own.now in
     let other : List ℕ = c.args.other.now in
     record {
@@ -24,41 +24,41 @@ pub returns-then-eight-other_eight : goal.returns-then-eight-other_eight
 returns-then-eight-other_eight c =
     let own : List ℕ = c.args.own.now in
     let other : List ℕ = c.args.other.now in
-    let place : ℕ = c.loop-place.place in
-    let differ = λ (same : big_64 place own ≡ big_64 place other). c.if-eight-other_eight.true (c.big_64-eight.ensures ∙ same ∙ sym c.big_64-other_eight.ensures) in
+    let offset : ℕ = c.loop-offset.offset in
+    let differ = λ (same : big_64 offset own ≡ big_64 offset other). c.if-eight-other_eight.true (c.big_64-eight.ensures ∙ same ∙ sym c.big_64-other_eight.ensures) in
     c.cmp.ensures ∙ ap₂ nat_cmp c.big_64-eight.ensures c.big_64-other_eight.ensures
-    ∙ eights_apart place own other (omega arith) (omega arith) (λ k. (c.type_inv.own k).fits) (λ k. (c.type_inv.other k).fits) differ
-    ∙ c.loop-place.invariant.left place (omega arith)
+    ∙ eights_apart offset own other (omega arith) (omega arith) (λ k. (c.type_inv.own k).fits) (λ k. (c.type_inv.other k).fits) differ
+    ∙ c.loop-offset.invariant.left offset (omega arith)
 
-pub loop-place-preserved : goal.loop-place-preserved
-loop-place-preserved c =
+pub loop-offset-preserved : goal.loop-offset-preserved
+loop-offset-preserved c =
     let own : List ℕ = c.args.own.now in
     let other : List ℕ = c.args.other.now in
-    let place : ℕ = c.loop-place.place in
-    let same : big_64 place own ≡ big_64 place other = sym c.big_64-eight.ensures ∙ c.if-eight-other_eight.false ∙ c.big_64-other_eight.ensures in
+    let offset : ℕ = c.loop-offset.offset in
+    let same : big_64 offset own ≡ big_64 offset other = sym c.big_64-eight.ensures ∙ c.if-eight-other_eight.false ∙ c.big_64-other_eight.ensures in
     record {
-      least = c.loop-place.invariant.least;
+      least = c.loop-offset.invariant.least;
       within = omega arith;
-      long = c.loop-place.invariant.long;
-      left = eights_alike place own other (omega arith) (omega arith) (λ k. (c.type_inv.own k).fits) (λ k. (c.type_inv.other k).fits) same c.loop-place.invariant.left;
+      long = c.loop-offset.invariant.long;
+      left = eights_alike offset own other (omega arith) (omega arith) (λ k. (c.type_inv.own k).fits) (λ k. (c.type_inv.other k).fits) same c.loop-offset.invariant.left;
     }
 
 pub returns-then-last-other_last : goal.returns-then-last-other_last
 returns-then-last-other_last c =
     let own : List ℕ = c.args.own.now in
     let other : List ℕ = c.args.other.now in
-    let place : ℕ = c.min-both.result - 8 in
-    let differ = λ (same : big_64 place own ≡ big_64 place other). c.if-last-other_last.true (c.big_64-last.ensures ∙ same ∙ sym c.big_64-other_last.ensures) in
+    let offset : ℕ = c.min-both.result - 8 in
+    let differ = λ (same : big_64 offset own ≡ big_64 offset other). c.if-last-other_last.true (c.big_64-last.ensures ∙ same ∙ sym c.big_64-other_last.ensures) in
     c.cmp-then-last-other_last.ensures ∙ ap₂ nat_cmp c.big_64-last.ensures c.big_64-other_last.ensures
-    ∙ eights_apart place own other (omega arith) (omega arith) (λ k. (c.type_inv.own k).fits) (λ k. (c.type_inv.other k).fits) differ
-    ∙ c.loop-place.invariant.left place (omega arith)
+    ∙ eights_apart offset own other (omega arith) (omega arith) (λ k. (c.type_inv.own k).fits) (λ k. (c.type_inv.other k).fits) differ
+    ∙ c.loop-offset.invariant.left offset (omega arith)
 
 pub returns : goal.returns
 returns c =
     let own : List ℕ = c.args.own.now in
     let other : List ℕ = c.args.other.now in
-    let place : ℕ = c.min-both.result - 8 in
-    let same : big_64 place own ≡ big_64 place other = sym c.big_64-last.ensures ∙ c.if-last-other_last.false ∙ c.big_64-other_last.ensures in
-    let before = λ (k : ℕ) (le : k ≤ place). c.loop-place.invariant.left k (omega arith) in
+    let offset : ℕ = c.min-both.result - 8 in
+    let same : big_64 offset own ≡ big_64 offset other = sym c.big_64-last.ensures ∙ c.if-last-other_last.false ∙ c.big_64-other_last.ensures in
+    let before = λ (k : ℕ) (le : k ≤ offset). c.loop-offset.invariant.left k (omega arith) in
     c.cmp-2.ensures ∙ lengths_decide c.min-both.result own other c.min-both.ensures
-    ∙ eights_alike place own other (omega arith) (omega arith) (λ k. (c.type_inv.own k).fits) (λ k. (c.type_inv.other k).fits) same before c.min-both.result (omega arith)
+    ∙ eights_alike offset own other (omega arith) (omega arith) (λ k. (c.type_inv.own k).fits) (λ k. (c.type_inv.other k).fits) same before c.min-both.result (omega arith)

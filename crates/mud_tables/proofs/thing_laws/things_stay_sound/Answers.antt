@@ -1,7 +1,7 @@
 use Rattle.std.proofs.Common.{Ok, Err}
 use Rattle.std.specs.Prelude.{IfOk}
 use Rattle.mud_tables.specs.Things.{IsSoundThings}
-use Rattle.mud_tables.specs.ThingSteps.{ThingStep, url_step, move_step, remove_step, hold_step, release_step, lease_step, end_step}
+use Rattle.mud_tables.specs.ThingCommands.{ThingStep, url_step, move_step, remove_step, hold_step, release_step, lease_step, end_step}
 use Rattle.mud_tables.proofs.SoundThings.{OfAfter, sound-url_step, sound-move_step, sound-remove_step, sound-hold_step, sound-release_step, sound-lease_step, sound-end_step}
 use Rattle.mud_tables.proofs.thing_laws.things_stay_sound.Goals as goal
 

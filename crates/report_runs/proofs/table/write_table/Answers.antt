@@ -1,7 +1,7 @@
 use Rattle.std.proofs.Common.{◌≡◌, ℕ, List, Option, OnOk, OnErr, ap, subst, ◌∙◌}
 use Rattle.mud_world.specs.Door.{put_out}
 use Rattle.mud_desk.specs.DeskState.{tables_of}
-use Rattle.command_runs.specs.Due.{WroteFirst}
+use Rattle.command_runs.specs.Output.{WroteFirst}
 use Rattle.command_runs.specs.Moments.{listing_moment}
 use Rattle.report_runs.proofs.Dues.{due_table}
 use Rattle.report_runs.proofs.table.write_table.Goals as goal

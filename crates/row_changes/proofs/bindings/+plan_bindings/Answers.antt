@@ -1,6 +1,6 @@
 use Rattle.std.proofs.Common.{length}
-use Rattle.acl_model.specs.Places.{binding_place}
-use Rattle.sorted_rows.specs.Edits.{edit_place}
+use Rattle.acl_model.specs.SortKeys.{binding_sort_key}
+use Rattle.sorted_rows.specs.Edits.{edit_sort_key}
 use Rattle.row_changes.specs.Bindings.{binding_edit}
 use Rattle.row_changes.proofs.Halves.{halves, steps_of_halves}
 use Rattle.row_changes.proofs.bindings.+plan_bindings.Goals as goal
@@ -17,7 +17,7 @@ returns-in_err-put_sorted-clause-most g t c = λ b few.
 
 pub returns-clause-ok : goal.returns-clause-ok
 returns-clause-ok g t c =
-    halves (edit_place binding_place) (binding_edit c.args.bindings.now.rows c.args.comes) _ c.args.changed.now c.split_at.result.0.now c.split_at.result.1.now
+    halves (edit_sort_key binding_sort_key) (binding_edit c.args.bindings.now.rows c.args.comes) _ c.args.changed.now c.split_at.result.0.now c.split_at.result.1.now
     c.in_ok-edits.edits.rows c.in_ok-more.more.rows c.put_sorted.new.self.rows
     c.split_at.ensures.front c.split_at.ensures.back c.in_ok-edits.ensures.ok c.in_ok-more.ensures.ok c.in_ok-put_sorted.ensures.ok
 

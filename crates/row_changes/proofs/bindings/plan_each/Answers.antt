@@ -1,9 +1,9 @@
 use Rattle.std.proofs.Common.{ℕ, ◌+◌, List, map, drop, sym, ap, ◌∙◌, arith}
-use Rattle.sorted_rows.specs.Placed.{set_rows}
+use Rattle.sorted_rows.specs.Sortable.{set_rows}
 use Rattle.acl_model.specs.declared.binding.Binding.{Binding}
-use Rattle.acl_model.specs.Places.{binding_place}
+use Rattle.acl_model.specs.SortKeys.{binding_sort_key}
 use Rattle.sorted_rows.specs.declared.edit.Edit.{Edit}
-use Rattle.sorted_rows.specs.Edits.{edit_place}
+use Rattle.sorted_rows.specs.Edits.{edit_sort_key}
 use Rattle.row_changes.specs.Bindings.{binding_edit}
 use Rattle.row_changes.proofs.BindingEdits.{next_edit, one_planned}
 use Rattle.row_changes.proofs.bindings.plan_each.Goals as goal
@@ -16,7 +16,7 @@ loop-binding-preserved g c =
       edits =
           c.loop-binding.invariant.edits
           ∙ next_edit (binding_edit c.args.bindings.now.rows c.args.comes) c.args.changed.now i c.binding-item.result c.loop-binding.edits.rows c.loop-binding-test.true c.binding-item.is
-          ∙ ap (λ (es : List (Edit Binding)). set_rows (edit_place binding_place) (map (binding_edit c.args.bindings.now.rows c.args.comes) rest) es)
+          ∙ ap (λ (es : List (Edit Binding)). set_rows (edit_sort_key binding_sort_key) (map (binding_edit c.args.bindings.now.rows c.args.comes) rest) es)
           (sym (c.in_ok-plan_edit.ensures ∙ one_planned c.args.bindings.now.rows c.args.comes c.binding-item.result c.in_ok-copy.field-0 c.find_counted-found.result c.loop-binding.edits.rows c.in_ok-copy.ensures c.find_counted-found.ensures.index));
       up = omega (arith, c.loop-binding.invariant.up, c.find_counted-found.ensures.least);
       most = λ b few. omega (arith, c.loop-binding.invariant.most b few, c.find_counted-found.ensures.digits b few);

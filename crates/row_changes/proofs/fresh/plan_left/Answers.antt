@@ -1,9 +1,9 @@
 use Rattle.std.proofs.Common.{List, sym, ap, ◌∙◌, arith}
 use Rattle.std.specs.Option.{is_some}
 use Rattle.std.proofs.lemmas.List.{drop_all}
-use Rattle.sorted_rows.specs.Placed.{row_at}
+use Rattle.sorted_rows.specs.Sortable.{row_at}
 use Rattle.acl_rows.specs.declared.row.Row.{Row}
-use Rattle.acl_rows.specs.Places.{row_place}
+use Rattle.acl_rows.specs.SortKeys.{row_sort_key}
 use Rattle.row_changes.specs.Fresh.{left_edits}
 use Rattle.row_changes.proofs.FreshLaws.{left_stays, left_goes}
 use Rattle.row_changes.proofs.fresh.plan_left.Goals as goal
@@ -11,7 +11,7 @@ use Rattle.row_changes.proofs.fresh.plan_left.Goals.{then-not-contains+in_ok-add
 
 pub loop-row-preserved : goal.loop-row-preserved
 loop-row-preserved c =
-    let there = c.contains.ensures ∙ ap (λ (rows : List Row). is_some (row_at row_place (row_place c.row-item.result) rows)) c.loop-row.invariant.rows in
+    let there = c.contains.ensures ∙ ap (λ (rows : List Row). is_some (row_at row_sort_key (row_sort_key c.row-item.result) rows)) c.loop-row.invariant.rows in
     record {
       index = omega (arith, c.loop-row.invariant.index);
       rows = elim c.if-not-contains.branch [

@@ -1,8 +1,8 @@
 use Rattle.std.proofs.Common.{◌≡◌, List, ℕ, ◌++◌, ◌&&◌, not, sym, ◌∙◌}
-use Rattle.sorted_rows.specs.Placed.{same_place}
+use Rattle.sorted_rows.specs.Sortable.{same_sort_key}
 use Rattle.row_changes.specs.declared.group.EntrySpot.{EntrySpot}
 use Rattle.std.specs.List.{list_any}
-use Rattle.acl_model.specs.Places.{text_place}
+use Rattle.acl_model.specs.SortKeys.{text_sort_key}
 use Rattle.row_changes.specs.Spots.{spots_in, spot_if, is_keyed}
 use Rattle.row_changes.proofs.SpotLaws.{keyed_some, keyed_none, nothing_more, known_more, new_more, on_ok_then}
 use Rattle.row_changes.proofs.index.add_selector.Goals as goal
@@ -14,17 +14,17 @@ returns-in-None c = λ (p : List ℕ).
 
 pub returns-then-are_keyed : goal.returns-then-are_keyed
 returns-then-are_keyed c = λ (p : List ℕ).
-    let q : List ℕ = text_place c.in-Some.key.kind c.in-Some.key.text.now in
+    let q : List ℕ = text_sort_key c.in-Some.key.kind c.in-Some.key.text.now in
     known_more (spots_in c.args.groups.now.rows p) c.args.url.now q p c.args.earlier.now c.args.selector.now c.args.spot
     (keyed_some c.in-Some.key.kind c.in-Some.key.text.now p c.args.url.now c.args.selector.now c.in-Some.ensures)
     (sym c.are_keyed.ensures ∙ c.if-are_keyed.true)
 
 pub returns-else-are_keyed : goal.returns-else-are_keyed
 returns-else-are_keyed c =
-    let q : List ℕ = text_place c.in-Some.key.kind c.in-Some.key.text.now in
+    let q : List ℕ = text_sort_key c.in-Some.key.kind c.in-Some.key.text.now in
     let old : List ℕ → List EntrySpot = spots_in c.args.groups.now.rows in
     let new : List ℕ → List EntrySpot = spots_in c.add_spot.new.groups.rows in
-    on_ok_then ((p : List ℕ) → new p ≡ old p ++ spot_if (same_place q p) c.args.spot)
+    on_ok_then ((p : List ℕ) → new p ≡ old p ++ spot_if (same_sort_key q p) c.args.spot)
     ((p : List ℕ) → new p ≡ old p ++ spot_if (is_keyed c.args.url.now p c.args.selector.now && not (list_any (is_keyed c.args.url.now p) c.args.earlier.now)) c.args.spot)
     c.add_spot.result
     (λ step p. step p

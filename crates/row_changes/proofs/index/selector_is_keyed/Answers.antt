@@ -1,14 +1,14 @@
 use Rattle.std.proofs.Common.{List, ℕ, ap, sym, refl, ◌∙◌}
 use Rattle.std.specs.Ordering.{is_eq}
-use Rattle.sorted_rows.specs.Placed.{place_cmp}
-use Rattle.sorted_rows.proofs.PlacedLaws.{same_place-cmp}
-use Rattle.acl_model.specs.Places.{text_place}
+use Rattle.sorted_rows.specs.Sortable.{sort_key_cmp}
+use Rattle.sorted_rows.proofs.SortableLaws.{same_sort_key-cmp}
+use Rattle.acl_model.specs.SortKeys.{text_sort_key}
 use Rattle.row_changes.proofs.SpotLaws.{keyed_some}
 use Rattle.row_changes.proofs.index.selector_is_keyed.Goals as goal
 
 pub returns-in-Some : goal.returns-in-Some
 returns-in-Some c =
-    let own : List ℕ = text_place c.in-Some.own.kind c.in-Some.own.text.now in
-    let p : List ℕ = text_place c.args.key.now.kind c.args.key.now.text.now in
-    c.is_eq.ensures ∙ ap is_eq c.order_keys.ensures ∙ sym (same_place-cmp own p (place_cmp own p) refl)
+    let own : List ℕ = text_sort_key c.in-Some.own.kind c.in-Some.own.text.now in
+    let p : List ℕ = text_sort_key c.args.key.now.kind c.args.key.now.text.now in
+    c.is_eq.ensures ∙ ap is_eq c.order_keys.ensures ∙ sym (same_sort_key-cmp own p (sort_key_cmp own p) refl)
     ∙ sym (keyed_some c.in-Some.own.kind c.in-Some.own.text.now p c.args.url.now c.args.selector.now c.in-Some.ensures)

@@ -8,7 +8,7 @@ use Rattle.acl_model.specs.Keys.{key_of}
 use Rattle.acl_rows.specs.Rows.{member_keys}
 use Rattle.row_changes.specs.EntryKeys.{key_parts}
 use Rattle.row_changes.specs.Fresh.{first_of, rest_of}
-use Rattle.row_changes.proofs.LeastEnds.{rest_cons}
+use Rattle.row_changes.proofs.LeastExpiries.{rest_cons}
 use Rattle.row_changes.proofs.FreshLaws.{first_some, behind_some, no_key}
 use Rattle.row_changes.proofs.keys.first_key.Goals as goal
 

@@ -1,7 +1,7 @@
 use Rattle.std.proofs.Common.{◌≡◌, ◌∷◌, List, refl, ap, sym, subst, ◌∙◌}
 use Rattle.std.specs.List.{AllByRecursion}
 use Rattle.std.specs.Map.{values_of}
-use Rattle.sorted_rows.specs.Placed.{RowsAndRoom}
+use Rattle.sorted_rows.specs.Sortable.{RowsAndRoom}
 use Rattle.acl_rows.specs.declared.row.Row.{Row}
 use Rattle.acl_rows.specs.View.{rows_of_side}
 use Rattle.row_changes.specs.Fresh.{AreOfPeer, left_edits}
@@ -11,14 +11,14 @@ use Rattle.row_changes.proofs.policy.plan_side.Goals as goal
 pub loop-group-init : goal.loop-group-init
 loop-group-init g c =
     let all : List Row = c.args.rows.now.rows in
-    let shelf : List Row = rows_of_side c.args.owner c.args.side all in
+    let bucket : List Row = rows_of_side c.args.owner c.args.side all in
     let first : c.into_iter-group-iterator.result ≡ values_of c.all_rows-groups.result.now.entries = c.into_iter-group-iterator.ensures.into_iter_gives ∙ c.values-group-items.ensures.rest in
-    let rows = ap rows_in first ∙ groups_all c.args.owner c.args.side all shelf refl c.all_rows-groups.result.now.entries c.all_rows-groups.ensures.groups in
+    let rows = ap rows_in first ∙ groups_all c.args.owner c.args.side all bucket refl c.all_rows-groups.result.now.entries c.all_rows-groups.ensures.groups in
     record {
       rows = (λ i. c.args.fresh.now.rows);
       peers =
           subst (AllByRecursion (λ (x : RowsAndRoom Row). AreOfPeer x.rows all)) (sym first)
-          (groups_peers c.args.owner c.args.side all shelf refl c.all_rows-groups.result.now.entries c.all_rows-groups.ensures.groups);
+          (groups_peers c.args.owner c.args.side all bucket refl c.all_rows-groups.result.now.entries c.all_rows-groups.ensures.groups);
       edits = ap (λ (rs : List Row). left_edits all c.args.fresh.now.rows rs c.args.fresh.now.edits) (sym rows);
     }
 

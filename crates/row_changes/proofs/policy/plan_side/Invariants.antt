@@ -1,6 +1,6 @@
 use Rattle.std.proofs.Common.{◌≡◌}
 use Rattle.std.specs.List.{AllByRecursion}
-use Rattle.sorted_rows.specs.Placed.{RowsAndRoom}
+use Rattle.sorted_rows.specs.Sortable.{RowsAndRoom}
 use Rattle.acl_rows.specs.declared.row.Row.{Row}
 use Rattle.acl_rows.specs.View.{rows_of_side}
 use Rattle.row_changes.specs.Fresh.{AreOfPeer, left_edits}

@@ -1,16 +1,16 @@
 use Rattle.std.proofs.Common.{◌+◌, ◌*◌, ◌≤◌, ◌<◌, ◌^◌, List, [], length, sym, ap, subst, ◌∙◌, arith}
 use Rattle.std.proofs.Math.Path.{transport}
-use Rattle.sorted_rows.specs.Placed.{PlacesAscend}
+use Rattle.sorted_rows.specs.Sortable.{SortKeysAscend}
 use Rattle.mud_base.specs.declared.packet.Direction.TheVariants.{From, To}
 use Rattle.acl_model.specs.declared.binding.Binding.{Binding}
-use Rattle.acl_model.specs.Places.{binding_place}
+use Rattle.acl_model.specs.SortKeys.{binding_sort_key}
 use Rattle.acl_model.specs.Changes.{without_bindings, replaced}
 use Rattle.sorted_rows.specs.declared.edit.Edit.{Edit}
 use Rattle.sorted_rows.specs.Edits.{edited}
 use Rattle.acl_rows.specs.declared.row.Owner.TheVariants.{Url}
-use Rattle.acl_rows.specs.Places.{row_place}
+use Rattle.acl_rows.specs.SortKeys.{row_sort_key}
 use Rattle.acl_rows.specs.View.{rows_of_side}
-use Rattle.acl_rows.proofs.AtPlaces.{ascend-rows_of}
+use Rattle.acl_rows.proofs.AtSortKeys.{ascend-rows_of}
 use Rattle.row_changes.specs.PolicyTouched.{new_touches, owner_rows}
 use Rattle.row_changes.specs.Change.{ChangeState}
 use Rattle.row_changes.specs.Fresh.{Fresh, fresh_of, more_fresh, policy_count, left_edits}
@@ -19,10 +19,10 @@ use Rattle.row_changes.proofs.policy.slot_rows.Goals as goal
 
 pub new-change-requires-clause-made : goal.new-change-requires-clause-made
 unfolding replaced without_bindings edited
-new-change-requires-clause-made g c = ap (λ (es : List (Edit Binding)). edited binding_place es c.args.bindings.now.rows) c.new-unchanged.ensures.rows
+new-change-requires-clause-made g c = ap (λ (es : List (Edit Binding)). edited binding_sort_key es c.args.bindings.now.rows) c.new-unchanged.ensures.rows
 
 pub plan_own-requires : goal.plan_own-requires
-plan_own-requires g c = subst (PlacesAscend row_place) (sym c.requires) (ascend-rows_of c.args.slots.now c.args.bindings.now.rows)
+plan_own-requires g c = subst (SortKeysAscend row_sort_key) (sym c.requires) (ascend-rows_of c.args.slots.now c.args.bindings.now.rows)
 
 pub returns-clause-ok : goal.returns-clause-ok
 returns-clause-ok g c = λ new change.

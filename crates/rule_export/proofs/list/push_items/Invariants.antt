@@ -4,6 +4,6 @@ use Rattle.rule_export.proofs.list.push_items.Given as goal
 
 abbrev pub invariant-loop-network : goal.invariant-loop-network
 invariant-loop-network l = record {
-  number : l.place ≡ l.network-index;
+  number : l.number ≡ l.network-index;
   items : l.list ++ items_from l.rule (l.network-index + 1) (map Some (drop l.network-index l.networks)) ≡ l.fn.list ++ items_from l.rule 1 (map Some l.networks);
 }

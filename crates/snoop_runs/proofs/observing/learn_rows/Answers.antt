@@ -4,7 +4,7 @@ use Rattle.mud_base.specs.declared.addr.Addr.TheVariants.{V4}
 use Rattle.mud_world.specs.Boxed.{faults_of}
 use Rattle.mud_desk.specs.DeskState.{session_of}
 use Rattle.mud_desk.proofs.Stays.{keeps_further}
-use Rattle.dns_snoop.specs.Observed.{MayBeObserved}
+use Rattle.dns_snoop.specs.Observed.{IsObservable}
 use Rattle.snoop_runs.proofs.LearntRows.{learns_at, first_at, counts_either}
 use Rattle.snoop_runs.proofs.observing.learn_rows.Goals as goal
 use Rattle.sorted_rows.proofs.Results.{always_on_err}

@@ -1,4 +1,4 @@
-use Rattle.mud_tables.specs.BindSteps.{bind_step, unbind_step, observe_step}
+use Rattle.mud_tables.specs.BindCommands.{bind_step, unbind_step, observe_step}
 use Rattle.mud_tables.specs.BindRowChanges.{bind_change, unbind_change, observe_change}
 use Rattle.table_laws.proofs.SoundClasses.{sound-bind_step, sound-unbind_step}
 use Rattle.table_laws.proofs.SoundNames.{sound-observe_step}

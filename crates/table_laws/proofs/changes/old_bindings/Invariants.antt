@@ -6,4 +6,4 @@ use Rattle.table_laws.proofs.changes.old_bindings.Given as goal
 
 abbrev pub invariant-loop-row : goal.invariant-loop-row
 invariant-loop-row g l =
-    map lent_binding l.list ≡ flat_map g.R.BindingRow.bindings (with_found (gone_row g.R.Placed.place l.change.gone l.rows.rows) [] ++ rows_at g.R.Placed.place (map g.R.Placed.place (take l.row-index l.row-items)) l.rows.rows)
+    map lent_binding l.list ≡ flat_map g.R.BindingRow.bindings (with_found (gone_row g.R.Sortable.sort_key l.change.gone l.rows.rows) [] ++ rows_at g.R.Sortable.sort_key (map g.R.Sortable.sort_key (take l.row-index l.row-items)) l.rows.rows)

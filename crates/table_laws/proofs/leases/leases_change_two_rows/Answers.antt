@@ -3,7 +3,7 @@ use Rattle.std.specs.Prelude.{IfOk}
 use Rattle.sorted_rows.specs.Changes.{RowChange, changed, is_plain}
 use Rattle.mud_tables.specs.declared.thing.Thing.{Thing}
 use Rattle.mud_tables.specs.Things.{mac_of}
-use Rattle.mud_tables.specs.ThingSteps.{ThingStep, lease_step}
+use Rattle.mud_tables.specs.ThingCommands.{ThingStep, lease_step}
 use Rattle.mud_tables.specs.ThingChanges.{lease_change}
 use Rattle.mud_tables.proofs.SoundThings.{OfAfter}
 use Rattle.table_laws.proofs.LeaseStep.{Leads, lease_leads}

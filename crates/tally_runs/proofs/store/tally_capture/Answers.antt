@@ -2,13 +2,13 @@ use Rattle.std.proofs.Common.{◌≡◌, ℕ, List, sym, ap, subst, ◌∙◌}
 use Rattle.mud_desk.specs.DeskState.{DeskState, session_of}
 use Rattle.mud_world.specs.Door.{DoorState}
 use Rattle.capture_runs.specs.Captures.{captured_of}
-use Rattle.capture_runs.specs.Capture.{due_behind}
-use Rattle.command_runs.specs.Due.{Due, WritesDue, WritesPart}
+use Rattle.capture_runs.specs.Capture.{output_behind}
+use Rattle.command_runs.specs.Output.{Output, WritesOutput, WritesPart}
 use Rattle.command_runs.specs.Status.{status_number}
 use Rattle.desk_model.specs.Sessions.{Session}
 use Rattle.desk_runs.specs.Judged.{IsIn}
 use Rattle.tally_runs.specs.Tallied.{begun, seen_in, tally_text}
-use Rattle.tally_runs.specs.Store.{due_of_tally}
+use Rattle.tally_runs.specs.Store.{output_of_tally}
 use Rattle.tally_runs.proofs.TextLaws.{lines_told}
 use Rattle.tally_runs.proofs.store.tally_capture.Goals as goal
 
@@ -17,8 +17,8 @@ own_moment : (s : Session) (state : DeskState) → IsIn s state → state.moment
 unfolding session_of
 own_moment s state is_in = ap (λ (x : Session). x.moment) is_in.session_is
 
-told_due : (s : Session) (octets text : List ℕ) → text ≡ tally_text (seen_in s (captured_of octets).all) → due_behind text (captured_of octets).fault ≡ due_of_tally s octets
-told_due s octets text same = ap (λ (l : List ℕ). due_behind l (captured_of octets).fault) same
+told_output : (s : Session) (octets text : List ℕ) → text ≡ tally_text (seen_in s (captured_of octets).all) → output_behind text (captured_of octets).fault ≡ output_of_tally s octets
+told_output s octets text same = ap (λ (l : List ℕ). output_behind l (captured_of octets).fault) same
 
 pub returns-clause-done : goal.returns-clause-done
 returns-clause-done g c = λ s is_in tells which.
@@ -26,8 +26,8 @@ returns-clause-done g c = λ s is_in tells which.
     let new : DoorState = (g.D.Door.view c.write_capture-status.new.door).state in
     let in_state = subst (λ (state : DeskState). IsIn s state) (sym c.into_parts-keeper.ensures.state) is_in in
     let keeps = c.new-lines.ensures s in_state (c.moment-moment.ensures ∙ own_moment s c.args.desk.state is_in) in
-    subst (λ (due : Due). WritesDue due old new (status_number c.write_capture-status.result))
-    (told_due s old.left _ (lines_told s (captured_of old.left).all))
+    subst (λ (output : Output). WritesOutput output old new (status_number c.write_capture-status.result))
+    (told_output s old.left _ (lines_told s (captured_of old.left).all))
     (c.write_capture-status.ensures.done (begun s) keeps tells which)
 
 pub returns-clause-part : goal.returns-clause-part
@@ -36,8 +36,8 @@ returns-clause-part g c = λ s is_in tells which.
     let new : DoorState = (g.D.Door.view c.write_capture-status.new.door).state in
     let in_state = subst (λ (state : DeskState). IsIn s state) (sym c.into_parts-keeper.ensures.state) is_in in
     let keeps = c.new-lines.ensures s in_state (c.moment-moment.ensures ∙ own_moment s c.args.desk.state is_in) in
-    subst (λ (due : Due). WritesPart due old new)
-    (told_due s old.left _ (lines_told s (captured_of old.left).all))
+    subst (λ (output : Output). WritesPart output old new)
+    (told_output s old.left _ (lines_told s (captured_of old.left).all))
     (c.write_capture-status.ensures.part (begun s) keeps tells which)
 
 pub returns-clause-taken : goal.returns-clause-taken

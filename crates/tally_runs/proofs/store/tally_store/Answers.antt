@@ -6,7 +6,7 @@ use Rattle.mud_desk.specs.DeskState.{tables_of}
 use Rattle.desk_runs.proofs.JudgedPackets.{in_begun}
 use Rattle.desk_runs.proofs.Refusals.{runs_refused}
 use Rattle.desk_runs.proofs.Runs.{opened_over, refused_over}
-use Rattle.tally_runs.specs.Store.{tallied_due, tallied_taken}
+use Rattle.tally_runs.specs.Store.{tallied_output, tallied_taken}
 use Rattle.tally_runs.proofs.store.tally_store.Goals as goal
 
 pub returns-in-Ok-clause-tallied : goal.returns-in-Ok-clause-tallied
@@ -22,7 +22,7 @@ returns-in-Ok-clause-tallied g c =
     opened_over (goal.Keeper-dyn g) c.args.keeper desk.keeper door.tells
     (door.view old)
     (door.view new)
-    (status_number c.tally_capture.result.0) tallied_due tallied_taken
+    (status_number c.tally_capture.result.0) tallied_output tallied_taken
     tables store.tables store.sound store.kept store.steady store.same_box
     run.statuses run.fault run.steady (run.done (opened tables) is_in) (run.part (opened tables) is_in) (run.taken (opened tables) is_in) run.turns
     c.tally_capture.result.1 run.keeper
@@ -34,7 +34,7 @@ returns-in-Err-clause-tallied g c =
     let new = c.refuse_store.new.door in
     let store = c.in-Err.ensures in
     let run = c.refuse_store.ensures in
-    refused_over (goal.Keeper-dyn g) c.args.keeper c.in-Err.keeper door.tells (door.view old) (door.view new) (status_number c.refuse_store.result) tallied_due tallied_taken
+    refused_over (goal.Keeper-dyn g) c.args.keeper c.in-Err.keeper door.tells (door.view old) (door.view new) (status_number c.refuse_store.result) tallied_output tallied_taken
     (runs_refused (goal.Keeper-dyn g) c.args.keeper c.in-Err.keeper door.tells (door.view old) (door.view new) (status_number c.refuse_store.result)
     c.in-Err.fault store.bad store.left store.cause store.handed_back
     run.statuses run.fault run.steady run.done run.part (λ call. ap (λ d. (door.view d).state) (run.untouched call)) run.turns run.reads)

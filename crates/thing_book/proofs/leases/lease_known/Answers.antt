@@ -1,6 +1,6 @@
 use Rattle.std.proofs.Common.{ap, ◌∙◌}
-use Rattle.mud_tables.specs.Ends.{end_of}
-use Rattle.mud_tables.specs.ThingSteps.{known_lease}
+use Rattle.mud_tables.specs.Expiries.{expiry_of}
+use Rattle.mud_tables.specs.ThingCommands.{known_lease}
 use Rattle.mud_tables.specs.ThingChanges.{known_lease_change}
 use Rattle.thing_book.proofs.Carried.{carried_found}
 use Rattle.thing_book.proofs.leases.lease_known.Goals as goal
@@ -12,4 +12,4 @@ returns-in-Some-clause-ok c =
     let until = c.args.lease.until in
     let now = c.args.lease.now in
     carried_found (known_lease a until now c.args.things.now c.args.thing.now) (known_lease_change a until now c.args.things.now c.args.thing.now) _ c.in-Some.old c.lease_kept.result c.or_memory.result
-    (c.in-Some.ensures ∙ ap (end_of a) c.as_slice.ensures) (c.lease_kept.ensures c.args.things.now) c.or_memory.ensures.ok
+    (c.in-Some.ensures ∙ ap (expiry_of a) c.as_slice.ensures) (c.lease_kept.ensures c.args.things.now) c.or_memory.ensures.ok

@@ -1,7 +1,7 @@
 use Rattle.std.proofs.Common.{◌≡◌, ◌<◌, ◌^◌, List, length, refl, ap, sym, subst, ◌∙◌, arith}
-use Rattle.sorted_rows.specs.Placed.{index_in}
+use Rattle.sorted_rows.specs.Sortable.{index_in}
 use Rattle.acl_rows.specs.declared.row.Row.{Row}
-use Rattle.acl_rows.specs.Places.{row_place, row_key_place}
+use Rattle.acl_rows.specs.SortKeys.{row_sort_key, named_sort_key}
 use Rattle.acl_rows.specs.ByAddress.{until_of_row}
 use Rattle.acl_rows.specs.Groups.{part_at}
 use Rattle.acl_rows.proofs.GroupEdits.{lent_rows, lent_few}
@@ -12,14 +12,14 @@ returns-clause-index g c =
     let s = c.self.inside in
     let key = c.args.key.now in
     c.find_counted.ensures.index
-    ∙ ap (index_in row_place (row_key_place key)) (lent_rows s.owner s.side key.addr s.groups c.self.invariant c.args.self.now c.self.view_is (part_at key.addr s.groups).rows refl)
+    ∙ ap (index_in row_sort_key (named_sort_key key)) (lent_rows s.owner s.side key.addr s.groups c.self.invariant c.args.self.now c.self.view_is (part_at key.addr s.groups).rows refl)
 
 pub returns-clause-until : goal.returns-clause-until
 returns-clause-until g c =
     let s = c.self.inside in
     let key = c.args.key.now in
     c.find_counted.ensures.until
-    ∙ ap (until_of_row (row_key_place key)) (lent_rows s.owner s.side key.addr s.groups c.self.invariant c.args.self.now c.self.view_is (part_at key.addr s.groups).rows refl)
+    ∙ ap (until_of_row (named_sort_key key)) (lent_rows s.owner s.side key.addr s.groups c.self.invariant c.args.self.now c.self.view_is (part_at key.addr s.groups).rows refl)
 
 pub returns-clause-least : goal.returns-clause-least
 returns-clause-least g c =

@@ -1,7 +1,7 @@
 use Rattle.std.proofs.Common.{ap}
 use Rattle.std.proofs.lemmas.Result.{err_from_is_err_and}
 use Rattle.mud_tables.specs.Binds.{Binds}
-use Rattle.mud_tables.specs.BindSteps.{observe_step, observe_name_step}
+use Rattle.mud_tables.specs.BindCommands.{observe_step, observe_name_step}
 use Rattle.mud_tables.specs.BindRowChanges.{observe_change}
 use Rattle.bind_book.specs.Book.{Book}
 use Rattle.bind_book.proofs.NamePlans.{name_planned, name_same, name_fits, observe_known, name_refused}

@@ -1,6 +1,6 @@
 use Rattle.std.proofs.Common.{false, ◌<◌, ◌≤◌, ◌&&◌, ◌++◌, ◌∷◌, [], List, IsTrue, cond, sym, ap, subst, ◌∙◌}
 use Rattle.std.specs.Prelude.{◌==◌, option_map}
-use Rattle.sorted_rows.specs.Placed.{comes_last}
+use Rattle.sorted_rows.specs.Sortable.{comes_last}
 use Rattle.item_codec.specs.Spelling.{IsOctets}
 use Rattle.mud_tables.specs.declared.bind.ClassRow.{ClassRow}
 use Rattle.mud_tables.specs.Binds.{Binds, class_key}

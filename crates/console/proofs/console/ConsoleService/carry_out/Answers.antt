@@ -14,5 +14,5 @@ returns-clause-answer g c = λ from whole are s kept.
     record {
       next = (k.next, s.1);
       is_allowed = record { may_if = k.may; same = refl };
-      kept = (k.at, (λ t. kept.1 (stays.told t)), stays.same_box.object ∙ kept.2, stays.same_box.place ∙ kept.3, kept.4);
+      kept = (k.at, (λ t. kept.1 (stays.told t)), stays.same_box.object ∙ kept.2, stays.same_box.pointer ∙ kept.3, kept.4);
     }

@@ -1,6 +1,6 @@
 use Rattle.std.proofs.Common.{ap, ◌∙◌}
 use Rattle.drop_ledger.specs.Counted.{total}
-use Rattle.drop_ledger.specs.Places.{count_of_row}
+use Rattle.drop_ledger.specs.SortKeys.{count_of_row}
 use Rattle.drop_ledger.specs.Seen.{rulings}
 use Rattle.drop_ledger.specs.Ledger.{TallyState}
 use Rattle.drop_ledger.proofs.LedgerLaws.{counts_sum}

@@ -1,5 +1,5 @@
 use Rattle.std.proofs.Common.{ap, sym}
-use Rattle.file_tables.specs.FileSteps.{import_step}
+use Rattle.file_tables.specs.FileCommands.{import_step}
 use Rattle.file_tables.proofs.SoundFiles.{sound-import_step}
 use Rattle.file_tables.proofs.SoundLaws.{stays}
 use Rattle.file_tables.proofs.ToldFiles.{told-import_step}

@@ -1,5 +1,5 @@
 use Rattle.std.proofs.Common.{ap, sym}
-use Rattle.file_tables.specs.FileSteps.{revoke_step}
+use Rattle.file_tables.specs.FileCommands.{revoke_step}
 use Rattle.file_tables.proofs.SoundFiles.{sound-revoke_step}
 use Rattle.file_tables.proofs.SoundLaws.{stays}
 use Rattle.file_tables.proofs.ToldFiles.{told-revoke_step}

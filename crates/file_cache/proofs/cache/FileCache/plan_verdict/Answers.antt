@@ -1,5 +1,5 @@
 use Rattle.std.proofs.Common.{ap, sym}
-use Rattle.file_tables.specs.FileSteps.{verdict_step}
+use Rattle.file_tables.specs.FileCommands.{verdict_step}
 use Rattle.file_tables.proofs.SoundFiles.{sound-verdict_step}
 use Rattle.file_tables.proofs.SoundLaws.{stays}
 use Rattle.file_tables.proofs.ToldFiles.{told-verdict_step}

@@ -8,7 +8,7 @@ use Rattle.desk_model.specs.declared.reply.Outcome.{Outcome}
 use Rattle.desk_model.specs.declared.reply.Reply.{Reply}
 use Rattle.desk_model.specs.declared.reply.Reply.TheVariants.{Done}
 use Rattle.desk_model.specs.Items.{items_of}
-use Rattle.desk_model.specs.Sessions.{MayAnswer, is_of_keeper}
+use Rattle.desk_model.specs.Sessions.{AllowedReply, is_of_keeper}
 use Rattle.mud_desk.specs.DeskState.{tables_of, session_of}
 use Rattle.mud_desk.proofs.Sessions.{reaches, done, refused, failed, wanted, never_of_keeper}
 use Rattle.mud_desk.proofs.Boxes.{kept_after}
@@ -20,7 +20,7 @@ pub returns-in-Err-clause-answer : goal.returns-in-Err-clause-answer
 returns-in-Err-clause-answer g c = λ h.
     let before = c.args.self.now.state in
     let is : c.later-now.result ≡ max before.moment c.args.now = c.later-now.ensures ∙ ap (λ m. max m c.args.now) c.moment.ensures in
-    subst (λ (r : Reply). MayAnswer (session_of h before) c.args.now c.args.command r (session_of h c.plan.new.self)) (sym c.into_reply.ensures)
+    subst (λ (r : Reply). AllowedReply (session_of h before) c.args.now c.args.command r (session_of h c.plan.new.self)) (sym c.into_reply.ensures)
     (refused before c.plan.new.self c.args.command c.later-now.result c.in-Err.ensures.same h c.args.now is c.in-Err.refusal c.in-Err.ensures.moment c.in-Err.ensures.err)
 
 pub returns-in-Err-clause-cause : goal.returns-in-Err-clause-cause
@@ -60,7 +60,7 @@ pub returns-clause-answer : goal.returns-clause-answer
 returns-clause-answer g c = λ h.
     let before = c.args.self.now.state in
     let is : c.later-now.result ≡ max before.moment c.args.now = c.later-now.ensures ∙ ap (λ m. max m c.args.now) c.moment.ensures in
-    subst (λ (outcome : Outcome). MayAnswer (session_of h before) c.args.now c.args.command (Done outcome) (session_of h c.commit.new.self)) (sym c.outcome-outcome.ensures)
+    subst (λ (outcome : Outcome). AllowedReply (session_of h before) c.args.now c.args.command (Done outcome) (session_of h c.commit.new.self)) (sym c.outcome-outcome.ensures)
     (done before c.plan.new.self c.args.command c.later-now.result c.in-Ok.ensures.same h c.args.now is c.commit.new.self c.in-Ok.change c.in-Ok.ensures.ok c.commit.ensures.desk c.commit.ensures.moment)
 
 pub returns-in-Err-clause-stays : goal.returns-in-Err-clause-stays
@@ -73,7 +73,7 @@ pub returns-in-Err-Failed-clause-stays : goal.returns-in-Err-Failed-clause-stays
 returns-in-Err-Failed-clause-stays g c =
     let kept = c.in-Err-Failed.ensures in
     record {
-      stays = stays_unput (goal.Keeper-dyn g) kept.opened kept.told kept.err (record { object = kept.object; place = kept.place }) c.in-Ok.ensures.same c.requires.kept;
+      stays = stays_unput (goal.Keeper-dyn g) kept.opened kept.told kept.err (record { object = kept.object; pointer = kept.pointer }) c.in-Ok.ensures.same c.requires.kept;
       flows = c.in-Ok.ensures.flows;
     }
 
@@ -81,7 +81,7 @@ pub returns-in-Err-Memory-clause-stays : goal.returns-in-Err-Memory-clause-stays
 returns-in-Err-Memory-clause-stays g c =
     let kept = c.in-Err-Memory.ensures in
     record {
-      stays = stays_unput (goal.Keeper-dyn g) kept.opened kept.told kept.err (record { object = kept.object; place = kept.place }) c.in-Ok.ensures.same c.requires.kept;
+      stays = stays_unput (goal.Keeper-dyn g) kept.opened kept.told kept.err (record { object = kept.object; pointer = kept.pointer }) c.in-Ok.ensures.same c.requires.kept;
       flows = c.in-Ok.ensures.flows;
     }
 
@@ -97,7 +97,7 @@ returns-clause-stays g c =
             (λ tells. kept.ok tells ∙ ap (put_all (kept_items (goal.Keeper-dyn g) c.args.self.now.keeper)) c.batch.ensures)
             put;
         told = kept.told;
-        same_box = record { object = kept.object; place = kept.place };
+        same_box = record { object = kept.object; pointer = kept.pointer };
       };
       flows = c.commit.ensures.flows ∙ c.in-Ok.ensures.flows;
     }

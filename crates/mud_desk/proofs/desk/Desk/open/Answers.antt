@@ -2,27 +2,27 @@ use Rattle.std.proofs.Common.{Ok, ap, subst, ◌∙◌}
 use Rattle.mud_world.specs.Boxed.{kept_items}
 use Rattle.desk_model.specs.DeskTables.{DeskTables, IsSound}
 use Rattle.desk_model.specs.Items.{items_of}
-use Rattle.desk_items.specs.Taken.{taken_desk}
+use Rattle.desk_items.specs.Loaded.{loaded_desk}
 use Rattle.mud_desk.proofs.Opening.{left_kept, begun_tables, begun_own}
 use Rattle.mud_desk.proofs.desk.Desk.open.Goals as goal
 
 pub returns-in-Err-of-clause-left : goal.returns-in-Err-of-clause-left
 returns-in-Err-of-clause-left g c = λ told tells.
-    left_kept (kept_items (goal.Keeper-dyn g) c.args.keeper) (kept_items (goal.Keeper-dyn g) c.open_items.new.keeper) (taken_desk c.in-Ok.taken)
+    left_kept (kept_items (goal.Keeper-dyn g) c.args.keeper) (kept_items (goal.Keeper-dyn g) c.open_items.new.keeper) (loaded_desk c.in-Ok.taken)
     c.in-Ok.ensures.sound (c.in-Ok.ensures.read told tells) (c.in-Ok.ensures.kept tells)
 
 pub returns-in-Ok-of-clause-tables : goal.returns-in-Ok-of-clause-tables
 returns-in-Ok-of-clause-tables g c = λ told tells.
-    c.in-Ok.ensures.read told tells ∙ ap (λ (d : DeskTables). Ok d) (begun_tables (taken_desk c.in-Ok.taken) c.in-Ok-of.state c.in-Ok-of.ensures)
+    c.in-Ok.ensures.read told tells ∙ ap (λ (d : DeskTables). Ok d) (begun_tables (loaded_desk c.in-Ok.taken) c.in-Ok-of.state c.in-Ok-of.ensures)
 
 pub returns-in-Ok-of-clause-sound : goal.returns-in-Ok-of-clause-sound
-returns-in-Ok-of-clause-sound g c = subst IsSound (begun_tables (taken_desk c.in-Ok.taken) c.in-Ok-of.state c.in-Ok-of.ensures) c.in-Ok.ensures.sound
+returns-in-Ok-of-clause-sound g c = subst IsSound (begun_tables (loaded_desk c.in-Ok.taken) c.in-Ok-of.state c.in-Ok-of.ensures) c.in-Ok.ensures.sound
 
 pub returns-in-Ok-of-clause-kept : goal.returns-in-Ok-of-clause-kept
 returns-in-Ok-of-clause-kept g c = record {
   is_open = c.in-Ok.ensures.opened;
-  items = λ tells. c.in-Ok.ensures.kept tells ∙ ap items_of (begun_tables (taken_desk c.in-Ok.taken) c.in-Ok-of.state c.in-Ok-of.ensures);
+  items = λ tells. c.in-Ok.ensures.kept tells ∙ ap items_of (begun_tables (loaded_desk c.in-Ok.taken) c.in-Ok-of.state c.in-Ok-of.ensures);
 }
 
 pub returns-in-Ok-of-clause-begun : goal.returns-in-Ok-of-clause-begun
-returns-in-Ok-of-clause-begun g c = begun_own (taken_desk c.in-Ok.taken) c.in-Ok-of.state c.in-Ok-of.ensures
+returns-in-Ok-of-clause-begun g c = begun_own (loaded_desk c.in-Ok.taken) c.in-Ok-of.state c.in-Ok-of.ensures

@@ -8,9 +8,9 @@ use Rattle.packet_judge.specs.declared.verdict.Verdict.{Verdict}
 use Rattle.packet_judge.specs.Verdicts.{steps_on}
 use Rattle.flow_table.specs.Held.{flows_of}
 use Rattle.frame_view.specs.Frame.{frame_of}
-use Rattle.mud_desk.specs.Grounds.{rows_read, ruling_steps}
+use Rattle.mud_desk.specs.RuleInputs.{rows_read, ruling_steps}
 use Rattle.mud_desk.specs.DeskState.{DeskState, tables_of, HasForwarded}
-use Rattle.mud_desk.proofs.Sessions.{timely_since, timely_at, timely_same, max_first, grounds_of, IsJudged, judged_so, judged_not, steps_alike}
+use Rattle.mud_desk.proofs.Sessions.{timely_since, timely_at, timely_same, max_first, rule_inputs_of, IsJudged, judged_so, judged_not, steps_alike}
 use Rattle.mud_desk.proofs.state.State.judge.Goals as goal
 
 pub judge-requires : goal.judge-requires
@@ -31,7 +31,7 @@ returns-clause-judged g c =
     subst (λ (s : DeskState). (h : List Segment) → HasForwarded h s → IsJudged h s c.args.stamp c.args.frame.now (Ok c.in_ok-verdict.verdict) after) c.self.view_is
     (λ h stands. judged_so h before after c.args.stamp n c.args.frame.now c.later-now.ensures c.in_ok-verdict.verdict
     (c.in_ok-verdict.ensures.verdict (tables_of before) h
-    (grounds_of h before c.thing_book.result.now.things c.compiled.result.now c.locals.result.now (flows_of c.self.inside.flows) (ap (λ t. t.things) c.thing_book.ensures) c.compiled.ensures.value c.locals.ensures c.compiled.ensures.of stands))
+    (rule_inputs_of h before c.thing_book.result.now.things c.compiled.result.now c.locals.result.now (flows_of c.self.inside.flows) (ap (λ t. t.things) c.thing_book.ensures) c.compiled.ensures.value c.locals.ensures c.compiled.ensures.of stands))
     (c.in_ok-verdict.ensures.stands h stands) refl refl)
 
 pub returns-in_err-verdict-clause-judged : goal.returns-in_err-verdict-clause-judged
@@ -45,7 +45,7 @@ returns-in_err-verdict-clause-judged g c =
     (subst (λ (s : DeskState). (h : List Segment) → HasForwarded h s → IsJudged h s c.args.stamp c.args.frame.now (Err p.0) after) c.self.view_is
     (λ h stands. judged_not h before after c.args.stamp n c.args.frame.now c.later-now.ensures p.0
     (c.in_err-verdict.ensures.wanted (tables_of before) h
-    (grounds_of h before c.thing_book.result.now.things c.compiled.result.now c.locals.result.now (flows_of c.self.inside.flows) (ap (λ t. t.things) c.thing_book.ensures) c.compiled.ensures.value c.locals.ensures c.compiled.ensures.of stands))
+    (rule_inputs_of h before c.thing_book.result.now.things c.compiled.result.now c.locals.result.now (flows_of c.self.inside.flows) (ap (λ t. t.things) c.thing_book.ensures) c.compiled.ensures.value c.locals.ensures c.compiled.ensures.of stands))
     stands c.in_err-verdict.ensures.err refl refl))
 
 abbrev Least : ℕ → ℕ → ℕ → Type 0

@@ -5,7 +5,7 @@ use Rattle.frame_view.specs.Frame.{frame_of}
 use Rattle.desk_model.specs.Sessions.{verdict_in}
 use Rattle.mud_desk.specs.DeskState.{DeskState, tables_of, session_of, HasForwarded}
 use Rattle.mud_desk.proofs.Found.{found_of}
-use Rattle.mud_desk.proofs.Sessions.{timely_since, max_first, grounds_of, verdict_here}
+use Rattle.mud_desk.proofs.Sessions.{timely_since, max_first, rule_inputs_of, verdict_here}
 use Rattle.mud_desk.proofs.state.State.why.Goals as goal
 
 pub why-requires : goal.why-requires
@@ -19,7 +19,7 @@ returns-clause-verdict g c =
     subst (λ (s : DeskState). (h : List Segment) → HasForwarded h s → c.why.result.verdict ≡ verdict_in (session_of h s) c.args.stamp c.args.frame.now) c.self.view_is
     (λ h stands.
     c.why.ensures.verdict (tables_of before) h
-    (grounds_of h before c.thing_book.result.now.things c.compiled.result.now c.locals.result.now (flows_of c.self.inside.flows) (ap (λ t. t.things) c.thing_book.ensures) c.compiled.ensures.value c.locals.ensures c.compiled.ensures.of stands)
+    (rule_inputs_of h before c.thing_book.result.now.things c.compiled.result.now c.locals.result.now (flows_of c.self.inside.flows) (ap (λ t. t.things) c.thing_book.ensures) c.compiled.ensures.value c.locals.ensures c.compiled.ensures.of stands)
     ∙ sym (verdict_here h before c.args.stamp n c.args.frame.now c.later-moment.ensures))
 
 pub returns-clause-found : goal.returns-clause-found

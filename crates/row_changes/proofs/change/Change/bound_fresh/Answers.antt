@@ -5,12 +5,12 @@ use Rattle.acl_rows.specs.declared.row.RowKey.{RowKey}
 use Rattle.row_changes.specs.PolicyTouched.{bound_key}
 use Rattle.row_changes.specs.Fresh.{more_fresh}
 use Rattle.row_changes.proofs.FirstBound.{one_bound_first}
-use Rattle.row_changes.proofs.FreshLaws.{one-more, none-more, next_bound, one_more_place, all_places}
+use Rattle.row_changes.proofs.FreshLaws.{one-more, none-more, next_bound, one_more_sort_key, all_sort_keys}
 use Rattle.row_changes.proofs.change.Change.bound_fresh.Goals as goal
 
 pub returns-in_err-address_fresh-clause-most : goal.returns-in_err-address_fresh-clause-most
 returns-in_err-address_fresh-clause-most g c = λ b k u few rows fit.
-    one_more_place c.args.steps.now c.loop-binding.steps c.address_fresh.new.steps c.loop-binding.binding-index (length c.args.bound.now) u c.loop-binding-test.true (c.loop-binding.invariant.most b k u few rows fit) (c.address_fresh.ensures.most b k u few rows fit)
+    one_more_sort_key c.args.steps.now c.loop-binding.steps c.address_fresh.new.steps c.loop-binding.binding-index (length c.args.bound.now) u c.loop-binding-test.true (c.loop-binding.invariant.most b k u few rows fit) (c.address_fresh.ensures.most b k u few rows fit)
 
 pub address_fresh-requires-clause-first : goal.address_fresh-requires-clause-first
 address_fresh-requires-clause-first g c =
@@ -28,7 +28,7 @@ loop-binding-preserved g c =
           ∙ one-more c.args.self.now.slots c.args.self.now.bindings new (bound_key owner c.args.side c.args.n c.binding-item.result) rest c.loop-binding.fresh
           ∙ ap (more_fresh c.args.self.now.slots c.args.self.now.bindings new rest) (sym (c.in_ok-address_fresh.ensures.ok new holds));
       up = omega (arith, c.loop-binding.invariant.up, c.address_fresh.ensures.least);
-      most = λ b k u few rows fit. one_more_place c.args.steps.now c.loop-binding.steps c.address_fresh.new.steps i (i + 1) u (omega arith) (c.loop-binding.invariant.most b k u few rows fit) (c.address_fresh.ensures.most b k u few rows fit);
+      most = λ b k u few rows fit. one_more_sort_key c.args.steps.now c.loop-binding.steps c.address_fresh.new.steps i (i + 1) u (omega arith) (c.loop-binding.invariant.most b k u few rows fit) (c.address_fresh.ensures.most b k u few rows fit);
     }
 
 pub returns-clause-ok : goal.returns-clause-ok
@@ -38,4 +38,4 @@ returns-clause-ok g c = λ new holds.
     ∙ none-more c.args.self.now.slots c.args.self.now.bindings new c.loop-binding.fresh)
 
 pub returns-clause-most : goal.returns-clause-most
-returns-clause-most g c = λ b k u few rows fit. all_places c.args.steps.now c.loop-binding.steps c.loop-binding.binding-index (length c.args.bound.now) u c.loop-binding.auto.binding-index-end (c.loop-binding.invariant.most b k u few rows fit)
+returns-clause-most g c = λ b k u few rows fit. all_sort_keys c.args.steps.now c.loop-binding.steps c.loop-binding.binding-index (length c.args.bound.now) u c.loop-binding.auto.binding-index-end (c.loop-binding.invariant.most b k u few rows fit)

@@ -3,9 +3,9 @@ use Rattle.std.specs.Option.{option_map}
 use Rattle.std.specs.List.{filter_map}
 use Rattle.std.proofs.Math.Path.{transport}
 use Rattle.std.proofs.lemmas.List.{length-map}
-use Rattle.sorted_rows.specs.Placed.{rows_under, PlacesAscend}
+use Rattle.sorted_rows.specs.Sortable.{rows_under, SortKeysAscend}
 use Rattle.acl_model.specs.Keys.{key_of}
-use Rattle.acl_model.specs.Places.{text_place, binding_place}
+use Rattle.acl_model.specs.SortKeys.{text_sort_key, binding_sort_key}
 use Rattle.acl_rows.specs.declared.row.RowKey.{RowKey}
 use Rattle.acl_rows.specs.Rows.{member_keys}
 use Rattle.row_changes.specs.PolicyTouched.{bound_key, first_key_touches, entry_touches}
@@ -31,15 +31,15 @@ pub bound_fresh-requires-clause-first : goal.bound_fresh-requires-clause-first
 bound_fresh-requires-clause-first g c =
     let some = c.in-Some.ensures.key ∙ ap (λ (url : List ℕ). option_map key_parts (first_of (member_keys url c.args.entry.now))) c.url.ensures in
     let rest = transport (λ i. filter_map (key_of (c.url.ensures i)) c.in-Some.behind.now ≡ rest_of (member_keys (c.url.ensures i) c.args.entry.now)) c.in-Some.ensures.behind in
-    let bound = c.rows_under_counted-bound.ensures.rows ∙ ap (λ (s : ChangeState). rows_under binding_place (text_place c.in-Some.key.kind c.in-Some.key.text.now) s.bindings) c.self.view_is in
-    let up = subst (λ (s : ChangeState). PlacesAscend binding_place s.bindings) c.self.view_is c.tell_order.ensures in
+    let bound = c.rows_under_counted-bound.ensures.rows ∙ ap (λ (s : ChangeState). rows_under binding_sort_key (text_sort_key c.in-Some.key.kind c.in-Some.key.text.now) s.bindings) c.self.view_is in
+    let up = subst (λ (s : ChangeState). SortKeysAscend binding_sort_key s.bindings) c.self.view_is c.tell_order.ensures in
     are_bound_first c.args.self.now.bindings c.args.holding.now.1.url c.args.entry.now c.in-Some.behind.now c.in-Some.key.kind c.in-Some.key.text.now c.rows_under_counted-bound.result.now up bound some rest
 
 pub returns-in_ok-bound_fresh-in-Some-clause-ok : goal.returns-in_ok-bound_fresh-in-Some-clause-ok
 unfolding entry_touches
 returns-in_ok-bound_fresh-in-Some-clause-ok g c = λ new holds.
     let some = c.in-Some.ensures.key ∙ ap (λ (url : List ℕ). option_map key_parts (first_of (member_keys url c.args.entry.now))) c.url.ensures in
-    let bound = c.rows_under_counted-bound.ensures.rows ∙ ap (λ (s : ChangeState). rows_under binding_place (text_place c.in-Some.key.kind c.in-Some.key.text.now) s.bindings) c.self.view_is in
+    let bound = c.rows_under_counted-bound.ensures.rows ∙ ap (λ (s : ChangeState). rows_under binding_sort_key (text_sort_key c.in-Some.key.kind c.in-Some.key.text.now) s.bindings) c.self.view_is in
     let touched =
     ap (map (bound_key c.args.holding.now.0 c.args.side c.args.n)) bound
     ∙ sym (some_first c.args.self.now.bindings c.args.holding.now.0 c.args.side c.args.n c.in-Some.key.kind c.in-Some.key.text.now (member_keys c.args.holding.now.1.url c.args.entry.now) some) in
@@ -54,7 +54,7 @@ pub returns-in_err-bound_fresh-in-Some-clause-most : goal.returns-in_err-bound_f
 unfolding entry_touches
 returns-in_err-bound_fresh-in-Some-clause-most g c = λ b k u few rows fit.
     let some = c.in-Some.ensures.key ∙ ap (λ (url : List ℕ). option_map key_parts (first_of (member_keys url c.args.entry.now))) c.url.ensures in
-    let bound = c.rows_under_counted-bound.ensures.rows ∙ ap (λ (s : ChangeState). rows_under binding_place (text_place c.in-Some.key.kind c.in-Some.key.text.now) s.bindings) c.self.view_is in
+    let bound = c.rows_under_counted-bound.ensures.rows ∙ ap (λ (s : ChangeState). rows_under binding_sort_key (text_sort_key c.in-Some.key.kind c.in-Some.key.text.now) s.bindings) c.self.view_is in
     let touched =
     ap (map (bound_key c.args.holding.now.0 c.args.side c.args.n)) bound
     ∙ sym (some_first c.args.self.now.bindings c.args.holding.now.0 c.args.side c.args.n c.in-Some.key.kind c.in-Some.key.text.now (member_keys c.args.holding.now.1.url c.args.entry.now) some) in
@@ -68,7 +68,7 @@ pub returns-in_ok-bound_fresh-in-Some-clause-most : goal.returns-in_ok-bound_fre
 unfolding entry_touches
 returns-in_ok-bound_fresh-in-Some-clause-most g c = λ b k u few rows fit.
     let some = c.in-Some.ensures.key ∙ ap (λ (url : List ℕ). option_map key_parts (first_of (member_keys url c.args.entry.now))) c.url.ensures in
-    let bound = c.rows_under_counted-bound.ensures.rows ∙ ap (λ (s : ChangeState). rows_under binding_place (text_place c.in-Some.key.kind c.in-Some.key.text.now) s.bindings) c.self.view_is in
+    let bound = c.rows_under_counted-bound.ensures.rows ∙ ap (λ (s : ChangeState). rows_under binding_sort_key (text_sort_key c.in-Some.key.kind c.in-Some.key.text.now) s.bindings) c.self.view_is in
     let touched =
     ap (map (bound_key c.args.holding.now.0 c.args.side c.args.n)) bound
     ∙ sym (some_first c.args.self.now.bindings c.args.holding.now.0 c.args.side c.args.n c.in-Some.key.kind c.in-Some.key.text.now (member_keys c.args.holding.now.1.url c.args.entry.now) some) in
@@ -89,7 +89,7 @@ pub returns-in_err-bound_fresh-in-Some-clause-least : goal.returns-in_err-bound_
 unfolding entry_touches
 returns-in_err-bound_fresh-in-Some-clause-least g c =
     let some = c.in-Some.ensures.key ∙ ap (λ (url : List ℕ). option_map key_parts (first_of (member_keys url c.args.entry.now))) c.url.ensures in
-    let bound = c.rows_under_counted-bound.ensures.rows ∙ ap (λ (s : ChangeState). rows_under binding_place (text_place c.in-Some.key.kind c.in-Some.key.text.now) s.bindings) c.self.view_is in
+    let bound = c.rows_under_counted-bound.ensures.rows ∙ ap (λ (s : ChangeState). rows_under binding_sort_key (text_sort_key c.in-Some.key.kind c.in-Some.key.text.now) s.bindings) c.self.view_is in
     let touched =
     ap (map (bound_key c.args.holding.now.0 c.args.side c.args.n)) bound
     ∙ sym (some_first c.args.self.now.bindings c.args.holding.now.0 c.args.side c.args.n c.in-Some.key.kind c.in-Some.key.text.now (member_keys c.args.holding.now.1.url c.args.entry.now) some) in
@@ -101,7 +101,7 @@ pub returns-in_ok-bound_fresh-in-Some-clause-least : goal.returns-in_ok-bound_fr
 unfolding entry_touches
 returns-in_ok-bound_fresh-in-Some-clause-least g c =
     let some = c.in-Some.ensures.key ∙ ap (λ (url : List ℕ). option_map key_parts (first_of (member_keys url c.args.entry.now))) c.url.ensures in
-    let bound = c.rows_under_counted-bound.ensures.rows ∙ ap (λ (s : ChangeState). rows_under binding_place (text_place c.in-Some.key.kind c.in-Some.key.text.now) s.bindings) c.self.view_is in
+    let bound = c.rows_under_counted-bound.ensures.rows ∙ ap (λ (s : ChangeState). rows_under binding_sort_key (text_sort_key c.in-Some.key.kind c.in-Some.key.text.now) s.bindings) c.self.view_is in
     let touched =
     ap (map (bound_key c.args.holding.now.0 c.args.side c.args.n)) bound
     ∙ sym (some_first c.args.self.now.bindings c.args.holding.now.0 c.args.side c.args.n c.in-Some.key.kind c.in-Some.key.text.now (member_keys c.args.holding.now.1.url c.args.entry.now) some) in

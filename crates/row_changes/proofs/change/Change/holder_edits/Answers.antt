@@ -1,6 +1,6 @@
 use Rattle.std.proofs.Common.{◌+◌, ◌*◌, List, ◌∷◌, [], length, map, drop, sym, ap, ◌∙◌, arith}
 use Rattle.std.proofs.lemmas.List.{drop_all}
-use Rattle.acl_model.specs.Places.{key_place}
+use Rattle.acl_model.specs.SortKeys.{member_sort_key}
 use Rattle.acl_rows.specs.declared.row.RowKey.{RowKey}
 use Rattle.row_changes.specs.Touched.{with_edits}
 use Rattle.row_changes.specs.declared.group.EntrySpot.{EntrySpot}
@@ -12,7 +12,7 @@ use Rattle.row_changes.proofs.change.Change.holder_edits.Goals as goal
 
 pub spot_edit-requires-clause-stands : goal.spot_edit-requires-clause-stands
 spot_edit-requires-clause-stands g c =
-    spot_there c.args.holding.now.1.url (key_place c.args.key.now) c.args.holding.now.1.policy c.spots-spots.result.now c.loop-spot.spot-index (spot_read c.spots-spots.result.now c.loop-spot.spot-index) c.spots-spots.ensures (omega arith) (spot_read_is c.spots-spots.result.now c.loop-spot.spot-index (omega arith))
+    spot_there c.args.holding.now.1.url (member_sort_key c.args.key.now) c.args.holding.now.1.policy c.spots-spots.result.now c.loop-spot.spot-index (spot_read c.spots-spots.result.now c.loop-spot.spot-index) c.spots-spots.ensures (omega arith) (spot_read_is c.spots-spots.result.now c.loop-spot.spot-index (omega arith))
 
 pub returns-in_err-spot_edit-clause-most : goal.returns-in_err-spot_edit-clause-most
 returns-in_err-spot_edit-clause-most g c = λ b k u few rows fit.

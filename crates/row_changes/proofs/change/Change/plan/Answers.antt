@@ -1,6 +1,6 @@
 use Rattle.std.proofs.Common.{List, ◌*◌, length, ap, subst, ◌∙◌, arith}
-use Rattle.sorted_rows.specs.Placed.{PlacesAscend}
-use Rattle.acl_model.specs.Places.{binding_place}
+use Rattle.sorted_rows.specs.Sortable.{SortKeysAscend}
+use Rattle.acl_model.specs.SortKeys.{binding_sort_key}
 use Rattle.acl_rows.specs.declared.row.RowKey.{RowKey}
 use Rattle.row_changes.specs.Touched.{touches}
 use Rattle.row_changes.specs.Change.{ChangeState, more_edits}
@@ -24,7 +24,7 @@ returns-in_err-all_edits-2-clause-most g c = λ b k u few rows fit.
 
 pub returns-clause-ok : goal.returns-clause-ok
 returns-clause-ok g c =
-    planned c.args.self.now c.all_edits-2.new.edits.rows (subst (λ (s : ChangeState). PlacesAscend binding_place s.bindings) c.self.view_is c.tell_order.ensures)
+    planned c.args.self.now c.all_edits-2.new.edits.rows (subst (λ (s : ChangeState). SortKeysAscend binding_sort_key s.bindings) c.self.view_is c.tell_order.ensures)
     (c.in_ok-all_edits-2.ensures.ok
     ∙ (λ i. more_edits c.args.self.now (touches c.args.self.now.slots (c.self.view_is i).come) (c.in_ok-all_edits.ensures.ok i))
     ∙ (λ i. more_edits c.args.self.now (touches c.args.self.now.slots c.args.self.now.come) (more_edits c.args.self.now (touches c.args.self.now.slots (c.self.view_is i).gone) (c.new-edits.ensures.rows i))))

@@ -7,16 +7,16 @@ use Rattle.row_changes.proofs.policies.CompiledPolicy.part.Goals as goal
 
 pub returns-in-From : goal.returns-in-From
 returns-in-From c =
-    let shelf = rows_of_side c.args.owner c.args.side c.args.rows.now.rows in
-    let made = part_from c.args.rows.now.rows shelf c.args.owner c.self.inside.policy c.self.inside.wide_outgoing c.self.inside.wide_incoming c.as_slice-in-From.result.now c.as_slice.result.now (ap (λ (s : Direction). rows_of_side c.args.owner s c.args.rows.now.rows) c.in-From.is) c.self.invariant c.as_slice.ensures c.as_slice-in-From.ensures in
+    let bucket = rows_of_side c.args.owner c.args.side c.args.rows.now.rows in
+    let made = part_from c.args.rows.now.rows bucket c.args.owner c.self.inside.policy c.self.inside.wide_outgoing c.self.inside.wide_incoming c.as_slice-in-From.result.now c.as_slice.result.now (ap (λ (s : Direction). rows_of_side c.args.owner s c.args.rows.now.rows) c.in-From.is) c.self.invariant c.as_slice.ensures c.as_slice-in-From.ensures in
     subst (IsPartOf c.args.rows.now.rows c.args.side c.args.owner c.args.self.now) (sym c.part.ensures)
-    (subst (λ (p : Policy). IsPartOf c.args.rows.now.rows c.args.side c.args.owner p (part c.args.side c.as_slice.result.now c.as_slice-in-From.result.now shelf (length shelf))) c.self.view_is
-    (subst (λ (s : Direction). IsPartOf c.args.rows.now.rows s c.args.owner c.self.inside.policy (part s c.as_slice.result.now c.as_slice-in-From.result.now shelf (length shelf))) (sym c.in-From.is) made))
+    (subst (λ (p : Policy). IsPartOf c.args.rows.now.rows c.args.side c.args.owner p (part c.args.side c.as_slice.result.now c.as_slice-in-From.result.now bucket (length bucket))) c.self.view_is
+    (subst (λ (s : Direction). IsPartOf c.args.rows.now.rows s c.args.owner c.self.inside.policy (part s c.as_slice.result.now c.as_slice-in-From.result.now bucket (length bucket))) (sym c.in-From.is) made))
 
 pub returns-in-To : goal.returns-in-To
 returns-in-To c =
-    let shelf = rows_of_side c.args.owner c.args.side c.args.rows.now.rows in
-    let made = part_to c.args.rows.now.rows shelf c.args.owner c.self.inside.policy c.self.inside.wide_outgoing c.self.inside.wide_incoming c.as_slice-in-To-2.result.now c.as_slice-in-To.result.now (ap (λ (s : Direction). rows_of_side c.args.owner s c.args.rows.now.rows) c.in-To.is) c.self.invariant c.as_slice-in-To.ensures c.as_slice-in-To-2.ensures in
+    let bucket = rows_of_side c.args.owner c.args.side c.args.rows.now.rows in
+    let made = part_to c.args.rows.now.rows bucket c.args.owner c.self.inside.policy c.self.inside.wide_outgoing c.self.inside.wide_incoming c.as_slice-in-To-2.result.now c.as_slice-in-To.result.now (ap (λ (s : Direction). rows_of_side c.args.owner s c.args.rows.now.rows) c.in-To.is) c.self.invariant c.as_slice-in-To.ensures c.as_slice-in-To-2.ensures in
     subst (IsPartOf c.args.rows.now.rows c.args.side c.args.owner c.args.self.now) (sym c.part-in-To.ensures)
-    (subst (λ (p : Policy). IsPartOf c.args.rows.now.rows c.args.side c.args.owner p (part c.args.side c.as_slice-in-To.result.now c.as_slice-in-To-2.result.now shelf (length shelf))) c.self.view_is
-    (subst (λ (s : Direction). IsPartOf c.args.rows.now.rows s c.args.owner c.self.inside.policy (part s c.as_slice-in-To.result.now c.as_slice-in-To-2.result.now shelf (length shelf))) (sym c.in-To.is) made))
+    (subst (λ (p : Policy). IsPartOf c.args.rows.now.rows c.args.side c.args.owner p (part c.args.side c.as_slice-in-To.result.now c.as_slice-in-To-2.result.now bucket (length bucket))) c.self.view_is
+    (subst (λ (s : Direction). IsPartOf c.args.rows.now.rows s c.args.owner c.self.inside.policy (part s c.as_slice-in-To.result.now c.as_slice-in-To-2.result.now bucket (length bucket))) (sym c.in-To.is) made))

@@ -13,10 +13,10 @@ pub returns : goal.returns
 unfolding thing_items
 returns c =
     let things : List Thing = c.args.self.now.things in
-    let thing : Thing = c.index-rows-place.result in
+    let thing : Thing = c.index-rows-index.result in
     let same : c.rows.result.now ≡ things = c.rows.ensures.rows ∙ ap (λ (b : Things). b.things) c.self.view_is in
-    let within : c.args.place < length c.rows.result.now = rw (ap length same) c.requires in
-    let at : slice_get things c.args.place ≡ Some thing =
-    ap (λ ts. slice_get ts c.args.place) (sym same) ∙ slice_get-get_or c.rows.result.now c.args.place thing within ∙ ap Some (sym c.index-rows-place.is) in
-    IfOk-weaker c.item_of.result (λ item. item ≡ thing_item thing) (λ (item : Item). slice_get (thing_items things) c.args.place ≡ Some item)
-    (λ item e. slice_get-map thing_item things c.args.place ∙ ap (option_map thing_item) at ∙ ap Some (sym e)) c.item_of.ensures
+    let within : c.args.index < length c.rows.result.now = rw (ap length same) c.requires in
+    let at : slice_get things c.args.index ≡ Some thing =
+    ap (λ ts. slice_get ts c.args.index) (sym same) ∙ slice_get-get_or c.rows.result.now c.args.index thing within ∙ ap Some (sym c.index-rows-index.is) in
+    IfOk-weaker c.item_of.result (λ item. item ≡ thing_item thing) (λ (item : Item). slice_get (thing_items things) c.args.index ≡ Some item)
+    (λ item e. slice_get-map thing_item things c.args.index ∙ ap (option_map thing_item) at ∙ ap Some (sym e)) c.item_of.ensures

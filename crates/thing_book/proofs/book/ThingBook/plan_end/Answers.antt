@@ -1,5 +1,5 @@
 use Rattle.std.proofs.Common.{ap}
-use Rattle.mud_tables.specs.ThingSteps.{end_step}
+use Rattle.mud_tables.specs.ThingCommands.{end_step}
 use Rattle.thing_book.specs.Planned.{Things}
 use Rattle.mud_tables.specs.ThingChanges.{end_change}
 use Rattle.thing_book.proofs.PlannedLaws.{fit, answers, ready, end_is}

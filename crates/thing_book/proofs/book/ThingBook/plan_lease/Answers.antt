@@ -1,5 +1,5 @@
 use Rattle.std.proofs.Common.{ap}
-use Rattle.mud_tables.specs.ThingSteps.{lease_step}
+use Rattle.mud_tables.specs.ThingCommands.{lease_step}
 use Rattle.mud_tables.specs.ThingChanges.{lease_change}
 use Rattle.thing_book.specs.Planned.{Things}
 use Rattle.thing_book.proofs.PlannedLaws.{fit, answers, ready, lease_is}

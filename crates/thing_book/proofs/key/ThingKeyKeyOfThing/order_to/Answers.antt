@@ -1,6 +1,6 @@
 use Rattle.std.proofs.Common.{ap, ap₂, ◌∙◌}
 use Rattle.std.specs.Ordering.{nat_cmp}
-use Rattle.sorted_rows.specs.Placed.{place_cmp}
+use Rattle.sorted_rows.specs.Sortable.{sort_key_cmp}
 use Rattle.mud_base.specs.declared.addr.Mac.{Mac}
 use Rattle.mud_tables.specs.Things.{mac_of}
 use Rattle.thing_book.proofs.MacNumbers.{mac_cmp}
@@ -12,4 +12,4 @@ returns c =
     c.cmp.ensures
     ∙ ap₂ nat_cmp c.self.invariant c.number_of.ensures
     ∙ mac_cmp c.self.inside.mac.0 c.args.thing.now.mac.0 c.mac_has_six_octets.ensures c.mac_has_six_octets-2.ensures c.all_are_octets.ensures c.all_are_octets-2.ensures
-    ∙ ap (λ (m : Mac). place_cmp m.0 c.args.thing.now.mac.0) c.self.view_is
+    ∙ ap (λ (m : Mac). sort_key_cmp m.0 c.args.thing.now.mac.0) c.self.view_is

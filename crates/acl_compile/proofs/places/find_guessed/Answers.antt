@@ -1,6 +1,0 @@
-use Rattle.std.proofs.Common.{sym}
-use Rattle.acl_compile.proofs.SlotLaws.{unique}
-use Rattle.acl_compile.proofs.places.find_guessed.Goals as goal
-
-pub returns-in-Some : goal.returns-in-Some
-returns-in-Some c = sym (unique c.args.url.now c.args.slots.now c.place-place.result c.in-Some.held.now c.requires.apart c.in-Some.ensures.held c.in-Some.ensures.own)

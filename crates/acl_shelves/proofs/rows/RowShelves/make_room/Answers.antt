@@ -1,6 +1,0 @@
-use Rattle.std.proofs.Common.{ap, ◌∙◌}
-use Rattle.acl_shelves.specs.RowShelves.{Shelves}
-use Rattle.acl_shelves.proofs.rows.RowShelves.make_room.Goals as goal
-
-pub returns-clause-rows : goal.returns-clause-rows
-returns-clause-rows c = c.make_room.ensures.kept.rows ∙ ap (λ (s : Shelves). s.rows) c.self.view_is

@@ -1,7 +1,0 @@
-use Rattle.std.proofs.Common.{◌≡◌, ◌++◌, drop}
-use Rattle.std.specs.Prelude.{flat_map}
-use Rattle.mud_tables.specs.ItemFields.{ending}
-use Rattle.thing_book.proofs.items.write_endings.Given as goal
-
-abbrev pub invariant-loop-row : goal.invariant-loop-row
-invariant-loop-row l = l.writer ++ flat_map ending (drop l.row-index l.leases) ≡ l.initial.writer ++ flat_map ending l.leases

@@ -19,8 +19,8 @@ use Rattle.acl_rows.specs.declared.row.Owner.TheVariants.{Url, Default}
 use Rattle.acl_rows.specs.declared.row.Row.{Row}
 use Rattle.acl_rows.specs.Rows.{for_ever, row, Slots, rows_of}
 use Rattle.acl_rows.proofs.OnLiterals.{rows_on_literals}
-use Rattle.row_changes.specs.Patch.{same_row, is_missing, rows_apart}
-use Rattle.row_changes.specs.Touched.{entry_touch, side_touches, holder_touches, binding_touches, touches}
+use Rattle.acl_changes.specs.Patch.{same_row, is_missing, rows_apart}
+use Rattle.acl_changes.specs.Touched.{entry_touch, side_touches, holder_touches, binding_touches, touches}
 use Rattle.acl_compile.specs.Plans.{slot_set}
 
 abbrev bulb_url : List ℕ

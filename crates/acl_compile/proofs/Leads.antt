@@ -10,8 +10,8 @@ use Rattle.std.proofs.lemmas.Cmp.{ranked}
 use Rattle.std.proofs.lemmas.List.{get_or-reverse, length-reverse}
 use Rattle.std.proofs.lemmas.Nat.{mul-add-lt}
 use Rattle.std.proofs.Math.ListN.{get_or-eq_default}
-use Rattle.sorted_rows.specs.Sortable.{sort_key_cmp}
-use Rattle.sorted_rows.proofs.Orders.{equal_numbers}
+use Rattle.base_rows.specs.Sortable.{sort_key_cmp}
+use Rattle.base_rows.proofs.Orders.{equal_numbers}
 use Rattle.acl_compile.specs.UrlSlots.{lead, AreOctets}
 
 -- ---- A digit in front of a number

@@ -5,20 +5,20 @@ use Rattle.acl_model.specs.declared.binding.Binding.{Binding}
 use Rattle.acl_model.specs.declared.entry.Policy.{Policy}
 use Rattle.acl_model.specs.SortKeys.{binding_sort_key}
 use Rattle.acl_model.specs.Changes.{replaced}
-use Rattle.sorted_rows.specs.declared.edit.Edit.{Edit}
-use Rattle.sorted_rows.specs.Edits.{edited}
-use Rattle.acl_shelves.specs.RowBuckets.{Buckets, HasRoom}
-use Rattle.acl_shelves.specs.BindingBuckets.{KeptBindings, HasRoomByKey}
+use Rattle.base_rows.specs.declared.edit.Edit.{Edit}
+use Rattle.base_rows.specs.Edits.{edited}
+use Rattle.acl_buckets.specs.RowBuckets.{Buckets, HasRoom}
+use Rattle.acl_buckets.specs.BindingBuckets.{KeptBindings, HasRoomByKey}
 use Rattle.acl_rows.specs.declared.row.Row.{Row}
 use Rattle.acl_rows.specs.SortKeys.{row_sort_key}
 use Rattle.acl_rows.specs.Rows.{Slots, rows_of, member_keys}
-use Rattle.row_changes.specs.Patch.{IsPatch, rows_apart}
-use Rattle.row_changes.specs.Touched.{touches}
-use Rattle.row_changes.proofs.Patches.{patched}
-use Rattle.row_changes.proofs.Apart.{few_edits}
-use Rattle.row_changes.specs.Bindings.{AreEditsOf}
-use Rattle.row_changes.specs.Policies.{AllHeld}
-use Rattle.row_changes.specs.Steps.{HolderFits, HaveKeys, sort_key_steps}
+use Rattle.acl_changes.specs.Patch.{IsPatch, rows_apart}
+use Rattle.acl_changes.specs.Touched.{touches}
+use Rattle.acl_changes.proofs.Patches.{patched}
+use Rattle.acl_changes.proofs.Apart.{few_edits}
+use Rattle.acl_changes.specs.Bindings.{AreEditsOf}
+use Rattle.acl_changes.specs.Policies.{AllHeld}
+use Rattle.acl_changes.specs.Steps.{HolderFits, HaveKeys, sort_key_steps}
 use Rattle.acl_compile.specs.Compiled.{CompiledState, compiled_state, UrlsApart, IsSound}
 use Rattle.acl_compile.specs.Plans.{Plan, slots_with, slots_after, bindings_after, Fits, IsMemberPlan}
 use Rattle.acl_compile.specs.UrlSlots.{UrlAndSlot, AreSlotsOf, IsSoundWithSlots}

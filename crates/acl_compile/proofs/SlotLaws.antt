@@ -8,7 +8,7 @@ use Rattle.std.proofs.lemmas.List.{drop_all, length-map}
 use Rattle.std.proofs.lemmas.Bool.{false≢true, eqb-true, and_parts}
 use Rattle.std.proofs.lemmas.Bool.Decides.{eqb_tells, leb_tells}
 use Rattle.std.proofs.lemmas.Option.{same_Some, none-some, slice_get_within}
-use Rattle.sorted_rows.proofs.SortableLaws.{same_sort_key_exact, same_sort_key_itself}
+use Rattle.base_rows.proofs.SortableLaws.{same_sort_key_exact, same_sort_key_itself}
 use Rattle.mud_base.specs.declared.packet.Direction.{Direction}
 use Rattle.mud_base.specs.declared.packet.Direction.TheVariants.{From, To}
 use Rattle.acl_model.specs.declared.entry.Entry.{Entry}
@@ -22,27 +22,27 @@ use Rattle.acl_rows.specs.declared.row.Owner.TheVariants.{Url, Default}
 use Rattle.acl_rows.specs.declared.row.Row.{Row}
 use Rattle.acl_rows.specs.Rows.{Slots, Holder, rows_of, member_keys, numbered, slot_policy, held_by, expiry_at}
 use Rattle.acl_rows.specs.View.{in_slot, holder_from}
-use Rattle.row_changes.specs.PolicyTouched.{bound_key, bound_under, first_key_touches, entry_touches, side_policy_touches, new_touches, owner_rows, IsSlotChange}
+use Rattle.acl_changes.specs.PolicyTouched.{bound_key, bound_under, first_key_touches, entry_touches, side_policy_touches, new_touches, owner_rows, IsSlotChange}
 use Rattle.acl_rows.specs.Rows.{held_expiry}
 use Rattle.acl_rows.specs.SortKeys.{owner_class, owner_number, owner_sort_key, side_sort_key, peer_sort_key, sort_key_at, row_sort_key}
 use Rattle.acl_rows.proofs.AtSortKeys.{ascend-rows_of}
 use Rattle.acl_rows.proofs.Sound.{slot_by}
-use Rattle.row_changes.specs.Patch.{expiry_for}
-use Rattle.sorted_rows.specs.Sortable.{row_at, is_under}
-use Rattle.row_changes.proofs.Groups.{all_kept, each_there}
-use Rattle.row_changes.proofs.PolicyRows.{expiry_was}
+use Rattle.acl_changes.specs.Patch.{expiry_for}
+use Rattle.base_rows.specs.Sortable.{row_at, is_under}
+use Rattle.acl_changes.proofs.Groups.{all_kept, each_there}
+use Rattle.acl_changes.proofs.PolicyRows.{expiry_was}
 use Rattle.acl_compile.specs.Compiled.{UrlsApart, compiled_state}
-use Rattle.row_changes.specs.Fresh.{policy_count}
-use Rattle.sorted_rows.specs.declared.edit.Edit.{Edit}
-use Rattle.sorted_rows.specs.Edits.{edited}
-use Rattle.acl_shelves.specs.BindingBuckets.{KeptBindings, AreFoundByKey, HasRoomByKey}
-use Rattle.acl_shelves.proofs.EditLaws.{no_edits}
-use Rattle.acl_shelves.specs.RowBuckets.{Buckets, HasRoom}
+use Rattle.acl_changes.specs.Fresh.{policy_count}
+use Rattle.base_rows.specs.declared.edit.Edit.{Edit}
+use Rattle.base_rows.specs.Edits.{edited}
+use Rattle.acl_buckets.specs.BindingBuckets.{KeptBindings, AreFoundByKey, HasRoomByKey}
+use Rattle.acl_buckets.proofs.EditLaws.{no_edits}
+use Rattle.acl_buckets.specs.RowBuckets.{Buckets, HasRoom}
 use Rattle.acl_model.specs.SortKeys.{binding_sort_key}
-use Rattle.row_changes.specs.Patch.{IsPatch}
+use Rattle.acl_changes.specs.Patch.{IsPatch}
 use Rattle.acl_compile.specs.Plans.{slot_set, holder_policy, holder_owner, policy_held, slot_held, held_for, is_other, others_held, rows_of_owner, slots_with, slots_after, bindings_after, policy_steps, policy_reads, IsSlotFor, IsPolicyPlan}
-use Rattle.row_changes.specs.Steps.{HaveKeys, PolicyKeys, sort_key_steps}
-use Rattle.row_changes.proofs.Loops.{slot_holds}
+use Rattle.acl_changes.specs.Steps.{HaveKeys, PolicyKeys, sort_key_steps}
+use Rattle.acl_changes.proofs.Loops.{slot_holds}
 
 lt_by : (a b : ℕ) → ((nat_lt a b ≡ true) × (suc a ≤ b)) ⊎ ((nat_lt a b ≡ false) × (b < suc a)) → ((nat_lt a b ≡ true) × (a < b)) ⊎ ((nat_lt a b ≡ false) × (b ≤ a))
 lt_by a b (inl lt) = inl (lt.0, omega (arith, lt.1))

@@ -5,8 +5,8 @@ use Rattle.std.specs.declared.cmp.Ordering.TheVariants.{Less, Equal, Greater}
 use Rattle.std.proofs.lemmas.Bool.Decides.{leb_tells}
 use Rattle.std.proofs.lemmas.List.{get_or-reverse, length-reverse}
 use Rattle.std.specs.Cmp.{nat_cmp_is}
-use Rattle.sorted_rows.specs.Sortable.{sort_key_cmp}
-use Rattle.sorted_rows.proofs.Orders.{behind, apart, alike}
+use Rattle.base_rows.specs.Sortable.{sort_key_cmp}
+use Rattle.base_rows.proofs.Orders.{behind, apart, alike}
 
 ended_by : (a b n : ℕ) → n ≤ a → a ≤ b → (n < a → n < b → ⊥) → ((leb a n ≡ true) × (a ≤ n)) ⊎ ((leb a n ≡ false) × (n < a)) → a ≡ n
 ended_by a b n p s r (inl c) = omega (arith, p, c.1)

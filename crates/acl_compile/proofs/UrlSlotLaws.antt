@@ -6,18 +6,18 @@ use Rattle.std.specs.Cmp.{both_ways}
 use Rattle.std.proofs.lemmas.Bool.{false≢true}
 use Rattle.std.proofs.lemmas.List.{reverse-reverse}
 use Rattle.std.proofs.lemmas.Option.{same_Some, none-some}
-use Rattle.sorted_rows.specs.Sortable.{SortKeysAscend, same_sort_key, row_at}
-use Rattle.sorted_rows.proofs.SortableLaws.{row_at-set_row, row_at-without_row, same_sort_key_exact, same_sort_key_itself}
+use Rattle.base_rows.specs.Sortable.{SortKeysAscend, same_sort_key, row_at}
+use Rattle.base_rows.proofs.SortableLaws.{row_at-set_row, row_at-without_row, same_sort_key_exact, same_sort_key_itself}
 use Rattle.acl_model.specs.Policies.{UrlPolicy}
 use Rattle.acl_rows.specs.declared.row.Owner.TheVariants.{Url}
 use Rattle.acl_rows.specs.Rows.{Slots, Holder, held_by}
 use Rattle.acl_rows.specs.View.{holder_from}
-use Rattle.row_changes.specs.PolicyTouched.{IsSlotChange}
+use Rattle.acl_changes.specs.PolicyTouched.{IsSlotChange}
 use Rattle.acl_compile.specs.Compiled.{UrlsApart}
 use Rattle.acl_compile.specs.Plans.{holder_owner, slot_held}
 use Rattle.acl_compile.specs.UrlSlots.{UrlAndSlot, url_of, owner_of, AreSlotsOf, url_slots_without, url_slots_with}
 use Rattle.acl_compile.proofs.SlotLaws.{FoundAt, found_at, unique, is_own, holder_stays, holder_gone, Url_same}
-use Rattle.row_changes.proofs.Loops.{slot_holds}
+use Rattle.acl_changes.proofs.Loops.{slot_holds}
 
 -- ---- Finding
 

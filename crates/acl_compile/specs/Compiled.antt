@@ -1,6 +1,6 @@
 -- What is compiled: the policies in their slots, the bindings, and the rows that follow from them.
 use Rattle.std.specs.Prelude.{◌≡◌, ℕ, ◌≤◌, List, length, Some}
-use Rattle.sorted_rows.specs.Sortable.{SortKeysAscend}
+use Rattle.base_rows.specs.Sortable.{SortKeysAscend}
 use Rattle.acl_model.specs.declared.entry.Policy.{Policy}
 use Rattle.acl_model.specs.declared.binding.Binding.{Binding}
 use Rattle.acl_model.specs.SortKeys.{binding_sort_key}
@@ -10,8 +10,8 @@ use Rattle.acl_model.specs.Policies.{UrlPolicy}
 use Rattle.acl_rows.specs.declared.row.Owner.TheVariants.{Url}
 use Rattle.acl_rows.specs.ByAddress.{AddrRoom}
 use Rattle.acl_rows.specs.Rows.{Slots, held_by, rows_of}
-use Rattle.acl_shelves.specs.RowBuckets.{Buckets}
-use Rattle.acl_shelves.specs.BindingBuckets.{KeyRoom, KeptBindings}
+use Rattle.acl_buckets.specs.RowBuckets.{Buckets}
+use Rattle.acl_buckets.specs.BindingBuckets.{KeyRoom, KeptBindings}
 
 -- The policies in their slots, the bindings and the rows; and how many more policies there is room for, how many more
 -- slots of URLs, how many more bindings in the bucket of each key, and how many more rows of each address in the

@@ -5,20 +5,20 @@ use Rattle.acl_model.specs.declared.entry.Policy.{Policy}
 use Rattle.acl_model.specs.SortKeys.{binding_sort_key}
 use Rattle.acl_model.specs.Changes.{replaced}
 use Rattle.acl_model.specs.Policies.{UrlPolicy, url_policy}
-use Rattle.sorted_rows.specs.declared.edit.Edit.{Edit}
-use Rattle.sorted_rows.specs.Edits.{edited}
+use Rattle.base_rows.specs.declared.edit.Edit.{Edit}
+use Rattle.base_rows.specs.Edits.{edited}
 use Rattle.acl_rows.specs.declared.row.Owner.{Owner}
 use Rattle.acl_rows.specs.declared.row.Row.{Row}
 use Rattle.acl_rows.specs.declared.row.Owner.TheVariants.{Url, Default}
 use Rattle.acl_rows.specs.Rows.{Slots, Holder, held_by}
 use Rattle.acl_rows.specs.View.{holder_from}
-use Rattle.row_changes.specs.Patch.{IsPatch}
-use Rattle.row_changes.specs.PolicyTouched.{owner_rows, new_touches}
-use Rattle.acl_shelves.specs.RowBuckets.{HasRoom}
-use Rattle.acl_shelves.specs.BindingBuckets.{AreFoundByKey, HasRoomByKey}
-use Rattle.row_changes.specs.Fresh.{policy_count}
-use Rattle.row_changes.specs.Policies.{HasCounts}
-use Rattle.row_changes.specs.Steps.{sort_key_steps}
+use Rattle.acl_changes.specs.Patch.{IsPatch}
+use Rattle.acl_changes.specs.PolicyTouched.{owner_rows, new_touches}
+use Rattle.acl_buckets.specs.RowBuckets.{HasRoom}
+use Rattle.acl_buckets.specs.BindingBuckets.{AreFoundByKey, HasRoomByKey}
+use Rattle.acl_changes.specs.Fresh.{policy_count}
+use Rattle.acl_changes.specs.Policies.{HasCounts}
+use Rattle.acl_changes.specs.Steps.{sort_key_steps}
 use Rattle.acl_compile.specs.Compiled.{CompiledState, UrlsApart}
 
 -- ---- Plans

@@ -1,6 +1,6 @@
 -- The slots of URLs in the table of policies: a ruling finds the policy of a URL by them.
 use Rattle.std.specs.Prelude.{◌≡◌, ℕ, zero, suc, ◌+◌, ◌*◌, ◌^◌, ◌<◌, List, reverse, slice_index, Option, Some, None, option_map}
-use Rattle.sorted_rows.specs.Sortable.{row_at, set_row, without_row}
+use Rattle.base_rows.specs.Sortable.{row_at, set_row, without_row}
 use Rattle.acl_model.specs.declared.entry.Policy.{Policy}
 use Rattle.acl_model.specs.declared.binding.Binding.{Binding}
 use Rattle.acl_model.specs.Policies.{UrlPolicy}

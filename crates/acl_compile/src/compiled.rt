@@ -2,21 +2,21 @@
 ghost use Rattle.std.specs.Prelude.{◌≡◌, ℕ, ◌+◌, ◌*◌, ◌^◌, ◌<◌, ◌≤◌, ◌++◌, [], length, IfOk, OnOk, option_copied, ◌↔◌, IsTrue};
 ghost use Rattle.acl_rows.specs.View.{IsViewOf};
 ghost use Rattle.acl_rows.specs.Rows.{rows_of};
-ghost use Rattle.row_changes.specs.Patch.{rows_apart};
-ghost use Rattle.row_changes.specs.Touched.{touches};
+ghost use Rattle.acl_changes.specs.Patch.{rows_apart};
+ghost use Rattle.acl_changes.specs.Touched.{touches};
 ghost use Rattle.acl_compile.specs.Compiled.{HasItsRows};
 ghost use Rattle.acl_compile.specs.Plans.{Fits, slots_after, bindings_after, IsKept, IsMemberPlan, IsPolicyPlan, CanBeCounted, held_for, others_held, policy_reads, policy_steps};
-ghost use Rattle.row_changes.specs.Steps.{least_steps, HaveKeys, PolicyKeys, sort_key_steps};
+ghost use Rattle.acl_changes.specs.Steps.{least_steps, HaveKeys, PolicyKeys, sort_key_steps};
 
 use crate::plan::{RowPlan, others_in, plan_change, plan_slot, set_slot};
 use crate::url_slots::{SlotGuesses, UrlSlot, find_guessed, set_url_slot};
+use acl_buckets::{BindingBuckets, RowBuckets};
+use acl_changes::{Held, HeldDefaults};
 use acl_model::{Binding, Policy};
 use acl_rows::{Owner, RuleView};
-use acl_shelves::{BindingBuckets, RowBuckets};
+use base_rows::{SortedRows, Steps};
 use mud_base::{Direction, Memory};
 use mud_url::MudUrl;
-use row_changes::{Held, HeldDefaults};
-use sorted_rows::{SortedRows, Steps};
 use std::alloc::Global;
 use std::marker::Model;
 use std::sync::ledger::Ledger;

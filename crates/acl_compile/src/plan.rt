@@ -3,22 +3,22 @@ ghost use Rattle.std.specs.Prelude.{◌≡◌, ℕ, ◌+◌, ◌-◌, ◌*◌, �
 ghost use Rattle.acl_model.specs.Policies.{UrlPolicy};
 ghost use Rattle.acl_model.specs.Defaults.{default_policy};
 ghost use Rattle.acl_rows.specs.Rows.{rows_of};
-ghost use Rattle.row_changes.specs.Touched.{touches};
+ghost use Rattle.acl_changes.specs.Touched.{touches};
 ghost use Rattle.acl_compile.specs.Compiled.{UrlsApart, compiled_state};
 ghost use Rattle.acl_compile.specs.UrlSlots.{AreSlotsOf};
 ghost use Rattle.acl_compile.specs.Plans as spec;
 ghost use Rattle.acl_compile.specs.Plans.{slot_set, IsMemberPlan, IsPolicyPlan, IsSlotFor, CanBeCounted, held_for, others_held, policy_reads, policy_steps};
-ghost use Rattle.acl_shelves.specs.RowBuckets.{HasRoom};
-ghost use Rattle.row_changes.specs.Steps.{least_steps, HaveKeys, PolicyKeys, sort_key_steps};
+ghost use Rattle.acl_buckets.specs.RowBuckets.{HasRoom};
+ghost use Rattle.acl_changes.specs.Steps.{least_steps, HaveKeys, PolicyKeys, sort_key_steps};
 
 use crate::url_slots::{UrlSlot, find_held};
+use acl_buckets::{BindingBuckets, RowBuckets};
+use acl_changes::{Change, CompiledPolicy, Held, HeldDefaults, Holding, edits_of, slot_rows};
 use acl_model::{Binding, Policy};
 use acl_rows::Row;
-use acl_shelves::{BindingBuckets, RowBuckets};
+use base_rows::{Edit, SortedRows, Steps};
 use mud_base::Memory;
 use mud_url::MudUrl;
-use row_changes::{Change, CompiledPolicy, Held, HeldDefaults, Holding, edits_of, slot_rows};
-use sorted_rows::{Edit, SortedRows, Steps};
 use std::alloc::Global;
 use std::marker::Model;
 use std::sync::ledger::Ledger;

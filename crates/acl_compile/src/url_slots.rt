@@ -1,16 +1,16 @@
 //! The slots of URLs in the table of policies, in the order of the URLs' texts, read from behind.
 ghost use Rattle.std.specs.Prelude.{◌≡◌, ◌<◌, ◌≤◌, true, Some, bytes_eq, length, reverse, slice_index, option_copied, option_map, IfSome};
-ghost use Rattle.sorted_rows.specs.Sortable.{sort_key_cmp};
+ghost use Rattle.base_rows.specs.Sortable.{sort_key_cmp};
 ghost use Rattle.acl_rows.specs.Rows.{held_by};
 ghost use Rattle.acl_rows.specs.View.{holder_from};
 ghost use Rattle.acl_compile.specs.Compiled.{UrlsApart};
 ghost use Rattle.acl_compile.specs.Plans.{slot_set};
 ghost use Rattle.acl_compile.specs.UrlSlots.{lead, AreOctets, AreSlotsOf, url_slots_without, url_slots_with};
 
+use acl_changes::Held;
 use acl_rows::Owner;
+use base_rows::{KeyOf, Sortable, SortedRows};
 use mud_url::MudUrl;
-use row_changes::Held;
-use sorted_rows::{KeyOf, Sortable, SortedRows};
 use std::cmp::Ordering;
 use std::marker::Model;
 

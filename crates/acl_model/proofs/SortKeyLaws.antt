@@ -5,12 +5,12 @@ use Rattle.std.specs.Cmp.Lexicographic.{slice_cmp}
 use Rattle.std.specs.declared.cmp.Ordering.{Ordering}
 use Rattle.std.specs.declared.cmp.Ordering.TheVariants.{Less, Equal, Greater}
 use Rattle.std.proofs.lemmas.Cmp.{ranked}
-use Rattle.sorted_rows.specs.Sortable.{sort_key_cmp, prefix_cmp, same_sort_key, without_row, SortKeysAscend}
-use Rattle.sorted_rows.specs.Addresses.{addr_sort_key}
-use Rattle.sorted_rows.proofs.AddressLaws.{addr_cmp-sort_key, addr_sort_key_exact}
-use Rattle.sorted_rows.proofs.AscendLaws.{both_ways}
-use Rattle.sorted_rows.proofs.SortableLaws.{same_sort_key_exact, same_sort_key_itself, ascend-without_row}
-use Rattle.sorted_rows.proofs.Orders.{then_assoc}
+use Rattle.base_rows.specs.Sortable.{sort_key_cmp, prefix_cmp, same_sort_key, without_row, SortKeysAscend}
+use Rattle.base_rows.specs.Addresses.{addr_sort_key}
+use Rattle.base_rows.proofs.AddressLaws.{addr_cmp-sort_key, addr_sort_key_exact}
+use Rattle.base_rows.proofs.AscendLaws.{both_ways}
+use Rattle.base_rows.proofs.SortableLaws.{same_sort_key_exact, same_sort_key_itself, ascend-without_row}
+use Rattle.base_rows.proofs.Orders.{then_assoc}
 use Rattle.mud_base.specs.Addresses.{addr_cmp}
 use Rattle.mud_base.specs.declared.addr.Addr.{Addr}
 use Rattle.acl_model.specs.declared.binding.MemberKey.{MemberKey}

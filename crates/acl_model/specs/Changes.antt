@@ -4,8 +4,8 @@ use Rattle.std.specs.List.{list_any}
 use Rattle.std.specs.Option.{option_map}
 use Rattle.mud_base.specs.Addresses.{same_addr}
 use Rattle.mud_base.specs.declared.addr.Addr.{Addr}
-use Rattle.sorted_rows.specs.Sortable.{set_rows, without_row}
-use Rattle.sorted_rows.specs.Changes.{are_apart}
+use Rattle.base_rows.specs.Sortable.{set_rows, without_row}
+use Rattle.base_rows.specs.Changes.{are_apart}
 use Rattle.acl_model.specs.declared.binding.MemberKey.{MemberKey}
 use Rattle.acl_model.specs.declared.binding.Binding.{Binding}
 use Rattle.acl_model.specs.Keys.{same_key}

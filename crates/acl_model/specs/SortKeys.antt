@@ -2,7 +2,7 @@
 -- The length stands before the text, so that what is kept under one text is not under a longer one that begins with it.
 use Rattle.std.specs.Prelude.{ℕ, List, ◌∷◌, ◌++◌, length}
 use Rattle.mud_base.specs.declared.addr.Addr.{Addr}
-use Rattle.sorted_rows.specs.Addresses.{addr_sort_key}
+use Rattle.base_rows.specs.Addresses.{addr_sort_key}
 use Rattle.acl_model.specs.declared.binding.MemberKey.{MemberKey}
 use Rattle.acl_model.specs.declared.binding.MemberKey.TheVariants as of_key
 use Rattle.acl_model.specs.declared.binding.Binding.{Binding}

@@ -1,15 +1,15 @@
 //! The order in which bindings are kept: by the kind of the key, the length of its text, the text,
 //! and the address.
 ghost use Rattle.std.specs.Prelude.{◌≡◌, ◌++◌};
-ghost use Rattle.sorted_rows.specs.Sortable.{sort_key_cmp, same_sort_key};
+ghost use Rattle.base_rows.specs.Sortable.{sort_key_cmp, same_sort_key};
 ghost use Rattle.acl_model.specs.declared.binding.Binding.{Binding as BindingValue};
 ghost use Rattle.acl_model.specs.Changes.{same_spot};
-ghost use Rattle.sorted_rows.specs.Addresses.{addr_sort_key};
+ghost use Rattle.base_rows.specs.Addresses.{addr_sort_key};
 ghost use Rattle.acl_model.specs.SortKeys.{key_kind, key_text, text_sort_key, binding_sort_key};
 
 use crate::binding::{Binding, MemberKey};
+use base_rows::{KeyOf, PrefixOf, Sortable};
 use mud_base::{Addr, addr_order, octets_order};
-use sorted_rows::{KeyOf, PrefixOf, Sortable};
 use std::cmp::Ordering;
 
 /// A kind of key and its text, lent. Of bindings it is the prefix of those with such a key.
@@ -112,7 +112,7 @@ impl Sortable for Binding {
 
 impl KeyOf<Binding> for BoundKey<'_> {
     ghost use Rattle.std.specs.Prelude.{◌++◌};
-    ghost use Rattle.sorted_rows.specs.Addresses.{addr_sort_key};
+    ghost use Rattle.base_rows.specs.Addresses.{addr_sort_key};
     ghost use Rattle.acl_model.specs.SortKeys.{text_sort_key};
 
     ghost sort_key = { λ own. text_sort_key own.key.kind own.key.text.now ++ addr_sort_key own.addr };

@@ -2,9 +2,9 @@
 use Rattle.std.proofs.Common.{◌≡◌, ℕ, Bool, true, false, cond, List, [], Option, Some, None, refl, ap, subst, ◌∙◌}
 use Rattle.std.specs.List.{list_any}
 use Rattle.std.specs.Option.{option_map}
-use Rattle.sorted_rows.specs.Sortable.{row_at, SortKeysAscend}
-use Rattle.sorted_rows.proofs.SortableLaws.{same_sort_key_exact, ascend-set_rows}
-use Rattle.sorted_rows.proofs.RowSets.{row_at-set_alike}
+use Rattle.base_rows.specs.Sortable.{row_at, SortKeysAscend}
+use Rattle.base_rows.proofs.SortableLaws.{same_sort_key_exact, ascend-set_rows}
+use Rattle.base_rows.proofs.RowSets.{row_at-set_alike}
 use Rattle.mud_base.specs.declared.addr.Addr.{Addr}
 use Rattle.mud_base.specs.declared.packet.Direction.{Direction}
 use Rattle.acl_model.specs.declared.binding.Binding.{Binding}

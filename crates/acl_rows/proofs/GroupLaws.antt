@@ -7,15 +7,15 @@ use Rattle.std.specs.declared.cmp.Ordering.TheVariants.{Less}
 use Rattle.std.proofs.lemmas.List.Elements.{filter-append}
 use Rattle.mud_base.specs.declared.addr.Addr.{Addr}
 use Rattle.mud_base.specs.declared.packet.Direction.{Direction}
-use Rattle.sorted_rows.specs.Sortable.{sort_key_cmp, same_sort_key, row_at, set_row, SortKeysAbove, SortKeysAscend, ComeBefore, RowsAndRoom}
-use Rattle.sorted_rows.specs.Addresses.{addr_sort_key}
-use Rattle.sorted_rows.proofs.AddressLaws.{addr_sort_key_exact, same_addr-sort_key}
-use Rattle.sorted_rows.proofs.SortableLaws.{same_sort_key-cmp, same_sort_key_exact, same_sort_key_itself, row_at-set_row, row_at_row, ascend-set_row}
-use Rattle.sorted_rows.proofs.RowLaws.{all-set_row, ascend-filter}
-use Rattle.sorted_rows.proofs.IndexLaws.{above-append, ascend-append}
-use Rattle.sorted_rows.proofs.ChangeLaws.{differ_turned}
-use Rattle.sorted_rows.proofs.Lists.{filter_few}
-use Rattle.sorted_rows.proofs.EditRunLaws.{empty_out}
+use Rattle.base_rows.specs.Sortable.{sort_key_cmp, same_sort_key, row_at, set_row, SortKeysAbove, SortKeysAscend, ComeBefore, RowsAndRoom}
+use Rattle.base_rows.specs.Addresses.{addr_sort_key}
+use Rattle.base_rows.proofs.AddressLaws.{addr_sort_key_exact, same_addr-sort_key}
+use Rattle.base_rows.proofs.SortableLaws.{same_sort_key-cmp, same_sort_key_exact, same_sort_key_itself, row_at-set_row, row_at_row, ascend-set_row}
+use Rattle.base_rows.proofs.RowLaws.{all-set_row, ascend-filter}
+use Rattle.base_rows.proofs.IndexLaws.{above-append, ascend-append}
+use Rattle.base_rows.proofs.ChangeLaws.{differ_turned}
+use Rattle.base_rows.proofs.Lists.{filter_few}
+use Rattle.base_rows.proofs.EditRunLaws.{empty_out}
 use Rattle.acl_rows.specs.declared.row.Owner.{Owner}
 use Rattle.acl_rows.specs.declared.row.Row.{Row}
 use Rattle.acl_rows.specs.SortKeys.{row_sort_key}

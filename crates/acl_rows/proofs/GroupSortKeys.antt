@@ -13,10 +13,10 @@ use Rattle.mud_base.specs.declared.addr.Addr.{Addr}
 use Rattle.mud_base.specs.declared.addr.Addr.TheVariants.{V4, V6}
 use Rattle.mud_base.specs.declared.packet.Direction.{Direction}
 use Rattle.mud_base.specs.contracts.addr.AddrOrd.TheImpl as addr_ord
-use Rattle.sorted_rows.specs.Sortable.{sort_key_cmp, same_sort_key, is_under, rows_under}
-use Rattle.sorted_rows.specs.Addresses.{addr_sort_key}
-use Rattle.sorted_rows.proofs.SortableLaws.{sort_key_cmp_itself, sort_key_cmp_turned, same_sort_key-cmp}
-use Rattle.sorted_rows.proofs.AddressLaws.{addr_cmp-sort_key, same_addr-sort_key}
+use Rattle.base_rows.specs.Sortable.{sort_key_cmp, same_sort_key, is_under, rows_under}
+use Rattle.base_rows.specs.Addresses.{addr_sort_key}
+use Rattle.base_rows.proofs.SortableLaws.{sort_key_cmp_itself, sort_key_cmp_turned, same_sort_key-cmp}
+use Rattle.base_rows.proofs.AddressLaws.{addr_cmp-sort_key, same_addr-sort_key}
 use Rattle.acl_rows.specs.declared.row.Owner.{Owner}
 use Rattle.acl_rows.specs.declared.row.Row.{Row}
 use Rattle.acl_rows.specs.SortKeys.{owner_class, owner_number, side_number, owner_sort_key, side_sort_key, peer_sort_key, sort_key_at, row_sort_key}

@@ -5,10 +5,10 @@ use Rattle.std.specs.declared.cmp.Ordering.{Ordering}
 use Rattle.mud_base.specs.Addresses.{addr_cmp}
 use Rattle.mud_base.specs.declared.addr.Addr.{Addr}
 use Rattle.mud_base.specs.declared.packet.Direction.{Direction}
-use Rattle.sorted_rows.specs.Sortable.{sort_key_cmp, prefix_cmp}
-use Rattle.sorted_rows.specs.Addresses.{addr_sort_key}
-use Rattle.sorted_rows.proofs.AddressLaws.{addr_cmp-sort_key, length-addr_sort_key}
-use Rattle.sorted_rows.proofs.Orders.{then_equal, sort_key_cmp-front, prefix_cmp-front, one_number}
+use Rattle.base_rows.specs.Sortable.{sort_key_cmp, prefix_cmp}
+use Rattle.base_rows.specs.Addresses.{addr_sort_key}
+use Rattle.base_rows.proofs.AddressLaws.{addr_cmp-sort_key, length-addr_sort_key}
+use Rattle.base_rows.proofs.Orders.{then_equal, sort_key_cmp-front, prefix_cmp-front, one_number}
 use Rattle.acl_rows.specs.declared.row.Owner.{Owner}
 use Rattle.acl_rows.specs.SortKeys.{side_number, owner_sort_key, side_sort_key, peer_sort_key, sort_key_at}
 

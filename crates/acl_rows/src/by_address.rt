@@ -3,16 +3,16 @@ ghost use Rattle.std.specs.Prelude.{◌≡◌, ◌+◌, ◌^◌, ◌<◌, ◌≤
 ghost use Rattle.std.specs.List.{AllByRecursion};
 ghost use Rattle.mud_base.specs.Addresses.{same_addr};
 ghost use Rattle.mud_base.specs.declared.addr.Addr.{Addr as AddrValue};
-ghost use Rattle.sorted_rows.specs.Sortable.{index_in, SortKeysAscend};
-ghost use Rattle.sorted_rows.specs.Edits.{edited};
+ghost use Rattle.base_rows.specs.Sortable.{index_in, SortKeysAscend};
+ghost use Rattle.base_rows.specs.Edits.{edited};
 ghost use Rattle.acl_rows.specs.SortKeys.{row_sort_key, named_sort_key};
 ghost use Rattle.acl_rows.specs.View.{is_at};
 ghost use Rattle.acl_rows.specs.ByAddress.{room_at, index_beside, until_of_row, IsRowAt, IsEditAt, IsRoomier, AreGroups};
 
 use crate::groups::GroupedRows;
 use crate::row::{FoundRow, Owner, Row, RowKey};
+use base_rows::{Edit, SortedRows, Steps};
 use mud_base::{Addr, Direction, Memory};
-use sorted_rows::{Edit, SortedRows, Steps};
 use std::alloc::Global;
 use std::collections::BTreeMap;
 use std::marker::Model;

@@ -2,16 +2,16 @@
 //! by its three counted calls alone.
 ghost use Rattle.std.specs.Prelude.{◌≡◌, ℕ, ◌+◌, ◌^◌, ◌<◌, ◌≤◌, min, length, take, drop, slice_get, [], Some, option_map, OnOk};
 ghost use Rattle.mud_base.specs.declared.packet.Direction.{Direction as DirectionValue};
-ghost use Rattle.sorted_rows.specs.Sortable.{index_in, SortKeysAscend};
-ghost use Rattle.sorted_rows.specs.Edits.{AreFound};
+ghost use Rattle.base_rows.specs.Sortable.{index_in, SortKeysAscend};
+ghost use Rattle.base_rows.specs.Edits.{AreFound};
 ghost use Rattle.acl_rows.specs.declared.row.Owner.{Owner as OwnerValue};
 ghost use Rattle.acl_rows.specs.SortKeys.{row_sort_key, named_sort_key};
 ghost use Rattle.acl_rows.specs.ByAddress.{until_of_row, grouped};
 ghost use Rattle.acl_rows.specs.Groups.{part_at, group_sort_key, AreGrouped, HaveSameRows, AreRoomier, IsEdited};
 
 use crate::row::{FoundRow, Row, RowKey};
+use base_rows::{Edit, SortedRows, Steps, make_edits_from};
 use mud_base::{Addr, End, Memory};
-use sorted_rows::{Edit, SortedRows, Steps, make_edits_from};
 use std::alloc::Global;
 use std::collections::BTreeMap;
 use std::marker::Model;

@@ -6,20 +6,20 @@ use Rattle.std.proofs.lemmas.List.{append-nil}
 use Rattle.std.proofs.lemmas.List.Elements.{All-from_recursion}
 use Rattle.std.proofs.lemmas.Option.{same_Some}
 use Rattle.mud_base.specs.declared.prefix.Prefix.{Prefix}
-use Rattle.sorted_rows.specs.Sortable.{row_at}
-use Rattle.sorted_rows.specs.Changes.{RowChange, changed}
-use Rattle.sorted_rows.proofs.SortableLaws.{sort_key_cmp_itself}
-use Rattle.sorted_rows.proofs.Lists.{all-append}
+use Rattle.base_rows.specs.Sortable.{row_at}
+use Rattle.base_rows.specs.Changes.{RowChange, changed}
+use Rattle.base_rows.proofs.SortableLaws.{sort_key_cmp_itself}
+use Rattle.base_rows.proofs.Lists.{all-append}
 use Rattle.mud_world.specs.declared.item.Item.{Item}
 use Rattle.mud_world.specs.declared.item.Put.{Put}
 use Rattle.mud_world.specs.Items.{sort_key_of, put_one, put_all, sort_key_of_put, is_apart, IsOrdered, IsDifference, ArePutsOf, AreOfLowerKinds, AreItemsOf, puts_of}
 use Rattle.mud_world.proofs.ItemLaws.{touched, puts_among, ordered-append, puts_kept, puts_of_kind, ordered-items}
-use Rattle.mud_tables.specs.declared.bind.ClassRow.{ClassRow}
-use Rattle.mud_tables.specs.declared.bind.NameRow.{NameRow}
-use Rattle.mud_tables.specs.Binds.{Binds, class_key, name_of, IsSoundBinds}
-use Rattle.mud_tables.specs.BindItems.{class_item, class_items, locals_item, locals_items, name_item, name_items}
-use Rattle.mud_tables.specs.TakenItems.{all_taken, no_binds, bind_items, with_bind_item}
-use Rattle.mud_tables.proofs.TakenLaws.{binds_again}
+use Rattle.table_model.specs.declared.bind.ClassRow.{ClassRow}
+use Rattle.table_model.specs.declared.bind.NameRow.{NameRow}
+use Rattle.table_model.specs.Binds.{Binds, class_key, name_of, IsSoundBinds}
+use Rattle.table_model.specs.BindItems.{class_item, class_items, locals_item, locals_items, name_item, name_items}
+use Rattle.table_model.specs.TakenItems.{all_taken, no_binds, bind_items, with_bind_item}
+use Rattle.table_model.proofs.TakenLaws.{binds_again}
 
 -- ---- Differences
 

@@ -4,7 +4,7 @@ use Rattle.std.specs.Prelude.{IsOkAnd, All}
 use Rattle.std.specs.List.{AllByRecursion}
 use Rattle.std.proofs.lemmas.List.Elements.{All-from_recursion}
 use Rattle.mud_base.specs.declared.addr.Addr.{Addr}
-use Rattle.sorted_rows.specs.Changes.{RowChange, changed, is_plain}
+use Rattle.base_rows.specs.Changes.{RowChange, changed, is_plain}
 use Rattle.mud_world.specs.declared.item.Put.{Put}
 use Rattle.mud_world.specs.declared.item.Put.TheVariants.{Set, Gone}
 use Rattle.mud_world.specs.Items.{put_all, IsDifference, set_put, gone_put, puts_of}
@@ -12,24 +12,24 @@ use Rattle.mud_world.proofs.ItemLaws.{puts_of_kind}
 use Rattle.item_codec.specs.declared.word.Word.{Word}
 use Rattle.item_codec.specs.declared.word.Word.TheVariants.{Same}
 use Rattle.acl_model.specs.Changes.{IsBindingChange}
-use Rattle.mud_tables.specs.declared.bind.Class.{Class}
-use Rattle.mud_tables.specs.declared.bind.ClassRow.{ClassRow}
-use Rattle.mud_tables.specs.Fits.{FitsClass}
-use Rattle.mud_tables.specs.Binds.{Binds, key_of_class, class_key, class_at, class_row, has_addr, with_addr, without_addr, is_class, IsKeptClass, IsSoundClasses, IsSoundBinds}
-use Rattle.mud_tables.specs.BindCommands.{ClassesAfter, ClassStep, bind_step, unbind_step, is_change, with_classes}
-use Rattle.mud_tables.specs.BindRowChanges.{one_row, class_left, bind_cases_change, bind_change, unbind_cases_change, unbind_change}
-use Rattle.mud_tables.specs.BindItems.{class_item}
-use Rattle.mud_tables.specs.ItemFields.{IsAddr}
-use Rattle.mud_tables.specs.TakenItems.{bind_items}
-use Rattle.mud_tables.specs.Tables.{Tables, binds_of, with_binds}
-use Rattle.mud_tables.specs.Bindings.{class_bindings, bindings_of}
-use Rattle.mud_tables.specs.BindingChanges.{gone_of, come_of}
+use Rattle.table_model.specs.declared.bind.Class.{Class}
+use Rattle.table_model.specs.declared.bind.ClassRow.{ClassRow}
+use Rattle.table_model.specs.Fits.{FitsClass}
+use Rattle.table_model.specs.Binds.{Binds, key_of_class, class_key, class_at, class_row, has_addr, with_addr, without_addr, is_class, IsKeptClass, IsSoundClasses, IsSoundBinds}
+use Rattle.table_model.specs.BindCommands.{ClassesAfter, ClassStep, bind_step, unbind_step, is_change, with_classes}
+use Rattle.table_model.specs.BindRowChanges.{one_row, class_left, bind_cases_change, bind_change, unbind_cases_change, unbind_change}
+use Rattle.table_model.specs.BindItems.{class_item}
+use Rattle.table_model.specs.ItemFields.{IsAddr}
+use Rattle.table_model.specs.TakenItems.{bind_items}
+use Rattle.table_model.specs.Tables.{Tables, binds_of, with_binds}
+use Rattle.table_model.specs.Bindings.{class_bindings, bindings_of}
+use Rattle.table_model.specs.BindingChanges.{gone_of, come_of}
 use Rattle.table_laws.proofs.BookChanges.{class_book_change}
 use Rattle.table_laws.proofs.BindRows.{Makes, bind_makes, unbind_makes}
 use Rattle.table_laws.proofs.BindChanges.{TellsClasses, bind_tells, unbind_tells}
 use Rattle.table_laws.proofs.SoundClasses.{OfClasses, sound-bind_step}
 use Rattle.table_laws.proofs.BindLaws.{classes_told}
-use Rattle.mud_tables.specs.declared.bind_fault.BindFault.{BindFault}
+use Rattle.table_model.specs.declared.bind_fault.BindFault.{BindFault}
 use Rattle.bind_book.specs.Book.{Book, IsRefusal}
 use Rattle.bind_book.specs.Plans.{Plan, IsPlanned, changed_binds, HasRoomFor, same_plan, class_plan}
 use Rattle.bind_book.proofs.BookItems.{one_difference, binds_told, class_of_kind, classes_reach}

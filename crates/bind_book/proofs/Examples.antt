@@ -6,16 +6,16 @@ use Rattle.item_codec.specs.declared.word.Word.TheVariants.{New, Bound, Unbound}
 use Rattle.acl_model.specs.declared.binding.MemberKey.TheVariants as of_key
 use Rattle.acl_model.specs.Keys.{same_key}
 use Rattle.acl_model.specs.Changes.{same_spot, same_binding, has_binding, those_not_in}
-use Rattle.sorted_rows.specs.Changes.{changed, sort_keys_of, old_rows}
-use Rattle.mud_tables.specs.declared.bind.Class.TheVariants.{Uri}
-use Rattle.mud_tables.specs.declared.bind.ClassRow.{ClassRow}
-use Rattle.mud_tables.specs.declared.bind.NameRow.{NameRow}
-use Rattle.mud_tables.specs.Expiries.{for_ever}
-use Rattle.mud_tables.specs.BindItems.{class_item}
-use Rattle.mud_tables.specs.BindRowChanges.{bind_cases_change, bind_change, class_left, unbind_cases_change, unbind_change, new_pair_change, kept_pair_change, observe_cases_change, observe_row_change, observe_change}
-use Rattle.mud_tables.specs.Bindings.{binding, member_key, class_binding, class_bindings, name_binding, name_bindings}
-use Rattle.mud_tables.specs.BindingChanges.{gone_of, come_of}
-use Rattle.mud_tables.proofs.Literals.{binds_compute, dns_addr, test_addr, dns_class, test_name}
+use Rattle.base_rows.specs.Changes.{changed, sort_keys_of, old_rows}
+use Rattle.table_model.specs.declared.bind.Class.TheVariants.{Uri}
+use Rattle.table_model.specs.declared.bind.ClassRow.{ClassRow}
+use Rattle.table_model.specs.declared.bind.NameRow.{NameRow}
+use Rattle.table_model.specs.Expiries.{for_ever}
+use Rattle.table_model.specs.BindItems.{class_item}
+use Rattle.table_model.specs.BindRowChanges.{bind_cases_change, bind_change, class_left, unbind_cases_change, unbind_change, new_pair_change, kept_pair_change, observe_cases_change, observe_row_change, observe_change}
+use Rattle.table_model.specs.Bindings.{binding, member_key, class_binding, class_bindings, name_binding, name_bindings}
+use Rattle.table_model.specs.BindingChanges.{gone_of, come_of}
+use Rattle.table_model.proofs.Literals.{binds_compute, dns_addr, test_addr, dns_class, test_name}
 use Rattle.bind_book.specs.Plans.{class_plan, name_plan, locals_put}
 
 unfoldable plans_compute : Unit {0}

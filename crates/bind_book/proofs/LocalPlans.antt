@@ -6,14 +6,14 @@ use Rattle.mud_base.specs.declared.prefix.Prefix.{Prefix}
 use Rattle.mud_world.specs.Items.{kind_of_put, put_one}
 use Rattle.item_codec.specs.declared.word.Word.TheVariants.{Same, Set}
 use Rattle.acl_model.specs.Changes.{IsBindingChange}
-use Rattle.mud_tables.specs.declared.bind_fault.BindFault.{BindFault}
-use Rattle.mud_tables.specs.Fits.{FitsLocals}
-use Rattle.mud_tables.specs.Binds.{Binds, IsKeptNetwork, IsSoundLocals, IsSoundBinds}
-use Rattle.mud_tables.specs.BindCommands.{LocalsAfter, LocalStep, locals_step, is_change, with_locals}
-use Rattle.mud_tables.specs.BindItems.{class_items, locals_item, locals_items, name_items}
-use Rattle.mud_tables.specs.TakenItems.{bind_items}
-use Rattle.mud_tables.specs.Tables.{Tables, binds_of, with_binds}
-use Rattle.mud_tables.specs.Bindings.{bindings_of}
+use Rattle.table_model.specs.declared.bind_fault.BindFault.{BindFault}
+use Rattle.table_model.specs.Fits.{FitsLocals}
+use Rattle.table_model.specs.Binds.{Binds, IsKeptNetwork, IsSoundLocals, IsSoundBinds}
+use Rattle.table_model.specs.BindCommands.{LocalsAfter, LocalStep, locals_step, is_change, with_locals}
+use Rattle.table_model.specs.BindItems.{class_items, locals_item, locals_items, name_items}
+use Rattle.table_model.specs.TakenItems.{bind_items}
+use Rattle.table_model.specs.Tables.{Tables, binds_of, with_binds}
+use Rattle.table_model.specs.Bindings.{bindings_of}
 use Rattle.table_laws.proofs.BindChanges.{TellsLocals, locals_tell}
 use Rattle.table_laws.proofs.SoundLocals.{OfLocals, sound-locals_step}
 use Rattle.table_laws.proofs.BindLaws.{locals_told}
@@ -21,7 +21,7 @@ use Rattle.bind_book.specs.Book.{Book, IsRefusal}
 use Rattle.bind_book.specs.Plans.{Plan, IsSetLocals, IsPlanned, changed_binds, HasRoomFor, same_plan, locals_put, locals_plan}
 use Rattle.bind_book.proofs.BookItems.{one_difference, binds_told, locals_reach}
 use Rattle.bind_book.proofs.Plans.{empty_as_told, no_binding_change, same_planned}
-use Rattle.mud_tables.proofs.TakenLaws.{fitting_networks, few_fit}
+use Rattle.table_model.proofs.TakenLaws.{fitting_networks, few_fit}
 
 -- ---- The put
 

@@ -6,8 +6,8 @@ use Rattle.std.proofs.lemmas.List.{append_cancel_left}
 use Rattle.std.proofs.lemmas.List.Elements.{All-from_recursion}
 use Rattle.std.proofs.lemmas.Option.{none-some}
 use Rattle.mud_base.specs.declared.addr.Addr.{Addr}
-use Rattle.sorted_rows.specs.Sortable.{SortKeysAscend, row_at}
-use Rattle.sorted_rows.specs.Changes.{RowChange, changed, is_plain}
+use Rattle.base_rows.specs.Sortable.{SortKeysAscend, row_at}
+use Rattle.base_rows.specs.Changes.{RowChange, changed, is_plain}
 use Rattle.mud_world.specs.declared.item.Item.{Item}
 use Rattle.mud_world.specs.declared.item.Put.{Put}
 use Rattle.mud_world.specs.declared.item.Put.TheVariants.{Set, Gone}
@@ -15,20 +15,20 @@ use Rattle.mud_world.specs.Items.{sort_key_of, sort_key_of_put, put_one, put_all
 use Rattle.mud_world.proofs.ItemLaws.{same_put, puts_of_kind, puts_apart, row_at-items, ordered-items}
 use Rattle.item_codec.specs.declared.word.Word.TheVariants.{Same}
 use Rattle.acl_model.specs.Changes.{IsBindingChange}
-use Rattle.mud_tables.specs.declared.bind.NameRow.{NameRow}
-use Rattle.mud_tables.specs.declared.bind_fault.BindFault.{BindFault}
-use Rattle.mud_tables.specs.Limits.{most_names}
-use Rattle.mud_tables.specs.Fits.{FitsName}
-use Rattle.mud_tables.specs.Expiries.{is_live, expiry_of, with_expiry, live_rows}
-use Rattle.mud_tables.specs.Binds.{Binds, name_of, name_at, name_row, has_live_row, is_name, IsKeptName, IsSoundNames, IsSoundBinds}
-use Rattle.mud_tables.specs.BindCommands.{NamesAfter, NameStep, is_change, addrs_of, least_dead, observe_step, with_names}
-use Rattle.mud_tables.specs.BindRowChanges.{no_rows, one_row, replacing_change, new_pair_change, kept_pair_change, observe_cases_change, observe_row_change, observe_change}
-use Rattle.mud_tables.specs.BindItems.{class_items, locals_items, name_item, name_items}
-use Rattle.mud_tables.specs.ItemFields.{IsAddr}
-use Rattle.mud_tables.specs.TakenItems.{bind_items}
-use Rattle.mud_tables.specs.Tables.{Tables, binds_of, with_binds}
-use Rattle.mud_tables.specs.Bindings.{name_bindings, bindings_of}
-use Rattle.mud_tables.specs.BindingChanges.{gone_of, come_of}
+use Rattle.table_model.specs.declared.bind.NameRow.{NameRow}
+use Rattle.table_model.specs.declared.bind_fault.BindFault.{BindFault}
+use Rattle.table_model.specs.Limits.{most_names}
+use Rattle.table_model.specs.Fits.{FitsName}
+use Rattle.table_model.specs.Expiries.{is_live, expiry_of, with_expiry, live_rows}
+use Rattle.table_model.specs.Binds.{Binds, name_of, name_at, name_row, has_live_row, is_name, IsKeptName, IsSoundNames, IsSoundBinds}
+use Rattle.table_model.specs.BindCommands.{NamesAfter, NameStep, is_change, addrs_of, least_dead, observe_step, with_names}
+use Rattle.table_model.specs.BindRowChanges.{no_rows, one_row, replacing_change, new_pair_change, kept_pair_change, observe_cases_change, observe_row_change, observe_change}
+use Rattle.table_model.specs.BindItems.{class_items, locals_items, name_item, name_items}
+use Rattle.table_model.specs.ItemFields.{IsAddr}
+use Rattle.table_model.specs.TakenItems.{bind_items}
+use Rattle.table_model.specs.Tables.{Tables, binds_of, with_binds}
+use Rattle.table_model.specs.Bindings.{name_bindings, bindings_of}
+use Rattle.table_model.specs.BindingChanges.{gone_of, come_of}
 use Rattle.table_laws.proofs.BookChanges.{name_book_change}
 use Rattle.table_laws.proofs.SoundRows.{found_there}
 use Rattle.table_laws.proofs.BindRows.{Makes, observe_makes}

@@ -2,19 +2,19 @@
 use Rattle.std.proofs.Common.{◌≡◌, ℕ, ◌<◌, Bool, true, false, not, ◌&&◌, List, [], ◌∷◌, Option, Some, None, Ok, Err, refl, sym, ap, subst, ◌∙◌, arith}
 use Rattle.std.specs.Prelude.{◌↔◌, IsOkAnd}
 use Rattle.std.specs.List.{AllByRecursion}
-use Rattle.sorted_rows.specs.Sortable.{SortKeysAscend, row_at}
-use Rattle.sorted_rows.specs.Changes.{RowChange, with_found, rows_at, changed, sort_keys_of, is_plain}
-use Rattle.sorted_rows.proofs.ChangeLaws.{new_rows}
+use Rattle.base_rows.specs.Sortable.{SortKeysAscend, row_at}
+use Rattle.base_rows.specs.Changes.{RowChange, with_found, rows_at, changed, sort_keys_of, is_plain}
+use Rattle.base_rows.proofs.ChangeLaws.{new_rows}
 use Rattle.mud_world.specs.declared.item.Put.{Put}
 use Rattle.mud_world.specs.Items.{IsDifference, ArePutsOf}
 use Rattle.acl_model.specs.declared.binding.Binding.{Binding}
 use Rattle.acl_model.specs.Changes.{has_binding, IsBindingChange}
-use Rattle.mud_tables.specs.Binds.{Binds, IsSoundBinds}
-use Rattle.mud_tables.specs.BindCommands.{BindsAfter, BindStep}
-use Rattle.mud_tables.specs.TakenItems.{bind_items}
-use Rattle.mud_tables.specs.Tables.{Tables, binds_of, with_binds}
-use Rattle.mud_tables.specs.Bindings.{bindings_of}
-use Rattle.mud_tables.proofs.RowSets.{all_at}
+use Rattle.table_model.specs.Binds.{Binds, IsSoundBinds}
+use Rattle.table_model.specs.BindCommands.{BindsAfter, BindStep}
+use Rattle.table_model.specs.TakenItems.{bind_items}
+use Rattle.table_model.specs.Tables.{Tables, binds_of, with_binds}
+use Rattle.table_model.specs.Bindings.{bindings_of}
+use Rattle.table_model.proofs.RowSets.{all_at}
 use Rattle.item_codec.specs.declared.word.Word.TheVariants.{Same}
 use Rattle.bind_book.specs.Book.{Book}
 use Rattle.bind_book.specs.Plans.{Plan, IsBindPut, IsPlanned, changed_binds, HasRoomFor, same_plan}

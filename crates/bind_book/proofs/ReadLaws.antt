@@ -1,7 +1,7 @@
 -- What is read of bodies, element after element, and which items are of no row.
 use Rattle.std.proofs.Common.{◌≡◌, ℕ, zero, suc, ◌+◌, ◌<◌, Bool, true, false, ◌&&◌, cond, List, [], ◌∷◌, ◌++◌, length, Option, Some, None, Result, Ok, Err, refl, sym, ap, subst, ◌∙◌, append_assoc, arith}
 use Rattle.std.specs.Prelude.{option_map, IfSome, ◌==◌, nat_lt, nat_le}
-use Rattle.mud_tables.specs.Limits.{most_locals}
+use Rattle.table_model.specs.Limits.{most_locals}
 use Rattle.std.specs.List.{list_all}
 use Rattle.std.specs.Result.{result_ok, is_err}
 use Rattle.std.proofs.lemmas.List.{append-nil}
@@ -11,10 +11,10 @@ use Rattle.item_codec.specs.Reading.{Gives, list_at, end_at}
 use Rattle.item_codec.specs.Records.{Reading, ◌>>=◌, version_in, end_in, elements_in, each_in, list_body_in}
 use Rattle.mud_base.specs.declared.addr.Addr.{Addr}
 use Rattle.mud_base.specs.declared.prefix.Prefix.{Prefix}
-use Rattle.mud_tables.specs.declared.bind.Class.{Class}
-use Rattle.mud_tables.specs.ItemFields.{address_in, network_in}
-use Rattle.mud_tables.specs.Binds.{class_row, is_class, is_sound_class, are_prefixes, is_prefix}
-use Rattle.mud_tables.specs.BindItems.{class_of_key, if_sound_class, class_in, are_locals, if_sound_locals, locals_in}
+use Rattle.table_model.specs.declared.bind.Class.{Class}
+use Rattle.table_model.specs.ItemFields.{address_in, network_in}
+use Rattle.table_model.specs.Binds.{class_row, is_class, is_sound_class, are_prefixes, is_prefix}
+use Rattle.table_model.specs.BindItems.{class_of_key, if_sound_class, class_in, are_locals, if_sound_locals, locals_in}
 use Rattle.bind_book.specs.Reading.{IsNoClass, count_in, behind}
 
 -- ---- A list in a body

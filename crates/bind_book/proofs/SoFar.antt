@@ -1,8 +1,8 @@
 -- What loops have made so far, with one element more.
 use Rattle.std.proofs.Common.{◌≡◌, ℕ, ◌+◌, ◌<◌, ◌≤◌, List, [], ◌∷◌, ◌++◌, length, map, take, get_or, sym, ap, ◌∙◌, append_assoc}
 use Rattle.std.proofs.lemmas.List.{take_all}
-pub use Rattle.mud_tables.proofs.RowSets.{take_one}
-use Rattle.mud_tables.proofs.RowSets.{map_push}
+pub use Rattle.table_model.proofs.RowSets.{take_one}
+use Rattle.table_model.proofs.RowSets.{map_push}
 pub use Rattle.table_laws.proofs.OldRows.{found_before}
 
 pub map-take : {A B : Type 0} (f : A → B) (xs : List A) (i : ℕ) (x : A) → i < length xs → x ≡ get_or xs i x → map f (take (i + 1) xs) ≡ map f (take i xs) ++ f x ∷ []

@@ -3,18 +3,18 @@ use Rattle.std.proofs.Common.{◌≡◌, ℕ, ◌<◌, ◌≤◌, Bool, true, fa
 use Rattle.std.specs.Prelude.{option_map, ◌==◌, nat_lt}
 use Rattle.std.proofs.lemmas.Bool.{eqb-true, lt-ltb, le-ltb}
 use Rattle.mud_base.specs.declared.prefix.Prefix.{Prefix}
-use Rattle.sorted_rows.specs.Sortable.{comes_last}
+use Rattle.base_rows.specs.Sortable.{comes_last}
 use Rattle.mud_world.specs.declared.item.Item.{Item}
 use Rattle.item_codec.specs.Spelling.{IsOctets}
 use Rattle.item_codec.specs.Records.{◌>>=◌}
-use Rattle.mud_tables.specs.declared.bind.ClassRow.{ClassRow}
-use Rattle.mud_tables.specs.declared.bind.NameRow.{NameRow}
-use Rattle.mud_tables.specs.Limits.{most_classes, most_names}
-use Rattle.mud_tables.specs.Binds.{Binds, class_key, name_of, IsSoundBinds}
-use Rattle.mud_tables.specs.BindItems.{class_in, with_class_item, locals_in, with_locals_item, name_in, with_name_item}
-use Rattle.mud_tables.specs.TakenItems.{is_empty, set_classes, set_locals, set_names, with_bind_item}
-use Rattle.mud_tables.proofs.RowSets.{left_of}
-use Rattle.mud_tables.proofs.TakenLaws.{bind_taken}
+use Rattle.table_model.specs.declared.bind.ClassRow.{ClassRow}
+use Rattle.table_model.specs.declared.bind.NameRow.{NameRow}
+use Rattle.table_model.specs.Limits.{most_classes, most_names}
+use Rattle.table_model.specs.Binds.{Binds, class_key, name_of, IsSoundBinds}
+use Rattle.table_model.specs.BindItems.{class_in, with_class_item, locals_in, with_locals_item, name_in, with_name_item}
+use Rattle.table_model.specs.TakenItems.{is_empty, set_classes, set_locals, set_names, with_bind_item}
+use Rattle.table_model.proofs.RowSets.{left_of}
+use Rattle.table_model.proofs.TakenLaws.{bind_taken}
 use Rattle.bind_book.specs.Reading.{IsTaken}
 
 -- ---- Rows behind others

@@ -1,8 +1,8 @@
 -- The book as contracts see it, and what a refusal says.
 use Rattle.std.specs.Prelude.{◌≡◌, ℕ, Err}
-use Rattle.mud_tables.specs.declared.bind_fault.BindFault.{BindFault}
-use Rattle.mud_tables.specs.declared.bind_fault.BindFault.TheVariants.{Memory}
-use Rattle.mud_tables.specs.Binds.{Binds}
+use Rattle.table_model.specs.declared.bind_fault.BindFault.{BindFault}
+use Rattle.table_model.specs.declared.bind_fault.BindFault.TheVariants.{Memory}
+use Rattle.table_model.specs.Binds.{Binds}
 use Rattle.std.specs.Prelude.{Result}
 
 -- the three lists, and for how many more classes and names there is room

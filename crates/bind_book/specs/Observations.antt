@@ -1,9 +1,9 @@
 -- What an observation of a name answers, and the change of names that it makes.
 use Rattle.std.specs.Prelude.{◌≡◌, true, MatchOption, IsOkAnd}
-use Rattle.sorted_rows.specs.Changes.{RowChange}
+use Rattle.base_rows.specs.Changes.{RowChange}
 use Rattle.item_codec.specs.declared.word.Word.TheVariants.{Same}
-use Rattle.mud_tables.specs.declared.bind.NameRow.{NameRow}
-use Rattle.mud_tables.specs.BindCommands.{NamesAfter, NameStep, is_change}
+use Rattle.table_model.specs.declared.bind.NameRow.{NameRow}
+use Rattle.table_model.specs.BindCommands.{NamesAfter, NameStep, is_change}
 use Rattle.bind_book.specs.declared.names.Observed.{Observed}
 
 -- the answer is that of the step, and the names are changed so: not at all where the step changes nothing

@@ -4,7 +4,7 @@ use Rattle.std.specs.Prelude.{◌≡◌, ℕ, ◌<◌, ◌≤◌, ◌↔◌, fal
 use Rattle.std.specs.List.{AllByRecursion}
 use Rattle.mud_base.specs.declared.addr.Addr.{Addr}
 use Rattle.mud_base.specs.declared.prefix.Prefix.{Prefix}
-use Rattle.sorted_rows.specs.Changes.{RowChange, changed}
+use Rattle.base_rows.specs.Changes.{RowChange, changed}
 use Rattle.mud_world.specs.declared.item.Put.{Put}
 use Rattle.mud_world.specs.declared.item.Put.TheVariants as which
 use Rattle.mud_world.specs.Items.{IsDifference, kind_of_put, puts_of}
@@ -12,17 +12,17 @@ use Rattle.item_codec.specs.declared.word.Word.{Word}
 use Rattle.item_codec.specs.declared.word.Word.TheVariants as outcome
 use Rattle.acl_model.specs.declared.binding.Binding.{Binding}
 use Rattle.acl_model.specs.Changes.{IsBindingChange}
-use Rattle.mud_tables.specs.declared.bind.Class.{Class}
-use Rattle.mud_tables.specs.declared.bind.ClassRow.{ClassRow}
-use Rattle.mud_tables.specs.declared.bind.NameRow.{NameRow}
-use Rattle.mud_tables.specs.Binds.{Binds, class_key, name_of, IsSoundBinds}
-use Rattle.mud_tables.specs.BindCommands.{BindsAfter, BindStep, bind_step, unbind_step, locals_step}
-use Rattle.mud_tables.specs.BindRowChanges.{bind_change, unbind_change}
-use Rattle.mud_tables.specs.BindItems.{class_item, locals_item, name_item}
-use Rattle.mud_tables.specs.TakenItems.{bind_items}
-use Rattle.mud_tables.specs.Tables.{Tables, binds_of, with_binds}
-use Rattle.mud_tables.specs.Bindings.{class_bindings, name_bindings, bindings_of}
-use Rattle.mud_tables.specs.BindingChanges.{gone_of, come_of}
+use Rattle.table_model.specs.declared.bind.Class.{Class}
+use Rattle.table_model.specs.declared.bind.ClassRow.{ClassRow}
+use Rattle.table_model.specs.declared.bind.NameRow.{NameRow}
+use Rattle.table_model.specs.Binds.{Binds, class_key, name_of, IsSoundBinds}
+use Rattle.table_model.specs.BindCommands.{BindsAfter, BindStep, bind_step, unbind_step, locals_step}
+use Rattle.table_model.specs.BindRowChanges.{bind_change, unbind_change}
+use Rattle.table_model.specs.BindItems.{class_item, locals_item, name_item}
+use Rattle.table_model.specs.TakenItems.{bind_items}
+use Rattle.table_model.specs.Tables.{Tables, binds_of, with_binds}
+use Rattle.table_model.specs.Bindings.{class_bindings, name_bindings, bindings_of}
+use Rattle.table_model.specs.BindingChanges.{gone_of, come_of}
 use Rattle.bind_book.specs.declared.change.BindRows.{BindRows}
 use Rattle.bind_book.specs.declared.change.BindRows.TheVariants.{Nothing, Classes, Locals, Names}
 use Rattle.bind_book.specs.Book.{Book}

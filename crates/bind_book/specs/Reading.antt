@@ -3,8 +3,8 @@ use Rattle.std.specs.Prelude.{◌≡◌, ℕ, Bool, true, false, List, ◌++◌,
 use Rattle.std.specs.Result.{result_ok}
 use Rattle.item_codec.specs.Reading.{list_at}
 use Rattle.item_codec.specs.Records.{Reading, ◌>>=◌, version_in}
-use Rattle.mud_tables.specs.Binds.{is_class}
-use Rattle.mud_tables.specs.BindItems.{class_of_key}
+use Rattle.table_model.specs.Binds.{is_class}
+use Rattle.table_model.specs.BindItems.{class_of_key}
 
 -- the key is of no class, or of one whose text has another form
 abbrev pub IsNoClass : List ℕ → Type 0

@@ -1,11 +1,11 @@
 //! The book: its listings, the plans of its commands, and what they make of it.
 ghost use Rattle.std.specs.Prelude.{◌≡◌, ◌==◌, ◌&&◌, ◌≤◌, ◌<◌, ◌^◌, length, All, false, IsTrue, IfOk, IfErr, OnErr};
-ghost use Rattle.mud_tables.specs.Fits.{FitsClass, FitsName};
-ghost use Rattle.mud_tables.specs.Binds.{is_class, is_name, IsSoundBinds, IsSoundClasses, IsSoundLocals, IsSoundNames};
-ghost use Rattle.mud_tables.specs.BindCommands.{bind_class_step, unbind_class_step, set_locals_step, observe_name_step};
-ghost use Rattle.mud_tables.specs.TakenItems.{no_binds, is_empty, set_classes, set_locals, set_names, with_bind_item};
+ghost use Rattle.table_model.specs.Fits.{FitsClass, FitsName};
+ghost use Rattle.table_model.specs.Binds.{is_class, is_name, IsSoundBinds, IsSoundClasses, IsSoundLocals, IsSoundNames};
+ghost use Rattle.table_model.specs.BindCommands.{bind_class_step, unbind_class_step, set_locals_step, observe_name_step};
+ghost use Rattle.table_model.specs.TakenItems.{no_binds, is_empty, set_classes, set_locals, set_names, with_bind_item};
 ghost use Rattle.std.specs.Option.{option_map};
-ghost use Rattle.mud_tables.specs.BindItems.{with_class_item, with_locals_item, with_name_item};
+ghost use Rattle.table_model.specs.BindItems.{with_class_item, with_locals_item, with_name_item};
 ghost use Rattle.bind_book.specs.Reading.{IsTaken};
 ghost use Rattle.bind_book.specs.Book.{IsRefusal};
 ghost use Rattle.bind_book.specs.Plans.{changed_binds, class_plan, name_plan, HasRoomFor, IsPlanOf};
@@ -17,14 +17,14 @@ use crate::laws::{addr_fits, moment_fits, octets_fit, prefixes_fit};
 use crate::locals::set_locals;
 use crate::names::{NameChange, Observed, observe};
 use crate::read::{class_in, locals_in, name_in};
+use base_rows::SortedRows;
 use item_codec::Word;
 use mud_base::{Addr, End, Listed, Memory, Moment, Prefix};
-use mud_tables::limits::{MOST_CLASSES, MOST_NAMES};
-use mud_tables::{BindFault, Class, ClassRow, NameRow};
 use mud_world::Item;
-use sorted_rows::SortedRows;
 use std::alloc::Global;
 use std::marker::Model;
+use table_model::limits::{MOST_CLASSES, MOST_NAMES};
+use table_model::{BindFault, Class, ClassRow, NameRow};
 
 /// The classes, the local networks and the names that are kept. Contracts see the three lists, and
 /// for how many more classes and names there is room without memory.
@@ -47,7 +47,7 @@ impl Drop for BindBook {
 }
 
 impl Model for BindBook {
-    ghost use Rattle.mud_tables.specs.Binds.{IsSoundBinds};
+    ghost use Rattle.table_model.specs.Binds.{IsSoundBinds};
     ghost use Rattle.bind_book.specs.Book.{Book};
 
     ghost Value = { Book };
@@ -59,7 +59,7 @@ impl Model for BindBook {
 
 impl BindBook {
     /// The book in which nothing is kept. It takes no memory.
-    #[tactic(auto, using(mud_tables::proofs::TakenLaws::sound_no_binds), unfolding(mud_tables::specs::TakenItems::no_binds))]
+    #[tactic(auto, using(table_model::proofs::TakenLaws::sound_no_binds), unfolding(table_model::specs::TakenItems::no_binds))]
     pub fn new(alloc: Global) -> BindBook
         ensures { result.binds ≡ no_binds }
     {
@@ -218,7 +218,7 @@ impl BindBook {
     /// Takes what an item keeps, where that may stand behind what the items taken so far keep, which
     /// were those before it in the keeper's order: true exactly there. Else, and without memory, the
     /// book is as before.
-    #[tactic(auto, unfolding(mud_tables::specs::TakenItems::with_bind_item))]
+    #[tactic(auto, unfolding(table_model::specs::TakenItems::with_bind_item))]
     pub fn take(&mut self, item: &Item) -> Result<bool, Memory>
         ensures taken { IfOk result (IsTaken (with_bind_item self.old.binds item.now) self.old.binds self.new.binds) }
         ensures refused { OnErr result (self.new.binds ≡ self.old.binds) }

@@ -3,16 +3,16 @@ ghost use Rattle.std.specs.Prelude.{◌≡◌, [], IfOk};
 
 use crate::items::{class_puts, locals_put, name_puts};
 use acl_model::binding::Binding;
+use base_rows::{Change, KeyOf, SortedRows};
 use item_codec::Word;
 use mud_base::{Bytes, End, Listed, Memory, Prefix};
-use mud_tables::{Class, ClassRow, NameKey, NameRow};
 use mud_world::Put;
-use sorted_rows::{Change, KeyOf, SortedRows};
 use std::alloc::Global;
 use std::cmp::Ordering;
 use std::marker::Model;
 use std::mem;
 use table_laws::changed_bindings;
+use table_model::{Class, ClassRow, NameKey, NameRow};
 
 /// A name, as the key of its row.
 #[derive(Drop, Debug)]
@@ -61,7 +61,7 @@ impl Model for BindChange {
 
 impl BindChange {
     ghost use Rattle.std.specs.Prelude.{All};
-    ghost use Rattle.mud_tables.specs.Fits.{FitsClass, FitsLocals, FitsName};
+    ghost use Rattle.table_model.specs.Fits.{FitsClass, FitsLocals, FitsName};
     ghost use Rattle.bind_book.specs.Plans.{same_plan, class_plan, locals_plan, name_plan};
 
     /// What was done, in one word.

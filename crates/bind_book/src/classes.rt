@@ -1,23 +1,23 @@
 //! The rows that the commands on classes change.
 ghost use Rattle.std.specs.Prelude.{◌≡◌, [], ◌∷◌, IfOk, IfErr};
-ghost use Rattle.mud_tables.specs.Binds.{class_row};
-ghost use Rattle.mud_tables.specs.BindCommands.{bind_step, unbind_step};
-ghost use Rattle.mud_tables.specs.BindRowChanges.{one_row, class_left};
+ghost use Rattle.table_model.specs.Binds.{class_row};
+ghost use Rattle.table_model.specs.BindCommands.{bind_step, unbind_step};
+ghost use Rattle.table_model.specs.BindRowChanges.{one_row, class_left};
 ghost use Rattle.bind_book.specs.Book.{IsRefusal};
 ghost use Rattle.bind_book.specs.Plans.{IsBindRows, IsUnbindRows};
 
+use base_rows::{Change, SortedRows};
 use mud_base::{Addr, Listed, Memory};
-use mud_tables::addrs::{has_addr, with_addr, without_addr};
-use mud_tables::limits::{MOST_CLASS_ADDRESSES, MOST_CLASSES};
-use mud_tables::{BindFault, Class, ClassRow};
-use sorted_rows::{Change, SortedRows};
 use std::alloc::Global;
+use table_model::addrs::{has_addr, with_addr, without_addr};
+use table_model::limits::{MOST_CLASS_ADDRESSES, MOST_CLASSES};
+use table_model::{BindFault, Class, ClassRow};
 
 /// A change of classes.
 pub type ClassChange = Change<Class, ClassRow>;
 
 /// The change by which a class gets these addresses.
-#[tactic(auto, unfolding(mud_tables::specs::Binds::class_row))]
+#[tactic(auto, unfolding(table_model::specs::Binds::class_row))]
 fn class_with(alloc: Global, class: &Class, addrs: Listed<Addr>) -> Result<ClassChange, Memory>
     ensures { IfOk result (λ change. change ≡ one_row (class_row class.now addrs)) }
 {
@@ -45,7 +45,7 @@ fn first_address(alloc: Global, class: &Class, addr: Addr) -> Result<ClassChange
 }
 
 /// The change by which a class gets an address; None where it has it already.
-#[tactic(auto, unfolding(mud_tables::specs::BindCommands::bind_step, mud_tables::specs::BindCommands::bind_cases, mud_tables::specs::BindRowChanges::bind_change, mud_tables::specs::BindRowChanges::bind_cases_change, mud_tables::specs::Binds::class_at))]
+#[tactic(auto, unfolding(table_model::specs::BindCommands::bind_step, table_model::specs::BindCommands::bind_cases, table_model::specs::BindRowChanges::bind_change, table_model::specs::BindRowChanges::bind_cases_change, table_model::specs::Binds::class_at))]
 pub(crate) fn bind_rows(
     alloc: Global,
     class: &Class,
@@ -73,7 +73,7 @@ pub(crate) fn bind_rows(
 }
 
 /// The change that leaves a class these addresses, or takes it away where there are none.
-#[tactic(auto, unfolding(mud_tables::specs::BindRowChanges::class_left))]
+#[tactic(auto, unfolding(table_model::specs::BindRowChanges::class_left))]
 fn left_with(alloc: Global, class: &Class, addrs: Listed<Addr>) -> Result<ClassChange, Memory>
     ensures { IfOk result (λ change. change ≡ class_left class.now addrs) }
 {
@@ -85,7 +85,7 @@ fn left_with(alloc: Global, class: &Class, addrs: Listed<Addr>) -> Result<ClassC
 }
 
 /// The change by which an address leaves a class. A class with no address left goes.
-#[tactic(auto, unfolding(mud_tables::specs::BindCommands::unbind_step, mud_tables::specs::BindCommands::unbind_cases, mud_tables::specs::BindRowChanges::unbind_change, mud_tables::specs::BindRowChanges::unbind_cases_change, mud_tables::specs::Binds::class_at))]
+#[tactic(auto, unfolding(table_model::specs::BindCommands::unbind_step, table_model::specs::BindCommands::unbind_cases, table_model::specs::BindRowChanges::unbind_change, table_model::specs::BindRowChanges::unbind_cases_change, table_model::specs::Binds::class_at))]
 pub(crate) fn unbind_rows(
     alloc: Global,
     class: &Class,

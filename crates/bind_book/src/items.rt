@@ -1,22 +1,22 @@
 //! The items in which the lists are kept, and the puts of a change of them. A body has a version and
 //! one list.
 ghost use Rattle.std.specs.Prelude.{◌≡◌, [], ◌∷◌, ◌++◌, ◌<◌, ◌^◌, IfOk, All, option_map};
-ghost use Rattle.sorted_rows.specs.Changes.{with_found};
+ghost use Rattle.base_rows.specs.Changes.{with_found};
 ghost use Rattle.mud_world.specs.Items.{gone_put, puts_of};
 ghost use Rattle.item_codec.specs.Spelling.{version, list};
-ghost use Rattle.mud_tables.specs.Fits.{FitsClass, FitsLocals, FitsName};
-ghost use Rattle.mud_tables.specs.Binds.{key_of_class};
+ghost use Rattle.table_model.specs.Fits.{FitsClass, FitsLocals, FitsName};
+ghost use Rattle.table_model.specs.Binds.{key_of_class};
 ghost use Rattle.bind_book.specs.Plans.{locals_put};
-ghost use Rattle.mud_tables.specs.BindItems.{class_item, locals_item, name_item};
+ghost use Rattle.table_model.specs.BindItems.{class_item, locals_item, name_item};
 
 use crate::change::KeptName;
+use base_rows::Change;
 use item_codec::FieldWriter;
 use mud_base::{Bytes, Listed, Memory, Prefix};
-use mud_tables::fields::{write_address, write_expiring, write_network};
-use mud_tables::{Class, ClassRow, NameRow};
 use mud_world::{Item, Put};
-use sorted_rows::Change;
 use std::alloc::Global;
+use table_model::fields::{write_address, write_expiring, write_network};
+use table_model::{Class, ClassRow, NameRow};
 
 /// The kind of the items of classes.
 pub(crate) const CLASS_KIND: u8 = 3;
@@ -37,7 +37,7 @@ pub(crate) const BY_URI: u8 = 1;
 pub(crate) const BY_URL: u8 = 2;
 
 /// The octets by which a class is kept.
-#[tactic(auto, unfolding(mud_tables::specs::Binds::key_of_class))]
+#[tactic(auto, unfolding(table_model::specs::Binds::key_of_class))]
 fn class_key(alloc: Global, class: &Class) -> Result<Bytes, Memory>
     ensures { IfOk result (λ key. key ≡ key_of_class class.now) }
 {

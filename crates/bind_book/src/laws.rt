@@ -2,9 +2,9 @@
 ghost use Rattle.std.specs.Prelude.{◌≡◌, ◌≤◌, IsOkAnd};
 ghost use Rattle.std.specs.List.{AllByRecursion};
 ghost use Rattle.item_codec.specs.Spelling.{IsOctets};
-ghost use Rattle.mud_tables.specs.ItemFields.{IsAddr};
-ghost use Rattle.mud_tables.specs.Binds.{IsKeptNetwork, IsSoundBinds};
-ghost use Rattle.mud_tables.specs.BindCommands.{BindStep};
+ghost use Rattle.table_model.specs.ItemFields.{IsAddr};
+ghost use Rattle.table_model.specs.Binds.{IsKeptNetwork, IsSoundBinds};
+ghost use Rattle.table_model.specs.BindCommands.{BindStep};
 ghost use Rattle.bind_book.specs.Book.{Book};
 ghost use Rattle.bind_book.specs.Plans.{Plan, IsPlanOf, changed_binds, HasRoomFor};
 
@@ -45,7 +45,7 @@ pub fn octets_fit(octets: &[u8])
 }
 
 /// A prefix fixes no more bits than there are, and the others are 0.
-#[tactic(auto, unfolding(mud_tables::specs::Binds::is_prefix))]
+#[tactic(auto, unfolding(table_model::specs::Binds::is_prefix))]
 fn prefix_fits(prefix: &Prefix)
     ensures { IsKeptNetwork prefix.now }
 {

@@ -15,4 +15,4 @@ mod read;
 pub use book::BindBook;
 pub use change::BindChange;
 pub use item_codec::Word;
-pub use mud_tables::{BindFault, Class, ClassRow, NameRow};
+pub use table_model::{BindFault, Class, ClassRow, NameRow};

@@ -1,18 +1,18 @@
 //! The local networks that a command sets.
 ghost use Rattle.std.specs.Prelude.{◌≡◌, IfOk, IfErr};
-ghost use Rattle.mud_tables.specs.BindCommands.{locals_step};
+ghost use Rattle.table_model.specs.BindCommands.{locals_step};
 ghost use Rattle.bind_book.specs.Book.{IsRefusal};
 ghost use Rattle.bind_book.specs.Plans.{IsSetLocals};
 
 use mud_base::{Listed, Prefix};
-use mud_tables::BindFault;
-use mud_tables::addrs::{prefixes_in_order, same_prefixes};
-use mud_tables::limits::MOST_LOCALS;
 use std::alloc::Global;
+use table_model::BindFault;
+use table_model::addrs::{prefixes_in_order, same_prefixes};
+use table_model::limits::MOST_LOCALS;
 
 /// The local networks that these prefixes are, in order and each once; None where they are the kept
 /// ones.
-#[tactic(auto, unfolding(mud_tables::specs::BindCommands::locals_step, mud_tables::specs::BindCommands::locals_cases))]
+#[tactic(auto, unfolding(table_model::specs::BindCommands::locals_step, table_model::specs::BindCommands::locals_cases))]
 pub(crate) fn set_locals(
     alloc: Global,
     prefixes: &[Prefix],

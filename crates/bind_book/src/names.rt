@@ -1,23 +1,23 @@
 //! The rows that an observation of a name changes.
 ghost use Rattle.std.specs.Prelude.{◌≡◌, [], ◌∷◌, ◌+◌, List, None, Some, option_map, option_copied, IfOk, IfErr};
-ghost use Rattle.mud_tables.specs.declared.bind.NameRow.{NameRow as NameValue};
-ghost use Rattle.mud_tables.specs.Binds.{name_row};
-ghost use Rattle.mud_tables.specs.Binds as binds;
-ghost use Rattle.mud_tables.specs.BindCommands.{new_pair, kept_pair, observe_step};
-ghost use Rattle.mud_tables.specs.BindCommands as steps;
-ghost use Rattle.mud_tables.specs.BindRowChanges as rows;
-ghost use Rattle.mud_tables.specs.BindRowChanges.{one_row, replacing_change, new_pair_change, kept_pair_change, observe_change};
+ghost use Rattle.table_model.specs.declared.bind.NameRow.{NameRow as NameValue};
+ghost use Rattle.table_model.specs.Binds.{name_row};
+ghost use Rattle.table_model.specs.Binds as binds;
+ghost use Rattle.table_model.specs.BindCommands.{new_pair, kept_pair, observe_step};
+ghost use Rattle.table_model.specs.BindCommands as steps;
+ghost use Rattle.table_model.specs.BindRowChanges as rows;
+ghost use Rattle.table_model.specs.BindRowChanges.{one_row, replacing_change, new_pair_change, kept_pair_change, observe_change};
 ghost use Rattle.bind_book.specs.Book.{IsRefusal};
 ghost use Rattle.bind_book.specs.Observations.{IsSeen};
 
 use crate::change::KeptName;
+use base_rows::{Change, SortedRows};
 use item_codec::Word;
 use mud_base::{Addr, Bytes, End, Listed, Memory, Moment};
-use mud_tables::expiries::{expiry_of, is_live, live_count, live_rows, with_expiry};
-use mud_tables::limits::{MOST_NAME_ADDRESSES, MOST_NAMES};
-use mud_tables::{BindFault, NameKey, NameRow};
-use sorted_rows::{Change, SortedRows};
 use std::alloc::Global;
+use table_model::expiries::{expiry_of, is_live, live_count, live_rows, with_expiry};
+use table_model::limits::{MOST_NAME_ADDRESSES, MOST_NAMES};
+use table_model::{BindFault, NameKey, NameRow};
 
 /// A change of names.
 pub type NameChange = Change<KeptName, NameRow>;
@@ -33,7 +33,7 @@ pub struct Observed {
 }
 
 /// The row of a name.
-#[tactic(auto, unfolding(mud_tables::specs::Binds::name_row))]
+#[tactic(auto, unfolding(table_model::specs::Binds::name_row))]
 fn row_of(alloc: Global, name: &[u8], addrs: Listed<(Addr, End)>) -> Result<Listed<NameRow>, Memory>
     ensures { IfOk result (λ rows. rows ≡ name_row name.now addrs ∷ []) }
 {
@@ -52,7 +52,7 @@ fn name_with(alloc: Global, name: &[u8], addrs: Listed<(Addr, End)>) -> Result<N
 }
 
 /// The change by which a name takes the place of another one.
-#[tactic(auto, unfolding(mud_tables::specs::BindRowChanges::replacing_change))]
+#[tactic(auto, unfolding(table_model::specs::BindRowChanges::replacing_change))]
 fn name_in_place(
     alloc: Global,
     name: &[u8],
@@ -78,7 +78,7 @@ fn one_address(alloc: Global, addr: Addr, until: End) -> Result<Listed<(Addr, En
 }
 
 /// Whether a name has an address whose expiry is live.
-#[tactic(auto, unfolding(mud_tables::specs::Binds::has_live_row))]
+#[tactic(auto, unfolding(table_model::specs::Binds::has_live_row))]
 fn has_live_row(row: &NameRow, now: Moment) -> bool
     ensures { result ≡ binds.has_live_row now row.now }
 {
@@ -86,7 +86,7 @@ fn has_live_row(row: &NameRow, now: Moment) -> bool
 }
 
 /// The least name that has no address with a live expiry.
-#[tactic(auto, unfolding(mud_tables::specs::BindCommands::least_dead))]
+#[tactic(auto, unfolding(table_model::specs::BindCommands::least_dead))]
 fn least_dead(now: Moment, names: &[NameRow]) -> Option<&NameRow>
     ensures { option_copied result ≡ steps.least_dead now names.now }
 {
@@ -95,7 +95,7 @@ fn least_dead(now: Moment, names: &[NameRow]) -> Option<&NameRow>
 
 /// A name that isn't kept gets its first address. Where as many names are kept as may be, it takes
 /// the place of the least one that has no address with a live expiry.
-#[tactic(auto, unfolding(mud_tables::specs::BindCommands::new_pair, mud_tables::specs::BindCommands::replacing, mud_tables::specs::BindCommands::is_change, mud_tables::specs::BindRowChanges::new_pair_change))]
+#[tactic(auto, unfolding(table_model::specs::BindCommands::new_pair, table_model::specs::BindCommands::replacing, table_model::specs::BindCommands::is_change, table_model::specs::BindRowChanges::new_pair_change))]
 fn new_name(
     alloc: Global,
     name: &[u8],
@@ -126,7 +126,7 @@ fn new_name(
 }
 
 /// A kept name gets an address. Its addresses whose expiries have come go.
-#[tactic(auto, unfolding(mud_tables::specs::BindCommands::new_pair, mud_tables::specs::BindCommands::is_change, mud_tables::specs::BindRowChanges::new_pair_change))]
+#[tactic(auto, unfolding(table_model::specs::BindCommands::new_pair, table_model::specs::BindCommands::is_change, table_model::specs::BindRowChanges::new_pair_change))]
 fn new_address(
     alloc: Global,
     name: &[u8],
@@ -152,7 +152,7 @@ fn new_address(
 }
 
 /// An address that a name has, with a live expiry, keeps the later expiry.
-#[tactic(auto, unfolding(mud_tables::specs::BindCommands::kept_pair, mud_tables::specs::BindCommands::addrs_of, mud_tables::specs::BindCommands::is_change, mud_tables::specs::BindRowChanges::kept_pair_change))]
+#[tactic(auto, unfolding(table_model::specs::BindCommands::kept_pair, table_model::specs::BindCommands::addrs_of, table_model::specs::BindCommands::is_change, table_model::specs::BindRowChanges::kept_pair_change))]
 fn kept_address(
     alloc: Global,
     name: &[u8],
@@ -179,7 +179,7 @@ fn kept_address(
 }
 
 /// A kept name is observed at an address.
-#[tactic(auto, unfolding(mud_tables::specs::BindCommands::observe_row, mud_tables::specs::BindCommands::observe_cases, mud_tables::specs::BindCommands::addrs_of, mud_tables::specs::BindRowChanges::observe_row_change, mud_tables::specs::BindRowChanges::observe_cases_change))]
+#[tactic(auto, unfolding(table_model::specs::BindCommands::observe_row, table_model::specs::BindCommands::observe_cases, table_model::specs::BindCommands::addrs_of, table_model::specs::BindRowChanges::observe_row_change, table_model::specs::BindRowChanges::observe_cases_change))]
 fn known_name(
     alloc: Global,
     name: &[u8],
@@ -205,7 +205,7 @@ fn known_name(
 
 /// What an observation of a name at an address answers, and how the names change. The expiry is the
 /// moment and so many seconds.
-#[tactic(auto, unfolding(mud_tables::specs::BindCommands::observe_step, mud_tables::specs::BindCommands::observe_row, mud_tables::specs::BindCommands::observe_cases, mud_tables::specs::BindCommands::addrs_of, mud_tables::specs::Expiries::expiry_of, mud_tables::specs::Binds::name_at, mud_tables::specs::BindRowChanges::observe_change, mud_tables::specs::BindRowChanges::observe_row_change, mud_tables::specs::BindRowChanges::observe_cases_change))]
+#[tactic(auto, unfolding(table_model::specs::BindCommands::observe_step, table_model::specs::BindCommands::observe_row, table_model::specs::BindCommands::observe_cases, table_model::specs::BindCommands::addrs_of, table_model::specs::Expiries::expiry_of, table_model::specs::Binds::name_at, table_model::specs::BindRowChanges::observe_change, table_model::specs::BindRowChanges::observe_row_change, table_model::specs::BindRowChanges::observe_cases_change))]
 pub(crate) fn observe(
     alloc: Global,
     name: &[u8],

@@ -3,22 +3,22 @@ ghost use Rattle.std.specs.Prelude.{◌≡◌, false, List, ℕ, Option, Some, N
 ghost use Rattle.std.specs.List.{list_all};
 ghost use Rattle.item_codec.specs.Records.{list_body_in};
 ghost use Rattle.mud_base.specs.declared.prefix.Prefix.{Prefix as PrefixValue};
-ghost use Rattle.mud_tables.specs.ItemFields.{address_in, expiring_in, network_in};
-ghost use Rattle.mud_tables.specs.Binds.{is_prefix};
-ghost use Rattle.mud_tables.specs.BindItems as items;
+ghost use Rattle.table_model.specs.ItemFields.{address_in, expiring_in, network_in};
+ghost use Rattle.table_model.specs.Binds.{is_prefix};
+ghost use Rattle.table_model.specs.BindItems as items;
 ghost use Rattle.bind_book.specs.Reading.{IsNoClass, count_in};
 
 use crate::items::{BY_URI, BY_URL, CLASS_KIND, LOCALS_KIND, NAME_KIND};
 use item_codec::FieldReader;
 use mud_base::{Addr, Bytes, End, Listed, Memory, Prefix};
-use mud_tables::addrs::prefix_of_parts;
-use mud_tables::fields::{read_address, read_expiring, read_network};
-use mud_tables::sound::{are_locals, is_sound_class, is_sound_name};
-use mud_tables::{Class, ClassRow, NameRow};
 use mud_url::url::canonical_url;
 use mud_world::Item;
 use std::alloc::Global;
 use std::marker::Model;
+use table_model::addrs::prefix_of_parts;
+use table_model::fields::{read_address, read_expiring, read_network};
+use table_model::sound::{are_locals, is_sound_class, is_sound_name};
+use table_model::{Class, ClassRow, NameRow};
 
 /// The parts of a prefix, as they were read: they may fail to be one.
 #[derive(Clone, Copy, Debug)]
@@ -112,7 +112,7 @@ fn list_in<T: Element>(alloc: Global, body: &[u8]) -> Result<Option<Listed<T>>, 
 }
 
 /// The class of a key, or None where the key is of none, or its text isn't that of one.
-#[tactic(auto, unfolding(mud_tables::specs::BindItems::class_of_key, mud_tables::specs::Binds::is_class))]
+#[tactic(auto, unfolding(table_model::specs::BindItems::class_of_key, table_model::specs::Binds::is_class))]
 fn class_of_key(alloc: Global, key: &[u8]) -> Result<Option<Class>, Memory>
     ensures { IfOk result (λ found. MatchOption found (IsNoClass key.now) (λ class. items.class_of_key key.now ≡ Some class)) }
 {
@@ -129,7 +129,7 @@ fn class_of_key(alloc: Global, key: &[u8]) -> Result<Option<Class>, Memory>
 }
 
 /// The class of an item, or None where the item is of none.
-#[tactic(auto, unfolding(mud_tables::specs::BindItems::class_in, mud_tables::specs::BindItems::if_sound_class, mud_tables::specs::Binds::class_row))]
+#[tactic(auto, unfolding(table_model::specs::BindItems::class_in, table_model::specs::BindItems::if_sound_class, table_model::specs::Binds::class_row))]
 pub(crate) fn class_in(alloc: Global, item: &Item) -> Result<Option<ClassRow>, Memory>
     ensures { IfOk result (λ found. found ≡ items.class_in item.now) }
 {
@@ -150,7 +150,7 @@ pub(crate) fn class_in(alloc: Global, item: &Item) -> Result<Option<ClassRow>, M
 }
 
 /// The name of an item, or None where the item is of none.
-#[tactic(auto, unfolding(mud_tables::specs::BindItems::name_in, mud_tables::specs::BindItems::if_sound_name, mud_tables::specs::Binds::name_row))]
+#[tactic(auto, unfolding(table_model::specs::BindItems::name_in, table_model::specs::BindItems::if_sound_name, table_model::specs::Binds::name_row))]
 pub(crate) fn name_in(alloc: Global, item: &Item) -> Result<Option<NameRow>, Memory>
     ensures { IfOk result (λ found. found ≡ items.name_in item.now) }
 {
@@ -185,7 +185,7 @@ fn prefixes_of(alloc: Global, networks: &[Network]) -> Result<Option<Listed<Pref
 }
 
 /// The local networks of an item, or None where the item is of none.
-#[tactic(auto, unfolding(mud_tables::specs::BindItems::locals_in, mud_tables::specs::BindItems::if_sound_locals))]
+#[tactic(auto, unfolding(table_model::specs::BindItems::locals_in, table_model::specs::BindItems::if_sound_locals))]
 pub(crate) fn locals_in(alloc: Global, item: &Item) -> Result<Option<Listed<Prefix>>, Memory>
     ensures { IfOk result (λ found. found ≡ items.locals_in item.now) }
 {

@@ -9,7 +9,7 @@ use Rattle.http_requests.specs.declared.parts.RequestParts.{RequestParts}
 use Rattle.http_requests.specs.Parts.{AreParts}
 use Rattle.http_answers.specs.declared.status.Status.{Status}
 use Rattle.http_answers.specs.declared.status.Status.TheVariants as status
-use Rattle.mud_tables.specs.declared.segment.Segment.{Segment}
+use Rattle.table_model.specs.declared.segment.Segment.{Segment}
 use Rattle.desk_model.specs.Sessions.{Session, later}
 use Rattle.console_routes.specs.Routes.{route_of}
 use Rattle.mud_desk.specs.DeskState.{DeskState, session_of, HasForwarded, LeadsOnFrom}

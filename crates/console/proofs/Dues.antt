@@ -3,9 +3,9 @@ use Rattle.std.proofs.Common.{◌≡◌, ℕ, ◌+◌, ◌<◌, ◌≤◌, Bool,
 use Rattle.std.specs.Prelude.{filter, map}
 use Rattle.std.proofs.lemmas.List.{take_all, map-append}
 use Rattle.std.proofs.lemmas.List.Elements.{filter_more}
-use Rattle.file_tables.specs.declared.cached_file.CachedFile.{CachedFile}
-use Rattle.file_tables.specs.Files.{url_of}
-use Rattle.file_tables.specs.Due.{is_due, due_files, due_urls}
+use Rattle.usage_tables.specs.declared.cached_file.CachedFile.{CachedFile}
+use Rattle.usage_tables.specs.Files.{url_of}
+use Rattle.usage_tables.specs.Due.{is_due, due_files, due_urls}
 
 -- what a row adds to the list
 abbrev added : Bool → CachedFile → List CachedFile

@@ -2,7 +2,7 @@
 use Rattle.std.specs.Prelude.{max, IfOk, IsSomeAnd}
 use Rattle.std.proofs.Common.{◌≡◌, ℕ, List, Some, Result, Ok, Err, refl, sym, ap, ◌∙◌, subst, inl, inr}
 use Rattle.mud_base.specs.declared.memory.Memory as want
-use Rattle.mud_tables.specs.declared.segment.Segment.{Segment}
+use Rattle.table_model.specs.declared.segment.Segment.{Segment}
 use Rattle.packet_judge.specs.declared.verdict.Verdict.{Verdict}
 use Rattle.dhcp_lldp.specs.declared.heard.Heard.{Heard}
 use Rattle.dhcp_lldp.specs.declared.heard.Heard.TheVariants.{Url, Lease, Nothing}
@@ -15,7 +15,7 @@ use Rattle.console_routes.specs.declared.action.Listing.{Listing}
 use Rattle.frame_view.specs.Frame.{frame_of}
 use Rattle.desk_model.specs.Sessions.{Session, AllowedVerdict, frame_in, verdict_in, raised, later, IsNoted}
 use Rattle.http_answers.specs.declared.status.Status.TheVariants as status
-use Rattle.outcome_bodies.specs.Verdicts.{verdict_body}
+use Rattle.console_outcomes.specs.Verdicts.{verdict_body}
 use Rattle.desk_model.specs.Verdicts.{policy_at}
 use Rattle.mud_desk.specs.declared.findings.Findings.{Findings}
 use Rattle.mud_desk.specs.Findings.{found_in, AreFindingsOn}

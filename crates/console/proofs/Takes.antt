@@ -2,7 +2,7 @@
 use Rattle.std.proofs.Common.{◌≡◌, ℕ, ◌+◌, ◌-◌, Bool, true, false, List, Option, Some, None, refl, sym, ap, ◌∙◌, subst, arith}
 use Rattle.mud_world.specs.Causes.{Counts}
 use Rattle.mud_world.specs.Clock.{next_moment, later_moments}
-use Rattle.mud_tables.specs.declared.segment.Segment.{Segment}
+use Rattle.table_model.specs.declared.segment.Segment.{Segment}
 use Rattle.desk_model.specs.Sessions.{Session}
 use Rattle.mud_desk.specs.DeskState.{DeskState, session_of, HasForwarded, LeadsOn}
 use Rattle.http_answers.specs.declared.status.Status.{Status}

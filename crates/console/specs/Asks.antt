@@ -8,7 +8,7 @@ use Rattle.console_routes.specs.Actions.{method_of, action_of}
 use Rattle.console_bodies.specs.declared.fault.BodyFault.{BodyFault}
 use Rattle.console_bodies.specs.declared.asked.Asked.{Asked}
 use Rattle.console_bodies.specs.Bodies.{body_of, takes_memory}
-use Rattle.listing_bodies.specs.Refusals.{body_fault_body}
+use Rattle.console_listings.specs.Refusals.{body_fault_body}
 use Rattle.console.specs.declared.question.Question.{Question}
 use Rattle.console.specs.declared.question.NoQuestion.{NoQuestion}
 use Rattle.console.specs.declared.question.NoQuestion.TheVariants.{NoRoute, NoMethod, BadBody}

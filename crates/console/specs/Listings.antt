@@ -2,9 +2,9 @@
 use Rattle.std.specs.Prelude.{ℕ, List}
 use Rattle.console_routes.specs.declared.action.Listing.{Listing}
 use Rattle.console_routes.specs.declared.action.Listing.TheVariants.{Things, Files, Classes, Locals, Names, Due}
-use Rattle.file_tables.specs.Due.{due_urls}
+use Rattle.usage_tables.specs.Due.{due_urls}
 use Rattle.desk_model.specs.DeskTables.{DeskTables}
-use Rattle.listing_bodies.specs.Rows.{things_body, files_body, classes_body, locals_body, names_body, due_body}
+use Rattle.console_listings.specs.Rows.{things_body, files_body, classes_body, locals_body, names_body, due_body}
 
 -- the rows of the desk at a moment, which counts for what is due alone
 unfoldable pub listing_text : Listing → DeskTables → ℕ → List ℕ

@@ -14,10 +14,10 @@ use Rattle.desk_model.specs.Commands.{command_step}
 use Rattle.desk_model.specs.Sessions.{Session, later, raised, Answered, command_in, Judged, frame_in, verdict_in, IsNoted}
 use Rattle.http_answers.specs.declared.status.Status.TheVariants as status
 use Rattle.http_requests.specs.Requests.{Request}
-use Rattle.outcome_bodies.specs.Outcomes.{stated_body, file_body}
-use Rattle.outcome_bodies.specs.Heards.{nothing_body, heard_body}
-use Rattle.outcome_bodies.specs.Verdicts.{verdict_body}
-use Rattle.listing_bodies.specs.Refusals.{refusal_status, refusal_body}
+use Rattle.console_outcomes.specs.Outcomes.{stated_body, file_body}
+use Rattle.console_outcomes.specs.Heards.{nothing_body, heard_body}
+use Rattle.console_outcomes.specs.Verdicts.{verdict_body}
+use Rattle.console_listings.specs.Refusals.{refusal_status, refusal_body}
 use Rattle.console.specs.Replies.{Reply, reply, Replied, replied, unavailable, no_storage, IsOrFailed}
 use Rattle.console.specs.declared.question.Question.{Question}
 use Rattle.console.specs.declared.question.NoQuestion.{NoQuestion}

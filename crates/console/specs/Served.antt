@@ -4,7 +4,7 @@ use Rattle.mud_world.specs.declared.clock.Clock as clock
 use Rattle.mud_world.specs.declared.keeper.Keeper.{Ghosts}
 use Rattle.mud_world.specs.Boxed.{faults_of}
 use Rattle.mud_world.specs.View.{DoorView}
-use Rattle.mud_tables.specs.declared.segment.Segment.{Segment}
+use Rattle.table_model.specs.declared.segment.Segment.{Segment}
 use Rattle.mud_desk.specs.DeskState.{session_of, HasForwarded}
 use Rattle.http_requests.specs.declared.fault.MomentFrom.{MomentFrom}
 use Rattle.http_requests.specs.declared.end.ConnectionEnd.{ConnectionEnd}

@@ -1,7 +1,7 @@
 -- The states of the console, and what a whole request makes of them.
 use Rattle.std.specs.Prelude.{◌≡◌, ℕ, ◌+◌, ◌≤◌, Bool, true, false, List, Option, Some, None}
 use Rattle.mud_world.specs.Clock.{next_moment, later_moments}
-use Rattle.mud_tables.specs.declared.segment.Segment.{Segment}
+use Rattle.table_model.specs.declared.segment.Segment.{Segment}
 use Rattle.desk_model.specs.Sessions.{Session}
 use Rattle.mud_desk.specs.DeskState.{DeskState, session_of, HasForwarded}
 use Rattle.http_answers.specs.declared.status.Status.{Status}

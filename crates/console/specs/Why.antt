@@ -5,8 +5,8 @@ use Rattle.packet_judge.specs.declared.verdict.Verdict.{Verdict}
 use Rattle.desk_model.specs.DeskTables.{DeskTables}
 use Rattle.desk_model.specs.Verdicts.{policy_at}
 use Rattle.desk_model.specs.Findings.{Found, source_found, destination_found}
-use Rattle.listing_bodies.specs.Why.{entry_number, entry_text, mac_member, ruling_member, verdict_end}
-use Rattle.listing_bodies.specs.Rows.{url_end}
+use Rattle.console_listings.specs.Why.{entry_number, entry_text, mac_member, ruling_member, verdict_end}
+use Rattle.console_listings.specs.Rows.{url_end}
 
 -- null where an endpoint is no Thing, and where nothing is decided
 unfoldable pub endpoint_text : Option Found → List ℕ

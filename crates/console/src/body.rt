@@ -1,19 +1,19 @@
 //! The body of an answer, in a buffer that is taken once, or made whole.
 ghost use Rattle.std.specs.Prelude.{◌≡◌, ◌≤◌, [], false, length, IfOk};
-ghost use Rattle.outcome_bodies.specs.Outcomes as outcomes;
-ghost use Rattle.outcome_bodies.specs.Heards as heards;
-ghost use Rattle.outcome_bodies.specs.Verdicts as verdicts;
+ghost use Rattle.console_outcomes.specs.Outcomes as outcomes;
+ghost use Rattle.console_outcomes.specs.Heards as heards;
+ghost use Rattle.console_outcomes.specs.Verdicts as verdicts;
 ghost use Rattle.console.specs.Replies.{reply, made_reply, is_unavailable};
 
+use console_outcomes::{
+    HeardTexts, write_file, write_heard, write_nothing_heard, write_rule, write_stated,
+    write_verdict,
+};
 use console_routes::Statement;
 use desk_model::Outcome;
 use dhcp_lldp::Heard;
 use http_answers::{AnswerBuffer, Status};
 use mud_base::{Bytes, Memory};
-use outcome_bodies::{
-    HeardTexts, write_file, write_heard, write_nothing_heard, write_rule, write_stated,
-    write_verdict,
-};
 use packet_judge::Verdict;
 use std::alloc::Global;
 use std::marker::Model;

@@ -1,9 +1,9 @@
 //! Commands: what an operator states, a usage file that was fetched, and what was heard.
 ghost use Rattle.std.specs.Prelude.{◌≡◌, false, ℕ, List};
-ghost use Rattle.sorted_rows.specs.Ledgers.{IsBlankOf};
+ghost use Rattle.base_rows.specs.Ledgers.{IsBlankOf};
 ghost use Rattle.mud_world.specs.Boxed.{faults_of};
 ghost use Rattle.mud_world.specs.Causes.{Counts};
-ghost use Rattle.mud_tables.specs.declared.segment.Segment.{Segment as SegmentValue};
+ghost use Rattle.table_model.specs.declared.segment.Segment.{Segment as SegmentValue};
 ghost use Rattle.desk_model.specs.Commands.{IsAsked};
 ghost use Rattle.desk_model.specs.Sessions.{AllowedReply, command_in, is_of_keeper};
 ghost use Rattle.mud_desk.specs.DeskState.{tables_of, session_of, LeadsOn};
@@ -11,20 +11,20 @@ ghost use Rattle.mud_desk.specs.Stays.{StaysKept, KeepsConnections};
 ghost use Rattle.desk_model.specs.Boxed.{IsKept};
 ghost use Rattle.console.specs.Replies.{reply, is_unavailable, IsOrWanted, IsOrFailed};
 ghost use Rattle.console.specs.Requests.{Changes, by_command, outcome_body};
-ghost use Rattle.listing_bodies.specs.Refusals as refusals;
+ghost use Rattle.console_listings.specs.Refusals as refusals;
 ghost use Rattle.console.specs.Origins.{said_of, HasTexts, IsWritten};
 
 use crate::BodyText;
 use crate::refusals::want_memory;
+use base_rows::Steps;
+use console_listings::{refusal_body, refusal_status};
+use console_outcomes::HeardTexts;
 use console_routes::Action;
 use desk_model::{Command, Outcome, Refusal, Reply};
 use dhcp_lldp::Heard;
 use http_answers::Status;
-use listing_bodies::{refusal_body, refusal_status};
 use mud_base::Moment;
 use mud_desk::Desk;
-use outcome_bodies::HeardTexts;
-use sorted_rows::Steps;
 use std::alloc::Global;
 use std::marker::Brand;
 use std::sync::ledger::{Blank, Ledger};

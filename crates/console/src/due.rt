@@ -1,14 +1,14 @@
 //! The URLs whose files are to be fetched again.
 ghost use Rattle.std.specs.Prelude.{◌≡◌, OnOk, IfOk};
-ghost use Rattle.file_tables.specs.Due.{due_urls};
-ghost use Rattle.listing_bodies.specs.Rows.{due_body};
+ghost use Rattle.usage_tables.specs.Due.{due_urls};
+ghost use Rattle.console_listings.specs.Rows.{due_body};
 
+use console_listings::due_body;
 use file_cache::is_due;
-use file_tables::CachedFile;
-use listing_bodies::due_body;
 use mud_base::{Bytes, Listed, Memory, Moment};
 use mud_url::MudUrl;
 use std::alloc::Global;
+use usage_tables::CachedFile;
 
 /// The URLs, in their order.
 #[tactic(auto, using(crate::proofs::Dues::due_none, crate::proofs::Dues::due_next, crate::proofs::Dues::due_passed, crate::proofs::Dues::due_all))]

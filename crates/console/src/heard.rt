@@ -5,7 +5,7 @@ ghost use Rattle.mud_world.specs.Causes.{Counts};
 ghost use Rattle.desk_model.specs.Commands.{IsAsked};
 ghost use Rattle.desk_model.specs.Sessions.{command_in, raised};
 ghost use Rattle.console_bodies.specs.Bodies as bodies;
-ghost use Rattle.outcome_bodies.specs.Heards as heards;
+ghost use Rattle.console_outcomes.specs.Heards as heards;
 ghost use Rattle.mud_desk.specs.DeskState.{tables_of, LeadsOn};
 ghost use Rattle.mud_desk.specs.Stays.{StaysKept};
 ghost use Rattle.desk_model.specs.Boxed.{IsKept};
@@ -17,12 +17,12 @@ use crate::commands::{Origin, answer_command};
 use crate::refusals::want_memory;
 use crate::session::raise;
 use console_bodies::heard_command;
+use console_outcomes::heard_texts;
 use desk_model::Command;
 use dhcp_lldp::Heard;
 use http_answers::Status;
 use mud_base::{Memory, Moment};
 use mud_desk::Desk;
-use outcome_bodies::heard_texts;
 use std::alloc::Global;
 
 /// Takes what was heard by the command for it. The texts of the answer are made before.

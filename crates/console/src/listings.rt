@@ -12,9 +12,9 @@ ghost use Rattle.console.specs.Replies.{reply, replied, is_unavailable, IsOrFail
 use crate::refusals::want_memory;
 use crate::session::{later, raise};
 use crate::{BodyText, due_text};
+use console_listings::{classes_body, files_body, locals_body, names_body, things_body};
 use console_routes::Listing;
 use http_answers::Status;
-use listing_bodies::{classes_body, files_body, locals_body, names_body, things_body};
 use mud_base::{Bytes, Memory, Moment};
 use mud_desk::Desk;
 use std::alloc::Global;

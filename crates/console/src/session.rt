@@ -1,17 +1,17 @@
 //! Calls of a desk as they are seen in its session.
 ghost use Rattle.std.specs.Prelude.{◌≡◌, ◌<◌, max, ℕ, List};
-ghost use Rattle.sorted_rows.specs.Ledgers.{IsBlankOf};
+ghost use Rattle.base_rows.specs.Ledgers.{IsBlankOf};
 ghost use Rattle.mud_world.specs.Boxed.{faults_of};
-ghost use Rattle.mud_tables.specs.declared.segment.Segment.{Segment as SegmentValue};
+ghost use Rattle.table_model.specs.declared.segment.Segment.{Segment as SegmentValue};
 ghost use Rattle.desk_model.specs.Sessions.{AllowedVerdict, raised};
 ghost use Rattle.mud_desk.specs.DeskState.{tables_of, session_of, LeadsOn};
 ghost use Rattle.mud_desk.specs.Stays.{StaysKept, KeepsConnections};
 ghost use Rattle.desk_model.specs.Boxed.{IsKept};
 
+use base_rows::Steps;
 use mud_base::{Memory, Moment};
 use mud_desk::Desk;
 use packet_judge::Verdict;
-use sorted_rows::Steps;
 use std::marker::Brand;
 use std::sync::ledger::{Blank, Ledger};
 

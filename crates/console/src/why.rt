@@ -1,22 +1,22 @@
 //! What decides a frame.
 ghost use Rattle.std.specs.Prelude.{◌≡◌, false, ℕ, List, IfOk};
-ghost use Rattle.mud_tables.specs.declared.segment.Segment.{Segment as SegmentValue};
+ghost use Rattle.table_model.specs.declared.segment.Segment.{Segment as SegmentValue};
 ghost use Rattle.desk_model.specs.Sessions.{verdict_in};
 ghost use Rattle.mud_desk.specs.Findings.{found_in};
 ghost use Rattle.mud_desk.specs.DeskState.{session_of, HasForwarded};
-ghost use Rattle.listing_bodies.specs.Why.{side_text};
+ghost use Rattle.console_listings.specs.Why.{side_text};
 ghost use Rattle.console.specs.Replies.{reply, is_unavailable, IsOrWanted};
 ghost use Rattle.console.specs.Why as spec;
 
 use crate::BodyText;
+use console_listings::{RuledEndpoint, why_body};
 use http_answers::Status;
-use listing_bodies::{RuledEndpoint, why_body};
 use mud_base::{Bytes, Memory, Moment};
 use mud_desk::{Desk, Findings, RuledThing};
 use std::alloc::Global;
 
 /// An endpoint as a body tells it.
-#[tactic(auto, unfolding(mud_desk::specs::Findings::found_in, crate::specs::Why::endpoint_text, listing_bodies::specs::Why::side_text, listing_bodies::specs::Why::endpoint_text))]
+#[tactic(auto, unfolding(mud_desk::specs::Findings::found_in, crate::specs::Why::endpoint_text, console_listings::specs::Why::side_text, console_listings::specs::Why::endpoint_text))]
 fn told_endpoint<'a>(ruled: &Option<RuledThing<'a>>) -> Option<RuledEndpoint<'a>>
     ensures { side_text result ≡ spec.endpoint_text (found_in ruled.now) }
 {
@@ -32,7 +32,7 @@ fn told_endpoint<'a>(ruled: &Option<RuledThing<'a>>) -> Option<RuledEndpoint<'a>
 }
 
 /// The body that tells what was found of a frame.
-#[tactic(auto, unfolding(crate::specs::Why::endpoints_text, listing_bodies::specs::Why::why_body))]
+#[tactic(auto, unfolding(crate::specs::Why::endpoints_text, console_listings::specs::Why::why_body))]
 fn told_endpoints(alloc: Global, findings: &Findings<'_>) -> Result<Bytes, Memory>
     ensures { IfOk result (λ text. text ≡ spec.endpoints_text (found_in findings.now.source) (found_in findings.now.destination) findings.now.verdict) }
 {

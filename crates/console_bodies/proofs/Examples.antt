@@ -4,8 +4,8 @@ use Rattle.std.proofs.Common.{◌≡◌, ℕ, List, [], ◌∷◌, Ok, Err, Resu
 use Rattle.std.specs.Prelude.{codes}
 use Rattle.mud_base.specs.declared.addr.Mac.{Mac}
 use Rattle.mud_base.specs.declared.addr.Addr.TheVariants.{V4, V6}
-use Rattle.mud_tables.specs.declared.bind.Class.TheVariants as class
-use Rattle.file_tables.specs.declared.approval.OperatorVerdict.TheVariants.{Waived}
+use Rattle.table_model.specs.declared.bind.Class.TheVariants as class
+use Rattle.usage_tables.specs.declared.approval.OperatorVerdict.TheVariants.{Waived}
 use Rattle.serde_json.specs.Data.{Data, null, string}
 use Rattle.usage_walk.proofs.Written.{num, list, obj}
 use Rattle.mud_base.specs.Readings.{answer}

@@ -7,7 +7,7 @@ use Rattle.mud_url.proofs.OnLiterals.{url_on_literals}
 use Rattle.dhcp_lldp.proofs.OnLiterals.{messages_on_literals}
 use Rattle.dhcp_lldp.specs.Lldp.{lldp_of}
 use Rattle.mud_base.specs.Readings.{answer, done, ◌>>=◌, refused_where, wanted, over}
-use Rattle.mud_tables.specs.Binds.{is_class_uri}
+use Rattle.table_model.specs.Binds.{is_class_uri}
 use Rattle.console_bodies.specs.Members.{name_of}
 use Rattle.usage_walk.specs.Json.{value_in}
 use Rattle.console_bodies.specs.Objects.{object_of, member_in, text_in, number_in}

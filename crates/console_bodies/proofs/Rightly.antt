@@ -12,9 +12,9 @@ use Rattle.mud_url.proofs.Idempotence.{url_of_no_fault, is_canonical-canonical}
 use Rattle.mud_url.proofs.HostNames.{is_host-lowered, lowered-lowered}
 use Rattle.serde_json.specs.Data.{Data}
 use Rattle.mud_base.specs.Readings.{answer, done, ◌>>=◌, wanted}
-use Rattle.mud_tables.specs.declared.bind.Class.{Class}
-use Rattle.mud_tables.specs.declared.bind.Class.TheVariants as class
-use Rattle.mud_tables.specs.Binds.{is_class, is_class_uri, is_name}
+use Rattle.table_model.specs.declared.bind.Class.{Class}
+use Rattle.table_model.specs.declared.bind.Class.TheVariants as class
+use Rattle.table_model.specs.Binds.{is_class, is_class_uri, is_name}
 use Rattle.desk_model.specs.Commands.{IsAsked}
 use Rattle.desk_model.specs.declared.command.Command.{Command}
 use Rattle.desk_model.specs.declared.command.Command.TheVariants as command

@@ -3,11 +3,11 @@ use Rattle.std.specs.Prelude.{◌≡◌, ℕ, Bool, List, [], ◌∷◌, codes, 
 use Rattle.mud_base.specs.Addresses.{PrefixParts}
 use Rattle.serde_json.specs.Data.{Data}
 use Rattle.mud_base.specs.Readings.{done, ◌>>=◌, refused_where}
-use Rattle.mud_tables.specs.declared.bind.Class.{Class}
-use Rattle.mud_tables.specs.declared.bind.Class.TheVariants as class
-use Rattle.mud_tables.specs.Binds.{is_class_uri}
-use Rattle.file_tables.specs.declared.approval.OperatorVerdict.{OperatorVerdict}
-use Rattle.file_tables.specs.declared.approval.OperatorVerdict.TheVariants.{Verified, Waived, Failed}
+use Rattle.table_model.specs.declared.bind.Class.{Class}
+use Rattle.table_model.specs.declared.bind.Class.TheVariants as class
+use Rattle.table_model.specs.Binds.{is_class_uri}
+use Rattle.usage_tables.specs.declared.approval.OperatorVerdict.{OperatorVerdict}
+use Rattle.usage_tables.specs.declared.approval.OperatorVerdict.TheVariants.{Verified, Waived, Failed}
 use Rattle.desk_model.specs.declared.command.Command.{Command}
 use Rattle.desk_model.specs.declared.command.Command.TheVariants as command
 use Rattle.console_routes.specs.declared.action.Statement.{Statement}

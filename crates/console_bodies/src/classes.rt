@@ -8,12 +8,12 @@ use crate::object::{member_in, text_in};
 use crate::texts::url;
 use crate::values::meant;
 use crate::{BodyFault, Member, Unread};
-use file_tables::OperatorVerdict;
 use mud_base::Bytes;
-use mud_tables::Class;
-use mud_tables::sound::is_class_uri;
 use serde_json::Value;
 use std::alloc::Global;
+use table_model::Class;
+use table_model::sound::is_class_uri;
+use usage_tables::OperatorVerdict;
 
 /// The text, where it is the URI of a class.
 fn uri_in(text: &str) -> Option<&str>

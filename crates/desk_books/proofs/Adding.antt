@@ -4,25 +4,25 @@ use Rattle.std.specs.Prelude.{bytes_eq, filter, nat_lt, option_map, option_and_t
 use Rattle.std.specs.declared.cmp.Ordering.TheVariants.{Less, Greater}
 use Rattle.std.proofs.lemmas.List.{take_more, take-append-drop}
 use Rattle.std.proofs.Math.Seq.{drop-cons}
-use Rattle.sorted_rows.specs.Sortable.{sort_key_cmp, row_at, SortKeysAbove, SortKeysAscend}
-use Rattle.sorted_rows.proofs.SortableLaws.{same_sort_key_exact, same_sort_key-cmp, sort_key_cmp_turned}
+use Rattle.base_rows.specs.Sortable.{sort_key_cmp, row_at, SortKeysAbove, SortKeysAscend}
+use Rattle.base_rows.proofs.SortableLaws.{same_sort_key_exact, same_sort_key-cmp, sort_key_cmp_turned}
 use Rattle.mud_base.specs.declared.packet.Direction.TheVariants.{From, To}
 use Rattle.acl_model.specs.declared.entry.Policy.{Policy}
 use Rattle.acl_model.specs.FirstMatch.{entries_of}
 use Rattle.acl_model.specs.SortKeys.{binding_sort_key}
 use Rattle.acl_rows.specs.Rows.{Slots, rows_of}
 use Rattle.acl_rows.specs.View.{holder_from}
-use Rattle.sorted_rows.specs.Edits.{edited}
-use Rattle.row_changes.specs.Policies.{HasCounts}
+use Rattle.base_rows.specs.Edits.{edited}
+use Rattle.acl_changes.specs.Policies.{HasCounts}
 use Rattle.acl_compile.specs.Compiled.{CompiledState, HasItsRows}
 use Rattle.acl_compile.specs.Plans.{SlotChange, Plan, slot_set, slots_with, slots_after, bindings_after, policy_held, others_held, is_other, IsKept, IsPolicyPlan}
 use Rattle.mud_file.specs.declared.usage_file.UsageFile.{UsageFile}
-use Rattle.file_tables.specs.declared.cached_file.CachedFile.{CachedFile}
-use Rattle.file_tables.specs.declared.approval.Approval.{Approval}
-use Rattle.file_tables.specs.Held.{HeldFile, usage_in}
-use Rattle.file_tables.specs.Files.{url_of, file_at}
-use Rattle.file_tables.specs.Policies.{policy_in_file, policy_in_held, policy_in_approved, policy_in_row, policy_of}
-use Rattle.file_tables.proofs.EntryBounds.{few_outgoing, few_incoming}
+use Rattle.usage_tables.specs.declared.cached_file.CachedFile.{CachedFile}
+use Rattle.usage_tables.specs.declared.approval.Approval.{Approval}
+use Rattle.usage_tables.specs.Held.{HeldFile, usage_in}
+use Rattle.usage_tables.specs.Files.{url_of, file_at}
+use Rattle.usage_tables.specs.Policies.{policy_in_file, policy_in_held, policy_in_approved, policy_in_row, policy_of}
+use Rattle.usage_tables.proofs.EntryBounds.{few_outgoing, few_incoming}
 use Rattle.desk_books.specs.Policies.{policy_with, AddsPolicy}
 
 -- ---- One more sort key can be taken by one change of the table

@@ -1,15 +1,15 @@
 -- The answers of the books are those of the desk.
 use Rattle.std.proofs.Common.{◌≡◌, ◌≢◌, ℕ, false, Result, Err, sym, ap, subst, ◌∙◌}
 use Rattle.std.proofs.lemmas.Bool.{false≢true}
-use Rattle.mud_tables.specs.declared.thing_fault.ThingFault.{ThingFault}
-use Rattle.mud_tables.specs.declared.thing_fault.ThingFault.TheVariants as thing_fault
-use Rattle.mud_tables.specs.declared.bind_fault.BindFault.{BindFault}
-use Rattle.mud_tables.specs.declared.bind_fault.BindFault.TheVariants as bind_fault
-use Rattle.file_tables.specs.declared.cache_fault.CacheFault.{CacheFault}
-use Rattle.file_tables.specs.declared.cache_fault.CacheFault.TheVariants as cache_fault
-use Rattle.mud_tables.specs.ThingCommands.{ThingStep}
-use Rattle.mud_tables.specs.BindCommands.{BindStep}
-use Rattle.file_tables.specs.FileCommands.{FileStep}
+use Rattle.table_model.specs.declared.thing_fault.ThingFault.{ThingFault}
+use Rattle.table_model.specs.declared.thing_fault.ThingFault.TheVariants as thing_fault
+use Rattle.table_model.specs.declared.bind_fault.BindFault.{BindFault}
+use Rattle.table_model.specs.declared.bind_fault.BindFault.TheVariants as bind_fault
+use Rattle.usage_tables.specs.declared.cache_fault.CacheFault.{CacheFault}
+use Rattle.usage_tables.specs.declared.cache_fault.CacheFault.TheVariants as cache_fault
+use Rattle.table_model.specs.ThingCommands.{ThingStep}
+use Rattle.table_model.specs.BindCommands.{BindStep}
+use Rattle.usage_tables.specs.FileCommands.{FileStep}
 use Rattle.desk_model.specs.declared.reply.Refusal.TheVariants.{Things, Files, Binds}
 use Rattle.desk_model.specs.declared.reply.Refusal.{Refusal}
 use Rattle.desk_model.specs.declared.command.Command.{Command}

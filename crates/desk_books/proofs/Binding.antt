@@ -1,23 +1,23 @@
 -- The bindings that are put into an empty store.
 use Rattle.std.proofs.Common.{◌≡◌, true, false, List, [], ◌++◌, refl, sym, ap, subst, ◌∙◌}
 use Rattle.std.proofs.Math.Bool.{and-true}
-use Rattle.sorted_rows.specs.Sortable.{SortKeysAscend, set_rows}
-use Rattle.sorted_rows.specs.Changes.{are_apart}
-use Rattle.sorted_rows.proofs.SortableLaws.{ascend-set_rows}
+use Rattle.base_rows.specs.Sortable.{SortKeysAscend, set_rows}
+use Rattle.base_rows.specs.Changes.{are_apart}
+use Rattle.base_rows.proofs.SortableLaws.{ascend-set_rows}
 use Rattle.acl_model.specs.declared.binding.Binding.{Binding}
 use Rattle.acl_model.specs.SortKeys.{binding_sort_key}
 use Rattle.acl_model.specs.Changes.{same_spot, has_binding, HaveSame, IsBindingChange, without_bindings, replaced}
 use Rattle.acl_rows.specs.Rows.{rows_of}
 use Rattle.acl_compile.specs.Compiled.{CompiledState, HasItsRows}
 use Rattle.acl_compile.specs.Plans.{Plan, bindings_after, IsKept, IsMemberPlan}
-use Rattle.mud_tables.specs.declared.thing.Thing.{Thing}
-use Rattle.mud_tables.specs.declared.bind.ClassRow.{ClassRow}
-use Rattle.mud_tables.specs.declared.bind.NameRow.{NameRow}
-use Rattle.mud_tables.specs.Bindings.{things_bindings, classes_bindings, names_bindings, bindings_of}
+use Rattle.table_model.specs.declared.thing.Thing.{Thing}
+use Rattle.table_model.specs.declared.bind.ClassRow.{ClassRow}
+use Rattle.table_model.specs.declared.bind.NameRow.{NameRow}
+use Rattle.table_model.specs.Bindings.{things_bindings, classes_bindings, names_bindings, bindings_of}
 use Rattle.table_laws.proofs.Stores.{replaced_same}
 use Rattle.table_laws.proofs.TableBindings.{bindings_apart}
-use Rattle.file_tables.specs.declared.cached_file.CachedFile.{CachedFile}
-use Rattle.file_tables.specs.Policies.{policy_of}
+use Rattle.usage_tables.specs.declared.cached_file.CachedFile.{CachedFile}
+use Rattle.usage_tables.specs.Policies.{policy_of}
 use Rattle.desk_model.specs.DeskTables.{DeskTables, IsSound}
 use Rattle.desk_model.specs.Verdicts.{policy_at, desk_bindings}
 use Rattle.desk_books.specs.CompiledDesk.{IsCompiledOf}

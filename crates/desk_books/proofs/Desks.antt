@@ -1,22 +1,22 @@
 -- What is compiled follows a change of the desk.
 use Rattle.std.proofs.Common.{◌≡◌, ℕ, Bool, true, false, cond, List, Option, refl, sym, ap, subst, ◌∙◌, bytes_eq}
-use Rattle.sorted_rows.specs.Sortable.{SortKeysAscend}
+use Rattle.base_rows.specs.Sortable.{SortKeysAscend}
 use Rattle.acl_model.specs.declared.binding.Binding.{Binding}
 use Rattle.acl_model.specs.declared.entry.Policy.{Policy}
 use Rattle.acl_model.specs.SortKeys.{binding_sort_key}
 use Rattle.acl_model.specs.Changes.{HaveSame, IsBindingChange, replaced}
 use Rattle.acl_rows.specs.Rows.{Slots, rows_of}
-use Rattle.row_changes.proofs.Bound.{ascend-replaced}
-use Rattle.sorted_rows.specs.declared.edit.Edit.{Edit}
-use Rattle.sorted_rows.specs.Edits.{edited}
+use Rattle.acl_changes.proofs.Bound.{ascend-replaced}
+use Rattle.base_rows.specs.declared.edit.Edit.{Edit}
+use Rattle.base_rows.specs.Edits.{edited}
 use Rattle.acl_compile.specs.Compiled.{CompiledState}
 use Rattle.acl_compile.specs.Plans.{Plan, IsKept, IsMemberPlan, IsPolicyPlan, slots_after, bindings_after, policy_held}
-use Rattle.mud_tables.specs.Tables.{Tables}
-use Rattle.mud_tables.specs.Bindings.{bindings_of}
+use Rattle.table_model.specs.Tables.{Tables}
+use Rattle.table_model.specs.Bindings.{bindings_of}
 use Rattle.table_laws.proofs.Stores.{replaced_same}
 use Rattle.table_laws.proofs.TableBindings.{bindings_apart}
-use Rattle.file_tables.specs.declared.cached_file.CachedFile.{CachedFile}
-use Rattle.file_tables.specs.Policies.{policy_of}
+use Rattle.usage_tables.specs.declared.cached_file.CachedFile.{CachedFile}
+use Rattle.usage_tables.specs.Policies.{policy_of}
 use Rattle.desk_model.specs.DeskTables.{DeskTables, IsSound}
 use Rattle.desk_model.specs.Verdicts.{policy_at, desk_bindings}
 use Rattle.desk_books.specs.CompiledDesk.{IsCompiledOf}

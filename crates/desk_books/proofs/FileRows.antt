@@ -6,18 +6,18 @@ use Rattle.mud_base.specs.declared.packet.Direction.TheVariants.{From, To}
 use Rattle.acl_model.specs.declared.entry.Policy.{Policy}
 use Rattle.acl_model.specs.declared.binding.Binding.{Binding}
 use Rattle.acl_model.specs.FirstMatch.{entries_of}
-use Rattle.row_changes.specs.Touched.{touches}
+use Rattle.acl_changes.specs.Touched.{touches}
 use Rattle.acl_compile.specs.Compiled.{CompiledState}
 use Rattle.acl_compile.specs.Plans.{Plan, CanBeCounted, IsPolicyPlan}
-use Rattle.row_changes.specs.Steps.{HaveKeys, sort_key_steps}
+use Rattle.acl_changes.specs.Steps.{HaveKeys, sort_key_steps}
 use Rattle.mud_file.specs.declared.usage_file.UsageFile.{UsageFile}
-use Rattle.file_tables.specs.declared.cached_file.CachedFile.{CachedFile}
-use Rattle.file_tables.specs.declared.file_edit.PolicyChange.{PolicyChange}
-use Rattle.file_tables.specs.declared.file_edit.PolicyChange.TheVariants.{Comes, Goes}
-use Rattle.file_tables.specs.Held.{HeldFile, usage_in}
-use Rattle.file_tables.specs.Files.{file_at}
-use Rattle.file_tables.specs.Policies.{policy_in_file, policy_in_held, candidate_in_row, candidate_policy, policy_after}
-use Rattle.file_tables.proofs.EntryBounds.{few_outgoing, few_incoming}
+use Rattle.usage_tables.specs.declared.cached_file.CachedFile.{CachedFile}
+use Rattle.usage_tables.specs.declared.file_edit.PolicyChange.{PolicyChange}
+use Rattle.usage_tables.specs.declared.file_edit.PolicyChange.TheVariants.{Comes, Goes}
+use Rattle.usage_tables.specs.Held.{HeldFile, usage_in}
+use Rattle.usage_tables.specs.Files.{file_at}
+use Rattle.usage_tables.specs.Policies.{policy_in_file, policy_in_held, candidate_in_row, candidate_policy, policy_after}
+use Rattle.usage_tables.proofs.EntryBounds.{few_outgoing, few_incoming}
 use Rattle.desk_books.specs.RowPlans.{IsFileRows, IsPaidByPolicy}
 
 -- ---- The entries of a policy can be counted

@@ -2,12 +2,12 @@
 use Rattle.std.proofs.Common.{◌≡◌, ℕ, Bool, cond, List, Option, Ok, Err, refl, sym, ap, subst, ◌∙◌}
 use Rattle.std.specs.Prelude.{IsOkAnd}
 use Rattle.acl_model.specs.declared.entry.Policy.{Policy}
-use Rattle.mud_tables.specs.Tables.{binds_of, with_binds}
-use Rattle.mud_tables.specs.ThingCommands.{ThingStep}
-use Rattle.mud_tables.specs.BindCommands.{BindStep}
-use Rattle.file_tables.specs.declared.cached_file.CachedFile.{CachedFile}
-use Rattle.file_tables.specs.FileCommands.{FilesAfter, FileStep}
-use Rattle.file_tables.specs.Policies.{policy_of, policy_change, policy_after}
+use Rattle.table_model.specs.Tables.{binds_of, with_binds}
+use Rattle.table_model.specs.ThingCommands.{ThingStep}
+use Rattle.table_model.specs.BindCommands.{BindStep}
+use Rattle.usage_tables.specs.declared.cached_file.CachedFile.{CachedFile}
+use Rattle.usage_tables.specs.FileCommands.{FilesAfter, FileStep}
+use Rattle.usage_tables.specs.Policies.{policy_of, policy_change, policy_after}
 use Rattle.thing_book.specs.Planned as thing
 use Rattle.file_cache.specs.Planned as file
 use Rattle.file_cache.specs.Changes.{PlannedFile}
@@ -19,7 +19,7 @@ use Rattle.desk_books.specs.Books.{Books, desk_of}
 use Rattle.desk_books.specs.Planned.{PaysFor}
 use Rattle.desk_books.specs.RowPlans.{IsPaidByBindings, IsPaidByPolicy}
 use Rattle.desk_books.proofs.Planning.{change_stamped, stamped_files}
-use Rattle.sorted_rows.proofs.ListTests.{same_bytes}
+use Rattle.base_rows.proofs.ListTests.{same_bytes}
 
 module _ (books : Books) (now : ℕ) (steps : ℕ) where
   pub things_paid : (step : ThingStep) (change : thing.PlannedThings) → thing.IsPlanOf step books.things change → IsPaidByBindings change.gone change.come books.compiled steps

@@ -8,20 +8,20 @@ use Rattle.acl_model.specs.Changes.{IsBindingChange}
 use Rattle.item_codec.specs.declared.word.Word.{Word}
 use Rattle.acl_compile.specs.Compiled.{CompiledState}
 use Rattle.acl_compile.specs.Plans.{Plan, Fits, IsMemberPlan}
-use Rattle.mud_tables.specs.declared.thing.Thing.{Thing}
-use Rattle.mud_tables.specs.Tables.{Tables, binds_of, with_binds}
-use Rattle.mud_tables.specs.Bindings.{bindings_of}
-use Rattle.mud_tables.specs.Things.{IsSoundThings}
-use Rattle.mud_tables.specs.Binds.{Binds, IsSoundBinds}
-use Rattle.mud_tables.specs.ThingCommands.{ThingsAfter, ThingStep}
-use Rattle.mud_tables.specs.BindCommands.{BindsAfter, BindStep}
-use Rattle.file_tables.specs.declared.cached_file.CachedFile.{CachedFile}
-use Rattle.file_tables.specs.declared.file_edit.PolicyChange.{PolicyChange}
-use Rattle.file_tables.specs.declared.file_edit.PolicyChange.TheVariants.{Stays, Comes, Goes}
-use Rattle.file_tables.specs.Files.{IsSoundFiles}
-use Rattle.file_tables.specs.FileCommands.{FilesAfter, FileStep}
-use Rattle.file_tables.specs.Limits.{last_moment}
-use Rattle.file_tables.specs.Policies.{policy_of, policy_change, policy_after}
+use Rattle.table_model.specs.declared.thing.Thing.{Thing}
+use Rattle.table_model.specs.Tables.{Tables, binds_of, with_binds}
+use Rattle.table_model.specs.Bindings.{bindings_of}
+use Rattle.table_model.specs.Things.{IsSoundThings}
+use Rattle.table_model.specs.Binds.{Binds, IsSoundBinds}
+use Rattle.table_model.specs.ThingCommands.{ThingsAfter, ThingStep}
+use Rattle.table_model.specs.BindCommands.{BindsAfter, BindStep}
+use Rattle.usage_tables.specs.declared.cached_file.CachedFile.{CachedFile}
+use Rattle.usage_tables.specs.declared.file_edit.PolicyChange.{PolicyChange}
+use Rattle.usage_tables.specs.declared.file_edit.PolicyChange.TheVariants.{Stays, Comes, Goes}
+use Rattle.usage_tables.specs.Files.{IsSoundFiles}
+use Rattle.usage_tables.specs.FileCommands.{FilesAfter, FileStep}
+use Rattle.usage_tables.specs.Limits.{last_moment}
+use Rattle.usage_tables.specs.Policies.{policy_of, policy_change, policy_after}
 use Rattle.thing_book.specs.Planned as thing
 use Rattle.file_cache.specs.Planned as file
 use Rattle.file_cache.specs.Changes.{PlannedFile}

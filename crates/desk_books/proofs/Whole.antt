@@ -5,11 +5,11 @@ use Rattle.mud_base.specs.declared.memory.Memory.{Memory}
 use Rattle.desk_model.specs.declared.reply.Refusal.{Refusal}
 use Rattle.acl_compile.specs.Compiled.{CompiledState}
 use Rattle.acl_compile.specs.Plans.{Plan, Fits, IsKept}
-use Rattle.mud_tables.specs.Tables.{binds_of, with_binds}
-use Rattle.mud_tables.specs.Things.{IsSoundThings}
-use Rattle.mud_tables.specs.Binds.{IsSoundClasses, IsSoundLocals, IsSoundNames}
-use Rattle.file_tables.specs.Files.{IsSoundFiles}
-use Rattle.file_tables.specs.Limits.{last_moment}
+use Rattle.table_model.specs.Tables.{binds_of, with_binds}
+use Rattle.table_model.specs.Things.{IsSoundThings}
+use Rattle.table_model.specs.Binds.{IsSoundClasses, IsSoundLocals, IsSoundNames}
+use Rattle.usage_tables.specs.Files.{IsSoundFiles}
+use Rattle.usage_tables.specs.Limits.{last_moment}
 use Rattle.desk_model.specs.declared.command.Command.{Command}
 use Rattle.desk_model.specs.DeskTables.{DeskTables, IsSound, IsStamp, with_things, with_files, with_desk_binds}
 use Rattle.desk_model.specs.Commands.{DeskStep, command_step}

@@ -1,10 +1,10 @@
 -- A planned change of the desk, and what it makes of the desk.
 use Rattle.std.specs.Prelude.{ℕ, List, [], ◌∷◌, Option, Some, None}
-use Rattle.sorted_rows.specs.Changes.{changed}
+use Rattle.base_rows.specs.Changes.{changed}
 use Rattle.mud_world.specs.declared.item.Put.{Put}
-use Rattle.mud_tables.specs.Things.{mac_of}
-use Rattle.mud_tables.specs.Tables.{binds_of}
-use Rattle.file_tables.specs.FileEdits.{edited}
+use Rattle.table_model.specs.Things.{mac_of}
+use Rattle.table_model.specs.Tables.{binds_of}
+use Rattle.usage_tables.specs.FileEdits.{edited}
 use Rattle.bind_book.specs.Plans.{changed_binds}
 use Rattle.acl_compile.specs.Plans.{Plan}
 use Rattle.desk_model.specs.declared.reply.Outcome.{Outcome}

@@ -1,8 +1,8 @@
 -- A command that was planned in its book: the change is the book's step, of which the step of the desk is made.
 use Rattle.std.specs.Prelude.{◌≡◌, ℕ, false, Result, Ok, Err}
-use Rattle.mud_tables.specs.ThingCommands.{ThingStep}
-use Rattle.mud_tables.specs.BindCommands.{BindStep}
-use Rattle.file_tables.specs.FileCommands.{FileStep}
+use Rattle.table_model.specs.ThingCommands.{ThingStep}
+use Rattle.table_model.specs.BindCommands.{BindStep}
+use Rattle.usage_tables.specs.FileCommands.{FileStep}
 use Rattle.thing_book.specs.Planned as thing
 use Rattle.file_cache.specs.Planned as file
 use Rattle.bind_book.specs.Plans as bind

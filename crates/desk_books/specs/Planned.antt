@@ -6,9 +6,9 @@ use Rattle.acl_model.specs.Changes.{IsBindingChange}
 use Rattle.acl_rows.specs.Rows.{rows_of}
 use Rattle.acl_compile.specs.Compiled.{CompiledState}
 use Rattle.acl_compile.specs.Plans.{Plan, Fits, slots_after, bindings_after}
-use Rattle.mud_tables.specs.Binds.{IsSoundBinds}
-use Rattle.file_tables.specs.Files.{IsSoundFiles}
-use Rattle.file_tables.specs.FileEdits.{edited, room_for}
+use Rattle.table_model.specs.Binds.{IsSoundBinds}
+use Rattle.usage_tables.specs.Files.{IsSoundFiles}
+use Rattle.usage_tables.specs.FileEdits.{edited, room_for}
 use Rattle.bind_book.specs.Plans.{changed_binds, HasRoomFor}
 use Rattle.thing_book.specs.Planned as thing
 use Rattle.file_cache.specs.Changes.{Files}

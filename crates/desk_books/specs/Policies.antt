@@ -3,8 +3,8 @@ use Rattle.std.specs.Prelude.{◌≡◌, ℕ, suc, ◌≤◌, bytes_eq, List, Op
 use Rattle.acl_model.specs.declared.entry.Policy.{Policy}
 use Rattle.acl_compile.specs.Compiled.{CompiledState, HasItsRows}
 use Rattle.acl_compile.specs.Plans.{policy_held, others_held}
-use Rattle.file_tables.specs.declared.cached_file.CachedFile.{CachedFile}
-use Rattle.file_tables.specs.Policies.{policy_in_row, policy_of}
+use Rattle.usage_tables.specs.declared.cached_file.CachedFile.{CachedFile}
+use Rattle.usage_tables.specs.Policies.{policy_in_row, policy_of}
 
 -- the policy of a URL, where this one, if any, is that of `url` and there was one before, if any
 abbrev pub policy_with : List ℕ → Option Policy → List ℕ → Option Policy → Option Policy

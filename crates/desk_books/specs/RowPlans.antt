@@ -2,14 +2,14 @@
 use Rattle.std.specs.Prelude.{ℕ, ◌+◌, ◌*◌, ◌^◌, ◌<◌, ◌≤◌, List, [], ◌++◌, length, Option}
 use Rattle.acl_model.specs.declared.entry.Policy.{Policy}
 use Rattle.acl_model.specs.declared.binding.Binding.{Binding}
-use Rattle.row_changes.specs.Touched.{touches}
+use Rattle.acl_changes.specs.Touched.{touches}
 use Rattle.acl_compile.specs.Compiled.{CompiledState}
 use Rattle.acl_compile.specs.Plans.{Plan, IsMemberPlan, IsPolicyPlan, held_for, policy_steps}
-use Rattle.row_changes.specs.Steps.{HaveKeys, PolicyKeys, sort_key_steps}
-use Rattle.file_tables.specs.declared.cached_file.CachedFile.{CachedFile}
-use Rattle.file_tables.specs.declared.file_edit.PolicyChange.{PolicyChange}
-use Rattle.file_tables.specs.declared.file_edit.PolicyChange.TheVariants.{Stays, Comes, Goes}
-use Rattle.file_tables.specs.Policies.{policy_change, policy_after}
+use Rattle.acl_changes.specs.Steps.{HaveKeys, PolicyKeys, sort_key_steps}
+use Rattle.usage_tables.specs.declared.cached_file.CachedFile.{CachedFile}
+use Rattle.usage_tables.specs.declared.file_edit.PolicyChange.{PolicyChange}
+use Rattle.usage_tables.specs.declared.file_edit.PolicyChange.TheVariants.{Stays, Comes, Goes}
+use Rattle.usage_tables.specs.Policies.{policy_change, policy_after}
 use Rattle.desk_books.specs.declared.change.BookChange.{BookChange}
 use Rattle.desk_books.specs.declared.change.BookChange.TheVariants.{Things, Files, Binds}
 

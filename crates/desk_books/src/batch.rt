@@ -1,7 +1,7 @@
 //! The batch by which a change is kept.
 ghost use Rattle.std.specs.Prelude.{◌≡◌, IfOk};
 ghost use Rattle.mud_world.specs.Items.{set_put};
-ghost use Rattle.mud_tables.specs.BindItems.{stamp_item};
+ghost use Rattle.table_model.specs.BindItems.{stamp_item};
 ghost use Rattle.desk_books.specs.Changes.{batch_of, stamp_after};
 
 use item_codec::FieldWriter;
@@ -16,7 +16,7 @@ const STAMP_KIND: u8 = 6;
 const VERSION: u64 = 1;
 
 /// The put of the stamp.
-#[tactic(auto, unfolding(mud_world::specs::Items::set_put, mud_tables::specs::BindItems::stamp_item, item_codec::specs::Spelling::version, item_codec::specs::Spelling::version_of))]
+#[tactic(auto, unfolding(mud_world::specs::Items::set_put, table_model::specs::BindItems::stamp_item, item_codec::specs::Spelling::version, item_codec::specs::Spelling::version_of))]
 fn stamp_put(alloc: Global, now: Moment) -> Result<Put, Memory>
     ensures { IfOk result (λ put. put ≡ set_put stamp_item now) }
 {

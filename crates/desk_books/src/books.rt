@@ -1,9 +1,9 @@
 //! The books of the desk, with what is compiled of them.
 ghost use Rattle.std.specs.Prelude.{◌≡◌, ◌+◌, ◌-◌, ◌≤◌, false, true, Ok, Err, length, IfOk, IfErr, IsOkAnd, option_copied};
 ghost use Rattle.acl_rows.specs.View.{IsViewOf};
-ghost use Rattle.row_changes.specs.Patch.{rows_apart};
+ghost use Rattle.acl_changes.specs.Patch.{rows_apart};
 ghost use Rattle.acl_compile.specs.Plans.{IsKept};
-ghost use Rattle.mud_tables.specs.Things.{thing_at};
+ghost use Rattle.table_model.specs.Things.{thing_at};
 ghost use Rattle.desk_model.specs.DeskTables.{IsSound, IsStamp};
 ghost use Rattle.desk_model.specs.Refusals.{is_want_of_memory};
 ghost use Rattle.desk_model.specs.Commands.{IsAsked, command_step};
@@ -17,19 +17,19 @@ use crate::lists::{Lists, compiled_of};
 use crate::rows::row_plan;
 use acl_compile::Compiled;
 use acl_rows::RuleView;
+use base_rows::Steps;
 use bind_book::BindBook;
 use bind_book::laws::moment_fits;
 use desk_model::{Command, Refusal};
 use file_cache::FileCache;
-use file_tables::CachedFile;
 use mud_base::{Direction, Mac, Memory, Moment, Prefix};
-use mud_tables::{ClassRow, NameRow, Thing, ThingFault};
 use mud_url::MudUrl;
-use sorted_rows::Steps;
 use std::alloc::Global;
 use std::marker::Model;
 use std::sync::ledger::Ledger;
+use table_model::{ClassRow, NameRow, Thing, ThingFault};
 use thing_book::ThingBook;
+use usage_tables::CachedFile;
 
 /// The lists that the manager keeps, the moment of their last change, and the policies, bindings and
 /// rows that are compiled of them. Contracts see all of these.

@@ -1,11 +1,11 @@
 //! The policies, bindings and rows of a desk's lists.
 ghost use Rattle.std.specs.Prelude.{◌≡◌, ◌<◌, [], IfOk, OnOk};
-ghost use Rattle.sorted_rows.specs.Ledgers.{IsBlankOf};
-ghost use Rattle.sorted_rows.specs.Sortable.{set_rows};
+ghost use Rattle.base_rows.specs.Ledgers.{IsBlankOf};
+ghost use Rattle.base_rows.specs.Sortable.{set_rows};
 ghost use Rattle.acl_model.specs.SortKeys.{binding_sort_key};
 ghost use Rattle.acl_compile.specs.Compiled.{HasItsRows};
 ghost use Rattle.acl_compile.specs.Plans.{others_held};
-ghost use Rattle.file_tables.specs.Files.{IsSoundFiles};
+ghost use Rattle.usage_tables.specs.Files.{IsSoundFiles};
 ghost use Rattle.desk_model.specs.DeskTables.{DeskTables, IsSound};
 ghost use Rattle.desk_books.specs.CompiledDesk.{IsCompiledOf};
 ghost use Rattle.desk_books.specs.Policies.{AddsPolicy, HasPolicies};
@@ -13,13 +13,13 @@ ghost use Rattle.desk_books.specs.Policies.{AddsPolicy, HasPolicies};
 use crate::listing::list_bindings;
 use acl_compile::Compiled;
 use acl_model::Binding;
-use file_tables::CachedFile;
+use base_rows::Steps;
 use mud_base::Memory;
-use mud_tables::{ClassRow, NameRow, Thing};
-use sorted_rows::Steps;
 use std::alloc::Global;
 use std::marker::Brand;
 use std::sync::ledger::{Blank, Ledger};
+use table_model::{ClassRow, NameRow, Thing};
+use usage_tables::CachedFile;
 
 /// The policies of the approved files, the bindings of the leases, classes and names, and the rows
 /// that follow from them, where these are the lists of a desk. Nothing but memory is wanting. The

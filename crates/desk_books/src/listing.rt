@@ -1,14 +1,14 @@
 //! The bindings of the rows of a desk.
 ghost use Rattle.std.specs.Prelude.{◌≡◌, ◌++◌, ◌∷◌, [], IfOk, OnOk};
-ghost use Rattle.mud_tables.specs.Bindings as spec;
+ghost use Rattle.table_model.specs.Bindings as spec;
 
 use acl_model::{Binding, MemberKey};
 use mud_base::{Addr, Bytes, End, Listed, Memory};
-use mud_tables::{Class, ClassRow, NameRow, Thing};
 use std::alloc::Global;
+use table_model::{Class, ClassRow, NameRow, Thing};
 
 /// Adds the two bindings of a lease: to the host and to the URL of its Thing.
-#[tactic(auto, unfolding(mud_tables::specs::Bindings::bindings_of_lease))]
+#[tactic(auto, unfolding(table_model::specs::Bindings::bindings_of_lease))]
 fn add_lease(
     alloc: Global,
     list: &mut Listed<Binding>,
@@ -33,7 +33,7 @@ fn add_lease(
 }
 
 /// Adds the bindings of a Thing.
-#[tactic(auto, unfolding(mud_tables::specs::Bindings::thing_bindings))]
+#[tactic(auto, unfolding(table_model::specs::Bindings::thing_bindings))]
 fn add_thing(alloc: Global, list: &mut Listed<Binding>, thing: &Thing) -> Result<(), Memory>
     ensures { OnOk result (list.new ≡ list.old ++ spec.thing_bindings thing.now) }
 {
@@ -44,7 +44,7 @@ fn add_thing(alloc: Global, list: &mut Listed<Binding>, thing: &Thing) -> Result
 }
 
 /// Adds the bindings of Things.
-#[tactic(auto, unfolding(mud_tables::specs::Bindings::things_bindings))]
+#[tactic(auto, unfolding(table_model::specs::Bindings::things_bindings))]
 fn add_things(alloc: Global, list: &mut Listed<Binding>, things: &[Thing]) -> Result<(), Memory>
     ensures { OnOk result (list.new ≡ list.old ++ spec.things_bindings things.now) }
 {
@@ -55,7 +55,7 @@ fn add_things(alloc: Global, list: &mut Listed<Binding>, things: &[Thing]) -> Re
 }
 
 /// What an address of a class is bound to.
-#[tactic(auto, unfolding(mud_tables::specs::Bindings::member_key))]
+#[tactic(auto, unfolding(table_model::specs::Bindings::member_key))]
 fn member_key(class: &Class) -> Result<MemberKey, Memory>
     ensures { IfOk result (λ key. key ≡ spec.member_key class.now) }
 {
@@ -66,7 +66,7 @@ fn member_key(class: &Class) -> Result<MemberKey, Memory>
 }
 
 /// Adds the binding of an address of a class, which never expires.
-#[tactic(auto, unfolding(mud_tables::specs::Bindings::class_binding))]
+#[tactic(auto, unfolding(table_model::specs::Bindings::class_binding))]
 fn add_class_address(list: &mut Listed<Binding>, row: &ClassRow, addr: Addr) -> Result<(), Memory>
     ensures { OnOk result (list.new ≡ list.old ++ spec.class_binding row.now addr ∷ []) }
 {
@@ -80,7 +80,7 @@ fn add_class_address(list: &mut Listed<Binding>, row: &ClassRow, addr: Addr) -> 
 }
 
 /// Adds the bindings of a class.
-#[tactic(auto, unfolding(mud_tables::specs::Bindings::class_bindings))]
+#[tactic(auto, unfolding(table_model::specs::Bindings::class_bindings))]
 fn add_class(list: &mut Listed<Binding>, row: &ClassRow) -> Result<(), Memory>
     ensures { OnOk result (list.new ≡ list.old ++ spec.class_bindings row.now) }
 {
@@ -91,7 +91,7 @@ fn add_class(list: &mut Listed<Binding>, row: &ClassRow) -> Result<(), Memory>
 }
 
 /// Adds the bindings of classes.
-#[tactic(auto, unfolding(mud_tables::specs::Bindings::classes_bindings))]
+#[tactic(auto, unfolding(table_model::specs::Bindings::classes_bindings))]
 fn add_classes(list: &mut Listed<Binding>, classes: &[ClassRow]) -> Result<(), Memory>
     ensures { OnOk result (list.new ≡ list.old ++ spec.classes_bindings classes.now) }
 {
@@ -102,7 +102,7 @@ fn add_classes(list: &mut Listed<Binding>, classes: &[ClassRow]) -> Result<(), M
 }
 
 /// Adds the binding of an address of a name.
-#[tactic(auto, unfolding(mud_tables::specs::Bindings::name_binding))]
+#[tactic(auto, unfolding(table_model::specs::Bindings::name_binding))]
 fn add_name_address(
     list: &mut Listed<Binding>,
     row: &NameRow,
@@ -117,7 +117,7 @@ fn add_name_address(
 }
 
 /// Adds the bindings of a name.
-#[tactic(auto, unfolding(mud_tables::specs::Bindings::name_bindings))]
+#[tactic(auto, unfolding(table_model::specs::Bindings::name_bindings))]
 fn add_name(list: &mut Listed<Binding>, row: &NameRow) -> Result<(), Memory>
     ensures { OnOk result (list.new ≡ list.old ++ spec.name_bindings row.now) }
 {
@@ -128,7 +128,7 @@ fn add_name(list: &mut Listed<Binding>, row: &NameRow) -> Result<(), Memory>
 }
 
 /// Adds the bindings of names.
-#[tactic(auto, unfolding(mud_tables::specs::Bindings::names_bindings))]
+#[tactic(auto, unfolding(table_model::specs::Bindings::names_bindings))]
 fn add_names(list: &mut Listed<Binding>, names: &[NameRow]) -> Result<(), Memory>
     ensures { OnOk result (list.new ≡ list.old ++ spec.names_bindings names.now) }
 {

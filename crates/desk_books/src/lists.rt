@@ -1,8 +1,8 @@
 //! The three books, and the plan of a command in one of them.
 ghost use Rattle.std.specs.Prelude.{◌≡◌, ℕ, Option, IfOk, IfErr, IsOkAnd};
-ghost use Rattle.mud_tables.specs.ThingCommands.{ThingStep};
-ghost use Rattle.mud_tables.specs.BindCommands.{BindStep};
-ghost use Rattle.file_tables.specs.FileCommands.{FileStep};
+ghost use Rattle.table_model.specs.ThingCommands.{ThingStep};
+ghost use Rattle.table_model.specs.BindCommands.{BindStep};
+ghost use Rattle.usage_tables.specs.FileCommands.{FileStep};
 ghost use Rattle.thing_book.specs.Planned as thing;
 ghost use Rattle.file_cache.specs.Planned as file;
 ghost use Rattle.bind_book.specs.Plans as bind;
@@ -19,11 +19,11 @@ use acl_compile::Compiled;
 use bind_book::{BindBook, BindChange};
 use desk_model::{Command, Refusal};
 use file_cache::{CacheChange, FileCache};
-use file_tables::CacheFault;
 use mud_base::{Memory, Moment};
-use mud_tables::{BindFault, ThingFault};
 use std::alloc::Global;
+use table_model::{BindFault, ThingFault};
 use thing_book::{ThingBook, ThingChange};
+use usage_tables::CacheFault;
 
 /// The three books.
 #[derive(Drop)]
@@ -96,7 +96,7 @@ impl Lists {
     ghost use Rattle.desk_books.specs.Planned.{CanCommit};
 
     /// Makes a change that was planned, where nothing was committed since.
-    #[tactic(auto, unfolding(crate::specs::Changes::with_change, desk_model::specs::DeskTables::with_things, desk_model::specs::DeskTables::with_files, desk_model::specs::DeskTables::with_desk_binds, mud_tables::specs::Tables::binds_of, mud_tables::specs::Tables::with_binds))]
+    #[tactic(auto, unfolding(crate::specs::Changes::with_change, desk_model::specs::DeskTables::with_things, desk_model::specs::DeskTables::with_files, desk_model::specs::DeskTables::with_desk_binds, table_model::specs::Tables::binds_of, table_model::specs::Tables::with_binds))]
     pub(crate) fn commit(&mut self, change: BookChange)
         requires { CanCommit change self.old.things self.old.files self.old.binds }
         ensures { (stamp : Option ℕ) → desk_with self.new stamp ≡ with_change change (desk_with self.old stamp) }

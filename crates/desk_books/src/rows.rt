@@ -2,15 +2,15 @@
 ghost use Rattle.std.specs.Prelude.{◌≡◌, ℕ, ◌+◌, ◌-◌, ◌≤◌, IfOk, option_copied};
 ghost use Rattle.acl_compile.specs.Plans.{CanBeCounted, IsKept, IsPolicyPlan};
 ghost use Rattle.desk_books.specs.RowPlans.{IsFileRows, IsRowPlan, IsRowsPaid, IsPaidByPolicy};
-ghost use Rattle.file_tables.specs.Policies.{policy_change, policy_after};
+ghost use Rattle.usage_tables.specs.Policies.{policy_change, policy_after};
 
 use crate::change::BookChange;
 use acl_compile::{Compiled, RowPlan};
 use acl_model::Policy;
+use base_rows::Steps;
 use file_cache::{CacheChange, FileCache, PolicyChange};
 use mud_base::Memory;
 use mud_url::MudUrl;
-use sorted_rows::Steps;
 use std::sync::ledger::Ledger;
 
 /// Plans that this policy is held for the URL, or none.

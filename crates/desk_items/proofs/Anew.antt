@@ -9,12 +9,12 @@ use Rattle.item_codec.specs.Records.{◌>>=◌}
 use Rattle.mud_world.specs.declared.item.Item.{Item}
 use Rattle.mud_world.specs.declared.item.Put.TheVariants.{Set}
 use Rattle.mud_world.specs.Items.{sort_key_of, put_one, put_all, IsOrdered}
-use Rattle.mud_tables.specs.declared.thing.Thing.{Thing}
-use Rattle.mud_tables.specs.Tables.{binds_of}
-use Rattle.mud_tables.specs.ThingItems.{thing_item, thing_items, thing_of, if_sound_thing, thing_in, item_anew, in_second}
-use Rattle.mud_tables.specs.BindItems.{stamp_item, stamp_items}
-use Rattle.mud_tables.specs.TakenItems.{bind_items}
-use Rattle.file_tables.specs.FileItems.{file_item, file_items}
+use Rattle.table_model.specs.declared.thing.Thing.{Thing}
+use Rattle.table_model.specs.Tables.{binds_of}
+use Rattle.table_model.specs.ThingItems.{thing_item, thing_items, thing_of, if_sound_thing, thing_in, item_anew, in_second}
+use Rattle.table_model.specs.BindItems.{stamp_item, stamp_items}
+use Rattle.table_model.specs.TakenItems.{bind_items}
+use Rattle.usage_tables.specs.FileItems.{file_item, file_items}
 use Rattle.desk_model.specs.DeskTables.{DeskTables}
 use Rattle.desk_model.specs.Items.{desk_of, items_of, tables_in, in_second_version}
 use Rattle.desk_model.proofs.Anew.{sort_key_in_second, put_anew, read_anew}
@@ -24,7 +24,7 @@ use Rattle.desk_model.proofs.ReadSound.{desk_alone}
 use Rattle.desk_items.specs.declared.loaded.Loaded.{Loaded}
 use Rattle.desk_items.specs.Loaded.{loaded_desk}
 use Rattle.desk_items.specs.Opening.{HasOctets, IsPartlyAnew, PutsAnew}
-use Rattle.sorted_rows.proofs.Lists.{all-append}
+use Rattle.base_rows.proofs.Lists.{all-append}
 
 abbrev no_such : Option Thing
 no_such = None

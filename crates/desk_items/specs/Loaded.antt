@@ -2,9 +2,9 @@
 use Rattle.std.specs.Prelude.{◌≡◌, ℕ, List, Some, Result, Ok, Err}
 use Rattle.std.specs.Prelude.{slice_get}
 use Rattle.mud_world.specs.declared.item.Item.{Item}
-use Rattle.mud_tables.specs.declared.thing.Thing.{Thing}
-use Rattle.mud_tables.specs.Binds.{Binds}
-use Rattle.file_tables.specs.declared.cached_file.CachedFile.{CachedFile}
+use Rattle.table_model.specs.declared.thing.Thing.{Thing}
+use Rattle.table_model.specs.Binds.{Binds}
+use Rattle.usage_tables.specs.declared.cached_file.CachedFile.{CachedFile}
 use Rattle.desk_model.specs.DeskTables.{DeskTables}
 use Rattle.desk_model.specs.Items.{KeptDesk, desk_of, tables_in}
 use Rattle.desk_items.specs.declared.loaded.Loaded.{Loaded}

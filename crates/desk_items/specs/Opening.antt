@@ -5,7 +5,7 @@ use Rattle.mud_world.specs.declared.item.Item.{Item}
 use Rattle.mud_world.specs.declared.fault.KeepFault.{KeepFault}
 use Rattle.mud_world.specs.declared.fault.KeepFault.TheVariants as keep
 use Rattle.mud_world.specs.Items.{IsOrdered}
-use Rattle.mud_tables.specs.ThingItems.{in_second}
+use Rattle.table_model.specs.ThingItems.{in_second}
 use Rattle.desk_model.specs.Items.{tables_in, in_second_version}
 use Rattle.desk_items.specs.declared.fault.OpenFault.{OpenFault}
 use Rattle.desk_items.specs.declared.fault.OpenFault.TheVariants.{Keeper, Memory, BadItem}

@@ -4,10 +4,10 @@
 #![tactic(auto)]
 
 pub mod fault;
+pub mod loaded;
 pub mod opening;
 mod stamp;
-pub mod loaded;
 
 pub use fault::OpenFault;
-pub use opening::open_items;
 pub use loaded::Loaded;
+pub use opening::open_items;

@@ -1,10 +1,10 @@
 //! The lists of the books while items are taken.
 ghost use Rattle.std.specs.Prelude.{◌≡◌, ◌==◌, ◌&&◌, ◌↔◌, nat_lt, is_none, true, IsTrue, IfOk, OnErr};
 ghost use Rattle.std.specs.Option.{option_map};
-ghost use Rattle.mud_tables.specs.ThingItems.{with_thing_item};
-ghost use Rattle.mud_tables.specs.BindItems.{with_stamp_item};
-ghost use Rattle.mud_tables.specs.TakenItems.{is_empty, have_none, with_bind_item};
-ghost use Rattle.file_tables.specs.FileItems.{with_file_item};
+ghost use Rattle.table_model.specs.ThingItems.{with_thing_item};
+ghost use Rattle.table_model.specs.BindItems.{with_stamp_item};
+ghost use Rattle.table_model.specs.TakenItems.{is_empty, have_none, with_bind_item};
+ghost use Rattle.usage_tables.specs.FileItems.{with_file_item};
 ghost use Rattle.desk_model.specs.Items.{none_kept, with_desk_item};
 ghost use Rattle.bind_book.specs.Reading.{IsTaken};
 ghost use Rattle.desk_items.specs.Loaded.{kept_of, IsReadingOf, set_things, set_files, set_binds, set_stamp};
@@ -51,7 +51,7 @@ impl Loaded {
     /// Takes what an item keeps, where that may stand behind what the items taken so far keep, which
     /// were those before it in the keeper's order: true exactly there. Else, and without memory, all
     /// is as before.
-    #[tactic(auto, unfolding(desk_model::specs::Items::with_desk_item, mud_tables::specs::TakenItems::with_item))]
+    #[tactic(auto, unfolding(desk_model::specs::Items::with_desk_item, table_model::specs::TakenItems::with_item))]
     pub fn take(&mut self, item: &Item) -> Result<bool, Memory>
         ensures loaded { IfOk result (IsTaken (with_desk_item (kept_of self.old) item.now) (kept_of self.old) (kept_of self.new)) }
         ensures memory { OnErr result (kept_of self.new ≡ kept_of self.old) }
@@ -75,7 +75,7 @@ impl Loaded {
     }
 
     /// Whether no class, local network or name was taken.
-    #[tactic(auto, unfolding(mud_tables::specs::TakenItems::have_none))]
+    #[tactic(auto, unfolding(table_model::specs::TakenItems::have_none))]
     fn has_no_binds(&self) -> bool
         ensures { result ≡ have_none self.now.binds.binds }
     {
@@ -109,7 +109,7 @@ impl Loaded {
     }
 
     /// Takes the stamp, where none was taken.
-    #[tactic(auto, unfolding(mud_tables::specs::BindItems::with_stamp_item))]
+    #[tactic(auto, unfolding(table_model::specs::BindItems::with_stamp_item))]
     fn take_stamp(&mut self, item: &Item) -> bool
         ensures { IsTaken (option_map (set_stamp (kept_of self.old)) (with_stamp_item self.old.stamp item.now)) (kept_of self.old) (kept_of self.new) result }
     {

@@ -1,6 +1,6 @@
 //! Reading the stamp, the moment of the last change, from its item.
 ghost use Rattle.std.specs.Prelude.{◌≡◌};
-ghost use Rattle.mud_tables.specs.BindItems as spec;
+ghost use Rattle.table_model.specs.BindItems as spec;
 
 use item_codec::FieldReader;
 use mud_base::Moment;
@@ -10,7 +10,7 @@ use mud_world::Item;
 pub(crate) const KIND: u8 = 6;
 
 /// The seconds in the body of the stamp's item, or None where the body isn't of its form.
-#[tactic(auto, unfolding(mud_tables::specs::BindItems::moment_of_body, item_codec::specs::Records::version_in, item_codec::specs::Records::number_in, item_codec::specs::Records::end_in))]
+#[tactic(auto, unfolding(table_model::specs::BindItems::moment_of_body, item_codec::specs::Records::version_in, item_codec::specs::Records::number_in, item_codec::specs::Records::end_in))]
 fn moment_of_body(body: &[u8]) -> Option<u64>
     ensures { result ≡ spec.moment_of_body body.now }
 {
@@ -28,7 +28,7 @@ fn moment_of_body(body: &[u8]) -> Option<u64>
 }
 
 /// The stamp of an item, or None where the item is none of a stamp.
-#[tactic(auto, unfolding(mud_tables::specs::BindItems::stamp_in, mud_tables::specs::BindItems::if_moment))]
+#[tactic(auto, unfolding(table_model::specs::BindItems::stamp_in, table_model::specs::BindItems::if_moment))]
 pub(crate) fn stamp_in(item: &Item) -> Option<Moment>
     ensures { result ≡ spec.stamp_in item.now }
 {

@@ -3,19 +3,19 @@ use Rattle.std.proofs.Common.{◌≡◌, ℕ, cond, ◌&&◌, List, [], ◌∷�
 use Rattle.std.specs.Prelude.{option_map, is_none}
 use Rattle.std.specs.List.{AllByRecursion}
 use Rattle.std.specs.declared.cmp.Ordering.TheVariants.{Less, Equal}
-use Rattle.sorted_rows.specs.Sortable.{sort_key_cmp, set_row, SortKeysAbove, SortKeysBelow}
-use Rattle.sorted_rows.proofs.SortableLaws.{sort_key_cmp_itself}
-use Rattle.sorted_rows.proofs.IndexLaws.{set_row-behind}
+use Rattle.base_rows.specs.Sortable.{sort_key_cmp, set_row, SortKeysAbove, SortKeysBelow}
+use Rattle.base_rows.proofs.SortableLaws.{sort_key_cmp_itself}
+use Rattle.base_rows.proofs.IndexLaws.{set_row-behind}
 use Rattle.mud_world.specs.declared.item.Item.{Item}
 use Rattle.mud_world.specs.declared.item.Put.TheVariants.{Set}
 use Rattle.mud_world.specs.Items.{sort_key_of, put_one, IsOrdered}
 use Rattle.item_codec.specs.Spelling.{IsOctets}
 use Rattle.item_codec.specs.Records.{◌>>=◌, version_to_in}
 use Rattle.item_codec.proofs.RecordLaws.{some_is, version_to_back}
-use Rattle.mud_tables.specs.declared.thing.Thing.{Thing}
-use Rattle.mud_tables.specs.ThingItems.{thing_fields, thing_item, first_thing_item, thing_in, item_anew, in_second, with_thing_item, IsThingItem}
-use Rattle.mud_tables.specs.TakenItems.{all_taken, is_empty, have_none, with_item}
-use Rattle.mud_tables.proofs.ItemLaws.{thing_back, thing_alone}
+use Rattle.table_model.specs.declared.thing.Thing.{Thing}
+use Rattle.table_model.specs.ThingItems.{thing_fields, thing_item, first_thing_item, thing_in, item_anew, in_second, with_thing_item, IsThingItem}
+use Rattle.table_model.specs.TakenItems.{all_taken, is_empty, have_none, with_item}
+use Rattle.table_model.proofs.ItemLaws.{thing_back, thing_alone}
 use Rattle.desk_model.specs.DeskTables.{DeskTables}
 use Rattle.desk_model.specs.Items.{KeptDesk, none_kept, with_desk_item, kept_in, desk_in, tables_in, in_second_version}
 use Rattle.desk_model.proofs.Taking.{kept_by_taken, taken_by_kept}

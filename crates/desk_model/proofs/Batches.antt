@@ -7,23 +7,23 @@ use Rattle.std.specs.declared.cmp.Ordering.{Ordering}
 use Rattle.std.specs.declared.cmp.Ordering.TheVariants.{Less, Equal, Greater}
 use Rattle.std.proofs.lemmas.Bool.{lt-ltb, le-leb}
 use Rattle.std.proofs.lemmas.List.{append-nil}
-use Rattle.sorted_rows.specs.Sortable.{sort_key_cmp}
-use Rattle.sorted_rows.proofs.SortableLaws.{sort_key_cmp_exact}
-use Rattle.sorted_rows.proofs.ListTests.{left_of, right_of, both}
-use Rattle.sorted_rows.proofs.Lists.{all-append}
+use Rattle.base_rows.specs.Sortable.{sort_key_cmp}
+use Rattle.base_rows.proofs.SortableLaws.{sort_key_cmp_exact}
+use Rattle.base_rows.proofs.ListTests.{left_of, right_of, both}
+use Rattle.base_rows.proofs.Lists.{all-append}
 use Rattle.mud_world.specs.declared.item.Item.{Item}
 use Rattle.mud_world.specs.declared.item.Put.{Put}
 use Rattle.mud_world.specs.declared.item.Put.TheVariants.{Set, Gone}
 use Rattle.mud_world.specs.Items.{put_one, put_all, sort_key_of_put, is_apart, are_apart, is_batch, kind_of_put, set_put, IsDifference, ArePutsOf, AreOfLowerKinds, AreOfHigherKinds}
 use Rattle.mud_world.proofs.ItemLaws.{puts_among}
-use Rattle.mud_tables.specs.declared.thing.Thing.{Thing}
-use Rattle.mud_tables.specs.Binds.{Binds}
-use Rattle.mud_tables.specs.Tables.{binds_of, with_binds}
-use Rattle.mud_tables.specs.ThingItems.{thing_items}
-use Rattle.mud_tables.specs.BindItems.{stamp_item, stamp_items}
-use Rattle.mud_tables.specs.TakenItems.{bind_items}
-use Rattle.file_tables.specs.declared.cached_file.CachedFile.{CachedFile}
-use Rattle.file_tables.specs.FileItems.{file_items}
+use Rattle.table_model.specs.declared.thing.Thing.{Thing}
+use Rattle.table_model.specs.Binds.{Binds}
+use Rattle.table_model.specs.Tables.{binds_of, with_binds}
+use Rattle.table_model.specs.ThingItems.{thing_items}
+use Rattle.table_model.specs.BindItems.{stamp_item, stamp_items}
+use Rattle.table_model.specs.TakenItems.{bind_items}
+use Rattle.usage_tables.specs.declared.cached_file.CachedFile.{CachedFile}
+use Rattle.usage_tables.specs.FileItems.{file_items}
 use Rattle.desk_model.specs.DeskTables.{DeskTables, with_things, with_files, with_desk_binds}
 use Rattle.desk_model.specs.Commands.{stamped}
 use Rattle.desk_model.specs.Items.{items_of, with_stamp_put, IsKeptBy}

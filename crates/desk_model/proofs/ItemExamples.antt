@@ -3,16 +3,16 @@ use Rattle.std.proofs.Common.{◌≡◌, ℕ, true, List, [], ◌∷◌, Option,
 use Rattle.std.specs.Prelude.{option_map}
 use Rattle.mud_url.specs.Url.{is_canonical}
 use Rattle.mud_url.proofs.OnLiterals.{url_on_literals}
-use Rattle.mud_tables.specs.declared.thing.Thing.{Thing}
-use Rattle.mud_tables.specs.Expiries.{are_ascending, have_expiries}
-use Rattle.mud_tables.specs.Things.{may_wait, are_leases, is_sound_thing, IsKeptThing}
-use Rattle.mud_tables.specs.Tables.{binds_of}
-use Rattle.mud_tables.specs.ThingItems.{thing_item, thing_items, first_thing_item, item_anew, in_second, is_taken, may_follow, with_thing_item}
-use Rattle.mud_tables.specs.BindItems.{class_items, locals_items, name_items, stamp_item, stamp_items, with_stamp_item}
-use Rattle.mud_tables.specs.TakenItems.{no_binds, bind_items, have_none, with_item}
-use Rattle.mud_tables.proofs.ItemLaws.{first_thing_back, stamp_back}
-use Rattle.mud_tables.proofs.Literals.{expiries_compute, bulb_url, bare_bulb}
-use Rattle.file_tables.specs.FileItems.{file_items}
+use Rattle.table_model.specs.declared.thing.Thing.{Thing}
+use Rattle.table_model.specs.Expiries.{are_ascending, have_expiries}
+use Rattle.table_model.specs.Things.{may_wait, are_leases, is_sound_thing, IsKeptThing}
+use Rattle.table_model.specs.Tables.{binds_of}
+use Rattle.table_model.specs.ThingItems.{thing_item, thing_items, first_thing_item, item_anew, in_second, is_taken, may_follow, with_thing_item}
+use Rattle.table_model.specs.BindItems.{class_items, locals_items, name_items, stamp_item, stamp_items, with_stamp_item}
+use Rattle.table_model.specs.TakenItems.{no_binds, bind_items, have_none, with_item}
+use Rattle.table_model.proofs.ItemLaws.{first_thing_back, stamp_back}
+use Rattle.table_model.proofs.Literals.{expiries_compute, bulb_url, bare_bulb}
+use Rattle.usage_tables.specs.FileItems.{file_items}
 use Rattle.desk_model.specs.DeskTables.{DeskTables}
 use Rattle.desk_model.specs.Items.{items_of, KeptDesk, none_kept, desk_of, with_desk_item, desk_in, tables_in}
 use Rattle.desk_model.proofs.Taking.{kept_behind, take_thing, take_stamp}

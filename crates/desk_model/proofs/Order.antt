@@ -5,20 +5,20 @@ use Rattle.mud_base.specs.declared.prefix.Prefix.{Prefix}
 use Rattle.mud_world.specs.declared.item.Item.{Item}
 use Rattle.mud_world.specs.Items.{IsOrdered, AreOfHigherKinds, AreItemsOf}
 use Rattle.mud_world.proofs.ItemLaws.{ordered-append, ordered-items}
-use Rattle.mud_tables.specs.Things.{mac_of}
-use Rattle.mud_tables.specs.Binds.{Binds, class_key, name_of, IsSoundBinds}
-use Rattle.mud_tables.specs.Tables.{binds_of}
-use Rattle.mud_tables.specs.ThingItems.{thing_item, thing_items}
-use Rattle.mud_tables.specs.BindItems.{class_item, class_items, locals_item, locals_items, name_item, name_items, stamp_item, stamp_items}
-use Rattle.mud_tables.specs.TakenItems.{bind_items}
-use Rattle.mud_tables.proofs.ItemLaws.{are_things}
-use Rattle.file_tables.specs.Files.{url_of}
-use Rattle.file_tables.specs.FileItems.{file_item, file_items}
+use Rattle.table_model.specs.Things.{mac_of}
+use Rattle.table_model.specs.Binds.{Binds, class_key, name_of, IsSoundBinds}
+use Rattle.table_model.specs.Tables.{binds_of}
+use Rattle.table_model.specs.ThingItems.{thing_item, thing_items}
+use Rattle.table_model.specs.BindItems.{class_item, class_items, locals_item, locals_items, name_item, name_items, stamp_item, stamp_items}
+use Rattle.table_model.specs.TakenItems.{bind_items}
+use Rattle.table_model.proofs.ItemLaws.{are_things}
+use Rattle.usage_tables.specs.Files.{url_of}
+use Rattle.usage_tables.specs.FileItems.{file_item, file_items}
 use Rattle.desk_model.specs.DeskTables.{DeskTables, IsSound}
 use Rattle.desk_model.specs.Items.{items_of}
 use Rattle.desk_model.proofs.ReadBack.{each_item, all_bind_items, parts}
-use Rattle.file_tables.proofs.EditLaws.{are_file_items}
-use Rattle.sorted_rows.proofs.Lists.{all-append}
+use Rattle.usage_tables.proofs.EditLaws.{are_file_items}
+use Rattle.base_rows.proofs.Lists.{all-append}
 
 -- ---- The kinds of items
 

@@ -8,8 +8,8 @@ use Rattle.frame_view.specs.Frame.{frame_of}
 use Rattle.frame_view.specs.PacketFrame.{PacketFrame}
 use Rattle.acl_model.specs.declared.ruling.Ruling.{Ruling}
 use Rattle.acl_model.specs.declared.ruling.Ruling.TheVariants.{DropHeld}
-use Rattle.mud_tables.specs.declared.thing.Thing.{Thing}
-use Rattle.mud_tables.specs.declared.segment.Segment.{Segment}
+use Rattle.table_model.specs.declared.thing.Thing.{Thing}
+use Rattle.table_model.specs.declared.segment.Segment.{Segment}
 use Rattle.packet_judge.specs.Verdicts.{Endpoints, endpoints_of, endpoint_ruling, governed, is_managed, if_managed, verdict_on, verdict_of, rulings_of, accepts, forwarded}
 use Rattle.desk_model.specs.DeskTables.{DeskTables}
 use Rattle.desk_model.specs.Forwarding.{is_forwarded_by, lets_pass}

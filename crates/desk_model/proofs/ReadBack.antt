@@ -6,24 +6,24 @@ use Rattle.std.proofs.lemmas.List.{append-nil}
 use Rattle.mud_base.specs.declared.prefix.Prefix.{Prefix}
 use Rattle.mud_world.specs.declared.item.Item.{Item}
 use Rattle.item_codec.specs.Records.{◌>>=◌}
-use Rattle.mud_tables.specs.declared.thing.Thing.{Thing}
-use Rattle.mud_tables.specs.Binds.{Binds, IsSoundBinds}
-use Rattle.mud_tables.specs.Tables.{binds_of}
-use Rattle.mud_tables.specs.ThingItems.{thing_item, thing_items, with_thing_item}
-use Rattle.mud_tables.specs.BindItems.{class_item, class_items, locals_item, locals_items, name_item, name_items, stamp_item, stamp_items, with_stamp_item}
-use Rattle.mud_tables.specs.TakenItems.{all_taken, no_binds, bind_items, with_bind_item}
-use Rattle.mud_tables.proofs.ItemLaws.{stamp_back}
-use Rattle.mud_tables.proofs.RowSets.{all_behind}
-use Rattle.mud_tables.proofs.TakenLaws.{things_again, binds_again}
-use Rattle.file_tables.specs.declared.cached_file.CachedFile.{CachedFile}
-use Rattle.file_tables.specs.Files.{IsKeptFile, IsSoundFiles}
-use Rattle.file_tables.specs.FileItems.{file_item, file_items, with_file_item}
-use Rattle.file_tables.proofs.ItemLaws.{file_back}
-use Rattle.file_tables.proofs.ReadFiles.{behind-sound}
+use Rattle.table_model.specs.declared.thing.Thing.{Thing}
+use Rattle.table_model.specs.Binds.{Binds, IsSoundBinds}
+use Rattle.table_model.specs.Tables.{binds_of}
+use Rattle.table_model.specs.ThingItems.{thing_item, thing_items, with_thing_item}
+use Rattle.table_model.specs.BindItems.{class_item, class_items, locals_item, locals_items, name_item, name_items, stamp_item, stamp_items, with_stamp_item}
+use Rattle.table_model.specs.TakenItems.{all_taken, no_binds, bind_items, with_bind_item}
+use Rattle.table_model.proofs.ItemLaws.{stamp_back}
+use Rattle.table_model.proofs.RowSets.{all_behind}
+use Rattle.table_model.proofs.TakenLaws.{things_again, binds_again}
+use Rattle.usage_tables.specs.declared.cached_file.CachedFile.{CachedFile}
+use Rattle.usage_tables.specs.Files.{IsKeptFile, IsSoundFiles}
+use Rattle.usage_tables.specs.FileItems.{file_item, file_items, with_file_item}
+use Rattle.usage_tables.proofs.ItemLaws.{file_back}
+use Rattle.usage_tables.proofs.ReadFiles.{behind-sound}
 use Rattle.desk_model.specs.DeskTables.{DeskTables, IsStamp, IsSound}
 use Rattle.desk_model.specs.Items.{KeptDesk, none_kept, desk_of, with_desk_item, desk_in, items_of, tables_in}
 use Rattle.desk_model.proofs.Taking.{kept_by_taken, all_taken-append, taken_within, take_thing, take_file, take_bind, take_stamp}
-use Rattle.sorted_rows.proofs.Lists.{all-append}
+use Rattle.base_rows.proofs.Lists.{all-append}
 
 -- ---- Files
 

@@ -8,22 +8,22 @@ use Rattle.mud_world.specs.declared.item.Item.{Item}
 use Rattle.item_codec.specs.Spelling.{IsOctets}
 use Rattle.item_codec.specs.Records.{◌>>=◌}
 use Rattle.item_codec.proofs.RecordLaws.{some_is, bind_some, pass_some, chosen}
-use Rattle.sorted_rows.proofs.ListTests.{left_of, right_of}
-use Rattle.mud_tables.specs.declared.thing.Thing.{Thing}
-use Rattle.mud_tables.specs.Things.{IsSoundThings}
-use Rattle.mud_tables.specs.Binds.{Binds, IsSoundBinds}
-use Rattle.mud_tables.specs.Tables.{binds_of}
-use Rattle.mud_tables.specs.ThingItems.{thing_items, thing_in, item_anew, in_second, with_thing_item}
-use Rattle.mud_tables.specs.BindItems.{class_items, locals_items, name_items, stamp_items, stamp_in, with_stamp_item}
-use Rattle.mud_tables.specs.TakenItems.{all_taken, no_binds, is_empty, bind_items, have_none, with_bind_item, with_item}
-use Rattle.mud_tables.proofs.ItemLaws.{stamp_alone}
-use Rattle.mud_tables.proofs.RowSets.{map_push}
-use Rattle.mud_tables.proofs.TakenLaws.{things_taken, bind_taken, no_things, sound_no_binds, mapped_some, nothing_there}
-use Rattle.file_tables.specs.declared.cached_file.CachedFile.{CachedFile}
-use Rattle.file_tables.specs.Files.{IsSoundFiles, entry_count}
-use Rattle.file_tables.specs.FileItems.{file_item, file_items, file_in, IsFileItem, may_stand_behind, with_file_item}
-use Rattle.file_tables.proofs.ItemLaws.{file_alone}
-use Rattle.file_tables.proofs.ReadFiles.{sound-push}
+use Rattle.base_rows.proofs.ListTests.{left_of, right_of}
+use Rattle.table_model.specs.declared.thing.Thing.{Thing}
+use Rattle.table_model.specs.Things.{IsSoundThings}
+use Rattle.table_model.specs.Binds.{Binds, IsSoundBinds}
+use Rattle.table_model.specs.Tables.{binds_of}
+use Rattle.table_model.specs.ThingItems.{thing_items, thing_in, item_anew, in_second, with_thing_item}
+use Rattle.table_model.specs.BindItems.{class_items, locals_items, name_items, stamp_items, stamp_in, with_stamp_item}
+use Rattle.table_model.specs.TakenItems.{all_taken, no_binds, is_empty, bind_items, have_none, with_bind_item, with_item}
+use Rattle.table_model.proofs.ItemLaws.{stamp_alone}
+use Rattle.table_model.proofs.RowSets.{map_push}
+use Rattle.table_model.proofs.TakenLaws.{things_taken, bind_taken, no_things, sound_no_binds, mapped_some, nothing_there}
+use Rattle.usage_tables.specs.declared.cached_file.CachedFile.{CachedFile}
+use Rattle.usage_tables.specs.Files.{IsSoundFiles, entry_count}
+use Rattle.usage_tables.specs.FileItems.{file_item, file_items, file_in, IsFileItem, may_stand_behind, with_file_item}
+use Rattle.usage_tables.proofs.ItemLaws.{file_alone}
+use Rattle.usage_tables.proofs.ReadFiles.{sound-push}
 use Rattle.desk_model.specs.DeskTables.{DeskTables, IsSound, empty_desk}
 use Rattle.desk_model.specs.Items.{KeptDesk, none_kept, desk_of, with_desk_item, kept_in, desk_in, items_of, tables_in, in_second_version}
 use Rattle.desk_model.proofs.Taking.{taken_by_kept, unequal}

@@ -14,13 +14,13 @@ use Rattle.acl_model.specs.declared.entry.Policy.{Policy}
 use Rattle.acl_model.specs.declared.ruling.Why.TheVariants.{NoMatch}
 use Rattle.acl_model.specs.declared.ruling.Ruling.TheVariants.{Accept, DropDefault}
 use Rattle.mud_file.specs.File.{file_of}
-use Rattle.mud_tables.specs.declared.bind.Class.TheVariants.{Uri}
-use Rattle.mud_tables.specs.declared.segment.Segment.{Segment}
-use Rattle.mud_tables.proofs.Literals.{bulb_addr, dns_addr, test_addr, bulb_url, dns_class, test_name, bulb}
-use Rattle.file_tables.specs.declared.approval.Approval.TheVariants.{Waived}
-use Rattle.file_tables.specs.Held.{held_file, usage_in}
-use Rattle.file_tables.specs.Files.{url_of, file_at}
-use Rattle.file_tables.specs.Policies.{policy_in_held, policy_in_approved, policy_in_row, policy_of}
+use Rattle.table_model.specs.declared.bind.Class.TheVariants.{Uri}
+use Rattle.table_model.specs.declared.segment.Segment.{Segment}
+use Rattle.table_model.proofs.Literals.{bulb_addr, dns_addr, test_addr, bulb_url, dns_class, test_name, bulb}
+use Rattle.usage_tables.specs.declared.approval.Approval.TheVariants.{Waived}
+use Rattle.usage_tables.specs.Held.{held_file, usage_in}
+use Rattle.usage_tables.specs.Files.{url_of, file_at}
+use Rattle.usage_tables.specs.Policies.{policy_in_held, policy_in_approved, policy_in_row, policy_of}
 use Rattle.packet_judge.specs.declared.verdict.Verdict.{Verdict}
 use Rattle.packet_judge.specs.declared.verdict.Verdict.TheVariants.{Governed}
 use Rattle.packet_judge.specs.Verdicts.{rulings_of, verdict_of}

@@ -3,16 +3,16 @@ use Rattle.std.proofs.Common.{◌≡◌, ℕ, ◌≤◌, Bool, true, false, List
 use Rattle.std.specs.Prelude.{IfOk, nat_le, unwrap_or}
 use Rattle.std.specs.List.{AllByRecursion}
 use Rattle.std.proofs.lemmas.Bool.{le-leb}
-use Rattle.sorted_rows.proofs.ListTests.{left_of, right_of, both}
-use Rattle.sorted_rows.proofs.Lists.{all_push}
+use Rattle.base_rows.proofs.ListTests.{left_of, right_of, both}
+use Rattle.base_rows.proofs.Lists.{all_push}
 use Rattle.item_codec.proofs.RecordLaws.{bind_some}
 use Rattle.mud_base.specs.declared.memory.Memory as want
 use Rattle.frame_view.specs.declared.views.Frame.{Frame}
 use Rattle.frame_view.specs.Frame.{frame_of}
-use Rattle.mud_tables.specs.declared.segment.Segment.{Segment}
-use Rattle.mud_tables.specs.History.{segment_in, segment_of, with_segment, is_forward}
-use Rattle.mud_tables.proofs.TypeFacts.{segment_at}
-use Rattle.file_tables.specs.Limits.{last_moment}
+use Rattle.table_model.specs.declared.segment.Segment.{Segment}
+use Rattle.table_model.specs.History.{segment_in, segment_of, with_segment, is_forward}
+use Rattle.table_model.proofs.TypeFacts.{segment_at}
+use Rattle.usage_tables.specs.Limits.{last_moment}
 use Rattle.packet_judge.specs.declared.verdict.Verdict.{Verdict}
 use Rattle.packet_judge.specs.Verdicts.{noted_fields, noted_segment, history_after}
 use Rattle.desk_model.specs.declared.command.Command.{Command}

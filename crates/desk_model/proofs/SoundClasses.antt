@@ -3,11 +3,11 @@ use Rattle.std.proofs.Common.{◌≡◌, true, false, List, Option, Some, None, 
 use Rattle.std.proofs.lemmas.Bool.{false≢true}
 use Rattle.std.specs.Prelude.{IfOk}
 use Rattle.mud_base.specs.declared.addr.Addr.{Addr}
-use Rattle.mud_tables.specs.declared.bind.Class.{Class}
-use Rattle.mud_tables.specs.declared.bind.ClassRow.{ClassRow}
-use Rattle.mud_tables.specs.declared.bind_fault.BindFault.TheVariants.{NotBound}
-use Rattle.mud_tables.specs.Binds.{Binds, class_at, is_class, IsSoundClasses, IsSoundBinds}
-use Rattle.mud_tables.specs.BindCommands.{unbind_cases, unbind_step, unbind_class_step, with_classes}
+use Rattle.table_model.specs.declared.bind.Class.{Class}
+use Rattle.table_model.specs.declared.bind.ClassRow.{ClassRow}
+use Rattle.table_model.specs.declared.bind_fault.BindFault.TheVariants.{NotBound}
+use Rattle.table_model.specs.Binds.{Binds, class_at, is_class, IsSoundClasses, IsSoundBinds}
+use Rattle.table_model.specs.BindCommands.{unbind_cases, unbind_step, unbind_class_step, with_classes}
 use Rattle.table_laws.proofs.BindLaws.{classes_sound}
 use Rattle.table_laws.proofs.KeptClasses.{unbind_sound, class_there}
 

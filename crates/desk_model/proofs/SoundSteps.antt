@@ -1,20 +1,20 @@
 -- Every command keeps the desk sound.
 use Rattle.std.proofs.Common.{ℕ, ◌≤◌, Bool, true, false, Ok, Err}
 use Rattle.std.specs.Prelude.{IfOk}
-use Rattle.mud_tables.specs.Things.{IsSoundThings}
-use Rattle.mud_tables.specs.ThingCommands.{ThingStep, url_step, move_step, remove_step, hold_step, release_step, lease_step, end_step}
-use Rattle.mud_tables.specs.Binds.{IsSoundBinds}
-use Rattle.mud_tables.specs.BindCommands.{BindStep, bind_step, locals_step, observe_step, bind_class_step, unbind_class_step, set_locals_step, observe_name_step}
-use Rattle.mud_tables.specs.Tables.{binds_of, with_binds}
-use Rattle.mud_tables.proofs.SoundThings.{OfAfter as OfThings, sound-url_step, sound-move_step, sound-remove_step, sound-hold_step, sound-release_step, sound-lease_step, sound-end_step}
+use Rattle.table_model.specs.Things.{IsSoundThings}
+use Rattle.table_model.specs.ThingCommands.{ThingStep, url_step, move_step, remove_step, hold_step, release_step, lease_step, end_step}
+use Rattle.table_model.specs.Binds.{IsSoundBinds}
+use Rattle.table_model.specs.BindCommands.{BindStep, bind_step, locals_step, observe_step, bind_class_step, unbind_class_step, set_locals_step, observe_name_step}
+use Rattle.table_model.specs.Tables.{binds_of, with_binds}
+use Rattle.table_model.proofs.SoundThings.{OfAfter as OfThings, sound-url_step, sound-move_step, sound-remove_step, sound-hold_step, sound-release_step, sound-lease_step, sound-end_step}
 use Rattle.table_laws.proofs.SoundClasses.{sound-bind_step}
 use Rattle.table_laws.proofs.SoundLocals.{sound-locals_step}
 use Rattle.table_laws.proofs.SoundNames.{sound-observe_step}
 use Rattle.table_laws.proofs.BindLaws.{classes_sound, locals_sound, names_sound}
-use Rattle.file_tables.specs.Files.{IsSoundFiles}
-use Rattle.file_tables.specs.FileCommands.{FileStep, import_step, verdict_step, revoke_step}
-use Rattle.file_tables.specs.Limits.{last_moment}
-use Rattle.file_tables.proofs.SoundFiles.{OfAfter as OfFiles, sound-import_step, sound-verdict_step, sound-revoke_step}
+use Rattle.usage_tables.specs.Files.{IsSoundFiles}
+use Rattle.usage_tables.specs.FileCommands.{FileStep, import_step, verdict_step, revoke_step}
+use Rattle.usage_tables.specs.Limits.{last_moment}
+use Rattle.usage_tables.proofs.SoundFiles.{OfAfter as OfFiles, sound-import_step, sound-verdict_step, sound-revoke_step}
 use Rattle.desk_model.specs.declared.command.Command.{Command}
 use Rattle.desk_model.specs.declared.command.Command.TheVariants.{HearUrl, HearLease, Move, Remove, Hold, Release, Lease, EndLease, Import, Verdict, Revoke, Bind, Unbind, Locals, Observe}
 use Rattle.desk_model.specs.DeskTables.{DeskTables, IsSound, with_things, with_files, with_desk_binds}

@@ -7,25 +7,25 @@ use Rattle.mud_base.specs.declared.prefix.Prefix.{Prefix}
 use Rattle.usage_walk.specs.declared.fault.Broken.{Broken}
 use Rattle.mud_file.specs.declared.usage_file.UsageFile.{UsageFile}
 use Rattle.mud_file.specs.File.{file_of}
-use Rattle.mud_tables.specs.declared.thing.Thing.{Thing}
-use Rattle.mud_tables.specs.declared.bind.Class.{Class}
-use Rattle.mud_tables.specs.declared.bind.ClassRow.{ClassRow}
-use Rattle.mud_tables.specs.declared.bind.NameRow.{NameRow}
-use Rattle.mud_tables.specs.declared.bind_fault.BindFault.{BindFault}
-use Rattle.mud_tables.specs.Expiries.{expiry_of}
-use Rattle.mud_tables.specs.Things.{thing_at}
-use Rattle.mud_tables.specs.Binds.{Binds, class_at, name_at, prefixes_in_order}
-use Rattle.mud_tables.specs.ThingCommands.{ThingStep, is_pending, url_cases, url_step, move_cases, move_step, remove_cases, remove_step, hold_cases, hold_step, release_cases, release_step, expiry_after, kept_lease, new_lease, known_lease, stranger_lease, lease_cases, lease_step, end_step}
-use Rattle.mud_tables.specs.BindCommands.{ClassStep, LocalStep, NameStep, BindStep, bind_cases, bind_step, unbind_cases, unbind_step, locals_cases, locals_step, addrs_of, least_dead, replacing, new_pair, kept_pair, observe_cases, observe_row, observe_step, with_classes, with_locals, with_names, bind_class_step, unbind_class_step, set_locals_step, observe_name_step}
-use Rattle.mud_tables.specs.Tables.{binds_of}
-use Rattle.file_tables.specs.declared.approval.Approval.{Approval}
-use Rattle.file_tables.specs.declared.approval.OperatorVerdict.{OperatorVerdict}
-use Rattle.file_tables.specs.declared.approval.OperatorVerdict.TheVariants as verdict
-use Rattle.file_tables.specs.declared.approval.Approval.TheVariants as approval
-use Rattle.file_tables.specs.declared.cached_file.CachedFile.{CachedFile}
-use Rattle.file_tables.specs.Held.{HeldFile, held_file}
-use Rattle.file_tables.specs.Files.{file_at}
-use Rattle.file_tables.specs.FileCommands.{FileStep, candidate_again, approved_again, new_candidate, beside_approved, beside_candidate, import_cases, import_read, import_step, approve, ruled, candidate_cases, verdict_cases, verdict_step, approved_cases, revoke_cases, revoke_step}
+use Rattle.table_model.specs.declared.thing.Thing.{Thing}
+use Rattle.table_model.specs.declared.bind.Class.{Class}
+use Rattle.table_model.specs.declared.bind.ClassRow.{ClassRow}
+use Rattle.table_model.specs.declared.bind.NameRow.{NameRow}
+use Rattle.table_model.specs.declared.bind_fault.BindFault.{BindFault}
+use Rattle.table_model.specs.Expiries.{expiry_of}
+use Rattle.table_model.specs.Things.{thing_at}
+use Rattle.table_model.specs.Binds.{Binds, class_at, name_at, prefixes_in_order}
+use Rattle.table_model.specs.ThingCommands.{ThingStep, is_pending, url_cases, url_step, move_cases, move_step, remove_cases, remove_step, hold_cases, hold_step, release_cases, release_step, expiry_after, kept_lease, new_lease, known_lease, stranger_lease, lease_cases, lease_step, end_step}
+use Rattle.table_model.specs.BindCommands.{ClassStep, LocalStep, NameStep, BindStep, bind_cases, bind_step, unbind_cases, unbind_step, locals_cases, locals_step, addrs_of, least_dead, replacing, new_pair, kept_pair, observe_cases, observe_row, observe_step, with_classes, with_locals, with_names, bind_class_step, unbind_class_step, set_locals_step, observe_name_step}
+use Rattle.table_model.specs.Tables.{binds_of}
+use Rattle.usage_tables.specs.declared.approval.Approval.{Approval}
+use Rattle.usage_tables.specs.declared.approval.OperatorVerdict.{OperatorVerdict}
+use Rattle.usage_tables.specs.declared.approval.OperatorVerdict.TheVariants as verdict
+use Rattle.usage_tables.specs.declared.approval.Approval.TheVariants as approval
+use Rattle.usage_tables.specs.declared.cached_file.CachedFile.{CachedFile}
+use Rattle.usage_tables.specs.Held.{HeldFile, held_file}
+use Rattle.usage_tables.specs.Files.{file_at}
+use Rattle.usage_tables.specs.FileCommands.{FileStep, candidate_again, approved_again, new_candidate, beside_approved, beside_candidate, import_cases, import_read, import_step, approve, ruled, candidate_cases, verdict_cases, verdict_step, approved_cases, revoke_cases, revoke_step}
 use Rattle.desk_model.specs.declared.command.Command.{Command}
 use Rattle.desk_model.specs.declared.command.Command.TheVariants.{HearUrl, HearLease, Move, Remove, Hold, Release, Lease, EndLease, Import, Verdict, Revoke, Bind, Unbind, Locals, Observe}
 use Rattle.desk_model.specs.DeskTables.{DeskTables}

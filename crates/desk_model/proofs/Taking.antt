@@ -6,15 +6,15 @@ use Rattle.std.proofs.lemmas.Bool.{eqb-true, lt-ltb}
 use Rattle.mud_world.specs.declared.item.Item.{Item}
 use Rattle.item_codec.specs.Records.{◌>>=◌}
 use Rattle.item_codec.proofs.RecordLaws.{some_is, bind_some}
-use Rattle.mud_tables.specs.declared.thing.Thing.{Thing}
-use Rattle.mud_tables.specs.Binds.{Binds}
-use Rattle.mud_tables.specs.ThingItems.{with_thing_item}
-use Rattle.mud_tables.specs.BindItems.{with_stamp_item}
-use Rattle.mud_tables.specs.TakenItems.{all_taken, no_binds, have_none, with_bind_item, with_item}
-use Rattle.file_tables.specs.declared.cached_file.CachedFile.{CachedFile}
-use Rattle.file_tables.specs.FileItems.{with_file_item}
+use Rattle.table_model.specs.declared.thing.Thing.{Thing}
+use Rattle.table_model.specs.Binds.{Binds}
+use Rattle.table_model.specs.ThingItems.{with_thing_item}
+use Rattle.table_model.specs.BindItems.{with_stamp_item}
+use Rattle.table_model.specs.TakenItems.{all_taken, no_binds, have_none, with_bind_item, with_item}
+use Rattle.usage_tables.specs.declared.cached_file.CachedFile.{CachedFile}
+use Rattle.usage_tables.specs.FileItems.{with_file_item}
 use Rattle.desk_model.specs.Items.{KeptDesk, with_desk_item, kept_in}
-pub use Rattle.mud_tables.proofs.TakenLaws.{all_taken-append}
+pub use Rattle.table_model.proofs.TakenLaws.{all_taken-append}
 
 -- ---- All items are taken where none of them is the first that can't be
 

@@ -2,14 +2,14 @@
 use Rattle.std.proofs.Common.{◌≡◌, ℕ, ◌+◌, Bool, true, false, Ok, Err, refl, sym, ap, ◌∙◌}
 use Rattle.std.specs.Prelude.{IfOk, ◌↔◌}
 use Rattle.std.proofs.lemmas.Bool.{false≢true}
-use Rattle.mud_tables.specs.ThingCommands.{ThingStep, TellsChange as TellsThings, url_step, move_step, remove_step, hold_step, release_step, lease_step, end_step}
-use Rattle.mud_tables.specs.BindCommands.{BindStep, bind_step, unbind_step, locals_step, observe_step, bind_class_step, unbind_class_step, set_locals_step, observe_name_step}
-use Rattle.mud_tables.specs.Tables.{Tables, binds_of, with_binds}
-use Rattle.mud_tables.proofs.ToldThings.{told-url_step, told-move_step, told-remove_step, told-hold_step, told-release_step, told-lease_step, told-end_step}
+use Rattle.table_model.specs.ThingCommands.{ThingStep, TellsChange as TellsThings, url_step, move_step, remove_step, hold_step, release_step, lease_step, end_step}
+use Rattle.table_model.specs.BindCommands.{BindStep, bind_step, unbind_step, locals_step, observe_step, bind_class_step, unbind_class_step, set_locals_step, observe_name_step}
+use Rattle.table_model.specs.Tables.{Tables, binds_of, with_binds}
+use Rattle.table_model.proofs.ToldThings.{told-url_step, told-move_step, told-remove_step, told-hold_step, told-release_step, told-lease_step, told-end_step}
 use Rattle.table_laws.proofs.BindChanges.{bind_tells, unbind_tells, locals_tell, observe_tells, sooner}
 use Rattle.table_laws.proofs.BindLaws.{classes_told, locals_told, names_told}
-use Rattle.file_tables.specs.FileCommands.{FileStep, TellsChange as TellsFiles, import_step, verdict_step, revoke_step}
-use Rattle.file_tables.proofs.ToldFiles.{told-import_step, told-verdict_step, told-revoke_step}
+use Rattle.usage_tables.specs.FileCommands.{FileStep, TellsChange as TellsFiles, import_step, verdict_step, revoke_step}
+use Rattle.usage_tables.proofs.ToldFiles.{told-import_step, told-verdict_step, told-revoke_step}
 use Rattle.desk_model.specs.declared.command.Command.{Command}
 use Rattle.desk_model.specs.declared.command.Command.TheVariants.{HearUrl, HearLease, Move, Remove, Hold, Release, Lease, EndLease, Import, Verdict, Revoke, Bind, Unbind, Locals, Observe}
 use Rattle.desk_model.specs.declared.reply.Outcome.{Outcome}

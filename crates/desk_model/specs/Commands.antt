@@ -4,13 +4,13 @@ use Rattle.std.specs.List.{AllByRecursion}
 use Rattle.mud_base.specs.declared.addr.Mac.{Mac}
 use Rattle.mud_url.specs.Url.{is_canonical}
 use Rattle.item_codec.specs.declared.word.Word as done_word
-use Rattle.mud_tables.specs.ItemFields.{IsAddr}
-use Rattle.mud_tables.specs.ThingCommands.{ThingStep, url_step, move_step, remove_step, hold_step, release_step, lease_step, end_step}
-use Rattle.mud_tables.specs.Binds.{is_class, is_name, IsKeptNetwork}
-use Rattle.mud_tables.specs.BindCommands.{BindStep, bind_class_step, unbind_class_step, set_locals_step, observe_name_step}
-use Rattle.mud_tables.specs.Tables.{binds_of}
-use Rattle.file_tables.specs.FileCommands.{FileStep, import_step, verdict_step, revoke_step}
-use Rattle.file_tables.specs.Limits.{last_moment}
+use Rattle.table_model.specs.ItemFields.{IsAddr}
+use Rattle.table_model.specs.ThingCommands.{ThingStep, url_step, move_step, remove_step, hold_step, release_step, lease_step, end_step}
+use Rattle.table_model.specs.Binds.{is_class, is_name, IsKeptNetwork}
+use Rattle.table_model.specs.BindCommands.{BindStep, bind_class_step, unbind_class_step, set_locals_step, observe_name_step}
+use Rattle.table_model.specs.Tables.{binds_of}
+use Rattle.usage_tables.specs.FileCommands.{FileStep, import_step, verdict_step, revoke_step}
+use Rattle.usage_tables.specs.Limits.{last_moment}
 use Rattle.desk_model.specs.declared.command.Command.{Command}
 use Rattle.desk_model.specs.declared.command.Command.TheVariants.{HearUrl, HearLease, Move, Remove, Hold, Release, Lease, EndLease, Import, Verdict, Revoke, Bind, Unbind, Locals, Observe}
 use Rattle.desk_model.specs.declared.reply.Outcome.{Outcome}

@@ -1,11 +1,11 @@
 -- All that the manager holds: its tables, the usage files, and the moment of the last change.
 use Rattle.std.specs.Prelude.{◌≡◌, ℕ, ◌≤◌, List, [], Option, Some, None}
-use Rattle.mud_tables.specs.declared.thing.Thing.{Thing}
-use Rattle.mud_tables.specs.Binds.{Binds}
-use Rattle.mud_tables.specs.Tables.{Tables, IsSoundTables, with_binds}
-use Rattle.file_tables.specs.declared.cached_file.CachedFile.{CachedFile}
-use Rattle.file_tables.specs.Files.{IsSoundFiles}
-use Rattle.file_tables.specs.Limits.{last_moment}
+use Rattle.table_model.specs.declared.thing.Thing.{Thing}
+use Rattle.table_model.specs.Binds.{Binds}
+use Rattle.table_model.specs.Tables.{Tables, IsSoundTables, with_binds}
+use Rattle.usage_tables.specs.declared.cached_file.CachedFile.{CachedFile}
+use Rattle.usage_tables.specs.Files.{IsSoundFiles}
+use Rattle.usage_tables.specs.Limits.{last_moment}
 
 -- the Things, classes, local networks and names; the usage files; and the stamp, the moment of the last change
 pub record DeskTables : Type 0 where

@@ -4,10 +4,10 @@ use Rattle.mud_base.specs.declared.packet.Direction.{Direction}
 use Rattle.mud_base.specs.declared.packet.Direction.TheVariants.{From, To}
 use Rattle.mud_base.specs.declared.packet.Fields.{Fields}
 use Rattle.frame_view.specs.PacketFrame.{PacketFrame}
-use Rattle.mud_tables.specs.declared.thing.Thing.{Thing}
-use Rattle.mud_tables.specs.declared.segment.Segment.{Segment}
-use Rattle.mud_tables.specs.Tables.{ruling_of}
-use Rattle.mud_tables.specs.History.{begun_of}
+use Rattle.table_model.specs.declared.thing.Thing.{Thing}
+use Rattle.table_model.specs.declared.segment.Segment.{Segment}
+use Rattle.table_model.specs.Tables.{ruling_of}
+use Rattle.table_model.specs.History.{begun_of}
 use Rattle.packet_judge.specs.Verdicts.{accepts, endpoints_of}
 use Rattle.desk_model.specs.DeskTables.{DeskTables}
 use Rattle.desk_model.specs.Verdicts.{policy_at}

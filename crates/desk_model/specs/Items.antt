@@ -3,12 +3,12 @@ use Rattle.std.specs.Prelude.{◌≡◌, ℕ, IsTrue, List, [], ◌∷◌, ◌++
 use Rattle.mud_world.specs.declared.item.Item.{Item}
 use Rattle.mud_world.specs.declared.item.Put.{Put}
 use Rattle.mud_world.specs.Items.{put_all, set_put, is_batch}
-use Rattle.mud_tables.specs.ThingItems.{thing_items, in_second}
-use Rattle.mud_tables.specs.BindItems.{stamp_item, stamp_items}
-use Rattle.mud_tables.specs.TakenItems.{Kept, no_binds, bind_items, is_empty, with_item}
-use Rattle.mud_tables.specs.Tables.{binds_of}
-use Rattle.file_tables.specs.declared.cached_file.CachedFile.{CachedFile}
-use Rattle.file_tables.specs.FileItems.{file_items, with_file_item}
+use Rattle.table_model.specs.ThingItems.{thing_items, in_second}
+use Rattle.table_model.specs.BindItems.{stamp_item, stamp_items}
+use Rattle.table_model.specs.TakenItems.{Kept, no_binds, bind_items, is_empty, with_item}
+use Rattle.table_model.specs.Tables.{binds_of}
+use Rattle.usage_tables.specs.declared.cached_file.CachedFile.{CachedFile}
+use Rattle.usage_tables.specs.FileItems.{file_items, with_file_item}
 use Rattle.desk_model.specs.DeskTables.{DeskTables}
 
 -- The items of a desk, by kind and key: Things, files, classes, local networks, names, and the stamp. Where there are no local

@@ -1,13 +1,13 @@
 -- The refusals of commands: their numbers and names, and which of them is want of memory.
 use Rattle.std.specs.Prelude.{ℕ, Bool, true, false, List, codes, if◌then◌else◌}
-use Rattle.mud_tables.specs.declared.thing_fault.ThingFault.{ThingFault}
-use Rattle.mud_tables.specs.declared.thing_fault.ThingFault.TheVariants as thing
-use Rattle.mud_tables.specs.declared.bind_fault.BindFault.{BindFault}
-use Rattle.mud_tables.specs.declared.bind_fault.BindFault.TheVariants as bind
-use Rattle.mud_tables.specs.FaultNames.{number_of_thing_fault, name_of_thing_fault, number_of_bind_fault, name_of_bind_fault}
-use Rattle.file_tables.specs.declared.cache_fault.CacheFault.{CacheFault}
-use Rattle.file_tables.specs.declared.cache_fault.CacheFault.TheVariants as file
-use Rattle.file_tables.specs.FaultNames.{number_of_cache_fault, name_of_cache_fault}
+use Rattle.table_model.specs.declared.thing_fault.ThingFault.{ThingFault}
+use Rattle.table_model.specs.declared.thing_fault.ThingFault.TheVariants as thing
+use Rattle.table_model.specs.declared.bind_fault.BindFault.{BindFault}
+use Rattle.table_model.specs.declared.bind_fault.BindFault.TheVariants as bind
+use Rattle.table_model.specs.FaultNames.{number_of_thing_fault, name_of_thing_fault, number_of_bind_fault, name_of_bind_fault}
+use Rattle.usage_tables.specs.declared.cache_fault.CacheFault.{CacheFault}
+use Rattle.usage_tables.specs.declared.cache_fault.CacheFault.TheVariants as file
+use Rattle.usage_tables.specs.FaultNames.{number_of_cache_fault, name_of_cache_fault}
 use Rattle.desk_model.specs.declared.reply.Refusal.{Refusal}
 use Rattle.desk_model.specs.declared.reply.Refusal.TheVariants.{Things, Files, Binds}
 use Rattle.desk_model.specs.declared.reply.Reply.{Reply}

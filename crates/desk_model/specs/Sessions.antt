@@ -3,9 +3,9 @@ use Rattle.std.specs.Prelude.{◌≡◌, ℕ, ◌≤◌, max, Bool, true, false,
 use Rattle.std.specs.List.{AllByRecursion}
 use Rattle.frame_view.specs.Frame.{frame_of}
 use Rattle.mud_base.specs.declared.memory.Memory as want
-use Rattle.mud_tables.specs.declared.segment.Segment.{Segment}
-use Rattle.mud_tables.specs.History.{is_forward}
-use Rattle.file_tables.specs.Limits.{last_moment}
+use Rattle.table_model.specs.declared.segment.Segment.{Segment}
+use Rattle.table_model.specs.History.{is_forward}
+use Rattle.usage_tables.specs.Limits.{last_moment}
 use Rattle.packet_judge.specs.declared.verdict.Verdict.{Verdict}
 use Rattle.packet_judge.specs.Verdicts.{noted_fields, history_after}
 use Rattle.desk_model.specs.declared.command.Command.{Command}

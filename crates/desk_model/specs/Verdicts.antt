@@ -7,11 +7,11 @@ use Rattle.acl_model.specs.declared.entry.Policy.{Policy}
 use Rattle.acl_model.specs.declared.ruling.Ruling.{Ruling}
 use Rattle.acl_model.specs.declared.ruling.Ruling.TheVariants.{DropHeld}
 use Rattle.acl_model.specs.Policies.{UrlPolicy}
-use Rattle.mud_tables.specs.declared.thing.Thing.{Thing}
-use Rattle.mud_tables.specs.declared.segment.Segment.{Segment}
-use Rattle.mud_tables.specs.Tables.{ruling_of}
-use Rattle.mud_tables.specs.Bindings.{bindings_of}
-use Rattle.file_tables.specs.Policies.{policy_of, policies_of}
+use Rattle.table_model.specs.declared.thing.Thing.{Thing}
+use Rattle.table_model.specs.declared.segment.Segment.{Segment}
+use Rattle.table_model.specs.Tables.{ruling_of}
+use Rattle.table_model.specs.Bindings.{bindings_of}
+use Rattle.usage_tables.specs.Policies.{policy_of, policies_of}
 use Rattle.packet_judge.specs.declared.verdict.Verdict.{Verdict}
 use Rattle.packet_judge.specs.Verdicts.{rulings_of, verdict_of}
 use Rattle.desk_model.specs.DeskTables.{DeskTables}

@@ -1,8 +1,8 @@
 //! The commands that may change the tables.
-use file_tables::OperatorVerdict;
 use mud_base::{Addr, Bytes, Listed, Mac, Moment, Prefix};
-use mud_tables::Class;
 use mud_url::MudUrl;
+use table_model::Class;
+use usage_tables::OperatorVerdict;
 
 /// A command: what was heard from a Thing, or what the operator states.
 #[derive(Drop, Debug)]

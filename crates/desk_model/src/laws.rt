@@ -1,10 +1,10 @@
 //! Laws of the commands, each on a function that does nothing.
 ghost use Rattle.std.specs.Prelude.{◌≡◌, ℕ, ◌≤◌, Bool, false, Err, IfOk, IfErr};
 ghost use Rattle.mud_base.specs.declared.addr.Addr.{Addr};
-ghost use Rattle.mud_tables.specs.declared.bind.Class.{Class};
-ghost use Rattle.mud_tables.specs.declared.bind_fault.BindFault.TheVariants.{NotBound};
-ghost use Rattle.mud_tables.specs.Binds.{Binds, IsSoundBinds, is_class};
-ghost use Rattle.mud_tables.specs.BindCommands.{unbind_class_step};
+ghost use Rattle.table_model.specs.declared.bind.Class.{Class};
+ghost use Rattle.table_model.specs.declared.bind_fault.BindFault.TheVariants.{NotBound};
+ghost use Rattle.table_model.specs.Binds.{Binds, IsSoundBinds, is_class};
+ghost use Rattle.table_model.specs.BindCommands.{unbind_class_step};
 ghost use Rattle.desk_model.specs.declared.command.Command.{Command};
 ghost use Rattle.desk_model.specs.Refusals.{is_want_of_memory};
 ghost use Rattle.desk_model.specs.DeskTables.{DeskTables, IsSound, HaveSameLists};

@@ -1,11 +1,11 @@
 //! What a command answers.
 ghost use Rattle.std.specs.Prelude.{◌≡◌};
 
-use file_tables::CacheFault;
 use item_codec::Word;
 use mud_base::End;
-use mud_tables::{BindFault, ThingFault};
 use mud_url::MudUrl;
+use table_model::{BindFault, ThingFault};
+use usage_tables::CacheFault;
 
 /// What a command did.
 #[derive(Clone, Copy, Debug)]

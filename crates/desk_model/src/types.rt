@@ -1,7 +1,7 @@
 //! What the types of the parts of a command say of it, each on a function that changes nothing.
 ghost use Rattle.std.specs.List.{AllByRecursion};
-ghost use Rattle.mud_tables.specs.ItemFields.{IsAddr};
-ghost use Rattle.mud_tables.specs.Binds.{IsKeptNetwork};
+ghost use Rattle.table_model.specs.ItemFields.{IsAddr};
+ghost use Rattle.table_model.specs.Binds.{IsKeptNetwork};
 ghost use Rattle.desk_model.specs.Commands.{IsMac, IsTyped};
 
 use crate::command::Command;
@@ -25,7 +25,7 @@ fn addr_fits(addr: Addr)
 }
 
 /// A prefix fixes no more bits than there are, and the others are 0.
-#[tactic(auto, unfolding(mud_tables::specs::Binds::is_prefix))]
+#[tactic(auto, unfolding(table_model::specs::Binds::is_prefix))]
 fn prefix_fits(prefix: &Prefix)
     ensures { IsKeptNetwork prefix.now }
 {

@@ -5,9 +5,9 @@ use Rattle.std.specs.declared.cmp.Ordering.{Ordering}
 use Rattle.std.specs.declared.cmp.Ordering.TheVariants.{Less, Equal, Greater}
 use Rattle.std.proofs.lemmas.Bool.{false≢true}
 use Rattle.std.proofs.lemmas.List.Elements.{filter-append}
-use Rattle.sorted_rows.specs.Sortable.{sort_key_cmp, same_sort_key, SortKeysAbove, SortKeysAscend, row_at, set_row}
-use Rattle.sorted_rows.proofs.SortableLaws.{sort_key_cmp_turned, same_sort_key-cmp, same_sort_key_exact, same_sort_key_itself, above_trans, row_at_above}
-use Rattle.sorted_rows.proofs.ListTests.{both_ways, or_first, or_second}
+use Rattle.base_rows.specs.Sortable.{sort_key_cmp, same_sort_key, SortKeysAbove, SortKeysAscend, row_at, set_row}
+use Rattle.base_rows.proofs.SortableLaws.{sort_key_cmp_turned, same_sort_key-cmp, same_sort_key_exact, same_sort_key_itself, above_trans, row_at_above}
+use Rattle.base_rows.proofs.ListTests.{both_ways, or_first, or_second}
 use Rattle.drop_ledger.specs.Counted.{SortKey, count_of, total}
 
 -- a number, and None for 0

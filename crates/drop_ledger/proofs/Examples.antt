@@ -15,7 +15,7 @@ use Rattle.acl_model.specs.declared.ruling.Why.TheVariants.{NoMatch}
 use Rattle.packet_judge.specs.declared.verdict.Verdict.{Verdict}
 use Rattle.packet_judge.specs.declared.verdict.Verdict.TheVariants.{Governed}
 use Rattle.packet_judge.specs.Verdicts.{accepts, forwarded}
-use Rattle.sorted_rows.specs.Addresses.{addr_sort_key}
+use Rattle.base_rows.specs.Addresses.{addr_sort_key}
 use Rattle.drop_ledger.specs.Counted.{count_of, numbered, count_rows, firsts, is_of, those_of, kept_of, is_kept, is_first, first_rows, others_of, late_rows}
 use Rattle.drop_ledger.specs.declared.rows.CountRow.{CountRow}
 use Rattle.drop_ledger.specs.declared.rows.DeniedRow.{DeniedRow}

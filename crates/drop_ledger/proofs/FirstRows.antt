@@ -6,9 +6,9 @@ use Rattle.std.specs.Option.{option_map}
 use Rattle.std.proofs.lemmas.Bool.{false≢true}
 use Rattle.std.proofs.lemmas.Option.{same_Some, none-some}
 use Rattle.std.proofs.lemmas.List.{append-nil}
-use Rattle.sorted_rows.specs.Sortable.{same_sort_key, SortKeysAscend, row_at, set_row, is_under, rows_under}
-use Rattle.sorted_rows.proofs.SortableLaws.{same_sort_key_exact}
-use Rattle.sorted_rows.proofs.Lists.{filter_few, length-cond}
+use Rattle.base_rows.specs.Sortable.{same_sort_key, SortKeysAscend, row_at, set_row, is_under, rows_under}
+use Rattle.base_rows.proofs.SortableLaws.{same_sort_key_exact}
+use Rattle.base_rows.proofs.Lists.{filter_few, length-cond}
 use Rattle.drop_ledger.specs.Counted.{SortKey, Kinds, AreKinds, AreFirstRows, count_of, count_rows, firsts, is_of, those_of, kept_of, is_kept, is_first, first_rows, others_of, late_rows, total, sum_of, found_count, count_at}
 use Rattle.drop_ledger.proofs.CountLaws.{positive, positive_some, count_none}
 use Rattle.drop_ledger.proofs.KeptLaws.{own_length, of_own, is_own, appeared, not_appeared}

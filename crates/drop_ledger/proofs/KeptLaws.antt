@@ -6,8 +6,8 @@ use Rattle.std.proofs.lemmas.List.Elements.{filter-append}
 use Rattle.std.proofs.lemmas.List.Folds.{list_any-append}
 use Rattle.std.proofs.lemmas.List.{take-append-le, append-nil}
 use Rattle.std.proofs.Math.Bool.{or-false}
-use Rattle.sorted_rows.specs.Sortable.{same_sort_key}
-use Rattle.sorted_rows.proofs.SortableLaws.{same_sort_key_exact, same_sort_key_itself}
+use Rattle.base_rows.specs.Sortable.{same_sort_key}
+use Rattle.base_rows.proofs.SortableLaws.{same_sort_key_exact, same_sort_key_itself}
 use Rattle.drop_ledger.specs.Counted.{SortKey, firsts, is_of, those_of, kept_of, is_kept}
 use Rattle.drop_ledger.proofs.CountLaws.{sort_key_turned}
 

@@ -20,8 +20,8 @@ use Rattle.acl_model.specs.declared.ruling.Why.TheVariants.{NoFile, NoMatch}
 use Rattle.packet_judge.specs.declared.verdict.Verdict.{Verdict}
 use Rattle.packet_judge.specs.declared.verdict.Verdict.TheVariants.{Unmanaged, Link, Unreadable, Governed}
 use Rattle.packet_judge.specs.Verdicts.{forwarded}
-use Rattle.sorted_rows.specs.Sortable.{same_sort_key}
-use Rattle.sorted_rows.proofs.Lists.{all-append, length-cond}
+use Rattle.base_rows.specs.Sortable.{same_sort_key}
+use Rattle.base_rows.proofs.Lists.{all-append, length-cond}
 use Rattle.drop_ledger.proofs.FirstRows.{first_add_up}
 use Rattle.drop_ledger.proofs.NumberLaws.{count_rows_total}
 use Rattle.drop_ledger.specs.Counted.{AreKinds, count_of, count_rows, first_rows, late_rows, is_of, those_of, total, sum_of, count_at}

@@ -7,10 +7,10 @@ use Rattle.std.proofs.lemmas.List.Elements.{filter-append}
 use Rattle.std.proofs.lemmas.List.Folds.{list_any-append}
 use Rattle.std.proofs.Math.Bool.{or-false, or-true}
 use Rattle.std.proofs.lemmas.List.{append-nil}
-use Rattle.sorted_rows.specs.Sortable.{same_sort_key, SortKeysAscend, row_at, set_row}
-use Rattle.sorted_rows.proofs.SortableLaws.{same_sort_key_itself}
-use Rattle.sorted_rows.proofs.RowLaws.{sort_key_row_at}
-use Rattle.sorted_rows.proofs.ListTests.{or_first, or_second}
+use Rattle.base_rows.specs.Sortable.{same_sort_key, SortKeysAscend, row_at, set_row}
+use Rattle.base_rows.proofs.SortableLaws.{same_sort_key_itself}
+use Rattle.base_rows.proofs.RowLaws.{sort_key_row_at}
+use Rattle.base_rows.proofs.ListTests.{or_first, or_second}
 use Rattle.drop_ledger.specs.Counted.{SortKey, count_of, is_of, those_of, kept_of, is_kept, total, sum_of}
 use Rattle.drop_ledger.proofs.CountLaws.{sort_key_turned, positive, weight, total_set, one_if}
 use Rattle.drop_ledger.proofs.KeptLaws.{those_more, kept_other, kept_again, kept_new, kept_late, unseen, of_own, is_own}

@@ -4,10 +4,10 @@ use Rattle.std.specs.List.{filter}
 use Rattle.std.specs.Option.{option_map}
 use Rattle.std.proofs.lemmas.Option.{same_Some, none-some}
 use Rattle.std.proofs.lemmas.List.{map-append, append-nil}
-use Rattle.sorted_rows.specs.Sortable.{sort_key_cmp, same_sort_key, SortKeysAscend, row_at, set_row, set_rows}
-use Rattle.sorted_rows.proofs.SortableLaws.{same_sort_key_exact, row_at-set_row, set_rows-push, ascend-set_row, ascend-set_rows}
-use Rattle.sorted_rows.proofs.RowLaws.{sort_key_row_at, ascend-map}
-use Rattle.sorted_rows.proofs.RowSets.{row_at-map, same_rows_by}
+use Rattle.base_rows.specs.Sortable.{sort_key_cmp, same_sort_key, SortKeysAscend, row_at, set_row, set_rows}
+use Rattle.base_rows.proofs.SortableLaws.{same_sort_key_exact, row_at-set_row, set_rows-push, ascend-set_row, ascend-set_rows}
+use Rattle.base_rows.proofs.RowLaws.{sort_key_row_at, ascend-map}
+use Rattle.base_rows.proofs.RowSets.{row_at-map, same_rows_by}
 use Rattle.drop_ledger.specs.Counted.{SortKey, count_of, numbered, count_rows, total}
 use Rattle.drop_ledger.proofs.CountLaws.{sort_key_turned, count_more, weight, total_set}
 

@@ -5,11 +5,11 @@ use Rattle.std.specs.Option.{option_map}
 use Rattle.std.proofs.lemmas.List.{map-append, append-nil}
 use Rattle.std.proofs.lemmas.List.Elements.{filter-append}
 use Rattle.std.proofs.Math.Bool.{or-false, or-true}
-use Rattle.sorted_rows.specs.Sortable.{same_sort_key, SortKeysAscend, row_at, set_row, set_rows}
-use Rattle.sorted_rows.proofs.ListTests.{or_first, or_second}
-use Rattle.sorted_rows.proofs.SortableLaws.{same_sort_key_exact, same_sort_key_itself, ascend-set_row, ascend-set_rows}
-use Rattle.sorted_rows.proofs.RowLaws.{sort_key_row_at, ascend-filter}
-use Rattle.sorted_rows.proofs.RowSets.{same_rows_by}
+use Rattle.base_rows.specs.Sortable.{same_sort_key, SortKeysAscend, row_at, set_row, set_rows}
+use Rattle.base_rows.proofs.ListTests.{or_first, or_second}
+use Rattle.base_rows.proofs.SortableLaws.{same_sort_key_exact, same_sort_key_itself, ascend-set_row, ascend-set_rows}
+use Rattle.base_rows.proofs.RowLaws.{sort_key_row_at, ascend-filter}
+use Rattle.base_rows.proofs.RowSets.{same_rows_by}
 use Rattle.drop_ledger.specs.Counted.{SortKey, Kinds, AreKinds, count_of, count_rows, kept_of, is_kept, is_first, first_rows, others_of, late_rows}
 use Rattle.drop_ledger.proofs.KeptLaws.{not_appeared, again_at, late_at, new_at}
 use Rattle.drop_ledger.proofs.NumberLaws.{sort_keys_more, at_numbered, up_numbered, number_at, number_more, at_more, at_counted}

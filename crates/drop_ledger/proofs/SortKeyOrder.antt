@@ -6,10 +6,10 @@ use Rattle.mud_base.specs.declared.addr.Addr.{Addr}
 use Rattle.mud_base.specs.declared.addr.Mac.{Mac}
 use Rattle.mud_base.specs.declared.packet.Direction.{Direction}
 use Rattle.acl_model.specs.declared.ruling.Ruling.{Ruling}
-use Rattle.sorted_rows.specs.Sortable.{sort_key_cmp, prefix_cmp}
-use Rattle.sorted_rows.specs.Addresses.{addr_sort_key}
-use Rattle.sorted_rows.proofs.AddressLaws.{addr_cmp-sort_key, length-addr_sort_key}
-use Rattle.sorted_rows.proofs.Orders.{then_equal, then_assoc, sort_key_cmp-front, prefix_cmp-front, one_number}
+use Rattle.base_rows.specs.Sortable.{sort_key_cmp, prefix_cmp}
+use Rattle.base_rows.specs.Addresses.{addr_sort_key}
+use Rattle.base_rows.proofs.AddressLaws.{addr_cmp-sort_key, length-addr_sort_key}
+use Rattle.base_rows.proofs.Orders.{then_equal, then_assoc, sort_key_cmp-front, prefix_cmp-front, one_number}
 use Rattle.drop_ledger.specs.SortKeys.{six, side_number, thing_sort_key, ruling_class, entry_number, ruling_sort_key, port_number, peer_sort_key}
 
 -- ---- One order after the other

@@ -2,7 +2,7 @@
 -- appear first.
 use Rattle.std.specs.Prelude.{◌≡◌, ℕ, ◌+◌, ◌≤◌, Bool, not, List, [], ◌∷◌, take, map, filter, length, Option, Some, None, if◌then◌else◌}
 use Rattle.std.specs.List.{list_any}
-use Rattle.sorted_rows.specs.Sortable.{same_sort_key, row_at, set_rows}
+use Rattle.base_rows.specs.Sortable.{same_sort_key, row_at, set_rows}
 
 abbrev pub SortKey : Type 0
 SortKey = List ℕ

@@ -11,7 +11,7 @@ use Rattle.acl_model.specs.Match.{peer_of}
 use Rattle.acl_model.specs.declared.ruling.Ruling.{Ruling}
 use Rattle.acl_model.specs.declared.ruling.Ruling.TheVariants.{Accept, AcceptDefault, Drop, DropDefault, DropHeld}
 use Rattle.acl_model.specs.declared.ruling.Why.TheVariants.{NoFile, NoMatch}
-use Rattle.sorted_rows.specs.Sortable.{RowsAndRoom}
+use Rattle.base_rows.specs.Sortable.{RowsAndRoom}
 use Rattle.drop_ledger.specs.Counted.{Kinds, AreFirstRows, count_of, count_rows, kinds, sum_of, count_at}
 use Rattle.drop_ledger.specs.declared.rows.CountRow.{CountRow}
 use Rattle.drop_ledger.specs.declared.rows.DeniedRow.{DeniedRow}

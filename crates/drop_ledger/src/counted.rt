@@ -1,9 +1,9 @@
 //! Counting.
 ghost use Rattle.std.specs.Prelude.{◌≡◌, ℕ, ◌+◌, ◌-◌, ◌^◌, ◌<◌, ◌≤◌, List, [], ◌∷◌, ◌++◌, length, take, map, Some, None};
-ghost use Rattle.sorted_rows.specs.Sortable.{row_at};
+ghost use Rattle.base_rows.specs.Sortable.{row_at};
 ghost use Rattle.drop_ledger.specs.Counted.{AreFirstRows, AreKinds, count_of, count_rows, kinds, those_of};
 
-use sorted_rows::{PrefixOf, Sortable, SortedRows};
+use base_rows::{PrefixOf, Sortable, SortedRows};
 
 /// A row with a count.
 pub trait Tallied: Sortable {

@@ -1,10 +1,10 @@
 //! Laws of rows that count, each on a function that does nothing.
 ghost use Rattle.std.specs.Prelude.{◌≡◌, ℕ, ◌+◌, ◌≤◌, List, length, map};
-ghost use Rattle.sorted_rows.specs.Sortable.{rows_under};
+ghost use Rattle.base_rows.specs.Sortable.{rows_under};
 ghost use Rattle.drop_ledger.specs.Counted.{AreKinds, kinds, count_rows, first_rows, late_rows, those_of, total, sum_of, count_at};
 
 use crate::counted::Tallied;
-use sorted_rows::Sortable;
+use base_rows::Sortable;
 
 /// The counts of all rows together are as many as the rows that were counted.
 pub fn counts_add_up<R: Tallied>()

@@ -8,8 +8,8 @@ use crate::rows::{CountRow, DeniedRow, OtherRow};
 use crate::seen::Ruled;
 use crate::{count_first, count_one};
 use acl_model::{Ruling, Why, peer_of};
+use base_rows::SortedRows;
 use mud_base::{Direction, Fields, Transport};
-use sorted_rows::SortedRows;
 
 /// So many peers, protocols and ports of a Thing and side have rows of their own.
 const MOST_PEERS: usize = 256;

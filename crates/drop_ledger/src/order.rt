@@ -1,7 +1,7 @@
 //! How the parts of sort keys stand to one another.
 ghost use Rattle.std.specs.Prelude.{◌≡◌};
 ghost use Rattle.std.specs.Ordering.{nat_cmp};
-ghost use Rattle.sorted_rows.specs.Sortable.{sort_key_cmp};
+ghost use Rattle.base_rows.specs.Sortable.{sort_key_cmp};
 ghost use Rattle.drop_ledger.specs.SortKeys as spec;
 
 use acl_model::{DefaultRule, Ruling, Why};

@@ -4,8 +4,8 @@ ghost use Rattle.std.specs.Prelude.{◌≡◌};
 use crate::Tallied;
 use crate::order::{Peer, ThingSide, peer_order, ruling_order, thing_order};
 use acl_model::Ruling;
+use base_rows::{PrefixOf, Sortable};
 use mud_base::{Addr, Direction, Mac};
-use sorted_rows::{PrefixOf, Sortable};
 use std::cmp::Ordering;
 
 /// How often a ruling was given on the packets of a Thing on a side.

@@ -14,9 +14,9 @@ use crate::counting::count_end;
 use crate::rows::{CountRow, DeniedRow, OtherRow};
 use crate::seen::Seen;
 use crate::totals::{NO_PACKETS, Totals, with_packet};
+use base_rows::SortedRows;
 use mud_base::{Direction, Fields, Mac, Memory, Moment};
 use packet_judge::Verdict;
-use sorted_rows::SortedRows;
 use std::alloc::Global;
 use std::marker::Model;
 

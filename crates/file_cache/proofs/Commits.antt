@@ -1,12 +1,12 @@
 -- What taking a row out, changing it and putting it back makes of files.
 use Rattle.std.proofs.Common.{◌≡◌, ℕ, ◌+◌, ◌≤◌, cond, List, [], length, Option, Some, None, refl, sym, ap, ◌∙◌, arith, lit≤}
 use Rattle.std.specs.Prelude.{is_some}
-use Rattle.sorted_rows.specs.Sortable.{row_at, set_row, without_row, SortKeysAscend}
-use Rattle.file_tables.specs.declared.cached_file.CachedFile.{CachedFile}
-use Rattle.file_tables.specs.declared.file_edit.FileEdit.{FileEdit}
-use Rattle.file_tables.specs.Files.{url_of, file_at, set_file, without_file, entry_count, IsSoundFiles}
-use Rattle.file_tables.specs.FileEdits.{edited_row, put_file, edited, room_for}
-use Rattle.file_tables.proofs.EditLaws.{edited_url, made_needs_room, put_back}
+use Rattle.base_rows.specs.Sortable.{row_at, set_row, without_row, SortKeysAscend}
+use Rattle.usage_tables.specs.declared.cached_file.CachedFile.{CachedFile}
+use Rattle.usage_tables.specs.declared.file_edit.FileEdit.{FileEdit}
+use Rattle.usage_tables.specs.Files.{url_of, file_at, set_file, without_file, entry_count, IsSoundFiles}
+use Rattle.usage_tables.specs.FileEdits.{edited_row, put_file, edited, room_for}
+use Rattle.usage_tables.proofs.EditLaws.{edited_url, made_needs_room, put_back}
 
 pub no_files_sound : IsSoundFiles []
 unfolding entry_count

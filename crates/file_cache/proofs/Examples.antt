@@ -2,14 +2,14 @@
 use Rattle.std.proofs.Common.{◌≡◌, ℕ, true, false, List, length, Some, None, Err, refl}
 use Rattle.std.specs.Prelude.{nat_le, nat_lt, bytes_eq}
 use Rattle.mud_file.specs.declared.usage_file.UsageFile.{UsageFile}
-use Rattle.file_tables.specs.declared.approval.Approval.{Approval}
-use Rattle.file_tables.specs.declared.approval.OperatorVerdict.{OperatorVerdict}
-use Rattle.file_tables.specs.declared.approval.OperatorVerdict.TheVariants as verdict
-use Rattle.file_tables.specs.declared.cached_file.CachedFile.{CachedFile}
-use Rattle.file_tables.specs.declared.cache_fault.CacheFault.TheVariants.{CacheFull, Digest, NoSignature, PolicyFull}
-use Rattle.file_tables.specs.Held.{HeldFile, digest_of}
-use Rattle.file_tables.specs.Files.{set_file, is_signed, entry_count}
-use Rattle.file_tables.specs.FileCommands.{import_cases, approved_row, approve, ruled, candidate_cases}
+use Rattle.usage_tables.specs.declared.approval.Approval.{Approval}
+use Rattle.usage_tables.specs.declared.approval.OperatorVerdict.{OperatorVerdict}
+use Rattle.usage_tables.specs.declared.approval.OperatorVerdict.TheVariants as verdict
+use Rattle.usage_tables.specs.declared.cached_file.CachedFile.{CachedFile}
+use Rattle.usage_tables.specs.declared.cache_fault.CacheFault.TheVariants.{CacheFull, Digest, NoSignature, PolicyFull}
+use Rattle.usage_tables.specs.Held.{HeldFile, digest_of}
+use Rattle.usage_tables.specs.Files.{set_file, is_signed, entry_count}
+use Rattle.usage_tables.specs.FileCommands.{import_cases, approved_row, approve, ruled, candidate_cases}
 
 -- 128 URLs are held, and not this one
 no_room : (held : HeldFile) (file : UsageFile) (files : List CachedFile) → nat_le 128 (length files) ≡ true → import_cases held file files None ≡ Err CacheFull

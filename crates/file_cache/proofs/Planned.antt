@@ -4,15 +4,15 @@ use Rattle.std.specs.Prelude.{IfOk, IsOkAnd, ◌↔◌}
 use Rattle.std.proofs.lemmas.Bool.{false≢true}
 use Rattle.mud_world.specs.declared.item.Put.{Put}
 use Rattle.mud_world.specs.Items.{IsDifference, ArePutsOf}
-use Rattle.file_tables.specs.declared.cached_file.CachedFile.{CachedFile}
-use Rattle.file_tables.specs.declared.cache_fault.CacheFault.{CacheFault}
-use Rattle.file_tables.specs.Files.{file_at, IsSoundFiles}
-use Rattle.file_tables.specs.FileCommands.{FilesAfter, FileStep, TellsChange}
-use Rattle.file_tables.specs.FileEdits.{edited, edited_row, room_for, is_change}
-use Rattle.file_tables.specs.FileItems.{file_items, edit_puts, row_put}
-use Rattle.file_tables.specs.Policies.{policy_of}
-use Rattle.file_tables.proofs.EditLaws.{edit_differs, puts_of_kind}
-use Rattle.file_tables.proofs.PolicyLaws.{policy_edited}
+use Rattle.usage_tables.specs.declared.cached_file.CachedFile.{CachedFile}
+use Rattle.usage_tables.specs.declared.cache_fault.CacheFault.{CacheFault}
+use Rattle.usage_tables.specs.Files.{file_at, IsSoundFiles}
+use Rattle.usage_tables.specs.FileCommands.{FilesAfter, FileStep, TellsChange}
+use Rattle.usage_tables.specs.FileEdits.{edited, edited_row, room_for, is_change}
+use Rattle.usage_tables.specs.FileItems.{file_items, edit_puts, row_put}
+use Rattle.usage_tables.specs.Policies.{policy_of}
+use Rattle.usage_tables.proofs.EditLaws.{edit_differs, puts_of_kind}
+use Rattle.usage_tables.proofs.PolicyLaws.{policy_edited}
 use Rattle.file_cache.specs.Changes.{Files, PlannedFile}
 use Rattle.file_cache.specs.Planned.{IsPlanned, IsMade, Makes, IsRefusal}
 

@@ -2,10 +2,10 @@
 use Rattle.std.proofs.Common.{◌≡◌, ℕ, Bool, true, false, cond, List, Option, Some, None, refl}
 use Rattle.std.specs.Prelude.{◌==◌}
 use Rattle.item_codec.specs.Records.{number_in, string_in, version_in, end_in, optional_in}
-use Rattle.file_tables.specs.declared.approval.Approval.{Approval}
-use Rattle.file_tables.specs.declared.approval.Approval.TheVariants.{Verified, Waived}
-use Rattle.file_tables.specs.Held.{HeldFile, held_file}
-use Rattle.file_tables.specs.FileItems.{held_in, approval_of, approval_in, approved_in, file_row, row_of}
+use Rattle.usage_tables.specs.declared.approval.Approval.{Approval}
+use Rattle.usage_tables.specs.declared.approval.Approval.TheVariants.{Verified, Waived}
+use Rattle.usage_tables.specs.Held.{HeldFile, held_file}
+use Rattle.usage_tables.specs.FileItems.{held_in, approval_of, approval_in, approved_in, file_row, row_of}
 
 module _ (octets : List ℕ) where
   pub held_none : number_in 8 octets ≡ None → held_in octets ≡ None

@@ -5,26 +5,26 @@ use Rattle.std.specs.Option.{option_map}
 use Rattle.std.proofs.lemmas.Bool.{lt-ltb, le-ltb, le-leb, lt-leb}
 use Rattle.item_codec.specs.declared.word.Word as outcome
 use Rattle.item_codec.specs.declared.word.Word.TheVariants.{New, Same}
-use Rattle.sorted_rows.specs.Sortable.{SortKeysAscend}
+use Rattle.base_rows.specs.Sortable.{SortKeysAscend}
 use Rattle.mud_world.specs.declared.item.Item.{Item}
 use Rattle.mud_world.specs.declared.item.Put.TheVariants.{Set, Gone}
 use Rattle.usage_walk.specs.declared.fault.Broken.{Broken}
 use Rattle.mud_file.specs.declared.usage_file.UsageFile.{UsageFile}
 use Rattle.mud_file.specs.File.{file_of}
-use Rattle.file_tables.specs.declared.approval.Approval.{Approval}
-use Rattle.file_tables.specs.declared.cached_file.CachedFile.{CachedFile}
-use Rattle.file_tables.specs.declared.cache_fault.CacheFault.{CacheFault}
-use Rattle.file_tables.specs.declared.cache_fault.CacheFault.TheVariants.{Memory, File, Older, CacheFull}
-use Rattle.file_tables.specs.declared.file_edit.FileEdit.{FileEdit}
-use Rattle.file_tables.specs.declared.file_edit.FileEdit.TheVariants.{Unchanged, Offered, CandidateFetched, ApprovedFetched}
-use Rattle.file_tables.specs.Held.{HeldFile, held_file}
-use Rattle.file_tables.specs.Limits.{most_files}
-use Rattle.file_tables.specs.Files.{url_of, file_at, set_file, without_file, new_file, with_candidate, with_approved}
-use Rattle.file_tables.specs.FileCommands.{FileStep, candidate_again, approved_again, is_outdated_by, new_candidate, beside_approved, beside_candidate, import_cases, import_read, import_step}
-use Rattle.file_tables.specs.FileEdits.{fetched_at, approved_at, made_row, changed_row, edited_row, put_file, edited, is_change}
-use Rattle.file_tables.specs.FileItems.{file_item, file_row, row_put, edit_puts}
+use Rattle.usage_tables.specs.declared.approval.Approval.{Approval}
+use Rattle.usage_tables.specs.declared.cached_file.CachedFile.{CachedFile}
+use Rattle.usage_tables.specs.declared.cache_fault.CacheFault.{CacheFault}
+use Rattle.usage_tables.specs.declared.cache_fault.CacheFault.TheVariants.{Memory, File, Older, CacheFull}
+use Rattle.usage_tables.specs.declared.file_edit.FileEdit.{FileEdit}
+use Rattle.usage_tables.specs.declared.file_edit.FileEdit.TheVariants.{Unchanged, Offered, CandidateFetched, ApprovedFetched}
+use Rattle.usage_tables.specs.Held.{HeldFile, held_file}
+use Rattle.usage_tables.specs.Limits.{most_files}
+use Rattle.usage_tables.specs.Files.{url_of, file_at, set_file, without_file, new_file, with_candidate, with_approved}
+use Rattle.usage_tables.specs.FileCommands.{FileStep, candidate_again, approved_again, is_outdated_by, new_candidate, beside_approved, beside_candidate, import_cases, import_read, import_step}
+use Rattle.usage_tables.specs.FileEdits.{fetched_at, approved_at, made_row, changed_row, edited_row, put_file, edited, is_change}
+use Rattle.usage_tables.specs.FileItems.{file_item, file_row, row_put, edit_puts}
 use Rattle.mud_world.specs.Items.{set_put, gone_put}
-use Rattle.file_tables.proofs.EditLaws.{unchanged}
+use Rattle.usage_tables.proofs.EditLaws.{unchanged}
 use Rattle.file_cache.specs.Changes.{PlannedFile, no_change, set_change, gone_change}
 use Rattle.file_cache.specs.Planned.{IsMade, Makes, IsRefusal, IsUnread}
 

@@ -4,22 +4,22 @@ use Rattle.std.specs.Prelude.{bytes_eq, nat_le, IsErr, IfOk, OnErr}
 use Rattle.std.specs.Option.{option_map_or}
 use Rattle.std.specs.Result.{result_ok}
 use Rattle.std.proofs.lemmas.Bool.{le-leb, leb-true, eqb-true, false≢true, false_from_ne_true}
-use Rattle.sorted_rows.specs.Sortable.{comes_last}
-use Rattle.sorted_rows.proofs.ListTests.{left_of}
+use Rattle.base_rows.specs.Sortable.{comes_last}
+use Rattle.base_rows.proofs.ListTests.{left_of}
 use Rattle.usage_walk.specs.declared.fault.Broken.{Broken}
 use Rattle.mud_file.specs.declared.usage_file.UsageFile.{UsageFile}
 use Rattle.mud_file.specs.File.{file_of}
 use Rattle.mud_world.specs.declared.item.Item.{Item}
 use Rattle.item_codec.specs.Records.{◌>>=◌}
-use Rattle.file_tables.specs.declared.approval.Approval.{Approval}
-use Rattle.file_tables.specs.declared.cached_file.CachedFile.{CachedFile}
-use Rattle.file_tables.specs.Held.{HeldFile, usage_in}
-use Rattle.file_tables.specs.Limits.{last_moment}
-use Rattle.file_tables.specs.Files.{url_of, is_of_url, is_usage_of, is_held, may_have, is_approved, may_follow, are_files, is_sound_file, IsKeptFile, IsSoundFiles}
-use Rattle.file_tables.specs.FileItems.{file_row, row_of, if_sound_file, file_in, has_room, may_stand_behind, with_file_item}
+use Rattle.usage_tables.specs.declared.approval.Approval.{Approval}
+use Rattle.usage_tables.specs.declared.cached_file.CachedFile.{CachedFile}
+use Rattle.usage_tables.specs.Held.{HeldFile, usage_in}
+use Rattle.usage_tables.specs.Limits.{last_moment}
+use Rattle.usage_tables.specs.Files.{url_of, is_of_url, is_usage_of, is_held, may_have, is_approved, may_follow, are_files, is_sound_file, IsKeptFile, IsSoundFiles}
+use Rattle.usage_tables.specs.FileItems.{file_row, row_of, if_sound_file, file_in, has_room, may_stand_behind, with_file_item}
 use Rattle.item_codec.proofs.RecordLaws.{some_is, bind_some, pass_some}
-use Rattle.file_tables.proofs.SoundFiles.{file_usage}
-use Rattle.file_tables.proofs.ReadFiles.{sound-push}
+use Rattle.usage_tables.proofs.SoundFiles.{file_usage}
+use Rattle.usage_tables.proofs.ReadFiles.{sound-push}
 use Rattle.std.proofs.Math.Bool.{and-false}
 use Rattle.mud_url.proofs.Offsets.{same_octets}
 

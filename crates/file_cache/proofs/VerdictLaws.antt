@@ -4,22 +4,22 @@ use Rattle.std.specs.Prelude.{bytes_eq, nat_lt, IsOkAnd}
 use Rattle.std.specs.Option.{option_map}
 use Rattle.std.proofs.lemmas.Bool.{lt-ltb, le-ltb}
 use Rattle.item_codec.specs.declared.word.Word.TheVariants as word
-use Rattle.sorted_rows.specs.Sortable.{SortKeysAscend}
+use Rattle.base_rows.specs.Sortable.{SortKeysAscend}
 use Rattle.mud_world.specs.declared.item.Item.{Item}
-use Rattle.file_tables.specs.declared.approval.Approval.{Approval}
-use Rattle.file_tables.specs.declared.approval.Approval.TheVariants as approval
-use Rattle.file_tables.specs.declared.approval.OperatorVerdict.{OperatorVerdict}
-use Rattle.file_tables.specs.declared.approval.OperatorVerdict.TheVariants as verdict
-use Rattle.file_tables.specs.declared.cached_file.CachedFile.{CachedFile}
-use Rattle.file_tables.specs.declared.cache_fault.CacheFault.{CacheFault}
-use Rattle.file_tables.specs.declared.cache_fault.CacheFault.TheVariants.{NoCandidate, Digest, NoSignature, NotApproved, PolicyFull}
-use Rattle.file_tables.specs.declared.file_edit.FileEdit.TheVariants as edit
-use Rattle.file_tables.specs.Held.{HeldFile, digest_of}
-use Rattle.file_tables.specs.Limits.{most_policy_entries}
-use Rattle.file_tables.specs.Files.{url_of, file_at, set_file, without_file, with_candidate, with_approved, is_signed, entry_count}
-use Rattle.file_tables.specs.FileCommands.{FileStep, settled, left_with, approved_row, approve, ruled, candidate_cases, is_ruled, verdict_cases, verdict_step, approved_cases, revoke_cases, revoke_step}
-use Rattle.file_tables.specs.FileEdits.{approved_as, if_any, kept_row, changed_row, edited_row, is_change}
-use Rattle.file_tables.specs.FileItems.{file_item, file_row}
+use Rattle.usage_tables.specs.declared.approval.Approval.{Approval}
+use Rattle.usage_tables.specs.declared.approval.Approval.TheVariants as approval
+use Rattle.usage_tables.specs.declared.approval.OperatorVerdict.{OperatorVerdict}
+use Rattle.usage_tables.specs.declared.approval.OperatorVerdict.TheVariants as verdict
+use Rattle.usage_tables.specs.declared.cached_file.CachedFile.{CachedFile}
+use Rattle.usage_tables.specs.declared.cache_fault.CacheFault.{CacheFault}
+use Rattle.usage_tables.specs.declared.cache_fault.CacheFault.TheVariants.{NoCandidate, Digest, NoSignature, NotApproved, PolicyFull}
+use Rattle.usage_tables.specs.declared.file_edit.FileEdit.TheVariants as edit
+use Rattle.usage_tables.specs.Held.{HeldFile, digest_of}
+use Rattle.usage_tables.specs.Limits.{most_policy_entries}
+use Rattle.usage_tables.specs.Files.{url_of, file_at, set_file, without_file, with_candidate, with_approved, is_signed, entry_count}
+use Rattle.usage_tables.specs.FileCommands.{FileStep, settled, left_with, approved_row, approve, ruled, candidate_cases, is_ruled, verdict_cases, verdict_step, approved_cases, revoke_cases, revoke_step}
+use Rattle.usage_tables.specs.FileEdits.{approved_as, if_any, kept_row, changed_row, edited_row, is_change}
+use Rattle.usage_tables.specs.FileItems.{file_item, file_row}
 use Rattle.file_cache.specs.Changes.{PlannedFile, no_change, set_change, gone_change}
 use Rattle.file_cache.specs.Planned.{IsMade, Makes}
 use Rattle.file_cache.proofs.StepLaws.{made_set, made_gone, made_none}

@@ -5,9 +5,9 @@ use Rattle.item_codec.specs.declared.word.Word.TheVariants.{Same}
 use Rattle.mud_world.specs.declared.item.Item.{Item}
 use Rattle.mud_world.specs.declared.item.Put.{Put}
 use Rattle.mud_world.specs.declared.item.Put.TheVariants.{Set, Gone}
-use Rattle.file_tables.specs.declared.cached_file.CachedFile.{CachedFile}
-use Rattle.file_tables.specs.declared.file_edit.FileEdit.{FileEdit}
-use Rattle.file_tables.specs.declared.file_edit.FileEdit.TheVariants.{Unchanged}
+use Rattle.usage_tables.specs.declared.cached_file.CachedFile.{CachedFile}
+use Rattle.usage_tables.specs.declared.file_edit.FileEdit.{FileEdit}
+use Rattle.usage_tables.specs.declared.file_edit.FileEdit.TheVariants.{Unchanged}
 
 -- the files, and for how many URLs more there is room without memory
 pub record Files : Type 0 where

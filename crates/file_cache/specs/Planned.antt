@@ -3,14 +3,14 @@ use Rattle.std.specs.Prelude.{◌≡◌, ◌≢◌, ◌↔◌, ℕ, ◌≤◌, f
 use Rattle.mud_world.specs.Items.{IsDifference, ArePutsOf}
 use Rattle.usage_walk.specs.declared.fault.Broken.{Broken}
 use Rattle.mud_file.specs.declared.usage_file.UsageFile.{UsageFile}
-use Rattle.file_tables.specs.declared.cached_file.CachedFile.{CachedFile}
-use Rattle.file_tables.specs.declared.cache_fault.CacheFault.{CacheFault}
-use Rattle.file_tables.specs.declared.cache_fault.CacheFault.TheVariants.{Memory, File}
-use Rattle.file_tables.specs.Files.{IsSoundFiles}
-use Rattle.file_tables.specs.FileCommands.{FilesAfter, FileStep}
-use Rattle.file_tables.specs.FileEdits.{edited, room_for, is_change}
-use Rattle.file_tables.specs.FileItems.{file_items, edit_puts}
-use Rattle.file_tables.specs.Policies.{policy_of, policy_change, policy_after}
+use Rattle.usage_tables.specs.declared.cached_file.CachedFile.{CachedFile}
+use Rattle.usage_tables.specs.declared.cache_fault.CacheFault.{CacheFault}
+use Rattle.usage_tables.specs.declared.cache_fault.CacheFault.TheVariants.{Memory, File}
+use Rattle.usage_tables.specs.Files.{IsSoundFiles}
+use Rattle.usage_tables.specs.FileCommands.{FilesAfter, FileStep}
+use Rattle.usage_tables.specs.FileEdits.{edited, room_for, is_change}
+use Rattle.usage_tables.specs.FileItems.{file_items, edit_puts}
+use Rattle.usage_tables.specs.Policies.{policy_of, policy_change, policy_after}
 use Rattle.file_cache.specs.Changes.{Files, PlannedFile}
 
 -- The change is the step from the files of the cache, in all that it says and does.

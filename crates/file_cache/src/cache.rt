@@ -1,14 +1,14 @@
 //! The cache of usage files.
 ghost use Rattle.std.specs.Prelude.{◌≡◌, ◌≤◌, [], option_copied, IfOk, IfErr, IsOkAnd, OnOk, OnErr, if◌then◌else◌, false, Some, None};
 ghost use Rattle.std.specs.Option.{option_map};
-ghost use Rattle.sorted_rows.specs.Sortable.{SortKeysAscend};
-ghost use Rattle.file_tables.specs.Files.{url_of, file_at, IsSoundFiles};
-ghost use Rattle.file_tables.specs.FileEdits.{edited, room_for};
-ghost use Rattle.file_tables.specs.Policies.{candidate_policy};
-ghost use Rattle.file_tables.specs.Due.{due_count};
-ghost use Rattle.file_tables.specs.Limits.{last_moment};
-ghost use Rattle.file_tables.specs.FileCommands.{import_step, verdict_step, revoke_step};
-ghost use Rattle.file_tables.specs.FileItems.{with_file_item};
+ghost use Rattle.base_rows.specs.Sortable.{SortKeysAscend};
+ghost use Rattle.usage_tables.specs.Files.{url_of, file_at, IsSoundFiles};
+ghost use Rattle.usage_tables.specs.FileEdits.{edited, room_for};
+ghost use Rattle.usage_tables.specs.Policies.{candidate_policy};
+ghost use Rattle.usage_tables.specs.Due.{due_count};
+ghost use Rattle.usage_tables.specs.Limits.{last_moment};
+ghost use Rattle.usage_tables.specs.FileCommands.{import_step, verdict_step, revoke_step};
+ghost use Rattle.usage_tables.specs.FileItems.{with_file_item};
 ghost use Rattle.file_cache.specs.Planned.{IsPlanned, IsRefusal, IsMemory};
 
 use crate::change::CacheChange;
@@ -18,13 +18,13 @@ use crate::imports::import;
 use crate::take::{push, row_in};
 use crate::verdicts::{judge, revoke};
 use acl_model::Policy;
-use file_tables::{CacheFault, CachedFile, FileEdit, OperatorVerdict};
+use base_rows::SortedRows;
 use mud_base::{Memory, Moment};
 use mud_url::MudUrl;
 use mud_world::Item;
-use sorted_rows::SortedRows;
 use std::alloc::Global;
 use std::marker::Model;
+use usage_tables::{CacheFault, CachedFile, FileEdit, OperatorVerdict};
 
 /// The usage files that the manager holds, of at most 128 URLs, in the order of the URLs: of each at
 /// most one that the operator approved and one that waits for a verdict. All approved files together
@@ -42,7 +42,7 @@ impl Drop for FileCache {
 }
 
 impl Model for FileCache {
-    ghost use Rattle.file_tables.specs.Files.{IsSoundFiles};
+    ghost use Rattle.usage_tables.specs.Files.{IsSoundFiles};
     ghost use Rattle.file_cache.specs.Changes.{Files};
 
     ghost Value = { Files };
@@ -72,7 +72,7 @@ impl FileCache {
     }
 
     /// What is held of a URL.
-    #[tactic(auto, unfolding(file_tables::specs::Files::file_at))]
+    #[tactic(auto, unfolding(usage_tables::specs::Files::file_at))]
     pub fn file_at(&self, url: &MudUrl) -> Option<&CachedFile>
         ensures { option_copied result ≡ file_at url.now self.now.files }
     {
@@ -80,7 +80,7 @@ impl FileCache {
     }
 
     /// The policy that the candidate of a URL says, which counts for nothing before it is approved.
-    #[tactic(auto, unfolding(file_tables::specs::Policies::candidate_policy, file_tables::specs::Policies::candidate_in_row, file_tables::specs::Policies::policy_in_held))]
+    #[tactic(auto, unfolding(usage_tables::specs::Policies::candidate_policy, usage_tables::specs::Policies::candidate_in_row, usage_tables::specs::Policies::policy_in_held))]
     pub fn candidate_policy(&self, url: &MudUrl) -> Option<&Policy>
         ensures { option_copied result ≡ candidate_policy self.now.files url.now }
     {
@@ -94,7 +94,7 @@ impl FileCache {
     }
 
     /// Of how many URLs a file is to be fetched again.
-    #[tactic(auto, unfolding(file_tables::specs::Due::due_count, file_tables::specs::Due::due_files))]
+    #[tactic(auto, unfolding(usage_tables::specs::Due::due_count, usage_tables::specs::Due::due_files))]
     pub fn due_count(&self, now: Moment) -> usize
         ensures { result ≡ due_count now self.now.files }
     {

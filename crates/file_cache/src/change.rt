@@ -1,10 +1,9 @@
 //! A change of the files that is planned, and committed later.
 ghost use Rattle.std.specs.Prelude.{◌≡◌, ◌∷◌, [], IfOk};
-ghost use Rattle.file_tables.specs.Policies.{policy_change};
+ghost use Rattle.usage_tables.specs.Policies.{policy_change};
 ghost use Rattle.file_cache.specs.Changes.{no_change, set_change, gone_change};
 
 use crate::items::FILE_KIND;
-use file_tables::{FileEdit, PolicyChange};
 use item_codec::Word;
 use mud_base::{Bytes, Listed, Memory};
 use mud_url::MudUrl;
@@ -12,6 +11,7 @@ use mud_world::{Item, Put};
 use std::alloc::Global;
 use std::marker::Model;
 use std::mem;
+use usage_tables::{FileEdit, PolicyChange};
 
 /// A planned change of the files of one URL. Contracts see what it answers, the URL, the edit and
 /// the puts.

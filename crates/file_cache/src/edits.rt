@@ -1,14 +1,14 @@
 //! What an edit makes of the row of a URL. Files are moved, and none is copied.
 ghost use Rattle.std.specs.Prelude.{◌≡◌};
 ghost use Rattle.std.specs.Option.{option_map};
-ghost use Rattle.file_tables.specs.FileEdits as spec;
+ghost use Rattle.usage_tables.specs.FileEdits as spec;
 
-use file_tables::{Approval, CachedFile, FileEdit, Held};
 use mud_base::Moment;
 use mud_url::MudUrl;
+use usage_tables::{Approval, CachedFile, FileEdit, Held};
 
 /// The row, where it holds a file.
-#[tactic(auto, unfolding(file_tables::specs::FileEdits::kept_row, file_tables::specs::FileEdits::if_any))]
+#[tactic(auto, unfolding(usage_tables::specs::FileEdits::kept_row, usage_tables::specs::FileEdits::if_any))]
 fn kept_row(row: CachedFile) -> Option<CachedFile>
     ensures { result ≡ spec.kept_row row }
 {
@@ -22,7 +22,7 @@ fn kept_row(row: CachedFile) -> Option<CachedFile>
 }
 
 /// The candidate, fetched at another moment.
-#[tactic(auto, unfolding(file_tables::specs::FileEdits::fetched_at))]
+#[tactic(auto, unfolding(usage_tables::specs::FileEdits::fetched_at))]
 fn candidate_at(candidate: Option<Held>, moment: Moment) -> Option<Held>
     ensures { result ≡ option_map (spec.fetched_at moment) candidate }
 {
@@ -33,7 +33,7 @@ fn candidate_at(candidate: Option<Held>, moment: Moment) -> Option<Held>
 }
 
 /// The approved file, fetched at another moment.
-#[tactic(auto, unfolding(file_tables::specs::FileEdits::fetched_at, file_tables::specs::FileEdits::approved_at))]
+#[tactic(auto, unfolding(usage_tables::specs::FileEdits::fetched_at, usage_tables::specs::FileEdits::approved_at))]
 fn approved_at(approved: Option<(Held, Approval)>, moment: Moment) -> Option<(Held, Approval)>
     ensures { result ≡ option_map (spec.approved_at moment) approved }
 {
@@ -44,7 +44,7 @@ fn approved_at(approved: Option<(Held, Approval)>, moment: Moment) -> Option<(He
 }
 
 /// The candidate as the approved file.
-#[tactic(auto, unfolding(file_tables::specs::FileEdits::approved_as))]
+#[tactic(auto, unfolding(usage_tables::specs::FileEdits::approved_as))]
 fn approved_as(candidate: Option<Held>, approval: Approval) -> Option<(Held, Approval)>
     ensures { result ≡ option_map (spec.approved_as approval) candidate }
 {
@@ -55,7 +55,7 @@ fn approved_as(candidate: Option<Held>, approval: Approval) -> Option<(Held, App
 }
 
 /// The row that comes of a row.
-#[tactic(auto, unfolding(file_tables::specs::FileEdits::changed_row, file_tables::specs::Files::with_candidate, file_tables::specs::Files::with_approved))]
+#[tactic(auto, unfolding(usage_tables::specs::FileEdits::changed_row, usage_tables::specs::Files::with_candidate, usage_tables::specs::Files::with_approved))]
 fn changed_row(edit: FileEdit, row: CachedFile) -> Option<CachedFile>
     ensures { result ≡ spec.changed_row edit row }
 {
@@ -116,7 +116,7 @@ fn changed_row(edit: FileEdit, row: CachedFile) -> Option<CachedFile>
 }
 
 /// The row of a URL of which nothing was held.
-#[tactic(auto, unfolding(file_tables::specs::FileEdits::made_row, file_tables::specs::Files::new_file))]
+#[tactic(auto, unfolding(usage_tables::specs::FileEdits::made_row, usage_tables::specs::Files::new_file))]
 fn made_row(edit: FileEdit, url: MudUrl) -> Option<CachedFile>
     ensures { result ≡ spec.made_row edit url }
 {
@@ -131,7 +131,7 @@ fn made_row(edit: FileEdit, url: MudUrl) -> Option<CachedFile>
 }
 
 /// The row of a URL after an edit.
-#[tactic(auto, unfolding(file_tables::specs::FileEdits::edited_row))]
+#[tactic(auto, unfolding(usage_tables::specs::FileEdits::edited_row))]
 pub(crate) fn edited_row(
     edit: FileEdit,
     url: MudUrl,

@@ -1,23 +1,23 @@
 //! What the import of a usage file changes.
 ghost use Rattle.std.specs.Prelude.{◌≡◌, List, Some, None, Ok, IfOk, IfErr};
-ghost use Rattle.sorted_rows.specs.Sortable.{SortKeysAscend};
+ghost use Rattle.base_rows.specs.Sortable.{SortKeysAscend};
 ghost use Rattle.mud_file.specs.File.{file_of};
-ghost use Rattle.file_tables.specs.declared.cached_file.CachedFile.{CachedFile as Row};
-ghost use Rattle.file_tables.specs.Held.{held_file};
-ghost use Rattle.file_tables.specs.Files as files_spec;
-ghost use Rattle.file_tables.specs.Files.{url_of, file_at};
-ghost use Rattle.file_tables.specs.FileCommands as step;
+ghost use Rattle.usage_tables.specs.declared.cached_file.CachedFile.{CachedFile as Row};
+ghost use Rattle.usage_tables.specs.Held.{held_file};
+ghost use Rattle.usage_tables.specs.Files as files_spec;
+ghost use Rattle.usage_tables.specs.Files.{url_of, file_at};
+ghost use Rattle.usage_tables.specs.FileCommands as step;
 ghost use Rattle.file_cache.specs.Planned.{Makes, IsUnread};
 
 use crate::change::CacheChange;
 use crate::items::{Lent, approved_of, candidate_of, item_of};
-use file_tables::limits::MOST_FILES;
-use file_tables::{Approval, CacheFault, CachedFile, FileEdit, Held};
+use base_rows::SortedRows;
 use item_codec::Word;
 use mud_base::{Bytes, Moment};
 use mud_file::{FileFault, UsageFile, read_usage};
-use sorted_rows::SortedRows;
 use std::alloc::Global;
+use usage_tables::limits::MOST_FILES;
+use usage_tables::{Approval, CacheFault, CachedFile, FileEdit, Held};
 
 /// The usage file that octets are.
 fn read_file(alloc: Global, octets: &[u8]) -> Result<UsageFile, CacheFault>
@@ -32,7 +32,7 @@ fn read_file(alloc: Global, octets: &[u8]) -> Result<UsageFile, CacheFault>
 }
 
 /// Whether a file was generated before a held one, by the `last-update` of both (RFC 8520, 3.4).
-#[tactic(auto, unfolding(file_tables::specs::Files::is_older))]
+#[tactic(auto, unfolding(usage_tables::specs::Files::is_older))]
 pub(crate) fn is_older(file: &UsageFile, held: &Held) -> bool
     ensures { result ≡ files_spec.is_older file.now held.now }
 {
@@ -60,7 +60,7 @@ fn older_than_candidate(file: &UsageFile, row: &CachedFile) -> bool
 }
 
 /// Whether a file was generated before one of the held ones.
-#[tactic(auto, unfolding(file_tables::specs::FileCommands::is_outdated_by))]
+#[tactic(auto, unfolding(usage_tables::specs::FileCommands::is_outdated_by))]
 fn is_outdated_by(row: &CachedFile, file: &UsageFile) -> bool
     ensures { result ≡ step.is_outdated_by row.now file.now }
 {

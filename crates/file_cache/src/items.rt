@@ -1,16 +1,16 @@
 //! Writing the items in which files are kept.
 ghost use Rattle.std.specs.Prelude.{◌≡◌, ◌≤◌, ◌++◌, length, IfOk, OnOk};
 ghost use Rattle.item_codec.specs.Records.{optional};
-ghost use Rattle.file_tables.specs.Held.{held_file};
-ghost use Rattle.file_tables.specs.FileItems as spec;
+ghost use Rattle.usage_tables.specs.Held.{held_file};
+ghost use Rattle.usage_tables.specs.FileItems as spec;
 
-use file_tables::{Approval, CachedFile, Held};
 use item_codec::FieldWriter;
 use mud_base::{Bytes, Memory, Moment};
 use mud_url::MudUrl;
 use mud_world::Item;
 use std::alloc::Global;
 use std::marker::Model;
+use usage_tables::{Approval, CachedFile, Held};
 
 /// The kind of the items of files.
 pub const FILE_KIND: u8 = 2;
@@ -25,7 +25,7 @@ pub struct Lent<'a> {
 
 impl<'a> Model for Lent<'a> {
     ghost use Rattle.std.specs.Prelude.{◌≤◌, length};
-    ghost use Rattle.file_tables.specs.Held.{HeldFile, held_file};
+    ghost use Rattle.usage_tables.specs.Held.{HeldFile, held_file};
 
     ghost Value = { HeldFile };
 
@@ -79,7 +79,7 @@ pub(crate) fn candidate_of(row: &CachedFile) -> Option<Lent<'_>>
 }
 
 /// The number that says an approval.
-#[tactic(auto, unfolding(file_tables::specs::FileItems::approval_number))]
+#[tactic(auto, unfolding(usage_tables::specs::FileItems::approval_number))]
 fn approval_number(approval: Approval) -> u64
     ensures value { result ≡ spec.approval_number approval }
     ensures small { result ≤ 2 }
@@ -92,7 +92,7 @@ fn approval_number(approval: Approval) -> u64
 
 /// Writes a candidate, or that there is none. Without memory for all of it a part may have been
 /// written, here and below.
-#[tactic(auto, unfolding(file_tables::specs::FileItems::held_fields, item_codec::specs::Records::optional))]
+#[tactic(auto, unfolding(usage_tables::specs::FileItems::held_fields, item_codec::specs::Records::optional))]
 fn write_candidate(writer: &mut FieldWriter, candidate: Option<Lent<'_>>) -> Result<(), Memory>
     ensures { OnOk result (writer.new ≡ writer.old ++ optional spec.held_fields candidate.entry) }
 {
@@ -107,7 +107,7 @@ fn write_candidate(writer: &mut FieldWriter, candidate: Option<Lent<'_>>) -> Res
 }
 
 /// Writes an approved file and its approval, or that there is none.
-#[tactic(auto, unfolding(file_tables::specs::FileItems::approved_fields, file_tables::specs::FileItems::approval_field, item_codec::specs::Records::optional))]
+#[tactic(auto, unfolding(usage_tables::specs::FileItems::approved_fields, usage_tables::specs::FileItems::approval_field, item_codec::specs::Records::optional))]
 fn write_approved(
     writer: &mut FieldWriter,
     approved: Option<(Lent<'_>, Approval)>,
@@ -126,7 +126,7 @@ fn write_approved(
 }
 
 /// Writes the version and both files.
-#[tactic(auto, unfolding(file_tables::specs::FileItems::file_body, item_codec::specs::Spelling::version, item_codec::specs::Spelling::version_of))]
+#[tactic(auto, unfolding(usage_tables::specs::FileItems::file_body, item_codec::specs::Spelling::version, item_codec::specs::Spelling::version_of))]
 fn body_of(
     alloc: Global,
     approved: Option<(Lent<'_>, Approval)>,
@@ -142,7 +142,7 @@ fn body_of(
 }
 
 /// The item in which these files of a URL are kept.
-#[tactic(auto, unfolding(file_tables::specs::FileItems::file_item, file_tables::specs::FileItems::file_row))]
+#[tactic(auto, unfolding(usage_tables::specs::FileItems::file_item, usage_tables::specs::FileItems::file_row))]
 pub(crate) fn item_of(
     alloc: Global,
     url: &MudUrl,

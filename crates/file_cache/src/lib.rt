@@ -15,6 +15,6 @@ mod verdicts;
 pub use cache::FileCache;
 pub use change::CacheChange;
 pub use due::is_due;
-pub use file_tables::{
+pub use usage_tables::{
     Approval, CacheFault, CachedFile, FileEdit, Held, OperatorVerdict, PolicyChange,
 };

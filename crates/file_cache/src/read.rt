@@ -3,12 +3,12 @@ ghost use Rattle.std.specs.Prelude.{◌≡◌, Some, None, MatchOption, List, �
 ghost use Rattle.std.specs.Option.{option_map};
 ghost use Rattle.item_codec.specs.Spelling.{IsWidth};
 ghost use Rattle.item_codec.specs.Records.{number_in, string_in, version_in, optional_in, end_in};
-ghost use Rattle.file_tables.specs.Held.{held_file};
-ghost use Rattle.file_tables.specs.FileItems as spec;
+ghost use Rattle.usage_tables.specs.Held.{held_file};
+ghost use Rattle.usage_tables.specs.FileItems as spec;
 
-use file_tables::Approval;
 use item_codec::FieldReader;
 use std::marker::Model;
+use usage_tables::Approval;
 
 /// A file as an item says it: octets, lent, and when they were fetched, in seconds. They may fail to
 /// be a usage file and a moment. Contracts see it as a held file.
@@ -19,7 +19,7 @@ pub struct Part<'a> {
 }
 
 impl<'a> Model for Part<'a> {
-    ghost use Rattle.file_tables.specs.Held.{HeldFile, held_file};
+    ghost use Rattle.usage_tables.specs.Held.{HeldFile, held_file};
 
     ghost Value = { HeldFile };
 

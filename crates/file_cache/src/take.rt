@@ -1,24 +1,24 @@
 //! Taking files from the items in which they are kept.
 ghost use Rattle.std.specs.Prelude.{◌≡◌, ◌++◌, ◌∷◌, [], true, false, if◌then◌else◌, Some, None, IsTrue, IfOk, OnErr, IfErr, MatchOption};
 ghost use Rattle.mud_file.specs.File.{file_of};
-ghost use Rattle.file_tables.specs.Files as spec;
-ghost use Rattle.file_tables.specs.Files.{IsSoundFiles};
-ghost use Rattle.file_tables.specs.FileItems.{file_in, file_row, if_sound_file, has_room, may_stand_behind};
+ghost use Rattle.usage_tables.specs.Files as spec;
+ghost use Rattle.usage_tables.specs.Files.{IsSoundFiles};
+ghost use Rattle.usage_tables.specs.FileItems.{file_in, file_row, if_sound_file, has_room, may_stand_behind};
 ghost use Rattle.file_cache.specs.Planned.{IsReadAs};
 
 use crate::imports::is_older;
 use crate::items::FILE_KIND;
 use crate::read::{Part, parts_in};
 use crate::verdicts::is_signed;
-use file_tables::entries::{approved_entries, entry_count};
-use file_tables::limits::{MOST_FILES, MOST_POLICY_ENTRIES};
-use file_tables::{Approval, CachedFile, Held};
+use base_rows::SortedRows;
 use mud_base::{Bytes, Memory, Moment};
 use mud_file::{FileFault, UsageFile, read_usage};
 use mud_url::MudUrl;
 use mud_world::Item;
-use sorted_rows::SortedRows;
 use std::alloc::Global;
+use usage_tables::entries::{approved_entries, entry_count};
+use usage_tables::limits::{MOST_FILES, MOST_POLICY_ENTRIES};
+use usage_tables::{Approval, CachedFile, Held};
 
 /// The usage file that octets are, where they are one.
 fn usage_in(alloc: Global, octets: &[u8]) -> Result<Option<UsageFile>, Memory>
@@ -55,7 +55,7 @@ fn held_of(alloc: Global, url: &[u8], part: Part<'_>) -> Result<Option<Held>, Me
 }
 
 /// Whether a held file may have an approval: only one with a signature can be verified.
-#[tactic(auto, unfolding(file_tables::specs::Files::may_have))]
+#[tactic(auto, unfolding(usage_tables::specs::Files::may_have))]
 fn may_have(held: &Held, approval: Approval) -> bool
     ensures { result ≡ spec.may_have held.now approval }
 {
@@ -87,7 +87,7 @@ fn approved_of(
 
 /// Whether a candidate may stand beside an approved file: it has other octets, and was generated no
 /// earlier.
-#[tactic(auto, unfolding(file_tables::specs::Files::may_follow, file_tables::specs::Files::is_outdated))]
+#[tactic(auto, unfolding(usage_tables::specs::Files::may_follow, usage_tables::specs::Files::is_outdated))]
 fn may_follow(candidate: &Held, approved: &Held) -> bool
     ensures { result ≡ spec.may_follow candidate.now approved.now }
 {
@@ -219,7 +219,7 @@ pub(crate) fn row_in(alloc: Global, item: &Item) -> Result<Option<CachedFile>, M
 }
 
 /// Whether there is room for a row, and for the entries of its approved file.
-#[tactic(auto, unfolding(file_tables::specs::FileItems::has_room))]
+#[tactic(auto, unfolding(usage_tables::specs::FileItems::has_room))]
 fn has_room(files: &SortedRows<CachedFile>, row: &CachedFile) -> bool
     requires { IsSoundFiles files.now.rows }
     ensures { result ≡ has_room files.now.rows row.now }

@@ -1,25 +1,25 @@
 //! What the operator's word on a URL's files changes: a verdict on the candidate, or that the approval
 //! is taken back.
 ghost use Rattle.std.specs.Prelude.{◌≡◌, List, Some};
-ghost use Rattle.file_tables.specs.declared.approval.OperatorVerdict.TheVariants as verdict;
-ghost use Rattle.file_tables.specs.declared.cached_file.CachedFile.{CachedFile as Row};
-ghost use Rattle.file_tables.specs.Files as files_spec;
-ghost use Rattle.file_tables.specs.Files.{url_of, file_at, IsSoundFiles};
-ghost use Rattle.file_tables.specs.FileCommands as step;
+ghost use Rattle.usage_tables.specs.declared.approval.OperatorVerdict.TheVariants as verdict;
+ghost use Rattle.usage_tables.specs.declared.cached_file.CachedFile.{CachedFile as Row};
+ghost use Rattle.usage_tables.specs.Files as files_spec;
+ghost use Rattle.usage_tables.specs.Files.{url_of, file_at, IsSoundFiles};
+ghost use Rattle.usage_tables.specs.FileCommands as step;
 ghost use Rattle.file_cache.specs.Planned.{Makes};
 
 use crate::change::CacheChange;
 use crate::items::{Lent, approved_of, candidate_of, item_of};
-use file_tables::entries::entries_with;
-use file_tables::limits::MOST_POLICY_ENTRIES;
-use file_tables::{Approval, CacheFault, CachedFile, FileEdit, Held, OperatorVerdict};
+use base_rows::SortedRows;
 use item_codec::Word;
 use mud_url::MudUrl;
-use sorted_rows::SortedRows;
 use std::alloc::Global;
+use usage_tables::entries::entries_with;
+use usage_tables::limits::MOST_POLICY_ENTRIES;
+use usage_tables::{Approval, CacheFault, CachedFile, FileEdit, Held, OperatorVerdict};
 
 /// Whether a file has a `mud-signature` (RFC 8520, 13).
-#[tactic(auto, unfolding(file_tables::specs::Files::is_signed))]
+#[tactic(auto, unfolding(usage_tables::specs::Files::is_signed))]
 pub(crate) fn is_signed(held: &Held) -> bool
     ensures { result ≡ files_spec.is_signed held.now }
 {
@@ -95,7 +95,7 @@ fn rule(
 }
 
 /// Whether a verdict gives this approval.
-#[tactic(auto, unfolding(file_tables::specs::FileCommands::is_verdict))]
+#[tactic(auto, unfolding(usage_tables::specs::FileCommands::is_verdict))]
 fn is_verdict(verdict: OperatorVerdict, approval: Approval) -> bool
     ensures { result ≡ step.is_verdict verdict approval }
 {
@@ -107,7 +107,7 @@ fn is_verdict(verdict: OperatorVerdict, approval: Approval) -> bool
 }
 
 /// Whether the approved file has this digest and this approval already.
-#[tactic(auto, unfolding(file_tables::specs::FileCommands::is_ruled))]
+#[tactic(auto, unfolding(usage_tables::specs::FileCommands::is_ruled))]
 fn is_ruled(row: &CachedFile, digest: &[u8], verdict: OperatorVerdict) -> bool
     ensures { result ≡ step.is_ruled digest.now verdict row.now.approved }
 {

@@ -4,8 +4,8 @@ use Rattle.std.specs.Prelude.{IsSome, option_map}
 use Rattle.std.specs.Option.{is_none}
 use Rattle.std.specs.BTreeMap.{is_at}
 use Rattle.std.proofs.lemmas.Bool.Decides.{nat_tests}
-use Rattle.mud_tables.specs.History.{Endpoint, Begun, is_between, is_past, opens, resets, with_moment}
-use Rattle.mud_tables.specs.declared.segment.Segment.{Segment}
+use Rattle.table_model.specs.History.{Endpoint, Begun, is_between, is_past, opens, resets, with_moment}
+use Rattle.table_model.specs.declared.segment.Segment.{Segment}
 use Rattle.flow_table.specs.Kept.{StandsFor, is_since, beginner_kept, kept_after, MayForget, HasNoted}
 use Rattle.flow_table.specs.Keys.{Key, key_cmp, key_of}
 use Rattle.flow_table.specs.Held.{Held, with_newest, slot_at, filled, slot_first, held_at, held_between, flows_of, IsNoted, IsSound, IsWritten}

@@ -5,9 +5,9 @@ use Rattle.std.specs.List.{list_any}
 use Rattle.std.proofs.lemmas.Bool.Decides.{nat_tests}
 use Rattle.mud_base.specs.declared.packet.Fields.{Fields}
 use Rattle.mud_base.specs.declared.packet.Direction.{Direction}
-use Rattle.mud_tables.specs.History.{Endpoint, Begun, segment_of, is_between, between, opens, resets, since_opened, is_unbroken, moment_of, beginner_since, beginner_of, beginner, side_of, begun_in, begun_of, with_segment, with_packet, last_moment, is_forward, with_moment, begun_at, begun_between, is_past, MayKeep}
-use Rattle.mud_tables.specs.declared.segment.Segment.{Segment}
-use Rattle.mud_tables.proofs.TypeFacts.{segment_at}
+use Rattle.table_model.specs.History.{Endpoint, Begun, segment_of, is_between, between, opens, resets, since_opened, is_unbroken, moment_of, beginner_since, beginner_of, beginner, side_of, begun_in, begun_of, with_segment, with_packet, last_moment, is_forward, with_moment, begun_at, begun_between, is_past, MayKeep}
+use Rattle.table_model.specs.declared.segment.Segment.{Segment}
+use Rattle.table_model.proofs.TypeFacts.{segment_at}
 use Rattle.flow_table.specs.Kept.{Flows, StandsFor, is_since, beginner_kept, kept_after, begun_kept_in, begun_kept, MayForget, HasNoted}
 
 -- ---- Lists with one packet more

@@ -8,8 +8,8 @@ use Rattle.std.proofs.lemmas.Cmp.{nat_cmp_total, ranked, tied_itself}
 use Rattle.std.specs.Cmp.{both_ways}
 use Rattle.mud_base.specs.declared.addr.Addr.{Addr}
 use Rattle.mud_base.specs.declared.addr.Addr.TheVariants.{V4, V6}
-use Rattle.mud_tables.specs.History.{Endpoint, is_between}
-use Rattle.mud_tables.specs.declared.segment.Segment.{Segment}
+use Rattle.table_model.specs.History.{Endpoint, is_between}
+use Rattle.table_model.specs.declared.segment.Segment.{Segment}
 use Rattle.flow_table.specs.Pairs.{Pair, pair_of}
 use Rattle.flow_table.specs.Keys.{Key, key_cmp, number_of, is_long, key_in, key_of}
 use Rattle.flow_table.proofs.PairLaws.{both_parts, then_equal, between_same, same_between}

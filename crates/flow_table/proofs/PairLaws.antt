@@ -10,9 +10,9 @@ use Rattle.mud_base.specs.declared.addr.Addr.{Addr}
 use Rattle.mud_base.specs.declared.addr.Addr.TheVariants.{V4, V6}
 use Rattle.mud_base.specs.contracts.addr.AddrOrd.TheImpl as addr_ord
 use Rattle.mud_base.proofs.AddrOrder.{addr_cmp_total, same_from_tie}
-use Rattle.mud_tables.specs.History.{Endpoint, same_endpoint, is_between}
-use Rattle.mud_tables.specs.declared.segment.Segment.{Segment}
-use Rattle.mud_tables.proofs.RowSets.{same_addr_exact, same_addr_itself}
+use Rattle.table_model.specs.History.{Endpoint, same_endpoint, is_between}
+use Rattle.table_model.specs.declared.segment.Segment.{Segment}
+use Rattle.table_model.proofs.RowSets.{same_addr_exact, same_addr_itself}
 use Rattle.flow_table.specs.Pairs.{Pair, endpoint_cmp, pair_of}
 
 derived : (a b : Addr) → (addr_ord.ghosts).cmp a b ≡ addr_cmp a b

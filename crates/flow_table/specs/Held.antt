@@ -2,8 +2,8 @@
 use Rattle.std.specs.Prelude.{◌≡◌, ℕ, ◌≤◌, Bool, false, List, ◌∷◌, Option, Some, None}
 use Rattle.std.specs.Map.{lookup}
 use Rattle.std.specs.BTreeMap.{is_at}
-use Rattle.mud_tables.specs.History.{Endpoint, Begun}
-use Rattle.mud_tables.specs.declared.segment.Segment.{Segment}
+use Rattle.table_model.specs.History.{Endpoint, Begun}
+use Rattle.table_model.specs.declared.segment.Segment.{Segment}
 use Rattle.flow_table.specs.Kept.{Flows, kept_after}
 use Rattle.flow_table.specs.Keys.{Key, key_cmp, key_of}
 

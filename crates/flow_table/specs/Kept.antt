@@ -2,10 +2,10 @@
 use Rattle.std.specs.Prelude.{◌≡◌, ℕ, ◌-◌, Bool, true, false, nat_le, IsTrue, option_map, Option, Some, None, ◌⊎◌, if◌then◌else◌}
 use Rattle.mud_base.specs.declared.packet.Fields.{Fields}
 use Rattle.mud_base.specs.declared.packet.Direction.{Direction}
-use Rattle.mud_tables.specs.Limits.{most_pause}
-use Rattle.mud_tables.specs.History.{Endpoint, Begun, segment_of, is_between, opens, resets, side_of, with_moment, is_past}
-use Rattle.mud_tables.specs.declared.segment.Segment.{Segment}
-pub use Rattle.mud_tables.specs.History.{Flows, StandsFor}
+use Rattle.table_model.specs.Limits.{most_pause}
+use Rattle.table_model.specs.History.{Endpoint, Begun, segment_of, is_between, opens, resets, side_of, with_moment, is_past}
+use Rattle.table_model.specs.declared.segment.Segment.{Segment}
+pub use Rattle.table_model.specs.History.{Flows, StandsFor}
 
 -- the moment isn't before the last one
 unfoldable pub is_since : Option ℕ → ℕ → Bool

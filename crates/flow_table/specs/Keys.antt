@@ -4,7 +4,7 @@ use Rattle.std.specs.Prelude.{ℕ, ◌+◌, ◌*◌, ◌%◌, ◌^◌, Bool, tru
 use Rattle.std.specs.declared.cmp.Ordering.{Ordering}
 use Rattle.mud_base.specs.declared.addr.Addr.{Addr}
 use Rattle.mud_base.specs.declared.addr.Addr.TheVariants.{V4, V6}
-use Rattle.mud_tables.specs.History.{Endpoint}
+use Rattle.table_model.specs.History.{Endpoint}
 use Rattle.flow_table.specs.Pairs.{Pair, pair_of}
 use Rattle.flow_table.specs.contracts.key.KeyOrd.TheImpl as key_ord
 pub use Rattle.flow_table.specs.declared.key.Key.{Key}

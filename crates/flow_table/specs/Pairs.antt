@@ -2,7 +2,7 @@
 use Rattle.std.specs.Ordering.{nat_cmp, ordering_then, match_ordering}
 use Rattle.std.specs.declared.cmp.Ordering.{Ordering}
 use Rattle.mud_base.specs.contracts.addr.AddrOrd.TheImpl as addr_ord
-use Rattle.mud_tables.specs.History.{Endpoint}
+use Rattle.table_model.specs.History.{Endpoint}
 
 abbrev pub Pair : Type 0
 Pair = Endpoint × Endpoint

@@ -1,6 +1,6 @@
 -- The packet that a plan is for, and when it can be noted.
 use Rattle.std.specs.Prelude.{IsTrue}
-use Rattle.mud_tables.specs.declared.segment.Segment.{Segment}
+use Rattle.table_model.specs.declared.segment.Segment.{Segment}
 use Rattle.flow_table.specs.Kept.{is_since}
 use Rattle.flow_table.specs.Held.{Held, flows_of}
 use Rattle.flow_table.specs.declared.table.FlowPlan.{FlowPlan}

@@ -1,11 +1,11 @@
 //! What is kept of a connection, and what follows from it.
 ghost use Rattle.std.specs.Prelude.{◌≡◌, ◌-◌, nat_le};
-ghost use Rattle.mud_tables.specs.Limits.{most_pause};
+ghost use Rattle.table_model.specs.Limits.{most_pause};
 ghost use Rattle.flow_table.specs.Kept as spec;
 
 use mud_base::Moment;
-use mud_tables::limits::MOST_PAUSE;
-use mud_tables::{Endpoint, Segment};
+use table_model::limits::MOST_PAUSE;
+use table_model::{Endpoint, Segment};
 
 /// Who began a connection, and the moment of its last packet.
 pub type Begun = (Endpoint, Moment);
@@ -32,7 +32,7 @@ fn is_kept(at: Moment, now: Moment) -> bool
 
 /// What is kept of two endpoints after a packet between them: a packet that opens begins the
 /// connection anew, one that resets ends it, and each other one keeps it up.
-#[tactic(auto, unfolding(crate::specs::Kept::kept_after, mud_tables::specs::History::with_moment))]
+#[tactic(auto, unfolding(crate::specs::Kept::kept_after, table_model::specs::History::with_moment))]
 pub(crate) fn kept_after(packet: &Segment, kept: Option<Begun>) -> Option<Begun>
     ensures { result ≡ spec.kept_after packet.now kept }
 {
@@ -50,7 +50,7 @@ pub(crate) fn kept_after(packet: &Segment, kept: Option<Begun>) -> Option<Begun>
 
 /// Writes what is kept of two ends after a packet between them in place of what was kept. For most
 /// packets that is the moment alone.
-#[tactic(auto, unfolding(crate::specs::Kept::kept_after, crate::specs::Kept::beginner_kept, mud_tables::specs::History::with_moment))]
+#[tactic(auto, unfolding(crate::specs::Kept::kept_after, crate::specs::Kept::beginner_kept, table_model::specs::History::with_moment))]
 pub(crate) fn keep_up(kept: &mut Option<Begun>, packet: &Segment)
     ensures { kept.new ≡ spec.kept_after packet.now kept.old }
 {

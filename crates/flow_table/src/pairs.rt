@@ -6,8 +6,8 @@ ghost use Rattle.flow_table.specs.Keys as keys;
 
 use crate::key::Key;
 use mud_base::Addr;
-use mud_tables::Endpoint;
 use std::cmp::Ordering;
+use table_model::Endpoint;
 
 /// Two endpoints in one order: by address, and then by port.
 pub type Pair = (Endpoint, Endpoint);

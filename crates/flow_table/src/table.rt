@@ -1,8 +1,8 @@
 //! The table of the connections that forwarded packets made.
 ghost use Rattle.std.specs.Prelude.{◌≡◌, ◌++◌, ◌∷◌, [], List, true, false, IsTrue, IfOk, OnOk, OnErr, IsSome, Some, None};
-ghost use Rattle.mud_tables.specs.History as history;
-ghost use Rattle.mud_tables.specs.History.{StandsFor};
-ghost use Rattle.mud_tables.specs.declared.segment.Segment.{Segment as SegmentValue};
+ghost use Rattle.table_model.specs.History as history;
+ghost use Rattle.table_model.specs.History.{StandsFor};
+ghost use Rattle.table_model.specs.declared.segment.Segment.{Segment as SegmentValue};
 ghost use Rattle.flow_table.specs.Kept.{HasNoted, is_since, begun_kept};
 ghost use Rattle.flow_table.specs.Held.{held_at, slot_at, slot_first, filled, with_newest, flows_of, IsWritten};
 ghost use Rattle.flow_table.specs.Planned.{segment_planned, IsPlanned};
@@ -11,14 +11,14 @@ use crate::kept::{Begun, beginner_kept, keep_up, kept_after};
 use crate::key::Key;
 use crate::pairs::key_of;
 use mud_base::{Direction, Fields, Memory, Moment};
-use mud_tables::Segment;
-use mud_tables::limits::MOST_PAUSE;
-use mud_tables::segment::segment_of;
 use std::alloc::Global;
 use std::cmp::Ordering;
 use std::collections::BTreeMap;
 use std::marker::Model;
 use std::mem::replace;
+use table_model::Segment;
+use table_model::limits::MOST_PAUSE;
+use table_model::segment::segment_of;
 
 #[cfg(test)]
 mod tests;

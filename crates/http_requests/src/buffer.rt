@@ -5,7 +5,7 @@ ghost use Rattle.http_requests.specs.Received.{Grown, Received};
 
 use mud_base::Memory;
 use mud_world::{Door, Failed};
-use octet_buffer::{refill, zeros};
+use read_buffer::{refill, zeros};
 use std::alloc::Global;
 use std::marker::Model;
 

@@ -15,8 +15,8 @@ use Rattle.sqlite_sql.specs.declared.ops.CompareOp.TheVariants.{Eq}
 use Rattle.sqlite_sql.specs.Ops.{binary, is_true, from_truth}
 use Rattle.sqlite_sql.specs.Term.{holds}
 use Rattle.std.specs.Prelude.{Some}
-use Rattle.sorted_rows.specs.Sortable.{sort_key_cmp, same_sort_key}
-use Rattle.sorted_rows.proofs.SortableLaws.{same_sort_key-cmp}
+use Rattle.base_rows.specs.Sortable.{sort_key_cmp, same_sort_key}
+use Rattle.base_rows.proofs.SortableLaws.{same_sort_key-cmp}
 use Rattle.mud_world.specs.declared.item.Item.{Item}
 use Rattle.mud_world.specs.Items.{sort_key_of}
 use Rattle.keep_sqlite.specs.Rows.{stored}

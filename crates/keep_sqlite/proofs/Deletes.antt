@@ -21,7 +21,7 @@ use Rattle.sqlite.specs.Listing.{understood}
 use Rattle.sqlite.specs.Effect.{Database}
 use Rattle.sqlite.specs.State.{State, mode_of, Executes}
 use Rattle.sqlite.proofs.Callers.{statement_of, runs_as, one_step}
-use Rattle.sorted_rows.specs.Sortable.{same_sort_key, without_row}
+use Rattle.base_rows.specs.Sortable.{same_sort_key, without_row}
 use Rattle.mud_world.specs.Items.{sort_key_of}
 use Rattle.keep_sqlite.specs.Table.{item_table, item_schema}
 use Rattle.keep_sqlite.specs.Rows.{items_in, items_of, id_of, AreDistinct, IsItemRow, HoldsItems}

@@ -7,9 +7,9 @@ use Rattle.std.specs.declared.cmp.Ordering.{Ordering}
 use Rattle.std.specs.declared.cmp.Ordering.TheVariants.{Less, Equal, Greater}
 use Rattle.sqlite_value.specs.Order.{Row, value_cmp}
 use Rattle.sqlite_trees.specs.Tree.{rowid, put_row}
-use Rattle.sorted_rows.specs.Sortable.{same_sort_key, row_at, set_row, without_row}
-use Rattle.sorted_rows.proofs.SortableLaws.{same_sort_key_itself, same_sort_key_exact, row_at-set_row, row_at-without_row, ascend-set_row, ascend-without_row}
-use Rattle.sorted_rows.proofs.RowLaws.{same_rows}
+use Rattle.base_rows.specs.Sortable.{same_sort_key, row_at, set_row, without_row}
+use Rattle.base_rows.proofs.SortableLaws.{same_sort_key_itself, same_sort_key_exact, row_at-set_row, row_at-without_row, ascend-set_row, ascend-without_row}
+use Rattle.base_rows.proofs.RowLaws.{same_rows}
 use Rattle.mud_world.specs.declared.item.Item.{Item}
 use Rattle.mud_world.specs.Items.{sort_key_of, IsOrdered}
 use Rattle.keep_sqlite.specs.Rows.{item_in, items_in}

@@ -17,11 +17,11 @@ use Rattle.sqlite_schema.specs.declared.schema.Constraint.TheVariants.{Datatype}
 use Rattle.sqlite_schema.specs.Rules.{are_typed, has_computed, Keeps}
 use Rattle.sqlite.specs.Effect.{Database, IsDatabase}
 use Rattle.sqlite.specs.State.{State}
-use Rattle.sorted_rows.specs.Sortable.{same_sort_key, row_at, SortKeysAscend}
+use Rattle.base_rows.specs.Sortable.{same_sort_key, row_at, SortKeysAscend}
 use Rattle.std.specs.declared.cmp.Ordering.TheVariants.{Less}
-use Rattle.sorted_rows.proofs.SortableLaws.{same_sort_key_itself, same_sort_key_exact, same_sort_key-cmp}
-use Rattle.sorted_rows.proofs.RowLaws.{same_rows}
-use Rattle.sorted_rows.proofs.Lists.{all-map}
+use Rattle.base_rows.proofs.SortableLaws.{same_sort_key_itself, same_sort_key_exact, same_sort_key-cmp}
+use Rattle.base_rows.proofs.RowLaws.{same_rows}
+use Rattle.base_rows.proofs.Lists.{all-map}
 use Rattle.mud_world.specs.declared.item.Item.{Item}
 use Rattle.mud_world.specs.Items.{sort_key_of, IsOrdered}
 use Rattle.keep_sqlite.specs.Table.{item_table, item_schema}
@@ -124,7 +124,7 @@ first_at : (items : List Item) → IsOrdered items → AllByRecursion (λ item. 
 first_at [] up = tt
 first_at (x ∷ xs) up = (ap (λ b. cond b (Some x) (row_at sort_key_of (sort_key_of x) xs)) (same_sort_key_itself (sort_key_of x)), later xs xs up.0 (first_at xs up.1))
   where
-    later : (ys all : List Item) → Rattle.sorted_rows.specs.Sortable.SortKeysAbove sort_key_of (sort_key_of x) ys → AllByRecursion (λ item. row_at sort_key_of (sort_key_of item) all ≡ Some item) ys → AllByRecursion (λ item. row_at sort_key_of (sort_key_of item) (x ∷ all) ≡ Some item) ys
+    later : (ys all : List Item) → Rattle.base_rows.specs.Sortable.SortKeysAbove sort_key_of (sort_key_of x) ys → AllByRecursion (λ item. row_at sort_key_of (sort_key_of item) all ≡ Some item) ys → AllByRecursion (λ item. row_at sort_key_of (sort_key_of item) (x ∷ all) ≡ Some item) ys
     later [] all above each = tt
     later (y ∷ ys) all above each = (ap (λ b. cond b (Some x) (row_at sort_key_of (sort_key_of y) all)) (same_sort_key-cmp (sort_key_of x) (sort_key_of y) Less above.0) ∙ each.0, later ys all above.1 each.1)
 

@@ -17,9 +17,9 @@ use Rattle.sqlite_rules.specs.Lists.{Has}
 use Rattle.sqlite_rules.specs.Keys.{conflicts}
 use Rattle.sqlite_rules.proofs.ListLemmas.{all_has}
 use Rattle.sqlite.specs.Effect.{Database}
-use Rattle.sorted_rows.specs.Sortable.{same_sort_key}
-use Rattle.sorted_rows.proofs.SortableLaws.{same_sort_key_itself, same_sort_key_exact}
-use Rattle.sorted_rows.proofs.SearchLaws.{not_ne}
+use Rattle.base_rows.specs.Sortable.{same_sort_key}
+use Rattle.base_rows.proofs.SortableLaws.{same_sort_key_itself, same_sort_key_exact}
+use Rattle.base_rows.proofs.SearchLaws.{not_ne}
 use Rattle.mud_world.specs.declared.item.Item.{Item}
 use Rattle.mud_world.specs.Items.{sort_key_of}
 use Rattle.keep_sqlite.specs.Table.{item_table, item_schema}

@@ -33,8 +33,8 @@ use Rattle.sqlite.specs.State.{State, mode_of, Executes}
 use Rattle.sqlite.proofs.Callers.{statement_of, runs_as, one_step, one_permutation}
 use Rattle.std.specs.List.Sorted.{IsPermutation}
 use Rattle.std.proofs.Math.Bool.{and-true}
-use Rattle.sorted_rows.specs.Sortable.{same_sort_key, set_row}
-use Rattle.sorted_rows.proofs.SortableLaws.{same_sort_key_exact}
+use Rattle.base_rows.specs.Sortable.{same_sort_key, set_row}
+use Rattle.base_rows.proofs.SortableLaws.{same_sort_key_exact}
 use Rattle.mud_world.specs.declared.item.Item.{Item}
 use Rattle.mud_world.specs.Items.{sort_key_of}
 use Rattle.keep_sqlite.specs.Table.{item_table, item_schema}

@@ -14,9 +14,9 @@ ghost use Rattle.keep_sqlite.specs.Selections.{item_shown, number_shown, shown_c
 ghost use Rattle.keep_sqlite.specs.Batches.{LeavesNothing, Stays};
 
 use crate::refusal::{Refusal, refusal_of};
+use base_rows::Sortable;
 use mud_base::{Bytes, Listed};
 use mud_world::Item;
-use sorted_rows::Sortable;
 use sqlite::types::ValueRef;
 use sqlite::{Alter, Connection, Error, Row};
 use std::alloc::Global;

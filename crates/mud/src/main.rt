@@ -2,12 +2,12 @@
 //! over them.
 #![tactic(auto)]
 
-use command_words::{Command, USAGE, command_of, folder_word, store_word};
+use io_system::{Call, Failure, RealClock, RealDoor, RealSpool};
 use keep_sqlite::PathKeeper;
 use mud_base::Listed;
 use mud_cli::{Status, mud_main};
 use mud_world::{Keeper, MemoryKeeper};
-use real_world::{Call, Failure, RealClock, RealDoor, RealSpool};
+use run_words::{Command, USAGE, command_of, folder_word, store_word};
 use std::alloc::{AllocError, Global};
 use std::io::ErrorKind;
 use std::process::ExitCode;

@@ -2,13 +2,13 @@
 use Rattle.std.proofs.Common.{◌≡◌, ◌≢◌, ℕ, ◌⊎◌, inl, inr, List, [], Ok, refl, sym, ap, ap₂, subst, ◌∙◌, arith}
 use Rattle.std.specs.declared.dyn_box.DynBox.{DynBox}
 use Rattle.std.specs.declared.alloc.Global.{Global}
-use Rattle.mud_tables.specs.declared.segment.Segment.{Segment}
+use Rattle.table_model.specs.declared.segment.Segment.{Segment}
 use Rattle.mud_world.specs.declared.keeper.Keeper.{Ghosts}
 use Rattle.mud_world.specs.Boxed.{faults_of, Tells, kept_items}
 use Rattle.mud_world.specs.Causes.{Rose}
 use Rattle.mud_world.specs.Door.{DoorState}
 use Rattle.mud_world.specs.Files.{names_of}
-use Rattle.command_runs.specs.Ends.{IsStoppedByDoorOrSpool}
+use Rattle.run_common.specs.Ends.{IsStoppedByDoorOrSpool}
 use Rattle.desk_model.specs.DeskTables.{DeskTables, IsSound}
 use Rattle.desk_model.specs.Items.{items_of, tables_in}
 use Rattle.desk_model.specs.Sessions.{Session, opened}
@@ -16,11 +16,11 @@ use Rattle.desk_model.specs.Boxed.{IsSameBox}
 use Rattle.mud_desk.specs.DeskState.{DeskState, IsBegun, session_of, tables_of}
 use Rattle.mud_desk.specs.declared.desk.Desk.{Desk}
 use Rattle.mud_desk.specs.Stays.{StaysKept}
-use Rattle.desk_runs.proofs.Refusals.{RunsRefused, is_refused}
-use Rattle.desk_runs.proofs.Stores.{not_seven}
-use Rattle.import_runs.specs.Scenes.{standing, scene}
-use Rattle.import_runs.specs.Order.{in_order}
-use Rattle.import_runs.specs.Runs.{Scene, ImportsPart, ImportsAll}
+use Rattle.run_desk.proofs.Refusals.{RunsRefused, is_refused}
+use Rattle.run_desk.proofs.Stores.{not_seven}
+use Rattle.run_import.specs.Scenes.{standing, scene}
+use Rattle.run_import.specs.Order.{in_order}
+use Rattle.run_import.specs.Runs.{Scene, ImportsPart, ImportsAll}
 use Rattle.mud_cli.specs.Import.Store.{ImportsStore, scene_in}
 use Rattle.mud_world.specs.View.{OutsideView, SpoolView}
 

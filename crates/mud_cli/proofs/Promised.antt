@@ -3,8 +3,8 @@ use Rattle.std.proofs.Common.{◌≡◌, ℕ, Bool, true, false, is_some, Option
 use Rattle.std.proofs.lemmas.Bool.{false≢true}
 use Rattle.mud_world.specs.Door.{DoorState}
 use Rattle.mud_cli.specs.Promises.{ReadUpTo}
-use Rattle.command_words.specs.declared.command.Command.{Command}
-use Rattle.command_words.specs.declared.command.Command.TheVariants.{Frames}
+use Rattle.run_words.specs.declared.command.Command.{Command}
+use Rattle.run_words.specs.declared.command.Command.TheVariants.{Frames}
 
 pub promised : (P : Command → Type 0) (a b : Command) → Some a ≡ Some b → P a → P b
 promised P a b e holds = let same : a ≡ b = cc in subst P same holds

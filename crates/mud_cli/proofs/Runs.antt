@@ -10,11 +10,11 @@ use Rattle.dhcp_lldp.specs.Lldp.{lldp_of}
 use Rattle.dhcp_lldp.specs.declared.heard.Heard.{Heard}
 use Rattle.dhcp_lldp.specs.declared.heard.HearFault.{HearFault}
 use Rattle.mud_cli.specs.declared.answer.Answer.{Answer}
-use Rattle.command_words.specs.declared.command.Message.TheVariants.{Dhcp, Lldp}
+use Rattle.run_words.specs.declared.command.Message.TheVariants.{Dhcp, Lldp}
 use Rattle.mud_file.specs.File.{file_of}
 use Rattle.mud_cli.specs.declared.answer.Input.{Input}
 use Rattle.mud_cli.specs.declared.answer.Input.TheVariants as input
-use Rattle.command_runs.specs.Output.{WritesOutput, WritesPart}
+use Rattle.run_common.specs.Output.{WritesOutput, WritesPart}
 use Rattle.mud_cli.specs.Answers.{answer_to, most_of, status_of, output_of_input}
 use Rattle.mud_cli.specs.Check.Answer.{checking}
 use Rattle.mud_cli.specs.Hear.Answer.{answer_of, hearing_within}

@@ -2,11 +2,11 @@
 use Rattle.std.proofs.Common.{◌≡◌, ℕ, List, ◌++◌, ap, ap₂, ◌∙◌}
 use Rattle.std.specs.Prelude.{codes, decimal}
 use Rattle.frame_view.specs.Frame.{frame_of}
-use Rattle.capture_runs.specs.Same.{HoldTheSame}
-use Rattle.capture_runs.specs.Capture.{output_of_capture}
-use Rattle.capture_runs.specs.Fold.{LineStep, LooksAtNoOffset, no_ending}
-use Rattle.capture_runs.proofs.SamePackets.{output_same}
-use Rattle.text_lines.specs.Numbers.{number_text}
+use Rattle.run_captures.specs.Same.{HoldTheSame}
+use Rattle.run_captures.specs.Capture.{output_of_capture}
+use Rattle.run_captures.specs.Fold.{LineStep, LooksAtNoOffset, no_ending}
+use Rattle.run_captures.proofs.SamePackets.{output_same}
+use Rattle.text_values.specs.Numbers.{number_text}
 use Rattle.mud_cli.specs.Frames.Lines.{frame_text, packet_line, frame_step}
 
 made : ℕ → ℕ → List ℕ → LineStep (Unit {0})

@@ -1,17 +1,17 @@
 -- The output for the input of each command that reads the door and writes what it says.
 use Rattle.std.specs.Prelude.{ℕ, Bool, true, false, List, [], Option, Some, None, if◌then◌else◌}
 use Rattle.mud_file.specs.File.{file_of}
-use Rattle.capture_runs.specs.Capture.{output_of_capture}
-use Rattle.capture_runs.specs.Fold.{no_ending}
-use Rattle.command_runs.specs.Output.{Output}
+use Rattle.run_captures.specs.Capture.{output_of_capture}
+use Rattle.run_captures.specs.Fold.{no_ending}
+use Rattle.run_common.specs.Output.{Output}
 use Rattle.mud_cli.specs.Check.Answer.{checking}
 use Rattle.mud_cli.specs.Frames.Lines.{frame_step}
 use Rattle.mud_cli.specs.Hear.Answer.{answer_of}
 use Rattle.mud_cli.specs.declared.answer.Answer.{Answer}
 use Rattle.mud_cli.specs.declared.answer.Input.{Input}
 use Rattle.mud_cli.specs.declared.answer.Input.TheVariants as input
-use Rattle.command_words.specs.declared.command.Command.{Command}
-use Rattle.command_words.specs.declared.command.Command.TheVariants.{Hear, Check, Frames}
+use Rattle.run_words.specs.declared.command.Command.{Command}
+use Rattle.run_words.specs.declared.command.Command.TheVariants.{Hear, Check, Frames}
 
 -- ---- An input that is read as a whole
 

@@ -1,8 +1,8 @@
 -- How a run of `export` asks the clock.
 use Rattle.std.specs.Prelude.{◌≡◌, ℕ, ◌⊎◌, List, [], ◌∷◌}
 use Rattle.mud_world.specs.Clock.{later_moments}
-use Rattle.command_runs.specs.Status.{Is, IsOneOf}
-use Rattle.command_runs.specs.declared.status.Status.TheVariants.{Done, Refused, BadItem, KeeperFailed}
+use Rattle.run_common.specs.Status.{Is, IsOneOf}
+use Rattle.run_common.specs.declared.status.Status.TheVariants.{Done, Refused, BadItem, KeeperFailed}
 
 -- It is asked once where lists were written, at most once else, and not where there is no such Thing nor where the store can't be
 -- opened. `tells` says that it tells its moments.

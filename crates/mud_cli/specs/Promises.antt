@@ -1,16 +1,16 @@
 -- What the commands promise that read their input from the door and write what it says.
 use Rattle.std.specs.Prelude.{◌≡◌, ◌≢◌, ℕ, ◌≤◌, List, ◌++◌, length, Some, [], ◌∷◌}
 use Rattle.mud_world.specs.Door.{DoorState}
-use Rattle.capture_runs.specs.Capture.{WritesTaken}
-use Rattle.command_runs.specs.Ends.{IsSteady, IsStopped}
-use Rattle.command_runs.specs.Output.{WritesOutput, WritesPart}
+use Rattle.run_captures.specs.Capture.{WritesTaken}
+use Rattle.run_common.specs.Ends.{IsSteady, IsStopped}
+use Rattle.run_common.specs.Output.{WritesOutput, WritesPart}
 pub use Rattle.mud_world.specs.View.{DoorView}
 use Rattle.mud_cli.specs.Answers.{output_of, most_read}
 use Rattle.mud_cli.specs.Frames.Lines.{frame_step}
-use Rattle.command_words.specs.declared.command.Command.{Command}
-use Rattle.command_words.specs.declared.command.Command.TheVariants.{Frames}
-use Rattle.command_runs.specs.Status.{Is, IsNot, IsOneOf}
-use Rattle.command_runs.specs.declared.status.Status.TheVariants.{Done, Refused, DoorFailed, NoMemory}
+use Rattle.run_words.specs.declared.command.Command.{Command}
+use Rattle.run_words.specs.declared.command.Command.TheVariants.{Frames}
+use Rattle.run_common.specs.Status.{Is, IsNot, IsOneOf}
+use Rattle.run_common.specs.declared.status.Status.TheVariants.{Done, Refused, DoorFailed, NoMemory}
 
 -- At most so many octets were read of the front of the connection.
 pub record ReadUpTo (most : ℕ) (old new : DoorState) : Type 0 where

@@ -1,9 +1,9 @@
 -- How a run of `report` asks the clock.
 use Rattle.std.specs.Prelude.{◌≡◌, ℕ, ◌⊎◌, false, List, [], ◌∷◌}
-use Rattle.command_words.specs.declared.command.ReportKind.{ReportKind}
-use Rattle.report_runs.specs.Tables.{asks_clock, moments_after}
-use Rattle.command_runs.specs.Status.{Is, IsOneOf}
-use Rattle.command_runs.specs.declared.status.Status.TheVariants.{Done, BadItem, KeeperFailed}
+use Rattle.run_words.specs.declared.command.ReportKind.{ReportKind}
+use Rattle.run_reports.specs.Tables.{asks_clock, moments_after}
+use Rattle.run_common.specs.Status.{Is, IsOneOf}
+use Rattle.run_common.specs.declared.status.Status.TheVariants.{Done, BadItem, KeeperFailed}
 
 -- It is asked at most once, and only where the table of this kind needs the moment now and the store was opened. `tells` says that
 -- it tells its moments.

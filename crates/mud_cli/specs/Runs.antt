@@ -7,24 +7,24 @@ use Rattle.mud_world.specs.declared.door.Door as door
 use Rattle.mud_world.specs.declared.keeper.Keeper.{Ghosts}
 use Rattle.mud_world.specs.declared.spool.Spool as spool
 use Rattle.mud_world.specs.View.{OutsideView, outside}
-use Rattle.command_words.specs.declared.command.Command.{Command}
-use Rattle.command_words.specs.declared.command.Command.TheVariants.{Hear, Check, Frames, Judge, Snoop, Tally, Import, Replay, Serve, Report, Export, Drill}
-use Rattle.command_words.specs.Words.{command_in}
-use Rattle.console_runs.specs.Replay.{ReplaysStore}
-use Rattle.console_runs.specs.Serve.{ServesStore, listening, clock_run}
-use Rattle.desk_runs.specs.Store.{JudgesStore}
-use Rattle.drill_runs.specs.Store.{DrillsStore}
-use Rattle.export_runs.specs.Store.{ExportsStore}
-use Rattle.report_runs.specs.Store.{ReportsStore}
-use Rattle.snoop_runs.specs.Store.{SnoopsStore}
-use Rattle.tally_runs.specs.Store.{TalliesStore}
+use Rattle.run_words.specs.declared.command.Command.{Command}
+use Rattle.run_words.specs.declared.command.Command.TheVariants.{Hear, Check, Frames, Judge, Snoop, Tally, Import, Replay, Serve, Report, Export, Drill}
+use Rattle.run_words.specs.Words.{command_in}
+use Rattle.run_console.specs.Replay.{ReplaysStore}
+use Rattle.run_console.specs.Serve.{ServesStore, listening, clock_run}
+use Rattle.run_desk.specs.Store.{JudgesStore}
+use Rattle.run_drills.specs.Store.{DrillsStore}
+use Rattle.run_export.specs.Store.{ExportsStore}
+use Rattle.run_reports.specs.Store.{ReportsStore}
+use Rattle.run_snoop.specs.Store.{SnoopsStore}
+use Rattle.run_tally.specs.Store.{TalliesStore}
 use Rattle.mud_cli.specs.Answers.{reads_input}
 use Rattle.mud_cli.specs.Export.{AsksClockOnce}
 use Rattle.mud_cli.specs.Import.Store.{ImportsStore}
 use Rattle.mud_cli.specs.Promises.{Promises}
 use Rattle.mud_cli.specs.Report.{AsksClock}
-use Rattle.command_runs.specs.Status.{Is}
-use Rattle.command_runs.specs.declared.status.Status.TheVariants.{KeeperFailed}
+use Rattle.run_common.specs.Status.{Is}
+use Rattle.run_common.specs.declared.status.Status.TheVariants.{KeeperFailed}
 
 -- The world of the program beside its keeper: the door, the spool and the clock.
 pub record World (D P C : Type 0) : Type 0 where

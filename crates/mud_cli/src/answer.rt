@@ -1,19 +1,19 @@
 //! Commands that read an input as a whole before they answer.
 ghost use Rattle.std.specs.Prelude.{◌≡◌, ◌+◌, IfOk, [], ◌∷◌};
-ghost use Rattle.command_runs.specs.Ends.{IsSteady, IsStopped};
-ghost use Rattle.command_runs.specs.Output.{WritesOutput, WritesPart};
-ghost use Rattle.command_runs.specs.Status.{Is, IsNot, IsOneOf, status_number};
-ghost use Rattle.command_runs.specs.declared.status.Status.TheVariants.{Done, Refused, DoorFailed, NoMemory};
+ghost use Rattle.run_common.specs.Ends.{IsSteady, IsStopped};
+ghost use Rattle.run_common.specs.Output.{WritesOutput, WritesPart};
+ghost use Rattle.run_common.specs.Status.{Is, IsNot, IsOneOf, status_number};
+ghost use Rattle.run_common.specs.declared.status.Status.TheVariants.{Done, Refused, DoorFailed, NoMemory};
 ghost use Rattle.mud_cli.specs.Answers.{answer_to, output_of_input};
 ghost use Rattle.mud_cli.specs.Answers as answers;
 ghost use Rattle.mud_cli.specs.Promises.{ReadUpTo};
 
 use crate::check::{LONGEST_FILE, checking};
 use crate::hear::{LONGEST_MESSAGE, answer_of};
-use command_runs::Status;
-use command_words::Message;
 use mud_base::{Bytes, Memory};
 use mud_world::{Door, Failed, ReadFault, read_whole, say};
+use run_common::Status;
+use run_words::Message;
 use std::alloc::Global;
 
 /// What a command reads as a whole before it answers.

@@ -1,10 +1,10 @@
 //! The command `frames`: the line of each packet of a capture.
 mod lines;
 
-use capture_runs::PacketLines;
 use lines::append_packet;
 use mud_base::{Bytes, Memory};
 use pcap_read::Captured;
+use run_captures::PacketLines;
 use std::alloc::Global;
 
 /// The lines of `frames`: that of a packet doesn't depend on the packets before it.
@@ -12,7 +12,7 @@ use std::alloc::Global;
 pub struct FrameLines;
 
 impl PacketLines for FrameLines {
-    ghost use Rattle.capture_runs.specs.Fold.{no_ending};
+    ghost use Rattle.run_captures.specs.Fold.{no_ending};
     ghost use Rattle.mud_cli.specs.Frames.Lines.{frame_step};
 
     ghost State = { Unit {0} };

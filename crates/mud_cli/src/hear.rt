@@ -5,10 +5,10 @@ ghost use Rattle.mud_cli.specs.Hear.Answer.{answer_of, hearing, hearing_within};
 mod lines;
 
 use crate::answer::Answer;
-use command_words::Message;
 use dhcp_lldp::{HearFault, Heard, read_dhcp, read_lldp};
 use lines::{fault_line, heard_line, too_long_line};
 use mud_base::Memory;
+use run_words::Message;
 use std::alloc::Global;
 
 /// The most octets that a message has: the length of a UDP datagram is a number of 16 bits (RFC

@@ -1,17 +1,17 @@
 //! The command `import`: the usage files of a folder, into a store.
 ghost use Rattle.std.specs.Prelude.{◌≡◌};
-ghost use Rattle.command_runs.specs.Status.{status_number};
+ghost use Rattle.run_common.specs.Status.{status_number};
 ghost use Rattle.mud_world.specs.View.{viewed};
 ghost use Rattle.desk_items.specs.Loaded.{kept_of};
 ghost use Rattle.desk_model.specs.Items.{none_kept};
 ghost use Rattle.mud_cli.specs.Import.Store.{ImportsStore};
 ghost use Rattle.mud_world.specs.View.{outside};
 
-use command_runs::Status;
-use desk_runs::refuse_store;
-use import_runs::import_files;
 use mud_desk::{Desk, Loaded};
 use mud_world::{Clock, Door, Keeper, Spool};
+use run_common::Status;
+use run_desk::refuse_store;
+use run_import::import_files;
 use std::alloc::Global;
 
 /// Opens a desk over the keeper, and then imports the usage files of the folder into it. Where the

@@ -1,8 +1,8 @@
 //! A law of what `frames` writes, on a function that does nothing.
 ghost use Rattle.std.specs.Prelude.{◌≡◌, ℕ, List};
-ghost use Rattle.capture_runs.specs.Same.{HoldTheSame};
-ghost use Rattle.capture_runs.specs.Capture.{output_of_capture};
-ghost use Rattle.capture_runs.specs.Fold.{no_ending};
+ghost use Rattle.run_captures.specs.Same.{HoldTheSame};
+ghost use Rattle.run_captures.specs.Capture.{output_of_capture};
+ghost use Rattle.run_captures.specs.Fold.{no_ending};
 ghost use Rattle.mud_cli.specs.Frames.Lines.{frame_step};
 
 /// Two whole captures whose packets have the same seconds and octets have the same lines, in whichever

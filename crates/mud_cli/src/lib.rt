@@ -10,5 +10,5 @@ pub mod laws;
 pub mod run;
 
 pub use answer::{Answer, Input};
-pub use command_runs::Status;
 pub use run::mud_main;
+pub use run_common::Status;

@@ -1,26 +1,26 @@
 //! The top call of the program.
 ghost use Rattle.std.specs.Prelude.{◌≡◌, ◌↔◌, None, Some};
-ghost use Rattle.command_runs.specs.Status.{IsNot, status_number};
-ghost use Rattle.command_runs.specs.declared.status.Status.TheVariants.{Unlisted};
-ghost use Rattle.command_words.specs.Words.{command_in, words_of};
+ghost use Rattle.run_common.specs.Status.{IsNot, status_number};
+ghost use Rattle.run_common.specs.declared.status.Status.TheVariants.{Unlisted};
+ghost use Rattle.run_words.specs.Words.{command_in, words_of};
 ghost use Rattle.mud_cli.specs.Runs.{AsTold, Does, LeavesAlone, world};
 
 use crate::answer::{Input, answer_input};
 use crate::frames::FrameLines;
 use crate::import::import_store;
-use capture_runs::write_capture;
-use command_runs::Status;
-use command_words::{Command, command_of};
-use console_runs::{replay_store, serve_store};
-use desk_runs::judge_store;
-use drill_runs::run_drill;
-use export_runs::export_store;
 use mud_desk::Loaded;
 use mud_world::{Clock, Door, Keeper, Spool};
-use report_runs::report_store;
-use snoop_runs::snoop_store;
+use run_captures::write_capture;
+use run_common::Status;
+use run_console::{replay_store, serve_store};
+use run_desk::judge_store;
+use run_drills::run_drill;
+use run_export::export_store;
+use run_reports::report_store;
+use run_snoop::snoop_store;
+use run_tally::tally_store;
+use run_words::{Command, command_of};
 use std::alloc::Global;
-use tally_runs::tally_store;
 
 /// Runs a command.
 fn run_command<D: Door, P: Spool, C: Clock>(

@@ -2,7 +2,7 @@
 use Rattle.std.proofs.Common.{◌≡◌, List, ap, ◌∙◌, subst}
 use Rattle.acl_compile.specs.Compiled.{CompiledState}
 use Rattle.acl_compile.specs.Plans.{policy_held}
-use Rattle.mud_tables.specs.declared.thing.Thing.{Thing}
+use Rattle.table_model.specs.declared.thing.Thing.{Thing}
 use Rattle.frame_view.specs.declared.views.Frame.{Frame}
 use Rattle.desk_model.specs.DeskTables.{DeskTables}
 use Rattle.desk_model.specs.Verdicts.{policy_at}

@@ -2,8 +2,8 @@
 use Rattle.std.proofs.Common.{◌≡◌, ℕ, List, [], ◌∷◌, ◌++◌, Option, Some, None, sym, ap, ◌∙◌}
 use Rattle.std.specs.Option.{option_and_then}
 use Rattle.mud_base.specs.declared.packet.Fields.{Fields}
-use Rattle.mud_tables.specs.declared.segment.Segment.{Segment}
-use Rattle.mud_tables.specs.History.{segment_of, with_segment}
+use Rattle.table_model.specs.declared.segment.Segment.{Segment}
+use Rattle.table_model.specs.History.{segment_of, with_segment}
 use Rattle.frame_view.specs.declared.views.Frame.{Frame}
 use Rattle.packet_judge.specs.declared.verdict.Verdict.{Verdict}
 use Rattle.packet_judge.specs.Verdicts.{noted_fields, noted_segment, history_after}

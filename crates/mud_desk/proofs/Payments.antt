@@ -3,7 +3,7 @@ use Rattle.std.proofs.Common.{◌≡◌, ℕ, ◌+◌, ◌-◌, ◌≤◌, List,
 use Rattle.std.specs.Prelude.{max, IsOkAnd}
 use Rattle.acl_model.specs.Changes.{IsBindingChange}
 use Rattle.acl_rows.specs.declared.row.Row.{Row}
-use Rattle.row_changes.specs.Patch.{rows_apart}
+use Rattle.acl_changes.specs.Patch.{rows_apart}
 use Rattle.acl_compile.specs.Compiled.{CompiledState}
 use Rattle.acl_compile.specs.Plans.{IsKept}
 use Rattle.desk_model.specs.declared.command.Command.{Command}

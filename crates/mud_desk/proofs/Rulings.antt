@@ -2,9 +2,9 @@
 use Rattle.std.proofs.Common.{◌≡◌, ℕ, Bool, true, false, List, Option, None, refl, sym, ap, ◌∙◌, subst, if◌then◌else◌}
 use Rattle.mud_base.specs.declared.packet.Direction.TheVariants.{From, To}
 use Rattle.acl_model.specs.declared.ruling.Ruling.{Ruling}
-use Rattle.mud_tables.specs.declared.thing.Thing.{Thing}
-use Rattle.mud_tables.specs.Things.{thing_at}
-use Rattle.mud_tables.specs.Tables.{is_group, source_thing, destination_thing}
+use Rattle.table_model.specs.declared.thing.Thing.{Thing}
+use Rattle.table_model.specs.Things.{thing_at}
+use Rattle.table_model.specs.Tables.{is_group, source_thing, destination_thing}
 use Rattle.frame_view.specs.declared.views.Frame.{Frame}
 use Rattle.frame_view.specs.declared.views.Frame.TheVariants.{Link, Unreadable, Packet}
 use Rattle.frame_view.specs.Ethernet.{destination_of, source_of}

@@ -7,9 +7,9 @@ use Rattle.mud_world.specs.Items.{put_all, is_batch}
 use Rattle.mud_world.specs.Causes.{Counts}
 use Rattle.acl_compile.specs.Compiled.{CompiledState}
 use Rattle.mud_base.specs.declared.prefix.Prefix.{Prefix}
-use Rattle.mud_tables.specs.declared.thing.Thing.{Thing}
-use Rattle.mud_tables.specs.declared.segment.Segment.{Segment}
-use Rattle.mud_tables.specs.History.{last_moment}
+use Rattle.table_model.specs.declared.thing.Thing.{Thing}
+use Rattle.table_model.specs.declared.segment.Segment.{Segment}
+use Rattle.table_model.specs.History.{last_moment}
 use Rattle.flow_table.specs.Kept.{Flows, StandsFor, is_since}
 use Rattle.flow_table.specs.Held.{Held, flows_of}
 use Rattle.mud_base.specs.declared.packet.Direction.{Direction}

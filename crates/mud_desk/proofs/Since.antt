@@ -2,8 +2,8 @@
 use Rattle.std.proofs.Common.{◌≡◌, ℕ, ◌≤◌, IsTrue, Option, Some, None, refl, sym, subst, ap, ◌∙◌, arith}
 use Rattle.std.proofs.lemmas.Bool.Decides.{nat_tests}
 use Rattle.mud_base.specs.declared.packet.Fields.{Fields}
-use Rattle.mud_tables.specs.declared.segment.Segment.{Segment}
-use Rattle.mud_tables.specs.History.{segment_of}
+use Rattle.table_model.specs.declared.segment.Segment.{Segment}
+use Rattle.table_model.specs.History.{segment_of}
 use Rattle.flow_table.specs.Kept.{Flows, HasNoted, is_since}
 use Rattle.flow_table.proofs.Histories.{at_planned}
 

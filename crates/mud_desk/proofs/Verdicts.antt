@@ -2,11 +2,11 @@
 use Rattle.std.proofs.Common.{◌≡◌, ℕ, ◌<◌, List, IsTrue, sym, ◌∙◌}
 use Rattle.mud_base.specs.declared.packet.Direction.{Direction}
 use Rattle.mud_base.specs.declared.packet.Fields.{Fields}
-use Rattle.mud_tables.specs.declared.thing.Thing.{Thing}
-use Rattle.mud_tables.specs.declared.segment.Segment.{Segment}
-use Rattle.mud_tables.specs.Expiries.{for_ever}
-use Rattle.mud_tables.specs.Bindings.{bindings_of, ruling_by_bindings}
-use Rattle.mud_tables.specs.History.{begun_of}
+use Rattle.table_model.specs.declared.thing.Thing.{Thing}
+use Rattle.table_model.specs.declared.segment.Segment.{Segment}
+use Rattle.table_model.specs.Expiries.{for_ever}
+use Rattle.table_model.specs.Bindings.{bindings_of, ruling_by_bindings}
+use Rattle.table_model.specs.History.{begun_of}
 use Rattle.table_laws.proofs.Stores.{tests_alike}
 use Rattle.flow_table.specs.Kept.{is_since}
 use Rattle.flow_table.proofs.Histories.{begun_found}

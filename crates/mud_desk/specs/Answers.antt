@@ -2,7 +2,7 @@
 use Rattle.std.specs.Prelude.{◌≡◌, ℕ, ◌+◌, ◌≤◌, Bool, true, false, List, length, ◌⊎◌, IsOk}
 use Rattle.acl_model.specs.declared.binding.Binding.{Binding}
 use Rattle.acl_model.specs.Changes.{IsBindingChange}
-use Rattle.row_changes.specs.Patch.{rows_apart}
+use Rattle.acl_changes.specs.Patch.{rows_apart}
 use Rattle.acl_compile.specs.Compiled.{CompiledState}
 use Rattle.acl_compile.specs.Plans.{IsKept}
 use Rattle.desk_model.specs.declared.reply.Reply.{Reply}

@@ -2,8 +2,8 @@
 use Rattle.std.specs.Prelude.{◌≡◌, ℕ, IsTrue, List, [], Option, Some, None}
 use Rattle.mud_base.specs.declared.packet.Direction.{Direction}
 use Rattle.acl_rows.specs.View.{View, IsViewOf}
-use Rattle.mud_tables.specs.declared.segment.Segment.{Segment}
-use Rattle.mud_tables.specs.declared.thing.Thing.{Thing}
+use Rattle.table_model.specs.declared.segment.Segment.{Segment}
+use Rattle.table_model.specs.declared.thing.Thing.{Thing}
 use Rattle.flow_table.specs.Kept.{StandsFor, is_since}
 use Rattle.flow_table.specs.Held.{Held, flows_of}
 use Rattle.desk_model.specs.DeskTables.{DeskTables}

@@ -7,9 +7,9 @@ use Rattle.acl_model.specs.declared.ruling.Ruling.{Ruling}
 use Rattle.acl_model.specs.Match.{peer_of}
 use Rattle.acl_compile.specs.Compiled.{CompiledState}
 use Rattle.acl_compile.specs.Plans.{policy_held}
-use Rattle.mud_tables.specs.declared.thing.Thing.{Thing}
-use Rattle.mud_tables.specs.declared.segment.Segment.{Segment}
-use Rattle.mud_tables.specs.Bindings.{ruling_by_bindings}
+use Rattle.table_model.specs.declared.thing.Thing.{Thing}
+use Rattle.table_model.specs.declared.segment.Segment.{Segment}
+use Rattle.table_model.specs.Bindings.{ruling_by_bindings}
 use Rattle.flow_table.specs.Kept.{Flows, StandsFor, begun_kept}
 use Rattle.packet_judge.specs.RuleSteps.{url_rows_read, url_steps}
 use Rattle.desk_model.specs.DeskTables.{DeskTables}

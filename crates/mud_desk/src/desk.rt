@@ -2,8 +2,8 @@
 ghost use Rattle.std.specs.Prelude.{◌≡◌, ℕ, ◌+◌, ◌-◌, ◌^◌, ◌<◌, ◌≤◌, max, [], List, Ok, IfOk, IfErr, length};
 ghost use Rattle.mud_world.specs.Boxed.{faults_of, Tells, kept_items};
 ghost use Rattle.mud_world.specs.Causes.{Counts};
-ghost use Rattle.mud_tables.specs.declared.segment.Segment.{Segment as SegmentValue};
-ghost use Rattle.mud_tables.specs.Things.{thing_at};
+ghost use Rattle.table_model.specs.declared.segment.Segment.{Segment as SegmentValue};
+ghost use Rattle.table_model.specs.Things.{thing_at};
 ghost use Rattle.frame_view.specs.Frame.{frame_of};
 ghost use Rattle.packet_judge.specs.Verdicts.{steps_on};
 ghost use Rattle.desk_model.specs.DeskTables.{IsSound};
@@ -25,18 +25,18 @@ use crate::Findings;
 use crate::keeping::keep_batch;
 use crate::state::{State, later};
 use acl_rows::RuleView;
-use desk_items::{OpenFault, Loaded, open_items};
+use base_rows::Steps;
+use desk_items::{Loaded, OpenFault, open_items};
 use desk_model::types::command_fits;
 use desk_model::{Command, Reply};
-use file_tables::CachedFile;
 use mud_base::{Direction, Mac, Memory, Moment, Prefix};
-use mud_tables::{ClassRow, NameRow, Thing};
 use mud_world::{KeepFault, Keeper};
 use packet_judge::Verdict;
-use sorted_rows::Steps;
 use std::alloc::Global;
 use std::marker::Brand;
 use std::sync::ledger::{Blank, Ledger};
+use table_model::{ClassRow, NameRow, Thing};
+use usage_tables::CachedFile;
 
 /// The manager's lists and what is compiled of them, the connections that were forwarded, the moment
 /// of the session, and the keeper in which the lists are kept.

@@ -4,13 +4,13 @@ ghost use Rattle.flow_table.specs.Held.{flows_of};
 ghost use Rattle.flow_table.specs.Kept.{is_since};
 
 use acl_compile::Compiled;
+use base_rows::Steps;
 use flow_table::FlowTable;
 use frame_view::PacketView;
 use mud_base::{Direction, Mac, Moment, Prefix};
-use mud_tables::Thing;
 use packet_judge::{RuleSource, Ruling, rule};
-use sorted_rows::Steps;
 use std::sync::ledger::Ledger;
+use table_model::Thing;
 use thing_book::ThingBook;
 
 /// It knows the Things, what is compiled, the local networks and the connections, and rules at one

@@ -1,7 +1,7 @@
 //! What decides a frame.
 ghost use Rattle.std.specs.Prelude.{◌≡◌, ◌-◌, option_copied, slice_get};
 ghost use Rattle.acl_compile.specs.Plans.{policy_held};
-ghost use Rattle.mud_tables.specs.Things.{thing_at};
+ghost use Rattle.table_model.specs.Things.{thing_at};
 ghost use Rattle.desk_model.specs.Findings as spec;
 ghost use Rattle.mud_desk.specs.Findings.{found_in, AreFindingsOn, HasRulingsOfThings};
 
@@ -10,9 +10,9 @@ use acl_model::{Entry, Ruling};
 use acl_rows::RulePart;
 use frame_view::{Frame, PacketView};
 use mud_base::{Direction, Mac};
-use mud_tables::Thing;
 use mud_url::MudUrl;
 use packet_judge::Verdict;
+use table_model::Thing;
 use thing_book::ThingBook;
 
 /// A Thing at an endpoint of a frame, and what is decided on its packet.

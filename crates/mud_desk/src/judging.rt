@@ -1,7 +1,7 @@
 //! The verdict on a frame, and what decides it.
 ghost use Rattle.std.specs.Prelude.{◌≡◌, ℕ, ◌+◌, ◌^◌, ◌<◌, ◌≤◌, List, IsTrue, IsSome, IfOk, OnOk, OnErr, length};
-ghost use Rattle.mud_tables.specs.declared.segment.Segment.{Segment as SegmentValue};
-ghost use Rattle.mud_tables.specs.History.{StandsFor};
+ghost use Rattle.table_model.specs.declared.segment.Segment.{Segment as SegmentValue};
+ghost use Rattle.table_model.specs.History.{StandsFor};
 ghost use Rattle.flow_table.specs.Held.{flows_of};
 ghost use Rattle.flow_table.specs.Kept.{is_since};
 ghost use Rattle.frame_view.specs.Frame.{frame_of};
@@ -13,14 +13,14 @@ ghost use Rattle.acl_compile.specs.Plans.{policy_held};
 ghost use Rattle.mud_desk.specs.RuleInputs.{AreRuleInputsOf, rule_inputs, rows_read, ruling_steps};
 ghost use Rattle.mud_desk.specs.Findings.{AreFindingsOn};
 
-use crate::findings::{Findings, findings_with};
 use crate::desk_rules::DeskRules;
+use crate::findings::{Findings, findings_with};
 use acl_compile::Compiled;
+use base_rows::Steps;
 use flow_table::FlowTable;
 use frame_view::{Frame, view};
 use mud_base::{Memory, Moment, Prefix};
 use packet_judge::{Verdict, noted_fields};
-use sorted_rows::Steps;
 use std::sync::ledger::Ledger;
 use thing_book::ThingBook;
 

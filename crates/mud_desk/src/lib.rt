@@ -4,14 +4,14 @@
 #![tactic(auto)]
 
 pub mod desk;
+mod desk_rules;
 mod findings;
 mod judging;
 mod keeping;
-mod desk_rules;
 pub mod state;
 
 pub use desk::Desk;
-pub use desk_items::{OpenFault, Loaded};
+pub use desk_items::{Loaded, OpenFault};
 pub use desk_model::{Command, Outcome, Refusal, Reply};
 pub use findings::{Findings, RuledThing};
 pub use judging::{judge, why};

@@ -1,11 +1,11 @@
 //! All that the desk holds beside its keeper.
 ghost use Rattle.std.specs.Prelude.{◌≡◌, ℕ, ◌+◌, ◌-◌, ◌^◌, ◌<◌, ◌≤◌, max, false, List, Err, IsTrue, IfOk, IfErr, IsOkAnd, length};
 ghost use Rattle.std.specs.Prelude.{unwrap_or};
-ghost use Rattle.sorted_rows.specs.Ledgers.{IsBlankOf};
-ghost use Rattle.row_changes.specs.Patch.{rows_apart};
+ghost use Rattle.base_rows.specs.Ledgers.{IsBlankOf};
+ghost use Rattle.acl_changes.specs.Patch.{rows_apart};
 ghost use Rattle.acl_compile.specs.Plans.{IsKept};
-ghost use Rattle.mud_tables.specs.declared.segment.Segment.{Segment as SegmentValue};
-ghost use Rattle.mud_tables.specs.Things.{thing_at};
+ghost use Rattle.table_model.specs.declared.segment.Segment.{Segment as SegmentValue};
+ghost use Rattle.table_model.specs.Things.{thing_at};
 ghost use Rattle.frame_view.specs.Frame.{frame_of};
 ghost use Rattle.packet_judge.specs.Verdicts.{steps_on};
 ghost use Rattle.desk_model.specs.DeskTables.{IsSound};
@@ -22,13 +22,13 @@ ghost use Rattle.desk_books.specs.Planned.{IsPlanned, IsReady, IsPaid};
 ghost use Rattle.mud_desk.specs.DeskState.{DeskState as Value, tables_of, session_of, HasForwarded, LeadsOn, IsBegun, AreRulesOf};
 
 use crate::{Findings, judge, why};
+use base_rows::Steps;
 use desk_books::{DeskBooks, DeskChange};
 use desk_items::Loaded;
 use desk_model::{Command, Refusal};
 use flow_table::FlowTable;
 use mud_base::{Memory, Moment};
 use packet_judge::Verdict;
-use sorted_rows::Steps;
 use std::alloc::Global;
 use std::marker::Model;
 use std::sync::ledger::{Blank, Ledger};

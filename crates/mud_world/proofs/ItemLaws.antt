@@ -11,15 +11,15 @@ use Rattle.std.proofs.lemmas.Cmp.{nat_cmp_total, tied_itself}
 use Rattle.std.proofs.lemmas.Option.{same_Some, none-some}
 use Rattle.std.proofs.lemmas.List.{length-map}
 use Rattle.std.proofs.lemmas.List.Elements.{All-from_recursion}
-use Rattle.sorted_rows.specs.Sortable.{sort_key_cmp, same_sort_key, row_at, set_row, set_rows, without_row, SortKeysAbove, SortKeysBelow, SortKeysAscend, ComeBefore}
-use Rattle.sorted_rows.specs.Changes.{RowChange, IsNeededChange, changed, without_gone, with_found, sort_keys_of, is_plain}
-use Rattle.sorted_rows.specs.Changes as changes
-use Rattle.sorted_rows.proofs.SortableLaws.{same_sort_key-cmp, same_sort_key_exact, same_sort_key_itself, row_at-set_row, row_at-without_row, ascend-set_row, ascend-without_row}
-use Rattle.sorted_rows.proofs.RowLaws.{set_row_there, without_row_absent, map-set_row, map-without_row, ascend-map}
-use Rattle.sorted_rows.proofs.RowSets.{row_at-map}
-use Rattle.sorted_rows.proofs.ListTests.{left_of, right_of, apart-map}
-use Rattle.sorted_rows.proofs.IndexLaws.{set_row-behind, set_row-before, without_row-behind, without_row-before, ascend-append}
-use Rattle.sorted_rows.proofs.ChangeLaws.{differ_turned}
+use Rattle.base_rows.specs.Sortable.{sort_key_cmp, same_sort_key, row_at, set_row, set_rows, without_row, SortKeysAbove, SortKeysBelow, SortKeysAscend, ComeBefore}
+use Rattle.base_rows.specs.Changes.{RowChange, IsNeededChange, changed, without_gone, with_found, sort_keys_of, is_plain}
+use Rattle.base_rows.specs.Changes as changes
+use Rattle.base_rows.proofs.SortableLaws.{same_sort_key-cmp, same_sort_key_exact, same_sort_key_itself, row_at-set_row, row_at-without_row, ascend-set_row, ascend-without_row}
+use Rattle.base_rows.proofs.RowLaws.{set_row_there, without_row_absent, map-set_row, map-without_row, ascend-map}
+use Rattle.base_rows.proofs.RowSets.{row_at-map}
+use Rattle.base_rows.proofs.ListTests.{left_of, right_of, apart-map}
+use Rattle.base_rows.proofs.IndexLaws.{set_row-behind, set_row-before, without_row-behind, without_row-before, ascend-append}
+use Rattle.base_rows.proofs.ChangeLaws.{differ_turned}
 use Rattle.mud_world.specs.declared.item.Item.{Item}
 use Rattle.mud_world.specs.declared.item.Put.{Put}
 use Rattle.mud_world.specs.declared.item.Put.TheVariants.{Set, Gone}

@@ -3,8 +3,8 @@ use Rattle.std.specs.Prelude.{◌≡◌, ℕ, ◌<◌, Bool, true, false, not, �
 use Rattle.std.specs.List.{AllByRecursion}
 use Rattle.std.specs.Option.{option_map}
 use Rattle.std.specs.Ordering.{is_eq}
-use Rattle.sorted_rows.specs.Sortable.{sort_key_cmp, set_row, without_row, SortKeysAscend}
-use Rattle.sorted_rows.specs.Changes.{RowChange, with_found}
+use Rattle.base_rows.specs.Sortable.{sort_key_cmp, set_row, without_row, SortKeysAscend}
+use Rattle.base_rows.specs.Changes.{RowChange, with_found}
 use Rattle.mud_world.specs.declared.item.Item.{Item}
 use Rattle.mud_world.specs.declared.item.Put.{Put}
 use Rattle.mud_world.specs.declared.item.Put.TheVariants.{Set, Gone}

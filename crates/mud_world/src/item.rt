@@ -1,10 +1,10 @@
 //! The items that a keeper keeps, and the changes of them.
 ghost use Rattle.std.specs.Prelude.{◌≡◌, ◌∷◌, IfOk};
-ghost use Rattle.sorted_rows.specs.Sortable.{sort_key_cmp};
+ghost use Rattle.base_rows.specs.Sortable.{sort_key_cmp};
 ghost use Rattle.mud_world.specs.Items.{sort_key_of};
 
+use base_rows::{KeyOf, Sortable};
 use mud_base::{Bytes, Memory, octets_order};
-use sorted_rows::{KeyOf, Sortable};
 use std::cmp::Ordering;
 
 /// An item. Items are ordered by kind and then by the octets of the key, and no two have the same

@@ -2,13 +2,13 @@
 ghost use Rattle.std.specs.Prelude.{◌≡◌, ℕ, ◌≤◌, ◌∷◌, ◌++◌, ◌↔◌, false, IsTrue, List, length, map, if◌then◌else◌};
 ghost use Rattle.std.specs.List.{AllByRecursion};
 ghost use Rattle.std.specs.Option.{option_map};
-ghost use Rattle.sorted_rows.specs.Sortable.{row_at, same_sort_key, SortKeysAscend};
-ghost use Rattle.sorted_rows.specs.Changes.{RowChange, IsNeededChange, changed, is_plain, sort_keys_of};
+ghost use Rattle.base_rows.specs.Sortable.{row_at, same_sort_key, SortKeysAscend};
+ghost use Rattle.base_rows.specs.Changes.{RowChange, IsNeededChange, changed, is_plain, sort_keys_of};
 ghost use Rattle.mud_world.specs.declared.item.Item.{Item};
 ghost use Rattle.mud_world.specs.declared.item.Put.{Put};
 ghost use Rattle.mud_world.specs.Items.{sort_key_of, sort_key_of_put, put_one, put_all, is_apart, are_apart, item_after, puts_of, IsOrdered, IsDifference, ArePutsOf, AreOfLowerKinds, AreOfHigherKinds, AreItemsOf};
 
-use sorted_rows::Sortable;
+use base_rows::Sortable;
 
 /// One put.
 pub fn puts_say_what_is_kept()

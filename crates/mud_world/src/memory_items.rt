@@ -1,11 +1,11 @@
 //! Copies of items, and the puts of a batch among sorted items.
 ghost use Rattle.std.specs.Prelude.{◌≡◌, ◌+◌, ◌≤◌, ◌∷◌, IfOk, OnOk, OnErr, vec_len};
-ghost use Rattle.sorted_rows.specs.Sortable.{without_row};
+ghost use Rattle.base_rows.specs.Sortable.{without_row};
 ghost use Rattle.mud_world.specs.Items.{sort_key_of, put_all, put_one, IsOrdered};
 
 use crate::item::{Item, ItemKey, Put};
+use base_rows::SortedRows;
 use mud_base::{Listed, Memory};
-use sorted_rows::SortedRows;
 use std::alloc::Global;
 
 /// Copies of items.

@@ -9,8 +9,8 @@ use crate::fault::KeepFault;
 use crate::item::{Item, Put};
 use crate::keeper::Keeper;
 use crate::memory_items::{copied_items, copied_puts, put_in};
+use base_rows::SortedRows;
 use mud_base::Listed;
-use sorted_rows::SortedRows;
 use std::alloc::Global;
 
 /// How often each call of a keeper was made. A number that has reached the last u64 stays there.

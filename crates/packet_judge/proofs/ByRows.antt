@@ -7,7 +7,7 @@ use Rattle.std.proofs.lemmas.Option.{same_Some, none-some}
 use Rattle.std.proofs.lemmas.Slice.Eq.{bytes_eq-Decides}
 use Rattle.std.specs.Cmp.{first_so, second_so}
 use Rattle.std.proofs.Math.Bool.{and-false}
-use Rattle.sorted_rows.specs.Sortable.{SortKeysAscend}
+use Rattle.base_rows.specs.Sortable.{SortKeysAscend}
 use Rattle.mud_base.specs.declared.packet.Direction.{Direction}
 use Rattle.mud_base.specs.declared.packet.Direction.TheVariants.{From, To}
 use Rattle.acl_model.specs.declared.entry.Entry.{Entry}
@@ -32,7 +32,7 @@ use Rattle.acl_rows.specs.Rows.{for_ever, row, entry_at, expiry_at, held_by, slo
 use Rattle.acl_rows.specs.View.{Part, part, View, rows_at, rows_of_side, wide_from, in_slot, holder_from, IsPartOf, IsFilePart}
 use Rattle.acl_rows.proofs.Sound.{expiry_at-entry}
 use Rattle.acl_rows.proofs.AtSortKeys.{row_at-rows_of, ascend-rows_of}
-use Rattle.mud_tables.specs.Bindings.{selector_met, members_met, matches_by_bindings, ruling_by_bindings}
+use Rattle.table_model.specs.Bindings.{selector_met, members_met, matches_by_bindings, ruling_by_bindings}
 use Rattle.packet_judge.specs.ByRows.{Asked, passes, passes_at, row_passes, peer_rows, first_row, first_wide, first_in, ruling_at, default_at, ruling_in, ruling_by_rows, policy_held, IsViewOver}
 use Rattle.packet_judge.proofs.Least.{IsLeastFrom, least_alike, least-lesser, least_first, least_later}
 use Rattle.packet_judge.proofs.Rulings.{at_number, IsRest, all_rest, rest_next, rest_none, first_ruling-least, wide-least}

@@ -7,9 +7,9 @@ use Rattle.std.specs.declared.cmp.Ordering.{Ordering}
 use Rattle.std.specs.declared.cmp.Ordering.TheVariants.{Less, Equal, Greater}
 use Rattle.std.proofs.lemmas.Bool.{false≢true, eqb-true, lt-ltb, false_from_ne_true}
 use Rattle.std.specs.Cmp.{first_so, second_so}
-use Rattle.sorted_rows.specs.Sortable.{sort_key_cmp, same_sort_key, SortKeysAbove, SortKeysAscend, row_at, is_under, rows_under}
-use Rattle.sorted_rows.proofs.SortableLaws.{sort_key_cmp_itself, same_sort_key_itself, same_sort_key_exact, above_trans, row_at_above}
-use Rattle.sorted_rows.specs.Addresses.{addr_sort_key}
+use Rattle.base_rows.specs.Sortable.{sort_key_cmp, same_sort_key, SortKeysAbove, SortKeysAscend, row_at, is_under, rows_under}
+use Rattle.base_rows.proofs.SortableLaws.{sort_key_cmp_itself, same_sort_key_itself, same_sort_key_exact, above_trans, row_at_above}
+use Rattle.base_rows.specs.Addresses.{addr_sort_key}
 use Rattle.mud_base.specs.declared.addr.Addr.{Addr}
 use Rattle.mud_base.specs.declared.packet.Direction.{Direction}
 use Rattle.acl_rows.specs.declared.row.Owner.{Owner}
@@ -20,7 +20,7 @@ use Rattle.acl_rows.proofs.SortKeyOrder.{sort_key_at-cmp}
 use Rattle.acl_rows.proofs.Parts.{under_peer, rows_under-peer, sort_key_under}
 use Rattle.acl_model.proofs.BindingLaws.{same_addr_exact}
 use Rattle.acl_rows.proofs.Coordinates.{AreSame, same_coordinates}
-use Rattle.mud_tables.specs.Expiries.{is_live}
+use Rattle.table_model.specs.Expiries.{is_live}
 use Rattle.packet_judge.specs.ByRows.{number_of}
 use Rattle.packet_judge.proofs.Least.{IsLeastFrom, least_alike}
 

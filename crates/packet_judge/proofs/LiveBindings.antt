@@ -7,10 +7,10 @@ use Rattle.std.specs.declared.cmp.Ordering.TheVariants.{Less, Equal}
 use Rattle.std.proofs.lemmas.Bool.{false≢true, lt-ltb, ltb-true, false_from_ne_true}
 use Rattle.std.specs.Cmp.{first_so, second_so}
 use Rattle.std.proofs.Math.Bool.{or-false, and-true, and_assoc, and_comm}
-use Rattle.sorted_rows.specs.Sortable.{sort_key_cmp, SortKeysAbove, SortKeysAscend}
-use Rattle.sorted_rows.proofs.SortableLaws.{sort_key_cmp_itself}
-use Rattle.sorted_rows.proofs.AscendLaws.{both_ways}
-use Rattle.sorted_rows.proofs.ListTests.{or_first, or_second}
+use Rattle.base_rows.specs.Sortable.{sort_key_cmp, SortKeysAbove, SortKeysAscend}
+use Rattle.base_rows.proofs.SortableLaws.{sort_key_cmp_itself}
+use Rattle.base_rows.proofs.AscendLaws.{both_ways}
+use Rattle.base_rows.proofs.ListTests.{or_first, or_second}
 use Rattle.mud_base.specs.Addresses.{same_addr}
 use Rattle.mud_base.specs.declared.addr.Addr.{Addr}
 use Rattle.acl_model.specs.declared.entry.Selector.{Selector}
@@ -24,8 +24,8 @@ use Rattle.acl_model.specs.SortKeys.{bound_sort_key, binding_sort_key}
 use Rattle.acl_model.specs.Changes.{until_of, is_bound_to, bound_until}
 use Rattle.acl_rows.specs.Rows.{for_ever, member_keys, least_expiry, entry_expiry}
 use Rattle.acl_model.proofs.BindingLaws.{same_addr-Decides}
-use Rattle.mud_tables.specs.Expiries.{is_live}
-use Rattle.mud_tables.specs.Bindings.{is_met_by, has_live_binding, key_met, selector_met, members_met}
+use Rattle.table_model.specs.Expiries.{is_live}
+use Rattle.table_model.specs.Bindings.{is_met_by, has_live_binding, key_met, selector_met, members_met}
 use Rattle.packet_judge.proofs.Least.{le_or_gt}
 
 -- ---- Live expiries

@@ -8,9 +8,9 @@ use Rattle.frame_view.specs.Ipv4.{packet_of, is_upkeep, fields_of, transport_in,
 use Rattle.frame_view.specs.Traffic.{codepoint, congestion}
 use Rattle.frame_view.specs.Upper.{transport_of, tcp, udp, icmp}
 use Rattle.acl_model.proofs.OnLiterals.{acl_on_literals}
-use Rattle.mud_tables.specs.Things.{mac_of, thing_at}
-use Rattle.mud_tables.specs.Tables.{is_group, source_thing, destination_thing, has_lease, has_host, has_url, is_leased, is_bound, is_named, meets, ruling_of}
-use Rattle.mud_tables.proofs.Literals.{binds_compute, flows_compute}
+use Rattle.table_model.specs.Things.{mac_of, thing_at}
+use Rattle.table_model.specs.Tables.{is_group, source_thing, destination_thing, has_lease, has_host, has_url, is_leased, is_bound, is_named, meets, ruling_of}
+use Rattle.table_model.proofs.Literals.{binds_compute, flows_compute}
 use Rattle.packet_judge.specs.Verdicts.{endpoints_of, endpoint_ruling, governed, is_managed, if_managed, verdict_on, verdict_of, rulings_of, accepts, forwarded, is_tcp, noted_fields, noted_segment, history_after}
 
 unfoldable pub verdicts_compute : Unit {0}

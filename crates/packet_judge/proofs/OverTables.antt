@@ -13,10 +13,10 @@ use Rattle.acl_model.specs.declared.binding.Binding.{Binding}
 use Rattle.acl_model.specs.Keys.{key_of}
 use Rattle.acl_model.specs.Match.{peer_of, near_matches, rest_matches}
 use Rattle.acl_model.specs.FirstMatch.{ruling_by}
-use Rattle.mud_tables.specs.Expiries.{for_ever}
-use Rattle.mud_tables.specs.Tables.{Tables, ruling_of}
-use Rattle.mud_tables.specs.Bindings.{bindings_of, is_met_by, has_live_binding, key_met, selector_met, members_met, matches_by_bindings, ruling_by_bindings}
-use Rattle.mud_tables.proofs.Alike.{rulings_alike}
+use Rattle.table_model.specs.Expiries.{for_ever}
+use Rattle.table_model.specs.Tables.{Tables, ruling_of}
+use Rattle.table_model.specs.Bindings.{bindings_of, is_met_by, has_live_binding, key_met, selector_met, members_met, matches_by_bindings, ruling_by_bindings}
+use Rattle.table_model.proofs.Alike.{rulings_alike}
 
 module _ (tables : Tables) (bindings : List Binding) (same : (test : Binding → Bool) → list_any test bindings ≡ list_any test (bindings_of tables)) where
   key_alike : (o : Option MemberKey) (a : Addr) (now : ℕ) → key_met bindings o a now ≡ key_met (bindings_of tables) o a now

@@ -18,11 +18,11 @@ use Rattle.acl_model.specs.declared.ruling.DefaultRule.TheVariants.{Dns}
 use Rattle.acl_model.specs.declared.ruling.Why.TheVariants.{NoFile, NoMatch}
 use Rattle.acl_model.specs.declared.ruling.Ruling.{Ruling}
 use Rattle.acl_model.specs.declared.ruling.Ruling.TheVariants.{Accept, AcceptDefault, Drop, DropDefault, DropHeld}
-use Rattle.mud_tables.specs.declared.bind.Class.TheVariants.{Uri}
-use Rattle.mud_tables.specs.declared.segment.Segment.{Segment}
-use Rattle.mud_tables.specs.declared.thing.Thing.{Thing}
-use Rattle.mud_tables.specs.Tables.{Tables}
-use Rattle.mud_tables.proofs.Literals.{switch_addr, dns_addr, test_addr, bulb_url, switch_url, dns_class, test_name, bulb, bare_switch}
+use Rattle.table_model.specs.declared.bind.Class.TheVariants.{Uri}
+use Rattle.table_model.specs.declared.segment.Segment.{Segment}
+use Rattle.table_model.specs.declared.thing.Thing.{Thing}
+use Rattle.table_model.specs.Tables.{Tables}
+use Rattle.table_model.proofs.Literals.{switch_addr, dns_addr, test_addr, bulb_url, switch_url, dns_class, test_name, bulb, bare_switch}
 use Rattle.packet_judge.specs.declared.verdict.Verdict.{Verdict}
 use Rattle.packet_judge.specs.declared.verdict.Verdict.TheVariants.{Unmanaged, Link, Unreadable, Governed}
 use Rattle.packet_judge.specs.Verdicts.{verdict_of, rulings_of, forwarded, history_after}

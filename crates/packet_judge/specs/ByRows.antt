@@ -5,7 +5,7 @@ use Rattle.std.specs.Option.{option_map_or}
 use Rattle.mud_base.specs.declared.prefix.Prefix.{Prefix}
 use Rattle.mud_base.specs.declared.packet.Direction.{Direction}
 use Rattle.mud_base.specs.declared.packet.Fields.{Fields}
-use Rattle.sorted_rows.specs.Sortable.{SortKeysAscend}
+use Rattle.base_rows.specs.Sortable.{SortKeysAscend}
 use Rattle.acl_model.specs.declared.entry.Entry.{Entry}
 use Rattle.acl_model.specs.declared.entry.Policy.{Policy}
 use Rattle.acl_model.specs.declared.binding.Binding.{Binding}
@@ -20,7 +20,7 @@ use Rattle.acl_model.specs.SortKeys.{binding_sort_key}
 use Rattle.acl_rows.specs.declared.row.Row.{Row}
 use Rattle.acl_rows.specs.Rows.{Slots, Holder, entry_at, rows_of}
 use Rattle.acl_rows.specs.View.{Part, View, rows_at, holder_from, IsViewOf}
-use Rattle.mud_tables.specs.Expiries.{is_live}
+use Rattle.table_model.specs.Expiries.{is_live}
 
 -- ---- What is asked
 

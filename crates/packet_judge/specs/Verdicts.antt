@@ -13,10 +13,10 @@ use Rattle.frame_view.specs.Frame.{frame_of}
 use Rattle.acl_model.specs.declared.entry.Policy.{Policy}
 use Rattle.acl_model.specs.declared.ruling.Ruling.{Ruling}
 use Rattle.acl_model.specs.declared.ruling.Ruling.TheVariants.{Accept, AcceptDefault, Drop, DropDefault, DropHeld}
-use Rattle.mud_tables.specs.declared.thing.Thing.{Thing}
-use Rattle.mud_tables.specs.declared.segment.Segment.{Segment}
-use Rattle.mud_tables.specs.Tables.{Tables, source_thing, destination_thing, ruling_of}
-use Rattle.mud_tables.specs.History.{begun_of, segment_of, with_segment}
+use Rattle.table_model.specs.declared.thing.Thing.{Thing}
+use Rattle.table_model.specs.declared.segment.Segment.{Segment}
+use Rattle.table_model.specs.Tables.{Tables, source_thing, destination_thing, ruling_of}
+use Rattle.table_model.specs.History.{begun_of, segment_of, with_segment}
 use Rattle.packet_judge.specs.declared.verdict.Verdict.{Verdict}
 use Rattle.packet_judge.specs.declared.verdict.Verdict.TheVariants.{Unmanaged, Link, Unreadable, Governed}
 

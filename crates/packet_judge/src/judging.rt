@@ -3,18 +3,18 @@ ghost use Rattle.std.specs.Prelude.{◌≡◌, ℕ, ◌+◌, ◌≤◌, List, Op
 ghost use Rattle.mud_base.specs.declared.packet.Direction.{Direction as Side};
 ghost use Rattle.mud_base.specs.declared.packet.Fields.{Fields as FieldsValue};
 ghost use Rattle.acl_model.specs.declared.ruling.Ruling.{Ruling as RulingValue};
-ghost use Rattle.mud_tables.specs.declared.thing.Thing.{Thing as ThingValue};
-ghost use Rattle.mud_tables.specs.Things.{thing_at};
-ghost use Rattle.mud_tables.specs.Tables as tables;
+ghost use Rattle.table_model.specs.declared.thing.Thing.{Thing as ThingValue};
+ghost use Rattle.table_model.specs.Things.{thing_at};
+ghost use Rattle.table_model.specs.Tables as tables;
 ghost use Rattle.packet_judge.specs.Verdicts as spec;
 
 use crate::verdict::Verdict;
 use acl_model::Ruling;
+use base_rows::Steps;
 use frame_view::{Frame, FrameView, PacketView};
 use mud_base::{Direction, Mac};
-use mud_tables::Thing;
-use sorted_rows::Steps;
 use std::sync::ledger::Ledger;
+use table_model::Thing;
 
 /// What knows the Things and rules on their packets.
 pub trait RuleSource {
@@ -52,7 +52,7 @@ pub trait RuleSource {
 
 /// Whether the address is one of a group: the bit that is sent first, the least of the first octet,
 /// is 1 (IEEE 802, 8.2.2).
-#[tactic(auto, unfolding(mud_tables::specs::Tables::is_group))]
+#[tactic(auto, unfolding(table_model::specs::Tables::is_group))]
 fn is_group(mac: Mac) -> bool
     ensures { result ≡ tables.is_group mac }
 {
@@ -60,7 +60,7 @@ fn is_group(mac: Mac) -> bool
 }
 
 /// The Thing that sent a frame.
-#[tactic(auto, unfolding(mud_tables::specs::Tables::source_thing, crate::specs::Verdicts::endpoints_of))]
+#[tactic(auto, unfolding(table_model::specs::Tables::source_thing, crate::specs::Verdicts::endpoints_of))]
 fn source_thing<'a, A: RuleSource>(rules: &'a A, frame: &FrameView<'_>) -> Option<&'a Thing>
     ensures { option_copied result ≡ (spec.endpoints_of (A.things rules.now) frame.now).source }
 {
@@ -68,7 +68,7 @@ fn source_thing<'a, A: RuleSource>(rules: &'a A, frame: &FrameView<'_>) -> Optio
 }
 
 /// The Thing that a frame is for; None where it is for a group.
-#[tactic(auto, unfolding(mud_tables::specs::Tables::destination_thing, crate::specs::Verdicts::endpoints_of))]
+#[tactic(auto, unfolding(table_model::specs::Tables::destination_thing, crate::specs::Verdicts::endpoints_of))]
 fn destination_thing<'a, A: RuleSource>(rules: &'a A, frame: &FrameView<'_>) -> Option<&'a Thing>
     ensures { option_copied result ≡ (spec.endpoints_of (A.things rules.now) frame.now).destination }
 {
@@ -137,7 +137,11 @@ fn judge_packet<A: RuleSource, L: Ledger>(
 /// endpoint of a packet that is a Thing and isn't held. It takes no memory.
 #[tactic(auto, unfolding(crate::specs::Verdicts::verdict_on, crate::specs::Verdicts::if_managed, crate::specs::Verdicts::steps_on))]
 #[inline(always)]
-pub fn judge<A: RuleSource, L: Ledger>(frame: &Frame<'_>, rules: &A, steps: &mut Steps<L>) -> Verdict
+pub fn judge<A: RuleSource, L: Ledger>(
+    frame: &Frame<'_>,
+    rules: &A,
+    steps: &mut Steps<L>,
+) -> Verdict
     ensures verdict { result ≡ spec.verdict_on (A.ruling rules.now) (A.things rules.now) frame.now }
     ensures least { steps.old + spec.steps_on (A.least rules.now) (A.things rules.now) frame.now ≤ steps.new }
     ensures most { (b : ℕ) → A.fits rules.now b → steps.new ≤ steps.old + spec.steps_on (A.most rules.now b) (A.things rules.now) frame.now }

@@ -7,7 +7,7 @@ ghost use Rattle.acl_rows.specs.Rows.{for_ever, Slots};
 ghost use Rattle.acl_model.specs.Match.{peer_of};
 ghost use Rattle.acl_rows.specs.declared.row.Row.{Row};
 ghost use Rattle.acl_rows.specs.View.{View, IsViewOf};
-ghost use Rattle.mud_tables.specs.Bindings.{ruling_by_bindings};
+ghost use Rattle.table_model.specs.Bindings.{ruling_by_bindings};
 ghost use Rattle.packet_judge.specs.ByRows.{Asked, ruling_by_rows, IsViewOver};
 ghost use Rattle.packet_judge.specs.RuleSteps.{least_steps, most_steps, FitsRows, url_rows_read, url_steps};
 

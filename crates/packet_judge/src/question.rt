@@ -5,8 +5,8 @@ ghost use Rattle.packet_judge.specs.RuleSteps.{wide_tested, part_steps};
 
 use acl_model::{near_matches, peer_of, rest_matches};
 use acl_rows::{Row, RulePart};
+use base_rows::Steps;
 use mud_base::{Direction, Fields, Moment, Prefix};
-use sorted_rows::Steps;
 use std::marker::Model;
 use std::sync::ledger::Ledger;
 
@@ -65,7 +65,7 @@ impl<'a> Question<'a> {
     }
 
     /// Whether the row is live, and the other tests of its entry pass.
-    #[tactic(auto, unfolding(crate::specs::ByRows::row_passes, mud_tables::specs::Expiries::is_live))]
+    #[tactic(auto, unfolding(crate::specs::ByRows::row_passes, table_model::specs::Expiries::is_live))]
     fn row_passes(&self, part: &RulePart<'_>, row: &Row) -> bool
         ensures { result ≡ by.row_passes self.now part.now row.now }
     {

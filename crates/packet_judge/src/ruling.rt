@@ -6,17 +6,17 @@ ghost use Rattle.acl_model.specs.declared.entry.Policy.{Policy};
 ghost use Rattle.acl_model.specs.declared.ruling.Ruling.{Ruling as RulingValue};
 ghost use Rattle.acl_model.specs.Changes.{HaveSame};
 ghost use Rattle.acl_rows.specs.Rows.{Slots};
-ghost use Rattle.mud_tables.specs.Bindings.{bindings_of, ruling_by_bindings};
-ghost use Rattle.mud_tables.specs.Tables.{Tables, ruling_of};
+ghost use Rattle.table_model.specs.Bindings.{bindings_of, ruling_by_bindings};
+ghost use Rattle.table_model.specs.Tables.{Tables, ruling_of};
 ghost use Rattle.packet_judge.specs.ByRows as by;
 ghost use Rattle.packet_judge.specs.RuleSteps as count;
 
 use crate::question::Question;
 use acl_model::{Action, DefaultRule, Ruling, Why};
 use acl_rows::{RulePart, RuleView};
+use base_rows::Steps;
 use frame_view::PacketView;
 use mud_base::{Direction, Moment, Prefix};
-use sorted_rows::Steps;
 use std::sync::ledger::Ledger;
 
 /// The ruling of the entry of a number.

@@ -1,7 +1,7 @@
 -- What captures hold, computed by the definition.
 use Rattle.std.specs.Prelude.{◌≡◌, ℕ, List, [], ◌∷◌, ◌++◌, take, replicate, Some, None, refl}
 use Rattle.pcap_read.specs.declared.fault.CapFault.TheVariants as faults
-use Rattle.octet_buffer.specs.Packets.{Packet, whole, broken}
+use Rattle.read_buffer.specs.Packets.{Packet, whole, broken}
 use Rattle.pcap_read.specs.Packets.{packets_of}
 use Rattle.pcap_read.proofs.OnLiterals.{captures_on_literals}
 

@@ -1,8 +1,8 @@
 -- The packet that came is the first of those that were to come.
 use Rattle.std.proofs.Common.{◌≡◌, Option, Some, ap, ◌∙◌}
 use Rattle.mud_world.specs.Door.{DoorState}
-use Rattle.octet_buffer.specs.Packets.{Packet, with_packet, with_next}
-use Rattle.octet_buffer.specs.Reading.{Follows}
+use Rattle.read_buffer.specs.Packets.{Packet, with_packet, with_next}
+use Rattle.read_buffer.specs.Reading.{Follows}
 use Rattle.pcap_read.specs.Packets.{Packets}
 use Rattle.pcap_read.specs.CaptureState.{CaptureState, to_come}
 

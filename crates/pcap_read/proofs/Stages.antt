@@ -5,11 +5,11 @@ use Rattle.mud_base.specs.declared.number.ByteOrder.{ByteOrder}
 use Rattle.pcap_read.specs.declared.stage.Stage.{Stage}
 use Rattle.pcap_read.specs.declared.stage.Stage.TheVariants.{Reading}
 use Rattle.pcap_read.specs.declared.stage.Progress.{Progress}
-use Rattle.octet_buffer.specs.Packets.{Packet, whole}
+use Rattle.read_buffer.specs.Packets.{Packet, whole}
 use Rattle.pcap_read.specs.Packets.{Packets}
 use Rattle.pcap_read.specs.Parts.{coming, coming_at}
 use Rattle.pcap_read.proofs.Steps.{head_none}
-use Rattle.octet_buffer.specs.Reading.{Follows}
+use Rattle.read_buffer.specs.Reading.{Follows}
 
 at_stage : Progress → List ℕ → Stage → Packets
 at_stage progress octets stage = coming_at stage progress.count progress.offset octets

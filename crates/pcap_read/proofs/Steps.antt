@@ -5,7 +5,7 @@ use Rattle.std.proofs.lemmas.List.{take-append-le, drop-append-le, drop-drop}
 use Rattle.mud_base.specs.declared.number.ByteOrder.{ByteOrder}
 use Rattle.pcap_read.specs.declared.fault.CapFault.{CapFault}
 use Rattle.pcap_read.specs.declared.fault.CapFault.TheVariants as faults
-use Rattle.octet_buffer.specs.Packets.{Packet, whole, broken, with_packet}
+use Rattle.read_buffer.specs.Packets.{Packet, whole, broken, with_packet}
 use Rattle.pcap_read.specs.Packets.{Packets, seconds_of, captured_len, packets_from, header_of, behind_header, packets_of}
 use Rattle.pcap_read.specs.Parts.{body_from, is_decided}
 use Rattle.std.specs.Prelude.{IsTrue}

@@ -3,7 +3,7 @@ use Rattle.std.specs.Prelude.{◌≡◌, ℕ, Bool, List, [], ◌++◌, Option, 
 use Rattle.mud_world.specs.Door.{DoorState}
 use Rattle.pcap_read.specs.declared.stage.Stage.TheVariants.{Start}
 use Rattle.pcap_read.specs.declared.stage.Progress.{Progress}
-use Rattle.octet_buffer.specs.Packets.{Packet, whole}
+use Rattle.read_buffer.specs.Packets.{Packet, whole}
 use Rattle.pcap_read.specs.Packets.{Packets, packets_of}
 use Rattle.pcap_read.specs.Parts.{coming, is_ready_at}
 

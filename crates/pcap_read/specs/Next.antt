@@ -7,9 +7,9 @@ use Rattle.pcap_read.specs.declared.reader.Captured.{Captured}
 use Rattle.pcap_read.specs.declared.stage.Stage.TheVariants.{Failed}
 use Rattle.pcap_read.specs.Captured.{packet_of}
 use Rattle.pcap_read.specs.Fault.{has_failed}
-use Rattle.octet_buffer.specs.Packets.{Packet, with_next}
+use Rattle.read_buffer.specs.Packets.{Packet, with_next}
 use Rattle.pcap_read.specs.Parts.{is_broken, most_to_come}
-use Rattle.octet_buffer.specs.Reading.{Follows}
+use Rattle.read_buffer.specs.Reading.{Follows}
 use Rattle.pcap_read.specs.Reading.{EndsIn, fails}
 use Rattle.pcap_read.specs.CaptureState.{CaptureState, AtEnd, is_ready, to_come}
 

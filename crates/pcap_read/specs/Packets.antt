@@ -4,7 +4,7 @@ use Rattle.mud_base.specs.Faults.{row, unless}
 use Rattle.mud_base.specs.Numbers.{number_16, number_32}
 use Rattle.mud_base.specs.declared.number.ByteOrder.{ByteOrder}
 use Rattle.mud_base.specs.declared.number.ByteOrder.TheVariants.{Big, Little}
-use Rattle.octet_buffer.specs.Packets.{Told, whole, broken, with_packet}
+use Rattle.read_buffer.specs.Packets.{Told, whole, broken, with_packet}
 use Rattle.pcap_read.specs.declared.fault.CapFault.{CapFault}
 use Rattle.pcap_read.specs.declared.fault.CapFault.TheVariants as faults
 

@@ -9,7 +9,7 @@ use Rattle.pcap_read.specs.declared.stage.Cursor.{Cursor}
 use Rattle.pcap_read.specs.declared.stage.Progress.{Progress}
 use Rattle.pcap_read.specs.declared.stage.Current.{Current}
 use Rattle.pcap_read.specs.declared.stage.Next.{Next}
-use Rattle.octet_buffer.specs.Packets.{Packet, broken, with_next, with_packet}
+use Rattle.read_buffer.specs.Packets.{Packet, broken, with_next, with_packet}
 use Rattle.pcap_read.specs.Packets.{Packets, head_len, captured_len, packets_from, packets_of}
 
 -- behind the head of a packet: its octets, and the packets that come then

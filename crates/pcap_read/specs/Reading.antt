@@ -1,7 +1,7 @@
 -- What is taken of a source, and what that makes of the packets to come.
 use Rattle.std.specs.Prelude.{ℕ, ◌+◌, ◌*◌, ◌≤◌, Bool, false, List}
 use Rattle.mud_world.specs.Door.{DoorState}
-use Rattle.octet_buffer.specs.Reading as sources
+use Rattle.read_buffer.specs.Reading as sources
 use Rattle.pcap_read.specs.declared.fault.CapFault.{CapFault}
 use Rattle.pcap_read.specs.declared.fault.CapFault.TheVariants.{ReadFault}
 use Rattle.pcap_read.specs.declared.stage.Stage.{Stage}

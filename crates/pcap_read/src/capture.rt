@@ -7,11 +7,11 @@ ghost use Rattle.pcap_read.specs.declared.stage.Stage.TheVariants.{Failed as Has
 ghost use Rattle.pcap_read.specs.declared.fault.CapFault.TheVariants.{ReadFault};
 ghost use Rattle.pcap_read.specs.Captured.{packet_of};
 ghost use Rattle.pcap_read.specs.Fault.{has_failed};
-ghost use Rattle.octet_buffer.specs.Packets.{whole, broken, with_packet};
+ghost use Rattle.read_buffer.specs.Packets.{whole, broken, with_packet};
 ghost use Rattle.pcap_read.specs.Packets.{Packets};
-ghost use Rattle.octet_buffer.specs.Packets.{with_next};
+ghost use Rattle.read_buffer.specs.Packets.{with_next};
 ghost use Rattle.pcap_read.specs.Parts.{is_broken, most_to_come};
-ghost use Rattle.octet_buffer.specs.Reading.{Follows};
+ghost use Rattle.read_buffer.specs.Reading.{Follows};
 ghost use Rattle.pcap_read.specs.Reading.{EndsIn, fails};
 ghost use Rattle.pcap_read.specs.CaptureState as spec;
 ghost use Rattle.pcap_read.specs.CaptureState.{AtEnd, at_start, to_come};

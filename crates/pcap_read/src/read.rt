@@ -7,8 +7,8 @@ ghost use Rattle.mud_world.specs.Causes.{Counts, StopsAtFailure};
 ghost use Rattle.pcap_read.specs.Fault.{has_failed};
 ghost use Rattle.pcap_read.specs.Packets.{packets_of, packets_from};
 ghost use Rattle.pcap_read.specs.Parts.{packets_at, behind_head, behind_packet, coming, coming_next, is_decided, is_broken, is_ready_at, most_to_come};
-ghost use Rattle.octet_buffer.specs.Packets.{whole};
-ghost use Rattle.octet_buffer.specs.Reading.{Follows, behind};
+ghost use Rattle.read_buffer.specs.Packets.{whole};
+ghost use Rattle.read_buffer.specs.Reading.{Follows, behind};
 ghost use Rattle.pcap_read.specs.Reading.{EndsIn, IsWithin, fails};
 
 use crate::fault::CapFault;
@@ -17,7 +17,7 @@ use crate::header::{HEADER_LEN, header_of};
 use crate::stage::{Current, Cursor, Next, Progress, Stage};
 use mud_base::ByteOrder;
 use mud_world::Door;
-use octet_buffer::{Buffer, fetch};
+use read_buffer::{Buffer, fetch};
 
 /// Reads the header.
 fn read_header<D: Door>(

@@ -1,6 +1,6 @@
 -- What captures hold, computed by the definition.
 use Rattle.std.specs.Prelude.{◌≡◌, ℕ, List, [], ◌∷◌, ◌++◌, take, drop, replicate, Some, None, refl}
-use Rattle.octet_buffer.specs.Packets.{Packet, whole, broken}
+use Rattle.read_buffer.specs.Packets.{Packet, whole, broken}
 use Rattle.pcapng_read.specs.declared.fault.NgFault.TheVariants as faults
 use Rattle.pcapng_read.specs.Blocks.{NgPackets, ng_packets_of}
 use Rattle.pcapng_read.proofs.OnLiterals.{blocks_on_literals}

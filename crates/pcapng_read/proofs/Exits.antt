@@ -7,9 +7,9 @@ use Rattle.mud_world.specs.Door.{DoorState}
 use Rattle.mud_base.specs.declared.number.ByteOrder.{ByteOrder}
 use Rattle.mud_base.specs.declared.number.ByteOrder.TheVariants.{Big, Little}
 use Rattle.mud_base.specs.Numbers.{number_32, big_32}
-use Rattle.octet_buffer.specs.Packets.{Packet, broken, with_all, with_next}
-use Rattle.octet_buffer.specs.Reading.{Fetched, Follows, behind}
-use Rattle.octet_buffer.proofs.Readings.{follows, ends}
+use Rattle.read_buffer.specs.Packets.{Packet, broken, with_all, with_next}
+use Rattle.read_buffer.specs.Reading.{Fetched, Follows, behind}
+use Rattle.read_buffer.proofs.Readings.{follows, ends}
 use Rattle.pcapng_read.specs.declared.fault.NgFault.{NgFault}
 use Rattle.pcapng_read.specs.declared.fault.NgFault.TheVariants as faults
 use Rattle.pcapng_read.specs.declared.head.Kind.{Kind}

@@ -3,7 +3,7 @@ use Rattle.std.proofs.Common.{◌≡◌, ℕ, ◌+◌, ◌-◌, ◌<◌, ◌≤�
 use Rattle.std.proofs.lemmas.List.{length-take-le, take-append-drop}
 use Rattle.mud_world.specs.Door.{DoorState}
 use Rattle.mud_world.proofs.Doors.{took_none, took_more}
-use Rattle.octet_buffer.specs.Reading.{Fetched}
+use Rattle.read_buffer.specs.Reading.{Fetched}
 use Rattle.pcapng_read.specs.Reading.{Passes, FallsShort}
 
 pub passes_none : (count : ℕ) (h : List ℕ) (s : DoorState) → Passes count count h h s s

@@ -4,9 +4,9 @@ use Rattle.std.specs.Prelude.{IsTrue}
 use Rattle.std.proofs.lemmas.Bool.Decides.{nat_tests}
 use Rattle.mud_world.specs.Door.{DoorState}
 use Rattle.mud_base.specs.declared.number.ByteOrder.{ByteOrder}
-use Rattle.octet_buffer.specs.Packets.{whole}
-use Rattle.octet_buffer.specs.Reading.{Fetched, Follows, behind}
-use Rattle.octet_buffer.proofs.Readings.{follows, follows_more, ends_more}
+use Rattle.read_buffer.specs.Packets.{whole}
+use Rattle.read_buffer.specs.Reading.{Fetched, Follows, behind}
+use Rattle.read_buffer.proofs.Readings.{follows, follows_more, ends_more}
 use Rattle.pcapng_read.specs.declared.fault.NgFault.{NgFault}
 use Rattle.pcapng_read.specs.declared.head.Kind.{Kind}
 use Rattle.pcapng_read.specs.declared.head.Kind.TheVariants.{SectionHeader, InterfaceDescription, EnhancedPacket, OtherPacket, Other}

@@ -6,7 +6,7 @@ use Rattle.std.proofs.lemmas.Bool.{cases_Bool}
 use Rattle.std.proofs.lemmas.Bool.Decides.{eqb_tells}
 use Rattle.mud_base.specs.Faults.{first_row, unless}
 use Rattle.mud_base.specs.Numbers.{number_32}
-use Rattle.octet_buffer.specs.Packets.{whole, broken, with_all, with_next}
+use Rattle.read_buffer.specs.Packets.{whole, broken, with_all, with_next}
 use Rattle.pcapng_read.specs.declared.fault.NgFault.{NgFault}
 use Rattle.pcapng_read.specs.declared.fault.NgFault.TheVariants as faults
 use Rattle.pcapng_read.specs.declared.head.Kind.{Kind}

@@ -4,7 +4,7 @@ use Rattle.mud_base.specs.Faults.{row, first_row}
 use Rattle.mud_base.specs.Numbers.{number_16, number_32}
 use Rattle.mud_base.specs.declared.number.ByteOrder.{ByteOrder}
 use Rattle.mud_base.specs.declared.number.ByteOrder.TheVariants.{Big, Little}
-use Rattle.octet_buffer.specs.Packets.{Packet, Told, whole, broken, with_all}
+use Rattle.read_buffer.specs.Packets.{Packet, Told, whole, broken, with_all}
 use Rattle.pcapng_read.specs.declared.fault.NgFault.{NgFault}
 use Rattle.pcapng_read.specs.declared.fault.NgFault.TheVariants as faults
 use Rattle.pcapng_read.specs.declared.head.Kind.{Kind}

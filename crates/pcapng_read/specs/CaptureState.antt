@@ -1,7 +1,7 @@
 -- What a capture keeps beside its source.
 use Rattle.std.specs.Prelude.{◌≡◌, ℕ, Bool, true, List, [], ◌++◌, Option, Some, None}
 use Rattle.mud_world.specs.Door.{DoorState}
-use Rattle.octet_buffer.specs.Packets.{Packet, whole}
+use Rattle.read_buffer.specs.Packets.{Packet, whole}
 use Rattle.pcapng_read.specs.declared.fault.NgFault.{NgFault}
 use Rattle.pcapng_read.specs.declared.standing.Standing.{Standing}
 use Rattle.pcapng_read.specs.Blocks as blocks

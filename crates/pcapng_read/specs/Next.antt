@@ -2,8 +2,8 @@
 use Rattle.std.specs.Prelude.{◌≡◌, ◌<◌, ℕ, is_some, IsTrue, Option, Some, None, Result, Err, IfOk, IfErr, OnOk, OnErr}
 use Rattle.mud_world.specs.Causes.{Counts, StopsAtFailure}
 use Rattle.mud_world.specs.View.{DoorView}
-use Rattle.octet_buffer.specs.Packets.{with_next}
-use Rattle.octet_buffer.specs.Reading.{Follows}
+use Rattle.read_buffer.specs.Packets.{with_next}
+use Rattle.read_buffer.specs.Reading.{Follows}
 use Rattle.pcap_read.specs.declared.reader.Captured.{Captured}
 use Rattle.pcap_read.specs.Next.{packet_found}
 use Rattle.pcapng_read.specs.declared.fault.NgFault.{NgFault}

@@ -2,7 +2,7 @@
 use Rattle.std.specs.Prelude.{◌≡◌, ℕ, ◌+◌, ◌-◌, ◌*◌, ◌<◌, ◌≤◌, nat_lt, nat_le, Bool, true, false, ◌&&◌, if◌then◌else◌, List, length, take, drop, Option, Some, None}
 use Rattle.mud_base.specs.Faults.{first_row}
 use Rattle.mud_base.specs.declared.number.ByteOrder.{ByteOrder}
-use Rattle.octet_buffer.specs.Packets.{Packet, broken, with_next}
+use Rattle.read_buffer.specs.Packets.{Packet, broken, with_next}
 use Rattle.pcapng_read.specs.declared.fault.NgFault.{NgFault}
 use Rattle.pcapng_read.specs.declared.head.Kind.{Kind}
 use Rattle.pcapng_read.specs.declared.head.Kind.TheVariants.{SectionHeader, InterfaceDescription, EnhancedPacket, OtherPacket, Other}

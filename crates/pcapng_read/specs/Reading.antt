@@ -1,7 +1,7 @@
 -- What is taken of a source, and what that makes of the packets to come.
 use Rattle.std.specs.Prelude.{◌≡◌, ℕ, ◌+◌, ◌<◌, Bool, false, List, ◌++◌, length, Option, Some, None}
 use Rattle.mud_world.specs.Door.{DoorState, Took}
-use Rattle.octet_buffer.specs.Reading as sources
+use Rattle.read_buffer.specs.Reading as sources
 use Rattle.pcapng_read.specs.declared.fault.NgFault.{NgFault}
 use Rattle.pcapng_read.specs.declared.fault.NgFault.TheVariants.{ReadFault}
 use Rattle.pcapng_read.specs.Blocks.{NgPackets}

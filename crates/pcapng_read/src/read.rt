@@ -2,7 +2,7 @@
 ghost use Rattle.std.specs.Prelude.{◌≡◌, ◌+◌, ◌<◌, ◌≤◌, ◌⊎◌, [], length, IfOk, IfErr, IfSome, OnOk, OnErr, IsTrue, None, Some, is_err, is_some, true, false};
 ghost use Rattle.std.specs.Option.{ForSome};
 ghost use Rattle.mud_world.specs.Causes.{Counts, StopsAtFailure};
-ghost use Rattle.octet_buffer.specs.Reading.{Fetched, Follows, behind};
+ghost use Rattle.read_buffer.specs.Reading.{Fetched, Follows, behind};
 ghost use Rattle.pcapng_read.specs.Fault.{has_failed};
 ghost use Rattle.pcapng_read.specs.Blocks as spec;
 ghost use Rattle.pcapng_read.specs.Parts.{Begins, IsWithin, behind_met, blocks_at, coming_next, current_met, is_decided, is_packet};
@@ -15,7 +15,7 @@ use crate::head::{HEAD_LEN, Head, MOST_OCTETS, head_in, is_read};
 use crate::standing::{Current, Met, Standing};
 use mud_base::number_32;
 use mud_world::{Door, Failed};
-use octet_buffer::{Buffer, fetch};
+use read_buffer::{Buffer, fetch};
 
 /// The most blocks of a capture.
 const MOST_BLOCKS: u32 = 100_000_000;

@@ -1,8 +1,8 @@
 //! Where a reader of a capture stands, beside the source that it is lent at each call.
 ghost use Rattle.std.specs.Prelude.{◌≡◌, ◌<◌, ◌≤◌, length, true, false, is_some, IsSome, IsTrue, IfOk, IfErr, OnOk, OnErr, Err, Some, None};
 ghost use Rattle.mud_world.specs.Causes.{Counts, StopsAtFailure};
-ghost use Rattle.octet_buffer.specs.Packets.{with_next};
-ghost use Rattle.octet_buffer.specs.Reading.{Follows};
+ghost use Rattle.read_buffer.specs.Packets.{with_next};
+ghost use Rattle.read_buffer.specs.Reading.{Follows};
 ghost use Rattle.pcapng_read.specs.declared.fault.NgFault.{NgFault};
 ghost use Rattle.pcapng_read.specs.Fault.{has_failed};
 ghost use Rattle.pcapng_read.specs.Parts as parts;
@@ -18,8 +18,8 @@ use crate::read::step;
 use crate::standing::{Current, Standing};
 use mud_base::{ByteOrder, Memory};
 use mud_world::Door;
-use octet_buffer::Buffer;
 use pcap_read::Captured;
+use read_buffer::Buffer;
 use std::alloc::Global;
 use std::marker::Model;
 

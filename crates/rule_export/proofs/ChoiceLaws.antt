@@ -4,8 +4,8 @@ use Rattle.std.specs.List.{filter_map, cons_option, list_any, list_all}
 use Rattle.std.specs.Option.{option_map_or, option_and_then}
 use Rattle.std.proofs.lemmas.Bool.{false≢true}
 use Rattle.std.proofs.Math.Bool.{or-false, and_comm}
-use Rattle.sorted_rows.proofs.ListTests.{any-map, any-flat_map}
-use Rattle.sorted_rows.proofs.Lists.{any_const}
+use Rattle.base_rows.proofs.ListTests.{any-map, any-flat_map}
+use Rattle.base_rows.proofs.Lists.{any_const}
 use Rattle.mud_base.specs.declared.prefix.Prefix.{Prefix}
 use Rattle.rule_export.specs.Networks.{holds_all, common_part, common_of, choices}
 use Rattle.rule_export.proofs.PrefixLaws.{IsOfPrefixes}

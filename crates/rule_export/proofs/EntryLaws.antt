@@ -6,10 +6,10 @@ use Rattle.std.specs.List.{list_any, list_all, filter}
 use Rattle.std.proofs.Math.Nat.{div-one}
 use Rattle.std.proofs.lemmas.Bool.{false≢true, eqb-true, eq-eqb}
 use Rattle.std.proofs.Math.Bool.{or-false, and_assoc, and-false}
-use Rattle.sorted_rows.specs.Sortable.{same_sort_key, SortKeysAscend, is_under}
-use Rattle.sorted_rows.proofs.SortableLaws.{same_sort_key_exact, same_sort_key_itself}
-use Rattle.sorted_rows.proofs.RowSets.{tested_at}
-use Rattle.sorted_rows.proofs.ListTests.{both_ways, left_of, right_of, both, any-map, or_first}
+use Rattle.base_rows.specs.Sortable.{same_sort_key, SortKeysAscend, is_under}
+use Rattle.base_rows.proofs.SortableLaws.{same_sort_key_exact, same_sort_key_itself}
+use Rattle.base_rows.proofs.RowSets.{tested_at}
+use Rattle.base_rows.proofs.ListTests.{both_ways, left_of, right_of, both, any-map, or_first}
 use Rattle.mud_base.specs.Addresses.{same_addr, addr_bits, same_front, prefix_holds}
 use Rattle.mud_base.specs.declared.addr.Addr.{Addr}
 use Rattle.mud_base.specs.declared.addr.Addr.TheVariants.{V4, V6}
@@ -37,8 +37,8 @@ use Rattle.acl_rows.proofs.Coordinates.{AreSame, same_coordinates}
 use Rattle.acl_rows.proofs.Parts.{under_peer, sort_key_under}
 use Rattle.acl_rows.proofs.Sound.{expiry_at-entry}
 use Rattle.acl_rows.proofs.AtSortKeys.{row_at-rows_of, ascend-rows_of}
-use Rattle.mud_tables.specs.Expiries.{is_live}
-use Rattle.mud_tables.specs.Bindings.{members_met, matches_by_bindings}
+use Rattle.table_model.specs.Expiries.{is_live}
+use Rattle.table_model.specs.Bindings.{members_met, matches_by_bindings}
 use Rattle.packet_judge.proofs.LiveBindings.{live_expiry, entry_alike}
 use Rattle.packet_judge.proofs.FirstRow.{under_at}
 use Rattle.rule_export.specs.Networks.{is_near, has_near, near_networks}

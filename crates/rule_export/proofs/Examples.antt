@@ -4,7 +4,7 @@ use Rattle.std.specs.Prelude.{⊤}
 use Rattle.mud_base.specs.declared.addr.Addr.TheVariants.{V4, V6}
 use Rattle.mud_base.specs.declared.addr.Family.TheVariants as family
 use Rattle.mud_base.specs.declared.prefix.Prefix.{Prefix}
-use Rattle.sorted_rows.specs.Addresses.{addr_sort_key, prefix_sort_key}
+use Rattle.base_rows.specs.Addresses.{addr_sort_key, prefix_sort_key}
 use Rattle.acl_model.specs.declared.entry.Selector.{Selector}
 use Rattle.acl_model.specs.declared.entry.Selector.TheVariants.{LocalNetworks, Network, MyController}
 use Rattle.acl_model.specs.declared.entry.Layer.TheVariants as layer

@@ -5,7 +5,7 @@ use Rattle.std.specs.Prelude.{flat_map}
 use Rattle.std.proofs.lemmas.Option.{same_Some, none-some}
 use Rattle.std.proofs.Math.Nat.{div-one}
 use Rattle.std.proofs.lemmas.List.{append-nil}
-use Rattle.sorted_rows.specs.Sortable.{RowsAndRoom}
+use Rattle.base_rows.specs.Sortable.{RowsAndRoom}
 use Rattle.mud_base.specs.Addresses.{addr_bits, masked, prefix_at}
 use Rattle.mud_base.specs.declared.addr.Addr.TheVariants.{V4, V6}
 use Rattle.mud_base.specs.declared.prefix.Prefix.{Prefix}

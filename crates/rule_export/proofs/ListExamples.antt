@@ -14,10 +14,10 @@ use Rattle.acl_model.specs.declared.entry.Action.TheVariants.{Accept}
 use Rattle.acl_model.specs.declared.entry.Entry.{Entry}
 use Rattle.acl_model.specs.declared.entry.Policy.{Policy}
 use Rattle.acl_model.specs.declared.ruling.DefaultRule.TheVariants.{Dns}
-use Rattle.mud_tables.specs.declared.bind.Class.TheVariants.{Uri}
-use Rattle.mud_tables.specs.declared.thing.Thing.{Thing}
-use Rattle.mud_tables.specs.Tables.{Tables}
-use Rattle.mud_tables.proofs.Literals.{switch_addr, bulb_addr, dns_addr, test_addr, bulb_url, dns_class, test_name, bulb, bare_switch}
+use Rattle.table_model.specs.declared.bind.Class.TheVariants.{Uri}
+use Rattle.table_model.specs.declared.thing.Thing.{Thing}
+use Rattle.table_model.specs.Tables.{Tables}
+use Rattle.table_model.proofs.Literals.{switch_addr, bulb_addr, dns_addr, test_addr, bulb_url, dns_class, test_name, bulb, bare_switch}
 use Rattle.packet_judge.proofs.OnLiterals.{verdicts_compute}
 use Rattle.rule_export.specs.declared.item.RuleNumber.{RuleNumber}
 use Rattle.rule_export.specs.declared.item.RuleNumber.TheVariants as rule

@@ -3,7 +3,7 @@ use Rattle.std.proofs.Common.{◌≡◌, ◌≢◌, ℕ, ◌+◌, ◌<◌, Bool,
 use Rattle.std.specs.Prelude.{find, flat_map}
 use Rattle.std.specs.Option.{option_map, option_and_then}
 use Rattle.std.specs.List.{list_any}
-use Rattle.sorted_rows.specs.Sortable.{SortKeysAscend}
+use Rattle.base_rows.specs.Sortable.{SortKeysAscend}
 use Rattle.mud_base.specs.declared.addr.Family.TheVariants as family
 use Rattle.mud_base.specs.declared.prefix.Prefix.{Prefix}
 use Rattle.mud_base.specs.declared.packet.Direction.{Direction}
@@ -31,10 +31,10 @@ use Rattle.acl_rows.specs.declared.row.Row.{Row}
 use Rattle.acl_rows.specs.Rows.{for_ever, numbered, entry_at, held_by, default_held, Slots, Holder, rows_of}
 use Rattle.acl_rows.specs.View.{Part, View, rows_of_side, holder_from, IsPartOf, IsFilePart}
 use Rattle.acl_model.specs.Changes.{HaveSame}
-use Rattle.mud_tables.specs.Tables.{Tables, ruling_of}
+use Rattle.table_model.specs.Tables.{Tables, ruling_of}
 use Rattle.table_laws.proofs.Stores.{tests_alike}
 use Rattle.packet_judge.proofs.OverTables.{over_tables}
-use Rattle.mud_tables.specs.Bindings.{bindings_of, selector_met, members_met, matches_by_bindings, ruling_by_bindings}
+use Rattle.table_model.specs.Bindings.{bindings_of, selector_met, members_met, matches_by_bindings, ruling_by_bindings}
 use Rattle.packet_judge.specs.ByRows.{policy_held, IsViewOver}
 use Rattle.packet_judge.proofs.Rulings.{IsRest, all_rest, rest_next, rest_first}
 use Rattle.packet_judge.proofs.ByRows.{entries_default, holder_sound, IsHolder}

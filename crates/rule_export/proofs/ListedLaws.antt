@@ -5,7 +5,7 @@ use Rattle.std.specs.Option.{option_map}
 use Rattle.std.specs.List.{list_any, list_all}
 use Rattle.std.proofs.lemmas.Bool.{false≢true}
 use Rattle.std.proofs.Math.Bool.{and-false}
-use Rattle.sorted_rows.proofs.ListTests.{any-map, or_first, or_second}
+use Rattle.base_rows.proofs.ListTests.{any-map, or_first, or_second}
 use Rattle.mud_base.specs.Addresses.{prefix_holds}
 use Rattle.mud_base.specs.declared.addr.Addr.{Addr}
 use Rattle.mud_base.specs.declared.addr.Family.{Family}
@@ -26,7 +26,7 @@ use Rattle.acl_model.specs.Keys.{is_member, is_membered}
 use Rattle.acl_model.specs.Match.{peer_of, family_matches, own_of, own_passes, header_matches, layer_matches, near_met, near_matches, rest_matches, entry_matches}
 use Rattle.acl_model.specs.Defaults.{default_entry}
 use Rattle.acl_model.specs.FirstMatch.{entries_of, first_ruling, default_ruling, ruling_by}
-use Rattle.mud_tables.specs.Tables.{Tables, meets, ruling_of}
+use Rattle.table_model.specs.Tables.{Tables, meets, ruling_of}
 use Rattle.rule_export.specs.declared.item.RuleNumber.{RuleNumber}
 use Rattle.rule_export.specs.declared.item.RuleNumber.TheVariants as rule
 use Rattle.rule_export.specs.Networks.{has_near, near_networks}

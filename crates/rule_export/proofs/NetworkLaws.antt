@@ -4,9 +4,9 @@ use Rattle.std.specs.Prelude.{flat_map}
 use Rattle.std.specs.List.{filter_map, list_any, list_all, filter}
 use Rattle.std.proofs.lemmas.Bool.{false≢true}
 use Rattle.std.proofs.Math.Bool.{or-false}
-use Rattle.sorted_rows.specs.Sortable.{set_row, set_rows}
-use Rattle.sorted_rows.specs.Addresses.{addr_sort_key, prefix_sort_key}
-use Rattle.sorted_rows.proofs.ListTests.{any-flat_map}
+use Rattle.base_rows.specs.Sortable.{set_row, set_rows}
+use Rattle.base_rows.specs.Addresses.{addr_sort_key, prefix_sort_key}
+use Rattle.base_rows.proofs.ListTests.{any-flat_map}
 use Rattle.mud_base.specs.Addresses.{prefix_holds, same_front}
 use Rattle.mud_base.specs.declared.addr.Addr.{Addr}
 use Rattle.mud_base.specs.declared.addr.Addr.TheVariants.{V4, V6}

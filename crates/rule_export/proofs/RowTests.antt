@@ -3,11 +3,11 @@ use Rattle.std.proofs.Common.{◌≡◌, ℕ, Bool, true, false, cond, List, [],
 use Rattle.std.specs.List.{list_any, AllByRecursion}
 use Rattle.std.proofs.lemmas.Bool.{false≢true}
 use Rattle.std.proofs.lemmas.Option.{none-some}
-use Rattle.sorted_rows.specs.Sortable.{row_at, set_rows, SortKeysAscend}
-use Rattle.sorted_rows.proofs.SortableLaws.{same_sort_key_exact, same_sort_key_itself, ascend-set_rows}
-use Rattle.sorted_rows.proofs.RowLaws.{sort_key_row_at}
-use Rattle.sorted_rows.proofs.RowSets.{stands_at, Passing, row_at-set_alike, same_rows_by, found_passing, passing_found}
-use Rattle.sorted_rows.proofs.ListTests.{both_ways, any_first, any_later, any_by, any_more}
+use Rattle.base_rows.specs.Sortable.{row_at, set_rows, SortKeysAscend}
+use Rattle.base_rows.proofs.SortableLaws.{same_sort_key_exact, same_sort_key_itself, ascend-set_rows}
+use Rattle.base_rows.proofs.RowLaws.{sort_key_row_at}
+use Rattle.base_rows.proofs.RowSets.{stands_at, Passing, row_at-set_alike, same_rows_by, found_passing, passing_found}
+use Rattle.base_rows.proofs.ListTests.{both_ways, any_first, any_later, any_by, any_more}
 
 module _ {R : Type 0} (sort_key : R → List ℕ) (exact : (x y : R) → sort_key x ≡ sort_key y → x ≡ y) where
   same_row : (x r : R) → stands_at sort_key (sort_key r) x ≡ true → Some r ≡ Some x

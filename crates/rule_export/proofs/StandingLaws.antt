@@ -5,7 +5,7 @@ use Rattle.std.specs.List.{list_any, list_all, filter}
 use Rattle.std.proofs.lemmas.Bool.{false≢true}
 use Rattle.std.proofs.lemmas.List.Folds.{list_any-append}
 use Rattle.std.proofs.Math.Bool.{or-true}
-use Rattle.sorted_rows.proofs.ListTests.{both_ways, left_of, right_of, both, any_by, any_more, any-map, any-flat_map}
+use Rattle.base_rows.proofs.ListTests.{both_ways, left_of, right_of, both, any_by, any_more, any-map, any-flat_map}
 use Rattle.mud_base.specs.Addresses.{same_addr, prefix_holds}
 use Rattle.mud_base.specs.declared.addr.Addr.{Addr}
 use Rattle.mud_base.specs.declared.addr.Family.{Family}
@@ -15,14 +15,14 @@ use Rattle.acl_model.specs.declared.entry.Selector.TheVariants as asks
 use Rattle.acl_model.specs.declared.entry.Entry.{Entry}
 use Rattle.acl_model.specs.Keys.{is_member, is_membered}
 use Rattle.acl_model.proofs.BindingLaws.{same_addr_exact, same_addr_itself}
-use Rattle.mud_tables.specs.declared.thing.Thing.{Thing}
-use Rattle.mud_tables.specs.declared.bind.Class.{Class}
-use Rattle.mud_tables.specs.declared.bind.Class.TheVariants as class
-use Rattle.mud_tables.specs.declared.bind.ClassRow.{ClassRow}
-use Rattle.mud_tables.specs.declared.bind.NameRow.{NameRow}
-use Rattle.mud_tables.specs.Expiries.{is_live, has_live, Expiries}
-use Rattle.mud_tables.specs.Binds.{same_class, has_addr}
-use Rattle.mud_tables.specs.Tables.{Tables, has_lease, has_host, has_url, is_leased, is_bound, is_named, meets}
+use Rattle.table_model.specs.declared.thing.Thing.{Thing}
+use Rattle.table_model.specs.declared.bind.Class.{Class}
+use Rattle.table_model.specs.declared.bind.Class.TheVariants as class
+use Rattle.table_model.specs.declared.bind.ClassRow.{ClassRow}
+use Rattle.table_model.specs.declared.bind.NameRow.{NameRow}
+use Rattle.table_model.specs.Expiries.{is_live, has_live, Expiries}
+use Rattle.table_model.specs.Binds.{same_class, has_addr}
+use Rattle.table_model.specs.Tables.{Tables, has_lease, has_host, has_url, is_leased, is_bound, is_named, meets}
 use Rattle.rule_export.specs.Listed.{row_addrs, thing_addrs, class_addrs, name_addrs, table_addrs, addr_network, is_listed, addr_networks}
 use Rattle.rule_export.proofs.ChoiceLaws.{any_alike}
 use Rattle.rule_export.proofs.EntryLaws.{any-filter, host_holds}

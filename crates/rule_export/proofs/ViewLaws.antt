@@ -5,9 +5,9 @@ use Rattle.std.specs.Option.{option_map, option_map_or, option_and_then}
 use Rattle.std.specs.List.{list_any, list_all, filter, AllByRecursion}
 use Rattle.std.proofs.lemmas.Bool.{false≢true}
 use Rattle.std.proofs.Math.Bool.{or-false}
-use Rattle.sorted_rows.specs.Sortable.{SortKeysAscend}
-use Rattle.sorted_rows.proofs.ListTests.{both_ways, left_of, right_of, any_first, any_later, any_by, any_more, any-map}
-use Rattle.sorted_rows.proofs.Lists.{all-append}
+use Rattle.base_rows.specs.Sortable.{SortKeysAscend}
+use Rattle.base_rows.proofs.ListTests.{both_ways, left_of, right_of, any_first, any_later, any_by, any_more, any-map}
+use Rattle.base_rows.proofs.Lists.{all-append}
 use Rattle.mud_base.specs.Addresses.{prefix_holds}
 use Rattle.mud_base.specs.declared.addr.Addr.{Addr}
 use Rattle.mud_base.specs.declared.addr.Family.{Family}
@@ -34,10 +34,10 @@ use Rattle.acl_rows.specs.declared.row.Owner.TheVariants.{Default}
 use Rattle.acl_rows.specs.declared.row.Row.{Row}
 use Rattle.acl_rows.specs.Rows.{for_ever, entry_expiry, numbered, entry_at, held_by, default_held, Slots, Holder, rows_of}
 use Rattle.acl_rows.specs.View.{Part, View, rows_of_side, holder_from, IsPartOf, IsFilePart}
-use Rattle.mud_tables.specs.Expiries.{is_live}
-use Rattle.mud_tables.specs.Tables.{Tables, meets}
-use Rattle.mud_tables.specs.Bindings.{bindings_of, is_met_by, has_live_binding, key_met, selector_met, members_met}
-use Rattle.mud_tables.proofs.Alike.{met_by_binding}
+use Rattle.table_model.specs.Expiries.{is_live}
+use Rattle.table_model.specs.Tables.{Tables, meets}
+use Rattle.table_model.specs.Bindings.{bindings_of, is_met_by, has_live_binding, key_met, selector_met, members_met}
+use Rattle.table_model.proofs.Alike.{met_by_binding}
 use Rattle.table_laws.proofs.Stores.{tests_alike}
 use Rattle.packet_judge.specs.ByRows.{policy_held, IsViewOver}
 use Rattle.packet_judge.proofs.LiveBindings.{live_expiry, entry_alike}

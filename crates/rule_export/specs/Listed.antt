@@ -16,11 +16,11 @@ use Rattle.acl_model.specs.Keys.{is_membered}
 use Rattle.acl_model.specs.Match.{is_in_family}
 use Rattle.acl_model.specs.Defaults.{default_entry}
 use Rattle.acl_model.specs.FirstMatch.{file_entries}
-use Rattle.mud_tables.specs.declared.thing.Thing.{Thing}
-use Rattle.mud_tables.specs.declared.bind.ClassRow.{ClassRow}
-use Rattle.mud_tables.specs.declared.bind.NameRow.{NameRow}
-use Rattle.mud_tables.specs.Expiries.{Expiries}
-use Rattle.mud_tables.specs.Tables.{Tables, meets}
+use Rattle.table_model.specs.declared.thing.Thing.{Thing}
+use Rattle.table_model.specs.declared.bind.ClassRow.{ClassRow}
+use Rattle.table_model.specs.declared.bind.NameRow.{NameRow}
+use Rattle.table_model.specs.Expiries.{Expiries}
+use Rattle.table_model.specs.Tables.{Tables, meets}
 use Rattle.rule_export.specs.Networks.{has_near, in_order, near_networks}
 use Rattle.rule_export.specs.declared.item.RuleNumber.{RuleNumber}
 use Rattle.rule_export.specs.declared.item.RuleNumber.TheVariants as rule

@@ -6,8 +6,8 @@ use Rattle.std.specs.Option.{option_and_then}
 use Rattle.mud_base.specs.Addresses.{prefix_holds}
 use Rattle.mud_base.specs.declared.addr.Family.{Family}
 use Rattle.mud_base.specs.declared.prefix.Prefix.{Prefix}
-use Rattle.sorted_rows.specs.Sortable.{RowsAndRoom, set_rows}
-use Rattle.sorted_rows.specs.Addresses.{prefix_sort_key}
+use Rattle.base_rows.specs.Sortable.{RowsAndRoom, set_rows}
+use Rattle.base_rows.specs.Addresses.{prefix_sort_key}
 use Rattle.acl_model.specs.declared.entry.Selector.{Selector}
 use Rattle.acl_model.specs.declared.entry.Selector.TheVariants as asks
 use Rattle.acl_model.specs.declared.entry.Entry.{Entry}

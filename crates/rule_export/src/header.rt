@@ -7,7 +7,7 @@ use crate::members::{append_name, append_number, append_octet};
 use acl_model::Entry;
 use mud_base::{Bytes, Direction, Family, Memory, Prefix};
 use std::alloc::Global;
-use text_lines::append_prefix;
+use text_values::append_prefix;
 
 /// The name of the container of the IP header's tests.
 #[tactic(auto, unfolding(crate::specs::Tests::version_name))]

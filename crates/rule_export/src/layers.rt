@@ -7,7 +7,7 @@ use crate::flags::append_flags;
 use crate::members::{append_name, append_number, append_octet};
 use acl_model::{Layer, PortTest};
 use mud_base::{Bytes, Direction, Memory};
-use text_lines::append_decimal;
+use text_values::append_decimal;
 
 /// Adds the test of a port by an operator.
 #[tactic(auto, unfolding(crate::specs::Tests::operator_text))]

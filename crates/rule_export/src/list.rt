@@ -1,7 +1,7 @@
 //! The items of a resolved list.
 ghost use Rattle.std.specs.Prelude.{◌≡◌, ℕ, ◌+◌, ◌≤◌, length, [], ◌∷◌, ◌++◌, Some, OnOk, IfOk, option_map, map};
-ghost use Rattle.sorted_rows.specs.Sortable.{set_rows};
-ghost use Rattle.sorted_rows.specs.Addresses.{prefix_sort_key};
+ghost use Rattle.base_rows.specs.Sortable.{set_rows};
+ghost use Rattle.base_rows.specs.Addresses.{prefix_sort_key};
 ghost use Rattle.acl_rows.specs.ByAddress.{grouped};
 ghost use Rattle.rule_export.specs.Networks.{rows_in};
 ghost use Rattle.rule_export.specs.Listed as listed;
@@ -11,8 +11,8 @@ use crate::item::{Resolved, RuleNumber};
 use crate::near_networks;
 use acl_model::{DefaultRule, Entry, is_in_family, near_matches};
 use acl_rows::{Row, RulePart, RuleView};
+use base_rows::{SortedRows, Steps};
 use mud_base::{Addr, Family, Listed, Memory, Moment, Prefix};
-use sorted_rows::{SortedRows, Steps};
 use std::alloc::Global;
 use std::collections::BTreeMap;
 use std::marker::Model;
@@ -36,7 +36,7 @@ impl<'a> Model for Wants<'a> {
 
 /// Whether the row is of this entry, is live, and its address is of the version and meets the entry's
 /// near selectors.
-#[tactic(auto, unfolding(crate::specs::Resolved::is_wanted, mud_tables::specs::Expiries::is_live))]
+#[tactic(auto, unfolding(crate::specs::Resolved::is_wanted, table_model::specs::Expiries::is_live))]
 fn is_wanted(w: &Wants<'_>, n: u16, entry: &Entry, row: &Row) -> bool
     ensures { result ≡ spec.is_wanted w.now n entry.now row.now }
 {

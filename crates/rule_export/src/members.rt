@@ -4,7 +4,7 @@ ghost use Rattle.rule_export.specs.Objects as spec;
 ghost use Rattle.rule_export.specs.Tests.{number_value};
 
 use mud_base::{Bytes, Memory};
-use text_lines::append_decimal;
+use text_values::append_decimal;
 
 /// Adds the text in quotes.
 #[tactic(auto, unfolding(crate::specs::Objects::quoted))]

@@ -1,14 +1,14 @@
 //! The networks of an entry.
 ghost use Rattle.std.specs.Prelude.{◌≡◌, IfOk, OnOk, option_map};
 ghost use Rattle.std.specs.List.{filter_map};
-ghost use Rattle.sorted_rows.specs.Sortable.{set_rows};
-ghost use Rattle.sorted_rows.specs.Addresses.{prefix_sort_key};
+ghost use Rattle.base_rows.specs.Sortable.{set_rows};
+ghost use Rattle.base_rows.specs.Addresses.{prefix_sort_key};
 ghost use Rattle.rule_export.specs.Networks as spec;
 
 use crate::near_laws::choices_are_joint;
 use acl_model::{Entry, Selector, is_in_family};
+use base_rows::SortedRows;
 use mud_base::{Family, Memory, Prefix};
-use sorted_rows::SortedRows;
 use std::alloc::Global;
 
 /// Whether the first prefix holds each address of the second.

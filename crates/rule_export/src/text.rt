@@ -9,7 +9,7 @@ use acl_model::DefaultRule;
 use acl_rows::RuleView;
 use mud_base::{Bytes, Family, Memory};
 use std::alloc::Global;
-use text_lines::append_decimal;
+use text_values::append_decimal;
 
 /// Adds the word of a rule: `e` and the entry's number, `dns` or `ntp`.
 #[tactic(auto, unfolding(crate::specs::Text::rule_text))]

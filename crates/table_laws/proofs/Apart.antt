@@ -3,10 +3,10 @@ use Rattle.std.proofs.Common.{◌≡◌, ℕ, Bool, true, not, List, [], ◌∷�
 use Rattle.std.specs.List.{list_any}
 use Rattle.std.specs.declared.cmp.Ordering.TheVariants.{Less}
 use Rattle.std.proofs.lemmas.Bool.{false≢true}
-use Rattle.sorted_rows.specs.Sortable.{same_sort_key, SortKeysAbove, SortKeysAscend}
-use Rattle.sorted_rows.specs.Changes.{are_apart}
-use Rattle.sorted_rows.proofs.ListTests.{left_of, right_of, both, not_true, is_not, any_by, any_more, any-map}
-use Rattle.sorted_rows.proofs.SortableLaws.{same_sort_key-cmp}
+use Rattle.base_rows.specs.Sortable.{same_sort_key, SortKeysAbove, SortKeysAscend}
+use Rattle.base_rows.specs.Changes.{are_apart}
+use Rattle.base_rows.proofs.ListTests.{left_of, right_of, both, not_true, is_not, any_by, any_more, any-map}
+use Rattle.base_rows.proofs.SortableLaws.{same_sort_key-cmp}
 
 module _ {A : Type 0} (near : A → A → Bool) where
   -- where the images of near elements are near

@@ -8,23 +8,23 @@ use Rattle.std.proofs.lemmas.Option.{same_Some, none-some}
 use Rattle.mud_base.specs.Addresses.{same_addr}
 use Rattle.mud_base.specs.declared.addr.Addr.{Addr}
 use Rattle.mud_base.specs.declared.prefix.Prefix.{Prefix}
-use Rattle.sorted_rows.specs.Sortable.{SortKeysAscend, row_at, set_row, without_row}
-use Rattle.sorted_rows.specs.Addresses.{addr_sort_key}
-use Rattle.sorted_rows.proofs.SortableLaws.{same_sort_key_itself, row_at-set_row_same, row_at-without_row}
+use Rattle.base_rows.specs.Sortable.{SortKeysAscend, row_at, set_row, without_row}
+use Rattle.base_rows.specs.Addresses.{addr_sort_key}
+use Rattle.base_rows.proofs.SortableLaws.{same_sort_key_itself, row_at-set_row_same, row_at-without_row}
 use Rattle.acl_model.proofs.BindingLaws.{same_addr_itself}
 use Rattle.item_codec.specs.declared.word.Word.{Word}
 use Rattle.item_codec.specs.declared.word.Word.TheVariants.{New, Same, Renewed, Bound, Unbound, Set}
-use Rattle.mud_tables.specs.declared.bind.Class.{Class}
-use Rattle.mud_tables.specs.declared.bind.ClassRow.{ClassRow}
-use Rattle.mud_tables.specs.declared.bind.NameRow.{NameRow}
-use Rattle.mud_tables.specs.declared.bind_fault.BindFault.TheVariants.{ClassesFull, ClassFull, NotBound, LocalsFull, NameFull}
-use Rattle.mud_tables.specs.Limits.{most_classes, most_class_addresses, most_locals, most_names, most_name_addresses}
-use Rattle.mud_tables.specs.Expiries.{Expiries, is_live, expiry_of, with_expiry, live_rows, live_count}
-use Rattle.mud_tables.specs.Binds.{key_of_class, class_key, class_at, set_class, without_class, class_row, has_addr, with_addr, without_addr, same_prefix, same_prefixes, prefixes_in_order, name_of, name_at, set_name, without_name, name_row}
-use Rattle.mud_tables.specs.BindCommands.{ClassStep, classes_done, bind_cases, bind_step, classes_without, unbind_cases, unbind_step, LocalStep, locals_done, locals_cases, locals_step, NameStep, observed, addrs_of, least_dead, replacing, new_pair, kept_pair, observe_cases, observe_row, observe_step, is_change}
-use Rattle.mud_tables.proofs.LeaseLaws.{expiry_of-with_expiry}
-use Rattle.sorted_rows.proofs.ListTests.{both, any_without}
-use Rattle.sorted_rows.proofs.RowSets.{passing_found}
+use Rattle.table_model.specs.declared.bind.Class.{Class}
+use Rattle.table_model.specs.declared.bind.ClassRow.{ClassRow}
+use Rattle.table_model.specs.declared.bind.NameRow.{NameRow}
+use Rattle.table_model.specs.declared.bind_fault.BindFault.TheVariants.{ClassesFull, ClassFull, NotBound, LocalsFull, NameFull}
+use Rattle.table_model.specs.Limits.{most_classes, most_class_addresses, most_locals, most_names, most_name_addresses}
+use Rattle.table_model.specs.Expiries.{Expiries, is_live, expiry_of, with_expiry, live_rows, live_count}
+use Rattle.table_model.specs.Binds.{key_of_class, class_key, class_at, set_class, without_class, class_row, has_addr, with_addr, without_addr, same_prefix, same_prefixes, prefixes_in_order, name_of, name_at, set_name, without_name, name_row}
+use Rattle.table_model.specs.BindCommands.{ClassStep, classes_done, bind_cases, bind_step, classes_without, unbind_cases, unbind_step, LocalStep, locals_done, locals_cases, locals_step, NameStep, observed, addrs_of, least_dead, replacing, new_pair, kept_pair, observe_cases, observe_row, observe_step, is_change}
+use Rattle.table_model.proofs.LeaseLaws.{expiry_of-with_expiry}
+use Rattle.base_rows.proofs.ListTests.{both, any_without}
+use Rattle.base_rows.proofs.RowSets.{passing_found}
 
 -- ---- What a word tells
 

@@ -4,11 +4,11 @@ use Rattle.std.specs.Prelude.{◌↔◌, IfOk}
 use Rattle.mud_base.specs.declared.addr.Addr.{Addr}
 use Rattle.mud_base.specs.declared.prefix.Prefix.{Prefix}
 use Rattle.item_codec.specs.declared.word.Word.{Word}
-use Rattle.mud_tables.specs.declared.bind.Class.{Class}
-use Rattle.mud_tables.specs.declared.bind.ClassRow.{ClassRow}
-use Rattle.mud_tables.specs.declared.bind.NameRow.{NameRow}
-use Rattle.mud_tables.specs.Binds.{Binds, IsSoundClasses, IsSoundLocals, IsSoundNames, IsSoundBinds}
-use Rattle.mud_tables.specs.BindCommands.{ClassStep, LocalStep, NameStep, is_change, with_classes, with_locals, with_names}
+use Rattle.table_model.specs.declared.bind.Class.{Class}
+use Rattle.table_model.specs.declared.bind.ClassRow.{ClassRow}
+use Rattle.table_model.specs.declared.bind.NameRow.{NameRow}
+use Rattle.table_model.specs.Binds.{Binds, IsSoundClasses, IsSoundLocals, IsSoundNames, IsSoundBinds}
+use Rattle.table_model.specs.BindCommands.{ClassStep, LocalStep, NameStep, is_change, with_classes, with_locals, with_names}
 use Rattle.table_laws.proofs.SoundClasses.{OfClasses}
 use Rattle.table_laws.proofs.SoundLocals.{OfLocals}
 use Rattle.table_laws.proofs.SoundNames.{OfNames}

@@ -4,22 +4,22 @@ use Rattle.std.specs.Prelude.{nat_le, nat_lt, IfOk}
 use Rattle.std.proofs.lemmas.Option.{none-some}
 use Rattle.mud_base.specs.declared.addr.Addr.{Addr}
 use Rattle.item_codec.specs.declared.word.Word.TheVariants.{New, Same, Renewed, Bound, Unbound}
-use Rattle.sorted_rows.specs.Sortable.{same_sort_key, SortKeysAscend, row_at}
-use Rattle.sorted_rows.specs.Changes.{RowChange, changed, sort_keys_of, is_plain}
-use Rattle.sorted_rows.proofs.SortableLaws.{same_sort_key_exact}
+use Rattle.base_rows.specs.Sortable.{same_sort_key, SortKeysAscend, row_at}
+use Rattle.base_rows.specs.Changes.{RowChange, changed, sort_keys_of, is_plain}
+use Rattle.base_rows.proofs.SortableLaws.{same_sort_key_exact}
 use Rattle.acl_model.specs.Changes.{IsBindingChange}
-use Rattle.mud_tables.specs.declared.bind.Class.{Class}
-use Rattle.mud_tables.specs.declared.bind.ClassRow.{ClassRow}
-use Rattle.mud_tables.specs.declared.bind.NameRow.{NameRow}
-use Rattle.mud_tables.specs.declared.bind_fault.BindFault.TheVariants.{ClassesFull, ClassFull, NotBound, NameFull}
-use Rattle.mud_tables.specs.Limits.{most_classes, most_class_addresses, most_names, most_name_addresses}
-use Rattle.mud_tables.specs.Expiries.{Expiries, is_live, expiry_of, with_expiry, live_rows, live_count}
-use Rattle.mud_tables.specs.Tables.{Tables}
-use Rattle.mud_tables.specs.Bindings.{class_bindings, name_bindings, bindings_of}
-use Rattle.mud_tables.specs.BindingChanges.{gone_of, come_of}
-use Rattle.mud_tables.specs.Binds.{class_key, class_at, set_class, without_class, class_row, has_addr, with_addr, without_addr, name_of, name_at, set_name, without_name, name_row, has_live_row, IsSoundClasses, IsSoundNames}
-use Rattle.mud_tables.specs.BindCommands.{ClassStep, classes_done, bind_cases, bind_step, classes_without, unbind_cases, unbind_step, NameStep, observed, addrs_of, least_dead, replacing, new_pair, kept_pair, observe_cases, observe_row, observe_step}
-use Rattle.mud_tables.specs.BindRowChanges.{no_rows, one_row, bind_cases_change, bind_change, class_left, unbind_cases_change, unbind_change, replacing_change, new_pair_change, kept_pair_change, observe_cases_change, observe_row_change, observe_change}
+use Rattle.table_model.specs.declared.bind.Class.{Class}
+use Rattle.table_model.specs.declared.bind.ClassRow.{ClassRow}
+use Rattle.table_model.specs.declared.bind.NameRow.{NameRow}
+use Rattle.table_model.specs.declared.bind_fault.BindFault.TheVariants.{ClassesFull, ClassFull, NotBound, NameFull}
+use Rattle.table_model.specs.Limits.{most_classes, most_class_addresses, most_names, most_name_addresses}
+use Rattle.table_model.specs.Expiries.{Expiries, is_live, expiry_of, with_expiry, live_rows, live_count}
+use Rattle.table_model.specs.Tables.{Tables}
+use Rattle.table_model.specs.Bindings.{class_bindings, name_bindings, bindings_of}
+use Rattle.table_model.specs.BindingChanges.{gone_of, come_of}
+use Rattle.table_model.specs.Binds.{class_key, class_at, set_class, without_class, class_row, has_addr, with_addr, without_addr, name_of, name_at, set_name, without_name, name_row, has_live_row, IsSoundClasses, IsSoundNames}
+use Rattle.table_model.specs.BindCommands.{ClassStep, classes_done, bind_cases, bind_step, classes_without, unbind_cases, unbind_step, NameStep, observed, addrs_of, least_dead, replacing, new_pair, kept_pair, observe_cases, observe_row, observe_step}
+use Rattle.table_model.specs.BindRowChanges.{no_rows, one_row, bind_cases_change, bind_change, class_left, unbind_cases_change, unbind_change, replacing_change, new_pair_change, kept_pair_change, observe_cases_change, observe_row_change, observe_change}
 use Rattle.table_laws.proofs.SoundRows.{found_there}
 use Rattle.table_laws.proofs.SoundClasses.{OfClasses, cond_classes}
 use Rattle.table_laws.proofs.SoundNames.{OfNames, cond_names}

@@ -3,11 +3,11 @@ use Rattle.std.proofs.Common.{◌≡◌, ℕ, Bool, true, not, ◌&&◌, List, [
 use Rattle.std.specs.Prelude.{flat_map, nat_le, nat_lt}
 use Rattle.std.specs.List.{list_any}
 use Rattle.std.proofs.lemmas.Bool.{false≢true}
-use Rattle.sorted_rows.specs.Sortable.{same_sort_key}
-use Rattle.sorted_rows.specs.Addresses.{addr_sort_key, expiry_sort_key}
-use Rattle.sorted_rows.proofs.AddressLaws.{same_addr-sort_key}
-use Rattle.sorted_rows.proofs.AscendLaws.{ascend_from}
-use Rattle.sorted_rows.proofs.RowLaws.{sort_key_row_at}
+use Rattle.base_rows.specs.Sortable.{same_sort_key}
+use Rattle.base_rows.specs.Addresses.{addr_sort_key, expiry_sort_key}
+use Rattle.base_rows.proofs.AddressLaws.{same_addr-sort_key}
+use Rattle.base_rows.proofs.AscendLaws.{ascend_from}
+use Rattle.base_rows.proofs.RowLaws.{sort_key_row_at}
 use Rattle.mud_base.specs.Addresses.{same_addr}
 use Rattle.mud_base.specs.declared.addr.Addr.{Addr}
 use Rattle.mud_url.specs.Url.{host_of, is_canonical}
@@ -15,25 +15,25 @@ use Rattle.acl_model.specs.declared.binding.MemberKey.{MemberKey}
 use Rattle.acl_model.specs.declared.binding.MemberKey.TheVariants as of_key
 use Rattle.acl_model.specs.declared.binding.Binding.{Binding}
 use Rattle.acl_model.specs.Keys.{same_key}
-use Rattle.mud_tables.specs.declared.thing.Thing.{Thing}
-use Rattle.mud_tables.specs.declared.bind.Class.{Class}
-use Rattle.mud_tables.specs.declared.bind.Class.TheVariants as class
-use Rattle.mud_tables.specs.declared.bind.ClassRow.{ClassRow}
-use Rattle.mud_tables.specs.declared.bind.NameRow.{NameRow}
-use Rattle.mud_tables.specs.Limits.{most_leases, most_class_addresses, most_name_addresses}
-use Rattle.mud_tables.specs.Expiries.{Expiries, has_address, are_ascending, have_expiries}
-use Rattle.mud_tables.specs.Things.{mac_of, holds, may_wait, are_leases, is_sound_thing, IsKeptThing, IsSoundThings}
-use Rattle.mud_tables.specs.Binds.{key_of_class, class_key, name_of, are_addrs, is_class, is_sound_class, is_name, is_sound_name, IsKeptClass, IsKeptName, IsSoundClasses, IsSoundNames}
-use Rattle.mud_tables.specs.Bindings.{binding, bindings_of_lease, thing_bindings, member_key, class_binding, class_bindings, name_binding, name_bindings}
-use Rattle.sorted_rows.specs.Changes.{are_apart}
+use Rattle.table_model.specs.declared.thing.Thing.{Thing}
+use Rattle.table_model.specs.declared.bind.Class.{Class}
+use Rattle.table_model.specs.declared.bind.Class.TheVariants as class
+use Rattle.table_model.specs.declared.bind.ClassRow.{ClassRow}
+use Rattle.table_model.specs.declared.bind.NameRow.{NameRow}
+use Rattle.table_model.specs.Limits.{most_leases, most_class_addresses, most_name_addresses}
+use Rattle.table_model.specs.Expiries.{Expiries, has_address, are_ascending, have_expiries}
+use Rattle.table_model.specs.Things.{mac_of, holds, may_wait, are_leases, is_sound_thing, IsKeptThing, IsSoundThings}
+use Rattle.table_model.specs.Binds.{key_of_class, class_key, name_of, are_addrs, is_class, is_sound_class, is_name, is_sound_name, IsKeptClass, IsKeptName, IsSoundClasses, IsSoundNames}
+use Rattle.table_model.specs.Bindings.{binding, bindings_of_lease, thing_bindings, member_key, class_binding, class_bindings, name_binding, name_bindings}
+use Rattle.base_rows.specs.Changes.{are_apart}
 use Rattle.acl_model.specs.Changes.{same_spot}
-use Rattle.sorted_rows.proofs.ListTests.{left_of, right_of, is_not, any_by, any_more, any-flat_map}
-use Rattle.sorted_rows.proofs.ListTests.{apart-append, apart-map}
+use Rattle.base_rows.proofs.ListTests.{left_of, right_of, is_not, any_by, any_more, any-flat_map}
+use Rattle.base_rows.proofs.ListTests.{apart-append, apart-map}
 use Rattle.table_laws.proofs.Apart.{apart-unmap, apart-ascend}
 use Rattle.acl_model.proofs.BindingLaws.{same_addr_exact, same_addr_itself}
 use Rattle.acl_model.proofs.BindingLaws.{same_spot_exact, same_spot_itself}
 use Rattle.table_laws.proofs.Differences.{IsBindingRows}
-use Rattle.mud_tables.proofs.RowSets.{first_of_three, all_at}
+use Rattle.table_model.proofs.RowSets.{first_of_three, all_at}
 
 -- ---- Ascending addresses are apart
 

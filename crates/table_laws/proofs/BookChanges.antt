@@ -1,16 +1,16 @@
 -- What a book's change of rows does to the bindings of the tables.
 use Rattle.std.proofs.Common.{◌≡◌, true, List, subst}
-use Rattle.mud_tables.specs.declared.thing.Thing.{Thing}
-use Rattle.mud_tables.specs.declared.bind.ClassRow.{ClassRow}
-use Rattle.mud_tables.specs.declared.bind.NameRow.{NameRow}
+use Rattle.table_model.specs.declared.thing.Thing.{Thing}
+use Rattle.table_model.specs.declared.bind.ClassRow.{ClassRow}
+use Rattle.table_model.specs.declared.bind.NameRow.{NameRow}
 use Rattle.acl_model.specs.declared.binding.Binding.{Binding}
-use Rattle.mud_tables.specs.Things.{mac_of, IsSoundThings}
-use Rattle.mud_tables.specs.Binds.{class_key, name_of, IsSoundClasses, IsSoundNames}
-use Rattle.mud_tables.specs.Tables.{Tables}
-use Rattle.mud_tables.specs.Bindings.{thing_bindings, class_bindings, name_bindings, bindings_of}
-use Rattle.sorted_rows.specs.Changes.{RowChange, changed, is_plain, sort_keys_of}
+use Rattle.table_model.specs.Things.{mac_of, IsSoundThings}
+use Rattle.table_model.specs.Binds.{class_key, name_of, IsSoundClasses, IsSoundNames}
+use Rattle.table_model.specs.Tables.{Tables}
+use Rattle.table_model.specs.Bindings.{thing_bindings, class_bindings, name_bindings, bindings_of}
+use Rattle.base_rows.specs.Changes.{RowChange, changed, is_plain, sort_keys_of}
 use Rattle.acl_model.specs.Changes.{IsBindingChange}
-use Rattle.mud_tables.specs.BindingChanges.{gone_of, come_of}
+use Rattle.table_model.specs.BindingChanges.{gone_of, come_of}
 use Rattle.table_laws.proofs.Differences.{gone_at, come_at}
 use Rattle.table_laws.proofs.TableBindings.{things_change, classes_change, names_change}
 use Rattle.table_laws.proofs.RowChanges.{elsewhere_same, gone_is, come_is}

@@ -4,14 +4,14 @@ use Rattle.std.specs.Prelude.{codes}
 use Rattle.mud_url.specs.Url.{host_of, host_part, authority}
 use Rattle.acl_model.specs.declared.binding.MemberKey.TheVariants.{Host, Model}
 use Rattle.acl_model.specs.Keys.{same_key}
-use Rattle.mud_tables.specs.declared.thing.Thing.{Thing}
-use Rattle.mud_tables.specs.Things.{mac_of}
-use Rattle.mud_tables.specs.Bindings.{binding, bindings_of_lease, thing_bindings}
-use Rattle.sorted_rows.specs.Changes.{RowChange, changed, sort_keys_of, old_rows}
+use Rattle.table_model.specs.declared.thing.Thing.{Thing}
+use Rattle.table_model.specs.Things.{mac_of}
+use Rattle.table_model.specs.Bindings.{binding, bindings_of_lease, thing_bindings}
+use Rattle.base_rows.specs.Changes.{RowChange, changed, sort_keys_of, old_rows}
 use Rattle.acl_model.specs.Changes.{same_spot, same_binding, has_binding, those_not_in}
-use Rattle.mud_tables.specs.BindingChanges.{gone_of, come_of}
-use Rattle.mud_tables.specs.ThingChanges.{released_holders, leased, new_lease_change, kept_lease_change}
-use Rattle.mud_tables.proofs.Literals.{things_compute, bulb_addr, bulb_url, switch_url, next_url, bulb, bare_switch}
+use Rattle.table_model.specs.BindingChanges.{gone_of, come_of}
+use Rattle.table_model.specs.ThingChanges.{released_holders, leased, new_lease_change, kept_lease_change}
+use Rattle.table_model.proofs.Literals.{things_compute, bulb_addr, bulb_url, switch_url, next_url, bulb, bare_switch}
 
 unfoldable pub changes_compute : Unit {0}
 unfolding things_compute same_key bindings_of_lease thing_bindings same_spot same_binding has_binding those_not_in changed sort_keys_of old_rows gone_of come_of released_holders leased new_lease_change kept_lease_change

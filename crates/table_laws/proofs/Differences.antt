@@ -3,15 +3,15 @@ use Rattle.std.proofs.Common.{◌≡◌, ℕ, Bool, true, false, cond, not, ◌&
 use Rattle.std.specs.Prelude.{flat_map}
 use Rattle.std.specs.List.{list_any, filter}
 use Rattle.std.proofs.lemmas.Bool.{false≢true}
-use Rattle.sorted_rows.specs.Sortable.{same_sort_key, SortKeysAscend, row_at}
+use Rattle.base_rows.specs.Sortable.{same_sort_key, SortKeysAscend, row_at}
 use Rattle.acl_model.specs.declared.binding.Binding.{Binding}
 use Rattle.acl_model.proofs.BindingLaws.{same_spot_itself, spot_of_same, same_binding_exact}
-use Rattle.sorted_rows.specs.Changes.{are_apart, with_found, rows_at}
+use Rattle.base_rows.specs.Changes.{are_apart, with_found, rows_at}
 use Rattle.acl_model.specs.Changes.{same_spot, same_binding, has_binding, those_not_in, IsBindingChange}
-use Rattle.sorted_rows.proofs.ListTests.{both_ways, left_of, right_of, both, not_true, is_not, any_first, any_later, any_by, any_more, any-flat_map}
-use Rattle.sorted_rows.proofs.RowSets.{Passing, found_passing, passing_found}
-use Rattle.sorted_rows.proofs.ListTests.{apart-append, apart-filter}
-use Rattle.sorted_rows.proofs.ChangeLaws.{PassingAt, found_at, at_found}
+use Rattle.base_rows.proofs.ListTests.{both_ways, left_of, right_of, both, not_true, is_not, any_first, any_later, any_by, any_more, any-flat_map}
+use Rattle.base_rows.proofs.RowSets.{Passing, found_passing, passing_found}
+use Rattle.base_rows.proofs.ListTests.{apart-append, apart-filter}
+use Rattle.base_rows.proofs.ChangeLaws.{PassingAt, found_at, at_found}
 
 -- ---- One key and address
 

@@ -3,9 +3,9 @@ use Rattle.std.proofs.Common.{ℕ, ◌<◌, List, [], ◌∷◌, length, arith}
 use Rattle.std.specs.declared.cmp.Ordering.{Ordering}
 use Rattle.std.specs.declared.cmp.Ordering.TheVariants.{Less, Equal, Greater}
 use Rattle.mud_base.specs.declared.addr.Addr.{Addr}
-use Rattle.sorted_rows.specs.Sortable.{sort_key_cmp, set_row}
-use Rattle.sorted_rows.specs.Addresses.{expiry_sort_key}
-use Rattle.mud_tables.specs.Expiries.{Expiries, with_expiry}
+use Rattle.base_rows.specs.Sortable.{sort_key_cmp, set_row}
+use Rattle.base_rows.specs.Addresses.{expiry_sort_key}
+use Rattle.table_model.specs.Expiries.{Expiries, with_expiry}
 
 some_first : {R : Type 0} (row x : R) (xs rest : List R) (o : Ordering) → 0 < length (elim o as (λ _. List R) [ Less ↦ row ∷ (x ∷ xs) | Equal ↦ row ∷ xs | Greater ↦ x ∷ rest ])
 some_first row x xs rest Less = omega arith

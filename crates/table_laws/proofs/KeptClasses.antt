@@ -1,16 +1,16 @@
 -- An address is taken out of a class only where the class is kept, and then it is one that may be kept.
 use Rattle.std.proofs.Common.{◌≡◌, true, ◌&&◌, List, length, Option, Some, None, subst}
 use Rattle.std.specs.Prelude.{nat_lt, nat_le}
-use Rattle.sorted_rows.proofs.RowLaws.{sort_key_row_at}
-use Rattle.sorted_rows.proofs.ListTests.{left_of}
+use Rattle.base_rows.proofs.RowLaws.{sort_key_row_at}
+use Rattle.base_rows.proofs.ListTests.{left_of}
 use Rattle.mud_base.specs.declared.addr.Addr.{Addr}
-use Rattle.mud_tables.specs.declared.bind.Class.{Class}
-use Rattle.mud_tables.specs.declared.bind.Class.TheVariants.{Uri, Mine}
-use Rattle.mud_tables.specs.declared.bind.ClassRow.{ClassRow}
-use Rattle.mud_tables.specs.Limits.{most_class_addresses}
-use Rattle.mud_tables.specs.Binds.{key_of_class, class_key, class_at, are_addrs, is_class, is_sound_class, IsKeptClass, IsSoundClasses}
-use Rattle.mud_tables.specs.BindCommands.{unbind_cases, unbind_step}
-use Rattle.mud_tables.proofs.RowSets.{all_at, first_of_three}
+use Rattle.table_model.specs.declared.bind.Class.{Class}
+use Rattle.table_model.specs.declared.bind.Class.TheVariants.{Uri, Mine}
+use Rattle.table_model.specs.declared.bind.ClassRow.{ClassRow}
+use Rattle.table_model.specs.Limits.{most_class_addresses}
+use Rattle.table_model.specs.Binds.{key_of_class, class_key, class_at, are_addrs, is_class, is_sound_class, IsKeptClass, IsSoundClasses}
+use Rattle.table_model.specs.BindCommands.{unbind_cases, unbind_step}
+use Rattle.table_model.proofs.RowSets.{all_at, first_of_three}
 use Rattle.table_laws.proofs.SoundClasses.{OfClasses, sound-unbind_step}
 
 -- classes with one key are one class

@@ -7,22 +7,22 @@ use Rattle.std.proofs.lemmas.List.{map-append}
 use Rattle.std.proofs.lemmas.Option.{none-some}
 use Rattle.mud_base.specs.Addresses.{same_addr}
 use Rattle.mud_base.specs.declared.addr.Addr.{Addr}
-use Rattle.sorted_rows.specs.Sortable.{sort_key_cmp, same_sort_key, SortKeysAbove, SortKeysAscend, row_at, set_row, set_rows}
-use Rattle.sorted_rows.proofs.SortableLaws.{same_sort_key_exact, same_sort_key_itself, row_at_above, row_at-set_row, ascend-set_rows, set_rows-push}
-use Rattle.sorted_rows.proofs.RowLaws.{same_rows, ascend-filter, ascend-map, sort_key_row_at}
-use Rattle.mud_tables.specs.declared.thing.Thing.{Thing}
-use Rattle.mud_tables.specs.Expiries.{Expiries, has_address, expiry_of, without_address}
-use Rattle.mud_tables.specs.Things.{mac_of, holds, released, with_leases, set_thing, without_lease}
-use Rattle.sorted_rows.specs.Changes.{are_apart, changed, sort_keys_of, is_plain}
-use Rattle.mud_tables.specs.ThingChanges.{released_holders, leased, new_lease_change, end_change}
-use Rattle.sorted_rows.proofs.ListTests.{left_of, right_of, any_by, any-map}
-use Rattle.sorted_rows.proofs.RowSets.{Passing, found_passing}
-use Rattle.mud_tables.proofs.RowSets.{row_at-map}
-use Rattle.sorted_rows.proofs.ListTests.{apart-append}
+use Rattle.base_rows.specs.Sortable.{sort_key_cmp, same_sort_key, SortKeysAbove, SortKeysAscend, row_at, set_row, set_rows}
+use Rattle.base_rows.proofs.SortableLaws.{same_sort_key_exact, same_sort_key_itself, row_at_above, row_at-set_row, ascend-set_rows, set_rows-push}
+use Rattle.base_rows.proofs.RowLaws.{same_rows, ascend-filter, ascend-map, sort_key_row_at}
+use Rattle.table_model.specs.declared.thing.Thing.{Thing}
+use Rattle.table_model.specs.Expiries.{Expiries, has_address, expiry_of, without_address}
+use Rattle.table_model.specs.Things.{mac_of, holds, released, with_leases, set_thing, without_lease}
+use Rattle.base_rows.specs.Changes.{are_apart, changed, sort_keys_of, is_plain}
+use Rattle.table_model.specs.ThingChanges.{released_holders, leased, new_lease_change, end_change}
+use Rattle.base_rows.proofs.ListTests.{left_of, right_of, any_by, any-map}
+use Rattle.base_rows.proofs.RowSets.{Passing, found_passing}
+use Rattle.table_model.proofs.RowSets.{row_at-map}
+use Rattle.base_rows.proofs.ListTests.{apart-append}
 use Rattle.table_laws.proofs.Apart.{apart-ascend}
-use Rattle.sorted_rows.proofs.ListTests.{or_first, or_second, not_false}
-use Rattle.sorted_rows.proofs.ChangeLaws.{differ_turned}
-use Rattle.mud_tables.proofs.AloneLaws.{keeps_mac}
+use Rattle.base_rows.proofs.ListTests.{or_first, or_second, not_false}
+use Rattle.base_rows.proofs.ChangeLaws.{differ_turned}
+use Rattle.table_model.proofs.AloneLaws.{keeps_mac}
 
 pub or_else : {A : Type 0} → Option A → Option A → Option A
 or_else None o = o

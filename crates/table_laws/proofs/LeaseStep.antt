@@ -5,22 +5,22 @@ use Rattle.std.specs.List.{list_any}
 use Rattle.mud_base.specs.declared.addr.Addr.{Addr}
 use Rattle.mud_base.specs.declared.addr.Mac.{Mac}
 use Rattle.item_codec.specs.declared.word.Word.TheVariants.{New, Stranger, Renewed}
-use Rattle.sorted_rows.specs.Sortable.{row_at}
-use Rattle.mud_tables.specs.declared.thing.Thing.{Thing}
-use Rattle.mud_tables.specs.declared.thing_fault.ThingFault.TheVariants.{NoThing, LeasesFull}
-use Rattle.mud_tables.specs.Limits.{most_leases}
-use Rattle.mud_tables.specs.Expiries.{expiry_of, with_expiry, live_count}
-use Rattle.mud_tables.specs.Things.{mac_of, thing_at, set_thing, with_leases, without_lease, holds, IsSoundThings}
-use Rattle.mud_tables.specs.ItemFields.{IsAddr}
-use Rattle.mud_tables.specs.ThingCommands.{ThingStep, done, leased_until, left, left_until, expiry_after, kept_lease, new_lease, known_lease, stranger_lease, lease_cases, lease_step}
-use Rattle.mud_tables.specs.Tables.{Tables}
-use Rattle.mud_tables.specs.Bindings.{thing_bindings, bindings_of}
-use Rattle.sorted_rows.specs.Changes.{RowChange, changed, sort_keys_of, is_plain}
+use Rattle.base_rows.specs.Sortable.{row_at}
+use Rattle.table_model.specs.declared.thing.Thing.{Thing}
+use Rattle.table_model.specs.declared.thing_fault.ThingFault.TheVariants.{NoThing, LeasesFull}
+use Rattle.table_model.specs.Limits.{most_leases}
+use Rattle.table_model.specs.Expiries.{expiry_of, with_expiry, live_count}
+use Rattle.table_model.specs.Things.{mac_of, thing_at, set_thing, with_leases, without_lease, holds, IsSoundThings}
+use Rattle.table_model.specs.ItemFields.{IsAddr}
+use Rattle.table_model.specs.ThingCommands.{ThingStep, done, leased_until, left, left_until, expiry_after, kept_lease, new_lease, known_lease, stranger_lease, lease_cases, lease_step}
+use Rattle.table_model.specs.Tables.{Tables}
+use Rattle.table_model.specs.Bindings.{thing_bindings, bindings_of}
+use Rattle.base_rows.specs.Changes.{RowChange, changed, sort_keys_of, is_plain}
 use Rattle.acl_model.specs.Changes.{IsBindingChange}
-use Rattle.mud_tables.specs.BindingChanges.{gone_of, come_of}
-use Rattle.mud_tables.specs.ThingChanges.{leased, new_lease_change, end_change, puts_in, known_lease_change, kept_lease_change, lease_cases_change, lease_change}
+use Rattle.table_model.specs.BindingChanges.{gone_of, come_of}
+use Rattle.table_model.specs.ThingChanges.{leased, new_lease_change, end_change, puts_in, known_lease_change, kept_lease_change, lease_cases_change, lease_change}
 use Rattle.table_laws.proofs.LeaseChanges.{end_changed, end_unchanged, end_plain, new_lease_changed, new_lease_plain}
-use Rattle.mud_tables.proofs.SoundThings.{OfAfter, cond_after, at_its_sort_key, sound-lease_step}
+use Rattle.table_model.proofs.SoundThings.{OfAfter, cond_after, at_its_sort_key, sound-lease_step}
 use Rattle.table_laws.proofs.BookChanges.{thing_book_change}
 
 -- the change of rows makes the list

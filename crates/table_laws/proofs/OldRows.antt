@@ -2,9 +2,9 @@
 use Rattle.std.proofs.Common.{◌≡◌, ℕ, ◌+◌, ◌<◌, List, [], ◌∷◌, ◌++◌, length, map, take, get_or, Option, Some, None, refl, sym, ap, ◌∙◌, append_assoc}
 use Rattle.std.specs.Prelude.{flat_map}
 use Rattle.std.proofs.lemmas.Grind.{flat_map-append}
-use Rattle.sorted_rows.specs.Sortable.{row_at}
-use Rattle.sorted_rows.specs.Changes.{with_found, gone_row, rows_at}
-use Rattle.mud_tables.proofs.RowSets.{take_one}
+use Rattle.base_rows.specs.Sortable.{row_at}
+use Rattle.base_rows.specs.Changes.{with_found, gone_row, rows_at}
+use Rattle.table_model.proofs.RowSets.{take_one}
 
 -- what was found, in front of others
 pub found_before : {A : Type 0} (o : Option A) (xs ys : List A) → with_found o xs ++ ys ≡ with_found o (xs ++ ys)

@@ -1,13 +1,13 @@
 -- A change of rows leaves the rows of other sort keys, and makes its own rows those of the sort keys that it touches.
 use Rattle.std.proofs.Common.{◌≡◌, ℕ, true, List, ap}
 use Rattle.std.specs.Prelude.{flat_map}
-use Rattle.sorted_rows.specs.Sortable.{SortKeysAscend}
+use Rattle.base_rows.specs.Sortable.{SortKeysAscend}
 use Rattle.acl_model.specs.declared.binding.Binding.{Binding}
-use Rattle.sorted_rows.specs.Changes.{rows_at, RowChange, changed, sort_keys_of, old_rows, is_plain}
+use Rattle.base_rows.specs.Changes.{rows_at, RowChange, changed, sort_keys_of, old_rows, is_plain}
 use Rattle.acl_model.specs.Changes.{those_not_in}
-use Rattle.mud_tables.specs.BindingChanges.{gone_of, come_of}
+use Rattle.table_model.specs.BindingChanges.{gone_of, come_of}
 use Rattle.table_laws.proofs.Differences.{gone_at, come_at}
-use Rattle.sorted_rows.proofs.ChangeLaws.{row_at-changed_other, new_rows}
+use Rattle.base_rows.proofs.ChangeLaws.{row_at-changed_other, new_rows}
 use Rattle.table_laws.proofs.Differences.{IsElsewhereSame}
 
 module _ {R : Type 0} (sort_key : R → List ℕ) where

@@ -5,25 +5,25 @@ use Rattle.std.specs.List.{AllByRecursion}
 use Rattle.std.proofs.lemmas.Bool.{leb-true, leb-false, le-leb, lt-ltb, ltb-true}
 use Rattle.mud_base.specs.Addresses.{same_addr}
 use Rattle.mud_base.specs.declared.addr.Addr.{Addr}
-use Rattle.sorted_rows.specs.Sortable.{set_row, without_row}
-use Rattle.sorted_rows.specs.Addresses.{addr_sort_key}
-use Rattle.sorted_rows.proofs.AscendLaws.{ascend_from, ascend_to}
-use Rattle.sorted_rows.proofs.SortableLaws.{ascend-set_row}
-use Rattle.sorted_rows.proofs.RowLaws.{all-set_row, ascend-filter, length-set_row}
-use Rattle.mud_tables.specs.declared.bind.Class.{Class}
-use Rattle.mud_tables.specs.declared.bind.ClassRow.{ClassRow}
-use Rattle.mud_tables.specs.declared.bind_fault.BindFault.TheVariants.{ClassesFull, ClassFull, NotBound}
+use Rattle.base_rows.specs.Sortable.{set_row, without_row}
+use Rattle.base_rows.specs.Addresses.{addr_sort_key}
+use Rattle.base_rows.proofs.AscendLaws.{ascend_from, ascend_to}
+use Rattle.base_rows.proofs.SortableLaws.{ascend-set_row}
+use Rattle.base_rows.proofs.RowLaws.{all-set_row, ascend-filter, length-set_row}
+use Rattle.table_model.specs.declared.bind.Class.{Class}
+use Rattle.table_model.specs.declared.bind.ClassRow.{ClassRow}
+use Rattle.table_model.specs.declared.bind_fault.BindFault.TheVariants.{ClassesFull, ClassFull, NotBound}
 use Rattle.item_codec.specs.declared.word.Word.TheVariants.{Same, Bound, Unbound}
-use Rattle.mud_tables.specs.Limits.{most_classes, most_class_addresses}
-use Rattle.mud_tables.specs.Binds.{key_of_class, class_key, class_at, set_class, without_class, class_row, has_addr, with_addr, without_addr, are_addrs, is_class, is_sound_class, IsKeptClass, IsSoundClasses}
-use Rattle.mud_tables.specs.ItemFields.{IsAddr}
-use Rattle.mud_tables.specs.BindCommands.{ClassStep, classes_done, bind_cases, bind_step, classes_without, unbind_cases, unbind_step}
-use Rattle.sorted_rows.proofs.ListTests.{left_of, right_of, both}
-use Rattle.sorted_rows.proofs.Lists.{filter_few}
-use Rattle.mud_tables.proofs.RowSets.{first_of_three}
-use Rattle.mud_tables.proofs.LeaseLaws.{all_kept}
+use Rattle.table_model.specs.Limits.{most_classes, most_class_addresses}
+use Rattle.table_model.specs.Binds.{key_of_class, class_key, class_at, set_class, without_class, class_row, has_addr, with_addr, without_addr, are_addrs, is_class, is_sound_class, IsKeptClass, IsSoundClasses}
+use Rattle.table_model.specs.ItemFields.{IsAddr}
+use Rattle.table_model.specs.BindCommands.{ClassStep, classes_done, bind_cases, bind_step, classes_without, unbind_cases, unbind_step}
+use Rattle.base_rows.proofs.ListTests.{left_of, right_of, both}
+use Rattle.base_rows.proofs.Lists.{filter_few}
+use Rattle.table_model.proofs.RowSets.{first_of_three}
+use Rattle.table_model.proofs.LeaseLaws.{all_kept}
 use Rattle.table_laws.proofs.SoundRows.{AreSoundRows, put_new_row, put_there_row, without_sound_row}
-use Rattle.mud_tables.proofs.RowSets.{all_at}
+use Rattle.table_model.proofs.RowSets.{all_at}
 
 -- ---- Addresses are rows by themselves
 

@@ -4,16 +4,16 @@ use Rattle.std.specs.Prelude.{nat_lt}
 use Rattle.std.specs.List.{AllByRecursion}
 use Rattle.std.proofs.lemmas.Bool.{ltb-false}
 use Rattle.mud_base.specs.declared.prefix.Prefix.{Prefix}
-use Rattle.sorted_rows.specs.Sortable.{SortKeysAscend}
-use Rattle.sorted_rows.specs.Addresses.{prefix_sort_key}
-use Rattle.sorted_rows.proofs.AscendLaws.{ascend_to}
-use Rattle.sorted_rows.proofs.SortableLaws.{ascend-set_row}
-use Rattle.sorted_rows.proofs.RowLaws.{all-set_row}
+use Rattle.base_rows.specs.Sortable.{SortKeysAscend}
+use Rattle.base_rows.specs.Addresses.{prefix_sort_key}
+use Rattle.base_rows.proofs.AscendLaws.{ascend_to}
+use Rattle.base_rows.proofs.SortableLaws.{ascend-set_row}
+use Rattle.base_rows.proofs.RowLaws.{all-set_row}
 use Rattle.item_codec.specs.declared.word.Word.TheVariants.{Same, Set}
-use Rattle.mud_tables.specs.declared.bind_fault.BindFault.TheVariants.{LocalsFull}
-use Rattle.mud_tables.specs.Limits.{most_locals}
-use Rattle.mud_tables.specs.Binds.{with_prefix, prefixes_in_order, same_prefixes, are_prefixes, IsKeptNetwork, IsSoundLocals}
-use Rattle.mud_tables.specs.BindCommands.{LocalStep, locals_done, locals_cases, locals_step}
+use Rattle.table_model.specs.declared.bind_fault.BindFault.TheVariants.{LocalsFull}
+use Rattle.table_model.specs.Limits.{most_locals}
+use Rattle.table_model.specs.Binds.{with_prefix, prefixes_in_order, same_prefixes, are_prefixes, IsKeptNetwork, IsSoundLocals}
+use Rattle.table_model.specs.BindCommands.{LocalStep, locals_done, locals_cases, locals_step}
 
 -- a refusal changes nothing, and else this holds
 abbrev pub OfLocals : (List Prefix → Type 0) → LocalStep → Type 0

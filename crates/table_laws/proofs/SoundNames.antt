@@ -5,20 +5,20 @@ use Rattle.std.specs.List.{AllByRecursion}
 use Rattle.std.proofs.lemmas.Bool.{leb-true, leb-false, le-leb, lt-ltb, ltb-true}
 use Rattle.std.proofs.lemmas.Option.{none-some}
 use Rattle.mud_base.specs.declared.addr.Addr.{Addr}
-use Rattle.sorted_rows.specs.Sortable.{row_at, set_row, without_row}
-use Rattle.mud_tables.specs.declared.bind.NameRow.{NameRow}
-use Rattle.mud_tables.specs.declared.bind_fault.BindFault.TheVariants.{NameFull}
+use Rattle.base_rows.specs.Sortable.{row_at, set_row, without_row}
+use Rattle.table_model.specs.declared.bind.NameRow.{NameRow}
+use Rattle.table_model.specs.declared.bind_fault.BindFault.TheVariants.{NameFull}
 use Rattle.item_codec.specs.declared.word.Word.TheVariants.{New, Same, Renewed}
-use Rattle.mud_tables.specs.Limits.{most_names, most_name_addresses}
-use Rattle.mud_tables.specs.Expiries.{Expiries, for_ever, is_live, is_expiry, expiry_of, with_expiry, live_rows, live_count, are_ascending, have_expiries}
-use Rattle.mud_tables.specs.Binds.{name_of, name_at, set_name, without_name, name_row, has_live_row, is_name, is_sound_name, IsKeptName, IsSoundNames}
-use Rattle.mud_tables.specs.ItemFields.{IsAddr, IsExpiring}
-use Rattle.mud_tables.specs.BindCommands.{NameStep, observed, addrs_of, least_dead, replacing, new_pair, kept_pair, observe_cases, observe_row, observe_step}
-use Rattle.sorted_rows.proofs.ListTests.{left_of, right_of, both}
-use Rattle.mud_tables.proofs.RowSets.{first_of_three}
+use Rattle.table_model.specs.Limits.{most_names, most_name_addresses}
+use Rattle.table_model.specs.Expiries.{Expiries, for_ever, is_live, is_expiry, expiry_of, with_expiry, live_rows, live_count, are_ascending, have_expiries}
+use Rattle.table_model.specs.Binds.{name_of, name_at, set_name, without_name, name_row, has_live_row, is_name, is_sound_name, IsKeptName, IsSoundNames}
+use Rattle.table_model.specs.ItemFields.{IsAddr, IsExpiring}
+use Rattle.table_model.specs.BindCommands.{NameStep, observed, addrs_of, least_dead, replacing, new_pair, kept_pair, observe_cases, observe_row, observe_step}
+use Rattle.base_rows.proofs.ListTests.{left_of, right_of, both}
+use Rattle.table_model.proofs.RowSets.{first_of_three}
 use Rattle.table_laws.proofs.SoundRows.{AreSoundRows, put_new_row, put_there_row, without_sound_row, without_row_short, found_there}
-use Rattle.mud_tables.proofs.RowSets.{all_at}
-use Rattle.mud_tables.proofs.LeaseLaws.{with_expiry_ascends, filter_ascends, with_expiry_have, filter_expiries, with_expiry_grown, with_expiry_long, with_expiry_all, all_kept}
+use Rattle.table_model.proofs.RowSets.{all_at}
+use Rattle.table_model.proofs.LeaseLaws.{with_expiry_ascends, filter_ascends, with_expiry_have, filter_expiries, with_expiry_grown, with_expiry_long, with_expiry_all, all_kept}
 use Rattle.table_laws.proofs.ExpiryRows.{with_expiry_some}
 
 -- ---- Names

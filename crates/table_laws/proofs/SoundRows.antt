@@ -4,11 +4,11 @@ use Rattle.std.specs.Prelude.{find}
 use Rattle.std.specs.List.{remove, AllByRecursion}
 use Rattle.std.proofs.lemmas.Option.{same_Some, none-some}
 use Rattle.std.proofs.lemmas.List.Edits.{length-remove}
-use Rattle.sorted_rows.specs.Sortable.{same_sort_key, SortKeysAscend, row_at, index_in, set_row, without_row}
-use Rattle.sorted_rows.proofs.SortableLaws.{ascend-set_row, ascend-without_row, row_at_missed, without_row_found, same_sort_key_itself, index_in_within, IsIndexOf}
-use Rattle.sorted_rows.proofs.RowLaws.{all-set_row, all-without_row, length-set_row, length-without_row}
-use Rattle.sorted_rows.proofs.RowSets.{at_later}
-use Rattle.mud_tables.proofs.LeaseLaws.{set_row_long}
+use Rattle.base_rows.specs.Sortable.{same_sort_key, SortKeysAscend, row_at, index_in, set_row, without_row}
+use Rattle.base_rows.proofs.SortableLaws.{ascend-set_row, ascend-without_row, row_at_missed, without_row_found, same_sort_key_itself, index_in_within, IsIndexOf}
+use Rattle.base_rows.proofs.RowLaws.{all-set_row, all-without_row, length-set_row, length-without_row}
+use Rattle.base_rows.proofs.RowSets.{at_later}
+use Rattle.table_model.proofs.LeaseLaws.{set_row_long}
 
 module _ {R : Type 0} (sort_key : R → List ℕ) (Good : R → Type 0) (most : ℕ) where
   pub record AreSoundRows (rows : List R) : Type 0 where

@@ -3,21 +3,21 @@ use Rattle.std.proofs.Common.{◌≡◌, ℕ, Bool, true, false, cond, not, ◌|
 use Rattle.std.specs.List.{list_any}
 use Rattle.std.proofs.lemmas.Bool.{false≢true}
 use Rattle.std.proofs.lemmas.Option.{same_Some, none-some}
-use Rattle.sorted_rows.specs.Sortable.{same_sort_key, SortKeysAscend, row_at, set_row, set_rows, without_row}
-use Rattle.sorted_rows.proofs.SortableLaws.{same_sort_key_exact, row_at-set_row_same, row_at-without_row, ascend-without_row, ascend-set_rows}
-use Rattle.sorted_rows.proofs.RowLaws.{sort_key_row_at}
+use Rattle.base_rows.specs.Sortable.{same_sort_key, SortKeysAscend, row_at, set_row, set_rows, without_row}
+use Rattle.base_rows.proofs.SortableLaws.{same_sort_key_exact, row_at-set_row_same, row_at-without_row, ascend-without_row, ascend-set_rows}
+use Rattle.base_rows.proofs.RowLaws.{sort_key_row_at}
 use Rattle.acl_model.specs.declared.binding.Binding.{Binding}
-use Rattle.sorted_rows.specs.Changes.{are_apart}
+use Rattle.base_rows.specs.Changes.{are_apart}
 use Rattle.acl_model.specs.SortKeys.{binding_sort_key}
 use Rattle.acl_model.specs.Changes.{same_spot, same_binding, has_binding, IsBindingChange, without_bindings, replaced, HaveSame}
-use Rattle.sorted_rows.proofs.ListTests.{both_ways, left_of, right_of, both, is_not, any_first, any_later, any_by, any_more, any-map}
-use Rattle.sorted_rows.proofs.RowSets.{Passing, found_passing, passing_found}
-use Rattle.sorted_rows.proofs.ListTests.{apart-map}
+use Rattle.base_rows.proofs.ListTests.{both_ways, left_of, right_of, both, is_not, any_first, any_later, any_by, any_more, any-map}
+use Rattle.base_rows.proofs.RowSets.{Passing, found_passing, passing_found}
+use Rattle.base_rows.proofs.ListTests.{apart-map}
 use Rattle.acl_model.proofs.SortKeyLaws.{binding_sort_key_exact, ascend-without_bindings}
 use Rattle.acl_model.proofs.BindingLaws.{same_spot_itself, spot_of_same, spot_shared, same_binding_exact, same_binding_itself}
 use Rattle.table_laws.proofs.Differences.{spot_among}
-use Rattle.sorted_rows.proofs.ListTests.{not_false}
-use Rattle.sorted_rows.proofs.ChangeLaws.{same_sort_key_turned, row_at-set_rows_other}
+use Rattle.base_rows.proofs.ListTests.{not_false}
+use Rattle.base_rows.proofs.ChangeLaws.{same_sort_key_turned, row_at-set_rows_other}
 
 -- of two that have a key and an address in common, one list without such two has but one
 pub same_among : (b c : Binding) (xs : List Binding) → are_apart same_spot xs ≡ true → has_binding b xs ≡ true → has_binding c xs ≡ true → same_spot b c ≡ true → b ≡ c

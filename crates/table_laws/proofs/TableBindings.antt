@@ -6,28 +6,28 @@ use Rattle.std.specs.Option.{option_map}
 use Rattle.std.proofs.lemmas.Bool.{false≢true}
 use Rattle.std.proofs.lemmas.Option.{none-some}
 use Rattle.std.proofs.lemmas.List.Folds.{list_any-append}
-use Rattle.sorted_rows.specs.Sortable.{same_sort_key, row_at}
-use Rattle.sorted_rows.proofs.SortableLaws.{row_at_above, row_at_row}
+use Rattle.base_rows.specs.Sortable.{same_sort_key, row_at}
+use Rattle.base_rows.proofs.SortableLaws.{row_at_above, row_at_row}
 use Rattle.mud_base.specs.declared.addr.Addr.{Addr}
 use Rattle.mud_url.specs.Url.{host_of}
 use Rattle.acl_model.specs.declared.binding.MemberKey.{MemberKey}
 use Rattle.acl_model.specs.declared.binding.MemberKey.TheVariants as of_key
 use Rattle.acl_model.specs.declared.binding.Binding.{Binding}
-use Rattle.mud_tables.specs.declared.thing.Thing.{Thing}
-use Rattle.mud_tables.specs.declared.bind.Class.{Class}
-use Rattle.mud_tables.specs.declared.bind.Class.TheVariants as class
-use Rattle.mud_tables.specs.declared.bind.ClassRow.{ClassRow}
-use Rattle.mud_tables.specs.declared.bind.NameRow.{NameRow}
-use Rattle.mud_tables.specs.Things.{mac_of, IsSoundThings}
-use Rattle.mud_tables.specs.Binds.{class_key, name_of, IsSoundClasses, IsSoundNames}
-use Rattle.mud_tables.specs.Tables.{Tables, IsSoundTables}
-use Rattle.mud_tables.specs.Bindings.{binding, bindings_of_lease, thing_bindings, member_key, class_bindings, name_bindings, things_bindings, classes_bindings, names_bindings, bindings_of}
-use Rattle.sorted_rows.specs.Changes.{are_apart}
+use Rattle.table_model.specs.declared.thing.Thing.{Thing}
+use Rattle.table_model.specs.declared.bind.Class.{Class}
+use Rattle.table_model.specs.declared.bind.Class.TheVariants as class
+use Rattle.table_model.specs.declared.bind.ClassRow.{ClassRow}
+use Rattle.table_model.specs.declared.bind.NameRow.{NameRow}
+use Rattle.table_model.specs.Things.{mac_of, IsSoundThings}
+use Rattle.table_model.specs.Binds.{class_key, name_of, IsSoundClasses, IsSoundNames}
+use Rattle.table_model.specs.Tables.{Tables, IsSoundTables}
+use Rattle.table_model.specs.Bindings.{binding, bindings_of_lease, thing_bindings, member_key, class_bindings, name_bindings, things_bindings, classes_bindings, names_bindings, bindings_of}
+use Rattle.base_rows.specs.Changes.{are_apart}
 use Rattle.acl_model.specs.Changes.{same_spot, same_binding, has_binding, IsBindingChange, is_bound_to, until_of, bound_until}
 use Rattle.table_laws.proofs.Differences.{gone_at, come_at}
-use Rattle.sorted_rows.proofs.ListTests.{left_of, right_of, is_not, any_by, any_more, any-flat_map}
-use Rattle.sorted_rows.proofs.RowSets.{Passing, found_passing, at_later}
-use Rattle.sorted_rows.proofs.ListTests.{any_either, apart-append}
+use Rattle.base_rows.proofs.ListTests.{left_of, right_of, is_not, any_by, any_more, any-flat_map}
+use Rattle.base_rows.proofs.RowSets.{Passing, found_passing, at_later}
+use Rattle.base_rows.proofs.ListTests.{any_either, apart-append}
 use Rattle.acl_model.proofs.BindingLaws.{same_spot_itself, spot_of_same, until_of_same, spot_shared}
 use Rattle.table_laws.proofs.Differences.{spot_among, IsElsewhereSame, IsBindingRows, binding_change}
 use Rattle.table_laws.proofs.BindingRows.{spot_key, class_bound, name_bound, things_bind, classes_bind, names_bind}

@@ -1,19 +1,19 @@
 //! Laws of the bindings that the tables hold, and of how they change.
 ghost use Rattle.std.specs.Prelude.{◌≡◌, Bool, IsTrue, List, Some};
 ghost use Rattle.std.specs.List.{list_any};
-ghost use Rattle.sorted_rows.specs.Sortable.{SortKeysAscend};
-ghost use Rattle.sorted_rows.specs.Changes.{RowChange, changed, is_plain, are_apart};
+ghost use Rattle.base_rows.specs.Sortable.{SortKeysAscend};
+ghost use Rattle.base_rows.specs.Changes.{RowChange, changed, is_plain, are_apart};
 ghost use Rattle.acl_model.specs.declared.binding.Binding.{Binding};
 ghost use Rattle.acl_model.specs.SortKeys.{binding_sort_key};
 ghost use Rattle.acl_model.specs.Changes.{same_spot, has_binding, HaveSame, IsBindingChange, bound_until, replaced};
-ghost use Rattle.mud_tables.specs.declared.thing.Thing.{Thing};
-ghost use Rattle.mud_tables.specs.declared.bind.ClassRow.{ClassRow};
-ghost use Rattle.mud_tables.specs.declared.bind.NameRow.{NameRow};
-ghost use Rattle.mud_tables.specs.Things.{mac_of, IsSoundThings};
-ghost use Rattle.mud_tables.specs.Binds.{class_key, name_of, IsSoundClasses, IsSoundNames};
-ghost use Rattle.mud_tables.specs.Tables.{Tables, IsSoundTables};
-ghost use Rattle.mud_tables.specs.Bindings.{thing_bindings, class_bindings, name_bindings, bindings_of};
-ghost use Rattle.mud_tables.specs.BindingChanges.{gone_of, come_of};
+ghost use Rattle.table_model.specs.declared.thing.Thing.{Thing};
+ghost use Rattle.table_model.specs.declared.bind.ClassRow.{ClassRow};
+ghost use Rattle.table_model.specs.declared.bind.NameRow.{NameRow};
+ghost use Rattle.table_model.specs.Things.{mac_of, IsSoundThings};
+ghost use Rattle.table_model.specs.Binds.{class_key, name_of, IsSoundClasses, IsSoundNames};
+ghost use Rattle.table_model.specs.Tables.{Tables, IsSoundTables};
+ghost use Rattle.table_model.specs.Bindings.{thing_bindings, class_bindings, name_bindings, bindings_of};
+ghost use Rattle.table_model.specs.BindingChanges.{gone_of, come_of};
 
 /// Sound tables have one binding for a key and an address.
 pub fn tables_bind_once()

@@ -3,18 +3,18 @@ ghost use Rattle.std.specs.Prelude.{◌≡◌, ◌↔◌, ℕ, ◌<◌, ◌≤�
 ghost use Rattle.std.specs.List.{AllByRecursion};
 ghost use Rattle.mud_base.specs.declared.addr.Addr.{Addr};
 ghost use Rattle.mud_base.specs.declared.prefix.Prefix.{Prefix};
-ghost use Rattle.sorted_rows.specs.Changes.{changed, is_plain};
+ghost use Rattle.base_rows.specs.Changes.{changed, is_plain};
 ghost use Rattle.acl_model.specs.Changes.{IsBindingChange};
-ghost use Rattle.mud_tables.specs.declared.bind.Class.{Class};
-ghost use Rattle.mud_tables.specs.declared.bind.ClassRow.{ClassRow};
-ghost use Rattle.mud_tables.specs.declared.bind.NameRow.{NameRow};
-ghost use Rattle.mud_tables.specs.BindRowChanges.{bind_change, unbind_change, observe_change};
-ghost use Rattle.mud_tables.specs.Tables.{Tables, IsSoundTables, binds_of, with_binds};
-ghost use Rattle.mud_tables.specs.Bindings.{class_bindings, name_bindings, bindings_of};
-ghost use Rattle.mud_tables.specs.BindingChanges.{gone_of, come_of};
-ghost use Rattle.mud_tables.specs.ItemFields.{IsAddr};
-ghost use Rattle.mud_tables.specs.Binds.{Binds, IsSoundBinds, IsSoundClasses, IsSoundNames, IsKeptNetwork, class_key, is_class, name_of, is_name};
-ghost use Rattle.mud_tables.specs.BindCommands.{bind_step, unbind_step, observe_step, bind_class_step, unbind_class_step, set_locals_step, observe_name_step};
+ghost use Rattle.table_model.specs.declared.bind.Class.{Class};
+ghost use Rattle.table_model.specs.declared.bind.ClassRow.{ClassRow};
+ghost use Rattle.table_model.specs.declared.bind.NameRow.{NameRow};
+ghost use Rattle.table_model.specs.BindRowChanges.{bind_change, unbind_change, observe_change};
+ghost use Rattle.table_model.specs.Tables.{Tables, IsSoundTables, binds_of, with_binds};
+ghost use Rattle.table_model.specs.Bindings.{class_bindings, name_bindings, bindings_of};
+ghost use Rattle.table_model.specs.BindingChanges.{gone_of, come_of};
+ghost use Rattle.table_model.specs.ItemFields.{IsAddr};
+ghost use Rattle.table_model.specs.Binds.{Binds, IsSoundBinds, IsSoundClasses, IsSoundNames, IsKeptNetwork, class_key, is_class, name_of, is_name};
+ghost use Rattle.table_model.specs.BindCommands.{bind_step, unbind_step, observe_step, bind_class_step, unbind_class_step, set_locals_step, observe_name_step};
 
 /// The three lists as parts of the tables.
 pub fn binds_are_parts_of_tables()

@@ -1,17 +1,17 @@
 //! The bindings that go and come with a change of rows.
 ghost use Rattle.std.specs.Prelude.{◌≡◌, ◌≤◌, ◌<◌, [], ◌++◌, length, map, flat_map, is_some, IfOk, IfSome, OnOk, position};
-ghost use Rattle.sorted_rows.specs.Sortable.{row_at};
-ghost use Rattle.sorted_rows.specs.Changes.{old_rows, with_found, gone_row};
+ghost use Rattle.base_rows.specs.Sortable.{row_at};
+ghost use Rattle.base_rows.specs.Changes.{old_rows, with_found, gone_row};
 ghost use Rattle.acl_model.specs.Changes.{has_binding};
 ghost use Rattle.acl_model.specs.Changes as spec;
-ghost use Rattle.mud_tables.specs.BindingChanges.{gone_of, come_of};
+ghost use Rattle.table_model.specs.BindingChanges.{gone_of, come_of};
 ghost use Rattle.table_laws.specs.Lent.{lent_binding, is_lent};
 
 use crate::lent::LentBinding;
 use crate::rows::BindingRow;
 use acl_model::Binding;
+use base_rows::{Change, KeyOf, SortedRows};
 use mud_base::{Listed, Memory};
-use sorted_rows::{Change, KeyOf, SortedRows};
 use std::alloc::Global;
 
 /// Where the binding stands first among others.
@@ -119,7 +119,7 @@ fn old_bindings<'a, K: KeyOf<R>, R: BindingRow>(
 }
 
 /// The bindings that go and those that come with a change of these rows.
-#[tactic(auto, unfolding(mud_tables::specs::BindingChanges::gone_of, mud_tables::specs::BindingChanges::come_of))]
+#[tactic(auto, unfolding(table_model::specs::BindingChanges::gone_of, table_model::specs::BindingChanges::come_of))]
 pub fn changed_bindings<K: KeyOf<R>, R: BindingRow>(
     alloc: Global,
     change: &Change<K, R>,

@@ -2,16 +2,16 @@
 ghost use Rattle.std.specs.Prelude.{◌≡◌, ℕ, ◌<◌, ◌≤◌, ◌^◌, Bool, IsTrue, IfOk, List};
 ghost use Rattle.mud_base.specs.declared.addr.Addr.{Addr};
 ghost use Rattle.mud_base.specs.declared.addr.Mac.{Mac};
-ghost use Rattle.sorted_rows.specs.Changes.{changed, is_plain};
+ghost use Rattle.base_rows.specs.Changes.{changed, is_plain};
 ghost use Rattle.acl_model.specs.Changes.{IsBindingChange};
-ghost use Rattle.mud_tables.specs.declared.thing.Thing.{Thing};
-ghost use Rattle.mud_tables.specs.ItemFields.{IsAddr};
-ghost use Rattle.mud_tables.specs.Things.{mac_of, IsSoundThings};
-ghost use Rattle.mud_tables.specs.ThingCommands.{lease_step};
-ghost use Rattle.mud_tables.specs.ThingChanges.{lease_change};
-ghost use Rattle.mud_tables.specs.Tables.{Tables};
-ghost use Rattle.mud_tables.specs.Bindings.{thing_bindings, bindings_of};
-ghost use Rattle.mud_tables.specs.BindingChanges.{gone_of, come_of};
+ghost use Rattle.table_model.specs.declared.thing.Thing.{Thing};
+ghost use Rattle.table_model.specs.ItemFields.{IsAddr};
+ghost use Rattle.table_model.specs.Things.{mac_of, IsSoundThings};
+ghost use Rattle.table_model.specs.ThingCommands.{lease_step};
+ghost use Rattle.table_model.specs.ThingChanges.{lease_change};
+ghost use Rattle.table_model.specs.Tables.{Tables};
+ghost use Rattle.table_model.specs.Bindings.{thing_bindings, bindings_of};
+ghost use Rattle.table_model.specs.BindingChanges.{gone_of, come_of};
 
 /// A lease changes at most two rows: that of the Thing that has the address, and that of the Thing
 /// that gets it.

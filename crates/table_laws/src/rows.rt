@@ -1,13 +1,13 @@
 //! Rows that bind addresses: Things, classes and names.
 ghost use Rattle.std.specs.Prelude.{◌≡◌, ◌++◌, List, map, OnOk};
 ghost use Rattle.acl_model.specs.declared.binding.Binding.{Binding as BindingValue};
-ghost use Rattle.mud_tables.specs.Bindings.{member_key, thing_bindings, class_bindings, name_bindings};
+ghost use Rattle.table_model.specs.Bindings.{member_key, thing_bindings, class_bindings, name_bindings};
 ghost use Rattle.table_laws.specs.Lent.{lent_key, lent_binding};
 
 use crate::lent::{LentBinding, LentKey};
+use base_rows::Sortable;
 use mud_base::{End, Listed, Memory};
-use mud_tables::{Class, ClassRow, NameRow, Thing};
-use sorted_rows::Sortable;
+use table_model::{Class, ClassRow, NameRow, Thing};
 
 /// A row that binds addresses.
 pub trait BindingRow: Sortable {
@@ -21,7 +21,7 @@ pub trait BindingRow: Sortable {
 }
 
 /// What an address of a class is bound to.
-#[tactic(auto, unfolding(crate::specs::Lent::lent_key, mud_tables::specs::Bindings::member_key))]
+#[tactic(auto, unfolding(crate::specs::Lent::lent_key, table_model::specs::Bindings::member_key))]
 fn class_key(class: &Class) -> LentKey<'_>
     ensures { lent_key result ≡ member_key class.now }
 {
@@ -34,7 +34,7 @@ fn class_key(class: &Class) -> LentKey<'_>
 impl BindingRow for Thing {
     ghost bindings = { thing_bindings };
 
-    #[tactic(auto, unfolding(crate::specs::Lent::lent_key, crate::specs::Lent::lent_binding, mud_tables::specs::Bindings::thing_bindings, mud_tables::specs::Bindings::bindings_of_lease))]
+    #[tactic(auto, unfolding(crate::specs::Lent::lent_key, crate::specs::Lent::lent_binding, table_model::specs::Bindings::thing_bindings, table_model::specs::Bindings::bindings_of_lease))]
     fn add_bindings<'a>(&'a self, list: &mut Listed<LentBinding<'a>>) -> Result<(), Memory> {
         let host = LentKey::Host(self.url.host());
         let model = LentKey::Model(&self.url);
@@ -58,7 +58,7 @@ impl BindingRow for Thing {
 impl BindingRow for ClassRow {
     ghost bindings = { class_bindings };
 
-    #[tactic(auto, unfolding(crate::specs::Lent::lent_binding, mud_tables::specs::Bindings::class_bindings, mud_tables::specs::Bindings::class_binding))]
+    #[tactic(auto, unfolding(crate::specs::Lent::lent_binding, table_model::specs::Bindings::class_bindings, table_model::specs::Bindings::class_binding))]
     fn add_bindings<'a>(&'a self, list: &mut Listed<LentBinding<'a>>) -> Result<(), Memory> {
         let key = class_key(&self.class);
         for addr in self.addrs.as_slice() {
@@ -75,7 +75,7 @@ impl BindingRow for ClassRow {
 impl BindingRow for NameRow {
     ghost bindings = { name_bindings };
 
-    #[tactic(auto, unfolding(crate::specs::Lent::lent_key, crate::specs::Lent::lent_binding, mud_tables::specs::Bindings::name_bindings, mud_tables::specs::Bindings::name_binding))]
+    #[tactic(auto, unfolding(crate::specs::Lent::lent_key, crate::specs::Lent::lent_binding, table_model::specs::Bindings::name_bindings, table_model::specs::Bindings::name_binding))]
     fn add_bindings<'a>(&'a self, list: &mut Listed<LentBinding<'a>>) -> Result<(), Memory> {
         let key = LentKey::Name(self.name.octets());
         for row in self.addrs.as_slice() {

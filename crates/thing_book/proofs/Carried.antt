@@ -2,9 +2,9 @@
 use Rattle.std.proofs.Common.{◌≡◌, Result, Ok, Err, Option, Some, subst}
 use Rattle.std.specs.Prelude.{IfOk}
 use Rattle.std.proofs.lemmas.Result.{IfOk-at_ok}
-use Rattle.sorted_rows.specs.Changes.{RowChange}
-use Rattle.mud_tables.specs.declared.thing.Thing.{Thing}
-use Rattle.mud_tables.specs.ThingCommands.{ThingStep}
+use Rattle.base_rows.specs.Changes.{RowChange}
+use Rattle.table_model.specs.declared.thing.Thing.{Thing}
+use Rattle.table_model.specs.ThingCommands.{ThingStep}
 use Rattle.thing_book.specs.declared.plan.Plan.{Plan}
 use Rattle.thing_book.specs.RowChanges.{IsSaid}
 

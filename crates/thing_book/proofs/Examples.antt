@@ -1,7 +1,7 @@
 -- The rows that the commands change, case by case.
 use Rattle.std.proofs.Common.{◌≡◌, [], ◌∷◌, Some, refl, true}
-use Rattle.mud_tables.specs.ThingChanges.{puts_in}
-use Rattle.mud_tables.proofs.Literals.{things_compute, mac_1, bulb_url, next_url, switch_url, bulb, bare_bulb, bare_switch}
+use Rattle.table_model.specs.ThingChanges.{puts_in}
+use Rattle.table_model.proofs.Literals.{things_compute, mac_1, bulb_url, next_url, switch_url, bulb, bare_bulb, bare_switch}
 use Rattle.thing_book.specs.RowChanges.{url_cases_change, url_change, waiting_for, moved_to, move_cases_change, move_change, hold_cases_change, hold_change, release_cases_change, release_change}
 
 -- a new Thing is put in

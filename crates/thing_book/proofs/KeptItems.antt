@@ -5,14 +5,14 @@ use Rattle.std.specs.List.{AllByRecursion}
 use Rattle.std.specs.Option.{option_map}
 use Rattle.std.proofs.lemmas.Option.{same_Some, none-some}
 use Rattle.std.proofs.lemmas.List.Elements.{All-from_recursion}
-use Rattle.sorted_rows.specs.Sortable.{row_at, SortKeysAscend}
-use Rattle.sorted_rows.specs.Changes.{RowChange, IsNeededChange, changed, with_found, is_plain}
+use Rattle.base_rows.specs.Sortable.{row_at, SortKeysAscend}
+use Rattle.base_rows.specs.Changes.{RowChange, IsNeededChange, changed, with_found, is_plain}
 use Rattle.mud_world.specs.declared.item.Item.{Item}
 use Rattle.mud_world.specs.declared.item.Put.{Put}
 use Rattle.mud_world.specs.declared.item.Put.TheVariants.{Set, Gone}
 use Rattle.mud_world.specs.Items.{sort_key_of, put_one, IsDifference, AreItemsOf, set_put, gone_put, puts_of}
 use Rattle.mud_world.proofs.ItemLaws.{same_put, puts_kept, puts_apart, row_at-items, ordered-items}
-use Rattle.mud_tables.proofs.RowSets.{all_at}
+use Rattle.table_model.proofs.RowSets.{all_at}
 
 module _ {R : Type 0} (sort_key : R → List ℕ) (kind : ℕ) (item : R → Item) (of : AreItemsOf sort_key kind item) (Kept : R → Type 0) (one : (x y : R) → Kept x → Kept y → item x ≡ item y → x ≡ y) where
   abbrev IsNeeded : List Item → Put → Type 0

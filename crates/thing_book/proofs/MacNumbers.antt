@@ -7,8 +7,8 @@ use Rattle.std.specs.declared.cmp.Ordering.TheVariants.{Less, Equal, Greater}
 use Rattle.std.specs.Cmp.{nat_cmp_is}
 use Rattle.std.proofs.lemmas.Cmp.{ranked}
 use Rattle.std.proofs.lemmas.Nat.{mul-add-lt}
-use Rattle.sorted_rows.specs.Sortable.{sort_key_cmp}
-use Rattle.sorted_rows.proofs.Orders.{then_equal}
+use Rattle.base_rows.specs.Sortable.{sort_key_cmp}
+use Rattle.base_rows.proofs.Orders.{then_equal}
 
 same_first : (h a b : ℕ) (o : Ordering) → o ≡ nat_cmp a b → nat_cmp (h + a) (h + b) ≡ o
 same_first h a b Less is = let lt : a < b = ranked a b Less is in sym (nat_cmp_is (h + a) (h + b) Less (omega (arith, lt)))

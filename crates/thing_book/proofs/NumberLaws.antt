@@ -15,15 +15,15 @@ use Rattle.std.proofs.Math.ListN.{set, replicate}
 use Rattle.std.proofs.lemmas.Bool.{cases_eq, cases_lt}
 use Rattle.std.proofs.lemmas.List.{length-map, length-set, length-replicate, length-take-le, get_or-take, get_or-set_same, get_or-set_other, take_all}
 use Rattle.std.proofs.lemmas.Option.{slice_get_past, slice_get_read}
-use Rattle.sorted_rows.specs.Sortable.{sort_key_cmp, same_sort_key, SortKeysAbove, SortKeysAscend, row_at}
-use Rattle.sorted_rows.specs.Search.{sort_key_answer}
-use Rattle.sorted_rows.proofs.Lists.{all_push}
-use Rattle.sorted_rows.proofs.SortableLaws.{row_at_found, same_sort_key_exact}
-use Rattle.sorted_rows.proofs.ProbeLaws.{index_in_met}
+use Rattle.base_rows.specs.Sortable.{sort_key_cmp, same_sort_key, SortKeysAbove, SortKeysAscend, row_at}
+use Rattle.base_rows.specs.Search.{sort_key_answer}
+use Rattle.base_rows.proofs.Lists.{all_push}
+use Rattle.base_rows.proofs.SortableLaws.{row_at_found, same_sort_key_exact}
+use Rattle.base_rows.proofs.ProbeLaws.{index_in_met}
 use Rattle.mud_base.specs.declared.addr.Mac.{Mac}
-use Rattle.mud_tables.specs.declared.thing.Thing.{Thing}
-use Rattle.mud_tables.specs.Things.{mac_of}
-use Rattle.mud_tables.proofs.RowSets.{take_one, map_push}
+use Rattle.table_model.specs.declared.thing.Thing.{Thing}
+use Rattle.table_model.specs.Things.{mac_of}
+use Rattle.table_model.proofs.RowSets.{take_one, map_push}
 use Rattle.thing_book.specs.Numbers.{mac_number, thing_number, IsMac, HasMac, AreNumbersOf, AreRising, AreSpotted}
 use Rattle.thing_book.proofs.MacNumbers.{mac_cmp}
 

@@ -8,27 +8,27 @@ use Rattle.std.proofs.lemmas.Bool.{false_from_ne_true}
 use Rattle.mud_base.specs.declared.addr.Addr.{Addr}
 use Rattle.mud_base.specs.declared.addr.Mac.{Mac}
 use Rattle.mud_url.specs.Url.{is_canonical}
-use Rattle.sorted_rows.specs.Sortable.{row_at, set_rows, RowsAndRoom}
-use Rattle.sorted_rows.specs.Changes.{RowChange, changed, sort_keys_of, rows_at, with_found, without_gone}
-use Rattle.sorted_rows.proofs.ChangeLaws.{new_rows}
+use Rattle.base_rows.specs.Sortable.{row_at, set_rows, RowsAndRoom}
+use Rattle.base_rows.specs.Changes.{RowChange, changed, sort_keys_of, rows_at, with_found, without_gone}
+use Rattle.base_rows.proofs.ChangeLaws.{new_rows}
 use Rattle.mud_world.specs.declared.item.Put.{Put}
 use Rattle.mud_world.specs.Items.{sort_key_of, sort_key_of_put, item_after, set_put, gone_put, puts_of, IsDifference, IsOrdered}
 use Rattle.mud_world.proofs.ItemLaws.{puts_of_kind, puts_length, ordered-items, said, put_same}
 use Rattle.acl_model.specs.Changes.{IsBindingChange}
-use Rattle.mud_tables.specs.declared.thing.Thing.{Thing}
-use Rattle.mud_tables.specs.Things.{mac_of, IsKeptThing, IsSoundThings}
-use Rattle.mud_tables.specs.ThingItems.{thing_item, thing_items, thing_in}
-use Rattle.mud_tables.specs.ThingCommands.{ThingsAfter, TellsChange, ThingStep}
-use Rattle.mud_tables.specs.Tables.{Tables}
-use Rattle.mud_tables.specs.Bindings.{thing_bindings, bindings_of}
-use Rattle.mud_tables.specs.BindingChanges.{gone_of, come_of}
-use Rattle.mud_tables.specs.ThingCommands.{url_step, move_step, remove_step, hold_step, release_step, lease_step, end_step}
-use Rattle.mud_tables.specs.ThingChanges.{lease_change, end_change}
-use Rattle.mud_tables.specs.ItemFields.{IsAddr}
-use Rattle.mud_tables.proofs.SoundThings.{OfAfter, sound-url_step, sound-move_step, sound-remove_step, sound-hold_step, sound-release_step, sound-lease_step, sound-end_step}
-use Rattle.mud_tables.proofs.ToldThings.{told-url_step, told-move_step, told-remove_step, told-hold_step, told-release_step, told-lease_step, told-end_step}
-use Rattle.mud_tables.proofs.RowSets.{all_at}
-use Rattle.mud_tables.proofs.ItemLaws.{thing_back, are_things}
+use Rattle.table_model.specs.declared.thing.Thing.{Thing}
+use Rattle.table_model.specs.Things.{mac_of, IsKeptThing, IsSoundThings}
+use Rattle.table_model.specs.ThingItems.{thing_item, thing_items, thing_in}
+use Rattle.table_model.specs.ThingCommands.{ThingsAfter, TellsChange, ThingStep}
+use Rattle.table_model.specs.Tables.{Tables}
+use Rattle.table_model.specs.Bindings.{thing_bindings, bindings_of}
+use Rattle.table_model.specs.BindingChanges.{gone_of, come_of}
+use Rattle.table_model.specs.ThingCommands.{url_step, move_step, remove_step, hold_step, release_step, lease_step, end_step}
+use Rattle.table_model.specs.ThingChanges.{lease_change, end_change}
+use Rattle.table_model.specs.ItemFields.{IsAddr}
+use Rattle.table_model.proofs.SoundThings.{OfAfter, sound-url_step, sound-move_step, sound-remove_step, sound-hold_step, sound-release_step, sound-lease_step, sound-end_step}
+use Rattle.table_model.proofs.ToldThings.{told-url_step, told-move_step, told-remove_step, told-hold_step, told-release_step, told-lease_step, told-end_step}
+use Rattle.table_model.proofs.RowSets.{all_at}
+use Rattle.table_model.proofs.ItemLaws.{thing_back, are_things}
 use Rattle.table_laws.proofs.BookChanges.{thing_book_change}
 use Rattle.thing_book.specs.declared.plan.Plan.{Plan}
 use Rattle.thing_book.specs.Planned.{Things, PlannedThings, IsPlanned, IsReady}

@@ -9,11 +9,11 @@ use Rattle.mud_base.specs.declared.addr.Addr.{Addr}
 use Rattle.mud_base.specs.declared.addr.Mac.{Mac}
 use Rattle.mud_url.specs.Url.{is_canonical}
 use Rattle.item_codec.specs.Records.{each_in, string_in, version_to_in, end_in, optional_in, elements_in, ◌>>=◌}
-use Rattle.mud_tables.specs.Expiries.{Expiries}
-use Rattle.mud_tables.specs.ItemFields.{expiring_in}
-use Rattle.mud_tables.specs.declared.thing.Thing.{Thing}
-use Rattle.mud_tables.specs.Things.{may_wait, are_leases, is_sound_thing}
-use Rattle.mud_tables.specs.ThingItems.{hold_in, if_sound_thing, thing_of}
+use Rattle.table_model.specs.Expiries.{Expiries}
+use Rattle.table_model.specs.ItemFields.{expiring_in}
+use Rattle.table_model.specs.declared.thing.Thing.{Thing}
+use Rattle.table_model.specs.Things.{may_wait, are_leases, is_sound_thing}
+use Rattle.table_model.specs.ThingItems.{hold_in, if_sound_thing, thing_of}
 use Rattle.thing_book.specs.Said.{pending_said}
 
 -- ---- Rows that are read one behind the other

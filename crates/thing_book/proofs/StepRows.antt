@@ -8,24 +8,24 @@ use Rattle.std.proofs.lemmas.List.{length-map, length-append}
 use Rattle.mud_base.specs.declared.addr.Addr.{Addr}
 use Rattle.mud_base.specs.declared.addr.Mac.{Mac}
 use Rattle.item_codec.specs.declared.word.Word.TheVariants.{New, Same, Pending, Moved, Held, Released, Stranger, Renewed, Ended}
-use Rattle.sorted_rows.specs.Sortable.{row_at, SortKeysAbove, SortKeysAscend, same_sort_key}
-use Rattle.sorted_rows.specs.Changes.{RowChange, IsNeededChange, changed, is_plain, sort_keys_of}
-use Rattle.sorted_rows.proofs.SortableLaws.{row_at_above, same_sort_key_itself}
-use Rattle.sorted_rows.proofs.RowLaws.{set_row_there}
-use Rattle.mud_tables.specs.declared.thing.Thing.{Thing}
-use Rattle.mud_tables.specs.declared.thing_fault.ThingFault.TheVariants.{ThingsFull, NoThing, NoPending, LeasesFull, NoLease}
-use Rattle.mud_tables.specs.Limits.{most_things, most_leases}
-use Rattle.mud_tables.specs.Expiries.{expiry_of, with_expiry, live_rows, live_count}
-use Rattle.mud_tables.specs.Things.{mac_of, thing_at, set_thing, without_thing, holds, with_leases, released, without_lease, new_thing, IsAlone, IsSoundThings}
-use Rattle.mud_tables.specs.ThingCommands.{TellsChange, ThingStep, done, leased_until, left, left_until, is_pending, url_cases, url_step, move_cases, move_step, remove_cases, remove_step, with_hold, hold_cases, hold_step, release_cases, release_step, expiry_after, kept_lease, new_lease, known_lease, stranger_lease, lease_cases, lease_step, end_step}
-use Rattle.mud_tables.specs.ThingChanges.{puts_in, released_holders, leased, new_lease_change, end_change, kept_lease_change, known_lease_change, lease_cases_change, lease_change}
-use Rattle.sorted_rows.proofs.ListTests.{or_first, or_second}
-use Rattle.sorted_rows.proofs.Lists.{all-map, all_push}
-use Rattle.sorted_rows.proofs.RowSets.{Passing, found_passing, at_later}
-use Rattle.mud_tables.proofs.AloneLaws.{without_address_none}
-use Rattle.mud_tables.proofs.LeaseLaws.{expiry_of-with_expiry}
-use Rattle.mud_tables.proofs.SoundThings.{at_its_sort_key}
-use Rattle.mud_tables.proofs.ToldThings.{told-url_step, told-move_step, told-hold_step, told-release_step, told-lease_step}
+use Rattle.base_rows.specs.Sortable.{row_at, SortKeysAbove, SortKeysAscend, same_sort_key}
+use Rattle.base_rows.specs.Changes.{RowChange, IsNeededChange, changed, is_plain, sort_keys_of}
+use Rattle.base_rows.proofs.SortableLaws.{row_at_above, same_sort_key_itself}
+use Rattle.base_rows.proofs.RowLaws.{set_row_there}
+use Rattle.table_model.specs.declared.thing.Thing.{Thing}
+use Rattle.table_model.specs.declared.thing_fault.ThingFault.TheVariants.{ThingsFull, NoThing, NoPending, LeasesFull, NoLease}
+use Rattle.table_model.specs.Limits.{most_things, most_leases}
+use Rattle.table_model.specs.Expiries.{expiry_of, with_expiry, live_rows, live_count}
+use Rattle.table_model.specs.Things.{mac_of, thing_at, set_thing, without_thing, holds, with_leases, released, without_lease, new_thing, IsAlone, IsSoundThings}
+use Rattle.table_model.specs.ThingCommands.{TellsChange, ThingStep, done, leased_until, left, left_until, is_pending, url_cases, url_step, move_cases, move_step, remove_cases, remove_step, with_hold, hold_cases, hold_step, release_cases, release_step, expiry_after, kept_lease, new_lease, known_lease, stranger_lease, lease_cases, lease_step, end_step}
+use Rattle.table_model.specs.ThingChanges.{puts_in, released_holders, leased, new_lease_change, end_change, kept_lease_change, known_lease_change, lease_cases_change, lease_change}
+use Rattle.base_rows.proofs.ListTests.{or_first, or_second}
+use Rattle.base_rows.proofs.Lists.{all-map, all_push}
+use Rattle.base_rows.proofs.RowSets.{Passing, found_passing, at_later}
+use Rattle.table_model.proofs.AloneLaws.{without_address_none}
+use Rattle.table_model.proofs.LeaseLaws.{expiry_of-with_expiry}
+use Rattle.table_model.proofs.SoundThings.{at_its_sort_key}
+use Rattle.table_model.proofs.ToldThings.{told-url_step, told-move_step, told-hold_step, told-release_step, told-lease_step}
 use Rattle.table_laws.proofs.LeaseChanges.{end_changed, end_unchanged, end_plain, new_lease_changed, new_lease_plain}
 use Rattle.thing_book.specs.RowChanges.{url_cases_change, url_change, waiting_for, moved_to, move_cases_change, move_change, remove_change, hold_cases_change, hold_change, release_cases_change, release_change}
 

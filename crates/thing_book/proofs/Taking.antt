@@ -5,11 +5,11 @@ use Rattle.std.proofs.lemmas.Bool.{false≢true}
 use Rattle.mud_world.specs.declared.item.Item.{Item}
 use Rattle.item_codec.specs.Spelling.{IsOctets}
 use Rattle.item_codec.specs.Records.{◌>>=◌}
-use Rattle.mud_tables.specs.declared.thing.Thing.{Thing}
-use Rattle.mud_tables.specs.Things.{IsKeptThing, IsSoundThings}
-use Rattle.mud_tables.specs.ThingItems.{thing_in, may_follow, with_thing_item}
-use Rattle.mud_tables.proofs.ItemLaws.{thing_alone}
-use Rattle.mud_tables.proofs.ReadThings.{sound-push}
+use Rattle.table_model.specs.declared.thing.Thing.{Thing}
+use Rattle.table_model.specs.Things.{IsKeptThing, IsSoundThings}
+use Rattle.table_model.specs.ThingItems.{thing_in, may_follow, with_thing_item}
+use Rattle.table_model.proofs.ItemLaws.{thing_alone}
+use Rattle.table_model.proofs.ReadThings.{sound-push}
 
 -- a Thing that is read can be kept
 pub kept_read : {E : Type 0} (item : Item) (result : Result (Option Thing) E) → IsOctets item.body → IfOk result (λ thing. thing ≡ thing_in item) → IfOk result (λ thing. IfSome thing IsKeptThing)

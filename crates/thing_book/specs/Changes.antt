@@ -2,11 +2,11 @@
 -- rows.
 use Rattle.std.specs.Prelude.{◌<◌, ◌^◌, List, length}
 use Rattle.mud_world.specs.Items.{puts_of}
-use Rattle.mud_tables.specs.declared.thing.Thing.{Thing}
-use Rattle.mud_tables.specs.Things.{mac_of}
-use Rattle.mud_tables.specs.ThingItems.{thing_item}
-use Rattle.mud_tables.specs.Bindings.{thing_bindings}
-use Rattle.mud_tables.specs.BindingChanges.{gone_of, come_of}
+use Rattle.table_model.specs.declared.thing.Thing.{Thing}
+use Rattle.table_model.specs.Things.{mac_of}
+use Rattle.table_model.specs.ThingItems.{thing_item}
+use Rattle.table_model.specs.Bindings.{thing_bindings}
+use Rattle.table_model.specs.BindingChanges.{gone_of, come_of}
 use Rattle.thing_book.specs.declared.plan.Plan.{Plan}
 use Rattle.thing_book.specs.Planned.{PlannedThings}
 

@@ -4,8 +4,8 @@ use Rattle.std.specs.List.{AllByRecursion}
 use Rattle.std.specs.Int.{w64, from_be_bytes}
 use Rattle.item_codec.specs.Spelling.{IsOctets}
 use Rattle.mud_base.specs.declared.addr.Mac.{Mac}
-use Rattle.mud_tables.specs.declared.thing.Thing.{Thing}
-use Rattle.mud_tables.specs.Things.{IsSoundThings}
+use Rattle.table_model.specs.declared.thing.Thing.{Thing}
+use Rattle.table_model.specs.Things.{IsSoundThings}
 
 -- the number that the octets of a hardware address spell, most significant first
 abbrev pub mac_number : Mac → ℕ

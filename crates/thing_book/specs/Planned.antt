@@ -1,19 +1,19 @@
 -- The Things of the book, and what a planned change says and does.
 use Rattle.std.specs.Prelude.{◌≡◌, ◌≢◌, ◌↔◌, ℕ, ◌≤◌, false, List, [], length, Option, Err, IsOkAnd}
-use Rattle.sorted_rows.specs.Changes.{RowChange, changed}
+use Rattle.base_rows.specs.Changes.{RowChange, changed}
 use Rattle.mud_world.specs.declared.item.Put.{Put}
 use Rattle.mud_world.specs.Items.{IsDifference, ArePutsOf}
 use Rattle.acl_model.specs.declared.binding.Binding.{Binding}
 use Rattle.acl_model.specs.Changes.{IsBindingChange}
 use Rattle.item_codec.specs.declared.word.Word as outcome
-use Rattle.mud_tables.specs.declared.thing.Thing.{Thing}
-use Rattle.mud_tables.specs.declared.thing_fault.ThingFault.{ThingFault}
-use Rattle.mud_tables.specs.declared.thing_fault.ThingFault.TheVariants.{Memory}
-use Rattle.mud_tables.specs.Things.{mac_of, IsSoundThings}
-use Rattle.mud_tables.specs.ThingCommands.{ThingsAfter, ThingStep}
-use Rattle.mud_tables.specs.ThingItems.{thing_items}
-use Rattle.mud_tables.specs.Tables.{Tables}
-use Rattle.mud_tables.specs.Bindings.{bindings_of}
+use Rattle.table_model.specs.declared.thing.Thing.{Thing}
+use Rattle.table_model.specs.declared.thing_fault.ThingFault.{ThingFault}
+use Rattle.table_model.specs.declared.thing_fault.ThingFault.TheVariants.{Memory}
+use Rattle.table_model.specs.Things.{mac_of, IsSoundThings}
+use Rattle.table_model.specs.ThingCommands.{ThingsAfter, ThingStep}
+use Rattle.table_model.specs.ThingItems.{thing_items}
+use Rattle.table_model.specs.Tables.{Tables}
+use Rattle.table_model.specs.Bindings.{bindings_of}
 
 -- the Things, and how many more there is room for without memory
 pub record Things : Type 0 where

@@ -1,11 +1,11 @@
 -- The rows that each command on a Thing changes, where it isn't refused.
 use Rattle.std.specs.Prelude.{◌≡◌, ℕ, true, false, List, [], ◌∷◌, bytes_eq, Option, Some, None, IsOkAnd, if◌then◌else◌}
 use Rattle.mud_base.specs.declared.addr.Mac.{Mac}
-use Rattle.sorted_rows.specs.Changes.{RowChange}
-use Rattle.mud_tables.specs.declared.thing.Thing.{Thing}
-use Rattle.mud_tables.specs.Things.{thing_at, new_thing}
-use Rattle.mud_tables.specs.ThingCommands.{ThingsAfter, ThingStep, is_pending, with_hold}
-use Rattle.mud_tables.specs.ThingChanges.{puts_in}
+use Rattle.base_rows.specs.Changes.{RowChange}
+use Rattle.table_model.specs.declared.thing.Thing.{Thing}
+use Rattle.table_model.specs.Things.{thing_at, new_thing}
+use Rattle.table_model.specs.ThingCommands.{ThingsAfter, ThingStep, is_pending, with_hold}
+use Rattle.table_model.specs.ThingChanges.{puts_in}
 use Rattle.thing_book.specs.declared.plan.Plan.{Plan}
 
 -- the Thing with a URL that waits

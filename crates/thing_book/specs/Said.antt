@@ -2,7 +2,7 @@
 use Rattle.std.specs.Prelude.{ℕ, List, Option, Some, None, if◌then◌else◌}
 use Rattle.std.specs.Option.{option_map}
 use Rattle.mud_url.specs.Url.{is_canonical}
-use Rattle.mud_tables.specs.declared.thing.Thing.{Thing}
+use Rattle.table_model.specs.declared.thing.Thing.{Thing}
 use Rattle.thing_book.specs.declared.reading.Said.{Said}
 
 -- what is said under this key

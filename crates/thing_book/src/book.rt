@@ -1,9 +1,9 @@
 //! The book of Things.
 ghost use Rattle.std.specs.Prelude.{◌≡◌, ◌≤◌, ◌<◌, [], ◌∷◌, ◌++◌, length, false, Some, None, IsTrue, IfOk, IfErr, OnErr, option_copied, slice_get, if◌then◌else◌};
-ghost use Rattle.sorted_rows.specs.Changes.{changed};
-ghost use Rattle.mud_tables.specs.Things.{mac_of, thing_at, IsSoundThings};
-ghost use Rattle.mud_tables.specs.ThingCommands.{url_step, move_step, remove_step, hold_step, release_step, lease_step, end_step};
-ghost use Rattle.mud_tables.specs.ThingItems.{thing_items, may_follow, with_thing_item};
+ghost use Rattle.base_rows.specs.Changes.{changed};
+ghost use Rattle.table_model.specs.Things.{mac_of, thing_at, IsSoundThings};
+ghost use Rattle.table_model.specs.ThingCommands.{url_step, move_step, remove_step, hold_step, release_step, lease_step, end_step};
+ghost use Rattle.table_model.specs.ThingItems.{thing_items, may_follow, with_thing_item};
 ghost use Rattle.thing_book.specs.Numbers.{AreNumbersOf};
 ghost use Rattle.thing_book.specs.Planned.{IsPlanOf, IsReady, IsRefusal};
 
@@ -16,14 +16,14 @@ use crate::plan::or_memory;
 use crate::ranges::{addr_fits, mac_has_six_octets, moment_is_kept};
 use crate::reading::kept_thing;
 use crate::urls::{announce, move_to, remove};
+use base_rows::SortedRows;
 use mud_base::{Addr, Mac, Memory, Moment};
-use mud_tables::limits::MOST_THINGS;
-use mud_tables::{Thing, ThingFault};
 use mud_url::MudUrl;
 use mud_world::Item;
-use sorted_rows::SortedRows;
 use std::alloc::Global;
 use std::marker::Model;
+use table_model::limits::MOST_THINGS;
+use table_model::{Thing, ThingFault};
 
 /// The Things that the manager keeps, at most 512, in the order of their hardware addresses, each
 /// with at most four leases; an address is in the leases of one Thing. Contracts see the book as the
@@ -248,7 +248,7 @@ fn follow(
 }
 
 /// Puts a Thing behind all others, where it may follow them.
-#[tactic(auto, unfolding(mud_tables::specs::ThingItems::may_follow))]
+#[tactic(auto, unfolding(table_model::specs::ThingItems::may_follow))]
 fn put_behind(things: &mut SortedRows<Thing>, thing: Thing) -> Result<bool, Memory>
     ensures may { IfOk result (λ taken. taken ≡ may_follow things.old.rows thing) }
     ensures few { IfOk result (λ taken. IsTrue taken → length things.old.rows < 512) }

@@ -6,15 +6,15 @@ ghost use Rattle.thing_book.specs.Changes.{HasFewLeases, change_of};
 use crate::items::puts_of;
 use crate::plan::Plan;
 use acl_model::Binding;
+use base_rows::{Change, SortedRows};
 use item_codec::Word;
 use mud_base::{End, Listed, Mac, Memory};
-use mud_tables::Thing;
 use mud_world::Put;
-use sorted_rows::{Change, SortedRows};
 use std::alloc::Global;
 use std::marker::Model;
 use std::mem;
 use table_laws::changed_bindings;
+use table_model::Thing;
 
 /// A planned change of the Things: what its command answers, and what it will do. Contracts see it
 /// as the record of these.

@@ -2,8 +2,8 @@
 ghost use Rattle.std.specs.Prelude.{◌≡◌, IfOk};
 
 use mud_base::{Listed, Memory};
-use mud_tables::Thing;
 use std::alloc::Global;
+use table_model::Thing;
 
 /// An equal Thing.
 pub(crate) fn copy_of(alloc: Global, thing: &Thing) -> Result<Thing, Memory>

@@ -1,20 +1,20 @@
 //! The operator holds a Thing, or releases it.
 ghost use Rattle.std.specs.Prelude.{◌≡◌, List, Some, IfOk, IfErr};
-ghost use Rattle.mud_tables.specs.declared.thing.Thing.{Thing as ThingValue};
-ghost use Rattle.mud_tables.specs.ThingCommands.{hold_cases, hold_step, release_cases, release_step};
+ghost use Rattle.table_model.specs.declared.thing.Thing.{Thing as ThingValue};
+ghost use Rattle.table_model.specs.ThingCommands.{hold_cases, hold_step, release_cases, release_step};
 ghost use Rattle.thing_book.specs.Planned.{IsRefusal};
 ghost use Rattle.thing_book.specs.RowChanges.{IsSaid, hold_cases_change, hold_change, release_cases_change, release_change};
 
 use crate::copies::copy_of;
 use crate::plan::{Plan, or_memory, thing_of};
+use base_rows::SortedRows;
 use item_codec::Word;
 use mud_base::{Mac, Memory};
-use mud_tables::{Thing, ThingFault};
-use sorted_rows::SortedRows;
 use std::alloc::Global;
+use table_model::{Thing, ThingFault};
 
 /// The Thing is held from now on.
-#[tactic(auto, unfolding(mud_tables::specs::ThingCommands::hold_step, mud_tables::specs::ThingCommands::hold_cases, crate::specs::RowChanges::hold_change))]
+#[tactic(auto, unfolding(table_model::specs::ThingCommands::hold_step, table_model::specs::ThingCommands::hold_cases, crate::specs::RowChanges::hold_change))]
 pub(crate) fn hold(alloc: Global, things: &SortedRows<Thing>, mac: Mac) -> Result<Plan, ThingFault>
     ensures ok { IfOk result (IsSaid (hold_step mac things.now.rows)
         (hold_change mac things.now.rows)) }
@@ -26,7 +26,7 @@ pub(crate) fn hold(alloc: Global, things: &SortedRows<Thing>, mac: Mac) -> Resul
     }
 }
 
-#[tactic(auto, unfolding(mud_tables::specs::ThingCommands::hold_cases, mud_tables::specs::ThingCommands::with_hold, crate::specs::RowChanges::hold_cases_change))]
+#[tactic(auto, unfolding(table_model::specs::ThingCommands::hold_cases, table_model::specs::ThingCommands::with_hold, crate::specs::RowChanges::hold_cases_change))]
 fn hold_thing(alloc: Global, thing: &Thing) -> Result<Plan, Memory>
     ensures { (things : List ThingValue) → IfOk result (IsSaid (hold_cases things (Some thing.now))
         (hold_cases_change (Some thing.now))) }
@@ -40,7 +40,7 @@ fn hold_thing(alloc: Global, thing: &Thing) -> Result<Plan, Memory>
 }
 
 /// The Thing isn't held any more.
-#[tactic(auto, unfolding(mud_tables::specs::ThingCommands::release_step, mud_tables::specs::ThingCommands::release_cases, crate::specs::RowChanges::release_change))]
+#[tactic(auto, unfolding(table_model::specs::ThingCommands::release_step, table_model::specs::ThingCommands::release_cases, crate::specs::RowChanges::release_change))]
 pub(crate) fn release(
     alloc: Global,
     things: &SortedRows<Thing>,
@@ -56,7 +56,7 @@ pub(crate) fn release(
     }
 }
 
-#[tactic(auto, unfolding(mud_tables::specs::ThingCommands::release_cases, mud_tables::specs::ThingCommands::with_hold, crate::specs::RowChanges::release_cases_change))]
+#[tactic(auto, unfolding(table_model::specs::ThingCommands::release_cases, table_model::specs::ThingCommands::with_hold, crate::specs::RowChanges::release_cases_change))]
 fn release_thing(alloc: Global, thing: &Thing) -> Result<Plan, Memory>
     ensures { (things : List ThingValue) → IfOk result
         (IsSaid (release_cases things (Some thing.now))

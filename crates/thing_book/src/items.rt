@@ -4,21 +4,21 @@ ghost use Rattle.std.specs.List.{AllByRecursion};
 ghost use Rattle.std.specs.Option.{option_map};
 ghost use Rattle.item_codec.specs.Spelling.{string};
 ghost use Rattle.item_codec.specs.Records.{optional, elements};
-ghost use Rattle.sorted_rows.specs.Changes.{with_found};
+ghost use Rattle.base_rows.specs.Changes.{with_found};
 ghost use Rattle.mud_world.specs.Items.{puts_of, set_put, gone_put};
-ghost use Rattle.mud_tables.specs.ItemFields.{expiring};
-ghost use Rattle.mud_tables.specs.ThingItems.{thing_fields, hold_octet, thing_body};
-ghost use Rattle.mud_tables.specs.ThingItems as spec;
+ghost use Rattle.table_model.specs.ItemFields.{expiring};
+ghost use Rattle.table_model.specs.ThingItems.{thing_fields, hold_octet, thing_body};
+ghost use Rattle.table_model.specs.ThingItems as spec;
 ghost use Rattle.thing_book.specs.Changes.{HasFewLeases};
 
+use base_rows::Change;
 use item_codec::FieldWriter;
 use mud_base::{Addr, Bytes, End, Listed, Mac, Memory};
-use mud_tables::Thing;
-use mud_tables::fields::write_expiring;
 use mud_url::MudUrl;
 use mud_world::{Item, Put};
-use sorted_rows::Change;
 use std::alloc::Global;
+use table_model::Thing;
+use table_model::fields::write_expiring;
 
 /// The kind of a Thing's item.
 pub const KIND: u8 = 1;
@@ -54,7 +54,7 @@ fn gone_puts(alloc: Global, gone: Option<&Mac>) -> Result<Listed<Put>, Memory>
 }
 
 /// The item of a Thing.
-#[tactic(auto, unfolding(mud_tables::specs::ThingItems::thing_item, mud_tables::specs::ThingItems::thing_body, item_codec::specs::Spelling::version_of))]
+#[tactic(auto, unfolding(table_model::specs::ThingItems::thing_item, table_model::specs::ThingItems::thing_body, item_codec::specs::Spelling::version_of))]
 pub(crate) fn item_of(alloc: Global, thing: &Thing) -> Result<Item, Memory>
     requires { HasFewLeases thing.now }
     ensures { IfOk result (λ item. item ≡ spec.thing_item thing.now) }
@@ -72,7 +72,7 @@ pub(crate) fn item_of(alloc: Global, thing: &Thing) -> Result<Item, Memory>
 }
 
 /// Writes what both versions of the body say.
-#[tactic(auto, unfolding(mud_tables::specs::ThingItems::thing_fields))]
+#[tactic(auto, unfolding(table_model::specs::ThingItems::thing_fields))]
 fn write_fields(writer: &mut FieldWriter, thing: &Thing) -> Result<(), Memory>
     requires { HasFewLeases thing.now }
     ensures { OnOk result (writer.new ≡ writer.old ++ thing_fields thing.now) }
@@ -124,7 +124,7 @@ fn write_expirings(writer: &mut FieldWriter, leases: &[(Addr, End)]) -> Result<(
 }
 
 /// Writes whether a Thing is held: the octet 1, and else 0.
-#[tactic(auto, unfolding(mud_tables::specs::ThingItems::hold_octet))]
+#[tactic(auto, unfolding(table_model::specs::ThingItems::hold_octet))]
 fn write_hold(writer: &mut FieldWriter, held: bool) -> Result<(), Memory>
     ensures { OnOk result (writer.new ≡ writer.old ++ hold_octet held) }
 {

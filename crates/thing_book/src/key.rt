@@ -3,11 +3,11 @@ ghost use Rattle.std.specs.Prelude.{◌≡◌, ◌∷◌};
 ghost use Rattle.std.specs.Int.{w64, from_be_bytes};
 
 use crate::ranges::{all_are_octets, mac_has_six_octets};
+use base_rows::KeyOf;
 use mud_base::Mac;
-use mud_tables::Thing;
-use sorted_rows::KeyOf;
 use std::cmp::Ordering;
 use std::marker::Model;
+use table_model::Thing;
 
 /// The number that the octets of a hardware address spell, most significant first.
 pub(crate) fn number_of(mac: &Mac) -> u64
@@ -50,11 +50,11 @@ impl ThingKey {
 }
 
 impl KeyOf<Thing> for ThingKey {
-    ghost use Rattle.mud_tables.specs.Things.{mac_of};
+    ghost use Rattle.table_model.specs.Things.{mac_of};
 
     ghost sort_key = { λ mac. mac.0 };
 
-    #[tactic(auto, unfolding(mud_tables::specs::Things::mac_of))]
+    #[tactic(auto, unfolding(table_model::specs::Things::mac_of))]
     fn order_to(&self, thing: &Thing) -> Ordering {
         mac_has_six_octets(self.mac);
         all_are_octets(&self.mac.0);

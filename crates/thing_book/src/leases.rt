@@ -1,25 +1,27 @@
 //! A hardware address has an address for some time, and the operator ends that.
 ghost use Rattle.std.specs.Prelude.{◌≡◌, ◌++◌, ◌∷◌, [], ℕ, List, Some, None, IfOk, IfErr};
 ghost use Rattle.std.specs.List.{list_any};
-ghost use Rattle.mud_tables.specs.declared.thing.Thing.{Thing as ThingValue};
+ghost use Rattle.table_model.specs.declared.thing.Thing.{Thing as ThingValue};
 ghost use Rattle.item_codec.specs.declared.word.Word.TheVariants as word;
-ghost use Rattle.mud_tables.specs.Expiries as spec;
-ghost use Rattle.mud_tables.specs.ThingItems.{is_taken};
-ghost use Rattle.mud_tables.specs.Things.{thing_at, holds, released};
-ghost use Rattle.mud_tables.specs.ThingCommands.{expiry_after, end_step, kept_lease, known_lease, lease_cases, lease_step, new_lease, stranger_lease};
-ghost use Rattle.mud_tables.specs.ThingChanges.{end_change, kept_lease_change, known_lease_change, lease_cases_change, lease_change, leased, new_lease_change, released_holders};
+ghost use Rattle.table_model.specs.Expiries as spec;
+ghost use Rattle.table_model.specs.ThingItems.{is_taken};
+ghost use Rattle.table_model.specs.Things.{thing_at, holds, released};
+ghost use Rattle.table_model.specs.ThingCommands.{expiry_after, end_step, kept_lease, known_lease, lease_cases, lease_step, new_lease, stranger_lease};
+ghost use Rattle.table_model.specs.ThingChanges.{end_change, kept_lease_change, known_lease_change, lease_cases_change, lease_change, leased, new_lease_change, released_holders};
 ghost use Rattle.thing_book.specs.Planned.{IsRefusal};
 ghost use Rattle.thing_book.specs.RowChanges.{IsSaid};
 
 use crate::copies::copy_of;
 use crate::plan::{Plan, or_memory, thing_of};
+use base_rows::SortedRows;
 use item_codec::Word;
 use mud_base::{Addr, End, Listed, Mac, Memory, Moment};
-use mud_tables::expiries::{expiry_of, has_address, live_count, live_rows, with_expiry, without_address};
-use mud_tables::limits::MOST_LEASES;
-use mud_tables::{Thing, ThingFault};
-use sorted_rows::SortedRows;
 use std::alloc::Global;
+use table_model::expiries::{
+    expiry_of, has_address, live_count, live_rows, with_expiry, without_address,
+};
+use table_model::limits::MOST_LEASES;
+use table_model::{Thing, ThingFault};
 
 /// So many seconds are for ever (RFC 2131, 3.3).
 const FOR_EVER: u32 = u32::MAX;
@@ -33,7 +35,7 @@ struct Lease {
 }
 
 /// The expiry of a lease of so many seconds.
-#[tactic(auto, unfolding(mud_tables::specs::ThingCommands::expiry_after))]
+#[tactic(auto, unfolding(table_model::specs::ThingCommands::expiry_after))]
 fn expiry_after(now: Moment, seconds: u32) -> End
     ensures { result ≡ expiry_after now seconds }
 {
@@ -44,7 +46,7 @@ fn expiry_after(now: Moment, seconds: u32) -> End
 }
 
 /// A hardware address has an address for so many seconds from a moment on.
-#[tactic(auto, unfolding(mud_tables::specs::ThingCommands::lease_step, mud_tables::specs::ThingChanges::lease_change))]
+#[tactic(auto, unfolding(table_model::specs::ThingCommands::lease_step, table_model::specs::ThingChanges::lease_change))]
 pub(crate) fn lease_for(
     alloc: Global,
     things: &SortedRows<Thing>,
@@ -63,7 +65,7 @@ pub(crate) fn lease_for(
 }
 
 /// A hardware address has an address until some expiry.
-#[tactic(auto, unfolding(mud_tables::specs::ThingCommands::lease_cases, mud_tables::specs::ThingChanges::lease_cases_change))]
+#[tactic(auto, unfolding(table_model::specs::ThingCommands::lease_cases, table_model::specs::ThingChanges::lease_cases_change))]
 fn lease_to(
     alloc: Global,
     things: &SortedRows<Thing>,
@@ -88,7 +90,7 @@ fn lease_to(
 }
 
 /// No Thing has the hardware address: the address leaves the Thing that has it.
-#[tactic(auto, unfolding(mud_tables::specs::ThingCommands::stranger_lease, mud_tables::specs::ThingChanges::end_change))]
+#[tactic(auto, unfolding(table_model::specs::ThingCommands::stranger_lease, table_model::specs::ThingChanges::end_change))]
 fn lease_stranger(alloc: Global, things: &[Thing], addr: Addr) -> Result<Plan, Memory>
     ensures { IfOk result (IsSaid (stranger_lease addr things.now) (end_change addr things.now)) }
 {
@@ -97,7 +99,7 @@ fn lease_stranger(alloc: Global, things: &[Thing], addr: Addr) -> Result<Plan, M
 }
 
 /// The lease of a Thing.
-#[tactic(auto, unfolding(mud_tables::specs::ThingCommands::known_lease, mud_tables::specs::ThingChanges::known_lease_change))]
+#[tactic(auto, unfolding(table_model::specs::ThingCommands::known_lease, table_model::specs::ThingChanges::known_lease_change))]
 fn lease_known(
     alloc: Global,
     things: &[Thing],
@@ -116,7 +118,7 @@ fn lease_known(
 }
 
 /// The Thing has the address already, with an expiry.
-#[tactic(auto, unfolding(mud_tables::specs::ThingCommands::kept_lease, mud_tables::specs::ThingChanges::kept_lease_change, mud_tables::specs::Things::with_leases))]
+#[tactic(auto, unfolding(table_model::specs::ThingCommands::kept_lease, table_model::specs::ThingChanges::kept_lease_change, table_model::specs::Things::with_leases))]
 fn lease_kept(alloc: Global, thing: &Thing, lease: Lease, old: End) -> Result<Plan, Memory>
     ensures { (things : List ThingValue)
         → IfOk result (IsSaid (kept_lease lease.addr lease.until things thing.now old) (kept_lease_change lease.addr lease.until thing.now old)) }
@@ -130,7 +132,7 @@ fn lease_kept(alloc: Global, thing: &Thing, lease: Lease, old: End) -> Result<Pl
 }
 
 /// The Thing hasn't the address yet.
-#[tactic(auto, unfolding(mud_tables::specs::ThingCommands::new_lease, mud_tables::specs::ThingChanges::new_lease_change))]
+#[tactic(auto, unfolding(table_model::specs::ThingCommands::new_lease, table_model::specs::ThingChanges::new_lease_change))]
 fn lease_new(
     alloc: Global,
     things: &[Thing],
@@ -149,7 +151,7 @@ fn lease_new(
 }
 
 /// The address leaves the Thing that has it, and this one gets it.
-#[tactic(auto, unfolding(mud_tables::specs::ThingChanges::new_lease_change))]
+#[tactic(auto, unfolding(table_model::specs::ThingChanges::new_lease_change))]
 fn taken(alloc: Global, things: &[Thing], thing: &Thing, lease: Lease) -> Result<Plan, Memory>
     ensures word { IfOk result (λ plan. plan.word ≡ word.New) }
     ensures until { IfOk result (λ plan. plan.until ≡ Some lease.until) }
@@ -161,7 +163,7 @@ fn taken(alloc: Global, things: &[Thing], thing: &Thing, lease: Lease) -> Result
 }
 
 /// The Thing with the address, and with those of its leases that are live.
-#[tactic(auto, unfolding(mud_tables::specs::ThingChanges::leased, mud_tables::specs::Things::with_leases))]
+#[tactic(auto, unfolding(table_model::specs::ThingChanges::leased, table_model::specs::Things::with_leases))]
 fn leased(alloc: Global, thing: &Thing, lease: Lease) -> Result<Thing, Memory>
     ensures { IfOk result (λ made. made ≡ leased lease.addr lease.until lease.now thing.now) }
 {
@@ -184,7 +186,7 @@ pub(crate) fn end_lease(
     end_among(alloc, things.rows(), addr)
 }
 
-#[tactic(auto, unfolding(mud_tables::specs::ThingCommands::end_step, mud_tables::specs::ThingChanges::end_change))]
+#[tactic(auto, unfolding(table_model::specs::ThingCommands::end_step, table_model::specs::ThingChanges::end_change))]
 fn end_among(alloc: Global, things: &[Thing], addr: Addr) -> Result<Plan, ThingFault>
     ensures ok { IfOk result (IsSaid (end_step addr things.now) (end_change addr things.now)) }
     ensures err { IfErr result (IsRefusal (end_step addr things.now)) }
@@ -196,7 +198,7 @@ fn end_among(alloc: Global, things: &[Thing], addr: Addr) -> Result<Plan, ThingF
 }
 
 /// The address leaves the Thing that has it.
-#[tactic(auto, unfolding(mud_tables::specs::ThingChanges::end_change))]
+#[tactic(auto, unfolding(table_model::specs::ThingChanges::end_change))]
 fn ended(alloc: Global, things: &[Thing], addr: Addr) -> Result<Plan, Memory>
     ensures word { IfOk result (λ plan. plan.word ≡ word.Ended) }
     ensures until { IfOk result (λ plan. plan.until ≡ None) }
@@ -214,7 +216,7 @@ fn is_leased(things: &[Thing], addr: Addr) -> bool
 }
 
 /// Whether one of these Things has one of the Thing's addresses.
-#[tactic(auto, unfolding(mud_tables::specs::ThingItems::is_taken))]
+#[tactic(auto, unfolding(table_model::specs::ThingItems::is_taken))]
 pub(crate) fn is_taken(things: &[Thing], thing: &Thing) -> bool
     ensures { result ≡ is_taken things.now thing.now }
 {
@@ -226,7 +228,7 @@ pub(crate) fn is_taken(things: &[Thing], thing: &Thing) -> bool
 }
 
 /// Whether the Thing has the address, its lease live or not.
-#[tactic(auto, unfolding(mud_tables::specs::Things::holds))]
+#[tactic(auto, unfolding(table_model::specs::Things::holds))]
 pub(crate) fn holds(thing: &Thing, addr: Addr) -> bool
     ensures { result ≡ holds addr thing.now }
 {
@@ -234,7 +236,7 @@ pub(crate) fn holds(thing: &Thing, addr: Addr) -> bool
 }
 
 /// The Things that have the address, without it.
-#[tactic(auto, unfolding(mud_tables::specs::ThingChanges::released_holders))]
+#[tactic(auto, unfolding(table_model::specs::ThingChanges::released_holders))]
 fn released_holders(alloc: Global, things: &[Thing], addr: Addr) -> Result<Listed<Thing>, Memory>
     ensures { IfOk result (λ made. made ≡ released_holders addr things.now) }
 {
@@ -248,7 +250,7 @@ fn released_holders(alloc: Global, things: &[Thing], addr: Addr) -> Result<Liste
 }
 
 /// The Thing without the address.
-#[tactic(auto, unfolding(mud_tables::specs::Things::released, mud_tables::specs::Things::with_leases))]
+#[tactic(auto, unfolding(table_model::specs::Things::released, table_model::specs::Things::with_leases))]
 fn released(alloc: Global, thing: &Thing, addr: Addr) -> Result<Thing, Memory>
     ensures { IfOk result (λ made. made ≡ released addr thing.now) }
 {

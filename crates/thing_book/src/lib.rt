@@ -19,4 +19,4 @@ mod urls;
 pub use book::ThingBook;
 pub use change::ThingChange;
 pub use item_codec::Word;
-pub use mud_tables::{Thing, ThingFault};
+pub use table_model::{Thing, ThingFault};

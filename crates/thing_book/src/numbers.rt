@@ -1,15 +1,15 @@
 //! The numbers that the hardware addresses of Things spell.
 ghost use Rattle.std.specs.Prelude.{◌≡◌, ◌≢◌, ℕ, ◌%◌, ◌<◌, ◌≤◌, ◌++◌, ◌∷◌, [], length, slice_index, option_copied, IfSome, IfNone};
-ghost use Rattle.mud_tables.specs.Things.{thing_at};
+ghost use Rattle.table_model.specs.Things.{thing_at};
 ghost use Rattle.thing_book.specs.Numbers.{IsMac, AreNumbersOf, AreRising, mac_number};
 
 use crate::key::number_of;
 use crate::ranges::all_are_octets;
+use base_rows::SortedRows;
 use mud_base::Mac;
-use mud_tables::Thing;
-use mud_tables::limits::MOST_THINGS;
-use sorted_rows::SortedRows;
 use std::marker::Model;
+use table_model::Thing;
+use table_model::limits::MOST_THINGS;
 
 /// How many spots there are: four times as many as Things, so that few have one in common.
 const SPOT_COUNT: usize = 2048;

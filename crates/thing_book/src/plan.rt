@@ -1,16 +1,16 @@
 //! What a command on Things does: the part of a change that is decided from the list alone.
 ghost use Rattle.std.specs.Prelude.{◌≡◌, [], ◌∷◌, Some, None, Ok, IfOk, IfErr, option_copied};
-ghost use Rattle.mud_tables.specs.declared.thing_fault.ThingFault.TheVariants as fault;
-ghost use Rattle.mud_tables.specs.Things.{thing_at};
-ghost use Rattle.mud_tables.specs.ThingChanges.{puts_in};
+ghost use Rattle.table_model.specs.declared.thing_fault.ThingFault.TheVariants as fault;
+ghost use Rattle.table_model.specs.Things.{thing_at};
+ghost use Rattle.table_model.specs.ThingChanges.{puts_in};
 ghost use Rattle.thing_book.specs.RowChanges.{remove_change};
 
 use crate::key::ThingKey;
+use base_rows::{Change, SortedRows};
 use item_codec::Word;
 use mud_base::{End, Listed, Mac, Memory};
-use mud_tables::{Thing, ThingFault};
-use sorted_rows::{Change, SortedRows};
 use std::alloc::Global;
+use table_model::{Thing, ThingFault};
 
 /// What a command answers, the expiry that it keeps for a lease, and the rows that it changes.
 #[derive(Drop, Debug)]
@@ -86,7 +86,7 @@ pub(crate) fn or_memory<T>(made: Result<T, Memory>) -> Result<T, ThingFault>
 }
 
 /// The Thing of a hardware address.
-#[tactic(auto, unfolding(mud_tables::specs::Things::thing_at))]
+#[tactic(auto, unfolding(table_model::specs::Things::thing_at))]
 pub fn thing_of(things: &SortedRows<Thing>, mac: Mac) -> Option<&Thing>
     ensures { option_copied result ≡ thing_at mac things.now.rows }
 {

@@ -5,22 +5,22 @@ ghost use Rattle.item_codec.specs.Spelling.{IsWidth};
 ghost use Rattle.item_codec.specs.Records.{number_in, string_in, version_to_in, end_in, optional_in, each_in, elements_in};
 ghost use Rattle.item_codec.specs.Reading.{list_at};
 ghost use Rattle.std.specs.Result.{result_ok};
-ghost use Rattle.mud_tables.specs.ItemFields.{expiring_in};
-ghost use Rattle.mud_tables.specs.Things.{IsKeptThing};
-ghost use Rattle.mud_tables.specs.ThingItems.{hold_in, if_sound_thing, thing_in, thing_of};
+ghost use Rattle.table_model.specs.ItemFields.{expiring_in};
+ghost use Rattle.table_model.specs.Things.{IsKeptThing};
+ghost use Rattle.table_model.specs.ThingItems.{hold_in, if_sound_thing, thing_in, thing_of};
 ghost use Rattle.thing_book.specs.Said.{pending_said, thing_said};
 
 use crate::items::{KIND, VERSION};
 use crate::ranges::all_are_octets;
 use item_codec::FieldReader;
 use mud_base::{Addr, End, Listed, Mac, Memory};
-use mud_tables::Thing;
-use mud_tables::fields::read_expiring;
-use mud_tables::sound::is_sound_thing;
 use mud_url::MudUrl;
 use mud_url::url::canonical_url;
 use mud_world::Item;
 use std::alloc::Global;
+use table_model::Thing;
+use table_model::fields::read_expiring;
+use table_model::sound::is_sound_thing;
 
 /// What an item says of a Thing.
 #[derive(Drop)]
@@ -134,7 +134,7 @@ fn read_expirings(
 }
 
 /// Reads whether the Thing is held, by the version.
-#[tactic(auto, unfolding(mud_tables::specs::ThingItems::hold_in))]
+#[tactic(auto, unfolding(table_model::specs::ThingItems::hold_in))]
 fn read_hold(reader: &mut FieldReader<'_>, version: u8) -> Option<bool>
     ensures { MatchOption result (hold_in version reader.old ≡ None) (λ held. hold_in version reader.old ≡ Some (held, reader.new)) }
 {
@@ -204,7 +204,7 @@ fn pending_url(said: Option<&[u8]>) -> Option<Option<MudUrl>>
 }
 
 /// The Thing that is said, where it can be kept.
-#[tactic(auto, unfolding(mud_tables::specs::ThingItems::if_sound_thing, crate::specs::Said::thing_said))]
+#[tactic(auto, unfolding(table_model::specs::ThingItems::if_sound_thing, crate::specs::Said::thing_said))]
 fn thing_said(mac: Mac, said: Said<'_>) -> Option<Thing>
     ensures { result ≡ if_sound_thing (thing_said mac.0 said.entry) }
 {
@@ -225,7 +225,7 @@ fn thing_said(mac: Mac, said: Said<'_>) -> Option<Thing>
 }
 
 /// The Thing of an item: None exactly where the item is none of a Thing that can be kept.
-#[tactic(auto, unfolding(mud_tables::specs::ThingItems::thing_in))]
+#[tactic(auto, unfolding(table_model::specs::ThingItems::thing_in))]
 fn thing_of_item(alloc: Global, item: &Item) -> Result<Option<Thing>, Memory>
     ensures { IfOk result (λ thing. thing ≡ thing_in item.now) }
 {

@@ -2,24 +2,24 @@
 ghost use Rattle.std.specs.Prelude.{◌≡◌, List, [], ◌∷◌, length, Some, None, IfOk, IfErr};
 ghost use Rattle.mud_base.specs.declared.addr.Mac.{Mac as MacValue};
 ghost use Rattle.item_codec.specs.declared.word.Word.TheVariants as word;
-ghost use Rattle.mud_tables.specs.declared.thing.Thing.{Thing as ThingValue};
-ghost use Rattle.mud_tables.specs.ThingCommands.{is_pending, url_cases, url_step, move_cases, move_step, remove_step};
-ghost use Rattle.mud_tables.specs.ThingChanges.{puts_in};
+ghost use Rattle.table_model.specs.declared.thing.Thing.{Thing as ThingValue};
+ghost use Rattle.table_model.specs.ThingCommands.{is_pending, url_cases, url_step, move_cases, move_step, remove_step};
+ghost use Rattle.table_model.specs.ThingChanges.{puts_in};
 ghost use Rattle.thing_book.specs.Planned.{IsRefusal};
 ghost use Rattle.thing_book.specs.RowChanges.{IsSaid, url_cases_change, url_change, moved_to, move_cases_change, move_change, remove_change};
 
 use crate::copies::copy_of;
 use crate::plan::{Plan, or_memory, thing_of};
+use base_rows::SortedRows;
 use item_codec::Word;
 use mud_base::{Listed, Mac, Memory};
-use mud_tables::limits::MOST_THINGS;
-use mud_tables::{Thing, ThingFault};
 use mud_url::MudUrl;
-use sorted_rows::SortedRows;
 use std::alloc::Global;
+use table_model::limits::MOST_THINGS;
+use table_model::{Thing, ThingFault};
 
 /// A hardware address announces a URL.
-#[tactic(auto, unfolding(mud_tables::specs::ThingCommands::url_step, mud_tables::specs::ThingCommands::url_cases, crate::specs::RowChanges::url_change))]
+#[tactic(auto, unfolding(table_model::specs::ThingCommands::url_step, table_model::specs::ThingCommands::url_cases, crate::specs::RowChanges::url_change))]
 pub(crate) fn announce(
     alloc: Global,
     things: &SortedRows<Thing>,
@@ -37,7 +37,7 @@ pub(crate) fn announce(
 }
 
 /// No Thing has the hardware address, and so many are kept.
-#[tactic(auto, unfolding(mud_tables::specs::ThingCommands::url_cases, mud_tables::specs::Things::new_thing, crate::specs::RowChanges::url_cases_change))]
+#[tactic(auto, unfolding(table_model::specs::ThingCommands::url_cases, table_model::specs::Things::new_thing, crate::specs::RowChanges::url_cases_change))]
 fn announce_first(alloc: Global, kept: usize, mac: Mac, url: MudUrl) -> Result<Plan, ThingFault>
     ensures ok { (things : List ThingValue) → length things ≡ kept
         → IfOk result (IsSaid (url_cases mac url things None) (url_cases_change mac url None)) }
@@ -58,7 +58,7 @@ fn announce_first(alloc: Global, kept: usize, mac: Mac, url: MudUrl) -> Result<P
 }
 
 /// The Thing announces a URL: another one than its own waits for the operator.
-#[tactic(auto, unfolding(mud_tables::specs::ThingCommands::url_cases, crate::specs::RowChanges::url_cases_change, crate::specs::RowChanges::waiting_for))]
+#[tactic(auto, unfolding(table_model::specs::ThingCommands::url_cases, crate::specs::RowChanges::url_cases_change, crate::specs::RowChanges::waiting_for))]
 fn announce_anew(alloc: Global, thing: &Thing, url: MudUrl) -> Result<Plan, Memory>
     ensures { (mac : MacValue) (things : List ThingValue)
         → IfOk result (IsSaid (url_cases mac url things (Some thing.now)) (url_cases_change mac url (Some thing.now))) }
@@ -72,7 +72,7 @@ fn announce_anew(alloc: Global, thing: &Thing, url: MudUrl) -> Result<Plan, Memo
 }
 
 /// Whether the URL waits for the operator.
-#[tactic(auto, unfolding(mud_tables::specs::ThingCommands::is_pending))]
+#[tactic(auto, unfolding(table_model::specs::ThingCommands::is_pending))]
 fn is_pending(url: &MudUrl, pending: &Option<MudUrl>) -> bool
     ensures { result ≡ is_pending url.now pending.now }
 {
@@ -83,7 +83,7 @@ fn is_pending(url: &MudUrl, pending: &Option<MudUrl>) -> bool
 }
 
 /// The operator moves a Thing to the URL that waits.
-#[tactic(auto, unfolding(mud_tables::specs::ThingCommands::move_step, mud_tables::specs::ThingCommands::move_cases, crate::specs::RowChanges::move_change))]
+#[tactic(auto, unfolding(table_model::specs::ThingCommands::move_step, table_model::specs::ThingCommands::move_cases, crate::specs::RowChanges::move_change))]
 pub(crate) fn move_to(
     alloc: Global,
     things: &SortedRows<Thing>,
@@ -100,7 +100,7 @@ pub(crate) fn move_to(
     }
 }
 
-#[tactic(auto, unfolding(mud_tables::specs::ThingCommands::move_cases, crate::specs::RowChanges::move_cases_change, crate::specs::RowChanges::moved_to))]
+#[tactic(auto, unfolding(table_model::specs::ThingCommands::move_cases, crate::specs::RowChanges::move_cases_change, crate::specs::RowChanges::moved_to))]
 fn move_thing(alloc: Global, thing: &Thing, url: MudUrl) -> Result<Plan, ThingFault>
     ensures ok { (things : List ThingValue)
         → IfOk result (IsSaid (move_cases url things (Some thing.now)) (move_cases_change url (Some thing.now))) }
@@ -130,7 +130,7 @@ fn moved(alloc: Global, thing: &Thing, url: MudUrl) -> Result<Plan, Memory>
 }
 
 /// The operator removes a Thing.
-#[tactic(auto, unfolding(mud_tables::specs::ThingCommands::remove_step, mud_tables::specs::ThingCommands::remove_cases))]
+#[tactic(auto, unfolding(table_model::specs::ThingCommands::remove_step, table_model::specs::ThingCommands::remove_cases))]
 pub(crate) fn remove(
     alloc: Global,
     things: &SortedRows<Thing>,

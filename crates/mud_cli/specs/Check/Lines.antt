@@ -12,9 +12,9 @@ use Rattle.acl_model.specs.declared.entry.Entry.{Entry}
 use Rattle.usage_walk.specs.Names as rule
 use Rattle.usage_walk.specs.declared.fault.Broken.{Broken}
 use Rattle.mud_file.specs.declared.usage_file.UsageFile.{UsageFile}
-use Rattle.text_lines.specs.Faults.{url_part}
-use Rattle.text_lines.specs.Numbers.{number_text}
-use Rattle.text_lines.specs.Paths.{path_part}
+use Rattle.text_values.specs.Faults.{url_part}
+use Rattle.text_values.specs.Numbers.{number_text}
+use Rattle.text_values.specs.Paths.{path_part}
 
 unfoldable pub side_word : Direction → List ℕ
 side_word From = codes "from"

@@ -7,10 +7,10 @@ use Rattle.mud_base.specs.declared.packet.Transport.TheVariants.{Tcp, Udp, Icmp,
 use Rattle.frame_view.specs.Frame.{frame_of}
 use Rattle.frame_view.specs.declared.views.Frame.{Frame}
 use Rattle.frame_view.specs.declared.views.Frame.TheVariants as frame
-use Rattle.octet_buffer.specs.Packets.{Packet}
-use Rattle.capture_runs.specs.Fold.{LineStep}
-use Rattle.text_lines.specs.Numbers.{number_text}
-use Rattle.reply_lines.specs.Verdicts.{unreadable_text}
+use Rattle.read_buffer.specs.Packets.{Packet}
+use Rattle.run_captures.specs.Fold.{LineStep}
+use Rattle.text_values.specs.Numbers.{number_text}
+use Rattle.text_replies.specs.Verdicts.{unreadable_text}
 
 -- the ports and the octet of flags, or the type and the code
 unfoldable pub transport_text : Transport → List ℕ

@@ -6,8 +6,8 @@ use Rattle.dhcp_lldp.specs.declared.heard.Heard.{Heard}
 use Rattle.dhcp_lldp.specs.declared.heard.HearFault.{HearFault}
 use Rattle.mud_cli.specs.Hear.Lines.{heard_line, fault_line, too_long_line}
 use Rattle.mud_cli.specs.declared.answer.Answer.{Answer}
-use Rattle.command_words.specs.declared.command.Message.{Message}
-use Rattle.command_words.specs.declared.command.Message.TheVariants.{Dhcp, Lldp}
+use Rattle.run_words.specs.declared.command.Message.{Message}
+use Rattle.run_words.specs.declared.command.Message.TheVariants.{Dhcp, Lldp}
 
 -- the answer to a message that was read or refused
 unfoldable pub hearing : Result Heard HearFault → Answer

@@ -3,8 +3,8 @@ use Rattle.std.specs.Prelude.{ℕ, List, ◌++◌, codes, decimal}
 use Rattle.mud_base.specs.Texts.{mac_text, addr_text}
 use Rattle.mud_base.specs.declared.addr.Mac.{Mac}
 use Rattle.mud_base.specs.declared.addr.Addr.{Addr}
-use Rattle.text_lines.specs.Faults.{url_part}
-use Rattle.text_lines.specs.Numbers.{offset_text}
+use Rattle.text_values.specs.Faults.{url_part}
+use Rattle.text_values.specs.Numbers.{offset_text}
 use Rattle.dhcp_lldp.specs.Heard as hear_fault
 use Rattle.dhcp_lldp.specs.declared.heard.Heard.{Heard}
 use Rattle.dhcp_lldp.specs.declared.heard.Heard.TheVariants.{Url, Lease, Nothing}

@@ -5,17 +5,17 @@ use Rattle.std.specs.declared.alloc.Global.{Global}
 use Rattle.mud_world.specs.declared.keeper.Keeper.{Ghosts}
 use Rattle.mud_world.specs.Boxed.{faults_of, Tells, kept_items}
 use Rattle.mud_world.specs.Files.{names_of}
-use Rattle.command_runs.specs.Ends.{AreSteady, IsStoppedByDoorOrSpool}
+use Rattle.run_common.specs.Ends.{AreSteady, IsStoppedByDoorOrSpool}
 use Rattle.mud_world.specs.View.{OutsideView}
 use Rattle.desk_model.specs.DeskTables.{DeskTables, IsSound}
 use Rattle.desk_model.specs.Items.{items_of, tables_in}
 use Rattle.desk_model.specs.Sessions.{Session, opened}
-use Rattle.desk_runs.specs.Honest.{RunsHonestly}
-use Rattle.desk_runs.specs.Store.{IsRefused, IsUnopened, KeepsTables}
-use Rattle.import_runs.specs.Order.{in_order}
-use Rattle.import_runs.specs.Runs.{Scene, ImportsPart, ImportsAll}
-use Rattle.command_runs.specs.Status.{IsOneOf, each_status}
-use Rattle.command_runs.specs.declared.status.Status.TheVariants.{Done, Refused, DoorFailed, NoMemory, BadItem, KeeperFailed}
+use Rattle.run_desk.specs.Honest.{RunsHonestly}
+use Rattle.run_desk.specs.Store.{IsRefused, IsUnopened, KeepsTables}
+use Rattle.run_import.specs.Order.{in_order}
+use Rattle.run_import.specs.Runs.{Scene, ImportsPart, ImportsAll}
+use Rattle.run_common.specs.Status.{IsOneOf, each_status}
+use Rattle.run_common.specs.declared.status.Status.TheVariants.{Done, Refused, DoorFailed, NoMemory, BadItem, KeeperFailed}
 
 -- ---- A desk that is opened
 

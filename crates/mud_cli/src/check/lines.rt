@@ -6,7 +6,7 @@ use acl_model::{Action, Entry};
 use mud_base::{Bytes, Direction, Family, Memory};
 use mud_file::UsageFile;
 use std::alloc::Global;
-use text_lines::{
+use text_values::{
     append_decimal, append_number, append_path_part, append_signed, append_url, append_url_part,
 };
 use usage_walk::Broken;

@@ -6,9 +6,9 @@ ghost use Rattle.mud_cli.specs.Frames.Lines as spec;
 use frame_view::{Frame, view};
 use mud_base::{Bytes, Fields, Memory, Transport};
 use pcap_read::Captured;
-use reply_lines::append_unreadable;
 use std::alloc::Global;
-use text_lines::{append_addr, append_decimal, append_number};
+use text_replies::append_unreadable;
+use text_values::{append_addr, append_decimal, append_number};
 
 /// Adds the ports and the octet of flags, or the type and the code.
 #[tactic(auto, unfolding(crate::specs::Frames::Lines::transport_text))]

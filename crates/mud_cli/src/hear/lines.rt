@@ -6,7 +6,7 @@ use dhcp_lldp::{HearFault, Heard};
 use mud_base::{Addr, Bytes, Mac, Memory};
 use mud_url::MudUrl;
 use std::alloc::Global;
-use text_lines::{
+use text_values::{
     append_addr, append_decimal, append_mac, append_offset, append_url, append_url_part,
 };
 

@@ -3,12 +3,12 @@ use Rattle.acl_model.specs.declared.binding.Binding.{Binding}
 use Rattle.acl_model.specs.Changes.{replaced}
 use Rattle.acl_model.specs.Policies.{url_policy}
 use Rattle.acl_rows.specs.Rows.{default_held}
-use Rattle.row_changes.specs.Patch.{IsPatch}
-use Rattle.row_changes.specs.Touched.{touches}
-use Rattle.row_changes.specs.Bindings.{AreEditsOf}
-use Rattle.row_changes.specs.Change.{ChangeState, change_state, after}
-use Rattle.row_changes.specs.Steps.{least_steps}
-use Rattle.row_changes.proofs.Planned.{most_moved}
+use Rattle.acl_changes.specs.Patch.{IsPatch}
+use Rattle.acl_changes.specs.Touched.{touches}
+use Rattle.acl_changes.specs.Bindings.{AreEditsOf}
+use Rattle.acl_changes.specs.Change.{ChangeState, change_state, after}
+use Rattle.acl_changes.specs.Steps.{least_steps}
+use Rattle.acl_changes.proofs.Planned.{most_moved}
 use Rattle.acl_compile.proofs.PlanLaws.{member_most, member_plan}
 use Rattle.acl_compile.proofs.plan.plan_change.Goals as goal
 

@@ -2,12 +2,12 @@ use Rattle.std.proofs.Common.{◌≡◌, ℕ, ◌+◌, ◌*◌, ◌^◌, ◌<◌
 use Rattle.std.specs.Option.{option_copied}
 use Rattle.acl_rows.specs.declared.row.Owner.TheVariants.{Url}
 use Rattle.acl_rows.specs.Rows.{Slots}
-use Rattle.row_changes.specs.Patch.{IsPatch}
-use Rattle.row_changes.specs.PolicyTouched.{owner_rows, new_touches, IsSlotChange}
+use Rattle.acl_changes.specs.Patch.{IsPatch}
+use Rattle.acl_changes.specs.PolicyTouched.{owner_rows, new_touches, IsSlotChange}
 use Rattle.acl_compile.specs.Compiled.{UrlsApart}
-use Rattle.row_changes.specs.Fresh.{policy_count}
+use Rattle.acl_changes.specs.Fresh.{policy_count}
 use Rattle.acl_compile.specs.Plans.{IsSlotFor, others_held}
-use Rattle.row_changes.specs.Steps.{HaveKeys, PolicyKeys, sort_key_steps}
+use Rattle.acl_changes.specs.Steps.{HaveKeys, PolicyKeys, sort_key_steps}
 use Rattle.acl_compile.proofs.SlotLaws.{policy_plan, policy_most, policy_least}
 use Rattle.acl_compile.proofs.plan.plan_slot.Goals as goal
 

@@ -2,7 +2,7 @@ use Rattle.std.proofs.Common.{◌≡◌, reverse, List, ℕ, ap, ap₂, sym, ◌
 use Rattle.std.specs.Cmp.Lexicographic.{same_text}
 use Rattle.std.specs.Ordering.{nat_cmp}
 use Rattle.std.proofs.lemmas.Cmp.{nat_list_cmp_total, tied_itself}
-use Rattle.sorted_rows.specs.Sortable.{sort_key_cmp}
+use Rattle.base_rows.specs.Sortable.{sort_key_cmp}
 use Rattle.acl_compile.proofs.Leads.{lead_apart, octets_behind}
 use Rattle.acl_compile.proofs.url_slots.order_by_ends.Goals as goal
 

@@ -1,5 +1,5 @@
 use Rattle.std.proofs.Common.{ℕ, ◌≡◌, ◌-◌, drop, reverse, sym, ap, ◌∙◌, arith}
-use Rattle.sorted_rows.specs.Sortable.{sort_key_cmp}
+use Rattle.base_rows.specs.Sortable.{sort_key_cmp}
 use Rattle.acl_compile.proofs.TextOrder.{alike_end, apart_end, ends_behind}
 use Rattle.acl_compile.proofs.url_slots.order_from_behind.Goals as goal
 

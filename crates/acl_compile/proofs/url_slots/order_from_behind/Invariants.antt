@@ -1,5 +1,5 @@
 use Rattle.std.proofs.Common.{◌-◌, ◌≡◌, ◌≤◌, min, length, reverse, drop}
-use Rattle.sorted_rows.specs.Sortable.{sort_key_cmp}
+use Rattle.base_rows.specs.Sortable.{sort_key_cmp}
 use Rattle.acl_compile.proofs.url_slots.order_from_behind.Given as goal
 
 -- the last octets are the same, so those in front of them decide

@@ -1,6 +1,6 @@
 use Rattle.std.proofs.Common.{◌≡◌, ◌∷◌, ◌+◌, ◌++◌, List, length, length-append, ap, sym, ◌∙◌, arith}
 use Rattle.std.specs.Map.{values_of}
-use Rattle.sorted_rows.specs.Sortable.{RowsAndRoom}
+use Rattle.base_rows.specs.Sortable.{RowsAndRoom}
 use Rattle.acl_rows.specs.declared.row.Row.{Row}
 use Rattle.acl_rows.proofs.GroupLaws.{rows_together, together_grouped}
 use Rattle.acl_rows.proofs.groups.count_groups.Goals as goal

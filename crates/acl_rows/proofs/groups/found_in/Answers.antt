@@ -1,8 +1,8 @@
 use Rattle.std.proofs.Common.{◌≡◌, ◌<◌, List, Ok, length, ap, sym, subst, ◌∙◌}
 use Rattle.std.specs.Prelude.{option_map}
 use Rattle.std.specs.List.{slice_get}
-use Rattle.sorted_rows.specs.Sortable.{SortKeysAscend}
-use Rattle.sorted_rows.proofs.SortableLaws.{found_within, row_at_found, row_at_missed}
+use Rattle.base_rows.specs.Sortable.{SortKeysAscend}
+use Rattle.base_rows.proofs.SortableLaws.{found_within, row_at_found, row_at_missed}
 use Rattle.acl_rows.specs.declared.row.Row.{Row}
 use Rattle.acl_rows.specs.SortKeys.{row_sort_key, named_sort_key}
 use Rattle.acl_rows.specs.ByAddress.{until_of_row}

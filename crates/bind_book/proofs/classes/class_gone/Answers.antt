@@ -1,7 +1,7 @@
 use Rattle.std.proofs.Common.{Some, ap, ◌∙◌}
-use Rattle.mud_tables.specs.Binds.{key_of_class}
-use Rattle.mud_tables.specs.declared.bind.Class.{Class}
-use Rattle.mud_tables.specs.BindRowChanges.{class_left}
+use Rattle.table_model.specs.Binds.{key_of_class}
+use Rattle.table_model.specs.declared.bind.Class.{Class}
+use Rattle.table_model.specs.BindRowChanges.{class_left}
 use Rattle.bind_book.proofs.classes.class_gone.Goals as goal
 
 pub returns : goal.returns

@@ -4,9 +4,9 @@ use Rattle.std.proofs.lemmas.List.{take_all}
 use Rattle.mud_base.specs.declared.addr.Addr.{Addr}
 use Rattle.item_codec.specs.Spelling.{version, list}
 use Rattle.item_codec.specs.Records.{elements, list_body}
-use Rattle.mud_tables.specs.ItemFields.{address}
-use Rattle.mud_tables.specs.Binds.{class_key}
-use Rattle.mud_tables.specs.BindItems.{class_item}
+use Rattle.table_model.specs.ItemFields.{address}
+use Rattle.table_model.specs.Binds.{class_key}
+use Rattle.table_model.specs.BindItems.{class_item}
 use Rattle.bind_book.proofs.items.class_item.Goals as goal
 
 pub returns : goal.returns

@@ -1,7 +1,7 @@
 use Rattle.std.proofs.Common.{◌≡◌, ◌++◌, length, take}
 use Rattle.std.specs.Prelude.{flat_map}
 use Rattle.item_codec.specs.Spelling.{version, list}
-use Rattle.mud_tables.specs.ItemFields.{address}
+use Rattle.table_model.specs.ItemFields.{address}
 use Rattle.bind_book.proofs.items.class_item.Given as goal
 
 abbrev pub invariant-loop-addr : goal.invariant-loop-addr

@@ -4,8 +4,8 @@ use Rattle.std.proofs.lemmas.List.{take_all}
 use Rattle.mud_base.specs.declared.prefix.Prefix.{Prefix}
 use Rattle.item_codec.specs.Spelling.{version, list}
 use Rattle.item_codec.specs.Records.{elements, list_body}
-use Rattle.mud_tables.specs.ItemFields.{network}
-use Rattle.mud_tables.specs.BindItems.{locals_item}
+use Rattle.table_model.specs.ItemFields.{network}
+use Rattle.table_model.specs.BindItems.{locals_item}
 use Rattle.bind_book.proofs.items.locals_item.Goals as goal
 
 pub returns : goal.returns

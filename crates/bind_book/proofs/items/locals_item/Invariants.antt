@@ -1,7 +1,7 @@
 use Rattle.std.proofs.Common.{◌≡◌, ◌++◌, length, take}
 use Rattle.std.specs.Prelude.{flat_map}
 use Rattle.item_codec.specs.Spelling.{version, list}
-use Rattle.mud_tables.specs.ItemFields.{network}
+use Rattle.table_model.specs.ItemFields.{network}
 use Rattle.bind_book.proofs.items.locals_item.Given as goal
 
 abbrev pub invariant-loop-prefix : goal.invariant-loop-prefix

@@ -3,9 +3,9 @@ use Rattle.std.specs.Prelude.{flat_map}
 use Rattle.std.proofs.lemmas.List.{take_all}
 use Rattle.item_codec.specs.Spelling.{version, list}
 use Rattle.item_codec.specs.Records.{elements, list_body}
-use Rattle.mud_tables.specs.Expiries.{Expiries}
-use Rattle.mud_tables.specs.ItemFields.{expiring}
-use Rattle.mud_tables.specs.BindItems.{name_item}
+use Rattle.table_model.specs.Expiries.{Expiries}
+use Rattle.table_model.specs.ItemFields.{expiring}
+use Rattle.table_model.specs.BindItems.{name_item}
 use Rattle.bind_book.proofs.items.name_item.Goals as goal
 
 pub returns : goal.returns

@@ -1,11 +1,11 @@
 use Rattle.std.proofs.Common.{List, [], ◌∷◌, ◌++◌, map, ap, ◌∙◌}
 use Rattle.std.specs.Prelude.{option_map}
-use Rattle.sorted_rows.specs.Changes.{with_found}
+use Rattle.base_rows.specs.Changes.{with_found}
 use Rattle.mud_world.specs.declared.item.Item.{Item}
 use Rattle.mud_world.specs.declared.item.Put.{Put}
 use Rattle.mud_world.specs.declared.item.Put.TheVariants.{Set}
 use Rattle.mud_world.specs.Items.{gone_put, set_put, puts_of}
-use Rattle.mud_tables.specs.BindItems.{name_item}
+use Rattle.table_model.specs.BindItems.{name_item}
 use Rattle.bind_book.proofs.SoFar.{push_behind, all_behind, found_before}
 use Rattle.bind_book.proofs.items.name_puts.Goals as goal
 

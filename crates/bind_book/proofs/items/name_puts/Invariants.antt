@@ -1,8 +1,8 @@
 use Rattle.std.proofs.Common.{◌≡◌, ◌++◌, [], map, take}
 use Rattle.std.specs.Prelude.{option_map}
-use Rattle.sorted_rows.specs.Changes.{with_found}
+use Rattle.base_rows.specs.Changes.{with_found}
 use Rattle.mud_world.specs.Items.{gone_put, set_put}
-use Rattle.mud_tables.specs.BindItems.{name_item}
+use Rattle.table_model.specs.BindItems.{name_item}
 use Rattle.bind_book.proofs.items.name_puts.Given as goal
 
 abbrev pub invariant-loop-row : goal.invariant-loop-row

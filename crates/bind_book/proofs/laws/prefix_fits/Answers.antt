@@ -1,4 +1,4 @@
-use Rattle.mud_tables.proofs.TypeFacts.{kept_network}
+use Rattle.table_model.proofs.TypeFacts.{kept_network}
 use Rattle.bind_book.proofs.laws.prefix_fits.Goals as goal
 
 pub returns : goal.returns

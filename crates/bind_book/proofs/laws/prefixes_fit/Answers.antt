@@ -2,10 +2,10 @@ use Rattle.std.proofs.Common.{List, take, subst, sym}
 use Rattle.std.specs.List.{AllByRecursion}
 use Rattle.std.proofs.lemmas.List.{take_all}
 use Rattle.mud_base.specs.declared.prefix.Prefix.{Prefix}
-use Rattle.mud_tables.specs.Binds.{IsKeptNetwork}
+use Rattle.table_model.specs.Binds.{IsKeptNetwork}
 use Rattle.bind_book.proofs.SoFar.{take_one}
 use Rattle.bind_book.proofs.laws.prefixes_fit.Goals as goal
-use Rattle.sorted_rows.proofs.Lists.{all_push}
+use Rattle.base_rows.proofs.Lists.{all_push}
 
 pub loop-prefix-preserved : goal.loop-prefix-preserved
 loop-prefix-preserved c =

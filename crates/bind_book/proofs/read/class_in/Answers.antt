@@ -1,7 +1,7 @@
 use Rattle.std.proofs.Common.{◌≡◌, List, ℕ, Option, Some, sym, subst}
 use Rattle.std.specs.Prelude.{MatchOption}
-use Rattle.mud_tables.specs.declared.bind.Class.{Class}
-use Rattle.mud_tables.specs.BindItems.{class_of_key}
+use Rattle.table_model.specs.declared.bind.Class.{Class}
+use Rattle.table_model.specs.BindItems.{class_of_key}
 use Rattle.bind_book.specs.Reading.{IsNoClass}
 use Rattle.bind_book.proofs.ReadLaws.{no_class}
 use Rattle.bind_book.proofs.read.class_in.Goals as goal

@@ -3,8 +3,8 @@ use Rattle.std.specs.Prelude.{MatchOption}
 use Rattle.std.specs.List.{list_all}
 use Rattle.mud_base.specs.declared.prefix.Prefix.{Prefix}
 use Rattle.item_codec.specs.Records.{list_body_in}
-use Rattle.mud_tables.specs.ItemFields.{network_in}
-use Rattle.mud_tables.specs.Binds.{is_prefix}
+use Rattle.table_model.specs.ItemFields.{network_in}
+use Rattle.table_model.specs.Binds.{is_prefix}
 use Rattle.bind_book.proofs.ReadLaws.{no_locals}
 use Rattle.bind_book.proofs.read.locals_in.Goals as goal
 

@@ -1,6 +1,6 @@
 use Rattle.std.proofs.Common.{subst}
 use Rattle.http_answers.specs.declared.status.Status.{Status}
-use Rattle.listing_bodies.specs.Refusals as refusals
+use Rattle.console_listings.specs.Refusals as refusals
 use Rattle.console.specs.Replies.{reply, IsOrWanted}
 use Rattle.console.proofs.Replying.{made}
 use Rattle.console.proofs.commands.write_refusal.Goals as goal

@@ -1,5 +1,5 @@
 use Rattle.std.proofs.Common.{◌≡◌, take}
-use Rattle.file_tables.specs.Due.{due_urls}
+use Rattle.usage_tables.specs.Due.{due_urls}
 use Rattle.console.proofs.due.due_urls.Given as goal
 
 -- so far the URLs of the rows that were passed are there

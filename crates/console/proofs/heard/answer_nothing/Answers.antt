@@ -1,6 +1,6 @@
 use Rattle.std.proofs.Common.{ap}
 use Rattle.http_answers.specs.declared.status.Status.TheVariants as status
-use Rattle.outcome_bodies.specs.Heards.{nothing_body}
+use Rattle.console_outcomes.specs.Heards.{nothing_body}
 use Rattle.console.specs.Replies.{reply}
 use Rattle.console.proofs.Standing.{raises}
 use Rattle.console.proofs.heard.answer_nothing.Goals as goal

@@ -1,6 +1,6 @@
 use Rattle.std.proofs.Common.{refl, sym, ap, ◌∙◌, arith}
 use Rattle.desk_books.specs.Policies.{policy_with, AddsPolicy}
-use Rattle.file_tables.specs.Policies.{policy_in_row}
+use Rattle.usage_tables.specs.Policies.{policy_in_row}
 use Rattle.desk_books.proofs.Adding.{policy_more, none_held, no_others}
 use Rattle.desk_books.proofs.compiling.add_policies.Goals as goal
 

@@ -1,7 +1,7 @@
 use Rattle.std.proofs.Common.{◌≡◌, ◌≤◌, ℕ, List, take}
 use Rattle.acl_compile.specs.Compiled.{HasItsRows}
 use Rattle.acl_compile.specs.Plans.{policy_held, others_held}
-use Rattle.file_tables.specs.Policies.{policy_of}
+use Rattle.usage_tables.specs.Policies.{policy_of}
 use Rattle.desk_books.proofs.compiling.add_policies.Given as goal
 
 abbrev pub invariant-loop-row : goal.invariant-loop-row

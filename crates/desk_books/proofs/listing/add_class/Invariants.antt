@@ -1,6 +1,6 @@
 use Rattle.std.proofs.Common.{◌≡◌, ◌++◌, drop}
 use Rattle.std.specs.Prelude.{map}
-use Rattle.mud_tables.specs.Bindings.{class_binding}
+use Rattle.table_model.specs.Bindings.{class_binding}
 use Rattle.desk_books.proofs.listing.add_class.Given as goal
 
 abbrev pub invariant-loop-addr : goal.invariant-loop-addr

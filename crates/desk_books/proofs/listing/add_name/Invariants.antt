@@ -1,6 +1,6 @@
 use Rattle.std.proofs.Common.{◌≡◌, ◌++◌, drop}
 use Rattle.std.specs.Prelude.{map}
-use Rattle.mud_tables.specs.Bindings.{name_binding}
+use Rattle.table_model.specs.Bindings.{name_binding}
 use Rattle.desk_books.proofs.listing.add_name.Given as goal
 
 abbrev pub invariant-loop-address : goal.invariant-loop-address

@@ -1,6 +1,6 @@
 use Rattle.std.proofs.Common.{◌≡◌, ◌++◌, drop}
 use Rattle.std.specs.Prelude.{flat_map}
-use Rattle.mud_tables.specs.Bindings.{bindings_of_lease}
+use Rattle.table_model.specs.Bindings.{bindings_of_lease}
 use Rattle.desk_books.proofs.listing.add_thing.Given as goal
 
 abbrev pub invariant-loop-row : goal.invariant-loop-row

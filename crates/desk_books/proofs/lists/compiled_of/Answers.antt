@@ -1,8 +1,8 @@
 use Rattle.std.proofs.Common.{List, sym, subst, ◌∙◌}
-use Rattle.mud_tables.specs.declared.bind.ClassRow.{ClassRow}
-use Rattle.mud_tables.specs.declared.bind.NameRow.{NameRow}
+use Rattle.table_model.specs.declared.bind.ClassRow.{ClassRow}
+use Rattle.table_model.specs.declared.bind.NameRow.{NameRow}
 use Rattle.mud_base.specs.declared.prefix.Prefix.{Prefix}
-use Rattle.mud_tables.specs.Binds.{IsSoundClasses, IsSoundLocals, IsSoundNames}
+use Rattle.table_model.specs.Binds.{IsSoundClasses, IsSoundLocals, IsSoundNames}
 use Rattle.desk_books.proofs.Whole.{kept_of}
 use Rattle.desk_books.proofs.lists.compiled_of.Goals as goal
 

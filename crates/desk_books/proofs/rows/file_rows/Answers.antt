@@ -1,5 +1,5 @@
 use Rattle.std.specs.Prelude.{option_copied, ◌-◌}
-use Rattle.file_tables.specs.Policies.{policy_change}
+use Rattle.usage_tables.specs.Policies.{policy_change}
 use Rattle.desk_books.proofs.FileRows.{lent_paid}
 use Rattle.desk_books.proofs.rows.file_rows.Goals as goal
 

@@ -1,7 +1,7 @@
 use Rattle.std.proofs.Common.{refl, sym, ◌∙◌}
 use Rattle.std.proofs.lemmas.Result.{on_ok_weaker}
 use Rattle.mud_world.specs.Boxed.{kept_items}
-use Rattle.sorted_rows.proofs.SortableLaws.{same_sort_key_exact}
+use Rattle.base_rows.proofs.SortableLaws.{same_sort_key_exact}
 use Rattle.desk_items.proofs.Anew.{not_put, put_there}
 use Rattle.desk_items.proofs.opening.put_anew.Goals as goal
 

@@ -3,7 +3,7 @@ use Rattle.mud_world.specs.Boxed.{kept_items}
 use Rattle.desk_items.specs.Loaded.{loaded_desk}
 use Rattle.desk_items.proofs.Anew.{things_fit, thing_anew, all_put, first_anew, one_anew, partly_anew, octets_at}
 use Rattle.desk_items.proofs.opening.put_things_anew.Goals as goal
-use Rattle.sorted_rows.proofs.Results.{always_on_err}
+use Rattle.base_rows.proofs.Results.{always_on_err}
 
 pub loop-index-init : goal.loop-index-init
 loop-index-init g c = record {

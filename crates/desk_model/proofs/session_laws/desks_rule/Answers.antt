@@ -1,6 +1,6 @@
 use Rattle.std.proofs.Common.{refl}
 use Rattle.table_laws.proofs.TableBindings.{bindings_apart}
-use Rattle.file_tables.proofs.PolicyLaws.{policy_in-policies_of}
+use Rattle.usage_tables.proofs.PolicyLaws.{policy_in-policies_of}
 use Rattle.packet_judge.specs.Verdicts.{endpoint_ruling, rulings_of}
 use Rattle.desk_model.specs.Verdicts.{policy_at, policies, desk_bindings, ruling_at}
 use Rattle.desk_model.proofs.Passing.{packet_passes}

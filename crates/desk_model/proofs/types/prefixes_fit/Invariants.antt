@@ -1,6 +1,6 @@
 use Rattle.std.proofs.Common.{take}
 use Rattle.std.specs.List.{AllByRecursion}
-use Rattle.mud_tables.specs.Binds.{IsKeptNetwork}
+use Rattle.table_model.specs.Binds.{IsKeptNetwork}
 use Rattle.desk_model.proofs.types.prefixes_fit.Given as goal
 
 abbrev pub invariant-loop-prefix : goal.invariant-loop-prefix

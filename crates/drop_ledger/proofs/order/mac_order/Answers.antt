@@ -1,6 +1,6 @@
 use Rattle.std.proofs.Common.{◌≡◌, length, refl, sym, ◌∙◌, arith}
-use Rattle.sorted_rows.specs.Sortable.{sort_key_cmp}
-use Rattle.sorted_rows.proofs.Orders.{alike, apart, behind}
+use Rattle.base_rows.specs.Sortable.{sort_key_cmp}
+use Rattle.base_rows.proofs.Orders.{alike, apart, behind}
 use Rattle.drop_ledger.proofs.SortKeyOrder.{six_all}
 use Rattle.drop_ledger.proofs.order.mac_order.Goals as goal
 

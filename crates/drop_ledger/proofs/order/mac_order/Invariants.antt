@@ -1,5 +1,5 @@
 use Rattle.std.proofs.Common.{◌-◌, ◌≡◌, ◌≤◌, drop}
-use Rattle.sorted_rows.specs.Sortable.{sort_key_cmp}
+use Rattle.base_rows.specs.Sortable.{sort_key_cmp}
 use Rattle.drop_ledger.proofs.order.mac_order.Given as goal
 
 -- the octets before are the same, so those left decide

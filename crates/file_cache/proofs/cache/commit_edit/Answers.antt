@@ -1,6 +1,6 @@
 use Rattle.std.proofs.Common.{sym, ◌∙◌, ap}
-use Rattle.sorted_rows.specs.Sortable.{set_row}
-use Rattle.file_tables.specs.Files.{url_of}
+use Rattle.base_rows.specs.Sortable.{set_row}
+use Rattle.usage_tables.specs.Files.{url_of}
 use Rattle.file_cache.proofs.Commits.{room_left, committed_row, committed_none}
 use Rattle.file_cache.proofs.cache.commit_edit.Goals as goal
 

@@ -1,9 +1,9 @@
 use Rattle.std.proofs.Common.{◌≡◌, Some, None, sym, ap, ◌∙◌}
 use Rattle.std.specs.Option.{option_copied}
 use Rattle.std.proofs.lemmas.Result.{err_from_is_err_and}
-use Rattle.sorted_rows.specs.Sortable.{row_at}
-use Rattle.file_tables.specs.Files.{url_of, file_at}
-use Rattle.file_tables.proofs.SoundFiles.{url_found}
+use Rattle.base_rows.specs.Sortable.{row_at}
+use Rattle.usage_tables.specs.Files.{url_of, file_at}
+use Rattle.usage_tables.proofs.SoundFiles.{url_found}
 use Rattle.file_cache.proofs.StepLaws.{goes_on, unread, file_known, file_unknown}
 use Rattle.file_cache.proofs.imports.import.Goals as goal
 

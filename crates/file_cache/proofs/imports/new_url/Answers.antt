@@ -1,5 +1,5 @@
 use Rattle.std.proofs.Common.{◌≡◌, ◌≤◌, ◌<◌, length, true, false, sym, ◌∙◌, arith}
-use Rattle.file_tables.specs.Limits.{most_files}
+use Rattle.usage_tables.specs.Limits.{most_files}
 use Rattle.file_cache.proofs.StepLaws.{url_offered, refused_full}
 use Rattle.file_cache.proofs.imports.new_url.Goals as goal
 

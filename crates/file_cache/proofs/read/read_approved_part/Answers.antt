@@ -1,4 +1,4 @@
-use Rattle.file_tables.specs.FileItems.{approved_in}
+use Rattle.usage_tables.specs.FileItems.{approved_in}
 use Rattle.file_cache.proofs.ReadLaws.{part_one}
 use Rattle.file_cache.proofs.read.read_approved_part.Goals as goal
 

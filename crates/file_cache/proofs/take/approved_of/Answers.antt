@@ -1,6 +1,6 @@
 use Rattle.std.proofs.Common.{◌≡◌, true, false, sym, ap, ◌∙◌}
-use Rattle.file_tables.specs.Held.{HeldFile}
-use Rattle.file_tables.specs.Files.{may_have}
+use Rattle.usage_tables.specs.Held.{HeldFile}
+use Rattle.usage_tables.specs.Files.{may_have}
 use Rattle.file_cache.proofs.TakeLaws.{approved_unheld, approved_by}
 use Rattle.file_cache.proofs.take.approved_of.Goals as goal
 

@@ -1,7 +1,7 @@
 use Rattle.std.proofs.Common.{◌≡◌, true, sym, subst}
-use Rattle.file_tables.specs.Held.{HeldFile}
-use Rattle.file_tables.specs.Files.{is_approved}
-use Rattle.file_tables.specs.FileItems.{file_row}
+use Rattle.usage_tables.specs.Held.{HeldFile}
+use Rattle.usage_tables.specs.Files.{is_approved}
+use Rattle.usage_tables.specs.FileItems.{file_row}
 use Rattle.file_cache.proofs.TakeLaws.{approved_none, approved_some}
 use Rattle.file_cache.proofs.take.approved_row.Goals as goal
 

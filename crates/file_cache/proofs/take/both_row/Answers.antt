@@ -1,7 +1,7 @@
 use Rattle.std.proofs.Common.{◌≡◌, true, false, sym, ap, subst, ◌∙◌}
-use Rattle.file_tables.specs.Held.{HeldFile}
-use Rattle.file_tables.specs.Files.{is_held, may_follow}
-use Rattle.file_tables.specs.FileItems.{file_row}
+use Rattle.usage_tables.specs.Held.{HeldFile}
+use Rattle.usage_tables.specs.Files.{is_held, may_follow}
+use Rattle.usage_tables.specs.FileItems.{file_row}
 use Rattle.file_cache.proofs.TakeLaws.{both_unapproved, both_unheld, both_apart, both_some}
 use Rattle.file_cache.proofs.take.both_row.Goals as goal
 

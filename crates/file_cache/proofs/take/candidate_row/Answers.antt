@@ -1,7 +1,7 @@
 use Rattle.std.proofs.Common.{◌≡◌, true, sym, ap, subst, ◌∙◌}
-use Rattle.file_tables.specs.Held.{HeldFile}
-use Rattle.file_tables.specs.Files.{is_held}
-use Rattle.file_tables.specs.FileItems.{file_row}
+use Rattle.usage_tables.specs.Held.{HeldFile}
+use Rattle.usage_tables.specs.Files.{is_held}
+use Rattle.usage_tables.specs.FileItems.{file_row}
 use Rattle.file_cache.proofs.TakeLaws.{candidate_none, candidate_some}
 use Rattle.file_cache.proofs.take.candidate_row.Goals as goal
 

@@ -1,6 +1,6 @@
 use Rattle.std.proofs.Common.{◌≡◌, true, false, sym, subst, ◌∙◌}
-use Rattle.file_tables.specs.Held.{HeldFile, held_file}
-use Rattle.file_tables.specs.Files.{is_held}
+use Rattle.usage_tables.specs.Held.{HeldFile, held_file}
+use Rattle.usage_tables.specs.Files.{is_held}
 use Rattle.file_cache.proofs.TakeLaws.{late, unread, other_url, held_so}
 use Rattle.file_cache.proofs.take.held_of.Goals as goal
 

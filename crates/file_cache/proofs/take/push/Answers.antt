@@ -1,6 +1,6 @@
 use Rattle.std.proofs.Common.{sym, ap, ◌∙◌}
-use Rattle.sorted_rows.specs.Sortable.{comes_last}
-use Rattle.file_tables.specs.Files.{url_of}
+use Rattle.base_rows.specs.Sortable.{comes_last}
+use Rattle.usage_tables.specs.Files.{url_of}
 use Rattle.file_cache.proofs.TakeLaws.{behind_full, behind_room}
 use Rattle.file_cache.proofs.take.push.Goals as goal
 

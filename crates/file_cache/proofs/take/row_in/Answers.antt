@@ -1,7 +1,7 @@
 use Rattle.std.proofs.Common.{◌≡◌, Option, Some, subst}
 use Rattle.std.specs.Prelude.{IfOk}
-use Rattle.file_tables.specs.declared.cached_file.CachedFile.{CachedFile}
-use Rattle.file_tables.specs.FileItems.{file_row}
+use Rattle.usage_tables.specs.declared.cached_file.CachedFile.{CachedFile}
+use Rattle.usage_tables.specs.FileItems.{file_row}
 use Rattle.file_cache.proofs.TakeLaws.{other_kind, formless, read_row}
 use Rattle.file_cache.proofs.take.row_in.Goals as goal
 

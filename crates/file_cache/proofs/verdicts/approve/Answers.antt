@@ -1,7 +1,7 @@
 use Rattle.std.proofs.Common.{◌≤◌, ◌<◌, arith}
-use Rattle.file_tables.specs.Limits.{most_policy_entries}
-use Rattle.file_tables.specs.Files.{set_file, entry_count}
-use Rattle.file_tables.specs.FileCommands.{approved_row}
+use Rattle.usage_tables.specs.Limits.{most_policy_entries}
+use Rattle.usage_tables.specs.Files.{set_file, entry_count}
+use Rattle.usage_tables.specs.FileCommands.{approved_row}
 use Rattle.file_cache.proofs.VerdictLaws.{candidate_approved, too_many}
 use Rattle.file_cache.proofs.verdicts.approve.Goals as goal
 

@@ -3,8 +3,8 @@ use Rattle.std.specs.List.{IsAllAdjacentAnswer}
 use Rattle.std.specs.Ordering.{is_lt}
 use Rattle.std.proofs.lemmas.Bool.{false≢true}
 use Rattle.std.proofs.lemmas.List.Sorted.{answers_always}
-use Rattle.sorted_rows.specs.Sortable.{sort_key_cmp, SortKeysAscend}
-use Rattle.sorted_rows.proofs.SortableLaws.{less_from_is_lt, ascend_from_neighbours}
+use Rattle.base_rows.specs.Sortable.{sort_key_cmp, SortKeysAscend}
+use Rattle.base_rows.proofs.SortableLaws.{less_from_is_lt, ascend_from_neighbours}
 use Rattle.mud_world.specs.Items.{sort_key_of}
 use Rattle.keep_sqlite.proofs.listing.are_ordered.Goals as goal
 

@@ -3,7 +3,7 @@ use Rattle.std.specs.List.{IsAllAdjacentAnswer}
 use Rattle.std.specs.Ordering.{is_lt, int_cmp}
 use Rattle.std.proofs.lemmas.Bool.{false≢true}
 use Rattle.std.proofs.lemmas.List.Sorted.{answers_always}
-use Rattle.sorted_rows.proofs.SortableLaws.{less_from_is_lt}
+use Rattle.base_rows.proofs.SortableLaws.{less_from_is_lt}
 use Rattle.keep_sqlite.specs.Selections.{AreUnequal}
 use Rattle.keep_sqlite.proofs.Readings.{rise_from}
 use Rattle.keep_sqlite.proofs.listing.are_rising.Goals as goal

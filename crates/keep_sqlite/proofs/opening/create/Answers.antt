@@ -2,7 +2,7 @@ use Rattle.keep_sqlite.proofs.Crashes.{survives_as}
 use Rattle.keep_sqlite.proofs.Creates.{creates, creates_trees}
 use Rattle.keep_sqlite.proofs.Readings.{executed_stays}
 use Rattle.keep_sqlite.proofs.opening.create.Goals as goal
-use Rattle.sorted_rows.proofs.Results.{always_on_err}
+use Rattle.base_rows.proofs.Results.{always_on_err}
 
 pub returns-clause-ok : goal.returns-clause-ok
 returns-clause-ok g c clean = creates _ _ _ c.requires.blank c.requires.autocommit (c.in_ok-execute.ensures.runs clean)

@@ -1,8 +1,8 @@
 use Rattle.std.proofs.Common.{ap, refl}
-use Rattle.command_runs.specs.Status.{status_number}
+use Rattle.run_common.specs.Status.{status_number}
 use Rattle.mud_world.specs.View.{viewed}
 use Rattle.mud_world.specs.View.{outside, spool_viewed}
-use Rattle.desk_runs.proofs.Refusals.{runs_refused}
+use Rattle.run_desk.proofs.Refusals.{runs_refused}
 use Rattle.mud_cli.proofs.Imports.{imported_run, refused_import}
 use Rattle.mud_cli.proofs.import.import_store.Goals as goal
 

@@ -1,5 +1,5 @@
 use Rattle.std.proofs.Common.{ℕ, sym, ◌∙◌, subst}
-use Rattle.command_words.specs.declared.command.Command.{Command}
+use Rattle.run_words.specs.declared.command.Command.{Command}
 use Rattle.mud_cli.specs.Runs.{Does, LeavesAlone, world}
 use Rattle.mud_cli.proofs.Promised.{promised}
 use Rattle.mud_cli.proofs.run.mud_main.Goals as goal

@@ -1,8 +1,8 @@
 use Rattle.std.proofs.Common.{◌≡◌, ℕ, true, refl}
 use Rattle.std.proofs.lemmas.Bool.{false≢true}
-use Rattle.command_runs.specs.Status.{status_number}
-use Rattle.command_words.specs.declared.command.Command.{Command}
-use Rattle.command_words.specs.declared.command.Command.TheVariants.{Hear, Check, Frames, Judge, Snoop, Tally, Import, Replay, Serve, Report, Export, Drill}
+use Rattle.run_common.specs.Status.{status_number}
+use Rattle.run_words.specs.declared.command.Command.{Command}
+use Rattle.run_words.specs.declared.command.Command.TheVariants.{Hear, Check, Frames, Judge, Snoop, Tally, Import, Replay, Serve, Report, Export, Drill}
 use Rattle.mud_cli.specs.Answers.{most_of}
 use Rattle.mud_cli.specs.Runs.{Does, LeavesAlone, world}
 use Rattle.mud_cli.proofs.Promised.{asked, no_most, not_capture, promised_of, read_up_to}

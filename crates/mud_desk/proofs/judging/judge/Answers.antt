@@ -1,5 +1,5 @@
 use Rattle.std.proofs.Common.{◌≡◌, ◌<◌, IsSome, ap, ◌∙◌, subst, arith}
-use Rattle.mud_tables.specs.Expiries.{for_ever}
+use Rattle.table_model.specs.Expiries.{for_ever}
 use Rattle.flow_table.specs.Held.{flows_of}
 use Rattle.frame_view.specs.declared.views.Frame.{Frame}
 use Rattle.frame_view.specs.Frame.{frame_of}
@@ -9,7 +9,7 @@ use Rattle.desk_model.specs.Verdicts.{verdict_at}
 use Rattle.mud_desk.specs.RuleInputs.{rule_inputs, ruling_on}
 use Rattle.mud_desk.proofs.Verdicts.{verdicts_alike}
 use Rattle.mud_desk.proofs.judging.judge.Goals as goal
-use Rattle.sorted_rows.proofs.Results.{always_on_err}
+use Rattle.base_rows.proofs.Results.{always_on_err}
 
 pub returns-clause-verdict : goal.returns-clause-verdict
 returns-clause-verdict g c = λ desk h of.

@@ -1,6 +1,6 @@
 use Rattle.std.proofs.Common.{List, sym, subst}
-use Rattle.mud_tables.specs.declared.segment.Segment.{Segment}
-use Rattle.mud_tables.specs.History.{StandsFor}
+use Rattle.table_model.specs.declared.segment.Segment.{Segment}
+use Rattle.table_model.specs.History.{StandsFor}
 use Rattle.flow_table.specs.Kept.{Flows}
 use Rattle.flow_table.specs.Held.{flows_of}
 use Rattle.flow_table.specs.Planned.{segment_planned}

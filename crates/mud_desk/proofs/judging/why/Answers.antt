@@ -1,5 +1,5 @@
 use Rattle.std.proofs.Common.{◌<◌, ap, ◌∙◌, subst, arith}
-use Rattle.mud_tables.specs.Expiries.{for_ever}
+use Rattle.table_model.specs.Expiries.{for_ever}
 use Rattle.flow_table.specs.Held.{flows_of}
 use Rattle.frame_view.specs.declared.views.Frame.{Frame}
 use Rattle.acl_compile.specs.Plans.{policy_held}

@@ -1,8 +1,8 @@
 use Rattle.std.proofs.Common.{◌<◌, List, ap, ◌∙◌, arith}
 use Rattle.mud_base.specs.declared.packet.Fields.{Fields}
 use Rattle.mud_base.specs.declared.prefix.Prefix.{Prefix}
-use Rattle.mud_tables.specs.Expiries.{for_ever}
-use Rattle.mud_tables.specs.Bindings.{bindings_of, ruling_by_bindings}
+use Rattle.table_model.specs.Expiries.{for_ever}
+use Rattle.table_model.specs.Bindings.{bindings_of, ruling_by_bindings}
 use Rattle.packet_judge.specs.ByRows.{Asked, asked, ruling_by_rows}
 use Rattle.table_laws.proofs.Stores.{tests_alike}
 use Rattle.packet_judge.proofs.OverTables.{over_tables}

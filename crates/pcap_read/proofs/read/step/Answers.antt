@@ -1,7 +1,7 @@
 use Rattle.std.proofs.Common.{sym, ◌∙◌, ◌++◌}
 use Rattle.pcap_read.specs.Parts.{packets_at, behind_packet, coming, coming_next}
-use Rattle.octet_buffer.specs.Reading.{behind}
-use Rattle.octet_buffer.proofs.Readings.{follows_more}
+use Rattle.read_buffer.specs.Reading.{behind}
+use Rattle.read_buffer.proofs.Readings.{follows_more}
 use Rattle.pcap_read.proofs.Stages.{follows_as, stopped, none_from}
 use Rattle.pcap_read.proofs.read.step.Goals as goal
 

@@ -1,6 +1,6 @@
 use Rattle.std.proofs.Common.{sym, ◌∙◌}
 use Rattle.std.proofs.lemmas.Bool.{false≢true}
-use Rattle.octet_buffer.specs.Reading.{behind}
+use Rattle.read_buffer.specs.Reading.{behind}
 use Rattle.pcapng_read.specs.Parts.{blocks_at, coming_next}
 use Rattle.pcapng_read.proofs.Stages.{held_more, read_packet, decided_head, decided_now}
 use Rattle.pcapng_read.proofs.read.read_block.Goals as goal

@@ -1,8 +1,8 @@
 use Rattle.std.proofs.Common.{Some, inl, inr, sym, ◌∙◌, arith, rules}
 use Rattle.std.specs.Prelude.{IsTrue}
 use Rattle.std.proofs.lemmas.Bool.{false≢true}
-use Rattle.octet_buffer.specs.Reading.{behind}
-use Rattle.octet_buffer.proofs.Readings.{follows_more}
+use Rattle.read_buffer.specs.Reading.{behind}
+use Rattle.read_buffer.proofs.Readings.{follows_more}
 use Rattle.pcapng_read.specs.Parts.{blocks_at, coming_next, is_decided}
 use Rattle.pcapng_read.proofs.Stages.{block_no_end}
 use Rattle.pcapng_read.proofs.read.step.Goals as goal

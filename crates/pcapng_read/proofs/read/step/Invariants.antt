@@ -1,6 +1,6 @@
 use Rattle.std.proofs.Common.{◌≡◌, ◌≤◌, ◌-◌}
 use Rattle.std.specs.Prelude.{IsTrue}
-use Rattle.octet_buffer.specs.Reading.{Follows, behind}
+use Rattle.read_buffer.specs.Reading.{Follows, behind}
 use Rattle.pcapng_read.specs.Parts.{IsWithin, blocks_at, is_decided}
 use Rattle.pcapng_read.proofs.read.step.Given as goal
 

@@ -1,6 +1,6 @@
 use Rattle.std.proofs.Common.{List, ap, sym, ◌∙◌}
-use Rattle.sorted_rows.specs.Sortable.{RowsAndRoom, set_rows}
-use Rattle.sorted_rows.specs.Addresses.{prefix_sort_key}
+use Rattle.base_rows.specs.Sortable.{RowsAndRoom, set_rows}
+use Rattle.base_rows.specs.Addresses.{prefix_sort_key}
 use Rattle.acl_rows.specs.declared.row.Row.{Row}
 use Rattle.acl_rows.proofs.GroupLaws.{together_grouped}
 use Rattle.rule_export.specs.Resolved.{wanted_networks}

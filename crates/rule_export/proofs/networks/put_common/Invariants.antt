@@ -1,7 +1,7 @@
 use Rattle.std.proofs.Common.{◌≡◌, drop}
 use Rattle.std.specs.List.{filter_map}
-use Rattle.sorted_rows.specs.Sortable.{set_rows}
-use Rattle.sorted_rows.specs.Addresses.{prefix_sort_key}
+use Rattle.base_rows.specs.Sortable.{set_rows}
+use Rattle.base_rows.specs.Addresses.{prefix_sort_key}
 use Rattle.rule_export.specs.Networks.{common_part}
 use Rattle.rule_export.proofs.networks.put_common.Given as goal
 

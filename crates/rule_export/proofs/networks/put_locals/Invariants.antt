@@ -1,6 +1,6 @@
 use Rattle.std.proofs.Common.{◌≡◌, drop, option_map}
-use Rattle.sorted_rows.specs.Sortable.{set_rows}
-use Rattle.sorted_rows.specs.Addresses.{prefix_sort_key}
+use Rattle.base_rows.specs.Sortable.{set_rows}
+use Rattle.base_rows.specs.Addresses.{prefix_sort_key}
 use Rattle.rule_export.specs.Networks.{joined_locals, rows_in}
 use Rattle.rule_export.proofs.networks.put_locals.Given as goal
 

@@ -1,4 +1,4 @@
-use Rattle.mud_tables.specs.Bindings.{bindings_of}
+use Rattle.table_model.specs.Bindings.{bindings_of}
 use Rattle.table_laws.proofs.TableBindings.{bindings_apart, bound_until_its}
 use Rattle.table_laws.proofs.bindings.tables_bind_once.Goals as goal
 

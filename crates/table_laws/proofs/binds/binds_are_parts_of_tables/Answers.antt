@@ -1,5 +1,5 @@
 use Rattle.std.proofs.Common.{refl}
-use Rattle.mud_tables.specs.Tables.{binds_of, with_binds}
+use Rattle.table_model.specs.Tables.{binds_of, with_binds}
 use Rattle.table_laws.proofs.binds.binds_are_parts_of_tables.Goals as goal
 
 pub returns-clause-parts : goal.returns-clause-parts

@@ -1,5 +1,5 @@
 use Rattle.std.proofs.Common.{◌+◌}
-use Rattle.mud_tables.specs.BindCommands.{bind_step, unbind_step, locals_step, observe_step, bind_class_step, unbind_class_step, set_locals_step, observe_name_step}
+use Rattle.table_model.specs.BindCommands.{bind_step, unbind_step, locals_step, observe_step, bind_class_step, unbind_class_step, set_locals_step, observe_name_step}
 use Rattle.table_laws.proofs.BindChanges.{bind_tells, unbind_tells, locals_tell, observe_tells, sooner}
 use Rattle.table_laws.proofs.BindLaws.{classes_told, locals_told, names_told}
 use Rattle.table_laws.proofs.binds.binds_change_as_told.Goals as goal

@@ -1,5 +1,5 @@
-use Rattle.mud_tables.specs.BindCommands.{bind_step, unbind_step, observe_step}
-use Rattle.mud_tables.specs.BindRowChanges.{bind_change, unbind_change, observe_change}
+use Rattle.table_model.specs.BindCommands.{bind_step, unbind_step, observe_step}
+use Rattle.table_model.specs.BindRowChanges.{bind_change, unbind_change, observe_change}
 use Rattle.table_laws.proofs.BindRows.{bind_makes, unbind_makes, observe_makes, class_rows, name_rows}
 use Rattle.table_laws.proofs.binds.binds_change_rows.Goals as goal
 

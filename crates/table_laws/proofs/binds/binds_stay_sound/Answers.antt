@@ -1,4 +1,4 @@
-use Rattle.mud_tables.specs.BindCommands.{bind_step, unbind_step, locals_step, observe_step, bind_class_step, unbind_class_step, set_locals_step, observe_name_step}
+use Rattle.table_model.specs.BindCommands.{bind_step, unbind_step, locals_step, observe_step, bind_class_step, unbind_class_step, set_locals_step, observe_name_step}
 use Rattle.table_laws.proofs.SoundClasses.{sound-bind_step, sound-unbind_step}
 use Rattle.table_laws.proofs.SoundLocals.{sound-locals_step}
 use Rattle.table_laws.proofs.SoundNames.{sound-observe_step}

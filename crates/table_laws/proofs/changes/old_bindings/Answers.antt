@@ -1,8 +1,8 @@
 use Rattle.std.proofs.Common.{[], ◌++◌, map, ap, sym, ◌∙◌}
 use Rattle.std.specs.Prelude.{flat_map}
 use Rattle.std.proofs.lemmas.List.{take_all}
-use Rattle.sorted_rows.specs.Sortable.{row_at}
-use Rattle.sorted_rows.specs.Changes.{with_found, gone_row, rows_at, sort_keys_of, old_rows}
+use Rattle.base_rows.specs.Sortable.{row_at}
+use Rattle.base_rows.specs.Changes.{with_found, gone_row, rows_at, sort_keys_of, old_rows}
 use Rattle.table_laws.proofs.OldRows.{rows_split, rows_more}
 use Rattle.table_laws.proofs.changes.old_bindings.Goals as goal
 

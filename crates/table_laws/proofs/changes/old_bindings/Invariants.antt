@@ -1,6 +1,6 @@
 use Rattle.std.proofs.Common.{◌≡◌, ◌++◌, [], map, take}
 use Rattle.std.specs.Prelude.{flat_map}
-use Rattle.sorted_rows.specs.Changes.{with_found, gone_row, rows_at}
+use Rattle.base_rows.specs.Changes.{with_found, gone_row, rows_at}
 use Rattle.table_laws.specs.Lent.{lent_binding}
 use Rattle.table_laws.proofs.changes.old_bindings.Given as goal
 

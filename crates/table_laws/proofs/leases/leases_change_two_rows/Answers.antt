@@ -1,11 +1,11 @@
 use Rattle.std.proofs.Common.{◌≡◌, List, true, Ok, Err}
 use Rattle.std.specs.Prelude.{IfOk}
-use Rattle.sorted_rows.specs.Changes.{RowChange, changed, is_plain}
-use Rattle.mud_tables.specs.declared.thing.Thing.{Thing}
-use Rattle.mud_tables.specs.Things.{mac_of}
-use Rattle.mud_tables.specs.ThingCommands.{ThingStep, lease_step}
-use Rattle.mud_tables.specs.ThingChanges.{lease_change}
-use Rattle.mud_tables.proofs.SoundThings.{OfAfter}
+use Rattle.base_rows.specs.Changes.{RowChange, changed, is_plain}
+use Rattle.table_model.specs.declared.thing.Thing.{Thing}
+use Rattle.table_model.specs.Things.{mac_of}
+use Rattle.table_model.specs.ThingCommands.{ThingStep, lease_step}
+use Rattle.table_model.specs.ThingChanges.{lease_change}
+use Rattle.table_model.proofs.SoundThings.{OfAfter}
 use Rattle.table_laws.proofs.LeaseStep.{Leads, lease_leads}
 use Rattle.table_laws.proofs.leases.leases_change_two_rows.Goals as goal
 

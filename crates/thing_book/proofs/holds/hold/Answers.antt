@@ -1,4 +1,4 @@
-use Rattle.mud_tables.specs.ThingCommands.{hold_cases, hold_step}
+use Rattle.table_model.specs.ThingCommands.{hold_cases, hold_step}
 use Rattle.thing_book.specs.RowChanges.{hold_cases_change, hold_change}
 use Rattle.thing_book.proofs.Carried.{carried_found}
 use Rattle.thing_book.proofs.holds.hold.Goals as goal

@@ -1,4 +1,4 @@
-use Rattle.mud_tables.specs.ThingCommands.{release_cases, release_step}
+use Rattle.table_model.specs.ThingCommands.{release_cases, release_step}
 use Rattle.thing_book.specs.RowChanges.{release_cases_change, release_change}
 use Rattle.thing_book.proofs.Carried.{carried_found}
 use Rattle.thing_book.proofs.holds.release.Goals as goal

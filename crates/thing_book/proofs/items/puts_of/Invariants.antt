@@ -1,6 +1,6 @@
 use Rattle.std.proofs.Common.{◌≡◌, ◌++◌, drop, map}
 use Rattle.mud_world.specs.Items.{puts_of, set_put}
-use Rattle.mud_tables.specs.ThingItems.{thing_item}
+use Rattle.table_model.specs.ThingItems.{thing_item}
 use Rattle.thing_book.proofs.items.puts_of.Given as goal
 
 abbrev pub invariant-loop-thing : goal.invariant-loop-thing

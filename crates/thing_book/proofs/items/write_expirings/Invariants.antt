@@ -1,6 +1,6 @@
 use Rattle.std.proofs.Common.{◌≡◌, ◌++◌, drop}
 use Rattle.std.specs.Prelude.{flat_map}
-use Rattle.mud_tables.specs.ItemFields.{expiring}
+use Rattle.table_model.specs.ItemFields.{expiring}
 use Rattle.thing_book.proofs.items.write_expirings.Given as goal
 
 abbrev pub invariant-loop-row : goal.invariant-loop-row

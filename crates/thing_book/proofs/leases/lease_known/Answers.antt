@@ -1,7 +1,7 @@
 use Rattle.std.proofs.Common.{ap, ◌∙◌}
-use Rattle.mud_tables.specs.Expiries.{expiry_of}
-use Rattle.mud_tables.specs.ThingCommands.{known_lease}
-use Rattle.mud_tables.specs.ThingChanges.{known_lease_change}
+use Rattle.table_model.specs.Expiries.{expiry_of}
+use Rattle.table_model.specs.ThingCommands.{known_lease}
+use Rattle.table_model.specs.ThingChanges.{known_lease_change}
 use Rattle.thing_book.proofs.Carried.{carried_found}
 use Rattle.thing_book.proofs.leases.lease_known.Goals as goal
 

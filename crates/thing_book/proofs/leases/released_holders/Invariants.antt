@@ -1,5 +1,5 @@
 use Rattle.std.proofs.Common.{◌≡◌, ◌++◌, drop}
-use Rattle.mud_tables.specs.ThingChanges.{released_holders}
+use Rattle.table_model.specs.ThingChanges.{released_holders}
 use Rattle.thing_book.proofs.leases.released_holders.Given as goal
 
 abbrev pub invariant-loop-thing : goal.invariant-loop-thing

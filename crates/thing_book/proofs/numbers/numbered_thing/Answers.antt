@@ -1,5 +1,5 @@
 use Rattle.std.proofs.Common.{slice_get, sym, ap, ◌∙◌}
-use Rattle.mud_tables.specs.Things.{thing_at}
+use Rattle.table_model.specs.Things.{thing_at}
 use Rattle.thing_book.proofs.NumberLaws.{rising, found, absent, lent}
 use Rattle.thing_book.proofs.numbers.numbered_thing.Goals as goal
 

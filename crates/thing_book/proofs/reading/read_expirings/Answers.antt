@@ -1,7 +1,7 @@
 use Rattle.std.proofs.Common.{◌-◌, ◌∙◌, sym, ap, arith}
 use Rattle.std.specs.Option.{option_map}
 use Rattle.item_codec.specs.Records.{each_in}
-use Rattle.mud_tables.specs.ItemFields.{expiring_in}
+use Rattle.table_model.specs.ItemFields.{expiring_in}
 use Rattle.thing_book.proofs.Readings.{behind, first_behind, last_behind, row_behind, none_behind}
 use Rattle.thing_book.proofs.reading.read_expirings.Goals as goal
 

@@ -1,7 +1,7 @@
 use Rattle.std.proofs.Common.{◌≡◌}
 use Rattle.std.specs.Option.{option_map}
 use Rattle.item_codec.specs.Records.{each_in}
-use Rattle.mud_tables.specs.ItemFields.{expiring_in}
+use Rattle.table_model.specs.ItemFields.{expiring_in}
 use Rattle.thing_book.proofs.Readings.{behind}
 use Rattle.thing_book.proofs.reading.read_expirings.Given as goal
 

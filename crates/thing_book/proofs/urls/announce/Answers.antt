@@ -1,4 +1,4 @@
-use Rattle.mud_tables.specs.ThingCommands.{url_cases, url_step}
+use Rattle.table_model.specs.ThingCommands.{url_cases, url_step}
 use Rattle.thing_book.specs.RowChanges.{url_cases_change, url_change}
 use Rattle.thing_book.proofs.Carried.{carried_found}
 use Rattle.thing_book.proofs.urls.announce.Goals as goal

@@ -1,4 +1,4 @@
-use Rattle.mud_tables.specs.ThingCommands.{move_cases, move_step}
+use Rattle.table_model.specs.ThingCommands.{move_cases, move_step}
 use Rattle.thing_book.specs.RowChanges.{move_cases_change, move_change}
 use Rattle.thing_book.proofs.Carried.{for_found}
 use Rattle.thing_book.proofs.urls.move_to.Goals as goal

@@ -1,7 +1,7 @@
 use Rattle.std.proofs.Common.{◌≡◌, ◌≤◌, length, Some, None, sym, ap, subst, ◌∙◌}
 use Rattle.std.proofs.Math.Path.{transport}
 use Rattle.acl_model.specs.SortKeys.{binding_sort_key}
-use Rattle.sorted_rows.specs.Edits.{edited}
+use Rattle.base_rows.specs.Edits.{edited}
 use Rattle.acl_rows.specs.SortKeys.{row_sort_key}
 use Rattle.acl_rows.specs.Rows.{Slots}
 use Rattle.acl_compile.specs.Compiled.{CompiledState, UrlsApart, IsSound}

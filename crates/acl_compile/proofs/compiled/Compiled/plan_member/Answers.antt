@@ -1,8 +1,8 @@
 use Rattle.std.proofs.Common.{◌≡◌, ℕ, ◌+◌, ◌*◌, ◌^◌, ◌<◌, ◌≤◌, ◌++◌, length, OnOk, ap, ◌∙◌}
 use Rattle.std.proofs.Math.Path.{transport}
-use Rattle.row_changes.specs.Touched.{touches}
+use Rattle.acl_changes.specs.Touched.{touches}
 use Rattle.acl_compile.specs.Compiled.{CompiledState}
-use Rattle.row_changes.specs.Steps.{least_steps, HaveKeys, sort_key_steps}
+use Rattle.acl_changes.specs.Steps.{least_steps, HaveKeys, sort_key_steps}
 use Rattle.acl_compile.proofs.compiled.Compiled.plan_member.Goals as goal
 
 pub returns-clause-most : goal.returns-clause-most

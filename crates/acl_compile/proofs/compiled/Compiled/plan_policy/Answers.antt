@@ -1,7 +1,7 @@
 use Rattle.std.proofs.Common.{ℕ, ◌+◌, ◌^◌, ◌<◌, ◌≤◌, length, OnOk, subst}
 use Rattle.std.specs.Option.{option_copied}
 use Rattle.acl_compile.specs.Compiled.{CompiledState}
-use Rattle.row_changes.specs.Steps.{HaveKeys, PolicyKeys}
+use Rattle.acl_changes.specs.Steps.{HaveKeys, PolicyKeys}
 use Rattle.acl_compile.specs.Plans.{held_for, policy_reads, policy_steps}
 use Rattle.acl_compile.proofs.compiled.Compiled.plan_policy.Goals as goal
 

@@ -1,5 +1,5 @@
 use Rattle.std.proofs.Common.{sym, ◌∙◌}
-use Rattle.sorted_rows.specs.Sortable.{sort_key_cmp}
+use Rattle.base_rows.specs.Sortable.{sort_key_cmp}
 use Rattle.acl_model.specs.SortKeys.{key_kind, key_text, text_sort_key, member_sort_key, bound_sort_key, binding_sort_key}
 use Rattle.acl_model.proofs.SortKeyLaws.{text_sort_key_prefix}
 use Rattle.acl_model.proofs.sort_key.KeyTextPrefixOfBinding.order_to_beginning.Goals as goal

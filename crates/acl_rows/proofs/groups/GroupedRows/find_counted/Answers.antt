@@ -1,5 +1,5 @@
 use Rattle.std.proofs.Common.{ap, length, ◌∙◌, arith}
-use Rattle.sorted_rows.specs.Sortable.{index_in}
+use Rattle.base_rows.specs.Sortable.{index_in}
 use Rattle.acl_rows.specs.SortKeys.{row_sort_key, named_sort_key}
 use Rattle.acl_rows.specs.ByAddress.{until_of_row}
 use Rattle.acl_rows.proofs.GroupEdits.{lent_there, missed_there}

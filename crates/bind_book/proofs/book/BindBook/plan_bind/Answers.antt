@@ -1,9 +1,9 @@
 use Rattle.std.proofs.Common.{refl, subst, ap}
 use Rattle.std.proofs.lemmas.Result.{err_from_is_err_and}
 use Rattle.item_codec.specs.declared.word.Word.TheVariants.{Bound}
-use Rattle.mud_tables.specs.Binds.{Binds}
-use Rattle.mud_tables.specs.BindCommands.{is_change, bind_step, bind_class_step}
-use Rattle.mud_tables.specs.BindRowChanges.{bind_change}
+use Rattle.table_model.specs.Binds.{Binds}
+use Rattle.table_model.specs.BindCommands.{is_change, bind_step, bind_class_step}
+use Rattle.table_model.specs.BindRowChanges.{bind_change}
 use Rattle.bind_book.specs.Book.{Book}
 use Rattle.bind_book.specs.Plans.{IsBindRows}
 use Rattle.bind_book.proofs.ClassPlans.{class_planned, class_same, class_fits, bind_known, class_refused}

@@ -1,8 +1,8 @@
 use Rattle.std.proofs.Common.{List, subst, ap}
 use Rattle.std.proofs.lemmas.Result.{err_from_is_err_and}
 use Rattle.mud_base.specs.declared.prefix.Prefix.{Prefix}
-use Rattle.mud_tables.specs.Binds.{Binds}
-use Rattle.mud_tables.specs.BindCommands.{locals_step, set_locals_step}
+use Rattle.table_model.specs.Binds.{Binds}
+use Rattle.table_model.specs.BindCommands.{locals_step, set_locals_step}
 use Rattle.table_laws.proofs.SoundLocals.{sound-locals_step}
 use Rattle.bind_book.specs.Book.{Book, IsRefusal}
 use Rattle.bind_book.specs.Plans.{IsSetLocals}

@@ -1,8 +1,8 @@
 use Rattle.std.proofs.Common.{ap}
 use Rattle.std.proofs.lemmas.Result.{err_from_is_err_and}
-use Rattle.mud_tables.specs.Binds.{Binds}
-use Rattle.mud_tables.specs.BindCommands.{observe_step, observe_name_step}
-use Rattle.mud_tables.specs.BindRowChanges.{observe_change}
+use Rattle.table_model.specs.Binds.{Binds}
+use Rattle.table_model.specs.BindCommands.{observe_step, observe_name_step}
+use Rattle.table_model.specs.BindRowChanges.{observe_change}
 use Rattle.bind_book.specs.Book.{Book}
 use Rattle.bind_book.proofs.NamePlans.{name_planned, name_same, name_fits, observe_known, name_refused}
 use Rattle.bind_book.proofs.book.BindBook.plan_observe.Goals as goal

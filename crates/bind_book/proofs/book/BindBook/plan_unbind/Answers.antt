@@ -1,9 +1,9 @@
 use Rattle.std.proofs.Common.{refl, ap}
 use Rattle.std.proofs.lemmas.Result.{err_from_is_err_and}
 use Rattle.item_codec.specs.declared.word.Word.TheVariants.{Unbound}
-use Rattle.mud_tables.specs.Binds.{Binds}
-use Rattle.mud_tables.specs.BindCommands.{is_change, unbind_step, unbind_class_step}
-use Rattle.mud_tables.specs.BindRowChanges.{unbind_change}
+use Rattle.table_model.specs.Binds.{Binds}
+use Rattle.table_model.specs.BindCommands.{is_change, unbind_step, unbind_class_step}
+use Rattle.table_model.specs.BindRowChanges.{unbind_change}
 use Rattle.bind_book.specs.Book.{Book}
 use Rattle.bind_book.proofs.ClassPlans.{class_planned, class_fits, unbind_known, class_refused}
 use Rattle.bind_book.proofs.book.BindBook.plan_unbind.Goals as goal

@@ -1,11 +1,11 @@
 use Rattle.std.proofs.Common.{false, ◌<◌, ◌≤◌, ◌&&◌, ◌++◌, ◌∷◌, [], List, IsTrue, cond, sym, ap, subst, ◌∙◌}
 use Rattle.std.specs.Prelude.{◌==◌, option_map}
-use Rattle.sorted_rows.specs.Sortable.{comes_last}
+use Rattle.base_rows.specs.Sortable.{comes_last}
 use Rattle.item_codec.specs.Spelling.{IsOctets}
-use Rattle.mud_tables.specs.declared.bind.ClassRow.{ClassRow}
-use Rattle.mud_tables.specs.Binds.{Binds, class_key}
-use Rattle.mud_tables.specs.BindItems.{with_class_item}
-use Rattle.mud_tables.specs.TakenItems.{is_empty, set_classes}
+use Rattle.table_model.specs.declared.bind.ClassRow.{ClassRow}
+use Rattle.table_model.specs.Binds.{Binds, class_key}
+use Rattle.table_model.specs.BindItems.{with_class_item}
+use Rattle.table_model.specs.TakenItems.{is_empty, set_classes}
 use Rattle.bind_book.specs.Book.{Book}
 use Rattle.bind_book.specs.Reading.{IsTaken}
 use Rattle.bind_book.proofs.TakeLaws.{not_taken, full_classes, no_class_taken, class_taken, class_sound}

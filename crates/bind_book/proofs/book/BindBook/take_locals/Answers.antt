@@ -1,9 +1,9 @@
 use Rattle.std.proofs.Common.{false, true, ◌&&◌, IsTrue, sym, ap, subst, ◌∙◌}
 use Rattle.std.specs.Prelude.{◌==◌, option_map}
 use Rattle.item_codec.specs.Spelling.{IsOctets}
-use Rattle.mud_tables.specs.Binds.{Binds}
-use Rattle.mud_tables.specs.BindItems.{with_locals_item}
-use Rattle.mud_tables.specs.TakenItems.{is_empty, set_locals}
+use Rattle.table_model.specs.Binds.{Binds}
+use Rattle.table_model.specs.BindItems.{with_locals_item}
+use Rattle.table_model.specs.TakenItems.{is_empty, set_locals}
 use Rattle.bind_book.specs.Book.{Book}
 use Rattle.bind_book.specs.Reading.{IsTaken}
 use Rattle.bind_book.proofs.TakeLaws.{not_taken, locals_there, with_locals, locals_taken, locals_sound}

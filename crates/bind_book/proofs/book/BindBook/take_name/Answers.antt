@@ -1,11 +1,11 @@
 use Rattle.std.proofs.Common.{false, ◌<◌, ◌≤◌, ◌++◌, ◌∷◌, [], List, cond, sym, ap, subst, ◌∙◌}
 use Rattle.std.specs.Prelude.{option_map}
-use Rattle.sorted_rows.specs.Sortable.{comes_last}
+use Rattle.base_rows.specs.Sortable.{comes_last}
 use Rattle.item_codec.specs.Spelling.{IsOctets}
-use Rattle.mud_tables.specs.declared.bind.NameRow.{NameRow}
-use Rattle.mud_tables.specs.Binds.{Binds, name_of}
-use Rattle.mud_tables.specs.BindItems.{with_name_item}
-use Rattle.mud_tables.specs.TakenItems.{set_names}
+use Rattle.table_model.specs.declared.bind.NameRow.{NameRow}
+use Rattle.table_model.specs.Binds.{Binds, name_of}
+use Rattle.table_model.specs.BindItems.{with_name_item}
+use Rattle.table_model.specs.TakenItems.{set_names}
 use Rattle.bind_book.specs.Book.{Book}
 use Rattle.bind_book.specs.Reading.{IsTaken}
 use Rattle.bind_book.proofs.TakeLaws.{not_taken, full_names, no_name_taken, name_taken, name_sound}

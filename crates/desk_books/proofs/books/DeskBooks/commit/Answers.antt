@@ -1,5 +1,5 @@
 use Rattle.std.proofs.Common.{◌≡◌, ◌≤◌, length, ap, sym, subst, ◌∙◌}
-use Rattle.row_changes.specs.Patch.{rows_apart}
+use Rattle.acl_changes.specs.Patch.{rows_apart}
 use Rattle.desk_books.specs.Books.{Books, desk_of, books_with}
 use Rattle.desk_books.specs.Changes.{PlannedChange, desk_after}
 use Rattle.desk_books.specs.Planned.{IsReady, IsCommitted}

@@ -3,11 +3,11 @@ use Rattle.desk_model.specs.declared.command.Command.TheVariants.{HearUrl, HearL
 use Rattle.desk_model.specs.DeskTables.{DeskTables}
 use Rattle.desk_model.specs.Commands.{command_step, by_files, by_binds}
 use Rattle.mud_base.specs.declared.prefix.Prefix.{Prefix}
-use Rattle.mud_tables.specs.Tables.{binds_of}
+use Rattle.table_model.specs.Tables.{binds_of}
 use Rattle.desk_books.specs.InBooks.{IsAnswerIn}
-use Rattle.mud_tables.specs.ThingCommands.{url_step, move_step, remove_step, hold_step, release_step, lease_step, end_step}
-use Rattle.mud_tables.specs.BindCommands.{bind_class_step, unbind_class_step, set_locals_step, observe_name_step}
-use Rattle.file_tables.specs.FileCommands.{import_step, verdict_step, revoke_step}
+use Rattle.table_model.specs.ThingCommands.{url_step, move_step, remove_step, hold_step, release_step, lease_step, end_step}
+use Rattle.table_model.specs.BindCommands.{bind_class_step, unbind_class_step, set_locals_step, observe_name_step}
+use Rattle.usage_tables.specs.FileCommands.{import_step, verdict_step, revoke_step}
 use Rattle.desk_books.specs.declared.lists.Lists.{Lists}
 use Rattle.desk_books.specs.Books.{desk_with}
 use Rattle.desk_books.proofs.Asked.{answer_of}

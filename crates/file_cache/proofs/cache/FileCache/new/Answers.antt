@@ -1,5 +1,5 @@
 use Rattle.std.proofs.Common.{sym, subst}
-use Rattle.file_tables.specs.Files.{IsSoundFiles}
+use Rattle.usage_tables.specs.Files.{IsSoundFiles}
 use Rattle.file_cache.proofs.Commits.{no_files_sound}
 use Rattle.file_cache.proofs.cache.FileCache.new.Goals as goal
 

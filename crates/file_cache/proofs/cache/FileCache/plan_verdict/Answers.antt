@@ -1,8 +1,8 @@
 use Rattle.std.proofs.Common.{ap, sym}
-use Rattle.file_tables.specs.FileCommands.{verdict_step}
-use Rattle.file_tables.proofs.SoundFiles.{sound-verdict_step}
-use Rattle.file_tables.proofs.SoundLaws.{stays}
-use Rattle.file_tables.proofs.ToldFiles.{told-verdict_step}
+use Rattle.usage_tables.specs.FileCommands.{verdict_step}
+use Rattle.usage_tables.proofs.SoundFiles.{sound-verdict_step}
+use Rattle.usage_tables.proofs.SoundLaws.{stays}
+use Rattle.usage_tables.proofs.ToldFiles.{told-verdict_step}
 use Rattle.file_cache.specs.Changes.{Files}
 use Rattle.file_cache.proofs.Planned.{planned_by}
 use Rattle.file_cache.proofs.cache.FileCache.plan_verdict.Goals as goal

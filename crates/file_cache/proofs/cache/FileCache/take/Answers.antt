@@ -1,7 +1,7 @@
 use Rattle.std.proofs.Common.{◌≡◌, List, Some, None, ap, sym, subst, ◌∙◌, if◌then◌else◌}
 use Rattle.std.specs.Prelude.{IfOk}
-use Rattle.file_tables.specs.declared.cached_file.CachedFile.{CachedFile}
-use Rattle.file_tables.specs.FileItems.{with_file_item}
+use Rattle.usage_tables.specs.declared.cached_file.CachedFile.{CachedFile}
+use Rattle.usage_tables.specs.FileItems.{with_file_item}
 use Rattle.file_cache.specs.Changes.{Files}
 use Rattle.file_cache.proofs.TakeLaws.{taken_as, untaken, sound_pushed}
 use Rattle.file_cache.proofs.cache.FileCache.take.Goals as goal

@@ -1,6 +1,6 @@
 use Rattle.std.proofs.Common.{sym, ap, ◌∙◌}
 use Rattle.flow_table.specs.Kept.{beginner_kept}
-use Rattle.mud_tables.specs.History.{side_of}
+use Rattle.table_model.specs.History.{side_of}
 use Rattle.flow_table.specs.Held.{flows_of, held_between, held_at}
 use Rattle.flow_table.proofs.Histories.{begun_found, begun_none, begun_opens, begun_other}
 use Rattle.flow_table.proofs.table.FlowTable.begun.Goals as goal

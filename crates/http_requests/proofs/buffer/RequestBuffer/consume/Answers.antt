@@ -1,4 +1,4 @@
-use Rattle.octet_buffer.proofs.Buffers.{part_consumed}
+use Rattle.read_buffer.proofs.Buffers.{part_consumed}
 use Rattle.http_requests.proofs.buffer.RequestBuffer.consume.Goals as goal
 
 pub returns : goal.returns

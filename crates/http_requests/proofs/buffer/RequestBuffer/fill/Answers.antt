@@ -1,7 +1,7 @@
 use Rattle.std.proofs.Common.{◌≡◌, ◌-◌, ◌++◌, length, take, drop, ap, ◌∙◌, rules}
 use Rattle.std.specs.Prelude.{slice_range}
 use Rattle.std.proofs.lemmas.List.{places}
-use Rattle.octet_buffer.proofs.Buffers.{part_filled}
+use Rattle.read_buffer.proofs.Buffers.{part_filled}
 use Rattle.http_requests.proofs.buffer.RequestBuffer.fill.Goals as goal
 
 pub returns-clause-octets : goal.returns-clause-octets

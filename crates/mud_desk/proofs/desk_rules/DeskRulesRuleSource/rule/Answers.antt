@@ -1,7 +1,7 @@
 use Rattle.std.proofs.Common.{Option, ap, ◌∙◌, arith}
 use Rattle.mud_base.specs.declared.packet.Direction.{Direction}
 use Rattle.mud_base.specs.declared.packet.Fields.{Fields}
-use Rattle.mud_tables.specs.Bindings.{ruling_by_bindings}
+use Rattle.table_model.specs.Bindings.{ruling_by_bindings}
 use Rattle.acl_compile.specs.Plans.{policy_held}
 use Rattle.flow_table.specs.Held.{flows_of}
 use Rattle.flow_table.specs.Kept.{begun_kept}

@@ -1,5 +1,5 @@
 use Rattle.std.proofs.Common.{◌≡◌, List, sym, subst, ap, ◌∙◌}
-use Rattle.mud_tables.specs.declared.segment.Segment.{Segment}
+use Rattle.table_model.specs.declared.segment.Segment.{Segment}
 use Rattle.flow_table.specs.Held.{flows_of}
 use Rattle.frame_view.specs.Frame.{frame_of}
 use Rattle.desk_model.specs.Sessions.{verdict_in}

@@ -1,5 +1,5 @@
 use Rattle.std.proofs.Common.{◌≡◌, ◌++◌, map, drop}
-use Rattle.mud_tables.specs.Bindings.{name_binding}
+use Rattle.table_model.specs.Bindings.{name_binding}
 use Rattle.table_laws.specs.Lent.{lent_binding}
 use Rattle.table_laws.proofs.rows.NameRowBindingRow.add_bindings.Given as goal
 

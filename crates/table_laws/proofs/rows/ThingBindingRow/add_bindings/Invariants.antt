@@ -1,6 +1,6 @@
 use Rattle.std.proofs.Common.{◌≡◌, ◌++◌, map, drop}
 use Rattle.std.specs.Prelude.{flat_map}
-use Rattle.mud_tables.specs.Bindings.{bindings_of_lease}
+use Rattle.table_model.specs.Bindings.{bindings_of_lease}
 use Rattle.table_laws.specs.Lent.{lent_binding}
 use Rattle.table_laws.proofs.rows.ThingBindingRow.add_bindings.Given as goal
 

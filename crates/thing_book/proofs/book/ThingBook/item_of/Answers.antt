@@ -4,8 +4,8 @@ use Rattle.std.specs.Option.{option_map}
 use Rattle.std.proofs.lemmas.Result.{IfOk-weaker}
 use Rattle.std.proofs.lemmas.Option.{slice_get-map, slice_get-get_or}
 use Rattle.mud_world.specs.declared.item.Item.{Item}
-use Rattle.mud_tables.specs.declared.thing.Thing.{Thing}
-use Rattle.mud_tables.specs.ThingItems.{thing_item, thing_items}
+use Rattle.table_model.specs.declared.thing.Thing.{Thing}
+use Rattle.table_model.specs.ThingItems.{thing_item, thing_items}
 use Rattle.thing_book.specs.Planned.{Things}
 use Rattle.thing_book.proofs.book.ThingBook.item_of.Goals as goal
 

@@ -1,7 +1,7 @@
 use Rattle.std.proofs.Common.{ap}
-use Rattle.mud_tables.specs.ThingCommands.{end_step}
+use Rattle.table_model.specs.ThingCommands.{end_step}
 use Rattle.thing_book.specs.Planned.{Things}
-use Rattle.mud_tables.specs.ThingChanges.{end_change}
+use Rattle.table_model.specs.ThingChanges.{end_change}
 use Rattle.thing_book.proofs.PlannedLaws.{fit, answers, ready, end_is}
 use Rattle.thing_book.proofs.book.ThingBook.plan_end.Goals as goal
 

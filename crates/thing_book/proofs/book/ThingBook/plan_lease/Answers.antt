@@ -1,6 +1,6 @@
 use Rattle.std.proofs.Common.{ap}
-use Rattle.mud_tables.specs.ThingCommands.{lease_step}
-use Rattle.mud_tables.specs.ThingChanges.{lease_change}
+use Rattle.table_model.specs.ThingCommands.{lease_step}
+use Rattle.table_model.specs.ThingChanges.{lease_change}
 use Rattle.thing_book.specs.Planned.{Things}
 use Rattle.thing_book.proofs.PlannedLaws.{fit, answers, ready, lease_is}
 use Rattle.thing_book.proofs.book.ThingBook.plan_lease.Goals as goal

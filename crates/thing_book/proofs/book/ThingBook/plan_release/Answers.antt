@@ -1,5 +1,5 @@
 use Rattle.std.proofs.Common.{ap}
-use Rattle.mud_tables.specs.ThingCommands.{release_step}
+use Rattle.table_model.specs.ThingCommands.{release_step}
 use Rattle.thing_book.specs.Planned.{Things}
 use Rattle.thing_book.specs.RowChanges.{release_change}
 use Rattle.thing_book.proofs.PlannedLaws.{fit, answers, ready, release_is}

@@ -1,5 +1,5 @@
 use Rattle.std.proofs.Common.{ap}
-use Rattle.mud_tables.specs.ThingCommands.{url_step}
+use Rattle.table_model.specs.ThingCommands.{url_step}
 use Rattle.thing_book.specs.Planned.{Things}
 use Rattle.thing_book.specs.RowChanges.{url_change}
 use Rattle.thing_book.proofs.PlannedLaws.{fit, answers, ready, url_is}

@@ -1,8 +1,8 @@
 use Rattle.std.proofs.Common.{ap, ap₂, ◌∙◌}
 use Rattle.std.specs.Ordering.{nat_cmp}
-use Rattle.sorted_rows.specs.Sortable.{sort_key_cmp}
+use Rattle.base_rows.specs.Sortable.{sort_key_cmp}
 use Rattle.mud_base.specs.declared.addr.Mac.{Mac}
-use Rattle.mud_tables.specs.Things.{mac_of}
+use Rattle.table_model.specs.Things.{mac_of}
 use Rattle.thing_book.proofs.MacNumbers.{mac_cmp}
 use Rattle.thing_book.proofs.key.ThingKeyKeyOfThing.order_to.Goals as goal
 

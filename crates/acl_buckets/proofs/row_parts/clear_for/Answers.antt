@@ -1,0 +1,27 @@
+use Rattle.std.proofs.Common.{◌<◌, length, sym, subst, arith}
+use Rattle.acl_buckets.specs.RowParts.{AreKept}
+use Rattle.acl_buckets.proofs.RoomLaws.{kept_itself, kept_twice, kept_set, bucket_of}
+use Rattle.acl_buckets.proofs.row_parts.clear_for.Goals as goal
+use Rattle.acl_buckets.proofs.row_parts.clear_for.Goals.{then-number-visited, else-number-visited}
+
+pub loop-edit-init : goal.loop-edit-init
+loop-edit-init c = record { kept = kept_itself c.args.buckets.now.items c.requires.sorted }
+
+pub index_mut-requires : goal.index_mut-requires
+index_mut-requires c =
+    let lt = bucket_of c.args.edits.now.rows c.rows-edit-items.result.now c.args.buckets.now.len c.loop-edit.edit-index c.edit-item.result c.rows-edit-items.ensures.rows c.requires.bucketed c.loop-edit-test.true c.edit-item.is in
+    omega (arith, lt, c.number_of-number.ensures.number, c.loop-edit.invariant.kept.len, c.loop-edit.buckets.ok.0, c.args.buckets.now.ok.0)
+
+pub loop-edit-preserved : goal.loop-edit-preserved
+loop-edit-preserved c =
+    let lt = bucket_of c.args.edits.now.rows c.rows-edit-items.result.now c.args.buckets.now.len c.loop-edit.edit-index c.edit-item.result c.rows-edit-items.ensures.rows c.requires.bucketed c.loop-edit-test.true c.edit-item.is in
+    let within : c.number_of-number.result < length c.loop-edit.buckets.items = omega (arith, lt, c.number_of-number.ensures.number, c.loop-edit.invariant.kept.len, c.args.buckets.now.ok.0) in
+    elim c.if-number-visited.branch [
+      | then-number-visited w ↦ record {
+        kept =
+            subst (λ v. AreKept c.args.buckets.now.items v.items) (sym w.buckets-is)
+            (kept_twice c.args.buckets.now.items c.loop-edit.buckets.items _ c.loop-edit.invariant.kept
+            (kept_set c.loop-edit.buckets.items c.number_of-number.result w.index_mut.result.now w.clear.new.self c.loop-edit.invariant.kept.sorted within w.index_mut.ensures.value w.clear.ensures.owner w.clear.ensures.side w.clear.ensures.rows));
+      }
+      | else-number-visited w ↦ record { kept = subst (λ v. AreKept c.args.buckets.now.items v.items) (sym w.buckets-is) c.loop-edit.invariant.kept }
+    ]

@@ -1,0 +1,127 @@
+-- The rows of the listings: objects with their members by the octets of their names, and no space.
+use Rattle.std.specs.Prelude.{ℕ, List, ◌++◌, codes, decimal, Option, Some, None}
+use Rattle.std.specs.Fmt.{signed_decimal}
+use Rattle.json.specs.Print.{quoted}
+use Rattle.mud_base.specs.declared.addr.Addr.{Addr}
+use Rattle.mud_base.specs.Addresses.{PrefixParts}
+use Rattle.mud_base.specs.Texts.{mac_text, addr_text, prefix_text}
+use Rattle.mud_file.specs.declared.usage_file.UsageFile.{UsageFile}
+use Rattle.table_model.specs.declared.thing.Thing.{Thing}
+use Rattle.table_model.specs.declared.bind.Class.{Class}
+use Rattle.table_model.specs.declared.bind.Class.TheVariants.{Uri, Mine}
+use Rattle.table_model.specs.declared.bind.ClassRow.{ClassRow}
+use Rattle.table_model.specs.declared.bind.NameRow.{NameRow}
+use Rattle.usage_tables.specs.Held.{HeldFile, usage_in, digest_of}
+use Rattle.usage_tables.specs.declared.approval.Approval.{Approval}
+use Rattle.usage_tables.specs.declared.cached_file.CachedFile.{CachedFile}
+use Rattle.usage_tables.specs.Words.{approval_word}
+use Rattle.http_answers.specs.Texts.{url_text}
+use Rattle.console_listings.specs.Texts.{truth_text, until_text}
+use Rattle.console_listings.specs.Lists.{list_text, listing_body}
+
+-- ---- Addresses
+
+unfoldable pub until_end : ℕ → List ℕ
+until_end until = codes ",\"until\":" ++ until_text until ++ codes "}"
+
+unfoldable pub expiring_of : Addr → ℕ → List ℕ
+expiring_of address until = codes "{\"address\":" ++ quoted (addr_text address) ++ until_end until
+
+abbrev pub expiring_text : Addr × ℕ → List ℕ
+expiring_text row = expiring_of row.0 row.1
+
+unfoldable pub url_end : List ℕ → List ℕ
+url_end url = codes ",\"url\":" ++ quoted url ++ codes "}"
+
+abbrev pub address_text : Addr → List ℕ
+address_text address = quoted (addr_text address)
+
+abbrev pub network_text : PrefixParts → List ℕ
+network_text prefix = quoted (prefix_text prefix)
+
+-- ---- Things
+
+unfoldable pub leases_text : Thing → List ℕ
+leases_text t = codes "{\"held\":" ++ truth_text t.held ++ codes ",\"leases\":" ++ list_text expiring_text t.leases
+
+unfoldable pub urls_text : Option (List ℕ) → List ℕ → List ℕ
+urls_text pending url = codes ",\"pending\":" ++ url_text pending ++ url_end url
+
+unfoldable pub thing_text : Thing → List ℕ
+thing_text t = leases_text t ++ codes ",\"mac\":" ++ quoted (mac_text t.mac) ++ urls_text t.pending t.url
+
+unfoldable pub things_body : List Thing → List ℕ
+things_body things = listing_body thing_text (codes "things") things
+
+-- ---- Classes, local networks, names, URLs
+
+unfoldable pub class_member : Class → List ℕ
+class_member (Uri uri) = codes ",\"class\":" ++ quoted uri
+class_member (Mine url) = codes ",\"my-controller-of\":" ++ quoted url
+
+unfoldable pub addresses_text : List Addr → List ℕ
+addresses_text addrs = codes "{\"addresses\":" ++ list_text address_text addrs
+
+unfoldable pub class_text : ClassRow → List ℕ
+class_text row = addresses_text row.addrs ++ class_member row.class ++ codes "}"
+
+unfoldable pub classes_body : List ClassRow → List ℕ
+classes_body classes = listing_body class_text (codes "classes") classes
+
+unfoldable pub locals_body : List PrefixParts → List ℕ
+locals_body locals = listing_body network_text (codes "locals") locals
+
+unfoldable pub endings_text : List (Addr × ℕ) → List ℕ
+endings_text rows = codes "{\"addresses\":" ++ list_text expiring_text rows
+
+unfoldable pub name_end : List ℕ → List ℕ
+name_end name = codes ",\"name\":" ++ quoted name ++ codes "}"
+
+unfoldable pub name_text : NameRow → List ℕ
+name_text row = endings_text row.addrs ++ name_end row.name
+
+unfoldable pub names_body : List NameRow → List ℕ
+names_body names = listing_body name_text (codes "names") names
+
+unfoldable pub due_body : List (List ℕ) → List ℕ
+due_body urls = listing_body quoted (codes "due") urls
+
+-- ---- Files
+
+unfoldable pub moment_text : ℕ → List ℕ
+moment_text fetched = codes "{\"fetched\":" ++ decimal fetched
+
+unfoldable pub hours_text : ℕ → List ℕ
+hours_text hours = codes ",\"hours\":" ++ decimal hours
+
+unfoldable pub fetched_text : HeldFile → UsageFile → List ℕ
+fetched_text held file = moment_text held.fetched ++ hours_text file.hours
+
+unfoldable pub digest_text : HeldFile → UsageFile → List ℕ
+digest_text held file = codes ",\"sha256\":" ++ quoted (digest_of held.octets) ++ codes ",\"update\":" ++ signed_decimal file.update
+
+-- what the octets mean; octets that mean nothing are not held
+unfoldable pub file_text : HeldFile → Option UsageFile → List ℕ
+file_text held None = codes "{"
+file_text held (Some file) = fetched_text held file ++ digest_text held file
+
+-- the object without its end
+unfoldable pub held_text : HeldFile → List ℕ
+held_text held = file_text held (usage_in held.octets)
+
+unfoldable pub approved_text : Option (HeldFile × Approval) → List ℕ
+approved_text None = codes "null"
+approved_text (Some approved) = held_text approved.0 ++ codes ",\"verdict\":" ++ quoted (approval_word approved.1) ++ codes "}"
+
+unfoldable pub candidate_text : Option HeldFile → List ℕ
+candidate_text None = codes "null"
+candidate_text (Some held) = held_text held ++ codes "}"
+
+unfoldable pub holdings_text : CachedFile → List ℕ
+holdings_text row = codes "{\"approved\":" ++ approved_text row.approved ++ codes ",\"candidate\":" ++ candidate_text row.candidate
+
+unfoldable pub cached_text : CachedFile → List ℕ
+cached_text row = holdings_text row ++ url_end row.url
+
+unfoldable pub files_body : List CachedFile → List ℕ
+files_body files = listing_body cached_text (codes "files") files

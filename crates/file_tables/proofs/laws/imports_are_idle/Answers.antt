@@ -1,5 +1,0 @@
-use Rattle.file_tables.proofs.ImportLaws.{import_again}
-use Rattle.file_tables.proofs.laws.imports_are_idle.Goals as goal
-
-pub returns : goal.returns
-returns c = import_again

@@ -1,6 +1,0 @@
-use Rattle.std.proofs.Common.{◌≡◌, ◌++◌, take}
-use Rattle.listing_bodies.specs.Lists.{items_text}
-use Rattle.listing_bodies.proofs.lists.append_items.Given as goal
-
-abbrev pub invariant-rows : goal.invariant-rows
-invariant-rows g l = l.body ≡ l.initial.body ++ items_text g.T.JsonRow.text (take l.index l.rows)

@@ -1,8 +1,0 @@
-use Rattle.mud_tables.proofs.Alike.{met_by_binding, rulings_alike}
-use Rattle.mud_tables.proofs.laws.bindings_rule_alike.Goals as goal
-
-pub returns-clause-selectors : goal.returns-clause-selectors
-returns-clause-selectors c = met_by_binding
-
-pub returns-clause-rulings : goal.returns-clause-rulings
-returns-clause-rulings c = rulings_alike

@@ -1,6 +1,0 @@
-use Rattle.std.proofs.Common.{◌∙◌}
-use Rattle.mud_tables.proofs.SoundLaws.{lowered_alike}
-use Rattle.mud_tables.proofs.sound.is_lowered.Goals as goal
-
-pub returns : goal.returns
-returns c = c.each_lowered.ensures ∙ lowered_alike c.args.text.now

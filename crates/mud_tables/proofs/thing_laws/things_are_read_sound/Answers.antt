@@ -1,8 +1,0 @@
-use Rattle.mud_tables.proofs.ReadThings.{sound-push, follows-sound}
-use Rattle.mud_tables.proofs.thing_laws.things_are_read_sound.Goals as goal
-
-pub returns-clause-push : goal.returns-clause-push
-returns-clause-push c = sound-push
-
-pub returns-clause-follows : goal.returns-clause-follows
-returns-clause-follows c = follows-sound

@@ -1,7 +1,0 @@
-use Rattle.std.proofs.Common.{◌≡◌, ◌++◌, take}
-use Rattle.std.specs.Prelude.{flat_map}
-use Rattle.report_runs.specs.Rows.{class_line}
-use Rattle.report_runs.proofs.binds.append_members.Given as goal
-
-abbrev pub invariant-addresses : goal.invariant-addresses
-invariant-addresses l = l.lines ≡ l.initial.lines ++ flat_map (class_line l.class) (take l.address-index l.addresses)

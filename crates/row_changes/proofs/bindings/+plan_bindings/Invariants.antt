@@ -1,5 +1,0 @@
-use Rattle.std.proofs.Common.{length}
-use Rattle.row_changes.proofs.bindings.+plan_bindings.Given as goal
-
-abbrev pub decreases-plan_bindings : goal.decreases-plan_bindings
-decreases-plan_bindings g l = length l.changed.now

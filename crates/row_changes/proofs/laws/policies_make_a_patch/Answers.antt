@@ -1,5 +1,0 @@
-use Rattle.row_changes.proofs.PolicyPatch.{policy_patch}
-use Rattle.row_changes.proofs.laws.policies_make_a_patch.Goals as goal
-
-pub returns : goal.returns
-returns c = policy_patch

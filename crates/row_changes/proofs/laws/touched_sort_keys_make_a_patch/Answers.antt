@@ -1,5 +1,0 @@
-use Rattle.row_changes.proofs.Edits.{bindings_patch}
-use Rattle.row_changes.proofs.laws.touched_sort_keys_make_a_patch.Goals as goal
-
-pub returns : goal.returns
-returns c = bindings_patch

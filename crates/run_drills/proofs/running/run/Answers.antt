@@ -1,0 +1,16 @@
+use Rattle.run_drills.proofs.RanLaws.{all_of_one, part_of_one}
+use Rattle.run_drills.proofs.running.run.Goals as goal
+
+pub returns-clause-all : goal.returns-clause-all
+returns-clause-all g c =
+    let reply = c.reply_to.ensures in
+    all_of_one (goal.Keeper-dyn g) c.args.desk.now c.reply_to.new.desk
+    reply.stays.stays c.args.command c.reply_to.result c.unless_stopped.result c.unless_stopped.ensures
+    (record { may = reply.answer; flows = reply.stays.flows }) reply.cause
+
+pub returns-clause-part : goal.returns-clause-part
+returns-clause-part g c =
+    let reply = c.reply_to.ensures in
+    part_of_one (goal.Keeper-dyn g) c.args.desk.now c.reply_to.new.desk
+    reply.stays.stays c.args.command c.reply_to.result c.unless_stopped.result c.unless_stopped.ensures
+    (record { may = reply.answer; flows = reply.stays.flows }) reply.cause

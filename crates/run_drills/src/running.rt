@@ -1,0 +1,115 @@
+//! The commands of a drill, one after the other.
+ghost use Rattle.std.specs.Prelude.{◌≡◌, ℕ, List, [], ◌∷◌, IfErr, OnOk};
+ghost use Rattle.base_rows.specs.Ledgers.{IsBlankOf};
+ghost use Rattle.table_model.specs.declared.segment.Segment.{Segment as SegmentValue};
+ghost use Rattle.mud_world.specs.Boxed.{faults_of};
+ghost use Rattle.mud_world.specs.Causes.{Counts};
+ghost use Rattle.desk_model.specs.Commands.{IsAsked};
+ghost use Rattle.desk_model.specs.Sessions.{AllowedReply, is_of_keeper};
+ghost use Rattle.desk_model.specs.Boxed.{IsKept};
+ghost use Rattle.mud_desk.specs.DeskState.{session_of, tables_of};
+ghost use Rattle.mud_desk.specs.Stays.{KeepsConnections};
+ghost use Rattle.run_drills.specs.Commands.{command_moment, commands_of, drill_commands, round_commands};
+ghost use Rattle.run_drills.specs.Runs.{RanAll, RanPart};
+ghost use Rattle.run_drills.specs.Stops.{stop_of};
+
+use crate::commands::{
+    Round, announcement, approval, binding, command_moment, fetched_file, lease, observation,
+};
+use crate::network::{file_count, thing_count};
+use crate::stop::Stop;
+use crate::usage::usage_text;
+use base_rows::Steps;
+use desk_model::{Command, Reply};
+use mud_desk::Desk;
+use std::alloc::Global;
+use std::marker::Brand;
+use std::sync::ledger::{Blank, Ledger};
+
+/// What a command answers.
+fn reply_to<L: Ledger>(desk: &mut Desk, command: Command, blank: Blank) -> Reply
+    requires blank { IsBlankOf L.name L.parts blank }
+    requires kept { IsKept Keeper-dyn desk.old.keeper (tables_of desk.old.state) }
+    requires asked { IsAsked command }
+    ensures answer { (h : List SegmentValue) → AllowedReply (session_of h desk.old.state) command_moment command result (session_of h desk.new.state) }
+    ensures stays { KeepsConnections Keeper-dyn desk.old desk.new }
+    ensures cause { Counts (is_of_keeper result) (faults_of Keeper-dyn desk.old.keeper) (faults_of Keeper-dyn desk.new.keeper) }
+{
+    let mut steps = Steps::<L>::new(blank);
+    desk.command(command, command_moment(), &mut steps)
+}
+
+/// What a reply means for the drill, which goes on where the command is refused.
+fn unless_stopped(reply: Reply) -> Result<(), Stop>
+    ensures { result ≡ stop_of reply }
+{
+    match reply {
+        Reply::Done(_) | Reply::Refused(_) => Ok(()),
+        Reply::Keeper => Err(Stop::Keeper),
+        Reply::Memory => Err(Stop::Memory),
+    }
+}
+
+/// Runs a command. One that is refused changes nothing.
+fn run(desk: &mut Desk, command: Command) -> Result<(), Stop>
+    requires kept { IsKept Keeper-dyn desk.old.keeper (tables_of desk.old.state) }
+    requires asked { IsAsked command }
+    ensures all { OnOk result (RanAll Keeper-dyn (command ∷ []) desk.old desk.new) }
+    ensures part { IfErr result (λ stop. RanPart Keeper-dyn stop (command ∷ []) desk.old desk.new) }
+{
+    unless_stopped(reply_to::<Brand>(desk, command, Blank::new(1)))
+}
+
+/// The usage file of a Thing's model is fetched, and approved.
+fn run_files(alloc: Global, desk: &mut Desk, thing: u16) -> Result<(), Stop>
+    requires kept { IsKept Keeper-dyn desk.old.keeper (tables_of desk.old.state) }
+    ensures all { OnOk result (RanAll Keeper-dyn (commands_of Round.Files thing) desk.old desk.new) }
+    ensures part { IfErr result (λ stop. RanPart Keeper-dyn stop (commands_of Round.Files thing) desk.old desk.new) }
+{
+    let file = usage_text(alloc, thing)?;
+    let approved = approval(alloc, thing, file.octets())?;
+    run(desk, fetched_file(file))?;
+    run(desk, approved)
+}
+
+/// What a round does for one Thing.
+fn run_for(alloc: Global, desk: &mut Desk, round: Round, thing: u16) -> Result<(), Stop>
+    requires kept { IsKept Keeper-dyn desk.old.keeper (tables_of desk.old.state) }
+    ensures all { OnOk result (RanAll Keeper-dyn (commands_of round thing) desk.old desk.new) }
+    ensures part { IfErr result (λ stop. RanPart Keeper-dyn stop (commands_of round thing) desk.old desk.new) }
+{
+    match round {
+        Round::Announcements => run(desk, announcement(alloc, thing)?),
+        Round::Leases => run(desk, lease(thing)),
+        Round::Files => run_files(alloc, desk, thing),
+        Round::Hosts => run(desk, observation(alloc, thing)?),
+    }
+}
+
+/// A round over the Things from 1 on, so many.
+fn run_round(alloc: Global, desk: &mut Desk, round: Round, count: u16) -> Result<(), Stop>
+    requires kept { IsKept Keeper-dyn desk.old.keeper (tables_of desk.old.state) }
+    ensures all { OnOk result (RanAll Keeper-dyn (round_commands round count) desk.old desk.new) }
+    ensures part { IfErr result (λ stop. RanPart Keeper-dyn stop (round_commands round count) desk.old desk.new) }
+{
+    for before in 0..count {
+        run_for(alloc, desk, round, before + 1)?;
+    }
+    Ok(())
+}
+
+/// All commands of a drill with so many packets.
+pub(crate) fn run_commands(alloc: Global, desk: &mut Desk, packets: u32) -> Result<(), Stop>
+    requires kept { IsKept Keeper-dyn desk.old.keeper (tables_of desk.old.state) }
+    ensures all { OnOk result (RanAll Keeper-dyn (drill_commands packets) desk.old desk.new) }
+    ensures part { IfErr result (λ stop. RanPart Keeper-dyn stop (drill_commands packets) desk.old desk.new) }
+{
+    let things = thing_count(packets);
+    let files = file_count(packets);
+    let bound = binding(alloc)?;
+    run_round(alloc, desk, Round::Announcements, things)?;
+    run_round(alloc, desk, Round::Leases, things)?;
+    run_round(alloc, desk, Round::Files, files)?;
+    run(desk, bound)?;
+    run_round(alloc, desk, Round::Hosts, files)
+}

@@ -142,7 +142,7 @@ fn found_in<L: Ledger>(rows: &SortedRows<Row>, key: &RowKey, steps: &mut Steps<L
     }
 }
 
-/// The expiry of the row of an index.
+/// The expiry of the row at an index.
 fn until_at(rows: &[Row], index: usize) -> End
     requires { index < length rows.now }
     ensures { option_map (λ row. row.until) (slice_get rows.now index) ≡ Some result }

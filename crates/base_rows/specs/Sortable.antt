@@ -77,7 +77,7 @@ rows_under sort_key prefix rows = filter (is_under sort_key prefix) rows
 
 -- ---- Changing
 
--- the rows with this one in its place, in place of the one of its sort key
+-- the rows with this one put in, instead of the one of its sort key if there is one
 abbrev pub set_row : {R : Type 0} → (R → List ℕ) → R → List R → List R
 set_row sort_key row [] = row ∷ []
 set_row sort_key row (x ∷ xs) =

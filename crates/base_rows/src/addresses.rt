@@ -1,4 +1,4 @@
-//! Addresses, addresses with their ends, and prefixes, as rows.
+//! Addresses, addresses with their expiries, and prefixes, as rows.
 use crate::sortable::{KeyOf, Sortable};
 use mud_base::{Addr, End, Prefix, addr_order};
 use std::cmp::Ordering;
@@ -27,7 +27,7 @@ impl Sortable for (Addr, End) {
     }
 }
 
-/// An address with its end is found by the address.
+/// An address with its expiry is found by the address.
 impl KeyOf<(Addr, End)> for Addr {
     ghost use Rattle.base_rows.specs.Addresses.{addr_sort_key};
 

@@ -21,7 +21,7 @@ pub struct Edit<R> {
     pub found: Result<usize, usize>,
 }
 
-/// An edit stands at the sort key of its row.
+/// An edit has the sort key of its row.
 impl<R: Sortable> Sortable for Edit<R> {
     ghost use Rattle.base_rows.specs.Edits.{edit_sort_key};
 

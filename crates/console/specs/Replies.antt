@@ -1,4 +1,4 @@
--- Replies, and where others may stand in their place.
+-- Replies, and what may be replied instead.
 use Rattle.std.specs.Prelude.{◌≡◌, ℕ, ◌⊎◌, Bool, true, false, List, codes, Option, Some, None, Result, Ok, Err}
 use Rattle.mud_base.specs.declared.memory.Memory as want
 use Rattle.console_routes.specs.declared.route.Route.{Route}
@@ -53,9 +53,9 @@ unfoldable pub made_reply : Status → Result (List ℕ) want.Memory → Reply
 made_reply status (Ok body) = reply status body
 made_reply status (Err memory) = no_storage
 
--- ---- What may stand in place of a reply
+-- ---- What may be replied instead
 
--- In place of the defined reply 507 may stand, and 503 where it is told: after either the session is as it was.
+-- Instead of the defined reply 507 may be replied, and 503 where it is told: after either the session is as it was.
 pub record IsOrFailed (may_fail : Type 0) (session : Session) (defined : Replied) (given : Reply) (after : Session) : Type 0 where
   pub one : ((defined ≡ replied given after) ⊎ ((given ≡ no_storage) × (after ≡ session))) ⊎ (may_fail × (given ≡ unavailable) × (after ≡ session))
 

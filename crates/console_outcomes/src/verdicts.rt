@@ -38,7 +38,7 @@ pub(crate) fn put_ruling(buffer: &mut AnswerBuffer, ruling: Ruling)
 /// Adds the ruling of an endpoint behind its name inside a JSON string, where it is a Thing, as far
 /// as it fits.
 #[tactic(auto, unfolding(text_replies::specs::Verdicts::endpoint_text), using(http_answers::proofs::KeptLemmas::kept_escaped, http_answers::proofs::KeptLemmas::kept_none))]
-fn put_end(buffer: &mut AnswerBuffer, name: &[u8], ruling: Option<Ruling>)
+fn put_endpoint(buffer: &mut AnswerBuffer, name: &[u8], ruling: Option<Ruling>)
     ensures { buffer.new ≡ kept (buffer.old ++ escape (line.endpoint_text name.now ruling)) }
 {
     match ruling {
@@ -54,11 +54,11 @@ fn put_end(buffer: &mut AnswerBuffer, name: &[u8], ruling: Option<Ruling>)
 
 /// Adds the rulings of both endpoints inside a JSON string, as far as they fit.
 #[tactic(auto, using(http_answers::proofs::KeptLemmas::kept_escaped))]
-fn put_ends(buffer: &mut AnswerBuffer, source: Option<Ruling>, destination: Option<Ruling>)
+fn put_endpoints(buffer: &mut AnswerBuffer, source: Option<Ruling>, destination: Option<Ruling>)
     ensures { buffer.new ≡ kept (buffer.old ++ escape (line.endpoint_text (codes " from=") source ++ line.endpoint_text (codes " to=") destination)) }
 {
-    put_end(buffer, b" from=", source);
-    put_end(buffer, b" to=", destination);
+    put_endpoint(buffer, b" from=", source);
+    put_endpoint(buffer, b" to=", destination);
 }
 
 /// Adds the name of a part inside a JSON string, as far as it fits.
@@ -86,7 +86,7 @@ fn put_reason(buffer: &mut AnswerBuffer, verdict: &Verdict)
         Verdict::Unmanaged => put_escapes(buffer, b" unmanaged"),
         Verdict::Link => put_escapes(buffer, b" link"),
         Verdict::Unreadable(part) => put_unreadable(buffer, *part),
-        Verdict::Governed(source, destination) => put_ends(buffer, *source, *destination),
+        Verdict::Governed(source, destination) => put_endpoints(buffer, *source, *destination),
     }
 }
 

@@ -13,7 +13,7 @@ module _ {X : Type 0} {F : X → Type 0} (members : (v : (x : X) × F x) → Gho
     pub is_open : IsOpen members keeper
     pub items : Tells members keeper → kept_items members keeper ≡ items_of desk
 
--- it is the same object at the same address
+-- it is the same table of methods, at the same pointer
 pub record IsSameBox {X : Type 0} {F : X → Type 0} (before after : DynBox X Global F) : Type 0 where
   pub object : after.vtable ≡ before.vtable
   pub pointer : after.ptr ≡ before.ptr

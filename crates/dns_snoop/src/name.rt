@@ -11,9 +11,9 @@ use mud_base::ShortText;
 /// How a run of labels ends.
 #[derive(Clone, Copy)]
 pub enum RunEnd {
-    /// The name ends, and behind its last octet is this offset.
+    /// The name ends, and this is the offset behind its last octet.
     End(usize),
-    /// At an offset a pointer leads to another.
+    /// At the first offset stands a pointer to the second one.
     Pointer(usize, usize),
 }
 

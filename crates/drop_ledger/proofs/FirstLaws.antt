@@ -10,8 +10,8 @@ use Rattle.drop_ledger.specs.Counted.{SortKey, count_of, is_of, kept_of, is_kept
 use Rattle.drop_ledger.proofs.CountLaws.{sort_key_turned, count_more, count_none, positive, positive_more, positive_some, weight, total_set}
 use Rattle.drop_ledger.proofs.KeptLaws.{of_own, appeared, not_appeared, kept_again, kept_new, kept_late, kept_all, again_at, late_at, kept_grown, new_at}
 
--- Each row counts a sort key that is kept among those that begin with the same `len` numbers, and of each beginning as many
--- rows stand there as sort keys are kept.
+-- Each row counts a sort key that is kept among those that begin with the same `len` numbers, and of each beginning there
+-- are as many rows as sort keys are kept.
 pub record AreFirstCounts {R : Type 0} (sort_key : R → SortKey) (count : R → ℕ) (len most : ℕ) (ps : List SortKey) (rows : List R) : Type 0 where
   pub at : (p : SortKey) → len ≤ length p → option_map count (row_at sort_key p rows) ≡ cond (is_kept most (take len p) ps p) (positive (count_of p ps)) None
   pub under : (t : SortKey) → length t ≡ len → total (λ r. cond (is_of t (sort_key r)) 1 0) rows ≡ length (kept_of most t ps)

@@ -174,9 +174,9 @@ rulings_more all s =
     ∙ ap (λ l. flat_map rulings_in all ++ l) (append-nil (option_to_list (ruled_on s From) ++ option_to_list (ruled_on s To)))
     ∙ sym (append_assoc (flat_map rulings_in all) (option_to_list (ruled_on s From)) (option_to_list (ruled_on s To)))
 
-times_end : (mac : Mac) (side : Direction) (o : Option Ruled) → times_ruled mac side (option_to_list o) ≤ 1
-times_end mac side None = let none = times_none mac side in omega (arith, none)
-times_end mac side (Some r) = let one = ruled_more mac side r [] in let none = times_none mac side in let few = few_if (same_sort_key (thing_sort_key mac side) (thing_sort_key r.mac r.side)) in omega (arith, one, none, few)
+times_endpoint : (mac : Mac) (side : Direction) (o : Option Ruled) → times_ruled mac side (option_to_list o) ≤ 1
+times_endpoint mac side None = let none = times_none mac side in omega (arith, none)
+times_endpoint mac side (Some r) = let one = ruled_more mac side r [] in let none = times_none mac side in let few = few_if (same_sort_key (thing_sort_key mac side) (thing_sort_key r.mac r.side)) in omega (arith, one, none, few)
 
 no_times : (mac : Mac) (side : Direction) (r : Ruled) → same_sort_key (thing_sort_key mac side) (thing_sort_key r.mac r.side) ≡ false → times_ruled mac side (r ∷ []) ≡ 0
 no_times mac side r apart = ruled_more mac side r [] ∙ ap (λ b. cond b 1 0 + times_ruled mac side []) apart ∙ (let none = times_none mac side in omega (arith, none))
@@ -206,12 +206,12 @@ unfolding rulings_in
 one_each mac From s =
     let sum = times_append mac From (option_to_list (ruled_on s From)) (option_to_list (ruled_on s To)) in
     let none = received_unruled mac s in
-    let few = times_end mac From (ruled_on s From) in
+    let few = times_endpoint mac From (ruled_on s From) in
     omega (arith, sum, none, few)
 one_each mac To s =
     let sum = times_append mac To (option_to_list (ruled_on s From)) (option_to_list (ruled_on s To)) in
     let none = sent_unruled mac s in
-    let few = times_end mac To (ruled_on s To) in
+    let few = times_endpoint mac To (ruled_on s To) in
     omega (arith, sum, none, few)
 
 pub ruled_few : (mac : Mac) (side : Direction) (all : List Seen) → times_ruled mac side (rulings all) ≤ length all

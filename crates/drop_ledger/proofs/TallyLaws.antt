@@ -124,7 +124,7 @@ hour_more latest s hour is may =
 
 -- ---- A packet
 
--- how often the Thing at an end was ruled on before is below the number of packets
+-- how often the Thing at an endpoint was ruled on before is below the number of packets
 sent_fits : (o : Option Ruled) (all : List Seen) (n : ℕ) → length all ≤ n → n < 18446744073709551615 → IfSome o (λ r. times_ruled r.mac r.side (rulings all) + 1 < 18446744073709551616)
 sent_fits None all n less few = tt
 sent_fits (Some r) all n less few = let most = ruled_few r.mac r.side all in omega arith

@@ -71,7 +71,7 @@ is_governed Link = false
 is_governed (Unreadable part) = false
 is_governed (Governed source destination) = true
 
--- it was ruled on for the Thing at each end
+-- it was ruled on for the Thing at each endpoint
 unfoldable pub has_both : Verdict → Bool
 has_both Unmanaged = false
 has_both Link = false
@@ -110,6 +110,6 @@ pub record AreSums (t : Totals) : Type 0 where
 abbrev pub HasFields : Seen → Type 0
 HasFields s = is_governed s.verdict ≡ true → IsSome s.fields
 
--- a packet that was ruled on has a Thing at an end
+-- a packet that was ruled on has a Thing at an endpoint
 abbrev pub HasThing : Seen → Type 0
 HasThing s = is_governed s.verdict ≡ true → is_ruled s ≡ true

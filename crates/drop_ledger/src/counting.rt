@@ -114,8 +114,8 @@ fn count_denied(
     }
 }
 
-/// Counts the ruling at an end of a packet, where one was given. It takes no memory.
-pub(crate) fn count_end(
+/// Counts the ruling at an endpoint of a packet, where one was given. It takes no memory.
+pub(crate) fn count_endpoint(
     counts: &mut SortedRows<CountRow>,
     denied: &mut SortedRows<DeniedRow>,
     others: &mut SortedRows<OtherRow>,

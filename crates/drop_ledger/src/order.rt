@@ -15,7 +15,7 @@ pub struct ThingSide {
     pub side: Direction,
 }
 
-/// The other end of packets, and how they come there.
+/// The other endpoint of packets, and how they come there.
 #[derive(Clone, Copy, Debug, PartialEq, Eq)]
 pub struct Peer {
     /// The address at the other side.

@@ -10,7 +10,7 @@ ghost use Rattle.mud_base.specs.declared.packet.Direction.{Direction as Directio
 ghost use Rattle.drop_ledger.specs.Plan.{seen_planned};
 ghost use Rattle.drop_ledger.specs.declared.seen.Seen.{Seen as SeenValue};
 
-use crate::counting::count_end;
+use crate::counting::count_endpoint;
 use crate::rows::{CountRow, DeniedRow, OtherRow};
 use crate::seen::Seen;
 use crate::totals::{NO_PACKETS, Totals, with_packet};
@@ -125,9 +125,9 @@ impl Tally {
         let seen = plan.seen;
         self.hour = hour_after(self.hour, &seen);
         let sent = seen.ruled_on(Direction::From);
-        count_end(&mut self.counts, &mut self.denied, &mut self.others, sent);
+        count_endpoint(&mut self.counts, &mut self.denied, &mut self.others, sent);
         let received = seen.ruled_on(Direction::To);
-        count_end(
+        count_endpoint(
             &mut self.counts,
             &mut self.denied,
             &mut self.others,

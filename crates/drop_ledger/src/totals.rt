@@ -11,7 +11,7 @@ use packet_judge::{Verdict, forwarded};
 pub struct Totals {
     /// All packets.
     pub packets: u64,
-    /// Those with no Thing at an end.
+    /// Those with no Thing at an endpoint.
     pub unmanaged: u64,
     /// Those that aren't IP, or keep the link up.
     pub link: u64,
@@ -21,7 +21,7 @@ pub struct Totals {
     pub pass: u64,
     /// Those that were ruled on and are dropped.
     pub drop: u64,
-    /// Those that were ruled on for a Thing at each end: they are among the two above.
+    /// Those that were ruled on for a Thing at each endpoint: they are among the two above.
     pub both: u64,
 }
 
@@ -36,7 +36,7 @@ pub(crate) const NO_PACKETS: Totals = Totals {
     both: 0,
 };
 
-/// Whether the Thing at each end was ruled on.
+/// Whether the Thing at each endpoint was ruled on.
 #[tactic(auto, unfolding(crate::specs::Seen::has_both))]
 fn has_both(verdict: &Verdict) -> bool
     ensures { result ≡ spec.has_both verdict.now }

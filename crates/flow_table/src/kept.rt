@@ -48,8 +48,8 @@ pub(crate) fn kept_after(packet: &Segment, kept: Option<Begun>) -> Option<Begun>
     }
 }
 
-/// Writes what is kept of two ends after a packet between them in place of what was kept. For most
-/// packets that is the moment alone.
+/// Writes what is kept of two endpoints after a packet between them in place of what was kept. For
+/// most packets that is the moment alone.
 #[tactic(auto, unfolding(crate::specs::Kept::kept_after, crate::specs::Kept::beginner_kept, table_model::specs::History::with_moment))]
 pub(crate) fn keep_up(kept: &mut Option<Begun>, packet: &Segment)
     ensures { kept.new ≡ spec.kept_after packet.now kept.old }

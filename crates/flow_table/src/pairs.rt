@@ -55,7 +55,7 @@ fn last_bits(number: u128) -> u64
     (number % 0x1_0000_0000) as u64
 }
 
-/// The endpoints of two ends that stand in their order.
+/// The key of two endpoints that stand in their order.
 #[tactic(auto, unfolding(crate::specs::Keys::key_in))]
 fn key_in(one: Endpoint, other: Endpoint) -> Key
     ensures { result ≡ keys.key_in (one, other) }
@@ -73,7 +73,7 @@ fn key_in(one: Endpoint, other: Endpoint) -> Key
     }
 }
 
-/// The key of two ends with addresses of IPv4, whichever of them sends.
+/// The key of two endpoints with addresses of IPv4, whichever of them sends.
 #[tactic(auto, unfolding(crate::specs::Keys::key_of, crate::specs::Pairs::pair_of))]
 fn short_key_of(a: u32, a_port: u16, b: u32, b_port: u16) -> Key
     ensures { result ≡ keys.key_of (AddrValue.V4 a, a_port) (AddrValue.V4 b, b_port) }
@@ -85,8 +85,8 @@ fn short_key_of(a: u32, a_port: u16, b: u32, b_port: u16) -> Key
     }
 }
 
-/// What two ends are looked for by, whichever of them sends. Most have addresses of IPv4, for which
-/// it takes less.
+/// What two endpoints are looked for by, whichever of them sends. Most have addresses of IPv4, for
+/// which it takes less.
 #[tactic(auto, unfolding(crate::specs::Keys::key_of))]
 pub(crate) fn key_of(a: Endpoint, b: Endpoint) -> Key
     ensures { result ≡ keys.key_of a b }

@@ -8,9 +8,9 @@ use mud_base::Moment;
 /// Where the parts of a request stand, counted from the front of its head, and what its head says.
 #[derive(Clone, Copy, Debug)]
 pub struct RequestShape {
-    /// The method's offset.
+    /// Where the method stands.
     pub method: Span,
-    /// The offset of the target up to its first `?`.
+    /// Where the target stands, up to its first `?`.
     pub path: Span,
     /// How many octets the head has, at most 8,192.
     pub head_len: usize,

@@ -16,7 +16,7 @@ number_fits n i octet few below small =
 pub number_grows : (n i octet : ℕ) → n < 256 ^ i → octet < 256 → n * 256 + octet < 256 ^ (i + 1)
 number_grows n i octet below small = rw (add-one, pow-suc) (omega arith)
 
--- one octet more, at a sort key
+-- one octet more, at an index
 pub number_step : (n : ℕ) (octets : List ℕ) (i : ℕ) → i < length octets → number_behind n (drop i octets) ≡ number_behind (n * 256 + get_or octets i 0) (drop (i + 1) octets)
 number_step n octets i here = ap (number_behind n) (drop-cons octets i 0 here) ∙ ap (λ k. number_behind (n * 256 + get_or octets i 0) (drop k octets)) (sym (add-one i))
 

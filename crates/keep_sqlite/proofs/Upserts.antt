@@ -227,7 +227,7 @@ module _ (item : Item) (low : item.kind < 256) where
         judged None j = let m = subst (λ x. Upserts task Abort x db.trees (upsert_clause ∷ []) (Ok one)) is j in meets db holds id m.0 one m.1 m.2
         judged (Some why) j = absurd (let e = j in cc)
 
-  -- the items are those of before with this one in its place
+  -- the items are those of before with this one put in
   pub upserts : (old new : State) (r : Result ℕ Error) → HoldsItems old.now → Executes upsert_text params old new r → OnOk r (HoldsItems new.now × (items_of new.now ≡ set_row sort_key_of item (items_of old.now)))
   upserts old new (Err e) holds h = tt
   upserts old new (Ok count) holds h =

@@ -25,7 +25,7 @@ octets_in _ = []
 abbrev pub item_in : Row → Item
 item_in row = record { kind = kind_in (column row 1); key = octets_in (column row 2); body = octets_in (column row 3) }
 
--- the items of the rows, each in its place by kind and then key, whatever the order of the rows
+-- the items of the rows, sorted by kind and then key, whatever the order of the rows
 abbrev pub items_in : List Row → List Item
 items_in [] = []
 items_in (row ∷ rows) = set_row sort_key_of (item_in row) (items_in rows)

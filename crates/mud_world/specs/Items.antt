@@ -15,7 +15,7 @@ use Rattle.mud_world.specs.declared.fault.KeepFault.TheVariants.{Failed, Memory}
 abbrev pub sort_key_of : Item → List ℕ
 sort_key_of item = item.kind ∷ item.key
 
--- the items after one put: the item in its place, instead of the one that was there, or no item of the sort key
+-- the items after one put: with the item, instead of the one of its sort key, or with no item of the sort key
 abbrev pub put_one : List Item → Put → List Item
 put_one items (Set item) = set_row sort_key_of item items
 put_one items (Gone kind key) = without_row sort_key_of (kind ∷ key) items

@@ -139,8 +139,8 @@ fn pieces_at(inputs: &Listed<Listed<Bytes>>, at: usize) -> &[Bytes]
     inputs.as_slice()[at].as_slice()
 }
 
-/// The index behind the connection at which a door stands, or else the index before which it
-/// stands.
+/// The index behind that of the connection at which a door stands; or, where it stands at none, the
+/// index of the next one.
 fn index_after(stands: bool, at: usize, count: usize) -> usize
     requires { stands ≡ true → at < count }
     ensures { result ≡ (if stands then at + 1 else at) }

@@ -30,7 +30,7 @@ three a b c a' b' c' h =
     let last : (nat_eq c c' && true) ≡ true = second_so (nat_eq b b') _ later in
     (sym (eqb-true a a' (first_so (nat_eq a a') _ h)), sym (eqb-true b b' (first_so (nat_eq b b') _ later)), sym (eqb-true c c' (first_so (nat_eq c c') _ last)))
 
--- a row under the sort key of a peer stands at that peer
+-- a row whose sort key begins with that of a peer is of that peer
 pub under_at : (o : Owner) (s : Direction) (a : Addr) (x : Row) → is_under row_sort_key (peer_sort_key o s a) x ≡ true → row_sort_key x ≡ sort_key_at o s a x.entry
 unfolding row_sort_key sort_key_at peer_sort_key side_sort_key owner_sort_key is_at
 under_at o s a x e =
@@ -66,7 +66,7 @@ module _ (o : Owner) (s : Direction) (a : Addr) (now : ℕ) (pass : ℕ → Bool
   abbrev found : List Row → Option ℕ
   found rows = option_map number_of (find row_test (filter (is_under row_sort_key (peer_sort_key o s a)) rows))
 
-  -- no row of the number stands above its sort key
+  -- no row of the number stands behind its sort key
   none_above : (n : ℕ) (rows : List Row) → SortKeysAbove row_sort_key (sort_key_at o s a n) rows → hit rows n ≡ false
   unfolding hit live_row
   none_above n rows above = ap (λ (r : Option Row). live_row r && pass n) (row_at_above row_sort_key (sort_key_at o s a n) rows above)

@@ -55,7 +55,7 @@ met_bound key a now b =
 less≢equal : Less ≡ Equal → ⊥
 less≢equal e = cc
 
--- above the sort key of a key and address there is no binding of them
+-- behind the sort key of a key and address no binding of them stands
 none_above : (key : MemberKey) (a : Addr) (now : ℕ) (p : List ℕ) (bs : List Binding) → p ≡ bound_sort_key key a → SortKeysAbove binding_sort_key p bs → list_any (is_met_by key a now) bs ≡ false
 none_above key a now p [] is above = refl
 none_above key a now p (b ∷ bs) is above =

@@ -1,4 +1,4 @@
--- The packets that are to come, at each offset where a reader can stand.
+-- The packets that are to come, wherever a reader can stand.
 use Rattle.std.specs.Prelude.{ℕ, ◌+◌, ◌-◌, ◌==◌, nat_lt, nat_le, Bool, true, false, not, ◌||◌, if◌then◌else◌, List, length, take, drop, Option, Some, None}
 use Rattle.mud_base.specs.declared.number.ByteOrder.{ByteOrder}
 use Rattle.pcap_read.specs.declared.fault.CapFault.TheVariants as faults

@@ -121,7 +121,7 @@ fn read_packet<D: Door>(
     Ok(Some(head))
 }
 
-/// The offset between two packets at which a reader stands, once the header is read.
+/// Where a reader stands between two packets, once the header is read.
 fn begin<D: Door>(
     source: &mut D,
     buffer: &mut Buffer<MOST_OCTETS>,

@@ -21,8 +21,8 @@ pub struct Progress {
     pub offset: u64,
 }
 
-/// An offset between two packets: the order of numbers, how many packets stand before it, and the
-/// octet where the next head begins.
+/// Where a reader stands between two packets: the order of numbers, how many packets stand before
+/// it, and the offset of the next head.
 #[derive(Clone, Copy, Debug)]
 pub struct Cursor {
     pub order: ByteOrder,

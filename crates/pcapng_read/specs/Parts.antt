@@ -1,4 +1,4 @@
--- The packets that are to come, at each offset where a reader can stand.
+-- The packets that are to come, wherever a reader can stand.
 use Rattle.std.specs.Prelude.{◌≡◌, ℕ, ◌+◌, ◌-◌, ◌*◌, ◌<◌, ◌≤◌, nat_lt, nat_le, Bool, true, false, ◌&&◌, if◌then◌else◌, List, length, take, drop, Option, Some, None}
 use Rattle.mud_base.specs.Faults.{first_row}
 use Rattle.mud_base.specs.declared.number.ByteOrder.{ByteOrder}
@@ -45,7 +45,7 @@ pub record Begins (at : Standing) (head : Head) (held : List ℕ) : Type 0 where
   pub least : least_of head.kind ≤ head.total
   pub most : is_read head.kind ≡ true → head.total ≤ 524288
 
--- the numbers of an offset between two blocks stay in their bounds
+-- the numbers of where a reader stands between two blocks stay in their bounds
 pub record IsWithin (at : Standing) : Type 0 where
   pub few : at.blocks ≤ 100000000
   pub fewer : at.packets ≤ at.blocks

@@ -12,8 +12,8 @@ pub struct Section {
     pub interfaces: Interfaces,
 }
 
-/// An offset between two blocks: the section, how many blocks and how many packets stand before it,
-/// and the octet where the next block begins.
+/// Where a reader stands between two blocks: the section, how many blocks and how many packets
+/// stand before it, and the offset of the next block.
 #[derive(Drop)]
 pub struct Standing {
     pub section: Section,
@@ -23,7 +23,7 @@ pub struct Standing {
 }
 
 impl Standing {
-    /// The offset before the first block.
+    /// In front of the first block.
     pub(crate) fn new() -> Standing
         ensures { result ≡ at_start }
     {

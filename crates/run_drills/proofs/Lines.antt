@@ -45,7 +45,7 @@ lines_of_desk packets s state things files lines is_in counted held is =
 pub wrote_first : (text : List ℕ) (old new : DoorState) → WrotePart text old new → WroteFirst text old new
 wrote_first text old new part = record { count = part.count; within = omega (arith, part.part); wrote = part.wrote }
 
--- a text of an output, under another name
+-- the text of an output, written as another list
 pub wrote_same : (text other : List ℕ) (old new : DoorState) → other ≡ text → new ≡ put_out other old → new ≡ put_out text old
 wrote_same text other old new same wrote = wrote ∙ ap (λ (t : List ℕ). put_out t old) same
 

@@ -3,7 +3,7 @@ use Rattle.std.specs.Prelude.{ℕ, if◌then◌else◌, List, [], ◌∷◌}
 use Rattle.std.specs.Ordering.{is_lt}
 use Rattle.base_rows.specs.Sortable.{sort_key_cmp}
 
--- the names, which are in order, with one name more in its place
+-- the names, which are in order, with one more put in
 abbrev pub with_name : List ℕ → List (List ℕ) → List (List ℕ)
 with_name name [] = name ∷ []
 with_name name (next ∷ names) = if is_lt (sort_key_cmp next name) then next ∷ with_name name names else name ∷ next ∷ names

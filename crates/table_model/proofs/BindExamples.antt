@@ -1,4 +1,4 @@
--- The steps on classes, local networks and names, case by case.
+-- The commands on classes, local networks and names, case by case.
 use Rattle.std.proofs.Common.{◌≡◌, ℕ, List, [], ◌∷◌, ◌++◌, length, map, Some, None, Err, refl, true}
 use Rattle.std.specs.Prelude.{nat_le, codes}
 use Rattle.std.specs.List.{range_with_len}

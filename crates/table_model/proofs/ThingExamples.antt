@@ -1,4 +1,4 @@
--- The steps on Things, case by case.
+-- The commands on Things, case by case.
 use Rattle.std.proofs.Common.{◌≡◌, ℕ, List, [], ◌∷◌, length, Some, None, Err, refl, true, false}
 use Rattle.std.specs.Prelude.{nat_le}
 use Rattle.mud_base.specs.declared.addr.Addr.TheVariants.{V4, V6}

@@ -50,7 +50,7 @@ class_row c addrs = record { class = c; addrs = addrs }
 unfoldable pub has_addr : Addr → List Addr → Bool
 has_addr a addrs = list_any (λ b. same_addr b a) addrs
 
--- the addresses with this one, in its place
+-- the addresses with this one put in, in their order
 unfoldable pub with_addr : Addr → List Addr → List Addr
 with_addr a addrs = set_row addr_sort_key a addrs
 
@@ -69,7 +69,7 @@ prefix_with addr len = record { addr = addr; len = len }
 unfoldable pub same_prefix : Prefix → Prefix → Bool
 same_prefix p q = same_addr p.addr q.addr && p.len == q.len
 
--- the prefixes with this one, in its place: that of its address, and then the lesser length
+-- the prefixes with this one put in, in the order of their addresses and then the lesser length
 unfoldable pub with_prefix : Prefix → List Prefix → List Prefix
 with_prefix p prefixes = set_row prefix_sort_key p prefixes
 

@@ -37,7 +37,7 @@ expiry_of a (r ∷ rows) = if same_addr r.0 a then Some r.1 else expiry_of a row
 unfoldable pub without_address : Addr → Expiries → Expiries
 without_address a rows = filter (λ r. not (same_addr r.0 a)) rows
 
--- the rows with this expiry at the address, in its place
+-- the rows with this expiry for the address
 unfoldable pub with_expiry : Addr → ℕ → Expiries → Expiries
 with_expiry a until rows = set_row expiry_sort_key (a, until) rows
 

@@ -14,7 +14,7 @@ pub fn has_addr(addr: Addr, addrs: &[Addr]) -> bool
     addrs.iter().any(|other| same_addr(*other, addr))
 }
 
-/// A copy of the addresses with this one, in its place.
+/// A copy of the addresses with this one put in, in their order.
 #[tactic(auto, unfolding(crate::specs::Binds::with_addr))]
 pub fn with_addr(alloc: Global, addr: Addr, addrs: &[Addr]) -> Result<Listed<Addr>, Memory>
     ensures { IfOk result (λ made. made ≡ spec.with_addr addr addrs.now) }

@@ -46,7 +46,7 @@ pub fn expiry_of(addr: Addr, rows: &[(Addr, End)]) -> Option<End>
     None
 }
 
-/// A copy of the rows with this expiry at the address, in its place.
+/// A copy of the rows with this expiry for the address.
 #[tactic(auto, unfolding(crate::specs::Expiries::with_expiry))]
 pub fn with_expiry(
     alloc: Global,

@@ -1,4 +1,4 @@
-//! Laws of the steps on Things, each on a function that does nothing.
+//! Laws of the commands on Things, each on a function that does nothing.
 ghost use Rattle.std.specs.Prelude.{◌≡◌, ℕ, ◌<◌, ◌≤◌, ◌^◌, ◌++◌, Bool, IsTrue, IfOk, List, [], ◌∷◌, length};
 ghost use Rattle.mud_base.specs.declared.addr.Addr.{Addr};
 ghost use Rattle.mud_base.specs.declared.addr.Mac.{Mac};

@@ -8,7 +8,7 @@ use text_values::{
     append_path_part, append_prefix, append_signed, append_url, append_url_fault, append_url_part,
 };
 
-/// Adds numbers, offsets and ends.
+/// Adds numbers, offsets and expiries.
 fn add_numbers(line: &mut Bytes) -> Result<(), Memory> {
     append_decimal(line, 0)?;
     append_number(line, u64::MAX)?;

@@ -79,8 +79,8 @@ fn append_words(line: &mut Bytes, verdict: &Verdict) -> Result<(), Memory>
     append_reason(line, verdict)
 }
 
-/// Adds the verdict on a packet that passes since an entry of this number accepts it at its one end
-/// that is a Thing: these words, and the number.
+/// Adds the verdict on a packet that passes since an entry of this number accepts it at its one
+/// endpoint that is a Thing: these words, and the number.
 fn append_accepted(line: &mut Bytes, words: &[u8], number: u16) -> Result<(), Memory>
     ensures { OnOk result (line.new ≡ line.old ++ (words.now ++ decimal number)) }
 {
@@ -88,8 +88,8 @@ fn append_accepted(line: &mut Bytes, words: &[u8], number: u16) -> Result<(), Me
     append_decimal(line, u64::from(number))
 }
 
-/// Adds a verdict: `pass` or `drop`, and the ruling of each end that is a Thing, or why none is
-/// ruled on.
+/// Adds a verdict: `pass` or `drop`, and the ruling of each endpoint that is a Thing, or why none
+/// is ruled on.
 #[tactic(auto, unfolding(crate::specs::Verdicts::verdict_text, crate::specs::Verdicts::passing_text, crate::specs::Verdicts::reason_text, crate::specs::Verdicts::endpoint_text, crate::specs::Verdicts::ruling_text, packet_judge::specs::Verdicts::forwarded, packet_judge::specs::Verdicts::accepts))]
 #[inline(always)]
 pub fn append_verdict(line: &mut Bytes, verdict: &Verdict) -> Result<(), Memory>

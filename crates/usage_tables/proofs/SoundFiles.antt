@@ -38,7 +38,7 @@ pub cond_after : (P : List CachedFile → Type 0) (b : Bool) (x y : FileStep) �
 cond_after P true x y f g = f refl
 cond_after P false x y f g = g refl
 
--- the row of a URL stands at its sort key
+-- the row of a URL has the sort key of the URL
 pub at_its_sort_key : (files : List CachedFile) (url : List ℕ) (row : CachedFile) → file_at url files ≡ Some row → row_at url_of (url_of row) files ≡ Some row
 unfolding file_at
 at_its_sort_key files url row found = subst (λ p. row_at url_of p files ≡ Some row) (sym (sort_key_row_at url_of url files row found)) found

@@ -1,4 +1,4 @@
-//! Laws of the steps on files, each on a function that does nothing.
+//! Laws of the commands on files, each on a function that does nothing.
 ghost use Rattle.std.specs.Prelude.{◌≡◌, ℕ, ◌≤◌, IsTrue, IfOk, IsOkAnd, List, length, Some, Ok};
 ghost use Rattle.mud_file.specs.declared.usage_file.UsageFile.{UsageFile};
 ghost use Rattle.mud_file.specs.File.{file_of};

@@ -389,7 +389,7 @@ pub(super) fn put_row<R: Sortable + Drop>(rows: &mut Vec<R>, found: Result<usize
     }
 }
 
-/// Takes the row of an index away.
+/// Takes the row at an index away.
 fn take_row<R: Sortable>(rows: &mut Vec<R>, index: usize) -> R
     requires ascend { SortKeysAscend R.sort_key rows.old.items }
     requires in_range { index < vec_len rows.old }

@@ -382,7 +382,7 @@ fn made_rows(
     Ok(rows)
 }
 
-/// Whether a row is of this address, and of the entry of this index until this expiry.
+/// Whether a row is of this address, and of the entry at this index, with this expiry.
 fn is_row(row: &Row, addr: Addr, made: (usize, u64)) -> bool {
     row.addr.addr() == addr
         && usize::from(row.entry).checked_sub(1) == Some(made.0)

@@ -32,3 +32,24 @@ pub returns-in-Equal-clause-ascend : goal.returns-in-Equal-clause-ascend
 returns-in-Equal-clause-ascend g c =
     let cut = c.drop_last.ensures.items in
     rest_ascends g.R.Sortable.sort_key cut.last c.args.rows.now.items c.drop_last.new.rows.items cut.left c.requires.ascend
+
+pub returns-in-Less-clause-ascend : goal.returns-in-Less-clause-ascend
+returns-in-Less-clause-ascend g c = c.requires.ascend
+
+pub returns-in-Less-clause-moved : goal.returns-in-Less-clause-moved
+returns-in-Less-clause-moved g c = c.move_last.ensures.room
+
+pub returns-in-Greater-clause-more : goal.returns-in-Greater-clause-more
+returns-in-Greater-clause-more g c = c.requires.more
+
+pub returns-in-Greater-clause-capacity : goal.returns-in-Greater-clause-capacity
+returns-in-Greater-clause-capacity g c = c.move_last-in-Greater.ensures.capacity
+
+pub returns-in-Greater-clause-moved : goal.returns-in-Greater-clause-moved
+returns-in-Greater-clause-moved g c = c.move_last-in-Greater.ensures.room
+
+pub returns-in-Equal-clause-more : goal.returns-in-Equal-clause-more
+returns-in-Equal-clause-more g c = c.requires.more
+
+pub returns-in-Equal-clause-capacity : goal.returns-in-Equal-clause-capacity
+returns-in-Equal-clause-capacity g c = c.drop_last.ensures.capacity

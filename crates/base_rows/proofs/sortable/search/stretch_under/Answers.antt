@@ -38,3 +38,24 @@ returns-in-Ok-clause-most g c =
 
 pub returns-in-Err-clause-rows : goal.returns-in-Err-clause-rows
 returns-in-Err-clause-rows g c = sym (rows_under_gap g.R.Sortable.sort_key (g.K.PrefixOf.prefix c.args.prefix.now) c.args.rows.now _ c.in-Err.ensures.err)
+
+pub first_equal-first-requires-clause-order : goal.first_equal-first-requires-clause-order
+first_equal-first-requires-clause-order g c = c.in-Ok.ensures.ok.start_le
+
+pub first_equal-first-requires-clause-before_start : goal.first_equal-first-requires-clause-before_start
+first_equal-first-requires-clause-before_start g c = c.in-Ok.ensures.ok.before
+
+pub first_equal-first-requires-clause-meets : goal.first_equal-first-requires-clause-meets
+first_equal-first-requires-clause-meets g c = c.in-Ok.ensures.ok.meets
+
+pub past_equal-past-requires-clause-order : goal.past_equal-past-requires-clause-order
+past_equal-past-requires-clause-order g c = c.in-Ok.ensures.ok.at_lt
+
+pub past_equal-past-requires-clause-after_end : goal.past_equal-past-requires-clause-after_end
+past_equal-past-requires-clause-after_end g c = c.in-Ok.ensures.ok.after
+
+pub past_equal-past-requires-clause-meets : goal.past_equal-past-requires-clause-meets
+past_equal-past-requires-clause-meets g c = c.in-Ok.ensures.ok.meets
+
+pub returns-in-Err-clause-some : goal.returns-in-Err-clause-some
+returns-in-Err-clause-some g c = c.in-Err.ensures.err_least

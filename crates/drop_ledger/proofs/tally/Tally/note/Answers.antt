@@ -14,6 +14,6 @@ unfolding seen_planned
 returns c = λ all latest stands.
     noted all latest (the_view c.self.inside) (subst (StandsFor all latest) (sym c.self.view_is) stands) c.args.plan.seen (subst (λ t. MayFollow t c.args.plan.seen) (sym c.self.view_is) c.requires.ready)
     c.ruled_on-sent.result c.ruled_on-received.result c.ruled_on-sent.ensures c.ruled_on-received.ensures
-    (the_view (record { totals = c.with_packet-self-inside.result; hour = c.hour_after-self-inside.result; counts = c.count_end-2.new.counts; denied = c.count_end-2.new.denied; others = c.count_end-2.new.others })) c.count_end.new.counts.rows c.count_end.new.denied.rows c.count_end.new.others.rows
+    (the_view (record { totals = c.with_packet-self-inside.result; hour = c.hour_after-self-inside.result; counts = c.count_endpoint-2.new.counts; denied = c.count_endpoint-2.new.denied; others = c.count_endpoint-2.new.others })) c.count_endpoint.new.counts.rows c.count_endpoint.new.denied.rows c.count_endpoint.new.others.rows
     c.with_packet-self-inside.ensures c.hour_after-self-inside.ensures
-    c.count_end.ensures.counted c.count_end-2.ensures.counted c.count_end.ensures.noted c.count_end-2.ensures.noted
+    c.count_endpoint.ensures.counted c.count_endpoint-2.ensures.counted c.count_endpoint.ensures.noted c.count_endpoint-2.ensures.noted

@@ -32,19 +32,19 @@ checks: build
 	checks/definitions --print >/dev/null
 	checks/proofs >/dev/null
 	bash checks/examples
-	bash checks/program
+	bash checks/faulty-runs
 	bash checks/sessions
-	bash checks/console
-	bash checks/store
+	bash checks/real-clients
+	bash checks/stopped-stores
 	bash checks/shown-commands
-	bash checks/views
+	bash checks/lent-views
 	bash checks/contrib
-	bash checks/network
+	bash checks/made-network
 	bash checks/hostile-inputs
-	checks/failures
-	checks/differential crates/mud/out/mud 1 10000
-	checks/differential crates/mud/out/mud 2 10000 200
-	checks/lists
+	checks/failing-calls
+	checks/second-reading crates/mud/out/mud 1 10000
+	checks/second-reading crates/mud/out/mud 2 10000 200
+	checks/exported-lists
 
 proofs:
 	@bash checks/proofs
@@ -53,10 +53,10 @@ trusted:
 	@checks/definitions --print
 
 limits: build
-	bash checks/limits
+	bash checks/far-limits
 
 memory: build
-	checks/memory
+	checks/failing-allocations
 
 plants:
 	checks/plants $(CRATES)
@@ -67,15 +67,15 @@ fuzz: build
 bench: build
 	bash bench/frames
 	bash bench/check
-	bash bench/books
+	bash bench/book-commands
 	bash bench/judge
 	bash bench/replay
 	bash bench/serve
-	python3 bench/rows
-	bash bench/keeper
+	python3 bench/row-changes
+	bash bench/kept-changes
 
 hostile: build
-	bash bench/hostile
+	bash bench/slowest-inputs
 
 install: build
 	install -d "$(DESTDIR)$(PREFIX)/bin"

@@ -1,4 +1,4 @@
-"""Makes the stores, captures, requests and statements that bench/frames, bench/judge, bench/replay and bench/keeper
+"""Makes the stores, captures, requests and statements that bench/frames, bench/judge, bench/replay and bench/kept-changes
 measure with.
 
   inputs.py judge FOLDER    FOLDER/large.db has 512 Things, 128 approved files and 4,096 entries,

@@ -1,10 +1,10 @@
-"""Makes the inputs with which bench/hostile measures: the slowest ones that we know how to make.
+"""Makes the inputs with which bench/slowest-inputs measures: the slowest ones that we know how to make.
 
-  hostile.py make FOLDER         makes FOLDER/NAME.whole and FOLDER/NAME.tenth for each input that is
+  slowest.py make FOLDER         makes FOLDER/NAME.whole and FOLDER/NAME.tenth for each input that is
                                  read on standard input, the second of a tenth of the size or number;
                                  for import and for the stores the folders and files import.whole,
                                  full.whole.db and so on
-  hostile.py pieces FILE USED PROGRAM WORDS..
+  slowest.py pieces FILE USED PROGRAM WORDS..
                                  runs the program with FILE as its standard input, of which each read
                                  gives one octet; the file USED gets the microseconds of processor time
                                  that it took, and the status is the program's

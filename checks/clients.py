@@ -1,16 +1,16 @@
-"""Clients of the console, for checks/console.
+"""Clients of the console, for checks/real-clients.
 
-  console.py http PORT FOLDER RUN    sends the requests of FOLDER/RUN.requests over one connection by
+  clients.py http PORT FOLDER RUN    sends the requests of FOLDER/RUN.requests over one connection by
                                      http.client; the answer to request N goes to FOLDER/RUN.N.got, and
                                      a line 'N METHOD TARGET STATUS' for each to standard output
-  console.py octets PORT FILE        sends the octets of FILE one a write, and then no more; writes
+  clients.py octets PORT FILE        sends the octets of FILE one a write, and then no more; writes
                                      what comes back
-  console.py unread PORT FILE        sends the octets of FILE at once and goes away with a reset,
+  clients.py unread PORT FILE        sends the octets of FILE at once and goes away with a reset,
                                      without reading an octet
-  console.py stalled PORT            asks for the list of Things again and again, and takes no answer,
+  clients.py stalled PORT            asks for the list of Things again and again, and takes no answer,
                                      until the server takes no more requests; then another client asks.
                                      Writes after how many seconds that one is answered, and its status
-  console.py dripping PORT           sends an octet of a head each second, until the connection is
+  clients.py dripping PORT           sends an octet of a head each second, until the connection is
                                      closed, and writes after how many seconds that was
 """
 

@@ -3,19 +3,18 @@ ghost use Rattle.std.specs.Prelude.{◌≡◌, ◌↔◌, IsTrue, IfOk};
 ghost use Rattle.acl_model.specs.Keys as spec;
 
 use mud_base::{Addr, Bytes, End, Memory};
-use mud_url::MudUrl;
 
 /// What an address is bound to, so that it meets the member selectors with this key.
 #[derive(Drop, Debug)]
 pub enum MemberKey {
     /// The host of the MUD URL of the Thing that has the address.
     Host(Bytes),
-    /// The MUD URL of the Thing that has the address.
-    Model(MudUrl),
+    /// The text of the MUD URL of the Thing that has the address.
+    Model(Bytes),
     /// The URI of a class.
     Class(Bytes),
-    /// The MUD URL of the Things that the address controls.
-    Mine(MudUrl),
+    /// The text of the MUD URL of the Things that the address controls.
+    Mine(Bytes),
     /// A DNS name.
     Name(Bytes),
 }
@@ -43,7 +42,7 @@ pub fn same_key(own: &MemberKey, other: &MemberKey) -> bool
             _ => false,
         },
         MemberKey::Model(own) => match other {
-            MemberKey::Model(other) => own == other,
+            MemberKey::Model(other) => own.octets() == other.octets(),
             _ => false,
         },
         MemberKey::Class(own) => match other {
@@ -51,7 +50,7 @@ pub fn same_key(own: &MemberKey, other: &MemberKey) -> bool
             _ => false,
         },
         MemberKey::Mine(own) => match other {
-            MemberKey::Mine(other) => own == other,
+            MemberKey::Mine(other) => own.octets() == other.octets(),
             _ => false,
         },
         MemberKey::Name(own) => match other {
@@ -68,9 +67,9 @@ impl MemberKey {
     {
         match self {
             MemberKey::Host(host) => Ok(MemberKey::Host(host.copy()?)),
-            MemberKey::Model(url) => Ok(MemberKey::Model(*url)),
+            MemberKey::Model(url) => Ok(MemberKey::Model(url.copy()?)),
             MemberKey::Class(uri) => Ok(MemberKey::Class(uri.copy()?)),
-            MemberKey::Mine(url) => Ok(MemberKey::Mine(*url)),
+            MemberKey::Mine(url) => Ok(MemberKey::Mine(url.copy()?)),
             MemberKey::Name(name) => Ok(MemberKey::Name(name.copy()?)),
         }
     }

@@ -44,7 +44,7 @@ impl MemberKey {
             },
             MemberKey::Model(url) => KeyText {
                 kind: 2,
-                text: url.text(),
+                text: url.octets(),
             },
             MemberKey::Class(uri) => KeyText {
                 kind: 3,
@@ -52,7 +52,7 @@ impl MemberKey {
             },
             MemberKey::Mine(url) => KeyText {
                 kind: 4,
-                text: url.text(),
+                text: url.octets(),
             },
             MemberKey::Name(name) => KeyText {
                 kind: 5,

@@ -19,13 +19,14 @@ fn add_lease(
 {
     let (addr, until) = row;
     let host = Bytes::new(alloc, thing.url.host())?;
+    let url = Bytes::new(alloc, thing.url.text())?;
     list.push(Binding {
         key: MemberKey::Host(host),
         addr,
         until,
     })?;
     list.push(Binding {
-        key: MemberKey::Model(thing.url),
+        key: MemberKey::Model(url),
         addr,
         until,
     })?;
@@ -56,21 +57,26 @@ fn add_things(alloc: Global, list: &mut Listed<Binding>, things: &[Thing]) -> Re
 
 /// What an address of a class is bound to.
 #[tactic(auto, unfolding(table_model::specs::Bindings::member_key))]
-fn member_key(class: &Class) -> Result<MemberKey, Memory>
+fn member_key(alloc: Global, class: &Class) -> Result<MemberKey, Memory>
     ensures { IfOk result (λ key. key ≡ spec.member_key class.now) }
 {
     match class {
         Class::Uri(uri) => Ok(MemberKey::Class(uri.copy()?)),
-        Class::Mine(url) => Ok(MemberKey::Mine(*url)),
+        Class::Mine(url) => Ok(MemberKey::Mine(Bytes::new(alloc, url.text())?)),
     }
 }
 
 /// Adds the binding of an address of a class, which never expires.
 #[tactic(auto, unfolding(table_model::specs::Bindings::class_binding))]
-fn add_class_address(list: &mut Listed<Binding>, row: &ClassRow, addr: Addr) -> Result<(), Memory>
+fn add_class_address(
+    alloc: Global,
+    list: &mut Listed<Binding>,
+    row: &ClassRow,
+    addr: Addr,
+) -> Result<(), Memory>
     ensures { OnOk result (list.new ≡ list.old ++ spec.class_binding row.now addr ∷ []) }
 {
-    let key = member_key(&row.class)?;
+    let key = member_key(alloc, &row.class)?;
     list.push(Binding {
         key,
         addr,
@@ -81,22 +87,26 @@ fn add_class_address(list: &mut Listed<Binding>, row: &ClassRow, addr: Addr) -> 
 
 /// Adds the bindings of a class.
 #[tactic(auto, unfolding(table_model::specs::Bindings::class_bindings))]
-fn add_class(list: &mut Listed<Binding>, row: &ClassRow) -> Result<(), Memory>
+fn add_class(alloc: Global, list: &mut Listed<Binding>, row: &ClassRow) -> Result<(), Memory>
     ensures { OnOk result (list.new ≡ list.old ++ spec.class_bindings row.now) }
 {
     for addr in row.addrs.as_slice() {
-        add_class_address(list, row, *addr)?;
+        add_class_address(alloc, list, row, *addr)?;
     }
     Ok(())
 }
 
 /// Adds the bindings of classes.
 #[tactic(auto, unfolding(table_model::specs::Bindings::classes_bindings))]
-fn add_classes(list: &mut Listed<Binding>, classes: &[ClassRow]) -> Result<(), Memory>
+fn add_classes(
+    alloc: Global,
+    list: &mut Listed<Binding>,
+    classes: &[ClassRow],
+) -> Result<(), Memory>
     ensures { OnOk result (list.new ≡ list.old ++ spec.classes_bindings classes.now) }
 {
     for row in classes {
-        add_class(list, row)?;
+        add_class(alloc, list, row)?;
     }
     Ok(())
 }
@@ -149,7 +159,7 @@ pub(crate) fn list_bindings(
 {
     let mut list = Listed::new(alloc);
     add_things(alloc, &mut list, things)?;
-    add_classes(&mut list, classes)?;
+    add_classes(alloc, &mut list, classes)?;
     add_names(&mut list, names)?;
     Ok(list)
 }

@@ -43,9 +43,9 @@ impl LentKey<'_> {
     {
         match self {
             LentKey::Host(host) => Ok(MemberKey::Host(Bytes::new(alloc, host)?)),
-            LentKey::Model(url) => Ok(MemberKey::Model(**url)),
+            LentKey::Model(url) => Ok(MemberKey::Model(Bytes::new(alloc, url.text())?)),
             LentKey::Class(uri) => Ok(MemberKey::Class(Bytes::new(alloc, uri)?)),
-            LentKey::Mine(url) => Ok(MemberKey::Mine(**url)),
+            LentKey::Mine(url) => Ok(MemberKey::Mine(Bytes::new(alloc, url.text())?)),
             LentKey::Name(name) => Ok(MemberKey::Name(Bytes::new(alloc, name)?)),
         }
     }

@@ -1,6 +1,6 @@
 -- A reply is answered.
 use Rattle.std.proofs.Common.{◌≡◌, ℕ, Bool, List, refl, sym, ap, ◌∙◌, subst, inl, inr}
-use Rattle.std.specs.Prelude.{Result, Ok, Err, Option, None, length, max, ◌++◌, IsSomeAnd}
+use Rattle.std.specs.Prelude.{Result, Ok, Err, Option, None, length, max, ◌++◌}
 use Rattle.console_routes.specs.declared.route.Route.{Route}
 use Rattle.http_answers.specs.Heads.{head_of, shown, answer_of}
 use Rattle.http_requests.specs.Requests.{Request}
@@ -9,15 +9,14 @@ use Rattle.http_requests.specs.declared.parts.RequestParts.{RequestParts}
 use Rattle.http_requests.specs.Parts.{AreParts}
 use Rattle.http_answers.specs.declared.status.Status.{Status}
 use Rattle.http_answers.specs.declared.status.Status.TheVariants as status
-use Rattle.table_model.specs.declared.segment.Segment.{Segment}
 use Rattle.desk_model.specs.Sessions.{Session, later}
 use Rattle.console_routes.specs.Routes.{route_of}
-use Rattle.mud_desk.specs.DeskState.{DeskState, session_of, HasForwarded, LeadsOnFrom}
+use Rattle.mud_desk.specs.DeskState.{DeskState, session_of}
 use Rattle.console.specs.declared.question.Question.{Question}
 use Rattle.console.specs.declared.question.NoQuestion.{NoQuestion}
-use Rattle.console.specs.Replies.{Reply, reply, replied, no_storage, IsOrWanted, IsOrFailed}
+use Rattle.console.specs.Replies.{Reply, reply, replied, IsOrWanted, IsOrFailed}
 use Rattle.console.specs.Asks.{question_of, by_route, refusal_of}
-use Rattle.console.specs.Requests.{question_in, by_result, reply_in, CallsKeeper, AllowedResponse, NeedsMemory, by_question, Changes, command_asked}
+use Rattle.console.specs.Requests.{question_in, by_result, reply_in, CallsKeeper, AllowedQuestion, AllowedResponse, NeedsMemory}
 use Rattle.http_requests.specs.Framing.{is_head}
 use Rattle.console.specs.Answers.{octets_of, AllowedAnswer}
 use Rattle.mud_base.specs.declared.refusal.Refusal.{Refusal}
@@ -37,30 +36,22 @@ question_here from r parts now are =
 
 -- what stands for the question stands for the request
 module _ (session after : Session) (given : ℕ) (r : Request) (reply : Reply) where
-  pub asked : (question : Question) → question_in session given r ≡ Ok question
-      → IsOrFailed (IsSomeAnd (command_asked question.asked) (Changes session given)) session (by_question session given r.body question.action question.asked) reply after → AllowedResponse session given r reply after
+  asked : (question : Question) → question_in session given r ≡ Ok question → AllowedQuestion session given r.body question.action question.asked reply after → AllowedResponse session given r reply after
   unfolding reply_in
   asked question is stands =
       subst (λ (q : Result Question NoQuestion). IsOrFailed (CallsKeeper session given q) session (by_result session given r.body q) reply after) (sym is) stands
 
-  pub refused : (nothing : NoQuestion) → question_in session given r ≡ Err nothing → IsOrWanted (refusal_of nothing) reply → after ≡ session → AllowedResponse session given r reply after
+  refused : (nothing : NoQuestion) → question_in session given r ≡ Err nothing → IsOrWanted (refusal_of nothing) reply → after ≡ session → AllowedResponse session given r reply after
   unfolding reply_in
   refused nothing is or same =
       subst (λ (q : Result Question NoQuestion). IsOrFailed (CallsKeeper session given q) session (by_result session given r.body q) reply after) (sym is)
       (elim or.one [ inl said ↦ record { one = inl (inl (λ i. replied (sym said i) (sym same i))) } | inr want ↦ record { one = inl (inr (want, same)) } ])
 
-  pub wanted : reply ≡ no_storage → after ≡ session → AllowedResponse session given r reply after
-  wanted is same = record { one = inl (inr (is, same)) }
-
 -- a reply is answered by its octets
-pub answered : (h : List Segment) (before after : DeskState) (given : ℕ) (r : Request) (closes : Bool) (reply : Reply) (octets method : List ℕ) → method ≡ r.head.method → octets ≡ octets_of method closes reply
-    → (reply.status ≡ status.NoStorage → NeedsMemory (session_of h before) given r)
-    → LeadsOnFrom h before after (λ s t. AllowedResponse s given r reply t) → LeadsOnFrom h before after (λ s t. AllowedAnswer s given r closes reply.status octets t)
-answered h before after given r closes reply octets method is octets_are wanted leads = record {
-  next = leads.next;
-  leads = record { reply = reply; may = leads.leads; status_is = refl; octets_are = octets_are ∙ ap (λ (m : List ℕ). octets_of m closes reply) is; wanted = wanted };
-  forwarded = leads.forwarded;
-}
+pub answered : (session after : Session) (given : ℕ) (r : Request) (closes : Bool) (reply : Reply) (octets method : List ℕ) → method ≡ r.head.method → octets ≡ octets_of method closes reply
+    → (reply.status ≡ status.NoStorage → NeedsMemory session given r) → AllowedResponse session given r reply after → AllowedAnswer session given r closes reply.status octets after
+answered session after given r closes reply octets method is octets_are wanted may =
+    record { reply = reply; may = may; status_is = refl; octets_are = octets_are ∙ ap (λ (m : List ℕ). octets_of m closes reply) is; wanted = wanted }
 
 -- the octets in two pieces
 pub octets_are : (head body : List ℕ) (len : ℕ) (by_head closes : Bool) (status : Status) (allow : Option Route) (method : List ℕ) → head ≡ head_of status allow len closes → len ≡ length body → by_head ≡ is_head method
@@ -71,33 +62,22 @@ octets_are head body len by_head closes status allow method head_is len_is is =
 
 -- ---- What stands for a request, by the question that its parts ask
 
-module _ (from : MomentFrom) (r : Request) (parts : RequestParts) (are : AreParts from r parts) (h : List Segment) (before : DeskState) (given now : ℕ) (is : now ≡ max before.moment given) where
+module _ (from : MomentFrom) (r : Request) (parts : RequestParts) (are : AreParts from r parts) (before : DeskState) (given now : ℕ) (is : now ≡ max before.moment given) where
   -- the question is taken at the later moment
-  asked_at : question_in (session_of h before) given r ≡ question_of parts.method.now parts.path.now parts.body.now now
+  asked_at : question_in (session_of before) given r ≡ question_of parts.method.now parts.path.now parts.body.now now
   unfolding question_in session_of later
   asked_at = sym (question_here from r parts now are ∙ ap (λ n. question_of r.head.method r.head.target r.body n) is)
 
-  pub leads_asked : (after : DeskState) (reply : Reply) (question : Question) → question_of parts.method.now parts.path.now parts.body.now now ≡ Ok question
-      → LeadsOnFrom h before after (λ s t. IsOrFailed (IsSomeAnd (command_asked question.asked) (Changes s given)) s (by_question s given parts.body.now question.action question.asked) reply t)
-      → LeadsOnFrom h before after (λ s t. AllowedResponse s given r reply t)
-  leads_asked after reply question says leads = record {
-    next = leads.next;
-    leads = asked (session_of h before) (session_of leads.next after) given r reply question (asked_at ∙ says)
-        (subst (λ (body : List ℕ). IsOrFailed (IsSomeAnd (command_asked question.asked) (Changes (session_of h before) given)) (session_of h before) (by_question (session_of h before) given body question.action question.asked) reply (session_of leads.next after)) are.body leads.leads);
-    forwarded = leads.forwarded;
-  }
+  pub stands_asked : (after : Session) (reply : Reply) (question : Question) → question_of parts.method.now parts.path.now parts.body.now now ≡ Ok question
+      → AllowedQuestion (session_of before) given parts.body.now question.action question.asked reply after → AllowedResponse (session_of before) given r reply after
+  stands_asked after reply question says may =
+      asked (session_of before) after given r reply question (asked_at ∙ says)
+      (subst (λ (body : List ℕ). AllowedQuestion (session_of before) given body question.action question.asked reply after) are.body may)
 
-  pub leads_refused : (reply : Reply) (nothing : NoQuestion) → question_of parts.method.now parts.path.now parts.body.now now ≡ Err nothing → IsOrWanted (refusal_of nothing) reply → HasForwarded h before
-      → LeadsOnFrom h before before (λ s t. AllowedResponse s given r reply t)
-  leads_refused reply nothing says or forwarded = record { next = h; leads = refused (session_of h before) (session_of h before) given r reply nothing (asked_at ∙ says) or refl; forwarded = forwarded }
-
-  pub leads_wanted : (reply : Reply) → reply ≡ no_storage → HasForwarded h before → LeadsOnFrom h before before (λ s t. AllowedResponse s given r reply t)
-  leads_wanted reply is_wanted forwarded = record { next = h; leads = wanted (session_of h before) (session_of h before) given r reply is_wanted refl; forwarded = forwarded }
-
-  pub leads_unasked : (reply : Reply) (unasked : Refusal NoQuestion) → Fails unasked (question_of parts.method.now parts.path.now parts.body.now now) → IsRefusalOf unasked reply → HasForwarded h before
-      → LeadsOnFrom h before before (λ s t. AllowedResponse s given r reply t)
-  leads_unasked reply Memory says is_refusal forwarded = leads_wanted reply is_refusal forwarded
-  leads_unasked reply (Broken nothing) says is_refusal forwarded = leads_refused reply nothing says (told_of nothing reply is_refusal) forwarded
+  pub stands_unasked : (reply : Reply) (unasked : Refusal NoQuestion) → Fails unasked (question_of parts.method.now parts.path.now parts.body.now now) → IsRefusalOf unasked reply
+      → AllowedResponse (session_of before) given r reply (session_of before)
+  stands_unasked reply Memory says is_refusal = record { one = inl (inr (is_refusal, refl)) }
+  stands_unasked reply (Broken nothing) says is_refusal = refused (session_of before) (session_of before) given r reply nothing (asked_at ∙ says) (told_of nothing reply is_refusal) refl
 
 -- a reply that names no methods
 pub plain_is : (head : ReplyHead) (status : Status) (body : List ℕ) → head ≡ record { status = status; allow = None } → ◌≡◌ {A = Reply} (record { status = head.status; allow = head.allow; body = body }) (reply status body)

@@ -1,5 +1,5 @@
 -- What requests make of a state beside a value that stays.
-use Rattle.std.proofs.Common.{◌≡◌, ℕ, Bool, ◌-◌, List, [], ◌∷◌, Option, Some, refl, inl, inr, sym, ap, ◌∙◌, subst}
+use Rattle.std.proofs.Common.{◌≡◌, ℕ, Bool, ◌-◌, List, [], ◌∷◌, inl, inr, sym, ap, ◌∙◌, subst}
 use Rattle.mud_world.specs.Door.{DoorState}
 use Rattle.mud_world.specs.View.{DoorView}
 use Rattle.http_requests.specs.declared.fault.RequestFault.{RequestFault}
@@ -8,81 +8,73 @@ use Rattle.http_requests.specs.Requests.{Request, Ending, most_requests}
 use Rattle.http_requests.specs.Serving.{Served}
 use Rattle.http_requests.specs.declared.end.ConnectionEnd.{ConnectionEnd}
 use Rattle.http_requests.specs.declared.end.ConnectionEnd.TheVariants.{Ended, Closed, Broken, Spent, ReadFailed, WriteFailed}
-use Rattle.http_requests.specs.Asked.{Asked, asked}
+use Rattle.http_requests.specs.Asked.{Asked}
 use Rattle.http_requests.specs.Ends.{ServedBy, IsServed}
 use Rattle.http_requests.specs.Runs.{Runs, Leads, IsLeftBy}
 use Rattle.http_requests.specs.Visits.{Visit, alone, AreServed, ServedInTurn}
 use Rattle.console.specs.Beside.{StepBeside}
 
 module _ {S X : Type 0} (may : S → Asked → List ℕ → S → Type 0) where
-  -- what is behind a state beside the value, and what holds of it
-  pub record Reaches (P : S → Type 0) (x : X) (t : Option S × X) : Type 0 where
-    pub next : S
-    pub is : t ≡ (Some next, x)
-    pub holds : P next
+  -- the value stays, and this holds of the state beside it
+  pub record Reaches (P : S → Type 0) (x : X) (t : S × X) : Type 0 where
+    pub is : t.1 ≡ x
+    pub holds : P t.0
 
-  pub reaches_one : (s : S) (x : X) (what : Asked) (answer : List ℕ) (t : Option S × X) → StepBeside may (Some s, x) what answer t → Reaches (λ n. may s what answer n) x t
-  reaches_one s x what answer t p = record { next = p.may_if.0; is = λ i. (p.may_if.1 i, p.same i); holds = p.may_if.2 }
-
-  runs_of : (from : MomentFrom) (more : ℕ) (s : S) (x : X) (t : Option S × X) (requests : List Request) (octets : List ℕ) → Runs (StepBeside may) from more (Some s, x) t requests octets
+  runs_of : (from : MomentFrom) (more : ℕ) (s : S) (x : X) (t : S × X) (requests : List Request) (octets : List ℕ) → Runs (StepBeside may) from more (s, x) t requests octets
       → Reaches (λ n. Runs may from more s n requests octets) x t
-  runs_of from more s x t [] octets run = record { next = s; is = sym run.0; holds = (refl, run.1) }
+  runs_of from more s x t [] octets run = record { is = sym (ap (λ (p : S × X). p.1) run.0); holds = (ap (λ (p : S × X). p.0) run.0, run.1) }
   runs_of from more s x t (r ∷ requests) octets run =
-      let one = reaches_one s x (asked from more r) run.1 run.0 run.3 in
-      let later = runs_of from (more - 1) one.next x t requests run.2 (subst (λ (at : Option S × X). Runs (StepBeside may) from (more - 1) at t requests run.2) one.is run.5) in
-      record { next = later.next; is = later.is; holds = (one.next, run.1, run.2, one.holds, run.4, later.holds) }
+      let one = run.3 in
+      let later = runs_of from (more - 1) run.0.0 run.0.1 t requests run.2 run.5 in
+      record { is = later.is ∙ one.same; holds = (run.0.0, run.1, run.2, one.may_be, run.4, later.holds) }
 
-  leads_of : (s : S) (x : X) (t : Option S × X) (all : List Asked) → Leads (StepBeside may) (Some s, x) t all → Reaches (λ n. Leads may s n all) x t
-  leads_of s x t [] same = record { next = s; is = sym same; holds = refl }
+  leads_of : (s : S) (x : X) (t : S × X) (all : List Asked) → Leads (StepBeside may) (s, x) t all → Reaches (λ n. Leads may s n all) x t
+  leads_of s x t [] same = record { is = sym (ap (λ (p : S × X). p.1) same); holds = ap (λ (p : S × X). p.0) same }
   leads_of s x t (what ∷ all) leads =
-      let one = reaches_one s x what leads.1 leads.0 leads.2 in
-      let later = leads_of one.next x t all (subst (λ (at : Option S × X). Leads (StepBeside may) at t all) one.is leads.3) in
-      record { next = later.next; is = later.is; holds = (one.next, leads.1, one.holds, later.holds) }
-
-  -- the value stays, whether there is a state or not
-  same_beside : (s t : Option S × X) (all : List Asked) → Leads (StepBeside may) s t all → t.1 ≡ s.1
-  same_beside s t [] same = sym (ap (λ (p : Option S × X). p.1) same)
-  same_beside s t (what ∷ all) leads = same_beside leads.0 t all leads.3 ∙ leads.2.same
+      let one = leads.2 in
+      let later = leads_of leads.0.0 leads.0.1 t all leads.3 in
+      record { is = later.is ∙ one.same; holds = (leads.0.0, leads.1, one.may_be, later.holds) }
 
   -- what holds beside each state that is kept
-  pub beside : (keeps : Option S × X → Type 0) (s : Option S × X) → IsLeftBy (StepBeside may) keeps s → (Q : X → Type 0) → ((n : Option S × X) → keeps n → Q n.1) → Q s.1
-  beside keeps s p Q then = subst Q (same_beside s p.next p.all p.leads) (then p.next p.kept)
+  pub beside : (keeps : S × X → Type 0) (s : S) (x : X) → IsLeftBy (StepBeside may) keeps (s, x) → (Q : X → Type 0) → ((n : S × X) → keeps n → Q n.1) → Q x
+  beside keeps s x p Q then = subst Q (leads_of s x p.next p.all p.leads).is (then p.next p.kept)
 
-  pub left_of : (keeps : Option S × X → Type 0) (keeps' : S → Type 0) (s : S) (x : X) → ((n : S) → keeps (Some n, x) → keeps' n) → IsLeftBy (StepBeside may) keeps (Some s, x) → IsLeftBy may keeps' s
+  -- what is kept beside the value
+  kept_by : (keeps : S × X → Type 0) (x : X) (t : S × X) → t.1 ≡ x → keeps t → keeps (t.0, x)
+  kept_by keeps x t is kept = subst (λ (y : X). keeps (t.0, y)) is kept
+
+  pub left_of : (keeps : S × X → Type 0) (keeps' : S → Type 0) (s : S) (x : X) → ((n : S) → keeps (n, x) → keeps' n) → IsLeftBy (StepBeside may) keeps (s, x) → IsLeftBy may keeps' s
   left_of keeps keeps' s x then p =
       let on = leads_of s x p.next p.all p.leads in
-      record { all = p.all; next = on.next; kept = then on.next (subst keeps on.is p.kept); leads = on.holds }
+      record { all = p.all; next = p.next.0; kept = then p.next.0 (kept_by keeps x p.next on.is p.kept); leads = on.holds }
 
   module _ (refusal : RequestFault → List ℕ) (from : MomentFrom) where
-    served_of : (s : S) (x : X) (t : Option S × X) (end : Ending) (last : List ℕ) (old new : DoorState) → Served (Runs (StepBeside may) from most_requests (Some s, x) t) from end last old new
+    served_of : (s : S) (x : X) (t : S × X) (end : Ending) (last : List ℕ) (old new : DoorState) → Served (Runs (StepBeside may) from most_requests (s, x) t) from end last old new
         → Reaches (λ n. Served (Runs may from most_requests s n) from end last old new) x t
     served_of s x t end last old new p =
         let on = runs_of from most_requests s x t p.requests p.answers p.run in
         record {
-          next = on.next;
           is = on.is;
           holds = record { requests = p.requests; answers = p.answers; run = on.holds; taken = p.taken; took = p.took; reads = p.reads; state = p.state };
         }
 
-    by_end : (s : S) (x : X) (t : Option S × X) (end : ConnectionEnd) (old new : DoorState) → ServedBy (StepBeside may) refusal from end (Some s, x) t old new
+    by_end : (s : S) (x : X) (t : S × X) (end : ConnectionEnd) (old new : DoorState) → ServedBy (StepBeside may) refusal from end (s, x) t old new
         → Reaches (λ n. ServedBy may refusal from end s n old new) x t
-    by_end s x t Ended old new p = let on = served_of s x t _ _ old new p in record { next = on.next; is = on.is; holds = on.holds }
-    by_end s x t Closed old new p = let on = served_of s x t _ _ old new p in record { next = on.next; is = on.is; holds = on.holds }
-    by_end s x t Spent old new p = let on = served_of s x t _ _ old new p in record { next = on.next; is = on.is; holds = on.holds }
+    by_end s x t Ended old new p = let on = served_of s x t _ _ old new p in record { is = on.is; holds = on.holds }
+    by_end s x t Closed old new p = let on = served_of s x t _ _ old new p in record { is = on.is; holds = on.holds }
+    by_end s x t Spent old new p = let on = served_of s x t _ _ old new p in record { is = on.is; holds = on.holds }
     by_end s x t Broken old new p =
         let on = served_of s x t _ _ old new p.served in
-        record { next = on.next; is = on.is; holds = record { fault = p.fault; pending = p.pending; served = on.holds } }
+        record { is = on.is; holds = record { fault = p.fault; pending = p.pending; served = on.holds } }
     by_end s x t ReadFailed old new p =
         let on = runs_of from most_requests s x t p.requests p.answers p.run in
         record {
-          next = on.next;
           is = on.is;
           holds = record { requests = p.requests; answers = p.answers; run = on.holds; end = p.end; taken = p.taken; took = p.took; reads = p.reads; state = p.state };
         }
     by_end s x t WriteFailed old new (inl p) =
         let on = runs_of from most_requests s x t p.requests p.answers p.run in
         record {
-          next = on.next;
           is = on.is;
           holds = inl (record {
             requests = p.requests;
@@ -104,12 +96,11 @@ module _ {S X : Type 0} (may : S → Asked → List ℕ → S → Type 0) where
         let before = runs_of from most_requests s x p.run.0 p.requests p.answers p.run.1 in
         let on = runs_of from most_requests s x t _ _ p.ran in
         record {
-          next = on.next;
           is = on.is;
           holds = inr (record {
             requests = p.requests;
             answers = p.answers;
-            run = (before.next, before.holds);
+            run = (p.run.0.0, before.holds);
             more = p.more;
             rest = p.rest;
             goes_on = p.goes_on;
@@ -126,27 +117,27 @@ module _ {S X : Type 0} (may : S → Asked → List ℕ → S → Type 0) where
           });
         }
 
-    pub is_served_of : (keeps : Option S × X → Type 0) (keeps' : S → Type 0) (s : S) (x : X) (end : ConnectionEnd) (old new : DoorView) → ((n : S) → keeps (Some n, x) → keeps' n)
-        → IsServed (StepBeside may) refusal from keeps end (Some s, x) old new → IsServed may refusal from keeps' end s old new
+    pub is_served_of : (keeps : S × X → Type 0) (keeps' : S → Type 0) (s : S) (x : X) (end : ConnectionEnd) (old new : DoorView) → ((n : S) → keeps (n, x) → keeps' n)
+        → IsServed (StepBeside may) refusal from keeps end (s, x) old new → IsServed may refusal from keeps' end s old new
     is_served_of keeps keeps' s x end old new then p =
         let on = by_end s x p.next end old.state new.state p.served in
-        record { next = on.next; kept = then on.next (subst keeps on.is p.kept); served = on.holds }
+        record { next = p.next.0; kept = then p.next.0 (kept_by keeps x p.next on.is p.kept); served = on.holds }
 
-    visits_of : (s : S) (x : X) (t : Option S × X) (visits : List Visit) → AreServed (StepBeside may) refusal from (Some s, x) t visits → Reaches (λ n. AreServed may refusal from s n visits) x t
-    visits_of s x t [] same = record { next = s; is = sym same; holds = refl }
+    visits_of : (s : S) (x : X) (t : S × X) (visits : List Visit) → AreServed (StepBeside may) refusal from (s, x) t visits → Reaches (λ n. AreServed may refusal from s n visits) x t
+    visits_of s x t [] same = record { is = sym (ap (λ (p : S × X). p.1) same); holds = ap (λ (p : S × X). p.0) same }
     visits_of s x t (v ∷ visits) p =
         let one = by_end s x p.0 v.end (alone v.before) (alone v.after) p.1 in
-        let later = visits_of one.next x t visits (subst (λ (at : Option S × X). AreServed (StepBeside may) refusal from at t visits) one.is p.2) in
-        record { next = later.next; is = later.is; holds = (one.next, one.holds, later.holds) }
+        let later = visits_of p.0.0 p.0.1 t visits p.2 in
+        record { is = later.is ∙ one.is; holds = (p.0.0, one.holds, later.holds) }
 
-    pub in_turn_of : (keeps : Option S × X → Type 0) (keeps' : S → Type 0) (s : S) (x : X) (failed : Bool) (count : ℕ) (old new : DoorView) → ((n : S) → keeps (Some n, x) → keeps' n)
-        → ServedInTurn (StepBeside may) refusal from keeps failed count (Some s, x) old new → ServedInTurn may refusal from keeps' failed count s old new
+    pub in_turn_of : (keeps : S × X → Type 0) (keeps' : S → Type 0) (s : S) (x : X) (failed : Bool) (count : ℕ) (old new : DoorView) → ((n : S) → keeps (n, x) → keeps' n)
+        → ServedInTurn (StepBeside may) refusal from keeps failed count (s, x) old new → ServedInTurn may refusal from keeps' failed count s old new
     in_turn_of keeps keeps' s x failed count old new then p =
         let v = p.visited in
         let on = visits_of s x v.next p.visits v.served in
         record {
           visits = p.visits;
-          visited = record { next = on.next; kept = then on.next (subst keeps on.is v.kept); served = on.holds; came = v.came; past = v.past; bound = v.bound };
+          visited = record { next = v.next.0; kept = then v.next.0 (kept_by keeps x v.next on.is v.kept); served = on.holds; came = v.came; past = v.past; bound = v.bound };
           enough = p.enough;
           reads = p.reads;
           writes = p.writes;

@@ -8,8 +8,8 @@ use Rattle.desk_model.specs.declared.reply.Reply as desk
 use Rattle.desk_model.specs.declared.reply.Reply.TheVariants.{Done, Refused, Keeper, Memory}
 use Rattle.desk_model.specs.Commands.{DeskStep, command_step}
 use Rattle.desk_model.specs.Sessions.{Session, Answered, answered, later, command_in, AllowedReply}
-use Rattle.console.specs.Replies.{Reply, replied, IsOrWanted, IsOrFailed}
-use Rattle.console.specs.Requests.{command_reply, by_command, Changes}
+use Rattle.console.specs.Replies.{Reply, replied, IsOrWanted}
+use Rattle.console.specs.Requests.{command_reply, by_command, AllowedCommand}
 use Rattle.console.specs.Origins.{IsWritten}
 
 abbrev is_refused : desk.Reply → Bool
@@ -36,11 +36,10 @@ module _ (session after : Session) (given : ℕ) (command : Command) (said : Out
   stands_as reply written is same = ap (by_command said) is ∙ ap (λ (r : Reply). replied r after) (sym same)
 
   refused : (refusal : Refusal) (written : Reply) → command_in session given command ≡ record { reply = Refused refusal; session = after } → IsOrWanted (command_reply said (Refused refusal)) written
-      → IsOrFailed (Changes session given command) session (by_command said (command_in session given command)) written after
+      → AllowedCommand said session given command written after
   refused refusal written is or = elim or.one [ inl same ↦ record { one = inl (inl (stands_as (Refused refusal) written is same)) } | inr wanted ↦ record { one = inl (inr (wanted, left refusal is)) } ]
 
-  pub stands : (reply : desk.Reply) (written : Reply) → AllowedReply session given command reply after → IsWritten said reply written
-      → IsOrFailed (Changes session given command) session (by_command said (command_in session given command)) written after
+  pub stands : (reply : desk.Reply) (written : Reply) → AllowedReply session given command reply after → IsWritten said reply written → AllowedCommand said session given command written after
   stands (Done outcome) written may is = record { one = inl (inl (stands_as (Done outcome) written may.reply_is is)) }
   stands (Refused refusal) written may is = refused refusal written may.reply_is is
   stands Keeper written may is = record { one = inr (may.reply_is.0, is, may.reply_is.1) }

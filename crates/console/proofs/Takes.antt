@@ -2,9 +2,8 @@
 use Rattle.std.proofs.Common.{◌≡◌, ℕ, ◌+◌, ◌-◌, Bool, true, false, List, Option, Some, None, refl, sym, ap, ◌∙◌, subst, arith}
 use Rattle.mud_world.specs.Causes.{Counts}
 use Rattle.mud_world.specs.Clock.{next_moment, later_moments}
-use Rattle.table_model.specs.declared.segment.Segment.{Segment}
 use Rattle.desk_model.specs.Sessions.{Session}
-use Rattle.mud_desk.specs.DeskState.{DeskState, session_of, HasForwarded, LeadsOn}
+use Rattle.mud_desk.specs.DeskState.{DeskState, session_of}
 use Rattle.http_answers.specs.declared.status.Status.{Status}
 use Rattle.http_requests.specs.declared.fault.MomentFrom.{MomentFrom}
 use Rattle.http_requests.specs.Framing.{moment_of}
@@ -14,7 +13,6 @@ use Rattle.http_requests.specs.Visits.{CountsOf}
 use Rattle.console.specs.Replies.{is_unavailable}
 use Rattle.console.specs.Answers.{AllowedAnswer}
 use Rattle.console.specs.States.{ConsoleState, begun, counted, TakesMoment, ConsoleStep, IsAt}
-use Rattle.console.specs.Beside.{StepIf, IsAtIf}
 
 -- the moments that are left behind a request
 after : Option ℕ → List ℕ → List ℕ
@@ -52,42 +50,34 @@ still : (risen before now next : ℕ) → now ≡ before + risen → next ≡ no
 still risen before now next is same = omega (arith, is, same)
 
 -- the first state
-pub at_first : (tells : Type 0) (desk : DeskState) (moments : List ℕ) (faults : ℕ) (h : List Segment) → HasForwarded h desk → IsAt tells desk moments faults faults (begun (session_of h desk) moments)
-at_first tells desk moments faults h forwarded = record { history = h; session = refl; forwarded = forwarded; clock = λ t. refl; paid = counts_none faults; risen = omega arith }
+pub at_first : (tells : Type 0) (desk : DeskState) (moments : List ℕ) (faults : ℕ) → IsAt tells desk moments faults faults (begun (session_of desk) moments)
+at_first tells desk moments faults = record { session = refl; clock = λ t. refl; paid = counts_none faults; risen = omega arith }
 
 -- What was carried out, and the state behind it.
-pub record Carried (tells : Type 0) (desk : DeskState) (moments : List ℕ) (before now : ℕ) (s : Option ConsoleState) (what : Asked) (octets : List ℕ) : Type 0 where
-  pub next : Option ConsoleState
-  pub may : StepIf (ConsoleStep tells) s what octets next
-  pub at : IsAtIf tells desk moments before now next
+pub record Carried (tells : Type 0) (desk : DeskState) (moments : List ℕ) (before now : ℕ) (s : ConsoleState) (what : Asked) (octets : List ℕ) : Type 0 where
+  pub next : ConsoleState
+  pub may : ConsoleStep tells s what octets next
+  pub at : IsAt tells desk moments before now next
 
 module _ (tells : Type 0) (desk desk' : DeskState) (ms ms' : List ℕ) (before now now' : ℕ) (status : Status) (given : ℕ) (octets : List ℕ) (from : MomentFrom) (request : Request) (is_last : Bool) (own : Option ℕ)
     (takes : TakesMoment tells own given ms ms') (is : own ≡ moment_of from request.head) (cause : Counts (is_unavailable status) now now')
-    (leads : LeadsOn desk desk' (λ (session t : Session). AllowedAnswer session given request is_last status octets t)) where
-  pub carried : (s : Option ConsoleState) → IsAtIf tells desk ms before now s → Carried tells desk' ms' before now' s (asked_by from is_last request) octets
-  carried None at = record { next = None; may = refl; at = at }
-  carried (Some s) at =
-      let on = leads at.history at.forwarded in
-      let next : ConsoleState = record { session = session_of on.next desk'; moments = after own s.moments; unavailable = counted (is_unavailable status) s.unavailable; risen = now' - before } in
+    (may : AllowedAnswer (session_of desk) given request is_last status octets (session_of desk')) where
+  pub carried : (s : ConsoleState) → IsAt tells desk ms before now s → Carried tells desk' ms' before now' s (asked_by from is_last request) octets
+  carried s at =
+      let next : ConsoleState = record { session = session_of desk'; moments = after own s.moments; unavailable = counted (is_unavailable status) s.unavailable; risen = now' - before } in
       record {
-        next = Some next;
-        may = (
-          next,
-          refl,
-          record {
-            given = given;
-            status = status;
-            moment = subst (λ (o : Option ℕ). TakesMoment tells o given s.moments (after own s.moments)) is (took tells own given ms ms' s.moments takes at.clock);
-            may = subst (λ (session : Session). AllowedAnswer session given request is_last status octets (session_of on.next desk')) (sym at.session) on.leads;
-            count = refl;
-            rises = omega (arith, at.risen, cause.later);
-            steady = λ other. still s.risen before now now' at.risen (cause.steady other);
-          },
-        );
+        next = next;
+        may = record {
+          given = given;
+          status = status;
+          moment = subst (λ (o : Option ℕ). TakesMoment tells o given s.moments (after own s.moments)) is (took tells own given ms ms' s.moments takes at.clock);
+          may = subst (λ (session : Session). AllowedAnswer session given request is_last status octets (session_of desk')) (sym at.session) may;
+          count = refl;
+          rises = omega (arith, at.risen, cause.later);
+          steady = λ other. still s.risen before now now' at.risen (cause.steady other);
+        };
         at = record {
-          history = on.next;
           session = refl;
-          forwarded = on.forwarded;
           clock = left_then tells own given ms ms' s.moments takes at.clock;
           paid = counts_next (is_unavailable status) s.unavailable before now now' at.paid cause;
           risen = omega (arith, at.risen, cause.later);

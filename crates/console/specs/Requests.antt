@@ -2,6 +2,7 @@
 use Rattle.std.specs.Prelude.{◌≡◌, ℕ, true, List, Option, Some, None, Result, Ok, Err, IsSomeAnd, IsOkAnd}
 use Rattle.console_routes.specs.declared.action.Action.{Action}
 use Rattle.console_routes.specs.declared.action.Action.TheVariants.{State, Judge}
+use Rattle.console_routes.specs.declared.action.Listing.{Listing}
 use Rattle.console_bodies.specs.declared.asked.Asked.{Asked}
 use Rattle.console_bodies.specs.declared.asked.Asked.TheVariants as asked
 use Rattle.console_bodies.specs.Bodies.{heard_command}
@@ -46,20 +47,34 @@ by_command said answered = replied (command_reply said answered.reply) answered.
 abbrev pub Changes : Session → ℕ → Command → Type 0
 Changes session given command = IsOkAnd (command_step session.desk (later session given) command) (λ step. step.changes ≡ true)
 
+-- what may be replied to a command whose outcome is told so, and the session after it
+abbrev pub AllowedCommand : (Outcome → List ℕ) → Session → ℕ → Command → Reply → Session → Type 0
+AllowedCommand said session given command reply after =
+    IsOrFailed (Changes session given command) session (by_command said (command_in session given command)) reply after
+
 abbrev pub by_heard : Session → ℕ → Heard → Option Command → Replied
 by_heard session given heard None = replied (reply status.Done nothing_body) (raised session given)
 by_heard session given heard (Some command) = by_command (heard_body heard) (command_in session given command)
+
+-- what may be replied to what was heard, for which this is the command, and the session after it
+abbrev pub AllowedHeard : Session → ℕ → Heard → Option Command → Reply → Session → Type 0
+AllowedHeard session given heard command reply after =
+    IsOrFailed (IsSomeAnd command (Changes session given)) session (by_heard session given heard command) reply after
 
 -- ---- Questions
 
 unfoldable pub by_verdict : Judged → Replied
 by_verdict judged = replied (reply status.Done (verdict_body judged.verdict)) judged.session
 
--- A listing raises the moment of the session, and what decides a frame is told without it.
+-- a listing raises the moment of the session
+abbrev pub by_listing : Session → ℕ → Listing → Replied
+by_listing session given listing = replied (reply status.Done (listing_text listing session.desk (later session given))) (raised session given)
+
+-- what decides a frame is told without raising the moment
 unfoldable pub by_question : Session → ℕ → List ℕ → Action → Asked → Replied
 by_question session given body action (asked.Command command) = by_command (outcome_body action) (command_in session given command)
 by_question session given body action (asked.Heard heard) = by_heard session given heard (heard_command heard)
-by_question session given body action (asked.List listing) = replied (reply status.Done (listing_text listing session.desk (later session given))) (raised session given)
+by_question session given body action (asked.List listing) = by_listing session given listing
 by_question session given body action asked.Judge = by_verdict (frame_in session given body)
 by_question session given body action asked.Why = replied (reply status.Done (why_text session.desk body (verdict_in session given body))) session
 
@@ -70,6 +85,11 @@ command_asked (asked.Heard heard) = heard_command heard
 command_asked (asked.List listing) = None
 command_asked asked.Judge = None
 command_asked asked.Why = None
+
+-- what may be replied to what is asked for with this body, and the session after it
+abbrev pub AllowedQuestion : Session → ℕ → List ℕ → Action → Asked → Reply → Session → Type 0
+AllowedQuestion session given body action asked reply after =
+    IsOrFailed (IsSomeAnd (command_asked asked) (Changes session given)) session (by_question session given body action asked) reply after
 
 -- ---- Requests
 

@@ -1,11 +1,10 @@
--- What serving makes of a console, from whatever history its desk's session has.
-use Rattle.std.specs.Prelude.{ℕ, Bool, List}
+-- What serving makes of a console.
+use Rattle.std.specs.Prelude.{ℕ, Bool}
 use Rattle.mud_world.specs.declared.clock.Clock as clock
 use Rattle.mud_world.specs.declared.keeper.Keeper.{Ghosts}
 use Rattle.mud_world.specs.Boxed.{faults_of}
 use Rattle.mud_world.specs.View.{DoorView}
-use Rattle.table_model.specs.declared.segment.Segment.{Segment}
-use Rattle.mud_desk.specs.DeskState.{session_of, HasForwarded}
+use Rattle.mud_desk.specs.DeskState.{session_of}
 use Rattle.http_requests.specs.declared.fault.MomentFrom.{MomentFrom}
 use Rattle.http_requests.specs.declared.end.ConnectionEnd.{ConnectionEnd}
 use Rattle.http_requests.specs.Ends.{IsServed}
@@ -16,9 +15,9 @@ use Rattle.console.specs.declared.console.Console.{Console}
 use Rattle.console.specs.States.{ConsoleState, ConsoleStep, IsAt, begun}
 
 module _ {X : Type 0} {F : X → Type 0} (members : (v : (x : X) × F x) → Ghosts (F v.0)) {C : Type 0} (clocks : clock.Ghosts C) (old new : Console C X F) where
-  -- the state in which the console was, where its session has this history
-  abbrev pub state_before : List Segment → ConsoleState
-  state_before history = begun (session_of history old.desk.state) (clocks.moments old.clock.now)
+  -- the state in which the console was
+  abbrev pub state_before : ConsoleState
+  state_before = begun (session_of old.desk.state) (clocks.moments old.clock.now)
 
   -- the console is in the state now
   abbrev pub IsNow : ConsoleState → Type 0
@@ -26,14 +25,12 @@ module _ {X : Type 0} {F : X → Type 0} (members : (v : (x : X) × F x) → Gho
 
   -- It is in a state that some requests left.
   abbrev pub IsLeftByRequests : Type 0
-  IsLeftByRequests = (history : List Segment) → HasForwarded history old.desk.state → IsLeftBy (ConsoleStep clocks.tells) IsNow (state_before history)
+  IsLeftByRequests = IsLeftBy (ConsoleStep clocks.tells) IsNow state_before
 
   -- They are those of one connection, and what was written are their answers.
   abbrev pub ServesOne : MomentFrom → ConnectionEnd → DoorView → DoorView → Type 0
-  ServesOne from end door door_now = (history : List Segment) → HasForwarded history old.desk.state
-      → IsServed (ConsoleStep clocks.tells) fault_answer from IsNow end (state_before history) door door_now
+  ServesOne from end door door_now = IsServed (ConsoleStep clocks.tells) fault_answer from IsNow end state_before door door_now
 
   -- They are those of connections that were served one after the other, and what was written are their answers.
   abbrev pub ServesInTurn : MomentFrom → Bool → ℕ → DoorView → DoorView → Type 0
-  ServesInTurn from failed count door door_now = (history : List Segment) → HasForwarded history old.desk.state
-      → ServedInTurn (ConsoleStep clocks.tells) fault_answer from IsNow failed count (state_before history) door door_now
+  ServesInTurn from failed count door door_now = ServedInTurn (ConsoleStep clocks.tells) fault_answer from IsNow failed count state_before door door_now

@@ -1,9 +1,8 @@
 -- The states of the console, and what a whole request makes of them.
 use Rattle.std.specs.Prelude.{◌≡◌, ℕ, ◌+◌, ◌≤◌, Bool, true, false, List, Option, Some, None}
 use Rattle.mud_world.specs.Clock.{next_moment, later_moments}
-use Rattle.table_model.specs.declared.segment.Segment.{Segment}
 use Rattle.desk_model.specs.Sessions.{Session}
-use Rattle.mud_desk.specs.DeskState.{DeskState, session_of, HasForwarded}
+use Rattle.mud_desk.specs.DeskState.{DeskState, session_of}
 use Rattle.http_answers.specs.declared.status.Status.{Status}
 use Rattle.http_requests.specs.Asked.{Asked}
 use Rattle.http_requests.specs.Visits.{CountsOf}
@@ -48,9 +47,7 @@ pub record ConsoleStep (tells : Type 0) (s : ConsoleState) (what : Asked) (answe
 -- The console is in the state: the desk is in its session, the clock will give its moments, and the keeper's count has risen by as
 -- much as the state says since it was so before: at least once for each 503, where it doesn't stand at its last value.
 pub record IsAt (tells : Type 0) (desk : DeskState) (moments : List ℕ) (before now : ℕ) (s : ConsoleState) : Type 0 where
-  pub history : List Segment
-  pub session : s.session ≡ session_of history desk
-  pub forwarded : HasForwarded history desk
+  pub session : s.session ≡ session_of desk
   pub clock : tells → moments ≡ s.moments
   pub paid : CountsOf s.unavailable before now
   pub risen : now ≡ before + s.risen

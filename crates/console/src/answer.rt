@@ -5,7 +5,7 @@ ghost use Rattle.mud_world.specs.Causes.{Counts};
 ghost use Rattle.http_requests.specs.declared.fault.MomentFrom.{MomentFrom};
 ghost use Rattle.http_requests.specs.Requests.{Request};
 ghost use Rattle.http_requests.specs.Parts.{AreParts};
-ghost use Rattle.mud_desk.specs.DeskState.{tables_of, LeadsOn};
+ghost use Rattle.mud_desk.specs.DeskState.{tables_of, session_of};
 ghost use Rattle.mud_desk.specs.Stays.{StaysKept};
 ghost use Rattle.desk_model.specs.Boxed.{IsKept};
 ghost use Rattle.console.specs.Replies.{is_unavailable};
@@ -118,7 +118,7 @@ pub fn answer_request(
 ) -> Status
     requires kept { IsKept Keeper-dyn desk.old.keeper (tables_of desk.old.state) }
     ensures answer { (from : MomentFrom) (r : Request) → AreParts from r request.now
-        → LeadsOn desk.old.state desk.new.state (λ session after. spec.AllowedAnswer session given r closes result answer.new after) }
+        → spec.AllowedAnswer (session_of desk.old.state) given r closes result answer.new (session_of desk.new.state) }
     ensures stays { StaysKept Keeper-dyn desk.old desk.new }
     ensures cause { Counts (is_unavailable result) (faults_of Keeper-dyn desk.old.keeper) (faults_of Keeper-dyn desk.new.keeper) }
 {

@@ -1,16 +1,15 @@
 //! Commands: what an operator states, a usage file that was fetched, and what was heard.
-ghost use Rattle.std.specs.Prelude.{◌≡◌, false, ℕ, List};
+ghost use Rattle.std.specs.Prelude.{◌≡◌, false};
 ghost use Rattle.base_rows.specs.Ledgers.{IsBlankOf};
 ghost use Rattle.mud_world.specs.Boxed.{faults_of};
 ghost use Rattle.mud_world.specs.Causes.{Counts};
-ghost use Rattle.table_model.specs.declared.segment.Segment.{Segment as SegmentValue};
 ghost use Rattle.desk_model.specs.Commands.{IsAsked};
-ghost use Rattle.desk_model.specs.Sessions.{AllowedReply, command_in, is_of_keeper};
-ghost use Rattle.mud_desk.specs.DeskState.{tables_of, session_of, LeadsOn};
-ghost use Rattle.mud_desk.specs.Stays.{StaysKept, KeepsConnections};
+ghost use Rattle.desk_model.specs.Sessions.{AllowedReply, is_of_keeper};
+ghost use Rattle.mud_desk.specs.DeskState.{tables_of, session_of};
+ghost use Rattle.mud_desk.specs.Stays.{StaysKept};
 ghost use Rattle.desk_model.specs.Boxed.{IsKept};
-ghost use Rattle.console.specs.Replies.{reply, is_unavailable, IsOrWanted, IsOrFailed};
-ghost use Rattle.console.specs.Requests.{Changes, by_command, outcome_body};
+ghost use Rattle.console.specs.Replies.{reply, is_unavailable, IsOrWanted};
+ghost use Rattle.console.specs.Requests.{AllowedCommand, outcome_body};
 ghost use Rattle.console_listings.specs.Refusals as refusals;
 ghost use Rattle.console.specs.Origins.{said_of, HasTexts, IsWritten};
 
@@ -43,8 +42,8 @@ fn run_counted<L: Ledger>(desk: &mut Desk, command: Command, given: Moment, blan
     requires blank { IsBlankOf L.name L.parts blank }
     requires kept { IsKept Keeper-dyn desk.old.keeper (tables_of desk.old.state) }
     requires asked { IsAsked command }
-    ensures answer { (h : List SegmentValue) → AllowedReply (session_of h desk.old.state) given command result (session_of h desk.new.state) }
-    ensures stays { KeepsConnections Keeper-dyn desk.old desk.new }
+    ensures answer { AllowedReply (session_of desk.old.state) given command result (session_of desk.new.state) }
+    ensures stays { StaysKept Keeper-dyn desk.old desk.new }
     ensures cause { Counts (is_of_keeper result) (faults_of Keeper-dyn desk.old.keeper) (faults_of Keeper-dyn desk.new.keeper) }
 {
     let mut steps = Steps::<L>::new(blank);
@@ -55,8 +54,8 @@ fn run_counted<L: Ledger>(desk: &mut Desk, command: Command, given: Moment, blan
 fn run(desk: &mut Desk, command: Command, given: Moment) -> Reply
     requires kept { IsKept Keeper-dyn desk.old.keeper (tables_of desk.old.state) }
     requires asked { IsAsked command }
-    ensures answer { (h : List SegmentValue) → AllowedReply (session_of h desk.old.state) given command result (session_of h desk.new.state) }
-    ensures stays { KeepsConnections Keeper-dyn desk.old desk.new }
+    ensures answer { AllowedReply (session_of desk.old.state) given command result (session_of desk.new.state) }
+    ensures stays { StaysKept Keeper-dyn desk.old desk.new }
     ensures cause { Counts (is_of_keeper result) (faults_of Keeper-dyn desk.old.keeper) (faults_of Keeper-dyn desk.new.keeper) }
 {
     run_counted::<Brand>(desk, command, given, Blank::new(1))
@@ -134,8 +133,7 @@ pub(crate) fn answer_command(
     requires kept { IsKept Keeper-dyn desk.old.keeper (tables_of desk.old.state) }
     requires asked { IsAsked command }
     requires texts { HasTexts origin }
-    ensures reply { LeadsOn desk.old.state desk.new.state (λ session after. IsOrFailed (Changes session given command) session
-        (by_command (said_of origin) (command_in session given command)) (reply result body.new) after) }
+    ensures reply { AllowedCommand (said_of origin) (session_of desk.old.state) given command (reply result body.new) (session_of desk.new.state) }
     ensures stays { StaysKept Keeper-dyn desk.old desk.new }
     ensures cause { Counts (is_unavailable result) (faults_of Keeper-dyn desk.old.keeper) (faults_of Keeper-dyn desk.new.keeper) }
 {

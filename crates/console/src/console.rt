@@ -36,20 +36,20 @@ pub struct Console<'a, C: Clock> {
 }
 
 impl<C: Clock> Service for Console<'_, C> {
-    ghost use Rattle.std.specs.Prelude.{◌≡◌, ℕ, ◌++◌, IsTrue, Option};
+    ghost use Rattle.std.specs.Prelude.{◌≡◌, ℕ, ◌++◌, IsTrue};
     ghost use Rattle.desk_model.specs.Items.{items_of};
     ghost use Rattle.mud_desk.specs.DeskState.{tables_of};
     ghost use Rattle.console.specs.Answers.{fault_answer};
-    ghost use Rattle.console.specs.States.{ConsoleState, ConsoleStep};
-    ghost use Rattle.console.specs.Beside.{StepBeside, IsAtIf};
+    ghost use Rattle.console.specs.States.{ConsoleState, ConsoleStep, IsAt};
+    ghost use Rattle.console.specs.Beside.{StepBeside};
 
     ghost ready = { λ it. IsTrue ((Keeper-box it.desk.keeper).opened it.desk.keeper.value)
         × ((Keeper-box it.desk.keeper).tells it.desk.keeper.value
         → (Keeper-box it.desk.keeper).items it.desk.keeper.value ≡ items_of (tables_of it.desk.state)) };
 
-    ghost State = { Option ConsoleState × Self };
+    ghost State = { ConsoleState × Self };
 
-    ghost keeps = { λ it s. IsAtIf C.tells it.desk.state (C.moments it.clock.now)
+    ghost keeps = { λ it s. IsAt C.tells it.desk.state (C.moments it.clock.now)
         ((Keeper-box s.1.desk.keeper).faults s.1.desk.keeper.value)
         ((Keeper-box it.desk.keeper).faults it.desk.keeper.value) s.0
         × ((Keeper-box it.desk.keeper).tells it.desk.keeper.value

@@ -1,16 +1,15 @@
 //! What was heard of a Thing.
-ghost use Rattle.std.specs.Prelude.{◌≡◌, ℕ, IsSomeAnd};
 ghost use Rattle.mud_world.specs.Boxed.{faults_of};
 ghost use Rattle.mud_world.specs.Causes.{Counts};
 ghost use Rattle.desk_model.specs.Commands.{IsAsked};
-ghost use Rattle.desk_model.specs.Sessions.{command_in, raised};
+ghost use Rattle.desk_model.specs.Sessions.{raised};
 ghost use Rattle.console_bodies.specs.Bodies as bodies;
 ghost use Rattle.console_outcomes.specs.Heards as heards;
-ghost use Rattle.mud_desk.specs.DeskState.{tables_of, LeadsOn};
+ghost use Rattle.mud_desk.specs.DeskState.{tables_of, session_of};
 ghost use Rattle.mud_desk.specs.Stays.{StaysKept};
 ghost use Rattle.desk_model.specs.Boxed.{IsKept};
 ghost use Rattle.console.specs.Replies.{reply, replied, is_unavailable, IsOrFailed};
-ghost use Rattle.console.specs.Requests.{Changes, by_command, by_heard};
+ghost use Rattle.console.specs.Requests.{AllowedCommand, AllowedHeard};
 
 use crate::BodyText;
 use crate::commands::{Origin, answer_command};
@@ -37,8 +36,8 @@ fn take_heard(
 ) -> Status
     requires kept { IsKept Keeper-dyn desk.old.keeper (tables_of desk.old.state) }
     requires asked { IsAsked command }
-    ensures reply { LeadsOn desk.old.state desk.new.state (λ session after. IsOrFailed (Changes session given command) session
-        (by_command (heards.heard_body heard.now) (command_in session given command)) (reply result body.new) after) }
+    ensures reply { AllowedCommand (heards.heard_body heard.now) (session_of desk.old.state) given command
+        (reply result body.new) (session_of desk.new.state) }
     ensures stays { StaysKept Keeper-dyn desk.old desk.new }
     ensures cause { Counts (is_unavailable result) (faults_of Keeper-dyn desk.old.keeper) (faults_of Keeper-dyn desk.new.keeper) }
 {
@@ -54,8 +53,8 @@ fn take_heard(
 /// Says that a message says nothing, which raises the moment of the session.
 fn answer_nothing(desk: &mut Desk, body: &mut BodyText, given: Moment) -> Status
     requires kept { IsKept Keeper-dyn desk.old.keeper (tables_of desk.old.state) }
-    ensures reply { LeadsOn desk.old.state desk.new.state (λ session after. IsOrFailed ⊥ session
-        (replied (reply Status.Done heards.nothing_body) (raised session given)) (reply result body.new) after) }
+    ensures reply { IsOrFailed ⊥ (session_of desk.old.state) (replied (reply Status.Done heards.nothing_body) (raised (session_of desk.old.state) given))
+        (reply result body.new) (session_of desk.new.state) }
     ensures stays { StaysKept Keeper-dyn desk.old desk.new }
     ensures cause { Counts (is_unavailable result) (faults_of Keeper-dyn desk.old.keeper) (faults_of Keeper-dyn desk.new.keeper) }
 {
@@ -74,8 +73,8 @@ pub(crate) fn answer_heard(
     given: Moment,
 ) -> Status
     requires kept { IsKept Keeper-dyn desk.old.keeper (tables_of desk.old.state) }
-    ensures reply { LeadsOn desk.old.state desk.new.state (λ session after. IsOrFailed (IsSomeAnd (bodies.heard_command heard.now) (Changes session given)) session
-        (by_heard session given heard.now (bodies.heard_command heard.now)) (reply result body.new) after) }
+    ensures reply { AllowedHeard (session_of desk.old.state) given heard.now (bodies.heard_command heard.now)
+        (reply result body.new) (session_of desk.new.state) }
     ensures stays { StaysKept Keeper-dyn desk.old desk.new }
     ensures cause { Counts (is_unavailable result) (faults_of Keeper-dyn desk.old.keeper) (faults_of Keeper-dyn desk.new.keeper) }
 {

@@ -1,13 +1,13 @@
 //! Listings.
-ghost use Rattle.std.specs.Prelude.{◌≡◌, ℕ, IfOk};
+ghost use Rattle.std.specs.Prelude.{◌≡◌, IfOk};
 ghost use Rattle.mud_world.specs.Boxed.{faults_of};
 ghost use Rattle.mud_world.specs.Causes.{Counts};
-ghost use Rattle.desk_model.specs.Sessions.{later, raised};
-ghost use Rattle.mud_desk.specs.DeskState.{tables_of, LeadsOn};
+ghost use Rattle.mud_desk.specs.DeskState.{tables_of, session_of};
 ghost use Rattle.mud_desk.specs.Stays.{StaysKept};
 ghost use Rattle.desk_model.specs.Boxed.{IsKept};
 ghost use Rattle.console.specs.Listings as spec;
-ghost use Rattle.console.specs.Replies.{reply, replied, is_unavailable, IsOrFailed};
+ghost use Rattle.console.specs.Replies.{reply, is_unavailable, IsOrFailed};
+ghost use Rattle.console.specs.Requests.{by_listing};
 
 use crate::refusals::want_memory;
 use crate::session::{later, raise};
@@ -43,8 +43,8 @@ pub(crate) fn answer_listing(
     given: Moment,
 ) -> Status
     requires kept { IsKept Keeper-dyn desk.old.keeper (tables_of desk.old.state) }
-    ensures reply { LeadsOn desk.old.state desk.new.state (λ session after. IsOrFailed ⊥ session
-        (replied (reply Status.Done (spec.listing_text listing session.desk (later session given))) (raised session given)) (reply result body.new) after) }
+    ensures reply { IsOrFailed ⊥ (session_of desk.old.state) (by_listing (session_of desk.old.state) given listing)
+        (reply result body.new) (session_of desk.new.state) }
     ensures stays { StaysKept Keeper-dyn desk.old desk.new }
     ensures cause { Counts (is_unavailable result) (faults_of Keeper-dyn desk.old.keeper) (faults_of Keeper-dyn desk.new.keeper) }
 {

@@ -1,10 +1,9 @@
 //! Frames that pass or are dropped.
-ghost use Rattle.std.specs.Prelude.{◌≡◌, ℕ, List};
+ghost use Rattle.std.specs.Prelude.{◌≡◌};
 ghost use Rattle.mud_world.specs.Boxed.{faults_of};
 ghost use Rattle.mud_world.specs.Causes.{Counts};
-ghost use Rattle.table_model.specs.declared.segment.Segment.{Segment as SegmentValue};
 ghost use Rattle.desk_model.specs.Sessions.{frame_in, IsNoted};
-ghost use Rattle.mud_desk.specs.DeskState.{tables_of, session_of, HasForwarded, LeadsOn};
+ghost use Rattle.mud_desk.specs.DeskState.{tables_of, session_of};
 ghost use Rattle.mud_desk.specs.Stays.{StaysKept};
 ghost use Rattle.desk_model.specs.Boxed.{IsKept};
 ghost use Rattle.console.specs.Replies.{reply, is_unavailable, IsOrFailed};
@@ -25,9 +24,9 @@ pub(crate) fn answer_frame(
     given: Moment,
 ) -> Status
     requires kept { IsKept Keeper-dyn desk.old.keeper (tables_of desk.old.state) }
-    ensures reply { LeadsOn desk.old.state desk.new.state (λ session after. IsOrFailed ⊥ session
-        (by_verdict (frame_in session given frame.now)) (reply result body.new) after) }
-    ensures wanted { (h : List SegmentValue) → HasForwarded h desk.old.state → result ≡ Status.NoStorage → IsNoted (session_of h desk.old.state) given frame.now }
+    ensures reply { IsOrFailed ⊥ (session_of desk.old.state) (by_verdict (frame_in (session_of desk.old.state) given frame.now))
+        (reply result body.new) (session_of desk.new.state) }
+    ensures wanted { result ≡ Status.NoStorage → IsNoted (session_of desk.old.state) given frame.now }
     ensures stays { StaysKept Keeper-dyn desk.old desk.new }
     ensures cause { Counts (is_unavailable result) (faults_of Keeper-dyn desk.old.keeper) (faults_of Keeper-dyn desk.new.keeper) }
 {

@@ -1,17 +1,16 @@
 //! The reply to a request: its status, and its body as it is held.
-ghost use Rattle.std.specs.Prelude.{◌≡◌, ℕ, List, IsSomeAnd};
+ghost use Rattle.std.specs.Prelude.{◌≡◌};
 ghost use Rattle.mud_world.specs.Boxed.{faults_of};
 ghost use Rattle.mud_world.specs.Causes.{Counts};
-ghost use Rattle.table_model.specs.declared.segment.Segment.{Segment as SegmentValue};
 ghost use Rattle.http_requests.specs.declared.fault.MomentFrom.{MomentFrom};
 ghost use Rattle.http_requests.specs.Requests.{Request};
 ghost use Rattle.http_requests.specs.Parts.{AreParts};
 ghost use Rattle.console_bodies.specs.Laws.{AsksRightly};
-ghost use Rattle.mud_desk.specs.DeskState.{tables_of, session_of, HasForwarded, LeadsOn};
+ghost use Rattle.mud_desk.specs.DeskState.{tables_of, session_of};
 ghost use Rattle.mud_desk.specs.Stays.{StaysKept};
 ghost use Rattle.desk_model.specs.Boxed.{IsKept};
-ghost use Rattle.console.specs.Replies.{reply, is_unavailable, IsOrFailed};
-ghost use Rattle.console.specs.Requests.{Changes, by_question, command_asked, AllowedResponse, NeedsMemory};
+ghost use Rattle.console.specs.Replies.{reply, is_unavailable};
+ghost use Rattle.console.specs.Requests.{AllowedQuestion, AllowedResponse, NeedsMemory};
 ghost use Rattle.console.specs.Refused.{AskedNeedsMemory};
 
 use crate::commands::{Origin, answer_command};
@@ -42,10 +41,9 @@ fn answer_question(
 ) -> Status
     requires kept { IsKept Keeper-dyn desk.old.keeper (tables_of desk.old.state) }
     requires asked { AsksRightly question.asked }
-    ensures reply { LeadsOn desk.old.state desk.new.state (λ session after. IsOrFailed (IsSomeAnd (command_asked question.asked) (Changes session given)) session
-        (by_question session given octets.now question.action question.asked) (reply result body.new) after) }
-    ensures wanted { (h : List SegmentValue) → HasForwarded h desk.old.state → result ≡ Status.NoStorage
-        → AskedNeedsMemory (session_of h desk.old.state) given octets.now question.asked }
+    ensures reply { AllowedQuestion (session_of desk.old.state) given octets.now question.action question.asked
+        (reply result body.new) (session_of desk.new.state) }
+    ensures wanted { result ≡ Status.NoStorage → AskedNeedsMemory (session_of desk.old.state) given octets.now question.asked }
     ensures stays { StaysKept Keeper-dyn desk.old desk.new }
     ensures cause { Counts (is_unavailable result) (faults_of Keeper-dyn desk.old.keeper) (faults_of Keeper-dyn desk.new.keeper) }
 {
@@ -72,9 +70,10 @@ pub(crate) fn reply_to(
 ) -> ReplyHead
     requires kept { IsKept Keeper-dyn desk.old.keeper (tables_of desk.old.state) }
     ensures reply { (from : MomentFrom) (r : Request) → AreParts from r request.now
-        → LeadsOn desk.old.state desk.new.state (λ session after. AllowedResponse session given r (record { status = result.status; allow = result.allow; body = body.new }) after) }
+        → AllowedResponse (session_of desk.old.state) given r (record { status = result.status; allow = result.allow; body = body.new })
+        (session_of desk.new.state) }
     ensures wanted { (from : MomentFrom) (r : Request) → AreParts from r request.now
-        → (h : List SegmentValue) → HasForwarded h desk.old.state → result.status ≡ Status.NoStorage → NeedsMemory (session_of h desk.old.state) given r }
+        → result.status ≡ Status.NoStorage → NeedsMemory (session_of desk.old.state) given r }
     ensures stays { StaysKept Keeper-dyn desk.old desk.new }
     ensures cause { Counts (is_unavailable result.status) (faults_of Keeper-dyn desk.old.keeper) (faults_of Keeper-dyn desk.new.keeper) }
 {

@@ -1,11 +1,10 @@
 //! Calls of a desk as they are seen in its session.
-ghost use Rattle.std.specs.Prelude.{◌≡◌, ◌<◌, max, ℕ, List};
+ghost use Rattle.std.specs.Prelude.{◌≡◌, ◌<◌, max};
 ghost use Rattle.base_rows.specs.Ledgers.{IsBlankOf};
 ghost use Rattle.mud_world.specs.Boxed.{faults_of};
-ghost use Rattle.table_model.specs.declared.segment.Segment.{Segment as SegmentValue};
 ghost use Rattle.desk_model.specs.Sessions.{AllowedVerdict, raised};
-ghost use Rattle.mud_desk.specs.DeskState.{tables_of, session_of, LeadsOn};
-ghost use Rattle.mud_desk.specs.Stays.{StaysKept, KeepsConnections};
+ghost use Rattle.mud_desk.specs.DeskState.{tables_of, session_of};
+ghost use Rattle.mud_desk.specs.Stays.{StaysKept};
 ghost use Rattle.desk_model.specs.Boxed.{IsKept};
 
 use base_rows::Steps;
@@ -26,8 +25,8 @@ pub(crate) fn later(a: Moment, b: Moment) -> Moment
 #[tactic(auto, unfolding(mud_desk::specs::DeskState::session_of, mud_desk::specs::DeskState::tables_of, desk_model::specs::Sessions::raised, desk_model::specs::Sessions::later))]
 pub(crate) fn raise(desk: &mut Desk, given: Moment)
     requires kept { IsKept Keeper-dyn desk.old.keeper (tables_of desk.old.state) }
-    ensures raised { (h : List SegmentValue) → session_of h desk.new.state ≡ raised (session_of h desk.old.state) given }
-    ensures stays { KeepsConnections Keeper-dyn desk.old desk.new }
+    ensures raised { session_of desk.new.state ≡ raised (session_of desk.old.state) given }
+    ensures stays { StaysKept Keeper-dyn desk.old desk.new }
     ensures steady { faults_of Keeper-dyn desk.new.keeper ≡ faults_of Keeper-dyn desk.old.keeper }
 {
     let _moment = desk.raise(given);
@@ -42,7 +41,7 @@ fn judge_counted<L: Ledger>(
 ) -> Result<Verdict, Memory>
     requires blank { IsBlankOf L.name L.parts blank }
     requires kept { IsKept Keeper-dyn desk.old.keeper (tables_of desk.old.state) }
-    ensures judged { LeadsOn desk.old.state desk.new.state (λ session after. AllowedVerdict session given frame.now result after) }
+    ensures judged { AllowedVerdict (session_of desk.old.state) given frame.now result (session_of desk.new.state) }
     ensures stays { StaysKept Keeper-dyn desk.old desk.new }
     ensures steady { faults_of Keeper-dyn desk.new.keeper ≡ faults_of Keeper-dyn desk.old.keeper }
 {
@@ -53,7 +52,7 @@ fn judge_counted<L: Ledger>(
 /// Judges a frame.
 pub(crate) fn judge(desk: &mut Desk, frame: &[u8], given: Moment) -> Result<Verdict, Memory>
     requires kept { IsKept Keeper-dyn desk.old.keeper (tables_of desk.old.state) }
-    ensures judged { LeadsOn desk.old.state desk.new.state (λ session after. AllowedVerdict session given frame.now result after) }
+    ensures judged { AllowedVerdict (session_of desk.old.state) given frame.now result (session_of desk.new.state) }
     ensures stays { StaysKept Keeper-dyn desk.old desk.new }
     ensures steady { faults_of Keeper-dyn desk.new.keeper ≡ faults_of Keeper-dyn desk.old.keeper }
 {

@@ -1,9 +1,8 @@
 //! What decides a frame.
-ghost use Rattle.std.specs.Prelude.{◌≡◌, false, ℕ, List, IfOk};
-ghost use Rattle.table_model.specs.declared.segment.Segment.{Segment as SegmentValue};
+ghost use Rattle.std.specs.Prelude.{◌≡◌, false, IfOk};
 ghost use Rattle.desk_model.specs.Sessions.{verdict_in};
 ghost use Rattle.mud_desk.specs.Findings.{found_in};
-ghost use Rattle.mud_desk.specs.DeskState.{session_of, HasForwarded};
+ghost use Rattle.mud_desk.specs.DeskState.{session_of};
 ghost use Rattle.console_listings.specs.Why.{side_text};
 ghost use Rattle.console.specs.Replies.{reply, is_unavailable, IsOrWanted};
 ghost use Rattle.console.specs.Why as spec;
@@ -49,8 +48,9 @@ pub(crate) fn answer_why(
     frame: &[u8],
     given: Moment,
 ) -> Status
-    ensures reply { (h : List SegmentValue) → HasForwarded h desk.now.state
-        → IsOrWanted (reply Status.Done (spec.why_text (session_of h desk.now.state).desk frame.now (verdict_in (session_of h desk.now.state) given frame.now))) (reply result body.new) }
+    ensures reply { IsOrWanted
+        (reply Status.Done (spec.why_text (session_of desk.now.state).desk frame.now (verdict_in (session_of desk.now.state) given frame.now)))
+        (reply result body.new) }
     ensures known { is_unavailable result ≡ false }
 {
     let findings = desk.why(frame, given);

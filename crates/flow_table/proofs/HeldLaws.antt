@@ -1,16 +1,16 @@
 -- What a table holds, as slots are made, written and forgotten.
-use Rattle.std.proofs.Common.{◌≡◌, ℕ, ◌-◌, ◌<◌, ◌≤◌, Bool, true, false, cond, IsTrue, List, [], ◌∷◌, Option, Some, None, inl, inr, if◌then◌else◌, refl, sym, ap, ◌∙◌, subst, arith}
+use Rattle.std.proofs.Common.{◌≡◌, ℕ, ◌-◌, ◌<◌, ◌≤◌, Bool, true, false, cond, IsTrue, List, [], ◌∷◌, ◌++◌, Option, Some, None, inl, inr, if◌then◌else◌, refl, sym, ap, ◌∙◌, subst, arith}
 use Rattle.std.specs.Prelude.{IsSome, option_map}
 use Rattle.std.specs.Option.{is_none}
 use Rattle.std.specs.BTreeMap.{is_at}
 use Rattle.std.proofs.lemmas.Bool.Decides.{nat_tests}
-use Rattle.table_model.specs.History.{Endpoint, Begun, is_between, is_past, opens, resets, with_moment}
+use Rattle.table_model.specs.History.{Endpoint, Begun, last_moment, is_between, is_past, opens, resets, with_moment}
 use Rattle.table_model.specs.declared.segment.Segment.{Segment}
 use Rattle.flow_table.specs.Kept.{StandsFor, is_since, beginner_kept, kept_after, MayForget, HasNoted}
 use Rattle.flow_table.specs.Keys.{Key, key_cmp, key_of}
-use Rattle.flow_table.specs.Held.{Held, with_newest, slot_at, filled, slot_first, held_at, held_between, flows_of, IsNoted, IsSound, IsWritten}
+use Rattle.flow_table.specs.Held.{Held, with_newest, slot_at, filled, slot_first, held_at, held_between, flows_of, IsNoted, IsSound, HoldsAll, IsWritten, held_of}
 use Rattle.flow_table.proofs.KeyLaws.{at_same, at_itself, at_turned, between_at}
-use Rattle.flow_table.proofs.Histories.{nothing_stands}
+use Rattle.flow_table.proofs.Histories.{nothing_stands, noted_stands}
 
 abbrev Slots : Type 0
 Slots = List (Key × Option Begun)
@@ -48,10 +48,6 @@ slot_over (Some one) slots q = by (is_at (key_cmp q) one.0)
     by true = refl
     by false = refl
 
--- a table of these parts
-abbrev pub held_of : Option ℕ → ℕ → Option (Key × Option Begun) → Slots → Slots → Held
-held_of last since newest younger elder = record { last = last; since = since; has_room = is_none newest; younger = with_newest newest younger; elder = elder }
-
 pub held_apart : (last : Option ℕ) (since : ℕ) (newest : Option (Key × Option Begun)) (younger elder : Slots) (q : Key) (begun : Option Begun) → Some begun ≡ slot_at (with_newest newest []) q → begun ≡ held_at (held_of last since newest younger elder) q
 unfolding over
 held_apart last since newest younger elder q begun e = held_in (held_of last since newest younger elder) q begun (ap (λ y. over y (slot_at younger q)) e ∙ sym (slot_over newest younger q))
@@ -75,7 +71,7 @@ nowhere : (slots : Slots) (q : Key) → slots ≡ [] → slot_at slots q ≡ Non
 unfolding slot_at
 nowhere slots q e = rw e refl
 
-pub new_sound : (last : Option ℕ) (since : ℕ) (younger elder : Slots) → younger ≡ [] → elder ≡ [] → IsSound (held_of last since None younger elder)
+new_sound : (last : Option ℕ) (since : ℕ) (younger elder : Slots) → younger ≡ [] → elder ≡ [] → IsSound (held_of last since None younger elder)
 unfolding with_newest
 new_sound last since younger elder e f = record {
   elder = λ q begun h. let n = nowhere elder q f in absurd (cc);
@@ -83,11 +79,17 @@ new_sound last since younger elder e f = record {
   younger = λ q begun h. let n = nowhere younger q e in absurd (cc);
 }
 
-pub new_stands : (since : ℕ) (younger elder : Slots) → younger ≡ [] → elder ≡ [] → StandsFor [] (flows_of (held_of None since None younger elder))
+new_stands : (since : ℕ) (younger elder : Slots) → younger ≡ [] → elder ≡ [] → StandsFor [] (flows_of (held_of None since None younger elder))
 unfolding flows_of held_between with_newest
 new_stands since younger elder e f =
     let t : Held = held_of None since None younger elder in
     nothing_stands (flows_of t) refl (λ a b. sym (held_nowhere t (key_of a b) (sym (nowhere younger (key_of a b) e)) (sym (nowhere elder (key_of a b) f))))
+
+pub new_holds : (history : List Segment) (since : ℕ) (younger elder : Slots) → history ≡ [] → younger ≡ [] → elder ≡ [] → HoldsAll history (held_of None since None younger elder)
+new_holds history since younger elder none e f = record {
+  sound = new_sound None since younger elder e f;
+  stands = subst (λ (h : List Segment). StandsFor h (flows_of (held_of None since None younger elder))) (sym none) (new_stands since younger elder e f);
+}
 
 -- ---- A slot more
 
@@ -108,18 +110,24 @@ slots_alike : (k : Key) (v : Option Begun) (before after : Slots) → Puts k v b
 unfolding with_newest
 slots_alike k v before after u q = u q ∙ sym (puts_first k v before q)
 
-pub room_same : (last : Option ℕ) (since : ℕ) (newest : Option (Key × Option Begun)) (younger after elder : Slots) (k : Key) (v : Option Begun) → newest ≡ Some (k, v) → Puts k v younger after → flows_of (held_of last since None after elder) ≡ flows_of (held_of last since newest younger elder)
+room_same : (last : Option ℕ) (since : ℕ) (newest : Option (Key × Option Begun)) (younger after elder : Slots) (k : Key) (v : Option Begun) → newest ≡ Some (k, v) → Puts k v younger after → flows_of (held_of last since None after elder) ≡ flows_of (held_of last since newest younger elder)
 unfolding held_at with_newest
 room_same last since newest younger after elder k v e u =
     let P : Option (Key × Option Begun) → Type 0 = λ o. flows_of (held_of last since None after elder) ≡ flows_of (held_of last since o younger elder) in
     subst P (sym e) (flows_same (held_of last since (Some (k, v)) younger elder) (held_of last since None after elder) refl (λ q. ap (λ y. slot_first y (slot_at elder q)) (slots_alike k v younger after u q)))
 
-pub room_sound : (last : Option ℕ) (since : ℕ) (newest : Option (Key × Option Begun)) (younger after elder : Slots) (k : Key) (v : Option Begun) → IsSound (held_of last since newest younger elder) → newest ≡ Some (k, v) → Puts k v younger after → IsSound (held_of last since None after elder)
+room_sound : (last : Option ℕ) (since : ℕ) (newest : Option (Key × Option Begun)) (younger after elder : Slots) (k : Key) (v : Option Begun) → IsSound (held_of last since newest younger elder) → newest ≡ Some (k, v) → Puts k v younger after → IsSound (held_of last since None after elder)
 unfolding slot_at with_newest
 room_sound last since newest younger after elder k v s e u =
     let S : Option (Key × Option Begun) → Type 0 = λ o. IsSound (held_of last since o younger elder) in
     let sound : IsSound (held_of last since (Some (k, v)) younger elder) = subst S e s in
     record { elder = sound.elder; noted = sound.noted; younger = λ q begun h. sound.younger q begun (sym (slots_alike k v younger after u q) ∙ h) }
+
+pub room_holds : (history : List Segment) (last : Option ℕ) (since : ℕ) (newest : Option (Key × Option Begun)) (younger after elder : Slots) (k : Key) (v : Option Begun) → HoldsAll history (held_of last since newest younger elder) → newest ≡ Some (k, v) → Puts k v younger after → HoldsAll history (held_of last since None after elder)
+room_holds history last since newest younger after elder k v holds e u = record {
+  sound = room_sound last since newest younger after elder k v holds.sound e u;
+  stands = subst (StandsFor history) (sym (room_same last since newest younger after elder k v e u)) holds.stands;
+}
 
 inner_same : (a b : Option Begun) → Some a ≡ Some b → a ≡ b
 inner_same a b e = cc
@@ -277,6 +285,23 @@ pub late_noted : (last : Option ℕ) (since : ℕ) (newest : Option (Key × Opti
 late_noted last since newest younger elder none k p v s late room n f e =
     let P : Slots → Type 0 = λ slots. HasNoted p (flows_of (held_of last since newest younger elder)) (flows_of (record { last = Some p.at; since = p.at; has_room = false; younger = with_newest (Some (k, v)) none; elder = slots })) in
     subst P (room_none newest younger room) (turned_noted (held_of last since newest younger elder) false none (with_newest (Some (k, v)) none) k p s late n f (writes_late last since newest younger elder none k p v room e))
+
+-- ---- A packet noted, and the history with it
+
+-- where the table answered as the history does, and has noted this packet
+pub noted_holds : (history after : List Segment) (p : Segment) (before : Held) (now : Held) → HoldsAll history before → IsTrue (is_since (last_moment history) p.at) → IsSound now → HasNoted p (flows_of before) (flows_of now) → after ≡ history ++ p ∷ [] → HoldsAll after now
+noted_holds history after p before now holds since sound noted e = record {
+  sound = sound;
+  stands = subst (λ (h : List Segment). StandsFor h (flows_of now)) (sym e) (noted_stands history p (flows_of before) (flows_of now) holds.stands (rw holds.stands.last since) noted);
+}
+
+pub last_since : (history : List Segment) (held : Held) (at : ℕ) → HoldsAll history held → IsTrue (is_since (last_moment history) at) → IsTrue (is_since held.last at)
+unfolding flows_of
+last_since history held at holds since = subst (λ (last : Option ℕ). IsTrue (is_since last at)) (sym holds.stands.last) since
+
+pub since_by_last : (history : List Segment) (held : Held) (now : ℕ) → HoldsAll history held → is_since held.last now ≡ is_since (last_moment history) now
+unfolding flows_of
+since_by_last history held now holds = ap (λ last. is_since last now) holds.stands.last
 
 -- ---- Writing into a slot
 

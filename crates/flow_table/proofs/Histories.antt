@@ -8,7 +8,7 @@ use Rattle.mud_base.specs.declared.packet.Direction.{Direction}
 use Rattle.table_model.specs.History.{Endpoint, Begun, segment_of, is_between, between, opens, resets, since_opened, is_unbroken, moment_of, beginner_since, beginner_of, beginner, side_of, begun_in, begun_of, with_segment, with_packet, last_moment, is_forward, with_moment, begun_at, begun_between, is_past, MayKeep}
 use Rattle.table_model.specs.declared.segment.Segment.{Segment}
 use Rattle.table_model.proofs.TypeFacts.{segment_at}
-use Rattle.flow_table.specs.Kept.{Flows, StandsFor, is_since, beginner_kept, kept_after, begun_kept_in, begun_kept, MayForget, HasNoted}
+use Rattle.flow_table.specs.Kept.{Flows, StandsFor, is_since, beginner_kept, kept_after, MayForget, HasNoted}
 
 -- ---- Lists with one packet more
 
@@ -197,20 +197,9 @@ pub beginner_found : (h : List Segment) (flows : Flows) (a b : Endpoint) (m : �
 beginner_found h flows a b m s i =
     begun_later h a b m ∙ kept_enough (last_moment h) (begun_between h a b) (flows.kept a b) m (rw (← s.last) i) (s.kept a b)
 
-begun_in_kept : (h : List Segment) (flows : Flows) (side : Direction) (now : ℕ) (p : Option Segment) → ((q : Segment) → p ≡ Some q → q.at ≡ now) → StandsFor h flows → IsTrue (is_since flows.last now) → begun_in h side p ≡ begun_kept_in flows side p
-unfolding begun_in begun_kept_in beginner
-begun_in_kept h flows side now None at s i = refl
-begun_in_kept h flows side now (Some p) at s i =
-    ap (λ k. side_of side p (if opens p then Some p.source else k)) (beginner_found h flows p.source p.destination p.at s (rw (at p refl) i))
-
 pub at_planned : (fields : Fields) (now : ℕ) (q : Segment) → segment_of fields now ≡ Some q → q.at ≡ now
 unfolding segment_of
 at_planned fields now q e = segment_at fields.src fields.dst now fields.transport q e
-
--- A look-up answers as the history does.
-pub begun_found : (h : List Segment) (flows : Flows) (side : Direction) (fields : Fields) (now : ℕ) → StandsFor h flows → IsTrue (is_since flows.last now) → begun_of h side fields now ≡ begun_kept flows side fields now
-unfolding begun_of begun_kept
-begun_found h flows side fields now s i = begun_in_kept h flows side now (segment_of fields now) (at_planned fields now) s i
 
 -- ---- One packet more
 
@@ -327,21 +316,23 @@ pub nothing_stands : (flows : Flows) → flows.last ≡ None → ((a b : Endpoin
 unfolding is_forward last_moment begun_between begun_at between
 nothing_stands flows e h = record { forward = refl; last = e; kept = λ a b. h a b }
 
--- ---- By cases on the packet
+-- ---- A look-up answers as the history does, by cases on the packet
 
-pub begun_none : (flows : Flows) (side : Direction) (fields : Fields) (now : ℕ) → segment_of fields now ≡ None → None ≡ begun_kept flows side fields now
-unfolding begun_kept begun_kept_in
-begun_none flows side fields now e = rw e refl
+pub begun_none : (h : List Segment) (side : Direction) (fields : Fields) (now : ℕ) → segment_of fields now ≡ None → None ≡ begun_of h side fields now
+unfolding begun_of begun_in
+begun_none h side fields now e = rw e refl
 
-pub begun_opens : (flows : Flows) (side : Direction) (fields : Fields) (now : ℕ) (p : Segment) → segment_of fields now ≡ Some p → opens p ≡ true → side_of side p (Some p.source) ≡ begun_kept flows side fields now
-unfolding begun_kept begun_kept_in
-begun_opens flows side fields now p e f = rw (e, f) refl
+pub begun_opens : (h : List Segment) (side : Direction) (fields : Fields) (now : ℕ) (p : Segment) → segment_of fields now ≡ Some p → opens p ≡ true → side_of side p (Some p.source) ≡ begun_of h side fields now
+unfolding begun_of begun_in beginner
+begun_opens h side fields now p e f = rw (e, f) refl
 
-pub begun_other : (flows : Flows) (side : Direction) (fields : Fields) (now : ℕ) (p : Segment) → segment_of fields now ≡ Some p → opens p ≡ false → side_of side p (beginner_kept (flows.kept p.source p.destination) p.at) ≡ begun_kept flows side fields now
-unfolding begun_kept begun_kept_in
-begun_other flows side fields now p e f = rw (e, f) refl
+pub begun_other : (h : List Segment) (flows : Flows) (side : Direction) (fields : Fields) (now : ℕ) (p : Segment) → StandsFor h flows → IsTrue (is_since (last_moment h) now) → segment_of fields now ≡ Some p → opens p ≡ false
+    → side_of side p (beginner_kept (flows.kept p.source p.destination) p.at) ≡ begun_of h side fields now
+unfolding begun_of begun_in beginner
+begun_other h flows side fields now p s since e f =
+    rw (e, f) (ap (side_of side p) (sym (beginner_found h flows p.source p.destination p.at s (rw (at_planned fields now p e, s.last) since))))
 
 -- the history with a packet more
-pub packet_more : (h : List Segment) (fields : Fields) (now : ℕ) (p : Segment) (flows : Flows) → segment_of fields now ≡ Some p → StandsFor (h ++ p ∷ []) flows → StandsFor (with_packet h fields now) flows
+pub packet_more : (h : List Segment) (fields : Fields) (now : ℕ) (p : Segment) → segment_of fields now ≡ Some p → h ++ p ∷ [] ≡ with_packet h fields now
 unfolding with_packet with_segment
-packet_more h fields now p flows e s = rw e s
+packet_more h fields now p e = rw e refl

@@ -2,3 +2,4 @@ pub mod Histories
 pub mod PairLaws
 pub mod KeyLaws
 pub mod HeldLaws
+mod Walks

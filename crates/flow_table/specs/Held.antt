@@ -1,10 +1,11 @@
 -- What a table of connections holds: two generations of slots, and what it keeps by them.
 use Rattle.std.specs.Prelude.{◌≡◌, ℕ, ◌≤◌, Bool, false, List, ◌∷◌, Option, Some, None}
+use Rattle.std.specs.Option.{is_none}
 use Rattle.std.specs.Map.{lookup}
 use Rattle.std.specs.BTreeMap.{is_at}
 use Rattle.table_model.specs.History.{Endpoint, Begun}
 use Rattle.table_model.specs.declared.segment.Segment.{Segment}
-use Rattle.flow_table.specs.Kept.{Flows, kept_after}
+use Rattle.flow_table.specs.Kept.{Flows, StandsFor, kept_after}
 use Rattle.flow_table.specs.Keys.{Key, key_cmp, key_of}
 
 -- The moment of the last packet, the moment at which the younger generation was begun, whether memory for one connection
@@ -20,6 +21,10 @@ pub record Held : Type 0 where
 unfoldable pub with_newest : Option (Key × Option Begun) → List (Key × Option Begun) → List (Key × Option Begun)
 with_newest None slots = slots
 with_newest (Some newest) slots = newest ∷ slots
+
+-- a table of these parts
+abbrev pub held_of : Option ℕ → ℕ → Option (Key × Option Begun) → List (Key × Option Begun) → List (Key × Option Begun) → Held
+held_of last since newest younger elder = record { last = last; since = since; has_room = is_none newest; younger = with_newest newest younger; elder = elder }
 
 -- the slot of a key in a generation
 unfoldable pub slot_at : List (Key × Option Begun) → Key → Option (Option Begun)
@@ -54,6 +59,11 @@ pub record IsSound (held : Held) : Type 0 where
   pub elder : (key : Key) (begun : Begun) → slot_at held.elder key ≡ Some (Some begun) → begun.1 ≤ held.since
   pub noted : (key : Key) (begun : Begun) → slot_at held.elder key ≡ Some (Some begun) → IsNoted held.last begun.1
   pub younger : (key : Key) (begun : Begun) → slot_at held.younger key ≡ Some (Some begun) → IsNoted held.last begun.1
+
+-- the table answers as the list of all packets that were noted does
+pub record HoldsAll (history : List Segment) (held : Held) : Type 0 where
+  pub sound : IsSound held
+  pub stands : StandsFor history (flows_of held)
 
 -- the slot of this key has what is kept after the packet, and each other slot stays
 pub record IsWritten (key : Key) (p : Segment) (before : List (Key × Option Begun)) (after : List (Key × Option Begun)) : Type 0 where

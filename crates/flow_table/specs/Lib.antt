@@ -1,5 +1,5 @@
+pub mod Noted
 pub mod Kept
 pub mod Pairs
 pub mod Keys
 pub mod Held
-pub mod Planned

@@ -30,26 +30,18 @@ fn is_kept(at: Moment, now: Moment) -> bool
     now.seconds().saturating_sub(at.seconds()) <= MOST_PAUSE
 }
 
-/// What is kept of two endpoints after a packet between them: a packet that opens begins the
-/// connection anew, one that resets ends it, and each other one keeps it up.
-#[tactic(auto, unfolding(crate::specs::Kept::kept_after, table_model::specs::History::with_moment))]
+/// What is kept of two endpoints after a packet between them: [`keep_up`].
 pub(crate) fn kept_after(packet: &Segment, kept: Option<Begun>) -> Option<Begun>
     ensures { result ≡ spec.kept_after packet.now kept }
 {
-    if packet.opens() {
-        Some((packet.source, packet.at))
-    } else if packet.resets() {
-        None
-    } else {
-        match beginner_kept(kept, packet.at) {
-            Some(began) => Some((began, packet.at)),
-            None => None,
-        }
-    }
+    let mut kept = kept;
+    keep_up(&mut kept, packet);
+    kept
 }
 
-/// Writes what is kept of two endpoints after a packet between them in place of what was kept. For
-/// most packets that is the moment alone.
+/// Writes what is kept of two endpoints after a packet between them in place of what was kept: a
+/// packet that opens begins the connection anew, one that resets ends it, and each other one keeps it
+/// up, for which the moment alone is written.
 #[tactic(auto, unfolding(crate::specs::Kept::kept_after, crate::specs::Kept::beginner_kept, table_model::specs::History::with_moment))]
 pub(crate) fn keep_up(kept: &mut Option<Begun>, packet: &Segment)
     ensures { kept.new ≡ spec.kept_after packet.now kept.old }

@@ -3,6 +3,7 @@
 
 pub mod kept;
 pub mod key;
+mod log;
 pub mod pairs;
 pub mod table;
 

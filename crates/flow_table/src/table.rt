@@ -1,14 +1,12 @@
 //! The table of the connections that forwarded packets made.
-ghost use Rattle.std.specs.Prelude.{◌≡◌, ◌++◌, ◌∷◌, [], List, true, false, IsTrue, IfOk, OnOk, OnErr, IsSome, Some, None};
-ghost use Rattle.table_model.specs.History as history;
-ghost use Rattle.table_model.specs.History.{StandsFor};
-ghost use Rattle.table_model.specs.declared.segment.Segment.{Segment as SegmentValue};
-ghost use Rattle.flow_table.specs.Kept.{HasNoted, is_since, begun_kept};
-ghost use Rattle.flow_table.specs.Held.{held_at, slot_at, slot_first, filled, with_newest, flows_of, IsWritten};
-ghost use Rattle.flow_table.specs.Planned.{segment_planned, IsPlanned};
+ghost use Rattle.std.specs.Prelude.{◌≡◌, ◌++◌, ◌∷◌, [], true, false, IsTrue, IfOk, OnOk, OnErr, IsSome, Some, None};
+ghost use Rattle.table_model.specs.History.{begun_of, segment_of as spec_segment_of, with_packet};
+ghost use Rattle.flow_table.specs.Noted.{follows, segment_planned, IsPlanned};
+ghost use Rattle.flow_table.specs.Held.{slot_at, slot_first, filled, with_newest, IsWritten};
 
 use crate::kept::{Begun, beginner_kept, keep_up, kept_after};
 use crate::key::Key;
+use crate::log::Log;
 use crate::pairs::key_of;
 use mud_base::{Direction, Fields, Memory, Moment};
 use std::alloc::Global;
@@ -24,7 +22,8 @@ use table_model::segment::segment_of;
 mod tests;
 
 /// The connections that forwarded TCP packets made. Each is kept until its last packet is more than
-/// [`MOST_PAUSE`] seconds ago at least, and so it answers as the list of all these packets does.
+/// [`MOST_PAUSE`] seconds ago at least, and so it answers as the list of all these packets does,
+/// which is what contracts see of it.
 ///
 /// A connection that is new stands apart until the next packet is planned: its slot is made then,
 /// which may take memory, so that a packet is noted without looking first whether it has a slot.
@@ -43,6 +42,8 @@ pub struct FlowTable {
     newest: Option<(Key, Option<Begun>)>,
     younger: BTreeMap<Key, Option<Begun>>,
     elder: BTreeMap<Key, Option<Begun>>,
+    /// All packets that were noted.
+    history: Log<Segment>,
 }
 
 impl Drop for FlowTable {
@@ -54,31 +55,21 @@ impl Drop for FlowTable {
             newest: _,
             younger: _,
             elder: _,
+            history: _,
         } = self;
     }
 }
 
 impl Model for FlowTable {
     ghost use Rattle.std.specs.Option.{is_none};
-    ghost use Rattle.flow_table.specs.Held.{Held, IsSound, with_newest};
+    ghost use Rattle.flow_table.specs.Noted.{Noted};
+    ghost use Rattle.flow_table.specs.Held.{HoldsAll, held_of};
 
-    ghost Value = { Held };
+    ghost Value = { Noted };
 
-    ghost view = { λ t. record {
-      last = t.last;
-      since = t.since;
-      has_room = is_none t.newest;
-      younger = with_newest t.newest t.younger.entries;
-      elder = t.elder.entries;
-    } };
+    ghost view = { λ t. record { history = t.history.items; has_room = is_none t.newest } };
 
-    ghost invariant = { λ t. IsSound (record {
-      last = t.last;
-      since = t.since;
-      has_room = is_none t.newest;
-      younger = with_newest t.newest t.younger.entries;
-      elder = t.elder.entries;
-    }) };
+    ghost invariant = { λ t. HoldsAll t.history.items (held_of t.last t.since t.newest t.younger.entries t.elder.entries) };
 }
 
 /// A packet that the table has room for.
@@ -90,7 +81,7 @@ pub struct FlowPlan {
 impl FlowTable {
     /// The table before any packet.
     pub fn new(alloc: Global) -> FlowTable
-        ensures { StandsFor [] (flows_of result) }
+        ensures { result.history ≡ [] }
     {
         FlowTable {
             alloc,
@@ -99,17 +90,7 @@ impl FlowTable {
             newest: None,
             younger: BTreeMap::new(alloc),
             elder: BTreeMap::new(alloc),
-        }
-    }
-
-    /// What is kept of two endpoints: what stands apart or the younger generation has, and else the
-    /// elder one.
-    fn held(&self, key: &Key) -> Option<Begun>
-        ensures { result ≡ held_at self.now key.now }
-    {
-        match apart(&self.newest, key) {
-            Some(begun) => begun,
-            None => kept_first(&self.younger, &self.elder, key),
+            history: Log::new(),
         }
     }
 
@@ -117,9 +98,8 @@ impl FlowTable {
     /// Thing on this side of it sees it (RFC 8520, 4.8): `From` where its own endpoint did. None
     /// where nobody is known to have, and for what isn't TCP.
     pub fn begun(&self, side: Direction, fields: &Fields, now: Moment) -> Option<Direction>
-        requires { IsTrue (is_since (flows_of self.now).last now) }
-        ensures kept { result ≡ begun_kept (flows_of self.now) side fields.now now }
-        ensures begun { (h : List SegmentValue) → StandsFor h (flows_of self.now) → result ≡ history.begun_of h side fields.now now }
+        requires { IsTrue (follows self.now.history now) }
+        ensures { result ≡ begun_of self.now.history side fields.now now }
     {
         let Some(packet) = segment_of(fields, now) else {
             return None;
@@ -127,14 +107,14 @@ impl FlowTable {
         if packet.opens() {
             return packet.side_of(side, Some(packet.source));
         }
-        let kept = self.held(&key_of(packet.source, packet.destination));
+        let key = key_of(packet.source, packet.destination);
+        let kept = held(&self.newest, &self.younger, &self.elder, &key);
         packet.side_of(side, beginner_kept(kept, packet.at))
     }
 
     /// Whether a moment isn't before that of the last packet noted.
-    #[tactic(auto, unfolding(crate::specs::Held::flows_of, crate::specs::Kept::is_since))]
     pub fn is_since(&self, now: Moment) -> bool
-        ensures { result ≡ is_since (flows_of self.now).last now }
+        ensures { result ≡ follows self.now.history now }
     {
         match self.last {
             Some(last) => last.seconds() <= now.seconds(),
@@ -145,10 +125,10 @@ impl FlowTable {
     /// Takes the memory that a TCP packet needs, which will have been forwarded at this moment.
     /// What the table means stays, also where there is no memory.
     pub fn plan(&mut self, fields: &Fields, now: Moment) -> Result<FlowPlan, Memory>
-        requires since { IsTrue (is_since (flows_of self.old).last now) }
-        requires tcp { IsSome (history.segment_of fields.now now) }
-        ensures same { flows_of self.new ≡ flows_of self.old }
-        ensures planned { IfOk result (λ plan. history.segment_of fields.now now ≡ Some (segment_planned plan)) }
+        requires since { IsTrue (follows self.old.history now) }
+        requires tcp { IsSome (spec_segment_of fields.now now) }
+        ensures same { self.new.history ≡ self.old.history }
+        ensures planned { IfOk result (λ plan. spec_segment_of fields.now now ≡ Some (segment_planned plan)) }
         ensures ready { IfOk result (λ plan. IsPlanned self.new plan) }
     {
         let packet = match segment_of(fields, now) {
@@ -162,7 +142,7 @@ impl FlowTable {
     /// Makes the slot of the connection that stands apart, if there is one, so that there is room
     /// for another one.
     fn make_room(&mut self) -> Result<(), Memory>
-        ensures same { flows_of self.new ≡ flows_of self.old }
+        ensures same { self.new.history ≡ self.old.history }
         ensures room { OnOk result (IsTrue self.new.has_room) }
     {
         let Some((key, begun)) = self.newest else {
@@ -176,13 +156,13 @@ impl FlowTable {
     /// Notes a packet that was planned and forwarded. It takes no memory.
     pub fn note(&mut self, plan: FlowPlan)
         requires { IsPlanned self.old plan }
-        ensures noted { HasNoted (segment_planned plan) (flows_of self.old) (flows_of self.new) }
-        ensures stands { (h : List SegmentValue) → StandsFor h (flows_of self.old) → StandsFor (h ++ segment_planned plan ∷ []) (flows_of self.new) }
+        ensures { self.new.history ≡ self.old.history ++ segment_planned plan ∷ [] }
     {
         let packet = plan.packet;
         let key = key_of(packet.source, packet.destination);
         let now = packet.at.seconds();
         self.last = Some(packet.at);
+        self.history = self.history.and(&packet);
         if now.saturating_sub(self.since) > MOST_PAUSE {
             let kept = kept_first(&self.younger, &self.elder, &key);
             self.elder = replace(&mut self.younger, BTreeMap::new(self.alloc));
@@ -208,6 +188,23 @@ fn apart(newest: &Option<(Key, Option<Begun>)>, key: &Key) -> Option<Option<Begu
             _ => None,
         },
         None => None,
+    }
+}
+
+/// What is kept of two endpoints: what stands apart or the younger generation has, and else the elder
+/// one.
+#[tactic(auto, unfolding(crate::specs::Held::held_at))]
+fn held(
+    newest: &Option<(Key, Option<Begun>)>,
+    younger: &BTreeMap<Key, Option<Begun>>,
+    elder: &BTreeMap<Key, Option<Begun>>,
+    key: &Key,
+) -> Option<Begun>
+    ensures { result ≡ slot_first (slot_at (with_newest newest.now younger.now.entries) key.now) (slot_at elder.now.entries key.now) }
+{
+    match apart(newest, key) {
+        Some(begun) => begun,
+        None => kept_first(younger, elder, key),
     }
 }
 
@@ -253,12 +250,11 @@ fn write_slot(slots: &mut BTreeMap<Key, Option<Begun>>, key: &Key, packet: &Segm
 }
 
 /// Plans a packet and notes it at once.
-#[tactic(auto, using(crate::proofs::Histories::packet_more))]
 pub fn pass(table: &mut FlowTable, fields: &Fields, now: Moment) -> Result<(), Memory>
-    requires since { IsTrue (is_since (flows_of table.old).last now) }
-    requires tcp { IsSome (history.segment_of fields.now now) }
-    ensures ok { IfOk result (λ _. (h : List SegmentValue) → StandsFor h (flows_of table.old) → StandsFor (history.with_packet h fields.now now) (flows_of table.new)) }
-    ensures err { OnErr result (flows_of table.new ≡ flows_of table.old) }
+    requires since { IsTrue (follows table.old.history now) }
+    requires tcp { IsSome (spec_segment_of fields.now now) }
+    ensures ok { OnOk result (table.new.history ≡ with_packet table.old.history fields.now now) }
+    ensures err { OnErr result (table.new.history ≡ table.old.history) }
 {
     let plan = table.plan(fields, now)?;
     table.note(plan);

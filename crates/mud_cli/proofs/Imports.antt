@@ -1,8 +1,7 @@
 -- What a run of `import` promises where a desk is opened, and where none is.
-use Rattle.std.proofs.Common.{◌≡◌, ◌≢◌, ℕ, ◌⊎◌, inl, inr, List, [], Ok, refl, sym, ap, ap₂, subst, ◌∙◌, arith}
+use Rattle.std.proofs.Common.{◌≡◌, ◌≢◌, ℕ, ◌⊎◌, inl, inr, List, Ok, sym, ap, ap₂, subst, ◌∙◌, arith}
 use Rattle.std.specs.declared.dyn_box.DynBox.{DynBox}
 use Rattle.std.specs.declared.alloc.Global.{Global}
-use Rattle.table_model.specs.declared.segment.Segment.{Segment}
 use Rattle.mud_world.specs.declared.keeper.Keeper.{Ghosts}
 use Rattle.mud_world.specs.Boxed.{faults_of, Tells, kept_items}
 use Rattle.mud_world.specs.Causes.{Rose}
@@ -10,10 +9,10 @@ use Rattle.mud_world.specs.Door.{DoorState}
 use Rattle.mud_world.specs.Files.{names_of}
 use Rattle.run_common.specs.Ends.{IsStoppedByDoorOrSpool}
 use Rattle.desk_model.specs.DeskTables.{DeskTables, IsSound}
-use Rattle.desk_model.specs.Items.{items_of, tables_in}
+use Rattle.desk_model.specs.Items.{tables_in}
 use Rattle.desk_model.specs.Sessions.{Session, opened}
 use Rattle.desk_model.specs.Boxed.{IsSameBox}
-use Rattle.mud_desk.specs.DeskState.{DeskState, IsBegun, session_of, tables_of}
+use Rattle.mud_desk.specs.DeskState.{DeskState, session_of, tables_of}
 use Rattle.mud_desk.specs.declared.desk.Desk.{Desk}
 use Rattle.mud_desk.specs.Stays.{StaysKept}
 use Rattle.run_desk.proofs.Refusals.{RunsRefused, is_refused}
@@ -46,36 +45,31 @@ read_of_import status is (inr (inr six)) = absurd (grind arith)
 abbrev scene_of : Session → List ℕ → DoorState → ℕ → Scene
 scene_of session moments door faults = record { standing = record { session = session; moments = moments }; door = door; faults = faults }
 
-scene_begun : (state : DeskState) (moments : List ℕ) (door : DoorState) (a b : ℕ) → IsBegun (tables_of state) state → a ≡ b → scene [] state moments door a ≡ scene_of (opened (tables_of state)) moments door b
+scene_begun : (state : DeskState) (moments : List ℕ) (door : DoorState) (a b : ℕ) → session_of state ≡ opened (tables_of state) → a ≡ b
+    → scene state moments door a ≡ scene_of (opened (tables_of state)) moments door b
 unfolding scene standing
-scene_begun state moments door a b begun same = ap₂ (λ (s : Session) (n : ℕ). scene_of s moments door n) begun.session same
-
-scene_ended : (state : DeskState) (moments : List ℕ) (door : DoorState) (faults : ℕ) → scene [] state moments door faults ≡ scene_of (session_of [] state) moments door faults
-unfolding scene standing
-scene_ended state moments door faults = refl
-
-desk_of_session : (state : DeskState) → (session_of [] state).desk ≡ tables_of state
-unfolding session_of
-desk_of_session state = refl
+scene_begun state moments door a b begun same = ap₂ (λ (s : Session) (n : ℕ). scene_of s moments door n) begun same
 
 module _ {X : Type 0} {F : X → Type 0} (members : (v : (x : X) × F x) → Ghosts (F v.0)) (keeper : DynBox X Global F) (tells : Type 0) (old new : OutsideView) (status : ℕ) where
   pub imported_run : (desk ended : Desk X F)
       → (Tells members keeper → Tells members desk.keeper → tables_in (kept_items members keeper) ≡ Ok (tables_of desk.state))
-      → IsSound (tables_of desk.state) → IsBegun (tables_of desk.state) desk.state → faults_of members desk.keeper ≡ faults_of members keeper → IsSameBox keeper desk.keeper
+      → IsSound (tables_of desk.state) → session_of desk.state ≡ opened (tables_of desk.state) → faults_of members desk.keeper ≡ faults_of members keeper → IsSameBox keeper desk.keeper
       → StaysKept members desk ended → IsSound (tables_of ended.state)
       → IsOfImport status
       → (status ≡ 4 → IsStoppedByDoorOrSpool old.door new.door old.spool new.spool)
       → (status ≢ 4 → (new.door.writes ≡ old.door.writes) × (new.spool.faults ≡ old.spool.faults))
       → (status ≡ 7 → Rose (faults_of members desk.keeper) (faults_of members ended.keeper))
       → ((status ≡ 0) ⊎ (status ≡ 3) → faults_of members ended.keeper ≡ faults_of members desk.keeper)
-      → (tells → (status ≡ 0) ⊎ ((status ≡ 3) ⊎ (status ≡ 7)) → (h : List Segment) → ImportsAll old.spool.files (in_order (names_of old.spool.files)) (scene h desk.state old.moments old.door.state (faults_of members desk.keeper)) (scene h ended.state new.moments new.door.state (faults_of members ended.keeper)) status)
-      → (tells → (status ≡ 4) ⊎ (status ≡ 5) → (h : List Segment) → ImportsPart old.spool.files (in_order (names_of old.spool.files)) (scene h desk.state old.moments old.door.state (faults_of members desk.keeper)) (scene h ended.state new.moments new.door.state (faults_of members ended.keeper)))
+      → (tells → (status ≡ 0) ⊎ ((status ≡ 3) ⊎ (status ≡ 7)) → ImportsAll old.spool.files (in_order (names_of old.spool.files)) (scene desk.state old.moments old.door.state (faults_of members desk.keeper))
+      (scene ended.state new.moments new.door.state (faults_of members ended.keeper)) status)
+      → (tells → (status ≡ 4) ⊎ (status ≡ 5) → ImportsPart old.spool.files (in_order (names_of old.spool.files)) (scene desk.state old.moments old.door.state (faults_of members desk.keeper))
+      (scene ended.state new.moments new.door.state (faults_of members ended.keeper)))
       → (tells → new.spool.files ≡ old.spool.files)
       → new.door.turns ≡ old.door.turns → new.door.reads ≡ old.door.reads
       → (returned : DynBox X Global F) → returned ≡ ended.keeper → ImportsStore members tells keeper returned old new status
+  unfolding scene standing session_of
   imported_run desk ended read sound begins same_count same_box stays sound_after is fault steady failed unfailed all part files turns reads returned same =
       let first = scene_begun desk.state old.moments old.door.state (faults_of members desk.keeper) (faults_of members keeper) begins same_count in
-      let last = scene_ended ended.state new.moments new.door.state (faults_of members ended.keeper) in
       subst (λ (box : DynBox X Global F). ImportsStore members tells keeper box old new status) (sym same) (record {
         honest = record {
           statuses = of_import status is;
@@ -87,19 +81,17 @@ module _ {X : Type 0} {F : X → Type 0} (members : (v : (x : X) × F x) → Gho
         keeper_steady = λ which. unfailed (read_of_import status is which) ∙ same_count;
         runs = λ told tell. inl (record {
           tables = tables_of desk.state;
-          session = session_of [] ended.state;
+          session = session_of ended.state;
           sound = sound;
           were_kept = λ before. read before (stays.told tell);
           imports = record {
             statuses = is;
             all = λ which.
-                subst (λ (a : Scene). ImportsAll old.spool.files (in_order (names_of old.spool.files)) a (scene_in (session_of [] ended.state) new (faults_of members ended.keeper)) status) first
-                (subst (λ (b : Scene). ImportsAll old.spool.files (in_order (names_of old.spool.files)) (scene [] desk.state old.moments old.door.state (faults_of members desk.keeper)) b status) last (all told which []));
+                subst (λ (a : Scene). ImportsAll old.spool.files (in_order (names_of old.spool.files)) a (scene_in (session_of ended.state) new (faults_of members ended.keeper)) status) first (all told which);
             part = λ which.
-                subst (λ (a : Scene). ImportsPart old.spool.files (in_order (names_of old.spool.files)) a (scene_in (session_of [] ended.state) new (faults_of members ended.keeper))) first
-                (subst (λ (b : Scene). ImportsPart old.spool.files (in_order (names_of old.spool.files)) (scene [] desk.state old.moments old.door.state (faults_of members desk.keeper)) b) last (part told which []));
+                subst (λ (a : Scene). ImportsPart old.spool.files (in_order (names_of old.spool.files)) a (scene_in (session_of ended.state) new (faults_of members ended.keeper))) first (part told which);
           };
-          are_kept = stays.kept.items tell ∙ ap items_of (sym (desk_of_session ended.state));
+          are_kept = stays.kept.items tell;
         });
         kept = inl (record { tables = tables_of ended.state; sound = sound_after; kept = stays.kept });
         same_files = files;

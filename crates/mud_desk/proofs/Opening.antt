@@ -9,7 +9,7 @@ use Rattle.desk_items.specs.declared.fault.OpenFault.{OpenFault}
 use Rattle.desk_items.specs.declared.fault.OpenFault.TheVariants as opening
 use Rattle.desk_items.specs.Opening.{Leaves}
 use Rattle.mud_desk.specs.Answers.{IsLeft}
-use Rattle.mud_desk.specs.DeskState.{DeskState, tables_of, session_of, IsBegun}
+use Rattle.mud_desk.specs.DeskState.{DeskState, tables_of, session_of}
 
 -- what was read and is kept now are the same lists
 pub left_kept : (before now : List Item) (desk : DeskTables) → IsSound desk → tables_in before ≡ Ok desk → now ≡ items_of desk → IsLeft before now opening.Memory
@@ -25,9 +25,9 @@ left_of before now opening.Memory left = elim left [
 left_of before now (opening.BadItem kind key) left = left
 
 -- a session that begins with a desk has its tables
-pub begun_tables : (desk : DeskTables) (state : DeskState) → IsBegun desk state → desk ≡ tables_of state
+pub begun_tables : (desk : DeskTables) (state : DeskState) → session_of state ≡ opened desk → desk ≡ tables_of state
 unfolding session_of opened
-begun_tables desk state begun = sym (ap (λ (s : Session). s.desk) begun.session)
+begun_tables desk state begun = sym (ap (λ (s : Session). s.desk) begun)
 
-pub begun_own : (desk : DeskTables) (state : DeskState) → IsBegun desk state → IsBegun (tables_of state) state
-begun_own desk state begun = subst (λ (d : DeskTables). IsBegun d state) (begun_tables desk state begun) begun
+pub begun_own : (desk : DeskTables) (state : DeskState) → session_of state ≡ opened desk → session_of state ≡ opened (tables_of state)
+begun_own desk state begun = begun ∙ ap opened (begun_tables desk state begun)

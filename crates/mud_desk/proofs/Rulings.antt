@@ -1,5 +1,5 @@
 -- Where there is no Thing a verdict has no ruling, so a Thing is found by its address alone.
-use Rattle.std.proofs.Common.{◌≡◌, ℕ, Bool, true, false, List, Option, None, refl, sym, ap, ◌∙◌, subst, if◌then◌else◌}
+use Rattle.std.proofs.Common.{◌≡◌, Bool, true, false, List, Option, None, refl, sym, ap, ◌∙◌, subst, if◌then◌else◌}
 use Rattle.mud_base.specs.declared.packet.Direction.TheVariants.{From, To}
 use Rattle.acl_model.specs.declared.ruling.Ruling.{Ruling}
 use Rattle.table_model.specs.declared.thing.Thing.{Thing}

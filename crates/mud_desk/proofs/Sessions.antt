@@ -1,5 +1,5 @@
 -- What the calls of a desk make of its session.
-use Rattle.std.proofs.Common.{◌≡◌, ◌≢◌, ℕ, ◌≤◌, Bool, true, false, IsTrue, List, [], Option, Result, Ok, Err, refl, sym, ap, ◌∙◌, subst, if◌then◌else◌, arith}
+use Rattle.std.proofs.Common.{◌≡◌, ◌≢◌, ℕ, ◌≤◌, Bool, true, false, IsTrue, List, [], Result, Ok, Err, refl, sym, ap, ◌∙◌, subst, if◌then◌else◌, arith}
 use Rattle.std.specs.Prelude.{max, IsOkAnd, IfOk, IsSome}
 use Rattle.mud_base.specs.declared.memory.Memory as want
 use Rattle.mud_world.specs.declared.item.Put.{Put}
@@ -10,8 +10,7 @@ use Rattle.mud_base.specs.declared.prefix.Prefix.{Prefix}
 use Rattle.table_model.specs.declared.thing.Thing.{Thing}
 use Rattle.table_model.specs.declared.segment.Segment.{Segment}
 use Rattle.table_model.specs.History.{last_moment}
-use Rattle.flow_table.specs.Kept.{Flows, StandsFor, is_since}
-use Rattle.flow_table.specs.Held.{Held, flows_of}
+use Rattle.flow_table.specs.Noted.{Noted, is_since, follows}
 use Rattle.mud_base.specs.declared.packet.Direction.{Direction}
 use Rattle.mud_base.specs.declared.packet.Fields.{Fields}
 use Rattle.frame_view.specs.declared.views.Frame.{Frame}
@@ -34,36 +33,36 @@ use Rattle.mud_desk.proofs.Since.{since_later}
 use Rattle.desk_books.specs.Books.{Books, desk_of}
 use Rattle.desk_books.specs.Changes.{PlannedChange, desk_after}
 use Rattle.desk_books.specs.Planned.{IsPlanned, IsReady, IsBatchOf}
-use Rattle.mud_desk.specs.DeskState.{DeskState, tables_of, session_of, HasForwarded, IsTimely, LeadsOnFrom}
+use Rattle.mud_desk.specs.DeskState.{DeskState, tables_of, session_of, IsTimely}
 
 -- ---- The moment
 
-pub timely_later : (flows : Held) (m n : ℕ) → IsTimely flows m → m ≤ n → IsTimely flows n
+pub timely_later : (flows : Noted) (m n : ℕ) → IsTimely flows m → m ≤ n → IsTimely flows n
 unfolding IsTimely
-timely_later flows m n timely le = since_later (flows_of flows).last m n timely le
+timely_later flows m n timely le = since_later (last_moment flows.history) m n timely le
 
-pub timely_since : (flows : Held) (m n : ℕ) → IsTimely flows m → m ≤ n → IsTrue (is_since (flows_of flows).last n)
+pub timely_since : (flows : Noted) (m n : ℕ) → IsTimely flows m → m ≤ n → IsTrue (follows flows.history n)
 unfolding IsTimely
-timely_since flows m n timely le = since_later (flows_of flows).last m n timely le
+timely_since flows m n timely le = since_later (last_moment flows.history) m n timely le
 
-pub timely_at : (flows : Held) (n : ℕ) → IsTrue (is_since (flows_of flows).last n) → IsTimely flows n
+pub timely_at : (flows : Noted) (n : ℕ) → IsTrue (follows flows.history n) → IsTimely flows n
 unfolding IsTimely
 timely_at flows n since = since
 
-pub timely_same : (before after : Held) (m : ℕ) → flows_of after ≡ flows_of before → IsTimely before m → IsTimely after m
+pub timely_same : (before after : Noted) (m : ℕ) → after.history ≡ before.history → IsTimely before m → IsTimely after m
 unfolding IsTimely
-timely_same before after m same timely = subst (λ (f : Flows). IsTrue (is_since f.last m)) (sym same) timely
+timely_same before after m same timely = subst (λ (h : List Segment). IsTrue (follows h m)) (sym same) timely
 
-pub timely_new : (flows : Held) (m : ℕ) → StandsFor [] (flows_of flows) → IsTimely flows m
+pub timely_new : (flows : Noted) (m : ℕ) → flows.history ≡ [] → IsTimely flows m
 unfolding IsTimely last_moment is_since
-timely_new flows m stands = subst (λ (last : Option ℕ). IsTrue (is_since last m)) (sym stands.last) refl
+timely_new flows m none = subst (λ (h : List Segment). IsTrue (follows h m)) (sym none) refl
 
 pub max_first : (m n k : ℕ) → k ≡ max m n → m ≤ k
 max_first m n k is = omega (arith, is)
 
-same_session : (h : List Segment) (before after : DeskState) → tables_of after ≡ tables_of before → after.moment ≡ before.moment → session_of h after ≡ session_of h before
+same_session : (before after : DeskState) → tables_of after ≡ tables_of before → after.flows.history ≡ before.flows.history → after.moment ≡ before.moment → session_of after ≡ session_of before
 unfolding session_of
-same_session h before after tables moment = λ i. record { desk = tables i; history = h; moment = moment i }
+same_session before after tables history moment = λ i. record { desk = tables i; history = history i; moment = moment i }
 
 -- ---- A command, at the moment at which it runs
 
@@ -132,38 +131,41 @@ module _ (before mid : DeskState) (command : Command) (n : ℕ) (same : tables_o
       ∙ step_reaches mid.books n change (command_step (tables_of before) n command) planned
       (subst (λ (desk : DeskTables). IfOk (command_step (tables_of before) n command) (TellsChange desk n)) (sym same) (commands_told (tables_of before) sound command n (record { typed = typed; asked = asked })))
 
-  module _ (h : List Segment) (now : ℕ) (is : n ≡ max before.moment now) where
-    here : command_in (session_of h before) now command ≡ answered_at (session_of h before) command n
-    unfolding session_of
-    here = runs_at (session_of h before) now command n is
+  module _ (flows : mid.flows ≡ before.flows) (now : ℕ) (is : n ≡ max before.moment now) where
+    history : mid.flows.history ≡ before.flows.history
+    history = ap (λ (f : Noted). f.history) flows
 
-    pub done : (after : DeskState) (change : PlannedChange) → IsPlannedIn change → tables_of after ≡ desk_after change (tables_of mid) → after.moment ≡ n
-        → AllowedReply (session_of h before) now command (Done change.outcome) (session_of h after)
+    here : command_in (session_of before) now command ≡ answered_at (session_of before) command n
+    unfolding session_of
+    here = runs_at (session_of before) now command n is
+
+    pub done : (after : DeskState) (change : PlannedChange) → IsPlannedIn change → tables_of after ≡ desk_after change (tables_of mid) → after.flows ≡ mid.flows → after.moment ≡ n
+        → AllowedReply (session_of before) now command (Done change.outcome) (session_of after)
     unfolding session_of tables_of answered_at
-    done after change planned desk moment =
-        record { reply_is = here ∙ step_done (session_of h before) n mid.books change (session_of h after) desk refl moment (command_step (tables_of before) n command) planned }
+    done after change planned desk flows_after moment =
+        record { reply_is = here ∙ step_done (session_of before) n mid.books change (session_of after) desk (ap (λ (f : Noted). f.history) (flows_after ∙ flows)) moment (command_step (tables_of before) n command) planned }
 
     pub refused : (refusal : Refusal) → mid.moment ≡ before.moment → (is_want_of_memory refusal ≡ false → command_step (tables_of before) n command ≡ Err refusal)
-        → AllowedReply (session_of h before) now command (reply_of refusal) (session_of h mid)
+        → AllowedReply (session_of before) now command (reply_of refusal) (session_of mid)
     unfolding session_of answered_at reply_of
     refused refusal moment says = by (is_want_of_memory refusal) refl
       where
-        by : (b : Bool) → is_want_of_memory refusal ≡ b → AllowedReply (session_of h before) now command (if b then Memory else Refused refusal) (session_of h mid)
-        by true wanted = record { reply_is = same_session h before mid same moment }
-        by false spoken = record { reply_is = here ∙ step_refused (session_of h before) n refusal (session_of h mid) (same_session h before mid same moment) (command_step (tables_of before) n command) (says spoken) }
+        by : (b : Bool) → is_want_of_memory refusal ≡ b → AllowedReply (session_of before) now command (if b then Memory else Refused refusal) (session_of mid)
+        by true wanted = record { reply_is = same_session before mid same history moment }
+        by false spoken = record { reply_is = here ∙ step_refused (session_of before) n refusal (session_of mid) (same_session before mid same history moment) (command_step (tables_of before) n command) (says spoken) }
 
     pub failed : (change : PlannedChange) → IsPlannedIn change → change.batch ≢ [] → mid.moment ≡ before.moment
-        → AllowedReply (session_of h before) now command Keeper (session_of h mid)
+        → AllowedReply (session_of before) now command Keeper (session_of mid)
     unfolding session_of later
     failed change planned some moment = record {
       reply_is = (
         subst (λ k. IsOkAnd (command_step (tables_of before) k command) (λ s. s.changes ≡ true)) is (step_changes mid.books change (command_step (tables_of before) n command) planned some),
-        same_session h before mid same moment,
+        same_session before mid same history moment,
       );
     }
 
-    pub wanted : mid.moment ≡ before.moment → AllowedReply (session_of h before) now command Memory (session_of h mid)
-    wanted moment = record { reply_is = same_session h before mid same moment }
+    pub wanted : mid.moment ≡ before.moment → AllowedReply (session_of before) now command Memory (session_of mid)
+    wanted moment = record { reply_is = same_session before mid same history moment }
 
 pub never_of_keeper : (refusal : Refusal) (n : ℕ) → Counts (is_of_keeper (reply_of refusal)) n n
 unfolding reply_of
@@ -175,48 +177,42 @@ never_of_keeper refusal n = by (is_want_of_memory refusal)
 
 -- ---- A frame
 
-pub rule_inputs_of : (h : List Segment) (state : DeskState) (things : List Thing) (compiled : CompiledState) (locals : List Prefix) (flows : Flows)
+pub rule_inputs_of : (state : DeskState) (things : List Thing) (compiled : CompiledState) (locals : List Prefix)
     → things ≡ state.books.things.things → compiled ≡ state.books.compiled → locals ≡ (tables_of state).tables.locals → IsCompiledOf (tables_of state) state.books.compiled
-    → StandsFor h flows → AreRuleInputsOf (tables_of state) h (rule_inputs things compiled locals flows)
+    → AreRuleInputsOf (tables_of state) (rule_inputs things compiled locals state.flows.history)
 unfolding tables_of
-rule_inputs_of h state things compiled locals flows is_things is_compiled is_locals of stands = record {
+rule_inputs_of state things compiled locals is_things is_compiled is_locals of = record {
   things = is_things;
   compiled = subst (IsCompiledOf (tables_of state)) (sym is_compiled) of;
   locals = is_locals;
-  flows = stands;
 }
 
-pub verdict_here : (h : List Segment) (before : DeskState) (stamp n : ℕ) (frame : List ℕ) → n ≡ max before.moment stamp → verdict_in (session_of h before) stamp frame ≡ verdict_at (tables_of before) h n frame
+pub verdict_here : (before : DeskState) (stamp n : ℕ) (frame : List ℕ) → n ≡ max before.moment stamp → verdict_in (session_of before) stamp frame ≡ verdict_at (tables_of before) before.flows.history n frame
 unfolding verdict_in session_of later
-verdict_here h before stamp n frame is = ap (λ k. verdict_at (tables_of before) h k frame) (sym is)
+verdict_here before stamp n frame is = ap (λ k. verdict_at (tables_of before) before.flows.history k frame) (sym is)
 
 -- a frame was judged in the session
-abbrev pub IsJudged : List Segment → DeskState → ℕ → List ℕ → Result Verdict want.Memory → DeskState → Type 0
-IsJudged history before now frame verdict after = LeadsOnFrom history before after (λ (s t : Session). AllowedVerdict s now frame verdict t)
+abbrev pub IsJudged : DeskState → ℕ → List ℕ → Result Verdict want.Memory → DeskState → Type 0
+IsJudged before now frame verdict after = AllowedVerdict (session_of before) now frame verdict (session_of after)
 
-module _ (h : List Segment) (before after : DeskState) (stamp n : ℕ) (frame : List ℕ) (is : n ≡ max before.moment stamp) where
-  pub judged_so : (v : Verdict) → v ≡ verdict_at (tables_of before) h n frame → StandsFor (history_after h (frame_of frame) v n) (flows_of after.flows) → after.books ≡ before.books → after.moment ≡ n
-      → IsJudged h before stamp frame (Ok v) after
+module _ (before after : DeskState) (stamp n : ℕ) (frame : List ℕ) (is : n ≡ max before.moment stamp) where
+  abbrev h : List Segment
+  h = before.flows.history
+
+  pub judged_so : (v : Verdict) → v ≡ verdict_at (tables_of before) h n frame → after.flows.history ≡ history_after h (frame_of frame) v n → after.books ≡ before.books → after.moment ≡ n
+      → IsJudged before stamp frame (Ok v) after
   unfolding session_of frame_in later judged tables_of
-  judged_so v is_v stands books moment = record {
-    next = history_after h (frame_of frame) v n;
-    leads = record {
-      verdict_is =
-          (λ i. judged (session_of h before) (sym is i) frame ((verdict_here h before stamp n frame is ∙ sym is_v) i))
-          ∙ (λ i. record { verdict = v; session = record { desk = desk_of (sym books i); history = history_after h (frame_of frame) v n; moment = sym moment i } });
-    };
-    forwarded = stands;
+  judged_so v is_v history books moment = record {
+    verdict_is =
+        (λ i. judged (session_of before) (sym is i) frame ((verdict_here before stamp n frame is ∙ sym is_v) i))
+        ∙ (λ i. record { verdict = v; session = record { desk = desk_of (sym books i); history = sym history i; moment = sym moment i } });
   }
 
-  pub judged_not : (memory : want.Memory) → IsSome (noted_fields (frame_of frame) (verdict_at (tables_of before) h n frame)) → HasForwarded h before → flows_of after.flows ≡ flows_of before.flows → after.books ≡ before.books → after.moment ≡ before.moment
-      → IsJudged h before stamp frame (Err memory) after
+  pub judged_not : (memory : want.Memory) → IsSome (noted_fields (frame_of frame) (verdict_at (tables_of before) h n frame)) → after.flows.history ≡ before.flows.history → after.books ≡ before.books → after.moment ≡ before.moment
+      → IsJudged before stamp frame (Err memory) after
   unfolding tables_of
-  judged_not memory noted stands flows books moment = record {
-    next = h;
-    leads = record {
-      verdict_is = (subst (λ (v : Verdict). IsSome (noted_fields (frame_of frame) v)) (sym (verdict_here h before stamp n frame is)) noted, same_session h before after (ap desk_of books) moment);
-    };
-    forwarded = subst (StandsFor h) (sym flows) stands;
+  judged_not memory noted history books moment = record {
+    verdict_is = (subst (λ (v : Verdict). IsSome (noted_fields (frame_of frame) v)) (sym (verdict_here before stamp n frame is)) noted, same_session before after (ap desk_of books) history moment);
   }
 
 -- the steps of a verdict, by the books that were lent for it
@@ -225,7 +221,3 @@ pub steps_alike : (inside state : DeskState) → inside ≡ state → (things : 
 unfolding tables_of
 steps_alike inside state same things compiled is_things is_compiled steps frame =
     λ i. steps_on (steps ((is_compiled ∙ ap (λ (s : DeskState). s.books.compiled) same) i)) ((is_things ∙ ap (λ (s : DeskState). s.books.things.things) same) i) frame
-
--- the table of connections stays
-pub flows_stay : (h : List Segment) (before after : DeskState) → after.flows ≡ before.flows → HasForwarded h before → HasForwarded h after
-flows_stay h before after same stands = subst (λ (f : Held). StandsFor h (flows_of f)) (sym same) stands

@@ -1,4 +1,4 @@
--- What stays of a desk's keeper and of its connections, where a call leaves it, and from call to call.
+-- What stays of a desk's keeper, where a call leaves it, and from call to call.
 use Rattle.std.proofs.Common.{◌≡◌, ℕ, refl, sym, ap, subst, ◌∙◌}
 use Rattle.std.specs.declared.dyn_box.DynBox.{DynBox}
 use Rattle.std.specs.declared.alloc.Global.{Global}
@@ -7,10 +7,10 @@ use Rattle.mud_world.specs.Boxed.{Tells, kept_items, IsOpen}
 use Rattle.desk_model.specs.DeskTables.{DeskTables}
 use Rattle.desk_model.specs.Items.{items_of}
 use Rattle.desk_model.specs.Boxed.{IsKept, IsSameBox}
-use Rattle.desk_books.specs.Books.{Books, desk_of}
+use Rattle.desk_books.specs.Books.{desk_of}
 use Rattle.mud_desk.specs.DeskState.{DeskState, tables_of}
 use Rattle.mud_desk.specs.declared.desk.Desk.{Desk}
-use Rattle.mud_desk.specs.Stays.{StaysKept, KeepsConnections}
+use Rattle.mud_desk.specs.Stays.{StaysKept}
 
 pub same_tables : (before after : DeskState) → after.books ≡ before.books → tables_of after ≡ tables_of before
 unfolding tables_of
@@ -46,12 +46,9 @@ module _ {X : Type 0} {F : X → Type 0} (members : (v : (x : X) × F x) → Gho
   stays_judged {before} {after} same books kept = stays_untold {before = before} {after = after} same (same_tables before.state after.state books) kept
 
   -- only the moment was raised
-  pub keeps_raised : {before after : Desk X F} (moment : ℕ) → after.keeper ≡ before.keeper → after.state ≡ record before.state { moment = moment }
-      → IsKept members before.keeper (tables_of before.state) → KeepsConnections members before after
-  keeps_raised {before} {after} moment same state kept = record {
-    stays = stays_judged {before = before} {after = after} same (ap (λ (s : DeskState). s.books) state) kept;
-    flows = ap (λ (s : DeskState). s.flows) state;
-  }
+  pub stays_raised : {before after : Desk X F} (moment : ℕ) → after.keeper ≡ before.keeper → after.state ≡ record before.state { moment = moment }
+      → IsKept members before.keeper (tables_of before.state) → StaysKept members before after
+  stays_raised {before} {after} moment same state kept = stays_judged {before = before} {after = after} same (ap (λ (s : DeskState). s.books) state) kept
 
   -- a call behind another
   pub stays_further : {a b c : Desk X F} → StaysKept members a b → StaysKept members b c → StaysKept members a c
@@ -61,12 +58,6 @@ module _ {X : Type 0} {F : X → Type 0} (members : (v : (x : X) × F x) → Gho
     same_box = record { object = q.same_box.object ∙ p.same_box.object; pointer = q.same_box.pointer ∙ p.same_box.pointer };
   }
 
-  pub keeps_further : {a b c : Desk X F} → KeepsConnections members a b → KeepsConnections members b c → KeepsConnections members a c
-  keeps_further p q = record { stays = stays_further p.stays q.stays; flows = q.flows ∙ p.flows }
-
   -- no call
-  pub keeps_itself : {a : Desk X F} → IsKept members a.keeper (tables_of a.state) → KeepsConnections members a a
-  keeps_itself {a} kept = record {
-    stays = record { kept = kept; told = λ tells. tells; same_box = same_box a.keeper a.keeper refl };
-    flows = refl;
-  }
+  pub stays_itself : {a : Desk X F} → IsKept members a.keeper (tables_of a.state) → StaysKept members a a
+  stays_itself {a} kept = record { kept = kept; told = λ tells. tells; same_box = same_box a.keeper a.keeper refl }

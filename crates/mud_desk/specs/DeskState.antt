@@ -1,52 +1,30 @@
 -- What a desk holds beside its keeper, and the session that it is in.
-use Rattle.std.specs.Prelude.{◌≡◌, ℕ, IsTrue, List, [], Option, Some, None}
+use Rattle.std.specs.Prelude.{ℕ, IsTrue, Option, Some, None}
 use Rattle.mud_base.specs.declared.packet.Direction.{Direction}
 use Rattle.acl_rows.specs.View.{View, IsViewOf}
-use Rattle.table_model.specs.declared.segment.Segment.{Segment}
 use Rattle.table_model.specs.declared.thing.Thing.{Thing}
-use Rattle.flow_table.specs.Kept.{StandsFor, is_since}
-use Rattle.flow_table.specs.Held.{Held, flows_of}
+use Rattle.flow_table.specs.Noted.{Noted, follows}
 use Rattle.desk_model.specs.DeskTables.{DeskTables}
-use Rattle.desk_model.specs.Sessions.{Session, opened}
+use Rattle.desk_model.specs.Sessions.{Session}
 use Rattle.desk_books.specs.Books.{Books, desk_of}
 
--- the books and what is compiled of them, the table of connections, and the moment
+-- the books and what is compiled of them, the packets that were forwarded, and the moment
 pub record DeskState : Type 0 where
   pub books : Books
-  pub flows : Held
+  pub flows : Noted
   pub moment : ℕ
 
 -- the tables of the desk
 unfoldable pub tables_of : DeskState → DeskTables
 tables_of state = desk_of state.books
 
--- the session of the desk, where these packets were forwarded in it
-unfoldable pub session_of : List Segment → DeskState → Session
-session_of history state = record { desk = tables_of state; history = history; moment = state.moment }
-
--- the table of connections stands for these packets
-abbrev pub HasForwarded : List Segment → DeskState → Type 0
-HasForwarded history state = StandsFor history (flows_of state.flows)
+-- the session of the desk
+unfoldable pub session_of : DeskState → Session
+session_of state = record { desk = tables_of state; history = state.flows.history; moment = state.moment }
 
 -- no packet was noted behind the moment
-unfoldable pub IsTimely : Held → ℕ → Type 0
-IsTimely flows moment = IsTrue (is_since (flows_of flows).last moment)
-
--- a session begins with this desk, and nothing was forwarded in it
-pub record IsBegun (desk : DeskTables) (state : DeskState) : Type 0 where
-  pub session : session_of [] state ≡ opened desk
-  pub forwarded : HasForwarded [] state
-
--- The session of the desk before, where these packets were forwarded in it, and some session of the desk after are related so, and
--- the table of connections stands for the packets of the one after.
-pub record LeadsOnFrom (history : List Segment) (before after : DeskState) (related : Session → Session → Type 0) : Type 0 where
-  pub next : List Segment
-  pub leads : related (session_of history before) (session_of next after)
-  pub forwarded : HasForwarded next after
-
--- so it is, whatever packets the table of connections stood for before
-abbrev pub LeadsOn : DeskState → DeskState → (Session → Session → Type 0) → Type 0
-LeadsOn before after related = (history : List Segment) → HasForwarded history before → LeadsOnFrom history before after related
+unfoldable pub IsTimely : Noted → ℕ → Type 0
+IsTimely flows moment = IsTrue (follows flows.history moment)
 
 -- a view is lent exactly where there is a Thing, and it is that of the Thing's URL over what is compiled
 abbrev pub AreRulesOf : DeskState → Direction → Option Thing → Option View → Type 0

@@ -1,4 +1,4 @@
--- On what the verdicts of a desk rest, and when these are those of a desk after a history.
+-- On what the verdicts of a desk rest, and when these are those of a desk.
 use Rattle.std.specs.Prelude.{◌≡◌, ℕ, List}
 use Rattle.mud_base.specs.declared.prefix.Prefix.{Prefix}
 use Rattle.mud_base.specs.declared.packet.Direction.{Direction}
@@ -10,33 +10,31 @@ use Rattle.acl_compile.specs.Plans.{policy_held}
 use Rattle.table_model.specs.declared.thing.Thing.{Thing}
 use Rattle.table_model.specs.declared.segment.Segment.{Segment}
 use Rattle.table_model.specs.Bindings.{ruling_by_bindings}
-use Rattle.flow_table.specs.Kept.{Flows, StandsFor, begun_kept}
+use Rattle.table_model.specs.History.{begun_of}
 use Rattle.packet_judge.specs.RuleSteps.{url_rows_read, url_steps}
 use Rattle.desk_model.specs.DeskTables.{DeskTables}
 use Rattle.desk_books.specs.CompiledDesk.{IsCompiledOf}
 
--- the Things, what is compiled, the local networks, and who began which connection
+-- the Things, what is compiled, the local networks, and the packets that were forwarded
 pub record RuleInputs : Type 0 where
   pub things : List Thing
   pub compiled : CompiledState
   pub locals : List Prefix
-  pub flows : Flows
+  pub history : List Segment
 
-abbrev pub rule_inputs : List Thing → CompiledState → List Prefix → Flows → RuleInputs
-rule_inputs things compiled locals flows = record { things = things; compiled = compiled; locals = locals; flows = flows }
+abbrev pub rule_inputs : List Thing → CompiledState → List Prefix → List Segment → RuleInputs
+rule_inputs things compiled locals history = record { things = things; compiled = compiled; locals = locals; history = history }
 
--- The Things and the local networks are the desk's, what is compiled is the desk's, and the table of connections stands for
--- the history.
-pub record AreRuleInputsOf (desk : DeskTables) (history : List Segment) (g : RuleInputs) : Type 0 where
+-- the Things, what is compiled and the local networks are the desk's
+pub record AreRuleInputsOf (desk : DeskTables) (g : RuleInputs) : Type 0 where
   pub things : g.things ≡ desk.tables.things
   pub compiled : IsCompiledOf desk g.compiled
   pub locals : g.locals ≡ desk.tables.locals
-  pub flows : StandsFor history g.flows
 
 -- the ruling by what is compiled: by the policy that is held for the Thing's URL, the bindings, and the local networks
 unfoldable pub ruling_on : RuleInputs → ℕ → Direction → Thing → Fields → Ruling
 ruling_on g now side thing fields =
-    ruling_by_bindings g.compiled.bindings g.locals now thing.url (policy_held g.compiled.slots thing.url) side fields (begun_kept g.flows side fields now)
+    ruling_by_bindings g.compiled.bindings g.locals now thing.url (policy_held g.compiled.slots thing.url) side fields (begun_of g.history side fields now)
 
 -- ---- Steps
 

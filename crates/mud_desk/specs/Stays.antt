@@ -1,6 +1,5 @@
--- What a call over a desk leaves of its keeper and of its connections. The first argument is the members of the keeper's trait,
+-- What a call over a desk leaves of its keeper. The first argument is the members of the keeper's trait,
 -- `Keeper-dyn` in a clause.
-use Rattle.std.specs.Prelude.{◌≡◌}
 use Rattle.mud_world.specs.declared.keeper.Keeper.{Ghosts}
 use Rattle.mud_world.specs.Boxed.{Tells}
 use Rattle.desk_model.specs.Boxed.{IsKept, IsSameBox}
@@ -13,8 +12,3 @@ module _ {X : Type 0} {F : X → Type 0} (members : (v : (x : X) × F x) → Gho
     pub kept : IsKept members after.keeper (tables_of after.state)
     pub told : Tells members after.keeper → Tells members before.keeper
     pub same_box : IsSameBox before.keeper after.keeper
-
-  -- It stays kept, and no packet was counted: the table of connections is as it was.
-  pub record KeepsConnections (before after : Desk X F) : Type 0 where
-    pub stays : StaysKept before after
-    pub flows : after.state.flows ≡ before.state.flows

@@ -2,13 +2,13 @@
 ghost use Rattle.std.specs.Prelude.{◌≡◌, ℕ, ◌+◌, ◌-◌, ◌^◌, ◌<◌, ◌≤◌, max, [], List, Ok, IfOk, IfErr, length};
 ghost use Rattle.mud_world.specs.Boxed.{faults_of, Tells, kept_items};
 ghost use Rattle.mud_world.specs.Causes.{Counts};
-ghost use Rattle.table_model.specs.declared.segment.Segment.{Segment as SegmentValue};
 ghost use Rattle.table_model.specs.Things.{thing_at};
 ghost use Rattle.frame_view.specs.Frame.{frame_of};
 ghost use Rattle.packet_judge.specs.Verdicts.{steps_on};
 ghost use Rattle.desk_model.specs.DeskTables.{IsSound};
 ghost use Rattle.desk_model.specs.Commands.{IsAsked, command_step};
 ghost use Rattle.desk_model.specs.Items.{none_kept, tables_in};
+ghost use Rattle.desk_model.specs.Sessions as sessions;
 ghost use Rattle.desk_model.specs.Sessions.{AllowedReply, AllowedVerdict, verdict_in, is_of_keeper};
 ghost use Rattle.desk_model.specs.Verdicts.{policy_at};
 ghost use Rattle.desk_books.specs.CompiledDesk.{IsCompiledOf};
@@ -16,9 +16,9 @@ ghost use Rattle.desk_items.specs.Loaded.{kept_of};
 ghost use Rattle.desk_items.specs.Opening.{IsFaultOf};
 ghost use Rattle.mud_desk.specs.RuleInputs.{rows_read, ruling_steps};
 ghost use Rattle.mud_desk.specs.Findings.{AreFindingsOn};
-ghost use Rattle.mud_desk.specs.DeskState.{tables_of, session_of, HasForwarded, LeadsOn, IsBegun, AreRulesOf};
+ghost use Rattle.mud_desk.specs.DeskState.{tables_of, session_of, AreRulesOf};
 ghost use Rattle.desk_model.specs.Boxed.{IsKept, IsSameBox};
-ghost use Rattle.mud_desk.specs.Stays.{StaysKept, KeepsConnections};
+ghost use Rattle.mud_desk.specs.Stays.{StaysKept};
 ghost use Rattle.mud_desk.specs.Answers.{is_fault_of_keeper, StaysUnlessDone, IsLeft, IsPaidOnce};
 
 use crate::Findings;
@@ -76,7 +76,7 @@ impl Desk {
             → tables_in (kept_items Keeper-dyn keeper) ≡ Ok (tables_of desk.state)) }
         ensures sound { IfOk result (λ desk. IsSound (tables_of desk.state)) }
         ensures kept { IfOk result (λ desk. IsKept Keeper-dyn desk.keeper (tables_of desk.state)) }
-        ensures begun { IfOk result (λ desk. IsBegun (tables_of desk.state) desk.state) }
+        ensures begun { IfOk result (λ desk. session_of desk.state ≡ sessions.opened (tables_of desk.state)) }
         ensures steady { IfOk result (λ desk. faults_of Keeper-dyn desk.keeper ≡ faults_of Keeper-dyn keeper) }
         ensures same_box { IfOk result (λ desk. IsSameBox keeper desk.keeper) }
         // An item is named where it is the first that is no record, and else the desk isn't opened for a
@@ -142,8 +142,8 @@ impl Desk {
     ) -> Reply
         requires kept { IsKept Keeper-dyn self.old.keeper (tables_of self.old.state) }
         requires asked { IsAsked command }
-        ensures answer { (h : List SegmentValue) → AllowedReply (session_of h self.old.state) now command result (session_of h self.new.state) }
-        ensures stays { KeepsConnections Keeper-dyn self.old self.new }
+        ensures answer { AllowedReply (session_of self.old.state) now command result (session_of self.new.state) }
+        ensures stays { StaysKept Keeper-dyn self.old self.new }
         // What is compiled of the lists isn't made anew for a refusal, a failure of the keeper or want of memory.
         ensures compiled { StaysUnlessDone result self.old.state.books.compiled self.new.state.books.compiled }
         ensures cause { Counts (is_of_keeper result) (faults_of Keeper-dyn self.old.keeper) (faults_of Keeper-dyn self.new.keeper) }
@@ -182,7 +182,7 @@ impl Desk {
     ) -> Result<Verdict, Memory>
         requires kept { IsKept Keeper-dyn self.old.keeper (tables_of self.old.state) }
         ensures stays { StaysKept Keeper-dyn self.old self.new }
-        ensures judged { LeadsOn self.old.state self.new.state (λ session after. AllowedVerdict session stamp frame.now result after) }
+        ensures judged { AllowedVerdict (session_of self.old.state) stamp frame.now result (session_of self.new.state) }
         ensures books { self.new.state.books ≡ self.old.state.books }
         ensures keeper { self.new.keeper ≡ self.old.keeper }
         // Each ruling reads at least the rows that the Thing's file has of the peer,
@@ -198,7 +198,7 @@ impl Desk {
     /// What decides a frame: the verdict that [`Desk::judge`] would give, and the Things, rulings and
     /// entries by which it is given, with nothing changed. It takes no memory.
     pub fn why(&self, frame: &[u8], stamp: Moment) -> Findings<'_>
-        ensures verdict { (h : List SegmentValue) → HasForwarded h self.now.state → result.verdict ≡ verdict_in (session_of h self.now.state) stamp frame.now }
+        ensures verdict { result.verdict ≡ verdict_in (session_of self.now.state) stamp frame.now }
         // At each endpoint these are the Thing of the desk, the ruling of the verdict, and the
         // entry of its number in the Thing's approved file.
         ensures found { AreFindingsOn (policy_at (tables_of self.now.state)) (tables_of self.now.state).tables.things (frame_of frame.now) result }
@@ -226,7 +226,7 @@ impl Desk {
     /// it.
     pub fn raise(&mut self, now: Moment) -> Moment
         requires kept { IsKept Keeper-dyn self.old.keeper (tables_of self.old.state) }
-        ensures stays { KeepsConnections Keeper-dyn self.old self.new }
+        ensures stays { StaysKept Keeper-dyn self.old self.new }
         ensures moment { result ≡ max self.old.state.moment now }
         ensures state { self.new.state ≡ record self.old.state { moment = result } }
         ensures keeper { self.new.keeper ≡ self.old.keeper }

@@ -1,7 +1,6 @@
 //! What judges a frame at a moment.
 ghost use Rattle.std.specs.Prelude.{IsTrue};
-ghost use Rattle.flow_table.specs.Held.{flows_of};
-ghost use Rattle.flow_table.specs.Kept.{is_since};
+ghost use Rattle.flow_table.specs.Noted.{follows};
 
 use acl_compile::Compiled;
 use base_rows::Steps;
@@ -22,17 +21,16 @@ pub(crate) struct DeskRules<'a> {
     pub(crate) locals: &'a [Prefix],
     pub(crate) flows: &'a FlowTable,
     pub(crate) now: Moment,
-    ghost since: { IsTrue (is_since (flows_of flows.now).last now) },
+    ghost since: { IsTrue (follows flows.now.history now) },
 }
 
 impl<'a> RuleSource for DeskRules<'a> {
     ghost use Rattle.std.specs.Prelude.{◌<◌, ◌^◌, length};
-    ghost use Rattle.flow_table.specs.Held.{flows_of};
     ghost use Rattle.mud_desk.specs.RuleInputs.{rule_inputs, ruling_on, rows_read, ruling_steps};
 
     ghost things = { λ o. o.things.now.things };
 
-    ghost ruling = { λ o side thing fields. ruling_on (rule_inputs o.things.now.things o.compiled.now o.locals.now (flows_of o.flows.now)) o.now side thing fields };
+    ghost ruling = { λ o side thing fields. ruling_on (rule_inputs o.things.now.things o.compiled.now o.locals.now o.flows.now.history) o.now side thing fields };
 
     ghost least = { λ o side thing fields. rows_read o.compiled.now side thing fields };
 

@@ -1,9 +1,6 @@
 //! The verdict on a frame, and what decides it.
-ghost use Rattle.std.specs.Prelude.{◌≡◌, ℕ, ◌+◌, ◌^◌, ◌<◌, ◌≤◌, List, IsTrue, IsSome, IfOk, OnOk, OnErr, length};
-ghost use Rattle.table_model.specs.declared.segment.Segment.{Segment as SegmentValue};
-ghost use Rattle.table_model.specs.History.{StandsFor};
-ghost use Rattle.flow_table.specs.Held.{flows_of};
-ghost use Rattle.flow_table.specs.Kept.{is_since};
+ghost use Rattle.std.specs.Prelude.{◌≡◌, ℕ, ◌+◌, ◌^◌, ◌<◌, ◌≤◌, IsTrue, IsSome, IfOk, OnOk, OnErr, length};
+ghost use Rattle.flow_table.specs.Noted.{follows};
 ghost use Rattle.frame_view.specs.Frame.{frame_of};
 ghost use Rattle.packet_judge.specs.Verdicts as spec;
 ghost use Rattle.packet_judge.specs.Verdicts.{history_after, steps_on};
@@ -37,11 +34,10 @@ pub fn why<'a, L: Ledger>(
     now: Moment,
     steps: &mut Steps<L>,
 ) -> Findings<'a>
-    requires since { IsTrue (is_since (flows_of flows.now).last now) }
-    // Where these are a desk's, and the connections those of a history, it is the verdict of the desk.
-    ensures verdict { (desk : DeskTables) (h : List SegmentValue)
-        → AreRuleInputsOf desk h (rule_inputs things.now.things compiled.now locals.now (flows_of flows.now))
-        → result.verdict ≡ verdict_at desk h now frame.now }
+    requires since { IsTrue (follows flows.now.history now) }
+    // Where these are a desk's, it is the verdict of the desk.
+    ensures verdict { (desk : DeskTables) → AreRuleInputsOf desk (rule_inputs things.now.things compiled.now locals.now flows.now.history)
+        → result.verdict ≡ verdict_at desk flows.now.history now frame.now }
     ensures found { AreFindingsOn (policy_held compiled.now.slots) things.now.things (frame_of frame.now) result }
     // Each ruling reads at least the rows that the Thing's file has of the peer,
     ensures least { steps.old + steps_on (rows_read compiled.now) things.now.things (frame_of frame.now) ≤ steps.new }
@@ -71,13 +67,11 @@ fn note(
     verdict: &Verdict,
     now: Moment,
 ) -> Result<(), Memory>
-    requires since { IsTrue (is_since (flows_of flows.old).last now) }
-    ensures ok { OnOk result
-        ((h : List SegmentValue) → StandsFor h (flows_of flows.old)
-        → StandsFor (history_after h frame.now verdict.now now) (flows_of flows.new)) }
-    ensures err { OnErr result (flows_of flows.new ≡ flows_of flows.old) }
+    requires since { IsTrue (follows flows.old.history now) }
+    ensures ok { OnOk result (flows.new.history ≡ history_after flows.old.history frame.now verdict.now now) }
+    ensures err { OnErr result (flows.new.history ≡ flows.old.history) }
     ensures wanted { OnErr result (IsSome (spec.noted_fields frame.now verdict.now)) }
-    ensures since { (m : ℕ) → now ≤ m → IsTrue (is_since (flows_of flows.new).last m) }
+    ensures since { (m : ℕ) → now ≤ m → IsTrue (follows flows.new.history m) }
 {
     match noted_fields(frame, verdict) {
         None => Ok(()),
@@ -101,20 +95,18 @@ pub fn judge<L: Ledger>(
     now: Moment,
     steps: &mut Steps<L>,
 ) -> Result<Verdict, Memory>
-    requires since { IsTrue (is_since (flows_of flows.old).last now) }
-    ensures verdict { IfOk result (λ verdict. (desk : DeskTables) (h : List SegmentValue)
-        → AreRuleInputsOf desk h (rule_inputs things.now.things compiled.now locals.now (flows_of flows.old))
-        → verdict ≡ verdict_at desk h now frame.now) }
-    // The connections are those of the history, with the packet of this frame where it counts.
-    ensures stands { IfOk result (λ verdict. (h : List SegmentValue)
-        → StandsFor h (flows_of flows.old)
-        → StandsFor (history_after h (frame_of frame.now) verdict now) (flows_of flows.new)) }
-    ensures err { OnErr result (flows_of flows.new ≡ flows_of flows.old) }
-    ensures wanted { OnErr result ((desk : DeskTables) (h : List SegmentValue)
-        → AreRuleInputsOf desk h (rule_inputs things.now.things compiled.now locals.now (flows_of flows.old))
-        → IsSome (spec.noted_fields (frame_of frame.now) (verdict_at desk h now frame.now))) }
+    requires since { IsTrue (follows flows.old.history now) }
+    ensures verdict { IfOk result (λ verdict. (desk : DeskTables)
+        → AreRuleInputsOf desk (rule_inputs things.now.things compiled.now locals.now flows.old.history)
+        → verdict ≡ verdict_at desk flows.old.history now frame.now) }
+    // The packet of this frame was noted where it counts.
+    ensures history { IfOk result (λ verdict. flows.new.history ≡ history_after flows.old.history (frame_of frame.now) verdict now) }
+    ensures err { OnErr result (flows.new.history ≡ flows.old.history) }
+    ensures wanted { OnErr result ((desk : DeskTables)
+        → AreRuleInputsOf desk (rule_inputs things.now.things compiled.now locals.now flows.old.history)
+        → IsSome (spec.noted_fields (frame_of frame.now) (verdict_at desk flows.old.history now frame.now))) }
     // Any later moment isn't before that of the last packet noted.
-    ensures since { (m : ℕ) → now ≤ m → IsTrue (is_since (flows_of flows.new).last m) }
+    ensures since { (m : ℕ) → now ≤ m → IsTrue (follows flows.new.history m) }
     ensures least { steps.old + steps_on (rows_read compiled.now) things.now.things (frame_of frame.now) ≤ steps.new }
     ensures most { (b : ℕ) → length compiled.now.rows < 2 ^ b
         → steps.new ≤ steps.old + steps_on (ruling_steps compiled.now b) things.now.things (frame_of frame.now) }

@@ -4,14 +4,13 @@ ghost use Rattle.std.specs.Prelude.{unwrap_or};
 ghost use Rattle.base_rows.specs.Ledgers.{IsBlankOf};
 ghost use Rattle.acl_changes.specs.Patch.{rows_apart};
 ghost use Rattle.acl_compile.specs.Plans.{IsKept};
-ghost use Rattle.table_model.specs.declared.segment.Segment.{Segment as SegmentValue};
 ghost use Rattle.table_model.specs.Things.{thing_at};
 ghost use Rattle.frame_view.specs.Frame.{frame_of};
 ghost use Rattle.packet_judge.specs.Verdicts.{steps_on};
 ghost use Rattle.desk_model.specs.DeskTables.{IsSound};
 ghost use Rattle.desk_model.specs.Refusals.{is_want_of_memory};
 ghost use Rattle.desk_model.specs.Commands.{IsAsked, command_step};
-ghost use Rattle.desk_model.specs.Sessions.{AllowedVerdict, verdict_in};
+ghost use Rattle.desk_model.specs.Sessions.{AllowedVerdict, opened, verdict_in};
 ghost use Rattle.desk_model.specs.Verdicts.{policy_at};
 ghost use Rattle.desk_books.specs.CompiledDesk.{IsCompiledOf};
 ghost use Rattle.desk_items.specs.Loaded.{loaded_desk};
@@ -19,7 +18,7 @@ ghost use Rattle.mud_desk.specs.RuleInputs.{rows_read, ruling_steps};
 ghost use Rattle.mud_desk.specs.Findings.{AreFindingsOn};
 ghost use Rattle.desk_books.specs.Changes.{desk_after};
 ghost use Rattle.desk_books.specs.Planned.{IsPlanned, IsReady, IsPaid};
-ghost use Rattle.mud_desk.specs.DeskState.{DeskState as Value, tables_of, session_of, HasForwarded, LeadsOn, IsBegun, AreRulesOf};
+ghost use Rattle.mud_desk.specs.DeskState.{tables_of, session_of};
 
 use crate::{Findings, judge, why};
 use base_rows::Steps;
@@ -73,7 +72,7 @@ impl State {
     /// A session begins: nothing was forwarded in it, and its moment is that of the last change.
     #[tactic(auto, using(crate::proofs::Sessions::timely_new), unfolding(crate::specs::DeskState::tables_of, crate::specs::DeskState::session_of, desk_model::specs::Sessions::opened, desk_model::specs::Items::desk_of))]
     pub(crate) fn of(alloc: Global, taken: Loaded) -> Result<State, Memory>
-        ensures { IfOk result (IsBegun (loaded_desk taken)) }
+        ensures { IfOk result (λ state. session_of state ≡ opened (loaded_desk taken)) }
     {
         let moment = taken.stamp.unwrap_or(Moment::at_most_last(0));
         let books = DeskBooks::of(alloc, taken.things, taken.files, taken.binds, taken.stamp)?;
@@ -159,7 +158,7 @@ impl State {
         stamp: Moment,
         steps: &mut Steps<L>,
     ) -> Result<Verdict, Memory>
-        ensures judged { LeadsOn self.old self.new (λ session after. AllowedVerdict session stamp frame.now result after) }
+        ensures judged { AllowedVerdict (session_of self.old) stamp frame.now result (session_of self.new) }
         ensures books { self.new.books ≡ self.old.books }
         ensures least { steps.old + steps_on (rows_read self.old.books.compiled) (tables_of self.old).tables.things (frame_of frame.now) ≤ steps.new }
         ensures most { (b : ℕ) → length self.old.books.compiled.rows < 2 ^ b
@@ -183,7 +182,7 @@ impl State {
     #[tactic(auto, unfolding(crate::specs::DeskState::tables_of))]
     pub(crate) fn why<L: Ledger>(&self, frame: &[u8], stamp: Moment, blank: Blank) -> Findings<'_>
         requires blank { IsBlankOf L.name L.parts blank }
-        ensures verdict { (h : List SegmentValue) → HasForwarded h self.now → result.verdict ≡ verdict_in (session_of h self.now) stamp frame.now }
+        ensures verdict { result.verdict ≡ verdict_in (session_of self.now) stamp frame.now }
         ensures found { AreFindingsOn (policy_at (tables_of self.now)) (tables_of self.now).tables.things (frame_of frame.now) result }
     {
         let mut steps = Steps::<L>::new(blank);

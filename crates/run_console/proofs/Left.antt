@@ -1,5 +1,5 @@
 -- What requests leave of a desk, once its keeper is handed back.
-use Rattle.std.proofs.Common.{◌≡◌, ℕ, zero, suc, Bool, List, [], refl, sym, ap, ◌∙◌, subst, arith}
+use Rattle.std.proofs.Common.{◌≡◌, ℕ, zero, suc, Bool, List, refl, sym, ap, ◌∙◌, subst, arith}
 use Rattle.std.specs.List.{count_by}
 use Rattle.std.specs.declared.dyn_box.DynBox.{DynBox}
 use Rattle.std.specs.declared.alloc.Global.{Global}
@@ -8,30 +8,26 @@ use Rattle.mud_world.specs.Boxed.{faults_of}
 use Rattle.mud_world.specs.Causes.{Rose}
 use Rattle.mud_world.specs.Door.{DoorState}
 use Rattle.mud_world.specs.View.{DoorView}
-use Rattle.table_model.specs.declared.segment.Segment.{Segment}
 use Rattle.desk_model.specs.DeskTables.{DeskTables}
-use Rattle.desk_model.specs.Sessions.{Session, opened}
+use Rattle.desk_model.specs.Sessions.{Session}
 use Rattle.desk_model.specs.Boxed.{IsKept}
-use Rattle.mud_desk.specs.DeskState.{DeskState, IsBegun, session_of, tables_of}
+use Rattle.mud_desk.specs.DeskState.{DeskState, session_of, tables_of}
 use Rattle.http_requests.specs.declared.fault.MomentFrom.{MomentFrom}
 use Rattle.http_requests.specs.declared.end.ConnectionEnd.{ConnectionEnd}
 use Rattle.http_requests.specs.Ends.{IsServed}
 use Rattle.http_requests.specs.Runs.{IsLeftBy}
 use Rattle.http_requests.specs.Visits.{failed_to_read, failed_to_write, AreEnough, CountsOf, ServedInTurn, Visited}
 use Rattle.console.specs.Answers.{fault_answer}
-use Rattle.console.specs.States.{ConsoleState, ConsoleStep, IsAt, begun}
+use Rattle.console.specs.States.{ConsoleState, ConsoleStep, IsAt}
 use Rattle.run_console.specs.Store.{LeavesDesk}
 
 none_where_steady : (unavailable before now : ℕ) → CountsOf unavailable before now → ¬ (Rose before now) → unavailable ≡ 0
 none_where_steady zero before now counts steady = refl
 none_where_steady (suc count) before now counts steady = absurd (steady (let rose = counts.rose in omega (arith, rose)))
 
-desk_of_session : (history : List Segment) (state : DeskState) → (session_of history state).desk ≡ tables_of state
+desk_of_session : (state : DeskState) → (session_of state).desk ≡ tables_of state
 unfolding session_of
-desk_of_session history state = refl
-
-pub begun_with : (tables : DeskTables) (state : DeskState) (moments : List ℕ) → IsBegun tables state → begun (session_of [] state) moments ≡ begun (opened tables) moments
-begun_with tables state moments is = ap (λ (s : Session). begun s moments) is.session
+desk_of_session state = refl
 
 -- ---- What is kept behind requests, said otherwise
 
@@ -74,7 +70,7 @@ module _ {X : Type 0} {F : X → Type 0} (members : (v : (x : X) × F x) → Gho
       → LeavesDesk members tells faults returned moments s
   leaves kept same s at =
       subst (λ (box : DynBox X Global F). LeavesDesk members tells faults box moments s) (sym same) (record {
-        kept = subst (λ (desk : DeskTables). IsKept members after desk) (sym (ap (λ (session : Session). session.desk) at.session ∙ desk_of_session at.history state)) kept;
+        kept = subst (λ (desk : DeskTables). IsKept members after desk) (sym (ap (λ (session : Session). session.desk) at.session ∙ desk_of_session state)) kept;
         clock = at.clock;
         paid = at.paid;
         risen = at.risen;

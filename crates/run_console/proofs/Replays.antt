@@ -1,5 +1,5 @@
 -- What a run of `replay` promises where the connection is served, and where it isn't.
-use Rattle.std.proofs.Common.{◌≡◌, ◌≢◌, ℕ, ◌⊎◌, inl, inr, [], Ok, refl, subst, ◌∙◌, arith}
+use Rattle.std.proofs.Common.{◌≡◌, ◌≢◌, ℕ, ◌⊎◌, inl, inr, [], Ok, refl, ap, subst, ◌∙◌, arith}
 use Rattle.std.specs.declared.dyn_box.DynBox.{DynBox}
 use Rattle.std.specs.declared.alloc.Global.{Global}
 use Rattle.mud_world.specs.declared.keeper.Keeper.{Ghosts}
@@ -8,8 +8,9 @@ use Rattle.mud_world.specs.Causes.{Rose}
 use Rattle.mud_world.specs.View.{DoorView}
 use Rattle.desk_model.specs.DeskTables.{DeskTables, IsSound}
 use Rattle.desk_model.specs.Items.{tables_in}
+use Rattle.desk_model.specs.Sessions.{Session, opened}
 use Rattle.desk_model.specs.Boxed.{IsKept, IsSameBox}
-use Rattle.mud_desk.specs.DeskState.{DeskState, IsBegun, session_of, tables_of}
+use Rattle.mud_desk.specs.DeskState.{DeskState, session_of, tables_of}
 use Rattle.http_requests.specs.declared.fault.MomentFrom.TheVariants.{Header}
 use Rattle.http_requests.specs.Doors.{ReadsAndWrites}
 use Rattle.http_requests.specs.declared.end.ConnectionEnd.{ConnectionEnd}
@@ -22,7 +23,7 @@ use Rattle.console.specs.Answers.{fault_answer}
 use Rattle.console.specs.States.{ConsoleStep, IsAt, begun}
 use Rattle.run_console.specs.Store.{NoneFailed, ServesNone}
 use Rattle.run_console.specs.Replay.{ReplaysConnection, ReplaysStore, status_at}
-use Rattle.run_console.proofs.Left.{begun_with, left_as, served_as, leaves}
+use Rattle.run_console.proofs.Left.{left_as, served_as, leaves}
 use Rattle.run_console.proofs.Refusals.{rose_at_failure}
 
 -- ---- Statuses
@@ -79,13 +80,13 @@ module _ (status : ℕ) (old new : DoorView) where
 
 module _ {X : Type 0} {F : X → Type 0} (members : (v : (x : X) × F x) → Ghosts (F v.0)) where
   pub replayed : (tells : Type 0) (tables : DeskTables) (state ended : DeskState) (faults : ℕ) (after returned : DynBox X Global F) (end : ConnectionEnd) (old new : DoorView) (status : ℕ)
-      → IsBegun tables state → IsKept members after (tables_of ended) → returned ≡ after → status ≡ status_at end
-      → IsLeftBy (ConsoleStep (Unit {0})) (IsAt (Unit {0}) ended [] faults (faults_of members after)) (begun (session_of [] state) [])
-      → (tells → IsServed (ConsoleStep (Unit {0})) fault_answer Header (IsAt (Unit {0}) ended [] faults (faults_of members after)) end (begun (session_of [] state) []) old new)
+      → session_of state ≡ opened tables → IsKept members after (tables_of ended) → returned ≡ after → status ≡ status_at end
+      → IsLeftBy (ConsoleStep (Unit {0})) (IsAt (Unit {0}) ended [] faults (faults_of members after)) (begun (session_of state) [])
+      → (tells → IsServed (ConsoleStep (Unit {0})) fault_answer Header (IsAt (Unit {0}) ended [] faults (faults_of members after)) end (begun (session_of state) []) old new)
       → ReadsAndWrites (is_read_failed end) (is_write_failed end) old new
       → ReplaysConnection members tells tables faults returned old new status
   replayed tells tables state ended faults after returned end old new status is kept same status_is left served calls =
-      let first = begun_with tables state [] is in
+      let first = ap (λ (s : Session). begun s []) is in
       let then = leaves members (Unit {0}) after returned ended [] faults kept same in
       record {
         end = end;

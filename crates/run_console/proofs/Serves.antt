@@ -1,5 +1,5 @@
 -- What a run of `serve` promises where connections are served, and where they aren't.
-use Rattle.std.proofs.Common.{◌≡◌, ◌≢◌, ℕ, ◌⊎◌, inl, inr, Bool, true, false, IsTrue, cond, List, [], Ok, refl, subst, ◌∙◌, arith}
+use Rattle.std.proofs.Common.{◌≡◌, ◌≢◌, ℕ, ◌⊎◌, inl, inr, Bool, true, false, IsTrue, cond, List, [], Ok, refl, ap, subst, ◌∙◌, arith}
 use Rattle.std.specs.declared.dyn_box.DynBox.{DynBox}
 use Rattle.std.specs.declared.alloc.Global.{Global}
 use Rattle.mud_world.specs.declared.keeper.Keeper.{Ghosts}
@@ -9,9 +9,9 @@ use Rattle.mud_world.specs.Door.{bound_anew}
 use Rattle.mud_world.specs.View.{DoorView}
 use Rattle.desk_model.specs.DeskTables.{DeskTables, IsSound}
 use Rattle.desk_model.specs.Items.{tables_in}
-use Rattle.desk_model.specs.Sessions.{opened}
+use Rattle.desk_model.specs.Sessions.{Session, opened}
 use Rattle.desk_model.specs.Boxed.{IsKept, IsSameBox}
-use Rattle.mud_desk.specs.DeskState.{DeskState, IsBegun, session_of, tables_of}
+use Rattle.mud_desk.specs.DeskState.{DeskState, session_of, tables_of}
 use Rattle.http_requests.specs.declared.fault.MomentFrom.TheVariants.{Clock}
 use Rattle.http_requests.specs.Runs.{IsLeftBy}
 use Rattle.http_requests.specs.Visits.{ServedInTurn, TakesTurns}
@@ -20,7 +20,7 @@ use Rattle.console.specs.States.{ConsoleState, ConsoleStep, IsAt, begun}
 use Rattle.console.proofs.Takes.{at_first}
 use Rattle.run_console.specs.Store.{NoneFailed, LeavesDesk, ServesNone}
 use Rattle.run_console.specs.Serve.{Listening, ClockRun, bound_view, clock_run, ServesConnections, ServesStore}
-use Rattle.run_console.proofs.Left.{begun_with, left_as, in_turn_as, in_turn_before, leaves}
+use Rattle.run_console.proofs.Left.{left_as, in_turn_as, in_turn_before, leaves}
 use Rattle.run_console.proofs.Refusals.{rose_at_failure}
 
 -- ---- Statuses
@@ -52,17 +52,17 @@ complete_by true status before now is turns no_turn = absurd (no_turn (turns.ros
 complete_by false status before now is turns no_turn = inl is
 
 module _ {X : Type 0} {F : X → Type 0} (members : (v : (x : X) × F x) → Ghosts (F v.0)) where
-  module _ (tells clock_tells : Type 0) (tables : DeskTables) (state : DeskState) (is : IsBegun tables state) (returned : DynBox X Global F) (at : Listening) where
+  module _ (tells clock_tells : Type 0) (tables : DeskTables) (state : DeskState) (is : session_of state ≡ opened tables) (returned : DynBox X Global F) (at : Listening) where
     -- ---- The port couldn't be bound
 
     pub unbound : (begins : DynBox X Global F) (moments : List ℕ) (old new : DoorView) (status : ℕ) → IsKept members begins (tables_of state) → returned ≡ begins → status ≡ 4
         → Counts true old.turns new.turns → StopsAtFailure new.failed old.turns new.turns → (tells → new.state ≡ old.state) → new.reads ≡ old.reads → new.writes ≡ old.writes
         → ServesConnections members tells clock_tells tables (faults_of members begins) returned at (clock_run moments moments) old new status
     unbound begins moments old new status kept same status_is turns stop untouched reads writes =
-        let first = begun_with tables state moments is in
+        let first = ap (λ (s : Session). begun s moments) is in
         let then = leaves members clock_tells begins returned state moments (faults_of members begins) kept same in
-        let leaves_first : LeavesDesk members clock_tells (faults_of members begins) returned moments (begun (session_of [] state) moments) =
-        then _ (at_first clock_tells state moments (faults_of members begins) [] is.forwarded) in
+        let leaves_first : LeavesDesk members clock_tells (faults_of members begins) returned moments (begun (session_of state) moments) =
+        then _ (at_first clock_tells state moments (faults_of members begins)) in
         let leaves_begun = subst (λ (s : ConsoleState). LeavesDesk members clock_tells (faults_of members begins) returned moments s) first leaves_first in
         record {
           failed = true;
@@ -77,12 +77,12 @@ module _ {X : Type 0} {F : X → Type 0} (members : (v : (x : X) × F x) → Gho
     pub served_here : (ended : DeskState) (faults : ℕ) (after : DynBox X Global F) (failed : Bool) (moments moments_after : List ℕ) (old mid new : DoorView) (status : ℕ)
         → IsKept members after (tables_of ended) → returned ≡ after → status ≡ status_by failed
         → (tells → mid.state ≡ bound_anew at.port old.state) → Counts false old.turns mid.turns → mid.reads ≡ old.reads → mid.writes ≡ old.writes
-        → IsLeftBy (ConsoleStep clock_tells) (IsAt clock_tells ended moments_after faults (faults_of members after)) (begun (session_of [] state) moments)
-        → (tells → ServedInTurn (ConsoleStep clock_tells) fault_answer Clock (IsAt clock_tells ended moments_after faults (faults_of members after)) failed at.count (begun (session_of [] state) moments) mid new)
+        → IsLeftBy (ConsoleStep clock_tells) (IsAt clock_tells ended moments_after faults (faults_of members after)) (begun (session_of state) moments)
+        → (tells → ServedInTurn (ConsoleStep clock_tells) fault_answer Clock (IsAt clock_tells ended moments_after faults (faults_of members after)) failed at.count (begun (session_of state) moments) mid new)
         → TakesTurns failed mid new
         → ServesConnections members tells clock_tells tables faults returned at (clock_run moments moments_after) old new status
     served_here ended faults after failed moments moments_after old mid new status kept same status_is binds bound same_reads same_writes left served calls =
-        let first = begun_with tables state moments is in
+        let first = ap (λ (s : Session). begun s moments) is in
         let then = leaves members clock_tells after returned ended moments_after faults kept same in
         record {
           failed = failed;

@@ -6,8 +6,9 @@ ghost use Rattle.run_common.specs.declared.status.Status.TheVariants.{KeeperFail
 ghost use Rattle.desk_items.specs.Loaded.{kept_of};
 ghost use Rattle.desk_model.specs.DeskTables.{DeskTables};
 ghost use Rattle.desk_model.specs.Items.{none_kept};
+ghost use Rattle.desk_model.specs.Sessions as sessions;
 ghost use Rattle.desk_model.specs.Boxed.{IsKept, IsSameBox};
-ghost use Rattle.mud_desk.specs.DeskState.{IsBegun, tables_of};
+ghost use Rattle.mud_desk.specs.DeskState.{session_of, tables_of};
 ghost use Rattle.run_console.specs.Replay.{ReplaysConnection, ReplaysStore, status_at};
 
 use crate::no_clock::NoClock;
@@ -41,7 +42,7 @@ fn replay_desk<D: Door>(
     door: &mut D,
 ) -> (Status, Box<dyn Keeper>)
     requires { IsKept Keeper-dyn desk.keeper (tables_of desk.state) }
-    ensures replays { (tables : DeskTables) → IsBegun tables desk.state
+    ensures replays { (tables : DeskTables) → session_of desk.state ≡ sessions.opened tables
         → ReplaysConnection Keeper-dyn D.tells tables (faults_of Keeper-dyn desk.keeper) result.1
         (D.view door.old)
         (D.view door.new)

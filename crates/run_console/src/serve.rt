@@ -7,8 +7,9 @@ ghost use Rattle.run_common.specs.declared.status.Status.TheVariants.{KeeperFail
 ghost use Rattle.desk_items.specs.Loaded.{kept_of};
 ghost use Rattle.desk_model.specs.DeskTables.{DeskTables};
 ghost use Rattle.desk_model.specs.Items.{none_kept};
+ghost use Rattle.desk_model.specs.Sessions as sessions;
 ghost use Rattle.desk_model.specs.Boxed.{IsKept, IsSameBox};
-ghost use Rattle.mud_desk.specs.DeskState.{IsBegun, tables_of};
+ghost use Rattle.mud_desk.specs.DeskState.{session_of, tables_of};
 ghost use Rattle.run_console.specs.Serve.{ServesConnections, ServesStore, listening, clock_run};
 
 use crate::room::Room;
@@ -43,7 +44,7 @@ fn serve_desk<D: Door, C: Clock>(
     count: u32,
 ) -> (Status, Box<dyn Keeper>)
     requires { IsKept Keeper-dyn desk.keeper (tables_of desk.state) }
-    ensures serves { (tables : DeskTables) → IsBegun tables desk.state
+    ensures serves { (tables : DeskTables) → session_of desk.state ≡ sessions.opened tables
         → ServesConnections Keeper-dyn D.tells C.tells tables (faults_of Keeper-dyn desk.keeper) result.1
         (listening port count) (clock_run (C.moments clock.old) (C.moments clock.new))
         (D.view door.old)

@@ -1,12 +1,11 @@
 -- The line that `judge` writes for each packet of a capture. It ends with a line feed.
-use Rattle.std.specs.Prelude.{◌≡◌, List, ℕ, ◌++◌, codes, decimal}
+use Rattle.std.specs.Prelude.{List, ℕ, ◌++◌, codes, decimal}
 use Rattle.read_buffer.specs.Packets.{Packet}
 use Rattle.packet_judge.specs.declared.verdict.Verdict.{Verdict}
 use Rattle.run_captures.specs.Fold.{LineStep}
 use Rattle.text_values.specs.Numbers.{number_text}
 use Rattle.text_replies.specs.Verdicts.{verdict_text}
 use Rattle.desk_model.specs.Sessions.{Session, Judged, frame_in}
-use Rattle.mud_desk.specs.DeskState.{DeskState, session_of, HasForwarded}
 
 -- the number and the seconds of a packet, and the verdict on it
 unfoldable pub judged_line : Packet → Verdict → List ℕ
@@ -19,8 +18,3 @@ judged_packet session packet = frame_in session packet.seconds packet.octets
 -- the line of a packet, and the session after it
 abbrev pub judged_step : Session → Packet → LineStep Session
 judged_step session packet = record { line = judged_line packet (judged_packet session packet).verdict; next = (judged_packet session packet).session }
-
--- What a desk holds beside its keeper is in this session.
-pub record IsIn (session : Session) (state : DeskState) : Type 0 where
-  pub session_is : session_of session.history state ≡ session
-  pub forwarded : HasForwarded session.history state

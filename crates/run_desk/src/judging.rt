@@ -8,10 +8,9 @@ ghost use Rattle.run_common.specs.Ends.{IsSteady, IsStopped};
 ghost use Rattle.run_common.specs.Output.{WritesOutput, WritesPart};
 ghost use Rattle.run_common.specs.Status.{Is, IsNot, IsOneOf, status_number};
 ghost use Rattle.run_common.specs.declared.status.Status.TheVariants.{Done, Refused, DoorFailed, NoMemory};
-ghost use Rattle.desk_model.specs.Sessions.{Session};
 ghost use Rattle.desk_model.specs.Boxed.{IsKept};
-ghost use Rattle.mud_desk.specs.DeskState.{tables_of};
-ghost use Rattle.run_desk.specs.Judged.{IsIn, judged_line, judged_packet, judged_step};
+ghost use Rattle.mud_desk.specs.DeskState.{tables_of, session_of};
+ghost use Rattle.run_desk.specs.Judged.{judged_line, judged_packet, judged_step};
 
 use base_rows::Steps;
 use mud_base::{Bytes, Memory, Moment};
@@ -41,9 +40,9 @@ pub fn judge_packet<L: Ledger>(
     blank: Blank,
 ) -> Result<Verdict, Memory>
     requires blank { IsBlankOf L.name L.parts blank }
-    ensures verdict { (s : Session) → IsIn s state.old → IfOk result (λ verdict. verdict ≡ (judged_packet s (packet_of packet.now)).verdict) }
-    ensures next { (s : Session) → IsIn s state.old → OnOk result (IsIn (judged_packet s (packet_of packet.now)).session state.new) }
-    ensures err { (s : Session) → IsIn s state.old → OnErr result (IsIn s state.new) }
+    ensures verdict { IfOk result (λ verdict. verdict ≡ (judged_packet (session_of state.old) (packet_of packet.now)).verdict) }
+    ensures next { OnOk result (session_of state.new ≡ (judged_packet (session_of state.old) (packet_of packet.now)).session) }
+    ensures err { OnErr result (session_of state.new ≡ session_of state.old) }
 {
     let mut steps = Steps::<L>::new(blank);
     state.judge(packet.octets, moment_of(packet), &mut steps)
@@ -72,11 +71,12 @@ pub struct JudgedLines {
 impl PacketLines for JudgedLines {
     ghost use Rattle.run_captures.specs.Fold.{no_ending};
     ghost use Rattle.desk_model.specs.Sessions.{Session};
-    ghost use Rattle.run_desk.specs.Judged.{IsIn, judged_step};
+    ghost use Rattle.mud_desk.specs.DeskState.{session_of};
+    ghost use Rattle.run_desk.specs.Judged.{judged_step};
 
     ghost State = { Session };
 
-    ghost keeps = { λ lines session. IsIn session lines.state };
+    ghost keeps = { λ lines session. session_of lines.state ≡ session };
 
     ghost step = { judged_step };
 
@@ -108,13 +108,15 @@ pub(crate) fn judge_capture<D: Door>(
     ensures statuses { IsOneOf (Done ∷ Refused ∷ DoorFailed ∷ NoMemory ∷ []) (status_number result.0) }
     ensures fault { Is DoorFailed (status_number result.0) → IsStopped (D.view door.old) (D.view door.new) }
     ensures steady { IsNot DoorFailed (status_number result.0) → IsSteady (D.view door.old) (D.view door.new) }
-    // In whatever session the desk is, the lines are those of the packets in their order.
-    ensures done { (s : Session) → IsIn s desk.state → D.tells → IsOneOf (Done ∷ Refused ∷ []) (status_number result.0) →
-        WritesOutput (output_of_capture judged_step no_ending s (D.view door.old).state.left) (D.view door.old).state (D.view door.new).state (status_number result.0) }
-    ensures part { (s : Session) → IsIn s desk.state → D.tells → IsOneOf (DoorFailed ∷ NoMemory ∷ []) (status_number result.0) →
-        WritesPart (output_of_capture judged_step no_ending s (D.view door.old).state.left) (D.view door.old).state (D.view door.new).state }
-    ensures taken { (s : Session) → IsIn s desk.state → D.tells → (D.view door.new).reads ≢ (D.view door.old).reads →
-        WritesTaken judged_step s (D.view door.old).state (D.view door.new).state }
+    // The lines are those of the packets in their order, in the session of the desk.
+    ensures done { D.tells → IsOneOf (Done ∷ Refused ∷ []) (status_number result.0) →
+        WritesOutput (output_of_capture judged_step no_ending (session_of desk.state) (D.view door.old).state.left)
+        (D.view door.old).state (D.view door.new).state (status_number result.0) }
+    ensures part { D.tells → IsOneOf (DoorFailed ∷ NoMemory ∷ []) (status_number result.0) →
+        WritesPart (output_of_capture judged_step no_ending (session_of desk.state) (D.view door.old).state.left)
+        (D.view door.old).state (D.view door.new).state }
+    ensures taken { D.tells → (D.view door.new).reads ≢ (D.view door.old).reads →
+        WritesTaken judged_step (session_of desk.state) (D.view door.old).state (D.view door.new).state }
     ensures turns { (D.view door.new).turns ≡ (D.view door.old).turns }
     ensures keeper { result.1 ≡ desk.keeper }
 {

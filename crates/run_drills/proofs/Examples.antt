@@ -1,5 +1,5 @@
 -- What the definitions say of the first Things and packets.
-use Rattle.std.proofs.Common.{◌≡◌, ℕ, List, [], ◌∷◌, ◌++◌, codes, refl}
+use Rattle.std.proofs.Common.{◌≡◌, [], ◌∷◌, codes, refl}
 use Rattle.mud_base.specs.Texts.{octets_v4}
 use Rattle.frame_view.proofs.Hex.{from_hex}
 use Rattle.mud_base.proofs.OnLiterals.{texts_on_literals}

@@ -1,23 +1,19 @@
 -- The lines of a drill in the session that a desk is in, and what a drill over a desk comes to.
-use Rattle.std.proofs.Common.{◌≡◌, ◌≢◌, ℕ, ◌⊎◌, inl, inr, List, [], ◌++◌, length, Result, Ok, Err, refl, sym, ap, ap₂, subst, ◌∙◌, arith, append-nil}
-use Rattle.std.specs.Prelude.{take}
+use Rattle.std.proofs.Common.{◌≡◌, ◌≢◌, ℕ, ◌⊎◌, inl, inr, List, [], length, refl, sym, ap, ap₂, subst, ◌∙◌, arith, append-nil}
 use Rattle.std.specs.declared.dyn_box.DynBox.{DynBox}
 use Rattle.std.specs.declared.alloc.Global.{Global}
 use Rattle.mud_world.specs.declared.keeper.Keeper.{Ghosts}
-use Rattle.mud_world.specs.Boxed.{faults_of}
 use Rattle.mud_world.specs.Causes.{StopsAtFailure}
 use Rattle.mud_world.specs.Door.{DoorState, put_out}
 use Rattle.mud_world.specs.Whole.{WrotePart}
 use Rattle.run_common.specs.Output.{WroteFirst}
 use Rattle.mud_world.specs.View.{DoorView}
 use Rattle.run_common.proofs.Outputs.{wrote_none}
-use Rattle.desk_model.specs.declared.command.Command.{Command}
 use Rattle.desk_model.specs.DeskTables.{DeskTables, IsSound}
 use Rattle.desk_model.specs.Sessions.{Session}
 use Rattle.desk_model.specs.Boxed.{IsKept}
 use Rattle.mud_desk.specs.DeskState.{DeskState, session_of, tables_of}
 use Rattle.mud_desk.specs.declared.desk.Desk.{Desk}
-use Rattle.run_desk.specs.Judged.{IsIn}
 use Rattle.run_drills.specs.Commands.{drill_commands}
 use Rattle.run_drills.specs.Counts.{count_lines, verdict_counts}
 use Rattle.run_drills.specs.Drill.{lines_in, numbers_to, session_after, verdicts_on}
@@ -28,19 +24,14 @@ use Rattle.run_drills.specs.Runs.{RanAll, RanPart}
 use Rattle.run_drills.specs.Store.{DrillsFrom}
 
 -- the tables of a desk are those of its session
-pub tables_in_session : (s : Session) (state : DeskState) → IsIn s state → tables_of state ≡ s.desk
+pub tables_in_session : (s : Session) (state : DeskState) → session_of state ≡ s → tables_of state ≡ s.desk
 unfolding session_of
-tables_in_session s state is_in = ap (λ (x : Session). x.desk) is_in.session_is
+tables_in_session s state is = ap (λ (x : Session). x.desk) is
 
-pub lines_of_desk : (packets : ℕ) (s : Session) (state : DeskState) (things files : ℕ) (lines : List ℕ) → IsIn s state
-    → things ≡ length (tables_of state).tables.things → files ≡ length (tables_of state).files
-    → lines ≡ count_lines things files packets (verdict_counts (verdicts_on packets s (numbers_to packets))) → lines ≡ lines_in packets s
-unfolding lines_in
-lines_of_desk packets s state things files lines is_in counted held is =
-    let same : tables_of state ≡ s.desk = tables_in_session s state is_in in
-    is ∙ ap₂ (λ (n m : ℕ). count_lines n m packets (verdict_counts (verdicts_on packets s (numbers_to packets))))
-    (counted ∙ ap (λ (desk : DeskTables). length desk.tables.things) same)
-    (held ∙ ap (λ (desk : DeskTables). length desk.files) same)
+pub lines_of_desk : (packets : ℕ) (state : DeskState) (things files : ℕ) (lines : List ℕ) → things ≡ length (tables_of state).tables.things → files ≡ length (tables_of state).files
+    → lines ≡ count_lines things files packets (verdict_counts (verdicts_on packets (session_of state) (numbers_to packets))) → lines ≡ lines_in packets (session_of state)
+unfolding lines_in session_of
+lines_of_desk packets state things files lines counted held is = is ∙ ap₂ (λ (n m : ℕ). count_lines n m packets (verdict_counts (verdicts_on packets (session_of state) (numbers_to packets)))) counted held
 
 pub wrote_first : (text : List ℕ) (old new : DoorState) → WrotePart text old new → WroteFirst text old new
 wrote_first text old new part = record { count = part.count; within = omega (arith, part.part); wrote = part.wrote }
@@ -63,32 +54,32 @@ of_lines status (inr (inr five)) = inr (inr (inl five))
 no_seven : {A : Type 0} (status : ℕ) → IsOfLines status → status ≡ 7 → A
 no_seven status is seven = absurd (grind arith)
 
-module _ {X : Type 0} {F : X → Type 0} (members : (v : (x : X) × F x) → Ghosts (F v.0)) (tells : Type 0) (packets : ℕ) (s : Session)
-    (before after : Desk X F) (is_in : IsIn s before.state) (sound : IsSound (tables_of after.state)) (old new : DoorView) (status : ℕ) where
+module _ {X : Type 0} {F : X → Type 0} (members : (v : (x : X) × F x) → Ghosts (F v.0)) (tells : Type 0) (packets : ℕ)
+    (before after : Desk X F) (sound : IsSound (tables_of after.state)) (old new : DoorView) (status : ℕ) where
   -- all commands ran, and the lines were written, or not
   pub lines_run : RanAll members (drill_commands packets) before after
       → IsOfLines status
       → (status ≡ 4 → StopsAtFailure new.failed old.writes new.writes)
       → (status ≢ 4 → new.writes ≡ old.writes)
-      → ((z : Session) → IsIn z after.state → tells → status ≡ 0 → new.state ≡ put_out (lines_in packets z) old.state)
-      → ((z : Session) → IsIn z after.state → tells → (status ≡ 4) ⊎ (status ≡ 5) → WroteFirst (lines_in packets z) old.state new.state)
+      → (tells → status ≡ 0 → new.state ≡ put_out (lines_in packets (session_of after.state)) old.state)
+      → (tells → (status ≡ 4) ⊎ (status ≡ 5) → WroteFirst (lines_in packets (session_of after.state)) old.state new.state)
       → new.turns ≡ old.turns → new.reads ≡ old.reads
-      → (returned : DynBox X Global F) → returned ≡ after.keeper → DrillsFrom members tells packets s before.keeper returned old new status
+      → (returned : DynBox X Global F) → returned ≡ after.keeper → DrillsFrom members tells packets (session_of before.state) before.keeper returned old new status
   lines_run ran is fault steady done part turns reads returned same =
-      let reached : IsIn (session_after s (drill_commands packets)) after.state = ran.session s is_in in
-      subst (λ (box : DynBox X Global F). DrillsFrom members tells packets s before.keeper box old new status) (sym same) (record {
+      let same_tables : tables_of after.state ≡ (session_after (session_of before.state) (drill_commands packets)).desk = tables_in_session _ after.state ran.session in
+      subst (λ (box : DynBox X Global F). DrillsFrom members tells packets (session_of before.state) before.keeper box old new status) (sym same) (record {
         statuses = of_lines status is;
         ran = drill_commands packets;
         rest = [];
         split = sym (append-nil (drill_commands packets));
         all = λ which. refl;
         more = λ seven. no_seven status is seven;
-        sound = subst IsSound (tables_in_session (session_after s (drill_commands packets)) after.state reached) sound;
-        kept = subst (λ (desk : DeskTables). IsKept members after.keeper desk) (tables_in_session (session_after s (drill_commands packets)) after.state reached) ran.stays.kept;
+        sound = subst IsSound same_tables sound;
+        kept = subst (λ (desk : DeskTables). IsKept members after.keeper desk) same_tables ran.stays.kept;
         told = ran.stays.told;
         same_box = ran.stays.same_box;
-        done = done (session_after s (drill_commands packets)) reached;
-        part = part (session_after s (drill_commands packets)) reached;
+        done = rw ran.session at done;
+        part = rw ran.session at part;
         none = λ seven. no_seven status is seven;
         fault = fault;
         steady = steady;
@@ -100,17 +91,18 @@ module _ {X : Type 0} {F : X → Type 0} (members : (v : (x : X) × F x) → Gho
 
   -- some of them ran, and then it stopped
   pub stopped_run : (stop : Stop) → RanPart members stop (drill_commands packets) before after → status ≡ status_at stop → new ≡ old
-      → (returned : DynBox X Global F) → returned ≡ after.keeper → DrillsFrom members tells packets s before.keeper returned old new status
+      → (returned : DynBox X Global F) → returned ≡ after.keeper → DrillsFrom members tells packets (session_of before.state) before.keeper returned old new status
   stopped_run Keeper ran is still returned same =
-      subst (λ (box : DynBox X Global F). DrillsFrom members tells packets s before.keeper box old new status) (sym same) (record {
+      let same_tables : tables_of after.state ≡ (session_after (session_of before.state) ran.ran).desk = tables_in_session _ after.state ran.session in
+      subst (λ (box : DynBox X Global F). DrillsFrom members tells packets (session_of before.state) before.keeper box old new status) (sym same) (record {
         statuses = inr (inr (inr is));
         ran = ran.ran;
         rest = ran.rest;
         split = ran.split;
         all = λ which. absurd (grind arith);
         more = λ seven. ran.more refl;
-        sound = subst IsSound (tables_in_session (session_after s ran.ran) after.state (ran.session s is_in)) sound;
-        kept = subst (λ (desk : DeskTables). IsKept members after.keeper desk) (tables_in_session (session_after s ran.ran) after.state (ran.session s is_in)) ran.stays.kept;
+        sound = subst IsSound same_tables sound;
+        kept = subst (λ (desk : DeskTables). IsKept members after.keeper desk) same_tables ran.stays.kept;
         told = ran.stays.told;
         same_box = ran.stays.same_box;
         done = λ told zero. absurd (omega (arith, is, zero));
@@ -124,19 +116,20 @@ module _ {X : Type 0} {F : X → Type 0} (members : (v : (x : X) × F x) → Gho
         same_reads = ap (λ (d : DoorView). d.reads) still;
       })
   stopped_run Memory ran is still returned same =
-      subst (λ (box : DynBox X Global F). DrillsFrom members tells packets s before.keeper box old new status) (sym same) (record {
+      let same_tables : tables_of after.state ≡ (session_after (session_of before.state) ran.ran).desk = tables_in_session _ after.state ran.session in
+      subst (λ (box : DynBox X Global F). DrillsFrom members tells packets (session_of before.state) before.keeper box old new status) (sym same) (record {
         statuses = inr (inr (inl is));
         ran = ran.ran;
         rest = ran.rest;
         split = ran.split;
         all = λ which. absurd (grind arith);
         more = λ seven. absurd (omega (arith, is, seven));
-        sound = subst IsSound (tables_in_session (session_after s ran.ran) after.state (ran.session s is_in)) sound;
-        kept = subst (λ (desk : DeskTables). IsKept members after.keeper desk) (tables_in_session (session_after s ran.ran) after.state (ran.session s is_in)) ran.stays.kept;
+        sound = subst IsSound same_tables sound;
+        kept = subst (λ (desk : DeskTables). IsKept members after.keeper desk) same_tables ran.stays.kept;
         told = ran.stays.told;
         same_box = ran.stays.same_box;
         done = λ told zero. absurd (omega (arith, is, zero));
-        part = λ told which. wrote_none (lines_in packets (session_after s (drill_commands packets))) old.state new.state (ap (λ (d : DoorView). d.state) still);
+        part = λ told which. wrote_none (lines_in packets (session_after (session_of before.state) (drill_commands packets))) old.state new.state (ap (λ (d : DoorView). d.state) still);
         none = λ seven. absurd (omega (arith, is, seven));
         fault = λ four. absurd (omega (arith, is, four));
         steady = λ other. ap (λ (d : DoorView). d.writes) still;

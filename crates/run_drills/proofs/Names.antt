@@ -1,5 +1,5 @@
 -- Every Thing has a canonical URL, and every host a name in lower case: this is computed for each of the 32 models.
-use Rattle.std.proofs.Common.{◌≡◌, ℕ, ◌+◌, ◌<◌, ◌%◌, Bool, true, List, ◌++◌, codes, length, get_or, refl, sym, subst, ap, ◌∙◌, arith}
+use Rattle.std.proofs.Common.{◌≡◌, ℕ, ◌+◌, ◌<◌, ◌%◌, Bool, true, List, ◌++◌, codes, refl, subst, ap, ◌∙◌, arith}
 use Rattle.std.specs.Prelude.{decimal}
 use Rattle.std.specs.Fmt.{digits}
 use Rattle.std.specs.List.{list_all, range_with_len}

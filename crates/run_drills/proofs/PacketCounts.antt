@@ -1,9 +1,7 @@
 -- One packet more in the loop over the packets.
-use Rattle.std.proofs.Common.{◌≡◌, ℕ, ◌+◌, ◌*◌, ◌≤◌, List, ◌∷◌, [], ◌++◌, refl, sym, ap, ap₂, subst, ◌∙◌, arith}
+use Rattle.std.proofs.Common.{◌≡◌, ℕ, ◌+◌, ◌*◌, ◌≤◌, List, ◌∷◌, [], ◌++◌, sym, ap, ap₂, subst, ◌∙◌, arith}
 use Rattle.packet_judge.specs.declared.verdict.Verdict.{Verdict}
-use Rattle.desk_model.specs.Sessions.{Session, frame_in}
-use Rattle.mud_desk.specs.DeskState.{DeskState}
-use Rattle.run_desk.specs.Judged.{IsIn}
+use Rattle.desk_model.specs.Sessions.{Session, Judged, frame_in}
 use Rattle.run_drills.specs.declared.counts.VerdictCounts.{VerdictCounts}
 use Rattle.run_drills.specs.Packets.{packet_frame, packet_moment}
 use Rattle.run_drills.specs.Counts.{AreAtMost, ruling_counts, verdict_counts, with_verdict}
@@ -13,28 +11,26 @@ use Rattle.run_drills.proofs.Counted.{counts_push}
 use Rattle.run_drills.proofs.Rounds.{behind_push, numbers_push, verdicts_push}
 
 module _ (packets before : ℕ) (s : Session) where
-  abbrev here : Session
-  here = session_behind packets s (numbers_to before)
-
-  behind_next : session_behind packets s (numbers_to (before + 1)) ≡ (frame_in here (packet_moment (before + 1)) (packet_frame packets (before + 1))).session
+  behind_next : session_behind packets s (numbers_to (before + 1)) ≡ (frame_in (session_behind packets s (numbers_to before)) (packet_moment (before + 1)) (packet_frame packets (before + 1))).session
   behind_next = ap (session_behind packets s) (numbers_push before) ∙ behind_push packets s (numbers_to before) (before + 1)
 
-  verdicts_next : verdicts_on packets s (numbers_to (before + 1)) ≡ verdicts_on packets s (numbers_to before) ++ (frame_in here (packet_moment (before + 1)) (packet_frame packets (before + 1))).verdict ∷ []
+  verdicts_next : verdicts_on packets s (numbers_to (before + 1)) ≡ verdicts_on packets s (numbers_to before) ++ (frame_in (session_behind packets s (numbers_to before)) (packet_moment (before + 1)) (packet_frame packets (before + 1))).verdict ∷ []
   verdicts_next = ap (verdicts_on packets s) (numbers_push before) ∙ verdicts_push packets s (numbers_to before) (before + 1)
 
-  -- the frame that is judged is that of the next packet, at its moment
-  module _ (moment : ℕ) (octets frame : List ℕ) (at_moment : moment ≡ packet_moment (before + 1)) (lent : octets ≡ frame) (written : frame ≡ packet_frame packets (before + 1)) where
-    pub reached_next : (state : DeskState) → IsIn (frame_in here moment octets).session state → IsIn (session_behind packets s (numbers_to (before + 1))) state
-    reached_next state is_in =
-        subst (λ (x : Session). IsIn x state)
-        (ap₂ (λ (m : ℕ) (f : List ℕ). (frame_in here m f).session) at_moment (lent ∙ written) ∙ sym behind_next) is_in
+  -- the frame that is judged behind them is that of the next packet, at its moment
+  module _ (here : Session) (reached : here ≡ session_behind packets s (numbers_to before)) (moment : ℕ) (octets frame : List ℕ) (at_moment : moment ≡ packet_moment (before + 1)) (lent : octets ≡ frame) (written : frame ≡ packet_frame packets (before + 1)) where
+    judged_is : frame_in here moment octets ≡ frame_in (session_behind packets s (numbers_to before)) (packet_moment (before + 1)) (packet_frame packets (before + 1))
+    judged_is = λ i. frame_in (reached i) (at_moment i) ((lent ∙ written) i)
+
+    pub reached_next : (next : Session) → next ≡ (frame_in here moment octets).session → next ≡ session_behind packets s (numbers_to (before + 1))
+    reached_next next is = is ∙ ap (λ (j : Judged). j.session) judged_is ∙ sym behind_next
 
     pub counted_next : (counts after : VerdictCounts) (verdict : Verdict) → counts ≡ verdict_counts (verdicts_on packets s (numbers_to before))
         → verdict ≡ (frame_in here moment octets).verdict
         → after ≡ with_verdict counts verdict → after ≡ verdict_counts (verdicts_on packets s (numbers_to (before + 1)))
     counted_next counts after verdict counted judged is =
-        is ∙ ap₂ with_verdict counted (judged ∙ ap₂ (λ (m : ℕ) (f : List ℕ). (frame_in here m f).verdict) at_moment (lent ∙ written))
-        ∙ sym (counts_push (verdicts_on packets s (numbers_to before)) (frame_in here (packet_moment (before + 1)) (packet_frame packets (before + 1))).verdict)
+        is ∙ ap₂ with_verdict counted (judged ∙ ap (λ (j : Judged). j.verdict) judged_is)
+        ∙ sym (counts_push (verdicts_on packets s (numbers_to before)) (frame_in (session_behind packets s (numbers_to before)) (packet_moment (before + 1)) (packet_frame packets (before + 1))).verdict)
         ∙ ap verdict_counts (sym verdicts_next)
 
 -- ---- Bounds

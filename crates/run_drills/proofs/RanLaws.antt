@@ -1,7 +1,6 @@
 -- Laws of commands that ran: of one, of none, and of some behind others.
-use Rattle.std.proofs.Common.{◌≡◌, ℕ, ◌<◌, ◌+◌, Bool, true, IsTrue, List, [], ◌∷◌, ◌++◌, length, Result, Ok, Err, OnOk, IfErr, refl, sym, ap, subst, ◌∙◌, arith, append_assoc, append-nil, length-append}
+use Rattle.std.proofs.Common.{◌≡◌, ℕ, List, [], ◌∷◌, ◌++◌, Result, Ok, Err, OnOk, IfErr, refl, sym, ap, subst, ◌∙◌, arith, append_assoc, append-nil, length-append}
 use Rattle.std.proofs.lemmas.Result.{on_ok_weaker}
-use Rattle.table_model.specs.declared.segment.Segment.{Segment}
 use Rattle.mud_world.specs.declared.keeper.Keeper.{Ghosts}
 use Rattle.mud_world.specs.Boxed.{faults_of}
 use Rattle.mud_world.specs.Causes.{Counts}
@@ -11,66 +10,46 @@ use Rattle.desk_model.specs.declared.command.Command.{Command}
 use Rattle.desk_model.specs.declared.command.Command.TheVariants.{Import, Verdict}
 use Rattle.desk_model.specs.declared.reply.Reply.{Reply}
 use Rattle.desk_model.specs.declared.reply.Reply.TheVariants as reply
-use Rattle.desk_model.specs.Sessions.{Session, Answered, AllowedReply, command_in, is_of_keeper}
+use Rattle.desk_model.specs.Sessions.{Session, Answered, AllowedReply, is_of_keeper}
 use Rattle.desk_model.specs.Boxed.{IsKept}
-use Rattle.mud_desk.specs.DeskState.{DeskState, session_of, tables_of}
+use Rattle.mud_desk.specs.DeskState.{session_of, tables_of}
 use Rattle.mud_desk.specs.declared.desk.Desk.{Desk}
 use Rattle.mud_desk.specs.Stays.{StaysKept}
-use Rattle.mud_desk.proofs.Sessions.{flows_stay}
-use Rattle.mud_desk.proofs.Stays.{keeps_itself, stays_further}
-use Rattle.run_desk.specs.Judged.{IsIn}
-use Rattle.run_desk.proofs.JudgedPackets.{in_own}
+use Rattle.mud_desk.proofs.Stays.{stays_itself, stays_further}
 use Rattle.run_drills.specs.declared.commands.Round.TheVariants.{Announcements, Leases, Files, Hosts}
 use Rattle.run_drills.specs.Network.{thing_count, file_count, usage_url}
 use Rattle.run_drills.specs.Usage.{usage_text}
-use Rattle.run_drills.specs.Commands.{approval, binding, command_moment, commands_of, drill_commands, fetched_file, round_commands}
+use Rattle.run_drills.specs.Commands.{approval, binding, command_moment, drill_commands, fetched_file, round_commands}
 use Rattle.run_drills.specs.Drill.{session_after}
 use Rattle.run_drills.proofs.Rounds.{session_further}
 use Rattle.run_drills.specs.declared.stop.Stop.{Stop}
-use Rattle.run_drills.specs.declared.stop.Stop.TheVariants.{Keeper, Memory}
+use Rattle.run_drills.specs.declared.stop.Stop.TheVariants.{Memory}
 use Rattle.run_drills.specs.Stops.{has_keeper_failed, stop_of}
 use Rattle.run_drills.specs.Runs.{RanAll, RanPart}
-
--- ---- The session behind one command
-
--- what a command may answer over a desk, in whatever session it is, and that it leaves the connections
-pub record Replies (command : Command) (answer : Reply) (before after : DeskState) : Type 0 where
-  pub may : (h : List Segment) → AllowedReply (session_of h before) command_moment command answer (session_of h after)
-  pub flows : after.flows ≡ before.flows
-
-module _ (command : Command) (s : Session) (before after : DeskState) (is_in : IsIn s before) where
-  in_after : (answer : Reply) → Replies command answer before after → IsIn (session_of s.history after) after
-  in_after answer replies = in_own s.history after (flows_stay s.history before after replies.flows is_in.forwarded)
-
-  may_in : (answer : Reply) → Replies command answer before after → AllowedReply s command_moment command answer (session_of s.history after)
-  may_in answer replies = subst (λ (x : Session). AllowedReply x command_moment command answer (session_of s.history after)) is_in.session_is (replies.may s.history)
-
-  -- what is answered, and the session behind it
-  in_next : (answer answered : Reply) → Replies command answer before after → command_in s command_moment command ≡ record { reply = answered; session = session_of s.history after } → IsIn (command_in s command_moment command).session after
-  in_next answer answered replies same = subst (λ (x : Session). IsIn x after) (sym (ap (λ (a : Answered). a.session) same)) (in_after answer replies)
-
-  in_same : (answer : Reply) → Replies command answer before after → session_of s.history after ≡ s → IsIn s after
-  in_same answer replies same = subst (λ (x : Session). IsIn x after) same (in_after answer replies)
 
 -- ---- One command
 
 -- what holds of a desk and its keeper behind a call
 module _ {X : Type 0} {F : X → Type 0} (members : (v : (x : X) × F x) → Ghosts (F v.0)) (before after : Desk X F) (stays : StaysKept members before after) (command : Command) where
-  all_by : (answer : Reply) → Replies command answer before.state after.state → Counts (is_of_keeper answer) (faults_of members before.keeper) (faults_of members after.keeper) → OnOk (stop_of answer) (RanAll members (command ∷ []) before after)
+  -- what is answered to the command, and the session behind it
+  abbrev Replies : Reply → Type 0
+  Replies answer = AllowedReply (session_of before.state) command_moment command answer (session_of after.state)
+
+  all_by : (answer : Reply) → Replies answer → Counts (is_of_keeper answer) (faults_of members before.keeper) (faults_of members after.keeper) → OnOk (stop_of answer) (RanAll members (command ∷ []) before after)
   all_by (reply.Done outcome) replies cause = record {
-    session = λ s is_in. in_next command s before.state after.state is_in (reply.Done outcome) (reply.Done outcome) replies (may_in command s before.state after.state is_in (reply.Done outcome) replies).reply_is;
+    session = sym (ap (λ (a : Answered). a.session) replies.reply_is);
     stays = stays;
     steady = cause.steady refl;
   }
   all_by (reply.Refused refusal) replies cause = record {
-    session = λ s is_in. in_next command s before.state after.state is_in (reply.Refused refusal) (reply.Refused refusal) replies (may_in command s before.state after.state is_in (reply.Refused refusal) replies).reply_is;
+    session = sym (ap (λ (a : Answered). a.session) replies.reply_is);
     stays = stays;
     steady = cause.steady refl;
   }
   all_by reply.Keeper replies cause = tt
   all_by reply.Memory replies cause = tt
 
-  part_by : (answer : Reply) → Replies command answer before.state after.state → Counts (is_of_keeper answer) (faults_of members before.keeper) (faults_of members after.keeper) → IfErr (stop_of answer) (λ stop. RanPart members stop (command ∷ []) before after)
+  part_by : (answer : Reply) → Replies answer → Counts (is_of_keeper answer) (faults_of members before.keeper) (faults_of members after.keeper) → IfErr (stop_of answer) (λ stop. RanPart members stop (command ∷ []) before after)
   part_by (reply.Done outcome) replies cause = tt
   part_by (reply.Refused refusal) replies cause = tt
   part_by reply.Keeper replies cause = record {
@@ -78,7 +57,7 @@ module _ {X : Type 0} {F : X → Type 0} (members : (v : (x : X) × F x) → Gho
     rest = command ∷ [];
     split = refl;
     more = λ failed. omega arith;
-    session = λ s is_in. in_same command s before.state after.state is_in reply.Keeper replies (may_in command s before.state after.state is_in reply.Keeper replies).reply_is.1;
+    session = replies.reply_is.1;
     stays = stays;
     cause = cause;
   }
@@ -87,15 +66,15 @@ module _ {X : Type 0} {F : X → Type 0} (members : (v : (x : X) × F x) → Gho
     rest = command ∷ [];
     split = refl;
     more = λ failed. omega arith;
-    session = λ s is_in. in_same command s before.state after.state is_in reply.Memory replies (may_in command s before.state after.state is_in reply.Memory replies).reply_is;
+    session = replies.reply_is;
     stays = stays;
     cause = cause;
   }
 
-  pub all_of_one : (answer : Reply) (result : Result (Unit {0}) Stop) → result ≡ stop_of answer → Replies command answer before.state after.state → Counts (is_of_keeper answer) (faults_of members before.keeper) (faults_of members after.keeper) → OnOk result (RanAll members (command ∷ []) before after)
+  pub all_of_one : (answer : Reply) (result : Result (Unit {0}) Stop) → result ≡ stop_of answer → Replies answer → Counts (is_of_keeper answer) (faults_of members before.keeper) (faults_of members after.keeper) → OnOk result (RanAll members (command ∷ []) before after)
   all_of_one answer result is replies cause = subst (λ (r : Result (Unit {0}) Stop). OnOk r (RanAll members (command ∷ []) before after)) (sym is) (all_by answer replies cause)
 
-  pub part_of_one : (answer : Reply) (result : Result (Unit {0}) Stop) → result ≡ stop_of answer → Replies command answer before.state after.state → Counts (is_of_keeper answer) (faults_of members before.keeper) (faults_of members after.keeper) → IfErr result (λ stop. RanPart members stop (command ∷ []) before after)
+  pub part_of_one : (answer : Reply) (result : Result (Unit {0}) Stop) → result ≡ stop_of answer → Replies answer → Counts (is_of_keeper answer) (faults_of members before.keeper) (faults_of members after.keeper) → IfErr result (λ stop. RanPart members stop (command ∷ []) before after)
   part_of_one answer result is replies cause = subst (λ (r : Result (Unit {0}) Stop). IfErr r (λ stop. RanPart members stop (command ∷ []) before after)) (sym is) (part_by answer replies cause)
 
 -- ---- No command, and some behind others
@@ -103,8 +82,8 @@ module _ {X : Type 0} {F : X → Type 0} (members : (v : (x : X) × F x) → Gho
 module _ {X : Type 0} {F : X → Type 0} (members : (v : (x : X) × F x) → Ghosts (F v.0)) (a : Desk X F) where
   pub all_of_none : IsKept members a.keeper (tables_of a.state) → RanAll members [] a a
   all_of_none kept = record {
-    session = λ z is_in. is_in;
-    stays = (keeps_itself members {a = a} kept).stays;
+    session = refl;
+    stays = stays_itself members {a = a} kept;
     steady = refl;
   }
 
@@ -114,8 +93,8 @@ module _ {X : Type 0} {F : X → Type 0} (members : (v : (x : X) × F x) → Gho
     rest = commands;
     split = refl;
     more = λ failed. absurd (cc);
-    session = λ z is_in. is_in;
-    stays = (keeps_itself members {a = a} kept).stays;
+    session = refl;
+    stays = stays_itself members {a = a} kept;
     cause = record { later = omega arith; rose = λ failed. absurd (cc); steady = λ e. refl };
   }
 
@@ -139,7 +118,7 @@ module _ {X : Type 0} {F : X → Type 0} (members : (v : (x : X) × F x) → Gho
     module _ (xs : List Command) (first : RanAll members xs a b) (c : Desk X F) where
       pub all_further : (ys : List Command) → RanAll members ys b c → RanAll members (xs ++ ys) a c
       all_further ys second = record {
-        session = λ z is_in. subst (λ (x : Session). IsIn x c.state) (sym (session_further z xs ys)) (second.session (session_after z xs) (first.session z is_in));
+        session = second.session ∙ ap (λ (s : Session). session_after s ys) first.session ∙ sym (session_further (session_of a.state) xs ys);
         stays = stays_further members first.stays second.stays;
         steady = second.steady ∙ first.steady;
       }
@@ -150,7 +129,7 @@ module _ {X : Type 0} {F : X → Type 0} (members : (v : (x : X) × F x) → Gho
         rest = second.rest;
         split = ap (λ (l : List Command). xs ++ l) second.split ∙ sym (append_assoc xs second.ran second.rest);
         more = second.more;
-        session = λ z is_in. subst (λ (x : Session). IsIn x c.state) (sym (session_further z xs second.ran)) (second.session (session_after z xs) (first.session z is_in));
+        session = second.session ∙ ap (λ (s : Session). session_after s second.ran) first.session ∙ sym (session_further (session_of a.state) xs second.ran);
         stays = stays_further members first.stays second.stays;
         cause = subst (λ n. Counts (has_keeper_failed stop) n (faults_of members c.keeper)) first.steady second.cause;
       }

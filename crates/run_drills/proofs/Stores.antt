@@ -17,8 +17,8 @@ use Rattle.usage_tables.specs.declared.cached_file.CachedFile.{CachedFile}
 use Rattle.run_common.specs.Output.{WroteFirst}
 use Rattle.mud_world.specs.View.{DoorView}
 use Rattle.desk_model.specs.DeskTables.{DeskTables, IsSound, empty_desk}
-use Rattle.desk_model.specs.Items.{items_of, tables_in}
-use Rattle.desk_model.specs.Sessions.{Session, opened}
+use Rattle.desk_model.specs.Items.{tables_in}
+use Rattle.desk_model.specs.Sessions.{opened}
 use Rattle.desk_model.proofs.ReadSound.{no_stamp}
 use Rattle.desk_model.specs.Boxed.{IsKept, IsSameBox}
 use Rattle.run_desk.proofs.Refusals.{RunsRefused, is_refused}

@@ -4,10 +4,9 @@ use Rattle.mud_world.specs.declared.keeper.Keeper.{Ghosts}
 use Rattle.mud_world.specs.Boxed.{faults_of}
 use Rattle.mud_world.specs.Causes.{Counts}
 use Rattle.desk_model.specs.declared.command.Command.{Command}
-use Rattle.desk_model.specs.Sessions.{Session}
+use Rattle.mud_desk.specs.DeskState.{session_of}
 use Rattle.mud_desk.specs.declared.desk.Desk.{Desk}
 use Rattle.mud_desk.specs.Stays.{StaysKept}
-use Rattle.run_desk.specs.Judged.{IsIn}
 use Rattle.run_drills.specs.Drill.{session_after}
 use Rattle.run_drills.specs.declared.stop.Stop.{Stop}
 use Rattle.run_drills.specs.Stops.{has_keeper_failed}
@@ -15,7 +14,7 @@ use Rattle.run_drills.specs.Stops.{has_keeper_failed}
 module _ {X : Type 0} {F : X → Type 0} (members : (v : (x : X) × F x) → Ghosts (F v.0)) where
   -- All the commands ran: the desk is in the session behind them, and its lists are kept in the same box.
   pub record RanAll (commands : List Command) (before after : Desk X F) : Type 0 where
-    pub session : (s : Session) → IsIn s before.state → IsIn (session_after s commands) after.state
+    pub session : session_of after.state ≡ session_after (session_of before.state) commands
     pub stays : StaysKept members before after
     pub steady : faults_of members after.keeper ≡ faults_of members before.keeper
 
@@ -26,6 +25,6 @@ module _ {X : Type 0} {F : X → Type 0} (members : (v : (x : X) × F x) → Gho
     pub rest : List Command
     pub split : commands ≡ ran ++ rest
     pub more : IsTrue (has_keeper_failed stop) → 0 < length rest
-    pub session : (s : Session) → IsIn s before.state → IsIn (session_after s ran) after.state
+    pub session : session_of after.state ≡ session_after (session_of before.state) ran
     pub stays : StaysKept members before after
     pub cause : Counts (has_keeper_failed stop) (faults_of members before.keeper) (faults_of members after.keeper)

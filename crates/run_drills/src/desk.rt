@@ -5,10 +5,8 @@ ghost use Rattle.run_common.specs.Ends.{IsStoppedWriting};
 ghost use Rattle.run_common.specs.Output.{WroteFirst};
 ghost use Rattle.run_common.specs.Status.{Is, IsNot, IsOneOf, status_number};
 ghost use Rattle.run_common.specs.declared.status.Status.TheVariants.{Done, Refused, DoorFailed, NoMemory, KeeperFailed};
-ghost use Rattle.desk_model.specs.Sessions.{Session};
 ghost use Rattle.desk_model.specs.Boxed.{IsKept};
-ghost use Rattle.mud_desk.specs.DeskState.{tables_of};
-ghost use Rattle.run_desk.specs.Judged.{IsIn};
+ghost use Rattle.mud_desk.specs.DeskState.{tables_of, session_of};
 ghost use Rattle.run_drills.specs.Counts.{count_lines, verdict_counts};
 ghost use Rattle.run_drills.specs.Drill.{lines_in, numbers_to, verdicts_on};
 ghost use Rattle.run_drills.specs.Store as spec;
@@ -66,7 +64,8 @@ fn lines_of(
     packets: u32,
     state: &mut State,
 ) -> Result<Bytes, Memory>
-    ensures { (s : Session) → IsIn s state.old → IfOk result (λ lines. lines ≡ count_lines things files packets (verdict_counts (verdicts_on packets s (numbers_to packets)))) }
+    ensures { IfOk result (λ lines. lines ≡
+        count_lines things files packets (verdict_counts (verdicts_on packets (session_of state.old) (numbers_to packets)))) }
 {
     let counts = judge_packets(alloc, state, packets)?;
     let mut lines = Bytes::empty(alloc);
@@ -86,10 +85,10 @@ fn write_lines<D: Door>(
     ensures statuses { IsOneOf (Done ∷ DoorFailed ∷ NoMemory ∷ []) (status_number result.0) }
     ensures fault { Is DoorFailed (status_number result.0) → IsStoppedWriting (D.view door.old) (D.view door.new) }
     ensures steady { IsNot DoorFailed (status_number result.0) → (D.view door.new).writes ≡ (D.view door.old).writes }
-    ensures done { (s : Session) → IsIn s desk.state → D.tells → Is Done (status_number result.0) →
-        (D.view door.new).state ≡ put_out (lines_in packets s) (D.view door.old).state }
-    ensures part { (s : Session) → IsIn s desk.state → D.tells → IsOneOf (DoorFailed ∷ NoMemory ∷ []) (status_number result.0) →
-        WroteFirst (lines_in packets s) (D.view door.old).state (D.view door.new).state }
+    ensures done { D.tells → Is Done (status_number result.0) →
+        (D.view door.new).state ≡ put_out (lines_in packets (session_of desk.state)) (D.view door.old).state }
+    ensures part { D.tells → IsOneOf (DoorFailed ∷ NoMemory ∷ []) (status_number result.0) →
+        WroteFirst (lines_in packets (session_of desk.state)) (D.view door.old).state (D.view door.new).state }
     ensures keeper { result.1 ≡ desk.keeper }
     ensures turns { (D.view door.new).turns ≡ (D.view door.old).turns }
     ensures reads { (D.view door.new).reads ≡ (D.view door.old).reads }
@@ -117,7 +116,7 @@ pub(crate) fn drill_desk<D: Door>(
     door: &mut D,
 ) -> (Status, Box<dyn Keeper>)
     requires { IsKept Keeper-dyn desk.keeper (tables_of desk.state) }
-    ensures drilled { (s : Session) → IsIn s desk.state → DrillsFrom Keeper-dyn D.tells packets s desk.keeper result.1
+    ensures drilled { DrillsFrom Keeper-dyn D.tells packets (session_of desk.state) desk.keeper result.1
         (D.view door.old)
         (D.view door.new)
         (status_number result.0) }

@@ -1,8 +1,8 @@
 //! The packets of a drill, one after the other.
 ghost use Rattle.std.specs.Prelude.{◌≡◌, IfOk, OnOk};
 ghost use Rattle.base_rows.specs.Ledgers.{IsBlankOf};
-ghost use Rattle.desk_model.specs.Sessions.{Session, frame_in};
-ghost use Rattle.run_desk.specs.Judged.{IsIn};
+ghost use Rattle.desk_model.specs.Sessions.{frame_in};
+ghost use Rattle.mud_desk.specs.DeskState.{session_of};
 ghost use Rattle.run_drills.specs.Counts.{verdict_counts};
 ghost use Rattle.run_drills.specs.Drill.{numbers_to, verdicts_on};
 
@@ -23,8 +23,8 @@ fn judge_frame<L: Ledger>(
     blank: Blank,
 ) -> Result<Verdict, Memory>
     requires blank { IsBlankOf L.name L.parts blank }
-    ensures verdict { (s : Session) → IsIn s state.old → IfOk result (λ verdict. verdict ≡ (frame_in s now frame.now).verdict) }
-    ensures next { (s : Session) → IsIn s state.old → OnOk result (IsIn (frame_in s now frame.now).session state.new) }
+    ensures verdict { IfOk result (λ verdict. verdict ≡ (frame_in (session_of state.old) now frame.now).verdict) }
+    ensures next { OnOk result (session_of state.new ≡ (frame_in (session_of state.old) now frame.now).session) }
 {
     let mut steps = Steps::<L>::new(blank);
     state.judge(frame, now, &mut steps)
@@ -36,7 +36,7 @@ pub(crate) fn judge_packets(
     state: &mut State,
     packets: u32,
 ) -> Result<VerdictCounts, Memory>
-    ensures { (s : Session) → IsIn s state.old → IfOk result (λ counts. counts ≡ verdict_counts (verdicts_on packets s (numbers_to packets))) }
+    ensures { IfOk result (λ counts. counts ≡ verdict_counts (verdicts_on packets (session_of state.old) (numbers_to packets))) }
 {
     let mut counts = VerdictCounts::none();
     let mut frame = Bytes::empty(alloc);

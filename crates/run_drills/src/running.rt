@@ -1,14 +1,13 @@
 //! The commands of a drill, one after the other.
-ghost use Rattle.std.specs.Prelude.{◌≡◌, ℕ, List, [], ◌∷◌, IfErr, OnOk};
+ghost use Rattle.std.specs.Prelude.{◌≡◌, [], ◌∷◌, IfErr, OnOk};
 ghost use Rattle.base_rows.specs.Ledgers.{IsBlankOf};
-ghost use Rattle.table_model.specs.declared.segment.Segment.{Segment as SegmentValue};
 ghost use Rattle.mud_world.specs.Boxed.{faults_of};
 ghost use Rattle.mud_world.specs.Causes.{Counts};
 ghost use Rattle.desk_model.specs.Commands.{IsAsked};
 ghost use Rattle.desk_model.specs.Sessions.{AllowedReply, is_of_keeper};
 ghost use Rattle.desk_model.specs.Boxed.{IsKept};
 ghost use Rattle.mud_desk.specs.DeskState.{session_of, tables_of};
-ghost use Rattle.mud_desk.specs.Stays.{KeepsConnections};
+ghost use Rattle.mud_desk.specs.Stays.{StaysKept};
 ghost use Rattle.run_drills.specs.Commands.{command_moment, commands_of, drill_commands, round_commands};
 ghost use Rattle.run_drills.specs.Runs.{RanAll, RanPart};
 ghost use Rattle.run_drills.specs.Stops.{stop_of};
@@ -31,8 +30,8 @@ fn reply_to<L: Ledger>(desk: &mut Desk, command: Command, blank: Blank) -> Reply
     requires blank { IsBlankOf L.name L.parts blank }
     requires kept { IsKept Keeper-dyn desk.old.keeper (tables_of desk.old.state) }
     requires asked { IsAsked command }
-    ensures answer { (h : List SegmentValue) → AllowedReply (session_of h desk.old.state) command_moment command result (session_of h desk.new.state) }
-    ensures stays { KeepsConnections Keeper-dyn desk.old desk.new }
+    ensures answer { AllowedReply (session_of desk.old.state) command_moment command result (session_of desk.new.state) }
+    ensures stays { StaysKept Keeper-dyn desk.old desk.new }
     ensures cause { Counts (is_of_keeper result) (faults_of Keeper-dyn desk.old.keeper) (faults_of Keeper-dyn desk.new.keeper) }
 {
     let mut steps = Steps::<L>::new(blank);

@@ -1,13 +1,12 @@
 //! One name of a folder.
-ghost use Rattle.std.specs.Prelude.{◌≡◌, ◌==◌, ◌⊎◌, ℕ, false, List, [], ◌∷◌, Err, IfOk, OnOk, OnErr, IsTrue};
-ghost use Rattle.table_model.specs.declared.segment.Segment.{Segment as SegmentValue};
+ghost use Rattle.std.specs.Prelude.{◌≡◌, ◌==◌, ◌⊎◌, ℕ, false, [], ◌∷◌, Err, IfOk, OnOk, OnErr, IsTrue};
 ghost use Rattle.mud_world.specs.Boxed.{faults_of};
 ghost use Rattle.mud_world.specs.Causes.{Counts, StopsAtFailure};
 ghost use Rattle.mud_world.specs.Clock.{later_moments};
 ghost use Rattle.mud_world.specs.Door.{put_out};
 ghost use Rattle.desk_model.specs.Boxed.{IsKept};
 ghost use Rattle.mud_desk.specs.DeskState.{session_of, tables_of};
-ghost use Rattle.mud_desk.specs.Stays.{KeepsConnections};
+ghost use Rattle.mud_desk.specs.Stays.{StaysKept};
 ghost use Rattle.run_common.specs.Ends.{IsStoppedByDoorOrSpool, IsStoppedWriting};
 ghost use Rattle.run_common.specs.Output.{WroteFirst};
 ghost use Rattle.run_common.specs.Status.{IsOneOf, status_number};
@@ -52,12 +51,14 @@ fn reply_to<L: Ledger, P: Spool, C: Clock>(
     steps: &mut Steps<L>,
 ) -> Result<Option<Reply>, Stop>
     requires kept { IsKept Keeper-dyn desk.old.keeper (tables_of desk.old.state) }
-    ensures stays { KeepsConnections Keeper-dyn desk.old desk.new }
-    ensures leads { P.tells → C.tells → IfOk result (λ reply. (h : List SegmentValue) → ImportsEntry (P.view spool.old).files
-        (standing h desk.old.state (C.moments clock.old)) name.now reply (standing h desk.new.state (C.moments clock.new))) }
+    ensures stays { StaysKept Keeper-dyn desk.old desk.new }
+    // No packet is counted for the connections.
+    ensures history { desk.new.state.flows.history ≡ desk.old.state.flows.history }
+    ensures leads { P.tells → C.tells → IfOk result (λ reply. ImportsEntry (P.view spool.old).files
+        (standing desk.old.state (C.moments clock.old)) name.now reply (standing desk.new.state (C.moments clock.new))) }
     ensures keeper { IfOk result (λ reply. Counts (has_keeper_failed reply) (faults_of Keeper-dyn desk.old.keeper) (faults_of Keeper-dyn desk.new.keeper)) }
     ensures statuses { IfOk result (λ reply. (entries.status_with reply ≡ 0) ⊎ ((entries.status_with reply ≡ 3) ⊎ (entries.status_with reply ≡ 7))) }
-    ensures still { OnErr result ((h : List SegmentValue) → session_of h desk.new.state ≡ session_of h desk.old.state) }
+    ensures still { OnErr result (session_of desk.new.state ≡ session_of desk.old.state) }
     ensures steady { OnErr result (faults_of Keeper-dyn desk.new.keeper ≡ faults_of Keeper-dyn desk.old.keeper) }
     ensures clock { C.tells → OnErr result ((C.moments clock.new ≡ C.moments clock.old) ⊎ (C.moments clock.new ≡ later_moments (C.moments clock.old))) }
     ensures same { P.tells → (P.view spool.new).files ≡ (P.view spool.old).files }
@@ -129,18 +130,21 @@ pub(crate) fn import_file<L: Ledger, D: Door, P: Spool, C: Clock>(
     steps: &mut Steps<L>,
 ) -> Result<Status, Stop>
     requires kept { IsKept Keeper-dyn desk.old.keeper (tables_of desk.old.state) }
-    ensures stays { KeepsConnections Keeper-dyn desk.old desk.new }
-    ensures all { D.tells → P.tells → C.tells → IfOk result (λ status. (h : List SegmentValue) → ImportsAll (P.view spool.old).files (name.now ∷ [])
-        (scene h desk.old.state (C.moments clock.old) (D.view door.old).state (faults_of Keeper-dyn desk.old.keeper))
-        (scene h desk.new.state (C.moments clock.new) (D.view door.new).state (faults_of Keeper-dyn desk.new.keeper)) (status_number status)) }
-    ensures part { D.tells → P.tells → C.tells → OnErr result ((h : List SegmentValue) → ImportsPart (P.view spool.old).files (name.now ∷ [])
-        (scene h desk.old.state (C.moments clock.old) (D.view door.old).state (faults_of Keeper-dyn desk.old.keeper))
-        (scene h desk.new.state (C.moments clock.new) (D.view door.new).state (faults_of Keeper-dyn desk.new.keeper))) }
+    ensures stays { StaysKept Keeper-dyn desk.old desk.new }
+    // No packet is counted for the connections.
+    ensures history { desk.new.state.flows.history ≡ desk.old.state.flows.history }
+    ensures all { D.tells → P.tells → C.tells → IfOk result (λ status. ImportsAll (P.view spool.old).files (name.now ∷ [])
+        (scene desk.old.state (C.moments clock.old) (D.view door.old).state (faults_of Keeper-dyn desk.old.keeper))
+        (scene desk.new.state (C.moments clock.new) (D.view door.new).state (faults_of Keeper-dyn desk.new.keeper)) (status_number status)) }
+    ensures part { D.tells → P.tells → C.tells → OnErr result (ImportsPart (P.view spool.old).files (name.now ∷ [])
+        (scene desk.old.state (C.moments clock.old) (D.view door.old).state (faults_of Keeper-dyn desk.old.keeper))
+        (scene desk.new.state (C.moments clock.new) (D.view door.new).state (faults_of Keeper-dyn desk.new.keeper))) }
     ensures statuses { IfOk result (λ status. IsOneOf (Done ∷ Refused ∷ KeeperFailed ∷ []) (status_number status)) }
     ensures keeper { IfOk result (λ status. Counts (status_number status == 7) (faults_of Keeper-dyn desk.old.keeper) (faults_of Keeper-dyn desk.new.keeper)) }
     ensures failed { result ≡ Err Stop.Failed → IsStoppedByDoorOrSpool
         (D.view door.old) (D.view door.new) (P.view spool.old) (P.view spool.new) }
-    ensures steady { has_failed result ≡ false → ((D.view door.new).writes ≡ (D.view door.old).writes) × ((P.view spool.new).faults ≡ (P.view spool.old).faults) }
+    ensures steady { has_failed result ≡ false →
+        ((D.view door.new).writes ≡ (D.view door.old).writes) × ((P.view spool.new).faults ≡ (P.view spool.old).faults) }
     ensures same { P.tells → (P.view spool.new).files ≡ (P.view spool.old).files }
     ensures turns { (D.view door.new).turns ≡ (D.view door.old).turns }
     ensures reads { (D.view door.new).reads ≡ (D.view door.old).reads }

@@ -1,13 +1,12 @@
 //! All names of a folder.
-ghost use Rattle.std.specs.Prelude.{◌≡◌, ◌==◌, ℕ, ◌<◌, max, false, List, [], ◌∷◌, Err, IfOk, OnErr};
+ghost use Rattle.std.specs.Prelude.{◌≡◌, ◌==◌, ℕ, ◌<◌, max, false, [], ◌∷◌, Err, IfOk, OnErr};
 ghost use Rattle.base_rows.specs.Ledgers.{IsBlankOf};
-ghost use Rattle.table_model.specs.declared.segment.Segment.{Segment as SegmentValue};
 ghost use Rattle.mud_world.specs.Boxed.{faults_of};
 ghost use Rattle.mud_world.specs.Causes.{Counts, Rose};
 ghost use Rattle.mud_world.specs.Files.{names_of};
 ghost use Rattle.desk_model.specs.Boxed.{IsKept};
 ghost use Rattle.mud_desk.specs.DeskState.{tables_of};
-ghost use Rattle.mud_desk.specs.Stays.{KeepsConnections};
+ghost use Rattle.mud_desk.specs.Stays.{StaysKept};
 ghost use Rattle.run_common.specs.Ends.{AreSteady, IsStoppedByDoorOrSpool};
 ghost use Rattle.run_common.specs.Status.{Is, IsNot, IsOneOf, status_number};
 ghost use Rattle.run_common.specs.declared.status.Status.TheVariants.{Done, Refused, DoorFailed, NoMemory, KeeperFailed};
@@ -46,13 +45,15 @@ fn import_names<L: Ledger, D: Door, P: Spool, C: Clock>(
     steps: &mut Steps<L>,
 ) -> Result<Status, Stop>
     requires kept { IsKept Keeper-dyn desk.old.keeper (tables_of desk.old.state) }
-    ensures stays { KeepsConnections Keeper-dyn desk.old desk.new }
-    ensures all { D.tells → P.tells → C.tells → IfOk result (λ status. (h : List SegmentValue) → ImportsAll (P.view spool.old).files names.now
-        (scene h desk.old.state (C.moments clock.old) (D.view door.old).state (faults_of Keeper-dyn desk.old.keeper))
-        (scene h desk.new.state (C.moments clock.new) (D.view door.new).state (faults_of Keeper-dyn desk.new.keeper)) (status_number status)) }
-    ensures part { D.tells → P.tells → C.tells → OnErr result ((h : List SegmentValue) → ImportsPart (P.view spool.old).files names.now
-        (scene h desk.old.state (C.moments clock.old) (D.view door.old).state (faults_of Keeper-dyn desk.old.keeper))
-        (scene h desk.new.state (C.moments clock.new) (D.view door.new).state (faults_of Keeper-dyn desk.new.keeper))) }
+    ensures stays { StaysKept Keeper-dyn desk.old desk.new }
+    // No packet is counted for the connections.
+    ensures history { desk.new.state.flows.history ≡ desk.old.state.flows.history }
+    ensures all { D.tells → P.tells → C.tells → IfOk result (λ status. ImportsAll (P.view spool.old).files names.now
+        (scene desk.old.state (C.moments clock.old) (D.view door.old).state (faults_of Keeper-dyn desk.old.keeper))
+        (scene desk.new.state (C.moments clock.new) (D.view door.new).state (faults_of Keeper-dyn desk.new.keeper)) (status_number status)) }
+    ensures part { D.tells → P.tells → C.tells → OnErr result (ImportsPart (P.view spool.old).files names.now
+        (scene desk.old.state (C.moments clock.old) (D.view door.old).state (faults_of Keeper-dyn desk.old.keeper))
+        (scene desk.new.state (C.moments clock.new) (D.view door.new).state (faults_of Keeper-dyn desk.new.keeper))) }
     ensures statuses { IfOk result (λ status. IsOneOf (Done ∷ Refused ∷ KeeperFailed ∷ []) (status_number status)) }
     ensures keeper { IfOk result (λ status. Counts (status_number status == 7) (faults_of Keeper-dyn desk.old.keeper) (faults_of Keeper-dyn desk.new.keeper)) }
     ensures failed { result ≡ Err Stop.Failed → IsStoppedByDoorOrSpool
@@ -81,13 +82,15 @@ fn import_listed<L: Ledger, D: Door, P: Spool, C: Clock>(
 ) -> Result<Status, Stop>
     requires kept { IsKept Keeper-dyn desk.old.keeper (tables_of desk.old.state) }
     requires blank { IsBlankOf L.name L.parts blank }
-    ensures stays { KeepsConnections Keeper-dyn desk.old desk.new }
-    ensures all { D.tells → P.tells → C.tells → IfOk result (λ status. (h : List SegmentValue) → ImportsAll (P.view spool.old).files (in_order (names_of (P.view spool.old).files))
-        (scene h desk.old.state (C.moments clock.old) (D.view door.old).state (faults_of Keeper-dyn desk.old.keeper))
-        (scene h desk.new.state (C.moments clock.new) (D.view door.new).state (faults_of Keeper-dyn desk.new.keeper)) (status_number status)) }
-    ensures part { D.tells → P.tells → C.tells → OnErr result ((h : List SegmentValue) → ImportsPart (P.view spool.old).files (in_order (names_of (P.view spool.old).files))
-        (scene h desk.old.state (C.moments clock.old) (D.view door.old).state (faults_of Keeper-dyn desk.old.keeper))
-        (scene h desk.new.state (C.moments clock.new) (D.view door.new).state (faults_of Keeper-dyn desk.new.keeper))) }
+    ensures stays { StaysKept Keeper-dyn desk.old desk.new }
+    // No packet is counted for the connections.
+    ensures history { desk.new.state.flows.history ≡ desk.old.state.flows.history }
+    ensures all { D.tells → P.tells → C.tells → IfOk result (λ status. ImportsAll (P.view spool.old).files (in_order (names_of (P.view spool.old).files))
+        (scene desk.old.state (C.moments clock.old) (D.view door.old).state (faults_of Keeper-dyn desk.old.keeper))
+        (scene desk.new.state (C.moments clock.new) (D.view door.new).state (faults_of Keeper-dyn desk.new.keeper)) (status_number status)) }
+    ensures part { D.tells → P.tells → C.tells → OnErr result (ImportsPart (P.view spool.old).files (in_order (names_of (P.view spool.old).files))
+        (scene desk.old.state (C.moments clock.old) (D.view door.old).state (faults_of Keeper-dyn desk.old.keeper))
+        (scene desk.new.state (C.moments clock.new) (D.view door.new).state (faults_of Keeper-dyn desk.new.keeper))) }
     ensures statuses { IfOk result (λ status. IsOneOf (Done ∷ Refused ∷ KeeperFailed ∷ []) (status_number status)) }
     ensures keeper { IfOk result (λ status. Counts (status_number status == 7) (faults_of Keeper-dyn desk.old.keeper) (faults_of Keeper-dyn desk.new.keeper)) }
     ensures failed { result ≡ Err Stop.Failed → IsStoppedByDoorOrSpool
@@ -125,22 +128,25 @@ pub fn import_files<D: Door, P: Spool, C: Clock>(
     ensures statuses { IsOneOf (Done ∷ Refused ∷ DoorFailed ∷ NoMemory ∷ KeeperFailed ∷ []) (status_number result) }
     // With 0, 3 and 7 every name has its line, and the desk's lists are those after all commands.
     ensures done { D.tells → P.tells → C.tells → IsOneOf (Done ∷ Refused ∷ KeeperFailed ∷ []) (status_number result) →
-        (h : List SegmentValue) → ImportsAll (P.view spool.old).files (in_order (names_of (P.view spool.old).files))
-        (scene h desk.old.state (C.moments clock.old) (D.view door.old).state (faults_of Keeper-dyn desk.old.keeper))
-        (scene h desk.new.state (C.moments clock.new) (D.view door.new).state (faults_of Keeper-dyn desk.new.keeper)) (status_number result) }
+        ImportsAll (P.view spool.old).files (in_order (names_of (P.view spool.old).files))
+        (scene desk.old.state (C.moments clock.old) (D.view door.old).state (faults_of Keeper-dyn desk.old.keeper))
+        (scene desk.new.state (C.moments clock.new) (D.view door.new).state (faults_of Keeper-dyn desk.new.keeper)) (status_number result) }
     // With 4 and 5 a first part of that was done.
     ensures part { D.tells → P.tells → C.tells → IsOneOf (DoorFailed ∷ NoMemory ∷ []) (status_number result) →
-        (h : List SegmentValue) → ImportsPart (P.view spool.old).files (in_order (names_of (P.view spool.old).files))
-        (scene h desk.old.state (C.moments clock.old) (D.view door.old).state (faults_of Keeper-dyn desk.old.keeper))
-        (scene h desk.new.state (C.moments clock.new) (D.view door.new).state (faults_of Keeper-dyn desk.new.keeper)) }
+        ImportsPart (P.view spool.old).files (in_order (names_of (P.view spool.old).files))
+        (scene desk.old.state (C.moments clock.old) (D.view door.old).state (faults_of Keeper-dyn desk.old.keeper))
+        (scene desk.new.state (C.moments clock.new) (D.view door.new).state (faults_of Keeper-dyn desk.new.keeper)) }
     // 4 comes exactly where a write of the door, or a call of the spool, failed in this call: one failed, and it isn't called again,
     ensures fault { Is DoorFailed (status_number result) → IsStoppedByDoorOrSpool
         (D.view door.old) (D.view door.new) (P.view spool.old) (P.view spool.new) }
     ensures steady { IsNot DoorFailed (status_number result) → AreSteady (D.view door.old) (D.view door.new) (P.view spool.old) (P.view spool.new) }
     // and 7 only where the keeper did.
     ensures keeper { Is KeeperFailed (status_number result) → Rose (faults_of Keeper-dyn desk.old.keeper) (faults_of Keeper-dyn desk.new.keeper) }
-    ensures keeper_steady { IsOneOf (Done ∷ Refused ∷ []) (status_number result) → faults_of Keeper-dyn desk.new.keeper ≡ faults_of Keeper-dyn desk.old.keeper }
-    ensures stays { KeepsConnections Keeper-dyn desk.old desk.new }
+    ensures keeper_steady { IsOneOf (Done ∷ Refused ∷ []) (status_number result) →
+        faults_of Keeper-dyn desk.new.keeper ≡ faults_of Keeper-dyn desk.old.keeper }
+    ensures stays { StaysKept Keeper-dyn desk.old desk.new }
+    // No packet is counted for the connections.
+    ensures history { desk.new.state.flows.history ≡ desk.old.state.flows.history }
     ensures same { P.tells → (P.view spool.new).files ≡ (P.view spool.old).files }
     ensures turns { (D.view door.new).turns ≡ (D.view door.old).turns }
     ensures reads { (D.view door.new).reads ≡ (D.view door.old).reads }

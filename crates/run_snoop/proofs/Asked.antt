@@ -1,6 +1,5 @@
 -- What may be observed may be asked of a desk, and what a reply leaves.
-use Rattle.std.proofs.Common.{◌≡◌, ◌≢◌, ℕ, ◌<◌, ◌≤◌, ◌&&◌, Bool, true, IsTrue, List, refl, subst}
-use Rattle.std.specs.Prelude.{bytes_eq}
+use Rattle.std.proofs.Common.{◌≡◌, ℕ, List, refl, subst}
 use Rattle.std.proofs.lemmas.Slice.Eq.{bytes_eq-Decides}
 use Rattle.mud_base.specs.declared.addr.Addr.{Addr}
 use Rattle.table_model.specs.Binds.{is_name}

@@ -1,5 +1,5 @@
 -- A packet in which names are heard.
-use Rattle.std.proofs.Common.{◌≡◌, ℕ, Bool, true, false, not, List, Some, refl, sym, ap, ◌∙◌}
+use Rattle.std.proofs.Common.{◌≡◌, ℕ, Bool, true, List, Some, refl, sym, ◌∙◌}
 use Rattle.frame_view.specs.PacketFrame.{PacketFrame}
 use Rattle.frame_view.specs.Carried.{payload_of}
 use Rattle.frame_view.specs.Frame.{frame_of}

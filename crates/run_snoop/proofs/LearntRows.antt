@@ -1,5 +1,5 @@
 -- What is learnt of addresses, one after the other.
-use Rattle.std.proofs.Common.{◌≡◌, ◌≢◌, ℕ, zero, suc, ◌+◌, ◌<◌, ◌≤◌, Bool, true, false, ◌||◌, IsTrue, if◌then◌else◌, List, [], ◌∷◌, ◌++◌, length, take, drop, get_or, Option, Some, Result, Ok, Err, refl, sym, subst, ap, ap₂, ◌∙◌, arith, append_assoc, append-nil, lt-ltb, OnErr, IfOk}
+use Rattle.std.proofs.Common.{◌≡◌, ◌≢◌, ℕ, zero, suc, ◌+◌, ◌<◌, ◌≤◌, Bool, true, false, ◌||◌, if◌then◌else◌, List, [], ◌∷◌, ◌++◌, length, take, drop, get_or, Some, Result, Err, refl, sym, subst, ap, ap₂, ◌∙◌, arith, append_assoc, append-nil, lt-ltb}
 use Rattle.std.specs.Prelude.{nat_lt}
 use Rattle.std.proofs.lemmas.List.{length-append, take_more, take-append-drop, take-append-le, length-take}
 use Rattle.std.proofs.Math.Seq.{take-append-add}
@@ -24,16 +24,6 @@ Calls = List (ℕ × Command)
 
 abbrev pub Rows : Type 0
 Rows = List (Addr × ℕ)
-
--- ---- Of a result
-
-pub on_err_all : {A E H : Type 0} (r : Result A E) {P : H → Type 0} {Q : Type 0} → (((h : H) → P h) → Q) → ((h : H) → OnErr r (P h)) → OnErr r Q
-on_err_all (Ok value) so facts = tt
-on_err_all (Err error) so facts = so facts
-
-pub if_ok_all : {A E H : Type 0} (r : Result A E) {P : H → A → Type 0} {Q : A → Type 0} → ((value : A) → ((h : H) → P h value) → Q value) → ((h : H) → IfOk r (P h)) → IfOk r Q
-if_ok_all (Ok value) so facts = so value facts
-if_ok_all (Err error) so facts = tt
 
 -- ---- Runs one after the other
 

@@ -1,5 +1,5 @@
 -- Captures that hold the same packets lead to the same.
-use Rattle.std.proofs.Common.{◌≡◌, ℕ, ◌+◌, List, [], ◌∷◌, ◌++◌, map, Option, Some, None, refl, sym, subst, ap, ap₂, ◌∙◌, append-nil}
+use Rattle.std.proofs.Common.{◌≡◌, ℕ, ◌+◌, List, [], ◌∷◌, ◌++◌, map, Option, refl, sym, subst, ap, ap₂, ◌∙◌, append-nil}
 use Rattle.std.specs.Prelude.{option_map}
 use Rattle.mud_world.specs.Causes.{RoseBy}
 use Rattle.mud_world.specs.Door.{DoorState, with_left, put_out}
@@ -10,7 +10,6 @@ use Rattle.run_captures.specs.declared.fault.CaptureFault.{CaptureFault}
 use Rattle.run_captures.proofs.Numbered.{IsNumbered, numbered}
 use Rattle.run_captures.specs.Capture.{end_line, status_at}
 use Rattle.run_captures.proofs.SamePackets.{first_same, rest_same}
-use Rattle.run_common.specs.Output.{WritesOutput}
 use Rattle.desk_model.specs.Sessions.{Session, Judged, Runs, frame_in}
 use Rattle.run_desk.specs.Judged.{judged_packet}
 use Rattle.run_desk.proofs.SameCaptures.{line_alike}

@@ -1,26 +1,22 @@
 -- What a run of `snoop` promises where a desk is opened, and where none is.
-use Rattle.std.proofs.Common.{◌≡◌, ◌≢◌, ℕ, ◌⊎◌, inl, inr, List, Ok, sym, ap, subst, ◌∙◌, arith}
+use Rattle.std.proofs.Common.{◌≡◌, ◌≢◌, ℕ, ◌⊎◌, inl, inr, Ok, sym, ap₂, subst, ◌∙◌, arith}
 use Rattle.std.specs.declared.dyn_box.DynBox.{DynBox}
 use Rattle.std.specs.declared.alloc.Global.{Global}
 use Rattle.mud_world.specs.declared.keeper.Keeper.{Ghosts}
-use Rattle.mud_world.specs.declared.item.Item.{Item}
 use Rattle.mud_world.specs.Boxed.{faults_of, Tells, kept_items}
 use Rattle.mud_world.specs.Causes.{EndsAtFailure, Rose}
-use Rattle.mud_world.specs.Door.{DoorState}
 use Rattle.mud_world.specs.View.{DoorView}
-use Rattle.desk_model.specs.DeskTables.{DeskTables, IsSound}
-use Rattle.desk_model.specs.Items.{items_of, tables_in}
+use Rattle.desk_model.specs.DeskTables.{IsSound}
+use Rattle.desk_model.specs.Items.{tables_in}
 use Rattle.desk_model.specs.Sessions.{Session, opened}
-use Rattle.desk_model.specs.Boxed.{IsKept, IsSameBox}
-use Rattle.mud_desk.specs.DeskState.{DeskState, IsBegun, session_of, tables_of}
+use Rattle.desk_model.specs.Boxed.{IsSameBox}
+use Rattle.mud_desk.specs.DeskState.{session_of, tables_of}
 use Rattle.mud_desk.specs.declared.desk.Desk.{Desk}
 use Rattle.mud_desk.specs.Stays.{StaysKept}
-use Rattle.run_desk.specs.Judged.{IsIn}
-use Rattle.run_desk.proofs.JudgedPackets.{in_begun}
 use Rattle.run_desk.proofs.Refusals.{RunsRefused, is_refused, reads_honestly}
 use Rattle.run_desk.proofs.Stores.{not_seven}
-use Rattle.run_snoop.specs.Leads.{LeadsToAll, LeadsToPart, LeadsToTaken}
-use Rattle.run_snoop.specs.Store.{LeavesAll, LeavesPart, LeavesTaken, SnoopsStore}
+use Rattle.run_snoop.specs.Runs.{Scene, scene, SnoopsAll, SnoopsPart, SnoopsTaken}
+use Rattle.run_snoop.specs.Store.{SnoopsStore}
 
 -- ---- Statuses
 
@@ -41,37 +37,26 @@ not_six status is (inr (inr six)) = absurd (grind arith)
 
 -- ---- A desk that was opened
 
-desk_in : (session : Session) (state : DeskState) → IsIn session state → session.desk ≡ tables_of state
-unfolding session_of
-desk_in session state stands = ap (λ (s : Session). s.desk) (sym stands.session_is)
-
-module _ (tables : DeskTables) (items : List Item) (f g h : ℕ) (same : g ≡ f) (state : DeskState) (kept : items ≡ items_of (tables_of state)) (old new : DoorState) where
-  leaves_all : (status : ℕ) → LeadsToAll (opened tables) old g state new h status → LeavesAll tables items f h old new status
-  leaves_all status p = rw (sym same) (record { session = p.after; are_kept = kept ∙ ap items_of (sym (desk_in p.after state p.stands)); all = p.all })
-
-  leaves_part : LeadsToPart (opened tables) old g state new h → LeavesPart tables items f h old new
-  leaves_part p = rw (sym same) (record { session = p.after; are_kept = kept ∙ ap items_of (sym (desk_in p.after state p.stands)); part = p.part })
-
-  leaves_taken : LeadsToTaken (opened tables) old g state new h → LeavesTaken tables items f h old new
-  leaves_taken p = rw (sym same) (record { session = p.after; are_kept = kept ∙ ap items_of (sym (desk_in p.after state p.stands)); taken = p.taken })
-
 module _ {X : Type 0} {F : X → Type 0} (members : (v : (x : X) × F x) → Ghosts (F v.0)) (keeper : DynBox X Global F) (tells : Type 0) (old new : DoorView) (status : ℕ) where
   pub snooped_run : (desk ended : Desk X F)
       → (Tells members keeper → Tells members desk.keeper → tables_in (kept_items members keeper) ≡ Ok (tables_of desk.state))
-      → IsSound (tables_of desk.state) → IsBegun (tables_of desk.state) desk.state → faults_of members desk.keeper ≡ faults_of members keeper → IsSameBox keeper desk.keeper
+      → IsSound (tables_of desk.state) → session_of desk.state ≡ opened (tables_of desk.state) → faults_of members desk.keeper ≡ faults_of members keeper → IsSameBox keeper desk.keeper
       → StaysKept members desk ended → IsSound (tables_of ended.state)
       → IsOfSnoop status
       → (status ≡ 4 → EndsAtFailure new.failed old.reads new.reads old.writes new.writes)
       → (status ≢ 4 → (new.reads ≡ old.reads) × (new.writes ≡ old.writes))
       → (status ≡ 7 → Rose (faults_of members desk.keeper) (faults_of members ended.keeper))
       → ((status ≡ 0) ⊎ (status ≡ 3) → faults_of members ended.keeper ≡ faults_of members desk.keeper)
-      → ((s : Session) → IsIn s desk.state → tells → (status ≡ 0) ⊎ ((status ≡ 3) ⊎ (status ≡ 7)) → LeadsToAll s old.state (faults_of members desk.keeper) ended.state new.state (faults_of members ended.keeper) status)
-      → ((s : Session) → IsIn s desk.state → tells → (status ≡ 4) ⊎ (status ≡ 5) → LeadsToPart s old.state (faults_of members desk.keeper) ended.state new.state (faults_of members ended.keeper))
-      → ((s : Session) → IsIn s desk.state → tells → new.reads ≢ old.reads → LeadsToTaken s old.state (faults_of members desk.keeper) ended.state new.state (faults_of members ended.keeper))
+      → (tells → (status ≡ 0) ⊎ ((status ≡ 3) ⊎ (status ≡ 7)) → SnoopsAll (scene (session_of desk.state) old.state (faults_of members desk.keeper)) (scene (session_of ended.state) new.state (faults_of members ended.keeper)) status)
+      → (tells → (status ≡ 4) ⊎ (status ≡ 5) → SnoopsPart (scene (session_of desk.state) old.state (faults_of members desk.keeper)) (scene (session_of ended.state) new.state (faults_of members ended.keeper)))
+      → (tells → new.reads ≢ old.reads → SnoopsTaken (scene (session_of desk.state) old.state (faults_of members desk.keeper)) (scene (session_of ended.state) new.state (faults_of members ended.keeper)))
       → new.turns ≡ old.turns
       → (returned : DynBox X Global F) → returned ≡ ended.keeper → SnoopsStore members tells keeper returned old new status
+  unfolding session_of
   snooped_run desk ended read sound begins same_count same_box stays sound_after is fault steady failed unfailed all part taken turns returned same =
-      let in_session = in_begun (tables_of desk.state) desk.state begins in
+      let last = scene (session_of ended.state) new.state (faults_of members ended.keeper) in
+      let first : scene (session_of desk.state) old.state (faults_of members desk.keeper) ≡ scene (opened (tables_of desk.state)) old.state (faults_of members keeper) =
+      ap₂ (λ (s : Session) (n : ℕ). scene s old.state n) begins same_count in
       subst (λ (box : DynBox X Global F). SnoopsStore members tells keeper box old new status) (sym same) (record {
         honest = record {
           statuses = of_snoop status is;
@@ -87,12 +72,21 @@ module _ {X : Type 0} {F : X → Type 0} (members : (v : (x : X) × F x) → Gho
           were_kept = λ before. read before (stays.told tell);
           snoops = record {
             statuses = is;
-            all = λ which. leaves_all (tables_of desk.state) (kept_items members ended.keeper) (faults_of members keeper) (faults_of members desk.keeper) (faults_of members ended.keeper) same_count ended.state (stays.kept.items tell) old.state new.state
-                status (all (opened (tables_of desk.state)) in_session told which);
-            part = λ which. leaves_part (tables_of desk.state) (kept_items members ended.keeper) (faults_of members keeper) (faults_of members desk.keeper) (faults_of members ended.keeper) same_count ended.state (stays.kept.items tell) old.state new.state
-                (part (opened (tables_of desk.state)) in_session told which);
-            taken = λ other. leaves_taken (tables_of desk.state) (kept_items members ended.keeper) (faults_of members keeper) (faults_of members desk.keeper) (faults_of members ended.keeper) same_count ended.state (stays.kept.items tell) old.state new.state
-                (taken (opened (tables_of desk.state)) in_session told other);
+            all = λ which. record {
+              session = session_of ended.state;
+              are_kept = stays.kept.items tell;
+              all = subst (λ (a : Scene). SnoopsAll a last status) first (all told which);
+            };
+            part = λ which. record {
+              session = session_of ended.state;
+              are_kept = stays.kept.items tell;
+              part = subst (λ (a : Scene). SnoopsPart a last) first (part told which);
+            };
+            taken = λ other. record {
+              session = session_of ended.state;
+              are_kept = stays.kept.items tell;
+              taken = subst (λ (a : Scene). SnoopsTaken a last) first (taken told other);
+            };
           };
         });
         kept = inl (record { tables = tables_of ended.state; sound = sound_after; kept = stays.kept });

@@ -1,5 +1,4 @@
 pub mod Entries
-pub mod Leads
 pub mod Learning
 pub mod Learnt
 pub mod Lines

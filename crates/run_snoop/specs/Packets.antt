@@ -2,11 +2,10 @@
 use Rattle.std.specs.Prelude.{◌≡◌, ℕ, nat_lt, Bool, List, [], ◌∷◌, ◌++◌, length, take, option_map}
 use Rattle.mud_world.specs.Causes.{RoseBy}
 use Rattle.read_buffer.specs.Packets.{Packet}
-use Rattle.desk_model.specs.Sessions.{Session, Judged, Runs}
-use Rattle.run_desk.specs.Judged.{IsIn, judged_packet}
+use Rattle.desk_model.specs.Sessions.{Session, Runs}
+use Rattle.run_desk.specs.Judged.{judged_packet}
 use Rattle.dns_snoop.specs.Messages.{answers_of}
-use Rattle.mud_desk.specs.DeskState.{DeskState}
-use Rattle.run_snoop.specs.Entries.{Heard, Entry, packets_of, calls_of, entry_lines, NoneOfMemory, failures, keeper_count}
+use Rattle.run_snoop.specs.Entries.{Entry, packets_of, calls_of, entry_lines, NoneOfMemory, failures, keeper_count}
 use Rattle.run_snoop.specs.Learning.{heard_in}
 
 -- the session behind the verdict on a packet
@@ -41,23 +40,19 @@ Stops before [] after = after ≡ before
 Stops before (entry ∷ []) after = SnoopsSome before entry after
 Stops before (entry ∷ other ∷ entries) after = ⊥
 
--- A packet was judged and learnt from, and its lines were added. The desk is in the session behind it.
-pub record GoesOn (packet : Packet) (before : Session) (state : DeskState) (old new : List ℕ) (faults faults_after : ℕ) (failed : Bool) : Type 0 where
+-- A packet was judged and learnt from, and its lines were added.
+pub record GoesOn (packet : Packet) (before after : Session) (old new : List ℕ) (faults faults_after : ℕ) (failed : Bool) : Type 0 where
   pub entry : Entry
-  pub after : Session
   pub packet_is : entry.packet ≡ packet
   pub may : SnoopsPacket before entry after
-  pub stands : IsIn after state
   pub added : new ≡ old ++ entry_lines entry
   pub failed_is : failed ≡ nat_lt 0 (failures entry.replies)
   pub paid : RoseBy (failures entry.replies) faults faults_after
 
 -- Memory was wanted at a packet: it wasn't judged, or some of its addresses were observed.
-pub record StopsAt (packet : Packet) (before : Session) (state : DeskState) (faults faults_after : ℕ) : Type 0 where
+pub record StopsAt (packet : Packet) (before after : Session) (faults faults_after : ℕ) : Type 0 where
   pub last : List Entry
   pub rest : List Packet
-  pub after : Session
   pub packets_are : packets_of last ++ rest ≡ packet ∷ []
   pub stopped : Stops before last after
-  pub stands : IsIn after state
   pub paid : RoseBy (keeper_count last) faults faults_after

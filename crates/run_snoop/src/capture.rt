@@ -12,12 +12,10 @@ ghost use Rattle.run_common.specs.Ends.{IsSteady, IsStopped};
 ghost use Rattle.run_common.specs.Output.{WritesOutput, WritesPart};
 ghost use Rattle.run_common.specs.Status.{Is, IsNot, IsOneOf, status_number};
 ghost use Rattle.run_common.specs.declared.status.Status.TheVariants.{Done, Refused, DoorFailed, NoMemory, KeeperFailed};
-ghost use Rattle.desk_model.specs.Sessions.{Session};
-ghost use Rattle.run_desk.specs.Judged.{IsIn};
 ghost use Rattle.desk_model.specs.Boxed.{IsKept};
-ghost use Rattle.mud_desk.specs.DeskState.{tables_of};
+ghost use Rattle.mud_desk.specs.DeskState.{session_of, tables_of};
 ghost use Rattle.mud_desk.specs.Stays.{StaysKept};
-ghost use Rattle.run_snoop.specs.Leads.{LeadsToAll, LeadsToPart, LeadsToTaken};
+ghost use Rattle.run_snoop.specs.Runs.{scene, SnoopsAll, SnoopsPart, SnoopsTaken};
 
 use crate::observing::either;
 use crate::packet::snoop_packet;
@@ -58,17 +56,21 @@ fn snoop_packets<L: Ledger, D: Door>(
     ensures fault { Is DoorFailed (status_number result) → IsStopped (D.view door.old) (D.view door.new) }
     ensures steady { IsNot DoorFailed (status_number result) → IsSteady (D.view door.old) (D.view door.new) }
     ensures stays { StaysKept Keeper-dyn desk.old desk.new }
-    ensures done { (s : Session) (first : DoorState) → IsIn s desk.old.state → D.tells → HasDone [] [] reader.old first (D.view door.old).state lines.old
+    ensures done { (first : DoorState) → D.tells → HasDone [] [] reader.old first (D.view door.old).state lines.old
         → IsOneOf (Done ∷ Refused ∷ KeeperFailed ∷ []) (status_number result)
-        → LeadsToAll s first (faults_of Keeper-dyn desk.old.keeper) desk.new.state (D.view door.new).state (faults_of Keeper-dyn desk.new.keeper) (status_number result) }
-    ensures part { (s : Session) (first : DoorState) → IsIn s desk.old.state → D.tells → HasDone [] [] reader.old first (D.view door.old).state lines.old
+        → SnoopsAll (scene (session_of desk.old.state) first (faults_of Keeper-dyn desk.old.keeper))
+        (scene (session_of desk.new.state) (D.view door.new).state (faults_of Keeper-dyn desk.new.keeper)) (status_number result) }
+    ensures part { (first : DoorState) → D.tells → HasDone [] [] reader.old first (D.view door.old).state lines.old
         → IsOneOf (DoorFailed ∷ NoMemory ∷ []) (status_number result)
-        → LeadsToPart s first (faults_of Keeper-dyn desk.old.keeper) desk.new.state (D.view door.new).state (faults_of Keeper-dyn desk.new.keeper) }
-    ensures taken { (s : Session) (first : DoorState) → IsIn s desk.old.state → D.tells → HasDone [] [] reader.old first (D.view door.old).state lines.old
+        → SnoopsPart (scene (session_of desk.old.state) first (faults_of Keeper-dyn desk.old.keeper))
+        (scene (session_of desk.new.state) (D.view door.new).state (faults_of Keeper-dyn desk.new.keeper)) }
+    ensures taken { (first : DoorState) → D.tells → HasDone [] [] reader.old first (D.view door.old).state lines.old
         → (D.view door.new).reads ≢ (D.view door.old).reads
-        → LeadsToTaken s first (faults_of Keeper-dyn desk.old.keeper) desk.new.state (D.view door.new).state (faults_of Keeper-dyn desk.new.keeper) }
+        → SnoopsTaken (scene (session_of desk.old.state) first (faults_of Keeper-dyn desk.old.keeper))
+        (scene (session_of desk.new.state) (D.view door.new).state (faults_of Keeper-dyn desk.new.keeper)) }
     ensures keeper { Is KeeperFailed (status_number result) → Rose (faults_of Keeper-dyn desk.old.keeper) (faults_of Keeper-dyn desk.new.keeper) }
-    ensures keeper_steady { IsOneOf (Done ∷ Refused ∷ []) (status_number result) → faults_of Keeper-dyn desk.new.keeper ≡ faults_of Keeper-dyn desk.old.keeper }
+    ensures keeper_steady { IsOneOf (Done ∷ Refused ∷ []) (status_number result) →
+        faults_of Keeper-dyn desk.new.keeper ≡ faults_of Keeper-dyn desk.old.keeper }
     ensures turns { (D.view door.new).turns ≡ (D.view door.old).turns }
 {
     let mut failed = false;
@@ -103,17 +105,21 @@ fn snoop_counted<L: Ledger, D: Door>(
     ensures fault { Is DoorFailed (status_number result) → IsStopped (D.view door.old) (D.view door.new) }
     ensures steady { IsNot DoorFailed (status_number result) → IsSteady (D.view door.old) (D.view door.new) }
     ensures stays { StaysKept Keeper-dyn desk.old desk.new }
-    ensures done { (s : Session) (first : DoorState) → IsIn s desk.old.state → D.tells → HasDone [] [] reader.old first (D.view door.old).state []
+    ensures done { (first : DoorState) → D.tells → HasDone [] [] reader.old first (D.view door.old).state []
         → IsOneOf (Done ∷ Refused ∷ KeeperFailed ∷ []) (status_number result)
-        → LeadsToAll s first (faults_of Keeper-dyn desk.old.keeper) desk.new.state (D.view door.new).state (faults_of Keeper-dyn desk.new.keeper) (status_number result) }
-    ensures part { (s : Session) (first : DoorState) → IsIn s desk.old.state → D.tells → HasDone [] [] reader.old first (D.view door.old).state []
+        → SnoopsAll (scene (session_of desk.old.state) first (faults_of Keeper-dyn desk.old.keeper))
+        (scene (session_of desk.new.state) (D.view door.new).state (faults_of Keeper-dyn desk.new.keeper)) (status_number result) }
+    ensures part { (first : DoorState) → D.tells → HasDone [] [] reader.old first (D.view door.old).state []
         → IsOneOf (DoorFailed ∷ NoMemory ∷ []) (status_number result)
-        → LeadsToPart s first (faults_of Keeper-dyn desk.old.keeper) desk.new.state (D.view door.new).state (faults_of Keeper-dyn desk.new.keeper) }
-    ensures taken { (s : Session) (first : DoorState) → IsIn s desk.old.state → D.tells → HasDone [] [] reader.old first (D.view door.old).state []
+        → SnoopsPart (scene (session_of desk.old.state) first (faults_of Keeper-dyn desk.old.keeper))
+        (scene (session_of desk.new.state) (D.view door.new).state (faults_of Keeper-dyn desk.new.keeper)) }
+    ensures taken { (first : DoorState) → D.tells → HasDone [] [] reader.old first (D.view door.old).state []
         → (D.view door.new).reads ≢ (D.view door.old).reads
-        → LeadsToTaken s first (faults_of Keeper-dyn desk.old.keeper) desk.new.state (D.view door.new).state (faults_of Keeper-dyn desk.new.keeper) }
+        → SnoopsTaken (scene (session_of desk.old.state) first (faults_of Keeper-dyn desk.old.keeper))
+        (scene (session_of desk.new.state) (D.view door.new).state (faults_of Keeper-dyn desk.new.keeper)) }
     ensures keeper { Is KeeperFailed (status_number result) → Rose (faults_of Keeper-dyn desk.old.keeper) (faults_of Keeper-dyn desk.new.keeper) }
-    ensures keeper_steady { IsOneOf (Done ∷ Refused ∷ []) (status_number result) → faults_of Keeper-dyn desk.new.keeper ≡ faults_of Keeper-dyn desk.old.keeper }
+    ensures keeper_steady { IsOneOf (Done ∷ Refused ∷ []) (status_number result) →
+        faults_of Keeper-dyn desk.new.keeper ≡ faults_of Keeper-dyn desk.old.keeper }
     ensures turns { (D.view door.new).turns ≡ (D.view door.old).turns }
 {
     let mut lines = Bytes::empty(alloc);
@@ -140,14 +146,18 @@ pub(crate) fn snoop_capture<D: Door>(alloc: Global, desk: &mut Desk, door: &mut 
     ensures fault { Is DoorFailed (status_number result) → IsStopped (D.view door.old) (D.view door.new) }
     ensures steady { IsNot DoorFailed (status_number result) → IsSteady (D.view door.old) (D.view door.new) }
     ensures stays { StaysKept Keeper-dyn desk.old desk.new }
-    ensures done { (s : Session) → IsIn s desk.old.state → D.tells → IsOneOf (Done ∷ Refused ∷ KeeperFailed ∷ []) (status_number result)
-        → LeadsToAll s (D.view door.old).state (faults_of Keeper-dyn desk.old.keeper) desk.new.state (D.view door.new).state (faults_of Keeper-dyn desk.new.keeper) (status_number result) }
-    ensures part { (s : Session) → IsIn s desk.old.state → D.tells → IsOneOf (DoorFailed ∷ NoMemory ∷ []) (status_number result)
-        → LeadsToPart s (D.view door.old).state (faults_of Keeper-dyn desk.old.keeper) desk.new.state (D.view door.new).state (faults_of Keeper-dyn desk.new.keeper) }
-    ensures taken { (s : Session) → IsIn s desk.old.state → D.tells → (D.view door.new).reads ≢ (D.view door.old).reads
-        → LeadsToTaken s (D.view door.old).state (faults_of Keeper-dyn desk.old.keeper) desk.new.state (D.view door.new).state (faults_of Keeper-dyn desk.new.keeper) }
+    ensures done { D.tells → IsOneOf (Done ∷ Refused ∷ KeeperFailed ∷ []) (status_number result)
+        → SnoopsAll (scene (session_of desk.old.state) (D.view door.old).state (faults_of Keeper-dyn desk.old.keeper))
+        (scene (session_of desk.new.state) (D.view door.new).state (faults_of Keeper-dyn desk.new.keeper)) (status_number result) }
+    ensures part { D.tells → IsOneOf (DoorFailed ∷ NoMemory ∷ []) (status_number result)
+        → SnoopsPart (scene (session_of desk.old.state) (D.view door.old).state (faults_of Keeper-dyn desk.old.keeper))
+        (scene (session_of desk.new.state) (D.view door.new).state (faults_of Keeper-dyn desk.new.keeper)) }
+    ensures taken { D.tells → (D.view door.new).reads ≢ (D.view door.old).reads
+        → SnoopsTaken (scene (session_of desk.old.state) (D.view door.old).state (faults_of Keeper-dyn desk.old.keeper))
+        (scene (session_of desk.new.state) (D.view door.new).state (faults_of Keeper-dyn desk.new.keeper)) }
     ensures keeper { Is KeeperFailed (status_number result) → Rose (faults_of Keeper-dyn desk.old.keeper) (faults_of Keeper-dyn desk.new.keeper) }
-    ensures keeper_steady { IsOneOf (Done ∷ Refused ∷ []) (status_number result) → faults_of Keeper-dyn desk.new.keeper ≡ faults_of Keeper-dyn desk.old.keeper }
+    ensures keeper_steady { IsOneOf (Done ∷ Refused ∷ []) (status_number result) →
+        faults_of Keeper-dyn desk.new.keeper ≡ faults_of Keeper-dyn desk.old.keeper }
     ensures turns { (D.view door.new).turns ≡ (D.view door.old).turns }
 {
     let mut reader = match CaptureReader::begin(alloc, door) {

@@ -1,7 +1,6 @@
 //! The addresses of a DNS message, each observed under the name that was asked for.
-ghost use Rattle.std.specs.Prelude.{◌≡◌, ◌≢◌, ◌||◌, [], ◌∷◌, List, Ok, Some, IfOk, OnErr};
+ghost use Rattle.std.specs.Prelude.{◌≡◌, ◌≢◌, ◌||◌, [], ◌∷◌, Ok, Some, IfOk, OnErr};
 ghost use Rattle.std.specs.List.{All};
-ghost use Rattle.table_model.specs.declared.segment.Segment.{Segment as SegmentValue};
 ghost use Rattle.mud_world.specs.Boxed.{faults_of};
 ghost use Rattle.mud_world.specs.Causes.{Counts};
 ghost use Rattle.desk_model.specs.Sessions.{AllowedReply, is_of_keeper};
@@ -9,7 +8,7 @@ ghost use Rattle.dns_snoop.specs.Messages.{answers_of};
 ghost use Rattle.dns_snoop.specs.Observed.{IsObservable};
 ghost use Rattle.desk_model.specs.Boxed.{IsKept};
 ghost use Rattle.mud_desk.specs.DeskState.{session_of, tables_of};
-ghost use Rattle.mud_desk.specs.Stays.{KeepsConnections};
+ghost use Rattle.mud_desk.specs.Stays.{StaysKept};
 ghost use Rattle.run_snoop.specs.Learnt.{Learns, LearnsFirst, names_of};
 
 use crate::line::{append_dns_fault, append_name};
@@ -58,10 +57,11 @@ fn observe<L: Ledger>(
 ) -> Result<Reply, Memory>
     requires kept { IsKept Keeper-dyn desk.old.keeper (tables_of desk.old.state) }
     requires asked { IsObservable name.now row }
-    ensures stays { KeepsConnections Keeper-dyn desk.old desk.new }
-    ensures answer { (h : List SegmentValue) → IfOk result (λ reply. AllowedReply (session_of h desk.old.state) now (Command.Observe name.now row.0 row.1) reply (session_of h desk.new.state)) }
+    ensures stays { StaysKept Keeper-dyn desk.old desk.new }
+    ensures answer { IfOk result (λ reply.
+        AllowedReply (session_of desk.old.state) now (Command.Observe name.now row.0 row.1) reply (session_of desk.new.state)) }
     ensures told { IfOk result (λ reply. reply ≢ Reply.Memory) }
-    ensures still { OnErr result ((h : List SegmentValue) → session_of h desk.new.state ≡ session_of h desk.old.state) }
+    ensures still { OnErr result (session_of desk.new.state ≡ session_of desk.old.state) }
     ensures cause { IfOk result (λ reply. Counts (is_of_keeper reply) (faults_of Keeper-dyn desk.old.keeper) (faults_of Keeper-dyn desk.new.keeper)) }
     ensures steady { OnErr result (faults_of Keeper-dyn desk.new.keeper ≡ faults_of Keeper-dyn desk.old.keeper) }
 {
@@ -82,10 +82,10 @@ fn learn_row<L: Ledger>(
 ) -> Result<bool, Memory>
     requires kept { IsKept Keeper-dyn desk.old.keeper (tables_of desk.old.state) }
     requires asked { IsObservable name.now row }
-    ensures stays { KeepsConnections Keeper-dyn desk.old desk.new }
-    ensures all { (h : List SegmentValue) → IfOk result (λ failed. Learns now (names_of name.now (row ∷ [])) (session_of h desk.old.state) (session_of h desk.new.state)
+    ensures stays { StaysKept Keeper-dyn desk.old desk.new }
+    ensures all { IfOk result (λ failed. Learns now (names_of name.now (row ∷ [])) (session_of desk.old.state) (session_of desk.new.state)
         lines.old lines.new (faults_of Keeper-dyn desk.old.keeper) (faults_of Keeper-dyn desk.new.keeper) failed) }
-    ensures part { (h : List SegmentValue) → OnErr result (LearnsFirst now (names_of name.now (row ∷ [])) (session_of h desk.old.state) (session_of h desk.new.state)
+    ensures part { OnErr result (LearnsFirst now (names_of name.now (row ∷ [])) (session_of desk.old.state) (session_of desk.new.state)
         (faults_of Keeper-dyn desk.old.keeper) (faults_of Keeper-dyn desk.new.keeper)) }
     ensures keeper { IfOk result (λ failed. Counts failed (faults_of Keeper-dyn desk.old.keeper) (faults_of Keeper-dyn desk.new.keeper)) }
 {
@@ -106,10 +106,10 @@ fn learn_rows<L: Ledger>(
 ) -> Result<bool, Memory>
     requires kept { IsKept Keeper-dyn desk.old.keeper (tables_of desk.old.state) }
     requires asked { All (IsObservable answers.now.name) answers.now.rows }
-    ensures stays { KeepsConnections Keeper-dyn desk.old desk.new }
-    ensures all { (h : List SegmentValue) → IfOk result (λ failed. Learns now (Some (Ok answers.now)) (session_of h desk.old.state) (session_of h desk.new.state)
+    ensures stays { StaysKept Keeper-dyn desk.old desk.new }
+    ensures all { IfOk result (λ failed. Learns now (Some (Ok answers.now)) (session_of desk.old.state) (session_of desk.new.state)
         lines.old lines.new (faults_of Keeper-dyn desk.old.keeper) (faults_of Keeper-dyn desk.new.keeper) failed) }
-    ensures part { (h : List SegmentValue) → OnErr result (LearnsFirst now (Some (Ok answers.now)) (session_of h desk.old.state) (session_of h desk.new.state)
+    ensures part { OnErr result (LearnsFirst now (Some (Ok answers.now)) (session_of desk.old.state) (session_of desk.new.state)
         (faults_of Keeper-dyn desk.old.keeper) (faults_of Keeper-dyn desk.new.keeper)) }
     ensures keeper { IfOk result (λ failed. Counts failed (faults_of Keeper-dyn desk.old.keeper) (faults_of Keeper-dyn desk.new.keeper)) }
 {
@@ -132,10 +132,10 @@ pub(crate) fn learn<L: Ledger>(
     steps: &mut Steps<L>,
 ) -> Result<bool, Memory>
     requires kept { IsKept Keeper-dyn desk.old.keeper (tables_of desk.old.state) }
-    ensures stays { KeepsConnections Keeper-dyn desk.old desk.new }
-    ensures all { (h : List SegmentValue) → IfOk result (λ failed. Learns now (Some (answers_of message.now)) (session_of h desk.old.state) (session_of h desk.new.state)
+    ensures stays { StaysKept Keeper-dyn desk.old desk.new }
+    ensures all { IfOk result (λ failed. Learns now (Some (answers_of message.now)) (session_of desk.old.state) (session_of desk.new.state)
         lines.old lines.new (faults_of Keeper-dyn desk.old.keeper) (faults_of Keeper-dyn desk.new.keeper) failed) }
-    ensures part { (h : List SegmentValue) → OnErr result (LearnsFirst now (Some (answers_of message.now)) (session_of h desk.old.state) (session_of h desk.new.state)
+    ensures part { OnErr result (LearnsFirst now (Some (answers_of message.now)) (session_of desk.old.state) (session_of desk.new.state)
         (faults_of Keeper-dyn desk.old.keeper) (faults_of Keeper-dyn desk.new.keeper)) }
     ensures keeper { IfOk result (λ failed. Counts failed (faults_of Keeper-dyn desk.old.keeper) (faults_of Keeper-dyn desk.new.keeper)) }
 {

@@ -3,10 +3,9 @@ ghost use Rattle.std.specs.Prelude.{◌≡◌, IfOk, OnOk, OnErr};
 ghost use Rattle.mud_world.specs.Boxed.{faults_of};
 ghost use Rattle.mud_world.specs.Causes.{Counts};
 ghost use Rattle.pcap_read.specs.Captured.{packet_of};
-ghost use Rattle.desk_model.specs.Sessions.{Session};
-ghost use Rattle.run_desk.specs.Judged.{IsIn, judged_packet};
+ghost use Rattle.run_desk.specs.Judged.{judged_packet};
 ghost use Rattle.desk_model.specs.Boxed.{IsKept};
-ghost use Rattle.mud_desk.specs.DeskState.{tables_of};
+ghost use Rattle.mud_desk.specs.DeskState.{session_of, tables_of};
 ghost use Rattle.mud_desk.specs.Stays.{StaysKept};
 ghost use Rattle.run_snoop.specs.Packets.{GoesOn, StopsAt};
 
@@ -30,9 +29,9 @@ fn judge_packet<L: Ledger>(
     requires kept { IsKept Keeper-dyn desk.old.keeper (tables_of desk.old.state) }
     ensures stays { StaysKept Keeper-dyn desk.old desk.new }
     ensures keeper { desk.new.keeper ≡ desk.old.keeper }
-    ensures verdict { (s : Session) → IsIn s desk.old.state → IfOk result (λ verdict. verdict ≡ (judged_packet s (packet_of packet.now)).verdict) }
-    ensures next { (s : Session) → IsIn s desk.old.state → OnOk result (IsIn (judged_packet s (packet_of packet.now)).session desk.new.state) }
-    ensures err { (s : Session) → IsIn s desk.old.state → OnErr result (IsIn s desk.new.state) }
+    ensures verdict { IfOk result (λ verdict. verdict ≡ (judged_packet (session_of desk.old.state) (packet_of packet.now)).verdict) }
+    ensures next { OnOk result (session_of desk.new.state ≡ (judged_packet (session_of desk.old.state) (packet_of packet.now)).session) }
+    ensures err { OnErr result (session_of desk.new.state ≡ session_of desk.old.state) }
 {
     desk.judge(packet.octets, moment_of(packet), steps)
 }
@@ -48,9 +47,9 @@ pub(crate) fn snoop_packet<L: Ledger>(
 ) -> Result<bool, Memory>
     requires kept { IsKept Keeper-dyn desk.old.keeper (tables_of desk.old.state) }
     ensures stays { StaysKept Keeper-dyn desk.old desk.new }
-    ensures all { (s : Session) → IsIn s desk.old.state → IfOk result (λ failed. GoesOn (packet_of packet.now) s desk.new.state lines.old lines.new
-        (faults_of Keeper-dyn desk.old.keeper) (faults_of Keeper-dyn desk.new.keeper) failed) }
-    ensures part { (s : Session) → IsIn s desk.old.state → OnErr result (StopsAt (packet_of packet.now) s desk.new.state
+    ensures all { IfOk result (λ failed. GoesOn (packet_of packet.now) (session_of desk.old.state) (session_of desk.new.state)
+        lines.old lines.new (faults_of Keeper-dyn desk.old.keeper) (faults_of Keeper-dyn desk.new.keeper) failed) }
+    ensures part { OnErr result (StopsAt (packet_of packet.now) (session_of desk.old.state) (session_of desk.new.state)
         (faults_of Keeper-dyn desk.old.keeper) (faults_of Keeper-dyn desk.new.keeper)) }
     ensures keeper { IfOk result (λ failed. Counts failed (faults_of Keeper-dyn desk.old.keeper) (faults_of Keeper-dyn desk.new.keeper)) }
 {

@@ -6,8 +6,8 @@ use Rattle.frame_view.specs.Frame.{frame_of}
 use Rattle.read_buffer.specs.Packets.{Packet}
 use Rattle.packet_judge.specs.declared.verdict.Verdict.{Verdict}
 use Rattle.desk_model.specs.Sessions.{Session}
-use Rattle.mud_desk.specs.DeskState.{DeskState}
-use Rattle.run_desk.specs.Judged.{IsIn, judged_packet}
+use Rattle.mud_desk.specs.DeskState.{DeskState, session_of}
+use Rattle.run_desk.specs.Judged.{judged_packet}
 use Rattle.drop_ledger.specs.declared.seen.Seen.{Seen}
 use Rattle.drop_ledger.specs.declared.rows.CountRow.{CountRow}
 use Rattle.drop_ledger.specs.Seen.{hour_of, rulings}
@@ -55,11 +55,11 @@ seen_is session packet moment verdict s moment_is verdict_is is =
     is ∙ (λ i. seen_as ((moment_is ∙ sym (moment_then session packet)) i) (verdict_is i) (frame_of packet.octets))
 
 pub next_tallied : (t : Tallied) (packet : Packet) (state : DeskState) (moment : ℕ) (tally : TallyState) (s : Seen) → moment ≡ max t.session.moment packet.seconds
-    → s ≡ seen_of (judged_packet t.session packet) packet → IsIn (judged_packet t.session packet).session state → StandsFor (t.all ++ s ∷ []) (latest_with t.latest s) tally
+    → s ≡ seen_of (judged_packet t.session packet) packet → session_of state ≡ (judged_packet t.session packet).session → StandsFor (t.all ++ s ∷ []) (latest_with t.latest s) tally
     → IsTallied (tally_step t packet).next state moment tally
 unfolding tally_step tallied
-next_tallied t packet state moment tally s moment_is seen is_in stands = record {
-  session = is_in;
+next_tallied t packet state moment tally s moment_is seen session_is stands = record {
+  session = session_is;
   moment = moment_is ∙ sym (moment_then t.session packet);
   stands = subst (λ x. StandsFor (t.all ++ x ∷ []) (latest_with t.latest x) tally) seen stands;
 }

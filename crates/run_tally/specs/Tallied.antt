@@ -10,8 +10,8 @@ use Rattle.packet_judge.specs.declared.verdict.Verdict.{Verdict}
 use Rattle.drop_ledger.specs.Counted.{first_rows, late_rows}
 use Rattle.run_captures.specs.Fold.{LineStep}
 use Rattle.desk_model.specs.Sessions.{Session, Judged}
-use Rattle.mud_desk.specs.DeskState.{DeskState}
-use Rattle.run_desk.specs.Judged.{IsIn, judged_packet}
+use Rattle.mud_desk.specs.DeskState.{DeskState, session_of}
+use Rattle.run_desk.specs.Judged.{judged_packet}
 use Rattle.drop_ledger.specs.declared.seen.Seen.{Seen}
 use Rattle.drop_ledger.specs.Seen.{hour_of, is_ruled, rulings, totals_in}
 use Rattle.drop_ledger.specs.Ledger.{TallyState, StandsFor, counts_of, denials, denied_kinds, hour_in}
@@ -103,6 +103,6 @@ tally_ending t = closing t.latest ++ ending_of t.all
 
 -- What the run holds stands for the packets that were judged.
 pub record IsTallied (t : Tallied) (state : DeskState) (now : ℕ) (tally : TallyState) : Type 0 where
-  pub session : IsIn t.session state
+  pub session : session_of state ≡ t.session
   pub moment : now ≡ t.session.moment
   pub stands : StandsFor t.all t.latest tally

@@ -2,8 +2,7 @@
 //! it is over.
 ghost use Rattle.std.specs.Prelude.{◌≡◌, ◌++◌, ◌∷◌, [], ℕ, List, max, OnOk, OnErr, IfOk, None, if◌then◌else◌, ◌-◌, ◌^◌, ◌<◌};
 ghost use Rattle.pcap_read.specs.Captured.{packet_of};
-ghost use Rattle.desk_model.specs.Sessions.{Session};
-ghost use Rattle.run_desk.specs.Judged.{IsIn};
+ghost use Rattle.mud_desk.specs.DeskState.{session_of};
 ghost use Rattle.drop_ledger.specs.Seen.{hour_of};
 ghost use Rattle.drop_ledger.specs.Ledger.{StandsFor, IsSameTally, HasRooms};
 ghost use Rattle.drop_ledger.specs.declared.seen.Seen.{Seen as SeenValue};
@@ -116,7 +115,7 @@ pub struct TalliedLines {
 impl TalliedLines {
     /// No packet was judged, and the session is at this moment. It takes no memory.
     pub fn new(alloc: Global, state: State, moment: Moment) -> TalliedLines
-        ensures { (s : Session) → IsIn s state → moment ≡ s.moment → IsTallied (begun s) result.state result.moment result.tally }
+        ensures { moment ≡ state.moment → IsTallied (begun (session_of state)) result.state result.moment result.tally }
     {
         TalliedLines {
             state,

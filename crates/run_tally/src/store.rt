@@ -7,10 +7,8 @@ ghost use Rattle.run_common.specs.Status.{Is, IsNot, IsOneOf, status_number};
 ghost use Rattle.run_common.specs.declared.status.Status.TheVariants.{Done, Refused, DoorFailed, NoMemory, KeeperFailed};
 ghost use Rattle.desk_items.specs.Loaded.{kept_of};
 ghost use Rattle.desk_model.specs.Items.{none_kept};
-ghost use Rattle.desk_model.specs.Sessions.{Session};
-ghost use Rattle.run_desk.specs.Judged.{IsIn};
 ghost use Rattle.desk_model.specs.Boxed.{IsKept};
-ghost use Rattle.mud_desk.specs.DeskState.{tables_of};
+ghost use Rattle.mud_desk.specs.DeskState.{tables_of, session_of};
 ghost use Rattle.run_tally.specs.Store.{TalliesStore, output_of_tally};
 ghost use Rattle.run_tally.specs.Tallied.{begun, tally_step};
 
@@ -30,13 +28,15 @@ fn tally_capture<D: Door>(alloc: Global, desk: Desk, door: &mut D) -> (Status, B
     ensures statuses { IsOneOf (Done ∷ Refused ∷ DoorFailed ∷ NoMemory ∷ []) (status_number result.0) }
     ensures fault { Is DoorFailed (status_number result.0) → IsStopped (D.view door.old) (D.view door.new) }
     ensures steady { IsNot DoorFailed (status_number result.0) → IsSteady (D.view door.old) (D.view door.new) }
-    // In whatever session the desk is, the lines are those that the list of the packets tells.
-    ensures done { (s : Session) → IsIn s desk.state → D.tells → IsOneOf (Done ∷ Refused ∷ []) (status_number result.0) →
-        WritesOutput (output_of_tally s (D.view door.old).state.left) (D.view door.old).state (D.view door.new).state (status_number result.0) }
-    ensures part { (s : Session) → IsIn s desk.state → D.tells → IsOneOf (DoorFailed ∷ NoMemory ∷ []) (status_number result.0) →
-        WritesPart (output_of_tally s (D.view door.old).state.left) (D.view door.old).state (D.view door.new).state }
-    ensures taken { (s : Session) → IsIn s desk.state → D.tells → (D.view door.new).reads ≢ (D.view door.old).reads →
-        WritesTaken tally_step (begun s) (D.view door.old).state (D.view door.new).state }
+    // The lines are those that the list of the packets tells, in the session of the desk.
+    ensures done { D.tells → IsOneOf (Done ∷ Refused ∷ []) (status_number result.0) →
+        WritesOutput (output_of_tally (session_of desk.state) (D.view door.old).state.left)
+        (D.view door.old).state (D.view door.new).state (status_number result.0) }
+    ensures part { D.tells → IsOneOf (DoorFailed ∷ NoMemory ∷ []) (status_number result.0) →
+        WritesPart (output_of_tally (session_of desk.state) (D.view door.old).state.left)
+        (D.view door.old).state (D.view door.new).state }
+    ensures taken { D.tells → (D.view door.new).reads ≢ (D.view door.old).reads →
+        WritesTaken tally_step (begun (session_of desk.state)) (D.view door.old).state (D.view door.new).state }
     ensures turns { (D.view door.new).turns ≡ (D.view door.old).turns }
     ensures keeper { result.1 ≡ desk.keeper }
 {

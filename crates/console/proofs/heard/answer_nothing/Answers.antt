@@ -1,11 +1,12 @@
 use Rattle.std.proofs.Common.{ap}
 use Rattle.http_answers.specs.declared.status.Status.TheVariants as status
 use Rattle.console_outcomes.specs.Heards.{nothing_body}
+use Rattle.mud_desk.specs.DeskState.{session_of}
 use Rattle.console.specs.Replies.{reply}
 use Rattle.console.proofs.Standing.{raises}
 use Rattle.console.proofs.heard.answer_nothing.Goals as goal
 
 pub returns-clause-reply : goal.returns-clause-reply
-returns-clause-reply g c = λ h forwarded.
-    raises (λ s. reply status.Done nothing_body) h c.args.desk.now.state c.raise.new.desk.state c.args.given (reply status.Done c.write_nothing_heard.new.self)
-    (ap (reply status.Done) c.write_nothing_heard.ensures) (c.raise.ensures.raised h) c.raise.ensures.stays.flows forwarded
+returns-clause-reply g c =
+    raises (session_of c.args.desk.now.state) (session_of c.raise.new.desk.state) c.args.given (reply status.Done nothing_body) (reply status.Done c.write_nothing_heard.new.self)
+    (ap (reply status.Done) c.write_nothing_heard.ensures) c.raise.ensures.raised

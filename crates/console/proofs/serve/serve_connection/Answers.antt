@@ -1,5 +1,4 @@
 use Rattle.std.proofs.Common.{◌≡◌, refl}
-use Rattle.std.specs.Prelude.{Some, None}
 use Rattle.mud_world.specs.Boxed.{faults_of}
 use Rattle.mud_desk.specs.DeskState.{session_of}
 use Rattle.mud_desk.specs.Stays.{StaysKept}
@@ -10,33 +9,37 @@ use Rattle.console.proofs.Beside.{beside, left_of, is_served_of}
 use Rattle.console.proofs.serve.serve_connection.Goals as goal
 
 pub returns-clause-left : goal.returns-clause-left
-returns-clause-left g c = λ h forwarded.
+returns-clause-left g c =
     let old = c.args.console.now in
     let moments = g.C.Clock.moments old.clock.now in
-    let first = begun (session_of h old.desk.state) moments in
+    let first = begun (session_of old.desk.state) moments in
     left_of (ConsoleStep g.C.Clock.tells) _ _ first old (λ n k. k.0)
-    (c.serve_connection.ensures.left (Some first, old) (at_first g.C.Clock.tells old.desk.state moments (faults_of (goal.Keeper-dyn g) old.desk.keeper) h forwarded, (λ t. t), refl, refl, refl))
+    (c.serve_connection.ensures.left (first, old) (at_first g.C.Clock.tells old.desk.state moments (faults_of (goal.Keeper-dyn g) old.desk.keeper), (λ t. t), refl, refl, refl))
 
 pub returns-clause-served : goal.returns-clause-served
-returns-clause-served g c = λ tells h forwarded.
+returns-clause-served g c = λ tells.
     let old = c.args.console.now in
     let moments = g.C.Clock.moments old.clock.now in
-    let first = begun (session_of h old.desk.state) moments in
+    let first = begun (session_of old.desk.state) moments in
     is_served_of (ConsoleStep g.C.Clock.tells) fault_answer c.args.from _ _ first old _ _ _ (λ n k. k.0)
-    (c.serve_connection.ensures.served tells (Some first, old) (at_first g.C.Clock.tells old.desk.state moments (faults_of (goal.Keeper-dyn g) old.desk.keeper) h forwarded, (λ t. t), refl, refl, refl))
+    (c.serve_connection.ensures.served tells (first, old) (at_first g.C.Clock.tells old.desk.state moments (faults_of (goal.Keeper-dyn g) old.desk.keeper), (λ t. t), refl, refl, refl))
 
 pub returns-clause-stays : goal.returns-clause-stays
 returns-clause-stays g c =
     let old = c.args.console.now in
+    let moments = g.C.Clock.moments old.clock.now in
+    let first = begun (session_of old.desk.state) moments in
     let new = c.serve_connection.new.service in
     let ready = c.serve_connection.ensures.ready in
-    beside (ConsoleStep g.C.Clock.tells) _ (None, old) (c.serve_connection.ensures.left (None, old) (tt, (λ t. t), refl, refl, refl))
+    beside (ConsoleStep g.C.Clock.tells) _ first old (c.serve_connection.ensures.left (first, old) (at_first g.C.Clock.tells old.desk.state moments (faults_of (goal.Keeper-dyn g) old.desk.keeper), (λ t. t), refl, refl, refl))
     (λ x. StaysKept (goal.Keeper-dyn g) x.desk new.desk)
     (λ n k. record { kept = record { is_open = ready.0; items = ready.1 }; told = k.1; same_box = record { object = k.2; pointer = k.3 } })
 
 pub returns-clause-same_clock : goal.returns-clause-same_clock
 returns-clause-same_clock g c =
     let old = c.args.console.now in
+    let moments = g.C.Clock.moments old.clock.now in
+    let first = begun (session_of old.desk.state) moments in
     let new = c.serve_connection.new.service in
-    beside (ConsoleStep g.C.Clock.tells) _ (None, old) (c.serve_connection.ensures.left (None, old) (tt, (λ t. t), refl, refl, refl))
+    beside (ConsoleStep g.C.Clock.tells) _ first old (c.serve_connection.ensures.left (first, old) (at_first g.C.Clock.tells old.desk.state moments (faults_of (goal.Keeper-dyn g) old.desk.keeper), (λ t. t), refl, refl, refl))
     (λ x. new.clock.ghost_name ≡ x.clock.ghost_name) (λ n k. k.4)

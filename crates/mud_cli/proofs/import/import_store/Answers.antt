@@ -24,7 +24,7 @@ returns-in-Ok g c =
     (spool_viewed (spool.view c.import_files-status.new.spool).files (spool.view c.import_files-status.new.spool).faults (spool.view c.import_files-status.new.spool).failed) (clock.moments c.import_files-status.new.clock))
     (status_number c.import_files-status.result)
     desk after store.tables store.sound store.begun store.steady store.same_box
-    run.stays.stays c.lists_are_sound.ensures run.statuses run.fault run.steady run.keeper run.keeper_steady
+    run.stays c.lists_are_sound.ensures run.statuses run.fault run.steady run.keeper run.keeper_steady
     (λ told. run.done told.0 told.1.0 told.1.1) (λ told. run.part told.0 told.1.0 told.1.1) (λ told. run.same told.1.0) run.turns run.reads
     c.close.result c.close.ensures
 

@@ -1,6 +1,5 @@
 use Rattle.std.proofs.Common.{◌<◌, ap, ◌∙◌, subst, arith}
 use Rattle.table_model.specs.Expiries.{for_ever}
-use Rattle.flow_table.specs.Held.{flows_of}
 use Rattle.frame_view.specs.declared.views.Frame.{Frame}
 use Rattle.acl_compile.specs.Plans.{policy_held}
 use Rattle.packet_judge.specs.Verdicts.{verdict_on}
@@ -12,17 +11,17 @@ use Rattle.mud_desk.proofs.judging.why.Goals as goal
 
 pub findings_with-requires : goal.findings_with-requires
 findings_with-requires g c =
-    let k = rule_inputs c.args.things.now.things c.args.compiled.now c.args.locals.now (flows_of c.args.flows.now) in
+    let k = rule_inputs c.args.things.now.things c.args.compiled.now c.args.locals.now c.args.flows.now.history in
     rules_things (ruling_on k c.args.now) c.args.things.now.things c.view-view.result c.judge-verdict.result c.judge-verdict.ensures.verdict
 
 pub returns-clause-verdict : goal.returns-clause-verdict
-returns-clause-verdict g c = λ desk h of.
+returns-clause-verdict g c = λ desk of.
     let small : c.args.now < for_ever = omega (arith, c.seconds-seconds.ensures.value, c.seconds-seconds.ensures.range) in
-    let k = rule_inputs c.args.things.now.things c.args.compiled.now c.args.locals.now (flows_of c.args.flows.now) in
+    let k = rule_inputs c.args.things.now.things c.args.compiled.now c.args.locals.now c.args.flows.now.history in
     c.findings_with.ensures.verdict
     ∙ c.judge-verdict.ensures.verdict
     ∙ ap (λ (frame : Frame). verdict_on (ruling_on k c.args.now) k.things frame) c.view-view.ensures
-    ∙ verdicts_alike desk h k of c.args.now small c.requires.since c.args.frame.now
+    ∙ verdicts_alike desk k of c.args.now small c.args.frame.now
 
 pub returns-clause-found : goal.returns-clause-found
 returns-clause-found g c =

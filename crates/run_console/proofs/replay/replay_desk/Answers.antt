@@ -1,4 +1,3 @@
-use Rattle.std.proofs.Common.{[]}
 use Rattle.run_common.specs.Status.{status_number}
 use Rattle.mud_world.specs.View.{viewed}
 use Rattle.mud_world.specs.Boxed.{faults_of}
@@ -17,4 +16,4 @@ returns-clause-replays g c = λ tables is.
     (door.view old)
     (door.view new)
     (status_number c.status_of.result)
-    is run.stays.kept c.close.ensures c.status_of.ensures (run.left [] is.forwarded) (λ told. run.served told [] is.forwarded) run.calls
+    is run.stays.kept c.close.ensures c.status_of.ensures run.left run.served run.calls

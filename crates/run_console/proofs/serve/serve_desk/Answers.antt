@@ -1,4 +1,4 @@
-use Rattle.std.proofs.Common.{◌≡◌, ℕ, List, [], refl, sym, ap, subst, rules}
+use Rattle.std.proofs.Common.{◌≡◌, ℕ, List, refl, sym, ap, subst, rules}
 use Rattle.std.specs.Prelude.{is_err}
 use Rattle.run_common.specs.Status.{status_number}
 use Rattle.mud_world.specs.View.{viewed}
@@ -47,4 +47,4 @@ returns-clause-serves g c = λ tables is.
     (door.view new)
     (status_number c.status_of.result)
     run.stays.kept c.close-2.ensures c.status_of.ensures bound.ok bound.cause bound.reads bound.writes
-    (run.left [] is.forwarded) (λ told. run.served told [] is.forwarded) run.calls)
+    run.left run.served run.calls)

@@ -1,10 +1,9 @@
-use Rattle.std.proofs.Common.{sym, subst}
-use Rattle.mud_desk.specs.DeskState.{DeskState}
-use Rattle.run_desk.specs.Judged.{IsIn}
+use Rattle.std.proofs.Common.{ap}
+use Rattle.mud_desk.specs.DeskState.{session_of}
 use Rattle.run_desk.proofs.judging.judge_capture.Goals as goal
 
 pub returns-clause-done : goal.returns-clause-done
-returns-clause-done g c = λ s is_in. c.write_capture-status.ensures.done s (subst (λ (state : DeskState). IsIn s state) (sym c.into_parts-keeper.ensures.state) is_in)
+returns-clause-done g c = c.write_capture-status.ensures.done (session_of c.args.desk.state) (ap session_of c.into_parts-keeper.ensures.state)
 
 pub returns-clause-part : goal.returns-clause-part
-returns-clause-part g c = λ s is_in. c.write_capture-status.ensures.part s (subst (λ (state : DeskState). IsIn s state) (sym c.into_parts-keeper.ensures.state) is_in)
+returns-clause-part g c = c.write_capture-status.ensures.part (session_of c.args.desk.state) (ap session_of c.into_parts-keeper.ensures.state)

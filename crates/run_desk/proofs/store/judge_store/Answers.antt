@@ -1,9 +1,6 @@
 use Rattle.std.proofs.Common.{ap}
 use Rattle.run_common.specs.Status.{status_number}
-use Rattle.mud_world.specs.View.{viewed}
-use Rattle.desk_model.specs.Sessions.{opened}
 use Rattle.mud_desk.specs.DeskState.{tables_of}
-use Rattle.run_desk.proofs.JudgedPackets.{in_begun}
 use Rattle.run_desk.proofs.Refusals.{runs_refused}
 use Rattle.run_desk.proofs.Runs.{opened_over, refused_over}
 use Rattle.run_desk.specs.Store.{judged_output, judged_taken}
@@ -18,13 +15,12 @@ returns-in-Ok-clause-judged g c =
     let store = c.in-Ok.ensures in
     let run = c.judge_capture.ensures in
     let tables = tables_of desk.state in
-    let is_in = in_begun tables desk.state store.begun in
     opened_over (goal.Keeper-dyn g) c.args.keeper desk.keeper door.tells
     (door.view old)
     (door.view new)
     (status_number c.judge_capture.result.0) judged_output judged_taken
     tables store.tables store.sound store.kept store.steady store.same_box
-    run.statuses run.fault run.steady (run.done (opened tables) is_in) (run.part (opened tables) is_in) (run.taken (opened tables) is_in) run.turns
+    run.statuses run.fault run.steady (rw store.begun at run.done) (rw store.begun at run.part) (rw store.begun at run.taken) run.turns
     c.judge_capture.result.1 run.keeper
 
 pub returns-in-Err-clause-judged : goal.returns-in-Err-clause-judged

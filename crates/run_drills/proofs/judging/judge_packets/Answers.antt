@@ -1,25 +1,27 @@
-use Rattle.run_drills.specs.Drill.{numbers_to, session_behind}
+use Rattle.std.proofs.Common.{refl}
+use Rattle.mud_desk.specs.DeskState.{session_of}
 use Rattle.run_drills.proofs.PacketCounts.{counted_next, none_counted, reached_next, small_next}
 use Rattle.run_drills.proofs.judging.judge_packets.Goals as goal
 
 pub loop-before-init : goal.loop-before-init
 loop-before-init c = record {
-  reached = λ s is_in. is_in;
-  counted = λ s is_in. c.none-counts.ensures;
+  reached = refl;
+  counted = c.none-counts.ensures;
   small = none_counted c.none-counts.result c.none-counts.ensures;
 }
 
 pub loop-before-preserved : goal.loop-before-preserved
 loop-before-preserved c =
-    let packets = c.args.packets in
     let n = c.loop-before.before in
+    let s = session_of c.args.state.now in
+    let here = session_of c.loop-before.state in
+    let reached = c.loop-before.invariant.reached in
     record {
-      reached = λ s is_in.
-          reached_next packets n s c.packet_moment-now.result c.octets.result.now c.write_packet.new.frame c.packet_moment-now.ensures c.octets.ensures c.in_ok-write_packet.ensures c.judge_frame.new.state
-          (c.in_ok-verdict.ensures.next (session_behind packets s (numbers_to n)) (c.loop-before.invariant.reached s is_in));
-      counted = λ s is_in.
-          counted_next packets n s c.packet_moment-now.result c.octets.result.now c.write_packet.new.frame c.packet_moment-now.ensures c.octets.ensures c.in_ok-write_packet.ensures
-          c.loop-before.counts c.add.new.self c.in_ok-verdict.verdict (c.loop-before.invariant.counted s is_in)
-          (c.in_ok-verdict.ensures.verdict (session_behind packets s (numbers_to n)) (c.loop-before.invariant.reached s is_in)) c.add.ensures;
+      reached =
+          reached_next c.args.packets n s here reached c.packet_moment-now.result c.octets.result.now c.write_packet.new.frame c.packet_moment-now.ensures c.octets.ensures c.in_ok-write_packet.ensures
+          (session_of c.judge_frame.new.state) c.in_ok-verdict.ensures.next;
+      counted =
+          counted_next c.args.packets n s here reached c.packet_moment-now.result c.octets.result.now c.write_packet.new.frame c.packet_moment-now.ensures c.octets.ensures c.in_ok-write_packet.ensures
+          c.loop-before.counts c.add.new.self c.in_ok-verdict.verdict c.loop-before.invariant.counted c.in_ok-verdict.ensures.verdict c.add.ensures;
       small = small_next n c.loop-before.counts c.add.new.self c.in_ok-verdict.verdict c.loop-before.invariant.small c.add.ensures;
     }

@@ -1,9 +1,6 @@
 use Rattle.std.proofs.Common.{ap, sym, ◌∙◌}
 use Rattle.run_common.specs.Status.{status_number}
-use Rattle.mud_world.specs.View.{viewed}
-use Rattle.desk_model.specs.Sessions.{opened}
 use Rattle.mud_desk.specs.DeskState.{tables_of}
-use Rattle.run_desk.proofs.JudgedPackets.{in_begun}
 use Rattle.run_desk.proofs.Refusals.{runs_refused}
 use Rattle.run_drills.proofs.Stores.{drilled_run, full_run, refused_drill}
 use Rattle.run_drills.proofs.store.run_drill.Goals as goal
@@ -21,7 +18,7 @@ returns-in-Ok-clause-drilled g c =
     (door.view new)
     (status_number c.drill_desk.result.0) c.args.packets
     tables store.tables store.steady store.same_box (sym c.holds_nothing.ensures ∙ c.if-holds_nothing.true)
-    c.drill_desk.result.1 (c.drill_desk.ensures.drilled (opened tables) (in_begun tables desk.state store.begun))
+    c.drill_desk.result.1 (rw store.begun at c.drill_desk.ensures.drilled)
 
 pub returns-in-Ok-2-clause-drilled : goal.returns-in-Ok-2-clause-drilled
 returns-in-Ok-2-clause-drilled g c =

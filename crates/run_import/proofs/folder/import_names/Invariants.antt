@@ -1,9 +1,8 @@
-use Rattle.std.proofs.Common.{◌≡◌, ◌⊎◌, ◌==◌, List, take}
-use Rattle.table_model.specs.declared.segment.Segment.{Segment}
+use Rattle.std.proofs.Common.{◌≡◌, ◌⊎◌, ◌==◌, take}
 use Rattle.mud_world.specs.Boxed.{faults_of}
 use Rattle.mud_world.specs.Causes.{Counts}
 use Rattle.run_common.specs.Status.{status_number}
-use Rattle.mud_desk.specs.Stays.{KeepsConnections}
+use Rattle.mud_desk.specs.Stays.{StaysKept}
 use Rattle.run_import.specs.Runs.{ImportsAll}
 use Rattle.run_import.specs.Scenes.{scene}
 use Rattle.run_import.proofs.folder.import_names.Given as goal
@@ -16,10 +15,11 @@ invariant-loop-name g l =
     let members = goal.Keeper-dyn g in
     let status = status_number l.status in
     record {
-      stays : KeepsConnections members l.initial.desk l.desk;
-      all : door.tells → spool.tells → clock.tells → (h : List Segment) → ImportsAll (spool.view l.initial.spool).files (take l.name-index l.names)
-          (scene h l.initial.desk.state (clock.moments l.initial.clock) (door.view l.initial.door).state (faults_of members l.initial.desk.keeper))
-          (scene h l.desk.state (clock.moments l.clock) (door.view l.door).state (faults_of members l.desk.keeper)) status;
+      stays : StaysKept members l.initial.desk l.desk;
+      history : l.desk.state.flows.history ≡ l.initial.desk.state.flows.history;
+      all : door.tells → spool.tells → clock.tells → ImportsAll (spool.view l.initial.spool).files (take l.name-index l.names)
+          (scene l.initial.desk.state (clock.moments l.initial.clock) (door.view l.initial.door).state (faults_of members l.initial.desk.keeper))
+          (scene l.desk.state (clock.moments l.clock) (door.view l.door).state (faults_of members l.desk.keeper)) status;
       statuses : (status ≡ 0) ⊎ ((status ≡ 3) ⊎ (status ≡ 7));
       keeper : Counts (status == 7) (faults_of members l.initial.desk.keeper) (faults_of members l.desk.keeper);
       writes : (door.view l.door).writes ≡ (door.view l.initial.door).writes;

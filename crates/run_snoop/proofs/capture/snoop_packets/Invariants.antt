@@ -4,8 +4,7 @@ use Rattle.mud_world.specs.Causes.{Counts}
 use Rattle.mud_world.specs.Door.{DoorState}
 use Rattle.run_captures.specs.Reading.{is_broken, most_to_come}
 use Rattle.run_captures.specs.Runs.{HasDone}
-use Rattle.desk_model.specs.Sessions.{Session}
-use Rattle.run_desk.specs.Judged.{IsIn}
+use Rattle.mud_desk.specs.DeskState.{session_of}
 use Rattle.mud_desk.specs.Stays.{StaysKept}
 use Rattle.run_snoop.proofs.Snooped.{HasSnooped}
 use Rattle.run_snoop.proofs.capture.snoop_packets.Given as goal
@@ -16,9 +15,9 @@ invariant-packets g l =
     let members = goal.Keeper-dyn g in
     record {
       stays : StaysKept members l.initial.desk l.desk;
-      snooped : (s : Session) → (first : DoorState) → IsIn s l.initial.desk.state → door.tells
+      snooped : (first : DoorState) → door.tells
           → HasDone [] [] l.initial.reader first (door.view l.initial.door).state l.initial.lines
-          → HasSnooped s first (faults_of members l.initial.desk.keeper) l.desk.state (door.view l.door).state (faults_of members l.desk.keeper) l.reader l.lines l.failed;
+          → HasSnooped (session_of l.initial.desk.state) first (faults_of members l.initial.desk.keeper) (session_of l.desk.state) (door.view l.door).state (faults_of members l.desk.keeper) l.reader l.lines l.failed;
       keeper : Counts l.failed (faults_of members l.initial.desk.keeper) (faults_of members l.desk.keeper);
       going : is_broken l.reader ≡ false;
       writes : (door.view l.door).writes ≡ (door.view l.initial.door).writes;

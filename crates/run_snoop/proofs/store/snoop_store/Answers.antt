@@ -1,6 +1,5 @@
 use Rattle.std.proofs.Common.{ap}
 use Rattle.run_common.specs.Status.{status_number}
-use Rattle.mud_world.specs.View.{viewed}
 use Rattle.run_desk.proofs.Refusals.{runs_refused}
 use Rattle.run_snoop.proofs.Stored.{snooped_run, refused_snoop}
 use Rattle.run_snoop.proofs.store.snoop_store.Goals as goal

@@ -9,10 +9,10 @@ returns-clause-answer g c = λ from whole are s kept.
     let k = carried g.C.Clock.tells c.args.self.now.desk.state c.answer_request.new.desk.state (g.C.Clock.moments c.args.self.now.clock.now) (g.C.Clock.moments c.moment_for-given.new.clock)
     (faults_of (goal.Keeper-dyn g) s.1.desk.keeper) (faults_of (goal.Keeper-dyn g) c.args.self.now.desk.keeper) (faults_of (goal.Keeper-dyn g) c.answer_request.new.desk.keeper)
     c.answer_request.result c.moment_for-given.result c.answer_request.new.answer from whole c.args.is_last c.args.request.now.moment c.moment_for-given.ensures are.moment
-    c.answer_request.ensures.cause (λ h forwarded. c.answer_request.ensures.answer from whole are h forwarded) s.0 kept.0
+    c.answer_request.ensures.cause (c.answer_request.ensures.answer from whole are) s.0 kept.0
     in
     record {
       next = (k.next, s.1);
-      is_allowed = record { may_if = k.may; same = refl };
+      is_allowed = record { may_be = k.may; same = refl };
       kept = (k.at, (λ t. kept.1 (stays.told t)), stays.same_box.object ∙ kept.2, stays.same_box.pointer ∙ kept.3, kept.4);
     }

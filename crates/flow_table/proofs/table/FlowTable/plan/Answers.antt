@@ -1,6 +1,6 @@
-use Rattle.std.proofs.Common.{◌≡◌, IsTrue, sym, ◌∙◌, subst}
-use Rattle.flow_table.specs.Planned.{segment_planned}
-use Rattle.flow_table.specs.Kept.{Flows, is_since}
+use Rattle.std.proofs.Common.{◌≡◌, IsTrue, List, sym, ◌∙◌, subst}
+use Rattle.table_model.specs.declared.segment.Segment.{Segment}
+use Rattle.flow_table.specs.Noted.{segment_planned, follows}
 use Rattle.flow_table.proofs.Histories.{at_planned}
 use Rattle.flow_table.proofs.table.FlowTable.plan.Goals as goal
 
@@ -12,8 +12,7 @@ pub returns-clause-ready : goal.returns-clause-ready
 unfolding segment_planned
 returns-clause-ready c =
     let at : c.in-Some.packet.at ≡ c.args.now = at_planned _ _ _ (sym c.segment_of.ensures ∙ c.in-Some.is) in
-    let Since : Flows → Type 0 = λ flows. IsTrue (is_since flows.last c.args.now) in
     record {
-      since = rw at (subst Since (sym c.in_ok-make_room.ensures.same) c.requires.since);
+      since = rw at (subst (λ (h : List Segment). IsTrue (follows h c.args.now)) (sym c.in_ok-make_room.ensures.same) c.requires.since);
       room = c.in_ok-make_room.ensures.room;
     }

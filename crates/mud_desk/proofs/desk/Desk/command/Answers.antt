@@ -17,11 +17,11 @@ use Rattle.mud_desk.proofs.Payments.{paid, planned_only, undone}
 use Rattle.mud_desk.proofs.desk.Desk.command.Goals as goal
 
 pub returns-in-Err-clause-answer : goal.returns-in-Err-clause-answer
-returns-in-Err-clause-answer g c = λ h.
+returns-in-Err-clause-answer g c =
     let before = c.args.self.now.state in
     let is : c.later-now.result ≡ max before.moment c.args.now = c.later-now.ensures ∙ ap (λ m. max m c.args.now) c.moment.ensures in
-    subst (λ (r : Reply). AllowedReply (session_of h before) c.args.now c.args.command r (session_of h c.plan.new.self)) (sym c.into_reply.ensures)
-    (refused before c.plan.new.self c.args.command c.later-now.result c.in-Err.ensures.same h c.args.now is c.in-Err.refusal c.in-Err.ensures.moment c.in-Err.ensures.err)
+    subst (λ (r : Reply). AllowedReply (session_of before) c.args.now c.args.command r (session_of c.plan.new.self)) (sym c.into_reply.ensures)
+    (refused before c.plan.new.self c.args.command c.later-now.result c.in-Err.ensures.same c.in-Err.ensures.flows c.args.now is c.in-Err.refusal c.in-Err.ensures.moment c.in-Err.ensures.err)
 
 pub returns-in-Err-clause-cause : goal.returns-in-Err-clause-cause
 returns-in-Err-clause-cause g c =
@@ -32,17 +32,17 @@ pub returns-in-Err-clause-compiled : goal.returns-in-Err-clause-compiled
 returns-in-Err-clause-compiled g c = undone c.into_reply.result c.args.self.now.state.books.compiled c.plan.new.self.books.compiled c.in-Err.ensures.compiled
 
 pub returns-in-Err-Failed-clause-answer : goal.returns-in-Err-Failed-clause-answer
-returns-in-Err-Failed-clause-answer g c = λ h.
+returns-in-Err-Failed-clause-answer g c =
     let before = c.args.self.now.state in
     let is : c.later-now.result ≡ max before.moment c.args.now = c.later-now.ensures ∙ ap (λ m. max m c.args.now) c.moment.ensures in
-    failed before c.plan.new.self c.args.command c.later-now.result c.in-Ok.ensures.same h c.args.now is c.in-Ok.change c.in-Ok.ensures.ok
+    failed before c.plan.new.self c.args.command c.later-now.result c.in-Ok.ensures.same c.in-Ok.ensures.flows c.args.now is c.in-Ok.change c.in-Ok.ensures.ok
     (subst (λ (puts : List Put). puts ≢ []) c.batch.ensures c.in-Err-Failed.ensures.some) c.in-Ok.ensures.moment
 
 pub returns-in-Err-Memory-clause-answer : goal.returns-in-Err-Memory-clause-answer
-returns-in-Err-Memory-clause-answer g c = λ h.
+returns-in-Err-Memory-clause-answer g c =
     let before = c.args.self.now.state in
     let is : c.later-now.result ≡ max before.moment c.args.now = c.later-now.ensures ∙ ap (λ m. max m c.args.now) c.moment.ensures in
-    wanted before c.plan.new.self c.args.command c.later-now.result c.in-Ok.ensures.same h c.args.now is c.in-Ok.ensures.moment
+    wanted before c.plan.new.self c.args.command c.later-now.result c.in-Ok.ensures.same c.in-Ok.ensures.flows c.args.now is c.in-Ok.ensures.moment
 
 pub returns-in-Err-Failed-clause-steps : goal.returns-in-Err-Failed-clause-steps
 returns-in-Err-Failed-clause-steps g c =
@@ -57,33 +57,24 @@ returns-in-Err-Memory-clause-steps g c =
     planned_only before c.plan.new.self c.args.command c.later-now.result c.args.now is c.in-Ok.ensures.same c.in-Ok.ensures.compiled.rows c.args.steps.now c.plan.new.steps c.in-Ok.ensures.steps
 
 pub returns-clause-answer : goal.returns-clause-answer
-returns-clause-answer g c = λ h.
+returns-clause-answer g c =
     let before = c.args.self.now.state in
     let is : c.later-now.result ≡ max before.moment c.args.now = c.later-now.ensures ∙ ap (λ m. max m c.args.now) c.moment.ensures in
-    subst (λ (outcome : Outcome). AllowedReply (session_of h before) c.args.now c.args.command (Done outcome) (session_of h c.commit.new.self)) (sym c.outcome-outcome.ensures)
-    (done before c.plan.new.self c.args.command c.later-now.result c.in-Ok.ensures.same h c.args.now is c.commit.new.self c.in-Ok.change c.in-Ok.ensures.ok c.commit.ensures.desk c.commit.ensures.moment)
+    subst (λ (outcome : Outcome). AllowedReply (session_of before) c.args.now c.args.command (Done outcome) (session_of c.commit.new.self)) (sym c.outcome-outcome.ensures)
+    (done before c.plan.new.self c.args.command c.later-now.result c.in-Ok.ensures.same c.in-Ok.ensures.flows c.args.now is c.commit.new.self c.in-Ok.change c.in-Ok.ensures.ok c.commit.ensures.desk c.commit.ensures.flows c.commit.ensures.moment)
 
 pub returns-in-Err-clause-stays : goal.returns-in-Err-clause-stays
-returns-in-Err-clause-stays g c = record {
-  stays = stays_untold (goal.Keeper-dyn g) refl c.in-Err.ensures.same c.requires.kept;
-  flows = c.in-Err.ensures.flows;
-}
+returns-in-Err-clause-stays g c = stays_untold (goal.Keeper-dyn g) refl c.in-Err.ensures.same c.requires.kept
 
 pub returns-in-Err-Failed-clause-stays : goal.returns-in-Err-Failed-clause-stays
 returns-in-Err-Failed-clause-stays g c =
     let kept = c.in-Err-Failed.ensures in
-    record {
-      stays = stays_unput (goal.Keeper-dyn g) kept.opened kept.told kept.err (record { object = kept.object; pointer = kept.pointer }) c.in-Ok.ensures.same c.requires.kept;
-      flows = c.in-Ok.ensures.flows;
-    }
+    stays_unput (goal.Keeper-dyn g) kept.opened kept.told kept.err (record { object = kept.object; pointer = kept.pointer }) c.in-Ok.ensures.same c.requires.kept
 
 pub returns-in-Err-Memory-clause-stays : goal.returns-in-Err-Memory-clause-stays
 returns-in-Err-Memory-clause-stays g c =
     let kept = c.in-Err-Memory.ensures in
-    record {
-      stays = stays_unput (goal.Keeper-dyn g) kept.opened kept.told kept.err (record { object = kept.object; pointer = kept.pointer }) c.in-Ok.ensures.same c.requires.kept;
-      flows = c.in-Ok.ensures.flows;
-    }
+    stays_unput (goal.Keeper-dyn g) kept.opened kept.told kept.err (record { object = kept.object; pointer = kept.pointer }) c.in-Ok.ensures.same c.requires.kept
 
 pub returns-clause-stays : goal.returns-clause-stays
 returns-clause-stays g c =
@@ -92,14 +83,11 @@ returns-clause-stays g c =
     let put : put_all (items_of (tables_of before)) c.in-Ok.change.batch ≡ items_of (tables_of c.commit.new.self) =
     reaches before c.plan.new.self c.args.command c.later-now.result c.in-Ok.ensures.same c.in-Ok.change c.in-Ok.ensures.ok c.in-Ok.ensures.sound c.command_fits.ensures c.requires.asked ∙ ap items_of (sym c.commit.ensures.desk) in
     record {
-      stays = record {
-        kept = kept_after (goal.Keeper-dyn g) c.args.self.now.keeper c.keep_batch.new.keeper (tables_of before) (tables_of c.commit.new.self) c.in-Ok.change.batch c.requires.kept kept.opened kept.told
-            (λ tells. kept.ok tells ∙ ap (put_all (kept_items (goal.Keeper-dyn g) c.args.self.now.keeper)) c.batch.ensures)
-            put;
-        told = kept.told;
-        same_box = record { object = kept.object; pointer = kept.pointer };
-      };
-      flows = c.commit.ensures.flows ∙ c.in-Ok.ensures.flows;
+      kept = kept_after (goal.Keeper-dyn g) c.args.self.now.keeper c.keep_batch.new.keeper (tables_of before) (tables_of c.commit.new.self) c.in-Ok.change.batch c.requires.kept kept.opened kept.told
+          (λ tells. kept.ok tells ∙ ap (put_all (kept_items (goal.Keeper-dyn g) c.args.self.now.keeper)) c.batch.ensures)
+          put;
+      told = kept.told;
+      same_box = record { object = kept.object; pointer = kept.pointer };
     }
 
 pub returns-clause-steps : goal.returns-clause-steps

@@ -3,8 +3,7 @@ use Rattle.mud_base.specs.declared.packet.Direction.{Direction}
 use Rattle.mud_base.specs.declared.packet.Fields.{Fields}
 use Rattle.table_model.specs.Bindings.{ruling_by_bindings}
 use Rattle.acl_compile.specs.Plans.{policy_held}
-use Rattle.flow_table.specs.Held.{flows_of}
-use Rattle.flow_table.specs.Kept.{begun_kept}
+use Rattle.table_model.specs.History.{begun_of}
 use Rattle.packet_judge.specs.ByRows.{asked}
 use Rattle.packet_judge.proofs.ViewSteps as count
 use Rattle.mud_desk.specs.RuleInputs.{ruling_on, rows_read, ruling_steps}
@@ -19,7 +18,7 @@ returns-clause-value g c =
     let url = c.args.thing.now.url in
     c.rule.ensures.rules k.slots k.bindings url (policy_held k.slots url) c.args.side (view_over k url c.args.side c.view-view.result c.view-view.ensures.view c.view-view.ensures.kept)
     ∙ ap (λ (begun : Option Direction). ruling_by_bindings k.bindings o.locals.now o.now url (policy_held k.slots url) c.args.side c.args.packet.now.fields begun)
-    (c.begun-begun.ensures.kept ∙ ap (λ (f : Fields). begun_kept (flows_of o.flows.now) c.args.side f o.now) c.fields.ensures)
+    (c.begun-begun.ensures ∙ ap (λ (f : Fields). begun_of o.flows.now.history c.args.side f o.now) c.fields.ensures)
 
 pub returns-clause-least : goal.returns-clause-least
 unfolding rows_read

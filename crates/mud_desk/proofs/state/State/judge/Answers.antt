@@ -1,15 +1,13 @@
 use Rattle.std.proofs.Common.{◌≡◌, ◌≤◌, ◌<◌, ◌+◌, ◌^◌, ℕ, List, length, Result, Ok, Err, refl, sym, subst, ap, ◌∙◌, arith}
 use Rattle.std.proofs.lemmas.Result.{err_from_is_err_and}
-use Rattle.table_model.specs.declared.segment.Segment.{Segment}
 use Rattle.table_model.specs.declared.thing.Thing.{Thing}
 use Rattle.acl_compile.specs.Compiled.{CompiledState}
 use Rattle.mud_base.specs.declared.memory.Memory as want
 use Rattle.packet_judge.specs.declared.verdict.Verdict.{Verdict}
 use Rattle.packet_judge.specs.Verdicts.{steps_on}
-use Rattle.flow_table.specs.Held.{flows_of}
 use Rattle.frame_view.specs.Frame.{frame_of}
 use Rattle.mud_desk.specs.RuleInputs.{rows_read, ruling_steps}
-use Rattle.mud_desk.specs.DeskState.{DeskState, tables_of, HasForwarded}
+use Rattle.mud_desk.specs.DeskState.{DeskState, tables_of}
 use Rattle.mud_desk.proofs.Sessions.{timely_since, timely_at, timely_same, max_first, rule_inputs_of, IsJudged, judged_so, judged_not, steps_alike}
 use Rattle.mud_desk.proofs.state.State.judge.Goals as goal
 
@@ -28,11 +26,11 @@ returns-clause-judged g c =
     let n = c.later-now.result in
     let before : DeskState = record { books = c.self.inside.books; flows = c.self.inside.flows; moment = c.self.inside.moment } in
     let after : DeskState = record { books = c.self.inside.books; flows = c.judge.new.flows; moment = n } in
-    subst (λ (s : DeskState). (h : List Segment) → HasForwarded h s → IsJudged h s c.args.stamp c.args.frame.now (Ok c.in_ok-verdict.verdict) after) c.self.view_is
-    (λ h stands. judged_so h before after c.args.stamp n c.args.frame.now c.later-now.ensures c.in_ok-verdict.verdict
-    (c.in_ok-verdict.ensures.verdict (tables_of before) h
-    (rule_inputs_of h before c.thing_book.result.now.things c.compiled.result.now c.locals.result.now (flows_of c.self.inside.flows) (ap (λ t. t.things) c.thing_book.ensures) c.compiled.ensures.value c.locals.ensures c.compiled.ensures.of stands))
-    (c.in_ok-verdict.ensures.stands h stands) refl refl)
+    subst (λ (s : DeskState). IsJudged s c.args.stamp c.args.frame.now (Ok c.in_ok-verdict.verdict) after) c.self.view_is
+    (judged_so before after c.args.stamp n c.args.frame.now c.later-now.ensures c.in_ok-verdict.verdict
+    (c.in_ok-verdict.ensures.verdict (tables_of before)
+    (rule_inputs_of before c.thing_book.result.now.things c.compiled.result.now c.locals.result.now (ap (λ t. t.things) c.thing_book.ensures) c.compiled.ensures.value c.locals.ensures c.compiled.ensures.of))
+    c.in_ok-verdict.ensures.history refl refl)
 
 pub returns-in_err-verdict-clause-judged : goal.returns-in_err-verdict-clause-judged
 unfolding tables_of
@@ -41,12 +39,12 @@ returns-in_err-verdict-clause-judged g c =
     let before : DeskState = record { books = c.self.inside.books; flows = c.self.inside.flows; moment = c.self.inside.moment } in
     let after : DeskState = record { books = c.self.inside.books; flows = c.judge.new.flows; moment = c.self.inside.moment } in
     let p = err_from_is_err_and c.from_residual.result c.from_residual.ensures.1 in
-    subst (λ (r : Result Verdict want.Memory). (h : List Segment) → HasForwarded h c.args.self.now → IsJudged h c.args.self.now c.args.stamp c.args.frame.now r after) (sym p.1)
-    (subst (λ (s : DeskState). (h : List Segment) → HasForwarded h s → IsJudged h s c.args.stamp c.args.frame.now (Err p.0) after) c.self.view_is
-    (λ h stands. judged_not h before after c.args.stamp n c.args.frame.now c.later-now.ensures p.0
-    (c.in_err-verdict.ensures.wanted (tables_of before) h
-    (rule_inputs_of h before c.thing_book.result.now.things c.compiled.result.now c.locals.result.now (flows_of c.self.inside.flows) (ap (λ t. t.things) c.thing_book.ensures) c.compiled.ensures.value c.locals.ensures c.compiled.ensures.of stands))
-    stands c.in_err-verdict.ensures.err refl refl))
+    subst (λ (r : Result Verdict want.Memory). IsJudged c.args.self.now c.args.stamp c.args.frame.now r after) (sym p.1)
+    (subst (λ (s : DeskState). IsJudged s c.args.stamp c.args.frame.now (Err p.0) after) c.self.view_is
+    (judged_not before after c.args.stamp n c.args.frame.now c.later-now.ensures p.0
+    (c.in_err-verdict.ensures.wanted (tables_of before)
+    (rule_inputs_of before c.thing_book.result.now.things c.compiled.result.now c.locals.result.now (ap (λ t. t.things) c.thing_book.ensures) c.compiled.ensures.value c.locals.ensures c.compiled.ensures.of))
+    c.in_err-verdict.ensures.err refl refl))
 
 abbrev Least : ℕ → ℕ → ℕ → Type 0
 Least a b k = a + k ≤ b

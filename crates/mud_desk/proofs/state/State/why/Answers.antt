@@ -1,9 +1,7 @@
-use Rattle.std.proofs.Common.{◌≡◌, List, sym, subst, ap, ◌∙◌}
-use Rattle.table_model.specs.declared.segment.Segment.{Segment}
-use Rattle.flow_table.specs.Held.{flows_of}
+use Rattle.std.proofs.Common.{◌≡◌, sym, subst, ap, ◌∙◌}
 use Rattle.frame_view.specs.Frame.{frame_of}
 use Rattle.desk_model.specs.Sessions.{verdict_in}
-use Rattle.mud_desk.specs.DeskState.{DeskState, tables_of, session_of, HasForwarded}
+use Rattle.mud_desk.specs.DeskState.{DeskState, tables_of, session_of}
 use Rattle.mud_desk.proofs.Found.{found_of}
 use Rattle.mud_desk.proofs.Sessions.{timely_since, max_first, rule_inputs_of, verdict_here}
 use Rattle.mud_desk.proofs.state.State.why.Goals as goal
@@ -16,11 +14,10 @@ unfolding tables_of
 returns-clause-verdict g c =
     let n = c.later-moment.result in
     let before : DeskState = record { books = c.self.inside.books; flows = c.self.inside.flows; moment = c.self.inside.moment } in
-    subst (λ (s : DeskState). (h : List Segment) → HasForwarded h s → c.why.result.verdict ≡ verdict_in (session_of h s) c.args.stamp c.args.frame.now) c.self.view_is
-    (λ h stands.
-    c.why.ensures.verdict (tables_of before) h
-    (rule_inputs_of h before c.thing_book.result.now.things c.compiled.result.now c.locals.result.now (flows_of c.self.inside.flows) (ap (λ t. t.things) c.thing_book.ensures) c.compiled.ensures.value c.locals.ensures c.compiled.ensures.of stands)
-    ∙ sym (verdict_here h before c.args.stamp n c.args.frame.now c.later-moment.ensures))
+    subst (λ (s : DeskState). c.why.result.verdict ≡ verdict_in (session_of s) c.args.stamp c.args.frame.now) c.self.view_is
+    (c.why.ensures.verdict (tables_of before)
+    (rule_inputs_of before c.thing_book.result.now.things c.compiled.result.now c.locals.result.now (ap (λ t. t.things) c.thing_book.ensures) c.compiled.ensures.value c.locals.ensures c.compiled.ensures.of)
+    ∙ sym (verdict_here before c.args.stamp n c.args.frame.now c.later-moment.ensures))
 
 pub returns-clause-found : goal.returns-clause-found
 unfolding tables_of

@@ -31,7 +31,7 @@ const SIMPLE: &[u8] =
     b"\x03\x00\x00\x00\x58\x00\x00\x00\x00\x00\x00\x00\x00\x00\x00\x00\xc0\x0e\x1f\x3f\x36\x00\x00\x00\
     \x36\x00\x00\x00";
 
-static RUNS: [Run<'static>; 14] = [
+static RUNS: [Run<'static>; 16] = [
     JUDGED,
     // Without its last four octets, and then in another form.
     Run {
@@ -85,6 +85,19 @@ static RUNS: [Run<'static>; 14] = [
     Run {
         failing: (Call::Read, 6),
         ..UNREAD
+    },
+    // The first four octets come one by one, and the read of the third fails.
+    Run {
+        connections: &[&[b"\x0a", b"\x0d", b"\x0d", b"\x0a"]],
+        failing: (Call::Read, 3),
+        ..UNREAD
+    },
+    // What has fewer is read as a capture in the classic format.
+    Run {
+        connections: &[&[b"\x0a", b"\x0d\x0d"]],
+        status: 3,
+        written: &[&[b"fault Cut 0\n"]],
+        ..JUDGED
     },
     // The packet was read, and its line is written before more is read.
     Run {

@@ -60,7 +60,7 @@ const NESTED: &[u8] = b"[[[[[[[[[[[[[[[[[[[[[[[[[[[[[[[[[[[[[[[[[[[[[[[[[[\
 /// The line of an item that is no record.
 const BAD_ITEM: &[u8] = b"fault item 1 020000000001\n";
 
-static RUNS: [(&[Kept<'static>], Run<'static>); 14] = [
+static RUNS: [(&[Kept<'static>], Run<'static>); 15] = [
     // A Thing of the first version is put anew in the second as the store is opened.
     (
         &[FIRST],
@@ -85,6 +85,21 @@ static RUNS: [(&[Kept<'static>], Run<'static>); 14] = [
             failing: (Call::Apply, 1),
             status: 7,
             written: &[&[]],
+            changed: &[],
+        },
+    ),
+    // One of the second version is not: a change would fail.
+    (
+        &[SECOND],
+        Run {
+            words: &["report", ":memory:", "things"],
+            connections: &[&[]],
+            second: 2000,
+            failing: (Call::Apply, 1),
+            status: 0,
+            written: &[&[
+                b"thing 02:00:00:00:00:01 https://lighting.example.com/lightbulb2000 - -\n",
+            ]],
             changed: &[],
         },
     ),

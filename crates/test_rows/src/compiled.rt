@@ -1,111 +1,212 @@
-//! What is compiled of a light bulb and a switch of one maker, where 192.0.2.10 is leased to the
-//! bulb. Each entry allows the Things of the maker; the bulb's file has one for its server before
-//! it.
+//! Changes that are made by chance, and the rows after each of them. They are compared with those
+//! of all pairs of an entry and an address, which are made anew from plain tables.
+ghost use Rattle.std.specs.Prelude.{◌<◌};
 ghost use Rattle.base_rows.specs.Ledgers.{IsBlankOf};
 
 use acl_compile::Compiled;
-use acl_model::{Binding, DefaultRule, Entry, MemberKey, Policy, Selector, default_entry};
-use acl_rows::{Owner, PackedAddr, Row};
+use acl_model::{
+    Binding, DefaultRule, Entry, MemberKey, Policy, Selector, default_entry, those_not_in,
+};
+use acl_rows::{Row, RulePart};
 use base_rows::Steps;
-use mud_base::{Addr, Bytes, Direction, End, Listed, Memory};
+use mud_base::{Addr, Bytes, Direction, End, Family, Listed, Memory};
 use mud_url::{MudUrl, mud_url};
 use std::alloc::Global;
 use std::marker::Brand;
 use std::sync::ledger::{Blank, Ledger};
 use std::test::Fail;
 
-mod made;
+/// The URLs: two of one maker, and one of another.
+const URLS: [&[u8]; 3] = [
+    b"https://a.example.com/bulb",
+    b"https://a.example.com/switch",
+    b"https://b.example.com/lock",
+];
 
-/// 192.0.2.10
-const BULB: Addr = Addr::V4(0xc000_020a);
+/// The makers.
+const MAKERS: [&[u8]; 2] = [b"a.example.com", b"b.example.com"];
 
-/// When the lease expires.
-const LEASED: End = End(87400);
+/// The class of the DNS servers, which the default entries name too.
+const DNS: &[u8] = b"urn:ietf:params:mud:dns";
 
-const BULB_URL: &[u8] = b"https://lighting.example.com/lightbulb2000";
+/// 192.0.2.1, 192.0.2.2, ::1 and ::2.
+const ADDRS: [Addr; 4] = [
+    Addr::V4(0xc000_0201),
+    Addr::V4(0xc000_0202),
+    Addr::V6(1),
+    Addr::V6(2),
+];
 
-const SWITCH_URL: &[u8] = b"https://lighting.example.com/switch1";
+/// Which IP versions an entry is for, and what it asks the peer to be: the sum of 1 for a Thing of
+/// the first maker, 2 for a Thing of the maker of the file's Thing, and 4 for a DNS server.
+type Asked = (Family, u8);
 
-/// An entry with these selectors.
-fn entry(alloc: Global, selectors: Listed<Selector>) -> Result<Entry, Memory> {
-    match default_entry(alloc, DefaultRule::Dns, Direction::From) {
-        Ok(mut entry) => {
-            entry.selectors = selectors;
-            Ok(entry)
+/// The entries for what a Thing sends, and those for what is sent to it.
+type File = [[Asked; 3]; 2];
+
+/// The files.
+const FILES: [File; 2] = [
+    [
+        [(Family::Both, 4), (Family::Both, 2), (Family::Both, 5)],
+        [(Family::V4, 6), (Family::Both, 0), (Family::V6, 1)],
+    ],
+    [
+        [(Family::V4, 1), (Family::Both, 7), (Family::V6, 0)],
+        [(Family::V6, 4), (Family::Both, 2), (Family::Both, 2)],
+    ],
+];
+
+/// The default entries of each side: the second asks for an NTP server, and there is no third one.
+const DEFAULTS: [Asked; 3] = [(Family::Both, 4), (Family::Both, 0), (Family::Both, 0)];
+
+/// What is held and bound.
+#[derive(Drop)]
+struct Plain {
+    /// The file of each URL.
+    files: [Option<File>; 3],
+    /// Of each address the expiries of its bindings to the makers and the class; 0 where there is
+    /// none.
+    expiries: [[u64; 3]; 4],
+}
+
+/// A number below this one, by a linear congruence.
+fn below(chance: &mut u64, count: usize) -> usize
+    requires { 0 < count }
+    ensures { result < count }
+{
+    *chance = chance
+        .wrapping_mul(6364136223846793005)
+        .wrapping_add(1442695040888963407);
+    (*chance >> 33) as usize % count
+}
+
+/// What an address is bound to.
+fn made_key(alloc: Global, n: usize) -> Result<MemberKey, Memory> {
+    match n {
+        0 => Ok(MemberKey::Host(Bytes::new(alloc, MAKERS[0])?)),
+        1 => Ok(MemberKey::Host(Bytes::new(alloc, MAKERS[1])?)),
+        _ => Ok(MemberKey::Class(Bytes::new(alloc, DNS)?)),
+    }
+}
+
+/// Adds the bindings of an address that have an expiry.
+fn push_bound(
+    alloc: Global,
+    addr: Addr,
+    expiries: [u64; 3],
+    bindings: &mut Listed<Binding>,
+) -> Result<(), Memory> {
+    for (n, until) in expiries.iter().enumerate() {
+        if *until > 0 {
+            let key = made_key(alloc, n)?;
+            let until = End(*until);
+            bindings.push(Binding { key, addr, until })?;
         }
+    }
+    Ok(())
+}
+
+/// The bindings of an address that have an expiry.
+fn bound(alloc: Global, addr: Addr, expiries: [u64; 3]) -> Result<Listed<Binding>, Memory> {
+    let mut bindings = Listed::new(alloc);
+    match push_bound(alloc, addr, expiries, &mut bindings) {
+        Ok(()) => Ok(bindings),
         Err(memory) => {
-            drop(selectors);
+            drop(bindings);
             Err(memory)
         }
     }
 }
 
-/// An entry with this selector alone.
-fn entry_of(alloc: Global, selector: Selector) -> Result<Entry, Memory> {
-    let mut selectors = Listed::new(alloc);
-    selectors.push(selector)?;
-    entry(alloc, selectors)
-}
-
-/// A policy of these entries for what its Things send.
-fn policy_of(alloc: Global, outgoing: Listed<Entry>) -> Policy {
-    let incoming = Listed::new(alloc);
-    Policy { outgoing, incoming }
-}
-
-/// The policy of the switch: the Things of the maker.
-fn switch_policy(alloc: Global) -> Result<Policy, Memory> {
-    let maker = entry_of(alloc, Selector::SameManufacturer)?;
-    let outgoing = Listed::from_vec(vec![in alloc; maker]?);
-    Ok(policy_of(alloc, outgoing))
-}
-
-/// The policy of the bulb: its server, and the Things of the maker.
-fn bulb_policy(alloc: Global) -> Result<Policy, Memory> {
-    let name = Bytes::new(alloc, b"test.example.com")?;
-    let server = entry_of(alloc, Selector::Name(name))?;
-    let maker = match entry_of(alloc, Selector::SameManufacturer) {
-        Ok(maker) => maker,
-        Err(memory) => {
-            drop(server);
-            return Err(memory);
+/// About half of the expiries come, go or are others.
+fn change_some(chance: &mut u64, expiries: &mut [u64; 3]) {
+    for until in expiries.iter_mut() {
+        if below(chance, 2) == 0 {
+            *until = below(chance, 4) as u64;
         }
-    };
-    let outgoing = Listed::from_vec(vec![in alloc; server, maker]?);
-    Ok(policy_of(alloc, outgoing))
-}
-
-/// The binding of the leased address to the maker.
-fn to_maker(alloc: Global) -> Result<Binding, Memory> {
-    let host = Bytes::new(alloc, b"lighting.example.com")?;
-    Ok(Binding {
-        key: MemberKey::Host(host),
-        addr: BULB,
-        until: LEASED,
-    })
-}
-
-/// The row of an entry at the leased address.
-fn row(slot_number: u16, entry: u16) -> Row {
-    Row {
-        owner: Owner::Url(slot_number),
-        side: Direction::From,
-        addr: PackedAddr::new(BULB),
-        entry,
-        until: LEASED,
     }
 }
 
-/// Plans that these bindings go and those come, and does it.
+/// Plans that those bindings go which don't stay and those come which weren't there, and does it.
 fn change<L: Ledger>(
+    alloc: Global,
     compiled: &mut Compiled,
-    gone: &[Binding],
-    come: &[Binding],
+    before: &[Binding],
+    after: &[Binding],
     steps: &mut Steps<L>,
+) -> Result<bool, Memory> {
+    let gone = those_not_in(alloc, after, before)?;
+    let come = those_not_in(alloc, before, after)?;
+    let plan = compiled.plan_member(gone.as_slice(), come.as_slice(), steps);
+    drop(gone);
+    drop(come);
+    compiled.commit(plan?, steps);
+    Ok(true)
+}
+
+/// Bindings of one of the addresses change.
+fn change_bound<L: Ledger>(
+    alloc: Global,
+    compiled: &mut Compiled,
+    plain: &mut Plain,
+    chance: &mut u64,
+    steps: &mut Steps<L>,
+) -> Result<bool, Memory> {
+    let n = below(chance, 4);
+    let before = bound(alloc, ADDRS[n], plain.expiries[n])?;
+    change_some(chance, &mut plain.expiries[n]);
+    let after = bound(alloc, ADDRS[n], plain.expiries[n])?;
+    change(alloc, compiled, before.as_slice(), after.as_slice(), steps)
+}
+
+/// Adds what these ask for.
+fn push_selectors(
+    alloc: Global,
+    asked: u8,
+    selectors: &mut Listed<Selector>,
 ) -> Result<(), Memory> {
-    let plan = compiled.plan_member(gone, come, steps)?;
-    compiled.commit(plan, steps);
+    if asked & 1 != 0 {
+        selectors.push(Selector::Manufacturer(Bytes::new(alloc, MAKERS[0])?))?;
+    }
+    if asked & 2 != 0 {
+        selectors.push(Selector::SameManufacturer)?;
+    }
+    if asked & 4 != 0 {
+        selectors.push(Selector::Controller(Bytes::new(alloc, DNS)?))?;
+    }
     Ok(())
+}
+
+/// The entry that asks for these.
+fn made_entry(alloc: Global, (family, asked): Asked) -> Result<Entry, Memory> {
+    let mut entry = default_entry(alloc, DefaultRule::Dns, Direction::From)?;
+    entry.family = family;
+    entry.selectors = Listed::new(alloc);
+    match push_selectors(alloc, asked, &mut entry.selectors) {
+        Ok(()) => Ok(entry),
+        Err(memory) => {
+            drop(entry);
+            Err(memory)
+        }
+    }
+}
+
+/// Adds these entries.
+fn push_entries(
+    alloc: Global,
+    asked: [Asked; 3],
+    entries: &mut Listed<Entry>,
+) -> Result<(), Memory> {
+    for one in asked {
+        entries.push(made_entry(alloc, one)?)?;
+    }
+    Ok(())
+}
+
+/// Adds the entries of a file to a policy.
+fn push_both(alloc: Global, [outgoing, incoming]: File, policy: &mut Policy) -> Result<(), Memory> {
+    push_entries(alloc, outgoing, &mut policy.outgoing)?;
+    push_entries(alloc, incoming, &mut policy.incoming)
 }
 
 /// Plans that this policy is held for the URL, and does it. False where it can't be held.
@@ -129,6 +230,24 @@ fn hold<L: Ledger>(
     Ok(true)
 }
 
+/// A file is held for a URL.
+fn hold_made<L: Ledger>(
+    alloc: Global,
+    compiled: &mut Compiled,
+    url: &MudUrl,
+    file: File,
+    steps: &mut Steps<L>,
+) -> Result<bool, Memory> {
+    let (outgoing, incoming) = (Listed::new(alloc), Listed::new(alloc));
+    let mut policy = Policy { outgoing, incoming };
+    let held = match push_both(alloc, file, &mut policy) {
+        Ok(()) => hold(compiled, url, &policy, steps),
+        Err(memory) => Err(memory),
+    };
+    drop(policy);
+    held
+}
+
 /// Plans that no policy is held for the URL, and does it. False where there is no slot for the URL.
 fn release<L: Ledger>(
     compiled: &mut Compiled,
@@ -143,98 +262,191 @@ fn release<L: Ledger>(
     Ok(true)
 }
 
-/// The first row that the file of a URL has at the leased address, for what its Things send.
-fn first_row<L: Ledger>(compiled: &Compiled, url: &MudUrl, steps: &mut Steps<L>) -> Option<Row> {
-    let part = compiled.view(url, Direction::From).file_part()?;
-    part.rows_at(BULB, steps).first().copied()
-}
-
-#[test]
-fn nothing_is_compiled_at_first(rt: HostRuntime) -> Result<(), Fail> {
-    let url = mud_url(BULB_URL)?;
-    let compiled = Compiled::new(rt.alloc())?;
-    assert!(rt; compiled.has_slot(&url));
-    let view = compiled.view(&url, Direction::To);
-    assert!(rt; view.file_part().is_none());
-    assert_eq!(rt; view.default_part().count(), 2);
-    drop(compiled);
-    Ok(())
-}
-
-/// The address is leased to the bulb.
-fn lease<L: Ledger>(
+/// A file is held for one of the URLs, or none. False where it can't be held.
+fn change_held<L: Ledger>(
     alloc: Global,
     compiled: &mut Compiled,
+    plain: &mut Plain,
+    chance: &mut u64,
     steps: &mut Steps<L>,
-) -> Result<(), Memory> {
-    let come = [to_maker(alloc)?];
-    let leased = change(compiled, &[], &come, steps);
-    drop(come);
-    leased
+) -> Result<bool, Fail> {
+    let n = below(chance, 3);
+    let file = FILES.get(below(chance, 3)).copied();
+    plain.files[n] = file;
+    let url = mud_url(URLS[n])?;
+    match file {
+        None => Ok(release(compiled, &url, steps)?),
+        Some(file) => Ok(hold_made(alloc, compiled, &url, file, steps)?),
+    }
 }
 
-/// The policy of the bulb is held.
-fn hold_bulb<L: Ledger>(
+/// Until when an address with these expiries meets an entry in the file of a Thing of the first or
+/// the other maker: the least expiry of what it asks for; 0 where it doesn't.
+fn expiry_of(
+    (family, asked): Asked,
+    is_other: bool,
+    addr: Addr,
+    [first, other, dns]: [u64; 3],
+) -> u64 {
+    let is_in = match addr {
+        Addr::V4(_) => family != Family::V6,
+        Addr::V6(_) => family != Family::V4,
+    };
+    if !is_in || asked == 0 {
+        return 0;
+    }
+    let mut until = u64::MAX;
+    if asked & 1 != 0 {
+        until = until.min(first);
+    }
+    if asked & 2 != 0 {
+        until = until.min(if is_other { other } else { first });
+    }
+    if asked & 4 != 0 {
+        until = until.min(dns);
+    }
+    until
+}
+
+/// Whether a row is of this address, and of the entry at this index, with this expiry.
+fn is_row(row: &Row, addr: Addr, index: usize, until: u64) -> bool {
+    row.addr.addr() == addr
+        && usize::from(row.entry).checked_sub(1) == Some(index)
+        && row.until.0 == until
+}
+
+/// Whether these are the rows of the entries at an address.
+fn are_rows(
+    rows: &[Row],
+    entries: [Asked; 3],
+    is_other: bool,
+    addr: Addr,
+    expiries: [u64; 3],
+) -> bool {
+    let mut left = rows;
+    for (index, asked) in entries.iter().enumerate() {
+        let until = expiry_of(*asked, is_other, addr, expiries);
+        if until > 0 {
+            match left.split_first() {
+                Some((row, rest)) if is_row(row, addr, index, until) => left = rest,
+                _ => return false,
+            }
+        }
+    }
+    left.is_empty()
+}
+
+/// Whether a part has exactly the rows of these entries.
+fn part_agrees<L: Ledger>(
+    part: &RulePart<'_>,
+    entries: [Asked; 3],
+    is_other: bool,
+    plain: &Plain,
+    steps: &mut Steps<L>,
+) -> bool {
+    for (addr, expiries) in ADDRS.iter().zip(&plain.expiries) {
+        let rows = part.rows_at(*addr, steps);
+        if !are_rows(rows, entries, is_other, *addr, *expiries) {
+            return false;
+        }
+    }
+    true
+}
+
+/// The entries of one side of a file.
+fn side_of([outgoing, incoming]: File, side: Direction) -> [Asked; 3] {
+    match side {
+        Direction::From => outgoing,
+        Direction::To => incoming,
+    }
+}
+
+/// Whether the rows of a URL and those of the defaults are those of the tables, on a side.
+fn url_agrees<L: Ledger>(
+    compiled: &Compiled,
+    plain: &Plain,
+    n: usize,
+    side: Direction,
+    steps: &mut Steps<L>,
+) -> Result<bool, Fail>
+    requires { n < 3 }
+{
+    let view = compiled.view(&mud_url(URLS[n])?, side);
+    let is_own = match (plain.files[n], view.file_part()) {
+        (None, None) => true,
+        (Some(file), Some(part)) => part_agrees(&part, side_of(file, side), n == 2, plain, steps),
+        _ => false,
+    };
+    Ok(is_own && part_agrees(&view.default_part(), DEFAULTS, false, plain, steps))
+}
+
+/// Whether all rows are those of the tables.
+fn agree<L: Ledger>(
+    compiled: &Compiled,
+    plain: &Plain,
+    steps: &mut Steps<L>,
+) -> Result<bool, Fail> {
+    for n in 0..6 {
+        let side = if n < 3 {
+            Direction::From
+        } else {
+            Direction::To
+        };
+        if !url_agrees(compiled, plain, n % 3, side, steps)? {
+            return Ok(false);
+        }
+    }
+    Ok(true)
+}
+
+/// Makes a change by chance, and tells whether all rows are those of the tables.
+fn change_agrees<L: Ledger>(
     alloc: Global,
     compiled: &mut Compiled,
+    plain: &mut Plain,
+    chance: &mut u64,
     steps: &mut Steps<L>,
-) -> Result<(), Fail> {
-    let url = mud_url(BULB_URL)?;
-    let policy = bulb_policy(alloc)?;
-    let held = hold(compiled, &url, &policy, steps);
-    drop(policy);
-    held?;
-    Ok(())
+) -> Result<bool, Fail> {
+    let is_made = match below(chance, 4) {
+        0 => change_held(alloc, compiled, plain, chance, steps)?,
+        _ => change_bound(alloc, compiled, plain, chance, steps)?,
+    };
+    Ok(is_made && agree(compiled, plain, steps)?)
 }
 
-/// The policy of the switch is held.
-fn hold_switch<L: Ledger>(
+/// How many of so many changes are made until the rows aren't those of the tables.
+fn changes_agree<L: Ledger>(
     alloc: Global,
     compiled: &mut Compiled,
+    count: usize,
     steps: &mut Steps<L>,
-) -> Result<(), Fail> {
-    let url = mud_url(SWITCH_URL)?;
-    let policy = switch_policy(alloc)?;
-    let held = hold(compiled, &url, &policy, steps);
-    drop(policy);
-    held?;
-    Ok(())
+) -> Result<usize, Fail> {
+    let files = [None; 3];
+    let expiries = [[0; 3]; 4];
+    let mut plain = Plain { files, expiries };
+    let mut chance = 1;
+    for made in 0..count {
+        if !change_agrees(alloc, compiled, &mut plain, &mut chance, steps)? {
+            return Ok(made);
+        }
+    }
+    Ok(count)
 }
 
-/// The first row of the file of the URL that octets spell.
-fn row_of<L: Ledger>(compiled: &Compiled, url: &[u8], steps: &mut Steps<L>) -> Option<Row> {
-    let url = mud_url(url).ok()?;
-    first_row(compiled, &url, steps)
-}
-
-/// The first rows of the bulb and the switch, where the address is leased and both files are held.
-fn rows_in<L: Ledger>(
-    alloc: Global,
-    compiled: &mut Compiled,
-    steps: &mut Steps<L>,
-) -> Result<(Option<Row>, Option<Row>), Fail> {
-    lease(alloc, compiled, steps)?;
-    hold_bulb(alloc, compiled, steps)?;
-    hold_switch(alloc, compiled, steps)?;
-    let bulb = row_of(compiled, BULB_URL, steps);
-    Ok((bulb, row_of(compiled, SWITCH_URL, steps)))
-}
-
-/// The same, where nothing was compiled before, with steps on a ledger of the caller's.
-fn first_rows<L: Ledger>(alloc: Global, blank: Blank) -> Result<(Option<Row>, Option<Row>), Fail>
+/// The same, with nothing held and bound before.
+fn changes_made<L: Ledger>(alloc: Global, count: usize, blank: Blank) -> Result<usize, Fail>
     requires blank { IsBlankOf L.name L.parts blank }
 {
     let mut steps = Steps::<L>::new(blank);
     let mut compiled = Compiled::new(alloc)?;
-    let rows = rows_in(alloc, &mut compiled, &mut steps);
+    let made = changes_agree(alloc, &mut compiled, count, &mut steps);
     drop(compiled);
-    rows
+    made
 }
 
 #[test]
-fn approved_files_have_their_rows(rt: HostRuntime) -> Result<(), Fail> {
-    let (bulb, switch) = first_rows::<Brand>(rt.alloc(), Blank::new(1))?;
-    assert_eq!(rt; bulb, Some(row(0, 2)));
-    assert_eq!(rt; switch, Some(row(1, 1)));
+fn rows_are_those_made_anew(rt: HostRuntime) -> Result<(), Fail> {
+    let made = changes_made::<Brand>(rt.alloc(), 2000, Blank::new(1))?;
+    assert_eq!(rt; made, 2000);
     Ok(())
 }

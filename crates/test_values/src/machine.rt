@@ -1,15 +1,17 @@
 //! What no clause says of the real ones: that a client is served, what a clock shows, and what is read of
 //! the files of a folder.
 use io_system::{RealClock, RealDoor, RealSpool};
-use mud_base::{Bytes, Moment};
+use mud_base::Moment;
 use mud_world::{Clock, Door, Failed, MOST_READ, Spool, SpoolFault};
 use std::alloc::Global;
 use std::fs;
 use std::io::{Read, Write};
 use std::net::{TcpListener, TcpStream};
-use std::process::Abort;
 use std::test::Fail;
 use std::time::Duration;
+
+/// A door whose reader and writer are in memory.
+type RealDoorOver = RealDoor<&'static [u8], Vec<u8>, HostRuntime>;
 
 /// The number of a port that nothing listens on.
 fn free_port(rt: &HostRuntime) -> Result<u16, Fail> {
@@ -17,44 +19,43 @@ fn free_port(rt: &HostRuntime) -> Result<u16, Fail> {
     Ok(listener.local_addr()?.port())
 }
 
-/// Asserts what the door does for a client, which sends an octet and takes one.
-fn serves(
-    rt: &impl Abort,
-    door: &mut RealDoor<&[u8], Vec<u8>, HostRuntime>,
-    client: &mut TcpStream,
-) -> Result<(), Fail> {
+/// Whether the door does what it is to do for a client, which sends an octet and takes one: nothing
+/// before it goes on to it, and then both.
+fn serves(door: &mut RealDoorOver, client: &mut TcpStream) -> Result<bool, Fail> {
     let mut octet = [0];
-    assert_eq!(rt; door.read(&mut octet), Ok(0));
-    assert_eq!(rt; door.write(b"a"), Err(Failed));
-    assert_eq!(rt; door.next(), Ok(true));
+    let is_nowhere = matches!(door.read(&mut octet), Ok(0))
+        && matches!(door.write(b"a"), Err(Failed));
+    let has_come = matches!(door.next(), Ok(true));
     client.write_all(b"q")?;
-    assert_eq!(rt; door.read(&mut octet), Ok(1));
-    assert_eq!(rt; octet, *b"q");
-    assert_eq!(rt; door.write(b"a"), Ok(1));
+    let is_read = matches!(door.read(&mut octet), Ok(1)) && octet == *b"q";
+    let is_written = matches!(door.write(b"a"), Ok(1));
     client.read_exact(&mut octet)?;
-    assert_eq!(rt; octet, *b"a");
-    Ok(())
+    Ok(is_nowhere && has_come && is_read && is_written && octet == *b"a")
+}
+
+/// Whether the door can be bound to the port once, and then serves a client.
+fn is_served(rt: &HostRuntime, door: &mut RealDoorOver, port: u16) -> Result<bool, Fail> {
+    let is_bound = matches!(door.bind(port), Ok(())) && matches!(door.bind(port), Err(Failed));
+    let mut client = TcpStream::connect(rt, ("127.0.0.1", port))?;
+    let is_served = serves(door, &mut client);
+    drop(client);
+    let is_served = is_served?;
+    Ok(is_bound && is_served)
 }
 
 #[test]
 fn serves_a_client(rt: HostRuntime) -> Result<(), Fail> {
     let port = free_port(&rt)?;
     let mut door = RealDoor::new(b"in".as_slice(), Vec::new(rt.alloc()), rt);
-    assert_eq!(rt; door.bind(port), Ok(()));
-    assert_eq!(rt; door.bind(port), Err(Failed));
-    let is_served = match TcpStream::connect(&rt, ("127.0.0.1", port)) {
-        Ok(mut client) => {
-            let is_served = serves(&rt, &mut door, &mut client);
-            drop(client);
-            is_served
-        }
-        Err(error) => Err(error.into()),
-    };
+    let is_served = is_served(&rt, &mut door, port);
     drop(door);
-    is_served
+    let is_served = is_served?;
+    assert!(rt; is_served);
+    Ok(())
 }
 
 /// A machine's clock that shows one moment.
+#[derive(Drop)]
 struct Stopped(u64);
 
 impl std::rt::Clock for Stopped {
@@ -67,30 +68,14 @@ impl std::rt::Clock for Stopped {
     }
 }
 
-#[test]
-fn a_real_clock_shows_the_moment(rt: HostRuntime) -> Result<(), Fail> {
-    assert_eq!(rt; RealClock::new(&Stopped(1059)).now().seconds(), 1059);
-    assert_eq!(rt;
-        RealClock::new(&Stopped(u64::MAX >> 2)).now(),
-        Moment::at_most_last(u64::MAX)
-    );
-    Ok(())
+/// The seconds of the moment that the clock shows where the machine's shows so many.
+fn shown(seconds: u64) -> u64 {
+    RealClock::new(&Stopped(seconds)).now().seconds()
 }
 
-/// Asserts that the file has so many octets, all of them spaces but the last.
-fn is_read(rt: &impl Abort, answer: Result<Bytes, SpoolFault>, len: usize, last: u8) {
-    match answer {
-        Ok(octets) => {
-            assert!(rt; octets.len() == len);
-            assert!(rt; octets.octets().last() == Some(&last));
-            assert!(rt;
-                octets.octets()[..len - 1]
-                    .iter()
-                    .all(|octet| *octet == b' ')
-            );
-        }
-        Err(_) => assert!(rt; false, "not read"),
-    }
+#[test]
+fn a_real_clock_shows_the_moment(rt: HostRuntime) {
+    assert_eq!(rt; [shown(1059), shown(u64::MAX >> 2)], [1059, Moment::LAST]);
 }
 
 /// Makes a folder of two files. One has an octet more than is read of it, and the last one that is
@@ -104,26 +89,28 @@ fn make_folder(rt: &HostRuntime) -> Result<(), Fail> {
     Ok(())
 }
 
-/// Asserts what is read of the folder.
-fn reads_folder(rt: &impl Abort, alloc: Global, spool: &mut RealSpool<HostRuntime>) {
-    let names = spool.list(alloc);
-    assert!(rt; matches!(&names, Ok(names) if names.len() == 2));
-    drop(names);
-    is_read(rt, spool.read(alloc, b"long"), MOST_READ, b'!');
-    let short = spool.read(alloc, b"short");
-    assert!(rt; matches!(&short, Ok(octets) if octets.octets() == b" in".as_slice()));
-    drop(short);
-    let none = spool.read(alloc, b"none");
-    assert!(rt; matches!(&none, Err(SpoolFault::Failed)));
-    drop(none);
+/// Whether these are what is read of the longer file.
+fn is_long(octets: &[u8]) -> bool {
+    match octets {
+        [rest @ .., b'!'] => octets.len() == MOST_READ && rest.iter().all(|octet| *octet == b' '),
+        _ => false,
+    }
+}
+
+/// Whether that is read of the folder.
+fn reads_folder(alloc: Global, spool: &mut RealSpool<HostRuntime>) -> bool {
+    matches!(spool.list(alloc), Ok(names) if names.len() == 2)
+        && matches!(spool.read(alloc, b"long"), Ok(octets) if is_long(octets.octets()))
+        && matches!(spool.read(alloc, b"short"), Ok(octets) if octets.octets() == b" in".as_slice())
+        && matches!(spool.read(alloc, b"none"), Err(SpoolFault::Failed))
 }
 
 #[test]
 fn files_of_a_folder_are_read_up_to_the_most(rt: HostRuntime) -> Result<(), Fail> {
-    let alloc = rt.alloc();
     make_folder(&rt)?;
-    let mut spool = RealSpool::new(rt, format!(in alloc; "folder")?);
-    reads_folder(&rt, alloc, &mut spool);
+    let mut spool = RealSpool::new(rt, format!(in rt.alloc(); "folder")?);
+    let are_read = reads_folder(rt.alloc(), &mut spool);
     drop(spool);
+    assert!(rt; are_read);
     Ok(())
 }

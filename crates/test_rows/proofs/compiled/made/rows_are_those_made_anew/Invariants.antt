@@ -1,4 +1,0 @@
-use Rattle.test_rows.proofs.compiled.made.rows_are_those_made_anew.Given as goal
-
-abbrev pub ghosts-changes_made : goal.ghosts-changes_made
-ghosts-changes_made g a = record { name = a.blank.name; parts = a.blank.parts }

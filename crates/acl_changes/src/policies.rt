@@ -16,11 +16,22 @@ use std::alloc::Global;
 use std::marker::Model;
 
 /// A policy with the numbers of its wide entries: those with no member selector.
-#[derive(Drop, Debug)]
+#[derive(Debug)]
 pub struct CompiledPolicy {
     policy: Policy,
     wide_outgoing: Listed<u16>,
     wide_incoming: Listed<u16>,
+}
+
+// It is written out, so that what lets one go doesn't prove again how each part is dropped.
+impl Drop for CompiledPolicy {
+    fn drop(self) {
+        let CompiledPolicy {
+            policy: _,
+            wide_outgoing: _,
+            wide_incoming: _,
+        } = self;
+    }
 }
 
 impl Model for CompiledPolicy {
@@ -35,11 +46,22 @@ impl Model for CompiledPolicy {
 }
 
 /// A policy that is held, with the URL of its file, and its index by keys.
-#[derive(Drop, Debug)]
+#[derive(Debug)]
 pub struct Held {
     url: MudUrl,
     policy: CompiledPolicy,
     keys: KeyIndex,
+}
+
+// It is written out, so that what lets one go doesn't prove again how each part is dropped.
+impl Drop for Held {
+    fn drop(self) {
+        let Held {
+            url: _,
+            policy: _,
+            keys: _,
+        } = self;
+    }
 }
 
 impl Model for Held {
@@ -54,10 +76,17 @@ impl Model for Held {
 }
 
 /// The policy of the default entries, which are in no file, and its index by keys.
-#[derive(Drop, Debug)]
+#[derive(Debug)]
 pub struct HeldDefaults {
     policy: CompiledPolicy,
     keys: KeyIndex,
+}
+
+// It is written out, so that what lets one go doesn't prove again how each part is dropped.
+impl Drop for HeldDefaults {
+    fn drop(self) {
+        let HeldDefaults { policy: _, keys: _ } = self;
+    }
 }
 
 impl Model for HeldDefaults {

@@ -41,7 +41,7 @@ pub enum BindRows {
 
 /// What a command answers and changes. It is made by a plan, and done by
 /// [`commit`](crate::BindBook::commit).
-#[derive(Drop, Debug)]
+#[derive(Debug)]
 pub struct BindChange {
     word: Word,
     until: Option<End>,
@@ -49,6 +49,20 @@ pub struct BindChange {
     puts: Listed<Put>,
     gone: Listed<Binding>,
     come: Listed<Binding>,
+}
+
+// It is written out, so that what lets one go doesn't prove again how each part is dropped.
+impl Drop for BindChange {
+    fn drop(self) {
+        let BindChange {
+            word: _,
+            until: _,
+            rows: _,
+            puts: _,
+            gone: _,
+            come: _,
+        } = self;
+    }
 }
 
 impl Model for BindChange {

@@ -24,13 +24,25 @@ use std::marker::Model;
 /// entry matches, by peer, protocol and port; and how many packets there were. It stands for the
 /// list of all packets, and takes no more memory than Things, sides and entries need: of each Thing
 /// and side 256 peers, protocols and ports at most have rows.
-#[derive(Drop)]
 pub struct Tally {
     totals: Totals,
     hour: Option<u64>,
     counts: SortedRows<CountRow>,
     denied: SortedRows<DeniedRow>,
     others: SortedRows<OtherRow>,
+}
+
+// It is written out, so that what lets one go doesn't prove again how each part is dropped.
+impl Drop for Tally {
+    fn drop(self) {
+        let Tally {
+            totals: _,
+            hour: _,
+            counts: _,
+            denied: _,
+            others: _,
+        } = self;
+    }
 }
 
 impl Model for Tally {

@@ -15,12 +15,24 @@ use usage_tables::{FileEdit, PolicyChange};
 
 /// A planned change of the files of one URL. Contracts see what it answers, the URL, the edit and
 /// the puts.
-#[derive(Drop, Debug)]
+#[derive(Debug)]
 pub struct CacheChange {
     word: Word,
     url: MudUrl,
     edit: FileEdit,
     puts: Listed<Put>,
+}
+
+// It is written out, so that what lets one go doesn't prove again how each part is dropped.
+impl Drop for CacheChange {
+    fn drop(self) {
+        let CacheChange {
+            word: _,
+            url: _,
+            edit: _,
+            puts: _,
+        } = self;
+    }
 }
 
 impl Model for CacheChange {

@@ -21,7 +21,6 @@ use std::alloc::Global;
 ///
 /// The database speaks here of a file that is empty when it is opened. What is proved of a file that
 /// holds items is said of [`SqliteKeeper`], of whose calls the calls here are one each.
-#[derive(Drop)]
 pub struct PathKeeper {
     rt: HostRuntime,
     path: String,
@@ -32,6 +31,19 @@ pub struct PathKeeper {
     /// What standard error was told since the last call that answered Ok.
     said: Option<Refusal>,
     ghost opened: { ForSome keeper (λ opened. IsTrue opened.has_opened) },
+}
+
+// It is written out, so that a crate that lets a keeper go doesn't prove again how each part is dropped.
+impl Drop for PathKeeper {
+    fn drop(self) {
+        let PathKeeper {
+            rt: _,
+            path: _,
+            keeper: _,
+            faults: _,
+            said: _,
+        } = self;
+    }
 }
 
 impl PathKeeper {
@@ -57,8 +69,14 @@ impl PathKeeper {
         ensures none { IsNone result ↔ (has_opened self ≡ false) }
         ensures connection { result ≡ connection_of self }
     {
-        let opened = self.keeper?;
-        Some(opened.connection)
+        let PathKeeper {
+            rt: _,
+            path: _,
+            keeper,
+            faults: _,
+            said: _,
+        } = self;
+        Some(keeper?.give_back())
     }
 }
 

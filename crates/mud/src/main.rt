@@ -30,6 +30,7 @@ fn main(rt: HostRuntime) -> ExitCode {
 /// Runs the words after the program's name, and answers the status. Where they are no listed line, it
 /// prints the usage text on standard error; whether that succeeds doesn't change the status.
 fn run(rt: HostRuntime) -> u8 {
+    let _streams = take_streams(&rt);
     let status = status_of(rt);
     if status == Status::Unlisted.number() {
         let _printed = eprint!(rt; "{}", USAGE);
@@ -75,14 +76,12 @@ fn take_streams(rt: &HostRuntime) -> [io::Result<<HostRuntime as Files>::File>; 
     [fs::open(rt, "/"), fs::open(rt, "/"), fs::open(rt, "/")]
 }
 
-/// Runs these words. Nothing stands between standard input and the door, so no octet is taken of it
-/// that the door doesn't ask for. Neither the keeper of a store's file nor the spool of a folder
-/// opens anything before a command does. Where a read or a write failed, standard error is told why;
-/// the keeper of a file tells it itself. So it is told where `snoop` could learn nothing.
+/// Runs these words. Neither the keeper of a store's file nor the spool of a folder opens anything
+/// before a command does.
 fn run_words(rt: HostRuntime, words: &[String]) -> io::Result<u8> {
     let alloc = rt.alloc();
-    let _streams = take_streams(&rt);
     let (store, folder) = operands(alloc, words);
+    let folder = String::from_str(alloc, folder)?;
     let keeper: Box<dyn Keeper> = if store == IN_MEMORY {
         Box::new(alloc, MemoryKeeper::new(alloc, Listed::new(alloc)))?
     } else {
@@ -91,8 +90,17 @@ fn run_words(rt: HostRuntime, words: &[String]) -> io::Result<u8> {
             PathKeeper::over(&rt, String::from_str(alloc, store)?),
         )?
     };
+    Ok(run_over(rt, words, keeper, folder))
+}
+
+/// Runs these words over a keeper and the path of a folder, and answers the status. Nothing stands
+/// between standard input and the door, so no octet is taken of it that the door doesn't ask for.
+/// Where a read or a write failed, standard error is told why; the keeper of a file tells it itself.
+/// So it is told where `snoop` could learn nothing.
+fn run_over(rt: HostRuntime, words: &[String], keeper: Box<dyn Keeper>, folder: String) -> u8 {
+    let alloc = rt.alloc();
     let mut door = RealDoor::new(rt.reader(), io::writer(&rt), rt);
-    let mut spool = RealSpool::new(rt, String::from_str(alloc, folder)?);
+    let mut spool = RealSpool::new(rt, folder);
     let mut clock = RealClock::new(rt);
     let (status, mut keeper) = mud_main(alloc, words, keeper, &mut door, &mut spool, &mut clock);
     if status == Status::DoorFailed.number() {
@@ -104,7 +112,7 @@ fn run_words(rt: HostRuntime, words: &[String]) -> io::Result<u8> {
             "mud: no name could be learnt: no address is bound to urn:ietf:params:mud:dns\n"
         );
     }
-    Ok(status)
+    status
 }
 
 /// Whether these words are those of `snoop`, and it ended with its capture, whole or broken.

@@ -21,7 +21,7 @@ pub struct Head {
 }
 
 /// A usage file (RFC 8520).
-#[derive(Drop, Debug)]
+#[derive(Debug)]
 pub struct UsageFile {
     /// Its own URL.
     pub url: MudUrl,
@@ -37,4 +37,19 @@ pub struct UsageFile {
     pub extensions: Listed<Bytes>,
     /// Its entries, of at most 128 for each direction.
     pub policy: Policy,
+}
+
+// It is written out, so that what lets one go doesn't prove again how each part is dropped.
+impl Drop for UsageFile {
+    fn drop(self) {
+        let UsageFile {
+            url: _,
+            update: _,
+            hours: _,
+            supported: _,
+            signature: _,
+            extensions: _,
+            policy: _,
+        } = self;
+    }
 }

@@ -18,7 +18,7 @@ use table_model::Thing;
 
 /// A planned change of the Things: what its command answers, and what it will do. Contracts see it
 /// as the record of these.
-#[derive(Drop, Debug)]
+#[derive(Debug)]
 pub struct ThingChange {
     word: Word,
     until: Option<End>,
@@ -26,6 +26,20 @@ pub struct ThingChange {
     puts: Listed<Put>,
     gone: Listed<Binding>,
     come: Listed<Binding>,
+}
+
+// It is written out, so that what lets one go doesn't prove again how each part is dropped.
+impl Drop for ThingChange {
+    fn drop(self) {
+        let ThingChange {
+            word: _,
+            until: _,
+            rows: _,
+            puts: _,
+            gone: _,
+            come: _,
+        } = self;
+    }
 }
 
 impl Model for ThingChange {
@@ -119,7 +133,14 @@ impl ThingChange {
     pub(crate) fn into_rows(self) -> Change<Mac, Thing>
         ensures { result ≡ self.rows }
     {
-        let ThingChange { rows, .. } = self;
+        let ThingChange {
+            word: _,
+            until: _,
+            rows,
+            puts: _,
+            gone: _,
+            come: _,
+        } = self;
         rows
     }
 }

@@ -10,12 +10,24 @@ use std::marker::Model;
 
 /// A usage file as it is held. It was read and digested when it came, and is never again. Contracts
 /// see it as its octets and the moment at which they were fetched.
-#[derive(Drop, Debug)]
+#[derive(Debug)]
 pub struct Held {
     octets: Bytes,
     fetched: Moment,
     digest: [u8; 64],
     file: UsageFile,
+}
+
+// It is written out, so that what lets one go doesn't prove again how each part is dropped.
+impl Drop for Held {
+    fn drop(self) {
+        let Held {
+            octets: _,
+            fetched: _,
+            digest: _,
+            file: _,
+        } = self;
+    }
 }
 
 impl Model for Held {

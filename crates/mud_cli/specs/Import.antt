@@ -1,1 +1,8 @@
+pub mod Names
+pub mod Lines
+pub mod Entries
+pub mod Imports
+pub mod Order
+pub mod Runs
+pub mod Scenes
 pub mod Store

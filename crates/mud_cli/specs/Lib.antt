@@ -7,3 +7,4 @@ pub mod Promises
 pub mod Report
 pub mod Export
 pub mod Runs
+pub mod Serving

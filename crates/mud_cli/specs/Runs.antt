@@ -10,14 +10,14 @@ use Rattle.mud_world.specs.View.{OutsideView, outside}
 use Rattle.run_words.specs.declared.command.Command.{Command}
 use Rattle.run_words.specs.declared.command.Command.TheVariants.{Hear, Check, Frames, Judge, Snoop, Tally, Import, Replay, Serve, Report, Export, Drill}
 use Rattle.run_words.specs.Words.{command_in}
-use Rattle.run_console.specs.Replay.{ReplaysStore}
-use Rattle.run_console.specs.Serve.{ServesStore, listening, clock_run}
+use Rattle.mud_cli.specs.Serving.Replay.{ReplaysStore}
+use Rattle.mud_cli.specs.Serving.Serve.{ServesStore, listening, clock_run}
 use Rattle.run_desk.specs.Store.{JudgesStore}
 use Rattle.run_drills.specs.Store.{DrillsStore}
-use Rattle.run_export.specs.Store.{ExportsStore}
+use Rattle.run_reports.specs.Export.Store.{ExportsStore}
 use Rattle.run_reports.specs.Store.{ReportsStore}
-use Rattle.run_snoop.specs.Store.{SnoopsStore}
-use Rattle.run_tally.specs.Store.{TalliesStore}
+use Rattle.run_packets.specs.Snoop.Store.{SnoopsStore}
+use Rattle.run_packets.specs.Tally.Store.{TalliesStore}
 use Rattle.mud_cli.specs.Answers.{reads_input}
 use Rattle.mud_cli.specs.Export.{AsksClockOnce}
 use Rattle.mud_cli.specs.Import.Store.{ImportsStore}

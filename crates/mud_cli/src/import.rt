@@ -1,44 +1,13 @@
-//! The command `import`: the usage files of a folder, into a store.
-ghost use Rattle.std.specs.Prelude.{◌≡◌};
-ghost use Rattle.run_common.specs.Status.{status_number};
-ghost use Rattle.mud_world.specs.View.{viewed};
-ghost use Rattle.desk_items.specs.Loaded.{kept_of};
-ghost use Rattle.desk_model.specs.Items.{none_kept};
-ghost use Rattle.mud_cli.specs.Import.Store.{ImportsStore};
-ghost use Rattle.mud_world.specs.View.{outside};
+//! The command `import`: the usage files of a folder, into a store. Each file is a command to the
+//! desk, and each name has its line.
 
-use mud_desk::{Desk, Loaded};
-use mud_world::{Clock, Door, Keeper, Spool};
-use run_common::Status;
-use run_desk::refuse_store;
-use run_import::import_files;
-use std::alloc::Global;
+mod file;
+pub mod folder;
+pub mod line;
+pub mod name;
+mod names;
+pub(crate) mod store;
 
-/// Opens a desk over the keeper, and then imports the usage files of the folder into it. Where the
-/// store can't be opened, the folder isn't listed. The box is handed back. Nothing was taken before,
-/// as [`Desk::open`] wants it: [`Loaded::new`].
-pub(crate) fn import_store<D: Door, P: Spool, C: Clock>(
-    alloc: Global,
-    keeper: Box<dyn Keeper>,
-    nothing: Loaded,
-    door: &mut D,
-    spool: &mut P,
-    clock: &mut C,
-) -> (Status, Box<dyn Keeper>)
-    requires { kept_of nothing ≡ none_kept }
-    ensures { ImportsStore Keeper-dyn (D.tells × (P.tells × C.tells)) keeper result.1
-        (outside (D.view door.old)
-        (P.view spool.old) (C.moments clock.old))
-        (outside (D.view door.new)
-        (P.view spool.new) (C.moments clock.new))
-        (status_number result.0) }
-{
-    match Desk::open(alloc, keeper, nothing) {
-        Ok(mut desk) => {
-            let status = import_files(alloc, &mut desk, door, spool, clock);
-            desk.lists_are_sound();
-            (status, desk.close())
-        }
-        Err((fault, keeper)) => (refuse_store(alloc, door, fault), keeper),
-    }
-}
+pub use folder::import_files;
+pub use line::{append_reply, append_skipped};
+pub use name::fetched_in;

@@ -5,9 +5,10 @@ pub mod answer;
 mod check;
 pub mod frames;
 mod hear;
-mod import;
+pub mod import;
 pub mod laws;
 pub mod run;
+pub mod serving;
 
 pub use answer::{Answer, Input};
 pub use run::mud_main;

@@ -7,18 +7,18 @@ ghost use Rattle.mud_cli.specs.Runs.{AsTold, Does, LeavesAlone, world};
 
 use crate::answer::{Input, answer_input};
 use crate::frames::FrameLines;
-use crate::import::import_store;
+use crate::import::store::import_store;
 use mud_desk::Loaded;
 use mud_world::{Clock, Door, Keeper, Spool};
 use run_captures::write_capture;
 use run_common::Status;
-use run_console::{replay_store, serve_store};
+use crate::serving::{replay_store, serve_store};
 use run_desk::judge_store;
 use run_drills::run_drill;
-use run_export::export_store;
+use run_reports::export::export_store;
 use run_reports::report_store;
-use run_snoop::snoop_store;
-use run_tally::tally_store;
+use run_packets::snoop::snoop_store;
+use run_packets::tally::tally_store;
 use run_words::{Command, command_of};
 use std::alloc::Global;
 

@@ -2,3 +2,4 @@ pub mod RowExamples
 pub mod Dues
 pub mod Runs
 pub mod Examples
+pub mod ExportLaws

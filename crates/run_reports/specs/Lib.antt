@@ -1,3 +1,4 @@
 pub mod Rows
 pub mod Tables
 pub mod Store
+pub mod Export

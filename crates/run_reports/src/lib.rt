@@ -1,7 +1,9 @@
-//! The command `report`: it opens a store, and writes one of its tables.
+//! The commands that write out what a store holds: `report`, one of its tables, and `export`, what
+//! a Thing may do now.
 #![tactic(auto)]
 
 mod binds;
+pub mod export;
 mod files;
 pub mod row;
 mod rows;
@@ -9,5 +11,6 @@ pub mod store;
 mod table;
 mod things;
 
+pub use export::{export_store, ListName};
 pub use row::ReportRow;
 pub use store::report_store;

@@ -4,7 +4,7 @@ use crate::doors::{assert_written, door_of};
 use mud_base::{Bytes, Listed, Memory, Moment};
 use mud_world::{Keeper, MemoryClock, MemoryDoor, MemoryKeeper, MemorySpool};
 use run_common::Status;
-use run_import::import_files;
+use mud_cli::import::import_files;
 use std::alloc::Global;
 use std::process::Abort;
 use std::test::Fail;

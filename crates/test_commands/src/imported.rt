@@ -3,7 +3,7 @@ use desk_model::{Outcome, Refusal, Reply};
 use item_codec::Word;
 use mud_base::Bytes;
 use mud_file::{Broken, Rule};
-use run_import::{append_reply, append_skipped, fetched_in};
+use mud_cli::import::{append_reply, append_skipped, fetched_in};
 use std::alloc::Global;
 use std::process::Abort;
 use std::test::Fail;

@@ -4,7 +4,7 @@ use crate::doors::{assert_written, door_of, piece_of};
 use mud_desk::Loaded;
 use mud_world::{Keeper, MemoryDoor};
 use run_common::Status;
-use run_console::replay_store;
+use mud_cli::serving::replay_store;
 use std::alloc::Global;
 use std::process::Abort;
 use std::test::Fail;

@@ -12,8 +12,8 @@ use Rattle.desk_model.specs.Items.{items_of, tables_in}
 use Rattle.desk_model.specs.Sessions.{Session, opened}
 use Rattle.run_desk.specs.Honest.{RunsHonestly}
 use Rattle.run_desk.specs.Store.{IsRefused, IsUnopened, KeepsTables}
-use Rattle.run_import.specs.Order.{in_order}
-use Rattle.run_import.specs.Runs.{Scene, ImportsPart, ImportsAll}
+use Rattle.mud_cli.specs.Import.Order.{in_order}
+use Rattle.mud_cli.specs.Import.Runs.{Scene, ImportsPart, ImportsAll}
 use Rattle.run_common.specs.Status.{IsOneOf, each_status}
 use Rattle.run_common.specs.declared.status.Status.TheVariants.{Done, Refused, DoorFailed, NoMemory, BadItem, KeeperFailed}
 

@@ -1,0 +1,34 @@
+//! The line of a file of a folder. It ends with a line feed.
+ghost use Rattle.std.specs.Prelude.{◌≡◌, ◌++◌, OnOk};
+ghost use Rattle.mud_cli.specs.Import.Lines as spec;
+
+use desk_model::Reply;
+use mud_base::{Bytes, Memory};
+use std::alloc::Global;
+use text_replies::append_reply_words;
+
+/// Adds the line of a file that was imported, or refused: its name, and the word of what was done,
+/// `refused` with the number and the name of the rule and the path in the file, `keeper`, or
+/// `memory`.
+#[tactic(auto, unfolding(crate::specs::Import::Lines::reply_line))]
+pub fn append_reply(
+    alloc: Global,
+    lines: &mut Bytes,
+    name: &[u8],
+    reply: &Reply,
+) -> Result<(), Memory>
+    ensures { OnOk result (lines.new ≡ lines.old ++ spec.reply_line name.now reply.now) }
+{
+    lines.append(name)?;
+    append_reply_words(alloc, lines, reply)?;
+    lines.append(b"\n")
+}
+
+/// Adds the line of a file whose name has another form than those that are imported.
+#[tactic(auto, unfolding(crate::specs::Import::Lines::skipped_line))]
+pub fn append_skipped(lines: &mut Bytes, name: &[u8]) -> Result<(), Memory>
+    ensures { OnOk result (lines.new ≡ lines.old ++ spec.skipped_line name.now) }
+{
+    lines.append(name)?;
+    lines.append(b" skipped\n")
+}

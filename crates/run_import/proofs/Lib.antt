@@ -1,4 +1,0 @@
-mod Examples
-pub mod Folders
-pub mod Leads
-pub mod Orders

@@ -1,7 +1,0 @@
-pub mod Names
-pub mod Lines
-pub mod Entries
-pub mod Imports
-pub mod Order
-pub mod Runs
-pub mod Scenes

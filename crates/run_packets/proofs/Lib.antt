@@ -1,0 +1,2 @@
+pub mod SnoopLaws
+pub mod TallyLaws

@@ -1,0 +1,2 @@
+pub mod Snoop
+pub mod Tally

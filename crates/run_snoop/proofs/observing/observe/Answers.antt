@@ -1,8 +1,0 @@
-use Rattle.std.proofs.Common.{sym, subst, List, ℕ}
-use Rattle.dns_snoop.specs.Observed.{IsObservable}
-use Rattle.run_snoop.proofs.Asked.{may_be_asked}
-use Rattle.run_snoop.proofs.observing.observe.Goals as goal
-
-pub command-requires-clause-asked : goal.command-requires-clause-asked
-command-requires-clause-asked g c =
-    may_be_asked c.in_ok-name.name c.args.row (subst (λ (name : List ℕ). IsObservable name c.args.row) (sym c.in_ok-name.ensures) c.requires.asked)

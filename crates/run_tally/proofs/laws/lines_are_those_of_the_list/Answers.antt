@@ -1,5 +1,0 @@
-use Rattle.run_tally.proofs.TextLaws.{lines_told}
-use Rattle.run_tally.proofs.laws.lines_are_those_of_the_list.Goals as goal
-
-pub returns : goal.returns
-returns c = lines_told

@@ -10,3 +10,4 @@ pub mod Since
 pub mod Stays
 pub mod Verdicts
 pub mod Views
+pub mod ItemsLaws

@@ -5,9 +5,9 @@ use Rattle.desk_model.specs.DeskTables.{DeskTables, IsSound}
 use Rattle.desk_model.specs.Items.{items_of, tables_in}
 use Rattle.desk_model.specs.Sessions.{Session, opened}
 use Rattle.desk_model.proofs.ReadBack.{desk_again}
-use Rattle.desk_items.specs.declared.fault.OpenFault.{OpenFault}
-use Rattle.desk_items.specs.declared.fault.OpenFault.TheVariants as opening
-use Rattle.desk_items.specs.Opening.{Leaves}
+use Rattle.mud_desk.specs.declared.items.fault.OpenFault.{OpenFault}
+use Rattle.mud_desk.specs.declared.items.fault.OpenFault.TheVariants as opening
+use Rattle.mud_desk.specs.Items.Opening.{Leaves}
 use Rattle.mud_desk.specs.Answers.{IsLeft}
 use Rattle.mud_desk.specs.DeskState.{DeskState, tables_of, session_of}
 

@@ -9,9 +9,9 @@ use Rattle.desk_model.specs.declared.reply.Reply.{Reply}
 use Rattle.desk_model.specs.declared.reply.Reply.TheVariants.{Done, Refused, Keeper, Memory}
 use Rattle.desk_model.specs.Commands.{DeskStep}
 use Rattle.desk_model.specs.Verdicts.{desk_bindings}
-use Rattle.desk_items.specs.declared.fault.OpenFault.{OpenFault}
-use Rattle.desk_items.specs.declared.fault.OpenFault.TheVariants as opening
-use Rattle.desk_items.specs.Opening.{IsPartlyAnew}
+use Rattle.mud_desk.specs.declared.items.fault.OpenFault.{OpenFault}
+use Rattle.mud_desk.specs.declared.items.fault.OpenFault.TheVariants as opening
+use Rattle.mud_desk.specs.Items.Opening.{IsPartlyAnew}
 use Rattle.mud_world.specs.declared.item.Item.{Item}
 use Rattle.desk_model.specs.Items.{tables_in}
 use Rattle.desk_books.specs.Books.{Books, desk_of}

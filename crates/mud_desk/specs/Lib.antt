@@ -3,3 +3,4 @@ pub mod DeskState
 pub mod Findings
 pub mod RuleInputs
 pub mod Stays
+pub mod Items

@@ -13,9 +13,9 @@ use Rattle.run_common.specs.Output.{WroteFirst}
 use Rattle.run_common.specs.Ends.{IsSteady, IsStopped, IsStoppedWriting}
 use Rattle.run_common.specs.Status.{each_status}
 use Rattle.run_common.proofs.Outputs.{wrote_none}
-use Rattle.desk_items.specs.declared.fault.OpenFault.{OpenFault}
-use Rattle.desk_items.specs.declared.fault.OpenFault.TheVariants.{Keeper, Memory, BadItem}
-use Rattle.desk_items.specs.Opening.{IsFaultOf, IsOfCall}
+use Rattle.mud_desk.specs.declared.items.fault.OpenFault.{OpenFault}
+use Rattle.mud_desk.specs.declared.items.fault.OpenFault.TheVariants.{Keeper, Memory, BadItem}
+use Rattle.mud_desk.specs.Items.Opening.{IsFaultOf, IsOfCall}
 use Rattle.desk_model.specs.DeskTables.{DeskTables}
 use Rattle.desk_model.specs.Items.{tables_in}
 use Rattle.mud_desk.specs.Answers.{IsLeft, is_fault_of_keeper}

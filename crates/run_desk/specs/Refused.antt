@@ -4,8 +4,8 @@ use Rattle.hex.specs.Hex.{encode_lower}
 use Rattle.mud_world.specs.declared.item.Item.{Item}
 use Rattle.mud_world.specs.Door.{DoorState, put_out}
 use Rattle.text_values.specs.Numbers.{number_text}
-use Rattle.desk_items.specs.declared.fault.OpenFault.{OpenFault}
-use Rattle.desk_items.specs.declared.fault.OpenFault.TheVariants as open_fault
+use Rattle.mud_desk.specs.declared.items.fault.OpenFault.{OpenFault}
+use Rattle.mud_desk.specs.declared.items.fault.OpenFault.TheVariants as open_fault
 use Rattle.desk_model.specs.DeskTables.{DeskTables}
 use Rattle.run_common.specs.Output.{WroteFirst}
 use Rattle.run_common.specs.Status.{Is, IsOneOf}

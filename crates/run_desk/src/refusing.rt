@@ -5,7 +5,7 @@ ghost use Rattle.run_common.specs.Ends.{IsStoppedWriting};
 ghost use Rattle.run_common.specs.Output.{WroteFirst};
 ghost use Rattle.run_common.specs.Status.{Is, IsNot, IsOneOf, status_number};
 ghost use Rattle.run_common.specs.declared.status.Status.TheVariants.{DoorFailed, NoMemory, BadItem};
-ghost use Rattle.desk_items.specs.Opening.{IsOfCall};
+ghost use Rattle.mud_desk.specs.Items.Opening.{IsOfCall};
 ghost use Rattle.run_desk.specs.Refused.{IsRefusal, bad_item_line, key_part, refusal_text};
 
 use mud_base::{Bytes, Memory};

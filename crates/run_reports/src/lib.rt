@@ -11,6 +11,6 @@ pub mod store;
 mod table;
 mod things;
 
-pub use export::{export_store, ListName};
+pub use export::{ListName, export_store};
 pub use row::ReportRow;
 pub use store::report_store;

@@ -2,7 +2,7 @@
 ghost use Rattle.std.specs.Prelude.{◌≡◌, ◌⊎◌, false, [], ◌∷◌};
 ghost use Rattle.run_common.specs.Status.{Is, IsOneOf, status_number};
 ghost use Rattle.run_common.specs.declared.status.Status.TheVariants.{Done, BadItem, KeeperFailed};
-ghost use Rattle.desk_items.specs.Loaded.{kept_of};
+ghost use Rattle.mud_desk.specs.Items.Loaded.{kept_of};
 ghost use Rattle.desk_model.specs.Items.{none_kept};
 ghost use Rattle.run_reports.specs.Store.{ReportsStore};
 ghost use Rattle.run_reports.specs.Tables.{asks_clock, moments_after};

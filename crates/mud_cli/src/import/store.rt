@@ -2,16 +2,16 @@
 ghost use Rattle.std.specs.Prelude.{◌≡◌};
 ghost use Rattle.run_common.specs.Status.{status_number};
 ghost use Rattle.mud_world.specs.View.{viewed};
-ghost use Rattle.desk_items.specs.Loaded.{kept_of};
+ghost use Rattle.mud_desk.specs.Items.Loaded.{kept_of};
 ghost use Rattle.desk_model.specs.Items.{none_kept};
 ghost use Rattle.mud_cli.specs.Import.Store.{ImportsStore};
 ghost use Rattle.mud_world.specs.View.{outside};
 
+use crate::import::import_files;
 use mud_desk::{Desk, Loaded};
 use mud_world::{Clock, Door, Keeper, Spool};
 use run_common::Status;
 use run_desk::refuse_store;
-use crate::import::import_files;
 use std::alloc::Global;
 
 /// Opens a desk over the keeper, and then imports the usage files of the folder into it. Where the

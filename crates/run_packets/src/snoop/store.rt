@@ -1,7 +1,7 @@
 //! The command `snoop`, from the opening of its store to its status.
 ghost use Rattle.std.specs.Prelude.{◌≡◌};
 ghost use Rattle.run_common.specs.Status.{status_number};
-ghost use Rattle.desk_items.specs.Loaded.{kept_of};
+ghost use Rattle.mud_desk.specs.Items.Loaded.{kept_of};
 ghost use Rattle.desk_model.specs.Items.{none_kept};
 ghost use Rattle.run_packets.specs.Snoop.Store.{SnoopsStore};
 

@@ -5,7 +5,7 @@ ghost use Rattle.run_common.specs.Ends.{IsSteady, IsStopped};
 ghost use Rattle.run_common.specs.Output.{WritesOutput, WritesPart};
 ghost use Rattle.run_common.specs.Status.{Is, IsNot, IsOneOf, status_number};
 ghost use Rattle.run_common.specs.declared.status.Status.TheVariants.{Done, Refused, DoorFailed, NoMemory, KeeperFailed};
-ghost use Rattle.desk_items.specs.Loaded.{kept_of};
+ghost use Rattle.mud_desk.specs.Items.Loaded.{kept_of};
 ghost use Rattle.desk_model.specs.Items.{none_kept};
 ghost use Rattle.desk_model.specs.Boxed.{IsKept};
 ghost use Rattle.mud_desk.specs.DeskState.{tables_of, session_of};

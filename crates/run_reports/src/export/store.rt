@@ -3,7 +3,7 @@ ghost use Rattle.std.specs.Prelude.{◌≡◌, ◌⊎◌, [], ◌∷◌};
 ghost use Rattle.run_common.specs.Status.{Is, IsOneOf, status_number};
 ghost use Rattle.run_common.specs.declared.status.Status.TheVariants.{Done, Refused, BadItem, KeeperFailed};
 ghost use Rattle.mud_world.specs.Clock.{later_moments};
-ghost use Rattle.desk_items.specs.Loaded.{kept_of};
+ghost use Rattle.mud_desk.specs.Items.Loaded.{kept_of};
 ghost use Rattle.desk_model.specs.Items.{none_kept};
 ghost use Rattle.run_reports.specs.Export.Store.{ExportsStore};
 

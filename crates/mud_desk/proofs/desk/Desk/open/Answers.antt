@@ -2,7 +2,7 @@ use Rattle.std.proofs.Common.{Ok, ap, subst, ◌∙◌}
 use Rattle.mud_world.specs.Boxed.{kept_items}
 use Rattle.desk_model.specs.DeskTables.{DeskTables, IsSound}
 use Rattle.desk_model.specs.Items.{items_of}
-use Rattle.desk_items.specs.Loaded.{loaded_desk}
+use Rattle.mud_desk.specs.Items.Loaded.{loaded_desk}
 use Rattle.mud_desk.proofs.Opening.{left_kept, begun_tables, begun_own}
 use Rattle.mud_desk.proofs.desk.Desk.open.Goals as goal
 

@@ -1,7 +1,0 @@
-use Rattle.std.proofs.Common.{◌≡◌, drop}
-use Rattle.desk_model.specs.Items.{none_kept, kept_in}
-use Rattle.desk_items.specs.Loaded.{kept_of}
-use Rattle.desk_items.proofs.loaded.take_into.Given as goal
-
-abbrev pub invariant-loop-index : goal.invariant-loop-index
-invariant-loop-index l = kept_in none_kept l.items ≡ kept_in (kept_of l.loaded) (drop l.index l.items)

@@ -1,7 +1,0 @@
-use Rattle.std.proofs.Common.{take}
-use Rattle.std.specs.List.{AllByRecursion}
-use Rattle.desk_items.specs.Opening.{HasOctets}
-use Rattle.desk_items.proofs.opening.bodies_fit.Given as goal
-
-abbrev pub invariant-loop-item : goal.invariant-loop-item
-invariant-loop-item l = AllByRecursion HasOctets (take l.item-index l.items)

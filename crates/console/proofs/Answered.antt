@@ -2,13 +2,13 @@
 use Rattle.std.proofs.Common.{◌≡◌, ℕ, Bool, List, refl, sym, ap, ◌∙◌, subst, inl, inr}
 use Rattle.std.specs.Prelude.{Result, Ok, Err, Option, None, length, max, ◌++◌}
 use Rattle.console_routes.specs.declared.route.Route.{Route}
-use Rattle.http_answers.specs.Heads.{head_of, shown, answer_of}
+use Rattle.console_answers.specs.Heads.{head_of, shown, answer_of}
 use Rattle.http_requests.specs.Requests.{Request}
 use Rattle.http_requests.specs.declared.fault.MomentFrom.{MomentFrom}
 use Rattle.http_requests.specs.declared.parts.RequestParts.{RequestParts}
 use Rattle.http_requests.specs.Parts.{AreParts}
-use Rattle.http_answers.specs.declared.status.Status.{Status}
-use Rattle.http_answers.specs.declared.status.Status.TheVariants as status
+use Rattle.console_answers.specs.declared.status.Status.{Status}
+use Rattle.console_answers.specs.declared.status.Status.TheVariants as status
 use Rattle.desk_model.specs.Sessions.{Session, later}
 use Rattle.console_routes.specs.Routes.{route_of}
 use Rattle.mud_desk.specs.DeskState.{DeskState, session_of}

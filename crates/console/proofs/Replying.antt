@@ -2,7 +2,7 @@
 use Rattle.std.proofs.Common.{◌≡◌, ℕ, false, List, None, Result, Ok, Err, refl, sym, ap, ◌∙◌, subst, inl, inr}
 use Rattle.std.specs.Prelude.{IfOk}
 use Rattle.mud_base.specs.declared.memory.Memory as want
-use Rattle.http_answers.specs.declared.status.Status.{Status}
+use Rattle.console_answers.specs.declared.status.Status.{Status}
 use Rattle.usage_tables.specs.declared.cache_fault.CacheFault.{CacheFault}
 use Rattle.usage_tables.specs.declared.cache_fault.CacheFault.TheVariants as file
 use Rattle.desk_model.specs.declared.reply.Refusal.{Refusal}
@@ -10,7 +10,7 @@ use Rattle.desk_model.specs.declared.reply.Refusal.TheVariants.{Things, Files, B
 use Rattle.console_listings.specs.Refusals.{refusal_status, files_status}
 use Rattle.console_bodies.specs.declared.fault.BodyFault.{BodyFault}
 use Rattle.console_listings.specs.Refusals.{body_fault_body}
-use Rattle.http_answers.specs.declared.status.Status.TheVariants.{BadRequest}
+use Rattle.console_answers.specs.declared.status.Status.TheVariants.{BadRequest}
 use Rattle.console.specs.declared.question.NoQuestion.{NoQuestion}
 use Rattle.console.specs.declared.question.NoQuestion.TheVariants.{NoRoute, NoMethod, BadBody}
 use Rattle.console.specs.Asks.{refusal_of}

@@ -13,8 +13,8 @@ use Rattle.desk_model.specs.Commands.{IsAsked}
 use Rattle.console_routes.specs.declared.action.Listing.{Listing}
 use Rattle.frame_view.specs.Frame.{frame_of}
 use Rattle.desk_model.specs.Sessions.{Session, AllowedVerdict, frame_in, verdict_in, raised, later, IsNoted}
-use Rattle.http_answers.specs.declared.status.Status.TheVariants as status
-use Rattle.console_outcomes.specs.Verdicts.{verdict_body}
+use Rattle.console_answers.specs.declared.status.Status.TheVariants as status
+use Rattle.console_answers.specs.Bodies.Verdicts.{verdict_body}
 use Rattle.desk_model.specs.Verdicts.{policy_at}
 use Rattle.mud_desk.specs.declared.findings.Findings.{Findings}
 use Rattle.mud_desk.specs.Findings.{found_in, AreFindingsOn}

@@ -4,7 +4,7 @@ use Rattle.mud_world.specs.Causes.{Counts}
 use Rattle.mud_world.specs.Clock.{next_moment, later_moments}
 use Rattle.desk_model.specs.Sessions.{Session}
 use Rattle.mud_desk.specs.DeskState.{DeskState, session_of}
-use Rattle.http_answers.specs.declared.status.Status.{Status}
+use Rattle.console_answers.specs.declared.status.Status.{Status}
 use Rattle.http_requests.specs.declared.fault.MomentFrom.{MomentFrom}
 use Rattle.http_requests.specs.Framing.{moment_of}
 use Rattle.http_requests.specs.Requests.{Request}

@@ -2,8 +2,8 @@
 use Rattle.std.proofs.lemmas.Bool.{false≢true}
 use Rattle.std.proofs.Common.{◌≡◌, ℕ, List, Option, Some, None, Result, Ok, Err, true, refl, sym, ap, ◌∙◌, subst}
 use Rattle.std.specs.Prelude.{option_and_then}
-use Rattle.http_answers.specs.declared.status.Status.{Status}
-use Rattle.http_answers.specs.declared.status.Status.TheVariants.{MethodNotAllowed, NoStorage, NotFound}
+use Rattle.console_answers.specs.declared.status.Status.{Status}
+use Rattle.console_answers.specs.declared.status.Status.TheVariants.{MethodNotAllowed, NoStorage, NotFound}
 use Rattle.http_requests.specs.Requests.{Request}
 use Rattle.http_requests.specs.declared.fault.MomentFrom.{MomentFrom}
 use Rattle.http_requests.specs.declared.parts.RequestParts.{RequestParts}

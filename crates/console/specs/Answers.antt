@@ -5,10 +5,10 @@ use Rattle.http_requests.specs.declared.fault.FramingFault.{FramingFault}
 use Rattle.http_requests.specs.declared.fault.FramingFault.TheVariants.{Head, Coding, Length, Long, NoLength, Moment, Cut}
 use Rattle.http_requests.specs.declared.fault.RequestFault.{RequestFault}
 use Rattle.http_requests.specs.Framing.{is_head, rule_of}
-use Rattle.http_answers.specs.declared.status.Status.{Status}
-use Rattle.http_answers.specs.declared.status.Status.TheVariants.{BadRequest, LengthRequired, NoStorage, TooLarge, NotImplemented}
-use Rattle.http_answers.specs.Heads.{answer_of}
-use Rattle.console_outcomes.specs.Outcomes.{rule_body}
+use Rattle.console_answers.specs.declared.status.Status.{Status}
+use Rattle.console_answers.specs.declared.status.Status.TheVariants.{BadRequest, LengthRequired, NoStorage, TooLarge, NotImplemented}
+use Rattle.console_answers.specs.Heads.{answer_of}
+use Rattle.console_answers.specs.Bodies.Outcomes.{rule_body}
 use Rattle.desk_model.specs.Sessions.{Session}
 use Rattle.console.specs.Replies.{Reply}
 use Rattle.console.specs.Requests.{AllowedResponse, NeedsMemory}

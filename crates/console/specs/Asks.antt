@@ -1,6 +1,6 @@
 -- What a request asks for, or the first thing that is wrong with it.
 use Rattle.std.specs.Prelude.{ℕ, Bool, false, List, Option, Some, None, Result, Ok, Err, option_and_then}
-use Rattle.http_answers.specs.declared.status.Status.TheVariants.{BadRequest}
+use Rattle.console_answers.specs.declared.status.Status.TheVariants.{BadRequest}
 use Rattle.console_routes.specs.declared.route.Route.{Route}
 use Rattle.console_routes.specs.Routes.{route_of}
 use Rattle.console_routes.specs.declared.action.Action.{Action}

@@ -3,7 +3,7 @@ use Rattle.std.specs.Prelude.{◌≡◌, ℕ, List}
 use Rattle.desk_model.specs.declared.reply.Outcome.{Outcome}
 use Rattle.desk_model.specs.declared.reply.Reply as desk
 use Rattle.desk_model.specs.declared.reply.Reply.TheVariants.{Done, Refused, Keeper, Memory}
-use Rattle.console_outcomes.specs.Heards.{heard_body, texts_of}
+use Rattle.console_answers.specs.Bodies.Heards.{heard_body, texts_of}
 use Rattle.console.specs.Replies.{Reply, unavailable, no_storage, IsOrWanted}
 use Rattle.console.specs.Requests.{outcome_body, command_reply}
 use Rattle.console.specs.declared.commands.Origin.{Origin}

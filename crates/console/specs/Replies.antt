@@ -2,9 +2,9 @@
 use Rattle.std.specs.Prelude.{◌≡◌, ℕ, ◌⊎◌, Bool, true, false, List, codes, Option, Some, None, Result, Ok, Err}
 use Rattle.mud_base.specs.declared.memory.Memory as want
 use Rattle.console_routes.specs.declared.route.Route.{Route}
-use Rattle.http_answers.specs.declared.status.Status.{Status}
-use Rattle.http_answers.specs.declared.status.Status.TheVariants.{NotFound, MethodNotAllowed, Unavailable, NoStorage}
-use Rattle.console_outcomes.specs.Outcomes.{rule_body}
+use Rattle.console_answers.specs.declared.status.Status.{Status}
+use Rattle.console_answers.specs.declared.status.Status.TheVariants.{NotFound, MethodNotAllowed, Unavailable, NoStorage}
+use Rattle.console_answers.specs.Bodies.Outcomes.{rule_body}
 use Rattle.desk_model.specs.Sessions.{Session}
 
 -- the status, the route whose methods are named, and the body

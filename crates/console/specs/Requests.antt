@@ -13,11 +13,11 @@ use Rattle.desk_model.specs.declared.reply.Reply as desk
 use Rattle.desk_model.specs.declared.reply.Reply.TheVariants.{Done, Refused, Keeper, Memory}
 use Rattle.desk_model.specs.Commands.{command_step}
 use Rattle.desk_model.specs.Sessions.{Session, later, raised, Answered, command_in, Judged, frame_in, verdict_in, IsNoted}
-use Rattle.http_answers.specs.declared.status.Status.TheVariants as status
+use Rattle.console_answers.specs.declared.status.Status.TheVariants as status
 use Rattle.http_requests.specs.Requests.{Request}
-use Rattle.console_outcomes.specs.Outcomes.{stated_body, file_body}
-use Rattle.console_outcomes.specs.Heards.{nothing_body, heard_body}
-use Rattle.console_outcomes.specs.Verdicts.{verdict_body}
+use Rattle.console_answers.specs.Bodies.Outcomes.{stated_body, file_body}
+use Rattle.console_answers.specs.Bodies.Heards.{nothing_body, heard_body}
+use Rattle.console_answers.specs.Bodies.Verdicts.{verdict_body}
 use Rattle.console_listings.specs.Refusals.{refusal_status, refusal_body}
 use Rattle.console.specs.Replies.{Reply, reply, Replied, replied, unavailable, no_storage, IsOrFailed}
 use Rattle.console.specs.declared.question.Question.{Question}

@@ -3,7 +3,7 @@ use Rattle.std.specs.Prelude.{◌≡◌, ℕ, ◌+◌, ◌≤◌, Bool, true, fa
 use Rattle.mud_world.specs.Clock.{next_moment, later_moments}
 use Rattle.desk_model.specs.Sessions.{Session}
 use Rattle.mud_desk.specs.DeskState.{DeskState, session_of}
-use Rattle.http_answers.specs.declared.status.Status.{Status}
+use Rattle.console_answers.specs.declared.status.Status.{Status}
 use Rattle.http_requests.specs.Asked.{Asked}
 use Rattle.http_requests.specs.Visits.{CountsOf}
 use Rattle.console.specs.Replies.{is_unavailable}

@@ -13,8 +13,8 @@ ghost use Rattle.console.specs.Answers as spec;
 
 use crate::BodyText;
 use crate::replies::reply_to;
+use console_answers::{AnswerBuffer, Status, body_part, write_head};
 use console_routes::Routes;
-use http_answers::{AnswerBuffer, Status, body_part, write_head};
 use http_requests::{FramingFault, RequestFault, RequestParts, is_head};
 use mud_base::{Memory, Moment};
 use mud_desk::Desk;
@@ -33,7 +33,7 @@ pub struct Answer {
 
 impl Model for Answer {
     ghost use Rattle.std.specs.Prelude.{ℕ, List, ◌++◌};
-    ghost use Rattle.http_answers.specs.Heads.{shown};
+    ghost use Rattle.console_answers.specs.Heads.{shown};
 
     ghost Value = { List ℕ };
 
@@ -49,7 +49,7 @@ fn body_len(body: &BodyText) -> usize
 
 impl Answer {
     /// No octets. The memory of all short answers and of the routes is taken here.
-    #[tactic(auto, unfolding(http_answers::specs::Heads::shown))]
+    #[tactic(auto, unfolding(console_answers::specs::Heads::shown))]
     pub fn new(alloc: Global) -> Result<Answer, Memory>
         ensures { IfOk result (λ answer. answer ≡ []) }
     {
@@ -76,7 +76,7 @@ impl Answer {
 
     /// Writes the answer to a fault that ends a connection: its head alone, where the method is HEAD.
     /// It takes no memory.
-    #[tactic(auto, using(crate::proofs::Faults::short_rule), unfolding(crate::specs::Answers::fault_answer, http_answers::specs::Heads::answer_of, http_answers::specs::Heads::shown))]
+    #[tactic(auto, using(crate::proofs::Faults::short_rule), unfolding(crate::specs::Answers::fault_answer, console_answers::specs::Heads::answer_of, console_answers::specs::Heads::shown))]
     pub fn refuse(&mut self, fault: RequestFault)
         ensures { self.new ≡ spec.fault_answer fault }
     {
@@ -107,7 +107,7 @@ fn fault_status(fault: FramingFault) -> Status
 /// it, it says so. The status of the answer is handed out. Memory that is wanted is answered with
 /// 507, and a change that couldn't be kept with 503: all is then as it was. What stands for a change
 /// that was kept takes no memory.
-#[tactic(auto, unfolding(crate::specs::Answers::octets_of, http_answers::specs::Heads::answer_of))]
+#[tactic(auto, unfolding(crate::specs::Answers::octets_of, console_answers::specs::Heads::answer_of))]
 pub fn answer_request(
     alloc: Global,
     desk: &mut Desk,

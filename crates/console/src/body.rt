@@ -1,18 +1,18 @@
 //! The body of an answer, in a buffer that is taken once, or made whole.
 ghost use Rattle.std.specs.Prelude.{◌≡◌, ◌≤◌, [], false, length, IfOk};
-ghost use Rattle.console_outcomes.specs.Outcomes as outcomes;
-ghost use Rattle.console_outcomes.specs.Heards as heards;
-ghost use Rattle.console_outcomes.specs.Verdicts as verdicts;
+ghost use Rattle.console_answers.specs.Bodies.Outcomes as outcomes;
+ghost use Rattle.console_answers.specs.Bodies.Heards as heards;
+ghost use Rattle.console_answers.specs.Bodies.Verdicts as verdicts;
 ghost use Rattle.console.specs.Replies.{reply, made_reply, is_unavailable};
 
-use console_outcomes::{
+use console_answers::bodies::{
     HeardTexts, write_file, write_heard, write_nothing_heard, write_rule, write_stated,
     write_verdict,
 };
+use console_answers::{AnswerBuffer, Status};
 use console_routes::Statement;
 use desk_model::Outcome;
 use dhcp_lldp::Heard;
-use http_answers::{AnswerBuffer, Status};
 use mud_base::{Bytes, Memory};
 use packet_judge::Verdict;
 use std::alloc::Global;

@@ -12,7 +12,7 @@ ghost use Rattle.console.specs.Requests.{by_verdict};
 use crate::BodyText;
 use crate::refusals::want_memory;
 use crate::session::judge;
-use http_answers::Status;
+use console_answers::Status;
 use mud_base::{Memory, Moment};
 use mud_desk::Desk;
 

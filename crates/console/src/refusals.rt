@@ -4,9 +4,9 @@ ghost use Rattle.console.specs.Replies.{reply, no_storage, is_unavailable};
 ghost use Rattle.console.specs.Refused.{IsToldOf, IsRefusalOf};
 
 use crate::{BodyText, NoQuestion, Unasked};
+use console_answers::Status;
 use console_listings::body_fault_body;
 use console_routes::Route;
-use http_answers::Status;
 use std::alloc::Global;
 
 /// A reply whose body is held elsewhere: its status, and the route whose methods are named.

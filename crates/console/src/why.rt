@@ -8,8 +8,8 @@ ghost use Rattle.console.specs.Replies.{reply, is_unavailable, IsOrWanted};
 ghost use Rattle.console.specs.Why as spec;
 
 use crate::BodyText;
+use console_answers::Status;
 use console_listings::{RuledEndpoint, why_body};
-use http_answers::Status;
 use mud_base::{Bytes, Memory, Moment};
 use mud_desk::{Desk, Findings, RuledThing};
 use std::alloc::Global;

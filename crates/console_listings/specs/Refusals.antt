@@ -13,8 +13,8 @@ use Rattle.usage_tables.specs.declared.cache_fault.CacheFault.{CacheFault}
 use Rattle.usage_tables.specs.declared.cache_fault.CacheFault.TheVariants.{Memory, File, Older, CacheFull, NoCandidate, Digest, NoSignature, NotApproved, PolicyFull}
 use Rattle.desk_model.specs.declared.reply.Refusal.{Refusal}
 use Rattle.desk_model.specs.declared.reply.Refusal.TheVariants.{Things, Files, Binds}
-use Rattle.http_answers.specs.declared.status.Status.{Status}
-use Rattle.http_answers.specs.declared.status.Status.TheVariants.{Conflict, Unprocessable}
+use Rattle.console_answers.specs.declared.status.Status.{Status}
+use Rattle.console_answers.specs.declared.status.Status.TheVariants.{Conflict, Unprocessable}
 use Rattle.console_bodies.specs.declared.member.Member.{Member}
 use Rattle.console_bodies.specs.declared.fault.BodyFault.{BodyFault}
 use Rattle.console_bodies.specs.declared.fault.BodyFault.TheVariants as fault

@@ -15,7 +15,7 @@ use Rattle.usage_tables.specs.Held.{HeldFile, usage_in, digest_of}
 use Rattle.usage_tables.specs.declared.approval.Approval.{Approval}
 use Rattle.usage_tables.specs.declared.cached_file.CachedFile.{CachedFile}
 use Rattle.usage_tables.specs.Words.{approval_word}
-use Rattle.http_answers.specs.Texts.{url_text}
+use Rattle.console_answers.specs.Texts.{url_text}
 use Rattle.console_listings.specs.Texts.{truth_text, until_text}
 use Rattle.console_listings.specs.Lists.{list_text, listing_body}
 

@@ -7,7 +7,7 @@ use Rattle.acl_model.specs.declared.entry.Entry.{Entry}
 use Rattle.acl_model.specs.declared.ruling.Ruling.{Ruling}
 use Rattle.acl_model.specs.declared.ruling.Ruling.TheVariants.{Accept, AcceptDefault, Drop, DropDefault, DropHeld}
 use Rattle.packet_judge.specs.declared.verdict.Verdict.{Verdict}
-use Rattle.text_replies.specs.Verdicts.{ruling_text, verdict_text}
+use Rattle.desk_model.specs.Texts.Verdicts.{ruling_text, verdict_text}
 use Rattle.console_listings.specs.declared.why.RuledEndpoint.{RuledEndpoint}
 use Rattle.console_listings.specs.Rows.{url_end}
 

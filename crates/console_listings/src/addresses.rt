@@ -4,8 +4,8 @@ ghost use Rattle.std.specs.Net.Text.{ipv4_text};
 ghost use Rattle.json.specs.Print.{quoted};
 ghost use Rattle.mud_base.specs.Texts as of;
 
-use http_answers::append_quoted;
-use http_answers::texts::hex_digit;
+use console_answers::append_quoted;
+use console_answers::texts::hex_digit;
 use mud_base::{Addr, Bytes, Mac, Memory, Prefix, addr_text, prefix_text};
 use std::alloc::Global;
 

@@ -4,7 +4,7 @@ ghost use Rattle.console_listings.specs.Rows as spec;
 
 use crate::addresses::{append_address, append_prefix};
 use crate::lists::{JsonRow, append_list, listing_body};
-use http_answers::append_quoted;
+use console_answers::append_quoted;
 use mud_base::{Addr, Bytes, End, Memory, Prefix};
 use mud_url::MudUrl;
 use std::alloc::Global;

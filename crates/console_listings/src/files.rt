@@ -4,7 +4,7 @@ ghost use Rattle.console_listings.specs.Rows as spec;
 
 use crate::lists::{JsonRow, listing_body};
 use crate::things::append_url_end;
-use http_answers::append_quoted;
+use console_answers::append_quoted;
 use mud_base::{Bytes, Memory};
 use mud_file::UsageFile;
 use std::alloc::Global;

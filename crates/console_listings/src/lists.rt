@@ -2,7 +2,7 @@
 ghost use Rattle.std.specs.Prelude.{◌≡◌, ◌++◌, [], OnOk, IfOk};
 ghost use Rattle.console_listings.specs.Lists as spec;
 
-use http_answers::append_quoted;
+use console_answers::append_quoted;
 use mud_base::{Bytes, Memory};
 use std::alloc::Global;
 

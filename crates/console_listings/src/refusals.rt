@@ -2,10 +2,10 @@
 ghost use Rattle.std.specs.Prelude.{◌≡◌, ◌++◌, OnOk, IfOk};
 ghost use Rattle.console_listings.specs.Refusals as spec;
 
+use console_answers::{Status, append_quoted};
 use console_bodies::{BodyFault, Member};
 use desk_model::Refusal;
 use dhcp_lldp::HearFault;
-use http_answers::{Status, append_quoted};
 use mud_base::{Bytes, Memory};
 use mud_file::Broken;
 use mud_url::UrlFault;

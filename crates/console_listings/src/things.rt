@@ -1,12 +1,12 @@
 //! Things, and addresses with their expiries.
 ghost use Rattle.std.specs.Prelude.{◌≡◌, ◌++◌, OnOk, IfOk, codes};
-ghost use Rattle.http_answers.specs.Texts.{url_text};
+ghost use Rattle.console_answers.specs.Texts.{url_text};
 ghost use Rattle.console_listings.specs.Texts.{truth_text, until_text};
 ghost use Rattle.console_listings.specs.Rows as spec;
 
 use crate::addresses::{append_address, append_mac};
 use crate::lists::{JsonRow, append_list, listing_body};
-use http_answers::append_quoted;
+use console_answers::append_quoted;
 use mud_base::{Addr, Bytes, End, Memory};
 use mud_url::MudUrl;
 use std::alloc::Global;
@@ -85,7 +85,7 @@ fn append_leases(alloc: Global, body: &mut Bytes, thing: &Thing) -> Result<(), M
 }
 
 /// Adds a URL, or null where there is none.
-#[tactic(auto, unfolding(http_answers::specs::Texts::url_text))]
+#[tactic(auto, unfolding(console_answers::specs::Texts::url_text))]
 fn append_url(body: &mut Bytes, url: &Option<MudUrl>) -> Result<(), Memory>
     ensures { OnOk result (body.new ≡ body.old ++ url_text url.now) }
 {

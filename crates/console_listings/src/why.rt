@@ -1,18 +1,18 @@
 //! What decides a frame.
 ghost use Rattle.std.specs.Prelude.{◌≡◌, ◌++◌, OnOk, IfOk, option_map};
 ghost use Rattle.json.specs.Print.{quoted};
-ghost use Rattle.text_replies.specs.Verdicts.{ruling_text, verdict_text};
+ghost use Rattle.desk_model.specs.Texts.Verdicts.{ruling_text, verdict_text};
 ghost use Rattle.console_listings.specs.Why as spec;
 
 use crate::addresses::append_mac;
 use crate::things::append_url_end;
 use acl_model::{Entry, Ruling};
-use http_answers::append_quoted;
+use console_answers::append_quoted;
+use desk_model::texts::{append_ruling, append_verdict};
 use mud_base::{Bytes, Mac, Memory};
 use mud_url::MudUrl;
 use packet_judge::Verdict;
 use std::alloc::Global;
-use text_replies::{append_ruling, append_verdict};
 use text_values::append_decimal;
 
 /// The Thing at an endpoint of a frame, and what is decided on its packet.

@@ -7,3 +7,4 @@ pub mod Verdicts
 pub mod Sessions
 pub mod Boxed
 pub mod Findings
+pub mod Texts

@@ -7,7 +7,7 @@ use Rattle.run_captures.specs.Fold.{LineStep, LooksAtNoOffset, no_ending}
 use Rattle.run_captures.proofs.SamePackets.{output_same}
 use Rattle.text_values.specs.Numbers.{number_text}
 use Rattle.packet_judge.specs.declared.verdict.Verdict.{Verdict}
-use Rattle.text_replies.specs.Verdicts.{verdict_text}
+use Rattle.desk_model.specs.Texts.Verdicts.{verdict_text}
 use Rattle.desk_model.specs.DeskTables.{DeskTables}
 use Rattle.desk_model.specs.Sessions.{Session, opened, frame_in}
 use Rattle.run_desk.specs.Judged.{judged_line, judged_step}

@@ -4,7 +4,7 @@ use Rattle.read_buffer.specs.Packets.{Packet}
 use Rattle.packet_judge.specs.declared.verdict.Verdict.{Verdict}
 use Rattle.run_captures.specs.Fold.{LineStep}
 use Rattle.text_values.specs.Numbers.{number_text}
-use Rattle.text_replies.specs.Verdicts.{verdict_text}
+use Rattle.desk_model.specs.Texts.Verdicts.{verdict_text}
 use Rattle.desk_model.specs.Sessions.{Session, Judged, frame_in}
 
 -- the number and the seconds of a packet, and the verdict on it

@@ -22,7 +22,7 @@ use run_common::Status;
 use std::alloc::Global;
 use std::marker::Brand;
 use std::sync::ledger::{Blank, Ledger};
-use text_replies::append_verdict;
+use desk_model::texts::append_verdict;
 use text_values::append_two;
 
 /// The seconds of a packet as a moment. No number of 32 bits is after the last moment.

@@ -10,7 +10,7 @@ use Rattle.frame_view.specs.declared.views.Frame.TheVariants as frame
 use Rattle.read_buffer.specs.Packets.{Packet}
 use Rattle.run_captures.specs.Fold.{LineStep}
 use Rattle.text_values.specs.Numbers.{number_text}
-use Rattle.text_replies.specs.Verdicts.{unreadable_text}
+use Rattle.desk_model.specs.Texts.Verdicts.{unreadable_text}
 
 -- the ports and the octet of flags, or the type and the code
 unfoldable pub transport_text : Transport → List ℕ

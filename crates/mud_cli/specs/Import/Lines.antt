@@ -1,7 +1,7 @@
 -- The line of each file of a folder: its name, and what became of it.
 use Rattle.std.specs.Prelude.{ℕ, List, ◌++◌, codes}
 use Rattle.desk_model.specs.declared.reply.Reply.{Reply}
-use Rattle.text_replies.specs.Words.{reply_text}
+use Rattle.desk_model.specs.Texts.Words.{reply_text}
 
 -- the line of a file that was imported, or refused
 unfoldable pub reply_line : List ℕ → Reply → List ℕ

@@ -7,7 +7,7 @@ use frame_view::{Frame, view};
 use mud_base::{Bytes, Fields, Memory, Transport};
 use pcap_read::Captured;
 use std::alloc::Global;
-use text_replies::append_unreadable;
+use desk_model::texts::append_unreadable;
 use text_values::{append_addr, append_decimal, append_number};
 
 /// Adds the ports and the octet of flags, or the type and the code.

@@ -5,7 +5,7 @@ ghost use Rattle.mud_cli.specs.Import.Lines as spec;
 use desk_model::Reply;
 use mud_base::{Bytes, Memory};
 use std::alloc::Global;
-use text_replies::append_reply_words;
+use desk_model::texts::append_reply_words;
 
 /// Adds the line of a file that was imported, or refused: its name, and the word of what was done,
 /// `refused` with the number and the name of the rule and the path in the file, `keeper`, or

@@ -6,7 +6,7 @@ use Rattle.text_values.specs.Numbers.{number_text, offset_text}
 use Rattle.desk_model.specs.declared.reply.Reply.{Reply}
 use Rattle.dns_snoop.specs.Fault as dns_fault
 use Rattle.dns_snoop.specs.declared.fault.DnsFault.{DnsFault}
-use Rattle.text_replies.specs.Words.{reply_text}
+use Rattle.desk_model.specs.Texts.Words.{reply_text}
 
 -- the name, its address, the seconds, and what was replied to the observation
 unfoldable pub name_line : List ℕ → Addr × ℕ → Reply → List ℕ

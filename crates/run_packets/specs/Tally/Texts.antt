@@ -5,7 +5,7 @@ use Rattle.mud_base.specs.declared.addr.Mac.{Mac}
 use Rattle.mud_base.specs.declared.packet.Direction.{Direction}
 use Rattle.mud_base.specs.declared.packet.Direction.TheVariants.{From, To}
 use Rattle.text_values.specs.Numbers.{number_text}
-use Rattle.text_replies.specs.Verdicts.{ruling_text}
+use Rattle.desk_model.specs.Texts.Verdicts.{ruling_text}
 use Rattle.drop_ledger.specs.declared.rows.CountRow.{CountRow}
 use Rattle.drop_ledger.specs.declared.rows.DeniedRow.{DeniedRow}
 use Rattle.drop_ledger.specs.declared.rows.OtherRow.{OtherRow}

@@ -6,7 +6,7 @@ use dns_snoop::DnsFault;
 use mud_base::{Addr, Bytes, Memory};
 use mud_desk::Reply;
 use std::alloc::Global;
-use text_replies::append_reply_words;
+use desk_model::texts::append_reply_words;
 use text_values::{append_addr, append_number, append_offset};
 
 /// Adds the line of an address that was learnt for a name, for so many seconds: `name`, all three,

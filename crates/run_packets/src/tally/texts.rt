@@ -5,7 +5,7 @@ ghost use Rattle.run_packets.specs.Tally.Texts as spec;
 use drop_ledger::{CountRow, DeniedRow, OtherRow, Totals};
 use mud_base::{Bytes, Direction, Mac, Memory};
 use std::alloc::Global;
-use text_replies::append_ruling;
+use desk_model::texts::append_ruling;
 use text_values::{append_addr, append_mac, append_number};
 
 /// The name of a side, behind a space.

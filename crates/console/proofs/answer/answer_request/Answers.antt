@@ -1,5 +1,5 @@
 use Rattle.std.proofs.Common.{◌++◌}
-use Rattle.http_answers.specs.Heads.{shown}
+use Rattle.console_answers.specs.Heads.{shown}
 use Rattle.mud_desk.specs.DeskState.{session_of}
 use Rattle.console.proofs.Answered.{answered, octets_are}
 use Rattle.console.proofs.answer.answer_request.Goals as goal

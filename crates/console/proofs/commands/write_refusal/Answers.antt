@@ -1,5 +1,5 @@
 use Rattle.std.proofs.Common.{subst}
-use Rattle.http_answers.specs.declared.status.Status.{Status}
+use Rattle.console_answers.specs.declared.status.Status.{Status}
 use Rattle.console_listings.specs.Refusals as refusals
 use Rattle.console.specs.Replies.{reply, IsOrWanted}
 use Rattle.console.proofs.Replying.{made}

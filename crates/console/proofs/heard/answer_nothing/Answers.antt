@@ -1,6 +1,6 @@
 use Rattle.std.proofs.Common.{ap}
-use Rattle.http_answers.specs.declared.status.Status.TheVariants as status
-use Rattle.console_outcomes.specs.Heards.{nothing_body}
+use Rattle.console_answers.specs.declared.status.Status.TheVariants as status
+use Rattle.console_answers.specs.Bodies.Heards.{nothing_body}
 use Rattle.mud_desk.specs.DeskState.{session_of}
 use Rattle.console.specs.Replies.{reply}
 use Rattle.console.proofs.Standing.{raises}

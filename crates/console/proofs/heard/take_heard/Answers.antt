@@ -1,5 +1,5 @@
 use Rattle.desk_model.specs.Sessions.{command_in}
-use Rattle.console_outcomes.specs.Heards.{heard_body}
+use Rattle.console_answers.specs.Bodies.Heards.{heard_body}
 use Rattle.mud_desk.specs.DeskState.{session_of}
 use Rattle.console.specs.Replies.{reply}
 use Rattle.console.specs.Requests.{Changes, by_command}

@@ -1,5 +1,5 @@
 use Rattle.std.proofs.Common.{ap}
-use Rattle.http_answers.specs.declared.status.Status.TheVariants as status
+use Rattle.console_answers.specs.declared.status.Status.TheVariants as status
 use Rattle.mud_desk.specs.DeskState.{session_of}
 use Rattle.console.specs.Replies.{reply}
 use Rattle.console.proofs.Standing.{judged_so, judged_not, noted}

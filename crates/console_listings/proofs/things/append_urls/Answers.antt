@@ -1,5 +1,5 @@
 use Rattle.std.specs.Prelude.{◌++◌, codes}
-use Rattle.http_answers.specs.Texts.{url_text}
+use Rattle.console_answers.specs.Texts.{url_text}
 use Rattle.console_listings.specs.Rows.{urls_text, url_end}
 use Rattle.console_listings.proofs.Joins.{ok_behind}
 use Rattle.console_listings.proofs.things.append_urls.Goals as goal

@@ -1,7 +1,0 @@
-use Rattle.http_answers.proofs.KeptLemmas.{kept_then}
-use Rattle.console_outcomes.specs.Outcomes.{result_body}
-use Rattle.console_outcomes.proofs.outcomes.put_result.Goals as goal
-
-pub returns : goal.returns
-unfolding result_body
-returns c = kept_then c.args.buffer.now _ _ _ _ (kept_then c.args.buffer.now _ _ _ _ c.put.ensures c.put_word.ensures) c.put-2.ensures

@@ -1,4 +1,0 @@
-pub mod KeptLemmas
-pub mod Lengths
-pub mod Phrases
-pub mod Quotes

@@ -1,8 +1,0 @@
-use Rattle.std.proofs.Common.{◌≡◌, ◌++◌, take}
-use Rattle.std.specs.Prelude.{flat_map}
-use Rattle.json.specs.Print.{escape_byte}
-use Rattle.http_answers.specs.Kept.{kept}
-use Rattle.http_answers.proofs.texts.put_escapes.Given as goal
-
-abbrev pub invariant-text : goal.invariant-text
-invariant-text l = l.buffer ≡ kept (l.initial.buffer ++ flat_map escape_byte (take l.octet-index l.text))

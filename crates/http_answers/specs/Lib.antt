@@ -1,5 +1,0 @@
-pub mod Heads
-pub mod Kept
-pub mod Rooms
-pub mod Statuses
-pub mod Texts

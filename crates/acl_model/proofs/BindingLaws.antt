@@ -1,8 +1,6 @@
 -- Bindings of one key and address, and bindings that are the same.
-use Rattle.std.proofs.Common.{◌≡◌, append-nil, ◌==◌, ℕ, ◌+◌, ◌<◌, Bool, true, false, cond, not, List, [], ◌∷◌, ◌++◌, length, take, get_or, refl, sym, ap, subst, ◌∙◌}
+use Rattle.std.proofs.Common.{◌≡◌, ◌==◌, Bool, true, false, List, [], refl, sym, ap, subst, ◌∙◌}
 use Rattle.std.specs.Bool.{Decides}
-use Rattle.std.specs.List.{filter}
-use Rattle.std.proofs.lemmas.List.Elements.{filter_more}
 use Rattle.std.proofs.lemmas.Bool.Decides.{Decides-eqb}
 use Rattle.std.specs.Cmp.{first_so, second_so}
 use Rattle.std.proofs.lemmas.Bool.{and_from}
@@ -11,7 +9,7 @@ use Rattle.mud_base.specs.declared.addr.Addr.{Addr}
 use Rattle.mud_base.specs.declared.addr.Addr.TheVariants.{V4, V6}
 use Rattle.acl_model.specs.declared.binding.Binding.{Binding}
 use Rattle.acl_model.specs.Keys.{same_key}
-use Rattle.acl_model.specs.Changes.{same_spot, same_binding, has_binding, those_not_in}
+use Rattle.acl_model.specs.Changes.{same_spot, same_binding, those_not_in}
 use Rattle.acl_model.proofs.KeyLaws.{same_key-Decides}
 
 -- ---- Addresses
@@ -75,31 +73,8 @@ same_binding_exact b c e =
     let spot : IsSameSpot b c = same_spot_exact b c (spot_of_same b c e) in
     λ i. record { key = spot.key i; addr = spot.addr i; until = until_of_same b c e i }
 
-pub same_binding-Decides : (b c : Binding) → Decides (same_binding b c) (b ≡ c)
-same_binding-Decides b c = (same_binding_exact b c, λ e. subst (λ x. same_binding b x ≡ true) e (same_binding_itself b))
-
--- ---- Those that aren't among others, one after the other
+-- ---- Those that aren't among others
 
 pub those_not_in-none : (others : List Binding) → those_not_in others [] ≡ []
 unfolding those_not_in
 those_not_in-none others = refl
-
-kept_one : (xs : List Binding) (x : Binding) (b : Bool) → (xs ++ cond (not b) (x ∷ []) []) ≡ cond b xs (xs ++ x ∷ [])
-kept_one xs x true = append-nil xs
-kept_one xs x false = refl
-
-those_not_in-more : (others xs : List Binding) (i : ℕ) (x : Binding) → i < length xs → x ≡ get_or xs i x
-    → those_not_in others (take (i + 1) xs) ≡ cond (has_binding x others) (those_not_in others (take i xs)) (those_not_in others (take i xs) ++ x ∷ [])
-unfolding those_not_in
-those_not_in-more others xs i x within is =
-    filter_more (λ b. not (has_binding b others)) xs i x within
-    ∙ ap (λ y. filter (λ b. not (has_binding b others)) (take i xs) ++ cond (not (has_binding y others)) (y ∷ []) []) (sym is)
-    ∙ kept_one (filter (λ b. not (has_binding b others)) (take i xs)) x (has_binding x others)
-
-pub those_not_in-put : (others xs : List Binding) (i : ℕ) (x : Binding) → i < length xs → x ≡ get_or xs i x → has_binding x others ≡ false → those_not_in others (take (i + 1) xs) ≡ those_not_in others (take i xs) ++ x ∷ []
-those_not_in-put others xs i x within is none = those_not_in-more others xs i x within is ∙ ap (λ b. cond b (those_not_in others (take i xs)) (those_not_in others (take i xs) ++ x ∷ [])) none
-
-pub those_not_in-left : (others xs : List Binding) (i : ℕ) (x : Binding) → i < length xs → x ≡ get_or xs i x → has_binding x others ≡ true → those_not_in others (take (i + 1) xs) ≡ those_not_in others (take i xs)
-those_not_in-left others xs i x within is some = those_not_in-more others xs i x within is ∙ ap (λ b. cond b (those_not_in others (take i xs)) (those_not_in others (take i xs) ++ x ∷ [])) some
-
-pub ruleset binding_laws = (same_binding-Decides)

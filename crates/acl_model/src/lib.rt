@@ -4,7 +4,6 @@
 #![tactic(auto)]
 
 pub mod binding;
-pub mod change;
 pub mod defaults;
 pub mod entry;
 pub mod first_match;
@@ -13,7 +12,6 @@ pub mod ruling;
 pub mod sort_key;
 
 pub use binding::{Binding, MemberKey, same_key};
-pub use change::{same_binding, same_spot, those_not_in};
 pub use defaults::default_entry;
 pub use entry::{Action, Entry, Layer, Policy, PortTest, Selector};
 pub use matching::{is_in_family, near_matches, peer_of, rest_matches};

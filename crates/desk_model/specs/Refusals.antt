@@ -1,5 +1,5 @@
 -- The refusals of commands: their numbers and names, and which of them is want of memory.
-use Rattle.std.specs.Prelude.{ℕ, Bool, true, false, List, codes, if◌then◌else◌}
+use Rattle.std.specs.Prelude.{ℕ, Bool, true, false, List, if◌then◌else◌}
 use Rattle.table_model.specs.declared.thing_fault.ThingFault.{ThingFault}
 use Rattle.table_model.specs.declared.thing_fault.ThingFault.TheVariants as thing
 use Rattle.table_model.specs.declared.bind_fault.BindFault.{BindFault}
@@ -23,11 +23,6 @@ unfoldable pub name_of_refusal : Refusal → List ℕ
 name_of_refusal (Things fault) = name_of_thing_fault fault
 name_of_refusal (Files fault) = name_of_cache_fault fault
 name_of_refusal (Binds fault) = name_of_bind_fault fault
-
-unfoldable pub book_of_refusal : Refusal → List ℕ
-book_of_refusal (Things fault) = codes "things"
-book_of_refusal (Files fault) = codes "files"
-book_of_refusal (Binds fault) = codes "binds"
 
 -- memory was wanted, which says nothing of the command
 abbrev pub is_thing_memory : ThingFault → Bool

@@ -72,7 +72,7 @@ impl From<BindFault> for Refusal {
 }
 
 impl Refusal {
-    ghost use Rattle.desk_model.specs.Refusals.{number_of_refusal, name_of_refusal, book_of_refusal, is_want_of_memory, reply_of};
+    ghost use Rattle.desk_model.specs.Refusals.{number_of_refusal, name_of_refusal, is_want_of_memory, reply_of};
 
     /// Its number in its book, from 1 on. Want of memory has none, and gives 0.
     #[tactic(auto, unfolding(crate::specs::Refusals::number_of_refusal))]
@@ -95,18 +95,6 @@ impl Refusal {
             Refusal::Things(fault) => fault.name(),
             Refusal::Files(fault) => fault.name(),
             Refusal::Binds(fault) => fault.name(),
-        }
-    }
-
-    /// The name of its book, as it is written.
-    #[tactic(auto, unfolding(crate::specs::Refusals::book_of_refusal))]
-    pub fn book(&self) -> &'static str
-        ensures { result.now ≡ book_of_refusal self.now }
-    {
-        match self {
-            Refusal::Things(_) => "things",
-            Refusal::Files(_) => "files",
-            Refusal::Binds(_) => "binds",
         }
     }
 

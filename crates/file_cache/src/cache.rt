@@ -5,7 +5,6 @@ ghost use Rattle.base_rows.specs.Sortable.{SortKeysAscend};
 ghost use Rattle.usage_tables.specs.Files.{url_of, file_at, IsSoundFiles};
 ghost use Rattle.usage_tables.specs.FileEdits.{edited, room_for};
 ghost use Rattle.usage_tables.specs.Policies.{candidate_policy};
-ghost use Rattle.usage_tables.specs.Due.{due_count};
 ghost use Rattle.usage_tables.specs.Limits.{last_moment};
 ghost use Rattle.usage_tables.specs.FileCommands.{import_step, verdict_step, revoke_step};
 ghost use Rattle.usage_tables.specs.FileItems.{with_file_item};
@@ -91,18 +90,6 @@ impl FileCache {
             },
             None => None,
         }
-    }
-
-    /// Of how many URLs a file is to be fetched again.
-    #[tactic(auto, unfolding(usage_tables::specs::Due::due_count, usage_tables::specs::Due::due_files))]
-    pub fn due_count(&self, now: Moment) -> usize
-        ensures { result ≡ due_count now self.now.files }
-    {
-        self.files
-            .rows()
-            .iter()
-            .filter(|row| is_due(row, now))
-            .count()
     }
 
     /// A usage file is imported, fetched at a moment. The first case that holds counts. The octets are

@@ -19,7 +19,7 @@ pub mod spool;
 pub mod whole;
 mod wire;
 
-pub use boxed::{keep, open_box};
+pub use boxed::keep;
 pub use clock::Clock;
 pub use door::Door;
 pub use fault::{Failed, KeepFault, SpoolFault};

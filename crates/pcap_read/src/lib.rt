@@ -2,7 +2,6 @@
 //! packet through one buffer.
 #![tactic(auto)]
 
-pub mod capture;
 pub mod fault;
 mod head;
 mod header;
@@ -10,6 +9,5 @@ mod read;
 pub mod reader;
 mod stage;
 
-pub use capture::Capture;
 pub use fault::CapFault;
 pub use reader::{Captured, Reader};

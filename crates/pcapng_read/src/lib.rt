@@ -3,7 +3,6 @@
 #![tactic(auto)]
 
 mod body;
-pub mod capture;
 pub mod fault;
 mod head;
 mod interfaces;
@@ -12,6 +11,5 @@ mod read;
 pub mod reader;
 mod standing;
 
-pub use capture::NgCapture;
 pub use fault::NgFault;
 pub use reader::NgReader;

@@ -5,7 +5,7 @@ ghost use Rattle.base_rows.specs.Ledgers.{IsBlankOf};
 
 use acl_compile::Compiled;
 use acl_model::{
-    Binding, DefaultRule, Entry, MemberKey, Policy, Selector, default_entry, those_not_in,
+    Binding, DefaultRule, Entry, MemberKey, Policy, Selector, default_entry, same_key,
 };
 use acl_rows::{Row, RulePart};
 use base_rows::Steps;
@@ -125,6 +125,26 @@ fn change_some(chance: &mut u64, expiries: &mut [u64; 3]) {
             *until = below(chance, 4) as u64;
         }
     }
+}
+
+/// Whether both are of one key, address and expiry.
+fn is_same(own: &Binding, other: &Binding) -> bool {
+    same_key(&own.key, &other.key) && own.addr == other.addr && own.until == other.until
+}
+
+/// Copies of those bindings that aren't among the others, in their order.
+fn those_not_in(
+    alloc: Global,
+    others: &[Binding],
+    bindings: &[Binding],
+) -> Result<Listed<Binding>, Memory> {
+    let mut left = Listed::new(alloc);
+    for binding in bindings {
+        if !others.iter().any(|other| is_same(binding, other)) {
+            left.push(binding.copy()?)?;
+        }
+    }
+    Ok(left)
 }
 
 /// Plans that those bindings go which don't stay and those come which weren't there, and does it.

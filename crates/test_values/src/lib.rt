@@ -5,8 +5,6 @@
 #[cfg(test)]
 mod addresses;
 #[cfg(test)]
-mod captures;
-#[cfg(test)]
 mod dns;
 #[cfg(test)]
 mod machine;

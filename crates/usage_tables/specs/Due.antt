@@ -1,5 +1,5 @@
 -- When files are to be fetched again (RFC 8520, 3.5).
-use Rattle.std.specs.Prelude.{ℕ, ◌+◌, ◌*◌, Bool, false, nat_lt, nat_le, List, map, length, filter, Option, Some, None, if◌then◌else◌}
+use Rattle.std.specs.Prelude.{ℕ, ◌+◌, ◌*◌, Bool, false, nat_lt, nat_le, List, map, filter, Option, Some, None, if◌then◌else◌}
 use Rattle.std.specs.Option.{option_map_or}
 use Rattle.mud_file.specs.declared.usage_file.UsageFile.{UsageFile}
 use Rattle.usage_tables.specs.declared.approval.Approval.{Approval}
@@ -25,9 +25,6 @@ is_due now row = option_map_or (is_expired now) (latest row.approved row.candida
 
 unfoldable pub due_files : ℕ → List CachedFile → List CachedFile
 due_files now files = filter (is_due now) files
-
-unfoldable pub due_count : ℕ → List CachedFile → ℕ
-due_count now files = length (due_files now files)
 
 -- the URLs of which a file is to be fetched again, in their order
 unfoldable pub due_urls : ℕ → List CachedFile → List (List ℕ)

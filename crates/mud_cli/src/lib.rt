@@ -5,10 +5,10 @@ pub mod answer;
 mod check;
 pub mod frames;
 mod hear;
-pub mod import;
+mod import;
 pub mod laws;
 pub mod run;
-pub mod serving;
+mod serving;
 
 pub use answer::{Answer, Input};
 pub use run::mud_main;

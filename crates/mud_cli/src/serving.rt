@@ -2,9 +2,6 @@
 //! connections are answered by it.
 
 mod no_clock;
-pub mod replay;
+pub(crate) mod replay;
 mod room;
-pub mod serve;
-
-pub use replay::replay_store;
-pub use serve::serve_store;
+pub(crate) mod serve;

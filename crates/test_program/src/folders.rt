@@ -5,11 +5,12 @@ use crate::memory::{Call, File, Kept, NONE, Run, keeper_of, outside_of};
 use crate::runs::{check_over, check_with};
 use mud_world::Keeper;
 
-/// One usage file under two names, and a name that is skipped.
+/// One usage file under two names, and a name that is skipped, in another order than that in which
+/// they are imported.
 static FILES: [File<'static>; 3] = [
-    ("1000-bulb.json", BULB),
-    ("1001-bulb.json", BULB),
     ("notes.txt", b""),
+    ("1001-bulb.json", BULB),
+    ("1000-bulb.json", BULB),
 ];
 
 /// The file waits for its verdict, fetched at 1000 or at 1001.

@@ -18,7 +18,8 @@ ghost use Rattle.mud_cli.specs.Import.Scenes.{standing, scene};
 ghost use Rattle.mud_cli.specs.Import.Runs.{ImportsPart, ImportsAll};
 ghost use Rattle.run_common.specs.Stops.{has_failed};
 
-use crate::import::{append_reply, append_skipped, fetched_in};
+use crate::import::line::{append_reply, append_skipped};
+use crate::import::name::fetched_in;
 use base_rows::Steps;
 use desk_model::{Command, Reply};
 use mud_base::{Bytes, Memory};

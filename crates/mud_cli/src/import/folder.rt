@@ -117,7 +117,7 @@ fn import_listed<L: Ledger, D: Door, P: Spool, C: Clock>(
 /// | 4 | the spool or the door failed: the import ends there |
 /// | 5 | want of memory: the import ends there, and no line says so |
 /// | 7 | the keeper failed at a file; the files behind it are imported |
-pub fn import_files<D: Door, P: Spool, C: Clock>(
+pub(crate) fn import_files<D: Door, P: Spool, C: Clock>(
     alloc: Global,
     desk: &mut Desk,
     door: &mut D,

@@ -11,7 +11,7 @@ use desk_model::texts::append_reply_words;
 /// `refused` with the number and the name of the rule and the path in the file, `keeper`, or
 /// `memory`.
 #[tactic(auto, unfolding(crate::specs::Import::Lines::reply_line))]
-pub fn append_reply(
+pub(crate) fn append_reply(
     alloc: Global,
     lines: &mut Bytes,
     name: &[u8],
@@ -26,7 +26,7 @@ pub fn append_reply(
 
 /// Adds the line of a file whose name has another form than those that are imported.
 #[tactic(auto, unfolding(crate::specs::Import::Lines::skipped_line))]
-pub fn append_skipped(lines: &mut Bytes, name: &[u8]) -> Result<(), Memory>
+pub(crate) fn append_skipped(lines: &mut Bytes, name: &[u8]) -> Result<(), Memory>
     ensures { OnOk result (lines.new ≡ lines.old ++ spec.skipped_line name.now) }
 {
     lines.append(name)?;

@@ -7,7 +7,7 @@ ghost use Rattle.desk_model.specs.Items.{none_kept};
 ghost use Rattle.mud_cli.specs.Import.Store.{ImportsStore};
 ghost use Rattle.mud_world.specs.View.{outside};
 
-use crate::import::import_files;
+use crate::import::folder::import_files;
 use mud_desk::{Desk, Loaded};
 use mud_world::{Clock, Door, Keeper, Spool};
 use run_common::Status;

@@ -86,7 +86,7 @@ fn replay_desk<D: Door>(
 /// | 5 | want of memory, before the connection was read |
 /// | 6 | an item of the store is no record |
 /// | 7 | the keeper failed in the opening |
-pub fn replay_store<D: Door>(
+pub(crate) fn replay_store<D: Door>(
     alloc: Global,
     keeper: Box<dyn Keeper>,
     nothing: Loaded,

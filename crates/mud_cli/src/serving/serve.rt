@@ -93,7 +93,7 @@ fn serve_desk<D: Door, C: Clock>(
 /// | 5 | want of memory, before the port was bound |
 /// | 6 | an item of the store is no record |
 /// | 7 | the keeper failed in the opening |
-pub fn serve_store<D: Door, C: Clock>(
+pub(crate) fn serve_store<D: Door, C: Clock>(
     alloc: Global,
     keeper: Box<dyn Keeper>,
     nothing: Loaded,

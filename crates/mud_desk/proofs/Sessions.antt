@@ -216,8 +216,6 @@ module _ (before after : DeskState) (stamp n : ℕ) (frame : List ℕ) (is : n �
   }
 
 -- the steps of a verdict, by the books that were lent for it
-pub steps_alike : (inside state : DeskState) → inside ≡ state → (things : List Thing) (compiled : CompiledState) → things ≡ inside.books.things.things → compiled ≡ inside.books.compiled
+pub steps_alike : (state : DeskState) (things : List Thing) (compiled : CompiledState) → things ≡ (tables_of state).tables.things → compiled ≡ state.books.compiled
     → (steps : CompiledState → Direction → Thing → Fields → ℕ) (frame : Frame) → steps_on (steps compiled) things frame ≡ steps_on (steps state.books.compiled) (tables_of state).tables.things frame
-unfolding tables_of
-steps_alike inside state same things compiled is_things is_compiled steps frame =
-    λ i. steps_on (steps ((is_compiled ∙ ap (λ (s : DeskState). s.books.compiled) same) i)) ((is_things ∙ ap (λ (s : DeskState). s.books.things.things) same) i) frame
+steps_alike state things compiled is_things is_compiled steps frame = λ i. steps_on (steps (is_compiled i)) (is_things i) frame

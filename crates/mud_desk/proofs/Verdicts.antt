@@ -1,12 +1,14 @@
 -- The rulings by what is compiled of a desk are those of the desk, and so is the verdict.
-use Rattle.std.proofs.Common.{◌≡◌, ℕ, ◌<◌, List, ◌∙◌}
+use Rattle.std.proofs.Common.{◌≡◌, ℕ, ◌<◌, List, ap, ◌∙◌}
 use Rattle.mud_base.specs.declared.packet.Direction.{Direction}
 use Rattle.mud_base.specs.declared.packet.Fields.{Fields}
 use Rattle.table_model.specs.declared.thing.Thing.{Thing}
+use Rattle.table_model.specs.declared.segment.Segment.{Segment}
 use Rattle.table_model.specs.Expiries.{for_ever}
 use Rattle.table_model.specs.Bindings.{bindings_of, ruling_by_bindings}
 use Rattle.table_model.specs.History.{begun_of}
 use Rattle.table_laws.proofs.Stores.{tests_alike}
+use Rattle.frame_view.specs.declared.views.Frame.{Frame}
 use Rattle.frame_view.specs.Frame.{frame_of}
 use Rattle.packet_judge.specs.Verdicts.{rulings_of, verdict_on, verdict_of}
 use Rattle.packet_judge.proofs.OverTables.{over_tables}
@@ -24,3 +26,11 @@ module _ (desk : DeskTables) (g : RuleInputs) (of : AreRuleInputsOf desk g) (now
   pub verdicts_alike : (frame : List ℕ) → verdict_on (ruling_on g now) g.things (frame_of frame) ≡ verdict_at desk g.history now frame
   unfolding verdict_at verdict_of
   verdicts_alike frame = λ i. verdict_on (λ side thing fields. ruling_alike side thing fields i) (of.things i) (frame_of frame)
+
+-- of a frame that was read, with what is lent for a moment
+pub verdict_read : (desk : DeskTables) (g : RuleInputs) → AreRuleInputsOf desk g → (h : List Segment) → g.history ≡ h → (at now : ℕ) → at ≡ now → now < for_ever
+    → (f : Frame) (frame : List ℕ) → f ≡ frame_of frame → verdict_on (ruling_on g at) g.things f ≡ verdict_at desk h now frame
+verdict_read desk g of h is_h at now is_now small f frame is_f =
+    (λ i. verdict_on (ruling_on g (is_now i)) g.things (is_f i))
+    ∙ verdicts_alike desk g of now small frame
+    ∙ ap (λ (hs : List Segment). verdict_at desk hs now frame) is_h

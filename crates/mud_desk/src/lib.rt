@@ -8,14 +8,13 @@ pub mod desk;
 mod desk_rules;
 mod findings;
 pub mod items;
-mod judging;
 mod keeping;
+mod noting;
 pub mod state;
 
 pub use desk::Desk;
 pub use desk_model::{Command, Outcome, Refusal, Reply};
 pub use findings::{Findings, RuledThing};
 pub use items::{Loaded, OpenFault};
-pub use judging::{judge, why};
 pub use packet_judge::Verdict;
 pub use state::State;

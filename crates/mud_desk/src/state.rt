@@ -4,6 +4,7 @@ ghost use Rattle.std.specs.Prelude.{unwrap_or};
 ghost use Rattle.base_rows.specs.Ledgers.{IsBlankOf};
 ghost use Rattle.acl_changes.specs.Patch.{rows_apart};
 ghost use Rattle.acl_compile.specs.Plans.{IsKept};
+ghost use Rattle.table_model.specs.Expiries.{for_ever};
 ghost use Rattle.table_model.specs.Things.{thing_at};
 ghost use Rattle.frame_view.specs.Frame.{frame_of};
 ghost use Rattle.packet_judge.specs.Verdicts.{steps_on};
@@ -14,18 +15,21 @@ ghost use Rattle.desk_model.specs.Sessions.{AllowedVerdict, opened, verdict_in};
 ghost use Rattle.desk_model.specs.Verdicts.{policy_at};
 ghost use Rattle.desk_books.specs.CompiledDesk.{IsCompiledOf};
 ghost use Rattle.mud_desk.specs.Items.Loaded.{loaded_desk};
-ghost use Rattle.mud_desk.specs.RuleInputs.{rows_read, ruling_steps};
+ghost use Rattle.mud_desk.specs.RuleInputs.{AreRuleInputsOf, rule_inputs, rows_read, ruling_steps};
 ghost use Rattle.mud_desk.specs.Findings.{AreFindingsOn};
 ghost use Rattle.desk_books.specs.Changes.{desk_after};
 ghost use Rattle.desk_books.specs.Planned.{IsPlanned, IsReady, IsPaid};
 ghost use Rattle.mud_desk.specs.DeskState.{tables_of, session_of};
 
+use crate::desk_rules::DeskRules;
+use crate::findings::{Findings, findings_with};
 use crate::items::Loaded;
-use crate::{Findings, judge, why};
+use crate::noting::note;
 use base_rows::Steps;
 use desk_books::{DeskBooks, DeskChange};
 use desk_model::{Command, Refusal};
 use flow_table::FlowTable;
+use frame_view::view;
 use mud_base::{Memory, Moment};
 use packet_judge::Verdict;
 use std::alloc::Global;
@@ -149,8 +153,30 @@ impl State {
         self.moment = now;
     }
 
+    /// What rules at a moment that isn't before that of the session: by the Things, by what is
+    /// compiled, and by the local networks and the connections.
+    fn rules_at(&self, now: Moment) -> DeskRules<'_>
+        requires { self.now.moment ≤ now }
+        ensures now { result.now ≡ now }
+        ensures within { now < for_ever }
+        ensures inputs { AreRuleInputsOf (tables_of self.now) (rule_inputs result.things.now.things result.compiled.now result.locals.now result.flows.now.history) }
+        ensures compiled { result.compiled.now ≡ self.now.books.compiled }
+        ensures history { result.flows.now.history ≡ self.now.flows.history }
+    {
+        let _seconds = now.seconds();
+        DeskRules {
+            things: self.books.thing_book(),
+            compiled: self.books.compiled(),
+            locals: self.books.locals(),
+            flows: &self.flows,
+            now,
+        }
+    }
+
     /// The verdict on a frame, at the later of the session's moment and this one, which is made the
-    /// moment of the session: [`crate::judge`]. [`Memory`] leaves all as it was.
+    /// moment of the session. A TCP packet with a ruling that is forwarded is noted for the
+    /// connections, once. [`Memory`] comes only for such a packet, and leaves all as it was. The steps
+    /// are those of the rulings: one for each endpoint of a packet that is a Thing and isn't held.
     #[tactic(auto, unfolding(crate::specs::DeskState::tables_of))]
     pub fn judge<L: Ledger>(
         &mut self,
@@ -165,20 +191,16 @@ impl State {
             → steps.new ≤ steps.old + steps_on (ruling_steps self.old.books.compiled b) (tables_of self.old).tables.things (frame_of frame.now) }
     {
         let now = later(self.moment, stamp);
-        let verdict = judge(
-            frame,
-            self.books.thing_book(),
-            self.books.compiled(),
-            self.books.locals(),
-            &mut self.flows,
-            now,
-            steps,
-        )?;
+        let view = view(frame);
+        let verdict = packet_judge::judge(&view, &self.rules_at(now), steps);
+        note(&mut self.flows, &view, &verdict, now)?;
         self.moment = now;
         Ok(verdict)
     }
 
-    /// What decides a frame: [`crate::why`].
+    /// What decides a frame at the later of the session's moment and this one: the verdict that
+    /// [`State::judge`] would give, and the Things, rulings and entries by which it is given. It takes
+    /// no memory.
     #[tactic(auto, unfolding(crate::specs::DeskState::tables_of))]
     pub(crate) fn why<L: Ledger>(&self, frame: &[u8], stamp: Moment, blank: Blank) -> Findings<'_>
         requires blank { IsBlankOf L.name L.parts blank }
@@ -187,14 +209,9 @@ impl State {
     {
         let mut steps = Steps::<L>::new(blank);
         let moment = later(self.moment, stamp);
-        why(
-            frame,
-            self.books.thing_book(),
-            self.books.compiled(),
-            self.books.locals(),
-            &self.flows,
-            moment,
-            &mut steps,
-        )
+        let view = view(frame);
+        let rules = self.rules_at(moment);
+        let verdict = packet_judge::judge(&view, &rules, &mut steps);
+        findings_with(rules.things, rules.compiled, &view, verdict)
     }
 }

@@ -1,50 +1,68 @@
-use Rattle.std.proofs.Common.{◌≡◌, ◌≤◌, ◌<◌, ◌+◌, ◌^◌, ℕ, List, length, Result, Ok, Err, refl, sym, subst, ap, ◌∙◌, arith}
+use Rattle.std.proofs.Common.{◌≡◌, ◌≤◌, ◌<◌, ◌+◌, ◌^◌, ℕ, List, length, IsSome, Result, Ok, Err, refl, sym, subst, ap, ◌∙◌, arith}
 use Rattle.std.proofs.lemmas.Result.{err_from_is_err_and}
 use Rattle.table_model.specs.declared.thing.Thing.{Thing}
 use Rattle.acl_compile.specs.Compiled.{CompiledState}
 use Rattle.mud_base.specs.declared.memory.Memory as want
+use Rattle.mud_base.specs.declared.packet.Direction.{Direction}
+use Rattle.mud_base.specs.declared.packet.Fields.{Fields}
 use Rattle.packet_judge.specs.declared.verdict.Verdict.{Verdict}
-use Rattle.packet_judge.specs.Verdicts.{steps_on}
+use Rattle.packet_judge.specs.Verdicts.{history_after, noted_fields, steps_on}
+use Rattle.frame_view.specs.declared.views.Frame.{Frame}
 use Rattle.frame_view.specs.Frame.{frame_of}
-use Rattle.mud_desk.specs.RuleInputs.{rows_read, ruling_steps}
+use Rattle.desk_model.specs.Verdicts.{verdict_at}
+use Rattle.mud_desk.specs.RuleInputs.{AreRuleInputsOf, rule_inputs, rows_read, ruling_steps}
 use Rattle.mud_desk.specs.DeskState.{DeskState, tables_of}
-use Rattle.mud_desk.proofs.Sessions.{timely_since, timely_at, timely_same, max_first, rule_inputs_of, IsJudged, judged_so, judged_not, steps_alike}
+use Rattle.mud_desk.proofs.Sessions.{timely_since, timely_at, timely_same, max_first, IsJudged, judged_so, judged_not, steps_alike}
+use Rattle.mud_desk.proofs.Verdicts.{verdict_read}
 use Rattle.mud_desk.proofs.state.State.judge.Goals as goal
 
-pub judge-requires : goal.judge-requires
-judge-requires g c = record { since = timely_since c.self.inside.flows c.self.inside.moment c.later-now.result c.self.invariant (max_first c.self.inside.moment c.args.stamp c.later-now.result c.later-now.ensures) }
+pub rules_at-requires : goal.rules_at-requires
+rules_at-requires g c = subst (λ (s : DeskState). s.moment ≤ c.later-now.result) c.self.view_is (max_first c.self.inside.moment c.args.stamp c.later-now.result c.later-now.ensures)
+
+pub note-requires : goal.note-requires
+note-requires g c = record { since = timely_since c.self.inside.flows c.self.inside.moment c.later-now.result c.self.invariant (max_first c.self.inside.moment c.args.stamp c.later-now.result c.later-now.ensures) }
 
 pub invariant_of-self : goal.invariant_of-self
-invariant_of-self g c = timely_same c.self.inside.flows c.judge.new.flows c.self.inside.moment c.in_err-verdict.ensures.err c.self.invariant
+invariant_of-self g c = timely_same c.self.inside.flows c.note.new.flows c.self.inside.moment c.in_err-note.ensures.err c.self.invariant
 
 pub invariant_of-self-2 : goal.invariant_of-self-2
-invariant_of-self-2 g c = timely_at c.judge.new.flows c.later-now.result (c.in_ok-verdict.ensures.since c.later-now.result (omega arith))
+invariant_of-self-2 g c = timely_at c.note.new.flows c.later-now.result (c.in_ok-note.ensures.since c.later-now.result (omega arith))
 
 pub returns-clause-judged : goal.returns-clause-judged
 unfolding tables_of
 returns-clause-judged g c =
     let n = c.later-now.result in
+    let r = c.rules_at.result in
+    let k = rule_inputs r.things.now.things r.compiled.now r.locals.now r.flows.now.history in
     let before : DeskState = record { books = c.self.inside.books; flows = c.self.inside.flows; moment = c.self.inside.moment } in
-    let after : DeskState = record { books = c.self.inside.books; flows = c.judge.new.flows; moment = n } in
-    subst (λ (s : DeskState). IsJudged s c.args.stamp c.args.frame.now (Ok c.in_ok-verdict.verdict) after) c.self.view_is
-    (judged_so before after c.args.stamp n c.args.frame.now c.later-now.ensures c.in_ok-verdict.verdict
-    (c.in_ok-verdict.ensures.verdict (tables_of before)
-    (rule_inputs_of before c.thing_book.result.now.things c.compiled.result.now c.locals.result.now (ap (λ t. t.things) c.thing_book.ensures) c.compiled.ensures.value c.locals.ensures c.compiled.ensures.of))
-    c.in_ok-verdict.ensures.history refl refl)
+    let back : c.args.self.now ≡ before = sym c.self.view_is in
+    let after : DeskState = record { books = c.self.inside.books; flows = c.note.new.flows; moment = n } in
+    let verdict : c.judge-verdict.result ≡ verdict_at (tables_of before) c.self.inside.flows.history n c.args.frame.now = c.judge-verdict.ensures.verdict
+    ∙ verdict_read (tables_of before) k (subst (λ (s : DeskState). AreRuleInputsOf (tables_of s) k) back c.rules_at.ensures.inputs)
+    c.self.inside.flows.history (c.rules_at.ensures.history ∙ ap (λ (s : DeskState). s.flows.history) back) r.now n c.rules_at.ensures.now c.rules_at.ensures.within c.view-view.result c.args.frame.now c.view-view.ensures in
+    subst (λ (s : DeskState). IsJudged s c.args.stamp c.args.frame.now (Ok c.judge-verdict.result) after) c.self.view_is
+    (judged_so before after c.args.stamp n c.args.frame.now c.later-now.ensures c.judge-verdict.result verdict
+    (c.in_ok-note.ensures.ok ∙ ap (λ (f : Frame). history_after c.self.inside.flows.history f c.judge-verdict.result n) c.view-view.ensures) refl refl)
 
-pub returns-in_err-verdict-clause-judged : goal.returns-in_err-verdict-clause-judged
+pub returns-in_err-note-clause-judged : goal.returns-in_err-note-clause-judged
 unfolding tables_of
-returns-in_err-verdict-clause-judged g c =
+returns-in_err-note-clause-judged g c =
     let n = c.later-now.result in
+    let r = c.rules_at.result in
+    let k = rule_inputs r.things.now.things r.compiled.now r.locals.now r.flows.now.history in
     let before : DeskState = record { books = c.self.inside.books; flows = c.self.inside.flows; moment = c.self.inside.moment } in
-    let after : DeskState = record { books = c.self.inside.books; flows = c.judge.new.flows; moment = c.self.inside.moment } in
+    let back : c.args.self.now ≡ before = sym c.self.view_is in
+    let after : DeskState = record { books = c.self.inside.books; flows = c.note.new.flows; moment = c.self.inside.moment } in
+    let verdict : c.judge-verdict.result ≡ verdict_at (tables_of before) c.self.inside.flows.history n c.args.frame.now = c.judge-verdict.ensures.verdict
+    ∙ verdict_read (tables_of before) k (subst (λ (s : DeskState). AreRuleInputsOf (tables_of s) k) back c.rules_at.ensures.inputs)
+    c.self.inside.flows.history (c.rules_at.ensures.history ∙ ap (λ (s : DeskState). s.flows.history) back) r.now n c.rules_at.ensures.now c.rules_at.ensures.within c.view-view.result c.args.frame.now c.view-view.ensures in
     let p = err_from_is_err_and c.from_residual.result c.from_residual.ensures.1 in
-    subst (λ (r : Result Verdict want.Memory). IsJudged c.args.self.now c.args.stamp c.args.frame.now r after) (sym p.1)
+    subst (λ (v : Result Verdict want.Memory). IsJudged c.args.self.now c.args.stamp c.args.frame.now v after) (sym p.1)
     (subst (λ (s : DeskState). IsJudged s c.args.stamp c.args.frame.now (Err p.0) after) c.self.view_is
     (judged_not before after c.args.stamp n c.args.frame.now c.later-now.ensures p.0
-    (c.in_err-verdict.ensures.wanted (tables_of before)
-    (rule_inputs_of before c.thing_book.result.now.things c.compiled.result.now c.locals.result.now (ap (λ t. t.things) c.thing_book.ensures) c.compiled.ensures.value c.locals.ensures c.compiled.ensures.of))
-    c.in_err-verdict.ensures.err refl refl))
+    (subst (λ (v : Verdict). IsSome (noted_fields (frame_of c.args.frame.now) v)) verdict
+    (subst (λ (f : Frame). IsSome (noted_fields f c.judge-verdict.result)) c.view-view.ensures c.in_err-note.ensures.wanted))
+    c.in_err-note.ensures.err refl refl))
 
 abbrev Least : ℕ → ℕ → ℕ → Type 0
 Least a b k = a + k ≤ b
@@ -52,35 +70,35 @@ Least a b k = a + k ≤ b
 abbrev Most : ℕ → ℕ → ℕ → Type 0
 Most a b k = b ≤ a + k
 
-least_so : (inside state : DeskState) → inside ≡ state → (things : List Thing) (compiled : CompiledState) → things ≡ inside.books.things.things → compiled ≡ inside.books.compiled → (octets : List ℕ) (a b : ℕ)
-    → a + steps_on (rows_read compiled) things (frame_of octets) ≤ b → a + steps_on (rows_read state.books.compiled) (tables_of state).tables.things (frame_of octets) ≤ b
-least_so inside state same things compiled is_things is_compiled octets a b taken =
-    subst (Least a b) (steps_alike inside state same things compiled is_things is_compiled rows_read (frame_of octets)) taken
+module _ (state : DeskState) (things : List Thing) (compiled : CompiledState) (is_things : things ≡ (tables_of state).tables.things) (is_compiled : compiled ≡ state.books.compiled)
+    (f : Frame) (octets : List ℕ) (is_f : f ≡ frame_of octets) (a b : ℕ) where
+  alike : (steps : CompiledState → Direction → Thing → Fields → ℕ) → steps_on (steps compiled) things f ≡ steps_on (steps state.books.compiled) (tables_of state).tables.things (frame_of octets)
+  alike steps = ap (steps_on (steps compiled) things) is_f ∙ steps_alike state things compiled is_things is_compiled steps (frame_of octets)
 
-most_so : (inside state : DeskState) → inside ≡ state → (things : List Thing) (compiled : CompiledState) → things ≡ inside.books.things.things → compiled ≡ inside.books.compiled → (octets : List ℕ) (a b : ℕ)
-    → ((d : ℕ) → length compiled.rows < 2 ^ d → b ≤ a + steps_on (ruling_steps compiled d) things (frame_of octets))
-    → (d : ℕ) → length state.books.compiled.rows < 2 ^ d → b ≤ a + steps_on (ruling_steps state.books.compiled d) (tables_of state).tables.things (frame_of octets)
-most_so inside state same things compiled is_things is_compiled octets a b taken d few =
-    let rows : compiled ≡ state.books.compiled = is_compiled ∙ ap (λ (s : DeskState). s.books.compiled) same in
-    subst (Most a b) (steps_alike inside state same things compiled is_things is_compiled (λ k. ruling_steps k d) (frame_of octets))
-    (taken d (subst (λ (k : CompiledState). length k.rows < 2 ^ d) (sym rows) few))
+  least_so : a + steps_on (rows_read compiled) things f ≤ b → a + steps_on (rows_read state.books.compiled) (tables_of state).tables.things (frame_of octets) ≤ b
+  least_so taken = subst (Least a b) (alike rows_read) taken
+
+  most_so : ((d : ℕ) → length compiled.rows < 2 ^ d → b ≤ a + steps_on (ruling_steps compiled d) things f)
+      → (d : ℕ) → length state.books.compiled.rows < 2 ^ d → b ≤ a + steps_on (ruling_steps state.books.compiled d) (tables_of state).tables.things (frame_of octets)
+  most_so taken d few =
+      subst (Most a b) (alike (λ k. ruling_steps k d)) (taken d (subst (λ (k : CompiledState). length k.rows < 2 ^ d) (sym is_compiled) few))
 
 pub returns-clause-least : goal.returns-clause-least
 returns-clause-least g c =
-    let before : DeskState = record { books = c.self.inside.books; flows = c.self.inside.flows; moment = c.self.inside.moment } in
-    least_so before c.args.self.now c.self.view_is c.thing_book.result.now.things c.compiled.result.now (ap (λ t. t.things) c.thing_book.ensures) c.compiled.ensures.value c.args.frame.now c.args.steps.now c.judge.new.steps c.in_ok-verdict.ensures.least
+    least_so c.args.self.now c.rules_at.result.things.now.things c.rules_at.result.compiled.now c.rules_at.ensures.inputs.things c.rules_at.ensures.compiled
+    c.view-view.result c.args.frame.now c.view-view.ensures c.args.steps.now c.judge-verdict.new.steps c.judge-verdict.ensures.least
 
 pub returns-clause-most : goal.returns-clause-most
 returns-clause-most g c =
-    let before : DeskState = record { books = c.self.inside.books; flows = c.self.inside.flows; moment = c.self.inside.moment } in
-    most_so before c.args.self.now c.self.view_is c.thing_book.result.now.things c.compiled.result.now (ap (λ t. t.things) c.thing_book.ensures) c.compiled.ensures.value c.args.frame.now c.args.steps.now c.judge.new.steps c.in_ok-verdict.ensures.most
+    most_so c.args.self.now c.rules_at.result.things.now.things c.rules_at.result.compiled.now c.rules_at.ensures.inputs.things c.rules_at.ensures.compiled
+    c.view-view.result c.args.frame.now c.view-view.ensures c.args.steps.now c.judge-verdict.new.steps c.judge-verdict.ensures.most
 
-pub returns-in_err-verdict-clause-least : goal.returns-in_err-verdict-clause-least
-returns-in_err-verdict-clause-least g c =
-    let before : DeskState = record { books = c.self.inside.books; flows = c.self.inside.flows; moment = c.self.inside.moment } in
-    least_so before c.args.self.now c.self.view_is c.thing_book.result.now.things c.compiled.result.now (ap (λ t. t.things) c.thing_book.ensures) c.compiled.ensures.value c.args.frame.now c.args.steps.now c.judge.new.steps c.in_err-verdict.ensures.least
+pub returns-in_err-note-clause-least : goal.returns-in_err-note-clause-least
+returns-in_err-note-clause-least g c =
+    least_so c.args.self.now c.rules_at.result.things.now.things c.rules_at.result.compiled.now c.rules_at.ensures.inputs.things c.rules_at.ensures.compiled
+    c.view-view.result c.args.frame.now c.view-view.ensures c.args.steps.now c.judge-verdict.new.steps c.judge-verdict.ensures.least
 
-pub returns-in_err-verdict-clause-most : goal.returns-in_err-verdict-clause-most
-returns-in_err-verdict-clause-most g c =
-    let before : DeskState = record { books = c.self.inside.books; flows = c.self.inside.flows; moment = c.self.inside.moment } in
-    most_so before c.args.self.now c.self.view_is c.thing_book.result.now.things c.compiled.result.now (ap (λ t. t.things) c.thing_book.ensures) c.compiled.ensures.value c.args.frame.now c.args.steps.now c.judge.new.steps c.in_err-verdict.ensures.most
+pub returns-in_err-note-clause-most : goal.returns-in_err-note-clause-most
+returns-in_err-note-clause-most g c =
+    most_so c.args.self.now c.rules_at.result.things.now.things c.rules_at.result.compiled.now c.rules_at.ensures.inputs.things c.rules_at.ensures.compiled
+    c.view-view.result c.args.frame.now c.view-view.ensures c.args.steps.now c.judge-verdict.new.steps c.judge-verdict.ensures.most

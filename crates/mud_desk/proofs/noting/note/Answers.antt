@@ -4,7 +4,7 @@ use Rattle.flow_table.specs.Noted.{segment_planned}
 use Rattle.mud_desk.proofs.Notes.{history_kept, history_more}
 use Rattle.mud_desk.proofs.Since.{since_later, since_same, since_noted}
 use Rattle.table_model.specs.History.{last_moment}
-use Rattle.mud_desk.proofs.judging.note.Goals as goal
+use Rattle.mud_desk.proofs.noting.note.Goals as goal
 
 pub returns-in_err-plan-in-Some-clause-since : goal.returns-in_err-plan-in-Some-clause-since
 returns-in_err-plan-in-Some-clause-since c = since_same c.args.now c.args.flows.now.history c.plan.new.self.history c.in_err-plan-in-Some.ensures.same c.requires.since

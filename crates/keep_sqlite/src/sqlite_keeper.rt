@@ -21,22 +21,13 @@ use std::marker::Model;
 
 /// A keeper over a connection to a database. Its items are the rows of one table, and a batch is
 /// one transaction.
+#[derive(Drop)]
 pub struct SqliteKeeper<S: Alter + Drop> {
     pub(crate) connection: Connection<S>,
     /// Whether an `open` has answered Ok.
     has_opened: bool,
     /// How often a call has failed.
     faults: u64,
-}
-
-impl<S: Alter + Drop> Drop for SqliteKeeper<S> {
-    fn drop(self) {
-        let SqliteKeeper {
-            connection: _,
-            has_opened: _,
-            faults: _,
-        } = self;
-    }
 }
 
 impl<S: Alter + Drop> Model for SqliteKeeper<S> {
@@ -74,12 +65,7 @@ impl<S: Alter + Drop> SqliteKeeper<S> {
     pub fn give_back(self) -> Connection<S>
         ensures { result ≡ self.connection }
     {
-        let SqliteKeeper {
-            connection,
-            has_opened: _,
-            faults: _,
-        } = self;
-        connection
+        self.connection
     }
 
     /// How often a call has failed. A count that has reached the last u64 stays there.

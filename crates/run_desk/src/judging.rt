@@ -13,6 +13,7 @@ ghost use Rattle.mud_desk.specs.DeskState.{tables_of, session_of};
 ghost use Rattle.run_desk.specs.Judged.{judged_line, judged_packet, judged_step};
 
 use base_rows::Steps;
+use desk_model::texts::append_verdict;
 use mud_base::{Bytes, Memory, Moment};
 use mud_desk::{Desk, State, Verdict};
 use mud_world::{Door, Keeper};
@@ -22,7 +23,6 @@ use run_common::Status;
 use std::alloc::Global;
 use std::marker::Brand;
 use std::sync::ledger::{Blank, Ledger};
-use desk_model::texts::append_verdict;
 use text_values::append_two;
 
 /// The seconds of a packet as a moment. No number of 32 bits is after the last moment.

@@ -3,11 +3,11 @@ ghost use Rattle.std.specs.Prelude.{◌≡◌, ◌++◌, OnOk};
 ghost use Rattle.pcap_read.specs.Captured.{packet_of};
 ghost use Rattle.mud_cli.specs.Frames.Lines as spec;
 
+use desk_model::texts::append_unreadable;
 use frame_view::{Frame, view};
 use mud_base::{Bytes, Fields, Memory, Transport};
 use pcap_read::Captured;
 use std::alloc::Global;
-use desk_model::texts::append_unreadable;
 use text_values::{append_addr, append_decimal, append_number};
 
 /// Adds the ports and the octet of flags, or the type and the code.

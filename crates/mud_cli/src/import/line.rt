@@ -3,9 +3,9 @@ ghost use Rattle.std.specs.Prelude.{◌≡◌, ◌++◌, OnOk};
 ghost use Rattle.mud_cli.specs.Import.Lines as spec;
 
 use desk_model::Reply;
+use desk_model::texts::append_reply_words;
 use mud_base::{Bytes, Memory};
 use std::alloc::Global;
-use desk_model::texts::append_reply_words;
 
 /// Adds the line of a file that was imported, or refused: its name, and the word of what was done,
 /// `refused` with the number and the name of the rule and the path in the file, `keeper`, or

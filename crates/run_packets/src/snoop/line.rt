@@ -2,11 +2,11 @@
 ghost use Rattle.std.specs.Prelude.{◌≡◌, ◌++◌, OnOk};
 ghost use Rattle.run_packets.specs.Snoop.Lines as spec;
 
+use desk_model::texts::append_reply_words;
 use dns_snoop::DnsFault;
 use mud_base::{Addr, Bytes, Memory};
 use mud_desk::Reply;
 use std::alloc::Global;
-use desk_model::texts::append_reply_words;
 use text_values::{append_addr, append_number, append_offset};
 
 /// Adds the line of an address that was learnt for a name, for so many seconds: `name`, all three,

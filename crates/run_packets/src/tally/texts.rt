@@ -2,10 +2,10 @@
 ghost use Rattle.std.specs.Prelude.{◌≡◌, ◌++◌, OnOk, flat_map};
 ghost use Rattle.run_packets.specs.Tally.Texts as spec;
 
+use desk_model::texts::append_ruling;
 use drop_ledger::{CountRow, DeniedRow, OtherRow, Totals};
 use mud_base::{Bytes, Direction, Mac, Memory};
 use std::alloc::Global;
-use desk_model::texts::append_ruling;
 use text_values::{append_addr, append_mac, append_number};
 
 /// The name of a side, behind a space.

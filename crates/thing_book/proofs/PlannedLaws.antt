@@ -1,6 +1,6 @@
 -- A plan that says what the step says is the step, in all that a planned change says and does.
-use Rattle.std.proofs.Common.{◌≡◌, ℕ, ◌≤◌, ◌<◌, ◌^◌, Bool, List, [], ◌∷◌, length, map, Option, Some, None, Result, Ok, Err, IsTrue, refl, sym, ap, subst, ◌∙◌, arith}
-use Rattle.std.specs.Prelude.{IfOk, OnOk, IsOkAnd}
+use Rattle.std.proofs.Common.{◌≡◌, ℕ, ◌≤◌, ◌<◌, ◌^◌, Bool, List, [], ◌∷◌, length, map, Option, Some, None, Result, Ok, Err, IsTrue, refl, sym, ap, subst, ◌∙◌, arith, rules}
+use Rattle.std.specs.Prelude.{IfOk, IfErr, OnOk, IsOkAnd}
 use Rattle.std.specs.List.{AllByRecursion}
 use Rattle.std.specs.Option.{option_map}
 use Rattle.std.proofs.lemmas.Option.{same_Some}
@@ -16,6 +16,8 @@ use Rattle.mud_world.specs.Items.{sort_key_of, sort_key_of_put, item_after, set_
 use Rattle.mud_world.proofs.ItemLaws.{puts_of_kind, puts_length, ordered-items, said, put_same}
 use Rattle.acl_model.specs.Changes.{IsBindingChange}
 use Rattle.table_model.specs.declared.thing.Thing.{Thing}
+use Rattle.table_model.specs.declared.thing_fault.ThingFault.{ThingFault}
+use Rattle.table_model.specs.declared.thing_fault.ThingFault.TheVariants.{Memory}
 use Rattle.table_model.specs.Things.{mac_of, IsKeptThing, IsSoundThings}
 use Rattle.table_model.specs.ThingItems.{thing_item, thing_items, thing_in}
 use Rattle.table_model.specs.ThingCommands.{ThingsAfter, TellsChange, ThingStep}
@@ -31,7 +33,7 @@ use Rattle.table_model.proofs.RowSets.{all_at}
 use Rattle.table_model.proofs.ItemLaws.{thing_back, are_things}
 use Rattle.table_laws.proofs.BookChanges.{thing_book_change}
 use Rattle.thing_book.specs.declared.plan.Plan.{Plan}
-use Rattle.thing_book.specs.Planned.{Things, PlannedThings, IsPlanned, IsReady}
+use Rattle.thing_book.specs.Planned.{Things, PlannedThings, IsPlanned, IsPlanOf, IsReady, Plans}
 use Rattle.thing_book.specs.RowChanges.{Says, url_change, move_change, remove_change, hold_change, release_change}
 use Rattle.thing_book.specs.Changes.{HasFewLeases, change_of}
 use Rattle.thing_book.proofs.KeptItems.{kept_differ}
@@ -149,6 +151,19 @@ module _ (things : List Thing) (sound : IsSoundThings things) (change : RowChang
 
 -- ---- What a call that plans answers
 
+-- what is planned can be committed
+ready_step : (step : ThingStep) (book : Things) (change : PlannedThings) → IsPlanOf step book change → IsReady book change
+ready_step (Ok after) book change planned = record { enough = planned.room; sound = subst IsSoundThings (sym planned.leads) planned.sound }
+ready_step (Err fault) book change planned = absurd planned
+
+ready : {E : Type 0} (step : ThingStep) (book : Things) (result : Result PlannedThings E) → IfOk result (IsPlanOf step book) → IfOk result (IsReady book)
+ready step book (Ok change) planned = ready_step step book change planned
+ready step book (Err fault) planned = tt
+
+-- the book as contracts see it
+abbrev book_of : RowsAndRoom Thing → Things
+book_of book = record { things = book.rows; room = book.room }
+
 module _ (step : List Thing → ThingStep) (change : List Thing → RowChange Thing) (is : (things : List Thing) → IsSoundThings things → IsStep things (change things) (step things)) where
   abbrev IsAnswer : List Thing → RowsAndRoom Thing → PlannedThings → Type 0
   IsAnswer old book planned = IsOkAnd (step old) (λ after. IsPlanned after (record { things = book.rows; room = book.room }) planned)
@@ -169,7 +184,7 @@ module _ (step : List Thing → ThingStep) (change : List Thing → RowChange Th
       (subst (λ ts. IsOkAnd (step before.rows) (λ after. IsPlanned after (record { things = ts; room = book.room }) result)) (sym same)
       (subst (λ p. IsOkAnd (step before.rows) (λ after. IsPlanned after (record { things = before.rows; room = book.room }) p)) is' holds))
 
-  pub answers : {E F : Type 0} (old : List Thing) (before book : RowsAndRoom Thing) (plan : Plan) (made : Result PlannedThings E) (result : Result PlannedThings F)
+  answers : {E F : Type 0} (old : List Thing) (before book : RowsAndRoom Thing) (plan : Plan) (made : Result PlannedThings E) (result : Result PlannedThings F)
       → before.rows ≡ old → IsSoundThings before.rows → IsOkAnd (step before.rows) (λ after. Says after (change before.rows) plan)
       → book.rows ≡ before.rows → IfOk made (λ planned. planned ≡ change_of before.rows plan) → OnOk made (length plan.rows.sets ≤ book.room)
       → IfOk result (λ planned. made ≡ Ok planned) → IfOk result (IsAnswer old book)
@@ -178,14 +193,14 @@ module _ (step : List Thing → ThingStep) (change : List Thing → RowChange Th
   answers old before book plan (Err fault) (Ok result) e sound says same is' enough re = cc
   answers old before book plan (Err fault) (Err fault') e sound says same is' enough re = tt
 
--- what is planned can be committed
-ready_step : (step : ThingStep) (book : Things) (change : PlannedThings) → IsOkAnd step (λ after. IsPlanned after book change) → IsReady book change
-ready_step (Ok after) book change planned = record { enough = planned.room; sound = subst IsSoundThings (sym planned.leads) planned.sound }
-ready_step (Err fault) book change planned = absurd planned
-
-pub ready : {E : Type 0} (step : ThingStep) (book : Things) (result : Result PlannedThings E) → IfOk result (λ change. IsOkAnd step (λ after. IsPlanned after book change)) → IfOk result (IsReady book)
-ready step book (Ok change) planned = ready_step step book change planned
-ready step book (Err fault) planned = tt
+  pub plans : {E : Type 0} (before : Things) (rows book : RowsAndRoom Thing) (plan : Plan) (made : Result PlannedThings E) (result : Result PlannedThings ThingFault)
+      → book_of rows ≡ before → IsSoundThings rows.rows → IsOkAnd (step rows.rows) (λ after. Says after (change rows.rows) plan)
+      → book.rows ≡ rows.rows → IfOk made (λ planned. planned ≡ change_of rows.rows plan) → OnOk made (length plan.rows.sets ≤ book.room)
+      → IfOk result (λ planned. made ≡ Ok planned) → IfErr result (λ fault. fault ≡ Memory) → Plans (step before.things) before (book_of book) result
+  plans before rows book plan made result view sound says same is' enough re want =
+      let old = ap (λ (b : Things). b.things) view in
+      let ok : IfOk result (IsPlanOf (step before.things) (book_of book)) = answers before.things rows book plan made result old sound says same is' enough re in
+      record { same = same ∙ old; ok = ok; ready = ready (step before.things) (book_of book) result ok; err = search rules }
 
 -- ---- Each step
 

@@ -1,5 +1,5 @@
 -- The Things of the book, and what a planned change says and does.
-use Rattle.std.specs.Prelude.{◌≡◌, ◌≢◌, ◌↔◌, ℕ, ◌≤◌, false, List, [], length, Option, Err, IsOkAnd}
+use Rattle.std.specs.Prelude.{◌≡◌, ◌≢◌, ◌↔◌, ℕ, ◌≤◌, false, List, [], length, Option, Result, Err, IfOk, IfErr, IsOkAnd}
 use Rattle.base_rows.specs.Changes.{RowChange, changed}
 use Rattle.mud_world.specs.declared.item.Put.{Put}
 use Rattle.mud_world.specs.Items.{IsDifference, ArePutsOf}
@@ -60,3 +60,11 @@ pub record IsReady (book : Things) (change : PlannedThings) : Type 0 where
 -- the step is refused so, or memory was wanted
 abbrev pub IsRefusal : ThingStep → ThingFault → Type 0
 IsRefusal step fault = fault ≢ Memory → step ≡ Err fault
+
+-- What planning a command makes of the book: its Things stay; a change that is planned is the step, and can be committed;
+-- and a refusal is the step's, or memory was wanted.
+pub record Plans (step : ThingStep) (before after : Things) (result : Result PlannedThings ThingFault) : Type 0 where
+  pub same : after.things ≡ before.things
+  pub ok : IfOk result (IsPlanOf step after)
+  pub ready : IfOk result (IsReady after)
+  pub err : IfErr result (IsRefusal step)

@@ -5,7 +5,7 @@ ghost use Rattle.table_model.specs.Things.{mac_of, thing_at, IsSoundThings};
 ghost use Rattle.table_model.specs.ThingCommands.{url_step, move_step, remove_step, hold_step, release_step, lease_step, end_step};
 ghost use Rattle.table_model.specs.ThingItems.{thing_items, may_follow, with_thing_item};
 ghost use Rattle.thing_book.specs.Numbers.{AreNumbersOf};
-ghost use Rattle.thing_book.specs.Planned.{IsPlanOf, IsReady, IsRefusal};
+ghost use Rattle.thing_book.specs.Planned.{IsReady, Plans};
 
 use crate::change::ThingChange;
 use crate::holds::{hold, release};
@@ -89,10 +89,7 @@ impl ThingBook {
     /// where 512 are kept. The URL that the Thing has, or that waits, changes nothing (`same`); any
     /// other one waits for the operator, in place of what waited (`pending`).
     pub fn plan_url(&mut self, mac: Mac, url: MudUrl) -> Result<ThingChange, ThingFault>
-        ensures same { self.new.things ≡ self.old.things }
-        ensures ok { IfOk result (IsPlanOf (url_step mac url self.old.things) self.new) }
-        ensures ready { IfOk result (IsReady self.new) }
-        ensures err { IfErr result (IsRefusal (url_step mac url self.old.things)) }
+        ensures { Plans (url_step mac url self.old.things) self.old self.new result }
     {
         mac_has_six_octets(mac);
         url.text_is_canonical();
@@ -104,10 +101,7 @@ impl ThingBook {
     /// [`ThingFault::NoThing`] where no Thing has the hardware address, and
     /// [`ThingFault::NoPending`] where another URL waits, or none.
     pub fn plan_move(&mut self, mac: Mac, url: MudUrl) -> Result<ThingChange, ThingFault>
-        ensures same { self.new.things ≡ self.old.things }
-        ensures ok { IfOk result (IsPlanOf (move_step mac url self.old.things) self.new) }
-        ensures ready { IfOk result (IsReady self.new) }
-        ensures err { IfErr result (IsRefusal (move_step mac url self.old.things)) }
+        ensures { Plans (move_step mac url self.old.things) self.old self.new result }
     {
         let plan = move_to(self.alloc, &self.things, mac, url)?;
         or_memory(ThingChange::made(self.alloc, &mut self.things, plan))
@@ -116,10 +110,7 @@ impl ThingBook {
     /// The operator removes a Thing, and its leases with it (`removed`); [`ThingFault::NoThing`]
     /// where no Thing has the hardware address.
     pub fn plan_remove(&mut self, mac: Mac) -> Result<ThingChange, ThingFault>
-        ensures same { self.new.things ≡ self.old.things }
-        ensures ok { IfOk result (IsPlanOf (remove_step mac self.old.things) self.new) }
-        ensures ready { IfOk result (IsReady self.new) }
-        ensures err { IfErr result (IsRefusal (remove_step mac self.old.things)) }
+        ensures { Plans (remove_step mac self.old.things) self.old self.new result }
     {
         let plan = remove(self.alloc, &self.things, mac)?;
         or_memory(ThingChange::made(self.alloc, &mut self.things, plan))
@@ -128,10 +119,7 @@ impl ThingBook {
     /// The operator holds a Thing (`held`), for the verdict to drop all its packets. One that is held
     /// already is `same`; [`ThingFault::NoThing`] where no Thing has the hardware address.
     pub fn plan_hold(&mut self, mac: Mac) -> Result<ThingChange, ThingFault>
-        ensures same { self.new.things ≡ self.old.things }
-        ensures ok { IfOk result (IsPlanOf (hold_step mac self.old.things) self.new) }
-        ensures ready { IfOk result (IsReady self.new) }
-        ensures err { IfErr result (IsRefusal (hold_step mac self.old.things)) }
+        ensures { Plans (hold_step mac self.old.things) self.old self.new result }
     {
         let plan = hold(self.alloc, &self.things, mac)?;
         or_memory(ThingChange::made(self.alloc, &mut self.things, plan))
@@ -140,10 +128,7 @@ impl ThingBook {
     /// The operator releases a Thing (`released`), for the verdict to go by its usage file. One that
     /// isn't held is `same`; [`ThingFault::NoThing`] where no Thing has the hardware address.
     pub fn plan_release(&mut self, mac: Mac) -> Result<ThingChange, ThingFault>
-        ensures same { self.new.things ≡ self.old.things }
-        ensures ok { IfOk result (IsPlanOf (release_step mac self.old.things) self.new) }
-        ensures ready { IfOk result (IsReady self.new) }
-        ensures err { IfErr result (IsRefusal (release_step mac self.old.things)) }
+        ensures { Plans (release_step mac self.old.things) self.old self.new result }
     {
         let plan = release(self.alloc, &self.things, mac)?;
         or_memory(ThingChange::made(self.alloc, &mut self.things, plan))
@@ -164,10 +149,7 @@ impl ThingBook {
         m: Moment,
         heard: bool,
     ) -> Result<ThingChange, ThingFault>
-        ensures same { self.new.things ≡ self.old.things }
-        ensures ok { IfOk result (IsPlanOf (lease_step mac addr seconds m heard self.old.things) self.new) }
-        ensures ready { IfOk result (IsReady self.new) }
-        ensures err { IfErr result (IsRefusal (lease_step mac addr seconds m heard self.old.things)) }
+        ensures { Plans (lease_step mac addr seconds m heard self.old.things) self.old self.new result }
     {
         addr_fits(addr);
         moment_is_kept(m);
@@ -178,10 +160,7 @@ impl ThingBook {
     /// The operator ends the lease of an address (`ended`); [`ThingFault::NoLease`] where no Thing
     /// has it.
     pub fn plan_end(&mut self, addr: Addr) -> Result<ThingChange, ThingFault>
-        ensures same { self.new.things ≡ self.old.things }
-        ensures ok { IfOk result (IsPlanOf (end_step addr self.old.things) self.new) }
-        ensures ready { IfOk result (IsReady self.new) }
-        ensures err { IfErr result (IsRefusal (end_step addr self.old.things)) }
+        ensures { Plans (end_step addr self.old.things) self.old self.new result }
     {
         let plan = end_lease(self.alloc, &self.things, addr)?;
         or_memory(ThingChange::made(self.alloc, &mut self.things, plan))

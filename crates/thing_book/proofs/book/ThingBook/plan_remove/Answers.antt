@@ -1,8 +1,6 @@
-use Rattle.std.proofs.Common.{ap}
 use Rattle.table_model.specs.ThingCommands.{remove_step}
-use Rattle.thing_book.specs.Planned.{Things}
 use Rattle.thing_book.specs.RowChanges.{remove_change}
-use Rattle.thing_book.proofs.PlannedLaws.{fit, answers, ready, remove_is}
+use Rattle.thing_book.proofs.PlannedLaws.{fit, plans, remove_is}
 use Rattle.thing_book.proofs.book.ThingBook.plan_remove.Goals as goal
 
 pub made-requires : goal.made-requires
@@ -10,11 +8,8 @@ made-requires c =
     let mac = c.args.mac in
     fit (remove_step mac) (λ _. remove_change mac) (λ things sound. remove_is things sound mac) c.self.inside.things.rows c.in_ok-plan.plan c.self.invariant.sound c.in_ok-plan.ensures.ok
 
-pub returns-clause-ok : goal.returns-clause-ok
-returns-clause-ok c =
+pub returns : goal.returns
+returns c =
     let mac = c.args.mac in
-    answers (remove_step mac) (λ _. remove_change mac) (λ things sound. remove_is things sound mac) c.args.self.now.things c.self.inside.things c.made.new.things c.in_ok-plan.plan c.made.result c.or_memory.result
-    (ap (λ (b : Things). b.things) c.self.view_is) c.self.invariant.sound c.in_ok-plan.ensures.ok c.made.ensures.same c.made.ensures.ok c.made.ensures.room c.or_memory.ensures.ok
-
-pub returns-clause-ready : goal.returns-clause-ready
-returns-clause-ready c = ready (remove_step c.args.mac c.args.self.now.things) _ c.or_memory.result (returns-clause-ok c)
+    plans (remove_step mac) (λ _. remove_change mac) (λ things sound. remove_is things sound mac) c.args.self.now c.self.inside.things c.made.new.things c.in_ok-plan.plan c.made.result c.or_memory.result
+    c.self.view_is c.self.invariant.sound c.in_ok-plan.ensures.ok c.made.ensures.same c.made.ensures.ok c.made.ensures.room c.or_memory.ensures.ok c.or_memory.ensures.err

@@ -14,7 +14,7 @@ use Rattle.usage_tables.specs.Policies.{policy_of}
 use Rattle.usage_tables.proofs.EditLaws.{edit_differs, puts_of_kind}
 use Rattle.usage_tables.proofs.PolicyLaws.{policy_edited}
 use Rattle.file_cache.specs.Changes.{Files, PlannedFile}
-use Rattle.file_cache.specs.Planned.{IsPlanned, IsMade, Makes, IsRefusal}
+use Rattle.file_cache.specs.Planned.{IsPlanned, IsPlanOf, IsMade, Makes, IsRefusal, Plans}
 
 none_where : (put : Put) (b : Bool) → (cond b (put ∷ []) [] ≡ []) ↔ (b ≡ false)
 none_where put true = (λ e. absurd cc, λ e. absurd (false≢true (sym e)))
@@ -52,17 +52,20 @@ planned_step (Ok after) files room change sound stays told made needed = planned
 planned_step (Err fault) files room change sound stays told made needed = absurd made
 
 -- the files before are those of the step, and the ones that are left
-pub planned_by : (step : List CachedFile → FileStep) (before files now : List CachedFile) (room : ℕ) (change : PlannedFile) → before ≡ files → now ≡ files → IsSoundFiles files → IfOk (step files) (λ after. IsSoundFiles after.files) → IfOk (step files) (TellsChange files) → IsOkAnd (step files) (λ after. IsMade after files change) → room_for change.edit ≤ room → IsOkAnd (step before) (λ after. IsPlanned after (record { files = now; room = room }) change)
-planned_by step before files now room change was is sound stays told made needed =
-    subst (λ (fs : List CachedFile). IsOkAnd (step fs) (λ after. IsPlanned after (record { files = now; room = room }) change)) (sym was)
-    (subst (λ (fs : List CachedFile). IsOkAnd (step files) (λ after. IsPlanned after (record { files = fs; room = room }) change)) (sym is) (planned_step (step files) files room change sound stays told made needed))
+pub plans_by : (step : List CachedFile → FileStep) (before : Files) (files now : List CachedFile) (room : ℕ) (change : PlannedFile) → before.files ≡ files → now ≡ files → IsSoundFiles files → IfOk (step files) (λ after. IsSoundFiles after.files) → IfOk (step files) (TellsChange files) → IsOkAnd (step files) (λ after. IsMade after files change) → room_for change.edit ≤ room → Plans (step before.files) before (record { files = now; room = room }) (Ok change)
+plans_by step before files now room change was is sound stays told made needed = record {
+  same = is ∙ sym was;
+  ok = subst (λ (fs : List CachedFile). IsPlanOf (step fs) (record { files = now; room = room }) change) (sym was)
+      (subst (λ (fs : List CachedFile). IsPlanOf (step files) (record { files = fs; room = room }) change) (sym is) (planned_step (step files) files room change sound stays told made needed));
+  err = tt;
+}
 
 -- ---- What a caller has of a plan
 
-pub planned_sound : (step : FileStep) (cache : Files) (change : PlannedFile) → IsOkAnd step (λ after. IsPlanned after cache change) → IsSoundFiles (edited change.edit change.url cache.files)
+pub planned_sound : (step : FileStep) (cache : Files) (change : PlannedFile) → IsPlanOf step cache change → IsSoundFiles (edited change.edit change.url cache.files)
 planned_sound (Ok after) cache change p = subst IsSoundFiles (sym p.leads) p.sound
 planned_sound (Err fault) cache change p = absurd p
 
-pub planned_room : (step : FileStep) (cache : Files) (change : PlannedFile) → IsOkAnd step (λ after. IsPlanned after cache change) → room_for change.edit ≤ cache.room
+pub planned_room : (step : FileStep) (cache : Files) (change : PlannedFile) → IsPlanOf step cache change → room_for change.edit ≤ cache.room
 planned_room (Ok after) cache change p = p.room
 planned_room (Err fault) cache change p = absurd p

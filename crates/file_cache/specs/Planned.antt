@@ -1,5 +1,5 @@
 -- What a planned change says and does.
-use Rattle.std.specs.Prelude.{◌≡◌, ◌≢◌, ◌↔◌, ℕ, ◌≤◌, false, bytes_eq, if◌then◌else◌, List, [], length, Result, Ok, Err, IsErr, IsOkAnd, IsErrAnd, Option, Some, None}
+use Rattle.std.specs.Prelude.{◌≡◌, ◌≢◌, ◌↔◌, ℕ, ◌≤◌, false, bytes_eq, if◌then◌else◌, List, [], length, Result, Ok, Err, IsErr, IfOk, IfErr, IsOkAnd, IsErrAnd, Option, Some, None}
 use Rattle.mud_world.specs.Items.{IsDifference, ArePutsOf}
 use Rattle.usage_walk.specs.declared.fault.Broken.{Broken}
 use Rattle.mud_file.specs.declared.usage_file.UsageFile.{UsageFile}
@@ -30,9 +30,20 @@ pub record IsPlanned (after : FilesAfter) (cache : Files) (change : PlannedFile)
   -- the cache has the room that it takes
   pub room : room_for change.edit ≤ cache.room
 
+-- the step isn't refused, and the change is it
+abbrev pub IsPlanOf : FileStep → Files → PlannedFile → Type 0
+IsPlanOf step cache change = IsOkAnd step (λ after. IsPlanned after cache change)
+
 -- the step is refused so, or memory was wanted
 abbrev pub IsRefusal : FileStep → CacheFault → Type 0
 IsRefusal step fault = fault ≢ Memory → step ≡ Err fault
+
+-- What planning a command makes of the cache: its files stay; a change that is planned is the step; and a refusal is the
+-- step's, or memory was wanted.
+pub record Plans (step : FileStep) (before after : Files) (result : Result PlannedFile CacheFault) : Type 0 where
+  pub same : after.files ≡ before.files
+  pub ok : IfOk result (IsPlanOf step after)
+  pub err : IfErr result (IsRefusal step)
 
 abbrev pub IsMemory : CacheFault → Type 0
 IsMemory fault = fault ≡ Memory

@@ -1,5 +1,5 @@
 //! The cache of usage files.
-ghost use Rattle.std.specs.Prelude.{◌≡◌, ◌≤◌, [], option_copied, IfOk, IfErr, IsOkAnd, OnOk, OnErr, if◌then◌else◌, false, Some, None};
+ghost use Rattle.std.specs.Prelude.{◌≡◌, ◌≤◌, [], option_copied, IfOk, IfErr, OnOk, OnErr, if◌then◌else◌, false, Some, None};
 ghost use Rattle.std.specs.Option.{option_map};
 ghost use Rattle.base_rows.specs.Sortable.{SortKeysAscend};
 ghost use Rattle.usage_tables.specs.Files.{url_of, file_at, IsSoundFiles};
@@ -8,7 +8,7 @@ ghost use Rattle.usage_tables.specs.Policies.{candidate_policy};
 ghost use Rattle.usage_tables.specs.Limits.{last_moment};
 ghost use Rattle.usage_tables.specs.FileCommands.{import_step, verdict_step, revoke_step};
 ghost use Rattle.usage_tables.specs.FileItems.{with_file_item};
-ghost use Rattle.file_cache.specs.Planned.{IsPlanned, IsRefusal, IsMemory};
+ghost use Rattle.file_cache.specs.Planned.{IsMemory, Plans};
 
 use crate::change::CacheChange;
 use crate::due::is_due;
@@ -99,9 +99,7 @@ impl FileCache {
     /// are: [`CacheFault::CacheFull`]. Otherwise it becomes the candidate, in place of an earlier one
     /// (`new`).
     pub fn plan_import(&mut self, octets: &[u8], fetched: Moment) -> Result<CacheChange, CacheFault>
-        ensures same { self.new.files ≡ self.old.files }
-        ensures ok { IfOk result (λ change. IsOkAnd (import_step octets.now fetched self.old.files) (λ after. IsPlanned after self.new change)) }
-        ensures err { IfErr result (IsRefusal (import_step octets.now fetched self.old.files)) }
+        ensures { Plans (import_step octets.now fetched self.old.files) self.old self.new result }
     {
         moment_fits(fetched);
         let change = import(self.alloc, &self.files, octets, fetched)?;
@@ -126,9 +124,7 @@ impl FileCache {
         digest: &[u8],
         v: OperatorVerdict,
     ) -> Result<CacheChange, CacheFault>
-        ensures same { self.new.files ≡ self.old.files }
-        ensures ok { IfOk result (λ change. IsOkAnd (verdict_step url.now digest.now v self.old.files) (λ after. IsPlanned after self.new change)) }
-        ensures err { IfErr result (IsRefusal (verdict_step url.now digest.now v self.old.files)) }
+        ensures { Plans (verdict_step url.now digest.now v self.old.files) self.old self.new result }
     {
         let change = judge(self.alloc, &self.files, url, digest, v)?;
         let Ok(()) = make_room(&mut self.files, change.edit()) else {
@@ -141,9 +137,7 @@ impl FileCache {
     /// The operator takes the approval of a URL's file back: the file goes, and the URL with it where
     /// there is no candidate (`revoked`); [`CacheFault::NotApproved`] where no file is approved.
     pub fn plan_revoke(&mut self, url: &MudUrl) -> Result<CacheChange, CacheFault>
-        ensures same { self.new.files ≡ self.old.files }
-        ensures ok { IfOk result (λ change. IsOkAnd (revoke_step url.now self.old.files) (λ after. IsPlanned after self.new change)) }
-        ensures err { IfErr result (IsRefusal (revoke_step url.now self.old.files)) }
+        ensures { Plans (revoke_step url.now self.old.files) self.old self.new result }
     {
         let change = revoke(self.alloc, &self.files, url)?;
         let Ok(()) = make_room(&mut self.files, change.edit()) else {

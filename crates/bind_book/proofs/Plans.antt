@@ -9,6 +9,7 @@ use Rattle.mud_world.specs.declared.item.Put.{Put}
 use Rattle.mud_world.specs.Items.{IsDifference, ArePutsOf}
 use Rattle.acl_model.specs.declared.binding.Binding.{Binding}
 use Rattle.acl_model.specs.Changes.{has_binding, IsBindingChange}
+use Rattle.table_model.specs.declared.bind_fault.BindFault.{BindFault}
 use Rattle.table_model.specs.Binds.{Binds, IsSoundBinds}
 use Rattle.table_model.specs.BindCommands.{BindsAfter, BindStep}
 use Rattle.table_model.specs.TakenItems.{bind_items}
@@ -16,8 +17,8 @@ use Rattle.table_model.specs.Tables.{Tables, binds_of, with_binds}
 use Rattle.table_model.specs.Bindings.{bindings_of}
 use Rattle.table_model.proofs.RowSets.{all_at}
 use Rattle.item_codec.specs.declared.word.Word.TheVariants.{Same}
-use Rattle.bind_book.specs.Book.{Book}
-use Rattle.bind_book.specs.Plans.{Plan, IsBindPut, IsPlanned, changed_binds, HasRoomFor, same_plan}
+use Rattle.bind_book.specs.Book.{Book, IsRefusal}
+use Rattle.bind_book.specs.Plans.{Plan, IsBindPut, IsPlanned, IsPlanOf, Plans, changed_binds, HasRoomFor, same_plan}
 use Rattle.bind_book.proofs.BookItems.{no_difference, none_between, equal_by_none, binds_ordered, binds_told}
 
 -- ---- No put exactly where nothing changes
@@ -89,3 +90,11 @@ commits (Err fault) book change planned = absurd planned
 pub commits_to : (step : BindStep) (book : Book) (change : Plan) → IsOkAnd step (λ after. IsPlanned after book change) → IsOkAnd step (λ after. changed_binds change.rows book.binds ≡ after.binds)
 commits_to (Ok after) book change planned = planned.leads
 commits_to (Err fault) book change planned = absurd planned
+
+-- ---- What a call that plans answers
+
+pub is_plan : {step : BindStep} {before after : Book} {plan : Plan} → after.binds ≡ before.binds → IsPlanOf step after plan → Plans step before after (Ok plan)
+is_plan same ok = record { same = same; ok = ok; err = tt }
+
+pub is_refusal : {step : BindStep} {before after : Book} {fault : BindFault} → after.binds ≡ before.binds → IsRefusal step fault → Plans step before after (Err fault)
+is_refusal same err = record { same = same; ok = tt; err = err }

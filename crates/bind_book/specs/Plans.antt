@@ -1,6 +1,6 @@
 -- The plan of a command: what it answers, the rows that it changes, the puts that it means, and the bindings that go and
 -- come.
-use Rattle.std.specs.Prelude.{◌≡◌, ℕ, ◌<◌, ◌≤◌, ◌↔◌, false, List, [], ◌∷◌, length, Option, Some, None, MatchOption, IsOkAnd}
+use Rattle.std.specs.Prelude.{◌≡◌, ℕ, ◌<◌, ◌≤◌, ◌↔◌, false, List, [], ◌∷◌, length, Option, Some, None, MatchOption, Result, IfOk, IfErr, IsOkAnd}
 use Rattle.std.specs.List.{AllByRecursion}
 use Rattle.mud_base.specs.declared.addr.Addr.{Addr}
 use Rattle.mud_base.specs.declared.prefix.Prefix.{Prefix}
@@ -15,6 +15,7 @@ use Rattle.acl_model.specs.Changes.{IsBindingChange}
 use Rattle.table_model.specs.declared.bind.Class.{Class}
 use Rattle.table_model.specs.declared.bind.ClassRow.{ClassRow}
 use Rattle.table_model.specs.declared.bind.NameRow.{NameRow}
+use Rattle.table_model.specs.declared.bind_fault.BindFault.{BindFault}
 use Rattle.table_model.specs.Binds.{Binds, class_key, name_of, IsSoundBinds}
 use Rattle.table_model.specs.BindCommands.{BindsAfter, BindStep, bind_step, unbind_step, locals_step}
 use Rattle.table_model.specs.BindRowChanges.{bind_change, unbind_change}
@@ -25,7 +26,7 @@ use Rattle.table_model.specs.Bindings.{class_bindings, name_bindings, bindings_o
 use Rattle.table_model.specs.BindingChanges.{gone_of, come_of}
 use Rattle.bind_book.specs.declared.change.BindRows.{BindRows}
 use Rattle.bind_book.specs.declared.change.BindRows.TheVariants.{Nothing, Classes, Locals, Names}
-use Rattle.bind_book.specs.Book.{Book}
+use Rattle.bind_book.specs.Book.{Book, IsRefusal}
 
 -- ---- A plan
 
@@ -77,6 +78,13 @@ pub record IsPlanned (after : BindsAfter) (book : Book) (change : Plan) : Type 0
 -- the step isn't refused, and the plan is that of the step
 abbrev pub IsPlanOf : BindStep → Book → Plan → Type 0
 IsPlanOf step book change = IsOkAnd step (λ after. IsPlanned after book change)
+
+-- What planning a command makes of the book: its lists stay; a change that is planned is the step; and a refusal is the
+-- step's, or memory was wanted.
+pub record Plans (step : BindStep) (before after : Book) (result : Result Plan BindFault) : Type 0 where
+  pub same : after.binds ≡ before.binds
+  pub ok : IfOk result (IsPlanOf step after)
+  pub err : IfErr result (IsRefusal step)
 
 -- ---- How plans are made
 

@@ -1,5 +1,5 @@
 //! The book: its listings, the plans of its commands, and what they make of it.
-ghost use Rattle.std.specs.Prelude.{◌≡◌, ◌==◌, ◌&&◌, ◌≤◌, ◌<◌, ◌^◌, length, All, false, IsTrue, IfOk, IfErr, OnErr};
+ghost use Rattle.std.specs.Prelude.{◌≡◌, ◌==◌, ◌&&◌, ◌≤◌, ◌<◌, ◌^◌, length, All, false, IsTrue, IfOk, OnErr};
 ghost use Rattle.table_model.specs.Fits.{FitsClass, FitsName};
 ghost use Rattle.table_model.specs.Binds.{is_class, is_name, IsSoundBinds, IsSoundClasses, IsSoundLocals, IsSoundNames};
 ghost use Rattle.table_model.specs.BindCommands.{bind_class_step, unbind_class_step, set_locals_step, observe_name_step};
@@ -7,8 +7,7 @@ ghost use Rattle.table_model.specs.TakenItems.{no_binds, is_empty, set_classes, 
 ghost use Rattle.std.specs.Option.{option_map};
 ghost use Rattle.table_model.specs.BindItems.{with_class_item, with_locals_item, with_name_item};
 ghost use Rattle.bind_book.specs.Reading.{IsTaken};
-ghost use Rattle.bind_book.specs.Book.{IsRefusal};
-ghost use Rattle.bind_book.specs.Plans.{changed_binds, class_plan, name_plan, HasRoomFor, IsPlanOf};
+ghost use Rattle.bind_book.specs.Plans.{changed_binds, class_plan, name_plan, HasRoomFor, Plans};
 
 use crate::change::{BindChange, BindRows};
 use crate::classes::{ClassChange, bind_rows, unbind_rows};
@@ -100,9 +99,7 @@ impl BindBook {
     /// it has 64 other addresses. A class by URI has 1 to 255 octets from 21 to 7E hex.
     pub fn plan_bind(&mut self, class: &Class, addr: Addr) -> Result<BindChange, BindFault>
         requires { IsTrue (is_class class.now) }
-        ensures same { self.new.binds ≡ self.old.binds }
-        ensures ok { IfOk result (IsPlanOf (bind_class_step class.now addr self.old.binds) self.new) }
-        ensures err { IfErr result (IsRefusal (bind_class_step class.now addr self.old.binds)) }
+        ensures { Plans (bind_class_step class.now addr self.old.binds) self.old self.new result }
     {
         addr_fits(addr);
         let found = bind_rows(self.alloc, class, addr, &self.classes)?;
@@ -116,9 +113,7 @@ impl BindBook {
     /// It is refused where the class doesn't have the address; so is what is no class, since none
     /// is kept.
     pub fn plan_unbind(&mut self, class: &Class, addr: Addr) -> Result<BindChange, BindFault>
-        ensures same { self.new.binds ≡ self.old.binds }
-        ensures ok { IfOk result (IsPlanOf (unbind_class_step class.now addr self.old.binds) self.new) }
-        ensures err { IfErr result (IsRefusal (unbind_class_step class.now addr self.old.binds)) }
+        ensures { Plans (unbind_class_step class.now addr self.old.binds) self.old self.new result }
     {
         let rows = unbind_rows(self.alloc, class, addr, &self.classes)?;
         Ok(self.plan_classes(Word::Unbound, rows)?)
@@ -139,9 +134,7 @@ impl BindBook {
     /// is `set`, or `same` where they are the local networks already. It is refused where more than
     /// 64 of them are distinct.
     pub fn plan_locals(&mut self, prefixes: &[Prefix]) -> Result<BindChange, BindFault>
-        ensures same { self.new.binds ≡ self.old.binds }
-        ensures ok { IfOk result (IsPlanOf (set_locals_step prefixes.now self.old.binds) self.new) }
-        ensures err { IfErr result (IsRefusal (set_locals_step prefixes.now self.old.binds)) }
+        ensures { Plans (set_locals_step prefixes.now self.old.binds) self.old self.new result }
     {
         prefixes_fit(prefixes);
         let found = set_locals(self.alloc, prefixes, self.locals.as_slice())?;
@@ -168,9 +161,7 @@ impl BindBook {
         requires name { IsTrue (is_name name.now) }
         requires some { 0 < ttl }
         requires most { ttl < 2 ^ 31 }
-        ensures same { self.new.binds ≡ self.old.binds }
-        ensures ok { IfOk result (IsPlanOf (observe_name_step name.now addr ttl now self.old.binds) self.new) }
-        ensures err { IfErr result (IsRefusal (observe_name_step name.now addr ttl now self.old.binds)) }
+        ensures { Plans (observe_name_step name.now addr ttl now self.old.binds) self.old self.new result }
     {
         addr_fits(addr);
         moment_fits(now);

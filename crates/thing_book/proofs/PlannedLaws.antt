@@ -1,5 +1,5 @@
 -- A plan that says what the step says is the step, in all that a planned change says and does.
-use Rattle.std.proofs.Common.{◌≡◌, ℕ, ◌≤◌, ◌<◌, ◌^◌, Bool, List, [], ◌∷◌, length, map, Option, Some, None, Result, Ok, Err, IsTrue, refl, sym, ap, subst, ◌∙◌, arith, rules}
+use Rattle.std.proofs.Common.{◌≡◌, ℕ, ◌≤◌, ◌<◌, ◌^◌, Bool, List, [], ◌∷◌, length, map, Option, Some, None, Result, Ok, Err, IsTrue, refl, sym, ap, subst, ◌∙◌, arith}
 use Rattle.std.specs.Prelude.{IfOk, IfErr, OnOk, IsOkAnd}
 use Rattle.std.specs.List.{AllByRecursion}
 use Rattle.std.specs.Option.{option_map}
@@ -152,55 +152,42 @@ module _ (things : List Thing) (sound : IsSoundThings things) (change : RowChang
 -- ---- What a call that plans answers
 
 -- what is planned can be committed
-ready_step : (step : ThingStep) (book : Things) (change : PlannedThings) → IsPlanOf step book change → IsReady book change
-ready_step (Ok after) book change planned = record { enough = planned.room; sound = subst IsSoundThings (sym planned.leads) planned.sound }
-ready_step (Err fault) book change planned = absurd planned
-
-ready : {E : Type 0} (step : ThingStep) (book : Things) (result : Result PlannedThings E) → IfOk result (IsPlanOf step book) → IfOk result (IsReady book)
-ready step book (Ok change) planned = ready_step step book change planned
-ready step book (Err fault) planned = tt
+ready : (step : ThingStep) (book : Things) (change : PlannedThings) → IsPlanOf step book change → IsReady book change
+ready (Ok after) book change planned = record { enough = planned.room; sound = subst IsSoundThings (sym planned.leads) planned.sound }
+ready (Err fault) book change planned = absurd planned
 
 -- the book as contracts see it
 abbrev book_of : RowsAndRoom Thing → Things
 book_of book = record { things = book.rows; room = book.room }
 
 module _ (step : List Thing → ThingStep) (change : List Thing → RowChange Thing) (is : (things : List Thing) → IsSoundThings things → IsStep things (change things) (step things)) where
-  abbrev IsAnswer : List Thing → RowsAndRoom Thing → PlannedThings → Type 0
-  IsAnswer old book planned = IsOkAnd (step old) (λ after. IsPlanned after (record { things = book.rows; room = book.room }) planned)
-
   answer : (things : List Thing) (room : ℕ) (plan : Plan) (planned' : PlannedThings) → IsSoundThings things → IsOkAnd (step things) (λ after. Says after (change things) plan) → planned' ≡ change_of things plan → length plan.rows.sets ≤ room
-      → IsOkAnd (step things) (λ after. IsPlanned after (record { things = things; room = room }) planned')
+      → IsPlanOf (step things) (record { things = things; room = room }) planned'
   answer things room plan planned' sound says e enough =
-      subst (λ p. IsOkAnd (step things) (λ after. IsPlanned after (record { things = things; room = room }) p)) (sym e)
+      subst (λ p. IsPlanOf (step things) (record { things = things; room = room }) p) (sym e)
       (planned things sound (change things) (step things) plan room (is things sound) says enough)
 
   pub fit : (things : List Thing) (plan : Plan) → IsSoundThings things → IsOkAnd (step things) (λ after. Says after (change things) plan) → AllByRecursion HasFewLeases plan.rows.sets
   fit things plan sound says = sets_fit things sound (change things) (step things) plan (is things sound) says
 
   moved_on : (old : List Thing) (before book : RowsAndRoom Thing) (made result : PlannedThings) → before.rows ≡ old → book.rows ≡ before.rows → made ≡ result
-      → IsOkAnd (step before.rows) (λ after. IsPlanned after (record { things = before.rows; room = book.room }) made) → IsAnswer old book result
+      → IsPlanOf (step before.rows) (record { things = before.rows; room = book.room }) made → IsPlanOf (step old) (book_of book) result
   moved_on old before book made result e same is' holds =
-      subst (λ ts. IsOkAnd (step ts) (λ after. IsPlanned after (record { things = book.rows; room = book.room }) result)) e
-      (subst (λ ts. IsOkAnd (step before.rows) (λ after. IsPlanned after (record { things = ts; room = book.room }) result)) (sym same)
-      (subst (λ p. IsOkAnd (step before.rows) (λ after. IsPlanned after (record { things = before.rows; room = book.room }) p)) is' holds))
-
-  answers : {E F : Type 0} (old : List Thing) (before book : RowsAndRoom Thing) (plan : Plan) (made : Result PlannedThings E) (result : Result PlannedThings F)
-      → before.rows ≡ old → IsSoundThings before.rows → IsOkAnd (step before.rows) (λ after. Says after (change before.rows) plan)
-      → book.rows ≡ before.rows → IfOk made (λ planned. planned ≡ change_of before.rows plan) → OnOk made (length plan.rows.sets ≤ book.room)
-      → IfOk result (λ planned. made ≡ Ok planned) → IfOk result (IsAnswer old book)
-  answers old before book plan (Ok made) (Ok result) e sound says same is' enough re = moved_on old before book made result e same (cc) (answer before.rows book.room plan made sound says is' enough)
-  answers old before book plan (Ok made) (Err fault) e sound says same is' enough re = tt
-  answers old before book plan (Err fault) (Ok result) e sound says same is' enough re = cc
-  answers old before book plan (Err fault) (Err fault') e sound says same is' enough re = tt
+      subst (λ ts. IsPlanOf (step ts) (book_of book) result) e
+      (subst (λ ts. IsPlanOf (step before.rows) (record { things = ts; room = book.room }) result) (sym same)
+      (subst (λ p. IsPlanOf (step before.rows) (record { things = before.rows; room = book.room }) p) is' holds))
 
   pub plans : {E : Type 0} (before : Things) (rows book : RowsAndRoom Thing) (plan : Plan) (made : Result PlannedThings E) (result : Result PlannedThings ThingFault)
       → book_of rows ≡ before → IsSoundThings rows.rows → IsOkAnd (step rows.rows) (λ after. Says after (change rows.rows) plan)
       → book.rows ≡ rows.rows → IfOk made (λ planned. planned ≡ change_of rows.rows plan) → OnOk made (length plan.rows.sets ≤ book.room)
       → IfOk result (λ planned. made ≡ Ok planned) → IfErr result (λ fault. fault ≡ Memory) → Plans (step before.things) before (book_of book) result
-  plans before rows book plan made result view sound says same is' enough re want =
+  plans before rows book plan (Ok made) (Ok result) view sound says same is' enough re memory =
       let old = ap (λ (b : Things). b.things) view in
-      let ok : IfOk result (IsPlanOf (step before.things) (book_of book)) = answers before.things rows book plan made result old sound says same is' enough re in
-      record { same = same ∙ old; ok = ok; ready = ready (step before.things) (book_of book) result ok; err = search rules }
+      let ok : IsPlanOf (step before.things) (book_of book) result = moved_on before.things rows book made result old same (cc) (answer rows.rows book.room plan made sound says is' enough) in
+      record { same = same ∙ old; ok = ok; ready = ready (step before.things) (book_of book) result ok; err = tt }
+  plans before rows book plan (Err fault) (Ok result) view sound says same is' enough re memory = absurd cc
+  plans before rows book plan made (Err fault) view sound says same is' enough re memory =
+      record { same = same ∙ ap (λ (b : Things). b.things) view; ok = tt; ready = tt; err = λ other. absurd (other memory) }
 
 -- ---- Each step
 

@@ -50,7 +50,7 @@ module _ (books : Books) (now : ℕ) (steps : ℕ) where
       let old : Option Policy = policy_of books.files.files change.url in
       ap (λ (fs : List CachedFile). policy_of fs change.url) (stamped_files after.changes now lists) ∙ p.policies change.url ∙ ap (λ (b : Bool). cond b new old) (same_bytes change.url change.url refl)
 
-  pub files_paid : (step : FileStep) (change : PlannedFile) → IsOkAnd step (λ after. file.IsPlanned after books.files change) → IsPaidByPolicy change.url (policy_after (policy_change change.edit) books.files.files change.url) books.compiled steps
+  pub files_paid : (step : FileStep) (change : PlannedFile) → file.IsPlanOf step books.files change → IsPaidByPolicy change.url (policy_after (policy_change change.edit) books.files.files change.url) books.compiled steps
       → IsOkAnd (by_files (desk_of books) now step) (λ after. PaysFor after.outcome.url books.compiled (desk_of books) after.desk steps)
   unfolding by_files
   files_paid (Ok after) change p most =

@@ -244,7 +244,7 @@ module _ (books : Books) (kept : AreKept books) (now : ℕ) (late : now ≤ last
         few = rows.few;
       }
 
-  pub files_planned : (step : FileStep) (change : PlannedFile) (plan : Plan) → IsOkAnd step (λ after. file.IsPlanned after books.files change) → IsFileRows (policy_change change.edit) change.url books.files.files books.compiled plan
+  pub files_planned : (step : FileStep) (change : PlannedFile) (plan : Plan) → file.IsPlanOf step books.files change → IsFileRows (policy_change change.edit) change.url books.files.files books.compiled plan
       → IsOkAnd (by_files (desk_of books) now step) (λ after. IsPlanned after books (change_of now books.stamp (which.Files change) plan))
   unfolding by_files outcome_of
   files_planned (Ok after) change plan p m =

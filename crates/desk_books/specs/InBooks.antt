@@ -9,7 +9,6 @@ use Rattle.bind_book.specs.Plans as bind
 use Rattle.thing_book.specs.Planned.{PlannedThings}
 use Rattle.file_cache.specs.Changes.{PlannedFile}
 use Rattle.bind_book.specs.Plans.{Plan}
-use Rattle.std.specs.Prelude.{IsOkAnd}
 use Rattle.desk_model.specs.declared.reply.Refusal.{Refusal}
 use Rattle.desk_model.specs.Refusals.{is_want_of_memory}
 use Rattle.desk_model.specs.DeskTables.{DeskTables}
@@ -26,7 +25,7 @@ pub record IsThingPlan (desk : DeskTables) (now : ℕ) (step : DeskStep) (lists 
 pub record IsFilePlan (desk : DeskTables) (now : ℕ) (step : DeskStep) (lists : Lists) (change : PlannedFile) : Type 0 where
   pub in_book : FileStep
   pub step_is : step ≡ by_files desk now in_book
-  pub planned : IsOkAnd in_book (λ after. file.IsPlanned after lists.files change)
+  pub planned : file.IsPlanOf in_book lists.files change
 
 pub record IsBindPlan (desk : DeskTables) (now : ℕ) (step : DeskStep) (lists : Lists) (change : Plan) : Type 0 where
   pub in_book : BindStep

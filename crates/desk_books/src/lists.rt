@@ -1,5 +1,5 @@
 //! The three books, and the plan of a command in one of them.
-ghost use Rattle.std.specs.Prelude.{◌≡◌, ℕ, Option, IfOk, IfErr, IsOkAnd};
+ghost use Rattle.std.specs.Prelude.{◌≡◌, ℕ, Option, IfOk, IfErr};
 ghost use Rattle.table_model.specs.ThingCommands.{ThingStep};
 ghost use Rattle.table_model.specs.BindCommands.{BindStep};
 ghost use Rattle.usage_tables.specs.FileCommands.{FileStep};
@@ -126,7 +126,7 @@ fn of_things(planned: Result<ThingChange, ThingFault>) -> Result<BookChange, Ref
 #[tactic(auto, using(crate::proofs::Asked::file_refused))]
 fn of_files(planned: Result<CacheChange, CacheFault>) -> Result<BookChange, Refusal>
     ensures { (desk : DeskTables) (now : ℕ) (step : FileStep) (lists : ListsValue)
-        → IfOk planned (λ change. IsOkAnd step (λ after. file.IsPlanned after lists.files change))
+        → IfOk planned (file.IsPlanOf step lists.files)
         → IfErr planned (file.IsRefusal step)
         → IsAnswerIn desk now (by_files desk now step) lists result }
 {

@@ -1,5 +1,6 @@
 pub mod Captured
 pub mod Fault
+pub mod Next
 pub mod Packets
 pub mod Parts
 pub mod Reading

@@ -2,6 +2,7 @@
 //! packet through one buffer.
 #![tactic(auto)]
 
+pub mod capture;
 pub mod fault;
 mod head;
 mod header;
@@ -9,5 +10,6 @@ mod read;
 pub mod reader;
 mod stage;
 
+pub use capture::Capture;
 pub use fault::CapFault;
 pub use reader::{Captured, Reader};

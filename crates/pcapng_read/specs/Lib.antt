@@ -1,6 +1,7 @@
 pub mod Blocks
 pub mod Fault
 pub mod Interfaces
+pub mod Next
 pub mod OptionStep
 pub mod Options
 pub mod Parts

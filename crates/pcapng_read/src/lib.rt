@@ -3,6 +3,7 @@
 #![tactic(auto)]
 
 mod body;
+pub mod capture;
 pub mod fault;
 mod head;
 mod interfaces;
@@ -11,5 +12,6 @@ mod read;
 pub mod reader;
 mod standing;
 
+pub use capture::NgCapture;
 pub use fault::NgFault;
 pub use reader::NgReader;

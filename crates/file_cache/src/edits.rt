@@ -59,59 +59,33 @@ fn approved_as(candidate: Option<Held>, approval: Approval) -> Option<(Held, App
 fn changed_row(edit: FileEdit, row: CachedFile) -> Option<CachedFile>
     ensures { result ≡ spec.changed_row edit row }
 {
-    let CachedFile {
-        url,
-        approved,
-        candidate,
-    } = row;
     match edit {
-        FileEdit::Unchanged => Some(CachedFile {
-            url,
-            approved,
-            candidate,
+        FileEdit::Unchanged => Some(row),
+        FileEdit::Offered(held) => Some(CachedFile {
+            candidate: Some(held),
+            ..row
         }),
-        FileEdit::Offered(held) => {
-            drop(candidate);
-            Some(CachedFile {
-                url,
-                approved,
-                candidate: Some(held),
-            })
-        }
         FileEdit::CandidateFetched(moment) => Some(CachedFile {
-            url,
-            approved,
-            candidate: candidate_at(candidate, moment),
+            candidate: candidate_at(row.candidate, moment),
+            ..row
         }),
         FileEdit::ApprovedFetched(moment) => Some(CachedFile {
-            url,
-            approved: approved_at(approved, moment),
-            candidate,
+            approved: approved_at(row.approved, moment),
+            ..row
         }),
-        FileEdit::Approved(approval) => {
-            drop(approved);
-            kept_row(CachedFile {
-                url,
-                approved: approved_as(candidate, approval),
-                candidate: None,
-            })
-        }
-        FileEdit::Rejected => {
-            drop(candidate);
-            kept_row(CachedFile {
-                url,
-                approved,
-                candidate: None,
-            })
-        }
-        FileEdit::Revoked => {
-            drop(approved);
-            kept_row(CachedFile {
-                url,
-                approved: None,
-                candidate,
-            })
-        }
+        FileEdit::Approved(approval) => kept_row(CachedFile {
+            approved: approved_as(row.candidate, approval),
+            candidate: None,
+            ..row
+        }),
+        FileEdit::Rejected => kept_row(CachedFile {
+            candidate: None,
+            ..row
+        }),
+        FileEdit::Revoked => kept_row(CachedFile {
+            approved: None,
+            ..row
+        }),
     }
 }
 

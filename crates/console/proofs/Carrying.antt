@@ -40,7 +40,8 @@ module _ (session after : Session) (given : ℕ) (command : Command) (said : Out
   refused refusal written is or = elim or.one [ inl same ↦ record { one = inl (inl (stands_as (Refused refusal) written is same)) } | inr wanted ↦ record { one = inl (inr (wanted, left refusal is)) } ]
 
   pub stands : (reply : desk.Reply) (written : Reply) → AllowedReply session given command reply after → IsWritten said reply written → AllowedCommand said session given command written after
-  stands (Done outcome) written may is = record { one = inl (inl (stands_as (Done outcome) written may.reply_is is)) }
-  stands (Refused refusal) written may is = refused refusal written may.reply_is is
-  stands Keeper written may is = record { one = inr (may.reply_is.0, is, may.reply_is.1) }
-  stands Memory written may is = record { one = inl (inr (is, may.reply_is)) }
+  unfolding AllowedReply
+  stands (Done outcome) written may is = record { one = inl (inl (stands_as (Done outcome) written may is)) }
+  stands (Refused refusal) written may is = refused refusal written may is
+  stands Keeper written may is = record { one = inr (may.0, is, may.1) }
+  stands Memory written may is = record { one = inl (inr (is, may)) }

@@ -39,15 +39,17 @@ raises session after now defined given is raised_to = record { one = inl (inl (�
 
 module _ (session after : Session) (now : ℕ) (frame : List ℕ) (given : Reply) where
   pub judged_so : (v : Verdict) → AllowedVerdict session now frame (Ok v) after → given ≡ reply status.Done (verdict_body v) → IsOrFailed ⊥ session (by_verdict (frame_in session now frame)) given after
-  unfolding by_verdict
-  judged_so v may is = record { one = inl (inl (ap by_verdict may.verdict_is ∙ ap (λ (r : Reply). replied r after) (sym is))) }
+  unfolding AllowedVerdict by_verdict
+  judged_so v may is = record { one = inl (inl (ap by_verdict may ∙ ap (λ (r : Reply). replied r after) (sym is))) }
 
   pub judged_not : (memory : want.Memory) → AllowedVerdict session now frame (Err memory) after → given ≡ no_storage → IsOrFailed ⊥ session (by_verdict (frame_in session now frame)) given after
-  judged_not memory may is = record { one = inl (inr (is, may.verdict_is.1)) }
+  unfolding AllowedVerdict
+  judged_not memory may is = record { one = inl (inr (is, may.1)) }
 
 -- memory was wanted for a frame
 pub noted : (session after : Session) (now : ℕ) (frame : List ℕ) (memory : want.Memory) → AllowedVerdict session now frame (Err memory) after → IsNoted session now frame
-noted session after now frame memory may = may.verdict_is.0
+unfolding AllowedVerdict
+noted session after now frame memory may = may.0
 
 -- ---- What was heard, and listings
 

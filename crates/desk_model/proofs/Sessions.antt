@@ -130,10 +130,11 @@ module _ (session : Session) (now : ℕ) where
 
   -- what holds of the session that a command leaves, and of the session as it was, holds after every answer
   after_answer : (P : Session → Type 0) (command : Command) → P session → P (command_in session now command).session → (reply : Reply) (after : Session) → AllowedReply session now command reply after → P after
-  after_answer P command old new Memory after may = subst P (sym may.reply_is) old
-  after_answer P command old new Keeper after may = subst P (sym may.reply_is.1) old
-  after_answer P command old new (Done outcome) after may = subst (λ (a : Answered). P a.session) may.reply_is new
-  after_answer P command old new (Refused refusal) after may = subst (λ (a : Answered). P a.session) may.reply_is new
+  unfolding AllowedReply
+  after_answer P command old new Memory after may = subst P (sym may) old
+  after_answer P command old new Keeper after may = subst P (sym may.1) old
+  after_answer P command old new (Done outcome) after may = subst (λ (a : Answered). P a.session) may new
+  after_answer P command old new (Refused refusal) after may = subst (λ (a : Answered). P a.session) may new
 
   pub command_sound : IsSoundSession session → (command : Command) → now ≤ last_moment → IsCommand command → (reply : Reply) (after : Session) → AllowedReply session now command reply after → IsSoundSession after
   unfolding command_in
@@ -172,8 +173,9 @@ module _ (session : Session) (now : ℕ) where
 
   -- the same of a frame
   after_verdict : (P : Session → Type 0) (frame : List ℕ) → P session → P (frame_in session now frame).session → (verdict : Result Verdict want.Memory) (after : Session) → AllowedVerdict session now frame verdict after → P after
-  after_verdict P frame old new (Ok verdict) after may = subst (λ (j : Judged). P j.session) may.verdict_is new
-  after_verdict P frame old new (Err memory) after may = subst P (sym may.verdict_is.1) old
+  unfolding AllowedVerdict
+  after_verdict P frame old new (Ok verdict) after may = subst (λ (j : Judged). P j.session) may new
+  after_verdict P frame old new (Err memory) after may = subst P (sym may.1) old
 
   pub judged_sound : IsSoundSession session → (frame : List ℕ) → now ≤ last_moment → (verdict : Result Verdict want.Memory) (after : Session) → AllowedVerdict session now frame verdict after → IsSoundSession after
   judged_sound sound frame early verdict after may = after_verdict IsSoundSession frame sound (frame_sound sound frame early) verdict after may

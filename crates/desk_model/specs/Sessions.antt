@@ -59,16 +59,13 @@ answered session now (Err refusal) = record { reply = Refused refusal; session =
 unfoldable pub command_in : Session → ℕ → Command → Answered
 command_in session now command = answered session (later session now) (command_step session.desk (later session now) command)
 
--- What may be answered: what the command answers; that memory was wanted, at any time; and that the keeper failed, where
--- the command changes a list. After these two all is as it was.
-abbrev pub ByReply : Session → ℕ → Command → Reply → Session → Type 0
-ByReply session now command Memory after = after ≡ session
-ByReply session now command Keeper after = IsOkAnd (command_step session.desk (later session now) command) (λ step. step.changes ≡ true) × (after ≡ session)
-ByReply session now command (Done outcome) after = command_in session now command ≡ record { reply = Done outcome; session = after }
-ByReply session now command (Refused refusal) after = command_in session now command ≡ record { reply = Refused refusal; session = after }
-
-pub record AllowedReply (session : Session) (now : ℕ) (command : Command) (reply : Reply) (after : Session) : Type 0 where
-  pub reply_is : ByReply session now command reply after
+-- What may be answered to a command, and the session after it: what the command answers; that memory was wanted, at any time; and
+-- that the keeper failed, where the command changes a list. After these two all is as it was.
+unfoldable pub AllowedReply : Session → ℕ → Command → Reply → Session → Type 0
+AllowedReply session now command Memory after = after ≡ session
+AllowedReply session now command Keeper after = IsOkAnd (command_step session.desk (later session now) command) (λ step. step.changes ≡ true) × (after ≡ session)
+AllowedReply session now command (Done outcome) after = command_in session now command ≡ record { reply = Done outcome; session = after }
+AllowedReply session now command (Refused refusal) after = command_in session now command ≡ record { reply = Refused refusal; session = after }
 
 -- the reply is that the keeper failed
 abbrev pub is_of_keeper : Reply → Bool
@@ -113,11 +110,8 @@ frame_in session now frame = judged session (later session now) frame (verdict_i
 abbrev pub IsNoted : Session → ℕ → List ℕ → Type 0
 IsNoted session now frame = IsSome (noted_fields (frame_of frame) (verdict_in session now frame))
 
--- What may be answered: the verdict; or that memory was wanted, where the frame is added to the history, and then all is as
--- it was.
-abbrev pub ByVerdict : Session → ℕ → List ℕ → Result Verdict want.Memory → Session → Type 0
-ByVerdict session now frame (Ok verdict) after = frame_in session now frame ≡ record { verdict = verdict; session = after }
-ByVerdict session now frame (Err memory) after = IsNoted session now frame × (after ≡ session)
-
-pub record AllowedVerdict (session : Session) (now : ℕ) (frame : List ℕ) (verdict : Result Verdict want.Memory) (after : Session) : Type 0 where
-  pub verdict_is : ByVerdict session now frame verdict after
+-- What may be answered to a frame, and the session after it: the verdict; or that memory was wanted, where the frame is added to the
+-- history, and then all is as it was.
+unfoldable pub AllowedVerdict : Session → ℕ → List ℕ → Result Verdict want.Memory → Session → Type 0
+AllowedVerdict session now frame (Ok verdict) after = frame_in session now frame ≡ record { verdict = verdict; session = after }
+AllowedVerdict session now frame (Err memory) after = IsNoted session now frame × (after ≡ session)

@@ -141,31 +141,30 @@ module _ (before mid : DeskState) (command : Command) (n : ℕ) (same : tables_o
 
     pub done : (after : DeskState) (change : PlannedChange) → IsPlannedIn change → tables_of after ≡ desk_after change (tables_of mid) → after.flows ≡ mid.flows → after.moment ≡ n
         → AllowedReply (session_of before) now command (Done change.outcome) (session_of after)
-    unfolding session_of tables_of answered_at
+    unfolding AllowedReply session_of tables_of answered_at
     done after change planned desk flows_after moment =
-        record { reply_is = here ∙ step_done (session_of before) n mid.books change (session_of after) desk (ap (λ (f : Noted). f.history) (flows_after ∙ flows)) moment (command_step (tables_of before) n command) planned }
+        here ∙ step_done (session_of before) n mid.books change (session_of after) desk (ap (λ (f : Noted). f.history) (flows_after ∙ flows)) moment (command_step (tables_of before) n command) planned
 
     pub refused : (refusal : Refusal) → mid.moment ≡ before.moment → (is_want_of_memory refusal ≡ false → command_step (tables_of before) n command ≡ Err refusal)
         → AllowedReply (session_of before) now command (reply_of refusal) (session_of mid)
-    unfolding session_of answered_at reply_of
+    unfolding AllowedReply session_of answered_at reply_of
     refused refusal moment says = by (is_want_of_memory refusal) refl
       where
         by : (b : Bool) → is_want_of_memory refusal ≡ b → AllowedReply (session_of before) now command (if b then Memory else Refused refusal) (session_of mid)
-        by true wanted = record { reply_is = same_session before mid same history moment }
-        by false spoken = record { reply_is = here ∙ step_refused (session_of before) n refusal (session_of mid) (same_session before mid same history moment) (command_step (tables_of before) n command) (says spoken) }
+        by true wanted = same_session before mid same history moment
+        by false spoken = here ∙ step_refused (session_of before) n refusal (session_of mid) (same_session before mid same history moment) (command_step (tables_of before) n command) (says spoken)
 
     pub failed : (change : PlannedChange) → IsPlannedIn change → change.batch ≢ [] → mid.moment ≡ before.moment
         → AllowedReply (session_of before) now command Keeper (session_of mid)
-    unfolding session_of later
-    failed change planned some moment = record {
-      reply_is = (
-        subst (λ k. IsOkAnd (command_step (tables_of before) k command) (λ s. s.changes ≡ true)) is (step_changes mid.books change (command_step (tables_of before) n command) planned some),
-        same_session before mid same history moment,
-      );
-    }
+    unfolding AllowedReply session_of later
+    failed change planned some moment = (
+      subst (λ k. IsOkAnd (command_step (tables_of before) k command) (λ s. s.changes ≡ true)) is (step_changes mid.books change (command_step (tables_of before) n command) planned some),
+      same_session before mid same history moment,
+    )
 
     pub wanted : mid.moment ≡ before.moment → AllowedReply (session_of before) now command Memory (session_of mid)
-    wanted moment = record { reply_is = same_session before mid same history moment }
+    unfolding AllowedReply
+    wanted moment = same_session before mid same history moment
 
 pub never_of_keeper : (refusal : Refusal) (n : ℕ) → Counts (is_of_keeper (reply_of refusal)) n n
 unfolding reply_of
@@ -201,19 +200,16 @@ module _ (before after : DeskState) (stamp n : ℕ) (frame : List ℕ) (is : n �
 
   pub judged_so : (v : Verdict) → v ≡ verdict_at (tables_of before) h n frame → after.flows.history ≡ history_after h (frame_of frame) v n → after.books ≡ before.books → after.moment ≡ n
       → IsJudged before stamp frame (Ok v) after
-  unfolding session_of frame_in later judged tables_of
-  judged_so v is_v history books moment = record {
-    verdict_is =
-        (λ i. judged (session_of before) (sym is i) frame ((verdict_here before stamp n frame is ∙ sym is_v) i))
-        ∙ (λ i. record { verdict = v; session = record { desk = desk_of (sym books i); history = sym history i; moment = sym moment i } });
-  }
+  unfolding AllowedVerdict session_of frame_in later judged tables_of
+  judged_so v is_v history books moment =
+      (λ i. judged (session_of before) (sym is i) frame ((verdict_here before stamp n frame is ∙ sym is_v) i))
+      ∙ (λ i. record { verdict = v; session = record { desk = desk_of (sym books i); history = sym history i; moment = sym moment i } })
 
   pub judged_not : (memory : want.Memory) → IsSome (noted_fields (frame_of frame) (verdict_at (tables_of before) h n frame)) → after.flows.history ≡ before.flows.history → after.books ≡ before.books → after.moment ≡ before.moment
       → IsJudged before stamp frame (Err memory) after
-  unfolding tables_of
-  judged_not memory noted history books moment = record {
-    verdict_is = (subst (λ (v : Verdict). IsSome (noted_fields (frame_of frame) v)) (sym (verdict_here before stamp n frame is)) noted, same_session before after (ap desk_of books) history moment);
-  }
+  unfolding AllowedVerdict tables_of
+  judged_not memory noted history books moment =
+      (subst (λ (v : Verdict). IsSome (noted_fields (frame_of frame) v)) (sym (verdict_here before stamp n frame is)) noted, same_session before after (ap desk_of books) history moment)
 
 -- the steps of a verdict, by the books that were lent for it
 pub steps_alike : (state : DeskState) (things : List Thing) (compiled : CompiledState) → things ≡ (tables_of state).tables.things → compiled ≡ state.books.compiled

@@ -36,13 +36,14 @@ module _ {X : Type 0} {F : X → Type 0} (members : (v : (x : X) × F x) → Gho
   Replies answer = AllowedReply (session_of before.state) command_moment command answer (session_of after.state)
 
   all_by : (answer : Reply) → Replies answer → Counts (is_of_keeper answer) (faults_of members before.keeper) (faults_of members after.keeper) → OnOk (stop_of answer) (RanAll members (command ∷ []) before after)
+  unfolding AllowedReply
   all_by (reply.Done outcome) replies cause = record {
-    session = sym (ap (λ (a : Answered). a.session) replies.reply_is);
+    session = sym (ap (λ (a : Answered). a.session) replies);
     stays = stays;
     steady = cause.steady refl;
   }
   all_by (reply.Refused refusal) replies cause = record {
-    session = sym (ap (λ (a : Answered). a.session) replies.reply_is);
+    session = sym (ap (λ (a : Answered). a.session) replies);
     stays = stays;
     steady = cause.steady refl;
   }
@@ -50,6 +51,7 @@ module _ {X : Type 0} {F : X → Type 0} (members : (v : (x : X) × F x) → Gho
   all_by reply.Memory replies cause = tt
 
   part_by : (answer : Reply) → Replies answer → Counts (is_of_keeper answer) (faults_of members before.keeper) (faults_of members after.keeper) → IfErr (stop_of answer) (λ stop. RanPart members stop (command ∷ []) before after)
+  unfolding AllowedReply
   part_by (reply.Done outcome) replies cause = tt
   part_by (reply.Refused refusal) replies cause = tt
   part_by reply.Keeper replies cause = record {
@@ -57,7 +59,7 @@ module _ {X : Type 0} {F : X → Type 0} (members : (v : (x : X) × F x) → Gho
     rest = command ∷ [];
     split = refl;
     more = λ failed. omega arith;
-    session = replies.reply_is.1;
+    session = replies.1;
     stays = stays;
     cause = cause;
   }
@@ -66,7 +68,7 @@ module _ {X : Type 0} {F : X → Type 0} (members : (v : (x : X) × F x) → Gho
     rest = command ∷ [];
     split = refl;
     more = λ failed. omega arith;
-    session = replies.reply_is;
+    session = replies;
     stays = stays;
     cause = cause;
   }

@@ -1,5 +1,5 @@
 -- What the command of a name leads to.
-use Rattle.std.proofs.Common.{◌≡◌, ℕ, false, List, [], Option, Some, Ok, Err, option_map, refl, sym, subst, ap, ◌∙◌}
+use Rattle.std.proofs.Common.{◌≡◌, ℕ, false, List, [], Option, Some, Result, Ok, Err, OnErr, option_map, refl, sym, subst, ap, ◌∙◌}
 use Rattle.std.specs.Prelude.{unwrap_or}
 use Rattle.mud_world.specs.Clock.{next_moment, later_moments}
 use Rattle.mud_world.specs.Files.{content_of, read_part}
@@ -10,6 +10,7 @@ use Rattle.desk_model.specs.declared.reply.Reply.{Reply}
 use Rattle.desk_model.specs.declared.reply.Reply.TheVariants.{Done, Refused, Keeper, Memory}
 use Rattle.desk_model.specs.Commands.{DeskStep, command_step}
 use Rattle.desk_model.specs.Sessions.{Session, Answered, answered, command_in, later, AllowedReply}
+use Rattle.run_packets.proofs.SnoopLaws.Asked.{memory_leaves}
 use Rattle.mud_cli.specs.Import.Names.{fetched_in}
 use Rattle.mud_cli.specs.Import.Entries.{is_of_memory}
 use Rattle.mud_cli.specs.Import.Imports.{ImportsEntry, octets_of}
@@ -45,11 +46,22 @@ command_history session after now command reply is =
     sym (ap (λ (a : Answered). a.session.history) is) ∙ answered_history session (later session now) (command_step session.desk (later session now) command)
 
 by_reply : (session after : Session) (now : ℕ) (command : Command) (reply : Reply) → AllowedReply session now command reply after → after.history ≡ session.history
-by_reply session after now command (Done outcome) may = command_history session after now command (Done outcome) may.reply_is
-by_reply session after now command (Refused refusal) may = command_history session after now command (Refused refusal) may.reply_is
-by_reply session after now command Keeper may = ap (λ (s : Session). s.history) may.reply_is.1
-by_reply session after now command Memory may = ap (λ (s : Session). s.history) may.reply_is
+unfolding AllowedReply
+by_reply session after now command (Done outcome) may = command_history session after now command (Done outcome) may
+by_reply session after now command (Refused refusal) may = command_history session after now command (Refused refusal) may
+by_reply session after now command Keeper may = ap (λ (s : Session). s.history) may.1
+by_reply session after now command Memory may = ap (λ (s : Session). s.history) may
 
 pub same_history : (before after : DeskState) (now : ℕ) (command : Command) (reply : Reply) → AllowedReply (session_of before) now command reply (session_of after) → after.flows.history ≡ before.flows.history
 unfolding session_of
 same_history before after now command reply may = by_reply (session_of before) (session_of after) now command reply may
+
+-- ---- A command for which memory was wanted
+
+still : {T E P : Type 0} (r : Result T E) → P → OnErr r P
+still (Ok done) p = tt
+still (Err fault) p = p
+
+-- it leaves the session
+pub still_wanted : {T E : Type 0} (r : Result T E) (session after : Session) (now : ℕ) (command : Command) (reply : Reply) → AllowedReply session now command reply after → reply ≡ Memory → OnErr r (after ≡ session)
+still_wanted r session after now command reply may is = still r (memory_leaves session now command reply after may is)

@@ -17,7 +17,8 @@ may_be_asked name row may = (rw (may.host, may.lower) ((bytes_eq-Decides name na
 
 -- want of memory leaves all as it was
 pub memory_leaves : (before : Session) (now : ℕ) (command : Command) (reply : Reply) (after : Session) → AllowedReply before now command reply after → reply ≡ Memory → after ≡ before
+unfolding AllowedReply
 memory_leaves before now command reply after may is = of reply is may
   where
     of : (reply : Reply) → reply ≡ Memory → AllowedReply before now command reply after → after ≡ before
-    of reply is may = (subst (λ (r : Reply). AllowedReply before now command r after) is may).reply_is
+    of reply is may = subst (λ (r : Reply). AllowedReply before now command r after) is may

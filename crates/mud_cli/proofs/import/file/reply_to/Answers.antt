@@ -1,7 +1,7 @@
 use Rattle.std.proofs.Common.{ap, sym, ◌∙◌}
 use Rattle.mud_cli.specs.Import.Entries.{is_of_memory}
 use Rattle.mud_cli.proofs.ImportLaws.Folders.{said_status}
-use Rattle.mud_cli.proofs.ImportLaws.Leads.{leads_on, same_history}
+use Rattle.mud_cli.proofs.ImportLaws.Leads.{leads_on, same_history, still_wanted}
 use Rattle.mud_cli.proofs.import.file.reply_to.Goals as goal
 
 pub returns-clause-leads : goal.returns-clause-leads
@@ -19,3 +19,6 @@ returns-clause-history g c = same_history c.args.desk.now.state c.command.new.se
 
 pub returns-in_err-reply-clause-history : goal.returns-in_err-reply-clause-history
 returns-in_err-reply-clause-history g c = same_history c.args.desk.now.state c.command.new.self.state _ _ _ c.command.ensures.answer
+
+pub returns-in_err-reply-clause-still : goal.returns-in_err-reply-clause-still
+returns-in_err-reply-clause-still g c = still_wanted c.from_residual-in_err-reply.result _ _ _ _ _ c.command.ensures.answer c.in_err-reply.ensures.err

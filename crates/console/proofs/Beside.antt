@@ -6,6 +6,7 @@ use Rattle.http_requests.specs.declared.fault.RequestFault.{RequestFault}
 use Rattle.http_requests.specs.declared.fault.MomentFrom.{MomentFrom}
 use Rattle.http_requests.specs.Requests.{Request, Ending, most_requests}
 use Rattle.http_requests.specs.Serving.{Served}
+use Rattle.http_requests.proofs.Serving.{exchanged_as}
 use Rattle.http_requests.specs.declared.end.ConnectionEnd.{ConnectionEnd}
 use Rattle.http_requests.specs.declared.end.ConnectionEnd.TheVariants.{Ended, Closed, Broken, Spent, ReadFailed, WriteFailed}
 use Rattle.http_requests.specs.Asked.{Asked}
@@ -52,10 +53,10 @@ module _ {S X : Type 0} (may : S → Asked → List ℕ → S → Type 0) where
     served_of : (s : S) (x : X) (t : S × X) (end : Ending) (last : List ℕ) (old new : DoorState) → Served (Runs (StepBeside may) from most_requests (s, x) t) from end last old new
         → Reaches (λ n. Served (Runs may from most_requests s n) from end last old new) x t
     served_of s x t end last old new p =
-        let on = runs_of from most_requests s x t p.requests p.answers p.run in
+        let on = runs_of from most_requests s x t p.done.requests p.done.answers p.done.run in
         record {
           is = on.is;
-          holds = record { requests = p.requests; answers = p.answers; run = on.holds; taken = p.taken; took = p.took; reads = p.reads; state = p.state };
+          holds = record { done = exchanged_as _ _ _ old new p.done on.holds; reads = p.reads };
         }
 
     by_end : (s : S) (x : X) (t : S × X) (end : ConnectionEnd) (old new : DoorState) → ServedBy (StepBeside may) refusal from end (s, x) t old new
@@ -67,53 +68,43 @@ module _ {S X : Type 0} (may : S → Asked → List ℕ → S → Type 0) where
         let on = served_of s x t _ _ old new p.served in
         record { is = on.is; holds = record { fault = p.fault; pending = p.pending; served = on.holds } }
     by_end s x t ReadFailed old new p =
-        let on = runs_of from most_requests s x t p.requests p.answers p.run in
+        let on = runs_of from most_requests s x t p.done.requests p.done.answers p.done.run in
         record {
           is = on.is;
-          holds = record { requests = p.requests; answers = p.answers; run = on.holds; end = p.end; taken = p.taken; took = p.took; reads = p.reads; state = p.state };
+          holds = record { end = p.end; done = exchanged_as _ _ _ old new p.done on.holds; reads = p.reads };
         }
     by_end s x t WriteFailed old new (inl p) =
-        let on = runs_of from most_requests s x t p.requests p.answers p.run in
+        let on = runs_of from most_requests s x t p.done.requests p.done.answers p.done.run in
         record {
           is = on.is;
           holds = inl (record {
-            requests = p.requests;
-            answers = p.answers;
-            run = on.holds;
+            piece = p.piece;
+            count = p.count;
+            part = p.part;
+            done = exchanged_as _ _ _ old new p.done on.holds;
             more = p.more;
             rest = p.rest;
             goes_on = p.goes_on;
-            piece = p.piece;
             next = p.next;
-            count = p.count;
-            part = p.part;
-            taken = p.taken;
-            took = p.took;
-            state = p.state;
           });
         }
     by_end s x t WriteFailed old new (inr p) =
-        let before = runs_of from most_requests s x p.run.0 p.requests p.answers p.run.1 in
+        let before = runs_of from most_requests s x p.done.run.0 p.done.requests p.done.answers p.done.run.1 in
         let on = runs_of from most_requests s x t _ _ p.ran in
         record {
           is = on.is;
           holds = inr (record {
-            requests = p.requests;
-            answers = p.answers;
-            run = (p.run.0.0, before.holds);
+            text = p.text;
+            count = p.count;
+            part = p.part;
+            done = exchanged_as _ _ _ old new p.done (p.done.run.0.0, before.holds);
             more = p.more;
             rest = p.rest;
             goes_on = p.goes_on;
             request = p.request;
             behind = p.behind;
             next = p.next;
-            text = p.text;
             ran = on.holds;
-            count = p.count;
-            part = p.part;
-            taken = p.taken;
-            took = p.took;
-            state = p.state;
           });
         }
 

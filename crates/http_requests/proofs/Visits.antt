@@ -10,7 +10,7 @@ use Rattle.http_requests.specs.declared.fault.RequestFault.{RequestFault}
 use Rattle.http_requests.specs.declared.fault.MomentFrom.{MomentFrom}
 use Rattle.http_requests.specs.Doors.{ReadsAndWrites}
 use Rattle.http_requests.specs.Requests.{Request, Ending}
-use Rattle.http_requests.specs.Serving.{Served}
+use Rattle.http_requests.specs.Serving.{Exchanged, Served}
 use Rattle.http_requests.specs.declared.end.ConnectionEnd.{ConnectionEnd}
 use Rattle.http_requests.specs.declared.end.ConnectionEnd.TheVariants.{Ended, Closed, Broken, Spent, ReadFailed, WriteFailed}
 use Rattle.http_requests.specs.Asked.{Asked}
@@ -50,72 +50,55 @@ Changed old new = (octets : List ℕ) × (new ≡ put_out octets (with_left new.
 module _ {S : Type 0} (may : S → Asked → List ℕ → S → Type 0) (refusal : RequestFault → List ℕ) (from : MomentFrom) where
   changed_by : (end : ConnectionEnd) (s t : S) (old new : DoorState) → ServedBy may refusal from end s t old new → Changed old new
   unfolding Changed
-  changed_by Ended s t old new x = (_, x.state)
-  changed_by Closed s t old new x = (_, x.state)
-  changed_by Broken s t old new x = (_, x.served.state)
-  changed_by Spent s t old new x = (_, x.state)
-  changed_by ReadFailed s t old new x = (_, x.state)
-  changed_by WriteFailed s t old new (inl x) = (_, x.state)
-  changed_by WriteFailed s t old new (inr x) = (_, x.state)
+  changed_by Ended s t old new x = (_, x.done.state)
+  changed_by Closed s t old new x = (_, x.done.state)
+  changed_by Broken s t old new x = (_, x.served.done.state)
+  changed_by Spent s t old new x = (_, x.done.state)
+  changed_by ReadFailed s t old new x = (_, x.done.state)
+  changed_by WriteFailed s t old new (inl x) = (_, x.done.state)
+  changed_by WriteFailed s t old new (inr x) = (_, x.done.state)
 
-  served_alone : (A : List Request → List ℕ → Type 0) (end : Ending) (last : List ℕ) (old new : DoorState) → Served A from end last old new → Served A from end last (alone (connection_here old)) (alone (connection_here new))
-  served_alone A end last old new x = record {
+  abbrev exchanged_alone : (A : List Request → List ℕ → Type 0) (last : List ℕ) (old new : DoorState) → Exchanged A last old new → Exchanged A last (alone (connection_here old)) (alone (connection_here new))
+  exchanged_alone A last old new x = record {
     requests = x.requests;
     answers = x.answers;
     run = x.run;
     taken = x.taken;
     took = x.took;
-    reads = x.reads;
     state = ap (λ (s : DoorState). alone (connection_here s)) x.state;
   }
+
+  served_alone : (A : List Request → List ℕ → Type 0) (end : Ending) (last : List ℕ) (old new : DoorState) → Served A from end last old new → Served A from end last (alone (connection_here old)) (alone (connection_here new))
+  served_alone A end last old new x = record { done = exchanged_alone A last old new x.done; reads = x.reads }
 
   alone_by : (end : ConnectionEnd) (s t : S) (old new : DoorState) → ServedBy may refusal from end s t old new → ServedBy may refusal from end s t (alone (connection_here old)) (alone (connection_here new))
   alone_by Ended s t old new x = served_alone _ _ _ old new x
   alone_by Closed s t old new x = served_alone _ _ _ old new x
   alone_by Broken s t old new x = record { fault = x.fault; pending = x.pending; served = served_alone _ _ _ old new x.served }
   alone_by Spent s t old new x = served_alone _ _ _ old new x
-  alone_by ReadFailed s t old new x = record {
-    requests = x.requests;
-    answers = x.answers;
-    run = x.run;
-    end = x.end;
-    taken = x.taken;
-    took = x.took;
-    reads = x.reads;
-    state = ap (λ (u : DoorState). alone (connection_here u)) x.state;
-  }
+  alone_by ReadFailed s t old new x = record { end = x.end; done = exchanged_alone _ _ old new x.done; reads = x.reads }
   alone_by WriteFailed s t old new (inl x) = inl (record {
-    requests = x.requests;
-    answers = x.answers;
-    run = x.run;
+    piece = x.piece;
+    count = x.count;
+    part = x.part;
+    done = exchanged_alone _ _ old new x.done;
     more = x.more;
     rest = x.rest;
     goes_on = x.goes_on;
-    piece = x.piece;
     next = x.next;
-    count = x.count;
-    part = x.part;
-    taken = x.taken;
-    took = x.took;
-    state = ap (λ (u : DoorState). alone (connection_here u)) x.state;
   })
   alone_by WriteFailed s t old new (inr x) = inr (record {
-    requests = x.requests;
-    answers = x.answers;
-    run = x.run;
+    text = x.text;
+    count = x.count;
+    part = x.part;
+    done = exchanged_alone _ _ old new x.done;
     more = x.more;
     rest = x.rest;
     goes_on = x.goes_on;
     request = x.request;
     behind = x.behind;
     next = x.next;
-    text = x.text;
     ran = x.ran;
-    count = x.count;
-    part = x.part;
-    taken = x.taken;
-    took = x.took;
-    state = ap (λ (u : DoorState). alone (connection_here u)) x.state;
   })
 
   -- ---- Connection after connection

@@ -9,26 +9,24 @@ use Rattle.http_requests.specs.Head.{IsHead}
 use Rattle.http_requests.specs.Framing.{refusal_of, leave_of}
 use Rattle.http_requests.specs.Requests.{Request, Begins, IsFault, Ending, ended, closed, spent, broken, AreRequests, GoOn, most_requests}
 
--- What was taken of the connection is requests that were answered, and then the buffer. Behind their answers `pending` was
--- written. So many more requests are answered.
-pub record SoFar (A : List Request → List ℕ → Type 0) (from : MomentFrom) (more : ℕ) (pending : List ℕ) (old new : DoorState) (buffer : List ℕ) : Type 0 where
+-- Requests were taken of the connection and answered, and behind their answers `last` was written.
+pub record Exchanged (A : List Request → List ℕ → Type 0) (last : List ℕ) (old new : DoorState) : Type 0 where
   pub requests : List Request
   pub answers : List ℕ
   pub run : A requests answers
   pub taken : List ℕ
   pub took : old.left ≡ taken ++ new.left
-  pub goes_on : GoOn from most_requests taken requests more buffer
-  pub state : new ≡ put_out (answers ++ pending) (with_left new.left old)
+  pub state : new ≡ put_out (answers ++ last) (with_left new.left old)
+
+-- What was taken of the connection is requests that were answered, and then the buffer. So many more requests are answered.
+pub record SoFar (A : List Request → List ℕ → Type 0) (from : MomentFrom) (more : ℕ) (pending : List ℕ) (old new : DoorState) (buffer : List ℕ) : Type 0 where
+  pub done : Exchanged A pending old new
+  pub goes_on : GoOn from most_requests done.taken done.requests more buffer
 
 -- The octets that were left of the connection are these requests, which were answered, and then `last` was written.
 pub record Served (A : List Request → List ℕ → Type 0) (from : MomentFrom) (end : Ending) (last : List ℕ) (old new : DoorState) : Type 0 where
-  pub requests : List Request
-  pub answers : List ℕ
-  pub run : A requests answers
-  pub taken : List ℕ
-  pub took : old.left ≡ taken ++ new.left
-  pub reads : AreRequests from most_requests old.left requests end
-  pub state : new ≡ put_out (answers ++ last) (with_left new.left old)
+  pub done : Exchanged A last old new
+  pub reads : AreRequests from most_requests old.left done.requests end
 
 -- The connection ended with a fault, which was answered.
 pub record ServedFault (A : List Request → List ℕ → Type 0) (from : MomentFrom) (refusal : RequestFault → List ℕ) (old new : DoorState) : Type 0 where
@@ -46,14 +44,9 @@ pending_of (broken fault pending) = pending
 -- A read failed. All requests of the octets that were taken were answered, and nothing else was written but the leave for a body
 -- whose head stands among them.
 pub record ServedTaken (A : List Request → List ℕ → Type 0) (from : MomentFrom) (old new : DoorState) : Type 0 where
-  pub requests : List Request
-  pub answers : List ℕ
-  pub run : A requests answers
   pub end : Ending
-  pub taken : List ℕ
-  pub took : old.left ≡ taken ++ new.left
-  pub reads : AreRequests from most_requests taken requests end
-  pub state : new ≡ put_out (answers ++ pending_of end) (with_left new.left old)
+  pub done : Exchanged A (pending_of end) old new
+  pub reads : AreRequests from most_requests done.taken done.requests end
 
 -- What is written next, where no further request is carried out: the leave for the body of the head that stands there, or the
 -- answer to the fault.
@@ -63,36 +56,26 @@ pub record IsNextPiece (from : MomentFrom) (refusal : RequestFault → List ℕ)
 
 -- A write failed, of what is written next behind the answers of the requests at the front.
 pub record FailedPiece (A : List Request → List ℕ → Type 0) (from : MomentFrom) (refusal : RequestFault → List ℕ) (old new : DoorState) : Type 0 where
-  pub requests : List Request
-  pub answers : List ℕ
-  pub run : A requests answers
-  pub more : ℕ
-  pub rest : List ℕ
-  pub goes_on : GoOn from most_requests old.left requests more rest
   pub piece : List ℕ
-  pub next : IsNextPiece from refusal rest piece
   pub count : ℕ
   pub part : count < length piece
-  pub taken : List ℕ
-  pub took : old.left ≡ taken ++ new.left
-  pub state : new ≡ put_out (answers ++ take count piece) (with_left new.left old)
+  pub done : Exchanged A (take count piece) old new
+  pub more : ℕ
+  pub rest : List ℕ
+  pub goes_on : GoOn from most_requests old.left done.requests more rest
+  pub next : IsNextPiece from refusal rest piece
 
 -- A write failed, of the text that answers one request more, which was carried out. A says what was answered before it, and B what
 -- was carried out with it.
 pub record FailedAnswer (A B : List Request → List ℕ → Type 0) (from : MomentFrom) (old new : DoorState) : Type 0 where
-  pub requests : List Request
-  pub answers : List ℕ
-  pub run : A requests answers
+  pub text : List ℕ
+  pub count : ℕ
+  pub part : count < length text
+  pub done : Exchanged A (take count text) old new
   pub more : ℕ
   pub rest : List ℕ
-  pub goes_on : GoOn from most_requests old.left requests more rest
+  pub goes_on : GoOn from most_requests old.left done.requests more rest
   pub request : Request
   pub behind : List ℕ
   pub next : Begins from rest request behind
-  pub text : List ℕ
-  pub ran : B (requests ++ request ∷ []) (answers ++ text)
-  pub count : ℕ
-  pub part : count < length text
-  pub taken : List ℕ
-  pub took : old.left ≡ taken ++ new.left
-  pub state : new ≡ put_out (answers ++ take count text) (with_left new.left old)
+  pub ran : B (done.requests ++ request ∷ []) (done.answers ++ text)

@@ -1,7 +1,7 @@
-use Rattle.std.proofs.Common.{Ok, Err, refl, ap, ◌∙◌}
+use Rattle.std.proofs.Common.{Ok, Err, refl, ap, ◌∙◌, arith, rules}
 use Rattle.http_requests.proofs.Running.{left_kept, left_more}
 use Rattle.http_requests.proofs.Stops.{more_left}
-use Rattle.http_requests.proofs.Serves.{progress_more, ended_here, closed_here, spent_here, broken_here, read_failed_here, leave_failed_here, refusal_failed_here, answer_failed_here}
+use Rattle.http_requests.proofs.Serves.{none_yet, progress_more, ended_here, closed_here, spent_here, broken_here, read_failed_here, leave_failed_here, refusal_failed_here, answer_failed_here}
 use Rattle.http_requests.proofs.serve.serve_connection.Goals as goal
 
 pub returns-in-Ok-Ended-clause-served : goal.returns-in-Ok-Ended-clause-served
@@ -54,6 +54,17 @@ returns-in-Err-answer_first-clause-served g c = λ t s k.
     answer_failed_here g.S.Service.may g.S.Service.refusal c.args.from _ _ c.requests.more s _ _ _ _ _ _ (g.S.Service.held c.answer_first.new.service) shape
     (c.requests.invariant.progress t s k) came (c.in-Err-answer_first.ensures.part t) c.requests.invariant.some
     (c.answer_first.ensures.answer c.args.from came.request came.behind came.begins came.is_shape)
+
+pub requests-init : goal.requests-init
+requests-init g c = record {
+  ready = c.requires.ready;
+  left = λ s k. search rules;
+  progress = λ t s k. none_yet g.S.Service.may g.S.Service.refusal c.args.from _ s _ _ k c.clear.ensures;
+  some = omega arith;
+  reads = refl;
+  turns = refl;
+  writes = refl;
+}
 
 pub requests-preserved : goal.requests-preserved
 requests-preserved g c = record {

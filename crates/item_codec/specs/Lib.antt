@@ -1,3 +1,4 @@
+pub mod Kinds
 pub mod Fault
 pub mod Word
 pub mod Spelling

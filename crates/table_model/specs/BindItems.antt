@@ -4,6 +4,7 @@ use Rattle.std.specs.List.{list_all}
 use Rattle.base_rows.specs.Sortable.{comes_last}
 use Rattle.mud_base.specs.declared.prefix.Prefix.{Prefix}
 use Rattle.mud_world.specs.declared.item.Item.{Item}
+use Rattle.item_codec.specs.Kinds.{class_kind, locals_kind, name_kind, stamp_kind}
 use Rattle.item_codec.specs.Spelling.{number, version}
 use Rattle.item_codec.specs.Records.{◌>>=◌, number_in, version_in, end_in, list_body, list_body_in}
 use Rattle.table_model.specs.declared.bind.Class.{Class}
@@ -15,10 +16,10 @@ use Rattle.table_model.specs.Binds.{class_key, class_row, is_sound_class, are_pr
 use Rattle.table_model.specs.Fits.{FitsLocals}
 use Rattle.table_model.specs.ItemFields.{address, address_in, expiring, expiring_in, network, network_in}
 
--- ---- Classes: kind 3; the key is 1 and the URI, or 2 and the MUD URL; the body has the addresses
+-- ---- Classes: the key is 1 and the URI, or 2 and the MUD URL; the body has the addresses
 
 unfoldable pub class_item : ClassRow → Item
-class_item row = record { kind = 3; key = class_key row; body = list_body address row.addrs }
+class_item row = record { kind = class_kind; key = class_key row; body = list_body address row.addrs }
 
 unfoldable pub class_items : List ClassRow → List Item
 class_items classes = map class_item classes
@@ -35,7 +36,7 @@ if_sound_class row = if is_sound_class row then Some row else None
 -- addresses in their order, each once
 unfoldable pub class_in : Item → Option ClassRow
 class_in item =
-    if item.kind == 3 then (do
+    if item.kind == class_kind then (do
       class ← class_of_key item.key
       addrs ← list_body_in address_in item.body
       if_sound_class (class_row class addrs)) else None
@@ -46,10 +47,10 @@ with_class_item classes item = do
   row ← class_in item
   if comes_last class_key row classes && nat_lt (length classes) most_classes then Some (classes ++ row ∷ []) else None
 
--- ---- Local networks: one item of kind 4 with the empty key for all of them, and none where there are none
+-- ---- Local networks: one item with the empty key for all of them, and none where there are none
 
 unfoldable pub locals_item : List Prefix → Item
-locals_item locals = record { kind = 4; key = []; body = list_body network locals }
+locals_item locals = record { kind = locals_kind; key = []; body = list_body network locals }
 
 unfoldable pub locals_items : List Prefix → List Item
 locals_items [] = []
@@ -64,7 +65,7 @@ if_sound_locals locals = if are_locals locals then Some locals else None
 
 unfoldable pub locals_in : Item → Option (List Prefix)
 locals_in item =
-    if item.kind == 4 && length item.key == 0 then (do
+    if item.kind == locals_kind && length item.key == 0 then (do
       locals ← list_body_in network_in item.body
       if_sound_locals locals) else None
 
@@ -73,10 +74,10 @@ unfoldable pub with_locals_item : List Prefix → Item → Option (List Prefix)
 with_locals_item [] item = locals_in item
 with_locals_item (prefix ∷ more) item = None
 
--- ---- Names: kind 5; the key is the name; the body has the addresses with their expiries
+-- ---- Names: the key is the name; the body has the addresses with their expiries
 
 unfoldable pub name_item : NameRow → Item
-name_item row = record { kind = 5; key = row.name; body = list_body expiring row.addrs }
+name_item row = record { kind = name_kind; key = row.name; body = list_body expiring row.addrs }
 
 unfoldable pub name_items : List NameRow → List Item
 name_items names = map name_item names
@@ -88,7 +89,7 @@ if_sound_name row = if is_sound_name row then Some row else None
 -- are for ever or below 2^40
 unfoldable pub name_in : Item → Option NameRow
 name_in item =
-    if item.kind == 5 then (do
+    if item.kind == name_kind then (do
       addrs ← list_body_in expiring_in item.body
       if_sound_name (name_row item.key addrs)) else None
 
@@ -98,10 +99,10 @@ with_name_item names item = do
   row ← name_in item
   if comes_last name_of row names && nat_lt (length names) most_names then Some (names ++ row ∷ []) else None
 
--- ---- The stamp, the moment of the last change: kind 6 with the empty key; the body has the moment in eight octets
+-- ---- The stamp, the moment of the last change: one item with the empty key; the body has the moment in eight octets
 
 unfoldable pub stamp_item : ℕ → Item
-stamp_item moment = record { kind = 6; key = []; body = version ++ number 8 moment }
+stamp_item moment = record { kind = stamp_kind; key = []; body = version ++ number 8 moment }
 
 unfoldable pub stamp_items : Option ℕ → List Item
 stamp_items None = []
@@ -119,7 +120,7 @@ if_moment moment = if nat_le moment 253402300799 then Some moment else None
 
 unfoldable pub stamp_in : Item → Option ℕ
 stamp_in item =
-    if item.kind == 6 && length item.key == 0 then (do
+    if item.kind == stamp_kind && length item.key == 0 then (do
       moment ← moment_of_body item.body
       if_moment moment) else None
 

@@ -2,6 +2,7 @@
 use Rattle.std.specs.Prelude.{ℕ, Bool, ◌&&◌, ◌==◌, nat_lt, is_none, List, [], ◌∷◌, ◌++◌, length, Option, Some, None, option_map, if◌then◌else◌}
 use Rattle.mud_base.specs.declared.prefix.Prefix.{Prefix}
 use Rattle.mud_world.specs.declared.item.Item.{Item}
+use Rattle.item_codec.specs.Kinds.{thing_kind, file_kind, class_kind, locals_kind, name_kind, stamp_kind}
 use Rattle.item_codec.specs.Records.{◌>>=◌}
 use Rattle.table_model.specs.declared.thing.Thing.{Thing}
 use Rattle.table_model.specs.declared.bind.ClassRow.{ClassRow}
@@ -37,15 +38,15 @@ set_names binds names = record binds { names = names }
 -- networks and the names, the local networks stand before the names, and no other kind is one of these
 unfoldable pub with_bind_item : Binds → Item → Option Binds
 with_bind_item binds item =
-    if item.kind == 3 && is_empty binds.locals && is_empty binds.names then option_map (set_classes binds) (with_class_item binds.classes item)
-    else (if item.kind == 4 && is_empty binds.names then option_map (set_locals binds) (with_locals_item binds.locals item)
-    else (if item.kind == 5 then option_map (set_names binds) (with_name_item binds.names item)
+    if item.kind == class_kind && is_empty binds.locals && is_empty binds.names then option_map (set_classes binds) (with_class_item binds.classes item)
+    else (if item.kind == locals_kind && is_empty binds.names then option_map (set_locals binds) (with_locals_item binds.locals item)
+    else (if item.kind == name_kind then option_map (set_names binds) (with_name_item binds.names item)
     else None))
 
 -- ---- Of every kind
 
--- what was taken of items of every kind: the Things (kind 1), the files (kind 2), of which these definitions know no more
--- than how one is taken, the classes, local networks and names (kinds 3 to 5), and the stamp (kind 6)
+-- what was taken of items of every kind: the Things, the files, of which these definitions know no more than
+-- how one is taken, the classes, local networks and names, and the stamp
 pub record Kept (F : Type 0) : Type 0 where
   pub things : List Thing
   pub files : F
@@ -59,8 +60,8 @@ have_none binds = is_empty binds.classes && is_empty binds.locals && is_empty bi
 -- own kind that it may follow, and before those of every later kind; other kinds than these six are no records
 unfoldable pub with_item : {F : Type 0} → (F → Item → Option F) → (F → Bool) → Kept F → Item → Option (Kept F)
 with_item with_file no_file kept item =
-    if item.kind == 1 && no_file kept.files && have_none kept.binds && is_none kept.stamp then option_map (λ things. record kept { things = things }) (with_thing_item kept.things item)
-    else (if item.kind == 2 && have_none kept.binds && is_none kept.stamp then option_map (λ files. record kept { files = files }) (with_file kept.files item)
-    else (if nat_lt 2 item.kind && nat_lt item.kind 6 && is_none kept.stamp then option_map (λ binds. record kept { binds = binds }) (with_bind_item kept.binds item)
-    else (if item.kind == 6 then option_map (λ moment. record kept { stamp = Some moment }) (with_stamp_item kept.stamp item)
+    if item.kind == thing_kind && no_file kept.files && have_none kept.binds && is_none kept.stamp then option_map (λ things. record kept { things = things }) (with_thing_item kept.things item)
+    else (if item.kind == file_kind && have_none kept.binds && is_none kept.stamp then option_map (λ files. record kept { files = files }) (with_file kept.files item)
+    else (if nat_lt file_kind item.kind && nat_lt item.kind stamp_kind && is_none kept.stamp then option_map (λ binds. record kept { binds = binds }) (with_bind_item kept.binds item)
+    else (if item.kind == stamp_kind then option_map (λ moment. record kept { stamp = Some moment }) (with_stamp_item kept.stamp item)
     else None)))

@@ -3,6 +3,7 @@ use Rattle.std.specs.Prelude.{◌≡◌, ℕ, Bool, true, false, not, ◌&&◌, 
 use Rattle.std.specs.List.{list_any}
 use Rattle.base_rows.specs.Sortable.{comes_last}
 use Rattle.mud_world.specs.declared.item.Item.{Item}
+use Rattle.item_codec.specs.Kinds.{thing_kind}
 use Rattle.item_codec.specs.Spelling.{number, string, version_of}
 use Rattle.item_codec.specs.Records.{Reading, ◌>>=◌, number_in, string_in, version_to_in, end_in, optional, optional_in, elements, elements_in}
 use Rattle.table_model.specs.declared.thing.Thing.{Thing}
@@ -10,7 +11,7 @@ use Rattle.table_model.specs.Limits.{most_things}
 use Rattle.table_model.specs.Things.{mac_of, holds, is_sound_thing, IsKeptThing}
 use Rattle.table_model.specs.ItemFields.{expiring, expiring_in}
 
--- ---- An item of kind 1: its key is the hardware address, and its body is of the version 2 or 1
+-- ---- The item of a Thing: its key is the hardware address, and its body is of the version 2 or 1
 
 -- what both versions say: the URL, the URL that waits or none, and the leases
 unfoldable pub thing_fields : Thing → List ℕ
@@ -25,14 +26,14 @@ unfoldable pub thing_body : Thing → List ℕ
 thing_body thing = version_of 2 ++ (thing_fields thing ++ hold_octet thing.held)
 
 unfoldable pub thing_item : Thing → Item
-thing_item thing = record { kind = 1; key = thing.mac.0; body = thing_body thing }
+thing_item thing = record { kind = thing_kind; key = thing.mac.0; body = thing_body thing }
 
 unfoldable pub thing_items : List Thing → List Item
 thing_items things = map thing_item things
 
 -- version 1 says that the Thing isn't held
 unfoldable pub first_thing_item : Thing → Item
-first_thing_item thing = record { kind = 1; key = thing.mac.0; body = version_of 1 ++ thing_fields thing }
+first_thing_item thing = record { kind = thing_kind; key = thing.mac.0; body = version_of 1 ++ thing_fields thing }
 
 -- ---- Reading one
 
@@ -61,7 +62,7 @@ if_sound_thing thing = if is_sound_thing thing then Some thing else None
 -- the order of their addresses, each address once, with expiries that are for ever or below 2^40
 unfoldable pub thing_in : Item → Option Thing
 thing_in item =
-    if item.kind == 1 && length item.key == 6 then (do
+    if item.kind == thing_kind && length item.key == 6 then (do
       thing ← thing_of item.key item.body
       if_sound_thing thing) else None
 

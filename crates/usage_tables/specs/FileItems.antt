@@ -4,6 +4,7 @@ use Rattle.base_rows.specs.Sortable.{comes_last}
 use Rattle.mud_world.specs.declared.item.Item.{Item}
 use Rattle.mud_world.specs.declared.item.Put.{Put}
 use Rattle.mud_world.specs.Items.{set_put, gone_put}
+use Rattle.item_codec.specs.Kinds.{file_kind}
 use Rattle.item_codec.specs.Spelling.{number, string, version}
 use Rattle.item_codec.specs.Records.{Reading, ◌>>=◌, number_in, string_in, version_in, end_in, optional, optional_in}
 use Rattle.usage_tables.specs.declared.approval.Approval.{Approval}
@@ -15,7 +16,7 @@ use Rattle.usage_tables.specs.Limits.{most_files, most_policy_entries}
 use Rattle.usage_tables.specs.Files.{url_of, file_at, approved_entries, entry_count, is_sound_file, IsKeptFile}
 use Rattle.usage_tables.specs.FileEdits.{edited_row, is_change}
 
--- ---- An item of kind 2: its key is the URL
+-- ---- The item of a URL: its key is the URL
 
 -- 1 verified, 2 waived
 unfoldable pub approval_number : Approval → ℕ
@@ -37,7 +38,7 @@ unfoldable pub file_body : Option (HeldFile × Approval) → Option HeldFile →
 file_body approved candidate = version ++ (optional approved_fields approved ++ optional held_fields candidate)
 
 unfoldable pub file_item : CachedFile → Item
-file_item row = record { kind = 2; key = row.url; body = file_body row.approved row.candidate }
+file_item row = record { kind = file_kind; key = row.url; body = file_body row.approved row.candidate }
 
 unfoldable pub file_items : List CachedFile → List Item
 file_items files = map file_item files
@@ -85,7 +86,7 @@ if_sound_file row = if is_sound_file row then Some row else None
 -- verified one has a signature, and a candidate beside an approved file has other octets and isn't older
 unfoldable pub file_in : Item → Option CachedFile
 file_in item =
-    if item.kind == 2 then (do
+    if item.kind == file_kind then (do
       row ← row_of item.key item.body
       if_sound_file row) else None
 
@@ -116,7 +117,7 @@ pub record IsFileItem (item : Item) (row : CachedFile) : Type 0 where
 
 -- the put of a URL's row, or of none
 unfoldable pub row_put : List ℕ → Option CachedFile → Put
-row_put url None = gone_put 2 url
+row_put url None = gone_put file_kind url
 row_put url (Some row) = set_put file_item row
 
 -- an edit puts the row that it makes, where it changes something

@@ -5,3 +5,4 @@ pub mod Keys
 pub mod Match
 pub mod SortKeys
 pub mod Policies
+pub mod TcpFlags

@@ -10,6 +10,7 @@ pub mod first_match;
 pub mod matching;
 pub mod ruling;
 pub mod sort_key;
+pub mod tcp_flag;
 
 pub use binding::{Binding, MemberKey, same_key};
 pub use defaults::default_entry;
@@ -17,3 +18,4 @@ pub use entry::{Action, Entry, Layer, Policy, PortTest, Selector};
 pub use matching::{is_in_family, near_matches, peer_of, rest_matches};
 pub use ruling::{DefaultRule, Ruling, Why};
 pub use sort_key::{BoundKey, KeyText, order_keys};
+pub use tcp_flag::TcpFlag;

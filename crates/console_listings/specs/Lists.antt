@@ -1,14 +1,7 @@
 -- JSON lists (RFC 8259, 5), with no space.
-use Rattle.std.specs.Prelude.{ℕ, ◌==◌, List, [], ◌∷◌, ◌++◌, flat_map, codes, if◌then◌else◌}
+use Rattle.std.specs.Prelude.{ℕ, ◌==◌, List, [], ◌++◌, codes, if◌then◌else◌}
 use Rattle.json.specs.Print.{quoted}
-
-abbrev pub behind_comma : {A : Type 0} → (A → List ℕ) → A → List ℕ
-behind_comma text a = codes "," ++ text a
-
--- the elements with commas between them
-abbrev pub items_text : {A : Type 0} → (A → List ℕ) → List A → List ℕ
-items_text text [] = []
-items_text text (a ∷ more) = text a ++ flat_map (behind_comma text) more
+use Rattle.text_values.specs.Lists.{with_commas}
 
 unfoldable pub comma_before : ℕ → List ℕ
 comma_before index = if index == 0 then [] else codes ","
@@ -18,7 +11,7 @@ unfoldable pub element_text : {A : Type 0} → (A → List ℕ) → ℕ → A �
 element_text text index a = comma_before index ++ text a
 
 unfoldable pub list_text : {A : Type 0} → (A → List ℕ) → List A → List ℕ
-list_text text rows = codes "[" ++ items_text text rows ++ codes "]"
+list_text text rows = codes "[" ++ with_commas text rows ++ codes "]"
 
 -- the object whose one member is the list
 unfoldable pub listing_body : {A : Type 0} → (A → List ℕ) → List ℕ → List A → List ℕ

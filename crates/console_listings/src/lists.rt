@@ -1,5 +1,6 @@
 //! JSON lists of rows, and listings.
 ghost use Rattle.std.specs.Prelude.{◌≡◌, ◌++◌, [], OnOk, IfOk};
+ghost use Rattle.text_values.specs.Lists.{with_commas};
 ghost use Rattle.console_listings.specs.Lists as spec;
 
 use console_answers::append_quoted;
@@ -43,9 +44,9 @@ fn append_element<T: JsonRow>(
 }
 
 /// Adds the elements of a list, with commas between them.
-#[tactic(auto, using(crate::proofs::Elements::items_next, crate::proofs::Elements::items_all))]
+#[tactic(auto, unfolding(text_values::specs::Lists::with_commas), using(crate::proofs::Elements::items_next, crate::proofs::Elements::items_all))]
 fn append_items<T: JsonRow>(alloc: Global, body: &mut Bytes, rows: &[T]) -> Result<(), Memory>
-    ensures { OnOk result (body.new ≡ body.old ++ spec.items_text T.text rows.now) }
+    ensures { OnOk result (body.new ≡ body.old ++ with_commas T.text rows.now) }
 {
     'rows: for (index, row) in rows.iter().enumerate() {
         append_element(alloc, body, index, row)?;

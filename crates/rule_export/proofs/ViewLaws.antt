@@ -50,7 +50,8 @@ use Rattle.rule_export.specs.Networks.{has_near, near_networks}
 use Rattle.rule_export.specs.Listed.{ListItem, item_of, list_item, covers, items_from, table_addrs, addr_network, is_listed, addr_networks, listed_networks, listed_items, listed_file, listed_default, listed_of}
 use Rattle.rule_export.specs.Resolved.{Wanted, is_wanted, host_network, wanted_networks, member_networks, entry_networks, entry_items, part_items, file_items, default_rule, resolved_of}
 use Rattle.rule_export.specs.Ruling.{entry_of}
-use Rattle.rule_export.specs.Text.{item_text, behind_comma, with_commas, listed_text, resolved_text}
+use Rattle.text_values.specs.Lists.{behind_comma, with_commas}
+use Rattle.rule_export.specs.Text.{item_text, listed_text, resolved_text}
 use Rattle.rule_export.proofs.NetworkLaws.{any-in_order, in_order_alike}
 use Rattle.rule_export.proofs.EntryLaws.{any-filter, any_member}
 use Rattle.rule_export.proofs.StandingLaws.{network_of, any_listed}

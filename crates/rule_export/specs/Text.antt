@@ -1,11 +1,12 @@
 -- The text of the items of access lists in the exchange form (RFC 8519, 4.1; RFC 7951): compact JSON.
-use Rattle.std.specs.Prelude.{ℕ, List, [], ◌∷◌, ◌++◌, flat_map, codes, decimal}
+use Rattle.std.specs.Prelude.{ℕ, List, [], ◌++◌, codes, decimal}
 use Rattle.std.specs.Option.{option_map_or}
 use Rattle.mud_base.specs.declared.addr.Family.{Family}
 use Rattle.mud_base.specs.declared.packet.Direction.{Direction}
 use Rattle.acl_model.specs.declared.ruling.DefaultRule.TheVariants.{Dns, Ntp}
 use Rattle.acl_model.specs.declared.entry.Entry.{Entry}
 use Rattle.acl_rows.specs.View.{View}
+use Rattle.text_values.specs.Lists.{with_commas}
 use Rattle.rule_export.specs.Tests.{entry_text}
 use Rattle.rule_export.specs.declared.item.RuleNumber.{RuleNumber}
 use Rattle.rule_export.specs.declared.item.RuleNumber.TheVariants as rule
@@ -29,14 +30,6 @@ unfoldable pub item_text : Direction → Family → Resolved → Entry → List 
 item_text side family item entry = entry_text family side item.network (item_name item) entry
 
 -- ---- Lists
-
-abbrev pub behind_comma : {A : Type 0} → (A → List ℕ) → A → List ℕ
-behind_comma text a = codes "," ++ text a
-
--- the texts of these, with commas between them
-unfoldable pub with_commas : {A : Type 0} → (A → List ℕ) → List A → List ℕ
-with_commas text [] = []
-with_commas text (first ∷ later) = text first ++ flat_map (behind_comma text) later
 
 unfoldable pub listed_text : Direction → Family → ListItem → List ℕ
 listed_text side family listed = item_text side family listed.item listed.entry

@@ -2,80 +2,9 @@
 ghost use Rattle.std.specs.Prelude.{◌≡◌, ◌≤◌, ◌++◌, ◌&&◌, true, not, OnOk, IfOk};
 ghost use Rattle.rule_export.specs.Flags as spec;
 
+use acl_model::TcpFlag;
+use acl_model::tcp_flag::{all_flags, bit_of, word_of};
 use mud_base::{Bytes, Memory};
-
-/// A flag of the TCP header (RFC 9293, 3.1).
-#[derive(Clone, Copy, Debug, PartialEq, Eq)]
-pub enum TcpFlag {
-    /// `cwr`, 128.
-    Cwr,
-    /// `ece`, 64.
-    Ece,
-    /// `urg`, 32.
-    Urg,
-    /// `ack`, 16.
-    Ack,
-    /// `psh`, 8.
-    Psh,
-    /// `rst`, 4.
-    Rst,
-    /// `syn`, 2.
-    Syn,
-    /// `fin`, 1.
-    Fin,
-}
-
-/// The flags, from the highest bit of the octet to the lowest.
-#[tactic(auto, unfolding(crate::specs::Flags::all_flags))]
-fn all_flags() -> [TcpFlag; 8]
-    ensures { result ≡ spec.all_flags }
-{
-    [
-        TcpFlag::Cwr,
-        TcpFlag::Ece,
-        TcpFlag::Urg,
-        TcpFlag::Ack,
-        TcpFlag::Psh,
-        TcpFlag::Rst,
-        TcpFlag::Syn,
-        TcpFlag::Fin,
-    ]
-}
-
-/// The word that names a flag.
-#[tactic(auto, unfolding(crate::specs::Flags::word_of))]
-fn word_of(flag: TcpFlag) -> &'static [u8]
-    ensures { result.now ≡ spec.word_of flag }
-{
-    match flag {
-        TcpFlag::Cwr => b"cwr",
-        TcpFlag::Ece => b"ece",
-        TcpFlag::Urg => b"urg",
-        TcpFlag::Ack => b"ack",
-        TcpFlag::Psh => b"psh",
-        TcpFlag::Rst => b"rst",
-        TcpFlag::Syn => b"syn",
-        TcpFlag::Fin => b"fin",
-    }
-}
-
-/// What a flag stands for in the octet.
-#[tactic(auto, unfolding(crate::specs::Flags::bit_of))]
-fn bit_of(flag: TcpFlag) -> u8
-    ensures value { result ≡ spec.bit_of flag }
-    ensures some { 1 ≤ result }
-{
-    match flag {
-        TcpFlag::Cwr => 128,
-        TcpFlag::Ece => 64,
-        TcpFlag::Urg => 32,
-        TcpFlag::Ack => 16,
-        TcpFlag::Psh => 8,
-        TcpFlag::Rst => 4,
-        TcpFlag::Syn => 2,
-        TcpFlag::Fin => 1,
-    }
-}
 
 /// Whether a flag is set in the octet.
 #[tactic(auto, unfolding(crate::specs::Flags::is_set))]
@@ -98,7 +27,7 @@ fn append_flag(line: &mut Bytes, first: bool, octet: u8, flag: TcpFlag) -> Resul
     if !first {
         line.append(b" ")?;
     }
-    line.append(word_of(flag))?;
+    line.append(word_of(flag).as_bytes())?;
     Ok(false)
 }
 

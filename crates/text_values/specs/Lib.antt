@@ -1,4 +1,5 @@
 pub mod Added
 pub mod Faults
+pub mod Lists
 pub mod Numbers
 pub mod Paths

@@ -1,44 +1,20 @@
 -- Texts that name flags of TCP (RFC 8519, 4.2, `flags`; RFC 7950, 9.7.2).
-use Rattle.std.specs.Prelude.{ℕ, Bool, false, not, ◌&&◌, ◌||◌, ◌==◌, ◌-◌, nat_lt, List, [], ◌∷◌, length, map, sum, slice_index, codes, bytes_eq, Option, Some, None, if◌then◌else◌}
+use Rattle.std.specs.Prelude.{ℕ, Bool, false, not, ◌&&◌, ◌||◌, ◌==◌, ◌-◌, nat_lt, List, [], ◌∷◌, length, map, sum, slice_index, bytes_eq, Option, Some, None, if◌then◌else◌}
 use Rattle.std.specs.List.{list_any, list_all, filter, slice_split}
 use Rattle.serde_json.specs.Data.{Data}
+use Rattle.acl_model.specs.declared.tcp_flag.TcpFlag.{TcpFlag}
+use Rattle.acl_model.specs.TcpFlags.{all_flags, word_of, bit_of}
 use Rattle.usage_walk.specs.declared.fault.Rule.TheVariants as rule
 use Rattle.usage_walk.specs.declared.member.Member.{Member}
 use Rattle.usage_walk.specs.Reading.{Reading}
-use Rattle.usage_match.specs.declared.tcp_flag.TcpFlag.{TcpFlag}
-use Rattle.usage_match.specs.declared.tcp_flag.TcpFlag.TheVariants.{Cwr, Ece, Urg, Ack, Psh, Rst, Syn, Fin}
 use Rattle.usage_match.specs.Texts.{meant_where_there}
-
-unfoldable pub flags : List TcpFlag
-flags = Cwr ∷ Ece ∷ Urg ∷ Ack ∷ Psh ∷ Rst ∷ Syn ∷ Fin ∷ []
-
-unfoldable pub word_of : TcpFlag → List ℕ
-word_of Cwr = codes "cwr"
-word_of Ece = codes "ece"
-word_of Urg = codes "urg"
-word_of Ack = codes "ack"
-word_of Psh = codes "psh"
-word_of Rst = codes "rst"
-word_of Syn = codes "syn"
-word_of Fin = codes "fin"
-
--- what a flag stands for in the octet (RFC 9293, 3.1)
-unfoldable pub bit_of : TcpFlag → ℕ
-bit_of Cwr = 128
-bit_of Ece = 64
-bit_of Urg = 32
-bit_of Ack = 16
-bit_of Psh = 8
-bit_of Rst = 4
-bit_of Syn = 2
-bit_of Fin = 1
 
 -- what stands between the spaces of a text: words, and nothing where two spaces follow one another
 unfoldable pub pieces : List ℕ → List (List ℕ)
 pieces text = slice_split (λ c. c == 32) text
 
 unfoldable pub is_flag : List ℕ → Bool
-is_flag word = list_any (λ f. bytes_eq (word_of f) word) flags
+is_flag word = list_any (λ f. bytes_eq (word_of f) word) all_flags
 
 unfoldable pub is_piece : List ℕ → Bool
 is_piece piece = length piece == 0 || is_flag piece
@@ -52,7 +28,7 @@ unfoldable pub times : List ℕ → TcpFlag → ℕ
 times text f = length (filter (λ piece. bytes_eq piece (word_of f)) (pieces text))
 
 unfoldable pub has_repeat : List ℕ → Bool
-has_repeat text = list_any (λ f. nat_lt 1 (times text f)) flags
+has_repeat text = list_any (λ f. nat_lt 1 (times text f)) all_flags
 
 unfoldable pub begins_with_space : List ℕ → Bool
 begins_with_space [] = false
@@ -70,7 +46,7 @@ bit_where_named text f = if nat_lt 0 (times text f) then bit_of f else 0
 
 -- the octet of flags in which those that the text names are set, and no other
 unfoldable pub octet_of : List ℕ → ℕ
-octet_of text = sum (map (bit_where_named text) flags)
+octet_of text = sum (map (bit_where_named text) all_flags)
 
 unfoldable pub flags_in : List ℕ → Option ℕ
 flags_in text = if is_flag_text text then Some (octet_of text) else None

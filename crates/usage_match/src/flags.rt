@@ -2,69 +2,20 @@
 ghost use Rattle.std.specs.Prelude.{◌≡◌, ◌≤◌};
 ghost use Rattle.serde_json.specs.View.{view};
 ghost use Rattle.mud_base.specs.Readings.{Gives};
+ghost use Rattle.acl_model.specs.TcpFlags.{bit_of};
 ghost use Rattle.usage_match.specs.Flags as spec;
 
-use crate::tcp_flag::TcpFlag;
 use crate::texts::{meant, text_of};
+use acl_model::TcpFlag;
+use acl_model::tcp_flag::{all_flags, bit_of, word_of};
 use usage_walk::{FileFault, Rule, Spot};
-
-/// The flags.
-#[tactic(auto, unfolding(crate::specs::Flags::flags))]
-fn flags() -> [TcpFlag; 8]
-    ensures { result ≡ spec.flags }
-{
-    [
-        TcpFlag::Cwr,
-        TcpFlag::Ece,
-        TcpFlag::Urg,
-        TcpFlag::Ack,
-        TcpFlag::Psh,
-        TcpFlag::Rst,
-        TcpFlag::Syn,
-        TcpFlag::Fin,
-    ]
-}
-
-/// The word that names a flag.
-#[tactic(auto, unfolding(crate::specs::Flags::word_of))]
-fn word_of(flag: TcpFlag) -> &'static str
-    ensures { result.now ≡ spec.word_of flag }
-{
-    match flag {
-        TcpFlag::Cwr => "cwr",
-        TcpFlag::Ece => "ece",
-        TcpFlag::Urg => "urg",
-        TcpFlag::Ack => "ack",
-        TcpFlag::Psh => "psh",
-        TcpFlag::Rst => "rst",
-        TcpFlag::Syn => "syn",
-        TcpFlag::Fin => "fin",
-    }
-}
-
-/// What a flag stands for in the octet.
-#[tactic(auto, unfolding(crate::specs::Flags::bit_of))]
-fn bit_of(flag: TcpFlag) -> u8
-    ensures { result ≡ spec.bit_of flag }
-{
-    match flag {
-        TcpFlag::Cwr => 128,
-        TcpFlag::Ece => 64,
-        TcpFlag::Urg => 32,
-        TcpFlag::Ack => 16,
-        TcpFlag::Psh => 8,
-        TcpFlag::Rst => 4,
-        TcpFlag::Syn => 2,
-        TcpFlag::Fin => 1,
-    }
-}
 
 /// Whether a word names a flag.
 #[tactic(auto, unfolding(crate::specs::Flags::is_flag))]
 fn is_flag(word: &str) -> bool
     ensures { result ≡ spec.is_flag word.now }
 {
-    flags().iter().any(|flag| word_of(*flag) == word)
+    all_flags().iter().any(|flag| word_of(*flag) == word)
 }
 
 /// Whether what stands between two spaces is a flag or nothing.
@@ -100,7 +51,7 @@ fn times(text: &str, flag: TcpFlag) -> usize
 fn has_repeat(text: &str) -> bool
     ensures { result ≡ spec.has_repeat text.now }
 {
-    flags().iter().any(|flag| times(text, *flag) > 1)
+    all_flags().iter().any(|flag| times(text, *flag) > 1)
 }
 
 /// Whether a text begins with a space.
@@ -147,7 +98,7 @@ fn is_flag_text(text: &str) -> bool
 #[tactic(auto, unfolding(crate::specs::Flags::bit_where_named))]
 fn bit_where_named(text: &str, flag: TcpFlag) -> u8
     ensures bit { result ≡ spec.bit_where_named text.now flag }
-    ensures most { result ≤ spec.bit_of flag }
+    ensures most { result ≤ bit_of flag }
 {
     if times(text, flag) > 0 {
         bit_of(flag)
@@ -157,7 +108,7 @@ fn bit_where_named(text: &str, flag: TcpFlag) -> u8
 }
 
 /// The octet of flags in which those that a text names are set, and no other.
-#[tactic(auto, unfolding(crate::specs::Flags::octet_of, crate::specs::Flags::flags, crate::specs::Flags::bit_of))]
+#[tactic(auto, unfolding(crate::specs::Flags::octet_of, acl_model::specs::TcpFlags::all_flags, acl_model::specs::TcpFlags::bit_of))]
 fn octet_of(text: &str) -> u8
     ensures { result ≡ spec.octet_of text.now }
 {

@@ -7,7 +7,6 @@ pub mod entry_tests;
 mod flags;
 pub mod matches;
 mod ports;
-mod tcp_flag;
 mod texts;
 mod ways;
 

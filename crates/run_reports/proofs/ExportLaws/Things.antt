@@ -30,7 +30,8 @@ use Rattle.run_common.specs.Output.{Output, WroteFirst}
 use Rattle.run_common.specs.Moments.{listing_moment}
 use Rattle.rule_export.specs.Listed.{listed_of}
 use Rattle.rule_export.specs.Resolved.{wanted, resolved_of}
-use Rattle.rule_export.specs.Text.{listed_text, resolved_text, with_commas}
+use Rattle.text_values.specs.Lists.{with_commas}
+use Rattle.rule_export.specs.Text.{listed_text, resolved_text}
 use Rattle.rule_export.proofs.ViewLaws.{same_text}
 use Rattle.run_reports.specs.declared.export.lists.ListName.{ListName}
 use Rattle.run_reports.specs.declared.export.lists.ListName.TheVariants.{FromV4, FromV6, ToV4, ToV6}

@@ -8,7 +8,8 @@ use Rattle.table_model.specs.declared.thing.Thing.{Thing}
 use Rattle.desk_model.specs.DeskTables.{DeskTables}
 use Rattle.desk_model.specs.Verdicts.{policy_at}
 use Rattle.rule_export.specs.Listed.{ListItem, listed_of}
-use Rattle.rule_export.specs.Text.{listed_text, with_commas}
+use Rattle.text_values.specs.Lists.{with_commas}
+use Rattle.rule_export.specs.Text.{listed_text}
 use Rattle.run_reports.specs.declared.export.lists.ListName.{ListName}
 use Rattle.run_reports.specs.declared.export.lists.ListName.TheVariants.{FromV4, FromV6, ToV4, ToV6}
 

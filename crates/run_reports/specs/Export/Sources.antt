@@ -14,7 +14,8 @@ use Rattle.desk_model.specs.DeskTables.{DeskTables}
 use Rattle.desk_model.specs.Verdicts.{policy_at, desk_bindings}
 use Rattle.rule_export.specs.declared.item.Resolved.{Resolved}
 use Rattle.rule_export.specs.Resolved.{wanted, resolved_of}
-use Rattle.rule_export.specs.Text.{resolved_text, with_commas}
+use Rattle.text_values.specs.Lists.{with_commas}
+use Rattle.rule_export.specs.Text.{resolved_text}
 use Rattle.run_reports.specs.declared.export.lists.ListName.{ListName}
 use Rattle.run_reports.specs.declared.export.lists.ListName.TheVariants.{FromV4, FromV6, ToV4, ToV6}
 use Rattle.run_reports.specs.Export.Lists.{family_of, front_of, back_of, all_lists, empty_lists}

@@ -5,7 +5,8 @@ ghost use Rattle.mud_world.specs.Door.{put_out};
 ghost use Rattle.run_common.specs.Ends.{IsStoppedWriting};
 ghost use Rattle.run_common.specs.Output.{WroteFirst};
 ghost use Rattle.run_common.specs.Stops.{has_failed};
-ghost use Rattle.rule_export.specs.Text.{resolved_text, behind_comma, items_text};
+ghost use Rattle.text_values.specs.Lists.{behind_comma};
+ghost use Rattle.rule_export.specs.Text.{resolved_text, items_text};
 ghost use Rattle.run_reports.specs.Export.Sources.{source_text, sources_text};
 ghost use Rattle.run_reports.specs.Export.Lists as spec;
 
@@ -78,7 +79,7 @@ fn write_later<D: Door>(
 }
 
 /// Writes items, with commas between them.
-#[tactic(auto, unfolding(rule_export::specs::Text::with_commas))]
+#[tactic(auto, unfolding(text_values::specs::Lists::with_commas))]
 fn write_items<D: Door>(
     alloc: Global,
     door: &mut D,

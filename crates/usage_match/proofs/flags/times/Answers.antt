@@ -2,7 +2,8 @@ use Rattle.std.proofs.Common.{ap, ◌∙◌, bytes_eq, lit<, rules, tests}
 use Rattle.std.specs.Str.Iter.{split_text, split_has_more, split_pattern}
 use Rattle.std.proofs.lemmas.Iterator.Consumers.{count_from_yields_List, YieldsList-from_filter}
 use Rattle.std.proofs.lemmas.Iterator.Splits.{YieldsList-from_str_split}
-use Rattle.usage_match.specs.Flags.{times, pieces, word_of}
+use Rattle.acl_model.specs.TcpFlags.{word_of}
+use Rattle.usage_match.specs.Flags.{times, pieces}
 use Rattle.usage_match.proofs.flags.times.Goals as goal
 
 pub returns : goal.returns

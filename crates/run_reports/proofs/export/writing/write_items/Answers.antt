@@ -2,7 +2,8 @@ use Rattle.std.proofs.Common.{List, sym, subst, OnErr}
 use Rattle.std.specs.Prelude.{flat_map}
 use Rattle.run_common.specs.Output.{WroteFirst}
 use Rattle.rule_export.specs.declared.item.Resolved.{Resolved}
-use Rattle.rule_export.specs.Text.{resolved_text, behind_comma, items_text, with_commas}
+use Rattle.text_values.specs.Lists.{behind_comma, with_commas}
+use Rattle.rule_export.specs.Text.{resolved_text, items_text}
 use Rattle.run_common.proofs.Written.{part_of_second}
 use Rattle.run_reports.proofs.ExportLaws.Results.{err_then}
 use Rattle.run_reports.proofs.export.writing.write_items.Goals as goal

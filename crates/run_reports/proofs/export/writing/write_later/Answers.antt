@@ -1,5 +1,6 @@
 use Rattle.std.proofs.Common.{refl, rules}
-use Rattle.rule_export.specs.Text.{behind_comma, resolved_text}
+use Rattle.text_values.specs.Lists.{behind_comma}
+use Rattle.rule_export.specs.Text.{resolved_text}
 use Rattle.run_common.proofs.Written.{on_err, none_yet, one_more, part_of}
 use Rattle.run_reports.proofs.export.writing.write_later.Goals as goal
 

@@ -1,7 +1,8 @@
 use Rattle.std.proofs.Common.{◌≡◌, take}
 use Rattle.std.specs.Prelude.{flat_map}
 use Rattle.mud_world.specs.Door.{put_out}
-use Rattle.rule_export.specs.Text.{behind_comma, resolved_text}
+use Rattle.text_values.specs.Lists.{behind_comma}
+use Rattle.rule_export.specs.Text.{resolved_text}
 use Rattle.run_reports.proofs.export.writing.write_later.Given as goal
 
 abbrev pub invariant-items : goal.invariant-items

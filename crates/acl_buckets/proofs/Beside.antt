@@ -6,7 +6,7 @@ use Rattle.std.specs.declared.cmp.Ordering.TheVariants.{Less, Greater}
 use Rattle.std.proofs.lemmas.Bool.{and_parts}
 use Rattle.std.proofs.lemmas.Option.{same_Some, none-some}
 use Rattle.base_rows.specs.Sortable.{sort_key_cmp, same_sort_key, row_at, is_under, rows_under, SortKeysAbove, SortKeysAscend}
-use Rattle.base_rows.proofs.SortableLaws.{same_sort_key_exact, sort_key_cmp_turned}
+use Rattle.base_rows.proofs.SortableLaws.{sort_key_cmp_turned}
 use Rattle.mud_base.specs.Addresses.{same_addr}
 use Rattle.mud_base.specs.declared.addr.Addr.{Addr}
 use Rattle.mud_base.specs.declared.packet.Direction.{Direction}
@@ -15,14 +15,14 @@ use Rattle.acl_model.proofs.BindingLaws.{same_addr_exact}
 use Rattle.acl_rows.specs.declared.row.Owner.{Owner}
 use Rattle.acl_rows.specs.declared.row.Row.{Row}
 use Rattle.acl_rows.specs.declared.row.RowKey.{RowKey}
-use Rattle.acl_rows.specs.SortKeys.{owner_class, owner_number, side_number, owner_sort_key, side_sort_key, peer_sort_key, sort_key_at, row_sort_key, named_sort_key}
+use Rattle.mud_base.specs.Directions.{side_number}
+use Rattle.acl_rows.specs.SortKeys.{owner_class, owner_number, owner_sort_key, side_sort_key, peer_sort_key, sort_key_at, row_sort_key, named_sort_key}
 use Rattle.acl_rows.specs.View.{rows_of_side, is_at}
 use Rattle.acl_rows.specs.ByAddress.{rows_of_peer, until_of_row, IsRowAt}
-use Rattle.acl_rows.proofs.Coordinates.{AreSame, same_coordinates}
 use Rattle.acl_rows.proofs.Parts.{under_peer, rows_under-peer, sort_key_under, under_own}
 use Rattle.acl_buckets.specs.RowBuckets.{bucket_number}
 use Rattle.acl_buckets.specs.RowParts.{row_number}
-use Rattle.acl_buckets.proofs.Numbers.{AreOne, same_bucket, rows_rise, under_itself, under_on}
+use Rattle.acl_buckets.proofs.Numbers.{AreOne, same_bucket, rows_rise, under_on}
 
 -- ---- A row under the sort key of an owner and side is of these
 
@@ -69,12 +69,6 @@ row_by t p x xs passes rest false false at is = rest
 row_kept : (t : Row → Bool) (p : List ℕ) → ((x : Row) → same_sort_key (row_sort_key x) p ≡ true → t x ≡ true) → (rows : List Row) → row_at row_sort_key p (filter t rows) ≡ row_at row_sort_key p rows
 row_kept t p passes [] = refl
 row_kept t p passes (x ∷ xs) = row_by t p x xs (passes x) (row_kept t p passes xs) (same_sort_key (row_sort_key x) p) (t x) refl refl
-
-at_under : (o : Owner) (s : Direction) (a : Addr) (n : ℕ) (x : Row) → same_sort_key (row_sort_key x) (sort_key_at o s a n) ≡ true → is_under row_sort_key (side_sort_key o s) x ≡ true
-unfolding row_sort_key
-at_under o s a n x e =
-    let same : AreSame x.owner o x.side s x.addr a x.entry n = same_coordinates x.owner o x.side s x.addr a x.entry n (same_sort_key_exact (row_sort_key x) (sort_key_at o s a n) e) in
-    ap (λ (p : List ℕ). is_under row_sort_key p x) (λ i. side_sort_key (sym same.owner i) (sym same.side i)) ∙ under_itself x
 
 -- ---- The rows of one address
 

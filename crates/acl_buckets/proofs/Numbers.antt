@@ -13,7 +13,8 @@ use Rattle.mud_base.specs.declared.packet.Direction.TheVariants.{From, To}
 use Rattle.acl_rows.specs.declared.row.Owner.{Owner}
 use Rattle.acl_rows.specs.declared.row.Owner.TheVariants.{Url, Default}
 use Rattle.acl_rows.specs.declared.row.Row.{Row}
-use Rattle.acl_rows.specs.SortKeys.{owner_class, owner_number, side_number, owner_sort_key, side_sort_key, peer_sort_key, sort_key_at, row_sort_key}
+use Rattle.mud_base.specs.Directions.{side_number}
+use Rattle.acl_rows.specs.SortKeys.{owner_class, owner_number, owner_sort_key, side_sort_key, peer_sort_key, sort_key_at, row_sort_key}
 use Rattle.acl_buckets.specs.RowBuckets.{bucket_number}
 use Rattle.acl_buckets.specs.RowParts.{row_number}
 

@@ -9,7 +9,8 @@ use Rattle.base_rows.specs.declared.edit.Edit.{Edit}
 use Rattle.base_rows.specs.Edits.{edit_sort_key}
 use Rattle.acl_rows.specs.declared.row.Owner.{Owner}
 use Rattle.acl_rows.specs.declared.row.Row.{Row}
-use Rattle.acl_rows.specs.SortKeys.{owner_class, owner_number, side_number, peer_sort_key, row_sort_key}
+use Rattle.mud_base.specs.Directions.{side_number}
+use Rattle.acl_rows.specs.SortKeys.{owner_class, owner_number, peer_sort_key, row_sort_key}
 use Rattle.acl_rows.specs.ByAddress.{AddrRoom, room_at, index_beside}
 
 -- The number of the bucket of an owner and side. The buckets are numbered in the order of the sort keys of the rows in

@@ -17,7 +17,7 @@ use std::cmp::Ordering;
 use std::sync::ledger::Ledger;
 
 /// The number of the bucket of an owner and side. The greatest is 131,073.
-#[tactic(auto, unfolding(crate::specs::RowBuckets::bucket_number, acl_rows::specs::SortKeys::owner_class, acl_rows::specs::SortKeys::owner_number, acl_rows::specs::SortKeys::side_number))]
+#[tactic(auto, unfolding(crate::specs::RowBuckets::bucket_number, acl_rows::specs::SortKeys::owner_class, acl_rows::specs::SortKeys::owner_number, mud_base::specs::Directions::side_number))]
 pub(crate) fn number_of(owner: Owner, side: Direction) -> usize
     ensures number { result ≡ bucket_number owner side }
     ensures most { result ≤ 131073 }
@@ -33,7 +33,7 @@ pub(crate) fn number_of(owner: Owner, side: Direction) -> usize
 }
 
 /// The owner and side whose bucket has this number.
-#[tactic(auto, unfolding(crate::specs::RowBuckets::bucket_number, acl_rows::specs::SortKeys::owner_class, acl_rows::specs::SortKeys::owner_number, acl_rows::specs::SortKeys::side_number))]
+#[tactic(auto, unfolding(crate::specs::RowBuckets::bucket_number, acl_rows::specs::SortKeys::owner_class, acl_rows::specs::SortKeys::owner_number, mud_base::specs::Directions::side_number))]
 fn told_by(number: usize) -> (Owner, Direction)
     requires { number ≤ 131073 }
     ensures { bucket_number result.0 result.1 ≡ number }

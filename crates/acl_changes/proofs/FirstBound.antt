@@ -1,8 +1,7 @@
 -- The bindings of an entry's first key, and the expiry of the entry at their addresses.
-use Rattle.std.proofs.Common.{◌≡◌, ℕ, zero, suc, ◌+◌, ◌*◌, ◌≤◌, ◌<◌, min, Bool, true, false, cond, ◌&&◌, List, [], ◌∷◌, ◌++◌, length, drop, get_or, Option, Some, None, refl, sym, ap, subst, ◌∙◌, arith}
+use Rattle.std.proofs.Common.{◌≡◌, ℕ, zero, suc, ◌+◌, ◌*◌, ◌≤◌, ◌<◌, min, true, false, cond, ◌&&◌, List, [], ◌∷◌, ◌++◌, length, get_or, Option, Some, None, refl, sym, ap, subst, ◌∙◌, arith}
 use Rattle.std.specs.Option.{option_map, option_and_then}
-use Rattle.std.specs.List.{filter_map, cons_option, slice_get, list_any}
-use Rattle.std.proofs.Math.Nat.{mul-le-mul_right}
+use Rattle.std.specs.List.{filter_map, slice_get}
 use Rattle.std.proofs.lemmas.Option.{none-some, same_Some, slice_get_read}
 use Rattle.base_rows.specs.Sortable.{row_at, rows_under, is_under, SortKeysAscend}
 use Rattle.base_rows.proofs.SortableLaws.{same_sort_key_exact, row_at_row}
@@ -13,7 +12,7 @@ use Rattle.acl_model.specs.declared.entry.Selector.{Selector}
 use Rattle.acl_model.specs.declared.entry.Entry.{Entry}
 use Rattle.acl_model.specs.declared.binding.MemberKey.{MemberKey}
 use Rattle.acl_model.specs.declared.binding.Binding.{Binding}
-use Rattle.acl_model.specs.Keys.{key_of, is_member, is_membered}
+use Rattle.acl_model.specs.Keys.{key_of, is_membered}
 use Rattle.acl_model.specs.Match.{is_in_family}
 use Rattle.acl_model.specs.SortKeys.{member_sort_key, text_sort_key, bound_sort_key, binding_sort_key}
 use Rattle.acl_model.specs.Changes.{until_of, bound_until, for_ever}
@@ -99,7 +98,3 @@ module _ (bindings : List Binding) (url : List ℕ) (entry : Entry) (behind : Li
   pub other_family : (b : Binding) → AreBoundFirst bindings url entry behind (b ∷ []) → is_in_family entry.family b.addr ≡ false → None ≡ entry_expiry bindings url entry b.addr
   unfolding entry_expiry
   other_family b first family = sym (λ i. cond (is_member_first (b ∷ []) first i && family i) (least_expiry bindings b.addr for_ever (member_keys url entry)) None)
-
-  -- one key fewer is looked up
-  pub fewer_keys : (bound : List Binding) (n : ℕ) → AreBoundFirst bindings url entry behind bound → length (filter_map (key_of url) behind) * n ≤ length (member_keys url entry) * n
-  fewer_keys bound n first = mul-le-mul_right n (omega (arith, ap (λ (ks : List MemberKey). length ks) first.keys))

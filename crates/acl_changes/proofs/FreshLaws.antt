@@ -30,8 +30,9 @@ use Rattle.acl_rows.specs.SortKeys.{row_sort_key, named_sort_key}
 use Rattle.acl_rows.specs.ByAddress.{rows_of_peer, index_beside}
 use Rattle.acl_rows.specs.Rows.{Slots, rows_of, member_keys, held_by, entry_at, entry_expiry}
 use Rattle.acl_rows.proofs.Sound.{expiry_at-entry}
+use Rattle.acl_buckets.specs.BindingBuckets.{bindings_of_key}
 use Rattle.acl_changes.specs.Touched.{row_key, key_expiry, changed_edits}
-use Rattle.acl_changes.specs.PolicyTouched.{bound_under, bound_key, first_key_touches}
+use Rattle.acl_changes.specs.PolicyTouched.{bound_key, first_key_touches}
 use Rattle.acl_changes.specs.EntryKeys.{key_parts}
 use Rattle.acl_changes.specs.Change.{ChangeState, after, expiry_of_row}
 use Rattle.acl_changes.specs.Fresh.{Fresh, fresh_of, row_with, expiry_kept, one_fresh, more_fresh, first_of, rest_of, membered_count, AreOfPeer, gone_edit, left_edits}
@@ -118,7 +119,7 @@ no_first bindings owner side n (key ∷ keys) is = absurd (none-some (key_parts 
 
 pub some_first : (bindings : List Binding) (owner : Owner) (side : Direction) (n : ℕ) (kind : ℕ) (text : List ℕ) (keys : List MemberKey) → (let q : Option (ℕ × List ℕ) = Some (kind, text) in q ≡ option_map key_parts (first_of keys))
     → first_key_touches bindings owner side n keys ≡ map (bound_key owner side n) (rows_under binding_sort_key (text_sort_key kind text) bindings)
-unfolding first_of first_key_touches bound_under key_parts member_sort_key
+unfolding first_of first_key_touches bindings_of_key key_parts member_sort_key
 some_first bindings owner side n kind text [] is = absurd (none-some (kind, text) (sym is))
 some_first bindings owner side n kind text (key ∷ keys) is = (λ i. map (bound_key owner side n) (rows_under binding_sort_key (text_sort_key (sym (parts key is) i).0 (sym (parts key is) i).1) bindings))
   where

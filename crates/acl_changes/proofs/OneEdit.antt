@@ -1,9 +1,7 @@
 -- The edit of an entry that has a key is the one that is asked for.
-use Rattle.std.proofs.Common.{◌≡◌, ℕ, List, [], ◌∷◌, ◌<◌, length, Option, Some, None, Result, Ok, Err, refl, sym, ap, ◌∙◌}
+use Rattle.std.proofs.Common.{◌≡◌, ℕ, List, [], ◌∷◌, ◌<◌, Option, Some, None, refl, sym, ap, ◌∙◌}
 use Rattle.std.specs.Option.{option_map}
-use Rattle.std.specs.List.{slice_get}
-use Rattle.base_rows.specs.Sortable.{row_at, index_in, SortKeysAscend}
-use Rattle.base_rows.proofs.SortableLaws.{found_within, row_at_found, row_at_missed}
+use Rattle.base_rows.specs.Sortable.{row_at}
 use Rattle.mud_base.specs.declared.addr.Addr.{Addr}
 use Rattle.mud_base.specs.declared.packet.Direction.{Direction}
 use Rattle.acl_model.specs.declared.entry.Entry.{Entry}
@@ -15,11 +13,10 @@ use Rattle.acl_rows.specs.declared.row.Row.{Row}
 use Rattle.acl_rows.specs.declared.row.RowKey.{RowKey}
 use Rattle.acl_rows.specs.SortKeys.{row_sort_key, sort_key_at, named_sort_key}
 use Rattle.acl_model.specs.declared.binding.Binding.{Binding}
-use Rattle.acl_rows.specs.ByAddress.{rows_of_peer, index_beside}
+use Rattle.acl_rows.specs.ByAddress.{index_beside}
 use Rattle.acl_rows.specs.Rows.{Slots, row, held_by, entry_at, entry_expiry, expiry_at, rows_of}
 use Rattle.acl_rows.proofs.Sound.{expiry_at-entry}
 use Rattle.acl_rows.proofs.AtSortKeys.{row_at-rows_of}
-use Rattle.acl_buckets.proofs.Beside.{row_of_peer}
 use Rattle.acl_changes.specs.Touched.{row_key, key_expiry, changed_edits, with_edit, with_edits}
 use Rattle.acl_changes.specs.Change.{ChangeState, after, one_edit, more_edits, expiry_of_row}
 

@@ -35,9 +35,10 @@ use Rattle.acl_rows.specs.Rows.{for_ever, member_keys, entry_expiry, row, number
 use Rattle.acl_rows.proofs.Coordinates.{AreSame, same_coordinates}
 use Rattle.acl_rows.proofs.Sound.{HasKeys, has_keys, IsBound, first_bound, HasExpiry, has_expiry, IsHeld, is_held, any_entry}
 use Rattle.acl_rows.proofs.AtSortKeys.{row_at-rows_of}
+use Rattle.acl_buckets.specs.BindingBuckets.{bindings_of_key}
 use Rattle.acl_changes.specs.Patch.{expiry_for, IsPatch}
 use Rattle.acl_changes.specs.Touched.{with_edits}
-use Rattle.acl_changes.specs.PolicyTouched.{bound_under, bound_key, first_key_touches, entry_touches, side_policy_touches, new_touches, owner_rows, key_of_row, is_left, left_touches, policy_touches, IsSlotChange}
+use Rattle.acl_changes.specs.PolicyTouched.{bound_key, first_key_touches, entry_touches, side_policy_touches, new_touches, owner_rows, key_of_row, is_left, left_touches, policy_touches, IsSlotChange}
 use Rattle.acl_changes.proofs.Untouched.{touches_at}
 use Rattle.acl_changes.proofs.Edits.{patch_of}
 
@@ -127,8 +128,8 @@ module _ (owner : Owner) (side : Direction) (a : Addr) (n : ℕ) where
   unfolding is_bound_to bound_key named_sort_key
   bound_here key b e = subst (λ (y : Addr). same_sort_key (sort_key_at owner side y n) (sort_key_at owner side a n) ≡ true) (same_addr_exact a b.addr (second_so (same_key key b.key) (same_addr a b.addr) e)) (same_sort_key_itself (sort_key_at owner side a n))
 
-  bound_touched : (key : MemberKey) (c : Binding) (bs : List Binding) → find (is_bound_to key a) bs ≡ Some c → list_any (touches_at owner side a n) (map (bound_key owner side n) (bound_under key bs)) ≡ true
-  unfolding bound_under
+  bound_touched : (key : MemberKey) (c : Binding) (bs : List Binding) → find (is_bound_to key a) bs ≡ Some c → list_any (touches_at owner side a n) (map (bound_key owner side n) (bindings_of_key key bs)) ≡ true
+  unfolding bindings_of_key
   bound_touched key c bs e =
       any_map (is_bound_to key a) (touches_at owner side a n) (bound_key owner side n) (bound_here key) _
       (any_filter (is_bound_to key a) (is_under binding_sort_key (member_sort_key key)) (under_key key) bs (any_found (is_bound_to key a) bs c e))

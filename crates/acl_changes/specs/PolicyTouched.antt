@@ -6,7 +6,6 @@ use Rattle.mud_base.specs.declared.packet.Direction.TheVariants.{From, To}
 use Rattle.acl_model.specs.declared.entry.Entry.{Entry}
 use Rattle.acl_model.specs.declared.binding.MemberKey.{MemberKey}
 use Rattle.acl_model.specs.declared.binding.Binding.{Binding}
-use Rattle.acl_model.specs.SortKeys.{binding_sort_key, member_sort_key}
 use Rattle.acl_model.specs.FirstMatch.{entries_of}
 use Rattle.acl_model.specs.Policies.{UrlPolicy}
 use Rattle.acl_rows.specs.declared.row.Owner.{Owner}
@@ -15,21 +14,18 @@ use Rattle.acl_rows.specs.declared.row.Row.{Row}
 use Rattle.acl_rows.specs.declared.row.RowKey.{RowKey}
 use Rattle.acl_rows.specs.SortKeys.{owner_sort_key, row_sort_key}
 use Rattle.acl_rows.specs.Rows.{Slots, member_keys, numbered, held_by}
+use Rattle.acl_buckets.specs.BindingBuckets.{bindings_of_key}
 use Rattle.acl_changes.specs.Patch.{expiry_for}
 use Rattle.acl_changes.specs.Touched.{row_key}
 
 -- ---- New rows: an entry at the address of each binding of its first key
-
--- the bindings of a key
-unfoldable pub bound_under : MemberKey → List Binding → List Binding
-bound_under key bindings = rows_under binding_sort_key (member_sort_key key) bindings
 
 unfoldable pub bound_key : Owner → Direction → ℕ → Binding → RowKey
 bound_key owner side n b = row_key owner side b.addr n
 
 unfoldable pub first_key_touches : List Binding → Owner → Direction → ℕ → List MemberKey → List RowKey
 first_key_touches bindings owner side n [] = []
-first_key_touches bindings owner side n (key ∷ keys) = map (bound_key owner side n) (bound_under key bindings)
+first_key_touches bindings owner side n (key ∷ keys) = map (bound_key owner side n) (bindings_of_key key bindings)
 
 unfoldable pub entry_touches : List Binding → Owner → UrlPolicy → Direction → ℕ × Entry → List RowKey
 entry_touches bindings owner held side e = first_key_touches bindings owner side e.0 (member_keys held.url e.1)

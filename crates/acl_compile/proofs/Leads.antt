@@ -12,7 +12,8 @@ use Rattle.std.proofs.lemmas.Nat.{mul-add-lt}
 use Rattle.std.proofs.Math.ListN.{get_or-eq_default}
 use Rattle.base_rows.specs.Sortable.{sort_key_cmp}
 use Rattle.base_rows.proofs.Orders.{equal_numbers}
-use Rattle.acl_compile.specs.UrlSlots.{lead, AreOctets}
+use Rattle.mud_base.specs.Numbers.{IsOctets}
+use Rattle.acl_compile.specs.UrlSlots.{lead}
 
 -- ---- A digit in front of a number
 
@@ -48,7 +49,7 @@ unfolding lead
 moved zero k x p = refl
 moved (suc n) k x p = ap (λ z. get_or p k 0 * 256 ^ n + z) (moved n (suc k) x p)
 
-small : (n k : ℕ) (p : List ℕ) → AreOctets p → lead n k p < 256 ^ n
+small : (n k : ℕ) (p : List ℕ) → IsOctets p → lead n k p < 256 ^ n
 unfolding lead
 small zero k p octets = omega arith
 small (suc n) k p octets = rw (pow-suc 256 n) (mul-add-lt (get_or p k 0) (256 ^ n) (lead n (suc k) p) 256 (octets k) (small n (suc k) p octets))
@@ -59,7 +60,7 @@ then_by Equal a b same = same refl
 then_by Greater a b same = refl
 
 -- where the numbers differ, they decide
-pub lead_apart : (n : ℕ) (p q : List ℕ) → AreOctets p → AreOctets q → (lead n 0 p ≡ lead n 0 q → ⊥) → nat_cmp (lead n 0 p) (lead n 0 q) ≡ sort_key_cmp p q
+pub lead_apart : (n : ℕ) (p q : List ℕ) → IsOctets p → IsOctets q → (lead n 0 p ≡ lead n 0 q → ⊥) → nat_cmp (lead n 0 p) (lead n 0 q) ≡ sort_key_cmp p q
 unfolding lead
 lead_apart zero p q op oq apart = absurd (apart refl)
 lead_apart (suc n) [] [] op oq apart = absurd (apart refl)
@@ -78,7 +79,7 @@ lead_apart (suc n) (x ∷ p) (y ∷ q) op oq apart =
 
 -- ---- Of a text that is read from behind
 
-octet_by : (xs : List ℕ) → AreOctets xs → (k : ℕ) → ((leb (length xs) k ≡ true) × (length xs ≤ k)) ⊎ ((leb (length xs) k ≡ false) × (k < length xs)) → get_or (reverse xs) k 0 < 256
+octet_by : (xs : List ℕ) → IsOctets xs → (k : ℕ) → ((leb (length xs) k ≡ true) × (length xs ≤ k)) ⊎ ((leb (length xs) k ≡ false) × (k < length xs)) → get_or (reverse xs) k 0 < 256
 octet_by xs octets k (inl past) =
     let at : get_or (reverse xs) k 0 ≡ 0 = get_or-eq_default (reverse xs) 0 (omega (arith, past.1, length-reverse xs)) in
     omega (arith, at)
@@ -86,7 +87,7 @@ octet_by xs octets k (inr within) =
     let at : get_or (reverse xs) k 0 ≡ get_or xs (length xs - 1 - k) 0 = get_or-reverse xs k 0 within.1 in
     omega (arith, at, octets (length xs - 1 - k))
 
-pub octets_behind : (xs : List ℕ) → AreOctets xs → AreOctets (reverse xs)
+pub octets_behind : (xs : List ℕ) → IsOctets xs → IsOctets (reverse xs)
 octets_behind xs octets k = octet_by xs octets k (leb_tells (length xs) k)
 
 -- eight octets as one number

@@ -21,8 +21,8 @@ use Rattle.acl_rows.specs.declared.row.Owner.{Owner}
 use Rattle.acl_rows.specs.declared.row.Owner.TheVariants.{Url, Default}
 use Rattle.acl_rows.specs.declared.row.Row.{Row}
 use Rattle.acl_rows.specs.Rows.{Slots, Holder, rows_of, member_keys, numbered, slot_policy, held_by, expiry_at}
-use Rattle.acl_rows.specs.View.{in_slot, holder_from}
-use Rattle.acl_changes.specs.PolicyTouched.{bound_key, bound_under, first_key_touches, entry_touches, side_policy_touches, new_touches, owner_rows, IsSlotChange}
+use Rattle.acl_rows.specs.View.{in_slot, holder_from, holder_policy}
+use Rattle.acl_changes.specs.PolicyTouched.{bound_key, first_key_touches, entry_touches, side_policy_touches, new_touches, owner_rows, IsSlotChange}
 use Rattle.acl_rows.specs.Rows.{held_expiry}
 use Rattle.acl_rows.specs.SortKeys.{owner_class, owner_number, owner_sort_key, side_sort_key, peer_sort_key, sort_key_at, row_sort_key}
 use Rattle.acl_rows.proofs.AtSortKeys.{ascend-rows_of}
@@ -35,12 +35,12 @@ use Rattle.acl_compile.specs.Compiled.{UrlsApart, compiled_state}
 use Rattle.acl_changes.specs.Fresh.{policy_count}
 use Rattle.base_rows.specs.declared.edit.Edit.{Edit}
 use Rattle.base_rows.specs.Edits.{edited}
-use Rattle.acl_buckets.specs.BindingBuckets.{KeptBindings, AreFoundByKey, HasRoomByKey}
+use Rattle.acl_buckets.specs.BindingBuckets.{KeptBindings, bindings_of_key, AreFoundByKey, HasRoomByKey}
 use Rattle.acl_buckets.proofs.EditLaws.{no_edits}
 use Rattle.acl_buckets.specs.RowBuckets.{Buckets, HasRoom}
 use Rattle.acl_model.specs.SortKeys.{binding_sort_key}
 use Rattle.acl_changes.specs.Patch.{IsPatch}
-use Rattle.acl_compile.specs.Plans.{slot_set, holder_policy, holder_owner, policy_held, slot_held, held_for, is_other, others_held, rows_of_owner, slots_with, slots_after, bindings_after, policy_steps, policy_reads, IsSlotFor, IsPolicyPlan}
+use Rattle.acl_compile.specs.Plans.{slot_set, holder_owner, policy_held, slot_held, held_for, is_other, others_held, rows_of_owner, slots_with, slots_after, bindings_after, policy_steps, policy_reads, IsSlotFor, IsPolicyPlan}
 use Rattle.acl_changes.specs.Steps.{HaveKeys, PolicyKeys, sort_key_steps}
 use Rattle.acl_changes.proofs.Loops.{slot_holds}
 
@@ -444,7 +444,7 @@ rows_of_slot url slots bindings i slot_number = rows_by url None slots bindings 
 first_count : (bindings : List Binding) (o o' : Owner) (side : Direction) (n : ℕ) (keys : List MemberKey) → length (first_key_touches bindings o side n keys) ≡ length (first_key_touches bindings o' side n keys)
 unfolding first_key_touches
 first_count bindings o o' side n [] = refl
-first_count bindings o o' side n (key ∷ keys) = length-map (bound_under key bindings) (bound_key o side n) ∙ sym (length-map (bound_under key bindings) (bound_key o' side n))
+first_count bindings o o' side n (key ∷ keys) = length-map (bindings_of_key key bindings) (bound_key o side n) ∙ sym (length-map (bindings_of_key key bindings) (bound_key o' side n))
 
 side_count : (bindings : List Binding) (o o' : Owner) (held : UrlPolicy) (side : Direction) (es : List (ℕ × Entry)) → length (flat_map (entry_touches bindings o held side) es) ≡ length (flat_map (entry_touches bindings o' held side) es)
 unfolding entry_touches

@@ -11,7 +11,7 @@ use Rattle.acl_rows.specs.declared.row.Owner.{Owner}
 use Rattle.acl_rows.specs.declared.row.Row.{Row}
 use Rattle.acl_rows.specs.declared.row.Owner.TheVariants.{Url, Default}
 use Rattle.acl_rows.specs.Rows.{Slots, Holder, held_by}
-use Rattle.acl_rows.specs.View.{holder_from}
+use Rattle.acl_rows.specs.View.{holder_from, holder_policy}
 use Rattle.acl_changes.specs.Patch.{IsPatch}
 use Rattle.acl_changes.specs.PolicyTouched.{owner_rows, new_touches}
 use Rattle.acl_buckets.specs.RowBuckets.{HasRoom}
@@ -84,9 +84,6 @@ pub record IsMemberPlan (gone come : List Binding) (c : CompiledState) (plan : P
   pub few : length plan.bindings ≤ length gone + length come
 
 -- ---- A plan of a policy
-
-abbrev pub holder_policy : Holder → Policy
-holder_policy h = h.1.policy
 
 abbrev pub holder_owner : Holder → Owner
 holder_owner h = h.0

@@ -1,5 +1,5 @@
 -- The slots of URLs in the table of policies: a ruling finds the policy of a URL by them.
-use Rattle.std.specs.Prelude.{◌≡◌, ℕ, zero, suc, ◌+◌, ◌*◌, ◌^◌, ◌<◌, List, reverse, slice_index, Option, Some, None, option_map}
+use Rattle.std.specs.Prelude.{◌≡◌, ℕ, zero, suc, ◌+◌, ◌*◌, ◌^◌, List, reverse, slice_index, Option, Some, None, option_map}
 use Rattle.base_rows.specs.Sortable.{row_at, set_row, without_row}
 use Rattle.acl_model.specs.declared.entry.Policy.{Policy}
 use Rattle.acl_model.specs.declared.binding.Binding.{Binding}
@@ -28,10 +28,6 @@ owner_of p = Url p.slot_number
 unfoldable pub lead : ℕ → ℕ → List ℕ → ℕ
 lead zero k p = 0
 lead (suc n) k p = slice_index p k * 256 ^ n + lead n (suc k) p
-
--- each is an octet
-abbrev pub AreOctets : List ℕ → Type 0
-AreOctets octets = (k : ℕ) → slice_index octets k < 256
 
 -- each URL has the slot in which its policy is held, and none where none is
 abbrev pub AreSlotsOf : Slots → List UrlAndSlot → Type 0

@@ -5,7 +5,8 @@ ghost use Rattle.acl_rows.specs.Rows.{held_by};
 ghost use Rattle.acl_rows.specs.View.{holder_from};
 ghost use Rattle.acl_compile.specs.Compiled.{UrlsApart};
 ghost use Rattle.acl_compile.specs.Plans.{slot_set};
-ghost use Rattle.acl_compile.specs.UrlSlots.{lead, AreOctets, AreSlotsOf, url_slots_without, url_slots_with};
+ghost use Rattle.mud_base.specs.Numbers.{IsOctets};
+ghost use Rattle.acl_compile.specs.UrlSlots.{lead, AreSlotsOf, url_slots_without, url_slots_with};
 
 use acl_changes::Held;
 use acl_rows::Owner;
@@ -76,7 +77,7 @@ fn end_number(text: &[u8]) -> u64
 
 /// Every octet is one.
 fn are_octets(text: &[u8])
-    ensures { AreOctets text.now }
+    ensures { IsOctets text.now }
 {}
 
 /// How two texts stand to one another when they are read from behind, of which the numbers of the

@@ -1,5 +1,5 @@
 -- Bindings of one key and address, and bindings that are the same.
-use Rattle.std.proofs.Common.{◌≡◌, ◌==◌, Bool, true, false, List, [], refl, sym, ap, subst, ◌∙◌}
+use Rattle.std.proofs.Common.{◌≡◌, ◌==◌, true, List, [], refl, sym, ap, ◌∙◌}
 use Rattle.std.specs.Bool.{Decides}
 use Rattle.std.proofs.lemmas.Bool.Decides.{Decides-eqb}
 use Rattle.std.specs.Cmp.{first_so, second_so}

@@ -45,9 +45,9 @@ unfoldable pub family_matches : Family → Fields → Bool
 family_matches versions fields = is_in_family versions fields.src && is_in_family versions fields.dst
 
 -- there is no prefix, or it holds the address
-unfoldable pub own_passes : Option Prefix → Addr → Bool
-own_passes None a = true
-own_passes (Some prefix) a = prefix_holds prefix a
+unfoldable pub prefix_passes : Option Prefix → Addr → Bool
+prefix_passes None a = true
+prefix_passes (Some prefix) a = prefix_holds prefix a
 
 -- no number is named, or this one is
 unfoldable pub number_passes : Option ℕ → ℕ → Bool
@@ -97,7 +97,7 @@ layer_matches _ _ begun = false
 unfoldable pub rest_matches : Entry → Fields → Direction → Option Direction → Bool
 rest_matches entry fields side begun =
     family_matches entry.family fields
-    && own_passes entry.own (own_of side fields)
+    && prefix_passes entry.own (own_of side fields)
     && header_matches entry fields
     && layer_matches entry.layer fields.transport begun
 

@@ -15,7 +15,7 @@ pub mod tcp_flag;
 pub use binding::{Binding, MemberKey, same_key};
 pub use defaults::default_entry;
 pub use entry::{Action, Entry, Layer, Policy, PortTest, Selector};
-pub use matching::{is_in_family, near_matches, peer_of, rest_matches};
+pub use matching::{is_in_family, near_matches, peer_of, prefix_passes, rest_matches};
 pub use ruling::{DefaultRule, Ruling, Why};
 pub use sort_key::{BoundKey, KeyText, order_keys};
 pub use tcp_flag::TcpFlag;

@@ -49,11 +49,11 @@ fn family_matches(family: Family, fields: &Fields) -> bool
 }
 
 /// Whether the prefix, where there is one, holds the address.
-#[tactic(auto, unfolding(crate::specs::Match::own_passes))]
-fn own_passes(own: &Option<Prefix>, addr: Addr) -> bool
-    ensures { result ≡ spec.own_passes own.now addr }
+#[tactic(auto, unfolding(crate::specs::Match::prefix_passes))]
+pub fn prefix_passes(prefix: &Option<Prefix>, addr: Addr) -> bool
+    ensures { result ≡ spec.prefix_passes prefix.now addr }
 {
-    match own {
+    match prefix {
         None => true,
         Some(prefix) => prefix.holds(addr),
     }
@@ -171,7 +171,7 @@ pub fn rest_matches(
     ensures { result ≡ spec.rest_matches entry.now fields.now side begun }
 {
     family_matches(entry.family, fields)
-        && own_passes(&entry.own, own_of(side, fields))
+        && prefix_passes(&entry.own, own_of(side, fields))
         && header_matches(entry, fields)
         && layer_matches(entry.layer, fields.transport, begun)
 }

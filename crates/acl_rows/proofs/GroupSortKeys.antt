@@ -19,7 +19,8 @@ use Rattle.base_rows.proofs.SortableLaws.{sort_key_cmp_itself, sort_key_cmp_turn
 use Rattle.base_rows.proofs.AddressLaws.{addr_cmp-sort_key, same_addr-sort_key}
 use Rattle.acl_rows.specs.declared.row.Owner.{Owner}
 use Rattle.acl_rows.specs.declared.row.Row.{Row}
-use Rattle.acl_rows.specs.SortKeys.{owner_class, owner_number, side_number, owner_sort_key, side_sort_key, peer_sort_key, sort_key_at, row_sort_key}
+use Rattle.mud_base.specs.Directions.{side_number}
+use Rattle.acl_rows.specs.SortKeys.{owner_class, owner_number, owner_sort_key, side_sort_key, peer_sort_key, sort_key_at, row_sort_key}
 use Rattle.acl_rows.specs.View.{rows_of_side, is_at}
 use Rattle.acl_rows.specs.ByAddress.{rows_of_peer, IsRowAt}
 use Rattle.acl_rows.proofs.SortKeyOrder.{peer_sort_key-cmp, sort_key_at-cmp}

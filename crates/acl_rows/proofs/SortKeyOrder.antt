@@ -10,7 +10,8 @@ use Rattle.base_rows.specs.Addresses.{addr_sort_key}
 use Rattle.base_rows.proofs.AddressLaws.{addr_cmp-sort_key, length-addr_sort_key}
 use Rattle.base_rows.proofs.Orders.{then_equal, sort_key_cmp-front, prefix_cmp-front, one_number}
 use Rattle.acl_rows.specs.declared.row.Owner.{Owner}
-use Rattle.acl_rows.specs.SortKeys.{side_number, owner_sort_key, side_sort_key, peer_sort_key, sort_key_at}
+use Rattle.mud_base.specs.Directions.{side_number}
+use Rattle.acl_rows.specs.SortKeys.{owner_sort_key, side_sort_key, peer_sort_key, sort_key_at}
 
 -- ---- Beginnings of rows' sort keys
 

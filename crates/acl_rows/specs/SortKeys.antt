@@ -3,7 +3,7 @@
 use Rattle.std.specs.Prelude.{ℕ, List, [], ◌∷◌, ◌++◌}
 use Rattle.mud_base.specs.declared.addr.Addr.{Addr}
 use Rattle.mud_base.specs.declared.packet.Direction.{Direction}
-use Rattle.mud_base.specs.declared.packet.Direction.TheVariants.{From, To}
+use Rattle.mud_base.specs.Directions.{side_number}
 use Rattle.base_rows.specs.Addresses.{addr_sort_key}
 use Rattle.acl_rows.specs.declared.row.Owner.{Owner}
 use Rattle.acl_rows.specs.declared.row.Owner.TheVariants.{Url, Default}
@@ -17,10 +17,6 @@ owner_class (Url n) = 1
 unfoldable pub owner_number : Owner → ℕ
 owner_number (Url n) = n
 owner_number Default = 0
-
-unfoldable pub side_number : Direction → ℕ
-side_number From = 0
-side_number To = 1
 
 -- the beginning of the sort keys of one owner, of one side of it, and of one address there
 unfoldable pub owner_sort_key : Owner → List ℕ

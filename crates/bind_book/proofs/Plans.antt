@@ -12,13 +12,14 @@ use Rattle.acl_model.specs.Changes.{has_binding, IsBindingChange}
 use Rattle.table_model.specs.declared.bind_fault.BindFault.{BindFault}
 use Rattle.table_model.specs.Binds.{Binds, IsSoundBinds}
 use Rattle.table_model.specs.BindCommands.{BindsAfter, BindStep}
+use Rattle.table_model.specs.BindItems.{IsBindPut}
 use Rattle.table_model.specs.TakenItems.{bind_items}
 use Rattle.table_model.specs.Tables.{Tables, binds_of, with_binds}
 use Rattle.table_model.specs.Bindings.{bindings_of}
 use Rattle.table_model.proofs.RowSets.{all_at}
 use Rattle.item_codec.specs.declared.word.Word.TheVariants.{Same}
 use Rattle.bind_book.specs.Book.{Book, IsRefusal}
-use Rattle.bind_book.specs.Plans.{Plan, IsBindPut, IsPlanned, IsPlanOf, Plans, changed_binds, HasRoomFor, same_plan}
+use Rattle.bind_book.specs.Plans.{Plan, IsPlanned, IsPlanOf, Plans, changed_binds, HasRoomFor, same_plan}
 use Rattle.bind_book.proofs.BookItems.{no_difference, none_between, equal_by_none, binds_ordered, binds_told}
 
 -- ---- No put exactly where nothing changes

@@ -5,7 +5,7 @@ use Rattle.std.proofs.lemmas.Bool.{eqb-true, lt-ltb, le-ltb}
 use Rattle.mud_base.specs.declared.prefix.Prefix.{Prefix}
 use Rattle.base_rows.specs.Sortable.{comes_last}
 use Rattle.mud_world.specs.declared.item.Item.{Item}
-use Rattle.item_codec.specs.Spelling.{IsOctets}
+use Rattle.mud_base.specs.Numbers.{IsOctets}
 use Rattle.item_codec.specs.Records.{◌>>=◌}
 use Rattle.table_model.specs.declared.bind.ClassRow.{ClassRow}
 use Rattle.table_model.specs.declared.bind.NameRow.{NameRow}

@@ -1,13 +1,14 @@
 -- The plan of a command: what it answers, the rows that it changes, the puts that it means, and the bindings that go and
 -- come.
-use Rattle.std.specs.Prelude.{◌≡◌, ℕ, ◌<◌, ◌≤◌, ◌↔◌, false, List, [], ◌∷◌, length, Option, Some, None, MatchOption, Result, IfOk, IfErr, IsOkAnd}
+use Rattle.std.specs.Prelude.{◌≡◌, ℕ, ◌≤◌, ◌↔◌, false, List, [], ◌∷◌, length, Option, Some, None, MatchOption, Result, IfOk, IfErr, IsOkAnd}
 use Rattle.std.specs.List.{AllByRecursion}
 use Rattle.mud_base.specs.declared.addr.Addr.{Addr}
 use Rattle.mud_base.specs.declared.prefix.Prefix.{Prefix}
 use Rattle.base_rows.specs.Changes.{RowChange, changed}
+use Rattle.item_codec.specs.Kinds.{class_kind, name_kind}
 use Rattle.mud_world.specs.declared.item.Put.{Put}
 use Rattle.mud_world.specs.declared.item.Put.TheVariants as which
-use Rattle.mud_world.specs.Items.{IsDifference, kind_of_put, puts_of}
+use Rattle.mud_world.specs.Items.{IsDifference, puts_of}
 use Rattle.item_codec.specs.declared.word.Word.{Word}
 use Rattle.item_codec.specs.declared.word.Word.TheVariants as outcome
 use Rattle.acl_model.specs.declared.binding.Binding.{Binding}
@@ -19,7 +20,7 @@ use Rattle.table_model.specs.declared.bind_fault.BindFault.{BindFault}
 use Rattle.table_model.specs.Binds.{Binds, class_key, name_of, IsSoundBinds}
 use Rattle.table_model.specs.BindCommands.{BindsAfter, BindStep, bind_step, unbind_step, locals_step}
 use Rattle.table_model.specs.BindRowChanges.{bind_change, unbind_change}
-use Rattle.table_model.specs.BindItems.{class_item, locals_item, name_item}
+use Rattle.table_model.specs.BindItems.{class_item, locals_item, name_item, IsBindPut}
 use Rattle.table_model.specs.TakenItems.{bind_items}
 use Rattle.table_model.specs.Tables.{Tables, binds_of, with_binds}
 use Rattle.table_model.specs.Bindings.{class_bindings, name_bindings, bindings_of}
@@ -54,10 +55,6 @@ HasRoomFor (Locals locals) book = Unit {0}
 HasRoomFor (Names change) book = length change.sets ≤ book.name_room
 
 -- ---- When a plan is that of a step
-
--- a put of a class (kind 3), of the local networks (kind 4) or of a name (kind 5)
-abbrev pub IsBindPut : Put → Type 0
-IsBindPut put = (2 < kind_of_put put) × (kind_of_put put < 6)
 
 -- The plan answers what the step answers, and its rows make of the lists of the book those after the step, which are sound.
 -- Its puts are the items in which these lists differ, at most two; there are none exactly where the step changes nothing.
@@ -98,7 +95,7 @@ class_plan word change classes = record {
   word = word;
   until = None;
   rows = Classes change;
-  puts = puts_of 3 class_item change;
+  puts = puts_of class_kind class_item change;
   gone = gone_of class_key class_bindings change classes;
   come = come_of class_key class_bindings change classes;
 }
@@ -109,7 +106,7 @@ name_plan word until change names = record {
   word = word;
   until = Some until;
   rows = Names change;
-  puts = puts_of 5 name_item change;
+  puts = puts_of name_kind name_item change;
   gone = gone_of name_of name_bindings change names;
   come = come_of name_of name_bindings change names;
 }

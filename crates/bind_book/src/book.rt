@@ -11,13 +11,13 @@ ghost use Rattle.bind_book.specs.Plans.{changed_binds, class_plan, name_plan, Ha
 
 use crate::change::{BindChange, BindRows};
 use crate::classes::{ClassChange, bind_rows, unbind_rows};
-use crate::items::{CLASS_KIND, LOCALS_KIND, NAME_KIND};
 use crate::laws::{addr_fits, moment_fits, octets_fit, prefixes_fit};
 use crate::locals::set_locals;
 use crate::names::{NameChange, Observed, observe};
 use crate::read::{class_in, locals_in, name_in};
 use base_rows::SortedRows;
 use item_codec::Word;
+use item_codec::kinds::{CLASS_KIND, LOCALS_KIND, NAME_KIND};
 use mud_base::{Addr, End, Listed, Memory, Moment, Prefix};
 use mud_world::Item;
 use std::alloc::Global;

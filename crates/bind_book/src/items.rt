@@ -3,6 +3,7 @@
 ghost use Rattle.std.specs.Prelude.{◌≡◌, [], ◌∷◌, ◌++◌, ◌<◌, ◌^◌, IfOk, All, option_map};
 ghost use Rattle.base_rows.specs.Changes.{with_found};
 ghost use Rattle.mud_world.specs.Items.{gone_put, puts_of};
+ghost use Rattle.item_codec.specs.Kinds.{class_kind, name_kind};
 ghost use Rattle.item_codec.specs.Spelling.{version, list};
 ghost use Rattle.table_model.specs.Fits.{FitsClass, FitsLocals, FitsName};
 ghost use Rattle.table_model.specs.Binds.{key_of_class};
@@ -12,20 +13,12 @@ ghost use Rattle.table_model.specs.BindItems.{class_item, locals_item, name_item
 use crate::change::KeptName;
 use base_rows::Change;
 use item_codec::FieldWriter;
+use item_codec::kinds::{CLASS_KIND, LOCALS_KIND, NAME_KIND};
 use mud_base::{Bytes, Listed, Memory, Prefix};
 use mud_world::{Item, Put};
 use std::alloc::Global;
 use table_model::fields::{write_address, write_expiring, write_network};
 use table_model::{Class, ClassRow, NameRow};
-
-/// The kind of the items of classes.
-pub(crate) const CLASS_KIND: u8 = 3;
-
-/// The kind of the item of the local networks.
-pub(crate) const LOCALS_KIND: u8 = 4;
-
-/// The kind of the items of names.
-pub(crate) const NAME_KIND: u8 = 5;
 
 /// The version of each body.
 const VERSION: u64 = 1;
@@ -92,7 +85,7 @@ fn class_item(alloc: Global, row: &ClassRow) -> Result<Item, Memory>
 /// The put of the class that goes, where one goes.
 #[tactic(auto, unfolding(mud_world::specs::Items::gone_put))]
 fn put_of_gone_class(alloc: Global, change: &Change<Class, ClassRow>) -> Result<Listed<Put>, Memory>
-    ensures { IfOk result (λ puts. puts ≡ with_found (option_map (gone_put 3) change.now.gone) []) }
+    ensures { IfOk result (λ puts. puts ≡ with_found (option_map (gone_put class_kind) change.now.gone) []) }
 {
     let mut puts = Listed::new(alloc);
     match change.gone() {
@@ -111,7 +104,7 @@ pub(crate) fn class_puts(
     change: &Change<Class, ClassRow>,
 ) -> Result<Listed<Put>, Memory>
     requires { All FitsClass change.now.sets }
-    ensures { IfOk result (λ puts. puts ≡ puts_of 3 class_item change.now) }
+    ensures { IfOk result (λ puts. puts ≡ puts_of class_kind class_item change.now) }
 {
     let mut puts = put_of_gone_class(alloc, change)?;
     for row in change.sets() {
@@ -176,7 +169,7 @@ fn put_of_gone_name(
     alloc: Global,
     change: &Change<KeptName, NameRow>,
 ) -> Result<Listed<Put>, Memory>
-    ensures { IfOk result (λ puts. puts ≡ with_found (option_map (gone_put 5) change.now.gone) []) }
+    ensures { IfOk result (λ puts. puts ≡ with_found (option_map (gone_put name_kind) change.now.gone) []) }
 {
     let mut puts = Listed::new(alloc);
     match change.gone() {
@@ -195,7 +188,7 @@ pub(crate) fn name_puts(
     change: &Change<KeptName, NameRow>,
 ) -> Result<Listed<Put>, Memory>
     requires { All FitsName change.now.sets }
-    ensures { IfOk result (λ puts. puts ≡ puts_of 5 name_item change.now) }
+    ensures { IfOk result (λ puts. puts ≡ puts_of name_kind name_item change.now) }
 {
     let mut puts = put_of_gone_name(alloc, change)?;
     for row in change.sets() {

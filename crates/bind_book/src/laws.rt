@@ -1,7 +1,7 @@
 //! Laws of plans, and what the types of values say of them, each on a function that changes nothing.
 ghost use Rattle.std.specs.Prelude.{◌≡◌, ◌≤◌, IsOkAnd};
 ghost use Rattle.std.specs.List.{AllByRecursion};
-ghost use Rattle.item_codec.specs.Spelling.{IsOctets};
+ghost use Rattle.mud_base.specs.Numbers.{IsOctets};
 ghost use Rattle.table_model.specs.ItemFields.{IsAddr};
 ghost use Rattle.table_model.specs.Binds.{IsKeptNetwork, IsSoundBinds};
 ghost use Rattle.table_model.specs.BindCommands.{BindStep};

@@ -8,8 +8,9 @@ ghost use Rattle.table_model.specs.Binds.{is_prefix};
 ghost use Rattle.table_model.specs.BindItems as items;
 ghost use Rattle.bind_book.specs.Reading.{IsNoClass, count_in};
 
-use crate::items::{BY_URI, BY_URL, CLASS_KIND, LOCALS_KIND, NAME_KIND};
+use crate::items::{BY_URI, BY_URL};
 use item_codec::FieldReader;
+use item_codec::kinds::{CLASS_KIND, LOCALS_KIND, NAME_KIND};
 use mud_base::{Addr, Bytes, End, Listed, Memory, Prefix};
 use mud_url::url::canonical_url;
 use mud_world::Item;

@@ -4,7 +4,8 @@ use Rattle.std.specs.Prelude.{find, ◌==◌}
 use Rattle.std.specs.List.{prefix_len}
 use Rattle.httparse.specs.Grammar.{RequestHead}
 use Rattle.http_requests.specs.Requests.{path_of}
-use Rattle.console_routes.specs.Routes.{path_in, route_of, has_path, all_routes}
+use Rattle.mud_url.specs.Url.{before_query}
+use Rattle.console_routes.specs.Routes.{route_of, has_path, all_routes}
 
 -- the elements from the front on that pass
 abbrev front : (ℕ → Bool) → List ℕ → List ℕ
@@ -28,5 +29,5 @@ front_again q [] = refl
 front_again q (c ∷ cs) = again_by q c cs (q c) refl (front_again q cs)
 
 pub route_again : (head : RequestHead) → route_of (path_of head) ≡ route_of head.target
-unfolding path_of route_of path_in
+unfolding path_of route_of before_query
 route_again head = ap (λ (path : List ℕ). find (has_path path) all_routes) (front_again (λ c. not (c == 63)) head.target)

@@ -1,5 +1,5 @@
 -- A body that is read gives only commands that may be given.
-use Rattle.std.proofs.Common.{◌≡◌, ℕ, ◌<◌, ◌≤◌, Bool, true, List, Option, Some, None, Ok, Err, Result, IsTrue, refl, sym, subst, ap, ◌∙◌, arith}
+use Rattle.std.proofs.Common.{◌≡◌, ℕ, ◌<◌, ◌≤◌, true, List, Option, Some, None, Ok, Err, Result, IsTrue, refl, subst, ◌∙◌, arith}
 use Rattle.std.specs.Prelude.{nat_le, ◌&&◌, bytes_eq, option_and_then, if◌then◌else◌}
 use Rattle.std.proofs.lemmas.Option.{option_and_then_some}
 use Rattle.std.proofs.lemmas.Bool.Decides.{nat_tests}
@@ -11,7 +11,7 @@ use Rattle.mud_url.specs.Host.{is_host, lowered, host_name_of, without_last_dot}
 use Rattle.mud_url.proofs.Idempotence.{url_of_no_fault, is_canonical-canonical}
 use Rattle.mud_url.proofs.HostNames.{is_host-lowered, lowered-lowered}
 use Rattle.serde_json.specs.Data.{Data}
-use Rattle.mud_base.specs.Readings.{answer, done, ◌>>=◌, wanted}
+use Rattle.mud_base.specs.Readings.{answer, ◌>>=◌}
 use Rattle.table_model.specs.declared.bind.Class.{Class}
 use Rattle.table_model.specs.declared.bind.Class.TheVariants as class
 use Rattle.table_model.specs.Binds.{is_class, is_class_uri, is_name}
@@ -20,13 +20,12 @@ use Rattle.desk_model.specs.declared.command.Command.{Command}
 use Rattle.desk_model.specs.declared.command.Command.TheVariants as command
 use Rattle.console_routes.specs.declared.action.Statement.{Statement}
 use Rattle.console_routes.specs.declared.action.Statement.TheVariants as statement
-use Rattle.console_routes.specs.declared.action.Action.{Action}
 use Rattle.console_routes.specs.declared.action.Action.TheVariants as action
 use Rattle.console_bodies.specs.declared.member.Member.{Member}
 use Rattle.console_bodies.specs.declared.member.Member.TheVariants as members
 use Rattle.console_bodies.specs.declared.fault.BodyFault.{BodyFault}
-use Rattle.console_bodies.specs.Objects.{member_in, text_in, number_in, object_of}
-use Rattle.console_bodies.specs.Values.{Reading, meant, answer_of, url_in, url_at, name_at, mac_at, address_at, digest_at, number_at, within, prefixes_at}
+use Rattle.console_bodies.specs.Objects.{text_in, number_in, object_of}
+use Rattle.console_bodies.specs.Values.{meant, answer_of, url_in, url_at, name_at, mac_at, address_at, digest_at, number_at, within, prefixes_at}
 use Rattle.console_bodies.specs.declared.asked.Asked.{Asked}
 use Rattle.console_bodies.specs.declared.asked.Asked.TheVariants as asked
 use Rattle.console_bodies.specs.Statements.{uri_in, uri_at, uri_class, own_class, only_own, own_alone, class_at, verdict_at, move_thing, remove_thing, hold_thing, release_thing, lease_address, end_lease, state_verdict, revoke_file, bind_address, unbind_address, set_locals, observe_name, command_at}

@@ -1,6 +1,6 @@
 -- The routes of the console.
-use Rattle.std.specs.Prelude.{ℕ, Bool, ◌==◌, List, [], ◌∷◌, codes, find, bytes_eq, Option}
-use Rattle.std.specs.List.{before_first}
+use Rattle.std.specs.Prelude.{ℕ, Bool, List, [], ◌∷◌, codes, find, bytes_eq, Option}
+use Rattle.mud_url.specs.Url.{before_query}
 use Rattle.console_routes.specs.declared.route.Route.{Route}
 use Rattle.console_routes.specs.declared.route.Route.TheVariants.{Classes, Due, Files, HearDhcp, HearLldp, Holds, Leases, Locals, Names, Packets, Revokes, Things, Verdicts, Why}
 
@@ -24,16 +24,9 @@ text_of Why = codes "/why"
 abbrev pub all_routes : List Route
 all_routes = Classes ∷ Due ∷ Files ∷ HearDhcp ∷ HearLldp ∷ Holds ∷ Leases ∷ Locals ∷ Names ∷ Packets ∷ Revokes ∷ Things ∷ Verdicts ∷ Why ∷ []
 
-abbrev pub is_question_mark : ℕ → Bool
-is_question_mark c = c == 63
-
--- the path of a target: what stands before its first `?` (RFC 3986, 3.3 and 3.4)
-unfoldable pub path_in : List ℕ → List ℕ
-path_in target = before_first is_question_mark target
-
 abbrev pub has_path : List ℕ → Route → Bool
 has_path path route = bytes_eq (text_of route) path
 
--- the route of a target, octet for octet: no percent triplet is decoded, and no slash at the end is dropped
+-- the route of a target's path, octet for octet: no percent triplet is decoded, and no slash at the end is dropped
 unfoldable pub route_of : List ℕ → Option Route
-route_of target = find (has_path (path_in target)) all_routes
+route_of target = find (has_path (before_query target)) all_routes

@@ -1,5 +1,5 @@
 //! The routes of the console as a router, in which the targets of requests are looked up.
-ghost use Rattle.std.specs.Prelude.{◌≡◌, [], IfOk, find, position};
+ghost use Rattle.std.specs.Prelude.{◌≡◌, [], IfOk, find};
 ghost use Rattle.matchit.specs.Route.{parse_route};
 ghost use Rattle.matchit.specs.Router.{InsertsRead};
 ghost use Rattle.console_routes.specs.Routes as spec;
@@ -8,6 +8,7 @@ ghost use Rattle.console_routes.specs.Table.{table};
 use crate::route::Route;
 use matchit::{InsertError, Router};
 use mud_base::Memory;
+use mud_url::before_query;
 use std::alloc::Global;
 use std::marker::Model;
 use std::{fmt, str};
@@ -75,24 +76,6 @@ fn route_at(router: &Router<Route>, path: &str) -> Option<Route>
     }
 }
 
-/// The offset of the first `?`.
-fn first_question_mark(target: &[u8]) -> Option<usize>
-    ensures { result ≡ position spec.is_question_mark target.now }
-{
-    target.iter().position(|octet| *octet == b'?')
-}
-
-/// The path of a target: what stands before its first `?`.
-#[tactic(auto, using(mud_url::proofs::Offsets::before_first_found, mud_url::proofs::Offsets::before_first_none), unfolding(crate::specs::Routes::path_in))]
-fn path_in(target: &[u8]) -> &[u8]
-    ensures { result.now ≡ spec.path_in target.now }
-{
-    match first_question_mark(target) {
-        Some(end) => target.split_at(end).0,
-        None => target,
-    }
-}
-
 impl Routes {
     /// All routes. The memory for every lookup is taken here.
     pub fn new(alloc: Global) -> Result<Routes, Memory> {
@@ -112,7 +95,7 @@ impl Routes {
     pub fn route_of(&self, target: &[u8]) -> Option<Route>
         ensures { result ≡ spec.route_of target.now }
     {
-        match str::from_utf8(path_in(target)) {
+        match str::from_utf8(before_query(target)) {
             Ok(path) => route_at(&self.router, path),
             // Each path of a route is text.
             Err(_) => None,

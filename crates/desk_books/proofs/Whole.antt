@@ -117,7 +117,3 @@ kept_of things files binds compiled things_sound files_sound classes locals name
     record { sound = sound; compiled = of desk sound refl refl refl refl }
 
 -- ---- What a caller has of a plan
-
-pub ready_of : (step : DeskStep) (books : Books) (change : PlannedChange) → IsOkAnd step (λ after. IsPlanned after books change) → IsReady books change
-ready_of (Ok after) books change planned = planned.ready
-ready_of (Err refusal) books change planned = absurd planned

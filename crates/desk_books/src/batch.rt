@@ -5,12 +5,10 @@ ghost use Rattle.table_model.specs.BindItems.{stamp_item};
 ghost use Rattle.desk_books.specs.Changes.{batch_of, stamp_after};
 
 use item_codec::FieldWriter;
+use item_codec::kinds::STAMP_KIND;
 use mud_base::{Bytes, Listed, Memory, Moment};
 use mud_world::{Item, Put};
 use std::alloc::Global;
-
-/// The kind of the stamp's item.
-const STAMP_KIND: u8 = 6;
 
 /// The version of its body.
 const VERSION: u64 = 1;

@@ -9,7 +9,7 @@ use Rattle.base_rows.proofs.IndexLaws.{set_row-behind}
 use Rattle.mud_world.specs.declared.item.Item.{Item}
 use Rattle.mud_world.specs.declared.item.Put.TheVariants.{Set}
 use Rattle.mud_world.specs.Items.{sort_key_of, put_one, IsOrdered}
-use Rattle.item_codec.specs.Spelling.{IsOctets}
+use Rattle.mud_base.specs.Numbers.{IsOctets}
 use Rattle.item_codec.specs.Records.{◌>>=◌, version_to_in}
 use Rattle.item_codec.proofs.RecordLaws.{some_is, version_to_back}
 use Rattle.table_model.specs.declared.thing.Thing.{Thing}

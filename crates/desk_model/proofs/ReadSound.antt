@@ -5,7 +5,7 @@ use Rattle.std.specs.List.{AllByRecursion}
 use Rattle.std.proofs.lemmas.Bool.{eqb-true, ltb-true}
 use Rattle.std.proofs.lemmas.List.{append-nil}
 use Rattle.mud_world.specs.declared.item.Item.{Item}
-use Rattle.item_codec.specs.Spelling.{IsOctets}
+use Rattle.mud_base.specs.Numbers.{IsOctets}
 use Rattle.item_codec.specs.Records.{◌>>=◌}
 use Rattle.item_codec.proofs.RecordLaws.{some_is, bind_some, pass_some, chosen}
 use Rattle.base_rows.proofs.ListTests.{left_of, right_of}

@@ -1,16 +1,18 @@
 //! Laws of the items in which the desk is kept, each on a function that does nothing.
-ghost use Rattle.std.specs.Prelude.{◌≡◌, ℕ, ◌<◌, ◌≤◌, true, List, [], ◌∷◌, ◌++◌, length, Some, Ok, Err};
+ghost use Rattle.std.specs.Prelude.{◌≡◌, ℕ, ◌≤◌, true, List, [], ◌∷◌, ◌++◌, length, Some, Ok, Err};
 ghost use Rattle.std.specs.List.{AllByRecursion};
 ghost use Rattle.mud_world.specs.declared.item.Item.{Item};
 ghost use Rattle.mud_world.specs.declared.item.Put.{Put};
 ghost use Rattle.mud_world.specs.declared.item.Put.TheVariants.{Set};
-ghost use Rattle.mud_world.specs.Items.{put_one, IsOrdered, IsDifference, ArePutsOf, kind_of_put};
-ghost use Rattle.item_codec.specs.Spelling.{IsOctets};
+ghost use Rattle.mud_world.specs.Items.{put_one, IsOrdered, IsDifference, ArePutsOf};
+ghost use Rattle.item_codec.specs.Kinds.{file_kind, thing_kind};
+ghost use Rattle.mud_base.specs.Numbers.{IsOctets};
 ghost use Rattle.item_codec.specs.Records.{version_to_in};
 ghost use Rattle.table_model.specs.declared.thing.Thing.{Thing};
 ghost use Rattle.table_model.specs.Binds.{Binds};
 ghost use Rattle.table_model.specs.Tables.{binds_of};
 ghost use Rattle.table_model.specs.ThingItems.{thing_items, in_second};
+ghost use Rattle.table_model.specs.BindItems.{IsBindPut};
 ghost use Rattle.table_model.specs.TakenItems.{bind_items};
 ghost use Rattle.usage_tables.specs.declared.cached_file.CachedFile.{CachedFile};
 ghost use Rattle.usage_tables.specs.FileItems.{file_items};
@@ -41,16 +43,16 @@ pub fn desks_are_read_back()
 pub fn changes_are_kept_by_one_batch()
     ensures things { (desk : DeskTables) (things : List Thing) (now : ℕ) (puts : List Put)
         → IsDifference (thing_items desk.tables.things) (thing_items things) puts
-        → ArePutsOf 1 puts → length puts ≤ 2
+        → ArePutsOf thing_kind puts → length puts ≤ 2
         → IsKeptBy desk (stamped true now (with_things things desk)) (with_stamp_put now puts) }
     ensures files { (desk : DeskTables) (files : List CachedFile) (now : ℕ) (puts : List Put)
         → IsDifference (file_items desk.files) (file_items files) puts
-        → ArePutsOf 2 puts → length puts ≤ 2
+        → ArePutsOf file_kind puts → length puts ≤ 2
         → IsKeptBy desk (stamped true now (with_files files desk)) (with_stamp_put now puts) }
     // The puts of classes, local networks and names are of the kinds 3 to 5.
     ensures binds { (desk : DeskTables) (binds : Binds) (now : ℕ) (puts : List Put)
         → IsDifference (bind_items (binds_of desk.tables)) (bind_items binds) puts
-        → AllByRecursion (λ put. (2 < kind_of_put put) × (kind_of_put put < 6)) puts
+        → AllByRecursion IsBindPut puts
         → length puts ≤ 2
         → IsKeptBy desk (stamped true now (with_desk_binds binds desk)) (with_stamp_put now puts) }
 {}

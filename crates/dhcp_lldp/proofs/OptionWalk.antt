@@ -6,7 +6,8 @@ use Rattle.std.proofs.Math.Bool.{or-true}
 use Rattle.mud_base.specs.Faults.{row, row_at, first_row, unless_fault}
 use Rattle.dhcp_lldp.specs.declared.heard.HearFault.{HearFault}
 use Rattle.dhcp_lldp.specs.declared.heard.HearFault.TheVariants as faults
-use Rattle.dhcp_lldp.specs.Options.{DhcpOption, has_code, content_of, Listing, no_more, cut_at, with_option, Contents, contents_of, option_fault}
+use Rattle.dhcp_lldp.specs.Listings.{Listing, no_more, cut_at, with_first}
+use Rattle.dhcp_lldp.specs.Options.{DhcpOption, has_code, content_of, Contents, contents_of, option_fault}
 use Rattle.dhcp_lldp.specs.OptionStep.{nothing_yet, with_content}
 
 abbrev pub at_end : Contents → Option ℕ → Result Contents HearFault
@@ -21,8 +22,8 @@ abbrev pub walk : Contents → List DhcpOption → Option ℕ → Result Content
 walk contents [] cut = at_end contents cut
 walk contents (option ∷ more) cut = then_contents (with_content contents option.code option.content) (λ c. walk c more cut)
 
-unfoldable pub walked : Contents → Listing → Result Contents HearFault
-walked contents l = walk contents l.options l.cut
+unfoldable pub walked : Contents → Listing DhcpOption → Result Contents HearFault
+walked contents l = walk contents l.whole l.cut
 
 -- how many an option that was met before counts
 abbrev count_of : Option (List ℕ) → ℕ
@@ -118,9 +119,9 @@ walk_all [] cut time kind url = simp (not_twice, or_none) (at_end-answer (record
 walk_all (option ∷ more) cut time kind url =
     at_code more cut (walk_all more cut) option.content option.code time kind url (eqb_tells option.code 51) (eqb_tells option.code 53) (eqb_tells option.code 161)
 
-pub walked_all : (l : Listing) → walked nothing_yet l ≡ unless_fault (option_fault l) (Ok (contents_of l.options))
+pub walked_all : (l : Listing DhcpOption) → walked nothing_yet l ≡ unless_fault (option_fault l) (Ok (contents_of l.whole))
 unfolding walked option_fault contents_of
-walked_all l = walk_all l.options l.cut None None None ∙ simp zero-add
+walked_all l = walk_all l.whole l.cut None None None ∙ simp zero-add
 
 pub walked_end : (contents : Contents) → walked contents no_more ≡ Ok contents
 unfolding walked
@@ -131,15 +132,15 @@ unfolding walked
 walked_cut contents offset = refl
 
 -- one more option, at the front of the listing
-pub walked_option : (contents next : Contents) (option : DhcpOption) (later l : Listing) → l ≡ with_option option later
+pub walked_option : (contents next : Contents) (option : DhcpOption) (later l : Listing DhcpOption) → l ≡ with_first option later
     → Ok next ≡ with_content contents option.code option.content → walked next later ≡ walked contents l
 unfolding walked
 walked_option contents next option later l first is =
-    ap (λ r. then_contents r (λ c. walk c later.options later.cut)) is ∙ sym (ap (walked contents) first)
+    ap (λ r. then_contents r (λ c. walk c later.whole later.cut)) is ∙ sym (ap (walked contents) first)
 
 -- an option that is there a second time
-pub walked_fault : (contents : Contents) (fault : HearFault) (option : DhcpOption) (later l : Listing) → l ≡ with_option option later
+pub walked_fault : (contents : Contents) (fault : HearFault) (option : DhcpOption) (later l : Listing DhcpOption) → l ≡ with_first option later
     → Err fault ≡ with_content contents option.code option.content → Err fault ≡ walked contents l
 unfolding walked
 walked_fault contents fault option later l first is =
-    ap (λ r. then_contents r (λ c. walk c later.options later.cut)) is ∙ sym (ap (walked contents) first)
+    ap (λ r. then_contents r (λ c. walk c later.whole later.cut)) is ∙ sym (ap (walked contents) first)

@@ -5,7 +5,8 @@ use Rattle.std.proofs.lemmas.Bool.{cases_Bool}
 use Rattle.mud_base.specs.Faults.{row, first_row, unless_fault}
 use Rattle.dhcp_lldp.specs.declared.heard.HearFault.{HearFault}
 use Rattle.dhcp_lldp.specs.declared.heard.HearFault.TheVariants as faults
-use Rattle.dhcp_lldp.specs.Tlvs.{Tlv, Listing, no_more, cut_at, with_tlv, is_out_of_order, is_mud, tlv_rows, tlv_fault, mud_string_of}
+use Rattle.dhcp_lldp.specs.Listings.{Listing, no_more, cut_at, with_first}
+use Rattle.dhcp_lldp.specs.Tlvs.{Tlv, is_out_of_order, is_mud, tlv_rows, tlv_fault, mud_string_of}
 use Rattle.dhcp_lldp.specs.TlvStep.{SeenTlvs, nothing_seen, seen_in, seen_after}
 
 abbrev pub at_end : SeenTlvs → Option ℕ → Result SeenTlvs HearFault
@@ -20,8 +21,8 @@ abbrev pub walk : SeenTlvs → List Tlv → Option ℕ → Result SeenTlvs HearF
 walk seen [] cut = at_end seen cut
 walk seen (tlv ∷ more) cut = then_seen (seen_after seen tlv) (λ s. walk s more cut)
 
-unfoldable pub walked : SeenTlvs → Listing → Result SeenTlvs HearFault
-walked seen l = walk seen l.tlvs l.cut
+unfoldable pub walked : SeenTlvs → Listing Tlv → Result SeenTlvs HearFault
+walked seen l = walk seen l.whole l.cut
 
 abbrev or_else : Option (List ℕ) → Option (List ℕ) → Option (List ℕ)
 or_else None later = later
@@ -63,9 +64,9 @@ walk_all [] (Some offset) count string = refl
 walk_all (tlv ∷ more) cut count string =
     at_tlv tlv more cut (walk_all more cut) count string (cases_Bool (is_out_of_order count tlv)) (cases_Bool (is_mud tlv))
 
-pub walked_all : (l : Listing) → walked nothing_seen l ≡ unless_fault (tlv_fault l) (Ok (seen_in l.tlvs))
+pub walked_all : (l : Listing Tlv) → walked nothing_seen l ≡ unless_fault (tlv_fault l) (Ok (seen_in l.whole))
 unfolding walked tlv_fault seen_in
-walked_all l = walk_all l.tlvs l.cut 0 None ∙ simp zero-add
+walked_all l = walk_all l.whole l.cut 0 None ∙ simp zero-add
 
 pub walked_end : (seen : SeenTlvs) → ltb seen.count 3 ≡ false → walked seen no_more ≡ Ok seen
 unfolding walked
@@ -80,11 +81,11 @@ unfolding walked
 walked_cut seen offset = refl
 
 -- one more TLV, at the front of the listing
-pub walked_tlv : (seen next : SeenTlvs) (tlv : Tlv) (later l : Listing) → l ≡ with_tlv tlv later → Ok next ≡ seen_after seen tlv → walked next later ≡ walked seen l
+pub walked_tlv : (seen next : SeenTlvs) (tlv : Tlv) (later l : Listing Tlv) → l ≡ with_first tlv later → Ok next ≡ seen_after seen tlv → walked next later ≡ walked seen l
 unfolding walked
-walked_tlv seen next tlv later l first is = ap (λ r. then_seen r (λ s. walk s later.tlvs later.cut)) is ∙ sym (ap (walked seen) first)
+walked_tlv seen next tlv later l first is = ap (λ r. then_seen r (λ s. walk s later.whole later.cut)) is ∙ sym (ap (walked seen) first)
 
 -- a TLV that is refused
-pub walked_fault : (seen : SeenTlvs) (fault : HearFault) (tlv : Tlv) (later l : Listing) → l ≡ with_tlv tlv later → Err fault ≡ seen_after seen tlv → Err fault ≡ walked seen l
+pub walked_fault : (seen : SeenTlvs) (fault : HearFault) (tlv : Tlv) (later l : Listing Tlv) → l ≡ with_first tlv later → Err fault ≡ seen_after seen tlv → Err fault ≡ walked seen l
 unfolding walked
-walked_fault seen fault tlv later l first is = ap (λ r. then_seen r (λ s. walk s later.tlvs later.cut)) is ∙ sym (ap (walked seen) first)
+walked_fault seen fault tlv later l first is = ap (λ r. then_seen r (λ s. walk s later.whole later.cut)) is ∙ sym (ap (walked seen) first)

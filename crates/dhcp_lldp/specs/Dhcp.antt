@@ -11,7 +11,8 @@ use Rattle.dhcp_lldp.specs.declared.heard.Heard.TheVariants.{Lease, Nothing}
 use Rattle.dhcp_lldp.specs.declared.heard.HearFault.{HearFault}
 use Rattle.dhcp_lldp.specs.declared.heard.HearFault.TheVariants as faults
 use Rattle.dhcp_lldp.specs.Mud.{announced}
-use Rattle.dhcp_lldp.specs.Options.{Listing, listing, Contents, contents_of, option_fault}
+use Rattle.dhcp_lldp.specs.Listings.{Listing}
+use Rattle.dhcp_lldp.specs.Options.{DhcpOption, listing, Contents, contents_of, option_fault}
 
 -- The offsets of the fields that are read (section 2, figure 1)
 abbrev pub op_offset : ℕ
@@ -54,7 +55,7 @@ has_cookie message = bytes_eq (octets_at 4 cookie_offset message) (99 ∷ 130 �
 unfoldable pub yiaddr_of : List ℕ → ℕ
 yiaddr_of message = big_32 yiaddr_offset message
 
-unfoldable pub options_of : List ℕ → Listing
+unfoldable pub options_of : List ℕ → Listing DhcpOption
 options_of message = listing 0 options_offset (drop options_offset message)
 
 -- DHCPACK is the message type 5 (RFC 2132, section 9.6)
@@ -90,4 +91,4 @@ rows message =
     ∷ []
 
 unfoldable pub heard_of : List ℕ → Result Heard HearFault
-heard_of message = unless (rows message) (said message (contents_of (options_of message).options))
+heard_of message = unless (rows message) (said message (contents_of (options_of message).whole))

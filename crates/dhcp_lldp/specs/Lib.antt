@@ -1,5 +1,6 @@
 pub mod Dhcp
 pub mod Heard
+pub mod Listings
 pub mod Lldp
 pub mod Mud
 pub mod OptionStep

@@ -4,7 +4,8 @@ use Rattle.dhcp_lldp.specs.declared.options.Step.{Step}
 use Rattle.dhcp_lldp.specs.declared.options.Step.TheVariants.{End, Cut, Pad, Whole}
 use Rattle.dhcp_lldp.specs.declared.heard.HearFault.{HearFault}
 use Rattle.dhcp_lldp.specs.declared.heard.HearFault.TheVariants.{Repeat}
-use Rattle.dhcp_lldp.specs.Options.{Contents, listing, no_more, cut_at, with_option}
+use Rattle.dhcp_lldp.specs.Listings.{no_more, cut_at, with_first}
+use Rattle.dhcp_lldp.specs.Options.{Contents, listing}
 
 abbrev pub IsStep : List ℕ → Step → Type 0
 IsStep octets End = (offset : ℕ) → listing 0 offset octets ≡ no_more
@@ -12,7 +13,7 @@ IsStep octets Cut = (offset : ℕ) → listing 0 offset octets ≡ cut_at offset
 IsStep octets (Pad rest) = (length rest.now + 1 ≡ length octets) × ((offset : ℕ) → listing 0 offset octets ≡ listing 0 (offset + 1) rest.now)
 IsStep octets (Whole code content rest) =
     (length rest.now + length content.now + 2 ≡ length octets)
-    × ((offset : ℕ) → listing 0 offset octets ≡ with_option (record { code = code; content = content.now }) (listing 0 (offset + (2 + length content.now)) rest.now))
+    × ((offset : ℕ) → listing 0 offset octets ≡ with_first (record { code = code; content = content.now }) (listing 0 (offset + (2 + length content.now)) rest.now))
 
 abbrev pub nothing_yet : Contents
 nothing_yet = record { lease_time = None; message_type = None; mud_url = None }

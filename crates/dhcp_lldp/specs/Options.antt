@@ -1,43 +1,30 @@
 -- The options of a DHCP message (RFC 2132, section 2).
-use Rattle.std.specs.Prelude.{ℕ, zero, suc, ◌+◌, ◌==◌, nat_lt, Bool, ◌||◌, if◌then◌else◌, List, [], ◌∷◌, length, take, drop, slice_index, Option, Some, None, option_map, filter, find}
+use Rattle.std.specs.Prelude.{ℕ, zero, suc, ◌+◌, ◌==◌, nat_lt, Bool, ◌||◌, if◌then◌else◌, List, [], ◌∷◌, length, take, drop, slice_index, Option, option_map, filter, find}
 use Rattle.mud_base.specs.Faults.{row, row_at, first_row}
 use Rattle.dhcp_lldp.specs.declared.heard.HearFault.{HearFault}
 use Rattle.dhcp_lldp.specs.declared.heard.HearFault.TheVariants as faults
+use Rattle.dhcp_lldp.specs.Listings.{Listing, no_more, cut_at, with_first}
 
 -- an option: its code and its content
 pub record DhcpOption : Type 0 where
   pub code : ℕ
   pub content : List ℕ
 
--- the whole options up to the end, and the offset of the code of the one that is cut there
-pub record Listing : Type 0 where
-  pub options : List DhcpOption
-  pub cut : Option ℕ
-
-abbrev pub no_more : Listing
-no_more = record { options = []; cut = None }
-
-abbrev pub cut_at : ℕ → Listing
-cut_at offset = record { options = []; cut = Some offset }
-
-abbrev pub with_option : DhcpOption → Listing → Listing
-with_option first later = record { options = first ∷ later.options; cut = later.cut }
-
 -- how many octets an option has behind its code: the length octet, and as many as it says
 abbrev pub width : List ℕ → ℕ
 width behind = slice_index behind 0 + 1
 
 -- The options Pad (0) and End (255) are one octet (sections 3.1 and 3.2). Any other option is a code, a length octet and the content.
-abbrev pub at_code : ℕ → ℕ → List ℕ → Listing → Listing
+abbrev pub at_code : ℕ → ℕ → List ℕ → Listing DhcpOption → Listing DhcpOption
 at_code offset code behind later =
     if code == 0 then later
     else (if code == 255 then no_more
     else (if nat_lt (length behind) (width behind) then cut_at offset
-    else with_option (record { code = code; content = drop 1 (take (width behind) behind) }) later))
+    else with_first (record { code = code; content = drop 1 (take (width behind) behind) }) later))
 
--- The listing of the octets from an offset on, where the first so many are the rest of an option. The end of the octets ends the
+-- The options in the octets from an offset on, where the first so many are the rest of an option. The end of the octets ends the
 -- options too.
-abbrev pub listing : ℕ → ℕ → List ℕ → Listing
+abbrev pub listing : ℕ → ℕ → List ℕ → Listing DhcpOption
 listing skipped offset [] = no_more
 listing (suc skipped) offset (octet ∷ behind) = listing skipped (offset + 1) behind
 listing zero offset (code ∷ behind) = at_code offset code behind (listing (if code == 0 then 0 else width behind) (offset + 1) behind)
@@ -64,9 +51,9 @@ unfoldable pub contents_of : List DhcpOption → Contents
 contents_of options = record { lease_time = content_of 51 options; message_type = content_of 53 options; mud_url = content_of 161 options }
 
 -- The first fault of the options. The cut option stands behind all whole ones, so a repeated one was met before it.
-unfoldable pub option_fault : Listing → Option HearFault
+unfoldable pub option_fault : Listing DhcpOption → Option HearFault
 option_fault l =
     first_row (
-    row (is_repeated 51 l.options || is_repeated 53 l.options || is_repeated 161 l.options) faults.Repeat
+    row (is_repeated 51 l.whole || is_repeated 53 l.whole || is_repeated 161 l.whole) faults.Repeat
     ∷ row_at faults.Cut l.cut
     ∷ [])

@@ -4,7 +4,8 @@ use Rattle.dhcp_lldp.specs.declared.heard.HearFault.{HearFault}
 use Rattle.dhcp_lldp.specs.declared.heard.HearFault.TheVariants.{Order, Repeat}
 use Rattle.dhcp_lldp.specs.declared.tlvs.Step.{Step}
 use Rattle.dhcp_lldp.specs.declared.tlvs.Step.TheVariants.{End, Cut, Whole}
-use Rattle.dhcp_lldp.specs.Tlvs.{Tlv, listing, no_more, cut_at, with_tlv, prefix_len, is_out_of_order, is_mud, mud_string_of}
+use Rattle.dhcp_lldp.specs.Listings.{no_more, cut_at, with_first}
+use Rattle.dhcp_lldp.specs.Tlvs.{Tlv, listing, prefix_len, is_out_of_order, is_mud, mud_string_of}
 
 abbrev pub IsStep : List ℕ → Step → Type 0
 IsStep octets End = (offset : ℕ) → listing 0 offset octets ≡ no_more
@@ -12,7 +13,7 @@ IsStep octets Cut = (offset : ℕ) → listing 0 offset octets ≡ cut_at offset
 IsStep octets (Whole kind content rest) =
     (length rest.now + (2 + length content.now) ≤ length octets)
     × ((offset : ℕ) →
-    listing 0 offset octets ≡ with_tlv (record { kind = kind; content = content.now }) (listing 0 (offset + (2 + length content.now)) rest.now))
+    listing 0 offset octets ≡ with_first (record { kind = kind; content = content.now }) (listing 0 (offset + (2 + length content.now)) rest.now))
 
 -- how many TLVs were read, and the MUD string of one of them
 pub record SeenTlvs : Type 0 where

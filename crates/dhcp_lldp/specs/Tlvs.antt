@@ -1,28 +1,15 @@
 -- The TLVs of an LLDP frame (IEEE 802.1AB, clause 8).
-use Rattle.std.specs.Prelude.{ℕ, zero, suc, ◌+◌, ◌*◌, ◌/◌, ◌%◌, ◌==◌, nat_lt, nat_le, Bool, false, not, ◌||◌, ◌&&◌, if◌then◌else◌, List, [], ◌∷◌, length, take, drop, slice_index, Option, Some, None, option_map, find}
+use Rattle.std.specs.Prelude.{ℕ, zero, suc, ◌+◌, ◌*◌, ◌/◌, ◌%◌, ◌==◌, nat_lt, nat_le, Bool, false, not, ◌||◌, ◌&&◌, if◌then◌else◌, List, [], ◌∷◌, length, take, drop, slice_index, Option, option_map, find}
 use Rattle.std.specs.Str.{bytes_eq}
 use Rattle.mud_base.specs.Faults.{row, row_at, first_row}
 use Rattle.dhcp_lldp.specs.declared.heard.HearFault.{HearFault}
 use Rattle.dhcp_lldp.specs.declared.heard.HearFault.TheVariants as faults
+use Rattle.dhcp_lldp.specs.Listings.{Listing, no_more, cut_at, with_first}
 
 -- a TLV: its type and its content
 pub record Tlv : Type 0 where
   pub kind : ℕ
   pub content : List ℕ
-
--- the whole TLVs up to the end, and the offset of the header of the one that is cut there
-pub record Listing : Type 0 where
-  pub tlvs : List Tlv
-  pub cut : Option ℕ
-
-abbrev pub no_more : Listing
-no_more = record { tlvs = []; cut = None }
-
-abbrev pub cut_at : ℕ → Listing
-cut_at offset = record { tlvs = []; cut = Some offset }
-
-abbrev pub with_tlv : Tlv → Listing → Listing
-with_tlv first later = record { tlvs = first ∷ later.tlvs; cut = later.cut }
 
 -- The header is 7 bits of type and 9 bits of length, in two octets (clause 8.4).
 abbrev pub kind_of : ℕ → ℕ
@@ -33,15 +20,15 @@ abbrev pub width : ℕ → List ℕ → ℕ
 width header behind = 256 * (header % 2) + slice_index behind 0 + 1
 
 -- The End Of LLDPDU TLV, of type 0, is the last one (clause 8.5.1).
-abbrev pub at_header : ℕ → ℕ → List ℕ → Listing → Listing
+abbrev pub at_header : ℕ → ℕ → List ℕ → Listing Tlv → Listing Tlv
 at_header offset header behind later =
     if nat_lt (length behind) (width header behind) then cut_at offset
-    else with_tlv (record { kind = kind_of header; content = drop 1 (take (width header behind) behind) })
+    else with_first (record { kind = kind_of header; content = drop 1 (take (width header behind) behind) })
     (if kind_of header == 0 then no_more else later)
 
--- The listing of the octets from an offset on, where the first so many are the rest of a TLV. The end of the octets ends the TLVs
+-- The TLVs in the octets from an offset on, where the first so many are the rest of a TLV. The end of the octets ends the TLVs
 -- too.
-abbrev pub listing : ℕ → ℕ → List ℕ → Listing
+abbrev pub listing : ℕ → ℕ → List ℕ → Listing Tlv
 listing skipped offset [] = no_more
 listing (suc skipped) offset (octet ∷ behind) = listing skipped (offset + 1) behind
 listing zero offset (header ∷ behind) = at_header offset header behind (listing (width header behind) (offset + 1) behind)
@@ -69,8 +56,8 @@ tlv_rows before is_announced cut (tlv ∷ more) =
     ∷ row (is_announced && is_mud tlv) faults.Repeat
     ∷ tlv_rows (before + 1) (is_announced || is_mud tlv) cut more
 
-unfoldable pub tlv_fault : Listing → Option HearFault
-tlv_fault l = first_row (tlv_rows 0 false l.cut l.tlvs)
+unfoldable pub tlv_fault : Listing Tlv → Option HearFault
+tlv_fault l = first_row (tlv_rows 0 false l.cut l.whole)
 
 -- the MUD string, which stands behind the OUI and the subtype
 unfoldable pub mud_string_of : List Tlv → Option (List ℕ)

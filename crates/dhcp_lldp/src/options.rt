@@ -58,7 +58,7 @@ pub(crate) const OPTIONS_OFFSET: usize = 240;
 #[tactic(auto, using(crate::proofs::OptionWalk::walked_all, crate::proofs::OptionWalk::walked_end, crate::proofs::OptionWalk::walked_cut), unfolding(crate::specs::Dhcp::options_of))]
 pub(crate) fn contents(message: &[u8]) -> Result<Contents<'_>, HearFault>
     requires { 240 ≤ length message.now }
-    ensures { result ≡ unless_fault (option_fault (options_of message.now)) (Ok (contents_of (options_of message.now).options)) }
+    ensures { result ≡ unless_fault (option_fault (options_of message.now)) (Ok (contents_of (options_of message.now).whole)) }
 {
     let (_, mut rest) = message.split_at(OPTIONS_OFFSET);
     let mut offset = OPTIONS_OFFSET;

@@ -88,7 +88,7 @@ pub(crate) fn is_mud(kind: u8, content: &[u8]) -> bool
 #[tactic(auto, using(crate::proofs::TlvWalk::walked_all, crate::proofs::TlvWalk::walked_end, crate::proofs::TlvWalk::walked_short, crate::proofs::TlvWalk::walked_cut), unfolding(crate::specs::Lldp::tlvs_of))]
 pub(crate) fn seen_tlvs(frame: &[u8]) -> Result<Seen<'_>, HearFault>
     requires { 14 ≤ length frame.now }
-    ensures { result ≡ unless_fault (tlv_fault (tlvs_of frame.now)) (Ok (seen_in (tlvs_of frame.now).tlvs)) }
+    ensures { result ≡ unless_fault (tlv_fault (tlvs_of frame.now)) (Ok (seen_in (tlvs_of frame.now).whole)) }
 {
     let (_, mut rest) = frame.split_at(HEAD_LEN);
     let mut offset = HEAD_LEN;

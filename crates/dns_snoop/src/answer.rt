@@ -1,6 +1,7 @@
 //! The answers of a message, one by one.
 ghost use Rattle.std.specs.Prelude.{◌≡◌, ◌+◌, ◌≤◌, length, false, IfOk, IfSome};
 ghost use Rattle.dns_snoop.specs.Records as spec;
+ghost use Rattle.dns_snoop.specs.Records.{class_in, type_a, type_aaaa};
 
 use crate::fault::DnsFault;
 use crate::name::read_name;
@@ -46,8 +47,8 @@ pub struct Record {
 #[tactic(auto, unfolding(crate::specs::Records::is_amiss))]
 fn is_amiss(kind: u16, class: u16, len: usize) -> bool
     ensures value { result ≡ spec.is_amiss kind class len }
-    ensures four { result ≡ false → kind ≡ 1 → class ≡ 1 → len ≡ 4 }
-    ensures sixteen { result ≡ false → kind ≡ 28 → class ≡ 1 → len ≡ 16 }
+    ensures four { result ≡ false → kind ≡ type_a → class ≡ class_in → len ≡ 4 }
+    ensures sixteen { result ≡ false → kind ≡ type_aaaa → class ≡ class_in → len ≡ 16 }
 {
     if class != IN {
         return false;
@@ -67,8 +68,8 @@ fn is_amiss(kind: u16, class: u16, len: usize) -> bool
 fn alias_in(message: &[u8], kind: u16, class: u16, offset: usize, len: usize) -> Option<ShortText>
     requires { offset + len ≤ length message.now }
     ensures alias { result ≡ spec.alias_in message.now kind class offset len }
-    ensures four { IfSome result (λ _. kind ≡ 1 → class ≡ 1 → len ≡ 4) }
-    ensures sixteen { IfSome result (λ _. kind ≡ 28 → class ≡ 1 → len ≡ 16) }
+    ensures four { IfSome result (λ _. kind ≡ type_a → class ≡ class_in → len ≡ 4) }
+    ensures sixteen { IfSome result (λ _. kind ≡ type_aaaa → class ≡ class_in → len ≡ 16) }
 {
     if kind == CNAME {
         let Ok(name) = read_name(message, offset) else {
@@ -91,8 +92,8 @@ pub(crate) fn read_record(message: &[u8], offset: usize) -> Result<Record, DnsFa
     requires { offset ≤ length message.now }
     ensures read { result ≡ spec.record_at message.now offset }
     ensures within { IfOk result (λ r. r.offset + r.len ≤ length message.now) }
-    ensures four { IfOk result (λ r. r.kind ≡ 1 → r.class ≡ 1 → r.len ≡ 4) }
-    ensures sixteen { IfOk result (λ r. r.kind ≡ 28 → r.class ≡ 1 → r.len ≡ 16) }
+    ensures four { IfOk result (λ r. r.kind ≡ type_a → r.class ≡ class_in → r.len ≡ 4) }
+    ensures sixteen { IfOk result (λ r. r.kind ≡ type_aaaa → r.class ≡ class_in → r.len ≡ 16) }
 {
     let owner = read_name(message, offset)?;
     let at = owner.behind;

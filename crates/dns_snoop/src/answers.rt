@@ -3,6 +3,7 @@ ghost use Rattle.std.specs.Prelude.{◌≡◌, ◌≤◌, length, drop, IfOk, If
 ghost use Rattle.std.specs.List.{All};
 ghost use Rattle.dns_snoop.specs.Messages as spec;
 ghost use Rattle.dns_snoop.specs.Observed.{IsObservable};
+ghost use Rattle.dns_snoop.specs.Records.{type_a, type_aaaa};
 ghost use Rattle.dns_snoop.specs.Rows.{Answered};
 
 use crate::answer::{A, AAAA, IN};
@@ -117,7 +118,7 @@ fn behind_first(text: &ShortText) -> &[u8]
 #[tactic(auto, unfolding(crate::specs::Messages::asked_by))]
 fn asked_by(question: &Question, name: &[u8]) -> Option<u16>
     ensures value { result ≡ spec.asked_by question.now name.now }
-    ensures kind { IfSome result (λ kind. (kind ≡ 1) ⊎ (kind ≡ 28)) }
+    ensures kind { IfSome result (λ kind. (kind ≡ type_a) ⊎ (kind ≡ type_aaaa)) }
 {
     if question.class != IN || !is_host(name) {
         return None;

@@ -1,7 +1,7 @@
 //! The rows of the answers: addresses, each with its seconds.
 ghost use Rattle.std.specs.Prelude.{◌≡◌, ◌+◌, ◌≤◌, ◌≢◌, ◌⊎◌, IfSome, IsTrue, OnOk, ◌++◌, ◌∷◌, [], length, None};
 ghost use Rattle.dns_snoop.specs.Records as spec;
-ghost use Rattle.dns_snoop.specs.Records.{records_from};
+ghost use Rattle.dns_snoop.specs.Records.{records_from, class_in, type_a, type_aaaa};
 ghost use Rattle.dns_snoop.specs.Rows.{Answered, collected, bound_with, row_if, alias_after, least_after};
 
 use crate::answer::{A, CNAME, IN, Record, read_record};
@@ -16,7 +16,7 @@ const MOST_TTL: u32 = 2_147_483_647;
 #[tactic(auto, unfolding(crate::specs::Records::is_owned))]
 fn is_owned(answer: &Record, alias: &ShortText) -> bool
     ensures value { result ≡ spec.is_owned alias.now answer.now }
-    ensures class { IsTrue result → answer.now.class ≡ 1 }
+    ensures class { IsTrue result → answer.now.class ≡ class_in }
 {
     if answer.class != IN {
         return false;
@@ -64,7 +64,7 @@ fn least_after(answer: &Record, alias: &ShortText, least: Option<u32>) -> Option
 
 /// The address of an answer: its content, which has 4 or 16 octets.
 fn address_in(message: &[u8], answer: &Record) -> Addr
-    requires four { answer.now.kind ≡ 1 → answer.now.offset + 4 ≤ length message.now }
+    requires four { answer.now.kind ≡ type_a → answer.now.offset + 4 ≤ length message.now }
     requires sixteen { answer.now.kind ≢ 1 → answer.now.offset + 16 ≤ length message.now }
     ensures { result ≡ spec.address_in message.now answer.now }
 {
@@ -77,7 +77,7 @@ fn address_in(message: &[u8], answer: &Record) -> Addr
 /// Whether an answer gives a row: it has this type and owner, and this bound is that of a row.
 #[tactic(auto, unfolding(crate::specs::Records::gives_row))]
 fn gives_row(answer: &Record, kind: u16, alias: &ShortText, bound: u32) -> bool
-    ensures class { IsTrue result → answer.now.class ≡ 1 }
+    ensures class { IsTrue result → answer.now.class ≡ class_in }
     ensures kind { IsTrue result → answer.now.kind ≡ kind }
     ensures value { result ≡ spec.gives_row kind alias.now bound answer.now }
 {
@@ -96,9 +96,9 @@ fn add_row(
     alias: &ShortText,
     bound: u32,
 ) -> Result<(), Memory>
-    requires kind { IfSome asked (λ kind. (kind ≡ 1) ⊎ (kind ≡ 28)) }
-    requires four { answer.now.kind ≡ 1 → answer.now.class ≡ 1 → answer.now.offset + 4 ≤ length message.now }
-    requires sixteen { answer.now.kind ≡ 28 → answer.now.class ≡ 1 → answer.now.offset + 16 ≤ length message.now }
+    requires kind { IfSome asked (λ kind. (kind ≡ type_a) ⊎ (kind ≡ type_aaaa)) }
+    requires four { answer.now.kind ≡ type_a → answer.now.class ≡ class_in → answer.now.offset + 4 ≤ length message.now }
+    requires sixteen { answer.now.kind ≡ type_aaaa → answer.now.class ≡ class_in → answer.now.offset + 16 ≤ length message.now }
     ensures { OnOk result (rows.new ≡ rows.old ++ row_if message.now asked alias.now bound answer.now) }
 {
     let Some(kind) = asked else {
@@ -121,7 +121,7 @@ pub(crate) fn read_rows(
     name: ShortText,
 ) -> Result<Listed<(Addr, u32)>, DnsFault>
     requires start { start ≤ length message.now }
-    requires kind { IfSome asked (λ kind. (kind ≡ 1) ⊎ (kind ≡ 28)) }
+    requires kind { IfSome asked (λ kind. (kind ≡ type_a) ⊎ (kind ≡ type_aaaa)) }
     ensures { Answered result (collected message.now asked [] name None (records_from count message.now start)) }
 {
     let mut rows = Listed::new(alloc);

@@ -1,30 +1,23 @@
 -- The rows of a tally, computed on packets of a light bulb.
-use Rattle.std.proofs.Common.{◌≡◌, ℕ, List, [], ◌∷◌, length, take, map, Option, Some, None, refl}
-use Rattle.mud_base.specs.declared.addr.Addr.{Addr}
+use Rattle.std.proofs.Common.{◌≡◌, ℕ, List, [], ◌∷◌, length, Some, None, refl}
 use Rattle.mud_base.specs.declared.addr.Addr.TheVariants.{V4}
 use Rattle.mud_base.specs.declared.addr.Mac.{Mac}
-use Rattle.mud_base.specs.declared.packet.Direction.{Direction}
 use Rattle.mud_base.specs.declared.packet.Direction.TheVariants.{From, To}
 use Rattle.mud_base.specs.declared.packet.Fields.{Fields}
 use Rattle.mud_base.specs.declared.packet.Transport.TheVariants.{Tcp, Udp}
 use Rattle.acl_model.specs.Match.{peer_of}
 use Rattle.acl_model.specs.declared.ruling.DefaultRule.TheVariants.{Dns}
-use Rattle.acl_model.specs.declared.ruling.Ruling.{Ruling}
 use Rattle.acl_model.specs.declared.ruling.Ruling.TheVariants.{Accept, AcceptDefault, DropDefault}
 use Rattle.acl_model.specs.declared.ruling.Why.TheVariants.{NoMatch}
-use Rattle.packet_judge.specs.declared.verdict.Verdict.{Verdict}
 use Rattle.packet_judge.specs.declared.verdict.Verdict.TheVariants.{Governed}
 use Rattle.packet_judge.specs.Verdicts.{accepts, forwarded}
 use Rattle.base_rows.specs.Addresses.{addr_sort_key}
 use Rattle.drop_ledger.specs.Counted.{count_of, numbered, count_rows, firsts, is_of, those_of, kept_of, is_kept, is_first, first_rows, others_of, late_rows}
-use Rattle.drop_ledger.specs.declared.rows.CountRow.{CountRow}
-use Rattle.drop_ledger.specs.declared.rows.DeniedRow.{DeniedRow}
-use Rattle.drop_ledger.specs.declared.rows.OtherRow.{OtherRow}
 use Rattle.drop_ledger.specs.declared.seen.Seen.{Seen}
-use Rattle.drop_ledger.specs.declared.totals.Totals.{Totals}
-use Rattle.drop_ledger.specs.SortKeys.{six, side_number, thing_sort_key, ruling_class, entry_number, ruling_sort_key, port_number, peer_sort_key, sort_key_of_count, sort_key_of_denied, sort_key_of_other, with_count, with_denied, with_other}
+use Rattle.mud_base.specs.Directions.{side_number}
+use Rattle.drop_ledger.specs.SortKeys.{six, thing_sort_key, ruling_class, entry_number, ruling_sort_key, port_number, peer_sort_key, sort_key_of_count, sort_key_of_denied, sort_key_of_other, with_count, with_denied, with_other}
 use Rattle.drop_ledger.specs.Seen.{hour_of, mac_on, ruling_on, ruled_on, rulings_in, rulings, is_unmanaged, is_link, is_unreadable, is_governed, has_both, passes, drops, verdicts, totals_in}
-use Rattle.drop_ledger.specs.Ledger.{count_row, counts_of, port_of, peer_row, row_with, row_by, denied_row, denials, other_row, denied_kinds, hour_in}
+use Rattle.drop_ledger.specs.Ledger.{count_row, counts_of, port_of, peer_row, row_with, row_by, denied_row, denials, denied_kinds, hour_in}
 
 unfoldable pub bulb : Mac
 bulb = record { 0 = 2 ∷ 0 ∷ 0 ∷ 0 ∷ 0 ∷ 1 ∷ [] }

@@ -1,5 +1,5 @@
 -- What a tally's rows and totals are with one ruling or one packet more.
-use Rattle.std.proofs.Common.{◌≡◌, ℕ, zero, suc, ◌+◌, ◌≤◌, Bool, true, false, cond, not, ◌&&◌, ◌||◌, List, [], ◌∷◌, ◌++◌, length, take, map, Option, Some, None, refl, sym, ap, subst, ◌∙◌, arith, length-append, append_assoc}
+use Rattle.std.proofs.Common.{◌≡◌, ℕ, ◌+◌, ◌≤◌, Bool, true, false, cond, not, ◌&&◌, ◌||◌, List, [], ◌∷◌, ◌++◌, length, take, map, Option, Some, None, refl, sym, ap, subst, ◌∙◌, arith, length-append, append_assoc}
 use Rattle.std.specs.Prelude.{is_some, option_to_list, flat_map, option_map, IsSome, nat_eq}
 use Rattle.std.specs.List.{filter, filter_map, cons_option, AllByRecursion}
 use Rattle.std.proofs.lemmas.Bool.{false≢true}
@@ -28,7 +28,8 @@ use Rattle.drop_ledger.specs.Counted.{AreKinds, count_of, count_rows, first_rows
 use Rattle.drop_ledger.specs.declared.rows.DeniedRow.{DeniedRow}
 use Rattle.drop_ledger.specs.declared.seen.Seen.{Seen}
 use Rattle.drop_ledger.specs.declared.seen.Ruled.{Ruled}
-use Rattle.drop_ledger.specs.SortKeys.{six, side_number, thing_sort_key, ruling_sort_key, ruling_class, entry_number, peer_sort_key, sort_key_of_count, sort_key_of_denied, sort_key_of_other, count_of_row, denied_count, other_count, with_count}
+use Rattle.mud_base.specs.Directions.{side_number}
+use Rattle.drop_ledger.specs.SortKeys.{six, thing_sort_key, ruling_sort_key, ruling_class, entry_number, peer_sort_key, sort_key_of_count, sort_key_of_denied, sort_key_of_other, count_of_row, denied_count, other_count, with_count}
 use Rattle.drop_ledger.specs.RowTypes.{count_stays, count_told, denied_stays, denied_told, other_stays, other_told}
 use Rattle.drop_ledger.specs.Seen.{hour_of, mac_on, ruling_on, ruled, ruled_on, rulings_in, rulings, is_governed, has_both, passes, drops, verdicts, HasFields, HasThing, is_ruled}
 use Rattle.drop_ledger.specs.Ledger.{count_row, counts_of, times_of, peer_row, row_with, row_by, denied_row, denials, other_row, denied_kinds, hour_in, times_ruled}

@@ -10,7 +10,8 @@ use Rattle.base_rows.specs.Sortable.{sort_key_cmp, prefix_cmp}
 use Rattle.base_rows.specs.Addresses.{addr_sort_key}
 use Rattle.base_rows.proofs.AddressLaws.{addr_cmp-sort_key, length-addr_sort_key}
 use Rattle.base_rows.proofs.Orders.{then_equal, then_assoc, sort_key_cmp-front, prefix_cmp-front, one_number}
-use Rattle.drop_ledger.specs.SortKeys.{six, side_number, thing_sort_key, ruling_class, entry_number, ruling_sort_key, port_number, peer_sort_key}
+use Rattle.mud_base.specs.Directions.{side_number}
+use Rattle.drop_ledger.specs.SortKeys.{six, thing_sort_key, ruling_class, entry_number, ruling_sort_key, port_number, peer_sort_key}
 
 -- ---- One order after the other
 

@@ -4,7 +4,7 @@ use Rattle.std.specs.Prelude.{ℕ, suc, List, [], ◌∷◌, ◌++◌, take, Opt
 use Rattle.mud_base.specs.declared.addr.Addr.{Addr}
 use Rattle.mud_base.specs.declared.addr.Mac.{Mac}
 use Rattle.mud_base.specs.declared.packet.Direction.{Direction}
-use Rattle.mud_base.specs.declared.packet.Direction.TheVariants.{From, To}
+use Rattle.mud_base.specs.Directions.{side_number}
 use Rattle.base_rows.specs.Addresses.{addr_sort_key}
 use Rattle.acl_model.specs.declared.ruling.DefaultRule.TheVariants.{Dns, Ntp}
 use Rattle.acl_model.specs.declared.ruling.Ruling.{Ruling}
@@ -19,10 +19,6 @@ use Rattle.drop_ledger.specs.declared.rows.OtherRow.{OtherRow}
 -- six octets, whatever the list: a hardware address has just as many
 unfoldable pub six : List ℕ → List ℕ
 six octets = take 6 (octets ++ 0 ∷ 0 ∷ 0 ∷ 0 ∷ 0 ∷ 0 ∷ [])
-
-unfoldable pub side_number : Direction → ℕ
-side_number From = 0
-side_number To = 1
 
 unfoldable pub thing_sort_key : Mac → Direction → List ℕ
 thing_sort_key mac side = six mac.0 ++ side_number side ∷ []

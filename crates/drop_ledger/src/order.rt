@@ -1,11 +1,10 @@
 //! How the parts of sort keys stand to one another.
 ghost use Rattle.std.specs.Prelude.{◌≡◌};
-ghost use Rattle.std.specs.Ordering.{nat_cmp};
 ghost use Rattle.base_rows.specs.Sortable.{sort_key_cmp};
 ghost use Rattle.drop_ledger.specs.SortKeys as spec;
 
 use acl_model::{DefaultRule, Ruling, Why};
-use mud_base::{Addr, Direction, Mac, addr_order};
+use mud_base::{Addr, Direction, Mac, addr_order, side_order};
 use std::cmp::Ordering;
 
 /// A Thing, and the side of packets that it is on.
@@ -38,19 +37,6 @@ fn mac_order(own: &Mac, other: &Mac) -> Ordering
         n += 1;
     }
     Ordering::Equal
-}
-
-/// What the Thing sends comes before what is sent to it.
-#[tactic(auto, unfolding(crate::specs::SortKeys::side_number))]
-fn side_order(own: Direction, other: Direction) -> Ordering
-    ensures { result ≡ nat_cmp (spec.side_number own) (spec.side_number other) }
-{
-    match (own, other) {
-        (Direction::From, Direction::To) => Ordering::Less,
-        (Direction::To, Direction::From) => Ordering::Greater,
-        (Direction::From, Direction::From) => Ordering::Equal,
-        (Direction::To, Direction::To) => Ordering::Equal,
-    }
 }
 
 /// By the hardware address, and then the side.

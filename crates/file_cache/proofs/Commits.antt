@@ -1,5 +1,5 @@
 -- What taking a row out, changing it and putting it back makes of files.
-use Rattle.std.proofs.Common.{◌≡◌, ℕ, ◌+◌, ◌≤◌, cond, List, [], length, Option, Some, None, refl, sym, ap, ◌∙◌, arith, lit≤}
+use Rattle.std.proofs.Common.{◌≡◌, ℕ, ◌+◌, ◌≤◌, cond, List, [], Option, Some, None, refl, sym, ap, ◌∙◌, arith, lit≤}
 use Rattle.std.specs.Prelude.{is_some}
 use Rattle.base_rows.specs.Sortable.{row_at, set_row, without_row, SortKeysAscend}
 use Rattle.usage_tables.specs.declared.cached_file.CachedFile.{CachedFile}

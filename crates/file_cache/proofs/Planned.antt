@@ -1,11 +1,10 @@
 -- What was made is planned.
-use Rattle.std.proofs.Common.{◌≡◌, ℕ, ◌≤◌, ◌<◌, Bool, true, false, cond, List, [], ◌∷◌, length, Result, Ok, Err, refl, sym, ap, subst, ◌∙◌, arith, lit≤}
+use Rattle.std.proofs.Common.{◌≡◌, ℕ, ◌≤◌, ◌<◌, Bool, true, false, cond, List, [], ◌∷◌, length, Ok, Err, refl, sym, subst, ◌∙◌, lit≤}
 use Rattle.std.specs.Prelude.{IfOk, IsOkAnd, ◌↔◌}
 use Rattle.std.proofs.lemmas.Bool.{false≢true}
 use Rattle.mud_world.specs.declared.item.Put.{Put}
 use Rattle.mud_world.specs.Items.{IsDifference, ArePutsOf}
 use Rattle.usage_tables.specs.declared.cached_file.CachedFile.{CachedFile}
-use Rattle.usage_tables.specs.declared.cache_fault.CacheFault.{CacheFault}
 use Rattle.usage_tables.specs.Files.{file_at, IsSoundFiles}
 use Rattle.usage_tables.specs.FileCommands.{FilesAfter, FileStep, TellsChange}
 use Rattle.usage_tables.specs.FileEdits.{edited, edited_row, room_for, is_change}
@@ -14,7 +13,7 @@ use Rattle.usage_tables.specs.Policies.{policy_of}
 use Rattle.usage_tables.proofs.EditLaws.{edit_differs, puts_of_kind}
 use Rattle.usage_tables.proofs.PolicyLaws.{policy_edited}
 use Rattle.file_cache.specs.Changes.{Files, PlannedFile}
-use Rattle.file_cache.specs.Planned.{IsPlanned, IsPlanOf, IsMade, Makes, IsRefusal, Plans}
+use Rattle.file_cache.specs.Planned.{IsPlanned, IsPlanOf, IsMade, Plans}
 
 none_where : (put : Put) (b : Bool) → (cond b (put ∷ []) [] ≡ []) ↔ (b ≡ false)
 none_where put true = (λ e. absurd cc, λ e. absurd (false≢true (sym e)))
@@ -61,11 +60,3 @@ plans_by step before files now room change was is sound stays told made needed =
 }
 
 -- ---- What a caller has of a plan
-
-pub planned_sound : (step : FileStep) (cache : Files) (change : PlannedFile) → IsPlanOf step cache change → IsSoundFiles (edited change.edit change.url cache.files)
-planned_sound (Ok after) cache change p = subst IsSoundFiles (sym p.leads) p.sound
-planned_sound (Err fault) cache change p = absurd p
-
-pub planned_room : (step : FileStep) (cache : Files) (change : PlannedFile) → IsPlanOf step cache change → room_for change.edit ≤ cache.room
-planned_room (Ok after) cache change p = p.room
-planned_room (Err fault) cache change p = absurd p

@@ -1,5 +1,5 @@
 -- What each reading of a field gives, by what its parts give.
-use Rattle.std.proofs.Common.{◌≡◌, ℕ, Bool, true, false, cond, List, Option, Some, None, refl}
+use Rattle.std.proofs.Common.{◌≡◌, ℕ, false, List, Option, Some, None, refl}
 use Rattle.std.specs.Prelude.{◌==◌}
 use Rattle.item_codec.specs.Records.{number_in, string_in, version_in, end_in, optional_in}
 use Rattle.usage_tables.specs.declared.approval.Approval.{Approval}

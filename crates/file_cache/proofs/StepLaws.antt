@@ -1,6 +1,6 @@
 -- What each case of a step is, and that a change is made of it.
-use Rattle.std.proofs.Common.{◌≡◌, ℕ, ◌≤◌, ◌<◌, Bool, true, false, cond, List, [], ◌∷◌, length, Option, Some, None, Result, Ok, Err, refl, sym, ap, subst, ◌∙◌}
-use Rattle.std.specs.Prelude.{bytes_eq, nat_lt, nat_le, IsOkAnd, IsErrAnd}
+use Rattle.std.proofs.Common.{◌≡◌, ℕ, ◌≤◌, ◌<◌, true, false, cond, List, [], ◌∷◌, length, Option, Some, None, Result, Ok, Err, refl, sym, ap, subst, ◌∙◌}
+use Rattle.std.specs.Prelude.{bytes_eq, IsOkAnd, IsErrAnd}
 use Rattle.std.specs.Option.{option_map}
 use Rattle.std.proofs.lemmas.Bool.{lt-ltb, le-ltb, le-leb, lt-leb}
 use Rattle.item_codec.specs.declared.word.Word as outcome
@@ -14,7 +14,7 @@ use Rattle.mud_file.specs.File.{file_of}
 use Rattle.usage_tables.specs.declared.approval.Approval.{Approval}
 use Rattle.usage_tables.specs.declared.cached_file.CachedFile.{CachedFile}
 use Rattle.usage_tables.specs.declared.cache_fault.CacheFault.{CacheFault}
-use Rattle.usage_tables.specs.declared.cache_fault.CacheFault.TheVariants.{Memory, File, Older, CacheFull}
+use Rattle.usage_tables.specs.declared.cache_fault.CacheFault.TheVariants.{File, Older, CacheFull}
 use Rattle.usage_tables.specs.declared.file_edit.FileEdit.{FileEdit}
 use Rattle.usage_tables.specs.declared.file_edit.FileEdit.TheVariants.{Unchanged, Offered, CandidateFetched, ApprovedFetched}
 use Rattle.usage_tables.specs.Held.{HeldFile, held_file}

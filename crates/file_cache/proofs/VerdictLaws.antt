@@ -1,6 +1,6 @@
 -- What each case of a verdict and of a revoke is, and that a change is made of it.
-use Rattle.std.proofs.Common.{◌≡◌, ℕ, ◌≤◌, ◌<◌, Bool, true, false, cond, List, Option, Some, None, Result, Ok, Err, refl, sym, ap, subst, ◌∙◌}
-use Rattle.std.specs.Prelude.{bytes_eq, nat_lt, IsOkAnd}
+use Rattle.std.proofs.Common.{◌≡◌, ℕ, ◌≤◌, ◌<◌, true, false, List, Option, Some, None, Err, refl, sym, ap, subst, ◌∙◌}
+use Rattle.std.specs.Prelude.{bytes_eq, IsOkAnd}
 use Rattle.std.specs.Option.{option_map}
 use Rattle.std.proofs.lemmas.Bool.{lt-ltb, le-ltb}
 use Rattle.item_codec.specs.declared.word.Word.TheVariants as word
@@ -11,7 +11,6 @@ use Rattle.usage_tables.specs.declared.approval.Approval.TheVariants as approval
 use Rattle.usage_tables.specs.declared.approval.OperatorVerdict.{OperatorVerdict}
 use Rattle.usage_tables.specs.declared.approval.OperatorVerdict.TheVariants as verdict
 use Rattle.usage_tables.specs.declared.cached_file.CachedFile.{CachedFile}
-use Rattle.usage_tables.specs.declared.cache_fault.CacheFault.{CacheFault}
 use Rattle.usage_tables.specs.declared.cache_fault.CacheFault.TheVariants.{NoCandidate, Digest, NoSignature, NotApproved, PolicyFull}
 use Rattle.usage_tables.specs.declared.file_edit.FileEdit.TheVariants as edit
 use Rattle.usage_tables.specs.Held.{HeldFile, digest_of}
@@ -21,7 +20,7 @@ use Rattle.usage_tables.specs.FileCommands.{FileStep, settled, left_with, approv
 use Rattle.usage_tables.specs.FileEdits.{approved_as, if_any, kept_row, changed_row, edited_row, is_change}
 use Rattle.usage_tables.specs.FileItems.{file_item, file_row}
 use Rattle.file_cache.specs.Changes.{PlannedFile, no_change, set_change, gone_change}
-use Rattle.file_cache.specs.Planned.{IsMade, Makes}
+use Rattle.file_cache.specs.Planned.{IsMade}
 use Rattle.file_cache.proofs.StepLaws.{made_set, made_gone, made_none}
 
 module _ (files : List CachedFile) (row : CachedFile) (found : file_at row.url files ≡ Some row) where

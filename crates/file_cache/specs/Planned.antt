@@ -1,5 +1,6 @@
 -- What a planned change says and does.
 use Rattle.std.specs.Prelude.{◌≡◌, ◌≢◌, ◌↔◌, ℕ, ◌≤◌, false, bytes_eq, if◌then◌else◌, List, [], length, Result, Ok, Err, IsErr, IfOk, IfErr, IsOkAnd, IsErrAnd, Option, Some, None}
+use Rattle.item_codec.specs.Kinds.{file_kind}
 use Rattle.mud_world.specs.Items.{IsDifference, ArePutsOf}
 use Rattle.usage_walk.specs.declared.fault.Broken.{Broken}
 use Rattle.mud_file.specs.declared.usage_file.UsageFile.{UsageFile}
@@ -22,7 +23,7 @@ pub record IsPlanned (after : FilesAfter) (cache : Files) (change : PlannedFile)
   pub sound : IsSoundFiles after.files
   -- its puts are the items in which they differ: at most two, and none exactly where the step changes nothing
   pub puts : IsDifference (file_items cache.files) (file_items after.files) change.puts
-  pub kind : ArePutsOf 2 change.puts
+  pub kind : ArePutsOf file_kind change.puts
   pub few : length change.puts ≤ 2
   pub none : (change.puts ≡ []) ↔ (after.changes ≡ false)
   -- it changes the policy of its URL as it says, and no other

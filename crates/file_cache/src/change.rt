@@ -3,8 +3,8 @@ ghost use Rattle.std.specs.Prelude.{◌≡◌, ◌∷◌, [], IfOk};
 ghost use Rattle.usage_tables.specs.Policies.{policy_change};
 ghost use Rattle.file_cache.specs.Changes.{no_change, set_change, gone_change};
 
-use crate::items::FILE_KIND;
 use item_codec::Word;
+use item_codec::kinds::FILE_KIND;
 use mud_base::{Bytes, Listed, Memory};
 use mud_url::MudUrl;
 use mud_world::{Item, Put};

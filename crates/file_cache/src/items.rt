@@ -5,15 +5,13 @@ ghost use Rattle.usage_tables.specs.Held.{held_file};
 ghost use Rattle.usage_tables.specs.FileItems as spec;
 
 use item_codec::FieldWriter;
+use item_codec::kinds::FILE_KIND;
 use mud_base::{Bytes, Memory, Moment};
 use mud_url::MudUrl;
 use mud_world::Item;
 use std::alloc::Global;
 use std::marker::Model;
 use usage_tables::{Approval, CachedFile, Held};
-
-/// The kind of the items of files.
-pub const FILE_KIND: u8 = 2;
 
 /// A file as it is to be written: the octets of a held one, lent, and when they were fetched.
 /// Contracts see it as a held file.

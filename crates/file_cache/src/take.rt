@@ -7,10 +7,10 @@ ghost use Rattle.usage_tables.specs.FileItems.{file_in, file_row, if_sound_file,
 ghost use Rattle.file_cache.specs.Planned.{IsReadAs};
 
 use crate::imports::is_older;
-use crate::items::FILE_KIND;
 use crate::read::{Part, parts_in};
 use crate::verdicts::is_signed;
 use base_rows::SortedRows;
+use item_codec::kinds::FILE_KIND;
 use mud_base::{Bytes, Memory, Moment};
 use mud_file::{FileFault, UsageFile, read_usage};
 use mud_url::MudUrl;

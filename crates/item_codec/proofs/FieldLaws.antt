@@ -5,7 +5,8 @@ use Rattle.std.proofs.lemmas.Bool.{cases_lt, ltb-false, le-ltb, eqb-false, or_pa
 use Rattle.std.proofs.lemmas.List.{take_at, drop_at, take-append-drop, append-nil, length-append, length-take, get_or-drop, get_or-take, get_or_past}
 use Rattle.item_codec.specs.declared.fault.CodecFault.{CodecFault}
 use Rattle.item_codec.specs.declared.fault.CodecFault.TheVariants.{Short, Version}
-use Rattle.item_codec.specs.Spelling.{IsWidth, IsOctets, number, string, list, version, version_of}
+use Rattle.mud_base.specs.Numbers.{IsOctets}
+use Rattle.item_codec.specs.Spelling.{IsWidth, number, string, list, version, version_of}
 use Rattle.item_codec.specs.Reading.{◌>>=◌, number_of, octets_at, number_at, string_at, list_at, version_to, version_at, IsRead}
 use Rattle.item_codec.proofs.Widths.{number_of-number, number-number_of, length-number}
 

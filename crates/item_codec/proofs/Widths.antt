@@ -4,7 +4,8 @@ use Rattle.std.specs.Int.{w16, w32, w64, to_be_bytes, from_be_bytes, bytes_high_
 use Rattle.std.proofs.lemmas.Bool.{cases_eq}
 use Rattle.std.proofs.lemmas.Bool.Decides.{nat_tests}
 use Rattle.std.proofs.lemmas.Nat.{be_bytes_2, be_bytes_4, be_bytes_8, from_be_bytes-to_be_bytes_2, from_be_bytes-to_be_bytes_4, from_be_bytes-to_be_bytes_8}
-use Rattle.item_codec.specs.Spelling.{IsWidth, number, IsOctets}
+use Rattle.mud_base.specs.Numbers.{IsOctets}
+use Rattle.item_codec.specs.Spelling.{IsWidth, number}
 use Rattle.item_codec.specs.Reading.{number_of}
 
 -- what holds of 1, 2, 4 and 8 holds of each width

@@ -2,7 +2,7 @@
 use Rattle.std.specs.Prelude.{◌≡◌, ℕ, ◌+◌, ◌*◌, ◌||◌, ◌==◌, nat_lt, List, [], ◌∷◌, ◌++◌, length, take, drop, Result, Ok, Err, if◌then◌else◌}
 use Rattle.item_codec.specs.declared.fault.CodecFault.{CodecFault}
 use Rattle.item_codec.specs.declared.fault.CodecFault.TheVariants.{Short, Version, Tail}
-use Rattle.item_codec.specs.Spelling.{IsOctets}
+use Rattle.mud_base.specs.Numbers.{IsOctets}
 
 infixl 10 ◌>>=◌
 abbrev pub ◌>>=◌ : {A B : Type 0} → Result A CodecFault → (A → Result B CodecFault) → Result B CodecFault

@@ -3,7 +3,8 @@
 use Rattle.std.specs.Prelude.{◌≡◌, ℕ, zero, suc, ◌<◌, ◌^◌, ◌==◌, List, [], ◌∷◌, ◌++◌, length, flat_map, Option, Some, None, option_map, option_and_then, if◌then◌else◌}
 use Rattle.std.specs.Result.{result_ok}
 use Rattle.std.specs.List.{AllByRecursion}
-use Rattle.item_codec.specs.Spelling.{IsOctets, number, list, version}
+use Rattle.mud_base.specs.Numbers.{IsOctets}
+use Rattle.item_codec.specs.Spelling.{number, list, version}
 use Rattle.item_codec.specs.Reading.{IsRead, number_at, string_at, list_at, version_to, version_at, end_at}
 
 abbrev pub Reading : Type 0 → Type 0

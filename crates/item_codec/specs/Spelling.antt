@@ -1,5 +1,5 @@
 -- How each field is spelled in octets.
-use Rattle.std.specs.Prelude.{ℕ, ◌<◌, slice_index, Bool, ◌||◌, ◌==◌, IsTrue, List, ◌++◌, length}
+use Rattle.std.specs.Prelude.{ℕ, Bool, ◌||◌, ◌==◌, IsTrue, List, ◌++◌, length}
 use Rattle.std.specs.Int.{bytes_high_first}
 
 -- a number has 1, 2, 4 or 8 octets
@@ -28,7 +28,3 @@ version_of n = number 1 n
 -- the version 1
 unfoldable pub version : List ℕ
 version = version_of 1
-
--- numbers that are octets
-abbrev pub IsOctets : List ℕ → Type 0
-IsOctets octets = (i : ℕ) → slice_index octets i < 256

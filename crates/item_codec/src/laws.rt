@@ -1,6 +1,7 @@
 //! Laws of the fields: what was written is read back, and nothing else reads.
 ghost use Rattle.std.specs.Prelude.{◌≡◌, ℕ, ◌+◌, ◌^◌, ◌<◌, ◌≤◌, List, ◌++◌, length, Ok};
-ghost use Rattle.item_codec.specs.Spelling.{IsWidth, IsOctets, number, string, list, version, version_of};
+ghost use Rattle.mud_base.specs.Numbers.{IsOctets};
+ghost use Rattle.item_codec.specs.Spelling.{IsWidth, number, string, list, version, version_of};
 ghost use Rattle.item_codec.specs.Reading.{IsRead, number_at, string_at, list_at, version_to, version_at};
 
 /// Numbers, in each width.

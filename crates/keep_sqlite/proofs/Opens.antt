@@ -17,7 +17,7 @@ use Rattle.sqlite_schema.specs.declared.schema.Constraint.TheVariants.{Datatype}
 use Rattle.sqlite_schema.specs.Rules.{are_typed, has_computed, Keeps}
 use Rattle.sqlite.specs.Effect.{Database, IsDatabase}
 use Rattle.sqlite.specs.State.{State}
-use Rattle.base_rows.specs.Sortable.{same_sort_key, row_at, SortKeysAscend}
+use Rattle.base_rows.specs.Sortable.{same_sort_key, row_at}
 use Rattle.std.specs.declared.cmp.Ordering.TheVariants.{Less}
 use Rattle.base_rows.proofs.SortableLaws.{same_sort_key_itself, same_sort_key_exact, same_sort_key-cmp}
 use Rattle.base_rows.proofs.RowLaws.{same_rows}

@@ -3,6 +3,7 @@
 #![tactic(auto)]
 
 use io_system::{Call, Failure, RealClock, RealDoor, RealSpool};
+use item_codec::kinds::CLASS_KIND;
 use keep_sqlite::PathKeeper;
 use mud_base::Listed;
 use mud_cli::{Status, mud_main};
@@ -16,9 +17,6 @@ use std::{env, fs, io};
 
 /// The word of a store that is kept in memory alone, and is empty at the start of each run.
 const IN_MEMORY: &str = ":memory:";
-
-/// The kind of an item that is a class with its addresses, one at least.
-const CLASS_KIND: u8 = 3;
 
 /// The key of the item that is the class of DNS servers (RFC 8520, section 4.6).
 const DNS_CLASS_KEY: &[u8] = b"\x01urn:ietf:params:mud:dns";

@@ -1,5 +1,6 @@
 pub mod Addresses
 pub mod Decimal
+pub mod Directions
 pub mod Ethernet
 pub mod Faults
 pub mod Numbers

@@ -1,9 +1,13 @@
--- Numbers at an offset, counted from 0.
-use Rattle.std.specs.Prelude.{ℕ, List}
+-- Octets, and the numbers in them at an offset, counted from 0.
+use Rattle.std.specs.Prelude.{ℕ, ◌<◌, List, slice_index}
 use Rattle.std.specs.Int.{w16, w32, w64, w128, from_be_bytes, from_le_bytes}
 use Rattle.mud_base.specs.declared.number.ByteOrder.{ByteOrder}
 use Rattle.mud_base.specs.declared.number.ByteOrder.TheVariants.{Big, Little}
 use Rattle.mud_base.specs.Offsets.{octets_at}
+
+-- numbers that are octets
+abbrev pub IsOctets : List ℕ → Type 0
+IsOctets octets = (i : ℕ) → slice_index octets i < 256
 
 -- The number in two, four, eight or sixteen octets from an offset on, whose most significant octet stands first (RFC 791, appendix B).
 unfoldable pub big_16 : ℕ → List ℕ → ℕ

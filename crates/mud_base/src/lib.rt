@@ -33,7 +33,7 @@ pub use moment::{End, Moment};
 pub use number::{ByteOrder, big_16, big_32, big_64, big_128, number_16, number_32};
 pub use offset::{is_group_at, mac_at, octets_at};
 pub use order::octets_order;
-pub use packet::{Direction, Fields, Transport};
+pub use packet::{Direction, Fields, Transport, side_order};
 pub use prefix::Prefix;
 pub use read::{addr_of, mac_of, moment_of, prefix_of};
 pub use refusal::Refusal;

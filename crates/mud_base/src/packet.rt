@@ -1,5 +1,10 @@
 //! What the headers of a packet say.
+ghost use Rattle.std.specs.Prelude.{◌≡◌};
+ghost use Rattle.std.specs.Ordering.{nat_cmp};
+ghost use Rattle.mud_base.specs.Directions.{side_number};
+
 use crate::addr::Addr;
+use std::cmp::Ordering;
 
 /// Which side of a packet a Thing is on.
 #[derive(Clone, Copy, Debug, PartialEq, Eq)]
@@ -8,6 +13,19 @@ pub enum Direction {
     From,
     /// The Thing receives: its policy is the one to the device.
     To,
+}
+
+/// The order of two sides: what a Thing sends comes before what is sent to it.
+#[tactic(auto, unfolding(crate::specs::Directions::side_number))]
+pub fn side_order(own: Direction, other: Direction) -> Ordering
+    ensures { result ≡ nat_cmp (side_number own) (side_number other) }
+{
+    match (own, other) {
+        (Direction::From, Direction::To) => Ordering::Less,
+        (Direction::To, Direction::From) => Ordering::Greater,
+        (Direction::From, Direction::From) => Ordering::Equal,
+        (Direction::To, Direction::To) => Ordering::Equal,
+    }
 }
 
 /// The transport header of a packet.

@@ -6,8 +6,8 @@ use Rattle.mud_base.specs.declared.packet.Direction.{Direction}
 use Rattle.acl_model.specs.declared.entry.Entry.{Entry}
 use Rattle.acl_rows.specs.declared.row.Row.{Row}
 use Rattle.acl_rows.specs.Rows.{Slots, Holder}
-use Rattle.acl_rows.specs.View.{View, Part, IsFilePart, IsViewOf, holder_from}
-use Rattle.acl_compile.specs.Plans.{policy_held, holder_policy}
+use Rattle.acl_rows.specs.View.{View, Part, IsFilePart, IsViewOf, holder_from, holder_policy}
+use Rattle.acl_compile.specs.Plans.{policy_held}
 use Rattle.acl_model.specs.FirstMatch.{file_entries}
 use Rattle.std.specs.Option.{option_map}
 use Rattle.desk_model.specs.Findings.{numbered_entry}

@@ -89,10 +89,6 @@ batch_fits : (changes : Bool) (before after : DeskTables) (batch : List Put) →
 batch_fits true before after batch kept some = (refl, kept.batch)
 batch_fits false before after batch none some = absurd (some none)
 
-pub step_batch : (books : Books) (change : PlannedChange) (step : DeskStep) → IsOkAnd step (λ s. IsPlanned s books change) → change.batch ≢ [] → IsTrue (is_batch change.batch)
-step_batch books change (Ok s) planned some = (batch_fits s.changes (desk_of books) s.desk change.batch planned.batch some).1
-step_batch books change (Err refusal) planned some = absurd planned
-
 step_changes : (books : Books) (change : PlannedChange) (step : DeskStep) → IsOkAnd step (λ s. IsPlanned s books change) → change.batch ≢ [] → IsOkAnd step (λ s. s.changes ≡ true)
 step_changes books change (Ok s) planned some = (batch_fits s.changes (desk_of books) s.desk change.batch planned.batch some).0
 step_changes books change (Err refusal) planned some = absurd planned
@@ -118,9 +114,6 @@ module _ (before mid : DeskState) (command : Command) (n : ℕ) (same : tables_o
 
   pub ready : (change : PlannedChange) → IsPlannedIn change → IsReady mid.books change
   ready change planned = step_ready mid.books change (command_step (tables_of before) n command) planned
-
-  pub batch_is : (change : PlannedChange) → IsPlannedIn change → change.batch ≢ [] → IsTrue (is_batch change.batch)
-  batch_is change planned some = step_batch mid.books change (command_step (tables_of before) n command) planned some
 
   -- what the keeper has is then the desk after the change
   pub reaches : (change : PlannedChange) → IsPlannedIn change → IsSound (tables_of before) → IsTyped command → IsAsked command

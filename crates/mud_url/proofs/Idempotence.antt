@@ -10,7 +10,7 @@ use Rattle.mud_base.specs.Faults.{row, row_at, first_row}
 use Rattle.mud_url.specs.declared.fault.UrlFault.{UrlFault}
 use Rattle.mud_url.specs.declared.fault.UrlFault.TheVariants.{Empty, Octet, Scheme, Host, Port, Path, UserInfo, Fragment, Long}
 use Rattle.mud_url.specs.Host.{lowered, is_label_octet, is_host}
-use Rattle.mud_url.specs.Url.{scheme, begins_with_scheme, is_colon, is_slash_or_question, authority, path_and_query, host_part, port_part, is_port, is_path_octet, path_fault, canonical_port, canonical_path, canonical, faults, url_of, is_question, path_part, without_slash, gave, reads_as, is_canonical}
+use Rattle.mud_url.specs.Url.{scheme, begins_with_scheme, is_colon, is_slash_or_question, authority, path_and_query, host_part, port_part, is_port, is_path_octet, path_fault, canonical_port, canonical_path, canonical, faults, url_of, is_question_mark, before_query, path_part, without_slash, gave, reads_as, is_canonical}
 use Rattle.mud_url.proofs.Bounds.{length-scheme, length-lowered, parts_fit}
 use Rattle.mud_url.proofs.Cuts.{begins, after_first-append, after_first-none, position-none, before_first-append}
 use Rattle.mud_url.proofs.Octets.{is_host_octet, is_url_octet, host_has_none, path_has_none}
@@ -182,7 +182,7 @@ url_of-written host port path sound short =
     ))
     ∙ ap (λ text. Ok text) (canonical-written host port path sound)
 
-canonical_path_cases : (path : List ℕ) → begins is_slash_or_question path ≡ true → (canonical_path path ≡ path) ⊎ ((canonical_path path ≡ 47 ∷ path) × (begins is_question path ≡ true))
+canonical_path_cases : (path : List ℕ) → begins is_slash_or_question path ≡ true → (canonical_path path ≡ path) ⊎ ((canonical_path path ≡ 47 ∷ path) × (begins is_question_mark path ≡ true))
 unfolding canonical_path begins
 canonical_path_cases [] e = inr (refl, refl)
 canonical_path_cases (c ∷ more) e = by (eqb c 47) refl e
@@ -206,10 +206,10 @@ unfolding without_slash
 without_slash-written host port path parts =
     rw (authority-written host port (47 ∷ path) parts, path_and_query-written host port (47 ∷ path) parts) (front-written host port (47 ∷ path) path)
 
-path_part-written : (host port path : List ℕ) → AreParts host port (47 ∷ path) → begins is_question path ≡ true → path_part (written host port (47 ∷ path)) ≡ 47 ∷ []
-unfolding path_part
+path_part-written : (host port path : List ℕ) → AreParts host port (47 ∷ path) → begins is_question_mark path ≡ true → path_part (written host port (47 ∷ path)) ≡ 47 ∷ []
+unfolding path_part before_query
 path_part-written host port path parts query =
-    ap (before_first is_question) (path_and_query-written host port (47 ∷ path) parts) ∙ before_first-append is_question (47 ∷ []) path refl query
+    ap (before_first is_question_mark) (path_and_query-written host port (47 ∷ path) parts) ∙ before_first-append is_question_mark (47 ∷ []) path refl query
 
 reads_as_given : (url text : List ℕ) → url_of url ≡ Ok text → reads_as url text ≡ true
 unfolding reads_as
@@ -225,7 +225,7 @@ canonical_by_slash text long slash e =
     or_right (reads_as text text) _
     (and_from _ _ (and_from _ _ (eq-eqb (length text) 256 long) ((bytes_eq-Decides (path_part text) (47 ∷ [])).1 slash)) (reads_as_given (without_slash text) text e))
 
-canonical_with_slash : (host port path : List ℕ) → AreParts host port (47 ∷ path) → begins is_question path ≡ true → 255 < length (written host port (47 ∷ path)) → length (written host port path) ≤ 255 → url_of (written host port path) ≡ Ok (written host port (47 ∷ path)) → is_canonical (written host port (47 ∷ path)) ≡ true
+canonical_with_slash : (host port path : List ℕ) → AreParts host port (47 ∷ path) → begins is_question_mark path ≡ true → 255 < length (written host port (47 ∷ path)) → length (written host port path) ≤ 255 → url_of (written host port path) ≡ Ok (written host port (47 ∷ path)) → is_canonical (written host port (47 ∷ path)) ≡ true
 canonical_with_slash host port path parts query long short e =
     canonical_by_slash (written host port (47 ∷ path)) (omega (arith, length-written host port path, length-written host port (47 ∷ path))) (path_part-written host port path parts query) (ap url_of (without_slash-written host port path parts) ∙ e)
 

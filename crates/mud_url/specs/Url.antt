@@ -118,12 +118,16 @@ gave (Err fault) text = false
 unfoldable pub reads_as : List ℕ → List ℕ → Bool
 reads_as url text = gave (url_of url) text
 
-abbrev pub is_question : ℕ → Bool
-is_question c = c == 63
+abbrev pub is_question_mark : ℕ → Bool
+is_question_mark c = c == 63
+
+-- what stands before the first `?`, with which a query begins (RFC 3986, 3.4)
+unfoldable pub before_query : List ℕ → List ℕ
+before_query text = before_first is_question_mark text
 
 -- the path, without the query (RFC 3986, 3.3)
 unfoldable pub path_part : List ℕ → List ℕ
-path_part url = before_first is_question (path_and_query url)
+path_part url = before_query (path_and_query url)
 
 -- the text without the first octet of its path
 unfoldable pub without_slash : List ℕ → List ℕ

@@ -10,4 +10,5 @@ pub mod url;
 
 pub use fault::UrlFault;
 pub use host::host_name;
+pub use parts::before_query;
 pub use url::{MudUrl, canonical_url, mud_string, mud_url};

@@ -70,22 +70,29 @@ pub(crate) fn path_and_query(url: &[u8]) -> &[u8]
 }
 
 /// The offset of the first `?`.
-fn first_question(text: &[u8]) -> Option<usize>
-    ensures { result ≡ position spec.is_question text.now }
+fn first_question_mark(text: &[u8]) -> Option<usize>
+    ensures { result ≡ position spec.is_question_mark text.now }
 {
     text.iter().position(|octet| *octet == b'?')
 }
 
-/// The path, without the query.
-#[tactic(auto, using(crate::proofs::Offsets::before_first_found, crate::proofs::Offsets::before_first_none), unfolding(crate::specs::Url::path_part))]
+/// What stands before the first `?`, with which a query begins (RFC 3986, 3.4).
+#[tactic(auto, using(crate::proofs::Offsets::before_first_found, crate::proofs::Offsets::before_first_none), unfolding(crate::specs::Url::before_query))]
+pub fn before_query(text: &[u8]) -> &[u8]
+    ensures { result.now ≡ spec.before_query text.now }
+{
+    match first_question_mark(text) {
+        Some(end) => text.split_at(end).0,
+        None => text,
+    }
+}
+
+/// The path, without the query (RFC 3986, 3.3).
+#[tactic(auto, unfolding(crate::specs::Url::path_part))]
 pub fn path_part(url: &[u8]) -> &[u8]
     ensures { result.now ≡ spec.path_part url.now }
 {
-    let rest = path_and_query(url);
-    match first_question(rest) {
-        Some(end) => rest.split_at(end).0,
-        None => rest,
-    }
+    before_query(path_and_query(url))
 }
 
 /// The host, before the first `:` of the authority.

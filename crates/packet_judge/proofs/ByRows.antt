@@ -29,11 +29,11 @@ use Rattle.acl_rows.specs.declared.row.Owner.TheVariants.{Url, Default}
 use Rattle.acl_rows.specs.declared.row.Row.{Row}
 use Rattle.acl_model.specs.SortKeys.{binding_sort_key}
 use Rattle.acl_rows.specs.Rows.{for_ever, row, entry_at, expiry_at, held_by, slot_policy, default_held, Slots, Holder, rows_of}
-use Rattle.acl_rows.specs.View.{Part, part, View, rows_at, rows_of_side, wide_from, in_slot, holder_from, IsPartOf, IsFilePart}
+use Rattle.acl_rows.specs.View.{Part, part, View, rows_at, rows_of_side, wide_from, in_slot, holder_from, IsPartOf, IsFilePart, holder_policy}
 use Rattle.acl_rows.proofs.Sound.{expiry_at-entry}
 use Rattle.acl_rows.proofs.AtSortKeys.{row_at-rows_of, ascend-rows_of}
 use Rattle.table_model.specs.Bindings.{selector_met, members_met, matches_by_bindings, ruling_by_bindings}
-use Rattle.packet_judge.specs.ByRows.{Asked, passes, passes_at, row_passes, peer_rows, first_row, first_wide, first_in, ruling_at, default_at, ruling_in, ruling_by_rows, policy_held, IsViewOver}
+use Rattle.packet_judge.specs.ByRows.{Asked, passes, passes_at, row_passes, peer_rows, first_row, first_wide, first_in, ruling_at, default_at, ruling_in, ruling_by_rows, IsViewOver}
 use Rattle.packet_judge.proofs.Least.{IsLeastFrom, least_alike, least-lesser, least_first, least_later}
 use Rattle.packet_judge.proofs.Rulings.{at_number, IsRest, all_rest, rest_next, rest_none, first_ruling-least, wide-least}
 use Rattle.packet_judge.proofs.LiveBindings.{live_expiry, entry_alike}
@@ -200,8 +200,8 @@ module _ (slots : Slots) (bindings : List Binding) (ascend : SortKeysAscend bind
       (rest ∙ ap (λ (u : List ℕ). default_ruling (matched bindings asked u side) side NoMatch) (sym holder.named)))
 
   view_by : (o : Option Holder) (file : Option Part) (defaults : Part) → holder_from url 0 slots ≡ o → IsFilePart rows side o file → IsPartOf rows side Default default_policy defaults
-      → ruling_in asked defaults file ≡ ruling_by (matched bindings asked url side) side (option_map policy_held o)
-  unfolding ruling_in ruling_by policy_held
+      → ruling_in asked defaults file ≡ ruling_by (matched bindings asked url side) side (option_map holder_policy o)
+  unfolding ruling_in ruling_by
   view_by None None defaults is file rest = defaults_rule NoFile defaults rest
   view_by None (Some p) defaults is file rest = absurd file
   view_by (Some h) None defaults is file rest = absurd file

@@ -14,7 +14,8 @@ use Rattle.mud_base.specs.declared.addr.Addr.{Addr}
 use Rattle.mud_base.specs.declared.packet.Direction.{Direction}
 use Rattle.acl_rows.specs.declared.row.Owner.{Owner}
 use Rattle.acl_rows.specs.declared.row.Row.{Row}
-use Rattle.acl_rows.specs.SortKeys.{owner_class, owner_number, side_number, owner_sort_key, side_sort_key, peer_sort_key, sort_key_at, row_sort_key}
+use Rattle.mud_base.specs.Directions.{side_number}
+use Rattle.acl_rows.specs.SortKeys.{owner_class, owner_number, owner_sort_key, side_sort_key, peer_sort_key, sort_key_at, row_sort_key}
 use Rattle.acl_rows.specs.View.{rows_of_side, is_at}
 use Rattle.acl_rows.proofs.SortKeyOrder.{sort_key_at-cmp}
 use Rattle.acl_rows.proofs.Parts.{under_peer, rows_under-peer, sort_key_under}

@@ -18,8 +18,8 @@ use Rattle.acl_model.specs.Match.{peer_of, near_matches, rest_matches}
 use Rattle.acl_model.specs.FirstMatch.{ruled_by}
 use Rattle.acl_model.specs.SortKeys.{binding_sort_key}
 use Rattle.acl_rows.specs.declared.row.Row.{Row}
-use Rattle.acl_rows.specs.Rows.{Slots, Holder, entry_at, rows_of}
-use Rattle.acl_rows.specs.View.{Part, View, rows_at, holder_from, IsViewOf}
+use Rattle.acl_rows.specs.Rows.{Slots, entry_at, rows_of}
+use Rattle.acl_rows.specs.View.{Part, View, rows_at, holder_from, holder_policy, IsViewOf}
 use Rattle.table_model.specs.Expiries.{is_live}
 
 -- ---- What is asked
@@ -93,11 +93,8 @@ ruling_by_rows asked view = ruling_in asked view.defaults view.file
 
 -- ---- Whose rows they are
 
-unfoldable pub policy_held : Holder → Policy
-policy_held h = h.1.policy
-
 -- The view is the one of a URL and a side over the rows of these policies and bindings, and this policy is held for the URL.
 pub record IsViewOver (slots : Slots) (bindings : List Binding) (url : List ℕ) (policy : Option Policy) (side : Direction) (view : View) : Type 0 where
   pub ascend : SortKeysAscend binding_sort_key bindings
-  pub held : option_map policy_held (holder_from url 0 slots) ≡ policy
+  pub held : option_map holder_policy (holder_from url 0 slots) ≡ policy
   pub lends : IsViewOf slots (rows_of slots bindings) url side view

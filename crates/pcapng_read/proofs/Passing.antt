@@ -48,6 +48,3 @@ passes_short count left h m s t p short =
       took = p.took;
       short = omega (arith, size, p.size, length-append p.front m);
     }
-
-pub short_of_more : (count more : ℕ) (h : List ℕ) (s t : DoorState) → FallsShort count h s t → count ≤ more → FallsShort more h s t
-short_of_more count more h s t p fewer = record { octets = p.octets; took = p.took; short = omega (arith, p.short) }

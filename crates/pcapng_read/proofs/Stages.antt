@@ -6,7 +6,7 @@ use Rattle.mud_world.specs.Door.{DoorState}
 use Rattle.mud_base.specs.declared.number.ByteOrder.{ByteOrder}
 use Rattle.read_buffer.specs.Packets.{whole}
 use Rattle.read_buffer.specs.Reading.{Fetched, Follows, behind}
-use Rattle.read_buffer.proofs.Readings.{follows, follows_more, ends_more}
+use Rattle.read_buffer.proofs.Readings.{follows, follows_more}
 use Rattle.pcapng_read.specs.declared.fault.NgFault.{NgFault}
 use Rattle.pcapng_read.specs.declared.head.Kind.{Kind}
 use Rattle.pcapng_read.specs.declared.head.Kind.TheVariants.{SectionHeader, InterfaceDescription, EnhancedPacket, OtherPacket, Other}
@@ -16,14 +16,10 @@ use Rattle.pcapng_read.specs.declared.standing.Standing.{Standing}
 use Rattle.pcapng_read.specs.declared.standing.Met.TheVariants.{End, Block}
 use Rattle.pcapng_read.specs.Blocks.{NgPackets, head_of, is_read}
 use Rattle.pcapng_read.specs.Parts.{coming, is_packet, is_decided}
-use Rattle.pcapng_read.specs.Reading.{EndsIn}
 use Rattle.pcapng_read.proofs.Steps.{blocks_end}
 
 pub held_more : (g after : List ℕ → NgPackets) (h k : List ℕ) (s t u : DoorState) → Fetched h k s t → Follows (behind g k) after t u → Follows (behind g h) after s u
 held_more g after h k s t u f p = follows_more (behind g h) (behind g k) after s t u (follows g (behind g k) h k s t f (λ more. refl)) p
-
-pub held_ends : (fault : NgFault) (g : List ℕ → NgPackets) (h k : List ℕ) (s t u : DoorState) → Fetched h k s t → EndsIn fault (behind g k) t u → EndsIn fault (behind g h) s u
-held_ends fault g h k s t u f p = ends_more fault (behind g h) (behind g k) s t u (follows g (behind g k) h k s t f (λ more. refl)) p
 
 pub read_packet : (kind : Kind) → is_packet kind ≡ true → is_read kind ≡ true
 unfolding is_read

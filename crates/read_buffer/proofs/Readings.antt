@@ -1,19 +1,9 @@
 -- Laws of what is taken of a source.
-use Rattle.std.proofs.Common.{◌≡◌, ◌≢◌, ℕ, List, [], ◌++◌, sym, ap, ◌∙◌, append_assoc, append-nil}
+use Rattle.std.proofs.Common.{◌≡◌, ◌≢◌, ℕ, List, [], ◌++◌, sym, ap, ◌∙◌, append_assoc}
 use Rattle.mud_world.specs.Door.{DoorState}
-use Rattle.mud_world.proofs.Doors.{took_none, took_more}
+use Rattle.mud_world.proofs.Doors.{took_more}
 use Rattle.read_buffer.specs.Packets.{Packet, Told, broken}
 use Rattle.read_buffer.specs.Reading.{Fetched, Follows, EndsIn, behind}
-
-pub fetched_none : (held : List ℕ) (s : DoorState) → Fetched held held s s
-fetched_none held s = record { octets = []; took = took_none s; held = sym (append-nil held) }
-
-pub fetched_more : (h k m : List ℕ) (s t u : DoorState) → Fetched h k s t → Fetched k m t u → Fetched h m s u
-fetched_more h k m s t u p q = record {
-  octets = p.octets ++ q.octets;
-  took = took_more p.octets q.octets s t u p.took q.took;
-  held = q.held ∙ ap (λ held. held ++ q.octets) p.held ∙ append_assoc h p.octets q.octets;
-}
 
 all_of : {F : Type 0} → Told F → List Packet
 all_of packets = packets.all

@@ -23,7 +23,7 @@ use Rattle.acl_model.specs.declared.entry.Selector.{Selector}
 use Rattle.acl_model.specs.declared.entry.Entry.{Entry}
 use Rattle.acl_model.specs.declared.binding.Binding.{Binding}
 use Rattle.acl_model.specs.Keys.{is_member, is_membered}
-use Rattle.acl_model.specs.Match.{peer_of, is_in_family, family_matches, own_of, own_passes, header_matches, layer_matches, near_met, near_matches, rest_matches}
+use Rattle.acl_model.specs.Match.{peer_of, is_in_family, family_matches, own_of, prefix_passes, header_matches, layer_matches, near_met, near_matches, rest_matches}
 use Rattle.acl_model.specs.FirstMatch.{entries_of}
 use Rattle.acl_model.specs.SortKeys.{binding_sort_key}
 use Rattle.acl_model.specs.Policies.{UrlPolicy}
@@ -48,7 +48,7 @@ use Rattle.rule_export.specs.declared.item.RuleNumber.{RuleNumber}
 use Rattle.rule_export.specs.declared.item.Resolved.{Resolved}
 use Rattle.rule_export.specs.Listed.{covers, items_from}
 use Rattle.rule_export.specs.Resolved.{Wanted, is_wanted, host_network, wanted_networks, member_networks, entry_networks, entry_items}
-use Rattle.rule_export.specs.Ruling.{entry_of, network_holds, entry_passes, item_passes}
+use Rattle.rule_export.specs.Ruling.{entry_of, entry_passes, item_passes}
 
 -- ---- The version
 
@@ -116,12 +116,12 @@ module _ (view : View) (fields : Fields) (begun : Option Direction) where
   abbrev peer : Addr
   peer = peer_of view.side fields
 
-  pub any_items : (r : RuleNumber) (e : Entry) → entry_of view r ≡ Some e → (k : ℕ) (networks : List (Option Prefix)) → list_any test (items_from r k networks) ≡ (list_any (λ o. network_holds o peer) networks && rest_matches e fields view.side begun)
+  pub any_items : (r : RuleNumber) (e : Entry) → entry_of view r ≡ Some e → (k : ℕ) (networks : List (Option Prefix)) → list_any test (items_from r k networks) ≡ (list_any (λ o. prefix_passes o peer) networks && rest_matches e fields view.side begun)
   unfolding items_from item_passes entry_passes
   any_items r e is k [] = refl
   any_items r e is k (n ∷ ns) =
       (λ i. option_map_or (entry_passes view.side fields begun n) (is i) false || any_items r e is (k + 1) ns i)
-      ∙ joined (network_holds n peer) (list_any (λ o. network_holds o peer) ns) (rest_matches e fields view.side begun)
+      ∙ joined (prefix_passes n peer) (list_any (λ o. prefix_passes o peer) ns) (rest_matches e fields view.side begun)
     where
       joined : (a b c : Bool) → ((a && c) || (b && c)) ≡ ((a || b) && c)
       joined true true true = refl
@@ -224,9 +224,9 @@ module _ (slots : Slots) (bindings : List Binding) (ascend : SortKeysAscend bind
   unfolding rest_matches
   of_entry e p = peer_version e.family view.side fields (left_of (family_matches e.family fields) _ (left_of _ _ (left_of _ _ (right_of (near e) (rest e) p))))
 
-  some_holds : (ps : List Prefix) → list_any (λ o. network_holds o at_peer) (map Some ps) ≡ list_any (λ p. prefix_holds p at_peer) ps
-  unfolding network_holds
-  some_holds ps = any-map (λ o. network_holds o at_peer) Some ps
+  some_holds : (ps : List Prefix) → list_any (λ o. prefix_passes o at_peer) (map Some ps) ≡ list_any (λ p. prefix_holds p at_peer) ps
+  unfolding prefix_passes
+  some_holds ps = any-map (λ o. prefix_passes o at_peer) Some ps
 
   member_by : (url : List ℕ) (e : Entry) (live : Bool) → ((live && (near e && rest e)) || (not true && (near e && rest e))) ≡ (members_met bindings url e at_peer w.moment && (near e && rest e)) → ((live && near e) && rest e) ≡ matched url e
   unfolding matched matches_by_bindings
@@ -243,15 +243,15 @@ module _ (slots : Slots) (bindings : List Binding) (ascend : SortKeysAscend bind
   other_version url e apart =
       sym (and-false (members_met bindings url e at_peer w.moment))
       ∙ ap (λ b. members_met bindings url e at_peer w.moment && b) (sym (and-false (near e)) ∙ ap (λ b. near e && b)
-      (ap (λ b. ((b && own_passes e.own (own_of view.side fields)) && header_matches e fields) && layer_matches e.layer fields.transport begun) (sym (one_version w.family e.family fields one of ∙ apart))))
+      (ap (λ b. ((b && prefix_passes e.own (own_of view.side fields)) && header_matches e fields) && layer_matches e.layer fields.transport begun) (sym (one_version w.family e.family fields one of ∙ apart))))
 
   module _ (o : Owner) (held : UrlPolicy) (holds : held_by slots o ≡ Some held) (n : ℕ) (e : Entry) (numbered : entry_at n (entries_of view.side held.policy) ≡ Some e) where
     abbrev rows : List Row
     rows = rows_of_side o view.side (rows_of slots bindings)
 
     nets_by : (b d : Bool) → is_membered e ≡ b → has_near e ≡ d
-        → (list_any (λ x. network_holds x at_peer) (cond b (map Some (member_networks w rows n e)) (cond d (map Some (near_networks w.family w.locals e)) (None ∷ []))) && rest e) ≡ matched held.url e
-    unfolding network_holds has_near near_matches is_membered
+        → (list_any (λ x. prefix_passes x at_peer) (cond b (map Some (member_networks w rows n e)) (cond d (map Some (near_networks w.family w.locals e)) (None ∷ []))) && rest e) ≡ matched held.url e
+    unfolding prefix_passes has_near near_matches is_membered
     nets_by true d is near_is =
         ap (λ x. x && rest e) (some_holds (member_networks w rows n e) ∙ any_member slots bindings w o view.side held holds n e numbered at_peer (peer_version w.family view.side fields of))
         ∙ member_by held.url e (live_expiry w.moment (entry_expiry bindings held.url e at_peer))

@@ -29,13 +29,13 @@ use Rattle.acl_rows.specs.declared.row.Owner.{Owner}
 use Rattle.acl_rows.specs.declared.row.Owner.TheVariants.{Default}
 use Rattle.acl_rows.specs.declared.row.Row.{Row}
 use Rattle.acl_rows.specs.Rows.{for_ever, numbered, entry_at, held_by, default_held, Slots, Holder, rows_of}
-use Rattle.acl_rows.specs.View.{Part, View, rows_of_side, holder_from, IsPartOf, IsFilePart}
+use Rattle.acl_rows.specs.View.{Part, View, rows_of_side, holder_from, IsPartOf, IsFilePart, holder_policy}
 use Rattle.acl_model.specs.Changes.{HaveSame}
 use Rattle.table_model.specs.Tables.{Tables, ruling_of}
 use Rattle.table_laws.proofs.Stores.{tests_alike}
 use Rattle.packet_judge.proofs.OverTables.{over_tables}
 use Rattle.table_model.specs.Bindings.{bindings_of, selector_met, members_met, matches_by_bindings, ruling_by_bindings}
-use Rattle.packet_judge.specs.ByRows.{policy_held, IsViewOver}
+use Rattle.packet_judge.specs.ByRows.{IsViewOver}
 use Rattle.packet_judge.proofs.Rulings.{IsRest, all_rest, rest_next, rest_first}
 use Rattle.packet_judge.proofs.ByRows.{entries_default, holder_sound, IsHolder}
 use Rattle.rule_export.specs.declared.item.RuleNumber.{RuleNumber}
@@ -148,8 +148,8 @@ module _ (slots : Slots) (bindings : List Binding) (ascend : SortKeysAscend bind
   file_there part h is entries n e there = (λ i. option_and_then (λ p. entry_at n p.entries) (is i)) ∙ ap (entry_at n) entries ∙ there
 
   whole_by : (url : List ℕ) (o : Option Holder) (file : Option Part) → view.file ≡ file → holder_from url 0 slots ≡ o → IsFilePart (rows_of slots bindings) view.side o file → IsPartOf (rows_of slots bindings) view.side Default default_policy view.defaults
-      → option_map rule_of (find test (file_items w file ++ part_items w default_rule view.defaults)) ≡ number_of (ruling_by (matches url) view.side (option_map policy_held o))
-  unfolding file_items part_items ruling_by policy_held
+      → option_map rule_of (find test (file_items w file ++ part_items w default_rule view.defaults)) ≡ number_of (ruling_by (matches url) view.side (option_map holder_policy o))
+  unfolding file_items part_items ruling_by
   whole_by url None None is holder part rest = defaults_alike url NoFile rest
   whole_by url None (Some p) is holder part rest = absurd part
   whole_by url (Some h) None is holder part rest = absurd part

@@ -23,7 +23,7 @@ use Rattle.acl_model.specs.declared.ruling.DefaultRule.TheVariants.{Dns, Ntp}
 use Rattle.acl_model.specs.declared.ruling.Why.{Why}
 use Rattle.acl_model.specs.declared.ruling.Why.TheVariants.{NoFile, NoMatch}
 use Rattle.acl_model.specs.Keys.{is_member, is_membered}
-use Rattle.acl_model.specs.Match.{peer_of, family_matches, own_of, own_passes, header_matches, layer_matches, near_met, near_matches, rest_matches, entry_matches}
+use Rattle.acl_model.specs.Match.{peer_of, family_matches, own_of, prefix_passes, header_matches, layer_matches, near_met, near_matches, rest_matches, entry_matches}
 use Rattle.acl_model.specs.Defaults.{default_entry}
 use Rattle.acl_model.specs.FirstMatch.{entries_of, first_ruling, default_ruling, ruling_by}
 use Rattle.table_model.specs.Tables.{Tables, meets, ruling_of}
@@ -31,7 +31,7 @@ use Rattle.rule_export.specs.declared.item.RuleNumber.{RuleNumber}
 use Rattle.rule_export.specs.declared.item.RuleNumber.TheVariants as rule
 use Rattle.rule_export.specs.Networks.{has_near, near_networks}
 use Rattle.rule_export.specs.Listed.{ListItem, list_item, covers, items_from, is_listed, addr_networks, listed_networks, listed_items, listed_file, listed_default, listed_of}
-use Rattle.rule_export.specs.Ruling.{network_holds, entry_passes, listed_passes, listed_rule, listed_ruling, number_of}
+use Rattle.rule_export.specs.Ruling.{entry_passes, listed_passes, listed_rule, listed_ruling, number_of}
 use Rattle.rule_export.proofs.NetworkLaws.{networks_hold}
 use Rattle.rule_export.proofs.EntryLaws.{one_version, peer_version, none_near}
 use Rattle.rule_export.proofs.StandingLaws.{any_listed}
@@ -77,12 +77,12 @@ module _ (tables : Tables) (now : ℕ) (url : List ℕ) (version : Family) (side
   abbrev matches : Entry → Bool
   matches e = entry_matches (meets tables now url) side fields begun e
 
-  any_items : (r : RuleNumber) (e : Entry) (k : ℕ) (networks : List (Option Prefix)) → list_any test (map (list_item e) (items_from r k networks)) ≡ (list_any (λ o. network_holds o peer) networks && rest e)
+  any_items : (r : RuleNumber) (e : Entry) (k : ℕ) (networks : List (Option Prefix)) → list_any test (map (list_item e) (items_from r k networks)) ≡ (list_any (λ o. prefix_passes o peer) networks && rest e)
   unfolding items_from listed_passes entry_passes
   any_items r e k [] = refl
   any_items r e k (n ∷ ns) =
-      ap (λ b. (network_holds n peer && rest e) || b) (any_items r e (k + 1) ns)
-      ∙ joined (network_holds n peer) (list_any (λ o. network_holds o peer) ns) (rest e)
+      ap (λ b. (prefix_passes n peer && rest e) || b) (any_items r e (k + 1) ns)
+      ∙ joined (prefix_passes n peer) (list_any (λ o. prefix_passes o peer) ns) (rest e)
     where
       joined : (a b c : Bool) → ((a && c) || (b && c)) ≡ ((a || b) && c)
       joined true true true = refl
@@ -91,14 +91,14 @@ module _ (tables : Tables) (now : ℕ) (url : List ℕ) (version : Family) (side
       joined true false false = refl
       joined false b c = refl
 
-  some_hold : (ps : List Prefix) → list_any (λ o. network_holds o peer) (map Some ps) ≡ list_any (λ p. prefix_holds p peer) ps
-  unfolding network_holds
-  some_hold ps = any-map (λ o. network_holds o peer) Some ps
+  some_hold : (ps : List Prefix) → list_any (λ o. prefix_passes o peer) (map Some ps) ≡ list_any (λ p. prefix_holds p peer) ps
+  unfolding prefix_passes
+  some_hold ps = any-map (λ o. prefix_passes o peer) Some ps
 
   module _ (one : version ≢ family.Both) (of : family_matches version fields ≡ true) where
     hold_by : (e : Entry) (b d : Bool) → is_membered e ≡ b → has_near e ≡ d
-        → list_any (λ o. network_holds o peer) (cond b (map Some (addr_networks tables now url version e)) (cond d (map Some (near_networks version tables.locals e)) (None ∷ []))) ≡ met e
-    unfolding network_holds is_listed near_matches is_membered has_near
+        → list_any (λ o. prefix_passes o peer) (cond b (map Some (addr_networks tables now url version e)) (cond d (map Some (near_networks version tables.locals e)) (None ∷ []))) ≡ met e
+    unfolding prefix_passes is_listed near_matches is_membered has_near
     hold_by e true d is near_is =
         some_hold (addr_networks tables now url version e)
         ∙ any_listed tables now url version e peer is
@@ -114,7 +114,7 @@ module _ (tables : Tables) (now : ℕ) (url : List ℕ) (version : Family) (side
     unfolding rest_matches
     other_version e apart =
         sym (and-false (met e))
-        ∙ ap (λ b. met e && b) (ap (λ b. ((b && own_passes e.own (own_of side fields)) && header_matches e fields) && layer_matches e.layer fields.transport begun) (sym (one_version version e.family fields one of ∙ apart)))
+        ∙ ap (λ b. met e && b) (ap (λ b. ((b && prefix_passes e.own (own_of side fields)) && header_matches e fields) && layer_matches e.layer fields.transport begun) (sym (one_version version e.family fields one of ∙ apart)))
 
     items_by : (r : RuleNumber) (e : Entry) (c : Bool) → covers e.family version ≡ c → list_any test (cond c (map (list_item e) (items_from r 1 (listed_networks tables now url version e))) []) ≡ matches e
     unfolding listed_networks entry_matches

@@ -23,10 +23,6 @@ fewer_bits w l m n k le e =
     let split : 2 ^ (w - l) ≡ 2 ^ (w - m) * 2 ^ ((w - l) - (w - m)) = ap (λ j. 2 ^ j) {x = w - l} {y = (w - m) + ((w - l) - (w - m))} (omega arith) ∙ pow-add 2 (w - m) ((w - l) - (w - m)) in
     subst (λ d. n / d ≡ k / d) (sym split) (coarser n k (2 ^ (w - m)) (2 ^ ((w - l) - (w - m))) e)
 
-pub front_itself : (l : ℕ) (a : Addr) → same_front l a a ≡ true
-front_itself l (V4 n) = eq-eqb (n / 2 ^ (32 - l)) (n / 2 ^ (32 - l)) refl
-front_itself l (V6 n) = eq-eqb (n / 2 ^ (128 - l)) (n / 2 ^ (128 - l)) refl
-
 pub front_fewer : (l m : ℕ) (a b : Addr) → l ≤ m → same_front m a b ≡ true → same_front l a b ≡ true
 front_fewer l m (V4 n) (V4 k) le e = eq-eqb _ _ (fewer_bits 32 l m n k le (eqb-true _ _ e))
 front_fewer l m (V4 n) (V6 k) le e = e
@@ -64,18 +60,6 @@ pub holding : (p q : Prefix) → Holds p q → holds_all p q ≡ true
 unfolding holds_all prefix_holds
 holding p q h = both (nat_le p.len q.len) (same_front p.len p.addr q.addr) (le-leb p.len q.len h.fewer) h.alike
 
-pub holds_itself : (p : Prefix) → holds_all p p ≡ true
-holds_itself p = holding p p (record { fewer = omega arith; alike = front_itself p.len p.addr })
-
--- what holds a prefix holds what it holds
-pub holds_through : (p q r : Prefix) → holds_all p q ≡ true → holds_all q r ≡ true → holds_all p r ≡ true
-holds_through p q r e f =
-    let one : Holds p q = held p q e in
-    let two : Holds q r = held q r f in
-    let le : p.len ≤ q.len = one.fewer in
-    let le' : q.len ≤ r.len = two.fewer in
-    holding p r (record { fewer = omega arith; alike = front_joined p.len p.addr q.addr r.addr one.alike (front_fewer p.len q.len q.addr r.addr one.fewer two.alike) })
-
 -- ---- A test that a prefix passes where one inside it does, and that no two prefixes pass which lie apart
 
 pub record IsOfPrefixes (h : Prefix → Bool) : Type 0 where
@@ -100,16 +84,4 @@ of_address a = record {
   nested = λ p q e f. by_length p q p.len q.len refl refl (leb_tells p.len q.len)
       (λ le. front_joined p.len p.addr a q.addr e (front_turned p.len q.addr a (front_fewer p.len q.len q.addr a le f)))
       (λ lt. let le : q.len ≤ p.len = omega arith in front_joined q.len q.addr a p.addr f (front_turned q.len p.addr a (front_fewer q.len p.len p.addr a le e)));
-}
-
--- a prefix in the prefix
-pub of_prefix : (r : Prefix) → IsOfPrefixes (λ p. holds_all p r)
-of_prefix r = record {
-  wider = λ p q e f. holds_through p q r e f;
-  nested = λ p q e f.
-      let one : Holds p r = held p r e in
-      let two : Holds q r = held q r f in
-      by_length p q p.len q.len refl refl (leb_tells p.len q.len)
-      (λ le. front_joined p.len p.addr r.addr q.addr one.alike (front_turned p.len q.addr r.addr (front_fewer p.len q.len q.addr r.addr le two.alike)))
-      (λ lt. let le : q.len ≤ p.len = omega arith in front_joined q.len q.addr r.addr p.addr two.alike (front_turned q.len p.addr r.addr (front_fewer q.len p.len p.addr r.addr le one.alike)));
 }

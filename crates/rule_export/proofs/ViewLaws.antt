@@ -33,13 +33,13 @@ use Rattle.acl_rows.specs.declared.row.Owner.{Owner}
 use Rattle.acl_rows.specs.declared.row.Owner.TheVariants.{Default}
 use Rattle.acl_rows.specs.declared.row.Row.{Row}
 use Rattle.acl_rows.specs.Rows.{for_ever, entry_expiry, numbered, entry_at, held_by, default_held, Slots, Holder, rows_of}
-use Rattle.acl_rows.specs.View.{Part, View, rows_of_side, holder_from, IsPartOf, IsFilePart}
+use Rattle.acl_rows.specs.View.{Part, View, rows_of_side, holder_from, IsPartOf, IsFilePart, holder_policy}
 use Rattle.table_model.specs.Expiries.{is_live}
 use Rattle.table_model.specs.Tables.{Tables, meets}
 use Rattle.table_model.specs.Bindings.{bindings_of, is_met_by, has_live_binding, key_met, selector_met, members_met}
 use Rattle.table_model.proofs.Alike.{met_by_binding}
 use Rattle.table_laws.proofs.Stores.{tests_alike}
-use Rattle.packet_judge.specs.ByRows.{policy_held, IsViewOver}
+use Rattle.packet_judge.specs.ByRows.{IsViewOver}
 use Rattle.packet_judge.proofs.LiveBindings.{live_expiry, entry_alike}
 use Rattle.packet_judge.proofs.Rulings.{IsRest, all_rest, rest_next, rest_first}
 use Rattle.packet_judge.proofs.ByRows.{entries_default, holder_sound, IsHolder}
@@ -261,8 +261,8 @@ module _ (slots : Slots) (bindings : List Binding) (ascend : SortKeysAscend bind
       ∙ sym (map-append (listed_items tables w.moment url w.family (rule.Default Dns) dns) (listed_items tables w.moment url w.family (rule.Default Ntp) ntp))
 
   whole_by : (h : Option Holder) (file : Option Part) (defaults : Part) → holder_from url 0 slots ≡ h → IsFilePart (rows_of slots bindings) side h file → IsPartOf (rows_of slots bindings) side Default default_policy defaults
-      → file_items w file ++ part_items w default_rule defaults ≡ map item_of (listed_of tables w.moment url w.family (option_map policy_held h) side)
-  unfolding file_items part_items listed_of listed_file policy_held
+      → file_items w file ++ part_items w default_rule defaults ≡ map item_of (listed_of tables w.moment url w.family (option_map holder_policy h) side)
+  unfolding file_items part_items listed_of listed_file
   whole_by None None defaults holder file rest = defaults_alike defaults rest
   whole_by None (Some part) defaults holder file rest = absurd file
   whole_by (Some h) None defaults holder file rest = absurd file
@@ -334,8 +334,8 @@ module _ (view : View) (version : Family) where
         (all_items (rule.Default Ntp) (default_entry Ntp side) (ap (entry_at 2) entries))
 
     all_of : (rows : List Row) (side : Direction) (h : Option Holder) (file : Option Part) → view.file ≡ file → IsFilePart rows side h file → view.defaults.entries ≡ defaults_of side
-        → AllByRecursion (HasEntry view) (listed_of tables now url version (option_map policy_held h) side)
-    unfolding listed_of listed_file policy_held
+        → AllByRecursion (HasEntry view) (listed_of tables now url version (option_map holder_policy h) side)
+    unfolding listed_of listed_file
     all_of rows side None None is part entries = all_defaults side entries
     all_of rows side None (Some p) is part entries = absurd part
     all_of rows side (Some h) None is part entries = absurd part

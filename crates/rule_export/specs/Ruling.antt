@@ -1,8 +1,6 @@
 -- What an access list with addresses alone says of a packet: the rule of the first item that matches.
 use Rattle.std.specs.Prelude.{◌&&◌, Bool, true, false, List, find, Option, Some, None}
 use Rattle.std.specs.Option.{option_map, option_map_or, option_and_then}
-use Rattle.mud_base.specs.Addresses.{prefix_holds}
-use Rattle.mud_base.specs.declared.addr.Addr.{Addr}
 use Rattle.mud_base.specs.declared.packet.Direction.{Direction}
 use Rattle.mud_base.specs.declared.packet.Fields.{Fields}
 use Rattle.mud_base.specs.declared.prefix.Prefix.{Prefix}
@@ -10,7 +8,7 @@ use Rattle.acl_model.specs.declared.entry.Entry.{Entry}
 use Rattle.acl_model.specs.declared.ruling.DefaultRule.TheVariants.{Dns, Ntp}
 use Rattle.acl_model.specs.declared.ruling.Ruling.{Ruling}
 use Rattle.acl_model.specs.declared.ruling.Ruling.TheVariants.{Accept, AcceptDefault, Drop, DropDefault, DropHeld}
-use Rattle.acl_model.specs.Match.{peer_of, rest_matches}
+use Rattle.acl_model.specs.Match.{peer_of, prefix_passes, rest_matches}
 use Rattle.acl_rows.specs.Rows.{entry_at}
 use Rattle.acl_rows.specs.View.{View}
 use Rattle.rule_export.specs.declared.item.RuleNumber.{RuleNumber}
@@ -20,13 +18,9 @@ use Rattle.rule_export.specs.Listed.{ListItem}
 
 -- ---- Items
 
-unfoldable pub network_holds : Option Prefix → Addr → Bool
-network_holds None a = true
-network_holds (Some p) a = prefix_holds p a
-
 -- the network, where there is one, holds the peer, and the entry's other tests hold
 unfoldable pub entry_passes : Direction → Fields → Option Direction → Option Prefix → Entry → Bool
-entry_passes side fields begun network entry = network_holds network (peer_of side fields) && rest_matches entry fields side begun
+entry_passes side fields begun network entry = prefix_passes network (peer_of side fields) && rest_matches entry fields side begun
 
 -- ---- The list by the tables, whose items have their entries
 

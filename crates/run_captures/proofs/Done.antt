@@ -11,9 +11,9 @@ use Rattle.run_captures.specs.Fault.{is_read_fault}
 use Rattle.run_captures.specs.Reading.{AtEnd, EndsIn, HasRead, packet_at, to_come}
 use Rattle.run_captures.specs.declared.fault.CaptureFault.{CaptureFault}
 use Rattle.run_captures.specs.declared.reader.CaptureReader.{CaptureReader}
-use Rattle.run_captures.proofs.Runs.{has_read_more, has_read_taken, captured_all}
+use Rattle.run_captures.proofs.Runs.{has_read_more, captured_all}
 use Rattle.run_common.specs.Output.{WroteFront}
-use Rattle.run_captures.specs.Runs.{HasAll, HasDone, HasGoneOn, WroteSome, WroteTaken}
+use Rattle.run_captures.specs.Runs.{HasAll, HasDone, HasGoneOn, WroteSome}
 
 -- nothing was written since
 with_same : (octets : List ℕ) (s t : DoorState) → Took octets s t → (written : List ℕ) (first : DoorState) → s ≡ put_out written (with_left s.left first) → t ≡ put_out written (with_left t.left first)
@@ -133,21 +133,3 @@ module _ (packets : List Packet) (text : List ℕ) (reader : CaptureReader) (fir
   -- a part of the lines was written
   pub wrote_part : (u : DoorState) (octets : List ℕ) → Took octets s t → WrotePart lines t u → WroteSome text first u
   wrote_part u octets q w = rw w.wrote (some_here octets q w.count (omega (arith, w.part)))
-
--- the source failed behind lines that were all written
-taken_here : (packets : List Packet) (text : List ℕ) (reader : CaptureReader) (fault : CaptureFault) (first s t : DoorState) → HasDone packets text reader first s [] → EndsIn fault (to_come reader) s t
-    → WroteTaken packets text first t
-taken_here packets text reader fault first s t p q =
-    let read = has_read_taken packets fault reader first (with_left s.left first) (with_left t.left first) p.read
-    (record { octets = q.octets; took = record { left = q.took.left; rest = refl }; none = q.none; broken = q.broken }) in
-    record {
-      read = read.0;
-      left_is = read.1.left;
-      all = read.2;
-      door_is = with_same q.octets s t q.took p.written first p.wrote
-          ∙ ap (λ (wrote : List ℕ). put_out wrote (with_left t.left first)) (sym (append-nil p.written) ∙ sym p.split);
-    }
-
-pub wrote_taken : (packets : List Packet) (text : List ℕ) (reader : CaptureReader) (fault : CaptureFault) (first s t : DoorState) (lines : List ℕ) → HasDone packets text reader first s lines → lines ≡ []
-    → EndsIn fault (to_come reader) s t → WroteTaken packets text first t
-wrote_taken packets text reader fault first s t lines p e q = taken_here packets text reader fault first s t (rw e at p) q

@@ -7,8 +7,8 @@ use Rattle.mud_world.proofs.Doors.{put_out_twice, took_none}
 use Rattle.read_buffer.specs.Packets.{Packet}
 use Rattle.run_captures.specs.declared.fault.CaptureFault.{CaptureFault}
 use Rattle.run_captures.specs.declared.reader.CaptureReader.{CaptureReader}
-use Rattle.run_common.specs.Output.{Output, WritesOutput, WritesPart, WroteFirst}
-use Rattle.run_captures.specs.Capture.{output_behind, end_line, status_at}
+use Rattle.run_common.specs.Output.{Output, WritesPart, WroteFirst}
+use Rattle.run_captures.specs.Capture.{output_behind, end_line}
 use Rattle.run_captures.specs.Runs.{HasAll, HasDone, WroteSome}
 use Rattle.run_captures.proofs.Done.{wrote_none}
 
@@ -33,20 +33,6 @@ module _ (packets : List Packet) (text : List ℕ) (end : Option CaptureFault) (
 
   left_here : (wrote : List ℕ) → first.left ≡ p.read ++ (put_out wrote s).left
   left_here wrote = p.left_is
-
-  -- all of it was written
-  output_here : WritesOutput (output_behind text end) first (put_out (lines ++ end_line end) s) (status_at end)
-  output_here = record {
-    read = p.read;
-    status_is = refl;
-    left_is = p.left_is;
-    door_is = ap (put_out (lines ++ end_line end)) p.wrote
-        ∙ put_out_twice p.written (lines ++ end_line end) (with_left s.left first)
-        ∙ ap (λ (wrote : List ℕ). put_out wrote (with_left s.left first)) (sym output_text);
-  }
-
-  pub output_of_all : (t : DoorState) → t ≡ put_out (lines ++ end_line end) s → WritesOutput (output_behind text end) first t (status_at end)
-  output_of_all t wrote = rw wrote output_here
 
   -- a first part of it was written
   part_here : (count : ℕ) → count ≤ length (lines ++ end_line end) → WritesPart (output_behind text end) first (put_out (take count (lines ++ end_line end)) s)

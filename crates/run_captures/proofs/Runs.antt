@@ -7,7 +7,7 @@ use Rattle.read_buffer.specs.Packets.{Packet, with_next, with_all}
 use Rattle.read_buffer.specs.Reading.{Follows}
 use Rattle.pcap_read.specs.Packets.{Packets}
 use Rattle.pcap_read.proofs.Steps.{header_short}
-use Rattle.pcapng_read.specs.Blocks.{NgPackets, at_start, ng_packets_of}
+use Rattle.pcapng_read.specs.Blocks.{at_start, ng_packets_of}
 use Rattle.pcapng_read.proofs.Steps.{blocks_lack}
 use Rattle.run_captures.specs.Captures.{Captures, captured_of, is_next}
 use Rattle.run_captures.specs.Reading.{EndsIn, HasRead, packet_at, to_come}
@@ -49,9 +49,6 @@ has_read_taken packets fault old first s t p q = (
 
 classic_all : Packets → List Packet
 classic_all packets = packets.all
-
-next_all : NgPackets → List Packet
-next_all packets = packets.all
 
 none_in_head : (octets : List ℕ) → length octets ≤ 4 → (ng_packets_of octets).all ≡ []
 unfolding ng_packets_of

@@ -1,12 +1,11 @@
 -- Captures that hold the same packets lead to the same lines.
-use Rattle.std.proofs.Common.{◌≡◌, ℕ, ◌+◌, List, [], ◌∷◌, ◌++◌, map, Option, None, refl, sym, ap, ap₂, ◌∙◌}
+use Rattle.std.proofs.Common.{◌≡◌, ℕ, ◌+◌, List, [], ◌∷◌, ◌++◌, map, Option, refl, sym, ap, ap₂, ◌∙◌}
 use Rattle.read_buffer.specs.Packets.{Packet}
 use Rattle.run_captures.specs.Captures.{captured_of}
 use Rattle.run_captures.specs.Same.{Seen, seen_of, HoldTheSame}
 use Rattle.run_captures.specs.declared.fault.CaptureFault.{CaptureFault}
 use Rattle.run_captures.proofs.Numbered.{IsNumbered, numbered}
-use Rattle.run_common.specs.Output.{Output}
-use Rattle.run_captures.specs.Capture.{output_behind, output_of_capture, text_of}
+use Rattle.run_captures.specs.Capture.{output_behind, output_of_capture}
 use Rattle.run_captures.specs.Fold.{LineStep, LooksAtNoOffset, lines_from, state_after}
 
 seen_first : List Seen → Seen → Seen

@@ -1,7 +1,7 @@
 -- Texts of many parts, written one part after the other.
 use Rattle.std.proofs.Common.{◌≡◌, ℕ, ◌+◌, ◌<◌, ◌≤◌, List, [], ◌∷◌, ◌++◌, length, take, drop, get_or, sym, ap, ◌∙◌, arith, append-nil, length-append, Result, Ok, Err, OnErr}
 use Rattle.std.specs.Prelude.{flat_map}
-use Rattle.std.proofs.lemmas.List.{take_more, take_all, drop_more, take-append-le, take-append-drop}
+use Rattle.std.proofs.lemmas.List.{take_more, drop_more, take-append-le, take-append-drop}
 use Rattle.std.proofs.lemmas.Grind.{flat_map-append}
 use Rattle.std.proofs.Math.Seq.{take-append-add}
 use Rattle.mud_world.specs.Door.{DoorState, put_out}
@@ -15,9 +15,6 @@ on_err (Err e) fact = fact
 module _ {A : Type 0} (text : A → List ℕ) (rows : List A) where
   pub none_yet : (first : DoorState) → first ≡ put_out (flat_map text (take 0 rows)) first
   none_yet first = sym (put_out_none first)
-
-  pub all_written : (i : ℕ) (first now : DoorState) → length rows ≤ i → now ≡ put_out (flat_map text (take i rows)) first → now ≡ put_out (flat_map text rows) first
-  all_written i first now past written = written ∙ ap (λ (some : List A). put_out (flat_map text some) first) (take_all i rows past)
 
   module _ (i : ℕ) (row : A) (first now after : DoorState) (within : i < length rows) (is : row ≡ get_or rows i row) (written : now ≡ put_out (flat_map text (take i rows)) first) where
     front : List ℕ

@@ -8,7 +8,8 @@ use Rattle.mud_base.specs.declared.prefix.Prefix.{Prefix}
 use Rattle.mud_world.specs.declared.item.Item.{Item}
 use Rattle.mud_world.specs.Items.{AreItemsOf}
 use Rattle.mud_world.proofs.ItemLaws.{same_item}
-use Rattle.item_codec.specs.Spelling.{number, string, version, version_of, IsOctets}
+use Rattle.mud_base.specs.Numbers.{IsOctets}
+use Rattle.item_codec.specs.Spelling.{number, string, version, version_of}
 use Rattle.item_codec.specs.Reading.{IsRead}
 use Rattle.item_codec.specs.Records.{◌>>=◌, number_in, string_in, version_to_in, version_in, end_in, optional, optional_in, elements, elements_in, list_body, list_body_in, IsForm, OptionFits, ListFits}
 use Rattle.item_codec.proofs.FieldLaws.{then_read, read_whole}

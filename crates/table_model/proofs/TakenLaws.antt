@@ -10,7 +10,7 @@ use Rattle.base_rows.specs.Sortable.{SortKeysAscend, comes_last}
 use Rattle.base_rows.proofs.SortableLaws.{ascend-push}
 use Rattle.base_rows.proofs.Lists.{all_push}
 use Rattle.mud_world.specs.declared.item.Item.{Item}
-use Rattle.item_codec.specs.Spelling.{IsOctets}
+use Rattle.mud_base.specs.Numbers.{IsOctets}
 use Rattle.item_codec.specs.Records.{◌>>=◌}
 use Rattle.item_codec.proofs.RecordLaws.{some_is, bind_some, pass_some, chosen}
 use Rattle.table_model.specs.declared.thing.Thing.{Thing}

@@ -1,10 +1,12 @@
 -- The items in which classes, local networks, names and the stamp are kept, and when an item is one.
-use Rattle.std.specs.Prelude.{◌≡◌, ℕ, Bool, ◌&&◌, ◌==◌, nat_lt, nat_le, IsTrue, List, [], ◌∷◌, ◌++◌, length, map, Option, Some, None, if◌then◌else◌}
+use Rattle.std.specs.Prelude.{◌≡◌, ℕ, ◌<◌, Bool, ◌&&◌, ◌==◌, nat_lt, nat_le, IsTrue, List, [], ◌∷◌, ◌++◌, length, map, Option, Some, None, if◌then◌else◌}
 use Rattle.std.specs.List.{list_all}
 use Rattle.base_rows.specs.Sortable.{comes_last}
 use Rattle.mud_base.specs.declared.prefix.Prefix.{Prefix}
 use Rattle.mud_world.specs.declared.item.Item.{Item}
-use Rattle.item_codec.specs.Kinds.{class_kind, locals_kind, name_kind, stamp_kind}
+use Rattle.mud_world.specs.declared.item.Put.{Put}
+use Rattle.mud_world.specs.Items.{kind_of_put}
+use Rattle.item_codec.specs.Kinds.{file_kind, class_kind, locals_kind, name_kind, stamp_kind}
 use Rattle.item_codec.specs.Spelling.{number, version}
 use Rattle.item_codec.specs.Records.{◌>>=◌, number_in, version_in, end_in, list_body, list_body_in}
 use Rattle.table_model.specs.declared.bind.Class.{Class}
@@ -148,3 +150,7 @@ pub record IsLocalsItem (item : Item) (locals : List Prefix) : Type 0 where
 pub record IsNameItem (item : Item) (row : NameRow) : Type 0 where
   pub same : item ≡ name_item row
   pub kept : IsKeptName row
+
+-- a put of a class, of the local networks or of a name, whose kinds stand between those of files and of the stamp
+abbrev pub IsBindPut : Put → Type 0
+IsBindPut put = (file_kind < kind_of_put put) × (kind_of_put put < stamp_kind)

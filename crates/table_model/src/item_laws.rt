@@ -2,7 +2,7 @@
 ghost use Rattle.std.specs.Prelude.{◌≡◌, ◌++◌, List, [], map, Option, Some, None};
 ghost use Rattle.std.specs.List.{AllByRecursion};
 ghost use Rattle.mud_world.specs.declared.item.Item.{Item};
-ghost use Rattle.item_codec.specs.Spelling.{IsOctets};
+ghost use Rattle.mud_base.specs.Numbers.{IsOctets};
 ghost use Rattle.table_model.specs.declared.thing.Thing.{Thing};
 ghost use Rattle.table_model.specs.Things.{IsSoundThings};
 ghost use Rattle.table_model.specs.Binds.{Binds, IsSoundBinds};

@@ -8,7 +8,7 @@ ghost use Rattle.acl_model.specs.declared.entry.Selector.{Selector};
 ghost use Rattle.acl_model.specs.declared.entry.Policy.{Policy};
 ghost use Rattle.acl_model.specs.Match.{near_met};
 ghost use Rattle.mud_world.specs.declared.item.Item.{Item};
-ghost use Rattle.item_codec.specs.Spelling.{IsOctets};
+ghost use Rattle.mud_base.specs.Numbers.{IsOctets};
 ghost use Rattle.table_model.specs.declared.thing.Thing.{Thing};
 ghost use Rattle.table_model.specs.declared.bind.ClassRow.{ClassRow};
 ghost use Rattle.table_model.specs.declared.bind.NameRow.{NameRow};

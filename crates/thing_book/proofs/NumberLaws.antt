@@ -13,7 +13,7 @@ use Rattle.std.specs.Cmp.{nat_cmp_is}
 use Rattle.std.proofs.lemmas.Cmp.{ranked}
 use Rattle.std.proofs.Math.ListN.{set, replicate}
 use Rattle.std.proofs.lemmas.Bool.{cases_eq, cases_lt}
-use Rattle.std.proofs.lemmas.List.{length-map, length-set, length-replicate, length-take-le, get_or-take, get_or-set_same, get_or-set_other, take_all}
+use Rattle.std.proofs.lemmas.List.{length-map, length-set, length-replicate, length-take-le, get_or-set_same, get_or-set_other, take_all}
 use Rattle.std.proofs.lemmas.Option.{slice_get_past, slice_get_read}
 use Rattle.base_rows.specs.Sortable.{sort_key_cmp, same_sort_key, SortKeysAbove, SortKeysAscend, row_at}
 use Rattle.base_rows.specs.Search.{sort_key_answer}
@@ -124,16 +124,6 @@ not_among numbers n i gap k lt same = elim (cases_lt k i) [
 module _ (room spots : List ℕ) (count : ℕ) (are : AreSpotted room spots count) where
   pub length_counted : length (take count room) ≡ count
   length_counted = length-take-le count room (omega (arith, are.room_is, are.within))
-
-  -- a number isn't among them, where its spot is not shared and names another one
-  pub absent_by_spot : (n index : ℕ) → get_or spots (n % 2048) 0 ≡ index → index ≢ 65535 → (index < count → get_or room index 0 ≢ n) → (k : ℕ) → k < length (take count room) → get_or (take count room) k 0 ≢ n
-  absent_by_spot n index e own other k lt same =
-      let lt' : k < count = omega (arith, length_counted) in
-      let here : get_or room k 0 ≡ n = sym (get_or-take count room k 0 lt') ∙ same in
-      let spot : get_or spots (get_or room k 0 % 2048) 0 ≡ index = ap (λ m. get_or spots (m % 2048) 0) here ∙ e in
-      let is : get_or spots (get_or room k 0 % 2048) 0 ≡ k = are.spotted k lt' (λ shared. own (sym spot ∙ shared)) in
-      let index_is : index ≡ k = sym spot ∙ is in
-      other (omega arith) (ap (λ i. get_or room i 0) index_is ∙ here)
 
   module _ (n v : ℕ) (fits : count < 512) (own : v ≢ 65535 → v ≡ count) (empty : v ≢ 65535 → get_or spots (n % 2048) 0 ≡ 65534) where
     abbrev room' : List ℕ

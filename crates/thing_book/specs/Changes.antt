@@ -1,6 +1,7 @@
 -- The change that a plan is: its word, its expiry and its rows, with the puts and the bindings that follow from the
 -- rows.
 use Rattle.std.specs.Prelude.{◌<◌, ◌^◌, List, length}
+use Rattle.item_codec.specs.Kinds.{thing_kind}
 use Rattle.mud_world.specs.Items.{puts_of}
 use Rattle.table_model.specs.declared.thing.Thing.{Thing}
 use Rattle.table_model.specs.Things.{mac_of}
@@ -15,7 +16,7 @@ change_of things plan = record {
   word = plan.word;
   until = plan.until;
   rows = plan.rows;
-  puts = puts_of 1 thing_item plan.rows;
+  puts = puts_of thing_kind thing_item plan.rows;
   gone = gone_of mac_of thing_bindings plan.rows things;
   come = come_of mac_of thing_bindings plan.rows things;
 }

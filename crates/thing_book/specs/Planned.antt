@@ -1,6 +1,7 @@
 -- The Things of the book, and what a planned change says and does.
 use Rattle.std.specs.Prelude.{◌≡◌, ◌≢◌, ◌↔◌, ℕ, ◌≤◌, false, List, [], length, Option, Result, Err, IfOk, IfErr, IsOkAnd}
 use Rattle.base_rows.specs.Changes.{RowChange, changed}
+use Rattle.item_codec.specs.Kinds.{thing_kind}
 use Rattle.mud_world.specs.declared.item.Put.{Put}
 use Rattle.mud_world.specs.Items.{IsDifference, ArePutsOf}
 use Rattle.acl_model.specs.declared.binding.Binding.{Binding}
@@ -39,7 +40,7 @@ pub record IsPlanned (after : ThingsAfter) (book : Things) (change : PlannedThin
   pub sound : IsSoundThings after.things
   -- its puts are the items in which they differ: at most two, and none exactly where the step changes nothing
   pub puts : IsDifference (thing_items book.things) (thing_items after.things) change.puts
-  pub kind : ArePutsOf 1 change.puts
+  pub kind : ArePutsOf thing_kind change.puts
   pub few : length change.puts ≤ 2
   pub none : (change.puts ≡ []) ↔ (after.changes ≡ false)
   -- whatever stands in the other tables, these bindings go and these come

@@ -2,6 +2,7 @@
 ghost use Rattle.std.specs.Prelude.{◌≡◌, ◌++◌, ◌<◌, ◌≤◌, ◌^◌, [], length, flat_map, IfOk, OnOk};
 ghost use Rattle.std.specs.List.{AllByRecursion};
 ghost use Rattle.std.specs.Option.{option_map};
+ghost use Rattle.item_codec.specs.Kinds.{thing_kind};
 ghost use Rattle.item_codec.specs.Spelling.{string};
 ghost use Rattle.item_codec.specs.Records.{optional, elements};
 ghost use Rattle.base_rows.specs.Changes.{with_found};
@@ -13,15 +14,13 @@ ghost use Rattle.thing_book.specs.Changes.{HasFewLeases};
 
 use base_rows::Change;
 use item_codec::FieldWriter;
+use item_codec::kinds::THING_KIND;
 use mud_base::{Addr, Bytes, End, Listed, Mac, Memory};
 use mud_url::MudUrl;
 use mud_world::{Item, Put};
 use std::alloc::Global;
 use table_model::Thing;
 use table_model::fields::write_expiring;
-
-/// The kind of a Thing's item.
-pub const KIND: u8 = 1;
 
 /// The version of the body that is written, and the last one that is read.
 pub const VERSION: u8 = 2;
@@ -31,7 +30,7 @@ pub const VERSION: u8 = 2;
 #[tactic(auto, unfolding(mud_world::specs::Items::puts_of, mud_world::specs::Items::set_put))]
 pub(crate) fn puts_of(alloc: Global, change: &Change<Mac, Thing>) -> Result<Listed<Put>, Memory>
     requires { AllByRecursion HasFewLeases change.now.sets }
-    ensures { IfOk result (λ puts. puts ≡ puts_of 1 spec.thing_item change.now) }
+    ensures { IfOk result (λ puts. puts ≡ puts_of thing_kind spec.thing_item change.now) }
 {
     let mut puts = gone_puts(alloc, change.gone())?;
     for thing in change.sets() {
@@ -43,12 +42,12 @@ pub(crate) fn puts_of(alloc: Global, change: &Change<Mac, Thing>) -> Result<List
 /// The put of the Thing that goes.
 #[tactic(auto, unfolding(mud_world::specs::Items::gone_put))]
 fn gone_puts(alloc: Global, gone: Option<&Mac>) -> Result<Listed<Put>, Memory>
-    ensures { IfOk result (λ puts. puts ≡ with_found (option_map (gone_put 1) (option_map (λ mac. mac.now.0) gone.entry)) []) }
+    ensures { IfOk result (λ puts. puts ≡ with_found (option_map (gone_put thing_kind) (option_map (λ mac. mac.now.0) gone.entry)) []) }
 {
     let mut puts = Listed::new(alloc);
     if let Some(mac) = gone {
         let key = Bytes::new(alloc, mac.0.as_slice())?;
-        puts.push(Put::Gone(KIND, key))?;
+        puts.push(Put::Gone(THING_KIND, key))?;
     }
     Ok(puts)
 }
@@ -65,7 +64,7 @@ pub(crate) fn item_of(alloc: Global, thing: &Thing) -> Result<Item, Memory>
     write_fields(&mut writer, thing)?;
     write_hold(&mut writer, thing.held)?;
     Ok(Item {
-        kind: KIND,
+        kind: THING_KIND,
         key,
         body: writer.into_bytes(),
     })

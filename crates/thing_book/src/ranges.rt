@@ -1,6 +1,6 @@
 //! What holds of all octets and of every address and moment, each on a function that does nothing.
 ghost use Rattle.std.specs.Prelude.{◌≡◌, ◌≤◌, length};
-ghost use Rattle.item_codec.specs.Spelling.{IsOctets};
+ghost use Rattle.mud_base.specs.Numbers.{IsOctets};
 ghost use Rattle.table_model.specs.ItemFields.{IsAddr};
 
 use mud_base::{Addr, Mac, Moment};

@@ -10,9 +10,10 @@ ghost use Rattle.table_model.specs.Things.{IsKeptThing};
 ghost use Rattle.table_model.specs.ThingItems.{hold_in, if_sound_thing, thing_in, thing_of};
 ghost use Rattle.thing_book.specs.Said.{pending_said, thing_said};
 
-use crate::items::{KIND, VERSION};
+use crate::items::VERSION;
 use crate::ranges::all_are_octets;
 use item_codec::FieldReader;
+use item_codec::kinds::THING_KIND;
 use mud_base::{Addr, End, Listed, Mac, Memory};
 use mud_url::MudUrl;
 use mud_url::url::canonical_url;
@@ -229,7 +230,7 @@ fn thing_said(mac: Mac, said: Said<'_>) -> Option<Thing>
 fn thing_of_item(alloc: Global, item: &Item) -> Result<Option<Thing>, Memory>
     ensures { IfOk result (λ thing. thing ≡ thing_in item.now) }
 {
-    if item.kind != KIND {
+    if item.kind != THING_KIND {
         return Ok(None);
     }
     let Some(mac) = mac_of_key(item.key.octets()) else {

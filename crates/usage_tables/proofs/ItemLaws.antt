@@ -7,7 +7,8 @@ use Rattle.std.proofs.lemmas.Bool.{false≢true, eqb-true, leb-true, ltb-false}
 use Rattle.std.proofs.lemmas.List.{append-nil}
 use Rattle.mud_world.specs.declared.item.Item.{Item}
 use Rattle.mud_world.proofs.ItemLaws.{same_item}
-use Rattle.item_codec.specs.Spelling.{number, string, version, IsOctets}
+use Rattle.mud_base.specs.Numbers.{IsOctets}
+use Rattle.item_codec.specs.Spelling.{number, string, version}
 use Rattle.item_codec.specs.Reading as codec
 use Rattle.item_codec.specs.Records.{◌>>=◌, number_in, string_in, version_in, end_in, optional, optional_in, IsForm, OptionFits}
 use Rattle.item_codec.proofs.FieldLaws.{then_read, read_whole}

@@ -1,6 +1,7 @@
 //! Laws of the items in which files are kept, each on a function that does nothing.
 ghost use Rattle.std.specs.Prelude.{◌≡◌, ℕ, ◌++◌, ◌∷◌, [], true, IsTrue, List, Some};
-ghost use Rattle.item_codec.specs.Spelling.{IsOctets};
+ghost use Rattle.item_codec.specs.Kinds.{file_kind};
+ghost use Rattle.mud_base.specs.Numbers.{IsOctets};
 ghost use Rattle.mud_world.specs.declared.item.Item.{Item};
 ghost use Rattle.mud_world.specs.Items.{IsDifference, ArePutsOf};
 ghost use Rattle.usage_tables.specs.declared.cached_file.CachedFile.{CachedFile};
@@ -38,5 +39,5 @@ pub fn edits_are_put()
         → IsDifference (file_items files) (file_items (edited edit url files)) (edit_puts edit url files) }
     // They are of the kind of files.
     ensures kind { (files : List CachedFile) (edit : FileEdit) (url : List ℕ)
-        → ArePutsOf 2 (edit_puts edit url files) }
+        → ArePutsOf file_kind (edit_puts edit url files) }
 {}

@@ -1,7 +1,7 @@
 -- The bodies of what was heard fit into the buffer.
-use Rattle.std.proofs.Common.{◌≡◌, ℕ, suc, ◌+◌, ◌-◌, ◌*◌, ◌/◌, ◌%◌, ◌^◌, ◌<◌, ◌≤◌, Bool, true, false, List, [], ◌∷◌, ◌++◌, length, take, drop, lit≤, lit<, arith, length-append, length-take, length-drop, refl, ap, ◌∙◌, sym, subst}
+use Rattle.std.proofs.Common.{◌≡◌, ℕ, ◌+◌, ◌-◌, ◌*◌, ◌/◌, ◌%◌, ◌^◌, ◌<◌, ◌≤◌, Bool, true, false, List, [], ◌∷◌, ◌++◌, length, take, drop, lit≤, lit<, arith, length-append, length-take, length-drop, refl, ◌∙◌}
 use Rattle.std.specs.Prelude.{codes, decimal, flat_map, slice_index, if◌then◌else◌, nat_lt}
-use Rattle.std.specs.Net.Text.{hex, leading_zero_digits, groups_text, compressed_text, longest_zero_run, hex_groups_text, ipv4_text, dotted_text}
+use Rattle.std.specs.Net.Text.{hex, leading_zero_digits, groups_text, longest_zero_run, hex_groups_text, ipv4_text, dotted_text}
 use Rattle.std.specs.Char.{digit_char}
 use Rattle.std.proofs.lemmas.Fmt.{length-decimal-le}
 use Rattle.json.specs.Print.{quoted}

@@ -1,7 +1,7 @@
 -- The parts of a body are the body.
 use Rattle.std.proofs.Common.{◌≡◌, ℕ, List, ◌∷◌, [], ◌++◌, sym, ap, ◌∙◌, append_assoc}
 use Rattle.std.specs.Prelude.{codes}
-use Rattle.json.specs.Print.{escape_byte, escape, quoted}
+use Rattle.json.specs.Print.{escape, quoted}
 use Rattle.console_answers.specs.Kept.{kept}
 use Rattle.console_answers.proofs.KeptLemmas.{kept_behind}
 

@@ -1,8 +1,8 @@
 -- The bodies fit into the buffer.
-use Rattle.std.proofs.Common.{◌≡◌, ℕ, ◌+◌, ◌*◌, ◌^◌, ◌<◌, ◌≤◌, Bool, true, false, List, [], ◌++◌, length, Option, Some, None, lit≤, lit<, arith, length-append, refl}
+use Rattle.std.proofs.Common.{◌≡◌, ℕ, ◌+◌, ◌*◌, ◌^◌, ◌<◌, ◌≤◌, Bool, true, false, List, [], ◌++◌, length, Option, Some, None, lit≤, lit<, arith, length-append}
 use Rattle.std.specs.Prelude.{codes, decimal, ◌==◌, ◌-◌, if◌then◌else◌}
 use Rattle.std.proofs.lemmas.Fmt.{length-decimal-le}
-use Rattle.json.specs.Print.{escape_byte, quoted}
+use Rattle.json.specs.Print.{quoted}
 use Rattle.item_codec.specs.declared.word.Word as done_word
 use Rattle.item_codec.specs.declared.word.Word.TheVariants.{New, Same, Pending, Moved, Removed, Held, Released, Stranger, Renewed, Ended, Rejected, Approved, Revoked, Bound, Unbound, Set}
 use Rattle.item_codec.specs.Word.{text_of}

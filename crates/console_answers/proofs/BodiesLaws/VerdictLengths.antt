@@ -2,7 +2,7 @@
 use Rattle.std.proofs.Common.{◌≡◌, ℕ, ◌+◌, ◌*◌, ◌^◌, ◌<◌, ◌≤◌, Bool, true, false, List, [], ◌++◌, length, Option, Some, None, lit≤, lit<, arith, length-append}
 use Rattle.std.specs.Prelude.{codes, decimal, if◌then◌else◌}
 use Rattle.std.proofs.lemmas.Fmt.{length-decimal-le}
-use Rattle.json.specs.Print.{escape_byte, quoted}
+use Rattle.json.specs.Print.{quoted}
 use Rattle.console_answers.specs.Kept.{kept}
 use Rattle.console_answers.proofs.KeptLemmas.{kept_short, short_quoted}
 use Rattle.frame_view.specs.declared.views.Part.{Part}

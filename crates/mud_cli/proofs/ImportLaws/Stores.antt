@@ -8,7 +8,7 @@ use Rattle.mud_world.specs.Causes.{Rose}
 use Rattle.mud_world.specs.Door.{DoorState}
 use Rattle.mud_world.specs.Files.{names_of}
 use Rattle.run_common.specs.Ends.{IsStoppedByDoorOrSpool}
-use Rattle.desk_model.specs.DeskTables.{DeskTables, IsSound}
+use Rattle.desk_model.specs.DeskTables.{IsSound}
 use Rattle.desk_model.specs.Items.{tables_in}
 use Rattle.desk_model.specs.Sessions.{Session, opened}
 use Rattle.desk_model.specs.Boxed.{IsSameBox}

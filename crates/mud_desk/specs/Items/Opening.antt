@@ -1,6 +1,6 @@
 -- Opening a keeper: why it can't be done, and what it leaves.
 use Rattle.std.specs.Prelude.{◌≡◌, ℕ, Bool, true, false, List, ◌∷◌, ◌++◌, take, drop, ◌⊎◌, Result, Ok, Err, IsOk}
-use Rattle.item_codec.specs.Spelling.{IsOctets}
+use Rattle.mud_base.specs.Numbers.{IsOctets}
 use Rattle.mud_world.specs.declared.item.Item.{Item}
 use Rattle.mud_world.specs.declared.fault.KeepFault.{KeepFault}
 use Rattle.mud_world.specs.declared.fault.KeepFault.TheVariants as keep

@@ -9,20 +9,14 @@ ghost use Rattle.desk_model.specs.Items.{none_kept, with_desk_item};
 ghost use Rattle.bind_book.specs.Reading.{IsTaken};
 ghost use Rattle.mud_desk.specs.Items.Loaded.{kept_of, IsReadingOf, set_things, set_files, set_binds, set_stamp};
 
-use crate::items::stamp::{self, stamp_in};
+use crate::items::stamp::stamp_in;
 use bind_book::BindBook;
 use file_cache::FileCache;
+use item_codec::kinds::{FILE_KIND, STAMP_KIND, THING_KIND};
 use mud_base::{Memory, Moment};
 use mud_world::Item;
 use std::alloc::Global;
 use thing_book::ThingBook;
-
-/// The kind of a Thing's item, the least of all.
-const THING_KIND: u8 = 1;
-
-/// The kind of the item of a URL's files. Classes, local networks and names stand between these and
-/// the stamp.
-const FILE_KIND: u8 = 2;
 
 /// What was taken of items: the Things, the usage files, the classes, local networks and names, and
 /// the moment of the last change.
@@ -65,9 +59,9 @@ impl Loaded {
             self.take_thing(item)
         } else if item.kind == FILE_KIND && self.has_no_binds() && no_stamp {
             self.take_files(item)
-        } else if item.kind > FILE_KIND && item.kind < stamp::KIND && no_stamp {
+        } else if item.kind > FILE_KIND && item.kind < STAMP_KIND && no_stamp {
             self.take_binds(item)
-        } else if item.kind == stamp::KIND {
+        } else if item.kind == STAMP_KIND {
             Ok(self.take_stamp(item))
         } else {
             Ok(false)

@@ -3,7 +3,7 @@ ghost use Rattle.std.specs.Prelude.{◌≡◌, true, false, IsTrue, IfOk, IfErr,
 ghost use Rattle.std.specs.List.{AllByRecursion};
 ghost use Rattle.mud_world.specs.Causes.{Counts};
 ghost use Rattle.mud_world.specs.Items.{has_failed, IsOrdered};
-ghost use Rattle.item_codec.specs.Spelling.{IsOctets};
+ghost use Rattle.mud_base.specs.Numbers.{IsOctets};
 ghost use Rattle.table_model.specs.ThingItems.{in_second};
 ghost use Rattle.desk_model.specs.DeskTables.{IsSound};
 ghost use Rattle.desk_model.specs.Items.{none_kept, items_of, tables_in};

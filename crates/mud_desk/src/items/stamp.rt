@@ -3,11 +3,9 @@ ghost use Rattle.std.specs.Prelude.{◌≡◌};
 ghost use Rattle.table_model.specs.BindItems as spec;
 
 use item_codec::FieldReader;
+use item_codec::kinds::STAMP_KIND;
 use mud_base::Moment;
 use mud_world::Item;
-
-/// The kind of the stamp's item.
-pub(crate) const KIND: u8 = 6;
 
 /// The seconds in the body of the stamp's item, or None where the body isn't of its form.
 #[tactic(auto, unfolding(table_model::specs::BindItems::moment_of_body, item_codec::specs::Records::version_in, item_codec::specs::Records::number_in, item_codec::specs::Records::end_in))]
@@ -32,7 +30,7 @@ fn moment_of_body(body: &[u8]) -> Option<u64>
 pub(crate) fn stamp_in(item: &Item) -> Option<Moment>
     ensures { result ≡ spec.stamp_in item.now }
 {
-    if item.kind != KIND || item.key.len() != 0 {
+    if item.kind != STAMP_KIND || item.key.len() != 0 {
         return None;
     }
     let seconds = moment_of_body(item.body.octets())?;

@@ -1,5 +1,5 @@
 -- What is learnt of addresses, one after the other.
-use Rattle.std.proofs.Common.{◌≡◌, ◌≢◌, ℕ, zero, suc, ◌+◌, ◌<◌, ◌≤◌, Bool, true, false, ◌||◌, if◌then◌else◌, List, [], ◌∷◌, ◌++◌, length, take, drop, get_or, Some, Result, Err, refl, sym, subst, ap, ap₂, ◌∙◌, arith, append_assoc, append-nil, lt-ltb}
+use Rattle.std.proofs.Common.{◌≡◌, ◌≢◌, ℕ, zero, suc, ◌+◌, ◌<◌, ◌≤◌, Bool, true, false, ◌||◌, if◌then◌else◌, List, [], ◌∷◌, ◌++◌, length, take, drop, get_or, refl, sym, subst, ap, ap₂, ◌∙◌, arith, append_assoc, append-nil, lt-ltb}
 use Rattle.std.specs.Prelude.{nat_lt}
 use Rattle.std.proofs.lemmas.List.{length-append, take_more, take-append-drop, take-append-le, length-take}
 use Rattle.std.proofs.Math.Seq.{take-append-add}
@@ -11,13 +11,10 @@ use Rattle.desk_model.specs.declared.command.Command.TheVariants.{Observe}
 use Rattle.desk_model.specs.declared.reply.Reply.{Reply}
 use Rattle.desk_model.specs.declared.reply.Reply.TheVariants.{Memory}
 use Rattle.desk_model.specs.Sessions.{Session, AllowedReply, Runs, is_of_keeper}
-use Rattle.dns_snoop.specs.declared.answers.Answers.{Answers}
-use Rattle.dns_snoop.specs.declared.fault.DnsFault.{DnsFault}
 use Rattle.dns_snoop.specs.declared.fault.DnsFault.TheVariants as dns
-use Rattle.dns_snoop.specs.Rows.{Answered}
 use Rattle.run_packets.specs.Snoop.Entries.{Heard, observations, calls_of, name_lines, heard_lines, NoneOfMemory, failures}
 use Rattle.run_packets.specs.Snoop.Learnt.{Learns, LearnsFirst, names_of}
-use Rattle.run_packets.specs.Snoop.Lines.{name_line, dns_fault_line}
+use Rattle.run_packets.specs.Snoop.Lines.{name_line}
 
 abbrev pub Calls : Type 0
 Calls = List (ℕ × Command)
@@ -163,20 +160,6 @@ module _ (m : ℕ) (n name : List ℕ) (rows : Rows) (i : ℕ) (row other : Addr
       (sym (take-append-drop (i + 1) rows) ∙ ap (λ (front : Rows). front ++ drop (i + 1) rows) next_rows ∙ append_assoc (take i rows) (row ∷ []) (drop (i + 1) rows))
 
 -- ---- A message
-
--- a fault that is answered and isn't want of memory is that of the message
-pub fault_is : {A : Type 0} (fault : DnsFault) (defined : Result A DnsFault) → fault ≢ dns.Memory → Answered (Err fault) defined → Err fault ≡ defined
-fault_is dns.Memory defined other is = absurd (other refl)
-fault_is (dns.Cut at) defined other is = is
-fault_is dns.NotAnswer defined other is = is
-fault_is (dns.Label at) defined other is = is
-fault_is (dns.Pointer at) defined other is = is
-fault_is (dns.NameLong at) defined other is = is
-
-pub learns_fault : (m : ℕ) (fault : DnsFault) (defined : Result Answers DnsFault) (a : Session) (old new : List ℕ) (f : ℕ) → Err fault ≡ defined → new ≡ old ++ dns_fault_line fault
-    → Learns m (Some defined) a a old new f f false
-learns_fault m fault defined a old new f is added =
-    subst (λ (d : Result Answers DnsFault). Learns m (Some d) a a old new f f false) is (learns_none m (Some (Err fault)) a old new f f refl refl added)
 
 -- ---- The keeper's count
 

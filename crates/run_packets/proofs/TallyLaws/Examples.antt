@@ -9,7 +9,8 @@ use Rattle.base_rows.specs.Addresses.{addr_sort_key}
 use Rattle.text_values.specs.Numbers.{number_text}
 use Rattle.desk_model.specs.Texts.Verdicts.{default_name, why_name, ruling_text}
 use Rattle.drop_ledger.specs.Counted.{count_of, numbered, count_rows, firsts, is_of, those_of, kept_of, is_kept, is_first, first_rows, others_of, late_rows}
-use Rattle.drop_ledger.specs.SortKeys.{six, side_number, thing_sort_key, ruling_class, entry_number, ruling_sort_key, port_number, peer_sort_key, sort_key_of_count, sort_key_of_denied, sort_key_of_other, with_count, with_denied, with_other}
+use Rattle.mud_base.specs.Directions.{side_number}
+use Rattle.drop_ledger.specs.SortKeys.{six, thing_sort_key, ruling_class, entry_number, ruling_sort_key, port_number, peer_sort_key, sort_key_of_count, sort_key_of_denied, sort_key_of_other, with_count, with_denied, with_other}
 use Rattle.drop_ledger.specs.Seen.{hour_of, mac_on, ruling_on, ruled_on, rulings_in, rulings, is_unmanaged, is_link, is_unreadable, is_governed, has_both, passes, drops, verdicts, totals_in}
 use Rattle.drop_ledger.specs.Ledger.{count_row, counts_of, port_of, peer_row, row_with, row_by, denied_row, denials, other_row}
 use Rattle.drop_ledger.proofs.Examples.{bulb, switch, gateway, opening, between, asking, hour, crossing}

@@ -100,9 +100,6 @@ all_things session (packet ∷ packets) = ((seen_right session packet).thing, al
 times : ℕ → List ℕ → ℕ
 times n l = total (λ h. cond (n == h) 1 0) l
 
-other_numbers : (n k : ℕ) → (n == k) ≡ true → n ≡ k
-other_numbers n k e = eqb-true n k e
-
 gone_by : (n k h : ℕ) (l : List ℕ) → (n == k) ≡ true → times n (filter (λ g. not (g == k)) l) ≡ 0 → (b : Bool) → (h == k) ≡ b → times n (cond (not b) (h ∷ filter (λ g. not (g == k)) l) (filter (λ g. not (g == k)) l)) ≡ 0
 unfolding times total
 gone_by n k h l same rest true e = rest

@@ -26,9 +26,6 @@ same_stands all latest before after same stands = record {
   few = stands.few;
 }
 
-pub same_tallied : (t : Tallied) (state : DeskState) (moment : ℕ) (before after : TallyState) → IsSameTally before after → IsTallied t state moment before → IsTallied t state moment after
-same_tallied t state moment before after same is = record { session = is.session; moment = is.moment; stands = same_stands t.all t.latest before after same is.stands }
-
 -- once the counts of another hour are gone, the packet may follow
 pub hour_then : (old new : Option ℕ) (now : ℕ) → new ≡ cond (is_over old now) None old → (new ≡ None) ⊎ (new ≡ Some now)
 unfolding is_over

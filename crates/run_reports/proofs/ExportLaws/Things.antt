@@ -59,10 +59,6 @@ sources_there state is m locals same (Some thing) from to lent lent' = record {
   moment_is = refl;
 }
 
-pub no_sources : (state : DeskState) (side : Direction) (desk : DeskTables) (m : ℕ) (o : Option Thing) → AreRulesOf state side o None → AreSourcesOf desk m o None
-no_sources state side desk m None lent = tt
-no_sources state side desk m (Some thing) lent = absurd lent
-
 -- ---- Their text is that of the lists by the tables
 
 module _ (desk : DeskTables) (m : ℕ) (small : m < for_ever) (url : List ℕ) (s : SourceParts) (are : AreSources desk m url s) where

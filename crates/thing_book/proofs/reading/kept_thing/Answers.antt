@@ -1,5 +1,5 @@
 use Rattle.std.proofs.Common.{subst}
-use Rattle.item_codec.specs.Spelling.{IsOctets}
+use Rattle.mud_base.specs.Numbers.{IsOctets}
 use Rattle.thing_book.proofs.Taking.{kept_read}
 use Rattle.thing_book.proofs.reading.kept_thing.Goals as goal
 

@@ -1,6 +1,6 @@
 use Rattle.std.proofs.Common.{false, true, ◌&&◌, IsTrue, sym, ap, subst, ◌∙◌}
 use Rattle.std.specs.Prelude.{◌==◌, option_map}
-use Rattle.item_codec.specs.Spelling.{IsOctets}
+use Rattle.mud_base.specs.Numbers.{IsOctets}
 use Rattle.table_model.specs.Binds.{Binds}
 use Rattle.table_model.specs.BindItems.{with_locals_item}
 use Rattle.table_model.specs.TakenItems.{is_empty, set_locals}

@@ -1,7 +1,7 @@
 use Rattle.std.proofs.Common.{false, ◌<◌, ◌≤◌, ◌++◌, ◌∷◌, [], List, cond, sym, ap, subst, ◌∙◌}
 use Rattle.std.specs.Prelude.{option_map}
 use Rattle.base_rows.specs.Sortable.{comes_last}
-use Rattle.item_codec.specs.Spelling.{IsOctets}
+use Rattle.mud_base.specs.Numbers.{IsOctets}
 use Rattle.table_model.specs.declared.bind.NameRow.{NameRow}
 use Rattle.table_model.specs.Binds.{Binds, name_of}
 use Rattle.table_model.specs.BindItems.{with_name_item}

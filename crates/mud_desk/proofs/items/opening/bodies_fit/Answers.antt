@@ -1,5 +1,5 @@
 use Rattle.std.proofs.Common.{subst}
-use Rattle.item_codec.specs.Spelling.{IsOctets}
+use Rattle.mud_base.specs.Numbers.{IsOctets}
 use Rattle.mud_desk.proofs.ItemsLaws.Anew.{octets_more, octets_all}
 use Rattle.mud_desk.proofs.items.opening.bodies_fit.Goals as goal
 

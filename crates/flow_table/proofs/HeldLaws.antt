@@ -25,10 +25,6 @@ pub held_out : (t : Held) (q : Key) (elder : Option (Option Begun)) → None ≡
 unfolding held_at slot_first
 held_out t q elder e f = ap filled f ∙ ap (λ y. slot_first y (slot_at t.elder q)) e
 
-pub held_elder : (t : Held) (q : Key) (begun : Option Begun) → None ≡ slot_at t.younger q → Some begun ≡ slot_at t.elder q → begun ≡ held_at t q
-unfolding filled
-held_elder t q begun e f = held_out t q (Some begun) e f
-
 pub held_nowhere : (t : Held) (q : Key) → None ≡ slot_at t.younger q → None ≡ slot_at t.elder q → None ≡ held_at t q
 unfolding filled
 held_nowhere t q e f = held_out t q None e f

@@ -5,7 +5,7 @@ use Rattle.std.specs.List.{list_any}
 use Rattle.std.proofs.lemmas.Bool.Decides.{nat_tests}
 use Rattle.mud_base.specs.declared.packet.Fields.{Fields}
 use Rattle.mud_base.specs.declared.packet.Direction.{Direction}
-use Rattle.table_model.specs.History.{Endpoint, Begun, segment_of, is_between, between, opens, resets, since_opened, is_unbroken, moment_of, beginner_since, beginner_of, beginner, side_of, begun_in, begun_of, with_segment, with_packet, last_moment, is_forward, with_moment, begun_at, begun_between, is_past, MayKeep}
+use Rattle.table_model.specs.History.{Endpoint, Begun, segment_of, is_between, between, opens, resets, since_opened, is_unbroken, moment_of, beginner_since, beginner_of, beginner, side_of, begun_in, begun_of, last_moment, is_forward, with_moment, begun_at, begun_between, is_past, MayKeep}
 use Rattle.table_model.specs.declared.segment.Segment.{Segment}
 use Rattle.table_model.proofs.TypeFacts.{segment_at}
 use Rattle.flow_table.specs.Kept.{Flows, StandsFor, is_since, beginner_kept, kept_after, MayForget, HasNoted}
@@ -331,8 +331,3 @@ pub begun_other : (h : List Segment) (flows : Flows) (side : Direction) (fields 
 unfolding begun_of begun_in beginner
 begun_other h flows side fields now p s since e f =
     rw (e, f) (ap (side_of side p) (sym (beginner_found h flows p.source p.destination p.at s (rw (at_planned fields now p e, s.last) since))))
-
--- the history with a packet more
-pub packet_more : (h : List Segment) (fields : Fields) (now : ℕ) (p : Segment) → segment_of fields now ≡ Some p → h ++ p ∷ [] ≡ with_packet h fields now
-unfolding with_packet with_segment
-packet_more h fields now p e = rw e refl

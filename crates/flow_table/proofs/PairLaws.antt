@@ -3,7 +3,7 @@ use Rattle.std.proofs.Common.{◌≡◌, ℕ, Bool, true, false, ◌&&◌, ◌||
 use Rattle.std.specs.Ordering.{nat_cmp, ordering_then, ordering_reverse, match_ordering}
 use Rattle.std.specs.declared.cmp.Ordering.{Ordering}
 use Rattle.std.specs.declared.cmp.Ordering.TheVariants.{Less, Equal, Greater}
-use Rattle.std.proofs.lemmas.Cmp.{nat_cmp_total, ranked, tied_itself}
+use Rattle.std.proofs.lemmas.Cmp.{nat_cmp_total, ranked}
 use Rattle.std.proofs.lemmas.Bool.{and_parts, or_cases}
 use Rattle.mud_base.specs.Addresses.{addr_cmp, same_addr}
 use Rattle.mud_base.specs.declared.addr.Addr.{Addr}
@@ -46,9 +46,6 @@ endpoint_tie : (a b : Endpoint) → endpoint_cmp a b ≡ Equal → a ≡ b
 endpoint_tie a b e =
     let both = then_equal (addr_cmp a.0 b.0) (nat_cmp a.1 b.1) (sym (endpoint_by a b) ∙ e) in
     both_parts a b (same_from_tie a.0 b.0 both.0) (ranked a.1 b.1 Equal (sym both.1))
-
-endpoint_itself : (a : Endpoint) → endpoint_cmp a a ≡ Equal
-endpoint_itself a = endpoint_by a a ∙ ap (λ o. ordering_then o (nat_cmp a.1 a.1)) (tied_itself addr_cmp_total a.0) ∙ tied_itself nat_cmp_total a.1
 
 endpoint_reverse : (a b : Endpoint) → endpoint_cmp a b ≡ ordering_reverse (endpoint_cmp b a)
 endpoint_reverse a b =

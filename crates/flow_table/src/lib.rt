@@ -10,4 +10,4 @@ pub mod table;
 pub use kept::Begun;
 pub use key::Key;
 pub use pairs::Pair;
-pub use table::{FlowPlan, FlowTable, pass};
+pub use table::{FlowPlan, FlowTable};

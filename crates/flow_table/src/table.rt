@@ -1,6 +1,6 @@
 //! The table of the connections that forwarded packets made.
-ghost use Rattle.std.specs.Prelude.{◌≡◌, ◌++◌, ◌∷◌, [], true, false, IsTrue, IfOk, OnOk, OnErr, IsSome, Some, None};
-ghost use Rattle.table_model.specs.History.{begun_of, segment_of as spec_segment_of, with_packet};
+ghost use Rattle.std.specs.Prelude.{◌≡◌, ◌++◌, ◌∷◌, [], true, false, IsTrue, IfOk, OnOk, IsSome, Some, None};
+ghost use Rattle.table_model.specs.History.{begun_of, segment_of as spec_segment_of};
 ghost use Rattle.flow_table.specs.Noted.{follows, segment_planned, IsPlanned};
 ghost use Rattle.flow_table.specs.Held.{slot_at, slot_first, filled, with_newest, IsWritten};
 
@@ -17,9 +17,6 @@ use std::mem::replace;
 use table_model::Segment;
 use table_model::limits::MOST_PAUSE;
 use table_model::segment::segment_of;
-
-#[cfg(test)]
-mod tests;
 
 /// The connections that forwarded TCP packets made. Each is kept until its last packet is more than
 /// [`MOST_PAUSE`] seconds ago at least, and so it answers as the list of all these packets does,
@@ -247,16 +244,4 @@ fn write_slot(slots: &mut BTreeMap<Key, Option<Begun>>, key: &Key, packet: &Segm
         }
         None => false,
     }
-}
-
-/// Plans a packet and notes it at once.
-pub fn pass(table: &mut FlowTable, fields: &Fields, now: Moment) -> Result<(), Memory>
-    requires since { IsTrue (follows table.old.history now) }
-    requires tcp { IsSome (spec_segment_of fields.now now) }
-    ensures ok { OnOk result (table.new.history ≡ with_packet table.old.history fields.now now) }
-    ensures err { OnErr result (table.new.history ≡ table.old.history) }
-{
-    let plan = table.plan(fields, now)?;
-    table.note(plan);
-    Ok(())
 }

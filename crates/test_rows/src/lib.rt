@@ -1,8 +1,11 @@
-//! Tests of the rows that are compiled: that after changes by chance they are those of plain tables,
-//! and that addresses without rows are forgotten. No other crate stands on it.
+//! Tests of the rows that are compiled and of the table of connections: that after changes by chance
+//! the rows are those of plain tables, that addresses without rows are forgotten, and who began a
+//! connection after pauses and a reset. No other crate stands on it.
 #![tactic(auto)]
 
 #[cfg(test)]
 mod addresses;
 #[cfg(test)]
 mod compiled;
+#[cfg(test)]
+mod connections;

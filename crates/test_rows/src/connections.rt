@@ -1,12 +1,14 @@
 //! Who began, in a run of packets.
-use super::*;
-use mud_base::{Addr, Transport};
+use flow_table::FlowTable;
+use mud_base::{Addr, Direction, Fields, Moment, Transport};
 use std::test::Fail;
 
+/// The address of the Thing, 192.0.2.10, and that of its peer, 198.51.100.7.
 const BULB: u32 = 0xc000_020a;
 
-const TEST: u32 = 0xc633_6407;
+const PEER: u32 = 0xc633_6407;
 
+/// A TCP packet of no data.
 fn tcp(src: u32, from: u16, dst: u32, to: u16, flags: u8) -> Fields {
     Fields {
         src: Addr::V4(src),
@@ -28,7 +30,7 @@ fn moment(seconds: u64) -> Moment {
     Moment::at_most_last(seconds)
 }
 
-// A packet is forwarded; false where it could not be noted.
+/// A TCP packet is forwarded; false where it could not be noted.
 #[tactic(auto, unfolding(table_model::specs::History::segment_of, table_model::specs::History::segment_in))]
 fn forwarded(table: &mut FlowTable, fields: &Fields, seconds: u64) -> bool {
     let now = moment(seconds);
@@ -36,7 +38,13 @@ fn forwarded(table: &mut FlowTable, fields: &Fields, seconds: u64) -> bool {
         return false;
     }
     match fields.transport {
-        Transport::Tcp { .. } => pass(table, fields, now).is_ok(),
+        Transport::Tcp { .. } => match table.plan(fields, now) {
+            Ok(plan) => {
+                table.note(plan);
+                true
+            }
+            Err(_) => false,
+        },
         _ => false,
     }
 }
@@ -53,8 +61,8 @@ fn begun(table: &FlowTable, side: Direction, fields: &Fields, seconds: u64) -> O
 #[test]
 fn a_pause_of_more_than_7440_seconds_ends_it(rt: HostRuntime) -> Result<(), Fail> {
     let mut table = FlowTable::new(rt.alloc());
-    let call = tcp(BULB, 50000, TEST, 443, 2);
-    let answer = tcp(TEST, 443, BULB, 50000, 0x12);
+    let call = tcp(BULB, 50000, PEER, 443, 2);
+    let answer = tcp(PEER, 443, BULB, 50000, 0x12);
     assert_eq!(rt; begun(&table, Direction::To, &answer, 1001), None);
     assert_eq!(rt;
         begun(&table, Direction::From, &call, 1001),
@@ -82,9 +90,9 @@ fn a_pause_of_more_than_7440_seconds_ends_it(rt: HostRuntime) -> Result<(), Fail
 #[test]
 fn a_reset_ends_it(rt: HostRuntime) -> Result<(), Fail> {
     let mut table = FlowTable::new(rt.alloc());
-    let call = tcp(BULB, 50000, TEST, 443, 2);
-    let reset = tcp(BULB, 50000, TEST, 443, 4);
-    let answer = tcp(TEST, 443, BULB, 50000, 0x12);
+    let call = tcp(BULB, 50000, PEER, 443, 2);
+    let reset = tcp(BULB, 50000, PEER, 443, 4);
+    let answer = tcp(PEER, 443, BULB, 50000, 0x12);
     assert!(rt; forwarded(&mut table, &call, 1001));
     assert!(rt; forwarded(&mut table, &reset, 1001));
     assert_eq!(rt; begun(&table, Direction::To, &answer, 1001), None);
@@ -93,16 +101,5 @@ fn a_reset_ends_it(rt: HostRuntime) -> Result<(), Fail> {
         begun(&table, Direction::To, &answer, 1003),
         Some(Direction::From)
     );
-    Ok(())
-}
-
-#[test]
-fn old_connections_go(rt: HostRuntime) -> Result<(), Fail> {
-    let mut table = FlowTable::new(rt.alloc());
-    for minute in 0..1000u16 {
-        let call = tcp(BULB, minute, TEST, 443, 2);
-        assert!(rt; forwarded(&mut table, &call, 60 * minute as u64));
-        assert!(rt; table.younger.len() + table.elder.len() <= 250);
-    }
     Ok(())
 }

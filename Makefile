@@ -34,6 +34,7 @@ checks: build
 	bash checks/examples
 	bash checks/faulty-runs
 	bash checks/sessions
+	bash checks/connections
 	bash checks/real-clients
 	bash checks/stopped-stores
 	bash checks/shown-commands

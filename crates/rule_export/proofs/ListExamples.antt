@@ -22,11 +22,11 @@ use Rattle.packet_judge.proofs.OnLiterals.{verdicts_compute}
 use Rattle.rule_export.specs.declared.item.RuleNumber.{RuleNumber}
 use Rattle.rule_export.specs.declared.item.RuleNumber.TheVariants as rule
 use Rattle.rule_export.specs.declared.item.Resolved.{Resolved}
-use Rattle.rule_export.specs.Listed.{covers, items_from, item_of, row_addrs, thing_addrs, class_addrs, name_addrs, table_addrs, addr_network, is_listed, addr_networks, listed_networks, listed_items, listed_file, listed_default, listed_of}
+use Rattle.rule_export.specs.Listed.{covers, items_from, item_of, table_addrs, addr_network, is_listed, listed_networks, listed_items, listed_file, listed_of}
 use Rattle.rule_export.proofs.Examples.{networks_compute}
 
 unfoldable lists_compute : ⊤
-unfolding verdicts_compute networks_compute addr_bits covers items_from row_addrs thing_addrs class_addrs name_addrs table_addrs addr_network is_listed addr_networks listed_networks listed_items listed_file listed_default listed_of
+unfolding verdicts_compute networks_compute addr_bits covers items_from table_addrs addr_network is_listed listed_networks listed_items listed_file listed_of
 lists_compute = tt
 
 -- ---- The tables: the bulb (192.0.2.10) and a switch of its maker (192.0.2.11) with leases, the DNS server (192.0.2.53), the local

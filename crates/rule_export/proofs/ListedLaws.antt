@@ -30,7 +30,8 @@ use Rattle.table_model.specs.Tables.{Tables, meets, ruling_of}
 use Rattle.rule_export.specs.declared.item.RuleNumber.{RuleNumber}
 use Rattle.rule_export.specs.declared.item.RuleNumber.TheVariants as rule
 use Rattle.rule_export.specs.Networks.{has_near, near_networks}
-use Rattle.rule_export.specs.Listed.{ListItem, list_item, covers, items_from, is_listed, addr_networks, listed_networks, listed_items, listed_file, listed_default, listed_of}
+use Rattle.rule_export.specs.Listed.{ListItem, covers, items_from, is_listed, listed_networks, listed_items, listed_file, listed_of}
+use Rattle.rule_export.proofs.Parts.{list_item, addr_networks, listed_default}
 use Rattle.rule_export.specs.Ruling.{entry_passes, listed_passes, listed_rule, listed_ruling, number_of}
 use Rattle.rule_export.proofs.NetworkLaws.{networks_hold}
 use Rattle.rule_export.proofs.EntryLaws.{one_version, peer_version, none_near}
@@ -173,7 +174,7 @@ module _ (tables : Tables) (now : ℕ) (url : List ℕ) (version : Family) (side
     default_chosen false false why = refl
 
     defaults_rule : (why : Why) → first (listed_default tables now url version side Dns ++ listed_default tables now url version side Ntp) ≡ number_of (default_ruling matches side why)
-    unfolding listed_default default_ruling
+    unfolding default_ruling
     defaults_rule why =
         let dns = default_entry Dns side in
         let ntp = default_entry Ntp side in

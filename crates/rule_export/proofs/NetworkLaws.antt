@@ -18,7 +18,7 @@ use Rattle.acl_model.specs.declared.entry.Selector.TheVariants as asks
 use Rattle.acl_model.specs.declared.entry.Entry.{Entry}
 use Rattle.acl_model.specs.Keys.{is_member}
 use Rattle.acl_model.specs.Match.{is_in_family, is_local, near_met, near_matches}
-use Rattle.rule_export.specs.Networks.{common_part, is_local_of, named_by, is_near, has_near, in_order, near_names, near_networks, joined_with, joint_with, joint, asked_networks}
+use Rattle.rule_export.specs.Networks.{common_part, is_local_of, named_by, is_near, has_near, in_order, near_networks, joined_with, joint_with, joint, asked_networks}
 use Rattle.rule_export.proofs.PrefixLaws.{of_address}
 use Rattle.rule_export.proofs.ChoiceLaws.{any_alike, any-filter_map, commons, with_first, one_commons, more_commons, all_lists}
 use Rattle.rule_export.proofs.RowTests.{any-ordered, ordered_alike}
@@ -119,10 +119,10 @@ held_by family locals a f ss [] is some = absurd (false≢true some)
 held_by family locals a f ss (ps ∷ pss) is some = all_lists (λ p. prefix_holds p a) (of_address a) ps pss
 
 pub networks_hold : (family : Family) (locals : List Prefix) (entry : Entry) (a : Addr) → has_near entry ≡ true → is_in_family family a ≡ true → list_any (λ p. prefix_holds p a) (near_networks family locals entry) ≡ near_matches entry a locals
-unfolding has_near near_networks near_names near_matches
+unfolding has_near near_networks near_matches
 networks_hold family locals entry a has f =
-    any-in_order (λ p. prefix_holds p a) (commons (near_names family locals entry))
-    ∙ held_by family locals a f entry.selectors (near_names family locals entry) refl (sym (near_some (named_by family locals) entry.selectors) ∙ has)
+    any-in_order (λ p. prefix_holds p a) (commons (map (named_by family locals) (filter is_near entry.selectors)))
+    ∙ held_by family locals a f entry.selectors (map (named_by family locals) (filter is_near entry.selectors)) refl (sym (near_some (named_by family locals) entry.selectors) ∙ has)
     ∙ all_named family locals a f entry.selectors
 
 -- ---- One selector at a time
@@ -167,7 +167,7 @@ module _ (family : Family) (locals : List Prefix) where
   asked_by (ps ∷ pss) = refl
 
   pub asked_joint : (entry : Entry) → asked_networks family locals entry ≡ joint family locals entry.selectors
-  unfolding asked_networks has_near near_networks near_names
+  unfolding asked_networks has_near near_networks
   asked_joint entry =
       ap (λ b. cond b (Some (in_order (commons (named entry.selectors)))) None) (near_some (named_by family locals) entry.selectors)
       ∙ asked_by (named entry.selectors)

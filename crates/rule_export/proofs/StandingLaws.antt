@@ -23,7 +23,8 @@ use Rattle.table_model.specs.declared.bind.NameRow.{NameRow}
 use Rattle.table_model.specs.Expiries.{is_live, has_live, Expiries}
 use Rattle.table_model.specs.Binds.{same_class, has_addr}
 use Rattle.table_model.specs.Tables.{Tables, has_lease, has_host, has_url, is_leased, is_bound, is_named, meets}
-use Rattle.rule_export.specs.Listed.{row_addrs, thing_addrs, class_addrs, name_addrs, table_addrs, addr_network, is_listed, addr_networks}
+use Rattle.rule_export.specs.Listed.{table_addrs, addr_network, is_listed}
+use Rattle.rule_export.proofs.Parts.{addr_networks}
 use Rattle.rule_export.proofs.ChoiceLaws.{any_alike}
 use Rattle.rule_export.proofs.EntryLaws.{any-filter, host_holds}
 use Rattle.rule_export.proofs.NetworkLaws.{any-in_order}
@@ -38,6 +39,18 @@ any_behind p xs ys e = list_any-append p xs ys ∙ ap (λ b. list_any p xs || b)
 
 -- ---- Where an address stands
 
+abbrev row_addrs : Expiries → List Addr
+row_addrs expiries = map (λ r. r.0) expiries
+
+abbrev thing_addrs : Thing → List Addr
+thing_addrs thing = row_addrs thing.leases
+
+abbrev class_addrs : ClassRow → List Addr
+class_addrs row = row.addrs
+
+abbrev name_addrs : NameRow → List Addr
+name_addrs row = row_addrs row.addrs
+
 module _ (tables : Tables) (now : ℕ) (url : List ℕ) (a : Addr) where
   abbrev stands : List Addr → Bool
   stands addrs = list_any (same_addr a) addrs
@@ -46,7 +59,7 @@ module _ (tables : Tables) (now : ℕ) (url : List ℕ) (a : Addr) where
   turned b e = subst (λ c. same_addr a c ≡ true) (sym (same_addr_exact b a e)) (same_addr_itself a)
 
   live_stands : (expiries : Expiries) → has_live a now expiries ≡ true → stands (row_addrs expiries) ≡ true
-  unfolding has_live row_addrs
+  unfolding has_live
   live_stands expiries e =
       any-map (same_addr a) (λ r. r.0) expiries
       ∙ any_more (λ r. same_addr r.0 a && is_live r.1 now) (λ r. same_addr a r.0) expiries (λ r h. turned r.0 (left_of (same_addr r.0 a) (is_live r.1 now) h)) e
@@ -56,19 +69,19 @@ module _ (tables : Tables) (now : ℕ) (url : List ℕ) (a : Addr) where
   addr_stands addrs e = any_more (λ b. same_addr b a) (same_addr a) addrs turned e
 
   leased_stands : (test : Thing → Bool) (things : List Thing) → is_leased test a now things ≡ true → stands (flat_map thing_addrs things) ≡ true
-  unfolding is_leased has_lease thing_addrs
+  unfolding is_leased has_lease
   leased_stands test things e =
       any-flat_map (same_addr a) thing_addrs things
       ∙ any_more (λ t. test t && has_lease a now t) (λ t. stands (thing_addrs t)) things (λ t h. live_stands t.leases (right_of (test t) (has_lease a now t) h)) e
 
   bound_stands : (c : Class) (classes : List ClassRow) → is_bound c a classes ≡ true → stands (flat_map class_addrs classes) ≡ true
-  unfolding is_bound class_addrs
+  unfolding is_bound
   bound_stands c classes e =
       any-flat_map (same_addr a) class_addrs classes
       ∙ any_more (λ row. same_class row.class c && has_addr a row.addrs) (λ row. stands (class_addrs row)) classes (λ row h. addr_stands row.addrs (right_of (same_class row.class c) (has_addr a row.addrs) h)) e
 
   named_stands : (name : List ℕ) (names : List NameRow) → is_named name a now names ≡ true → stands (flat_map name_addrs names) ≡ true
-  unfolding is_named name_addrs
+  unfolding is_named
   named_stands name names e =
       any-flat_map (same_addr a) name_addrs names
       ∙ any_more (λ row. bytes_eq row.name name && has_live a now row.addrs) (λ row. stands (name_addrs row)) names (λ row h. live_stands row.addrs (right_of (bytes_eq row.name name) (has_live a now row.addrs) h)) e
@@ -138,7 +151,7 @@ network_of b a = host_holds b a
 module _ (tables : Tables) (now : ℕ) (url : List ℕ) (version : Family) where
   -- an address is held by one of the networks exactly where it is listed
   pub any_listed : (e : Entry) (a : Addr) → is_membered e ≡ true → list_any (λ p. prefix_holds p a) (addr_networks tables now url version e) ≡ is_listed tables now url version e a
-  unfolding addr_networks is_listed is_membered
+  unfolding is_listed is_membered
   any_listed e a member =
       any-in_order (λ p. prefix_holds p a) (map addr_network (filter (is_listed tables now url version e) (table_addrs tables)))
       ∙ any-map (λ p. prefix_holds p a) addr_network (filter (is_listed tables now url version e) (table_addrs tables))

@@ -47,7 +47,8 @@ use Rattle.rule_export.specs.declared.item.RuleNumber.{RuleNumber}
 use Rattle.rule_export.specs.declared.item.RuleNumber.TheVariants as rule
 use Rattle.rule_export.specs.declared.item.Resolved.{Resolved}
 use Rattle.rule_export.specs.Networks.{has_near, near_networks}
-use Rattle.rule_export.specs.Listed.{ListItem, item_of, list_item, covers, items_from, table_addrs, addr_network, is_listed, addr_networks, listed_networks, listed_items, listed_file, listed_default, listed_of}
+use Rattle.rule_export.specs.Listed.{ListItem, item_of, covers, items_from, table_addrs, addr_network, is_listed, listed_networks, listed_items, listed_file, listed_of}
+use Rattle.rule_export.proofs.Parts.{list_item, addr_networks, listed_default}
 use Rattle.rule_export.specs.Resolved.{Wanted, is_wanted, host_network, wanted_networks, member_networks, entry_networks, entry_items, part_items, file_items, default_rule, resolved_of}
 use Rattle.rule_export.specs.Ruling.{entry_of}
 use Rattle.text_values.specs.Lists.{behind_comma, with_commas}
@@ -175,7 +176,7 @@ module _ (slots : Slots) (bindings : List Binding) (ascend : SortKeysAscend bind
         ∙ ap (λ b. b && list_all (λ s. meets tables w.moment url s a) e.selectors) (sym of)
 
     held_alike : (a : Addr) → is_membered e ≡ true → is_in_family w.family a ≡ true → list_any (λ p. prefix_holds p a) (map addr_network by_rows) ≡ list_any (λ p. prefix_holds p a) (map addr_network by_tables)
-    unfolding member_networks addr_networks
+    unfolding member_networks
     held_alike a member of =
         ap (λ ps. list_any (λ p. prefix_holds p a) ps) (sym of_rows)
         ∙ sym (any-in_order (λ p. prefix_holds p a) (wanted_networks w n e (rows_for o)))
@@ -185,7 +186,7 @@ module _ (slots : Slots) (bindings : List Binding) (ascend : SortKeysAscend bind
         ∙ any-in_order (λ p. prefix_holds p a) (map addr_network by_tables)
 
     listed_version : (a : Addr) → is_membered e ≡ true → list_any (λ p. prefix_holds p a) (map addr_network by_tables) ≡ true → is_in_family w.family a ≡ true
-    unfolding addr_networks is_listed
+    unfolding is_listed
     listed_version a member h =
         left_of (is_in_family w.family a) (list_all (λ s. meets tables w.moment url s a) e.selectors)
         (sym (any_listed tables w.moment url w.family e a member) ∙ any-in_order (λ p. prefix_holds p a) (map addr_network by_tables) ∙ h)
@@ -196,7 +197,7 @@ module _ (slots : Slots) (bindings : List Binding) (ascend : SortKeysAscend bind
         (no_more t by_tables by_rows (λ a h. held_alike a member (listed_version a member h) ∙ h))
 
     members_alike : is_membered e ≡ true → member_networks w (rows_for o) n e ≡ addr_networks tables w.moment url w.family e
-    unfolding member_networks addr_networks
+    unfolding member_networks
     members_alike member = in_order_alike (wanted_networks w n e (rows_for o)) (map addr_network by_tables) (λ t. ap (λ ps. list_any t ps) of_rows ∙ tests_both member t)
 
     networks_by : (b : Bool) → is_membered e ≡ b
@@ -248,7 +249,7 @@ module _ (slots : Slots) (bindings : List Binding) (ascend : SortKeysAscend bind
 
   defaults_alike : (part : Part) → IsPartOf (rows_of slots bindings) side Default default_policy part
       → part_items w default_rule part ≡ map item_of (listed_default tables w.moment url w.family side Dns ++ listed_default tables w.moment url w.family side Ntp)
-  unfolding part_items numbered default_rule default_held held_by entry_at listed_default
+  unfolding part_items numbered default_rule default_held held_by entry_at
   defaults_alike part is =
       let entries : part.entries ≡ defaults_of side = is.entries ∙ entries_default side in
       let own : entries_of side default_policy ≡ defaults_of side = entries_default side in
@@ -327,7 +328,7 @@ module _ (view : View) (version : Family) where
         (all_file part is (n + 1) es (rest_next part.entries n e es rest))
 
     all_defaults : (side : Direction) → view.defaults.entries ≡ defaults_of side → AllByRecursion (HasEntry view) (listed_default tables now url version side Dns ++ listed_default tables now url version side Ntp)
-    unfolding listed_default entry_of entry_at
+    unfolding entry_of entry_at
     all_defaults side entries =
         all-append (HasEntry view) (listed_default tables now url version side Dns) (listed_default tables now url version side Ntp)
         (all_items (rule.Default Dns) (default_entry Dns side) (ap (entry_at 1) entries))

@@ -10,7 +10,6 @@ use Rattle.mud_base.specs.declared.packet.Direction.{Direction}
 use Rattle.mud_base.specs.declared.prefix.Prefix.{Prefix}
 use Rattle.acl_model.specs.declared.entry.Entry.{Entry}
 use Rattle.acl_model.specs.declared.entry.Policy.{Policy}
-use Rattle.acl_model.specs.declared.ruling.DefaultRule.{DefaultRule}
 use Rattle.acl_model.specs.declared.ruling.DefaultRule.TheVariants.{Dns, Ntp}
 use Rattle.acl_model.specs.Keys.{is_membered}
 use Rattle.acl_model.specs.Match.{is_in_family}
@@ -19,7 +18,6 @@ use Rattle.acl_model.specs.FirstMatch.{file_entries}
 use Rattle.table_model.specs.declared.thing.Thing.{Thing}
 use Rattle.table_model.specs.declared.bind.ClassRow.{ClassRow}
 use Rattle.table_model.specs.declared.bind.NameRow.{NameRow}
-use Rattle.table_model.specs.Expiries.{Expiries}
 use Rattle.table_model.specs.Tables.{Tables, meets}
 use Rattle.rule_export.specs.Networks.{has_near, in_order, near_networks}
 use Rattle.rule_export.specs.declared.item.RuleNumber.{RuleNumber}
@@ -48,25 +46,13 @@ pub record ListItem : Type 0 where
 abbrev pub item_of : ListItem → Resolved
 item_of listed = listed.item
 
-abbrev pub list_item : Entry → Resolved → ListItem
-list_item entry item = record { item = item; entry = entry }
-
 -- ---- The addresses that stand in the tables: of leases, of classes and of names, whether their expiries are live or not
 
-unfoldable pub row_addrs : Expiries → List Addr
-row_addrs expiries = map (λ r. r.0) expiries
-
-unfoldable pub thing_addrs : Thing → List Addr
-thing_addrs thing = row_addrs thing.leases
-
-unfoldable pub class_addrs : ClassRow → List Addr
-class_addrs row = row.addrs
-
-unfoldable pub name_addrs : NameRow → List Addr
-name_addrs row = row_addrs row.addrs
-
 unfoldable pub table_addrs : Tables → List Addr
-table_addrs tables = flat_map thing_addrs tables.things ++ flat_map class_addrs tables.classes ++ flat_map name_addrs tables.names
+table_addrs tables =
+    flat_map (λ (thing : Thing). map (λ r. r.0) thing.leases) tables.things
+    ++ flat_map (λ (row : ClassRow). row.addrs) tables.classes
+    ++ flat_map (λ (row : NameRow). map (λ r. r.0) row.addrs) tables.names
 
 -- the network of an address alone
 unfoldable pub addr_network : Addr → Prefix
@@ -80,28 +66,23 @@ module _ (tables : Tables) (now : ℕ) (url : List ℕ) (version : Family) where
   unfoldable pub is_listed : Entry → Addr → Bool
   is_listed entry a = is_in_family version a && list_all (λ selector. meets tables now url selector a) entry.selectors
 
-  -- the networks of the addresses that are listed, in ascending order, each once
-  unfoldable pub addr_networks : Entry → List Prefix
-  addr_networks entry = in_order (map addr_network (filter (is_listed entry) (table_addrs tables)))
-
   -- With a member selector: the addresses that are listed, each of which stands in the tables. Else, with near selectors: what each
   -- choice of one prefix for each of them has in common. Else no network, since every address will do.
   unfoldable pub listed_networks : Entry → List (Option Prefix)
   listed_networks entry =
-      if is_membered entry then map Some (addr_networks entry)
+      if is_membered entry then map Some (in_order (map addr_network (filter (is_listed entry) (table_addrs tables))))
       else (if has_near entry then map Some (near_networks version tables.locals entry) else None ∷ [])
 
   unfoldable pub listed_items : RuleNumber → Entry → List ListItem
-  listed_items r entry = if covers entry.family version then map (list_item entry) (items_from r 1 (listed_networks entry)) else []
+  listed_items r entry = if covers entry.family version then map (λ item. record { item = item; entry = entry }) (items_from r 1 (listed_networks entry)) else []
 
   -- the entries of a file, numbered from `n` on
   unfoldable pub listed_file : ℕ → List Entry → List ListItem
   listed_file n [] = []
   listed_file n (entry ∷ entries) = listed_items (rule.File n) entry ++ listed_file (n + 1) entries
 
-  unfoldable pub listed_default : Direction → DefaultRule → List ListItem
-  listed_default side which = listed_items (rule.Default which) (default_entry which side)
-
   -- the whole list, where this is the policy of the URL's approved file
   unfoldable pub listed_of : Option Policy → Direction → List ListItem
-  listed_of policy side = listed_file 1 (file_entries side policy) ++ (listed_default side Dns ++ listed_default side Ntp)
+  listed_of policy side =
+      listed_file 1 (file_entries side policy)
+      ++ (listed_items (rule.Default Dns) (default_entry Dns side) ++ listed_items (rule.Default Ntp) (default_entry Ntp side))

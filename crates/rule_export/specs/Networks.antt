@@ -56,13 +56,9 @@ has_near entry = list_any is_near entry.selectors
 unfoldable pub in_order : List Prefix → List Prefix
 in_order ps = set_rows prefix_sort_key ps []
 
--- the prefixes that each near selector names
-unfoldable pub near_names : Family → List Prefix → Entry → List (List Prefix)
-near_names family locals entry = map (named_by family locals) (filter is_near entry.selectors)
-
--- the networks of an entry with near selectors
+-- the networks of an entry with near selectors: what each choice of a prefix that each of them names has in common
 unfoldable pub near_networks : Family → List Prefix → Entry → List Prefix
-near_networks family locals entry = in_order (filter_map common_of (choices (near_names family locals entry)))
+near_networks family locals entry = in_order (filter_map common_of (choices (map (named_by family locals) (filter is_near entry.selectors))))
 
 -- ---- The same without the choices, whose number is the product of those of the prefixes: one selector at a time, from the
 -- last to the first, and each network once

@@ -23,11 +23,8 @@ use Rattle.rule_export.specs.Flags.{flags_text}
 unfoldable pub number_value : Option ℕ → Option (List ℕ)
 number_value number = option_map decimal number
 
-unfoldable pub quoted_prefix : Prefix → List ℕ
-quoted_prefix prefix = quoted (prefix_text prefix)
-
 unfoldable pub network_value : Option Prefix → Option (List ℕ)
-network_value network = option_map quoted_prefix network
+network_value network = option_map (λ prefix. quoted (prefix_text prefix)) network
 
 -- ---- The IP header
 
@@ -129,16 +126,13 @@ udp_value _ = None
 
 -- ---- The whole entry
 
-unfoldable pub matches_members : Family → Direction → Option Prefix → Entry → List Member
-matches_members family side network entry =
+unfoldable pub matches_text : Family → Direction → Option Prefix → Entry → List ℕ
+matches_text family side network entry = object (
     (codes "icmp", icmp_value entry.layer)
     ∷ (version_name family, header_value family side network entry)
     ∷ (codes "tcp", tcp_value entry.layer)
     ∷ (codes "udp", udp_value entry.layer)
-    ∷ []
-
-unfoldable pub matches_text : Family → Direction → Option Prefix → Entry → List ℕ
-matches_text family side network entry = object (matches_members family side network entry)
+    ∷ [])
 
 unfoldable pub forwarding : Action → List ℕ
 forwarding action.Accept = codes "accept"

@@ -81,7 +81,7 @@ fn asks_header(network: &Option<Prefix>, entry: &Entry) -> bool
 
 /// Adds the member of a network, where there is one. The answer says whether the next member is the
 /// first.
-#[tactic(auto, unfolding(crate::specs::Objects::member_text, crate::specs::Objects::next_first, crate::specs::Objects::quoted, crate::specs::Tests::network_value, crate::specs::Tests::quoted_prefix))]
+#[tactic(auto, unfolding(crate::specs::Objects::member_text, crate::specs::Objects::next_first, crate::specs::Objects::quoted, crate::specs::Tests::network_value))]
 fn append_network(
     alloc: Global,
     line: &mut Bytes,

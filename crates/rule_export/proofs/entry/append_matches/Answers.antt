@@ -1,9 +1,9 @@
-use Rattle.rule_export.specs.Tests.{matches_text, matches_members}
+use Rattle.rule_export.specs.Tests.{matches_text}
 use Rattle.rule_export.proofs.MemberLaws.{next_member, last_member, object_of}
 use Rattle.rule_export.proofs.entry.append_matches.Goals as goal
 
 pub returns : goal.returns
-unfolding matches_text matches_members
+unfolding matches_text
 returns c =
     object_of _ _ c.in_ok-append.ensures.ok
     (next_member _ _ _ _ c.in_ok-none.ensures.text c.in_ok-none.ensures.next

@@ -17,9 +17,10 @@ use Rattle.mud_world.proofs.ItemLaws.{touched, puts_among, ordered-append, puts_
 use Rattle.table_model.specs.declared.bind.ClassRow.{ClassRow}
 use Rattle.table_model.specs.declared.bind.NameRow.{NameRow}
 use Rattle.table_model.specs.Binds.{Binds, class_key, name_of, IsSoundBinds}
-use Rattle.table_model.specs.BindItems.{class_item, class_items, locals_item, locals_items, name_item, name_items}
+use Rattle.table_model.specs.BindItems.{class_item, locals_item, locals_items, name_item}
 use Rattle.table_model.specs.TakenItems.{all_taken, no_binds, bind_items, with_bind_item}
 use Rattle.table_model.proofs.TakenLaws.{binds_again}
+use Rattle.table_model.proofs.Parts.{class_items, name_items}
 
 -- ---- Differences
 
@@ -48,7 +49,7 @@ equal_by_none before after puts difference none = sym difference.reaches ∙ ap 
 -- ---- The kinds of the items
 
 pub class_kinds : (P : ℕ → Type 0) → P 3 → (classes : List ClassRow) → AllByRecursion (λ item. P item.kind) (class_items classes)
-unfolding class_items class_item
+unfolding class_item
 class_kinds P three [] = tt
 class_kinds P three (row ∷ rows) = (three, class_kinds P three rows)
 
@@ -58,7 +59,7 @@ locals_kinds P four [] = tt
 locals_kinds P four (prefix ∷ more) = (four, tt)
 
 pub name_kinds : (P : ℕ → Type 0) → P 5 → (names : List NameRow) → AllByRecursion (λ item. P item.kind) (name_items names)
-unfolding name_items name_item
+unfolding name_item
 name_kinds P five [] = tt
 name_kinds P five (row ∷ rows) = (five, name_kinds P five rows)
 
@@ -78,7 +79,7 @@ locals_ordered [] = tt
 locals_ordered (prefix ∷ more) = (tt, tt)
 
 pub binds_ordered : (binds : Binds) → IsSoundBinds binds → IsOrdered (bind_items binds)
-unfolding bind_items class_items name_items
+unfolding bind_items
 binds_ordered binds sound =
     ordered-append 3 (map class_item binds.classes) (locals_items binds.locals ++ map name_item binds.names)
     (class_kinds (λ k. k ≤ 3) (omega arith) binds.classes)
@@ -96,7 +97,7 @@ binds_told a b sound_a sound_b same = same_Some a b (sym (binds_again a sound_a)
 -- ---- Puts of one kind
 
 pub classes_reach : (binds : Binds) (change : RowChange ClassRow) → put_all (bind_items binds) (puts_of 3 class_item change) ≡ bind_items (record binds { classes = changed class_key change binds.classes })
-unfolding bind_items class_items
+unfolding bind_items
 classes_reach binds change =
     let high : List Item = locals_items binds.locals ++ name_items binds.names in
     puts_among 3 [] (map class_item binds.classes) high (puts_of 3 class_item change) tt
@@ -117,7 +118,7 @@ among_names binds puts of =
     ∙ append-nil (low ++ put_all (name_items binds.names) puts)
 
 pub names_reach : (binds : Binds) (change : RowChange NameRow) → put_all (bind_items binds) (puts_of 5 name_item change) ≡ bind_items (record binds { names = changed name_of change binds.names })
-unfolding bind_items name_items
+unfolding bind_items
 names_reach binds change =
     among_names binds (puts_of 5 name_item change) (puts_of_kind name_of 5 name_item name_of_kind change)
     ∙ ap (λ items. (class_items binds.classes ++ locals_items binds.locals) ++ items) (puts_kept name_of 5 name_item name_of_kind change binds.names)

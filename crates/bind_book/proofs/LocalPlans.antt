@@ -9,8 +9,8 @@ use Rattle.acl_model.specs.Changes.{IsBindingChange}
 use Rattle.table_model.specs.declared.bind_fault.BindFault.{BindFault}
 use Rattle.table_model.specs.Fits.{FitsLocals}
 use Rattle.table_model.specs.Binds.{Binds, IsKeptNetwork, IsSoundLocals, IsSoundBinds}
-use Rattle.table_model.specs.BindCommands.{LocalsAfter, LocalStep, locals_step, is_change, with_locals}
-use Rattle.table_model.specs.BindItems.{class_items, locals_item, locals_items, name_items}
+use Rattle.table_model.specs.BindCommands.{LocalsAfter, LocalStep, locals_step, is_change}
+use Rattle.table_model.specs.BindItems.{locals_item, locals_items}
 use Rattle.table_model.specs.TakenItems.{bind_items}
 use Rattle.table_model.specs.Tables.{Tables, binds_of, with_binds}
 use Rattle.table_model.specs.Bindings.{bindings_of}
@@ -22,6 +22,7 @@ use Rattle.bind_book.specs.Plans.{Plan, IsSetLocals, IsPlanned, changed_binds, H
 use Rattle.bind_book.proofs.BookItems.{one_difference, binds_told, locals_reach}
 use Rattle.bind_book.proofs.Plans.{empty_as_told, no_binding_change, same_planned}
 use Rattle.table_model.proofs.TakenLaws.{fitting_networks, few_fit}
+use Rattle.table_model.proofs.Parts.{class_items, name_items, with_locals}
 
 -- ---- The put
 
@@ -56,7 +57,7 @@ pub record IsLocalStep (prefixes : List Prefix) (binds : Binds) (step : LocalSte
 
 module _ (prefixes : List Prefix) where
   planned : (book : Book) (after : LocalsAfter) → IsSoundBinds book.binds → IsLocalStep prefixes book.binds (Ok after) → after.word ≡ Set → IsOkAnd (with_locals book.binds (Ok after)) (λ done. IsPlanned done book (locals_plan after.locals))
-  unfolding with_locals locals_plan changed_binds HasRoomFor is_change
+  unfolding locals_plan changed_binds HasRoomFor is_change
   planned book after sound step word =
       let before : Binds = book.binds in
       let locals : List Prefix = after.locals in
@@ -87,7 +88,7 @@ module _ (prefixes : List Prefix) where
 
   same_here : (book : Book) (step : LocalStep) (found : Option (List Prefix)) (plan : Plan) → found ≡ None → IsSoundBinds book.binds → IsLocalStep prefixes book.binds step
       → IsOkAnd step (λ after. MatchOption found (after.word ≡ Same) (λ set. (after.word ≡ Set) × (set ≡ after.locals))) → plan ≡ same_plan None → IsOkAnd (with_locals book.binds step) (λ done. IsPlanned done book plan)
-  unfolding with_locals is_change
+  unfolding is_change
   same_here book (Ok after) found plan is sound step said made =
       let word : after.word ≡ Same = subst (λ o. MatchOption o (after.word ≡ Same) (λ set. (after.word ≡ Set) × (set ≡ after.locals))) is said in
       let changes : is_change after.word ≡ false = ap is_change word in
@@ -124,5 +125,4 @@ locals_fit prefixes (Err fault) found locals is sound said = absurd said
 
 -- a refusal over the local networks is one over the three lists
 pub locals_refused : (book : Book) (binds : Binds) → binds ≡ book.binds → (prefixes : List Prefix) (fault : BindFault) → IsRefusal (locals_step prefixes binds.locals) fault → IsRefusal (with_locals book.binds (locals_step prefixes book.binds.locals)) fault
-unfolding with_locals
 locals_refused book binds e prefixes fault refused other = ap (λ (b : Binds). with_locals b (locals_step prefixes b.locals)) (sym e) ∙ ap (with_locals binds) (refused other)

@@ -21,9 +21,9 @@ use Rattle.table_model.specs.Limits.{most_names}
 use Rattle.table_model.specs.Fits.{FitsName}
 use Rattle.table_model.specs.Expiries.{is_live, expiry_of, with_expiry, live_rows}
 use Rattle.table_model.specs.Binds.{Binds, name_of, name_at, name_row, has_live_row, is_name, IsKeptName, IsSoundNames, IsSoundBinds}
-use Rattle.table_model.specs.BindCommands.{NamesAfter, NameStep, is_change, addrs_of, least_dead, observe_step, with_names}
+use Rattle.table_model.specs.BindCommands.{NamesAfter, NameStep, is_change, addrs_of, least_dead, observe_step}
 use Rattle.table_model.specs.BindRowChanges.{no_rows, one_row, replacing_change, new_pair_change, kept_pair_change, observe_cases_change, observe_row_change, observe_change}
-use Rattle.table_model.specs.BindItems.{class_items, locals_items, name_item, name_items}
+use Rattle.table_model.specs.BindItems.{locals_items, name_item}
 use Rattle.table_model.specs.ItemFields.{IsAddr}
 use Rattle.table_model.specs.TakenItems.{bind_items}
 use Rattle.table_model.specs.Tables.{Tables, binds_of, with_binds}
@@ -41,6 +41,7 @@ use Rattle.bind_book.specs.Observations.{IsSeen}
 use Rattle.bind_book.specs.Plans.{Plan, IsPlanned, changed_binds, HasRoomFor, same_plan, name_plan}
 use Rattle.bind_book.proofs.BookItems.{one_difference, binds_told, name_of_kind, among_names, names_reach}
 use Rattle.bind_book.proofs.Plans.{empty_as_told, bind_puts, same_planned, good_sets}
+use Rattle.table_model.proofs.Parts.{class_items, name_items, with_names}
 
 -- ---- The bindings
 
@@ -134,11 +135,9 @@ unneeded binds put kind same =
 
 -- so the sort key of the put has what the put says
 said_already : (binds : Binds) (put : Put) → IsSoundBinds binds → kind_of_put put ≡ 5 → put_one (bind_items binds) put ≡ bind_items binds → row_at sort_key_of (sort_key_of_put put) (name_items binds.names) ≡ item_after put
-unfolding name_items
 said_already binds put sound kind same = same_put (map name_item binds.names) put (ordered-items name_of 5 name_item name_of_kind binds.names sound.names.ascend) (unneeded binds put kind same)
 
 item_at : (binds : Binds) (p : List ℕ) (o : Option NameRow) → row_at name_of p binds.names ≡ o → row_at sort_key_of (5 ∷ p) (name_items binds.names) ≡ option_map name_item o
-unfolding name_items
 item_at binds p o is = row_at-items name_of 5 name_item name_of_kind p binds.names ∙ ap (option_map name_item) is
 
 gone_needed : (binds : Binds) (dead : NameRow) → IsSoundBinds binds → row_at name_of (name_of dead) binds.names ≡ Some dead → put_one (bind_items binds) (Gone 5 (name_of dead)) ≡ bind_items binds → ⊥
@@ -178,7 +177,7 @@ module _ (name : List ℕ) (a : Addr) (ttl now : ℕ) (some : 0 < ttl) where
 
   planned : (book : Book) (after : NamesAfter) (change : RowChange NameRow) → IsSoundBinds book.binds → IsNameStep book.binds change (Ok after) → is_change after.word ≡ true → length change.sets ≤ book.name_room
       → IsOkAnd (with_names book.binds (Ok after)) (λ done. IsPlanned done book (name_plan after.word after.until change book.binds.names))
-  unfolding with_names name_plan changed_binds HasRoomFor
+  unfolding name_plan changed_binds HasRoomFor
   planned book after change sound step changes room =
       let before : Binds = book.binds in
       let new : Binds = record before { names = after.names } in
@@ -226,7 +225,7 @@ module _ (name : List ℕ) (a : Addr) (ttl now : ℕ) (some : 0 < ttl) where
 
   same_here : (book : Book) (change : RowChange NameRow) (step : NameStep) (seen : Observed) (plan : Plan) → seen.rows ≡ None → IsSoundBinds book.binds → IsNameStep book.binds change step → IsSeen step change seen → plan ≡ same_plan (Some seen.until)
       → IsOkAnd (with_names book.binds step) (λ done. IsPlanned done book plan)
-  unfolding with_names is_change
+  unfolding is_change
   same_here book change (Ok after) seen plan found sound step said is =
       let word : after.word ≡ Same = subst (λ o. MatchOption o (after.word ≡ Same) (λ r. (is_change after.word ≡ true) × (r ≡ change))) found said.rows in
       let changes : is_change after.word ≡ false = ap is_change word in
@@ -263,5 +262,4 @@ module _ (name : List ℕ) (a : Addr) (ttl now : ℕ) (some : 0 < ttl) where
 
 -- a refusal over the names is one over the three lists
 pub name_refused : (book : Book) (binds : Binds) → binds ≡ book.binds → (step : List NameRow → NameStep) (fault : BindFault) → IsRefusal (step binds.names) fault → IsRefusal (with_names book.binds (step book.binds.names)) fault
-unfolding with_names
 name_refused book binds e step fault refused other = ap (λ (b : Binds). with_names b (step b.names)) (sym e) ∙ ap (with_names binds) (refused other)

@@ -14,8 +14,9 @@ use Rattle.mud_base.specs.declared.prefix.Prefix.{Prefix}
 use Rattle.table_model.specs.declared.bind.Class.{Class}
 use Rattle.table_model.specs.ItemFields.{address_in, network_in}
 use Rattle.table_model.specs.Binds.{class_row, is_class, is_sound_class, are_prefixes, is_prefix}
-use Rattle.table_model.specs.BindItems.{class_of_key, if_sound_class, class_in, are_locals, if_sound_locals, locals_in}
+use Rattle.table_model.specs.BindItems.{class_of_key, class_in, are_locals, locals_in}
 use Rattle.bind_book.specs.Reading.{IsNoClass, count_in, behind}
+use Rattle.table_model.proofs.Parts.{if_sound_class, if_sound_locals}
 
 -- ---- A list in a body
 
@@ -90,7 +91,7 @@ module _ {A : Type 0} (value : Reading A) where
 -- ---- Items of no row
 
 unsound : (class : Class) (addrs : List Addr) → is_class class ≡ false → if_sound_class (class_row class addrs) ≡ None
-unfolding if_sound_class is_sound_class class_row
+unfolding is_sound_class class_row
 unsound class addrs fails = rw fails refl
 
 no_row : (class : Class) (o : Option (List Addr)) → is_class class ≡ false → (o >>= λ addrs. if_sound_class (class_row class addrs)) ≡ None
@@ -111,7 +112,7 @@ no_class item fails = by_kind (item.kind == 3)
     by_kind false = refl
 
 unsound_locals : (locals : List Prefix) → list_all is_prefix locals ≡ false → if_sound_locals locals ≡ None
-unfolding if_sound_locals are_locals
+unfolding are_locals
 unsound_locals locals fails = ap (λ b. cond b (Some locals) None) (all_false (are_prefixes locals) (list_all is_prefix locals) (nat_lt 0 (length locals)) (nat_le (length locals) most_locals) fails)
   where
     all_false : (a b c d : Bool) → b ≡ false → (a && b && c && d) ≡ false

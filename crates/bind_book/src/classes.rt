@@ -45,7 +45,7 @@ fn first_address(alloc: Global, class: &Class, addr: Addr) -> Result<ClassChange
 }
 
 /// The change by which a class gets an address; None where it has it already.
-#[tactic(auto, unfolding(table_model::specs::BindCommands::bind_step, table_model::specs::BindCommands::bind_cases, table_model::specs::BindRowChanges::bind_change, table_model::specs::BindRowChanges::bind_cases_change, table_model::specs::Binds::class_at))]
+#[tactic(auto, unfolding(table_model::specs::BindCommands::bind_step, table_model::specs::BindRowChanges::bind_change, table_model::specs::BindRowChanges::bind_cases_change, table_model::specs::Binds::class_at))]
 pub(crate) fn bind_rows(
     alloc: Global,
     class: &Class,
@@ -85,7 +85,7 @@ fn left_with(alloc: Global, class: &Class, addrs: Listed<Addr>) -> Result<ClassC
 }
 
 /// The change by which an address leaves a class. A class with no address left goes.
-#[tactic(auto, unfolding(table_model::specs::BindCommands::unbind_step, table_model::specs::BindCommands::unbind_cases, table_model::specs::BindRowChanges::unbind_change, table_model::specs::BindRowChanges::unbind_cases_change, table_model::specs::Binds::class_at))]
+#[tactic(auto, unfolding(table_model::specs::BindCommands::unbind_step, table_model::specs::BindRowChanges::unbind_change, table_model::specs::BindRowChanges::unbind_cases_change, table_model::specs::Binds::class_at))]
 pub(crate) fn unbind_rows(
     alloc: Global,
     class: &Class,

@@ -12,7 +12,7 @@ use table_model::limits::MOST_LOCALS;
 
 /// The local networks that these prefixes are, in order and each once; None where they are the kept
 /// ones.
-#[tactic(auto, unfolding(table_model::specs::BindCommands::locals_step, table_model::specs::BindCommands::locals_cases))]
+#[tactic(auto, unfolding(table_model::specs::BindCommands::locals_step))]
 pub(crate) fn set_locals(
     alloc: Global,
     prefixes: &[Prefix],

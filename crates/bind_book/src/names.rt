@@ -179,7 +179,7 @@ fn kept_address(
 }
 
 /// A kept name is observed at an address.
-#[tactic(auto, unfolding(table_model::specs::BindCommands::observe_row, table_model::specs::BindCommands::observe_cases, table_model::specs::BindCommands::addrs_of, table_model::specs::BindRowChanges::observe_row_change, table_model::specs::BindRowChanges::observe_cases_change))]
+#[tactic(auto, unfolding(table_model::specs::BindCommands::observe_row, table_model::specs::BindCommands::addrs_of, table_model::specs::BindRowChanges::observe_row_change, table_model::specs::BindRowChanges::observe_cases_change))]
 fn known_name(
     alloc: Global,
     name: &[u8],
@@ -205,7 +205,7 @@ fn known_name(
 
 /// What an observation of a name at an address answers, and how the names change. The expiry is the
 /// moment and so many seconds.
-#[tactic(auto, unfolding(table_model::specs::BindCommands::observe_step, table_model::specs::BindCommands::observe_row, table_model::specs::BindCommands::observe_cases, table_model::specs::BindCommands::addrs_of, table_model::specs::Expiries::expiry_of, table_model::specs::Binds::name_at, table_model::specs::BindRowChanges::observe_change, table_model::specs::BindRowChanges::observe_row_change, table_model::specs::BindRowChanges::observe_cases_change))]
+#[tactic(auto, unfolding(table_model::specs::BindCommands::observe_step, table_model::specs::BindCommands::observe_row, table_model::specs::BindCommands::addrs_of, table_model::specs::Expiries::expiry_of, table_model::specs::Binds::name_at, table_model::specs::BindRowChanges::observe_change, table_model::specs::BindRowChanges::observe_row_change, table_model::specs::BindRowChanges::observe_cases_change))]
 pub(crate) fn observe(
     alloc: Global,
     name: &[u8],

@@ -130,7 +130,7 @@ fn class_of_key(alloc: Global, key: &[u8]) -> Result<Option<Class>, Memory>
 }
 
 /// The class of an item, or None where the item is of none.
-#[tactic(auto, unfolding(table_model::specs::BindItems::class_in, table_model::specs::BindItems::if_sound_class, table_model::specs::Binds::class_row))]
+#[tactic(auto, unfolding(table_model::specs::BindItems::class_in, table_model::specs::Binds::class_row))]
 pub(crate) fn class_in(alloc: Global, item: &Item) -> Result<Option<ClassRow>, Memory>
     ensures { IfOk result (λ found. found ≡ items.class_in item.now) }
 {
@@ -151,7 +151,7 @@ pub(crate) fn class_in(alloc: Global, item: &Item) -> Result<Option<ClassRow>, M
 }
 
 /// The name of an item, or None where the item is of none.
-#[tactic(auto, unfolding(table_model::specs::BindItems::name_in, table_model::specs::BindItems::if_sound_name, table_model::specs::Binds::name_row))]
+#[tactic(auto, unfolding(table_model::specs::BindItems::name_in, table_model::specs::Binds::name_row))]
 pub(crate) fn name_in(alloc: Global, item: &Item) -> Result<Option<NameRow>, Memory>
     ensures { IfOk result (λ found. found ≡ items.name_in item.now) }
 {
@@ -186,7 +186,7 @@ fn prefixes_of(alloc: Global, networks: &[Network]) -> Result<Option<Listed<Pref
 }
 
 /// The local networks of an item, or None where the item is of none.
-#[tactic(auto, unfolding(table_model::specs::BindItems::locals_in, table_model::specs::BindItems::if_sound_locals))]
+#[tactic(auto, unfolding(table_model::specs::BindItems::locals_in))]
 pub(crate) fn locals_in(alloc: Global, item: &Item) -> Result<Option<Listed<Prefix>>, Memory>
     ensures { IfOk result (λ found. found ≡ items.locals_in item.now) }
 {

@@ -7,10 +7,11 @@ use Rattle.desk_model.specs.declared.reply.Refusal.{Refusal}
 use Rattle.desk_model.specs.declared.reply.Reply as desk
 use Rattle.desk_model.specs.declared.reply.Reply.TheVariants.{Done, Refused, Keeper, Memory}
 use Rattle.desk_model.specs.Commands.{DeskStep, command_step}
-use Rattle.desk_model.specs.Sessions.{Session, Answered, answered, later, command_in, AllowedReply}
+use Rattle.desk_model.specs.Sessions.{Session, Answered, later, command_in, AllowedReply}
 use Rattle.console.specs.Replies.{Reply, replied, IsOrWanted}
 use Rattle.console.specs.Requests.{command_reply, by_command, AllowedCommand}
 use Rattle.console.specs.Origins.{IsWritten}
+use Rattle.desk_model.proofs.Parts.{answered}
 
 abbrev is_refused : desk.Reply → Bool
 is_refused (Done outcome) = false
@@ -20,7 +21,6 @@ is_refused Memory = false
 
 -- a refusal leaves the session
 left_by : (session after : Session) (now : ℕ) (step : DeskStep) (refusal : Refusal) → answered session now step ≡ record { reply = Refused refusal; session = after } → after ≡ session
-unfolding answered
 left_by session after now (Ok step) refusal is = absurd (false≢true (ap (λ (a : Answered). is_refused a.reply) is))
 left_by session after now (Err fault) refusal is = sym (ap (λ (a : Answered). a.session) is)
 

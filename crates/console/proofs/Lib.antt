@@ -8,3 +8,4 @@ pub mod Replying
 pub mod Standing
 pub mod Takes
 pub mod Wants
+pub mod Parts

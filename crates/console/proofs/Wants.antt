@@ -23,11 +23,12 @@ use Rattle.console_bodies.specs.declared.asked.Asked.{Asked}
 use Rattle.console.specs.declared.question.Question.{Question}
 use Rattle.console.specs.declared.question.NoQuestion.{NoQuestion}
 use Rattle.console.specs.declared.question.NoQuestion.TheVariants.{NoRoute, NoMethod, BadBody}
-use Rattle.console.specs.Asks.{action_at, reads_with_memory, question_of, by_route, by_action, by_body}
+use Rattle.console.specs.Asks.{action_at, reads_with_memory, question_of, by_action, by_body}
 use Rattle.console.specs.Replies.{Reply, reply, no_route, no_method}
-use Rattle.console.specs.Requests.{ActionNeedsMemory, NeedsMemory}
+use Rattle.console.specs.Requests.{NeedsMemory}
 use Rattle.console.specs.Refused.{IsRefusalOf, AskedNeedsMemory}
 use Rattle.console.proofs.Paths.{route_again}
+use Rattle.console.proofs.Parts.{by_route, ActionNeedsMemory}
 
 status_of_no_route : no_route.status ≡ NotFound
 unfolding no_route reply
@@ -80,7 +81,6 @@ module _ (session : Session) (given : ℕ) (octets : List ℕ) where
 
   asked_at : (method body : List ℕ) (now : ℕ) (route : Option Route) (question : Question) → by_route route method body now ≡ Ok question
       → AskedNeedsMemory session given octets question.asked → ActionNeedsMemory session given octets (option_and_then (action_by method) route)
-  unfolding by_route
   asked_at method body now None question is may = absurd (cc)
   asked_at method body now (Some route) question is may = asked_by method body now route (action_by method route) question is may
 
@@ -101,7 +101,6 @@ module _ (session : Session) (given : ℕ) (octets : List ℕ) where
   bad_by method body now route (Some action) fault is = bad_by_body action body now fault is
 
   bad_at : (method body : List ℕ) (now : ℕ) (route : Option Route) (fault : BodyFault) → by_route route method body now ≡ Err (BadBody fault) → ActionNeedsMemory session given octets (option_and_then (action_by method) route)
-  unfolding by_route
   bad_at method body now None fault is = absurd (cc)
   bad_at method body now (Some route) fault is = bad_by method body now route (action_by method route) fault is
 

@@ -22,14 +22,14 @@ unfoldable pub by_action : Route → Option Action → List ℕ → ℕ → Resu
 by_action route None body now = Err (NoMethod route)
 by_action route (Some action) body now = by_body action (body_of action body now)
 
-unfoldable pub by_route : Option Route → List ℕ → List ℕ → ℕ → Result Question NoQuestion
-by_route None method body now = Err NoRoute
-by_route (Some route) method body now = by_action route (option_and_then (action_of route) (method_of method)) body now
-
 -- What a request by this method for this target asks for with this body, taken at this moment. It asks for nothing where no
 -- route has the target's path, the route has not the method, or the body breaks a rule, in this order.
 unfoldable pub question_of : List ℕ → List ℕ → List ℕ → ℕ → Result Question NoQuestion
 question_of method target body now = by_route (route_of target) method body now
+  where
+    by_route : Option Route → List ℕ → List ℕ → ℕ → Result Question NoQuestion
+    by_route None method body now = Err NoRoute
+    by_route (Some route) method body now = by_action route (option_and_then (action_of route) (method_of method)) body now
 
 -- What a request by this method for this target does: nothing where no route has the target's path, or the route has not the
 -- method.

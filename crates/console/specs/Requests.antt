@@ -97,13 +97,13 @@ AllowedQuestion session given body action asked reply after =
 unfoldable pub question_in : Session → ℕ → Request → Result Question NoQuestion
 question_in session given request = question_of request.head.method request.head.target request.body (later session given)
 
-abbrev pub by_result : Session → ℕ → List ℕ → Result Question NoQuestion → Replied
-by_result session given body (Ok question) = by_question session given body question.action question.asked
-by_result session given body (Err nothing) = replied (refusal_of nothing) session
-
 -- The reply to a request, and the session after it: what asks for nothing leaves the session as it was.
 unfoldable pub reply_in : Session → ℕ → Request → Replied
 reply_in session given request = by_result session given request.body (question_in session given request)
+  where
+    by_result : Session → ℕ → List ℕ → Result Question NoQuestion → Replied
+    by_result session given body (Ok question) = by_question session given body question.action question.asked
+    by_result session given body (Err nothing) = replied (refusal_of nothing) session
 
 -- 503 may stand where the request is a command that changes a list
 abbrev pub CallsKeeper : Session → ℕ → Result Question NoQuestion → Type 0
@@ -115,12 +115,12 @@ AllowedResponse session given request reply after = IsOrFailed (CallsKeeper sess
 
 -- ---- Want of memory
 
--- Memory may be wanted for what a request does: for the verdict on a frame only where the frame is added to the history. None is
--- wanted to say that no route has the path of the target, or that the route has not the method.
-abbrev pub ActionNeedsMemory : Session → ℕ → List ℕ → Option Action → Type 0
-ActionNeedsMemory session given body None = ⊥
-ActionNeedsMemory session given body (Some Judge) = IsNoted session given body
-ActionNeedsMemory session given body (Some _) = Unit {0}
-
 unfoldable pub NeedsMemory : Session → ℕ → Request → Type 0
 NeedsMemory session given request = ActionNeedsMemory session given request.body (action_at request.head.method request.head.target)
+  where
+    -- Memory may be wanted for what a request does: for the verdict on a frame only where the frame is added to the history. None is
+    -- wanted to say that no route has the path of the target, or that the route has not the method.
+    ActionNeedsMemory : Session → ℕ → List ℕ → Option Action → Type 0
+    ActionNeedsMemory session given body None = ⊥
+    ActionNeedsMemory session given body (Some Judge) = IsNoted session given body
+    ActionNeedsMemory session given body (Some _) = Unit {0}

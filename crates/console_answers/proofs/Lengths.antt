@@ -7,11 +7,12 @@ use Rattle.console_answers.specs.Kept.{kept}
 use Rattle.console_answers.proofs.KeptLemmas.{kept_short}
 use Rattle.console_routes.specs.declared.route.Route.{Route}
 use Rattle.console_routes.specs.declared.route.Route.TheVariants.{Classes, Due, Files, HearDhcp, HearLldp, Holds, Leases, Locals, Names, Packets, Revokes, Things, Verdicts, Why}
-use Rattle.console_routes.specs.Actions.{text_of, methods_of, has_method, action_of}
+use Rattle.console_routes.specs.Actions.{text_of, methods_of, action_of}
 use Rattle.console_answers.specs.declared.status.Status.{Status}
 use Rattle.console_answers.specs.declared.status.Status.TheVariants.{Done, BadRequest, NotFound, MethodNotAllowed, Conflict, LengthRequired, TooLarge, Unprocessable, NotImplemented, Unavailable, NoStorage}
 use Rattle.console_answers.specs.Statuses.{number_of, phrase_of}
-use Rattle.console_answers.specs.Heads.{status_line, type_line, methods_text, allow_line, length_line, close_line, line_end, head_of}
+use Rattle.console_answers.specs.Heads.{status_line, methods_text, allow_line, length_line, close_line, line_end, head_of}
+use Rattle.console_answers.proofs.Parts.{type_line}
 
 short_status : (status : Status) → length (status_line status) ≤ 100
 unfolding status_line number_of phrase_of digits
@@ -28,11 +29,10 @@ short_status Unavailable = lit≤ tt
 short_status NoStorage = lit≤ tt
 
 short_type : length type_line ≤ 100
-unfolding type_line
 short_type = lit≤ tt
 
 short_methods : (route : Route) → length (methods_text route) ≤ 50
-unfolding methods_text methods_of has_method action_of text_of
+unfolding methods_text methods_of action_of text_of
 short_methods Classes = lit≤ tt
 short_methods Due = lit≤ tt
 short_methods Files = lit≤ tt

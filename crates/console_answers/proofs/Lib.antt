@@ -3,3 +3,4 @@ pub mod Lengths
 pub mod Phrases
 pub mod Quotes
 pub mod BodiesLaws
+pub mod Parts

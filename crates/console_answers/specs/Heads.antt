@@ -11,18 +11,15 @@ line_end = 13 ∷ 10 ∷ []
 unfoldable pub status_line : Status → List ℕ
 status_line status = codes "HTTP/1.1 " ++ decimal (number_of status) ++ codes " " ++ phrase_of status ++ line_end
 
-unfoldable pub type_line : List ℕ
-type_line = codes "Content-Type: application/json" ++ line_end
-
--- texts with a comma and a space between them
-abbrev pub joined : List (List ℕ) → List ℕ
-joined [] = []
-joined (t ∷ []) = t
-joined (t ∷ u ∷ ts) = t ++ codes ", " ++ joined (u ∷ ts)
-
 -- the methods of a route, by the octets of their names (RFC 9110, 10.2.1)
 unfoldable pub methods_text : Route → List ℕ
 methods_text route = joined (map text_of (methods_of route))
+  where
+    -- texts with a comma and a space between them
+    joined : List (List ℕ) → List ℕ
+    joined [] = []
+    joined (t ∷ []) = t
+    joined (t ∷ u ∷ ts) = t ++ codes ", " ++ joined (u ∷ ts)
 
 -- it stands where a route has not the method of the request
 unfoldable pub allow_line : Option Route → List ℕ
@@ -39,6 +36,9 @@ close_line closes = if closes then codes "Connection: close" ++ line_end else []
 -- the head of an answer with a body of so many octets
 unfoldable pub head_of : Status → Option Route → ℕ → Bool → List ℕ
 head_of status allow n closes = status_line status ++ type_line ++ allow_line allow ++ length_line n ++ close_line closes ++ line_end
+  where
+    type_line : List ℕ
+    type_line = codes "Content-Type: application/json" ++ line_end
 
 -- a request by HEAD is answered with the head alone (RFC 9110, 9.3.2)
 unfoldable pub shown : Bool → List ℕ → List ℕ

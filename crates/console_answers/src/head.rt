@@ -21,7 +21,7 @@ fn put_status_line(head: &mut AnswerBuffer, status: Status)
 }
 
 /// The methods of a route, joined by a comma and a space.
-#[tactic(auto, unfolding(crate::specs::Heads::methods_text, console_routes::specs::Actions::methods_of, console_routes::specs::Actions::has_method, console_routes::specs::Actions::action_of, console_routes::specs::Actions::text_of))]
+#[tactic(auto, unfolding(crate::specs::Heads::methods_text, console_routes::specs::Actions::methods_of, console_routes::specs::Actions::action_of, console_routes::specs::Actions::text_of))]
 fn methods_text(route: Route) -> &'static [u8]
     ensures { result.now ≡ spec.methods_text route }
 {
@@ -80,7 +80,7 @@ fn put_close_line(head: &mut AnswerBuffer, closes: bool)
 }
 
 /// Adds all lines, as far as they fit.
-#[tactic(auto, unfolding(crate::specs::Heads::head_of, crate::specs::Heads::type_line), using(crate::proofs::KeptLemmas::kept_behind))]
+#[tactic(auto, unfolding(crate::specs::Heads::head_of), using(crate::proofs::KeptLemmas::kept_behind))]
 fn put_head(
     head: &mut AnswerBuffer,
     status: Status,

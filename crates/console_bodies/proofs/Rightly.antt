@@ -25,13 +25,14 @@ use Rattle.console_bodies.specs.declared.member.Member.{Member}
 use Rattle.console_bodies.specs.declared.member.Member.TheVariants as members
 use Rattle.console_bodies.specs.declared.fault.BodyFault.{BodyFault}
 use Rattle.console_bodies.specs.Objects.{text_in, number_in, object_of}
-use Rattle.console_bodies.specs.Values.{meant, answer_of, url_in, url_at, name_at, mac_at, address_at, digest_at, number_at, within, prefixes_at}
+use Rattle.console_bodies.specs.Values.{meant, url_in, url_at, name_at, mac_at, address_at, digest_at, number_at, within, prefixes_at}
 use Rattle.console_bodies.specs.declared.asked.Asked.{Asked}
 use Rattle.console_bodies.specs.declared.asked.Asked.TheVariants as asked
 use Rattle.console_bodies.specs.Statements.{uri_in, uri_at, uri_class, own_class, only_own, own_alone, class_at, verdict_at, move_thing, remove_thing, hold_thing, release_thing, lease_address, end_lease, state_verdict, revoke_file, bind_address, unbind_address, set_locals, observe_name, command_at}
 use Rattle.console_bodies.specs.Bodies.{heard_body, stated, stated_body, body_of}
 use Rattle.console_bodies.specs.Laws.{AsksRightly, BodiesAskRightly}
 use Rattle.console_bodies.proofs.Always.{Always, then_ok, always_bind, always_after, always_done, always_wanted, always_either, chosen_some}
+use Rattle.console_bodies.proofs.Parts.{answer_of}
 
 -- ---- Members
 

@@ -56,11 +56,8 @@ text_of Verified = codes "verified"
 text_of Waived = codes "waived"
 text_of Failed = codes "failed"
 
-abbrev pub is_word : List ℕ → OperatorVerdict → Bool
-is_word word verdict = bytes_eq (text_of verdict) word
-
 unfoldable pub verdict_in : List ℕ → Option OperatorVerdict
-verdict_in word = find (is_word word) (Verified ∷ Waived ∷ Failed ∷ [])
+verdict_in word = find (λ (verdict : OperatorVerdict). bytes_eq (text_of verdict) word) (Verified ∷ Waived ∷ Failed ∷ [])
 
 unfoldable pub verdict_at : Data → Reading OperatorVerdict
 verdict_at d = meant Failed members.Verdict (option_and_then verdict_in (text_in members.Verdict d))

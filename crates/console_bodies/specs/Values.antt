@@ -29,10 +29,6 @@ Reading A = of.Reading BodyFault A
 unfoldable pub meant : {A : Type 0} → A → Member → Option A → Reading A
 meant default member meaning = wanted default (fault.Member member) meaning
 
-abbrev pub answer_of : {A : Type 0} → Result A UrlFault → Option A
-answer_of (Ok a) = Some a
-answer_of (Err refusal) = None
-
 -- ---- Texts
 
 unfoldable pub mac_at : Data → Reading Mac
@@ -43,6 +39,10 @@ address_at d = meant (V4 0) members.Address (option_and_then addr_in (text_in me
 
 abbrev pub url_in : List ℕ → Option (List ℕ)
 url_in text = answer_of (url_of text)
+  where
+    answer_of : {A : Type 0} → Result A UrlFault → Option A
+    answer_of (Ok a) = Some a
+    answer_of (Err refusal) = None
 
 -- a MUD URL, as its canonical text
 unfoldable pub url_at : Member → Data → Reading (List ℕ)
@@ -77,17 +77,10 @@ number_at least most member d = meant 0 member (option_and_then (within least mo
 
 -- ---- Lists
 
--- the prefix that an element of the list writes
-abbrev pub prefix_of : Data → Option PrefixParts
-prefix_of d = option_and_then prefix_in (as_str d)
-
-abbrev pub no_prefix : PrefixParts
-no_prefix = record { addr = V4 0; len = 0 }
-
 -- the next prefix of the list, behind those before it
 unfoldable pub next_prefix : List PrefixParts → Data → Reading (List PrefixParts)
 next_prefix before d = do
-  prefix ← meant no_prefix members.Prefixes (prefix_of d)
+  prefix ← meant (record { addr = V4 0; len = 0 }) members.Prefixes (option_and_then prefix_in (as_str d))
   done (before ++ prefix ∷ [])
 
 unfoldable pub prefixes_of : List Data → Reading (List PrefixParts)

@@ -100,14 +100,14 @@ fetched_text held file = moment_text held.fetched ++ hours_text file.hours
 unfoldable pub digest_text : HeldFile → UsageFile → List ℕ
 digest_text held file = codes ",\"sha256\":" ++ quoted (digest_of held.octets) ++ codes ",\"update\":" ++ signed_decimal file.update
 
--- what the octets mean; octets that mean nothing are not held
-unfoldable pub file_text : HeldFile → Option UsageFile → List ℕ
-file_text held None = codes "{"
-file_text held (Some file) = fetched_text held file ++ digest_text held file
-
 -- the object without its end
 unfoldable pub held_text : HeldFile → List ℕ
 held_text held = file_text held (usage_in held.octets)
+  where
+    -- what the octets mean; octets that mean nothing are not held
+    file_text : HeldFile → Option UsageFile → List ℕ
+    file_text held None = codes "{"
+    file_text held (Some file) = fetched_text held file ++ digest_text held file
 
 unfoldable pub approved_text : Option (HeldFile × Approval) → List ℕ
 approved_text None = codes "null"

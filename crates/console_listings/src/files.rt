@@ -50,7 +50,7 @@ fn append_digest(body: &mut Bytes, held: &Held, file: &UsageFile) -> Result<(), 
 }
 
 /// Adds the members of a file that is held.
-#[tactic(auto, unfolding(crate::specs::Rows::held_text, crate::specs::Rows::file_text))]
+#[tactic(auto, unfolding(crate::specs::Rows::held_text))]
 fn append_held(body: &mut Bytes, held: &Held) -> Result<(), Memory>
     ensures { OnOk result (body.new ≡ body.old ++ spec.held_text held.now) }
 {

@@ -20,12 +20,9 @@ text_of Put = codes "PUT"
 abbrev pub all_methods : List Method
 all_methods = Delete ∷ Get ∷ Post ∷ Put ∷ []
 
-abbrev pub is_named : List ℕ → Method → Bool
-is_named name method = bytes_eq (text_of method) name
-
 -- the method of a name; none for a name that no route has, as `HEAD`
 unfoldable pub method_of : List ℕ → Option Method
-method_of name = find (is_named name) all_methods
+method_of name = find (λ (method : Method). bytes_eq (text_of method) name) all_methods
 
 abbrev pub by_method : Method → Option Action → Option Action → Option Action → Option Action
 by_method Get get post delete = get
@@ -56,10 +53,6 @@ action_of Packets method = by_method method None (Some action.Judge) None
 action_of Due method = by_method method (Some (action.List listing.Due)) None None
 action_of Why method = by_method method None (Some action.Why) None
 
--- the route has the method
-unfoldable pub has_method : Route → Method → Bool
-has_method route method = is_some (action_of route method)
-
 -- the methods of a route, by the octets of their names
 unfoldable pub methods_of : Route → List Method
-methods_of route = filter (has_method route) all_methods
+methods_of route = filter (λ (method : Method). is_some (action_of route method)) all_methods

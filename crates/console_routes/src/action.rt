@@ -194,7 +194,7 @@ pub fn method_of(name: &[u8]) -> Option<Method>
 }
 
 /// The methods of a route, by the octets of their names.
-#[tactic(auto, unfolding(crate::specs::Actions::methods_of, crate::specs::Actions::has_method, crate::specs::Actions::action_of))]
+#[tactic(auto, unfolding(crate::specs::Actions::methods_of, crate::specs::Actions::action_of))]
 pub fn methods_of(route: Route) -> &'static [Method]
     ensures { result.now ≡ spec.methods_of route }
 {

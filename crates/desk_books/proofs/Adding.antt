@@ -21,9 +21,10 @@ use Rattle.usage_tables.specs.declared.cached_file.CachedFile.{CachedFile}
 use Rattle.usage_tables.specs.declared.approval.Approval.{Approval}
 use Rattle.usage_tables.specs.Held.{HeldFile, usage_in}
 use Rattle.usage_tables.specs.Files.{url_of, file_at}
-use Rattle.usage_tables.specs.Policies.{policy_in_file, policy_in_held, policy_in_approved, policy_in_row, policy_of}
+use Rattle.usage_tables.specs.Policies.{policy_in_held, policy_in_row, policy_of}
 use Rattle.usage_tables.proofs.EntryBounds.{few_outgoing, few_incoming}
 use Rattle.desk_books.specs.Policies.{policy_with, AddsPolicy}
+use Rattle.usage_tables.proofs.Parts.{policy_in_file, policy_in_approved}
 
 -- ---- One more sort key can be taken by one change of the table
 
@@ -154,7 +155,7 @@ unfolding policy_in_row
 no_approved row e = ap (λ (o : Option (HeldFile × Approval)). option_and_then policy_in_approved o) e
 
 pub approved_policy : (row : CachedFile) (held : HeldFile) (approval : Approval) (file : UsageFile) → row.approved ≡ Some (held, approval) → usage_in held.octets ≡ Some file → policy_in_row row ≡ Some file.policy
-unfolding policy_in_row policy_in_approved policy_in_held
+unfolding policy_in_row policy_in_held
 approved_policy row held approval file e read = ap (λ (o : Option (HeldFile × Approval)). option_and_then policy_in_approved o) e ∙ ap (λ (o : Option UsageFile). option_map policy_in_file o) read
 
 pub can_be_counted : (held : HeldFile) (file : UsageFile) → usage_in held.octets ≡ Some file → HasCounts file.policy

@@ -16,9 +16,10 @@ use Rattle.usage_tables.specs.declared.file_edit.PolicyChange.{PolicyChange}
 use Rattle.usage_tables.specs.declared.file_edit.PolicyChange.TheVariants.{Comes, Goes}
 use Rattle.usage_tables.specs.Held.{HeldFile, usage_in}
 use Rattle.usage_tables.specs.Files.{file_at}
-use Rattle.usage_tables.specs.Policies.{policy_in_file, policy_in_held, candidate_in_row, candidate_policy, policy_after}
+use Rattle.usage_tables.specs.Policies.{policy_in_held, candidate_in_row, candidate_policy, policy_after}
 use Rattle.usage_tables.proofs.EntryBounds.{few_outgoing, few_incoming}
 use Rattle.desk_books.specs.RowPlans.{IsFileRows, IsPaidByPolicy}
+use Rattle.usage_tables.proofs.Parts.{policy_in_file}
 
 -- ---- The entries of a policy can be counted
 

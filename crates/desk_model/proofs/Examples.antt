@@ -16,7 +16,7 @@ use Rattle.table_model.specs.declared.thing_fault.ThingFault.TheVariants.{NoThin
 use Rattle.table_model.specs.declared.thing.Thing.{Thing}
 use Rattle.table_model.specs.declared.bind_fault.BindFault.TheVariants.{NotBound}
 use Rattle.usage_tables.specs.declared.cache_fault.CacheFault.TheVariants.{NotApproved}
-use Rattle.table_model.specs.BindCommands.{is_change, with_classes, with_locals, with_names, bind_class_step, unbind_class_step, set_locals_step, observe_name_step}
+use Rattle.table_model.specs.BindCommands.{is_change, with_classes, bind_class_step, unbind_class_step, set_locals_step, observe_name_step}
 use Rattle.table_model.specs.Tables.{binds_of, with_binds}
 use Rattle.table_model.proofs.Literals.{things_compute, binds_compute, mac_1, mac_9, bulb_addr, dns_addr, test_addr, bulb_url, next_url, switch_url, dns_class, test_name, bulb, bare_bulb}
 use Rattle.usage_tables.specs.declared.approval.Approval.TheVariants.{Waived}
@@ -24,23 +24,23 @@ use Rattle.usage_tables.specs.declared.approval.OperatorVerdict.TheVariants as v
 use Rattle.usage_tables.specs.declared.cached_file.CachedFile.{CachedFile}
 use Rattle.usage_tables.specs.Held.{held_file, usage_in, digest_of}
 use Rattle.usage_tables.specs.Files.{url_of, file_at, set_file, without_file, new_file, with_candidate, with_approved, entries_of, approved_entries, entry_count}
-use Rattle.usage_tables.specs.FileCommands.{approved_again, beside_approved, beside_candidate, import_cases, import_read, import_step, approved_row, approve, ruled, candidate_cases, is_verdict, is_ruled, verdict_cases, verdict_step, settled, left_with, approved_cases, revoke_cases, revoke_step}
+use Rattle.usage_tables.specs.FileCommands.{approved_again, beside_approved, beside_candidate, import_cases, import_step, approved_row, approve, ruled, candidate_cases, is_verdict, is_ruled, verdict_cases, verdict_step, left_with, approved_cases, revoke_cases, revoke_step}
 use Rattle.desk_model.specs.declared.command.Command.TheVariants.{HearUrl, HearLease, Move, Remove, Hold, Release, Lease, EndLease, Import, Verdict, Revoke, Bind, Unbind, Locals, Observe}
 use Rattle.desk_model.specs.declared.reply.Outcome.{Outcome}
 use Rattle.desk_model.specs.declared.reply.Refusal.TheVariants.{Things, Files, Binds}
 use Rattle.desk_model.specs.declared.reply.Reply.TheVariants.{Done, Refused}
 use Rattle.desk_model.specs.DeskTables.{DeskTables, empty_desk, with_things, with_files, with_desk_binds}
 use Rattle.desk_model.specs.Commands.{DeskStep, stamped, by_things, by_files, by_binds, command_step}
-use Rattle.desk_model.specs.Sessions.{Session, opened, later, answered, command_in}
+use Rattle.desk_model.specs.Sessions.{Session, opened, later, command_in}
 use Rattle.base_rows.proofs.ListTests.{same_bytes}
 
 unfoldable desk_compute : Unit {0}
-unfolding things_compute binds_compute is_change with_classes with_locals with_names bind_class_step unbind_class_step set_locals_step observe_name_step binds_of with_binds url_of file_at set_file new_file with_candidate with_approved empty_desk with_things with_files with_desk_binds stamped by_things by_files by_binds command_step opened later answered command_in
+unfolding things_compute binds_compute is_change with_classes bind_class_step unbind_class_step set_locals_step observe_name_step binds_of with_binds url_of file_at set_file new_file with_candidate with_approved empty_desk with_things with_files with_desk_binds stamped by_things by_files by_binds command_step opened later command_in
 desk_compute = tt
 
 -- the files' steps
 unfoldable files_compute : Unit {0}
-unfolding desk_compute entries_of approved_entries entry_count usage_in approved_again beside_approved beside_candidate import_cases import_read import_step approved_row approve ruled candidate_cases is_verdict is_ruled verdict_cases verdict_step without_file settled left_with approved_cases revoke_cases revoke_step
+unfolding desk_compute entries_of approved_entries entry_count usage_in approved_again beside_approved beside_candidate import_cases import_step approved_row approve ruled candidate_cases is_verdict is_ruled verdict_cases verdict_step without_file left_with approved_cases revoke_cases revoke_step
 files_compute = tt
 
 -- a list changes

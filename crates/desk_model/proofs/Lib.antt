@@ -14,3 +14,4 @@ pub mod Sessions
 mod Examples
 mod ItemExamples
 mod SessionExamples
+pub mod Parts

@@ -9,7 +9,7 @@ use Rattle.table_model.specs.Things.{mac_of}
 use Rattle.table_model.specs.Binds.{Binds, class_key, name_of, IsSoundBinds}
 use Rattle.table_model.specs.Tables.{binds_of}
 use Rattle.table_model.specs.ThingItems.{thing_item, thing_items}
-use Rattle.table_model.specs.BindItems.{class_item, class_items, locals_item, locals_items, name_item, name_items, stamp_item, stamp_items}
+use Rattle.table_model.specs.BindItems.{class_item, locals_item, locals_items, name_item, stamp_item, stamp_items}
 use Rattle.table_model.specs.TakenItems.{bind_items}
 use Rattle.table_model.proofs.ItemLaws.{are_things}
 use Rattle.usage_tables.specs.Files.{url_of}
@@ -19,6 +19,7 @@ use Rattle.desk_model.specs.Items.{items_of}
 use Rattle.desk_model.proofs.ReadBack.{each_item, all_bind_items, parts}
 use Rattle.usage_tables.proofs.EditLaws.{are_file_items}
 use Rattle.base_rows.proofs.Lists.{all-append}
+use Rattle.table_model.proofs.Parts.{class_items, name_items}
 
 -- ---- The kinds of items
 
@@ -57,7 +58,7 @@ module _ (binds : Binds) (sound : IsSoundBinds binds) where
   locals_are P holds (p ∷ ps) = (holds (locals_item (p ∷ ps)) refl, tt)
 
   pub ordered-binds : IsOrdered (bind_items binds)
-  unfolding bind_items class_items name_items class_item name_item
+  unfolding bind_items class_item name_item
   ordered-binds =
       ordered-append 3 (class_items binds.classes) (locals_items binds.locals ++ name_items binds.names)
       (each_item class_item (λ item. item.kind ≤ 3) (λ row. lit≤ tt) binds.classes)

@@ -10,10 +10,11 @@ use Rattle.acl_model.specs.declared.ruling.Ruling.{Ruling}
 use Rattle.acl_model.specs.declared.ruling.Ruling.TheVariants.{DropHeld}
 use Rattle.table_model.specs.declared.thing.Thing.{Thing}
 use Rattle.table_model.specs.declared.segment.Segment.{Segment}
-use Rattle.packet_judge.specs.Verdicts.{Endpoints, endpoints_of, endpoint_ruling, governed, is_managed, if_managed, verdict_on, verdict_of, rulings_of, accepts, forwarded}
+use Rattle.packet_judge.specs.Verdicts.{Endpoints, endpoints_of, endpoint_ruling, is_managed, if_managed, verdict_on, verdict_of, rulings_of, accepts, forwarded}
 use Rattle.desk_model.specs.DeskTables.{DeskTables}
 use Rattle.desk_model.specs.Forwarding.{is_forwarded_by, lets_pass}
 use Rattle.desk_model.specs.Verdicts.{policy_at, verdict_at}
+use Rattle.packet_judge.proofs.Parts.{governed}
 
 held_drops : (held : Bool) (ruling : Ruling) → accepts (Some (cond held DropHeld ruling)) ≡ (not held && accepts (Some ruling))
 unfolding accepts
@@ -27,7 +28,7 @@ module _ (desk : DeskTables) (history : List Segment) (now : ℕ) where
   endpoint_lets_pass side fields (Some thing) = held_drops thing.held (rulings_of desk.tables (policy_at desk) history now side thing fields)
 
   endpoints_let_pass : (fields : Fields) (endpoints : Endpoints) → is_managed endpoints ≡ true → forwarded (if_managed endpoints (governed (rulings_of desk.tables (policy_at desk) history now) fields endpoints)) ≡ (lets_pass desk history now From fields endpoints.source && lets_pass desk history now To fields endpoints.destination)
-  unfolding if_managed governed forwarded
+  unfolding if_managed forwarded
   endpoints_let_pass fields endpoints managed =
       rw (managed, endpoint_lets_pass From fields endpoints.source, endpoint_lets_pass To fields endpoints.destination) refl
 

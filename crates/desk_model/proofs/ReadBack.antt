@@ -10,7 +10,7 @@ use Rattle.table_model.specs.declared.thing.Thing.{Thing}
 use Rattle.table_model.specs.Binds.{Binds, IsSoundBinds}
 use Rattle.table_model.specs.Tables.{binds_of}
 use Rattle.table_model.specs.ThingItems.{thing_item, thing_items, with_thing_item}
-use Rattle.table_model.specs.BindItems.{class_item, class_items, locals_item, locals_items, name_item, name_items, stamp_item, stamp_items, with_stamp_item}
+use Rattle.table_model.specs.BindItems.{class_item, locals_item, locals_items, name_item, stamp_item, stamp_items, with_stamp_item}
 use Rattle.table_model.specs.TakenItems.{all_taken, no_binds, bind_items, with_bind_item}
 use Rattle.table_model.proofs.ItemLaws.{stamp_back}
 use Rattle.table_model.proofs.RowSets.{all_behind}
@@ -21,9 +21,11 @@ use Rattle.usage_tables.specs.FileItems.{file_item, file_items, with_file_item}
 use Rattle.usage_tables.proofs.ItemLaws.{file_back}
 use Rattle.usage_tables.proofs.ReadFiles.{behind-sound}
 use Rattle.desk_model.specs.DeskTables.{DeskTables, IsStamp, IsSound}
-use Rattle.desk_model.specs.Items.{KeptDesk, none_kept, desk_of, with_desk_item, desk_in, items_of, tables_in}
+use Rattle.desk_model.specs.Items.{KeptDesk, none_kept, desk_of, with_desk_item, items_of, tables_in}
 use Rattle.desk_model.proofs.Taking.{kept_by_taken, all_taken-append, taken_within, take_thing, take_file, take_bind, take_stamp}
 use Rattle.base_rows.proofs.Lists.{all-append}
+use Rattle.table_model.proofs.Parts.{class_items, name_items}
+use Rattle.desk_model.proofs.Parts.{desk_in}
 
 -- ---- Files
 
@@ -53,7 +55,7 @@ of_locals P holds [] = tt
 of_locals P holds (p ∷ ps) = (holds (locals_item (p ∷ ps)) (lit< tt) (lit< tt), tt)
 
 pub all_bind_items : (P : Item → Type 0) → ((item : Item) → 2 < item.kind → item.kind < 6 → P item) → (binds : Binds) → AllByRecursion P (bind_items binds)
-unfolding bind_items class_items name_items class_item name_item
+unfolding bind_items class_item name_item
 all_bind_items P holds binds =
     all-append P (class_items binds.classes) (locals_items binds.locals ++ name_items binds.names)
     (each_item class_item P (λ row. holds (class_item row) (lit< tt) (lit< tt)) binds.classes)

@@ -14,7 +14,7 @@ use Rattle.table_model.specs.Things.{IsSoundThings}
 use Rattle.table_model.specs.Binds.{Binds, IsSoundBinds}
 use Rattle.table_model.specs.Tables.{binds_of}
 use Rattle.table_model.specs.ThingItems.{thing_items, thing_in, item_anew, in_second, with_thing_item}
-use Rattle.table_model.specs.BindItems.{class_items, locals_items, name_items, stamp_items, stamp_in, with_stamp_item}
+use Rattle.table_model.specs.BindItems.{locals_items, stamp_items, stamp_in, with_stamp_item}
 use Rattle.table_model.specs.TakenItems.{all_taken, no_binds, is_empty, bind_items, have_none, with_bind_item, with_item}
 use Rattle.table_model.proofs.ItemLaws.{stamp_alone}
 use Rattle.table_model.proofs.RowSets.{map_push}
@@ -25,8 +25,9 @@ use Rattle.usage_tables.specs.FileItems.{file_item, file_items, file_in, IsFileI
 use Rattle.usage_tables.proofs.ItemLaws.{file_alone}
 use Rattle.usage_tables.proofs.ReadFiles.{sound-push}
 use Rattle.desk_model.specs.DeskTables.{DeskTables, IsSound, empty_desk}
-use Rattle.desk_model.specs.Items.{KeptDesk, none_kept, desk_of, with_desk_item, kept_in, desk_in, items_of, tables_in, in_second_version}
+use Rattle.desk_model.specs.Items.{KeptDesk, none_kept, desk_of, with_desk_item, items_of, tables_in, in_second_version}
 use Rattle.desk_model.proofs.Taking.{taken_by_kept, unequal}
+use Rattle.desk_model.proofs.Parts.{kept_in, desk_in}
 
 -- ---- Small steps
 
@@ -49,7 +50,7 @@ unfolding file_items
 no_file_items files e = rw (nothing_there files e) refl
 
 no_bind_items : (binds : Binds) → have_none binds ≡ true → bind_items binds ≡ []
-unfolding have_none bind_items class_items locals_items name_items
+unfolding have_none bind_items locals_items
 no_bind_items binds e =
     let both : (is_empty binds.classes && is_empty binds.locals) ≡ true = left_of (is_empty binds.classes && is_empty binds.locals) (is_empty binds.names) e in
     rw (
@@ -239,7 +240,7 @@ none_sound =
     }
 
 none_items : items_of (desk_of none_kept) ≡ []
-unfolding items_of desk_of none_kept no_binds binds_of thing_items file_items bind_items class_items locals_items name_items stamp_items
+unfolding items_of desk_of none_kept no_binds binds_of thing_items file_items bind_items locals_items stamp_items
 none_items = refl
 
 pub read_from : (items : List Item) (read : Result KeptDesk Item) (desk : DeskTables) → desk_in read ≡ Ok desk → (kept : KeptDesk) × (read ≡ Ok kept) × (desk_of kept ≡ desk)

@@ -20,14 +20,15 @@ use Rattle.table_model.proofs.Literals.{bulb_addr, dns_addr, test_addr, bulb_url
 use Rattle.usage_tables.specs.declared.approval.Approval.TheVariants.{Waived}
 use Rattle.usage_tables.specs.Held.{held_file, usage_in}
 use Rattle.usage_tables.specs.Files.{url_of, file_at}
-use Rattle.usage_tables.specs.Policies.{policy_in_held, policy_in_approved, policy_in_row, policy_of}
+use Rattle.usage_tables.specs.Policies.{policy_in_held, policy_in_row, policy_of}
 use Rattle.packet_judge.specs.declared.verdict.Verdict.{Verdict}
 use Rattle.packet_judge.specs.declared.verdict.Verdict.TheVariants.{Governed}
 use Rattle.packet_judge.specs.Verdicts.{rulings_of, verdict_of}
 use Rattle.packet_judge.proofs.OnLiterals.{verdicts_compute}
 use Rattle.desk_model.specs.DeskTables.{DeskTables}
 use Rattle.desk_model.specs.Verdicts.{policy_at, verdict_at}
-use Rattle.desk_model.specs.Sessions.{Session, later, verdict_in, judged, frame_in}
+use Rattle.desk_model.specs.Sessions.{Session, later, verdict_in, frame_in}
+use Rattle.desk_model.proofs.Parts.{judged}
 
 -- HTTPS with the server on connections that the bulb began
 abbrev https : PortTest → PortTest → Entry
@@ -61,7 +62,7 @@ module _ (octets : List ℕ) (update : ℤ) (hours : ℕ) (supported : Bool) (si
   session history moment = record { desk = desk; history = history; moment = moment }
 
   its_policy : policy_at desk bulb_url ≡ Some bulb_policy
-  unfolding policy_at policy_of policy_in_row policy_in_approved policy_in_held usage_in file_at url_of
+  unfolding policy_at policy_of policy_in_row policy_in_held usage_in file_at url_of
   its_policy = rw read refl
 
   -- the verdict where that is the policy of each URL
@@ -82,15 +83,15 @@ module _ (octets : List ℕ) (update : ℤ) (hours : ℕ) (supported : Bool) (si
 
   -- the call passes: it is added to the history, and raises the moment
   call_passes : frame_in (session [] 1000) 1059 call ≡ record { verdict = Governed (Some (Accept 1)) None; session = session (called 1059 ∷ []) 1059 }
-  unfolding verdicts_compute frame_in judged verdict_in later
+  unfolding verdicts_compute frame_in verdict_in later
   call_passes = ap (judged (session [] 1000) 1059 call) call_verdict
 
   -- the answer passes, since the bulb began the connection; its moment is that of the session, where its own is earlier
   answer_passes : frame_in (session (called 1059 ∷ []) 1059) 1001 answer ≡ record { verdict = Governed None (Some (Accept 1)); session = session (called 1059 ∷ answered 1059 ∷ []) 1059 }
-  unfolding verdicts_compute frame_in judged verdict_in later
+  unfolding verdicts_compute frame_in verdict_in later
   answer_passes = ap (judged (session (called 1059 ∷ []) 1059) 1059 answer) answer_verdict
 
   -- the server's name has ended: the call is dropped, and isn't added
   call_dropped : frame_in (session (called 1059 ∷ []) 1059) 1060 call ≡ record { verdict = Governed (Some (DropDefault NoMatch)) None; session = session (called 1059 ∷ []) 1060 }
-  unfolding verdicts_compute frame_in judged verdict_in later
+  unfolding verdicts_compute frame_in verdict_in later
   call_dropped = ap (judged (session (called 1059 ∷ []) 1059) 1060 call) ended_verdict

@@ -10,11 +10,11 @@ use Rattle.mud_base.specs.declared.memory.Memory as want
 use Rattle.frame_view.specs.declared.views.Frame.{Frame}
 use Rattle.frame_view.specs.Frame.{frame_of}
 use Rattle.table_model.specs.declared.segment.Segment.{Segment}
-use Rattle.table_model.specs.History.{segment_in, segment_of, with_segment, is_forward}
+use Rattle.table_model.specs.History.{segment_of, with_segment, is_forward}
 use Rattle.table_model.proofs.TypeFacts.{segment_at}
 use Rattle.usage_tables.specs.Limits.{last_moment}
 use Rattle.packet_judge.specs.declared.verdict.Verdict.{Verdict}
-use Rattle.packet_judge.specs.Verdicts.{noted_fields, noted_segment, history_after}
+use Rattle.packet_judge.specs.Verdicts.{noted_fields, history_after}
 use Rattle.desk_model.specs.declared.command.Command.{Command}
 use Rattle.desk_model.specs.declared.reply.Refusal.{Refusal}
 use Rattle.desk_model.specs.declared.reply.Reply.{Reply}
@@ -22,9 +22,12 @@ use Rattle.desk_model.specs.declared.reply.Reply.TheVariants.{Done, Refused, Kee
 use Rattle.desk_model.specs.DeskTables.{DeskTables, IsStamp, IsSound}
 use Rattle.desk_model.specs.Commands.{IsCommand, DeskAfter, DeskStep, TellsChange, command_step}
 use Rattle.desk_model.specs.Verdicts.{verdict_at}
-use Rattle.desk_model.specs.Sessions.{Session, IsSoundSession, Answered, AllowedReply, Runs, IsCall, Judged, AllowedVerdict, opened, later, raised, answered, command_in, verdict_in, judged, frame_in}
+use Rattle.desk_model.specs.Sessions.{Session, IsSoundSession, Answered, AllowedReply, Runs, IsCall, Judged, AllowedVerdict, opened, later, raised, command_in, verdict_in, frame_in}
 use Rattle.desk_model.proofs.SoundSteps.{commands_sound}
 use Rattle.desk_model.proofs.ToldSteps.{commands_told}
+use Rattle.table_model.proofs.Parts.{segment_in}
+use Rattle.packet_judge.proofs.Parts.{noted_segment}
+use Rattle.desk_model.proofs.Parts.{answered}
 
 -- ---- Moments
 
@@ -43,7 +46,7 @@ not_before session now = omega arith
 -- ---- The history
 
 noted_at : (frame : Frame) (verdict : Verdict) (now : ℕ) (p : Segment) → noted_segment frame verdict now ≡ Some p → p.at ≡ now
-unfolding noted_segment segment_of
+unfolding segment_of
 noted_at frame verdict now p e =
     let b = bind_some (noted_fields frame verdict) (λ fields. segment_in fields.src fields.dst now fields.transport) p e in
     segment_at b.0.src b.0.dst now b.0.transport p b.2
@@ -99,7 +102,6 @@ stamp_after before now after tells old false e = let s : after.desk ≡ before =
 
 module _ (session : Session) (now : ℕ) where
   answered_sound : IsSoundSession session → later session now ≤ last_moment → (step : DeskStep) → IfOk step (λ after. IsSound after.desk) → IfOk step (TellsChange session.desk (later session now)) → IsSoundSession (answered session (later session now) step).session
-  unfolding answered
   answered_sound sound early (Ok after) desk tells = record {
     desk = desk;
     moment = early;
@@ -110,17 +112,14 @@ module _ (session : Session) (now : ℕ) where
   answered_sound sound early (Err refusal) desk tells = sound
 
   answered_history : (step : DeskStep) → (answered session (later session now) step).session.history ≡ session.history
-  unfolding answered
   answered_history (Ok after) = refl
   answered_history (Err refusal) = refl
 
   answered_moment : (step : DeskStep) → session.moment ≤ (answered session (later session now) step).session.moment
-  unfolding answered
   answered_moment (Ok after) = not_before session now
   answered_moment (Err refusal) = omega arith
 
   answered_refused : (step : DeskStep) (refusal : Refusal) → (answered session (later session now) step).reply ≡ Refused refusal → (answered session (later session now) step).session ≡ session
-  unfolding answered
   answered_refused (Ok after) refusal e = absurd cc
   answered_refused (Err fault) refusal e = refl
 
@@ -153,7 +152,7 @@ module _ (session : Session) (now : ℕ) where
   command_moment command reply after may = after_answer (λ s. session.moment ≤ s.moment) command (omega arith) (answered_moment (command_step session.desk (later session now) command)) reply after may
 
   pub frame_sound : IsSoundSession session → (frame : List ℕ) → now ≤ last_moment → IsSoundSession (frame_in session now frame).session
-  unfolding frame_in verdict_in judged history_after
+  unfolding frame_in verdict_in history_after
   frame_sound sound frame early =
       let m : ℕ = later session now in
       let verdict : Verdict = verdict_at session.desk session.history m frame in
@@ -168,7 +167,7 @@ module _ (session : Session) (now : ℕ) where
       }
 
   pub frame_keeps : (frame : List ℕ) → ((frame_in session now frame).session.desk ≡ session.desk) × ((frame_in session now frame).session.moment ≡ later session now)
-  unfolding frame_in judged
+  unfolding frame_in
   frame_keeps frame = (refl, refl)
 
   -- the same of a frame

@@ -7,7 +7,7 @@ use Rattle.table_model.specs.declared.bind.Class.{Class}
 use Rattle.table_model.specs.declared.bind.ClassRow.{ClassRow}
 use Rattle.table_model.specs.declared.bind_fault.BindFault.TheVariants.{NotBound}
 use Rattle.table_model.specs.Binds.{Binds, class_at, is_class, IsSoundClasses, IsSoundBinds}
-use Rattle.table_model.specs.BindCommands.{unbind_cases, unbind_step, unbind_class_step, with_classes}
+use Rattle.table_model.specs.BindCommands.{unbind_step, unbind_class_step, with_classes}
 use Rattle.table_laws.proofs.BindLaws.{classes_sound}
 use Rattle.table_laws.proofs.KeptClasses.{unbind_sound, class_there}
 
@@ -16,7 +16,7 @@ unfolding unbind_class_step
 sound-unbind_any c a binds sound = classes_sound binds sound (unbind_step c a binds.classes) (unbind_sound c a binds.classes sound.classes (class_at c binds.classes) refl)
 
 none_bound : (c : Class) (a : Addr) (classes : List ClassRow) → IsSoundClasses classes → is_class c ≡ false → (found : Option ClassRow) → class_at c classes ≡ found → unbind_step c a classes ≡ Err NotBound
-unfolding unbind_step unbind_cases
+unfolding unbind_step
 none_bound c a classes sound wrong None missing = rw missing refl
 none_bound c a classes sound wrong (Some row) there = absurd (false≢true (sym wrong ∙ class_there c classes row sound there))
 

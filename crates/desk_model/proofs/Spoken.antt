@@ -16,7 +16,7 @@ use Rattle.table_model.specs.Expiries.{expiry_of}
 use Rattle.table_model.specs.Things.{thing_at}
 use Rattle.table_model.specs.Binds.{Binds, class_at, name_at, prefixes_in_order}
 use Rattle.table_model.specs.ThingCommands.{ThingStep, is_pending, url_cases, url_step, move_cases, move_step, remove_cases, remove_step, hold_cases, hold_step, release_cases, release_step, expiry_after, kept_lease, new_lease, known_lease, stranger_lease, lease_cases, lease_step, end_step}
-use Rattle.table_model.specs.BindCommands.{ClassStep, LocalStep, NameStep, BindStep, bind_cases, bind_step, unbind_cases, unbind_step, locals_cases, locals_step, addrs_of, least_dead, replacing, new_pair, kept_pair, observe_cases, observe_row, observe_step, with_classes, with_locals, with_names, bind_class_step, unbind_class_step, set_locals_step, observe_name_step}
+use Rattle.table_model.specs.BindCommands.{ClassStep, LocalStep, NameStep, BindStep, bind_step, unbind_step, locals_step, addrs_of, least_dead, replacing, new_pair, kept_pair, observe_row, observe_step, with_classes, bind_class_step, unbind_class_step, set_locals_step, observe_name_step}
 use Rattle.table_model.specs.Tables.{binds_of}
 use Rattle.usage_tables.specs.declared.approval.Approval.{Approval}
 use Rattle.usage_tables.specs.declared.approval.OperatorVerdict.{OperatorVerdict}
@@ -25,12 +25,14 @@ use Rattle.usage_tables.specs.declared.approval.Approval.TheVariants as approval
 use Rattle.usage_tables.specs.declared.cached_file.CachedFile.{CachedFile}
 use Rattle.usage_tables.specs.Held.{HeldFile, held_file}
 use Rattle.usage_tables.specs.Files.{file_at}
-use Rattle.usage_tables.specs.FileCommands.{FileStep, candidate_again, approved_again, new_candidate, beside_approved, beside_candidate, import_cases, import_read, import_step, approve, ruled, candidate_cases, verdict_cases, verdict_step, approved_cases, revoke_cases, revoke_step}
+use Rattle.usage_tables.specs.FileCommands.{FileStep, candidate_again, approved_again, new_candidate, beside_approved, beside_candidate, import_cases, import_step, approve, ruled, candidate_cases, verdict_cases, verdict_step, approved_cases, revoke_cases, revoke_step}
 use Rattle.desk_model.specs.declared.command.Command.{Command}
 use Rattle.desk_model.specs.declared.command.Command.TheVariants.{HearUrl, HearLease, Move, Remove, Hold, Release, Lease, EndLease, Import, Verdict, Revoke, Bind, Unbind, Locals, Observe}
 use Rattle.desk_model.specs.DeskTables.{DeskTables}
 use Rattle.desk_model.specs.Refusals.{is_thing_memory, is_file_memory, is_bind_memory, is_want_of_memory}
 use Rattle.desk_model.specs.Commands.{DeskStep, by_things, by_files, by_binds, command_step}
+use Rattle.table_model.proofs.Parts.{bind_cases, unbind_cases, locals_cases, observe_cases, with_locals, with_names}
+use Rattle.usage_tables.proofs.Parts.{import_read}
 
 -- where the step is refused, it isn't by want of memory
 record IsSpoken {A F : Type 0} (memory : F → Bool) (step : Result A F) : Type 0 where
@@ -117,7 +119,6 @@ import_says held file files None = either _ _ _ (by _ refl) (fine _)
 import_says held file files (Some row) = candidate_says held file files row row.candidate
 
 read_says : (held : HeldFile) (files : List CachedFile) (read : Result UsageFile Broken) → SaysFile (import_read held files read)
-unfolding import_read
 read_says held files (Err broken) = by _ refl
 read_says held files (Ok file) = import_says held file files (file_at file.url files)
 
@@ -157,17 +158,14 @@ abbrev SaysBind : {A : Type 0} → Result A BindFault → Type 0
 SaysBind step = IsSpoken is_bind_memory step
 
 bind_says : (class : Class) (a : Addr) (classes : List ClassRow) (found : Option ClassRow) → SaysBind (bind_cases class a classes found)
-unfolding bind_cases
 bind_says class a classes None = either _ _ _ (by _ refl) (fine _)
 bind_says class a classes (Some row) = either _ _ _ (fine _) (either _ _ _ (by _ refl) (fine _))
 
 unbind_says : (class : Class) (a : Addr) (classes : List ClassRow) (found : Option ClassRow) → SaysBind (unbind_cases class a classes found)
-unfolding unbind_cases
 unbind_says class a classes None = by _ refl
 unbind_says class a classes (Some row) = either _ _ _ (fine _) (by _ refl)
 
 locals_say : (prefixes locals : List Prefix) → SaysBind (locals_cases prefixes locals)
-unfolding locals_cases
 locals_say prefixes locals = either _ _ _ (by _ refl) (either _ _ _ (fine _) (fine _))
 
 replacing_says : (name : List ℕ) (a : Addr) (until : ℕ) (names : List NameRow) (dead : Option NameRow) → SaysBind (replacing name a until names dead)
@@ -181,7 +179,7 @@ pair_says name a until now names None = either _ _ _ (replacing_says name a unti
 pair_says name a until now names (Some row) = either _ _ _ (by _ refl) (fine _)
 
 observe_says : (name : List ℕ) (a : Addr) (until now : ℕ) (names : List NameRow) (row : Option NameRow) (old : Option ℕ) → SaysBind (observe_cases name a until now names row old)
-unfolding observe_cases kept_pair
+unfolding kept_pair
 observe_says name a until now names row None = pair_says name a until now names row
 observe_says name a until now names row (Some old) = either _ _ _ (either _ _ _ (fine _) (fine _)) (pair_says name a until now names row)
 
@@ -191,12 +189,10 @@ classes_say binds (Ok after) says = fine _
 classes_say binds (Err fault) says = record { spoken = says.spoken }
 
 networks_say : (binds : Binds) (step : LocalStep) → SaysBind step → SaysBind (with_locals binds step)
-unfolding with_locals
 networks_say binds (Ok after) says = fine _
 networks_say binds (Err fault) says = record { spoken = says.spoken }
 
 names_say : (binds : Binds) (step : NameStep) → SaysBind step → SaysBind (with_names binds step)
-unfolding with_names
 names_say binds (Ok after) says = fine _
 names_say binds (Err fault) says = record { spoken = says.spoken }
 

@@ -13,7 +13,8 @@ use Rattle.table_model.specs.BindItems.{with_stamp_item}
 use Rattle.table_model.specs.TakenItems.{all_taken, no_binds, have_none, with_bind_item, with_item}
 use Rattle.usage_tables.specs.declared.cached_file.CachedFile.{CachedFile}
 use Rattle.usage_tables.specs.FileItems.{with_file_item}
-use Rattle.desk_model.specs.Items.{KeptDesk, with_desk_item, kept_in}
+use Rattle.desk_model.specs.Items.{KeptDesk, with_desk_item}
+use Rattle.desk_model.proofs.Parts.{kept_in}
 pub use Rattle.table_model.proofs.TakenLaws.{all_taken-append}
 
 -- ---- All items are taken where none of them is the first that can't be

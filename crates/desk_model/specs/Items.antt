@@ -32,18 +32,18 @@ desk_of kept = record { tables = record { things = kept.things; classes = kept.b
 unfoldable pub with_desk_item : KeptDesk → Item → Option KeptDesk
 with_desk_item kept item = with_item with_file_item is_empty kept item
 
--- what is kept of the items behind those taken, or the first of them that is no record
-abbrev pub kept_in : KeptDesk → List Item → Result KeptDesk Item
-kept_in kept [] = Ok kept
-kept_in kept (item ∷ items) = elim (with_desk_item kept item) [ Some next ↦ kept_in next items | None ↦ Err item ]
-
-abbrev pub desk_in : Result KeptDesk Item → Result DeskTables Item
-desk_in (Ok kept) = Ok (desk_of kept)
-desk_in (Err item) = Err item
-
 -- the desk that is kept in the items, which stand in the keeper's order, or the first of them that is no record
 unfoldable pub tables_in : List Item → Result DeskTables Item
 tables_in items = desk_in (kept_in none_kept items)
+  where
+    -- what is kept of the items behind those taken, or the first of them that is no record
+    kept_in : KeptDesk → List Item → Result KeptDesk Item
+    kept_in kept [] = Ok kept
+    kept_in kept (item ∷ items) = elim (with_desk_item kept item) [ Some next ↦ kept_in next items | None ↦ Err item ]
+
+    desk_in : Result KeptDesk Item → Result DeskTables Item
+    desk_in (Ok kept) = Ok (desk_of kept)
+    desk_in (Err item) = Err item
 
 -- the item is the first that is no record: the items before it are those of a desk, and with it they aren't
 pub record IsFirstBad (items : List Item) (item : Item) : Type 0 where

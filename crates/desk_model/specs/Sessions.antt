@@ -50,14 +50,14 @@ pub record Answered : Type 0 where
   pub reply : Reply
   pub session : Session
 
--- what is done leaves the history, and raises the moment; a refusal leaves all as it was, the moment too
-unfoldable pub answered : Session → ℕ → DeskStep → Answered
-answered session now (Ok after) = record { reply = Done after.outcome; session = record { desk = after.desk; history = session.history; moment = now } }
-answered session now (Err refusal) = record { reply = Refused refusal; session = session }
-
 -- a command runs at its own moment or at that of the session, whichever is later
 unfoldable pub command_in : Session → ℕ → Command → Answered
 command_in session now command = answered session (later session now) (command_step session.desk (later session now) command)
+  where
+    -- what is done leaves the history, and raises the moment; a refusal leaves all as it was, the moment too
+    answered : Session → ℕ → DeskStep → Answered
+    answered session now (Ok after) = record { reply = Done after.outcome; session = record { desk = after.desk; history = session.history; moment = now } }
+    answered session now (Err refusal) = record { reply = Refused refusal; session = session }
 
 -- What may be answered to a command, and the session after it: what the command answers; that memory was wanted, at any time; and
 -- that the keeper failed, where the command changes a list. After these two all is as it was.
@@ -99,12 +99,12 @@ pub record Judged : Type 0 where
   pub verdict : Verdict
   pub session : Session
 
-unfoldable pub judged : Session → ℕ → List ℕ → Verdict → Judged
-judged session now frame verdict = record { verdict = verdict; session = record { desk = session.desk; history = history_after session.history (frame_of frame) verdict now; moment = now } }
-
 -- a frame raises the moment, and a TCP packet with a ruling that is forwarded is added to the history
 unfoldable pub frame_in : Session → ℕ → List ℕ → Judged
 frame_in session now frame = judged session (later session now) frame (verdict_in session now frame)
+  where
+    judged : Session → ℕ → List ℕ → Verdict → Judged
+    judged session now frame verdict = record { verdict = verdict; session = record { desk = session.desk; history = history_after session.history (frame_of frame) verdict now; moment = now } }
 
 -- whether the frame is added to the history
 abbrev pub IsNoted : Session → ℕ → List ℕ → Type 0

@@ -5,3 +5,4 @@ pub mod OptionListing
 pub mod OptionWalk
 pub mod TlvListing
 pub mod TlvWalk
+pub mod Parts

@@ -7,8 +7,9 @@ use Rattle.mud_base.specs.Faults.{row, row_at, first_row, unless_fault}
 use Rattle.dhcp_lldp.specs.declared.heard.HearFault.{HearFault}
 use Rattle.dhcp_lldp.specs.declared.heard.HearFault.TheVariants as faults
 use Rattle.dhcp_lldp.specs.Listings.{Listing, no_more, cut_at, with_first}
-use Rattle.dhcp_lldp.specs.Options.{DhcpOption, has_code, content_of, Contents, contents_of, option_fault}
+use Rattle.dhcp_lldp.specs.Options.{DhcpOption, has_code, Contents, contents_of, option_fault}
 use Rattle.dhcp_lldp.specs.OptionStep.{nothing_yet, with_content}
+use Rattle.dhcp_lldp.proofs.Parts.{content_of}
 
 abbrev pub at_end : Contents → Option ℕ → Result Contents HearFault
 at_end contents None = Ok contents

@@ -6,8 +6,9 @@ use Rattle.mud_base.specs.Faults.{row, first_row, unless_fault}
 use Rattle.dhcp_lldp.specs.declared.heard.HearFault.{HearFault}
 use Rattle.dhcp_lldp.specs.declared.heard.HearFault.TheVariants as faults
 use Rattle.dhcp_lldp.specs.Listings.{Listing, no_more, cut_at, with_first}
-use Rattle.dhcp_lldp.specs.Tlvs.{Tlv, is_out_of_order, is_mud, tlv_rows, tlv_fault, mud_string_of}
+use Rattle.dhcp_lldp.specs.Tlvs.{Tlv, is_out_of_order, is_mud, tlv_fault, mud_string_of}
 use Rattle.dhcp_lldp.specs.TlvStep.{SeenTlvs, nothing_seen, seen_in, seen_after}
+use Rattle.dhcp_lldp.proofs.Parts.{tlv_rows}
 
 abbrev pub at_end : SeenTlvs → Option ℕ → Result SeenTlvs HearFault
 at_end seen None = cond (ltb seen.count 3) (Err faults.Order) (Ok seen)

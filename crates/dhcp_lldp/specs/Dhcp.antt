@@ -81,14 +81,14 @@ said message contents =
     if is_request message then announced (mac_at chaddr_offset message) contents.mud_url
     else (if is_reply message then Ok (granted (mac_at chaddr_offset message) (yiaddr_of message) contents) else Ok Nothing)
 
--- the table of faults, in its order
-abbrev pub rows : List ℕ → List (Option HearFault)
-rows message =
-    row (nat_lt (length message) options_offset) (faults.Cut 0)
-    ∷ row (not (is_ethernet message)) faults.Hardware
-    ∷ row (not (has_cookie message)) faults.Cookie
-    ∷ option_fault (options_of message)
-    ∷ []
-
 unfoldable pub heard_of : List ℕ → Result Heard HearFault
 heard_of message = unless (rows message) (said message (contents_of (options_of message).whole))
+  where
+    -- the table of faults, in its order
+    rows : List ℕ → List (Option HearFault)
+    rows message =
+        row (nat_lt (length message) options_offset) (faults.Cut 0)
+        ∷ row (not (is_ethernet message)) faults.Hardware
+        ∷ row (not (has_cookie message)) faults.Cookie
+        ∷ option_fault (options_of message)
+        ∷ []

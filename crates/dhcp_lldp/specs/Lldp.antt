@@ -19,13 +19,13 @@ is_lldp frame = big_16 type_offset frame == 0x88CC && not (is_group_at source_of
 unfoldable pub tlvs_of : List ℕ → Listing Tlv
 tlvs_of frame = listing 0 head_len (drop head_len frame)
 
--- the table of faults, in its order
-abbrev pub rows : List ℕ → List (Option HearFault)
-rows frame =
-    row (nat_lt (length frame) head_len) (faults.Cut 0)
-    ∷ row (not (is_lldp frame)) faults.Hardware
-    ∷ tlv_fault (tlvs_of frame)
-    ∷ []
-
 unfoldable pub lldp_of : List ℕ → Result Heard HearFault
 lldp_of frame = unless (rows frame) (announced (mac_at source_offset frame) (mud_string_of (tlvs_of frame).whole))
+  where
+    -- the table of faults, in its order
+    rows : List ℕ → List (Option HearFault)
+    rows frame =
+        row (nat_lt (length frame) head_len) (faults.Cut 0)
+        ∷ row (not (is_lldp frame)) faults.Hardware
+        ∷ tlv_fault (tlvs_of frame)
+        ∷ []

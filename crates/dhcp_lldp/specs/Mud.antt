@@ -8,12 +8,12 @@ use Rattle.dhcp_lldp.specs.declared.heard.Heard.TheVariants as heard
 use Rattle.dhcp_lldp.specs.declared.heard.HearFault.{HearFault}
 use Rattle.dhcp_lldp.specs.declared.heard.HearFault.TheVariants as faults
 
--- what the reading of the string says
-abbrev pub announced_url : Mac → Result (List ℕ) UrlFault → Result Heard HearFault
-announced_url mac (Ok url) = Ok (heard.Url mac url)
-announced_url mac (Err fault) = Err (faults.Url fault)
-
 -- what the string says, where there is one
 unfoldable pub announced : Mac → Option (List ℕ) → Result Heard HearFault
 announced mac None = Ok heard.Nothing
 announced mac (Some string) = announced_url mac (string_of string)
+  where
+    -- what the reading of the string says
+    announced_url : Mac → Result (List ℕ) UrlFault → Result Heard HearFault
+    announced_url mac (Ok url) = Ok (heard.Url mac url)
+    announced_url mac (Err fault) = Err (faults.Url fault)

@@ -11,27 +11,27 @@ pub record Tlv : Type 0 where
   pub kind : ℕ
   pub content : List ℕ
 
--- The header is 7 bits of type and 9 bits of length, in two octets (clause 8.4).
-abbrev pub kind_of : ℕ → ℕ
-kind_of header = header / 2
-
--- how many octets a TLV has behind the first one of its header: the second one, and the content
-abbrev pub width : ℕ → List ℕ → ℕ
-width header behind = 256 * (header % 2) + slice_index behind 0 + 1
-
--- The End Of LLDPDU TLV, of type 0, is the last one (clause 8.5.1).
-abbrev pub at_header : ℕ → ℕ → List ℕ → Listing Tlv → Listing Tlv
-at_header offset header behind later =
-    if nat_lt (length behind) (width header behind) then cut_at offset
-    else with_first (record { kind = kind_of header; content = drop 1 (take (width header behind) behind) })
-    (if kind_of header == 0 then no_more else later)
-
 -- The TLVs in the octets from an offset on, where the first so many are the rest of a TLV. The end of the octets ends the TLVs
 -- too.
 abbrev pub listing : ℕ → ℕ → List ℕ → Listing Tlv
 listing skipped offset [] = no_more
 listing (suc skipped) offset (octet ∷ behind) = listing skipped (offset + 1) behind
 listing zero offset (header ∷ behind) = at_header offset header behind (listing (width header behind) (offset + 1) behind)
+  where
+    -- The header is 7 bits of type and 9 bits of length, in two octets (clause 8.4).
+    kind_of : ℕ → ℕ
+    kind_of header = header / 2
+
+    -- how many octets a TLV has behind the first one of its header: the second one, and the content
+    width : ℕ → List ℕ → ℕ
+    width header behind = 256 * (header % 2) + slice_index behind 0 + 1
+
+    -- The End Of LLDPDU TLV, of type 0, is the last one (clause 8.5.1).
+    at_header : ℕ → ℕ → List ℕ → Listing Tlv → Listing Tlv
+    at_header offset header behind later =
+        if nat_lt (length behind) (width header behind) then cut_at offset
+        else with_first (record { kind = kind_of header; content = drop 1 (take (width header behind) behind) })
+        (if kind_of header == 0 then no_more else later)
 
 -- The first three TLVs are Chassis ID (type 1), Port ID (2) and Time To Live (3), which don't come again (clause 8.2). An
 -- End Of LLDPDU is empty.
@@ -48,16 +48,16 @@ prefix_len = 4
 unfoldable pub is_mud : Tlv → Bool
 is_mud tlv = tlv.kind == 127 && bytes_eq (take prefix_len tlv.content) (0 ∷ 0 ∷ 94 ∷ 1 ∷ [])
 
--- The table of faults of the TLVs in their order, where so many TLVs stand before them, and a MUD URL TLV among these or not.
-abbrev pub tlv_rows : ℕ → Bool → Option ℕ → List Tlv → List (Option HearFault)
-tlv_rows before is_announced cut [] = row_at faults.Cut cut ∷ row (nat_lt before 3) faults.Order ∷ []
-tlv_rows before is_announced cut (tlv ∷ more) =
-    row (is_out_of_order before tlv) faults.Order
-    ∷ row (is_announced && is_mud tlv) faults.Repeat
-    ∷ tlv_rows (before + 1) (is_announced || is_mud tlv) cut more
-
 unfoldable pub tlv_fault : Listing Tlv → Option HearFault
 tlv_fault l = first_row (tlv_rows 0 false l.cut l.whole)
+  where
+    -- The table of faults of the TLVs in their order, where so many TLVs stand before them, and a MUD URL TLV among these or not.
+    tlv_rows : ℕ → Bool → Option ℕ → List Tlv → List (Option HearFault)
+    tlv_rows before is_announced cut [] = row_at faults.Cut cut ∷ row (nat_lt before 3) faults.Order ∷ []
+    tlv_rows before is_announced cut (tlv ∷ more) =
+        row (is_out_of_order before tlv) faults.Order
+        ∷ row (is_announced && is_mud tlv) faults.Repeat
+        ∷ tlv_rows (before + 1) (is_announced || is_mud tlv) cut more
 
 -- the MUD string, which stands behind the OUI and the subtype
 unfoldable pub mud_string_of : List Tlv → Option (List ℕ)

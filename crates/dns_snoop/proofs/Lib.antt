@@ -6,3 +6,4 @@ pub mod RowLaws
 pub mod RowWalks
 pub mod Runs
 pub mod Walks
+pub mod Parts

@@ -19,10 +19,11 @@ use Rattle.dns_snoop.specs.declared.name.ReadName.{ReadName}
 use Rattle.dns_snoop.specs.declared.answer.Record.{Record}
 use Rattle.dns_snoop.specs.declared.answers.Question.{Question}
 use Rattle.dns_snoop.specs.declared.answers.Answers.{Answers}
-use Rattle.dns_snoop.specs.Names.{Label, text_of, chain_at, name_rows, run_at, behind_first, read_name_of}
-use Rattle.dns_snoop.specs.Records.{records_from, is_owned, row_of, gives_row, most_ttl, links, last_alias, least, rows_behind, rows_of}
-use Rattle.dns_snoop.specs.Messages.{is_answer, dots_from, dotted, question_of, question_by, asked_by, rows_if, answers_by, answers_to, answers_of}
+use Rattle.dns_snoop.specs.Names.{Label, text_of, run_at, read_name_of}
+use Rattle.dns_snoop.specs.Records.{records_from, is_owned, row_of, gives_row, rows_of}
+use Rattle.dns_snoop.specs.Messages.{is_answer, dots_from, question_of, asked_by, answers_of}
 use Rattle.dns_snoop.specs.Observed.{IsObservable}
+use Rattle.dns_snoop.proofs.Parts.{chain_at, name_rows, behind_first, most_ttl, links, last_alias, least, rows_behind, dotted, question_by, rows_if, answers_by, answers_to}
 
 -- ---- The name is in lower case
 
@@ -63,7 +64,6 @@ abbrev IsLower : List ℕ → Type 0
 IsLower text = lowered (dotted text) ≡ dotted text
 
 labels_lower : (labels : List Label) → IsLower (text_of labels)
-unfolding dotted
 labels_lower labels = lowered-drop (dots_from 0 (text_of labels)) ∙ ap (drop 1) (dots_lower labels)
 
 name-at : (o : Option DnsFault) (said name : ReadName) → unless_fault o (Ok said) ≡ Ok name → said ≡ name

@@ -4,15 +4,16 @@ use Rattle.std.specs.Prelude.{min}
 use Rattle.std.proofs.lemmas.Bool.{cases_Bool}
 use Rattle.mud_base.specs.declared.addr.Addr.{Addr}
 use Rattle.dns_snoop.specs.declared.answer.Record.{Record}
-use Rattle.dns_snoop.specs.Records.{is_link, links, last_alias, least, row_of, rows_behind, rows_of}
+use Rattle.dns_snoop.specs.Records.{is_link, row_of, rows_of}
 use Rattle.mud_base.specs.Numbers.{big_16}
 use Rattle.dns_snoop.specs.declared.fault.DnsFault.{DnsFault}
 use Rattle.dns_snoop.specs.declared.fault.DnsFault.TheVariants as faults
 use Rattle.dns_snoop.specs.declared.answers.Question.{Question}
 use Rattle.dns_snoop.specs.declared.answers.Answers.{Answers}
 use Rattle.dns_snoop.specs.Records.{records_from}
-use Rattle.dns_snoop.specs.Messages.{is_answer, question_of, dots_from, dotted, asked_by, rows_if, answers_by, answers_of}
+use Rattle.dns_snoop.specs.Messages.{is_answer, question_of, dots_from, asked_by, answers_of}
 use Rattle.dns_snoop.specs.Rows.{Answered, collected, rows_from, bound_with, alias_after, least_after}
+use Rattle.dns_snoop.proofs.Parts.{links, last_alias, least, rows_behind, dotted, rows_if, answers_by}
 
 -- the links of one answer more
 abbrev if_link : Bool → Record → List Record
@@ -114,11 +115,10 @@ module _ (message : List ℕ) (question : Question) (asked : Option ℕ) (count 
   behind-header = rw (le-ltb (length message) 12 long, answer, ← is, counted) refl
 
   asked-is : asked ≡ asked_by question (dotted question.name)
-  unfolding dotted
   asked-is = asks ∙ ap (asked_by question) named
 
   pub answers_ok : (rows : List (Addr × ℕ)) → Ok rows ≡ collected message asked [] question.name None (records_from count message question.behind) → Ok (record { name = name; rows = rows }) ≡ answers_of message
-  unfolding dotted as_answers
+  unfolding as_answers
   answers_ok rows read =
       ap (λ (n : List ℕ). Ok (as_answers n rows)) named
       ∙ ok-by message question rows (records_from count message question.behind) (read ∙ ap (λ (o : Option ℕ). collected message o [] question.name None (records_from count message question.behind)) asked-is)

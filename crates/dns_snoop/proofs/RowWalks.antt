@@ -4,8 +4,9 @@ use Rattle.mud_base.specs.declared.addr.Addr.{Addr}
 use Rattle.dns_snoop.specs.declared.fault.DnsFault.{DnsFault}
 use Rattle.dns_snoop.specs.declared.fault.DnsFault.TheVariants as faults
 use Rattle.dns_snoop.specs.declared.answer.Record.{Record}
-use Rattle.dns_snoop.specs.Records.{record_at, records_from, then_records, with_record}
+use Rattle.dns_snoop.specs.Records.{record_at, records_from}
 use Rattle.dns_snoop.specs.Rows.{Answered, row_if, rows_from, collected, bound_with, alias_after, least_after}
+use Rattle.dns_snoop.proofs.Parts.{then_records, with_record}
 
 module _ (message : List ℕ) (asked : Option ℕ) (rows : List (Addr × ℕ)) (alias : List ℕ) (least : Option ℕ) where
   pub rows_done : (left offset : ℕ) (answer : Result (List (Addr × ℕ)) DnsFault) → left ≤ 0 → collected message asked rows alias least (records_from left message offset) ≡ answer → Ok rows ≡ answer

@@ -8,9 +8,10 @@ use Rattle.dns_snoop.specs.declared.name.RunEnd.TheVariants.{End, Pointer}
 use Rattle.mud_url.specs.Host.{lowered}
 use Rattle.mud_url.proofs.Bounds.{length-lowered}
 use Rattle.dns_snoop.specs.declared.name.ReadName.{ReadName}
-use Rattle.dns_snoop.specs.Names.{Label, Run, Chain, run_at, ended, with_label, broken, chained, chained_by, chain_behind, first_beyond, text_of, chain_at, name_rows, behind_run, behind_first, read_name_of}
+use Rattle.dns_snoop.specs.Names.{Label, Run, Chain, run_at, ended, with_label, broken, chained, chain_behind, first_beyond, text_of, behind_run, read_name_of}
 use Rattle.dns_snoop.specs.Steps.{RunRead, run_answer, chain_answer, with_end}
 use Rattle.std.proofs.lemmas.Bool.{cases_Bool}
+use Rattle.dns_snoop.proofs.Parts.{chained_by, chain_at, name_rows, behind_first}
 
 -- ---- Labels one after the other
 
@@ -245,17 +246,15 @@ unfolding read_name_of chain_answer as_read
 name_err message offset fault is = name_err-at (first_row (name_rows (chain_at message offset))) (text_of (chain_at message offset).labels) (behind_first (run_at message offset).end) fault is
 
 pub name_first_fails : (message : List ℕ) (offset : ℕ) (fault : DnsFault) → Err fault ≡ run_answer [] (run_at message offset) → Err fault ≡ read_name_of message offset
-unfolding chain_at
 name_first_fails message offset fault is = name_err message offset fault (sym (chained_err [] (run_at message offset) (chain_behind offset message offset) fault is))
 
 pub name_later_fails : (message : List ℕ) (offset : ℕ) (first : RunRead) (fault : DnsFault) → Ok first ≡ run_answer [] (run_at message offset) → Err fault ≡ chain_answer first.text (chain_behind offset message offset first.end)
     → Err fault ≡ read_name_of message offset
-unfolding chain_at
 name_later_fails message offset first fault is later = name_err message offset fault (later ∙ sym (chained_ok [] (run_at message offset) (chain_behind offset message offset) first is))
 
 pub name_read : (message : List ℕ) (offset : ℕ) (first : RunRead) (text : List ℕ) (behind : ℕ) → Ok first ≡ run_answer [] (run_at message offset) → Ok text ≡ chain_answer first.text (chain_behind offset message offset first.end)
     → behind ≡ behind_run first.end → Ok (record { text = text; behind = behind }) ≡ read_name_of message offset
-unfolding chain_at as_read
+unfolding as_read
 name_read message offset first text behind is later end =
     ap (λ (n : ℕ). Ok (as_read text n)) (end ∙ sym (ap behind_first (run_ended [] (run_at message offset) first is)))
     ∙ name_ok message offset text (later ∙ sym (chained_ok [] (run_at message offset) (chain_behind offset message offset) first is))

@@ -12,12 +12,12 @@ use Rattle.acl_model.specs.declared.ruling.Why.TheVariants.{NoMatch}
 use Rattle.packet_judge.specs.declared.verdict.Verdict.TheVariants.{Governed}
 use Rattle.packet_judge.specs.Verdicts.{accepts, forwarded}
 use Rattle.base_rows.specs.Addresses.{addr_sort_key}
-use Rattle.drop_ledger.specs.Counted.{count_of, numbered, count_rows, firsts, is_of, those_of, kept_of, is_kept, is_first, first_rows, others_of, late_rows}
+use Rattle.drop_ledger.specs.Counted.{count_of, numbered, count_rows, is_of, those_of, is_first, first_rows, late_rows}
 use Rattle.drop_ledger.specs.declared.seen.Seen.{Seen}
 use Rattle.mud_base.specs.Directions.{side_number}
 use Rattle.drop_ledger.specs.SortKeys.{six, thing_sort_key, ruling_class, entry_number, ruling_sort_key, port_number, peer_sort_key, sort_key_of_count, sort_key_of_denied, sort_key_of_other, with_count, with_denied, with_other}
-use Rattle.drop_ledger.specs.Seen.{hour_of, mac_on, ruling_on, ruled_on, rulings_in, rulings, is_unmanaged, is_link, is_unreadable, is_governed, has_both, passes, drops, verdicts, totals_in}
-use Rattle.drop_ledger.specs.Ledger.{count_row, counts_of, port_of, peer_row, row_with, row_by, denied_row, denials, denied_kinds, hour_in}
+use Rattle.drop_ledger.specs.Seen.{hour_of, mac_on, ruling_on, ruled_on, rulings, is_unmanaged, is_link, is_unreadable, is_governed, has_both, totals_in}
+use Rattle.drop_ledger.specs.Ledger.{count_row, counts_of, port_of, peer_row, denied_row, denials, denied_kinds, hour_in}
 
 unfoldable pub bulb : Mac
 bulb = record { 0 = 2 ∷ 0 ∷ 0 ∷ 0 ∷ 0 ∷ 1 ∷ [] }
@@ -51,7 +51,7 @@ counts_of_the_hour : counts_of (rulings hour) ≡
     ∷ record { mac = bulb; side = From; ruling = AcceptDefault Dns; count = 1 }
     ∷ record { mac = bulb; side = From; ruling = DropDefault NoMatch; count = 1 }
     ∷ []
-unfolding bulb gateway opening asking hour mac_on ruling_on ruled_on rulings_in rulings count_row counts_of count_of numbered count_rows six side_number thing_sort_key ruling_class entry_number ruling_sort_key sort_key_of_count with_count
+unfolding bulb gateway opening asking hour mac_on ruling_on ruled_on rulings count_row counts_of count_of numbered count_rows six side_number thing_sort_key ruling_class entry_number ruling_sort_key sort_key_of_count with_count
 counts_of_the_hour = refl
 
 hour_is : hour_in hour ≡ Some 0
@@ -59,15 +59,15 @@ unfolding hour hour_in hour_of ruling_on ruled_on
 hour_is = refl
 
 denied_of_the_hour : first_rows denied_kinds (denials (rulings hour)) ≡ record { mac = bulb; side = From; peer = V4 3325256711; protocol = 6; port = Some 443; count = 1 } ∷ []
-unfolding bulb gateway opening asking hour mac_on ruling_on ruled_on rulings_in rulings count_of numbered count_rows six side_number thing_sort_key port_number peer_sort_key addr_sort_key sort_key_of_denied with_denied port_of peer_of peer_row row_with row_by denied_row denials firsts is_of those_of kept_of is_kept is_first first_rows
+unfolding bulb gateway opening asking hour mac_on ruling_on ruled_on rulings count_of numbered count_rows six side_number thing_sort_key port_number peer_sort_key addr_sort_key sort_key_of_denied with_denied port_of peer_of peer_row denied_row denials is_of those_of is_first first_rows
 denied_of_the_hour = refl
 
 others_of_the_hour : late_rows denied_kinds (denials (rulings hour)) ≡ []
-unfolding bulb gateway opening asking hour mac_on ruling_on ruled_on rulings_in rulings count_of numbered count_rows six side_number thing_sort_key port_number peer_sort_key addr_sort_key sort_key_of_denied sort_key_of_other with_other port_of peer_of peer_row row_with row_by denied_row denials firsts is_of those_of kept_of is_kept is_first others_of late_rows
+unfolding bulb gateway opening asking hour mac_on ruling_on ruled_on rulings count_of numbered count_rows six side_number thing_sort_key port_number peer_sort_key addr_sort_key sort_key_of_denied sort_key_of_other with_other port_of peer_of peer_row denied_row denials is_of those_of is_first late_rows
 others_of_the_hour = refl
 
 totals_of_the_hour : totals_in hour ≡ record { packets = 3; unmanaged = 0; link = 0; unreadable = 0; pass = 2; drop = 1; both = 0 }
-unfolding hour totals_in verdicts is_unmanaged is_link is_unreadable is_governed has_both passes drops accepts forwarded
+unfolding hour totals_in is_unmanaged is_link is_unreadable is_governed has_both accepts forwarded
 totals_of_the_hour = refl
 
 -- A packet between two Things, which the sender's file allows and the receiver's doesn't.
@@ -78,18 +78,18 @@ counts_of_both : counts_of (rulings crossing) ≡
     record { mac = bulb; side = From; ruling = Accept 2; count = 1 }
     ∷ record { mac = switch; side = To; ruling = DropDefault NoMatch; count = 1 }
     ∷ []
-unfolding bulb switch between crossing mac_on ruling_on ruled_on rulings_in rulings count_row counts_of count_of numbered count_rows six side_number thing_sort_key ruling_class entry_number ruling_sort_key sort_key_of_count with_count
+unfolding bulb switch between crossing mac_on ruling_on ruled_on rulings count_row counts_of count_of numbered count_rows six side_number thing_sort_key ruling_class entry_number ruling_sort_key sort_key_of_count with_count
 counts_of_both = refl
 
 -- on the side of the receiver the peer is the sender, with its port
 denied_to_the_second : first_rows denied_kinds (denials (rulings crossing)) ≡ record { mac = switch; side = To; peer = V4 3221225994; protocol = 6; port = Some 50000; count = 1 } ∷ []
-unfolding bulb switch between crossing mac_on ruling_on ruled_on rulings_in rulings count_of numbered count_rows six side_number thing_sort_key port_number peer_sort_key addr_sort_key sort_key_of_denied with_denied port_of peer_of peer_row row_with row_by denied_row denials firsts is_of those_of kept_of is_kept is_first first_rows
+unfolding bulb switch between crossing mac_on ruling_on ruled_on rulings count_of numbered count_rows six side_number thing_sort_key port_number peer_sort_key addr_sort_key sort_key_of_denied with_denied port_of peer_of peer_row denied_row denials is_of those_of is_first first_rows
 denied_to_the_second = refl
 
 totals_of_both : totals_in crossing ≡ record { packets = 1; unmanaged = 0; link = 0; unreadable = 0; pass = 0; drop = 1; both = 1 }
-unfolding crossing totals_in verdicts is_unmanaged is_link is_unreadable is_governed has_both passes drops accepts forwarded
+unfolding crossing totals_in is_unmanaged is_link is_unreadable is_governed has_both accepts forwarded
 totals_of_both = refl
 
 totals_of_none : totals_in [] ≡ record { packets = 0; unmanaged = 0; link = 0; unreadable = 0; pass = 0; drop = 0; both = 0 }
-unfolding totals_in verdicts
+unfolding totals_in
 totals_of_none = refl

@@ -6,9 +6,10 @@ use Rattle.std.proofs.Math.Bool.{or-false}
 use Rattle.base_rows.specs.Sortable.{same_sort_key, SortKeysAscend, row_at, set_row}
 use Rattle.base_rows.proofs.SortableLaws.{same_sort_key_exact, row_at-set_row}
 use Rattle.base_rows.proofs.RowLaws.{sort_key_row_at}
-use Rattle.drop_ledger.specs.Counted.{SortKey, count_of, is_of, kept_of, is_kept, total}
+use Rattle.drop_ledger.specs.Counted.{SortKey, count_of, is_of, total}
 use Rattle.drop_ledger.proofs.CountLaws.{sort_key_turned, count_more, count_none, positive, positive_more, positive_some, weight, total_set}
 use Rattle.drop_ledger.proofs.KeptLaws.{of_own, appeared, not_appeared, kept_again, kept_new, kept_late, kept_all, again_at, late_at, kept_grown, new_at}
+use Rattle.drop_ledger.proofs.Parts.{kept_of, is_kept}
 
 -- Each row counts a sort key that is kept among those that begin with the same `len` numbers, and of each beginning there
 -- are as many rows as sort keys are kept.

@@ -9,13 +9,14 @@ use Rattle.std.proofs.lemmas.List.{append-nil}
 use Rattle.base_rows.specs.Sortable.{same_sort_key, SortKeysAscend, row_at, set_row, is_under, rows_under}
 use Rattle.base_rows.proofs.SortableLaws.{same_sort_key_exact}
 use Rattle.base_rows.proofs.Lists.{filter_few, length-cond}
-use Rattle.drop_ledger.specs.Counted.{SortKey, Kinds, AreKinds, AreFirstRows, count_of, count_rows, firsts, is_of, those_of, kept_of, is_kept, is_first, first_rows, others_of, late_rows, total, sum_of, found_count, count_at}
+use Rattle.drop_ledger.specs.Counted.{SortKey, Kinds, AreKinds, AreFirstRows, count_of, count_rows, is_of, those_of, is_first, first_rows, late_rows, total, sum_of, found_count, count_at}
 use Rattle.drop_ledger.proofs.CountLaws.{positive, positive_some, count_none}
 use Rattle.drop_ledger.proofs.KeptLaws.{own_length, of_own, is_own, appeared, not_appeared}
 use Rattle.drop_ledger.proofs.FirstLaws.{AreFirstCounts, again, new, late}
 use Rattle.drop_ledger.proofs.LeftLaws.{left_of, AddUp, again_adds, new_adds, late_adds}
 use Rattle.drop_ledger.proofs.NumberLaws.{sort_keys_more, count_there, count_missing, SaysMore}
 use Rattle.drop_ledger.proofs.RowSteps.{below_or_not, first_ascend, first_again, first_new, first_late, late_again, late_new, others_late, either}
+use Rattle.drop_ledger.proofs.Parts.{firsts, kept_of, is_kept, others_of}
 
 -- ---- Numbers
 
@@ -102,7 +103,7 @@ module _ {D O : Type 0} (k : Kinds D O) (are : AreKinds k) (ps : List SortKey) (
       ∙ sym (out_by (k.sort_key x) (filter (is_of t) (map k.sort_key xs)) (is_of t (k.sort_key x)))
 
   pub left_count : (xs : List D) → count_of t (map k.beginning (others_of k ps xs)) ≡ length (filter (λ p. not (is_kept k.most t ps p)) (those_of t (map k.sort_key xs)))
-  unfolding count_of others_of those_of begun out
+  unfolding count_of those_of begun out
   left_count xs = left_sums xs
 
 module _ {D O : Type 0} (k : Kinds D O) (are : AreKinds k) (stays : (n : ℕ) (d : D) → k.sort_key (k.counted n d) ≡ k.sort_key d) (count : D → ℕ) (told : (n : ℕ) (d : D) → count (k.counted n d) ≡ n) where
@@ -122,7 +123,7 @@ module _ {D O : Type 0} (k : Kinds D O) (are : AreKinds k) (stays : (n : ℕ) (d
     pub add : AddUp k.sort_key count k.len k.most ps rows
 
   none_kept : (t : SortKey) → kept_of k.most t [] ≡ []
-  unfolding kept_of those_of firsts
+  unfolding those_of
   none_kept t = take_none k.most
 
   says_none : Says [] (first_rows k [])
@@ -299,7 +300,6 @@ module _ {D O : Type 0} (k : Kinds D O) (are : AreKinds k) (stays : (n : ℕ) (d
     first_add_up xs t at = ap (λ n. sum_of k.sort_key count t (first_rows k xs) + n) (late_count xs t at) ∙ (says_all xs).add.at t at
 
   pub first_few : (xs : List D) (t : SortKey) → length t ≡ k.len → length (rows_under k.sort_key t (first_rows k xs)) ≤ k.most
-  unfolding kept_of
   first_few xs t at =
       let is : length (rows_under k.sort_key t (first_rows k xs)) ≡ length (kept_of k.most t (sort_keys xs)) = under_total k.sort_key t (first_rows k xs) ∙ (says_all xs).first.under t at in
       subst (λ n. n ≤ k.most) (sym is) (taken_few k.most (firsts (those_of t (sort_keys xs))))

@@ -8,8 +8,9 @@ use Rattle.std.proofs.lemmas.List.{take-append-le, append-nil}
 use Rattle.std.proofs.Math.Bool.{or-false}
 use Rattle.base_rows.specs.Sortable.{same_sort_key}
 use Rattle.base_rows.proofs.SortableLaws.{same_sort_key_exact, same_sort_key_itself}
-use Rattle.drop_ledger.specs.Counted.{SortKey, firsts, is_of, those_of, kept_of, is_kept}
+use Rattle.drop_ledger.specs.Counted.{SortKey, is_of, those_of}
 use Rattle.drop_ledger.proofs.CountLaws.{sort_key_turned}
+use Rattle.drop_ledger.proofs.Parts.{firsts, kept_of, is_kept}
 
 -- ---- Each sort key once
 
@@ -23,7 +24,6 @@ one_by p q false true e = ap (λ b. cond (not b) (q ∷ []) []) e
 one_by p q false false e = ap (λ b. cond (not b) (q ∷ []) []) e
 
 pub firsts_more : (q : SortKey) (ps : List SortKey) → firsts (ps ++ q ∷ []) ≡ firsts ps ++ cond (list_any (same_sort_key q) ps) [] (q ∷ [])
-unfolding firsts
 firsts_more q [] = refl
 firsts_more q (p ∷ ps) =
     ap (λ l. p ∷ filter (other p) l) (firsts_more q ps)
@@ -46,7 +46,6 @@ firsts_by q p ps rest true e = refl
 firsts_by q p ps rest false e = any_filtered q p (firsts ps) e ∙ rest
 
 pub any_firsts : (q : SortKey) (ps : List SortKey) → list_any (same_sort_key q) (firsts ps) ≡ list_any (same_sort_key q) ps
-unfolding firsts
 any_firsts q [] = refl
 any_firsts q (p ∷ ps) = firsts_by q p ps (any_firsts q ps) (same_sort_key q p) refl
 
@@ -98,25 +97,20 @@ take_long (suc n) (x ∷ xs) e = let rest : n ≤ length xs = take_long n xs (om
 
 module _ (most : ℕ) (t q : SortKey) (ps : List SortKey) where
   pub kept_other : is_of t q ≡ false → kept_of most t (ps ++ q ∷ []) ≡ kept_of most t ps
-  unfolding kept_of
   kept_other apart = ap (λ l. take most (firsts l)) (those_more t q ps ∙ ap (λ b. those_of t ps ++ cond b (q ∷ []) []) apart ∙ append-nil (those_of t ps))
 
   kept_by : is_of t q ≡ true → kept_of most t (ps ++ q ∷ []) ≡ take most (firsts (those_of t ps) ++ cond (list_any (same_sort_key q) (those_of t ps)) [] (q ∷ []))
-  unfolding kept_of
   kept_by own = ap (λ l. take most (firsts l)) (those_more t q ps ∙ ap (λ b. those_of t ps ++ cond b (q ∷ []) []) own) ∙ ap (take most) (firsts_more q (those_of t ps))
 
   pub kept_again : is_of t q ≡ true → is_kept most t ps q ≡ true → kept_of most t (ps ++ q ∷ []) ≡ kept_of most t ps
-  unfolding is_kept kept_of
   kept_again own is =
       let seen : list_any (same_sort_key q) (those_of t ps) ≡ true = sym (any_firsts q (those_of t ps)) ∙ take_any q most (firsts (those_of t ps)) is in
       kept_by own ∙ ap (λ b. take most (firsts (those_of t ps) ++ cond b [] (q ∷ []))) seen ∙ ap (take most) (append-nil (firsts (those_of t ps)))
 
   pub unseen : is_of t q ≡ true → is_kept most t ps q ≡ false → length (kept_of most t ps) < most → list_any (same_sort_key q) (those_of t ps) ≡ false
-  unfolding is_kept kept_of
   unseen own apart few = sym (any_firsts q (those_of t ps)) ∙ ap (list_any (same_sort_key q)) (sym (take_all most (firsts (those_of t ps)) few)) ∙ apart
 
   pub kept_new : is_of t q ≡ true → is_kept most t ps q ≡ false → length (kept_of most t ps) < most → kept_of most t (ps ++ q ∷ []) ≡ kept_of most t ps ++ q ∷ []
-  unfolding kept_of
   kept_new own apart few =
       let whole : take most (firsts (those_of t ps)) ≡ firsts (those_of t ps) = take_all most (firsts (those_of t ps)) few in
       let short : length (firsts (those_of t ps)) < most = subst (λ l. length l < most) whole few in
@@ -126,7 +120,6 @@ module _ (most : ℕ) (t q : SortKey) (ps : List SortKey) where
       ∙ ap (λ l. l ++ q ∷ []) (sym whole)
 
   pub kept_late : is_of t q ≡ true → most ≤ length (kept_of most t ps) → kept_of most t (ps ++ q ∷ []) ≡ kept_of most t ps
-  unfolding kept_of
   kept_late own full = kept_by own ∙ take-append-le most (firsts (those_of t ps)) (cond (list_any (same_sort_key q) (those_of t ps)) [] (q ∷ [])) (take_long most (firsts (those_of t ps)) full)
 
 -- ---- Beginnings
@@ -160,7 +153,6 @@ module _ (len most : ℕ) (ps : List SortKey) (q : SortKey) (long : len ≤ leng
 
   -- what is kept has appeared
   pub appeared : is_kept most own ps q ≡ true → list_any (same_sort_key q) ps ≡ true
-  unfolding is_kept kept_of
   appeared kept = sym (any_those own q ps yes_own) ∙ sym (any_firsts q (those_of own ps)) ∙ take_any q most (firsts (those_of own ps)) kept
 
   -- a sort key that isn't kept, where fewer than the most are, didn't appear
@@ -177,7 +169,6 @@ module _ (len most : ℕ) (ps : List SortKey) (q : SortKey) (long : len ≤ leng
       by false e = kept_other most t q ps e
 
   kept_at : kept_of most own (ps ++ q ∷ []) ≡ kept_of most own ps → (p : SortKey) → len ≤ length p → is_kept most (take len p) (ps ++ q ∷ []) p ≡ is_kept most (take len p) ps p
-  unfolding is_kept
   kept_at same p long' = ap (λ l. list_any (same_sort_key p) l) (kept_all same (take len p) (own_length len p long'))
 
   pub again_at : is_kept most own ps q ≡ true → (p : SortKey) → len ≤ length p → is_kept most (take len p) (ps ++ q ∷ []) p ≡ is_kept most (take len p) ps p
@@ -196,7 +187,6 @@ module _ (len most : ℕ) (ps : List SortKey) (q : SortKey) (long : len ≤ leng
       by false e = kept_other most t q ps e ∙ sym (append-nil (kept_of most t ps))
 
   grown_at : kept_of most own (ps ++ q ∷ []) ≡ kept_of most own ps ++ q ∷ [] → (p : SortKey) → len ≤ length p → is_kept most (take len p) (ps ++ q ∷ []) p ≡ (is_kept most (take len p) ps p || same_sort_key q p)
-  unfolding is_kept
   grown_at grown p long' =
       ap (λ l. list_any (same_sort_key p) l) (kept_grown grown (take len p) (own_length len p long'))
       ∙ list_any-append (same_sort_key p) (kept_of most (take len p) ps) (cond (is_of (take len p) q) (q ∷ []) [])

@@ -31,9 +31,10 @@ use Rattle.drop_ledger.specs.declared.seen.Ruled.{Ruled}
 use Rattle.mud_base.specs.Directions.{side_number}
 use Rattle.drop_ledger.specs.SortKeys.{six, thing_sort_key, ruling_sort_key, ruling_class, entry_number, peer_sort_key, sort_key_of_count, sort_key_of_denied, sort_key_of_other, count_of_row, denied_count, other_count, with_count}
 use Rattle.drop_ledger.specs.RowTypes.{count_stays, count_told, denied_stays, denied_told, other_stays, other_told}
-use Rattle.drop_ledger.specs.Seen.{hour_of, mac_on, ruling_on, ruled, ruled_on, rulings_in, rulings, is_governed, has_both, passes, drops, verdicts, HasFields, HasThing, is_ruled}
-use Rattle.drop_ledger.specs.Ledger.{count_row, counts_of, times_of, peer_row, row_with, row_by, denied_row, denials, other_row, denied_kinds, hour_in, times_ruled}
+use Rattle.drop_ledger.specs.Seen.{hour_of, mac_on, ruling_on, ruled_on, rulings, is_governed, has_both, HasFields, HasThing, is_ruled}
+use Rattle.drop_ledger.specs.Ledger.{count_row, counts_of, times_of, peer_row, denied_row, denials, other_row, denied_kinds, hour_in, times_ruled}
 use Rattle.drop_ledger.proofs.SortKeyOrder.{front, length-six, length-thing_sort_key, same_length}
+use Rattle.drop_ledger.proofs.Parts.{ruled, rulings_in, passes, drops, verdicts, row_with, row_by}
 
 -- ---- Sort keys
 
@@ -108,12 +109,11 @@ counted_few r (q ∷ done) = fewer_by (sort_key_of_count (count_row q)) (filter 
     (same_sort_key (sort_key_of_count (count_row r)) (sort_key_of_count (count_row q))) (same_sort_key (thing_sort_key r.mac r.side) (thing_sort_key q.mac q.side)) (count_begins r q)
 
 with_thing : (mac : Mac) (side : Direction) (fields : Option Fields) (row : DeniedRow) → row_with mac side fields ≡ Some row → thing_sort_key row.mac row.side ≡ thing_sort_key mac side
-unfolding row_with peer_row
+unfolding peer_row
 with_thing mac side None row e = absurd (none-some row e)
 with_thing mac side (Some fields) row e = ap (λ d. thing_sort_key d.mac d.side) (sym (same_Some (peer_row mac side fields) row e))
 
 by_thing : (ruling : Ruling) (r : Ruled) (row : DeniedRow) → row_by ruling r ≡ Some row → thing_sort_key row.mac row.side ≡ thing_sort_key r.mac r.side
-unfolding row_by
 by_thing (DropDefault NoMatch) r row e = with_thing r.mac r.side r.fields row e
 by_thing (DropDefault NoFile) r row e = absurd (none-some row e)
 by_thing (Accept n) r row e = absurd (none-some row e)
@@ -169,7 +169,7 @@ denials_more done r o is = filter_map-append denied_row done (r ∷ []) ∙ ap (
 -- ---- One packet more
 
 pub rulings_more : (all : List Seen) (s : Seen) → rulings (all ++ s ∷ []) ≡ (rulings all ++ option_to_list (ruled_on s From)) ++ option_to_list (ruled_on s To)
-unfolding rulings rulings_in
+unfolding rulings
 rulings_more all s =
     flat_map-append rulings_in all (s ∷ [])
     ∙ ap (λ l. flat_map rulings_in all ++ l) (append-nil (option_to_list (ruled_on s From) ++ option_to_list (ruled_on s To)))
@@ -203,7 +203,6 @@ received_unruled mac s = received_never mac s (ruling_on s.verdict To)
 
 -- a Thing's side is ruled on once in a packet at most
 one_each : (mac : Mac) (side : Direction) (s : Seen) → times_ruled mac side (rulings_in s) ≤ 1
-unfolding rulings_in
 one_each mac From s =
     let sum = times_append mac From (option_to_list (ruled_on s From)) (option_to_list (ruled_on s To)) in
     let none = received_unruled mac s in
@@ -243,7 +242,7 @@ not_counted t m d us done seven apart =
 no_match_by : (t : List ℕ) (m : Mac) (d : Direction) (r : Ruling) (f : Option Fields) (rows : List DeniedRow) (done : List Ruled) → IsSome f → length t ≡ 7
     → length (those_of t (map sort_key_of_denied rows)) ≡ count_of (t ++ 5 ∷ 0 ∷ []) (map sort_key_of_count (map count_row done))
     → length (those_of t (map sort_key_of_denied (cons_option (row_by r (record { mac = m; side = d; ruling = r; fields = f })) rows))) ≡ count_of (t ++ 5 ∷ 0 ∷ []) (map sort_key_of_count (map count_row ((record { mac = m; side = d; ruling = r; fields = f }) ∷ done)))
-unfolding those_of count_of row_by row_with sort_key_of_count count_row ruling_sort_key ruling_class entry_number is_of
+unfolding those_of count_of sort_key_of_count count_row ruling_sort_key ruling_class entry_number is_of
 no_match_by t m d (DropDefault NoMatch) None rows done has seven is = absurd (false≢true has)
 no_match_by t m d (DropDefault NoMatch) (Some f) rows done has seven is =
     length-cond (is_of t (sort_key_of_denied (peer_row m d f))) (sort_key_of_denied (peer_row m d f)) (filter (is_of t) (map sort_key_of_denied rows))
@@ -282,7 +281,7 @@ fields_of s (Governed a b) is has =
 
 -- each ruling has the fields of its packet
 pub rulings_have : (all : List Seen) → AllByRecursion HasFields all → AllByRecursion (λ r. IsSome r.fields) (rulings all)
-unfolding rulings rulings_in ruled_on
+unfolding rulings ruled_on
 rulings_have [] have = tt
 rulings_have (s ∷ all) have = all-append (λ r. IsSome r.fields) (rulings_in s) (flat_map rulings_in all) (fields_of s s.verdict refl have.0) (rulings_have all have.1)
 
@@ -310,7 +309,7 @@ ruled_by (Some x) (Some y) s true e = refl
 ruled_by (Some x) (Some y) s false e = refl
 
 ruled_of : (s : Seen) (v : Verdict) → s.verdict ≡ v → HasThing s → length (option_to_list (option_map (ruled s From) (ruling_on v From)) ++ option_to_list (option_map (ruled s To) (ruling_on v To))) ≡ cond (passes v) 1 0 + cond (drops v) 1 0 + cond (has_both v) 1 0
-unfolding ruling_on is_governed passes drops has_both ruled_on
+unfolding ruling_on is_governed has_both ruled_on
 ruled_of s Unmanaged is has = refl
 ruled_of s Link is has = refl
 ruled_of s (Unreadable part) is has = refl
@@ -319,11 +318,10 @@ ruled_of s (Governed a b) is has =
     ruled_by a b s (forwarded (Governed a b)) (sym (ap (λ v. is_some (option_map (ruled s From) (ruling_on v From)) || is_some (option_map (ruled s To) (ruling_on v To))) is) ∙ e)
 
 rulings_one : (s : Seen) → HasThing s → length (rulings_in s) ≡ cond (passes s.verdict) 1 0 + cond (drops s.verdict) 1 0 + cond (has_both s.verdict) 1 0
-unfolding rulings_in ruled_on
+unfolding ruled_on
 rulings_one s has = ruled_of s s.verdict refl has
 
 pub verdicts_first : (test : Verdict → Bool) (s : Seen) (all : List Seen) → verdicts test (s ∷ all) ≡ cond (test s.verdict) 1 0 + verdicts test all
-unfolding verdicts
 verdicts_first test s all = length-cond (test s.verdict) s (filter (λ q. test q.verdict) all)
 
 rulings_first : (s : Seen) (all : List Seen) → length (rulings (s ∷ all)) ≡ length (rulings_in s) + length (rulings all)
@@ -331,7 +329,6 @@ unfolding rulings
 rulings_first s all = length-append (rulings_in s) (flat_map rulings_in all)
 
 pub no_verdicts : (test : Verdict → Bool) → verdicts test [] ≡ 0
-unfolding verdicts
 no_verdicts test = refl
 
 no_rulings : length (rulings []) ≡ 0
@@ -353,7 +350,6 @@ rulings_sum (s ∷ all) have =
 -- ---- No rulings
 
 pub none_ruled : (s : Seen) → is_ruled s ≡ false → rulings_in s ≡ []
-unfolding rulings_in
 none_ruled s e = by (ruled_on s From) (ruled_on s To) e
   where
     by : (a b : Option Ruled) → (is_some a || is_some b) ≡ false → option_to_list a ++ option_to_list b ≡ []
@@ -362,7 +358,6 @@ none_ruled s e = by (ruled_on s From) (ruled_on s To) e
     by (Some r) b is = absurd (false≢true (sym is))
 
 some_ruled : (s : Seen) → is_ruled s ≡ true → 1 ≤ length (rulings_in s)
-unfolding rulings_in
 some_ruled s e = by (ruled_on s From) (ruled_on s To) e
   where
     by : (a b : Option Ruled) → (is_some a || is_some b) ≡ true → 1 ≤ length (option_to_list a ++ option_to_list b)

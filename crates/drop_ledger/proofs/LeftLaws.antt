@@ -11,10 +11,11 @@ use Rattle.base_rows.specs.Sortable.{same_sort_key, SortKeysAscend, row_at, set_
 use Rattle.base_rows.proofs.SortableLaws.{same_sort_key_itself}
 use Rattle.base_rows.proofs.RowLaws.{sort_key_row_at}
 use Rattle.base_rows.proofs.ListTests.{or_first, or_second}
-use Rattle.drop_ledger.specs.Counted.{SortKey, count_of, is_of, those_of, kept_of, is_kept, total, sum_of}
+use Rattle.drop_ledger.specs.Counted.{SortKey, count_of, is_of, those_of, total, sum_of}
 use Rattle.drop_ledger.proofs.CountLaws.{sort_key_turned, positive, weight, total_set, one_if}
 use Rattle.drop_ledger.proofs.KeptLaws.{those_more, kept_other, kept_again, kept_new, kept_late, unseen, of_own, is_own}
 use Rattle.drop_ledger.proofs.FirstLaws.{AreFirstCounts}
+use Rattle.drop_ledger.proofs.Parts.{kept_of, is_kept}
 
 -- the sort keys that begin so and aren't kept, each as often as it appears
 unfoldable pub left_of : ℕ → SortKey → List SortKey → List SortKey
@@ -52,14 +53,14 @@ module _ (len most : ℕ) (ps : List SortKey) (q : SortKey) (long : len ≤ leng
   left_kept k xs = filter (λ p. not (k p)) xs
 
   other_left : (t : SortKey) → is_of t q ≡ false → left_of most t (ps ++ q ∷ []) ≡ left_of most t ps
-  unfolding left_of is_kept
+  unfolding left_of
   other_left t apart =
       (λ i. left_kept (λ p. list_any (same_sort_key p) (kept_other most t q ps apart i)) (those_of t (ps ++ q ∷ [])))
       ∙ ap (left_kept (is_kept most t ps)) (those_more t q ps ∙ ap (λ b. those_of t ps ++ cond b (q ∷ []) []) apart ∙ append-nil (those_of t ps))
 
   -- with the sort keys that are kept as they were, the sort key counts where it isn't kept
   same_left : (t : SortKey) → is_of t q ≡ true → kept_of most t (ps ++ q ∷ []) ≡ kept_of most t ps → left_of most t (ps ++ q ∷ []) ≡ left_of most t ps ++ cond (not (is_kept most t ps q)) (q ∷ []) []
-  unfolding left_of is_kept
+  unfolding left_of
   same_left t of same =
       (λ i. left_kept (λ p. list_any (same_sort_key p) (same i)) (those_of t (ps ++ q ∷ [])))
       ∙ ap (left_kept (is_kept most t ps)) (those_more t q ps ∙ ap (λ b. those_of t ps ++ cond b (q ∷ []) []) of)
@@ -71,7 +72,7 @@ module _ (len most : ℕ) (ps : List SortKey) (q : SortKey) (long : len ≤ leng
       ∙ ap (λ b. left_of most own ps ++ cond (not b) (q ∷ []) []) kept ∙ append-nil (left_of most own ps)
 
   new_own : is_kept most own ps q ≡ false → length (kept_of most own ps) < most → left_of most own (ps ++ q ∷ []) ≡ left_of most own ps
-  unfolding left_of is_kept
+  unfolding left_of
   new_own apart few =
       let grown : kept_of most own (ps ++ q ∷ []) ≡ kept_of most own ps ++ q ∷ [] = kept_new most own q ps (of_own len q long) apart few in
       same_filter (λ p. not (list_any (same_sort_key p) (kept_of most own (ps ++ q ∷ [])))) (λ p. not (is_kept most own ps p || same_sort_key p q)) (those_of own (ps ++ q ∷ []))

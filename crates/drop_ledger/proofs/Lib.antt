@@ -9,3 +9,4 @@ pub mod NumberLaws
 pub mod SortKeyOrder
 pub mod RowSteps
 pub mod TallyLaws
+pub mod Parts

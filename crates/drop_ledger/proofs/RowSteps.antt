@@ -10,9 +10,10 @@ use Rattle.base_rows.proofs.ListTests.{or_first, or_second}
 use Rattle.base_rows.proofs.SortableLaws.{same_sort_key_exact, same_sort_key_itself, ascend-set_row, ascend-set_rows}
 use Rattle.base_rows.proofs.RowLaws.{sort_key_row_at, ascend-filter}
 use Rattle.base_rows.proofs.RowSets.{same_rows_by}
-use Rattle.drop_ledger.specs.Counted.{SortKey, Kinds, AreKinds, count_of, count_rows, kept_of, is_kept, is_first, first_rows, others_of, late_rows}
+use Rattle.drop_ledger.specs.Counted.{SortKey, Kinds, AreKinds, count_of, count_rows, is_first, first_rows, late_rows}
 use Rattle.drop_ledger.proofs.KeptLaws.{not_appeared, again_at, late_at, new_at}
 use Rattle.drop_ledger.proofs.NumberLaws.{sort_keys_more, at_numbered, up_numbered, number_at, number_more, at_more, at_counted}
+use Rattle.drop_ledger.proofs.Parts.{kept_of, is_kept, others_of}
 
 -- ---- Lists
 
@@ -156,7 +157,7 @@ module _ {D O : Type 0} (k : Kinds D O) (are : AreKinds k) (stays : (n : ℕ) (d
     left ps' d = not (is_first k ps' d)
 
     others_more : others_of k (sort_keys (xs ++ x ∷ [])) (xs ++ x ∷ []) ≡ map k.other (filter (left (ps ++ q ∷ [])) xs ++ cond (not (is_kept_in (ps ++ q ∷ []) q)) (x ∷ []) [])
-    unfolding others_of is_first
+    unfolding is_first
     others_more =
         (λ i. map k.other (filter (left (sort_keys_more k.sort_key xs x i)) (xs ++ x ∷ [])))
         ∙ ap (map k.other) (filter-append (left (ps ++ q ∷ [])) xs (x ∷ []))
@@ -169,20 +170,20 @@ module _ {D O : Type 0} (k : Kinds D O) (are : AreKinds k) (stays : (n : ℕ) (d
     late_kept same = ap (count_rows k.beginning k.counted_late) same
 
     pub late_again : is_kept_in ps q ≡ true → late_rows k (xs ++ x ∷ []) ≡ late_rows k xs
-    unfolding others_of is_first
+    unfolding is_first
     late_again kept = late_kept
         (kept_now true (again_at k.len k.most ps q long kept q long ∙ kept) (left ps) (same_tests (left (ps ++ q ∷ [])) (left ps) xs (λ d. ap not (again_at k.len k.most ps q long kept (k.sort_key d) (are.long d))))
         ∙ ap (map k.other) (append-nil (filter (left ps) xs)))
 
     pub late_new : is_kept_in ps q ≡ false → length (kept_of k.most own ps) < k.most → late_rows k (xs ++ x ∷ []) ≡ late_rows k xs
-    unfolding others_of is_first
+    unfolding is_first
     late_new apart few = late_kept
         (kept_now true (new_at k.len k.most ps q long apart few q long ∙ ap (λ b. is_kept_in ps q || b) (same_sort_key_itself q) ∙ or-true (is_kept_in ps q)) (left ps)
         (same_but k.sort_key q (left (ps ++ q ∷ [])) (left ps) (λ d e. ap not (new_at k.len k.most ps q long apart few (k.sort_key d) (are.long d) ∙ ap (λ b. is_kept_in ps (k.sort_key d) || b) e ∙ or-false (is_kept_in ps (k.sort_key d)))) xs (not_appeared k.len k.most ps q long apart few))
         ∙ ap (map k.other) (append-nil (filter (left ps) xs)))
 
     pub others_late : is_kept_in ps q ≡ false → k.most ≤ length (kept_of k.most own ps) → others_of k (sort_keys (xs ++ x ∷ [])) (xs ++ x ∷ []) ≡ others_of k ps xs ++ k.other x ∷ []
-    unfolding others_of is_first
+    unfolding is_first
     others_late apart full =
         kept_now false (late_at k.len k.most ps q long full q long ∙ apart) (left ps) (same_tests (left (ps ++ q ∷ [])) (left ps) xs (λ d. ap not (late_at k.len k.most ps q long full (k.sort_key d) (are.long d))))
         ∙ map-append k.other (filter (left ps) xs) (x ∷ [])

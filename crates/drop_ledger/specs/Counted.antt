@@ -23,24 +23,12 @@ count_rows sort_key counted xs = map (numbered sort_key counted (map sort_key xs
 
 -- ---- The sort keys that appear first, by the numbers with which they begin
 
--- each sort key once, in the order in which they appear first
-unfoldable pub firsts : List SortKey → List SortKey
-firsts [] = []
-firsts (p ∷ ps) = p ∷ filter (λ q. not (same_sort_key p q)) (firsts ps)
-
 -- the sort key begins with these numbers
 unfoldable pub is_of : SortKey → SortKey → Bool
 is_of t p = same_sort_key t (take (length t) p)
 
 unfoldable pub those_of : SortKey → List SortKey → List SortKey
 those_of t ps = filter (is_of t) ps
-
--- of the sort keys that begin so, those that appear first, up to so many
-unfoldable pub kept_of : ℕ → SortKey → List SortKey → List SortKey
-kept_of most t ps = take most (firsts (those_of t ps))
-
-unfoldable pub is_kept : ℕ → SortKey → List SortKey → SortKey → Bool
-is_kept most t ps p = list_any (same_sort_key p) (kept_of most t ps)
 
 -- ---- Counts of the sort keys that appear first, and of the others together
 
@@ -67,18 +55,30 @@ pub record AreKinds {D O : Type 0} (k : Kinds D O) : Type 0 where
 -- the sort key of the row is among those that appear first
 unfoldable pub is_first : {D O : Type 0} → Kinds D O → List SortKey → D → Bool
 is_first k ps d = is_kept k.most (take k.len (k.sort_key d)) ps (k.sort_key d)
+  where
+    -- each sort key once, in the order in which they appear first
+    firsts : List SortKey → List SortKey
+    firsts [] = []
+    firsts (p ∷ ps) = p ∷ filter (λ q. not (same_sort_key p q)) (firsts ps)
+
+    -- of the sort keys that begin so, those that appear first, up to so many
+    kept_of : ℕ → SortKey → List SortKey → List SortKey
+    kept_of most t ps = take most (firsts (those_of t ps))
+
+    is_kept : ℕ → SortKey → List SortKey → SortKey → Bool
+    is_kept most t ps p = list_any (same_sort_key p) (kept_of most t ps)
 
 -- a row for each sort key that is among those that appear first, in the order of sort keys, with the number of times
 unfoldable pub first_rows : {D O : Type 0} → Kinds D O → List D → List D
 first_rows k xs = map (numbered k.sort_key k.counted (map k.sort_key xs)) (filter (is_first k (map k.sort_key xs)) (set_rows k.sort_key xs []))
 
--- the rows of the beginnings of those that aren't among the first, one for each time
-unfoldable pub others_of : {D O : Type 0} → Kinds D O → List SortKey → List D → List O
-others_of k ps xs = map k.other (filter (λ d. not (is_first k ps d)) xs)
-
 -- a row for each beginning of which sort keys appear that aren't among the first, with the number of times
 unfoldable pub late_rows : {D O : Type 0} → Kinds D O → List D → List O
 late_rows k xs = count_rows k.beginning k.counted_late (others_of k (map k.sort_key xs) xs)
+  where
+    -- the rows of the beginnings of those that aren't among the first, one for each time
+    others_of : {D O : Type 0} → Kinds D O → List SortKey → List D → List O
+    others_of k ps xs = map k.other (filter (λ d. not (is_first k ps d)) xs)
 
 -- these are the rows of both kinds
 pub record AreFirstRows {D O : Type 0} (k : Kinds D O) (xs first : List D) (late : List O) : Type 0 where

@@ -51,21 +51,21 @@ port_of side Absent = None
 unfoldable pub peer_row : Mac → Direction → Fields → DeniedRow
 peer_row mac side fields = record { mac = mac; side = side; peer = peer_of side fields; protocol = fields.protocol; port = port_of side fields.transport; count = 0 }
 
-unfoldable pub row_with : Mac → Direction → Option Fields → Option DeniedRow
-row_with mac side None = None
-row_with mac side (Some fields) = Some (peer_row mac side fields)
-
--- the row in which a ruling is counted that dropped the packet since no entry matches
-unfoldable pub row_by : Ruling → Ruled → Option DeniedRow
-row_by (DropDefault NoMatch) r = row_with r.mac r.side r.fields
-row_by (DropDefault NoFile) r = None
-row_by (Accept n) r = None
-row_by (AcceptDefault which) r = None
-row_by (Drop n) r = None
-row_by DropHeld r = None
-
 unfoldable pub denied_row : Ruled → Option DeniedRow
 denied_row r = row_by r.ruling r
+  where
+    row_with : Mac → Direction → Option Fields → Option DeniedRow
+    row_with mac side None = None
+    row_with mac side (Some fields) = Some (peer_row mac side fields)
+
+    -- the row in which a ruling is counted that dropped the packet since no entry matches
+    row_by : Ruling → Ruled → Option DeniedRow
+    row_by (DropDefault NoMatch) r = row_with r.mac r.side r.fields
+    row_by (DropDefault NoFile) r = None
+    row_by (Accept n) r = None
+    row_by (AcceptDefault which) r = None
+    row_by (Drop n) r = None
+    row_by DropHeld r = None
 
 unfoldable pub denials : List Ruled → List DeniedRow
 denials done = filter_map denied_row done
@@ -73,12 +73,12 @@ denials done = filter_map denied_row done
 unfoldable pub other_row : DeniedRow → OtherRow
 other_row r = record { mac = r.mac; side = r.side; count = 0 }
 
--- so many peers, protocols and ports of a Thing and side have rows of their own
-abbrev pub most_peers : ℕ
-most_peers = 256
-
 abbrev pub denied_kinds : Kinds DeniedRow OtherRow
 denied_kinds = kinds sort_key_of_denied with_denied sort_key_of_other with_other other_row thing_len most_peers
+  where
+    -- so many peers, protocols and ports of a Thing and side have rows of their own
+    most_peers : ℕ
+    most_peers = 256
 
 -- these are the rows of what was denied: those of the peers, protocols and ports that appear first, and of the others together
 abbrev pub AreDenied : List Ruled → List DeniedRow → List OtherRow → Type 0

@@ -28,19 +28,19 @@ ruling_on Unmanaged side = None
 ruling_on Link side = None
 ruling_on (Unreadable part) side = None
 
-abbrev pub ruled : Seen → Direction → Ruling → Ruled
-ruled s side ruling = record { mac = mac_on s side; side = side; ruling = ruling; fields = s.fields }
-
 -- the ruling on the Thing at this side of the packet, where one was given
 unfoldable pub ruled_on : Seen → Direction → Option Ruled
 ruled_on s side = option_map (ruled s side) (ruling_on s.verdict side)
-
--- that on the Thing that sent it, then that on the Thing that it is for
-unfoldable pub rulings_in : Seen → List Ruled
-rulings_in s = option_to_list (ruled_on s From) ++ option_to_list (ruled_on s To)
+  where
+    ruled : Seen → Direction → Ruling → Ruled
+    ruled s side ruling = record { mac = mac_on s side; side = side; ruling = ruling; fields = s.fields }
 
 unfoldable pub rulings : List Seen → List Ruled
 rulings all = flat_map rulings_in all
+  where
+    -- that on the Thing that sent it, then that on the Thing that it is for
+    rulings_in : Seen → List Ruled
+    rulings_in s = option_to_list (ruled_on s From) ++ option_to_list (ruled_on s To)
 
 abbrev pub is_ruled : Seen → Bool
 is_ruled s = is_some (ruled_on s From) || is_some (ruled_on s To)
@@ -78,16 +78,6 @@ has_both Link = false
 has_both (Unreadable part) = false
 has_both (Governed source destination) = is_some source && is_some destination
 
-unfoldable pub passes : Verdict → Bool
-passes verdict = is_governed verdict && forwarded verdict
-
-unfoldable pub drops : Verdict → Bool
-drops verdict = is_governed verdict && not (forwarded verdict)
-
--- how many packets have a verdict that passes the test
-unfoldable pub verdicts : (Verdict → Bool) → List Seen → ℕ
-verdicts test all = length (filter (λ s. test s.verdict) all)
-
 unfoldable pub totals_in : List Seen → Totals
 totals_in all = record {
   packets = length all;
@@ -98,6 +88,16 @@ totals_in all = record {
   drop = verdicts drops all;
   both = verdicts has_both all;
 }
+  where
+    passes : Verdict → Bool
+    passes verdict = is_governed verdict && forwarded verdict
+
+    drops : Verdict → Bool
+    drops verdict = is_governed verdict && not (forwarded verdict)
+
+    -- how many packets have a verdict that passes the test
+    verdicts : (Verdict → Bool) → List Seen → ℕ
+    verdicts test all = length (filter (λ s. test s.verdict) all)
 
 -- Each packet counts once by its verdict, and those with two rulings are among those with one.
 pub record AreSums (t : Totals) : Type 0 where

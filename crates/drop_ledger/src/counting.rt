@@ -58,7 +58,7 @@ fn peer_row(ruled: &Ruled, fields: &Fields) -> DeniedRow
 }
 
 /// The row of a ruling that dropped the packet since no entry matches; None for every other ruling.
-#[tactic(auto, unfolding(crate::specs::Ledger::denied_row, crate::specs::Ledger::row_by, crate::specs::Ledger::row_with))]
+#[tactic(auto, unfolding(crate::specs::Ledger::denied_row))]
 fn denied_row(ruled: &Ruled) -> Option<DeniedRow>
     ensures { result ≡ spec.denied_row ruled.now }
 {

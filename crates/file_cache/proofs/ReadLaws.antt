@@ -5,7 +5,7 @@ use Rattle.item_codec.specs.Records.{number_in, string_in, version_in, end_in, o
 use Rattle.usage_tables.specs.declared.approval.Approval.{Approval}
 use Rattle.usage_tables.specs.declared.approval.Approval.TheVariants.{Verified, Waived}
 use Rattle.usage_tables.specs.Held.{HeldFile, held_file}
-use Rattle.usage_tables.specs.FileItems.{held_in, approval_of, approval_in, approved_in, file_row, row_of}
+use Rattle.usage_tables.specs.FileItems.{held_in, approval_in, approved_in, file_row, row_of}
 
 module _ (octets : List ℕ) where
   pub held_none : number_in 8 octets ≡ None → held_in octets ≡ None
@@ -25,15 +25,15 @@ module _ (octets : List ℕ) where
   approval_none e = rw e refl
 
   pub approval_one : (n : ℕ) (rest : List ℕ) → number_in 1 octets ≡ Some (n, rest) → n ≡ 1 → approval_in octets ≡ Some (Verified, rest)
-  unfolding approval_in approval_of
+  unfolding approval_in
   approval_one n rest e f = rw (e, f) refl
 
   pub approval_two : (n : ℕ) (rest : List ℕ) → number_in 1 octets ≡ Some (n, rest) → n ≡ 2 → approval_in octets ≡ Some (Waived, rest)
-  unfolding approval_in approval_of
+  unfolding approval_in
   approval_two n rest e f = rw (e, f) refl
 
   pub approval_other : (n : ℕ) (rest : List ℕ) → number_in 1 octets ≡ Some (n, rest) → (n == 1) ≡ false → (n == 2) ≡ false → approval_in octets ≡ None
-  unfolding approval_in approval_of
+  unfolding approval_in
   approval_other n rest e f g = rw (e, f, g) refl
 
   pub approved_none : number_in 8 octets ≡ None → approved_in octets ≡ None

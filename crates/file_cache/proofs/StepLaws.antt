@@ -20,7 +20,7 @@ use Rattle.usage_tables.specs.declared.file_edit.FileEdit.TheVariants.{Unchanged
 use Rattle.usage_tables.specs.Held.{HeldFile, held_file}
 use Rattle.usage_tables.specs.Limits.{most_files}
 use Rattle.usage_tables.specs.Files.{url_of, file_at, set_file, without_file, new_file, with_candidate, with_approved}
-use Rattle.usage_tables.specs.FileCommands.{FileStep, candidate_again, approved_again, is_outdated_by, new_candidate, beside_approved, beside_candidate, import_cases, import_read, import_step}
+use Rattle.usage_tables.specs.FileCommands.{FileStep, candidate_again, approved_again, is_outdated_by, new_candidate, beside_approved, beside_candidate, import_cases, import_step}
 use Rattle.usage_tables.specs.FileEdits.{fetched_at, approved_at, made_row, changed_row, edited_row, put_file, edited, is_change}
 use Rattle.usage_tables.specs.FileItems.{file_item, file_row, row_put, edit_puts}
 use Rattle.mud_world.specs.Items.{set_put, gone_put}
@@ -141,15 +141,15 @@ module _ (files : List CachedFile) (held : HeldFile) (file : UsageFile) where
 
 module _ (octets : List ℕ) (fetched : ℕ) (files : List CachedFile) where
   pub file_refused : (broken : Broken) → file_of octets ≡ Err broken → import_step octets fetched files ≡ Err (File broken)
-  unfolding import_step import_read
+  unfolding import_step
   file_refused broken e = rw e refl
 
   pub file_known : (file : UsageFile) (row : CachedFile) → file_of octets ≡ Ok file → file_at file.url files ≡ Some row → import_step octets fetched files ≡ beside_candidate (held_file octets fetched) file files row row.candidate
-  unfolding import_step import_read import_cases
+  unfolding import_step import_cases
   file_known file row e found = rw (e, found) refl
 
   pub file_unknown : (file : UsageFile) → file_of octets ≡ Ok file → file_at file.url files ≡ None → import_step octets fetched files ≡ import_cases (held_file octets fetched) file files None
-  unfolding import_step import_read
+  unfolding import_step
   file_unknown file e found = rw (e, found) refl
 
   refused_as : (fault : CacheFault) (read : Result UsageFile Broken) → file_of octets ≡ read → IsErrAnd read (λ broken. fault ≡ File broken) → import_step octets fetched files ≡ Err fault

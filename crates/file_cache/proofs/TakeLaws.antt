@@ -15,13 +15,14 @@ use Rattle.usage_tables.specs.declared.approval.Approval.{Approval}
 use Rattle.usage_tables.specs.declared.cached_file.CachedFile.{CachedFile}
 use Rattle.usage_tables.specs.Held.{HeldFile, usage_in}
 use Rattle.usage_tables.specs.Limits.{last_moment}
-use Rattle.usage_tables.specs.Files.{url_of, is_of_url, is_usage_of, is_held, may_have, is_approved, may_follow, are_files, is_sound_file, IsKeptFile, IsSoundFiles}
+use Rattle.usage_tables.specs.Files.{url_of, is_held, may_have, is_approved, may_follow, is_sound_file, IsKeptFile, IsSoundFiles}
 use Rattle.usage_tables.specs.FileItems.{file_row, row_of, if_sound_file, file_in, has_room, may_stand_behind, with_file_item}
 use Rattle.item_codec.proofs.RecordLaws.{some_is, bind_some, pass_some}
 use Rattle.usage_tables.proofs.SoundFiles.{file_usage}
 use Rattle.usage_tables.proofs.ReadFiles.{sound-push}
 use Rattle.std.proofs.Math.Bool.{and-false}
 use Rattle.mud_url.proofs.Offsets.{same_octets}
+use Rattle.usage_tables.proofs.Parts.{is_of_url, is_usage_of}
 
 module _ (url : List ℕ) (held : HeldFile) where
   pub late : (held.fetched ≤ last_moment → ⊥) → is_held url held ≡ false
@@ -33,21 +34,21 @@ module _ (url : List ℕ) (held : HeldFile) where
   no_usage (Err broken) bad = refl
 
   pub unread : IsErr (file_of held.octets) → is_held url held ≡ false
-  unfolding is_held is_usage_of usage_in
+  unfolding is_held usage_in
   unread bad = ap (λ (o : Option UsageFile). option_map_or (is_of_url url) o false && nat_le held.fetched last_moment) (no_usage (file_of held.octets) bad)
 
   pub other_url : (file : UsageFile) → file_of held.octets ≡ Ok file → bytes_eq file.url url ≡ false → is_held url held ≡ false
-  unfolding is_held is_usage_of
+  unfolding is_held
   other_url file read other = ap (λ (o : Option UsageFile). option_map_or (is_of_url url) o false && nat_le held.fetched last_moment) (file_usage held.octets file read) ∙ ap (λ b. b && nat_le held.fetched last_moment) other
 
   pub held_so : (file : UsageFile) → file_of held.octets ≡ Ok file → bytes_eq file.url url ≡ true → held.fetched ≤ last_moment → is_held url held ≡ true
-  unfolding is_held is_usage_of
+  unfolding is_held
   held_so file read same early =
       ap (λ (o : Option UsageFile). option_map_or (is_of_url url) o false && nat_le held.fetched last_moment) (file_usage held.octets file read)
       ∙ ap (λ b. b && nat_le held.fetched last_moment) same ∙ le-leb held.fetched last_moment early
 
   pub own_url : (file : UsageFile) → is_held url held ≡ true → usage_in held.octets ≡ Some file → file.url ≡ url
-  unfolding is_held is_usage_of
+  unfolding is_held
   own_url file e read =
       same_octets file.url url (sym (ap (λ (o : Option UsageFile). option_map_or (is_of_url url) o false) read) ∙ left_of (option_map_or (is_of_url url) (usage_in held.octets) false) (nat_le held.fetched last_moment) e)
 
@@ -66,19 +67,19 @@ module _ (url : List ℕ) (held : HeldFile) where
   -- ---- Rows
 
   pub candidate_none : is_held url held ≡ false → None ≡ if_sound_file (file_row url None (Some held))
-  unfolding if_sound_file file_row is_sound_file are_files
+  unfolding if_sound_file file_row is_sound_file
   candidate_none e = sym (ap (λ b. cond b (Some (file_row url None (Some held))) None) e)
 
   pub candidate_some : is_held url held ≡ true → Some (file_row url None (Some held)) ≡ if_sound_file (file_row url None (Some held))
-  unfolding if_sound_file file_row is_sound_file are_files
+  unfolding if_sound_file file_row is_sound_file
   candidate_some e = sym (ap (λ b. cond b (Some (file_row url None (Some held))) None) e)
 
   pub approved_none : (a : Approval) → is_approved url (held, a) ≡ false → None ≡ if_sound_file (file_row url (Some (held, a)) None)
-  unfolding if_sound_file file_row is_sound_file are_files
+  unfolding if_sound_file file_row is_sound_file
   approved_none a e = sym (ap (λ b. cond b (Some (file_row url (Some (held, a)) None)) None) e)
 
   pub approved_some : (a : Approval) → is_approved url (held, a) ≡ true → Some (file_row url (Some (held, a)) None) ≡ if_sound_file (file_row url (Some (held, a)) None)
-  unfolding if_sound_file file_row is_sound_file are_files
+  unfolding if_sound_file file_row is_sound_file
   approved_some a e = sym (ap (λ b. cond b (Some (file_row url (Some (held, a)) None)) None) e)
 
   module _ (a : Approval) (c : HeldFile) where
@@ -86,7 +87,7 @@ module _ (url : List ℕ) (held : HeldFile) where
     whole = file_row url (Some (held, a)) (Some c)
 
     by_tests : (p q r : Bool) → is_approved url (held, a) ≡ p → is_held url c ≡ q → may_follow c held ≡ r → if_sound_file whole ≡ cond (p && (q && r)) (Some whole) None
-    unfolding if_sound_file file_row is_sound_file are_files
+    unfolding if_sound_file file_row is_sound_file
     by_tests p q r e f g = ap (λ b. cond b (Some whole) None) (ap (λ b. b && (is_held url c && may_follow c held)) e ∙ ap (λ b. p && (b && may_follow c held)) f ∙ ap (λ b. p && (q && b)) g)
 
     pub both_unapproved : is_approved url (held, a) ≡ false → None ≡ if_sound_file (file_row url (Some (held, a)) (Some c))
@@ -102,7 +103,7 @@ module _ (url : List ℕ) (held : HeldFile) where
     both_some e f g = sym (by_tests true true true e f g)
 
 pub no_files : (url : List ℕ) → None ≡ if_sound_file (file_row url None None)
-unfolding if_sound_file file_row is_sound_file are_files
+unfolding if_sound_file file_row is_sound_file
 no_files url = refl
 
 -- ---- Items

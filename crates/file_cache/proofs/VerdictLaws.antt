@@ -16,12 +16,13 @@ use Rattle.usage_tables.specs.declared.file_edit.FileEdit.TheVariants as edit
 use Rattle.usage_tables.specs.Held.{HeldFile, digest_of}
 use Rattle.usage_tables.specs.Limits.{most_policy_entries}
 use Rattle.usage_tables.specs.Files.{url_of, file_at, set_file, without_file, with_candidate, with_approved, is_signed, entry_count}
-use Rattle.usage_tables.specs.FileCommands.{FileStep, settled, left_with, approved_row, approve, ruled, candidate_cases, is_ruled, verdict_cases, verdict_step, approved_cases, revoke_cases, revoke_step}
+use Rattle.usage_tables.specs.FileCommands.{FileStep, left_with, approved_row, approve, ruled, candidate_cases, is_ruled, verdict_cases, verdict_step, approved_cases, revoke_cases, revoke_step}
 use Rattle.usage_tables.specs.FileEdits.{approved_as, if_any, kept_row, changed_row, edited_row, is_change}
 use Rattle.usage_tables.specs.FileItems.{file_item, file_row}
 use Rattle.file_cache.specs.Changes.{PlannedFile, no_change, set_change, gone_change}
 use Rattle.file_cache.specs.Planned.{IsMade}
 use Rattle.file_cache.proofs.StepLaws.{made_set, made_gone, made_none}
+use Rattle.usage_tables.proofs.Parts.{settled}
 
 module _ (files : List CachedFile) (row : CachedFile) (found : file_at row.url files ≡ Some row) where
   abbrev IsMadeBy : FileStep → PlannedFile → Type 0
@@ -43,7 +44,7 @@ module _ (files : List CachedFile) (row : CachedFile) (found : file_at row.url f
   -- ---- The candidate is turned down
 
   pub rejected_left : (c : HeldFile) (a : HeldFile × Approval) (item : Item) (change : PlannedFile) → row.approved ≡ Some a → item ≡ file_item (file_row row.url row.approved None) → change ≡ set_change word.Rejected row.url edit.Rejected item → IsMadeBy (ruled row.url files row c verdict.Failed) change
-  unfolding ruled left_with with_candidate settled edited_row changed_row kept_row if_any is_change file_row
+  unfolding ruled left_with with_candidate edited_row changed_row kept_row if_any is_change file_row
   rejected_left c a item change e is made =
       let new : CachedFile = record row { candidate = None } in
       let makes : if_any new row.approved None ≡ Some new = ap (λ (o : Option (HeldFile × Approval)). if_any new o None) e in
@@ -52,7 +53,7 @@ module _ (files : List CachedFile) (row : CachedFile) (found : file_at row.url f
       (subst (λ (d : PlannedFile). IsMade (record { word = word.Rejected; url = row.url; changes = true; files = set_file new files }) files d) (sym made) (made_set files row.url word.Rejected edit.Rejected new (Some row) item found makes refl is))
 
   pub rejected_gone : (c : HeldFile) (change : PlannedFile) → row.approved ≡ None → change ≡ gone_change word.Rejected row.url edit.Rejected row.url → IsMadeBy (ruled row.url files row c verdict.Failed) change
-  unfolding ruled left_with with_candidate settled edited_row changed_row kept_row if_any is_change
+  unfolding ruled left_with with_candidate edited_row changed_row kept_row if_any is_change
   rejected_gone c change e made =
       let new : CachedFile = record row { candidate = None } in
       let makes : if_any new row.approved None ≡ None = ap (λ (o : Option (HeldFile × Approval)). if_any new o None) e in
@@ -63,7 +64,7 @@ module _ (files : List CachedFile) (row : CachedFile) (found : file_at row.url f
   -- ---- The approval is taken back
 
   pub revoked_left : (a : HeldFile × Approval) (c : HeldFile) (item : Item) (change : PlannedFile) → row.approved ≡ Some a → row.candidate ≡ Some c → item ≡ file_item (file_row row.url None row.candidate) → change ≡ set_change word.Revoked row.url edit.Revoked item → IsMadeBy (approved_cases row.url files row row.approved) change
-  unfolding approved_cases left_with with_approved settled edited_row changed_row kept_row if_any is_change file_row
+  unfolding approved_cases left_with with_approved edited_row changed_row kept_row if_any is_change file_row
   revoked_left a c item change e f is made =
       let new : CachedFile = record row { approved = None } in
       let makes : if_any new None row.candidate ≡ Some new = ap (λ (o : Option HeldFile). if_any new None o) f in
@@ -73,7 +74,7 @@ module _ (files : List CachedFile) (row : CachedFile) (found : file_at row.url f
       (subst (λ (d : PlannedFile). IsMade (record { word = word.Revoked; url = row.url; changes = true; files = set_file new files }) files d) (sym made) (made_set files row.url word.Revoked edit.Revoked new (Some row) item found makes refl is)))
 
   pub revoked_gone : (a : HeldFile × Approval) (change : PlannedFile) → row.approved ≡ Some a → row.candidate ≡ None → change ≡ gone_change word.Revoked row.url edit.Revoked row.url → IsMadeBy (approved_cases row.url files row row.approved) change
-  unfolding approved_cases left_with with_approved settled edited_row changed_row kept_row if_any is_change
+  unfolding approved_cases left_with with_approved edited_row changed_row kept_row if_any is_change
   revoked_gone a change e f made =
       let new : CachedFile = record row { approved = None } in
       let makes : if_any new None row.candidate ≡ None = ap (λ (o : Option HeldFile). if_any new None o) f in

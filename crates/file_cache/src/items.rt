@@ -105,7 +105,7 @@ fn write_candidate(writer: &mut FieldWriter, candidate: Option<Lent<'_>>) -> Res
 }
 
 /// Writes an approved file and its approval, or that there is none.
-#[tactic(auto, unfolding(usage_tables::specs::FileItems::approved_fields, usage_tables::specs::FileItems::approval_field, item_codec::specs::Records::optional))]
+#[tactic(auto, unfolding(usage_tables::specs::FileItems::approved_fields, item_codec::specs::Records::optional))]
 fn write_approved(
     writer: &mut FieldWriter,
     approved: Option<(Lent<'_>, Approval)>,

@@ -87,7 +87,7 @@ fn approved_of(
 
 /// Whether a candidate may stand beside an approved file: it has other octets, and was generated no
 /// earlier.
-#[tactic(auto, unfolding(usage_tables::specs::Files::may_follow, usage_tables::specs::Files::is_outdated))]
+#[tactic(auto, unfolding(usage_tables::specs::Files::may_follow))]
 fn may_follow(candidate: &Held, approved: &Held) -> bool
     ensures { result ≡ spec.may_follow candidate.now approved.now }
 {

@@ -5,10 +5,11 @@ use Rattle.std.specs.List.{list_any}
 use Rattle.std.proofs.lemmas.Bool.Decides.{nat_tests}
 use Rattle.mud_base.specs.declared.packet.Fields.{Fields}
 use Rattle.mud_base.specs.declared.packet.Direction.{Direction}
-use Rattle.table_model.specs.History.{Endpoint, Begun, segment_of, is_between, between, opens, resets, since_opened, is_unbroken, moment_of, beginner_since, beginner_of, beginner, side_of, begun_in, begun_of, last_moment, is_forward, with_moment, begun_at, begun_between, is_past, MayKeep}
+use Rattle.table_model.specs.History.{Endpoint, Begun, segment_of, is_between, between, opens, resets, beginner_of, side_of, begun_of, last_moment, is_forward, with_moment, begun_at, begun_between, is_past, MayKeep}
 use Rattle.table_model.specs.declared.segment.Segment.{Segment}
 use Rattle.table_model.proofs.TypeFacts.{segment_at}
 use Rattle.flow_table.specs.Kept.{Flows, StandsFor, is_since, beginner_kept, kept_after, MayForget, HasNoted}
+use Rattle.table_model.proofs.Parts.{moment_of, since_opened, is_unbroken, beginner_since}
 
 -- ---- Lists with one packet more
 
@@ -70,7 +71,7 @@ since_by false false true y p ys s t e = refl
 since_by false false false y p ys s t e = refl
 
 since_push : (xs : List Segment) (p : Segment) → since_opened (xs ++ p ∷ []) ≡ (if opens p then p ∷ [] else followed (since_opened xs) p)
-unfolding since_opened followed
+unfolding followed
 since_push [] p = refl
 since_push (x ∷ xs) p =
     ap (λ (b : Bool). if b then since_opened (xs ++ p ∷ []) else (if opens x then x ∷ (xs ++ p ∷ []) else [])) (any_push opens xs p)
@@ -88,7 +89,7 @@ and_assoc true b c = refl
 and_assoc false b c = refl
 
 unbroken_push : (m : ℕ) (ns : List ℕ) (n : ℕ) → is_unbroken m (ns ++ n ∷ []) ≡ (is_unbroken m ns && nat_le (n - last_of m ns) 7440)
-unfolding is_unbroken last_of
+unfolding last_of
 unbroken_push m [] n = by (nat_le (n - m) 7440)
   where
     by : (b : Bool) → (b && true) ≡ b
@@ -97,7 +98,7 @@ unbroken_push m [] n = by (nat_le (n - m) 7440)
 unbroken_push m (k ∷ ns) n = ap (λ b. nat_le (k - m) 7440 && b) (unbroken_push k ns n) ∙ and_assoc (nat_le (k - m) 7440) (is_unbroken k ns) (nat_le (n - last_of k ns) 7440)
 
 last_from : (p : Segment) (ps : List Segment) → last_moment (p ∷ ps) ≡ Some (last_of p.at (map moment_of ps))
-unfolding last_moment last_of moment_of
+unfolding last_moment last_of
 last_from p [] = refl
 last_from p (q ∷ qs) = last_from q qs
 
@@ -116,7 +117,6 @@ kept_by false false v s t m e = refl
 kept_by false true v s t m e = ap (λ (b : Bool). if b then Some s else None) e
 
 kept_since : (p : Segment) (ps : List Segment) (t m : ℕ) → t ≡ last_of p.at (map moment_of ps) → beginner_since (p ∷ ps) m ≡ beginner_kept (option_map (with_moment t) (beginner_since (p ∷ ps) t)) m
-unfolding beginner_since
 kept_since p ps t m e =
     let moments : List ℕ = map moment_of ps in
     let now : is_unbroken p.at (moments ++ m ∷ []) ≡ (is_unbroken p.at moments && nat_le (m - t) 7440) = rw e (unbroken_push p.at moments m) in
@@ -125,7 +125,7 @@ kept_since p ps t m e =
 
 -- what was opened ends as the whole list does
 since_last : (xs : List Segment) (q : Segment) (qs : List Segment) → since_opened xs ≡ q ∷ qs → last_moment (q ∷ qs) ≡ last_moment xs
-unfolding since_opened last_moment
+unfolding last_moment
 since_last [] q qs e = cc
 since_last (x ∷ []) q qs e = by (opens x) e
   where
@@ -140,7 +140,7 @@ since_last (x ∷ (y ∷ ys)) q qs e = by (list_any opens (y ∷ ys)) (opens x) 
     by false false ih h = cc
 
 kept_unopened : (t m : ℕ) → beginner_since [] m ≡ beginner_kept (option_map (with_moment t) (beginner_since [] t)) m
-unfolding beginner_since beginner_kept
+unfolding beginner_kept
 kept_unopened t m = refl
 
 some_same : {a b : ℕ} → Some a ≡ Some b → a ≡ b
@@ -157,7 +157,7 @@ none_opened (x ∷ []) e = cc
 none_opened (x ∷ (y ∷ ys)) e = let h = none_opened (y ∷ ys) e in cc
 
 kept_nothing : (ys : List Segment) (m : ℕ) → ys ≡ [] → (b : Option Begun) → b ≡ None → beginner_since (since_opened ys) m ≡ beginner_kept b m
-unfolding since_opened beginner_since beginner_kept
+unfolding beginner_kept
 kept_nothing ys m h b i = rw (h, i) refl
 
 kept_in : (xs : List Segment) (m : ℕ) (t : Option ℕ) → last_moment xs ≡ t → (begun : Option Begun) → begun ≡ elim t as (λ _. Option Begun) [ None ↦ None | Some k ↦ option_map (with_moment k) (beginner_since (since_opened xs) k) ] → beginner_since (since_opened xs) m ≡ beginner_kept begun m
@@ -204,7 +204,6 @@ at_planned fields now q e = segment_at fields.src fields.dst now fields.transpor
 -- ---- One packet more
 
 moments_push : (qs : List Segment) (p : Segment) → map moment_of (qs ++ p ∷ []) ≡ map moment_of qs ++ p.at ∷ []
-unfolding moment_of
 moments_push [] p = refl
 moments_push (q ∷ qs) p = ap (λ ms. moment_of q ∷ ms) (moments_push qs p)
 
@@ -214,11 +213,9 @@ last_of_push m [] n = refl
 last_of_push m (k ∷ ns) n = last_of_push k ns n
 
 alone_unbroken : (t : ℕ) → is_unbroken t (t ∷ []) ≡ true
-unfolding is_unbroken
 alone_unbroken t = ap (λ b. b && true) (no_pause t)
 
 alone_begins : (p : Segment) → beginner_since (p ∷ []) p.at ≡ Some p.source
-unfolding beginner_since
 alone_begins p = ap (λ (b : Bool). if b then Some p.source else None) (alone_unbroken p.at)
 
 followed_by : (a r u : Bool) (s : Endpoint) → (if a || r then None else (if u && true then Some s else None)) ≡ (if r then None else (if a then None else (if u then Some s else None)))
@@ -236,7 +233,7 @@ reset_nothing true = refl
 reset_nothing false = refl
 
 begins_followed : (s : List Segment) (p : Segment) → beginner_since (followed s p) p.at ≡ (if resets p then None else beginner_since s p.at)
-unfolding beginner_since followed
+unfolding followed
 begins_followed [] p = reset_nothing (resets p)
 begins_followed (q ∷ qs) p =
     let moments : List ℕ = map moment_of qs in
@@ -319,15 +316,15 @@ nothing_stands flows e h = record { forward = refl; last = e; kept = λ a b. h a
 -- ---- A look-up answers as the history does, by cases on the packet
 
 pub begun_none : (h : List Segment) (side : Direction) (fields : Fields) (now : ℕ) → segment_of fields now ≡ None → None ≡ begun_of h side fields now
-unfolding begun_of begun_in
+unfolding begun_of
 begun_none h side fields now e = rw e refl
 
 pub begun_opens : (h : List Segment) (side : Direction) (fields : Fields) (now : ℕ) (p : Segment) → segment_of fields now ≡ Some p → opens p ≡ true → side_of side p (Some p.source) ≡ begun_of h side fields now
-unfolding begun_of begun_in beginner
+unfolding begun_of
 begun_opens h side fields now p e f = rw (e, f) refl
 
 pub begun_other : (h : List Segment) (flows : Flows) (side : Direction) (fields : Fields) (now : ℕ) (p : Segment) → StandsFor h flows → IsTrue (is_since (last_moment h) now) → segment_of fields now ≡ Some p → opens p ≡ false
     → side_of side p (beginner_kept (flows.kept p.source p.destination) p.at) ≡ begun_of h side fields now
-unfolding begun_of begun_in beginner
+unfolding begun_of
 begun_other h flows side fields now p s since e f =
     rw (e, f) (ap (side_of side p) (sym (beginner_found h flows p.source p.destination p.at s (rw (at_planned fields now p e, s.last) since))))

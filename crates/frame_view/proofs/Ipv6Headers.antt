@@ -2,7 +2,8 @@
 use Rattle.std.proofs.Common.{◌≡◌, ℕ, suc, zero, ◌-◌, ◌<◌, ◌≤◌, true, false, List, length, drop, slice_index, Ok, Err, arith, refl}
 use Rattle.std.proofs.lemmas.Bool.Decides.{nat_tests}
 use Rattle.frame_view.specs.declared.views.Part.TheVariants as part
-use Rattle.frame_view.specs.Ipv6.{is_extension, extension_len, is_cut, is_later_fragment, later_part, upper_layer, upper_behind}
+use Rattle.frame_view.specs.Ipv6.{is_extension, extension_len, is_cut, is_later_fragment, upper_layer, upper_behind}
+use Rattle.frame_view.proofs.Parts.{later_part}
 
 pub extension_long : (number : ℕ) (octets : List ℕ) → 8 ≤ extension_len number octets
 unfolding extension_len

@@ -41,11 +41,11 @@ carried typed =
     let inner = past_tag (past_tag typed) in
     if nat_lt (length inner) type_len || is_tag inner then (Err part.Tag) else (by_type inner)
 
-abbrev pub payload_in : Result (Option Contents) Part → List ℕ
-payload_in (Ok None) = []
-payload_in (Ok (Some contents)) = contents.payload
-payload_in (Err part) = []
-
 -- what a datagram of UDP in the frame holds, and nothing where it carries none
 unfoldable pub payload_of : List ℕ → List ℕ
 payload_of frame = payload_in (carried (drop type_offset frame))
+  where
+    payload_in : Result (Option Contents) Part → List ℕ
+    payload_in (Ok None) = []
+    payload_in (Ok (Some contents)) = contents.payload
+    payload_in (Err part) = []

@@ -8,12 +8,12 @@ use Rattle.frame_view.specs.declared.views.Frame.TheVariants.{Link, Unreadable, 
 use Rattle.frame_view.specs.Carried.{carried}
 use Rattle.frame_view.specs.PacketFrame.{Contents}
 
-abbrev pub answered : List ℕ → Result (Option Contents) Part → Frame
-answered frame (Ok None) = Link frame
-answered frame (Ok (Some contents)) = Packet (record { octets = frame; fields = contents.fields })
-answered frame (Err part) = Unreadable (Some frame) part
-
 -- What a frame is. Its head is that of Ethernet, whose type is the first one that is looked at (IEEE 802.3).
 unfoldable pub frame_of : List ℕ → Frame
 frame_of frame =
     if nat_lt (length frame) head_len then (Unreadable None part.Ethernet) else (answered frame (carried (drop type_offset frame)))
+  where
+    answered : List ℕ → Result (Option Contents) Part → Frame
+    answered frame (Ok None) = Link frame
+    answered frame (Ok (Some contents)) = Packet (record { octets = frame; fields = contents.fields })
+    answered frame (Err part) = Unreadable (Some frame) part

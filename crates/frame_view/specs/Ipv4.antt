@@ -70,38 +70,38 @@ transport_in packet =
     if is_later_fragment packet then (Ok Absent)
     else (transport_of 1 (slice_index packet protocol_offset) (upper_octets packet))
 
-abbrev pub fields_with : List ℕ → Transport → Fields
-fields_with packet transport = record {
-  src = V4 (big_32 source_offset packet);
-  dst = V4 (big_32 destination_offset packet);
-  protocol = slice_index packet protocol_offset;
-  dscp = codepoint (slice_index packet type_of_service_offset);
-  ecn = congestion (slice_index packet type_of_service_offset);
-  length = big_16 total_length_offset packet;
-  ttl = slice_index packet time_to_live_offset;
-  transport = transport;
-}
-
 unfoldable pub fields_of : List ℕ → Result Fields Part
 fields_of packet = if has_header packet then (transport_in packet >>= λ transport. Ok (fields_with packet transport)) else (Err part.Ip)
-
-abbrev pub is_udp : ℕ → ℕ → Transport → Bool
-is_udp from to (Udp source destination) = source == from && destination == to
-is_udp from to _ = false
-
-abbrev pub is_v4 : ℕ → Addr → Bool
-is_v4 number (V4 n) = n == number
-is_v4 number (V6 n) = false
+  where
+    fields_with : List ℕ → Transport → Fields
+    fields_with packet transport = record {
+      src = V4 (big_32 source_offset packet);
+      dst = V4 (big_32 destination_offset packet);
+      protocol = slice_index packet protocol_offset;
+      dscp = codepoint (slice_index packet type_of_service_offset);
+      ecn = congestion (slice_index packet type_of_service_offset);
+      length = big_16 total_length_offset packet;
+      ttl = slice_index packet time_to_live_offset;
+      transport = transport;
+    }
 
 -- DHCP on the link itself (RFC 2131, 4.1): from a server to a client, or from a client without an address or to all
 unfoldable pub is_upkeep : Fields → Bool
 is_upkeep fields =
     is_udp 67 68 fields.transport
     || (is_udp 68 67 fields.transport && (is_v4 0 fields.src || is_v4 0xFFFF_FFFF fields.dst))
+  where
+    is_udp : ℕ → ℕ → Transport → Bool
+    is_udp from to (Udp source destination) = source == from && destination == to
+    is_udp from to _ = false
 
-abbrev pub contents_with : List ℕ → Fields → Contents
-contents_with packet fields = record { fields = fields; payload = payload_of fields.transport (upper_octets packet) }
+    is_v4 : ℕ → Addr → Bool
+    is_v4 number (V4 n) = n == number
+    is_v4 number (V6 n) = false
 
 -- the packet's contents, or None where it keeps the link up
 unfoldable pub packet_of : List ℕ → Result (Option Contents) Part
 packet_of packet = fields_of packet >>= λ fields. Ok (if is_upkeep fields then None else (Some (contents_with packet fields)))
+  where
+    contents_with : List ℕ → Fields → Contents
+    contents_with packet fields = record { fields = fields; payload = payload_of fields.transport (upper_octets packet) }

@@ -76,16 +76,12 @@ is_cut number octets = nat_lt (length octets) (extension_len number octets)
 unfoldable pub is_later_fragment : ℕ → List ℕ → Bool
 is_later_fragment number octets = number == 44 && not (big_16 fragment_field_offset octets / 8 == 0)
 
-abbrev pub upper_with : ℕ → List ℕ → Transport → Upper
-upper_with number octets transport = record { protocol = number; transport = transport; payload = payload_of transport octets }
-
 -- the upper layer, where its number is this
 unfoldable pub upper_layer : ℕ → List ℕ → Result Upper Part
 upper_layer number octets = transport_of 58 number octets >>= λ transport. Ok (upper_with number octets transport)
-
--- the upper layer of a later fragment, of which the number alone is known
-abbrev pub later_part : ℕ → Upper
-later_part number = record { protocol = number; transport = Absent; payload = [] }
+  where
+    upper_with : ℕ → List ℕ → Transport → Upper
+    upper_with number octets transport = record { protocol = number; transport = transport; payload = payload_of transport octets }
 
 -- The upper layer behind so many extension headers at most, where a header with this number stands first. Each one
 -- begins with the number of the next. A later fragment holds no header behind its own, so the walk ends there.
@@ -96,6 +92,10 @@ upper_behind (suc left) number octets =
     else (if is_cut number octets then (Err part.Extension)
     else (if is_later_fragment number octets then (Ok (later_part (slice_index octets extension_next_offset)))
     else (upper_behind left (slice_index octets extension_next_offset) (drop (extension_len number octets) octets))))
+  where
+    -- the upper layer of a later fragment, of which the number alone is known
+    later_part : ℕ → Upper
+    later_part number = record { protocol = number; transport = Absent; payload = [] }
 
 -- the upper layer behind eight extension headers at most
 unfoldable pub upper_in : List ℕ → Result Upper Part
@@ -106,23 +106,23 @@ upper_in packet = upper_behind 8 (slice_index packet next_header_offset) (payloa
 unfoldable pub traffic_class : List ℕ → ℕ
 traffic_class packet = slice_index packet version_offset % 16 * 16 + slice_index packet traffic_class_offset / 16
 
-abbrev pub fields_with : List ℕ → Upper → Fields
-fields_with packet upper = record {
-  src = V6 (big_128 source_offset packet);
-  dst = V6 (big_128 destination_offset packet);
-  protocol = upper.protocol;
-  dscp = codepoint (traffic_class packet);
-  ecn = congestion (traffic_class packet);
-  length = big_16 payload_length_offset packet;
-  ttl = slice_index packet hop_limit_offset;
-  transport = upper.transport;
-}
-
-abbrev pub contents_with : List ℕ → Upper → Contents
-contents_with packet upper = record { fields = fields_with packet upper; payload = upper.payload }
-
 unfoldable pub contents_of : List ℕ → Result Contents Part
 contents_of packet = if has_header packet then (upper_in packet >>= λ upper. Ok (contents_with packet upper)) else (Err part.Ip)
+  where
+    fields_with : List ℕ → Upper → Fields
+    fields_with packet upper = record {
+      src = V6 (big_128 source_offset packet);
+      dst = V6 (big_128 destination_offset packet);
+      protocol = upper.protocol;
+      dscp = codepoint (traffic_class packet);
+      ecn = congestion (traffic_class packet);
+      length = big_16 payload_length_offset packet;
+      ttl = slice_index packet hop_limit_offset;
+      transport = upper.transport;
+    }
+
+    contents_with : List ℕ → Upper → Contents
+    contents_with packet upper = record { fields = fields_with packet upper; payload = upper.payload }
 
 -- neighbour discovery, whose messages have these types and count with a hop limit of 255 alone (RFC 4861, 4, 6.1, 7.1 and
 -- 8.1)
@@ -130,9 +130,9 @@ unfoldable pub is_upkeep : ℕ → Transport → Bool
 is_upkeep hop_limit (Icmp kind code) = nat_le 133 kind && nat_le kind 137 && hop_limit == 255
 is_upkeep hop_limit _ = false
 
-abbrev pub is_kept_up : List ℕ → Contents → Bool
-is_kept_up packet contents = is_upkeep (slice_index packet hop_limit_offset) contents.fields.transport
-
 -- the packet's contents, or None where it keeps the link up
 unfoldable pub packet_of : List ℕ → Result (Option Contents) Part
 packet_of packet = contents_of packet >>= λ contents. Ok (if is_kept_up packet contents then None else (Some contents))
+  where
+    is_kept_up : List ℕ → Contents → Bool
+    is_kept_up packet contents = is_upkeep (slice_index packet hop_limit_offset) contents.fields.transport

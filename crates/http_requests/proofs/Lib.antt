@@ -1,3 +1,5 @@
+mod ServingExamples
+mod WrittenConnections
 pub mod Answers
 pub mod Coming
 pub mod Digits
@@ -8,15 +10,14 @@ pub mod Heads
 pub mod Lists
 pub mod Looks
 pub mod OnLiterals
+pub mod Pieces
 pub mod Readings
 pub mod Running
 pub mod Runs
 pub mod Serves
 pub mod Serving
-mod ServingExamples
 pub mod Shapes
 pub mod Steps
 pub mod Stops
 pub mod Values
 pub mod Visits
-mod WrittenConnections

@@ -15,7 +15,8 @@ use Rattle.http_requests.specs.declared.end.ConnectionEnd.{ConnectionEnd}
 use Rattle.http_requests.specs.declared.end.ConnectionEnd.TheVariants.{Ended, Closed, Broken, Spent, ReadFailed, WriteFailed}
 use Rattle.http_requests.specs.Asked.{Asked}
 use Rattle.http_requests.specs.Ends.{ServedBy, IsServed, is_read_failed, is_write_failed}
-use Rattle.http_requests.specs.Visits.{Visit, before_of, after_of, failed_to_read, failed_to_write, alone, CountsOf, AreServed, Visited}
+use Rattle.http_requests.specs.Visits.{Visit, alone, CountsOf, AreServed, Visited}
+use Rattle.http_requests.proofs.Pieces.{after_of, before_of, failed_to_read, failed_to_write}
 
 -- ---- Counts
 

@@ -15,18 +15,6 @@ pub record Visit : Type 0 where
   pub after : Connection
   pub end : ConnectionEnd
 
-abbrev pub before_of : Visit → Connection
-before_of v = v.before
-
-abbrev pub after_of : Visit → Connection
-after_of v = v.after
-
-abbrev pub failed_to_read : Visit → Bool
-failed_to_read v = is_read_failed v.end
-
-abbrev pub failed_to_write : Visit → Bool
-failed_to_write v = is_write_failed v.end
-
 -- a door that stands at this connection and has no other
 abbrev pub alone : Connection → DoorState
 alone c = record { bound = None; stands = true; past = []; left = c.left; written = c.written; ahead = [] }
@@ -59,8 +47,8 @@ module _ {S : Type 0} (may : S → Asked → List ℕ → S → Type 0) (refusal
     pub next : S
     pub kept : keeps next
     pub served : AreServed s next visits
-    pub came : old.ahead ≡ map before_of visits ++ new.ahead
-    pub past : new.past ++ here new ≡ (old.past ++ here old) ++ map after_of visits
+    pub came : old.ahead ≡ map (λ (v : Visit). v.before) visits ++ new.ahead
+    pub past : new.past ++ here new ≡ (old.past ++ here old) ++ map (λ (v : Visit). v.after) visits
     pub bound : new.bound ≡ old.bound
 
 -- The visits are as many as were asked for, or all that came; fewer where the door failed to go on.
@@ -74,5 +62,5 @@ module _ {S : Type 0} (may : S → Asked → List ℕ → S → Type 0) (refusal
     pub visits : List Visit
     pub visited : Visited may refusal from keeps s visits old.state new.state
     pub enough : AreEnough failed count visits old.state
-    pub reads : CountsOf (count_by failed_to_read visits) old.reads new.reads
-    pub writes : CountsOf (count_by failed_to_write visits) old.writes new.writes
+    pub reads : CountsOf (count_by (λ (v : Visit). is_read_failed v.end) visits) old.reads new.reads
+    pub writes : CountsOf (count_by (λ (v : Visit). is_write_failed v.end) visits) old.writes new.writes

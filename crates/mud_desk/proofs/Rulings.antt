@@ -4,22 +4,23 @@ use Rattle.mud_base.specs.declared.packet.Direction.TheVariants.{From, To}
 use Rattle.acl_model.specs.declared.ruling.Ruling.{Ruling}
 use Rattle.table_model.specs.declared.thing.Thing.{Thing}
 use Rattle.table_model.specs.Things.{thing_at}
-use Rattle.table_model.specs.Tables.{is_group, source_thing, destination_thing}
+use Rattle.table_model.specs.Tables.{is_group, destination_thing}
 use Rattle.frame_view.specs.declared.views.Frame.{Frame}
 use Rattle.frame_view.specs.declared.views.Frame.TheVariants.{Link, Unreadable, Packet}
 use Rattle.frame_view.specs.Ethernet.{destination_of, source_of}
 use Rattle.frame_view.specs.PacketFrame.{PacketFrame}
 use Rattle.packet_judge.specs.declared.verdict.Verdict.{Verdict}
 use Rattle.packet_judge.specs.declared.verdict.Verdict.TheVariants.{Unmanaged, Governed}
-use Rattle.packet_judge.specs.Verdicts.{endpoints_of, Rulings, endpoint_ruling, governed, is_managed, if_managed, verdict_on}
+use Rattle.packet_judge.specs.Verdicts.{endpoints_of, Rulings, endpoint_ruling, is_managed, if_managed, verdict_on}
 use Rattle.mud_desk.specs.Findings.{HasRulingsOfThings}
 use Rattle.desk_model.specs.Findings.{Policies, found_at, source_found, destination_found}
+use Rattle.packet_judge.proofs.Parts.{governed}
 
 -- ---- The verdict has a ruling where there is a Thing alone
 
 unruled : (rulings : Rulings) (things : List Thing) (packet : PacketFrame) (b : Bool)
     → HasRulingsOfThings things (Packet packet) (if b then (governed rulings packet.fields (endpoints_of things packet.octets)) else Unmanaged)
-unfolding governed endpoint_ruling
+unfolding endpoint_ruling
 unruled rulings things packet true = λ none. ap (endpoint_ruling rulings To packet.fields) none
 unruled rulings things packet false = tt
 
@@ -41,7 +42,7 @@ alike policies ruling thing false none = refl
 
 module _ (policies : Policies) (things : List Thing) (packet : PacketFrame) (source destination : Option Ruling) where
   pub found_from : found_at policies From source (thing_at (source_of packet.octets) things) ≡ source_found policies things (Packet packet) (Governed source destination)
-  unfolding source_found endpoints_of source_thing
+  unfolding source_found endpoints_of
   found_from = refl
 
   pub found_for : HasRulingsOfThings things (Packet packet) (Governed source destination)

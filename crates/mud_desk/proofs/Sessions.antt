@@ -25,7 +25,7 @@ use Rattle.desk_model.specs.DeskTables.{DeskTables, IsSound}
 use Rattle.desk_model.specs.Commands.{DeskStep, command_step, IsTyped, IsAsked, TellsChange}
 use Rattle.desk_model.specs.Items.{items_of}
 use Rattle.desk_model.specs.Verdicts.{verdict_at}
-use Rattle.desk_model.specs.Sessions.{Session, Answered, answered, command_in, AllowedReply, AllowedVerdict, later, verdict_in, frame_in, judged, is_of_keeper}
+use Rattle.desk_model.specs.Sessions.{Session, Answered, command_in, AllowedReply, AllowedVerdict, later, verdict_in, frame_in, is_of_keeper}
 use Rattle.desk_model.proofs.ToldSteps.{commands_told}
 use Rattle.desk_books.specs.CompiledDesk.{IsCompiledOf}
 use Rattle.mud_desk.specs.RuleInputs.{rule_inputs, AreRuleInputsOf}
@@ -34,6 +34,7 @@ use Rattle.desk_books.specs.Books.{Books, desk_of}
 use Rattle.desk_books.specs.Changes.{PlannedChange, desk_after}
 use Rattle.desk_books.specs.Planned.{IsPlanned, IsReady, IsBatchOf}
 use Rattle.mud_desk.specs.DeskState.{DeskState, tables_of, session_of, IsTimely}
+use Rattle.desk_model.proofs.Parts.{answered, judged}
 
 -- ---- The moment
 
@@ -75,13 +76,11 @@ runs_at session now command n is = ap (answered_at session command) (sym is)
 
 step_done : (session : Session) (n : ℕ) (books : Books) (change : PlannedChange) (after : Session) → after.desk ≡ desk_after change (desk_of books) → after.history ≡ session.history → after.moment ≡ n
     → (step : DeskStep) → IsOkAnd step (λ s. IsPlanned s books change) → answered session n step ≡ record { reply = Done change.outcome; session = after }
-unfolding answered
 step_done session n books change after desk history moment (Ok s) planned =
     λ i. record { reply = Done (sym planned.outcome i); session = record { desk = (sym planned.leads ∙ sym desk) i; history = sym history i; moment = sym moment i } }
 step_done session n books change after desk history moment (Err refusal) planned = absurd planned
 
 step_refused : (session : Session) (n : ℕ) (refusal : Refusal) (after : Session) → after ≡ session → (step : DeskStep) → step ≡ Err refusal → answered session n step ≡ record { reply = Refused refusal; session = after }
-unfolding answered
 step_refused session n refusal after same step is = ap (answered session n) is ∙ (λ i. record { reply = Refused refusal; session = sym same i })
 
 -- the batch of a change that is planned
@@ -193,7 +192,7 @@ module _ (before after : DeskState) (stamp n : ℕ) (frame : List ℕ) (is : n �
 
   pub judged_so : (v : Verdict) → v ≡ verdict_at (tables_of before) h n frame → after.flows.history ≡ history_after h (frame_of frame) v n → after.books ≡ before.books → after.moment ≡ n
       → IsJudged before stamp frame (Ok v) after
-  unfolding AllowedVerdict session_of frame_in later judged tables_of
+  unfolding AllowedVerdict session_of frame_in later tables_of
   judged_so v is_v history books moment =
       (λ i. judged (session_of before) (sym is i) frame ((verdict_here before stamp n frame is ∙ sym is_v) i))
       ∙ (λ i. record { verdict = v; session = record { desk = desk_of (sym books i); history = sym history i; moment = sym moment i } })

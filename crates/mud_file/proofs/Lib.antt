@@ -8,3 +8,4 @@ mod Examples
 pub mod Members
 pub mod OnLiterals
 pub mod Short
+pub mod Parts

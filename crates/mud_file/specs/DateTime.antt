@@ -14,13 +14,13 @@ o >>= f = option_and_then f o
 unfoldable pub number_at : ℕ → ℕ → ℕ → List ℕ → Option ℕ
 number_at most count offset text = if nat_le (offset + count) (length text) then digits_upto most 0 (take count (drop offset text)) else None
 
--- the Gregorian calendar has the date
-abbrev pub is_date : ℕ → ℕ → ℕ → Bool
-is_date year month day = nat_le 1 month && nat_le month 12 && nat_le 1 day && nat_le day (days_in_month (pos year) month)
-
 -- the number of the day, counted from 1970-01-01 and negative before it, where the calendar has the date
 unfoldable pub day_number : ℕ → ℕ → ℕ → Option ℤ
 day_number year month day = if is_date year month day then Some (days_from_civil (pos year) month day) else None
+  where
+    -- the Gregorian calendar has the date
+    is_date : ℕ → ℕ → ℕ → Bool
+    is_date year month day = nat_le 1 month && nat_le month 12 && nat_le 1 day && nat_le day (days_in_month (pos year) month)
 
 -- `YYYY-MM-DD`, and any text behind it: the number of the day
 unfoldable pub day_in : List ℕ → Option ℤ

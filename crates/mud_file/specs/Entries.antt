@@ -173,12 +173,12 @@ list_at side room path acl = do
 abbrev pub acls_path : List ℕ
 acls_path = under (under [] members.Acls) members.Acl
 
-abbrev pub no_element : Element
-no_element = record { index = 0; name = []; value = null }
-
 -- the access list of this name, which the list of names at this path has
 unfoldable pub acl_named : List ℕ → List Element → Element → Reading Element
 acl_named path acls name = wanted no_element (fault_at rule.NoSuchAcl (under (at_index path name.index) members.Name)) (element_named name.name acls)
+  where
+    no_element : Element
+    no_element = record { index = 0; name = []; value = null }
 
 -- the most entries of a direction
 abbrev pub most_entries : ℕ

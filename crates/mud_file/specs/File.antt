@@ -91,12 +91,12 @@ abbrev pub as_json : Option Data → Result Data Broken
 as_json None = Err (fault_at rule.Json [])
 as_json (Some d) = Ok d
 
--- the most octets of a usage file
-abbrev pub most_octets : ℕ
-most_octets = 262144
-
 -- The usage file that the octets are, or the first rule that they break.
 unfoldable pub file_of : List ℕ → Result UsageFile Broken
 file_of octets =
     if nat_lt most_octets (length octets) then Err (fault_at rule.TooLong [])
     else and_then (as_json (value_in octets)) (λ d. answer (file_at d))
+  where
+    -- the most octets of a usage file
+    most_octets : ℕ
+    most_octets = 262144

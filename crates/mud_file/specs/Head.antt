@@ -22,15 +22,15 @@ version_at path d = do
 unfoldable pub url_fault : List ℕ → UrlFault → Broken
 url_fault path fault = record { rule = rule.Url; path = path; url = Some fault }
 
-abbrev pub url_read : List ℕ → Result (List ℕ) UrlFault → Reading (List ℕ)
-url_read path (Ok url) = done url
-url_read path (Err fault) = wanted [] (url_fault path fault) None
-
 abbrev pub url_path : List ℕ → List ℕ
 url_path path = under path members.MudUrl
 
 unfoldable pub as_url : List ℕ → List ℕ → Reading (List ℕ)
 as_url path text = url_read (url_path path) (url_of text)
+  where
+    url_read : List ℕ → Result (List ℕ) UrlFault → Reading (List ℕ)
+    url_read path (Ok url) = done url
+    url_read path (Err fault) = wanted [] (url_fault path fault) None
 
 unfoldable pub url_at : List ℕ → Data → Reading (List ℕ)
 url_at path d = do

@@ -8,3 +8,4 @@ pub mod StepSums
 pub mod ViewSteps
 pub mod OnLiterals
 mod VerdictExamples
+pub mod Parts

@@ -15,10 +15,11 @@ use Rattle.acl_model.specs.declared.ruling.Ruling.{Ruling}
 use Rattle.acl_model.specs.declared.ruling.Ruling.TheVariants.{Accept, AcceptDefault, Drop, DropDefault, DropHeld}
 use Rattle.table_model.specs.declared.thing.Thing.{Thing}
 use Rattle.table_model.specs.declared.segment.Segment.{Segment}
-use Rattle.table_model.specs.Tables.{Tables, source_thing, destination_thing, ruling_of}
+use Rattle.table_model.specs.Tables.{Tables, destination_thing, ruling_of}
 use Rattle.table_model.specs.History.{begun_of, segment_of, with_segment}
 use Rattle.packet_judge.specs.declared.verdict.Verdict.{Verdict}
 use Rattle.packet_judge.specs.declared.verdict.Verdict.TheVariants.{Unmanaged, Link, Unreadable, Governed}
+use Rattle.table_model.specs.Things.{thing_at}
 
 -- ---- The Things of a frame
 
@@ -28,7 +29,7 @@ pub record Endpoints : Type 0 where
   pub destination : Option Thing
 
 unfoldable pub endpoints_of : List Thing → List ℕ → Endpoints
-endpoints_of things octets = record { source = source_thing (source_of octets) things; destination = destination_thing (destination_of octets) things }
+endpoints_of things octets = record { source = thing_at (source_of octets) things; destination = destination_thing (destination_of octets) things }
 
 -- ---- The verdict
 
@@ -40,9 +41,6 @@ Rulings = Direction → Thing → Fields → Ruling
 unfoldable pub endpoint_ruling : Rulings → Direction → Fields → Option Thing → Option Ruling
 endpoint_ruling rulings side fields None = None
 endpoint_ruling rulings side fields (Some thing) = Some (if thing.held then DropHeld else (rulings side thing fields))
-
-unfoldable pub governed : Rulings → Fields → Endpoints → Verdict
-governed rulings fields endpoints = Governed (endpoint_ruling rulings From fields endpoints.source) (endpoint_ruling rulings To fields endpoints.destination)
 
 -- a frame is managed where one of its endpoints is a Thing
 unfoldable pub is_managed : Endpoints → Bool
@@ -58,6 +56,9 @@ verdict_on rulings things (frame.Unreadable None part) = Unreadable part
 verdict_on rulings things (frame.Unreadable (Some octets) part) = if_managed (endpoints_of things octets) (Unreadable part)
 verdict_on rulings things (frame.Link octets) = if_managed (endpoints_of things octets) Link
 verdict_on rulings things (frame.Packet packet) = if_managed (endpoints_of things packet.octets) (governed rulings packet.fields (endpoints_of things packet.octets))
+  where
+    governed : Rulings → Fields → Endpoints → Verdict
+    governed rulings fields endpoints = Governed (endpoint_ruling rulings From fields endpoints.source) (endpoint_ruling rulings To fields endpoints.destination)
 
 unfoldable pub verdict_of : Rulings → List Thing → List ℕ → Verdict
 verdict_of rulings things octets = verdict_on rulings things (frame_of octets)
@@ -95,13 +96,13 @@ unfoldable pub noted_fields : Frame → Verdict → Option Fields
 noted_fields (frame.Packet packet) (Governed source destination) = if forwarded (Governed source destination) && is_tcp packet.fields.transport then Some packet.fields else None
 noted_fields _ _ = None
 
--- the packet that is added to the history of connections at this moment, where one is
-unfoldable pub noted_segment : Frame → Verdict → ℕ → Option Segment
-noted_segment frame verdict now = option_and_then (λ fields. segment_of fields now) (noted_fields frame verdict)
-
 -- the history after a frame
 unfoldable pub history_after : List Segment → Frame → Verdict → ℕ → List Segment
 history_after history frame verdict now = with_segment history (noted_segment frame verdict now)
+  where
+    -- the packet that is added to the history of connections at this moment, where one is
+    noted_segment : Frame → Verdict → ℕ → Option Segment
+    noted_segment frame verdict now = option_and_then (λ fields. segment_of fields now) (noted_fields frame verdict)
 
 -- ---- Steps
 

@@ -60,7 +60,7 @@ fn is_group(mac: Mac) -> bool
 }
 
 /// The Thing that sent a frame.
-#[tactic(auto, unfolding(table_model::specs::Tables::source_thing, crate::specs::Verdicts::endpoints_of))]
+#[tactic(auto, unfolding(crate::specs::Verdicts::endpoints_of))]
 fn source_thing<'a, A: RuleSource>(rules: &'a A, frame: &FrameView<'_>) -> Option<&'a Thing>
     ensures { option_copied result ≡ (spec.endpoints_of (A.things rules.now) frame.now).source }
 {
@@ -109,7 +109,7 @@ fn endpoint_ruling<A: RuleSource, L: Ledger>(
 }
 
 /// The verdict on a frame that carries a packet.
-#[tactic(auto, unfolding(crate::specs::Verdicts::verdict_on, crate::specs::Verdicts::if_managed, crate::specs::Verdicts::is_managed, crate::specs::Verdicts::governed, crate::specs::Verdicts::steps_on, crate::specs::Verdicts::endpoint_steps))]
+#[tactic(auto, unfolding(crate::specs::Verdicts::verdict_on, crate::specs::Verdicts::if_managed, crate::specs::Verdicts::is_managed, crate::specs::Verdicts::steps_on, crate::specs::Verdicts::endpoint_steps))]
 #[inline(always)]
 fn judge_packet<A: RuleSource, L: Ledger>(
     packet: &PacketView<'_>,

@@ -65,7 +65,7 @@ fn is_tcp(fields: &Fields) -> bool
 
 /// The fields of a packet that counts for the connections: a TCP packet with a ruling that is
 /// forwarded. None for every other frame.
-#[tactic(auto, unfolding(crate::specs::Verdicts::noted_fields, crate::specs::Verdicts::is_tcp, table_model::specs::History::segment_of, table_model::specs::History::segment_in))]
+#[tactic(auto, unfolding(crate::specs::Verdicts::noted_fields, crate::specs::Verdicts::is_tcp, table_model::specs::History::segment_of))]
 pub fn noted_fields(frame: &Frame<'_>, verdict: &Verdict) -> Option<Fields>
     ensures value { result ≡ spec.noted_fields frame.now verdict.now }
     // It is a TCP packet.

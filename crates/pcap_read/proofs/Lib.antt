@@ -4,3 +4,4 @@ pub mod OnLiterals
 pub mod Runs
 pub mod Stages
 pub mod Steps
+pub mod Parts

@@ -42,18 +42,18 @@ is_version_2_4 order header = number_16 order major_version_offset header == 2 &
 unfoldable pub is_ethernet : ByteOrder → List ℕ → Bool
 is_ethernet order header = number_32 order link_type_offset header == 1
 
-abbrev pub header_by : Option ByteOrder → List ℕ → Result ByteOrder CapFault
-header_by None header = Err faults.Magic
-header_by (Some order) header =
-    unless (
-    row (not (is_version_2_4 order header)) faults.Version
-    ∷ row (not (is_ethernet order header)) faults.LinkType
-    ∷ [])
-    (Ok order)
-
 -- the order of the octets of all numbers, or what is wrong with the header
 unfoldable pub header_of : List ℕ → Result ByteOrder CapFault
 header_of header = header_by (order_in header) header
+  where
+    header_by : Option ByteOrder → List ℕ → Result ByteOrder CapFault
+    header_by None header = Err faults.Magic
+    header_by (Some order) header =
+        unless (
+        row (not (is_version_2_4 order header)) faults.Version
+        ∷ row (not (is_ethernet order header)) faults.LinkType
+        ∷ [])
+        (Ok order)
 
 -- The head of a packet has 16 octets (section 5): its seconds, a fraction, how many octets were captured, and how many there were.
 -- Here the offsets of those that are read:
@@ -72,21 +72,6 @@ seconds_of order head = number_32 order seconds_offset head
 unfoldable pub captured_len : ByteOrder → List ℕ → ℕ
 captured_len order head = number_32 order captured_len_offset head
 
--- The packet whose head begins these octets, behind so many packets, and those behind it. At most 100,000,000 packets are read,
--- each of at most 262,144 octets.
-abbrev pub at_head : ByteOrder → ℕ → ℕ → List ℕ → Packets → Packets
-at_head order count offset octets later =
-    if nat_le 100000000 count then broken faults.Many
-    else (if nat_lt (length octets) head_len then broken (faults.Cut offset)
-    else (if nat_lt 262144 (captured_len order (take head_len octets)) then broken (faults.Long offset)
-    else (if nat_lt (length octets) (head_len + captured_len order (take head_len octets)) then broken (faults.Cut offset)
-    else with_packet (record {
-      number = count + 1;
-      offset = offset;
-      seconds = seconds_of order (take head_len octets);
-      octets = take (captured_len order (take head_len octets)) (drop head_len octets);
-    }) later)))
-
 -- The packets in the octets from an offset on, behind so many packets, where the first so many octets are the rest of a packet.
 unfoldable pub packets_from : ByteOrder → ℕ → ℕ → ℕ → List ℕ → Packets
 packets_from order skipped count offset [] = whole
@@ -94,13 +79,28 @@ packets_from order (suc skipped) count offset (octet ∷ behind) = packets_from 
 packets_from order zero count offset (octet ∷ behind) =
     at_head order count offset (octet ∷ behind)
     (packets_from order (15 + captured_len order (take head_len (octet ∷ behind))) (count + 1) (offset + 1) behind)
-
-abbrev pub behind_header : Result ByteOrder CapFault → List ℕ → Packets
-behind_header (Err fault) octets = broken fault
-behind_header (Ok order) octets = packets_from order 0 0 header_len octets
+  where
+    -- The packet whose head begins these octets, behind so many packets, and those behind it. At most 100,000,000 packets are read,
+    -- each of at most 262,144 octets.
+    at_head : ByteOrder → ℕ → ℕ → List ℕ → Packets → Packets
+    at_head order count offset octets later =
+        if nat_le 100000000 count then broken faults.Many
+        else (if nat_lt (length octets) head_len then broken (faults.Cut offset)
+        else (if nat_lt 262144 (captured_len order (take head_len octets)) then broken (faults.Long offset)
+        else (if nat_lt (length octets) (head_len + captured_len order (take head_len octets)) then broken (faults.Cut offset)
+        else with_packet (record {
+          number = count + 1;
+          offset = offset;
+          seconds = seconds_of order (take head_len octets);
+          octets = take (captured_len order (take head_len octets)) (drop head_len octets);
+        }) later)))
 
 -- the packets of a capture
 unfoldable pub packets_of : List ℕ → Packets
 packets_of octets =
     if nat_lt (length octets) header_len then broken (faults.Cut 0)
     else behind_header (header_of (take header_len octets)) (drop header_len octets)
+  where
+    behind_header : Result ByteOrder CapFault → List ℕ → Packets
+    behind_header (Err fault) octets = broken fault
+    behind_header (Ok order) octets = packets_from order 0 0 header_len octets

@@ -18,10 +18,11 @@ use Rattle.pcapng_read.specs.declared.head.Head.{Head}
 use Rattle.pcapng_read.specs.declared.standing.Section.{Section}
 use Rattle.pcapng_read.specs.declared.standing.Standing.{Standing}
 use Rattle.pcapng_read.specs.declared.standing.Current.{Current}
-use Rattle.pcapng_read.specs.Blocks.{NgPackets, head_of, head_rows, body_rows, body_rows_of, section_behind, standing_behind, packets_in, is_read}
+use Rattle.pcapng_read.specs.Blocks.{NgPackets, head_of, head_rows, body_rows, standing_behind, packets_in, is_read}
 use Rattle.pcapng_read.specs.Parts.{Begins, blocks_at, coming_next, current_in, packet_in}
 use Rattle.pcapng_read.specs.Reading.{EndsIn, Passes, FallsShort}
 use Rattle.pcapng_read.proofs.Steps.{answered, refused, blocks_broken, blocks_lack, rows_many, rows_short, rows_head, block_cut, block_ends, block_refused, block_whole, next_packet}
+use Rattle.pcapng_read.proofs.Parts.{body_rows_of, section_behind}
 
 all_of : NgPackets → List Packet
 all_of packets = packets.all

@@ -6,3 +6,4 @@ pub mod Passing
 pub mod Runs
 pub mod Stages
 pub mod Steps
+pub mod Parts

@@ -4,7 +4,8 @@ use Rattle.std.proofs.lemmas.List.{drop-drop}
 use Rattle.std.proofs.Math.Bool.{or-true}
 use Rattle.mud_base.specs.Numbers.{number_16}
 use Rattle.mud_base.specs.declared.number.ByteOrder.{ByteOrder}
-use Rattle.pcapng_read.specs.Options.{options_from, no_more, beyond, with_option, filled}
+use Rattle.pcapng_read.specs.Options.{options_from, no_more, beyond, with_option}
+use Rattle.pcapng_read.proofs.Parts.{filled}
 
 options_skipped : (order : ByteOrder) (skipped : ℕ) (octets : List ℕ) → options_from order skipped octets ≡ options_from order 0 (drop skipped octets)
 unfolding options_from

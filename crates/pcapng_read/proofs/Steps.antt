@@ -13,8 +13,9 @@ use Rattle.pcapng_read.specs.declared.head.Kind.{Kind}
 use Rattle.pcapng_read.specs.declared.head.Kind.TheVariants.{SectionHeader, InterfaceDescription, EnhancedPacket, OtherPacket, Other}
 use Rattle.pcapng_read.specs.declared.head.Head.{Head}
 use Rattle.pcapng_read.specs.declared.standing.Standing.{Standing}
-use Rattle.pcapng_read.specs.Blocks.{NgPackets, head_of, head_rows, rest_rows, block_rows, body_rows, least_of, packets_in, standing_behind, with_block, blocks_from}
+use Rattle.pcapng_read.specs.Blocks.{NgPackets, head_of, head_rows, rest_rows, body_rows, least_of, packets_in, standing_behind, blocks_from}
 use Rattle.pcapng_read.specs.Parts.{Begins, blocks_at, current_in, packet_in}
+use Rattle.pcapng_read.proofs.Parts.{block_rows, with_block}
 
 -- Tables of faults
 

@@ -48,11 +48,11 @@ kind_of order head =
     else (if number_32 order 0 head == 6 then EnhancedPacket
     else (if number_32 order 0 head == 2 || number_32 order 0 head == 3 then OtherPacket else Other)))
 
-abbrev pub head_by : ByteOrder → List ℕ → Head
-head_by order head = record { kind = kind_of order head; order = order; total = number_32 order 4 head }
-
 unfoldable pub head_of : ByteOrder → List ℕ → Head
 head_of order head = head_by (unwrap_or (own_order order head) Big) head
+  where
+    head_by : ByteOrder → List ℕ → Head
+    head_by order head = record { kind = kind_of order head; order = order; total = number_32 order 4 head }
 
 -- the least total length
 unfoldable pub least_of : Kind → ℕ
@@ -105,18 +105,14 @@ interface_of order block = record { link = number_16 order 8 block; units = unwr
 abbrev pub interface_in : Section → List ℕ → Option Interface
 interface_in section block = slice_get section.interfaces (number_32 section.order 8 block)
 
-abbrev pub link_of : Option Interface → ℕ
-link_of None = 0
-link_of (Some interface) = interface.link
-
-abbrev pub units_at : Option Interface → ℕ
-units_at None = 1
-units_at (Some interface) = interface.units
-
 -- the whole seconds of a time in units of its interface
 unfoldable pub seconds_of : Section → List ℕ → ℕ
 seconds_of section block =
     (4294967296 * number_32 section.order 12 block + number_32 section.order 16 block) / units_at (interface_in section block)
+  where
+    units_at : Option Interface → ℕ
+    units_at None = 1
+    units_at (Some interface) = interface.units
 
 unfoldable pub captured_len : ByteOrder → List ℕ → ℕ
 captured_len order block = number_32 order 20 block
@@ -130,27 +126,23 @@ packet_rows offset section block =
     ∷ row (nat_lt (length block - 32) (captured_len section.order block)) (faults.Length offset)
     ∷ row (nat_lt 4294967295 (seconds_of section block)) (faults.Late offset)
     ∷ []
+  where
+    link_of : Option Interface → ℕ
+    link_of None = 0
+    link_of (Some interface) = interface.link
 
 -- ---- Any block: the faults of its body in their order, and what it leaves
 
-abbrev pub body_rows_of : Kind → ByteOrder → Standing → List ℕ → List (Option NgFault)
-body_rows_of SectionHeader order at block = row (not (is_read_version order block)) (faults.Version at.offset) ∷ []
-body_rows_of InterfaceDescription order at block =
-    row (nat_le 64 (length at.section.interfaces)) (faults.Many at.offset) ∷ option_rows at.offset (options_in order block)
-body_rows_of EnhancedPacket order at block = packet_rows at.offset at.section block
-body_rows_of OtherPacket order at block = row true (faults.PacketForm at.offset) ∷ []
-body_rows_of Other order at block = []
-
 unfoldable pub body_rows : Head → Standing → List ℕ → List (Option NgFault)
 body_rows head at block = body_rows_of head.kind head.order at block
-
--- the section behind a block: a section header forgets all interfaces, and a description adds one
-abbrev pub section_behind : Kind → ByteOrder → Section → List ℕ → Section
-section_behind SectionHeader order section block = record { order = order; interfaces = [] }
-section_behind InterfaceDescription order section block = record section { interfaces = section.interfaces ++ interface_of order block ∷ [] }
-section_behind EnhancedPacket order section block = section
-section_behind OtherPacket order section block = section
-section_behind Other order section block = section
+  where
+    body_rows_of : Kind → ByteOrder → Standing → List ℕ → List (Option NgFault)
+    body_rows_of SectionHeader order at block = row (not (is_read_version order block)) (faults.Version at.offset) ∷ []
+    body_rows_of InterfaceDescription order at block =
+        row (nat_le 64 (length at.section.interfaces)) (faults.Many at.offset) ∷ option_rows at.offset (options_in order block)
+    body_rows_of EnhancedPacket order at block = packet_rows at.offset at.section block
+    body_rows_of OtherPacket order at block = row true (faults.PacketForm at.offset) ∷ []
+    body_rows_of Other order at block = []
 
 -- how many packets stand behind a block, where so many stand before it
 abbrev pub packets_behind : Kind → ℕ → ℕ
@@ -180,6 +172,14 @@ standing_behind head at block = record {
   packets = packets_behind head.kind at.packets;
   offset = at.offset + head.total;
 }
+  where
+    -- the section behind a block: a section header forgets all interfaces, and a description adds one
+    section_behind : Kind → ByteOrder → Section → List ℕ → Section
+    section_behind SectionHeader order section block = record { order = order; interfaces = [] }
+    section_behind InterfaceDescription order section block = record section { interfaces = section.interfaces ++ interface_of order block ∷ [] }
+    section_behind EnhancedPacket order section block = section
+    section_behind OtherPacket order section block = section
+    section_behind Other order section block = section
 
 -- ---- Block after block
 
@@ -189,21 +189,6 @@ rest_rows head at octets =
     row (nat_lt (length octets) head.total) (faults.Cut at.offset)
     ∷ row (not (number_32 head.order (head.total - 4) (take head.total octets) == head.total)) (faults.Length at.offset)
     ∷ body_rows head at (take head.total octets)
-
--- All faults of the block that begins these octets, in their order. At most 100,000,000 blocks are read.
-abbrev pub block_rows : Standing → List ℕ → List (Option NgFault)
-block_rows at octets =
-    row (nat_le 100000000 at.blocks) (faults.Many at.offset)
-    ∷ row (nat_lt (length octets) 12) (faults.Cut at.offset)
-    ∷ (head_rows at (take 12 octets) ++ rest_rows (head_of at.section.order (take 12 octets)) at octets)
-
-abbrev pub unless_broken : Option NgFault → NgPackets → NgPackets
-unless_broken None packets = packets
-unless_broken (Some fault) packets = broken fault
-
--- the packets of the block with this head that begins these octets, and those behind it
-abbrev pub with_block : Head → Standing → List ℕ → NgPackets → NgPackets
-with_block head at octets later = with_all (packets_in head.kind at (take head.total octets)) later
 
 -- The packets in the octets from here on, of which the first so many are the rest of a block. The end of the octets between two
 -- blocks is the end.
@@ -215,6 +200,21 @@ blocks_from zero at (octet ∷ behind) =
     let head = head_of at.section.order (take 12 octets) in
     unless_broken (first_row (block_rows at octets))
     (with_block head at octets (blocks_from (head.total - 1) (standing_behind head at (take head.total octets)) behind))
+  where
+    -- All faults of the block that begins these octets, in their order. At most 100,000,000 blocks are read.
+    block_rows : Standing → List ℕ → List (Option NgFault)
+    block_rows at octets =
+        row (nat_le 100000000 at.blocks) (faults.Many at.offset)
+        ∷ row (nat_lt (length octets) 12) (faults.Cut at.offset)
+        ∷ (head_rows at (take 12 octets) ++ rest_rows (head_of at.section.order (take 12 octets)) at octets)
+
+    unless_broken : Option NgFault → NgPackets → NgPackets
+    unless_broken None packets = packets
+    unless_broken (Some fault) packets = broken fault
+
+    -- the packets of the block with this head that begins these octets, and those behind it
+    with_block : Head → Standing → List ℕ → NgPackets → NgPackets
+    with_block head at octets later = with_all (packets_in head.kind at (take head.total octets)) later
 
 abbrev pub at_start : Standing
 at_start = record { section = record { order = Big; interfaces = [] }; blocks = 0; packets = 0; offset = 0 }

@@ -23,24 +23,24 @@ beyond = record { options = []; passes = true }
 abbrev pub with_option : BlockOption → Listing → Listing
 with_option first later = record { options = first ∷ later.options; passes = later.passes }
 
--- the content is filled up to a multiple of four octets
-abbrev pub filled : ℕ → ℕ
-filled len = (len + 3) / 4 * 4
-
--- An option is its code, its length (2 octets each) and its content. The code 0 ends them. A body is a multiple of four octets, so
--- that fewer than four never stand behind an option.
-abbrev pub at_code : ByteOrder → List ℕ → Listing → Listing
-at_code order octets later =
-    if nat_lt (length octets) 4 || number_16 order 0 octets == 0 then no_more
-    else (if nat_lt (length octets) (4 + number_16 order 2 octets) then beyond
-    else with_option (record { code = number_16 order 0 octets; content = take (number_16 order 2 octets) (drop 4 octets) }) later)
-
 -- The options in these octets, of which the first so many are the rest of one. The end of the octets ends them too.
 unfoldable pub options_from : ByteOrder → ℕ → List ℕ → Listing
 options_from order skipped [] = no_more
 options_from order (suc skipped) (octet ∷ behind) = options_from order skipped behind
 options_from order zero (octet ∷ behind) =
     at_code order (octet ∷ behind) (options_from order (3 + filled (number_16 order 2 (octet ∷ behind))) behind)
+  where
+    -- the content is filled up to a multiple of four octets
+    filled : ℕ → ℕ
+    filled len = (len + 3) / 4 * 4
+
+    -- An option is its code, its length (2 octets each) and its content. The code 0 ends them. A body is a multiple of four octets, so
+    -- that fewer than four never stand behind an option.
+    at_code : ByteOrder → List ℕ → Listing → Listing
+    at_code order octets later =
+        if nat_lt (length octets) 4 || number_16 order 0 octets == 0 then no_more
+        else (if nat_lt (length octets) (4 + number_16 order 2 octets) then beyond
+        else with_option (record { code = number_16 order 0 octets; content = take (number_16 order 2 octets) (drop 4 octets) }) later)
 
 -- the content of the last option of this code, or the one found before where there is none
 abbrev pub last_with : ℕ → Option (List ℕ) → List BlockOption → Option (List ℕ)

@@ -7,8 +7,9 @@ use Rattle.std.proofs.Math.Bool.{or-false, and_comm}
 use Rattle.base_rows.proofs.ListTests.{any-map, any-flat_map}
 use Rattle.base_rows.proofs.Lists.{any_const}
 use Rattle.mud_base.specs.declared.prefix.Prefix.{Prefix}
-use Rattle.rule_export.specs.Networks.{holds_all, common_part, common_of, choices}
+use Rattle.rule_export.specs.Networks.{holds_all, common_part}
 use Rattle.rule_export.proofs.PrefixLaws.{IsOfPrefixes}
+use Rattle.rule_export.proofs.Parts.{common_of, choices}
 
 -- ---- Tests of the elements
 
@@ -51,18 +52,15 @@ any_bind t p None = refl
 any_bind t p (Some q) = refl
 
 by_first : (test : List Prefix → Bool) (ps : List Prefix) (pss : List (List Prefix)) → list_any test (choices (ps ∷ pss)) ≡ list_any (λ p. list_any (λ c. test (p ∷ c)) (choices pss)) ps
-unfolding choices
 by_first test ps pss =
     any-flat_map test (λ p. map (λ c. p ∷ c) (choices pss)) ps
     ∙ any_alike (λ p. list_any test (map (λ c. p ∷ c) (choices pss))) (λ p. list_any (λ c. test (p ∷ c)) (choices pss)) ps (λ p. any-map test (λ c. p ∷ c) (choices pss))
 
 one_list : (t : Prefix → Bool) (ps : List Prefix) → some_choice t (ps ∷ []) ≡ list_any t ps
-unfolding choices common_of
 one_list t ps = by_first (of_choice t) ps [] ∙ any_alike (λ p. list_any (λ c. of_choice t (p ∷ c)) ([] ∷ [])) t ps (λ p. or-false (t p))
 
 -- a choice has a prefix, so the first one's common part with the rest is one of two
 two_prefixes : (t : Prefix → Bool) (p : Prefix) (qs : List Prefix) (pss : List (List Prefix)) → list_any (λ c. of_choice t (p ∷ c)) (choices (qs ∷ pss)) ≡ some_choice (with_first t p) (qs ∷ pss)
-unfolding common_of
 two_prefixes t p qs pss =
     by_first (λ c. of_choice t (p ∷ c)) qs pss
     ∙ any_alike (λ q. list_any (λ c. of_choice t (p ∷ (q ∷ c))) (choices pss)) (λ q. list_any (λ c. of_choice (with_first t p) (q ∷ c)) (choices pss)) qs

@@ -11,10 +11,10 @@ use Rattle.acl_model.specs.declared.entry.Layer.TheVariants as layer
 use Rattle.acl_model.specs.declared.entry.Action.TheVariants.{Accept}
 use Rattle.acl_model.specs.declared.entry.Entry.{Entry}
 use Rattle.acl_model.proofs.OnLiterals.{acl_on_literals}
-use Rattle.rule_export.specs.Networks.{holds_all, common_part, common_of, choices, is_local_of, named_by, is_near, has_near, in_order, near_networks, asked_networks}
+use Rattle.rule_export.specs.Networks.{holds_all, common_part, is_local_of, named_by, is_near, has_near, in_order, near_networks, asked_networks}
 
 unfoldable pub networks_compute : ⊤
-unfolding acl_on_literals addr_sort_key prefix_sort_key holds_all common_part common_of choices is_local_of named_by is_near has_near in_order near_networks asked_networks
+unfolding acl_on_literals addr_sort_key prefix_sort_key holds_all common_part is_local_of named_by is_near has_near in_order near_networks asked_networks
 networks_compute = tt
 
 -- 10.0.0.0/8, 10.1.0.0/16, 10.1.2.0/24, 192.168.0.0/16, 2001:db8::/32

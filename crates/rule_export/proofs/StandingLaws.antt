@@ -22,12 +22,13 @@ use Rattle.table_model.specs.declared.bind.ClassRow.{ClassRow}
 use Rattle.table_model.specs.declared.bind.NameRow.{NameRow}
 use Rattle.table_model.specs.Expiries.{is_live, has_live, Expiries}
 use Rattle.table_model.specs.Binds.{same_class, has_addr}
-use Rattle.table_model.specs.Tables.{Tables, has_lease, has_host, has_url, is_leased, is_bound, is_named, meets}
+use Rattle.table_model.specs.Tables.{Tables, has_host, has_url, is_leased, is_bound, is_named, meets}
 use Rattle.rule_export.specs.Listed.{table_addrs, addr_network, is_listed}
 use Rattle.rule_export.proofs.Parts.{addr_networks}
 use Rattle.rule_export.proofs.ChoiceLaws.{any_alike}
 use Rattle.rule_export.proofs.EntryLaws.{any-filter, host_holds}
 use Rattle.rule_export.proofs.NetworkLaws.{any-in_order}
+use Rattle.table_model.proofs.Parts.{has_lease}
 
 -- ---- Two lists
 
@@ -69,7 +70,7 @@ module _ (tables : Tables) (now : ℕ) (url : List ℕ) (a : Addr) where
   addr_stands addrs e = any_more (λ b. same_addr b a) (same_addr a) addrs turned e
 
   leased_stands : (test : Thing → Bool) (things : List Thing) → is_leased test a now things ≡ true → stands (flat_map thing_addrs things) ≡ true
-  unfolding is_leased has_lease
+  unfolding is_leased
   leased_stands test things e =
       any-flat_map (same_addr a) thing_addrs things
       ∙ any_more (λ t. test t && has_lease a now t) (λ t. stands (thing_addrs t)) things (λ t h. live_stands t.leases (right_of (test t) (has_lease a now t) h)) e

@@ -24,18 +24,7 @@ holds_all p q = nat_le p.len q.len && prefix_holds p q.addr
 unfoldable pub common_part : Prefix → Prefix → Option Prefix
 common_part p q = if holds_all p q then Some q else (if holds_all q p then Some p else None)
 
--- the common part of all prefixes of a choice of at least one
-unfoldable pub common_of : List Prefix → Option Prefix
-common_of [] = None
-common_of (p ∷ []) = Some p
-common_of (p ∷ (q ∷ qs)) = option_and_then (common_part p) (common_of (q ∷ qs))
-
 -- ---- Choices
-
--- each way to take one of each
-unfoldable pub choices : List (List Prefix) → List (List Prefix)
-choices [] = [] ∷ []
-choices (ps ∷ pss) = flat_map (λ p. map (λ choice. p ∷ choice) (choices pss)) ps
 
 unfoldable pub is_local_of : Family → Prefix → Bool
 is_local_of family p = is_in_family family p.addr
@@ -59,6 +48,17 @@ in_order ps = set_rows prefix_sort_key ps []
 -- the networks of an entry with near selectors: what each choice of a prefix that each of them names has in common
 unfoldable pub near_networks : Family → List Prefix → Entry → List Prefix
 near_networks family locals entry = in_order (filter_map common_of (choices (map (named_by family locals) (filter is_near entry.selectors))))
+  where
+    -- the common part of all prefixes of a choice of at least one
+    common_of : List Prefix → Option Prefix
+    common_of [] = None
+    common_of (p ∷ []) = Some p
+    common_of (p ∷ (q ∷ qs)) = option_and_then (common_part p) (common_of (q ∷ qs))
+
+    -- each way to take one of each
+    choices : List (List Prefix) → List (List Prefix)
+    choices [] = [] ∷ []
+    choices (ps ∷ pss) = flat_map (λ p. map (λ choice. p ∷ choice) (choices pss)) ps
 
 -- ---- The same without the choices, whose number is the product of those of the prefixes: one selector at a time, from the
 -- last to the first, and each network once

@@ -99,13 +99,13 @@ is_any _ = false
 unfoldable pub port_value : PortTest → Option (List ℕ)
 port_value test = if is_any test then None else Some (test_text test)
 
--- the side that begins the connection
-unfoldable pub beginner_text : Direction → List ℕ
-beginner_text From = codes "\"from-device\""
-beginner_text To = codes "\"to-device\""
-
 unfoldable pub beginner_value : Option Direction → Option (List ℕ)
 beginner_value begun = option_map beginner_text begun
+  where
+    -- the side that begins the connection
+    beginner_text : Direction → List ℕ
+    beginner_text From = codes "\"from-device\""
+    beginner_text To = codes "\"to-device\""
 
 unfoldable pub flags_value : Option ℕ → Option (List ℕ)
 flags_value flags = option_map flags_text flags

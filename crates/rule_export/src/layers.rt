@@ -79,7 +79,7 @@ fn append_port(line: &mut Bytes, first: bool, name: &[u8], test: PortTest) -> Re
 
 /// Adds the member of the side that is to have begun the connection, where one is named. The answer
 /// says whether the next member is the first.
-#[tactic(auto, unfolding(crate::specs::Objects::member_text, crate::specs::Objects::next_first, crate::specs::Tests::beginner_value, crate::specs::Tests::beginner_text))]
+#[tactic(auto, unfolding(crate::specs::Objects::member_text, crate::specs::Objects::next_first, crate::specs::Tests::beginner_value))]
 fn append_beginner(line: &mut Bytes, first: bool, begun: Option<Direction>) -> Result<bool, Memory>
     ensures text { OnOk result (line.new ≡ line.old ++ member_text first (codes "ietf-mud:direction-initiated", spec.beginner_value begun)) }
     ensures next { IfOk result (λ next. next ≡ next_first first (codes "ietf-mud:direction-initiated", spec.beginner_value begun)) }

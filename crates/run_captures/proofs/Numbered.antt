@@ -5,13 +5,15 @@ use Rattle.mud_base.specs.declared.number.ByteOrder.{ByteOrder}
 use Rattle.read_buffer.specs.Packets.{Packet, Told, broken, with_all}
 use Rattle.pcap_read.specs.declared.fault.CapFault.{CapFault}
 use Rattle.pcap_read.specs.declared.fault.CapFault.TheVariants as faults
-use Rattle.pcap_read.specs.Packets.{Packets, at_head, head_len, header_len, header_of, captured_len, packets_from, behind_header, packets_of}
+use Rattle.pcap_read.specs.Packets.{Packets, head_len, header_len, header_of, captured_len, packets_from, packets_of}
 use Rattle.pcapng_read.specs.declared.fault.NgFault.{NgFault}
 use Rattle.pcapng_read.specs.declared.head.Kind.{Kind}
 use Rattle.pcapng_read.specs.declared.head.Kind.TheVariants.{SectionHeader, InterfaceDescription, EnhancedPacket, OtherPacket, Other}
 use Rattle.pcapng_read.specs.declared.standing.Standing.{Standing}
-use Rattle.pcapng_read.specs.Blocks.{NgPackets, at_start, blocks_from, head_of, ng_packets_of, packets_behind, packets_in, standing_behind, unless_broken}
+use Rattle.pcapng_read.specs.Blocks.{NgPackets, at_start, blocks_from, head_of, ng_packets_of, packets_behind, packets_in, standing_behind}
 use Rattle.run_captures.specs.Captures.{captured_of, is_next}
+use Rattle.pcap_read.proofs.Parts.{at_head, behind_header}
+use Rattle.pcapng_read.proofs.Parts.{unless_broken}
 
 -- they are numbered on, behind so many
 abbrev pub IsNumbered : ℕ → List Packet → Type 0

@@ -1,10 +1,11 @@
+mod Examples
 pub mod Bounds
 pub mod Counted
-mod Examples
 pub mod Joins
-pub mod Names
-pub mod Rounds
 pub mod Lines
+pub mod Names
 pub mod PacketCounts
+pub mod Parts
 pub mod RanLaws
+pub mod Rounds
 pub mod Stores

@@ -24,7 +24,7 @@ use Rattle.desk_model.specs.Boxed.{IsKept, IsSameBox}
 use Rattle.run_desk.proofs.Refusals.{RunsRefused, is_refused}
 use Rattle.run_desk.proofs.Stores.{kept_tables}
 use Rattle.run_drills.specs.Commands.{drill_commands}
-use Rattle.run_drills.specs.Drill.{drill_text, lines_in, prepared, session_after}
+use Rattle.run_drills.specs.Drill.{drill_text, lines_in, session_after}
 use Rattle.run_drills.specs.Store.{DrillsFrom, DrillsStore, IsFull, holds_nothing, not_empty_line}
 
 -- ---- A desk that holds nothing
@@ -53,7 +53,7 @@ is_new desk is =
     (no_rows desk.files files.1) (no_stamp desk.stamp stamp.1)
 
 text_of : (packets : ℕ) → lines_in packets (session_after (opened empty_desk) (drill_commands packets)) ≡ drill_text packets
-unfolding drill_text prepared
+unfolding drill_text
 text_of packets = refl
 
 -- ---- Statuses

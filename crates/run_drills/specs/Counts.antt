@@ -39,13 +39,6 @@ is_no_match _ = false
 
 -- ---- Counts
 
--- the rulings in a verdict: one for each endpoint that is a Thing
-abbrev pub rulings_in : Verdict → List Ruling
-rulings_in (Governed source destination) = option_to_list source ++ option_to_list destination
-rulings_in Unmanaged = []
-rulings_in Link = []
-rulings_in (Unreadable part) = []
-
 unfoldable pub ruling_counts : List Ruling → RulingCounts
 ruling_counts rulings = record {
   accept = count_by is_accept rulings;
@@ -56,17 +49,20 @@ ruling_counts rulings = record {
   no_match = count_by is_no_match rulings;
 }
 
--- whether a frame with the verdict isn't forwarded
-abbrev pub is_dropped : Verdict → Bool
-is_dropped verdict = not (forwarded verdict)
-
 -- how many frames are forwarded and how many aren't, and the counts of the rulings on them
 unfoldable pub verdict_counts : List Verdict → VerdictCounts
 verdict_counts verdicts = record {
   passed = count_by forwarded verdicts;
-  dropped = count_by is_dropped verdicts;
+  dropped = count_by (λ (verdict : Verdict). not (forwarded verdict)) verdicts;
   rulings = ruling_counts (flat_map rulings_in verdicts);
 }
+  where
+    -- the rulings in a verdict: one for each endpoint that is a Thing
+    rulings_in : Verdict → List Ruling
+    rulings_in (Governed source destination) = option_to_list source ++ option_to_list destination
+    rulings_in Unmanaged = []
+    rulings_in Link = []
+    rulings_in (Unreadable part) = []
 
 -- ---- One more
 

@@ -29,10 +29,6 @@ session_behind packets session (number ∷ numbers) = session_behind packets (fr
 abbrev pub numbers_to : ℕ → List ℕ
 numbers_to packets = range_with_len 1 packets
 
--- a new desk behind all commands
-unfoldable pub prepared : ℕ → Session
-prepared packets = session_after (opened empty_desk) (drill_commands packets)
-
 -- what a drill writes of a desk: how many Things and files it has, and the counts of the verdicts on all packets
 unfoldable pub lines_in : ℕ → Session → List ℕ
 lines_in packets session =
@@ -42,3 +38,7 @@ lines_in packets session =
 -- what a drill writes that begins with a new desk
 unfoldable pub drill_text : ℕ → List ℕ
 drill_text packets = lines_in packets (prepared packets)
+  where
+    -- a new desk behind all commands
+    prepared : ℕ → Session
+    prepared packets = session_after (opened empty_desk) (drill_commands packets)

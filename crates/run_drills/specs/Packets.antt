@@ -14,17 +14,9 @@ port_octets port = (port / 256) ∷ (port % 256) ∷ []
 abbrev pub tcp_head : List ℕ
 tcp_head = 0x08 ∷ 0x00 ∷ 0x45 ∷ 0x00 ∷ 0x00 ∷ 0x28 ∷ 0x00 ∷ 0x01 ∷ 0x00 ∷ 0x00 ∷ 0x40 ∷ 0x06 ∷ 0x00 ∷ 0x00 ∷ []
 
--- the same for UDP: 28 octets in all, identification 2
-abbrev pub udp_head : List ℕ
-udp_head = 0x08 ∷ 0x00 ∷ 0x45 ∷ 0x00 ∷ 0x00 ∷ 0x1C ∷ 0x00 ∷ 0x02 ∷ 0x00 ∷ 0x00 ∷ 0x40 ∷ 0x11 ∷ 0x00 ∷ 0x00 ∷ []
-
 -- TCP behind the ports: sequence number 1, five words of header, these flags, a window of 65,535
 abbrev pub tcp_tail : ℕ → List ℕ
 tcp_tail flags = 0 ∷ 0 ∷ 0 ∷ 1 ∷ 0 ∷ 0 ∷ 0 ∷ 0 ∷ 0x50 ∷ flags ∷ 0xFF ∷ 0xFF ∷ 0 ∷ 0 ∷ 0 ∷ 0 ∷ []
-
--- UDP behind the ports: eight octets in all
-abbrev pub udp_tail : List ℕ
-udp_tail = 0 ∷ 8 ∷ 0 ∷ 0 ∷ []
 
 -- the Thing begins a connection from its port 50000 to this port of the address (SYN)
 unfoldable pub call_frame : ℕ → ℕ → ℕ → List ℕ
@@ -40,6 +32,14 @@ answer_frame thing =
 unfoldable pub query_frame : ℕ → List ℕ
 query_frame thing =
     far_mac ++ (mac_of thing).0 ++ udp_head ++ octets_v4 (lease_of thing) ++ octets_v4 dns_address ++ port_octets 40000 ++ port_octets 53 ++ udp_tail
+  where
+    -- the same for UDP: 28 octets in all, identification 2
+    udp_head : List ℕ
+    udp_head = 0x08 ∷ 0x00 ∷ 0x45 ∷ 0x00 ∷ 0x00 ∷ 0x1C ∷ 0x00 ∷ 0x02 ∷ 0x00 ∷ 0x00 ∷ 0x40 ∷ 0x11 ∷ 0x00 ∷ 0x00 ∷ []
+
+    -- UDP behind the ports: eight octets in all
+    udp_tail : List ℕ
+    udp_tail = 0 ∷ 8 ∷ 0 ∷ 0 ∷ []
 
 -- ---- The packet of a number, from 1 on, of so many
 

@@ -3,3 +3,4 @@ pub mod Dues
 pub mod Runs
 pub mod Examples
 pub mod ExportLaws
+pub mod Parts

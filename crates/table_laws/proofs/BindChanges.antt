@@ -21,10 +21,11 @@ use Rattle.table_model.specs.declared.bind_fault.BindFault.TheVariants.{ClassesF
 use Rattle.table_model.specs.Limits.{most_classes, most_class_addresses, most_locals, most_names, most_name_addresses}
 use Rattle.table_model.specs.Expiries.{Expiries, is_live, expiry_of, with_expiry, live_rows, live_count}
 use Rattle.table_model.specs.Binds.{key_of_class, class_key, class_at, set_class, without_class, class_row, has_addr, with_addr, without_addr, same_prefix, same_prefixes, prefixes_in_order, name_of, name_at, set_name, without_name, name_row}
-use Rattle.table_model.specs.BindCommands.{ClassStep, classes_done, bind_cases, bind_step, classes_without, unbind_cases, unbind_step, LocalStep, locals_done, locals_cases, locals_step, NameStep, observed, addrs_of, least_dead, replacing, new_pair, kept_pair, observe_cases, observe_row, observe_step, is_change}
+use Rattle.table_model.specs.BindCommands.{ClassStep, classes_done, bind_step, unbind_step, LocalStep, locals_step, NameStep, observed, addrs_of, least_dead, replacing, new_pair, kept_pair, observe_row, observe_step, is_change}
 use Rattle.table_model.proofs.LeaseLaws.{expiry_of-with_expiry}
 use Rattle.base_rows.proofs.ListTests.{both, any_without}
 use Rattle.base_rows.proofs.RowSets.{passing_found}
+use Rattle.table_model.proofs.Parts.{bind_cases, classes_without, unbind_cases, locals_done, observe_cases}
 
 -- ---- What a word tells
 
@@ -64,7 +65,7 @@ module _ (c : Class) (a : Addr) (classes : List ClassRow) where
   by_classes false x y f g = g refl
 
   bind_cases_tell : (o : Option ClassRow) → class_at c classes ≡ o → TellsClasses (bind_cases c a classes o)
-  unfolding bind_cases set_class class_at class_key class_row is_change
+  unfolding set_class class_at class_key class_row is_change
   bind_cases_tell None is = by_classes (nat_le most_classes (length classes)) (Err ClassesFull) (classes_done Bound (set_class (class_row c (a ∷ [])) classes))
       (λ _. tt)
       (λ _. tells_other Bound classes (set_row class_key (class_row c (a ∷ [])) classes) refl
@@ -84,7 +85,7 @@ module _ (c : Class) (a : Addr) (classes : List ClassRow) where
 
   module _ (ascend : SortKeysAscend class_key classes) where
     unbound_tell : (row : ClassRow) → class_at c classes ≡ Some row → (bs : List Addr) → (has_addr a row.addrs ≡ has_addr a bs → ⊥) → Tells Unbound classes (classes_without c bs classes)
-    unfolding classes_without without_class set_class class_at class_key class_row is_change
+    unfolding without_class set_class class_at class_key class_row is_change
     unbound_tell row is [] differ = tells_other Unbound classes (without_row class_key (key_of_class c) classes) refl
         (λ e. none-some row (sym (row_at-without_row class_key (key_of_class c) classes (key_of_class c) ascend ∙ ap (λ b. cond b None (row_at class_key (key_of_class c) classes)) (same_sort_key_itself (key_of_class c)))
         ∙ ap (row_at class_key (key_of_class c)) e ∙ is))
@@ -92,7 +93,6 @@ module _ (c : Class) (a : Addr) (classes : List ClassRow) where
         (put_differs class_key (class_row c (b ∷ bs)) classes classes (λ f. differ (ap (λ (r : ClassRow). has_addr a r.addrs) (same_Some row (class_row c (b ∷ bs)) (sym is ∙ f)))))
 
     unbind_cases_tell : (o : Option ClassRow) → class_at c classes ≡ o → TellsClasses (unbind_cases c a classes o)
-    unfolding unbind_cases
     unbind_cases_tell None is = tt
     unbind_cases_tell (Some row) is = by_classes (has_addr a row.addrs) (classes_done Unbound (classes_without c (without_addr a row.addrs) classes)) (Err NotBound)
         (λ has. unbound_tell row is (without_addr a row.addrs) (λ e. hasn't_addr a row.addrs (sym e ∙ has)))
@@ -123,7 +123,7 @@ module _ (prefixes locals : List Prefix) where
   by_locals false x y f g = g refl
 
   pub locals_tell : TellsLocals (locals_step prefixes locals)
-  unfolding locals_step locals_cases is_change
+  unfolding locals_step is_change
   locals_tell =
       let ordered : List Prefix = prefixes_in_order prefixes in
       by_locals (nat_lt most_locals (length ordered)) (Err LocalsFull) (cond (same_prefixes ordered locals) (locals_done Same locals) (locals_done Set ordered))
@@ -179,7 +179,7 @@ module _ (name : List ℕ) (a : Addr) (until now : ℕ) (later : now < until) (n
       not_itself n m e less = omega (arith, e, less)
 
   observe_cases_tell : (o : Option NameRow) → name_at name names ≡ o → (e : Option ℕ) → expiry_of a (addrs_of o) ≡ e → TellsNames (observe_cases name a until now names o e)
-  unfolding observe_cases is_live
+  unfolding is_live
   observe_cases_tell o is None none = new_pair_tells o is (λ f. none-some until (sym none ∙ f))
   observe_cases_tell o is (Some old) kept = by_names (nat_lt now old) (kept_pair name a until names o old) (new_pair name a until now names o)
       (λ _. kept_pair_tells o old is kept)

@@ -8,11 +8,12 @@ use Rattle.table_model.specs.declared.bind.Class.{Class}
 use Rattle.table_model.specs.declared.bind.ClassRow.{ClassRow}
 use Rattle.table_model.specs.declared.bind.NameRow.{NameRow}
 use Rattle.table_model.specs.Binds.{Binds, IsSoundClasses, IsSoundLocals, IsSoundNames, IsSoundBinds}
-use Rattle.table_model.specs.BindCommands.{ClassStep, LocalStep, NameStep, is_change, with_classes, with_locals, with_names}
+use Rattle.table_model.specs.BindCommands.{ClassStep, LocalStep, NameStep, is_change, with_classes}
 use Rattle.table_laws.proofs.SoundClasses.{OfClasses}
 use Rattle.table_laws.proofs.SoundLocals.{OfLocals}
 use Rattle.table_laws.proofs.SoundNames.{OfNames}
 use Rattle.table_laws.proofs.BindChanges.{Tells, TellsClasses, TellsLocals, TellsNames}
+use Rattle.table_model.proofs.Parts.{with_locals, with_names}
 
 -- ---- Sound lists
 
@@ -22,12 +23,10 @@ classes_sound binds sound (Ok after) new = record { classes = new; locals = soun
 classes_sound binds sound (Err fault) new = tt
 
 pub locals_sound : (binds : Binds) → IsSoundBinds binds → (step : LocalStep) → OfLocals IsSoundLocals step → IfOk (with_locals binds step) (λ after. IsSoundBinds after.binds)
-unfolding with_locals
 locals_sound binds sound (Ok after) new = record { classes = sound.classes; locals = new; names = sound.names }
 locals_sound binds sound (Err fault) new = tt
 
 pub names_sound : (binds : Binds) → IsSoundBinds binds → (step : NameStep) → OfNames IsSoundNames step → IfOk (with_names binds step) (λ after. IsSoundBinds after.binds)
-unfolding with_names
 names_sound binds sound (Ok after) new = record { classes = sound.classes; locals = sound.locals; names = new }
 names_sound binds sound (Err fault) new = tt
 
@@ -50,11 +49,9 @@ classes_told binds c a (Ok after) tells = told_both (λ (x : List ClassRow). rec
 classes_told binds c a (Err fault) tells = tt
 
 pub locals_told : (binds : Binds) (prefixes : List Prefix) (step : LocalStep) → TellsLocals prefixes binds.locals step → IfOk (with_locals binds step) (λ after. (after.changes ≡ false) ↔ (after.binds ≡ binds))
-unfolding with_locals
 locals_told binds prefixes (Ok after) tells = told_both (λ (x : List Prefix). record binds { locals = x }) (λ (b : Binds). b.locals) binds after.word after.locals (λ x. refl) refl tells
 locals_told binds prefixes (Err fault) tells = tt
 
 pub names_told : (binds : Binds) (name : List ℕ) (a : Addr) (until now : ℕ) (later : now < until) (step : NameStep) → TellsNames name a until now later binds.names step → IfOk (with_names binds step) (λ after. (after.changes ≡ false) ↔ (after.binds ≡ binds))
-unfolding with_names
 names_told binds name a until now later (Ok after) tells = told_both (λ (x : List NameRow). record binds { names = x }) (λ (b : Binds). b.names) binds after.word after.names (λ x. refl) refl tells
 names_told binds name a until now later (Err fault) tells = tt

@@ -18,12 +18,13 @@ use Rattle.table_model.specs.Tables.{Tables}
 use Rattle.table_model.specs.Bindings.{class_bindings, name_bindings, bindings_of}
 use Rattle.table_model.specs.BindingChanges.{gone_of, come_of}
 use Rattle.table_model.specs.Binds.{class_key, class_at, set_class, without_class, class_row, has_addr, with_addr, without_addr, name_of, name_at, set_name, without_name, name_row, has_live_row, IsSoundClasses, IsSoundNames}
-use Rattle.table_model.specs.BindCommands.{ClassStep, classes_done, bind_cases, bind_step, classes_without, unbind_cases, unbind_step, NameStep, observed, addrs_of, least_dead, replacing, new_pair, kept_pair, observe_cases, observe_row, observe_step}
+use Rattle.table_model.specs.BindCommands.{ClassStep, classes_done, bind_step, unbind_step, NameStep, observed, addrs_of, least_dead, replacing, new_pair, kept_pair, observe_row, observe_step}
 use Rattle.table_model.specs.BindRowChanges.{no_rows, one_row, bind_cases_change, bind_change, class_left, unbind_cases_change, unbind_change, replacing_change, new_pair_change, kept_pair_change, observe_cases_change, observe_row_change, observe_change}
 use Rattle.table_laws.proofs.SoundRows.{found_there}
 use Rattle.table_laws.proofs.SoundClasses.{OfClasses, cond_classes}
 use Rattle.table_laws.proofs.SoundNames.{OfNames, cond_names}
 use Rattle.table_laws.proofs.BookChanges.{class_book_change, name_book_change}
+use Rattle.table_model.proofs.Parts.{bind_cases, classes_without, unbind_cases, observe_cases}
 
 -- the change of rows makes the list, and touches no sort key twice
 pub record Makes {R : Type 0} (sort_key : R → List ℕ) (change : RowChange R) (rows after : List R) : Type 0 where
@@ -49,7 +50,7 @@ module _ (c : Class) (a : Addr) (classes : List ClassRow) where
       (λ _. tt) (λ _. put_class (class_row c (with_addr a row.addrs)))
 
   bind_cases_make : (o : Option ClassRow) → OfClasses (Makes class_key (bind_cases_change c a o) classes) (bind_cases c a classes o)
-  unfolding bind_cases bind_cases_change
+  unfolding bind_cases_change
   bind_cases_make None = cond_classes (Makes class_key (one_row (class_row c (a ∷ []))) classes) (nat_le most_classes (length classes)) (Err ClassesFull) (classes_done Bound (set_class (class_row c (a ∷ [])) classes))
       (λ _. tt) (λ _. put_class (class_row c (a ∷ [])))
   bind_cases_make (Some row) = bound_or_full row (has_addr a row.addrs)
@@ -59,12 +60,12 @@ module _ (c : Class) (a : Addr) (classes : List ClassRow) where
   bind_makes = bind_cases_make (class_at c classes)
 
   left_makes : (bs : List Addr) → Makes class_key (class_left c bs) classes (classes_without c bs classes)
-  unfolding changed sort_keys_of is_plain class_left classes_without set_class without_class
+  unfolding changed sort_keys_of is_plain class_left set_class without_class
   left_makes [] = record { is = refl; plain = refl }
   left_makes (b ∷ bs) = record { is = refl; plain = refl }
 
   unbind_cases_make : (o : Option ClassRow) → OfClasses (Makes class_key (unbind_cases_change c a o) classes) (unbind_cases c a classes o)
-  unfolding unbind_cases unbind_cases_change
+  unfolding unbind_cases_change
   unbind_cases_make None = tt
   unbind_cases_make (Some row) = cond_classes (Makes class_key (class_left c (without_addr a row.addrs)) classes) (has_addr a row.addrs) (classes_done Unbound (classes_without c (without_addr a row.addrs) classes)) (Err NotBound)
       (λ _. left_makes (without_addr a row.addrs)) (λ _. tt)
@@ -116,7 +117,7 @@ module _ (name : List ℕ) (a : Addr) (until now : ℕ) (names : List NameRow) (
   by_life o old is false = new_pair_makes o is
 
   pub observe_cases_make : (o : Option NameRow) → name_at name names ≡ o → (e : Option ℕ) → OfNames (Makes name_of (observe_cases_change name a until now names o e) names) (observe_cases name a until now names o e)
-  unfolding observe_cases observe_cases_change
+  unfolding observe_cases_change
   observe_cases_make o is None = new_pair_makes o is
   observe_cases_make o is (Some old) = by_life o old is (is_live old now)
 

@@ -9,7 +9,7 @@ use Rattle.table_model.specs.declared.bind.Class.TheVariants.{Uri, Mine}
 use Rattle.table_model.specs.declared.bind.ClassRow.{ClassRow}
 use Rattle.table_model.specs.Limits.{most_class_addresses}
 use Rattle.table_model.specs.Binds.{key_of_class, class_key, class_at, are_addrs, is_class, is_sound_class, IsKeptClass, IsSoundClasses}
-use Rattle.table_model.specs.BindCommands.{unbind_cases, unbind_step}
+use Rattle.table_model.specs.BindCommands.{unbind_step}
 use Rattle.table_model.proofs.RowSets.{all_at, first_of_three}
 use Rattle.table_laws.proofs.SoundClasses.{OfClasses, sound-unbind_step}
 
@@ -34,6 +34,6 @@ class_there c classes row sound there =
     (kept_class row (all_at class_key IsKeptClass classes (key_of_class c) row sound.each there))
 
 pub unbind_sound : (c : Class) (a : Addr) (classes : List ClassRow) → IsSoundClasses classes → (found : Option ClassRow) → class_at c classes ≡ found → OfClasses IsSoundClasses (unbind_step c a classes)
-unfolding unbind_step unbind_cases
+unfolding unbind_step
 unbind_sound c a classes sound None missing = rw missing tt
 unbind_sound c a classes sound (Some row) there = sound-unbind_step c a classes sound (class_there c classes row sound there)

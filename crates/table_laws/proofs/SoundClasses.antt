@@ -17,13 +17,14 @@ use Rattle.item_codec.specs.declared.word.Word.TheVariants.{Same, Bound, Unbound
 use Rattle.table_model.specs.Limits.{most_classes, most_class_addresses}
 use Rattle.table_model.specs.Binds.{key_of_class, class_key, class_at, set_class, without_class, class_row, has_addr, with_addr, without_addr, are_addrs, is_class, is_sound_class, IsKeptClass, IsSoundClasses}
 use Rattle.table_model.specs.ItemFields.{IsAddr}
-use Rattle.table_model.specs.BindCommands.{ClassStep, classes_done, bind_cases, bind_step, classes_without, unbind_cases, unbind_step}
+use Rattle.table_model.specs.BindCommands.{ClassStep, classes_done, bind_step, unbind_step}
 use Rattle.base_rows.proofs.ListTests.{left_of, right_of, both}
 use Rattle.base_rows.proofs.Lists.{filter_few}
 use Rattle.table_model.proofs.RowSets.{first_of_three}
 use Rattle.table_model.proofs.LeaseLaws.{all_kept}
 use Rattle.table_laws.proofs.SoundRows.{AreSoundRows, put_new_row, put_there_row, without_sound_row}
 use Rattle.table_model.proofs.RowSets.{all_at}
+use Rattle.table_model.proofs.Parts.{bind_cases, classes_without, unbind_cases}
 
 -- ---- Addresses are rows by themselves
 
@@ -114,7 +115,7 @@ module _ (c : Class) (a : Addr) (classes : List ClassRow) (sound : IsSoundClasse
       (put_there_row class_key IsKeptClass most_classes (class_row c bs) row classes rows_sound (class_to c bs e s) there)
 
   bind_cases_sound : is_class c ≡ true → IsAddr a → (o : Option ClassRow) → class_at c classes ≡ o → OfClasses IsSoundClasses (bind_cases c a classes o)
-  unfolding bind_cases set_class are_addrs
+  unfolding set_class are_addrs
   bind_cases_sound e fine None is = cond_classes IsSoundClasses (nat_le most_classes (length classes)) (Err ClassesFull) (classes_done Bound (set_class (class_row c (a ∷ [])) classes))
       (λ _. tt)
       (λ room. from_rows (set_row class_key (class_row c (a ∷ [])) classes) (put_new_row class_key IsKeptClass most_classes (class_row c (a ∷ [])) classes rows_sound
@@ -143,12 +144,12 @@ module _ (c : Class) (a : Addr) (classes : List ClassRow) (sound : IsSoundClasse
   sound-bind_step e fine = bind_cases_sound e fine (class_at c classes) refl
 
   fewer_sound : (row : ClassRow) → is_class c ≡ true → class_at c classes ≡ Some row → (bs : List Addr) → are_addrs bs ≡ true → length bs ≤ length row.addrs → AllByRecursion IsAddr bs → IsSoundClasses (classes_without c bs classes)
-  unfolding classes_without without_class
+  unfolding without_class
   fewer_sound row e is [] up fewer fit = from_rows (without_row class_key (key_of_class c) classes) (without_sound_row class_key IsKeptClass most_classes (key_of_class c) classes rows_sound)
   fewer_sound row e is (b ∷ bs) up fewer fit = put_class row (b ∷ bs) e is (record { ascend = up; some = omega arith; few = omega (arith, fewer, (of_row row is).few); fit = fit })
 
   unbind_cases_sound : (o : Option ClassRow) → is_class c ≡ true → class_at c classes ≡ o → OfClasses IsSoundClasses (unbind_cases c a classes o)
-  unfolding unbind_cases without_addr
+  unfolding without_addr
   unbind_cases_sound None e is = tt
   unbind_cases_sound (Some row) e is = cond_classes IsSoundClasses (has_addr a row.addrs) (classes_done Unbound (classes_without c (without_addr a row.addrs) classes)) (Err NotBound)
       (λ _. fewer_sound row e is (without_addr a row.addrs) (without_addr_ascends a row.addrs (of_row row is).ascend)

@@ -12,8 +12,9 @@ use Rattle.base_rows.proofs.RowLaws.{all-set_row}
 use Rattle.item_codec.specs.declared.word.Word.TheVariants.{Same, Set}
 use Rattle.table_model.specs.declared.bind_fault.BindFault.TheVariants.{LocalsFull}
 use Rattle.table_model.specs.Limits.{most_locals}
-use Rattle.table_model.specs.Binds.{with_prefix, prefixes_in_order, same_prefixes, are_prefixes, IsKeptNetwork, IsSoundLocals}
-use Rattle.table_model.specs.BindCommands.{LocalStep, locals_done, locals_cases, locals_step}
+use Rattle.table_model.specs.Binds.{prefixes_in_order, same_prefixes, are_prefixes, IsKeptNetwork, IsSoundLocals}
+use Rattle.table_model.specs.BindCommands.{LocalStep, locals_step}
+use Rattle.table_model.proofs.Parts.{locals_done}
 
 -- a refusal changes nothing, and else this holds
 abbrev pub OfLocals : (List Prefix → Type 0) → LocalStep → Type 0
@@ -25,17 +26,17 @@ cond_locals P true x y f g = f refl
 cond_locals P false x y f g = g refl
 
 in_order_ascend : (prefixes : List Prefix) → SortKeysAscend prefix_sort_key (prefixes_in_order prefixes)
-unfolding prefixes_in_order with_prefix
+unfolding prefixes_in_order
 in_order_ascend [] = tt
 in_order_ascend (p ∷ ps) = ascend-set_row prefix_sort_key p (prefixes_in_order ps) (in_order_ascend ps)
 
 in_order_each : (P : Prefix → Type 0) (prefixes : List Prefix) → AllByRecursion P prefixes → AllByRecursion P (prefixes_in_order prefixes)
-unfolding prefixes_in_order with_prefix
+unfolding prefixes_in_order
 in_order_each P [] all = tt
 in_order_each P (p ∷ ps) all = all-set_row prefix_sort_key P p (prefixes_in_order ps) all.0 (in_order_each P ps all.1)
 
 pub sound-locals_step : (prefixes locals : List Prefix) → AllByRecursion IsKeptNetwork prefixes → IsSoundLocals locals → OfLocals IsSoundLocals (locals_step prefixes locals)
-unfolding locals_step locals_cases are_prefixes
+unfolding locals_step are_prefixes
 sound-locals_step prefixes locals each sound =
     let ordered : List Prefix = prefixes_in_order prefixes in
     cond_locals IsSoundLocals (nat_lt most_locals (length ordered)) (Err LocalsFull) (cond (same_prefixes ordered locals) (locals_done Same locals) (locals_done Set ordered))

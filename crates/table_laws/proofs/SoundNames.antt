@@ -13,13 +13,14 @@ use Rattle.table_model.specs.Limits.{most_names, most_name_addresses}
 use Rattle.table_model.specs.Expiries.{Expiries, for_ever, is_live, is_expiry, expiry_of, with_expiry, live_rows, live_count, are_ascending, have_expiries}
 use Rattle.table_model.specs.Binds.{name_of, name_at, set_name, without_name, name_row, has_live_row, is_name, is_sound_name, IsKeptName, IsSoundNames}
 use Rattle.table_model.specs.ItemFields.{IsAddr, IsExpiring}
-use Rattle.table_model.specs.BindCommands.{NameStep, observed, addrs_of, least_dead, replacing, new_pair, kept_pair, observe_cases, observe_row, observe_step}
+use Rattle.table_model.specs.BindCommands.{NameStep, observed, addrs_of, least_dead, replacing, new_pair, kept_pair, observe_row, observe_step}
 use Rattle.base_rows.proofs.ListTests.{left_of, right_of, both}
 use Rattle.table_model.proofs.RowSets.{first_of_three}
 use Rattle.table_laws.proofs.SoundRows.{AreSoundRows, put_new_row, put_there_row, without_sound_row, without_row_short, found_there}
 use Rattle.table_model.proofs.RowSets.{all_at}
 use Rattle.table_model.proofs.LeaseLaws.{with_expiry_ascends, filter_ascends, with_expiry_have, filter_expiries, with_expiry_grown, with_expiry_long, with_expiry_all, all_kept}
 use Rattle.table_laws.proofs.ExpiryRows.{with_expiry_some}
+use Rattle.table_model.proofs.Parts.{observe_cases}
 
 -- ---- Names
 
@@ -147,7 +148,6 @@ module _ (name : List ℕ) (a : Addr) (until now : ℕ) (named : is_name name �
       (λ _. sound)
 
   observe_cases_sound : (o : Option NameRow) → name_at name names ≡ o → (e : Option ℕ) → expiry_of a (addrs_of o) ≡ e → OfNames IsSoundNames (observe_cases name a until now names o e)
-  unfolding observe_cases
   observe_cases_sound o is None kept = new_pair_sound o is
   observe_cases_sound o is (Some old) kept = cond_names IsSoundNames (is_live old now) (kept_pair name a until names o old) (new_pair name a until now names o)
       (λ _. kept_pair_sound o old is kept) (λ _. new_pair_sound o is)

@@ -12,9 +12,10 @@ use Rattle.table_model.specs.declared.bind.ClassRow.{ClassRow}
 use Rattle.table_model.specs.declared.bind.NameRow.{NameRow}
 use Rattle.table_model.specs.declared.bind_fault.BindFault.TheVariants.{ClassesFull, ClassFull, NotBound, LocalsFull, NamesFull, NameFull}
 use Rattle.table_model.specs.Binds.{class_at, name_at, name_row}
-use Rattle.table_model.specs.BindCommands.{classes_done, locals_done, observed, bind_cases, bind_step, unbind_step, locals_step, least_dead, addrs_of, replacing, new_pair, observe_cases, observe_row, observe_step}
+use Rattle.table_model.specs.BindCommands.{classes_done, observed, bind_step, unbind_step, locals_step, least_dead, addrs_of, replacing, new_pair, observe_row, observe_step}
 use Rattle.table_model.specs.Expiries.{expiry_of}
 use Rattle.table_model.proofs.Literals.{binds_compute, bulb_addr, switch_addr, dns_addr, test_addr, bulb_url, dns_class, test_name}
+use Rattle.table_model.proofs.Parts.{locals_done}
 
 -- ---- Classes
 
@@ -48,7 +49,7 @@ lesser_address = refl
 
 -- a class that isn't kept, where 256 are
 no_room_for_class : (class : Class) (a : Addr) (classes : List ClassRow) → class_at class classes ≡ None → nat_le 256 (length classes) ≡ true → bind_step class a classes ≡ Err ClassesFull
-unfolding bind_step bind_cases
+unfolding bind_step
 no_room_for_class class a classes unknown full = rw (unknown, full) refl
 
 -- the addresses 1, 2, .. of a class or a name
@@ -195,7 +196,7 @@ one_has_ended = refl
 
 -- a name that isn't kept, where 4,096 are: it is refused where each of them has a live address
 no_room_for_name : (name : List ℕ) (a : Addr) (ttl now : ℕ) (names : List NameRow) → name_at name names ≡ None → nat_le 4096 (length names) ≡ true → least_dead now names ≡ None → observe_step name a ttl now names ≡ Err NamesFull
-unfolding observe_step observe_row addrs_of expiry_of observe_cases new_pair replacing
+unfolding observe_step observe_row addrs_of expiry_of new_pair replacing
 no_room_for_name name a ttl now names unknown full none = rw (unknown, full, none) refl
 
 -- else it takes the place of the least that has none

@@ -23,9 +23,10 @@ use Rattle.table_model.specs.Expiries.{Expiries}
 use Rattle.table_model.specs.Fits.{FitsThing}
 use Rattle.table_model.specs.Things.{is_sound_thing, IsKeptThing, mac_of}
 use Rattle.table_model.specs.Binds.{key_of_class, class_key, class_row, is_sound_class, name_row, is_sound_name, IsKeptClass, IsKeptName}
-use Rattle.table_model.specs.BindItems.{class_item, class_of_key, if_sound_class, class_in, locals_item, are_locals, if_sound_locals, locals_in, name_item, if_sound_name, name_in, stamp_item, moment_of_body, if_moment, stamp_in, IsKeptLocals, IsClassItem, IsLocalsItem, IsNameItem}
+use Rattle.table_model.specs.BindItems.{class_item, class_of_key, class_in, locals_item, are_locals, locals_in, name_item, name_in, stamp_item, moment_of_body, stamp_in, IsKeptLocals, IsClassItem, IsLocalsItem, IsNameItem}
 use Rattle.table_model.specs.ItemFields.{address, v4_in, v6_in, address_in, IsAddr, expiring, expiring_in, IsExpiring, network, network_in, IsNetwork}
 use Rattle.table_model.specs.ThingItems.{thing_fields, hold_octet, thing_body, thing_item, first_thing_item, hold_in, thing_of, if_sound_thing, thing_in, IsThingItem}
+use Rattle.table_model.proofs.Parts.{if_sound_class, if_sound_locals, if_sound_name, if_moment}
 
 -- ---- Addresses
 
@@ -297,11 +298,11 @@ key_alone (which ∷ text) c e =
     ]
 
 pub class_back : (row : ClassRow) → IsKeptClass row → class_in (class_item row) ≡ Some row
-unfolding class_in class_item class_key class_row if_sound_class
+unfolding class_in class_item class_key class_row
 class_back row kept = rw (key_back row.class, list_body_back address IsAddr address_in address_form row.addrs kept.fits, kept.sound) refl
 
 pub class_alone : (item : Item) (row : ClassRow) → IsOctets item.body → class_in item ≡ Some row → IsClassItem item row
-unfolding class_in class_item class_key class_row if_sound_class
+unfolding class_in class_item class_key class_row
 class_alone item row octets e =
     let kind = pass_some (eqb item.kind 3) row (class_of_key item.key >>= λ c. list_body_in address_in item.body >>= λ addrs. if_sound_class (class_row c addrs)) e in
     let c = bind_some (class_of_key item.key) (λ c. list_body_in address_in item.body >>= λ addrs. if_sound_class (class_row c addrs)) row kind.1 in
@@ -314,11 +315,11 @@ class_alone item row octets e =
 -- ---- Local networks
 
 pub locals_back : (locals : List Prefix) → IsKeptLocals locals → locals_in (locals_item locals) ≡ Some locals
-unfolding locals_in locals_item if_sound_locals
+unfolding locals_in locals_item
 locals_back locals kept = rw (list_body_back network IsNetwork network_in network_form locals kept.fits, kept.sound) refl
 
 pub locals_alone : (item : Item) (locals : List Prefix) → IsOctets item.body → locals_in item ≡ Some locals → IsLocalsItem item locals
-unfolding locals_in locals_item if_sound_locals
+unfolding locals_in locals_item
 locals_alone item locals octets e =
     let form = pass_some (eqb item.kind 4 && eqb (length item.key) 0) locals (list_body_in network_in item.body >>= if_sound_locals) e in
     let tests = and_parts (eqb item.kind 4) (eqb (length item.key) 0) form.0 in
@@ -331,11 +332,11 @@ locals_alone item locals octets e =
 -- ---- Names
 
 pub name_back : (row : NameRow) → IsKeptName row → name_in (name_item row) ≡ Some row
-unfolding name_in name_item name_row if_sound_name
+unfolding name_in name_item name_row
 name_back row kept = rw (list_body_back expiring IsExpiring expiring_in expiring_form row.addrs kept.fits, kept.sound) refl
 
 pub name_alone : (item : Item) (row : NameRow) → IsOctets item.body → name_in item ≡ Some row → IsNameItem item row
-unfolding name_in name_item name_row if_sound_name
+unfolding name_in name_item name_row
 name_alone item row octets e =
     let kind = pass_some (eqb item.kind 5) row (list_body_in expiring_in item.body >>= λ addrs. if_sound_name (name_row item.key addrs)) e in
     let addrs = bind_some (list_body_in expiring_in item.body) (λ addrs. if_sound_name (name_row item.key addrs)) row kind.1 in
@@ -364,11 +365,11 @@ moment_alone body moment octets e =
     read_whole body (version ++ number 8 b.0.0) b.0.1 both (end_alone b.0.1 c.0 c.1) ∙ ap (λ (k : ℕ). version ++ number 8 k) (some_is b.0.0 moment c.2)
 
 pub stamp_back : (moment : ℕ) → moment ≤ 253402300799 → stamp_in (stamp_item moment) ≡ Some moment
-unfolding stamp_in stamp_item if_moment
+unfolding stamp_in stamp_item
 stamp_back moment within = rw (moment_back moment (omega arith), le-leb moment 253402300799 within) refl
 
 pub stamp_alone : (item : Item) (moment : ℕ) → IsOctets item.body → stamp_in item ≡ Some moment → (item ≡ stamp_item moment) × (moment ≤ 253402300799)
-unfolding stamp_in stamp_item if_moment
+unfolding stamp_in stamp_item
 stamp_alone item moment octets e =
     let form = pass_some (eqb item.kind 6 && eqb (length item.key) 0) moment (moment_of_body item.body >>= if_moment) e in
     let tests = and_parts (eqb item.kind 6) (eqb (length item.key) 0) form.0 in

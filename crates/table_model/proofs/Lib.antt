@@ -1,22 +1,23 @@
-pub mod Members
-pub mod Alike
-pub mod Literals
-mod ThingExamples
 mod BindExamples
-mod RulingExamples
 mod FlowExamples
 mod ItemExamples
-pub mod ItemLaws
-pub mod RowSets
-pub mod UrlLengths
-pub mod AloneLaws
-pub mod LeaseLaws
-pub mod SoundThings
-pub mod ReadThings
-pub mod ToldThings
-pub mod SoundLaws
-pub mod ReadLaws
-pub mod TakenLaws
-pub mod TypeFacts
-mod TakenExamples
+mod RulingExamples
 mod SamePrefixes
+mod TakenExamples
+mod ThingExamples
+pub mod Alike
+pub mod AloneLaws
+pub mod ItemLaws
+pub mod LeaseLaws
+pub mod Literals
+pub mod Members
+pub mod Parts
+pub mod ReadLaws
+pub mod ReadThings
+pub mod RowSets
+pub mod SoundLaws
+pub mod SoundThings
+pub mod TakenLaws
+pub mod ToldThings
+pub mod TypeFacts
+pub mod UrlLengths

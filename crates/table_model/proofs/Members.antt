@@ -18,11 +18,12 @@ use Rattle.table_model.specs.declared.bind.ClassRow.{ClassRow}
 use Rattle.table_model.specs.declared.bind.NameRow.{NameRow}
 use Rattle.table_model.specs.Expiries.{is_live, for_ever, has_live}
 use Rattle.table_model.specs.Binds.{key_of_class, same_class, has_addr}
-use Rattle.table_model.specs.Tables.{Tables, has_lease, has_host, has_url, is_leased, is_bound, is_named}
+use Rattle.table_model.specs.Tables.{Tables, has_host, has_url, is_leased, is_bound, is_named}
 use Rattle.table_model.specs.Bindings.{bindings_of_lease, thing_bindings, member_key, class_binding, class_bindings, name_binding, name_bindings, things_bindings, classes_bindings, names_bindings, bindings_of, is_met_by, has_live_binding}
 use Rattle.base_rows.proofs.ListTests.{any-flat_map, any-map}
 use Rattle.base_rows.proofs.Lists.{any_const}
 use Rattle.std.proofs.Math.Bool.{and-true, or-false}
+use Rattle.table_model.proofs.Parts.{has_lease}
 
 -- ---- Some element passes a test
 
@@ -50,7 +51,7 @@ lease_model u a now t r = or-false (bytes_eq t.url u && (same_addr r.0 a && is_l
 -- the test asks of each lease of a Thing what it asks of the Thing, and that the lease is live at the address
 thing_met : (key : MemberKey) (a : Addr) (now : ℕ) (t : Thing) (c : Bool) → ((r : Addr × ℕ) → list_any (is_met_by key a now) (bindings_of_lease t r) ≡ (c && live_at a now r))
     → list_any (is_met_by key a now) (thing_bindings t) ≡ (c && has_lease a now t)
-unfolding thing_bindings has_lease has_live live_at
+unfolding thing_bindings has_live live_at
 thing_met key a now t c each =
     any-flat_map (is_met_by key a now) (bindings_of_lease t) t.leases
     ∙ any_same (λ r. list_any (is_met_by key a now) (bindings_of_lease t r)) (λ r. c && live_at a now r) each t.leases

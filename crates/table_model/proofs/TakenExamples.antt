@@ -8,13 +8,13 @@ use Rattle.table_model.specs.declared.bind.Class.TheVariants.{Uri}
 use Rattle.table_model.specs.declared.bind.ClassRow.{ClassRow}
 use Rattle.table_model.specs.declared.bind.NameRow.{NameRow}
 use Rattle.table_model.specs.Binds.{Binds}
-use Rattle.table_model.specs.BindItems.{class_item, with_class_item, class_items, locals_item, name_item, with_name_item, name_items, stamp_item}
+use Rattle.table_model.specs.BindItems.{class_item, with_class_item, locals_item, name_item, with_name_item, stamp_item}
 use Rattle.table_model.specs.TakenItems.{all_taken, no_binds, bind_items, set_classes, set_locals, set_names, with_bind_item, Kept, have_none, with_item}
 use Rattle.table_model.proofs.Literals.{dns_addr, test_addr, dns_class, test_name}
 use Rattle.table_model.proofs.ItemExamples.{items_compute}
 
 unfoldable taken_compute : Unit {0}
-unfolding items_compute url_on_literals with_class_item class_items with_name_item name_items no_binds bind_items set_classes set_locals set_names with_bind_item have_none with_item
+unfolding items_compute url_on_literals with_class_item with_name_item no_binds bind_items set_classes set_locals set_names with_bind_item have_none with_item
 taken_compute = tt
 
 abbrev dns : ClassRow

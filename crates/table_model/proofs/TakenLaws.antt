@@ -21,12 +21,13 @@ use Rattle.table_model.specs.ItemFields.{IsNetwork}
 use Rattle.table_model.specs.Things.{IsKeptThing, IsSoundThings}
 use Rattle.table_model.specs.Binds.{Binds, class_key, name_of, is_prefix, are_prefixes, IsKeptClass, IsKeptNetwork, IsKeptName, IsSoundClasses, IsSoundLocals, IsSoundNames, IsSoundBinds}
 use Rattle.table_model.specs.ThingItems.{thing_item, thing_items, thing_in, item_anew, in_second, may_follow, with_thing_item, IsThingItem}
-use Rattle.table_model.specs.BindItems.{class_item, class_items, class_in, with_class_item, locals_item, locals_items, are_locals, with_locals_item, name_item, name_items, name_in, with_name_item, IsKeptLocals, IsClassItem, IsLocalsItem, IsNameItem}
+use Rattle.table_model.specs.BindItems.{class_item, class_in, with_class_item, locals_item, locals_items, are_locals, with_locals_item, name_item, name_in, with_name_item, IsKeptLocals, IsClassItem, IsLocalsItem, IsNameItem}
 use Rattle.table_model.specs.TakenItems.{all_taken, no_binds, bind_items, is_empty, set_classes, set_locals, set_names, with_bind_item}
 use Rattle.table_model.proofs.RowSets.{left_of, right_of, both, all_behind, map_push, fewer_before, behind_others}
 use Rattle.table_model.proofs.LeaseLaws.{all_from, all_to}
 use Rattle.table_model.proofs.ItemLaws.{thing_back, thing_alone, class_back, class_alone, locals_back, locals_alone, name_back, name_alone}
 use Rattle.table_model.proofs.ReadThings.{sound-push, follows-sound}
+use Rattle.table_model.proofs.Parts.{class_items, name_items}
 
 -- ---- One row more, read from its item
 
@@ -71,7 +72,7 @@ pub record IsTaken {R : Type 0} (Sound : R → Type 0) (items_of : R → List It
   pub items : items_of after ≡ items_of before ++ item ∷ []
 
 class_taken : (classes : List ClassRow) (item : Item) (after : List ClassRow) → IsSoundClasses classes → IsOctets item.body → with_class_item classes item ≡ Some after → IsTaken IsSoundClasses class_items classes item after
-unfolding with_class_item class_items
+unfolding with_class_item
 class_taken classes item after sound octets e =
     let p = pushed class_key most_classes class_in classes item after e in
     let of_row : IsClassItem item p.row = class_alone item p.row octets p.is in
@@ -81,7 +82,7 @@ class_taken classes item after sound octets e =
     })
 
 name_taken : (names : List NameRow) (item : Item) (after : List NameRow) → IsSoundNames names → IsOctets item.body → with_name_item names item ≡ Some after → IsTaken IsSoundNames name_items names item after
-unfolding with_name_item name_items
+unfolding with_name_item
 name_taken names item after sound octets e =
     let p = pushed name_of most_names name_in names item after e in
     let of_row : IsNameItem item p.row = name_alone item p.row octets p.is in
@@ -160,11 +161,10 @@ nothing_there xs e = nil_from_length xs (eqb-true (length xs) 0 e)
 
 -- no local network and no name
 no_items : (locals : List Prefix) (names : List NameRow) → locals ≡ [] → names ≡ [] → locals_items locals ++ name_items names ≡ []
-unfolding locals_items name_items
+unfolding locals_items
 no_items locals names e f = ap (λ (ls : List Prefix). locals_items ls ++ name_items names) e ∙ ap name_items f
 
 no_names : (names : List NameRow) → names ≡ [] → name_items names ≡ []
-unfolding name_items
 no_names names f = ap name_items f
 
 class_behind : (binds : Binds) (item : Item) (classes : List ClassRow) → IsSoundBinds binds → binds.locals ≡ [] → binds.names ≡ [] → IsTaken IsSoundClasses class_items binds.classes item classes → IsTaken IsSoundBinds bind_items binds item (set_classes binds classes)
@@ -319,7 +319,7 @@ locals_again classes [] sound = refl
 locals_again classes (p ∷ ps) sound = rw (locals_back (p ∷ ps) (kept_locals p ps sound)) refl
 
 pub binds_again : (binds : Binds) → IsSoundBinds binds → all_taken with_bind_item no_binds (bind_items binds) ≡ Some binds
-unfolding bind_items no_binds class_items name_items
+unfolding bind_items no_binds
 binds_again binds sound =
     let classes : all_taken with_bind_item (the_binds [] [] []) (map class_item binds.classes) ≡ Some (the_binds binds.classes [] []) =
     rows_taken with_bind_item (λ xs. the_binds xs [] []) class_item binds.classes (λ xs t ys e. class_step xs t ys (subst IsSoundClasses (sym e) sound.classes)) [] binds.classes refl in
@@ -344,5 +344,5 @@ unfolding thing_items
 things_taken_all items things octets e = things_taken [] items things no_things octets e
 
 pub binds_taken_all : (items : List Item) (binds : Binds) → AllByRecursion (λ item. IsOctets item.body) items → all_taken with_bind_item no_binds items ≡ Some binds → IsSoundBinds binds × (bind_items binds ≡ items)
-unfolding bind_items no_binds class_items locals_items name_items
+unfolding bind_items no_binds locals_items
 binds_taken_all items binds octets e = binds_taken no_binds items binds sound_no_binds octets e

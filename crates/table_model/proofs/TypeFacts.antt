@@ -11,8 +11,8 @@ use Rattle.mud_base.specs.declared.packet.Transport.TheVariants as packet
 use Rattle.table_model.specs.ItemFields.{IsAddr}
 use Rattle.table_model.specs.Binds.{is_prefix, IsKeptNetwork}
 use Rattle.table_model.proofs.RowSets.{both, same_addr_itself}
-use Rattle.table_model.specs.History.{segment_in}
 use Rattle.table_model.specs.declared.segment.Segment.{Segment}
+use Rattle.table_model.proofs.Parts.{segment_in}
 
 bits_few : (a : Addr) → addr_bits a ≤ 128
 unfolding addr_bits
@@ -33,7 +33,6 @@ kept_network p a n addr cleared len within fits =
     }
 
 pub segment_at : (src dst : Addr) (now : ℕ) (t : Transport) (q : Segment) → segment_in src dst now t ≡ Some q → q.at ≡ now
-unfolding segment_in
 segment_at src dst now (packet.Tcp from to flags) q e = cc
 segment_at src dst now (packet.Udp from to) q e = cc
 segment_at src dst now (packet.Icmp kind code) q e = cc

@@ -27,32 +27,32 @@ ClassStep = Result ClassesAfter BindFault
 abbrev pub classes_done : outcome.Word → List ClassRow → ClassStep
 classes_done word classes = Ok (record { word = word; classes = classes })
 
-unfoldable pub bind_cases : Class → Addr → List ClassRow → Option ClassRow → ClassStep
-bind_cases class a classes None =
-    if nat_le most_classes (length classes) then Err ClassesFull
-    else classes_done Bound (set_class (class_row class (a ∷ [])) classes)
-bind_cases class a classes (Some row) =
-    if has_addr a row.addrs then classes_done Same classes
-    else (if nat_le most_class_addresses (length row.addrs) then Err ClassFull
-    else classes_done Bound (set_class (class_row class (with_addr a row.addrs)) classes))
-
 unfoldable pub bind_step : Class → Addr → List ClassRow → ClassStep
 bind_step class a classes = bind_cases class a classes (class_at class classes)
+  where
+    bind_cases : Class → Addr → List ClassRow → Option ClassRow → ClassStep
+    bind_cases class a classes None =
+        if nat_le most_classes (length classes) then Err ClassesFull
+        else classes_done Bound (set_class (class_row class (a ∷ [])) classes)
+    bind_cases class a classes (Some row) =
+        if has_addr a row.addrs then classes_done Same classes
+        else (if nat_le most_class_addresses (length row.addrs) then Err ClassFull
+        else classes_done Bound (set_class (class_row class (with_addr a row.addrs)) classes))
 
 -- ---- The operator takes an address out of a class; a class with no address left goes
 
-unfoldable pub classes_without : Class → List Addr → List ClassRow → List ClassRow
-classes_without class [] classes = without_class class classes
-classes_without class (a ∷ addrs) classes = set_class (class_row class (a ∷ addrs)) classes
-
-unfoldable pub unbind_cases : Class → Addr → List ClassRow → Option ClassRow → ClassStep
-unbind_cases class a classes None = Err NotBound
-unbind_cases class a classes (Some row) =
-    if has_addr a row.addrs then classes_done Unbound (classes_without class (without_addr a row.addrs) classes)
-    else Err NotBound
-
 unfoldable pub unbind_step : Class → Addr → List ClassRow → ClassStep
 unbind_step class a classes = unbind_cases class a classes (class_at class classes)
+  where
+    classes_without : Class → List Addr → List ClassRow → List ClassRow
+    classes_without class [] classes = without_class class classes
+    classes_without class (a ∷ addrs) classes = set_class (class_row class (a ∷ addrs)) classes
+
+    unbind_cases : Class → Addr → List ClassRow → Option ClassRow → ClassStep
+    unbind_cases class a classes None = Err NotBound
+    unbind_cases class a classes (Some row) =
+        if has_addr a row.addrs then classes_done Unbound (classes_without class (without_addr a row.addrs) classes)
+        else Err NotBound
 
 -- ---- The operator names the local networks (RFC 8520, 4.5)
 
@@ -64,18 +64,18 @@ pub record LocalsAfter : Type 0 where
 abbrev pub LocalStep : Type 0
 LocalStep = Result LocalsAfter BindFault
 
-abbrev pub locals_done : outcome.Word → List Prefix → LocalStep
-locals_done word locals = Ok (record { word = word; locals = locals })
-
--- these prefixes are in order, each once
-unfoldable pub locals_cases : List Prefix → List Prefix → LocalStep
-locals_cases prefixes locals =
-    if nat_lt most_locals (length prefixes) then Err LocalsFull
-    else (if same_prefixes prefixes locals then locals_done Same locals
-    else locals_done Set prefixes)
-
 unfoldable pub locals_step : List Prefix → List Prefix → LocalStep
 locals_step prefixes locals = locals_cases (prefixes_in_order prefixes) locals
+  where
+    locals_done : outcome.Word → List Prefix → LocalStep
+    locals_done word locals = Ok (record { word = word; locals = locals })
+
+    -- these prefixes are in order, each once
+    locals_cases : List Prefix → List Prefix → LocalStep
+    locals_cases prefixes locals =
+        if nat_lt most_locals (length prefixes) then Err LocalsFull
+        else (if same_prefixes prefixes locals then locals_done Same locals
+        else locals_done Set prefixes)
 
 -- ---- A name is observed at an address for so many seconds (RFC 8520, 8)
 
@@ -120,15 +120,15 @@ kept_pair name a until names row old =
     if nat_lt old until then observed Renewed until (set_name (name_row name (with_expiry a until (addrs_of row))) names)
     else observed Same old names
 
--- the expiry that is kept for the pair, or none
-unfoldable pub observe_cases : List ℕ → Addr → ℕ → ℕ → List NameRow → Option NameRow → Option ℕ → NameStep
-observe_cases name a until now names row None = new_pair name a until now names row
-observe_cases name a until now names row (Some old) =
-    if is_live old now then kept_pair name a until names row old
-    else new_pair name a until now names row
-
 unfoldable pub observe_row : List ℕ → Addr → ℕ → ℕ → List NameRow → Option NameRow → NameStep
 observe_row name a until now names row = observe_cases name a until now names row (expiry_of a (addrs_of row))
+  where
+    -- the expiry that is kept for the pair, or none
+    observe_cases : List ℕ → Addr → ℕ → ℕ → List NameRow → Option NameRow → Option ℕ → NameStep
+    observe_cases name a until now names row None = new_pair name a until now names row
+    observe_cases name a until now names row (Some old) =
+        if is_live old now then kept_pair name a until names row old
+        else new_pair name a until now names row
 
 unfoldable pub observe_step : List ℕ → Addr → ℕ → ℕ → List NameRow → NameStep
 observe_step name a ttl now names = observe_row name a (now + ttl) now names (name_at name names)
@@ -158,14 +158,6 @@ unfoldable pub with_classes : Binds → ClassStep → BindStep
 with_classes binds (Ok after) = binds_done after.word None (record binds { classes = after.classes })
 with_classes binds (Err fault) = Err fault
 
-unfoldable pub with_locals : Binds → LocalStep → BindStep
-with_locals binds (Ok after) = binds_done after.word None (record binds { locals = after.locals })
-with_locals binds (Err fault) = Err fault
-
-unfoldable pub with_names : Binds → NameStep → BindStep
-with_names binds (Ok after) = binds_done after.word (Some after.until) (record binds { names = after.names })
-with_names binds (Err fault) = Err fault
-
 unfoldable pub bind_class_step : Class → Addr → Binds → BindStep
 bind_class_step class a binds = with_classes binds (bind_step class a binds.classes)
 
@@ -174,6 +166,14 @@ unbind_class_step class a binds = with_classes binds (unbind_step class a binds.
 
 unfoldable pub set_locals_step : List Prefix → Binds → BindStep
 set_locals_step prefixes binds = with_locals binds (locals_step prefixes binds.locals)
+  where
+    with_locals : Binds → LocalStep → BindStep
+    with_locals binds (Ok after) = binds_done after.word None (record binds { locals = after.locals })
+    with_locals binds (Err fault) = Err fault
 
 unfoldable pub observe_name_step : List ℕ → Addr → ℕ → ℕ → Binds → BindStep
 observe_name_step name a ttl now binds = with_names binds (observe_step name a ttl now binds.names)
+  where
+    with_names : Binds → NameStep → BindStep
+    with_names binds (Ok after) = binds_done after.word (Some after.until) (record binds { names = after.names })
+    with_names binds (Err fault) = Err fault

@@ -23,16 +23,10 @@ use Rattle.table_model.specs.ItemFields.{address, address_in, expiring, expiring
 unfoldable pub class_item : ClassRow → Item
 class_item row = record { kind = class_kind; key = class_key row; body = list_body address row.addrs }
 
-unfoldable pub class_items : List ClassRow → List Item
-class_items classes = map class_item classes
-
 -- the class of a key
 unfoldable pub class_of_key : List ℕ → Option Class
 class_of_key [] = None
 class_of_key (which ∷ text) = if which == 1 then Some (Uri text) else (if which == 2 then Some (Mine text) else None)
-
-unfoldable pub if_sound_class : ClassRow → Option ClassRow
-if_sound_class row = if is_sound_class row then Some row else None
 
 -- the class of an item: a URI has 1 to 255 octets from 21 to 7E hex, a MUD URL is canonical, and there are 1 to 64
 -- addresses in their order, each once
@@ -42,6 +36,9 @@ class_in item =
       class ← class_of_key item.key
       addrs ← list_body_in address_in item.body
       if_sound_class (class_row class addrs)) else None
+  where
+    if_sound_class : ClassRow → Option ClassRow
+    if_sound_class row = if is_sound_class row then Some row else None
 
 -- the classes with that of the item, where it is one that may stand behind them
 unfoldable pub with_class_item : List ClassRow → Item → Option (List ClassRow)
@@ -62,14 +59,14 @@ locals_items (prefix ∷ more) = locals_item (prefix ∷ more) ∷ []
 unfoldable pub are_locals : List Prefix → Bool
 are_locals locals = are_prefixes locals && list_all is_prefix locals && nat_lt 0 (length locals) && nat_le (length locals) most_locals
 
-unfoldable pub if_sound_locals : List Prefix → Option (List Prefix)
-if_sound_locals locals = if are_locals locals then Some locals else None
-
 unfoldable pub locals_in : Item → Option (List Prefix)
 locals_in item =
     if item.kind == locals_kind && length item.key == 0 then (do
       locals ← list_body_in network_in item.body
       if_sound_locals locals) else None
+  where
+    if_sound_locals : List Prefix → Option (List Prefix)
+    if_sound_locals locals = if are_locals locals then Some locals else None
 
 -- the local networks with those of the item, where none are taken yet
 unfoldable pub with_locals_item : List Prefix → Item → Option (List Prefix)
@@ -81,12 +78,6 @@ with_locals_item (prefix ∷ more) item = None
 unfoldable pub name_item : NameRow → Item
 name_item row = record { kind = name_kind; key = row.name; body = list_body expiring row.addrs }
 
-unfoldable pub name_items : List NameRow → List Item
-name_items names = map name_item names
-
-unfoldable pub if_sound_name : NameRow → Option NameRow
-if_sound_name row = if is_sound_name row then Some row else None
-
 -- the name of an item: a host name in lower case, with 1 to 64 addresses in their order, each once, and expiries that
 -- are for ever or below 2^40
 unfoldable pub name_in : Item → Option NameRow
@@ -94,6 +85,9 @@ name_in item =
     if item.kind == name_kind then (do
       addrs ← list_body_in expiring_in item.body
       if_sound_name (name_row item.key addrs)) else None
+  where
+    if_sound_name : NameRow → Option NameRow
+    if_sound_name row = if is_sound_name row then Some row else None
 
 -- the names with that of the item, where it is one that may stand behind them
 unfoldable pub with_name_item : List NameRow → Item → Option (List NameRow)
@@ -117,14 +111,14 @@ moment_of_body body = do
   ended ← end_in moment.1
   Some moment.0
 
-unfoldable pub if_moment : ℕ → Option ℕ
-if_moment moment = if nat_le moment 253402300799 then Some moment else None
-
 unfoldable pub stamp_in : Item → Option ℕ
 stamp_in item =
     if item.kind == stamp_kind && length item.key == 0 then (do
       moment ← moment_of_body item.body
       if_moment moment) else None
+  where
+    if_moment : ℕ → Option ℕ
+    if_moment moment = if nat_le moment 253402300799 then Some moment else None
 
 -- the stamp with that of the item, where none is taken yet
 unfoldable pub with_stamp_item : Option ℕ → Item → Option ℕ

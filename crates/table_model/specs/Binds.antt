@@ -69,14 +69,14 @@ prefix_with addr len = record { addr = addr; len = len }
 unfoldable pub same_prefix : Prefix → Prefix → Bool
 same_prefix p q = same_addr p.addr q.addr && p.len == q.len
 
--- the prefixes with this one put in, in the order of their addresses and then the lesser length
-unfoldable pub with_prefix : Prefix → List Prefix → List Prefix
-with_prefix p prefixes = set_row prefix_sort_key p prefixes
-
 -- the prefixes in order, each once
 unfoldable pub prefixes_in_order : List Prefix → List Prefix
 prefixes_in_order [] = []
 prefixes_in_order (p ∷ ps) = with_prefix p (prefixes_in_order ps)
+  where
+    -- the prefixes with this one put in, in the order of their addresses and then the lesser length
+    with_prefix : Prefix → List Prefix → List Prefix
+    with_prefix p prefixes = set_row prefix_sort_key p prefixes
 
 unfoldable pub same_prefixes : List Prefix → List Prefix → Bool
 same_prefixes [] [] = true

@@ -16,15 +16,15 @@ use Rattle.table_model.specs.Limits.{most_pause}
 abbrev pub Endpoint : Type 0
 Endpoint = Addr × ℕ
 
-unfoldable pub segment_in : Addr → Addr → ℕ → Transport → Option Segment
-segment_in src dst now (packet.Tcp from to flags) = Some (record { source = (src, from); destination = (dst, to); flags = flags; at = now })
-segment_in src dst now (packet.Udp from to) = None
-segment_in src dst now (packet.Icmp kind code) = None
-segment_in src dst now packet.Absent = None
-
 -- the TCP packet with these fields at this moment, where they have a TCP header
 unfoldable pub segment_of : Fields → ℕ → Option Segment
 segment_of fields now = segment_in fields.src fields.dst now fields.transport
+  where
+    segment_in : Addr → Addr → ℕ → Transport → Option Segment
+    segment_in src dst now (packet.Tcp from to flags) = Some (record { source = (src, from); destination = (dst, to); flags = flags; at = now })
+    segment_in src dst now (packet.Udp from to) = None
+    segment_in src dst now (packet.Icmp kind code) = None
+    segment_in src dst now packet.Absent = None
 
 unfoldable pub same_endpoint : Endpoint → Endpoint → Bool
 same_endpoint a b = same_addr a.0 b.0 && a.1 == b.1
@@ -48,52 +48,49 @@ resets p = bit_and p.flags 4 == 4
 
 -- ---- Who began it
 
--- the packets from the last one that opens on, or none
-unfoldable pub since_opened : List Segment → List Segment
-since_opened [] = []
-since_opened (p ∷ ps) = if list_any opens ps then since_opened ps else (if opens p then p ∷ ps else [])
-
--- no two neighbours of these moments are further apart than a connection may be silent
-unfoldable pub is_unbroken : ℕ → List ℕ → Bool
-is_unbroken m [] = true
-is_unbroken m (n ∷ ns) = nat_le (n - m) most_pause && is_unbroken n ns
-
-unfoldable pub moment_of : Segment → ℕ
-moment_of p = p.at
-
--- The beginner by the packets from the last one that opens on: its source, unless a later one resets or there was a
--- pause.
-unfoldable pub beginner_since : List Segment → ℕ → Option Endpoint
-beginner_since [] now = None
-beginner_since (p ∷ ps) now =
-    if list_any resets ps then None
-    else (if is_unbroken p.at (map moment_of ps ++ now ∷ []) then Some p.source else None)
-
 -- who began what is between two endpoints, by the packets that were forwarded up to this moment
 unfoldable pub beginner_of : List Segment → Endpoint → Endpoint → ℕ → Option Endpoint
 beginner_of history a b now = beginner_since (since_opened (between a b history)) now
+  where
+    -- the packets from the last one that opens on, or none
+    since_opened : List Segment → List Segment
+    since_opened [] = []
+    since_opened (p ∷ ps) = if list_any opens ps then since_opened ps else (if opens p then p ∷ ps else [])
 
--- who began what a packet is part of: a packet that opens begins it
-unfoldable pub beginner : List Segment → Segment → Option Endpoint
-beginner history p = if opens p then Some p.source else beginner_of history p.source p.destination p.at
+    -- no two neighbours of these moments are further apart than a connection may be silent
+    is_unbroken : ℕ → List ℕ → Bool
+    is_unbroken m [] = true
+    is_unbroken m (n ∷ ns) = nat_le (n - m) most_pause && is_unbroken n ns
 
--- the endpoint of a Thing on this side
-unfoldable pub own_endpoint : Direction → Segment → Endpoint
-own_endpoint From p = p.source
-own_endpoint To p = p.destination
+    -- The beginner by the packets from the last one that opens on: its source, unless a later one resets or there was a
+    -- pause.
+    beginner_since : List Segment → ℕ → Option Endpoint
+    beginner_since [] now = None
+    beginner_since (p ∷ ps) now =
+        if list_any resets ps then None
+        else (if is_unbroken p.at (map (λ (p : Segment). p.at) ps ++ now ∷ []) then Some p.source else None)
 
 -- From where the Thing's own endpoint began it, else To
 unfoldable pub side_of : Direction → Segment → Option Endpoint → Option Direction
 side_of side p None = None
 side_of side p (Some began) = if same_endpoint began (own_endpoint side p) then Some From else Some To
-
-unfoldable pub begun_in : List Segment → Direction → Option Segment → Option Direction
-begun_in history side None = None
-begun_in history side (Some p) = side_of side p (beginner history p)
+  where
+    -- the endpoint of a Thing on this side
+    own_endpoint : Direction → Segment → Endpoint
+    own_endpoint From p = p.source
+    own_endpoint To p = p.destination
 
 -- who began the connection of a packet, as a Thing on this side sees it (RFC 8520, 4.8, `direction-initiated`)
 unfoldable pub begun_of : List Segment → Direction → Fields → ℕ → Option Direction
 begun_of history side fields now = begun_in history side (segment_of fields now)
+  where
+    -- who began what a packet is part of: a packet that opens begins it
+    beginner : List Segment → Segment → Option Endpoint
+    beginner history p = if opens p then Some p.source else beginner_of history p.source p.destination p.at
+
+    begun_in : List Segment → Direction → Option Segment → Option Direction
+    begun_in history side None = None
+    begun_in history side (Some p) = side_of side p (beginner history p)
 
 unfoldable pub with_segment : List Segment → Option Segment → List Segment
 with_segment history None = history

@@ -49,19 +49,11 @@ with_binds binds tables = record { things = tables.things; classes = binds.class
 unfoldable pub is_group : Mac → Bool
 is_group mac = slice_index_or mac.0 0 0 % 2 == 1
 
--- the Thing that sent it
-unfoldable pub source_thing : Mac → List Thing → Option Thing
-source_thing mac things = thing_at mac things
-
 -- the Thing that it is for: none where it is for a group, even where a Thing is kept by that address
 unfoldable pub destination_thing : Mac → List Thing → Option Thing
 destination_thing mac things = if is_group mac then None else thing_at mac things
 
 -- ---- Which addresses meet a selector
-
--- the Thing has a live lease of the address
-unfoldable pub has_lease : Addr → ℕ → Thing → Bool
-has_lease a now thing = has_live a now thing.leases
 
 unfoldable pub has_host : List ℕ → Thing → Bool
 has_host host thing = bytes_eq (host_of thing.url) host
@@ -72,6 +64,10 @@ has_url url thing = bytes_eq thing.url url
 -- a Thing that passes the test has a live lease of the address
 unfoldable pub is_leased : (Thing → Bool) → Addr → ℕ → List Thing → Bool
 is_leased test a now things = list_any (λ thing. test thing && has_lease a now thing) things
+  where
+    -- the Thing has a live lease of the address
+    has_lease : Addr → ℕ → Thing → Bool
+    has_lease a now thing = has_live a now thing.leases
 
 -- the class has the address
 unfoldable pub is_bound : Class → Addr → List ClassRow → Bool

@@ -1,5 +1,5 @@
 -- Reading items one after the other, in the keeper's order: that of kinds, and then of keys.
-use Rattle.std.specs.Prelude.{ℕ, Bool, ◌&&◌, ◌==◌, nat_lt, is_none, List, [], ◌∷◌, ◌++◌, length, Option, Some, None, option_map, if◌then◌else◌}
+use Rattle.std.specs.Prelude.{ℕ, Bool, ◌&&◌, ◌==◌, nat_lt, is_none, List, [], ◌∷◌, ◌++◌, length, Option, Some, None, option_map, if◌then◌else◌, map}
 use Rattle.mud_base.specs.declared.prefix.Prefix.{Prefix}
 use Rattle.mud_world.specs.declared.item.Item.{Item}
 use Rattle.item_codec.specs.Kinds.{thing_kind, file_kind, class_kind, locals_kind, name_kind, stamp_kind}
@@ -8,7 +8,7 @@ use Rattle.table_model.specs.declared.thing.Thing.{Thing}
 use Rattle.table_model.specs.declared.bind.ClassRow.{ClassRow}
 use Rattle.table_model.specs.declared.bind.NameRow.{NameRow}
 use Rattle.table_model.specs.Binds.{Binds}
-use Rattle.table_model.specs.BindItems.{class_items, with_class_item, locals_items, with_locals_item, name_items, with_name_item, with_stamp_item}
+use Rattle.table_model.specs.BindItems.{with_class_item, locals_items, with_locals_item, with_name_item, with_stamp_item, class_item, name_item}
 use Rattle.table_model.specs.ThingItems.{with_thing_item}
 
 -- what was taken of so many items, one after the other, where each of them can be taken behind those before it
@@ -20,7 +20,7 @@ unfoldable pub no_binds : Binds
 no_binds = record { classes = []; locals = []; names = [] }
 
 unfoldable pub bind_items : Binds → List Item
-bind_items binds = class_items binds.classes ++ (locals_items binds.locals ++ name_items binds.names)
+bind_items binds = map class_item binds.classes ++ (locals_items binds.locals ++ map name_item binds.names)
 
 abbrev pub is_empty : {A : Type 0} → List A → Bool
 is_empty xs = length xs == 0

@@ -45,7 +45,7 @@ pub(crate) fn are_addrs(addrs: &[Addr]) -> bool
 }
 
 /// The prefixes in their order, each once.
-#[tactic(auto, unfolding(crate::specs::Binds::prefixes_in_order, crate::specs::Binds::with_prefix))]
+#[tactic(auto, unfolding(crate::specs::Binds::prefixes_in_order))]
 pub fn prefixes_in_order(alloc: Global, prefixes: &[Prefix]) -> Result<Listed<Prefix>, Memory>
     ensures { IfOk result (λ sorted. sorted ≡ spec.prefixes_in_order prefixes.now) }
 {

@@ -21,7 +21,7 @@ pub struct Segment {
 }
 
 /// The TCP packet with these fields at this moment, or None where they have no TCP header.
-#[tactic(auto, unfolding(crate::specs::History::segment_of, crate::specs::History::segment_in))]
+#[tactic(auto, unfolding(crate::specs::History::segment_of))]
 pub fn segment_of(fields: &Fields, now: Moment) -> Option<Segment>
     ensures { result ≡ spec.segment_of fields.now now }
 {
@@ -69,7 +69,7 @@ impl Segment {
 
     /// Who began its connection, as a Thing on this side of it sees it: `From` where the Thing's
     /// own endpoint did, and else `To`.
-    #[tactic(auto, unfolding(crate::specs::History::side_of, crate::specs::History::own_endpoint))]
+    #[tactic(auto, unfolding(crate::specs::History::side_of))]
     pub fn side_of(&self, side: Direction, began: Option<Endpoint>) -> Option<Direction>
         ensures { result ≡ spec.side_of side self.now began }
     {

@@ -31,7 +31,7 @@ fn moment(seconds: u64) -> Moment {
 }
 
 /// A TCP packet is forwarded; false where it could not be noted.
-#[tactic(auto, unfolding(table_model::specs::History::segment_of, table_model::specs::History::segment_in))]
+#[tactic(auto, unfolding(table_model::specs::History::segment_of))]
 fn forwarded(table: &mut FlowTable, fields: &Fields, seconds: u64) -> bool {
     let now = moment(seconds);
     if !table.is_since(now) {

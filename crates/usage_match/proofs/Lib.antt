@@ -1,4 +1,5 @@
-pub mod Meant
-pub mod OnLiterals
 mod Examples
 mod FlagTexts
+pub mod Meant
+pub mod OnLiterals
+pub mod Parts

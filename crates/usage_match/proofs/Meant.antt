@@ -8,14 +8,14 @@ use Rattle.usage_walk.specs.declared.fault.Rule.{Rule}
 use Rattle.usage_walk.specs.declared.member.Member.{Member}
 use Rattle.usage_walk.specs.Reading.{under, fault_at}
 use Rattle.usage_walk.specs.Kinds.{text_where_there}
-use Rattle.usage_match.specs.Texts.{as_meant, meant, meant_where_there}
+use Rattle.usage_match.specs.Texts.{meant, meant_where_there}
+use Rattle.usage_match.proofs.Parts.{as_meant}
 
 with_meaning : {A : Type 0} (default : A) (broken : Broken) (meaning : Option A) → and_then (answer (wanted default broken meaning)) (λ a. Ok (Some a)) ≡ meant broken meaning
 with_meaning default broken None = rw (answer_unwanted default broken) refl
 with_meaning default broken (Some a) = rw (answer_wanted default a broken) refl
 
 answer_meant : {A : Type 0} (default : A) (broken : Broken) (meaning : List ℕ → Option A) (text : List ℕ) → answer (where_there (as_meant default broken meaning) (Some text)) ≡ meant broken (meaning text)
-unfolding as_meant
 answer_meant default broken meaning text = answer_there (as_meant default broken meaning) text ∙ with_meaning default broken (meaning text)
 
 after_text : {A : Type 0} (default : A) (rule : Rule) (meaning : List ℕ → Option A) (path : List ℕ) (m : Member) (d : Data) → answer (meant_where_there default rule meaning path m d) ≡ and_then (answer (text_where_there path m (Some d))) (λ text. answer (where_there (as_meant default (fault_at rule (under path m)) meaning) text))

@@ -54,15 +54,12 @@ single_at path d = do
   port ← as_upto 65535 path Port number
   done (test_of (unwrap_or named operator.Eq) port)
 
-abbrev pub one_test : Bool → List ℕ → Data → Reading PortTest
-one_test is_range path d = if is_range then range_at path d else single_at path d
-
 -- the test of a port container, the object at this path
 unfoldable pub port_test_of : List ℕ → Data → Reading PortTest
 port_test_of path d = do
   _ ← all_known path port_rows d
   _ ← refused_where (names_range d && names_single d) (fault_at rule.PortRange path)
-  one_test (names_range d) path d
+  if names_range d then range_at path d else single_at path d
 
 -- an absent container tests nothing
 unfoldable pub port_where_there : List ℕ → Member → Data → Reading PortTest

@@ -46,9 +46,6 @@ length_where_there path m parent = do
 
 -- ---- Texts that mean something
 
-unfoldable pub as_meant : {A : Type 0} → A → Broken → (List ℕ → Option A) → List ℕ → Reading A
-as_meant default broken meaning text = wanted default broken (meaning text)
-
 -- the answer where the text is there
 abbrev pub meant : {A : Type 0} → Broken → Option A → Result (Option A) Broken
 meant broken None = Err broken
@@ -59,6 +56,9 @@ unfoldable pub meant_where_there : {A : Type 0} → A → Rule → (List ℕ →
 meant_where_there default broken meaning path m parent = do
   text ← text_where_there path m (Some parent)
   where_there (as_meant default (fault_at broken (under path m)) meaning) text
+  where
+    as_meant : {A : Type 0} → A → Broken → (List ℕ → Option A) → List ℕ → Reading A
+    as_meant default broken meaning text = wanted default broken (meaning text)
 
 -- ---- Names
 
@@ -66,12 +66,12 @@ meant_where_there default broken meaning path m parent = do
 unfoldable pub host_where_there : List ℕ → Member → Data → Reading (Option (List ℕ))
 host_where_there path m parent = meant_where_there [] rule.NameText host_name_of path m parent
 
-abbrev pub value_of : Result (List ℕ) UrlFault → Option (List ℕ)
-value_of (Ok url) = Some url
-value_of (Err fault) = None
-
 unfoldable pub model_in : List ℕ → Option (List ℕ)
 model_in text = value_of (url_of text)
+  where
+    value_of : Result (List ℕ) UrlFault → Option (List ℕ)
+    value_of (Ok url) = Some url
+    value_of (Err fault) = None
 
 -- a MUD URL, where it is there
 unfoldable pub model_where_there : List ℕ → Member → Data → Reading (Option (List ℕ))
@@ -96,12 +96,12 @@ is_of_type Ipv4 (V6 n) = false
 is_of_type Ipv6 (V4 n) = false
 is_of_type Ipv6 (V6 n) = true
 
-abbrev pub of_type : ListType → PrefixParts → Option PrefixParts
-of_type type prefix = if is_of_type type prefix.addr then Some prefix else None
-
 -- the prefix of this IP version that a text is
 unfoldable pub network_in : ListType → List ℕ → Option PrefixParts
 network_in type text = option_and_then (of_type type) (prefix_in text)
+  where
+    of_type : ListType → PrefixParts → Option PrefixParts
+    of_type type prefix = if is_of_type type prefix.addr then Some prefix else None
 
 -- a network of this IP version, where it is there
 unfoldable pub network_where_there : ListType → List ℕ → Member → Data → Reading (Option PrefixParts)
@@ -109,39 +109,21 @@ network_where_there type path m parent = meant_where_there (record { addr = V4 0
 
 -- ---- Directions (RFC 8520, 4.8)
 
-unfoldable pub to_device : List ℕ
-to_device = codes "to-device"
-
-unfoldable pub from_device : List ℕ
-from_device = codes "from-device"
-
 -- the side that begins the connection
 unfoldable pub direction_in : List ℕ → Option Direction
-direction_in text = if bytes_eq text to_device then Some To else (if bytes_eq text from_device then Some From else None)
+direction_in text = if bytes_eq text (codes "to-device") then Some To else (if bytes_eq text (codes "from-device") then Some From else None)
 
 unfoldable pub direction_where_there : List ℕ → Member → Data → Reading (Option Direction)
 direction_where_there path m parent = meant_where_there From rule.DirectionText direction_in path m parent
 
 -- ---- Operators (RFC 8519, 4.2)
 
-unfoldable pub eq_word : List ℕ
-eq_word = codes "eq"
-
-unfoldable pub neq_word : List ℕ
-neq_word = codes "neq"
-
-unfoldable pub lte_word : List ℕ
-lte_word = codes "lte"
-
-unfoldable pub gte_word : List ℕ
-gte_word = codes "gte"
-
 unfoldable pub operator_in : List ℕ → Option Operator
 operator_in text =
-    if bytes_eq text eq_word then Some operator.Eq
-    else (if bytes_eq text neq_word then Some operator.Neq
-    else (if bytes_eq text lte_word then Some operator.Lte
-    else (if bytes_eq text gte_word then Some operator.Gte
+    if bytes_eq text (codes "eq") then Some operator.Eq
+    else (if bytes_eq text (codes "neq") then Some operator.Neq
+    else (if bytes_eq text (codes "lte") then Some operator.Lte
+    else (if bytes_eq text (codes "gte") then Some operator.Gte
     else None)))
 
 unfoldable pub operator_where_there : List ℕ → Member → Data → Reading (Option Operator)

@@ -215,7 +215,7 @@ pub(crate) fn network_where_there(
 }
 
 /// The side that begins a connection (RFC 8520, 4.8): the peer where it is towards the Thing.
-#[tactic(auto, unfolding(crate::specs::Texts::direction_in, crate::specs::Texts::to_device, crate::specs::Texts::from_device))]
+#[tactic(auto, unfolding(crate::specs::Texts::direction_in))]
 fn direction_in(text: &str) -> Option<Direction>
     ensures { result ≡ spec.direction_in text.now }
 {
@@ -240,7 +240,7 @@ pub(crate) fn direction_where_there(spot: Spot<'_>) -> Result<Option<Direction>,
 }
 
 /// The operator that a text names.
-#[tactic(auto, unfolding(crate::specs::Texts::operator_in, crate::specs::Texts::eq_word, crate::specs::Texts::neq_word, crate::specs::Texts::lte_word, crate::specs::Texts::gte_word))]
+#[tactic(auto, unfolding(crate::specs::Texts::operator_in))]
 fn operator_in(text: &str) -> Option<Operator>
     ensures { result ≡ spec.operator_in text.now }
 {

@@ -13,7 +13,7 @@ use Rattle.usage_tables.specs.declared.cached_file.CachedFile.{CachedFile}
 use Rattle.usage_tables.specs.Held.{HeldFile, held_file}
 use Rattle.usage_tables.specs.Files.{url_of, file_at, set_file, with_candidate, with_approved}
 use Rattle.usage_tables.specs.FileEdits.{fetched_at, approved_at}
-use Rattle.usage_tables.specs.FileCommands.{FileStep, done, left, candidate_again, approved_again, new_candidate, beside_approved, beside_candidate, import_cases, import_read, import_step}
+use Rattle.usage_tables.specs.FileCommands.{FileStep, done, left, candidate_again, approved_again, new_candidate, beside_approved, beside_candidate, import_cases, import_step}
 use Rattle.usage_tables.specs.Imports.{has_octets, has_approved_octets, holds_octets, but_moments, IsSameAgain}
 use Rattle.usage_tables.proofs.SoundFiles.{url_found}
 
@@ -75,6 +75,6 @@ module _ (url : List ℕ) (files : List CachedFile) (row : CachedFile) (found : 
         by_octets false h = beside_approved_same row.approved refl h
 
 pub import_again : (files : List CachedFile) (octets : List ℕ) (fetched : ℕ) (file : UsageFile) (row : CachedFile) → file_of octets ≡ Ok file → file_at file.url files ≡ Some row → holds_octets octets row ≡ true → IsAgain file.url files (import_step octets fetched files)
-unfolding import_step import_read import_cases holds_octets
+unfolding import_step import_cases holds_octets
 import_again files octets fetched file row read found has =
     rw (read, found) (beside_candidate_same file.url files row found (held_file octets fetched) file refl row.candidate refl has)

@@ -14,16 +14,18 @@ use Rattle.item_codec.specs.Records.{◌>>=◌, number_in, string_in, version_in
 use Rattle.item_codec.proofs.FieldLaws.{then_read, read_whole}
 use Rattle.item_codec.proofs.RecordLaws.{some_is, bind_some, pass_some, chosen, number_form, string_form, version_back, version_alone, end_alone, end_back, optional_form, pair_form}
 use Rattle.mud_file.specs.declared.usage_file.UsageFile.{UsageFile}
-use Rattle.mud_file.specs.File.{file_of, most_octets}
+use Rattle.mud_file.specs.File.{file_of}
 use Rattle.usage_walk.specs.declared.fault.Broken.{Broken}
 use Rattle.usage_tables.specs.declared.approval.Approval.{Approval}
 use Rattle.usage_tables.specs.declared.approval.Approval.TheVariants.{Verified, Waived}
 use Rattle.usage_tables.specs.declared.cached_file.CachedFile.{CachedFile}
 use Rattle.usage_tables.specs.Held.{HeldFile, held_file, usage_in}
 use Rattle.usage_tables.specs.Limits.{last_moment}
-use Rattle.usage_tables.specs.Files.{is_of_url, is_usage_of, is_held, may_have, is_approved, may_follow, are_files, is_sound_file, IsKeptFile}
-use Rattle.usage_tables.specs.FileItems.{approval_number, approval_field, held_fields, approved_fields, file_body, file_item, held_in, approval_of, approval_in, approved_in, file_row, row_of, if_sound_file, file_in, IsFileItem}
+use Rattle.usage_tables.specs.Files.{is_held, may_have, is_approved, may_follow, is_sound_file, IsKeptFile}
+use Rattle.usage_tables.specs.FileItems.{approval_number, held_fields, approved_fields, file_body, file_item, held_in, approval_in, approved_in, file_row, row_of, if_sound_file, file_in, IsFileItem}
 use Rattle.base_rows.proofs.ListTests.{left_of, right_of}
+use Rattle.usage_tables.proofs.Parts.{is_of_url, approval_field, is_usage_of, are_files, approval_of}
+use Rattle.mud_file.proofs.Parts.{most_octets}
 
 -- ---- Fields
 
@@ -46,12 +48,12 @@ abbrev AnyApproval : Approval → Type 0
 AnyApproval a = Unit {0}
 
 approval_back : (a : Approval) (rest : List ℕ) → AnyApproval a → approval_in (approval_field a ++ rest) ≡ Some (a, rest)
-unfolding approval_in approval_field approval_number approval_of
+unfolding approval_in approval_number
 approval_back Verified rest fits = rw (octet_form.back 1 rest (lit< tt)) refl
 approval_back Waived rest fits = rw (octet_form.back 2 rest (lit< tt)) refl
 
 number_alone : (n : ℕ) (a : Approval) → approval_of n ≡ Some a → n ≡ approval_number a
-unfolding approval_of approval_number
+unfolding approval_number
 number_alone n a e =
     elim (chosen (eqb n 1) (Some Verified) (cond (eqb n 2) (Some Waived) None) (Some a) e) [
       | inl one ↦ subst (λ (b : Approval). n ≡ approval_number b) (some_is Verified a one.1) (eqb-true n 1 one.0)
@@ -61,7 +63,7 @@ number_alone n a e =
     ]
 
 approval_alone : (octets : List ℕ) (a : Approval) (rest : List ℕ) → IsOctets octets → approval_in octets ≡ Some (a, rest) → codec.IsRead octets (approval_field a) rest × AnyApproval a
-unfolding approval_in approval_field
+unfolding approval_in
 approval_alone octets a rest fits e =
     let flag = bind_some (number_in 1 octets) (λ flag. approval_of flag.0 >>= λ approval. Some (approval, flag.1)) (a, rest) e in
     let given = bind_some (approval_of flag.0.0) (λ approval. Some (approval, flag.0.1)) (a, rest) flag.2 in
@@ -148,7 +150,7 @@ short_fits : (n : ℕ) → n ≤ most_octets → n < 2 ^ 32
 short_fits n short = omega arith
 
 pub held_fits : (url : List ℕ) (held : HeldFile) → is_held url held ≡ true → FitsHeld held
-unfolding is_held is_usage_of
+unfolding is_held
 held_fits url held e =
     let b : Behind (is_of_url url) (usage_in held.octets) = behind (is_of_url url) (usage_in held.octets) (left_of (option_map_or (is_of_url url) (usage_in held.octets) false) (nat_le held.fetched last_moment) e) in (
       early_fits held.fetched (leb-true held.fetched last_moment (right_of (option_map_or (is_of_url url) (usage_in held.octets) false) (nat_le held.fetched last_moment) e)),
@@ -156,7 +158,7 @@ held_fits url held e =
     )
 
 pub held_short : (url : List ℕ) (held : HeldFile) → is_held url held ≡ true → length held.octets ≤ most_octets
-unfolding is_held is_usage_of
+unfolding is_held
 held_short url held e =
     let b : Behind (is_of_url url) (usage_in held.octets) = behind (is_of_url url) (usage_in held.octets) (left_of (option_map_or (is_of_url url) (usage_in held.octets) false) (nat_le held.fetched last_moment) e) in
     read_short held.octets b.file (usage_read held.octets b.file b.is)
@@ -173,7 +175,6 @@ abbrev FitParts : Option (HeldFile × Approval) → Option HeldFile → Type 0
 FitParts approved candidate = OptionFits FitsApproved approved × OptionFits FitsHeld candidate
 
 files_fit : (url : List ℕ) (approved : Option (HeldFile × Approval)) (candidate : Option HeldFile) → are_files url approved candidate ≡ true → FitParts approved candidate
-unfolding are_files
 files_fit url None None e = absurd (false≢true e)
 files_fit url None (Some c) e = (tt, held_fits url c e)
 files_fit url (Some a) None e = (approved_fits url a e, tt)

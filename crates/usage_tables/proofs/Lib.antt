@@ -1,11 +1,12 @@
+mod Examples
 pub mod Counts
-pub mod SoundFiles
-pub mod ToldFiles
-pub mod SoundLaws
-pub mod ItemLaws
 pub mod EditLaws
-pub mod ReadFiles
 pub mod EntryBounds
 pub mod ImportLaws
-mod Examples
+pub mod ItemLaws
+pub mod Parts
 pub mod PolicyLaws
+pub mod ReadFiles
+pub mod SoundFiles
+pub mod SoundLaws
+pub mod ToldFiles

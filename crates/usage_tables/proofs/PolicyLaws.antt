@@ -14,13 +14,14 @@ use Rattle.usage_tables.specs.declared.file_edit.FileEdit.TheVariants.{Unchanged
 use Rattle.usage_tables.specs.Held.{HeldFile}
 use Rattle.usage_tables.specs.Files.{url_of, file_at, set_file, without_file, new_file, with_candidate, with_approved}
 use Rattle.usage_tables.specs.FileEdits.{fetched_at, approved_at, approved_as, if_any, kept_row, made_row, changed_row, edited_row, put_file, edited}
-use Rattle.usage_tables.specs.Policies.{policy_in_held, policy_in_approved, policy_in_row, policy_of, url_policy_in, policies_of, candidate_in_row, candidate_policy, policy_change, policy_after}
+use Rattle.usage_tables.specs.Policies.{policy_in_held, policy_in_row, policy_of, url_policy_in, policies_of, candidate_in_row, candidate_policy, policy_change, policy_after}
 use Rattle.usage_tables.proofs.EditLaws.{edited_url}
+use Rattle.usage_tables.proofs.Parts.{policy_in_approved}
 
 -- ---- The policy of the row that comes
 
 approved_same : (m : ℕ) (a : Option (HeldFile × Approval)) → option_and_then policy_in_approved (option_map (approved_at m) a) ≡ option_and_then policy_in_approved a
-unfolding approved_at fetched_at policy_in_approved policy_in_held
+unfolding approved_at fetched_at policy_in_held
 approved_same m None = refl
 approved_same m (Some a) = refl
 
@@ -32,7 +33,7 @@ kept_policy row (Some a) c e = ap (option_and_then policy_in_approved) e
 kept_policy row None (Some c) e = ap (option_and_then policy_in_approved) e
 
 approved_policy : (approval : Approval) (c : Option HeldFile) → option_and_then policy_in_approved (option_map (approved_as approval) c) ≡ option_and_then policy_in_held c
-unfolding approved_as policy_in_approved
+unfolding approved_as
 approved_policy approval None = refl
 approved_policy approval (Some c) = refl
 

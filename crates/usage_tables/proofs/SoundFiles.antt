@@ -23,9 +23,10 @@ use Rattle.usage_tables.specs.declared.cached_file.CachedFile.{CachedFile}
 use Rattle.usage_tables.specs.declared.cache_fault.CacheFault.TheVariants.{Older, CacheFull, Digest, NoSignature, PolicyFull}
 use Rattle.usage_tables.specs.Held.{HeldFile, held_file, usage_in, digest_of}
 use Rattle.usage_tables.specs.Limits.{most_files, most_policy_entries, last_moment}
-use Rattle.usage_tables.specs.Files.{url_of, file_at, set_file, without_file, new_file, with_candidate, with_approved, is_of_url, is_usage_of, is_signed, is_older, entries_of, approved_entries, entry_count, is_held, may_have, is_approved, is_outdated, may_follow, are_files, is_sound_file, IsKeptFile, IsSoundFiles}
-use Rattle.usage_tables.specs.FileCommands.{FileStep, done, left, candidate_again, approved_again, older_than_approved, older_than_candidate, is_outdated_by, new_candidate, beside_approved, beside_candidate, import_cases, import_read, import_step, settled, left_with, approved_row, approve, ruled, candidate_cases, is_ruled, verdict_cases, verdict_step, approved_cases, revoke_cases, revoke_step}
+use Rattle.usage_tables.specs.Files.{url_of, file_at, set_file, without_file, new_file, with_candidate, with_approved, is_signed, is_older, entries_of, approved_entries, entry_count, is_held, may_have, is_approved, may_follow, is_sound_file, IsKeptFile, IsSoundFiles}
+use Rattle.usage_tables.specs.FileCommands.{FileStep, done, left, candidate_again, approved_again, older_than_approved, older_than_candidate, is_outdated_by, new_candidate, beside_approved, beside_candidate, import_cases, import_step, left_with, approved_row, approve, ruled, candidate_cases, is_ruled, verdict_cases, verdict_step, approved_cases, revoke_cases, revoke_step}
 use Rattle.usage_tables.proofs.Counts.{entries_found, entry_count-set_row, entry_count-without_row}
+use Rattle.usage_tables.proofs.Parts.{is_of_url, is_outdated, are_files, import_read, settled}
 
 -- ---- What holds of the files behind a step
 
@@ -64,7 +65,7 @@ file_usage octets file read = ap result_ok read
 
 -- a file that was read is held of its own URL
 read_held : (octets : List ℕ) (fetched : ℕ) (file : UsageFile) → file_of octets ≡ Ok file → fetched ≤ last_moment → is_held file.url (held_file octets fetched) ≡ true
-unfolding is_held is_usage_of
+unfolding is_held
 read_held octets fetched file read early =
     both (option_map_or (is_of_url file.url) (usage_in octets) false) (nat_le fetched last_moment)
     (ap (λ (o : Option UsageFile). option_map_or (is_of_url file.url) o false) (file_usage octets file read) ∙ same_bytes file.url file.url refl)
@@ -72,7 +73,7 @@ read_held octets fetched file read early =
 
 -- the same octets, fetched at another moment
 held_again : (url : List ℕ) (held : HeldFile) (fetched : ℕ) → is_held url held ≡ true → fetched ≤ last_moment → is_held url (held_file held.octets fetched) ≡ true
-unfolding is_held is_usage_of
+unfolding is_held
 held_again url held fetched e early = both (option_map_or (is_of_url url) (usage_in held.octets) false) (nat_le fetched last_moment) (left_of (option_map_or (is_of_url url) (usage_in held.octets) false) (nat_le held.fetched last_moment) e) (le-leb fetched last_moment early)
 
 have_again : (held : HeldFile) (fetched : ℕ) (a : Approval) → may_have held a ≡ true → may_have (held_file held.octets fetched) a ≡ true
@@ -82,21 +83,18 @@ have_again held fetched approval.Waived e = e
 
 -- the candidate, and the approved file, of sound files of a URL
 candidate_held : (url : List ℕ) (a : Option (HeldFile × Approval)) (c : HeldFile) → are_files url a (Some c) ≡ true → is_held url c ≡ true
-unfolding are_files
 candidate_held url None c e = e
 candidate_held url (Some a) c e = left_of (is_held url c) (may_follow c a.0) (right_of (is_approved url a) (is_held url c && may_follow c a.0) e)
 
 approved_held : (url : List ℕ) (a : HeldFile × Approval) (c : Option HeldFile) → are_files url (Some a) c ≡ true → is_approved url a ≡ true
-unfolding are_files
 approved_held url a None e = e
 approved_held url a (Some c) e = left_of (is_approved url a) (is_held url c && may_follow c a.0) e
 
 follows : (url : List ℕ) (a : HeldFile × Approval) (c : HeldFile) → are_files url (Some a) (Some c) ≡ true → may_follow c a.0 ≡ true
-unfolding are_files
 follows url a c e = right_of (is_held url c) (may_follow c a.0) (right_of (is_approved url a) (is_held url c && may_follow c a.0) e)
 
 candidate_fetched : (url : List ℕ) (a : Option (HeldFile × Approval)) (c : HeldFile) (fetched : ℕ) → are_files url a (Some c) ≡ true → fetched ≤ last_moment → are_files url a (Some (held_file c.octets fetched)) ≡ true
-unfolding are_files may_follow is_outdated
+unfolding may_follow
 candidate_fetched url None c fetched e early = held_again url c fetched e early
 candidate_fetched url (Some a) c fetched e early =
     both (is_approved url a) (is_held url (held_file c.octets fetched) && may_follow (held_file c.octets fetched) a.0)
@@ -111,7 +109,7 @@ fetched_anew url a fetched e early =
     (have_again a.0 fetched a.1 (right_of (is_held url a.0) (may_have a.0 a.1) e))
 
 approved_fetched : (url : List ℕ) (a : HeldFile × Approval) (c : Option HeldFile) (fetched : ℕ) → are_files url (Some a) c ≡ true → fetched ≤ last_moment → are_files url (Some (held_file a.0.octets fetched, a.1)) c ≡ true
-unfolding are_files may_follow is_outdated is_older
+unfolding may_follow is_older
 approved_fetched url a None fetched e early = fetched_anew url a fetched e early
 approved_fetched url a (Some c) fetched e early =
     both (is_approved url (held_file a.0.octets fetched, a.1)) (is_held url c && may_follow c (held_file a.0.octets fetched))
@@ -120,7 +118,7 @@ approved_fetched url a (Some c) fetched e early =
 
 -- other octets that are no older become the candidate
 offered : (url : List ℕ) (a : Option (HeldFile × Approval)) (c : Option HeldFile) (held : HeldFile) (file : UsageFile) → are_files url a c ≡ true → is_held url held ≡ true → usage_in held.octets ≡ Some file → older_than_approved file a ≡ false → ((x : HeldFile × Approval) → a ≡ Some x → bytes_eq held.octets x.0.octets ≡ false) → are_files url a (Some held) ≡ true
-unfolding are_files may_follow is_outdated
+unfolding may_follow
 offered url None c held file e good read older other = good
 offered url (Some a) c held file e good read older other =
     both (is_approved url a) (is_held url held && may_follow held a.0)
@@ -157,7 +155,7 @@ module _ (files : List CachedFile) (sound : IsSoundFiles files) where
       put_there row old there good (omega (arith, count, was, fewer, sound.entries))
 
   put_new : (url : List ℕ) (held : HeldFile) → file_at url files ≡ None → length files < most_files → is_held url held ≡ true → IsSoundFiles (set_file (new_file url held) files)
-  unfolding set_file file_at url_of new_file is_sound_file are_files approved_entries
+  unfolding set_file file_at url_of new_file is_sound_file approved_entries
   put_new url held found room good =
       let row : CachedFile = record { url = url; approved = None; candidate = Some held } in
       let count : entry_count (set_row url_of row files) + entries_found (row_at url_of url files) ≡ entry_count files + 0 = entry_count-set_row row files sound.ascend in
@@ -241,7 +239,7 @@ module _ (files : List CachedFile) (sound : IsSoundFiles files) (url : List ℕ)
       (λ _. beside_approved_sound held file own early fits read row.approved refl)
 
   approve_sound : (c : HeldFile) (a : Approval) → row.candidate ≡ Some c → may_have c a ≡ true → OfAfter IsSoundFiles (approve url files row c a)
-  unfolding approve approved_row is_sound_file are_files url_of is_approved set_file
+  unfolding approve approved_row is_sound_file url_of is_approved set_file
   approve_sound c a e may =
       let new : CachedFile = record row { approved = Some (c, a); candidate = None } in
       cond_after IsSoundFiles (nat_lt most_policy_entries (entry_count (set_row url_of new files))) (Err PolicyFull) (done Approved url (set_row url_of new files))
@@ -250,7 +248,7 @@ module _ (files : List CachedFile) (sound : IsSoundFiles files) (url : List ℕ)
 
   -- without its candidate
   rejected_sound : (o : Option (HeldFile × Approval)) → row.approved ≡ o → IsSoundFiles (settled url (with_candidate None row) o None files)
-  unfolding settled with_candidate is_sound_file are_files url_of
+  unfolding with_candidate is_sound_file url_of
   rejected_sound None e = removed files sound url
   rejected_sound (Some a) e =
       let new : CachedFile = record row { candidate = None } in
@@ -259,7 +257,7 @@ module _ (files : List CachedFile) (sound : IsSoundFiles files) (url : List ℕ)
 
   -- without its approved file
   revoked_sound : (o : Option HeldFile) → row.candidate ≡ o → IsSoundFiles (settled url (with_approved None row) None o files)
-  unfolding settled with_approved is_sound_file are_files url_of approved_entries
+  unfolding with_approved is_sound_file url_of approved_entries
   revoked_sound None e = removed files sound url
   revoked_sound (Some c) e =
       let new : CachedFile = record row { approved = None } in
@@ -292,7 +290,6 @@ module _ (files : List CachedFile) (sound : IsSoundFiles files) where
       beside_candidate_sound files sound file.url row found held file refl early (subst (λ u. is_held u held ≡ true) (sym (url_found files file.url row found)) fits) read row.candidate refl
 
   import_read_sound : (octets : List ℕ) (fetched : ℕ) → fetched ≤ last_moment → (r : Result UsageFile Broken) → file_of octets ≡ r → OfAfter IsSoundFiles (import_read (held_file octets fetched) files r)
-  unfolding import_read
   import_read_sound octets fetched early (Err broken) e = tt
   import_read_sound octets fetched early (Ok file) e = import_cases_sound (held_file octets fetched) file early (read_held octets fetched file e early) (file_usage octets file e) (file_at file.url files) refl
 

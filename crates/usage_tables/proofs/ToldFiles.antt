@@ -20,8 +20,9 @@ use Rattle.usage_tables.specs.declared.cache_fault.CacheFault.TheVariants.{Older
 use Rattle.usage_tables.specs.Held.{HeldFile, held_file, digest_of}
 use Rattle.usage_tables.specs.Limits.{most_files, most_policy_entries}
 use Rattle.usage_tables.specs.Files.{url_of, file_at, set_file, without_file, new_file, with_candidate, with_approved, is_signed, entry_count}
-use Rattle.usage_tables.specs.FileCommands.{TellsChange, FileStep, done, left, candidate_again, approved_again, older_than_approved, older_than_candidate, is_outdated_by, new_candidate, beside_approved, beside_candidate, import_cases, import_read, import_step, settled, left_with, approved_row, approve, ruled, candidate_cases, is_ruled, verdict_cases, verdict_step, approved_cases, revoke_cases, revoke_step}
+use Rattle.usage_tables.specs.FileCommands.{TellsChange, FileStep, done, left, candidate_again, approved_again, older_than_approved, older_than_candidate, is_outdated_by, new_candidate, beside_approved, beside_candidate, import_cases, import_step, left_with, approved_row, approve, ruled, candidate_cases, is_ruled, verdict_cases, verdict_step, approved_cases, revoke_cases, revoke_step}
 use Rattle.usage_tables.proofs.SoundFiles.{at_its_sort_key}
+use Rattle.usage_tables.proofs.Parts.{import_read, settled}
 
 -- the step, where it isn't refused, says truly whether these files change
 abbrev pub IsTold : List CachedFile → FileStep → Type 0
@@ -119,12 +120,10 @@ module _ (files : List CachedFile) (ascend : SortKeysAscend url_of files) (url :
       (λ _. as_other files (set_file new files) Approved url (sort_key_other new row files there (λ is. none-some c (sym (ap (λ (r : CachedFile). r.candidate) is) ∙ e))))
 
   rejected_other : (c : HeldFile) → row.candidate ≡ Some c → (o : Option (HeldFile × Approval)) → settled url (with_candidate None row) o None files ≡ files → ⊥
-  unfolding settled
   rejected_other c e None same = gone_other same
   rejected_other c e (Some a) same = other_candidate None (λ is. none-some c (sym is ∙ e)) same
 
   revoked_other : (a : HeldFile × Approval) → row.approved ≡ Some a → (o : Option HeldFile) → settled url (with_approved None row) None o files ≡ files → ⊥
-  unfolding settled
   revoked_other a e None same = gone_other same
   revoked_other a e (Some c) same = other_approved None (λ is. none-some a (sym is ∙ e)) same
 
@@ -154,7 +153,6 @@ module _ (files : List CachedFile) (ascend : SortKeysAscend url_of files) where
   import_cases_told held file (Some row) found = beside_candidate_told files ascend file.url row found held file refl row.candidate refl
 
   import_read_told : (held : HeldFile) (r : Result UsageFile Broken) → IsTold files (import_read held files r)
-  unfolding import_read
   import_read_told held (Err broken) = tt
   import_read_told held (Ok file) = import_cases_told held file (file_at file.url files) refl
 

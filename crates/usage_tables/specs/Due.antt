@@ -14,11 +14,8 @@ latest (Some approved) None = Some approved.0
 latest (Some approved) (Some candidate) = if nat_lt candidate.fetched approved.0.fetched then Some approved.0 else Some candidate
 
 -- so many seconds after it was fetched as its `cache-validity` has hours
-abbrev pub has_expired : ℕ → ℕ → UsageFile → Bool
-has_expired fetched now file = nat_le (fetched + 3600 * file.hours) now
-
 unfoldable pub is_expired : ℕ → HeldFile → Bool
-is_expired now held = option_map_or (has_expired held.fetched now) (usage_in held.octets) false
+is_expired now held = option_map_or (λ (file : UsageFile). nat_le (held.fetched + 3600 * file.hours) now) (usage_in held.octets) false
 
 unfoldable pub is_due : ℕ → CachedFile → Bool
 is_due now row = option_map_or (is_expired now) (latest row.approved row.candidate) false

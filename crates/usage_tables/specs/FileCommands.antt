@@ -90,23 +90,23 @@ import_cases held file files None =
     else done New file.url (set_file (new_file file.url held) files)
 import_cases held file files (Some row) = beside_candidate held file files row row.candidate
 
-unfoldable pub import_read : HeldFile → List CachedFile → Result UsageFile Broken → FileStep
-import_read held files (Err broken) = Err (File broken)
-import_read held files (Ok file) = import_cases held file files (file_at file.url files)
-
 unfoldable pub import_step : List ℕ → ℕ → List CachedFile → FileStep
 import_step octets fetched files = import_read (held_file octets fetched) files (file_of octets)
+  where
+    import_read : HeldFile → List CachedFile → Result UsageFile Broken → FileStep
+    import_read held files (Err broken) = Err (File broken)
+    import_read held files (Ok file) = import_cases held file files (file_at file.url files)
 
 -- ---- The operator judges the candidate of a URL, by its digest
 
--- the files with the row, or without the URL where the row holds no file
-unfoldable pub settled : List ℕ → CachedFile → Option (HeldFile × Approval) → Option HeldFile → List CachedFile → List CachedFile
-settled url row None None files = without_file url files
-settled url row (Some approved) candidate files = set_file row files
-settled url row None (Some candidate) files = set_file row files
-
 unfoldable pub left_with : List ℕ → CachedFile → List CachedFile → List CachedFile
 left_with url row files = settled url row row.approved row.candidate files
+  where
+    -- the files with the row, or without the URL where the row holds no file
+    settled : List ℕ → CachedFile → Option (HeldFile × Approval) → Option HeldFile → List CachedFile → List CachedFile
+    settled url row None None files = without_file url files
+    settled url row (Some approved) candidate files = set_file row files
+    settled url row None (Some candidate) files = set_file row files
 
 -- the candidate becomes the approved file
 unfoldable pub approved_row : CachedFile → HeldFile → Approval → CachedFile

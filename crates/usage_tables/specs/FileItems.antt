@@ -27,12 +27,9 @@ approval_number Waived = 2
 unfoldable pub held_fields : HeldFile → List ℕ
 held_fields held = number 8 held.fetched ++ string held.octets
 
-unfoldable pub approval_field : Approval → List ℕ
-approval_field approval = number 1 (approval_number approval)
-
 -- when it was fetched, in eight octets, the approval in one, and its octets
 unfoldable pub approved_fields : HeldFile × Approval → List ℕ
-approved_fields approved = number 8 approved.0.fetched ++ (approval_field approved.1 ++ string approved.0.octets)
+approved_fields approved = number 8 approved.0.fetched ++ (number 1 (approval_number approved.1) ++ string approved.0.octets)
 
 unfoldable pub file_body : Option (HeldFile × Approval) → Option HeldFile → List ℕ
 file_body approved candidate = version ++ (optional approved_fields approved ++ optional held_fields candidate)
@@ -51,14 +48,14 @@ held_in octets = do
   text ← string_in fetched.1
   Some (held_file text.0 fetched.0, text.1)
 
-unfoldable pub approval_of : ℕ → Option Approval
-approval_of n = if n == 1 then Some Verified else (if n == 2 then Some Waived else None)
-
 unfoldable pub approval_in : Reading Approval
 approval_in octets = do
   flag ← number_in 1 octets
   approval ← approval_of flag.0
   Some (approval, flag.1)
+  where
+    approval_of : ℕ → Option Approval
+    approval_of n = if n == 1 then Some Verified else (if n == 2 then Some Waived else None)
 
 unfoldable pub approved_in : Reading (HeldFile × Approval)
 approved_in octets = do

@@ -37,33 +37,16 @@ with_approved approved row = record row { approved = approved }
 
 -- ---- What a held file says
 
-abbrev pub is_of_url : List ℕ → UsageFile → Bool
-is_of_url url file = bytes_eq file.url url
-
-abbrev pub has_signature : UsageFile → Bool
-has_signature file = is_some file.signature
-
-abbrev pub is_before : UsageFile → UsageFile → Bool
-is_before file other = int_lt file.update other.update
-
--- how many entries it has, of both directions
-abbrev pub entries_in : UsageFile → ℕ
-entries_in file = length file.policy.outgoing + length file.policy.incoming
-
--- its octets are a usage file of this URL
-unfoldable pub is_usage_of : List ℕ → HeldFile → Bool
-is_usage_of url held = option_map_or (is_of_url url) (usage_in held.octets) false
-
 -- it has a `mud-signature` (RFC 8520, 13)
 unfoldable pub is_signed : HeldFile → Bool
-is_signed held = option_map_or has_signature (usage_in held.octets) false
+is_signed held = option_map_or (λ (file : UsageFile). is_some file.signature) (usage_in held.octets) false
 
 -- the file was generated before the held one, by the `last-update` of both (RFC 8520, 3.4)
 unfoldable pub is_older : UsageFile → HeldFile → Bool
-is_older file held = option_map_or (is_before file) (usage_in held.octets) false
+is_older file held = option_map_or (λ (other : UsageFile). int_lt file.update other.update) (usage_in held.octets) false
 
 unfoldable pub entries_of : HeldFile → ℕ
-entries_of held = option_map_or entries_in (usage_in held.octets) 0
+entries_of held = option_map_or (λ (file : UsageFile). length file.policy.outgoing + length file.policy.incoming) (usage_in held.octets) 0
 
 -- the entries of the approved file, where there is one
 unfoldable pub approved_entries : Option (HeldFile × Approval) → ℕ
@@ -80,6 +63,10 @@ entry_count (row ∷ files) = approved_entries row.approved + entry_count files
 -- octets that are a usage file of this URL, fetched at a moment
 unfoldable pub is_held : List ℕ → HeldFile → Bool
 is_held url held = is_usage_of url held && nat_le held.fetched last_moment
+  where
+    -- its octets are a usage file of this URL
+    is_usage_of : List ℕ → HeldFile → Bool
+    is_usage_of url held = option_map_or (λ (file : UsageFile). bytes_eq file.url url) (usage_in held.octets) false
 
 -- only a file with a signature can be verified
 unfoldable pub may_have : HeldFile → Approval → Bool
@@ -89,23 +76,23 @@ may_have held Waived = true
 unfoldable pub is_approved : List ℕ → HeldFile × Approval → Bool
 is_approved url approved = is_held url approved.0 && may_have approved.0 approved.1
 
--- a candidate was generated before the held file
-unfoldable pub is_outdated : HeldFile → HeldFile → Bool
-is_outdated candidate held = option_map_or (λ file. is_older file held) (usage_in candidate.octets) false
-
 -- a candidate beside an approved file has other octets, and was generated no earlier
 unfoldable pub may_follow : HeldFile → HeldFile → Bool
 may_follow candidate approved = not (bytes_eq candidate.octets approved.octets) && not (is_outdated candidate approved)
-
--- the files of a URL: at least one
-unfoldable pub are_files : List ℕ → Option (HeldFile × Approval) → Option HeldFile → Bool
-are_files url None None = false
-are_files url None (Some candidate) = is_held url candidate
-are_files url (Some approved) None = is_approved url approved
-are_files url (Some approved) (Some candidate) = is_approved url approved && (is_held url candidate && may_follow candidate approved.0)
+  where
+    -- a candidate was generated before the held file
+    is_outdated : HeldFile → HeldFile → Bool
+    is_outdated candidate held = option_map_or (λ file. is_older file held) (usage_in candidate.octets) false
 
 unfoldable pub is_sound_file : CachedFile → Bool
 is_sound_file row = are_files row.url row.approved row.candidate
+  where
+    -- the files of a URL: at least one
+    are_files : List ℕ → Option (HeldFile × Approval) → Option HeldFile → Bool
+    are_files url None None = false
+    are_files url None (Some candidate) = is_held url candidate
+    are_files url (Some approved) None = is_approved url approved
+    are_files url (Some approved) (Some candidate) = is_approved url approved && (is_held url candidate && may_follow candidate approved.0)
 
 abbrev pub IsKeptFile : CachedFile → Type 0
 IsKeptFile row = IsTrue (is_sound_file row)

@@ -14,18 +14,18 @@ use Rattle.usage_tables.specs.declared.file_edit.PolicyChange.TheVariants.{Stays
 use Rattle.usage_tables.specs.Held.{HeldFile, usage_in}
 use Rattle.usage_tables.specs.Files.{file_at}
 
-abbrev pub policy_in_file : UsageFile → Policy
-policy_in_file file = file.policy
-
 -- the entries of both directions that the octets say
 unfoldable pub policy_in_held : HeldFile → Option Policy
 policy_in_held held = option_map policy_in_file (usage_in held.octets)
-
-unfoldable pub policy_in_approved : HeldFile × Approval → Option Policy
-policy_in_approved approved = policy_in_held approved.0
+  where
+    policy_in_file : UsageFile → Policy
+    policy_in_file file = file.policy
 
 unfoldable pub policy_in_row : CachedFile → Option Policy
 policy_in_row row = option_and_then policy_in_approved row.approved
+  where
+    policy_in_approved : HeldFile × Approval → Option Policy
+    policy_in_approved approved = policy_in_held approved.0
 
 -- the policy of a URL: that of its approved file, and None where no file of it is approved
 unfoldable pub policy_of : List CachedFile → List ℕ → Option Policy

@@ -4,7 +4,8 @@ use Rattle.serde_json.specs.Data.{Data}
 use Rattle.serde_json.specs.Find.{as_array}
 use Rattle.serde_json.specs.View.{view, items_of, items_view}
 use Rattle.serde_json.specs.declared.value.Value.{Value}
-use Rattle.usage_walk.specs.Kinds.{items_list, list_in}
+use Rattle.usage_walk.specs.Kinds.{list_in}
+use Rattle.usage_walk.proofs.Parts.{items_list}
 
 pub items_list_of : (ds : List Data) → items_list (items_of ds) ≡ ds
 items_list_of [] = refl

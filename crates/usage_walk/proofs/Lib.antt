@@ -1,7 +1,8 @@
-pub mod Items
-pub mod NamedLists
-pub mod Always
-pub mod OnLiterals
-pub mod Written
 mod Examples
+pub mod Always
+pub mod Items
 pub mod JsonValues
+pub mod NamedLists
+pub mod OnLiterals
+pub mod Parts
+pub mod Written

@@ -9,19 +9,12 @@ use Rattle.usage_walk.specs.Members.{name_of}
 use Rattle.mud_base.specs.Readings.{done, ◌>>=◌, wanted, refused_where, where_there}
 use Rattle.usage_walk.specs.Reading.{Reading, under, fault_at}
 
-abbrev pub object_in : Data → Option Data
-object_in d = if is_some (as_object d) then Some d else None
-
--- a whole number from 0 on, below 2^64
-abbrev pub number_in : Data → Option ℕ
-number_in d = option_and_then as_u64 (as_number d)
-
-abbrev pub items_list : Items → List Data
-items_list no_items = []
-items_list (item d ds) = d ∷ items_list ds
-
 abbrev pub list_in : Data → Option (List Data)
 list_in d = option_map items_list (as_array d)
+  where
+    items_list : Items → List Data
+    items_list no_items = []
+    items_list (item d ds) = d ∷ items_list ds
 
 abbrev pub is_null : Data → Bool
 is_null d = is_some (as_null d)
@@ -41,13 +34,16 @@ unfoldable pub text_of : List ℕ → Data → Reading (List ℕ)
 text_of path d = wanted [] (fault_at WrongKind path) (as_str d)
 
 unfoldable pub number_of : List ℕ → Data → Reading ℕ
-number_of path d = wanted 0 (fault_at WrongKind path) (number_in d)
+number_of path d = wanted 0 (fault_at WrongKind path) (option_and_then as_u64 (as_number d))
 
 unfoldable pub truth_of : List ℕ → Data → Reading Bool
 truth_of path d = wanted false (fault_at WrongKind path) (as_bool d)
 
 unfoldable pub object_of : List ℕ → Data → Reading Data
 object_of path d = wanted null (fault_at WrongKind path) (object_in d)
+  where
+    object_in : Data → Option Data
+    object_in d = if is_some (as_object d) then Some d else None
 
 unfoldable pub list_of : List ℕ → Data → Reading (List Data)
 list_of path d = wanted [] (fault_at WrongKind path) (list_in d)

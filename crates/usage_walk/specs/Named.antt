@@ -25,14 +25,10 @@ element_named name elements = find (λ e. bytes_eq e.name name) elements
 unfoldable pub element : List Element → List ℕ → Data → Element
 element before name d = record { index = length before; name = name; value = d }
 
--- a name is new among these
-unfoldable pub new_name : List ℕ → List ℕ → List Element → Reading (Unit {0})
-new_name path name before = refused_where (is_named name before) (fault_at RepeatedName (under path Name))
-
 -- the object behind those before it, where its name is new
 unfoldable pub with_named : List ℕ → List Element → List ℕ → Data → Reading (List Element)
 with_named path before name d = do
-  _ ← new_name path name before
+  _ ← refused_where (is_named name before) (fault_at RepeatedName (under path Name))
   done (before ++ element before name d ∷ [])
 
 -- the next element of a list, which has this path, behind those before it

@@ -13,14 +13,14 @@ use Rattle.usage_walk.specs.Reading.{Reading, under_name, fault_at}
 unfoldable pub is_among : {H : Type 0} → List (Row H) → List ℕ → Bool
 is_among rows name = list_any (λ r. bytes_eq (name_of r.member) name) rows
 
--- the first member, in the order of their names by octets, that has no row. A JSON object has each name
--- once, in that order.
-abbrev pub first_other : {H : Type 0} → List (Row H) → Members → Option (List ℕ)
-first_other rows no_members = None
-first_other rows (member name d ms) = if is_among rows name then first_other rows ms else Some name
-
 abbrev pub first_unknown : {H : Type 0} → List (Row H) → Data → Option (List ℕ)
 first_unknown rows d = option_and_then (first_other rows) (as_object d)
+  where
+    -- the first member, in the order of their names by octets, that has no row. A JSON object has each name
+    -- once, in that order.
+    first_other : {H : Type 0} → List (Row H) → Members → Option (List ℕ)
+    first_other rows no_members = None
+    first_other rows (member name d ms) = if is_among rows name then first_other rows ms else Some name
 
 -- no member stands in an object inside `matches` but those of the table's rows
 unfoldable pub all_known : {H : Type 0} → List ℕ → List (Row H) → Data → Reading (Unit {0})

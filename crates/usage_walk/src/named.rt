@@ -114,7 +114,7 @@ impl<'a> Elements<'a> {
 }
 
 /// Adds an object at this path behind the others, where its name is new.
-#[tactic(auto, unfolding(crate::specs::Named::with_named, crate::specs::Named::new_name), using(mud_base::proofs::Readings::answer_bind, mud_base::proofs::Readings::answer_done, mud_base::proofs::Readings::answer_passed, mud_base::proofs::Readings::answer_refused))]
+#[tactic(auto, unfolding(crate::specs::Named::with_named), using(mud_base::proofs::Readings::answer_bind, mud_base::proofs::Readings::answer_done, mud_base::proofs::Readings::answer_passed, mud_base::proofs::Readings::answer_refused))]
 fn add<'a>(
     alloc: Global,
     elements: &mut Elements<'a>,

@@ -9,10 +9,11 @@ use Rattle.mud_world.proofs.Doors.{put_out_twice, put_out_none, rose_by_one}
 use Rattle.desk_model.specs.declared.reply.Reply.{Reply}
 use Rattle.desk_model.specs.declared.reply.Reply.TheVariants.{Done, Refused, Keeper, Memory}
 use Rattle.run_common.specs.Output.{WroteFirst}
-use Rattle.mud_cli.specs.Import.Entries.{Entry, is_of_memory, name_of, names_of_entries, line_with, lines_of, status_with, status_of, has_keeper_failed, keeper_count}
+use Rattle.mud_cli.specs.Import.Entries.{Entry, is_of_memory, names_of_entries, line_with, lines_of, status_with, status_of, has_keeper_failed, keeper_count}
 use Rattle.mud_cli.specs.Import.Imports.{Standing, ImportsEntry, Imports}
 use Rattle.mud_cli.specs.Import.Runs.{Scene, ImportsAll, ImportsPart}
 use Rattle.table_model.proofs.RowSets.{take_one}
+use Rattle.mud_cli.proofs.Parts.{name_of}
 
 abbrev pub Files : Type 0
 Files = List (List ℕ × List ℕ)

@@ -9,12 +9,13 @@ use Rattle.desk_model.specs.declared.command.Command.TheVariants.{Import}
 use Rattle.desk_model.specs.declared.reply.Reply.{Reply}
 use Rattle.desk_model.specs.declared.reply.Reply.TheVariants.{Done, Refused, Keeper, Memory}
 use Rattle.desk_model.specs.Commands.{DeskStep, command_step}
-use Rattle.desk_model.specs.Sessions.{Session, Answered, answered, command_in, later, AllowedReply}
+use Rattle.desk_model.specs.Sessions.{Session, Answered, command_in, later, AllowedReply}
 use Rattle.run_packets.proofs.SnoopLaws.Asked.{memory_leaves}
 use Rattle.mud_cli.specs.Import.Names.{fetched_in}
 use Rattle.mud_cli.specs.Import.Entries.{is_of_memory}
 use Rattle.mud_cli.specs.Import.Imports.{ImportsEntry, octets_of}
 use Rattle.mud_cli.specs.Import.Scenes.{standing}
+use Rattle.desk_model.proofs.Parts.{answered}
 
 pub leads_on : (files : List (List ℕ × List ℕ)) (name octets : List ℕ) (fetched now : ℕ) (said reply : Reply) (before after : DeskState) (moments later : List ℕ)
     → fetched_in name ≡ Some fetched → option_map read_part (content_of files name) ≡ Some octets → now ≡ next_moment moments → later ≡ later_moments moments
@@ -36,7 +37,6 @@ leads_on files name octets fetched now said reply before after moments later for
 -- ---- A command counts no packet
 
 answered_history : (session : Session) (now : ℕ) (step : DeskStep) → (answered session now step).session.history ≡ session.history
-unfolding answered
 answered_history session now (Ok step) = refl
 answered_history session now (Err refusal) = refl
 

@@ -11,9 +11,10 @@ use Rattle.std.proofs.lemmas.List.Sorted.{ranks_by, sorted_far, sum_by-IsPermuta
 use Rattle.std.proofs.lemmas.List.Sums.{sum_by-cons}
 use Rattle.base_rows.specs.Sortable.{sort_key_cmp, same_sort_key}
 use Rattle.base_rows.proofs.SortableLaws.{sort_key_cmp_exact, sort_key_cmp_itself, same_sort_key_itself, same_sort_key_exact}
-use Rattle.mud_cli.specs.Import.Order.{with_name, in_order}
+use Rattle.mud_cli.specs.Import.Order.{in_order}
 use denote.Param.Members.{Mut}
 use denote.Ref.{Bor}
+use Rattle.mud_cli.proofs.Parts.{with_name}
 
 abbrev is_before : List ℕ → List ℕ → Bool
 is_before x y = is_lt (sort_key_cmp x y)

@@ -16,10 +16,11 @@ use Rattle.http_requests.specs.declared.fault.MomentFrom.{MomentFrom}
 use Rattle.http_requests.specs.declared.end.ConnectionEnd.{ConnectionEnd}
 use Rattle.http_requests.specs.Ends.{IsServed}
 use Rattle.http_requests.specs.Runs.{IsLeftBy}
-use Rattle.http_requests.specs.Visits.{failed_to_read, failed_to_write, AreEnough, CountsOf, ServedInTurn, Visited}
+use Rattle.http_requests.specs.Visits.{AreEnough, CountsOf, ServedInTurn, Visited}
 use Rattle.console.specs.Answers.{fault_answer}
 use Rattle.console.specs.States.{ConsoleState, ConsoleStep, IsAt}
 use Rattle.mud_cli.specs.Serving.Store.{LeavesDesk}
+use Rattle.http_requests.proofs.Pieces.{failed_to_read, failed_to_write}
 
 none_where_steady : (unavailable before now : ℕ) → CountsOf unavailable before now → ¬ (Rose before now) → unavailable ≡ 0
 none_where_steady zero before now counts steady = refl

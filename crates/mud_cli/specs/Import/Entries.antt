@@ -10,11 +10,8 @@ pub record Entry : Type 0 where
   pub name : List ℕ
   pub reply : Option Reply
 
-abbrev pub name_of : Entry → List ℕ
-name_of entry = entry.name
-
 abbrev pub names_of_entries : List Entry → List (List ℕ)
-names_of_entries entries = map name_of entries
+names_of_entries entries = map (λ (entry : Entry). entry.name) entries
 
 -- ---- Lines
 

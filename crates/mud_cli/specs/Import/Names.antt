@@ -18,10 +18,6 @@ has_label_length text = nat_lt 0 (length text) && nat_le (length text) 64
 unfoldable pub is_label : List ℕ → Bool
 is_label text = has_label_length text && list_all is_label_octet text
 
--- what stands before `.json`, where the name ends so
-unfoldable pub stem_of : List ℕ → Option (List ℕ)
-stem_of name = if bytes_eq (drop (length name - 5) name) (codes ".json") then Some (take (length name - 5) name) else None
-
 -- the moment in front of the first dash, where a label stands behind it
 unfoldable pub fetched_in_stem : List ℕ → Option ℕ
 fetched_in_stem stem = if is_label (after_first is_dash stem) then moment_in (before_first is_dash stem) else None
@@ -29,3 +25,7 @@ fetched_in_stem stem = if is_label (after_first is_dash stem) then moment_in (be
 -- the moment at which the file was fetched, by its name; none for a name of another form
 unfoldable pub fetched_in : List ℕ → Option ℕ
 fetched_in name = option_and_then fetched_in_stem (stem_of name)
+  where
+    -- what stands before `.json`, where the name ends so
+    stem_of : List ℕ → Option (List ℕ)
+    stem_of name = if bytes_eq (drop (length name - 5) name) (codes ".json") then Some (take (length name - 5) name) else None

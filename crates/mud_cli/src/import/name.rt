@@ -71,7 +71,7 @@ fn fetched_in_stem(stem: &[u8]) -> Option<Moment>
 /// The moment at which the usage file of this name was fetched: its seconds since
 /// 1970-01-01T00:00:00Z in front of a dash, a label of 1 to 64 letters, digits, `-`, `_` and `.`, and
 /// `.json`. None for a name of another form. It takes no memory.
-#[tactic(auto, unfolding(crate::specs::Import::Names::fetched_in, crate::specs::Import::Names::stem_of))]
+#[tactic(auto, unfolding(crate::specs::Import::Names::fetched_in))]
 pub(crate) fn fetched_in(name: &[u8]) -> Option<Moment>
     ensures { result ≡ spec.fetched_in name.now }
 {

@@ -26,7 +26,7 @@ fn moment_of_body(body: &[u8]) -> Option<u64>
 }
 
 /// The stamp of an item, or None where the item is none of a stamp.
-#[tactic(auto, unfolding(table_model::specs::BindItems::stamp_in, table_model::specs::BindItems::if_moment))]
+#[tactic(auto, unfolding(table_model::specs::BindItems::stamp_in))]
 pub(crate) fn stamp_in(item: &Item) -> Option<Moment>
     ensures { result ≡ spec.stamp_in item.now }
 {

@@ -7,12 +7,12 @@ use Rattle.frame_view.specs.declared.views.Frame.TheVariants as frame
 use Rattle.table_model.specs.declared.bind.ClassRow.{ClassRow}
 use Rattle.table_model.specs.Tables.{is_bound}
 use Rattle.packet_judge.specs.declared.verdict.Verdict.{Verdict}
-use Rattle.run_packets.specs.Snoop.Learning.{dns_class, is_from_dns, is_let_through, payload_if, heard_in}
+use Rattle.run_packets.specs.Snoop.Learning.{dns_class, is_from_dns, is_let_through, heard_in}
 
 pub true_of : (test defined : Bool) → test ≡ true → test ≡ defined → defined ≡ true
 true_of test defined passed is = sym is ∙ passed
 
 pub heard_here : (classes : List ClassRow) (octets : List ℕ) (verdict : Verdict) (packet : PacketFrame) → is_let_through verdict ≡ true → frame_of octets ≡ frame.Packet packet
     → is_from_dns packet.fields.transport ≡ true → is_bound dns_class packet.fields.src classes ≡ true → Some (payload_of packet.octets) ≡ heard_in classes octets verdict
-unfolding heard_in payload_if
+unfolding heard_in
 heard_here classes octets verdict packet through is from bound = rw (through, is, from, bound) refl

@@ -5,7 +5,7 @@ use Rattle.table_model.specs.declared.bind.ClassRow.{ClassRow}
 use Rattle.read_buffer.specs.Packets.{Packet}
 use Rattle.packet_judge.specs.declared.verdict.Verdict.{Verdict}
 use Rattle.desk_model.specs.declared.reply.Reply.{Reply}
-use Rattle.desk_model.specs.Sessions.{Session, Runs, frame_in, judged}
+use Rattle.desk_model.specs.Sessions.{Session, Runs, frame_in}
 use Rattle.mud_desk.specs.DeskState.{DeskState, tables_of, session_of}
 use Rattle.run_desk.specs.Judged.{judged_line, judged_packet}
 use Rattle.dns_snoop.specs.Messages.{answers_of}
@@ -13,11 +13,12 @@ use Rattle.run_packets.specs.Snoop.Entries.{Heard, Entry, calls_of, heard_lines,
 use Rattle.run_packets.specs.Snoop.Learning.{heard_in}
 use Rattle.run_packets.specs.Snoop.Learnt.{Learns, LearnsFirst}
 use Rattle.run_packets.specs.Snoop.Packets.{session_behind, IsJudgedIn, GoesOn, StopsAt}
+use Rattle.desk_model.proofs.Parts.{judged}
 
 module _ (s : Session) (packet : Packet) (verdict : Verdict) (middle : DeskState) (after : Session) (verdict_is : verdict ≡ (judged_packet s packet).verdict) (in_middle : session_of middle ≡ session_behind s packet)
     (heard : Heard) (heard_is : heard ≡ option_map answers_of (heard_in (tables_of middle).tables.classes packet.octets verdict)) where
   classes_are : (tables_of middle).tables.classes ≡ s.desk.tables.classes
-  unfolding session_of frame_in judged
+  unfolding session_of frame_in
   classes_are = ap (λ (t : Session). t.desk.tables.classes) in_middle
 
   moment_is : middle.moment ≡ (session_behind s packet).moment

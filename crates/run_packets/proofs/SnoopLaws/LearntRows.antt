@@ -12,9 +12,10 @@ use Rattle.desk_model.specs.declared.reply.Reply.{Reply}
 use Rattle.desk_model.specs.declared.reply.Reply.TheVariants.{Memory}
 use Rattle.desk_model.specs.Sessions.{Session, AllowedReply, Runs, is_of_keeper}
 use Rattle.dns_snoop.specs.declared.fault.DnsFault.TheVariants as dns
-use Rattle.run_packets.specs.Snoop.Entries.{Heard, observations, calls_of, name_lines, heard_lines, NoneOfMemory, failures}
+use Rattle.run_packets.specs.Snoop.Entries.{Heard, calls_of, heard_lines, NoneOfMemory, failures}
 use Rattle.run_packets.specs.Snoop.Learnt.{Learns, LearnsFirst, names_of}
 use Rattle.run_packets.specs.Snoop.Lines.{name_line}
+use Rattle.run_packets.proofs.Parts.{observations, name_lines}
 
 abbrev pub Calls : Type 0
 Calls = List (ℕ × Command)

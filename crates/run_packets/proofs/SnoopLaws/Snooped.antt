@@ -18,10 +18,11 @@ use Rattle.run_captures.proofs.Done.{has_done_more}
 use Rattle.run_captures.proofs.Ends.{part_of_some, part_of_done}
 use Rattle.run_common.specs.Output.{WritesOutput, WritesPart}
 use Rattle.desk_model.specs.Sessions.{Session}
-use Rattle.run_packets.specs.Snoop.Entries.{Entry, packet_in, packets_of, entry_lines, lines_of, failures, keeper_count, status_with}
+use Rattle.run_packets.specs.Snoop.Entries.{Entry, packets_of, entry_lines, lines_of, failures, keeper_count, status_with}
 use Rattle.run_packets.specs.Snoop.Packets.{SnoopsPacket, Snoops, GoesOn, StopsAt}
 use Rattle.run_packets.specs.Snoop.Runs.{scene, tail_of, SnoopsAll, SnoopsPart, SnoopsTaken}
 use Rattle.run_packets.proofs.SnoopLaws.LearntRows.{either_count}
+use Rattle.run_packets.proofs.Parts.{packet_in}
 
 -- ---- Entries one after the other
 

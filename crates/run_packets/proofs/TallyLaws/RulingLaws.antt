@@ -14,18 +14,20 @@ use Rattle.read_buffer.specs.Packets.{Packet}
 use Rattle.acl_model.specs.declared.ruling.Ruling.{Ruling}
 use Rattle.packet_judge.specs.declared.verdict.Verdict.{Verdict}
 use Rattle.packet_judge.specs.declared.verdict.Verdict.TheVariants.{Unmanaged, Link, Unreadable, Governed}
-use Rattle.packet_judge.specs.Verdicts.{Rulings, Endpoints, endpoints_of, endpoint_ruling, governed, is_managed, if_managed, verdict_on, verdict_of}
+use Rattle.packet_judge.specs.Verdicts.{Rulings, Endpoints, endpoints_of, endpoint_ruling, is_managed, if_managed, verdict_on, verdict_of}
 use Rattle.drop_ledger.specs.Counted.{total}
 use Rattle.desk_model.specs.Verdicts.{verdict_at}
-use Rattle.desk_model.specs.Sessions.{Session, frame_in, judged, verdict_in}
+use Rattle.desk_model.specs.Sessions.{Session, frame_in, verdict_in}
 use Rattle.run_desk.specs.Judged.{judged_packet}
 use Rattle.drop_ledger.specs.declared.seen.Seen.{Seen}
 use Rattle.drop_ledger.specs.declared.seen.Ruled.{Ruled}
 use Rattle.drop_ledger.specs.SortKeys.{count_of_row}
-use Rattle.drop_ledger.specs.Seen.{hour_of, ruling_on, ruled, ruled_on, is_ruled, is_governed, rulings_in, rulings, HasFields, HasThing}
+use Rattle.drop_ledger.specs.Seen.{hour_of, ruling_on, ruled_on, is_ruled, is_governed, rulings, HasFields, HasThing}
 use Rattle.drop_ledger.specs.Ledger.{counts_of}
 use Rattle.drop_ledger.proofs.LedgerLaws.{none_ruled, counts_sum}
 use Rattle.run_packets.specs.Tally.Tallied.{seen_as, seen_of, seen_in, hours, in_hour}
+use Rattle.drop_ledger.proofs.Parts.{ruled, rulings_in}
+use Rattle.packet_judge.proofs.Parts.{governed}
 
 -- ---- Rulings come from readable packets of Things
 
@@ -60,7 +62,7 @@ ruled_as s a b is =
     ∙ (λ i. mapped_some (ruled s From) a i || mapped_some (ruled s To) b i)
 
 governed_right : (rulings : Rulings) (s : Seen) (fields : Fields) (endpoints : Endpoints) → s.fields ≡ Some fields → (b : Bool) → is_managed endpoints ≡ b → s.verdict ≡ cond b (governed rulings fields endpoints) Unmanaged → IsRight s
-unfolding governed is_managed is_governed
+unfolding is_managed is_governed
 governed_right rulings s fields endpoints has false managed is = ungoverned s Unmanaged is refl
 governed_right rulings s fields endpoints has true managed is = record {
   fields = λ given. ap is_some has;
@@ -82,7 +84,7 @@ frame_right rulings things moment (frame.Unreadable (Some octets) part) =
     ungoverned (seen_as moment (verdict_on rulings things (frame.Unreadable (Some octets) part)) (frame.Unreadable (Some octets) part)) (cond (is_managed (endpoints_of things octets)) (Unreadable part) Unmanaged) refl (without (is_managed (endpoints_of things octets)) (Unreadable part) refl)
 
 seen_right : (session : Session) (packet : Packet) → IsRight (seen_of (judged_packet session packet) packet)
-unfolding seen_of frame_in judged verdict_in verdict_at verdict_of
+unfolding seen_of frame_in verdict_in verdict_at verdict_of
 seen_right session packet = frame_right _ _ _ (frame_of packet.octets)
 
 pub all_fields : (session : Session) (packets : List Packet) → AllByRecursion HasFields (seen_in session packets)

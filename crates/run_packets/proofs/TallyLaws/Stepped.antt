@@ -12,7 +12,7 @@ use Rattle.drop_ledger.specs.declared.seen.Seen.{Seen}
 use Rattle.drop_ledger.specs.declared.rows.CountRow.{CountRow}
 use Rattle.drop_ledger.specs.Seen.{hour_of, rulings}
 use Rattle.drop_ledger.specs.Ledger.{TallyState, StandsFor, IsSameTally, counts_of, hour_in}
-use Rattle.run_packets.specs.Tally.Tallied.{Tallied, seen_as, seen_of, is_over, closed_before, closing, ending_of, latest_with, tallied, tally_step, tally_ending, IsTallied}
+use Rattle.run_packets.specs.Tally.Tallied.{Tallied, seen_as, seen_of, is_over, closed_before, closing, ending_of, latest_with, tally_step, tally_ending, IsTallied}
 use Rattle.run_packets.specs.Tally.Texts.{hour_lines, end_lines}
 use Rattle.run_packets.proofs.TallyLaws.TextLaws.{seen_hour, moment_then}
 
@@ -39,7 +39,7 @@ hour_then (Some hour) new now is = by (hour == now) refl
 -- the lines before a packet, by the hour of its moment
 pub closed_line : (t : Tallied) (packet : Packet) (moment : ℕ) (before after : List ℕ) → moment ≡ max t.session.moment packet.seconds
     → ((s : Seen) → hour_of s ≡ moment / 3600 → after ≡ before ++ closed_before t.latest s) → after ≡ before ++ (tally_step t packet).line
-unfolding tally_step tallied
+unfolding tally_step
 closed_line t packet moment before after is says =
     says (seen_of (judged_packet t.session packet) packet)
     (seen_hour (judged_packet t.session packet) packet ∙ ap (λ m. m / 3600) (moment_then t.session packet ∙ sym is))
@@ -54,7 +54,7 @@ seen_is session packet moment verdict s moment_is verdict_is is =
 pub next_tallied : (t : Tallied) (packet : Packet) (state : DeskState) (moment : ℕ) (tally : TallyState) (s : Seen) → moment ≡ max t.session.moment packet.seconds
     → s ≡ seen_of (judged_packet t.session packet) packet → session_of state ≡ (judged_packet t.session packet).session → StandsFor (t.all ++ s ∷ []) (latest_with t.latest s) tally
     → IsTallied (tally_step t packet).next state moment tally
-unfolding tally_step tallied
+unfolding tally_step
 next_tallied t packet state moment tally s moment_is seen session_is stands = record {
   session = session_is;
   moment = moment_is ∙ sym (moment_then t.session packet);

@@ -13,16 +13,19 @@ use Rattle.frame_view.specs.Frame.{frame_of}
 use Rattle.packet_judge.specs.declared.verdict.Verdict.{Verdict}
 use Rattle.read_buffer.specs.Packets.{Packet}
 use Rattle.run_captures.specs.Fold.{lines_from, state_after}
-use Rattle.desk_model.specs.Sessions.{Session, Judged, frame_in, judged, later}
+use Rattle.desk_model.specs.Sessions.{Session, Judged, frame_in, later}
 use Rattle.run_desk.specs.Judged.{judged_packet}
 use Rattle.drop_ledger.specs.declared.seen.Seen.{Seen}
 use Rattle.drop_ledger.specs.declared.seen.Ruled.{Ruled}
-use Rattle.drop_ledger.specs.Seen.{hour_of, is_ruled, rulings_in, rulings}
+use Rattle.drop_ledger.specs.Seen.{hour_of, is_ruled, rulings}
 use Rattle.drop_ledger.specs.Ledger.{counts_of, hour_in}
 use Rattle.drop_ledger.proofs.LedgerLaws.{none_ruled}
 use Rattle.drop_ledger.proofs.TallyLaws.{first_some, hour-append}
 use Rattle.run_packets.specs.Tally.Texts.{hour_lines}
-use Rattle.run_packets.specs.Tally.Tallied.{Tallied, begun, seen_as, seen_of, seen_in, hours, in_hour, text_of_hour, ending_of, tally_text, is_over, closing, closed_before, latest_with, tallied, tally_step, tally_ending}
+use Rattle.run_packets.specs.Tally.Tallied.{Tallied, begun, seen_as, seen_of, seen_in, hours, in_hour, ending_of, tally_text, is_over, closing, closed_before, latest_with, tally_step, tally_ending}
+use Rattle.drop_ledger.proofs.Parts.{rulings_in}
+use Rattle.run_packets.proofs.Parts.{text_of_hour}
+use Rattle.desk_model.proofs.Parts.{judged}
 
 -- ---- The lines by the list of what was seen
 
@@ -32,7 +35,7 @@ fold_text latest (s ∷ rest) = closed_before latest s ++ fold_text (latest_with
 
 -- the lines of the packets and those at the end, as a step over the list
 pub written_as : (t : Tallied) (packets : List Packet) → lines_from tally_step t packets ++ tally_ending (state_after tally_step t packets) ≡ fold_text t.latest (seen_in t.session packets) ++ ending_of (t.all ++ seen_in t.session packets)
-unfolding fold_text seen_in tally_ending tally_step tallied
+unfolding fold_text seen_in tally_ending tally_step
 written_as t [] = ap (λ l. closing t.latest ++ ending_of l) (sym (append-nil t.all))
 written_as t (packet ∷ packets) =
     let judged = judged_packet t.session packet in
@@ -210,7 +213,7 @@ text_of_hours all = flat_map (text_of_hour all) (hours all)
 
 -- the hour of the packets in front is closed before those behind it
 closed_first : (h : ℕ) (l x : List Seen) → hour_in l ≡ Some h → One (Some h) l → Above h x → closing l ++ text_of_hours x ≡ text_of_hours (l ++ x)
-unfolding text_of_hour closing
+unfolding closing
 closed_first h l x is one above =
     (λ i. hour_lines (is i) (counts_of (sym (first_rulings h l x one above) i)) ++ flat_map (text_of_hour x) (hours x))
     ∙ ap (λ m. text_of_hour (l ++ x) h ++ m) (same_texts (text_of_hour x) (text_of_hour (l ++ x)) h (hours x) (hours_apart h x above) (λ g apart. ap (λ rs. hour_lines (Some g) (counts_of rs)) (sym (later_rulings h g l x apart one))))
@@ -343,7 +346,7 @@ unfolding seen_of hour_of
 seen_hour judged packet = ap (λ m. m / 3600) (seen_moment judged.session.moment judged.verdict (frame_of packet.octets))
 
 pub moment_then : (session : Session) (packet : Packet) → (judged_packet session packet).session.moment ≡ max session.moment packet.seconds
-unfolding frame_in judged later
+unfolding frame_in later
 moment_then session packet = refl
 
 later_all : (a b : ℕ) (l : List Seen) → a ≤ b → NotBefore b l → NotBefore a l

@@ -24,36 +24,33 @@ pub record Entry : Type 0 where
   pub heard : Heard
   pub replies : List Reply
 
-abbrev pub packet_in : Entry → Packet
-packet_in entry = entry.packet
-
 abbrev pub packets_of : List Entry → List Packet
-packets_of entries = map packet_in entries
+packets_of entries = map (λ (entry : Entry). entry.packet) entries
 
 -- ---- Commands
-
--- each address is observed under the name, for its seconds, at this moment
-abbrev pub observations : ℕ → List ℕ → List (Addr × ℕ) → List (ℕ × Command)
-observations moment name [] = []
-observations moment name (row ∷ rows) = (moment, Observe name row.0 row.1) ∷ observations moment name rows
 
 abbrev pub calls_of : ℕ → Heard → List (ℕ × Command)
 calls_of moment None = []
 calls_of moment (Some (Err fault)) = []
 calls_of moment (Some (Ok answers)) = observations moment answers.name answers.rows
+  where
+    -- each address is observed under the name, for its seconds, at this moment
+    observations : ℕ → List ℕ → List (Addr × ℕ) → List (ℕ × Command)
+    observations moment name [] = []
+    observations moment name (row ∷ rows) = (moment, Observe name row.0 row.1) ∷ observations moment name rows
 
 -- ---- Lines
-
--- the line of each address that was replied to
-abbrev pub name_lines : List ℕ → List (Addr × ℕ) → List Reply → List ℕ
-name_lines name [] replies = []
-name_lines name (row ∷ rows) [] = []
-name_lines name (row ∷ rows) (reply ∷ replies) = name_line name row reply ++ name_lines name rows replies
 
 abbrev pub heard_lines : Heard → List Reply → List ℕ
 heard_lines None replies = []
 heard_lines (Some (Err fault)) replies = dns_fault_line fault
 heard_lines (Some (Ok answers)) replies = name_lines answers.name answers.rows replies
+  where
+    -- the line of each address that was replied to
+    name_lines : List ℕ → List (Addr × ℕ) → List Reply → List ℕ
+    name_lines name [] replies = []
+    name_lines name (row ∷ rows) [] = []
+    name_lines name (row ∷ rows) (reply ∷ replies) = name_line name row reply ++ name_lines name rows replies
 
 -- the line of the verdict, and then those of what is heard
 unfoldable pub entry_lines : Entry → List ℕ

@@ -32,14 +32,14 @@ is_let_through Link = false
 is_let_through (Unreadable part) = false
 is_let_through (Governed source destination) = forwarded (Governed source destination)
 
--- what the frame carries by UDP, where it came so from an address of the class of DNS servers
-unfoldable pub payload_if : List ClassRow → Frame → Option (List ℕ)
-payload_if classes (frame.Unreadable octets part) = None
-payload_if classes (frame.Link octets) = None
-payload_if classes (frame.Packet packet) =
-    if is_from_dns packet.fields.transport && is_bound dns_class packet.fields.src classes then Some (payload_of packet.octets) else None
-
 -- What names are learnt from: the payload of a packet that has a ruling, is forwarded, and came by UDP from port 53 of an address of
 -- the class of DNS servers.
 unfoldable pub heard_in : List ClassRow → List ℕ → Verdict → Option (List ℕ)
 heard_in classes octets verdict = if is_let_through verdict then payload_if classes (frame_of octets) else None
+  where
+    -- what the frame carries by UDP, where it came so from an address of the class of DNS servers
+    payload_if : List ClassRow → Frame → Option (List ℕ)
+    payload_if classes (frame.Unreadable octets part) = None
+    payload_if classes (frame.Link octets) = None
+    payload_if classes (frame.Packet packet) =
+        if is_from_dns packet.fields.transport && is_bound dns_class packet.fields.src classes then Some (payload_of packet.octets) else None

@@ -19,12 +19,12 @@ use Rattle.run_packets.specs.Tally.Texts.{hour_lines, end_lines}
 
 -- ---- A packet
 
-abbrev pub no_mac : Mac
-no_mac = record { 0 = 0 ∷ 0 ∷ 0 ∷ 0 ∷ 0 ∷ 0 ∷ [] }
-
 -- what is counted of a frame that isn't a readable packet: its verdict alone
 abbrev pub unread : ℕ → Verdict → Seen
 unread moment verdict = record { moment = moment; verdict = verdict; source = no_mac; destination = no_mac; fields = None }
+  where
+    no_mac : Mac
+    no_mac = record { 0 = 0 ∷ 0 ∷ 0 ∷ 0 ∷ 0 ∷ 0 ∷ [] }
 
 unfoldable pub seen_as : ℕ → Verdict → Frame → Seen
 seen_as moment verdict (frame.Packet packet) = record { moment = moment; verdict = verdict; source = source_of packet.octets; destination = destination_of packet.octets; fields = Some packet.fields }
@@ -50,10 +50,6 @@ hours (s ∷ all) = if is_ruled s then (hour_of s ∷ filter (λ hour. not (hour
 unfoldable pub in_hour : ℕ → List Seen → List Seen
 in_hour hour all = filter (λ s. hour_of s == hour) all
 
--- the line of an hour, and the counts of the rulings in it
-unfoldable pub text_of_hour : List Seen → ℕ → List ℕ
-text_of_hour all hour = hour_lines (Some hour) (counts_of (rulings (in_hour hour all)))
-
 -- what was denied of all packets, the others, and the totals
 unfoldable pub ending_of : List Seen → List ℕ
 ending_of all = end_lines (first_rows denied_kinds (denials (rulings all))) (late_rows denied_kinds (denials (rulings all))) (totals_in all)
@@ -61,6 +57,10 @@ ending_of all = end_lines (first_rows denied_kinds (denials (rulings all))) (lat
 -- the hours that have rulings, each with its counts, and then what is told at the end
 unfoldable pub tally_text : List Seen → List ℕ
 tally_text all = flat_map (text_of_hour all) (hours all) ++ ending_of all
+  where
+    -- the line of an hour, and the counts of the rulings in it
+    text_of_hour : List Seen → ℕ → List ℕ
+    text_of_hour all hour = hour_lines (Some hour) (counts_of (rulings (in_hour hour all)))
 
 -- ---- The lines as they are written
 
@@ -90,12 +90,12 @@ closed_before latest s = if is_over (hour_in latest) (hour_of s) then closing la
 unfoldable pub latest_with : List Seen → Seen → List Seen
 latest_with latest s = (if is_over (hour_in latest) (hour_of s) then [] else latest) ++ s ∷ []
 
-unfoldable pub tallied : Tallied → Judged → Seen → LineStep Tallied
-tallied t judged s = record { line = closed_before t.latest s; next = record { session = judged.session; all = t.all ++ s ∷ []; latest = latest_with t.latest s } }
-
 -- An hour's lines are written before the first packet of a later hour is counted, whatever the verdict on it.
 unfoldable pub tally_step : Tallied → Packet → LineStep Tallied
 tally_step t packet = tallied t (judged_packet t.session packet) (seen_of (judged_packet t.session packet) packet)
+  where
+    tallied : Tallied → Judged → Seen → LineStep Tallied
+    tallied t judged s = record { line = closed_before t.latest s; next = record { session = judged.session; all = t.all ++ s ∷ []; latest = latest_with t.latest s } }
 
 -- the lines of the last hour, and those at the end
 unfoldable pub tally_ending : Tallied → List ℕ

@@ -23,10 +23,6 @@ thing_text mac side = codes " " ++ mac_text mac ++ side_name side
 unfoldable pub total_text : List ℕ → ℕ → List ℕ
 total_text name number = name ++ number_text number
 
--- the hour: whole hours since 1970
-unfoldable pub hour_line : ℕ → List ℕ
-hour_line hour = total_text (codes "hour") hour ++ codes "\n"
-
 -- the Thing, the side, the ruling, and how often it was given
 unfoldable pub count_line : CountRow → List ℕ
 count_line row = codes "count" ++ thing_text row.mac row.side ++ codes " " ++ ruling_text row.ruling ++ number_text row.count ++ codes "\n"
@@ -63,6 +59,10 @@ totals_line t = total_text (codes "packets") t.packets ++ unruled_text t ++ rule
 unfoldable pub hour_lines : Option ℕ → List CountRow → List ℕ
 hour_lines None rows = []
 hour_lines (Some hour) rows = hour_line hour ++ flat_map count_line rows
+  where
+    -- the hour: whole hours since 1970
+    hour_line : ℕ → List ℕ
+    hour_line hour = total_text (codes "hour") hour ++ codes "\n"
 
 -- the lines at the end: what was denied, then the others of each Thing and side, then the totals
 unfoldable pub end_lines : List DeniedRow → List OtherRow → Totals → List ℕ

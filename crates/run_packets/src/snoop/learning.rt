@@ -62,7 +62,7 @@ fn is_let_through(verdict: &Verdict) -> bool
 /// What names are learnt from: the payload of a packet that has a ruling, is forwarded, and came by
 /// UDP from port 53 of an address that is bound to the class of DNS servers. None for every other
 /// frame.
-#[tactic(auto, unfolding(crate::specs::Snoop::Learning::heard_in, crate::specs::Snoop::Learning::payload_if))]
+#[tactic(auto, unfolding(crate::specs::Snoop::Learning::heard_in))]
 pub(crate) fn heard_in<'a>(
     classes: &[ClassRow],
     frame: &'a [u8],

@@ -159,7 +159,7 @@ fn append_others(alloc: Global, lines: &mut Bytes, rows: &[OtherRow]) -> Result<
 }
 
 /// Adds the line of an hour and those of the counts in it; nothing where there is no hour.
-#[tactic(auto, unfolding(crate::specs::Tally::Texts::hour_lines, crate::specs::Tally::Texts::hour_line))]
+#[tactic(auto, unfolding(crate::specs::Tally::Texts::hour_lines))]
 pub(crate) fn append_hour(
     alloc: Global,
     lines: &mut Bytes,

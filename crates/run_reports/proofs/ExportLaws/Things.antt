@@ -35,9 +35,10 @@ use Rattle.rule_export.specs.Text.{listed_text, resolved_text}
 use Rattle.rule_export.proofs.ViewLaws.{same_text}
 use Rattle.run_reports.specs.declared.export.lists.ListName.{ListName}
 use Rattle.run_reports.specs.declared.export.lists.ListName.TheVariants.{FromV4, FromV6, ToV4, ToV6}
-use Rattle.run_reports.specs.Export.Lists.{side_of, family_of, front_of, back_of, all_lists, items_of, list_text, empty_lists, lists_text}
+use Rattle.run_reports.specs.Export.Lists.{family_of, front_of, back_of, all_lists, empty_lists, lists_text}
 use Rattle.run_reports.specs.Export.Sources.{SourceParts, sources, view_for, source_items, source_text, sources_text, IsRuleView, AreSources, is_held, AreSourcesOf}
-use Rattle.run_reports.specs.Export.Exported.{output_of, export_output, WritesLists}
+use Rattle.run_reports.specs.Export.Exported.{export_output, WritesLists}
+use Rattle.run_reports.proofs.Parts.{list_text, output_of}
 
 -- ---- What the lists are made by
 
@@ -70,7 +71,7 @@ module _ (desk : DeskTables) (m : ℕ) (small : m < for_ever) (url : List ℕ) (
       ∙ ap (λ (n : ℕ). with_commas (listed_text side version) (listed_of desk.tables n url version (policy_at desk url) side)) are.moment_is
 
   text_alike : (name : ListName) → source_text s name ≡ list_text desk m url name
-  unfolding source_text source_items list_text items_of view_for side_of family_of
+  unfolding source_text source_items view_for family_of
   text_alike FromV4 = ap (λ (text : List ℕ). front_of FromV4 ++ (text ++ back_of FromV4)) (side_alike From V4 s.from are.from)
   text_alike FromV6 = ap (λ (text : List ℕ). front_of FromV6 ++ (text ++ back_of FromV6)) (side_alike From V6 s.from are.from)
   text_alike ToV4 = ap (λ (text : List ℕ). front_of ToV4 ++ (text ++ back_of ToV4)) (side_alike To V4 s.to are.to)
@@ -87,14 +88,14 @@ none_of None is = refl
 none_of (Some thing) is = absurd (none-some (is_held thing) is)
 
 output_empty : (desk : DeskTables) (m : ℕ) (o : Option Thing) → Some true ≡ option_map is_held o → output_of desk m o ≡ record { text = sources_text None; status = 0 }
-unfolding is_held output_of lists_text sources_text
+unfolding is_held lists_text sources_text
 output_empty desk m None is = absurd (none-some true (sym is))
 output_empty desk m (Some thing) is =
     let output : Bool → Output = λ held. record { text = cond held empty_lists (flat_map (list_text desk m thing.url) all_lists); status = 0 } in
     ap output (sym (same_Some true thing.held is))
 
 output_listed : (desk : DeskTables) (m : ℕ) → m < for_ever → (o : Option Thing) (s : Option SourceParts) → Some false ≡ option_map is_held o → AreSourcesOf desk m o s → output_of desk m o ≡ record { text = sources_text s; status = 0 }
-unfolding is_held output_of lists_text sources_text
+unfolding is_held lists_text sources_text
 output_listed desk m small None s is over = absurd (none-some false (sym is))
 output_listed desk m small (Some thing) None is over = absurd over
 output_listed desk m small (Some thing) (Some s) is over =
@@ -147,7 +148,7 @@ module _ (desk : DeskTables) (mac : Mac) (clock : ℕ) (old new : DoorState) (st
   pub wrote_fault : None ≡ option_map is_held (thing_at mac desk.tables.things)
       → IsOfFault status → (status ≡ 3 → new ≡ put_out (codes "fault NoThing\n") old) → ((status ≡ 4) ⊎ (status ≡ 5) → WroteFirst (codes "fault NoThing\n") old new)
       → WritesLists (export_output mac clock desk) old new status
-  unfolding export_output output_of
+  unfolding export_output
   wrote_fault none is done part =
       let wrote : WritesLists (output_of desk (listing_moment desk.stamp (Some clock)) None) old new status = record {
         status_is = λ which. three_of status is which;

@@ -15,12 +15,6 @@ use Rattle.run_reports.specs.declared.export.lists.ListName.TheVariants.{FromV4,
 
 -- ---- The four lists
 
-unfoldable pub side_of : ListName → Direction
-side_of FromV4 = From
-side_of FromV6 = From
-side_of ToV4 = To
-side_of ToV6 = To
-
 unfoldable pub family_of : ListName → Family
 family_of FromV4 = V4
 family_of FromV6 = V6
@@ -45,13 +39,6 @@ all_lists = FromV4 ∷ FromV6 ∷ ToV4 ∷ ToV6 ∷ []
 
 -- ---- Their text, by the tables at a moment
 
--- the items of a list for the Things with a URL, by the policy of the URL's approved file
-unfoldable pub items_of : DeskTables → ℕ → List ℕ → ListName → List ListItem
-items_of desk moment url name = listed_of desk.tables moment url (family_of name) (policy_at desk url) (side_of name)
-
-unfoldable pub list_text : DeskTables → ℕ → List ℕ → ListName → List ℕ
-list_text desk moment url name = front_of name ++ (with_commas (listed_text (side_of name) (family_of name)) (items_of desk moment url name) ++ back_of name)
-
 -- four empty lists
 unfoldable pub empty_lists : List ℕ
 empty_lists = flat_map (λ name. front_of name ++ back_of name) all_lists
@@ -59,3 +46,16 @@ empty_lists = flat_map (λ name. front_of name ++ back_of name) all_lists
 -- the four lists of a Thing: empty ones where the operator holds it
 unfoldable pub lists_text : DeskTables → ℕ → Thing → List ℕ
 lists_text desk moment thing = if thing.held then empty_lists else flat_map (list_text desk moment thing.url) all_lists
+  where
+    side_of : ListName → Direction
+    side_of FromV4 = From
+    side_of FromV6 = From
+    side_of ToV4 = To
+    side_of ToV6 = To
+
+    -- the items of a list for the Things with a URL, by the policy of the URL's approved file
+    items_of : DeskTables → ℕ → List ℕ → ListName → List ListItem
+    items_of desk moment url name = listed_of desk.tables moment url (family_of name) (policy_at desk url) (side_of name)
+
+    list_text : DeskTables → ℕ → List ℕ → ListName → List ℕ
+    list_text desk moment url name = front_of name ++ (with_commas (listed_text (side_of name) (family_of name)) (items_of desk moment url name) ++ back_of name)

@@ -1,7 +1,8 @@
 use Rattle.std.proofs.Common.{◌+◌, ◌<◌, ◌≤◌, [], ◌∷◌, ◌++◌, length, map, sym, ap, subst, ◌∙◌}
-use Rattle.drop_ledger.specs.Counted.{kinds, count_of, count_rows, others_of}
+use Rattle.drop_ledger.specs.Counted.{kinds, count_of, count_rows}
 use Rattle.drop_ledger.proofs.FirstRows.{again_counted, new_counted, late_counted, others_few, late_rows_are}
 use Rattle.drop_ledger.proofs.counted.count_first.Goals as goal
+use Rattle.drop_ledger.proofs.Parts.{others_of}
 
 pub returns-then-contains-clause-counted : goal.returns-then-contains-clause-counted
 returns-then-contains-clause-counted g c = λ len other_of xs are own begins rows_are few.

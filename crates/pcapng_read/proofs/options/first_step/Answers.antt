@@ -1,7 +1,8 @@
 use Rattle.std.proofs.Common.{◌≡◌, ℕ, List, length, take, drop, sym, ap, ap₂, ◌∙◌, arith, length-drop}
-use Rattle.pcapng_read.specs.Options.{options_from, with_option, filled}
+use Rattle.pcapng_read.specs.Options.{options_from, with_option}
 use Rattle.pcapng_read.proofs.OptionListing.{whole_step}
 use Rattle.pcapng_read.proofs.options.first_step.Goals as goal
+use Rattle.pcapng_read.proofs.Parts.{filled}
 
 pub returns : goal.returns
 returns c =

@@ -1,11 +1,11 @@
 use Rattle.std.proofs.Common.{refl, arith}
-use Rattle.drop_ledger.specs.Counted.{count_rows, first_rows, late_rows, others_of}
-use Rattle.drop_ledger.specs.Seen.{totals_in, verdicts, rulings}
+use Rattle.drop_ledger.specs.Counted.{count_rows, first_rows, late_rows}
+use Rattle.drop_ledger.specs.Seen.{totals_in, rulings}
 use Rattle.drop_ledger.specs.Ledger.{counts_of, denials, hour_in}
 use Rattle.drop_ledger.proofs.tally.Tally.new.Goals as goal
 
 pub returns : goal.returns
-unfolding totals_in verdicts rulings counts_of count_rows denials first_rows late_rows others_of hour_in
+unfolding totals_in rulings counts_of count_rows denials first_rows late_rows hour_in
 returns c = record {
   totals = refl;
   hour = refl;

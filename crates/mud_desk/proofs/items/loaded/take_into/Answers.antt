@@ -1,8 +1,9 @@
 use Rattle.std.proofs.Common.{sym, ap}
-use Rattle.desk_model.specs.Items.{KeptDesk, kept_in}
+use Rattle.desk_model.specs.Items.{KeptDesk}
 use Rattle.mud_desk.specs.Items.Loaded.{kept_of}
 use Rattle.mud_desk.proofs.ItemsLaws.Reading.{first_bad, all_read}
 use Rattle.mud_desk.proofs.items.loaded.take_into.Goals as goal
+use Rattle.desk_model.proofs.Parts.{kept_in}
 
 pub loop-index-init : goal.loop-index-init
 loop-index-init c = ap (λ (k : KeptDesk). kept_in k c.args.items.now) (sym c.requires)

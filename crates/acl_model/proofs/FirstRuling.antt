@@ -14,7 +14,8 @@ use Rattle.acl_model.specs.declared.ruling.Why.{Why}
 use Rattle.acl_model.specs.declared.ruling.Ruling.{Ruling}
 use Rattle.acl_model.specs.declared.ruling.Ruling.TheVariants.{Accept, AcceptDefault, Drop, DropDefault, DropHeld}
 use Rattle.acl_model.specs.Defaults.{default_entry, defaults_of}
-use Rattle.acl_model.specs.FirstMatch.{ruled_by, first_ruling, default_ruling, ruling_by, NoneMatches, IsFirstMatch, IsFirstDefault, file_entries, why_of, IsRuling, FirstMatchDecides}
+use Rattle.acl_model.specs.FirstMatch.{ruled_by, default_ruling, ruling_by, NoneMatches, IsFirstMatch, IsFirstDefault, file_entries, why_of, IsRuling, FirstMatchDecides}
+use Rattle.acl_model.proofs.Parts.{first_ruling}
 
 -- the entry at this index, from 0 on, is the first that matches, and its action is this one
 pub record StandsFirst (matches : Entry → Bool) (entries : List Entry) (k : ℕ) (act : Action) : Type 0 where
@@ -26,7 +27,6 @@ pub record StandsFirst (matches : Entry → Bool) (entries : List Entry) (k : �
 
 -- the first that matches rules, by its number
 pub first_ruling-found : (matches : Entry → Bool) (n : ℕ) (entries : List Entry) (otherwise : Ruling) (k : ℕ) (act : Action) → StandsFirst matches entries k act → first_ruling matches n entries otherwise ≡ ruled_by (n + k) act
-unfolding first_ruling
 first_ruling-found matches n [] otherwise k act first = absurd (let h = first.stands in cc)
 first_ruling-found matches n (e ∷ entries) otherwise zero act first =
     let it : e ≡ first.entry = (let h = first.stands in cc) in
@@ -41,7 +41,6 @@ first_ruling-found matches n (e ∷ entries) otherwise (suc k) act first =
     cond-false (matches e) (ruled_by n e.action) (first_ruling matches (n + 1) entries otherwise) none.0 ∙ later ∙ ap (λ i. ruled_by i act) count
 
 pub first_ruling-none : (matches : Entry → Bool) (n : ℕ) (entries : List Entry) (otherwise : Ruling) → list_any matches entries ≡ false → first_ruling matches n entries otherwise ≡ otherwise
-unfolding first_ruling
 first_ruling-none matches n [] otherwise none = refl
 first_ruling-none matches n (e ∷ entries) otherwise none =
     let parts = or_parts (matches e) (list_any matches entries) none in
@@ -61,7 +60,7 @@ cases_first matches (e ∷ entries) =
 
 -- with and without a file
 pub ruling_by-split : (matches : Entry → Bool) (side : Direction) (policy : Option Policy) → ruling_by matches side policy ≡ first_ruling matches 1 (file_entries side policy) (default_ruling matches side (why_of policy))
-unfolding ruling_by first_ruling
+unfolding ruling_by
 ruling_by-split matches side None = refl
 ruling_by-split matches side (Some policy) = refl
 

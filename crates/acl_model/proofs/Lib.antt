@@ -4,3 +4,4 @@ pub mod FirstRuling
 pub mod KeyLaws
 pub mod OnLiterals
 pub mod SortKeyLaws
+pub mod Parts

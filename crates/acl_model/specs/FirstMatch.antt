@@ -25,11 +25,6 @@ unfoldable pub ruled_by : ℕ → Action → Ruling
 ruled_by n action.Accept = Accept n
 ruled_by n action.Drop = Drop n
 
--- the entries are numbered from `n` on; the first that matches rules, else `otherwise`
-unfoldable pub first_ruling : (Entry → Bool) → ℕ → List Entry → Ruling → Ruling
-first_ruling matches n [] otherwise = otherwise
-first_ruling matches n (entry ∷ entries) otherwise = if matches entry then ruled_by n entry.action else first_ruling matches (n + 1) entries otherwise
-
 unfoldable pub default_ruling : (Entry → Bool) → Direction → Why → Ruling
 default_ruling matches side why =
     if matches (default_entry Dns side) then AcceptDefault Dns
@@ -39,6 +34,11 @@ default_ruling matches side why =
 unfoldable pub ruling_by : (Entry → Bool) → Direction → Option Policy → Ruling
 ruling_by matches side None = default_ruling matches side NoFile
 ruling_by matches side (Some policy) = first_ruling matches 1 (entries_of side policy) (default_ruling matches side NoMatch)
+  where
+    -- the entries are numbered from `n` on; the first that matches rules, else `otherwise`
+    first_ruling : (Entry → Bool) → ℕ → List Entry → Ruling → Ruling
+    first_ruling matches n [] otherwise = otherwise
+    first_ruling matches n (entry ∷ entries) otherwise = if matches entry then ruled_by n entry.action else first_ruling matches (n + 1) entries otherwise
 
 -- ---- The same by indices: what a ruling says of the entries
 

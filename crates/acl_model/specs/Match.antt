@@ -73,17 +73,14 @@ port_passes (port.Lte most) n = nat_le n most
 port_passes (port.Gte least) n = nat_le least n
 port_passes (port.Within least most) n = nat_le least n && nat_le n most
 
-unfoldable pub same_direction : Direction → Direction → Bool
-same_direction From From = true
-same_direction From To = false
-same_direction To From = false
-same_direction To To = true
-
 -- no beginner is named, or this one is (RFC 8520, 4.8)
 unfoldable pub begun_passes : Option Direction → Option Direction → Bool
 begun_passes None begun = true
 begun_passes (Some named) None = false
-begun_passes (Some named) (Some begun) = same_direction named begun
+begun_passes (Some From) (Some From) = true
+begun_passes (Some From) (Some To) = false
+begun_passes (Some To) (Some From) = false
+begun_passes (Some To) (Some To) = true
 
 -- nothing is asked, or there is a header of this protocol and its fields pass; named flags are the whole octet, no mask
 unfoldable pub layer_matches : Layer → Transport → Option Direction → Bool

@@ -1,5 +1,5 @@
 //! Whether an entry matches a packet, but for its member selectors.
-ghost use Rattle.std.specs.Prelude.{◌≡◌};
+ghost use Rattle.std.specs.Prelude.{◌≡◌, Some};
 ghost use Rattle.acl_model.specs.Match as spec;
 
 use crate::entry::{Entry, Layer, Selector};
@@ -94,9 +94,9 @@ fn header_matches(entry: &Entry, fields: &Fields) -> bool
 }
 
 /// Whether both are the same side.
-#[tactic(auto, unfolding(crate::specs::Match::same_direction))]
+#[tactic(auto, unfolding(crate::specs::Match::begun_passes))]
 fn same_direction(own: Direction, other: Direction) -> bool
-    ensures { result ≡ spec.same_direction own other }
+    ensures { result ≡ spec.begun_passes (Some own) (Some other) }
 {
     own == other
 }

@@ -3,10 +3,11 @@ use Rattle.std.proofs.Common.{◌≡◌, ℕ, true, List, [], ◌∷◌, IsTrue,
 use Rattle.std.specs.List.{list_all}
 use Rattle.std.specs.Ordering.{is_lt}
 use Rattle.base_rows.specs.Sortable.{sort_key_cmp, SortKeysAbove, SortKeysAscend}
-use Rattle.base_rows.specs.Ascending.{is_before, sort_keys_ascend}
+use Rattle.base_rows.specs.Ascending.{sort_keys_ascend}
 pub use Rattle.std.specs.Cmp.{both_ways}
 use Rattle.base_rows.proofs.ListTests.{left_of, right_of, both}
 use Rattle.base_rows.proofs.SortableLaws.{less_from_is_lt}
+use Rattle.base_rows.proofs.Parts.{is_before}
 
 module _ {R : Type 0} (sort_key : R → List ℕ) where
   above_from : (p : List ℕ) (rows : List R) → list_all (is_before sort_key p) rows ≡ true → SortKeysAbove sort_key p rows

@@ -18,3 +18,4 @@ pub mod RowLaws
 pub mod RowSets
 pub mod RunLaws
 pub mod SearchLaws
+pub mod Parts

@@ -93,10 +93,10 @@ abbrev pub without_row : {R : Type 0} → (R → List ℕ) → List ℕ → List
 without_row sort_key p [] = []
 without_row sort_key p (x ∷ xs) = elim (sort_key_cmp p (sort_key x)) [ Less ↦ x ∷ xs | Equal ↦ xs | Greater ↦ x ∷ without_row sort_key p xs ]
 
--- the second row's sort key is before the first one's
-abbrev pub is_after : {R : Type 0} → (R → List ℕ) → R → R → Bool
-is_after sort_key row x = is_lt (sort_key_cmp (sort_key x) (sort_key row))
-
 -- the row's sort key is after those of all rows
 abbrev pub comes_last : {R : Type 0} → (R → List ℕ) → R → List R → Bool
 comes_last sort_key row rows = list_all (is_after sort_key row) rows
+  where
+    -- the second row's sort key is before the first one's
+    is_after : {R : Type 0} → (R → List ℕ) → R → R → Bool
+    is_after sort_key row x = is_lt (sort_key_cmp (sort_key x) (sort_key row))

@@ -16,7 +16,7 @@ use Rattle.console.specs.declared.question.Question.{Question}
 use Rattle.console.specs.declared.question.NoQuestion.{NoQuestion}
 use Rattle.console.specs.Replies.{Reply, reply, replied, IsOrWanted, IsOrFailed}
 use Rattle.console.specs.Asks.{question_of, refusal_of}
-use Rattle.console.specs.Requests.{question_in, reply_in, CallsKeeper, AllowedQuestion, AllowedResponse, NeedsMemory}
+use Rattle.console.specs.Requests.{question_in, reply_in, AllowedQuestion, AllowedResponse, NeedsMemory}
 use Rattle.http_requests.specs.Framing.{is_head}
 use Rattle.console.specs.Answers.{octets_of, AllowedAnswer}
 use Rattle.mud_base.specs.declared.refusal.Refusal.{Refusal}
@@ -26,7 +26,7 @@ use Rattle.console.specs.Refused.{IsRefusalOf}
 use Rattle.console.specs.declared.refusals.ReplyHead.{ReplyHead}
 use Rattle.console.proofs.Paths.{route_again}
 use Rattle.console.proofs.Replying.{told_of}
-use Rattle.console.proofs.Parts.{by_route, by_result}
+use Rattle.console.proofs.Parts.{by_route, by_result, CallsKeeper}
 
 -- what the parts of a request ask for is what the request asks for
 pub question_here : (from : MomentFrom) (r : Request) (parts : RequestParts) (now : ℕ) → AreParts from r parts → question_of parts.method.now parts.path.now parts.body.now now ≡ question_of r.head.method r.head.target r.body now

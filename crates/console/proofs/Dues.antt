@@ -5,7 +5,7 @@ use Rattle.std.proofs.lemmas.List.{take_all, map-append}
 use Rattle.std.proofs.lemmas.List.Elements.{filter_more}
 use Rattle.usage_tables.specs.declared.cached_file.CachedFile.{CachedFile}
 use Rattle.usage_tables.specs.Files.{url_of}
-use Rattle.usage_tables.specs.Due.{is_due, due_files, due_urls}
+use Rattle.usage_tables.specs.Due.{is_due, due_urls}
 
 -- what a row adds to the list
 abbrev added : Bool → CachedFile → List CachedFile
@@ -13,7 +13,7 @@ added b row = cond b (row ∷ []) []
 
 due_more : (now : ℕ) (files : List CachedFile) (i : ℕ) (row : CachedFile) (b : Bool) → i < length files → row ≡ get_or files i row → is_due now row ≡ b
     → due_urls now (take (i + 1) files) ≡ due_urls now (take i files) ++ map url_of (added b row)
-unfolding due_urls due_files
+unfolding due_urls
 due_more now files i row b within is due =
     ap (map url_of) (filter_more (is_due now) files i row within)
     ∙ ap (λ (r : CachedFile). map url_of (filter (is_due now) (take i files) ++ added (is_due now r) r)) (sym is)
@@ -33,5 +33,5 @@ pub due_all : (now : ℕ) (files : List CachedFile) (i : ℕ) → length files �
 due_all now files i past = ap (due_urls now) (take_all i files past)
 
 pub due_none : (now : ℕ) (urls : List (List ℕ)) → urls ≡ [] → urls ≡ due_urls now []
-unfolding due_urls due_files
+unfolding due_urls
 due_none now urls none = none

@@ -15,7 +15,7 @@ use Rattle.desk_model.specs.Commands.{command_step}
 use Rattle.desk_model.specs.Sessions.{Session, later, raised, Answered, command_in, Judged, frame_in, verdict_in, IsNoted}
 use Rattle.console_answers.specs.declared.status.Status.TheVariants as status
 use Rattle.http_requests.specs.Requests.{Request}
-use Rattle.console_answers.specs.Bodies.Outcomes.{stated_body, file_body}
+use Rattle.console_answers.specs.Bodies.Outcomes.{stated_body, url_body}
 use Rattle.console_answers.specs.Bodies.Heards.{nothing_body, heard_body}
 use Rattle.console_answers.specs.Bodies.Verdicts.{verdict_body}
 use Rattle.console_listings.specs.Refusals.{refusal_status, refusal_body}
@@ -28,10 +28,11 @@ use Rattle.console.specs.Why.{why_text}
 
 -- ---- Commands
 
--- what is said of a command that was carried out: one that the operator states, and else a usage file that was fetched
+-- what is said of a command that was carried out: one that the operator states, and else a usage file that was fetched,
+-- with its URL
 unfoldable pub outcome_body : Action → Outcome → List ℕ
 outcome_body (State statement) outcome = stated_body statement outcome
-outcome_body _ outcome = file_body outcome
+outcome_body _ outcome = url_body outcome.word outcome.url
 
 -- what is done with its outcome, or why it is refused: 422 for what is no usage file, and else 409
 unfoldable pub command_reply : (Outcome → List ℕ) → desk.Reply → Reply
@@ -105,13 +106,13 @@ reply_in session given request = by_result session given request.body (question_
     by_result session given body (Ok question) = by_question session given body question.action question.asked
     by_result session given body (Err nothing) = replied (refusal_of nothing) session
 
--- 503 may stand where the request is a command that changes a list
-abbrev pub CallsKeeper : Session → ℕ → Result Question NoQuestion → Type 0
-CallsKeeper session given asked = IsOkAnd asked (λ question. IsSomeAnd (command_asked question.asked) (Changes session given))
-
 -- what may be replied, and the session after it
 abbrev pub AllowedResponse : Session → ℕ → Request → Reply → Session → Type 0
 AllowedResponse session given request reply after = IsOrFailed (CallsKeeper session given (question_in session given request)) session (reply_in session given request) reply after
+  where
+    -- 503 may stand where the request is a command that changes a list
+    CallsKeeper : Session → ℕ → Result Question NoQuestion → Type 0
+    CallsKeeper session given asked = IsOkAnd asked (λ question. IsSomeAnd (command_asked question.asked) (Changes session given))
 
 -- ---- Want of memory
 

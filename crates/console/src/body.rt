@@ -86,7 +86,7 @@ impl BodyText {
     /// Writes what became of a usage file that was taken.
     #[tactic(auto, unfolding(crate::specs::Bodies::held_in))]
     pub fn write_file(&mut self, outcome: &Outcome)
-        ensures { self.new ≡ outcomes.file_body outcome.now }
+        ensures { self.new ≡ outcomes.url_body outcome.now.word outcome.now.url }
     {
         self.made = None;
         write_file(&mut self.buffer, outcome);

@@ -1,7 +1,8 @@
 //! The URLs whose files are to be fetched again.
-ghost use Rattle.std.specs.Prelude.{◌≡◌, OnOk, IfOk};
+ghost use Rattle.std.specs.Prelude.{◌≡◌, OnOk, IfOk, codes};
 ghost use Rattle.usage_tables.specs.Due.{due_urls};
-ghost use Rattle.console_listings.specs.Rows.{due_body};
+ghost use Rattle.console_listings.specs.Lists.{listing_body};
+ghost use Rattle.json.specs.Print.{quoted};
 
 use console_listings::due_body;
 use file_cache::is_due;
@@ -26,7 +27,7 @@ fn due_urls(alloc: Global, files: &[CachedFile], now: Moment) -> Result<Listed<M
 
 /// The body that lists the URLs of which a file is to be fetched again at a moment, in their order.
 pub fn due_text(alloc: Global, files: &[CachedFile], now: Moment) -> Result<Bytes, Memory>
-    ensures { IfOk result (λ text. text ≡ due_body (due_urls now files.now)) }
+    ensures { IfOk result (λ text. text ≡ listing_body quoted (codes "due") (due_urls now files.now)) }
 {
     let urls = due_urls(alloc, files, now)?;
     due_body(alloc, urls.as_slice())

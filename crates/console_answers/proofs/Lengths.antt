@@ -11,11 +11,11 @@ use Rattle.console_routes.specs.Actions.{text_of, methods_of, action_of}
 use Rattle.console_answers.specs.declared.status.Status.{Status}
 use Rattle.console_answers.specs.declared.status.Status.TheVariants.{Done, BadRequest, NotFound, MethodNotAllowed, Conflict, LengthRequired, TooLarge, Unprocessable, NotImplemented, Unavailable, NoStorage}
 use Rattle.console_answers.specs.Statuses.{number_of, phrase_of}
-use Rattle.console_answers.specs.Heads.{status_line, methods_text, allow_line, length_line, close_line, line_end, head_of}
-use Rattle.console_answers.proofs.Parts.{type_line}
+use Rattle.console_answers.specs.Heads.{methods_text, allow_line, line_end, head_of}
+use Rattle.console_answers.proofs.Parts.{type_line, status_line, length_line, close_line}
 
 short_status : (status : Status) → length (status_line status) ≤ 100
-unfolding status_line number_of phrase_of digits
+unfolding number_of phrase_of digits
 short_status Done = lit≤ tt
 short_status BadRequest = lit≤ tt
 short_status NotFound = lit≤ tt
@@ -57,7 +57,6 @@ short_allow (Some route) =
     omega (arith, short_methods route, length-append (codes "Allow: ") (methods_text route), length-append (codes "Allow: " ++ methods_text route) line_end)
 
 short_length : (n : ℕ) → n < 2 ^ 64 → length (length_line n) ≤ 100
-unfolding length_line
 short_length n fits =
     let name : length (codes "Content-Length: ") ≤ 16 = lit≤ tt in
     let end : length line_end ≤ 2 = lit≤ tt in
@@ -65,7 +64,6 @@ short_length n fits =
     omega (arith, length-append (codes "Content-Length: ") (decimal n), length-append (codes "Content-Length: " ++ decimal n) line_end)
 
 short_close : (closes : Bool) → length (close_line closes) ≤ 100
-unfolding close_line
 short_close true = lit≤ tt
 short_close false = lit≤ tt
 

@@ -8,9 +8,6 @@ use Rattle.console_answers.specs.Statuses.{number_of, phrase_of}
 abbrev pub line_end : List ℕ
 line_end = 13 ∷ 10 ∷ []
 
-unfoldable pub status_line : Status → List ℕ
-status_line status = codes "HTTP/1.1 " ++ decimal (number_of status) ++ codes " " ++ phrase_of status ++ line_end
-
 -- the methods of a route, by the octets of their names (RFC 9110, 10.2.1)
 unfoldable pub methods_text : Route → List ℕ
 methods_text route = joined (map text_of (methods_of route))
@@ -26,17 +23,20 @@ unfoldable pub allow_line : Option Route → List ℕ
 allow_line None = []
 allow_line (Some route) = codes "Allow: " ++ methods_text route ++ line_end
 
-unfoldable pub length_line : ℕ → List ℕ
-length_line n = codes "Content-Length: " ++ decimal n ++ line_end
-
--- it stands where the connection ends behind the answer (RFC 9112, 9.6)
-unfoldable pub close_line : Bool → List ℕ
-close_line closes = if closes then codes "Connection: close" ++ line_end else []
-
 -- the head of an answer with a body of so many octets
 unfoldable pub head_of : Status → Option Route → ℕ → Bool → List ℕ
-head_of status allow n closes = status_line status ++ type_line ++ allow_line allow ++ length_line n ++ close_line closes ++ line_end
+head_of status allow n closes =
+    (codes "HTTP/1.1 " ++ decimal (number_of status) ++ codes " " ++ phrase_of status ++ line_end)
+    ++ type_line
+    ++ allow_line allow
+    ++ (codes "Content-Length: " ++ decimal n ++ line_end)
+    ++ close_line closes
+    ++ line_end
   where
+    -- it stands where the connection ends behind the answer (RFC 9112, 9.6)
+    close_line : Bool → List ℕ
+    close_line closes = if closes then codes "Connection: close" ++ line_end else []
+
     type_line : List ℕ
     type_line = codes "Content-Type: application/json" ++ line_end
 

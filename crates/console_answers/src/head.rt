@@ -1,7 +1,8 @@
 //! Heads of answers.
-ghost use Rattle.std.specs.Prelude.{◌≡◌, ◌++◌};
+ghost use Rattle.std.specs.Prelude.{◌≡◌, ◌++◌, codes, decimal, if◌then◌else◌, []};
 ghost use Rattle.console_answers.specs.Kept.{kept};
 ghost use Rattle.console_answers.specs.Heads as spec;
+ghost use Rattle.console_answers.specs.Statuses.{number_of, phrase_of};
 
 use crate::AnswerBuffer;
 use crate::status::Status;
@@ -9,9 +10,9 @@ use crate::texts::put_decimal;
 use console_routes::Route;
 
 /// Adds the status line, as far as it fits.
-#[tactic(auto, unfolding(crate::specs::Heads::status_line), using(crate::proofs::KeptLemmas::kept_behind))]
+#[tactic(auto, using(crate::proofs::KeptLemmas::kept_behind))]
 fn put_status_line(head: &mut AnswerBuffer, status: Status)
-    ensures { head.new ≡ kept (head.old ++ spec.status_line status) }
+    ensures { head.new ≡ kept (head.old ++ (codes "HTTP/1.1 " ++ decimal (number_of status) ++ codes " " ++ phrase_of status ++ spec.line_end)) }
 {
     head.put(b"HTTP/1.1 ");
     put_decimal(head, u64::from(status.number()));
@@ -58,9 +59,9 @@ fn put_allow_line(head: &mut AnswerBuffer, allow: Option<Route>)
 }
 
 /// Adds the line of the body's length, as far as it fits.
-#[tactic(auto, unfolding(crate::specs::Heads::length_line), using(crate::proofs::KeptLemmas::kept_behind))]
+#[tactic(auto, using(crate::proofs::KeptLemmas::kept_behind))]
 fn put_length_line(head: &mut AnswerBuffer, length: usize)
-    ensures { head.new ≡ kept (head.old ++ spec.length_line length) }
+    ensures { head.new ≡ kept (head.old ++ (codes "Content-Length: " ++ decimal length ++ spec.line_end)) }
 {
     head.put(b"Content-Length: ");
     put_decimal(head, length as u64);
@@ -68,9 +69,9 @@ fn put_length_line(head: &mut AnswerBuffer, length: usize)
 }
 
 /// Adds the line that says that the connection ends, where it does, as far as it fits.
-#[tactic(auto, unfolding(crate::specs::Heads::close_line), using(crate::proofs::KeptLemmas::kept_behind, crate::proofs::KeptLemmas::kept_none))]
+#[tactic(auto, using(crate::proofs::KeptLemmas::kept_behind, crate::proofs::KeptLemmas::kept_none))]
 fn put_close_line(head: &mut AnswerBuffer, closes: bool)
-    ensures { head.new ≡ kept (head.old ++ spec.close_line closes) }
+    ensures { head.new ≡ kept (head.old ++ (if closes then codes "Connection: close" ++ spec.line_end else [])) }
 {
     if closes {
         head.put(b"Connection: close\r\n");

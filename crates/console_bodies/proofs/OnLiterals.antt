@@ -11,10 +11,10 @@ use Rattle.table_model.specs.Binds.{is_class_uri}
 use Rattle.console_bodies.specs.Members.{name_of}
 use Rattle.usage_walk.specs.Json.{value_in}
 use Rattle.console_bodies.specs.Objects.{object_of, member_in, text_in, number_in}
-use Rattle.console_bodies.specs.Values.{meant, mac_at, address_at, url_at, name_at, is_digest, digest_at, number_at, next_prefix, prefixes_of, list_at, prefixes_at}
-use Rattle.console_bodies.specs.Statements.{uri_at, uri_class, own_class, only_own, own_alone, class_at, text_of, verdict_in, verdict_at, move_thing, remove_thing, hold_thing, release_thing, lease_address, end_lease, state_verdict, revoke_file, bind_address, unbind_address, set_locals, observe_name, command_at}
-use Rattle.console_bodies.specs.Bodies.{heard_command, stated, stated_body, body_of}
+use Rattle.console_bodies.specs.Values.{meant, mac_at, address_at, url_at, name_at, digest_at, number_at, next_prefix, prefixes_of, prefixes_at}
+use Rattle.console_bodies.specs.Statements.{uri_class, own_class, own_alone, class_at, text_of, verdict_in, state_verdict, command_at}
+use Rattle.console_bodies.specs.Bodies.{heard_command, stated_body, body_of}
 
 unfoldable pub bodies_on_literals : ⊤
-unfolding is_utf8 chars serde_json_on_literals texts_on_literals url_on_literals messages_on_literals lldp_of answer done ◌>>=◌ refused_where wanted over is_class_uri name_of value_in object_of member_in text_in number_in meant mac_at address_at url_at name_at is_digest digest_at number_at next_prefix prefixes_of list_at prefixes_at uri_at uri_class own_class only_own own_alone class_at text_of verdict_in verdict_at move_thing remove_thing hold_thing release_thing lease_address end_lease state_verdict revoke_file bind_address unbind_address set_locals observe_name command_at heard_command stated stated_body body_of
+unfolding is_utf8 chars serde_json_on_literals texts_on_literals url_on_literals messages_on_literals lldp_of answer done ◌>>=◌ refused_where wanted over is_class_uri name_of value_in object_of member_in text_in number_in meant mac_at address_at url_at name_at digest_at number_at next_prefix prefixes_of prefixes_at uri_class own_class own_alone class_at text_of verdict_in command_at state_verdict heard_command stated_body body_of
 bodies_on_literals = tt

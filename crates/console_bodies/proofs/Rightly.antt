@@ -25,14 +25,14 @@ use Rattle.console_bodies.specs.declared.member.Member.{Member}
 use Rattle.console_bodies.specs.declared.member.Member.TheVariants as members
 use Rattle.console_bodies.specs.declared.fault.BodyFault.{BodyFault}
 use Rattle.console_bodies.specs.Objects.{text_in, number_in, object_of}
-use Rattle.console_bodies.specs.Values.{meant, url_in, url_at, name_at, mac_at, address_at, digest_at, number_at, within, prefixes_at}
+use Rattle.console_bodies.specs.Values.{meant, url_in, url_at, name_at, mac_at, address_at, digest_at, number_at, prefixes_at}
 use Rattle.console_bodies.specs.declared.asked.Asked.{Asked}
 use Rattle.console_bodies.specs.declared.asked.Asked.TheVariants as asked
-use Rattle.console_bodies.specs.Statements.{uri_in, uri_at, uri_class, own_class, only_own, own_alone, class_at, verdict_at, move_thing, remove_thing, hold_thing, release_thing, lease_address, end_lease, state_verdict, revoke_file, bind_address, unbind_address, set_locals, observe_name, command_at}
-use Rattle.console_bodies.specs.Bodies.{heard_body, stated, stated_body, body_of}
+use Rattle.console_bodies.specs.Statements.{uri_in, uri_class, own_class, own_alone, class_at, state_verdict, command_at}
+use Rattle.console_bodies.specs.Bodies.{heard_body, stated_body, body_of}
 use Rattle.console_bodies.specs.Laws.{AsksRightly, BodiesAskRightly}
 use Rattle.console_bodies.proofs.Always.{Always, then_ok, always_bind, always_after, always_done, always_wanted, always_either, chosen_some}
-use Rattle.console_bodies.proofs.Parts.{answer_of}
+use Rattle.console_bodies.proofs.Parts.{answer_of, stated, verdict_at, observe_name, lease_address, only_own, bind_address, uri_at, within}
 
 -- ---- Members
 
@@ -100,7 +100,6 @@ uri_read : (text uri : List ℕ) → uri_in text ≡ Some uri → IsUri uri
 uri_read text uri e = let found = chosen_some (is_class_uri text) text uri e in subst IsUri found.1 found.0
 
 always_uri_at : (d : Data) → Always IsUri (uri_at d)
-unfolding uri_at
 always_uri_at d = always_of_text IsUri _ members.Class uri_in (text_in members.Class d) (λ t a e. uri_read t a e)
 
 by_uri : (uri : List ℕ) → IsUri uri → IsClass (class.Uri uri)
@@ -130,7 +129,7 @@ always_class_at d = always_either IsClass _ (own_alone d) (uri_class d) (always_
 -- ---- Statements
 
 always_lease : (d : Data) → Always IsAsked (lease_address d)
-unfolding lease_address
+unfolding command_at
 always_lease d =
     always_after IsAsked (mac_at d) _ (λ mac.
     always_after IsAsked (address_at d) _ (λ address.
@@ -138,14 +137,14 @@ always_lease d =
     always_done IsAsked (command.Lease mac address seconds) (omega (arith, range.0)))))
 
 always_bound : (d : Data) → Always IsAsked (bind_address d)
-unfolding bind_address
+unfolding command_at
 always_bound d =
     always_bind IsClass IsAsked (class_at d) _ (always_class_at d) (λ class is.
     always_after IsAsked (address_at d) _ (λ address.
     always_done IsAsked (command.Bind class address) is))
 
 always_observed : (d : Data) → Always IsAsked (observe_name d)
-unfolding observe_name
+unfolding command_at
 always_observed d =
     always_bind IsName IsAsked (name_at d) _ (always_name_at d) (λ name is.
     always_after IsAsked (address_at d) _ (λ address.
@@ -153,7 +152,7 @@ always_observed d =
     always_done IsAsked (command.Observe name address seconds) (is, omega (arith, range.0), range.1))))
 
 always_command_at : (s : Statement) (d : Data) → Always IsAsked (command_at s d)
-unfolding command_at move_thing remove_thing hold_thing release_thing end_lease state_verdict revoke_file unbind_address set_locals
+unfolding command_at state_verdict
 always_command_at statement.Move d = always_after IsAsked (mac_at d) _ (λ mac. always_after IsAsked (url_at members.Url d) _ (λ url. always_done IsAsked (command.Move mac url) tt))
 always_command_at statement.Remove d = always_after IsAsked (mac_at d) _ (λ mac. always_done IsAsked (command.Remove mac) tt)
 always_command_at statement.Hold d = always_after IsAsked (mac_at d) _ (λ mac. always_done IsAsked (command.Hold mac) tt)
@@ -174,7 +173,7 @@ heard_rightly (Ok heard) a e = subst AsksRightly (let is : asked.Heard heard ≡
 heard_rightly (Err refusal) a e = absurd cc
 
 stated_rightly : (s : Statement) (octets : List ℕ) (a : Asked) → stated_body s octets ≡ Ok a → AsksRightly a
-unfolding stated_body stated
+unfolding stated_body
 stated_rightly s octets a e =
     let whole = then_ok (stated s octets) (λ c. Ok (asked.Command c)) a e in
     let object = then_ok (object_of octets) (λ d. answer (command_at s d)) whole.0 whole.1 in

@@ -28,12 +28,12 @@ abbrev pub heard_body : Result Heard HearFault → Result Asked BodyFault
 heard_body (Ok heard) = Ok (asked.Heard heard)
 heard_body (Err refusal) = Err (fault.Heard refusal)
 
--- the command that a JSON object states
-unfoldable pub stated : Statement → List ℕ → Result Command BodyFault
-stated statement octets = and_then (object_of octets) (λ d. answer (command_at statement d))
-
 unfoldable pub stated_body : Statement → List ℕ → Result Asked BodyFault
 stated_body statement octets = and_then (stated statement octets) (λ c. Ok (asked.Command c))
+  where
+    -- the command that a JSON object states
+    stated : Statement → List ℕ → Result Command BodyFault
+    stated statement octets = and_then (object_of octets) (λ d. answer (command_at statement d))
 
 -- A message, a usage file and a frame are the octets of the body themselves. A file was fetched at the moment of the
 -- request. A listing looks at no body.

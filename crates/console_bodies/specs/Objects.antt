@@ -13,12 +13,12 @@ abbrev pub as_json : Option Data → Result Data BodyFault
 as_json None = Err Json
 as_json (Some d) = Ok d
 
-abbrev pub as_object_of : Data → Result Data BodyFault
-as_object_of d = if is_some (as_object d) then Ok d else Err Json
-
 -- the object that the octets are
 unfoldable pub object_of : List ℕ → Result Data BodyFault
 object_of octets = and_then (as_json (value_in octets)) as_object_of
+  where
+    as_object_of : Data → Result Data BodyFault
+    as_object_of d = if is_some (as_object d) then Ok d else Err Json
 
 unfoldable pub member_in : Member → Data → Option Data
 member_in member d = get (name_of member) d

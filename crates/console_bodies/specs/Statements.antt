@@ -22,13 +22,10 @@ use Rattle.console_bodies.specs.Values.{Reading, meant, mac_at, address_at, url_
 abbrev pub uri_in : List ℕ → Option (List ℕ)
 uri_in text = if is_class_uri text then Some text else None
 
--- 1 to 255 octets from 21 to 7E hex
-unfoldable pub uri_at : Data → Reading (List ℕ)
-uri_at d = meant [] members.Class (option_and_then uri_in (text_in members.Class d))
-
 unfoldable pub uri_class : Data → Reading Class
 uri_class d = do
-  uri ← uri_at d
+  -- 1 to 255 octets from 21 to 7E hex
+  uri ← meant [] members.Class (option_and_then uri_in (text_in members.Class d))
   done (class.Uri uri)
 
 unfoldable pub own_class : Data → Reading Class
@@ -36,12 +33,9 @@ own_class d = do
   url ← url_at members.MyControllerOf d
   done (class.Mine url)
 
-unfoldable pub only_own : Data → Reading (Unit {0})
-only_own d = refused_where (is_some (member_in members.Class d)) (fault.Member members.MyControllerOf)
-
 unfoldable pub own_alone : Data → Reading Class
 own_alone d = do
-  _ ← only_own d
+  _ ← refused_where (is_some (member_in members.Class d)) (fault.Member members.MyControllerOf)
   own_class d
 
 -- A class is named by `class` or by `my-controller-of`. Where both stand, the second is wrong; where neither stands,
@@ -59,43 +53,7 @@ text_of Failed = codes "failed"
 unfoldable pub verdict_in : List ℕ → Option OperatorVerdict
 verdict_in word = find (λ (verdict : OperatorVerdict). bytes_eq (text_of verdict) word) (Verified ∷ Waived ∷ Failed ∷ [])
 
-unfoldable pub verdict_at : Data → Reading OperatorVerdict
-verdict_at d = meant Failed members.Verdict (option_and_then verdict_in (text_in members.Verdict d))
-
 -- ---- The statements
-
-unfoldable pub move_thing : Data → Reading Command
-move_thing d = do
-  mac ← mac_at d
-  url ← url_at members.Url d
-  done (command.Move mac url)
-
-unfoldable pub remove_thing : Data → Reading Command
-remove_thing d = do
-  mac ← mac_at d
-  done (command.Remove mac)
-
-unfoldable pub hold_thing : Data → Reading Command
-hold_thing d = do
-  mac ← mac_at d
-  done (command.Hold mac)
-
-unfoldable pub release_thing : Data → Reading Command
-release_thing d = do
-  mac ← mac_at d
-  done (command.Release mac)
-
-unfoldable pub lease_address : Data → Reading Command
-lease_address d = do
-  mac ← mac_at d
-  address ← address_at d
-  seconds ← number_at 1 4294967295 members.Seconds d
-  done (command.Lease mac address seconds)
-
-unfoldable pub end_lease : Data → Reading Command
-end_lease d = do
-  address ← address_at d
-  done (command.EndLease address)
 
 unfoldable pub state_verdict : Data → Reading Command
 state_verdict d = do
@@ -103,47 +61,50 @@ state_verdict d = do
   digest ← digest_at d
   verdict ← verdict_at d
   done (command.Verdict url digest verdict)
+  where
+    verdict_at : Data → Reading OperatorVerdict
+    verdict_at d = meant Failed members.Verdict (option_and_then verdict_in (text_in members.Verdict d))
 
-unfoldable pub revoke_file : Data → Reading Command
-revoke_file d = do
+-- the command that an object states
+unfoldable pub command_at : Statement → Data → Reading Command
+command_at statement.Move d = do
+  mac ← mac_at d
+  url ← url_at members.Url d
+  done (command.Move mac url)
+command_at statement.Remove d = do
+  mac ← mac_at d
+  done (command.Remove mac)
+command_at statement.Hold d = do
+  mac ← mac_at d
+  done (command.Hold mac)
+command_at statement.Release d = do
+  mac ← mac_at d
+  done (command.Release mac)
+command_at statement.Lease d = do
+  mac ← mac_at d
+  address ← address_at d
+  seconds ← number_at 1 4294967295 members.Seconds d
+  done (command.Lease mac address seconds)
+command_at statement.EndLease d = do
+  address ← address_at d
+  done (command.EndLease address)
+command_at statement.Verdict d = state_verdict d
+command_at statement.Revoke d = do
   url ← url_at members.Url d
   done (command.Revoke url)
-
-unfoldable pub bind_address : Data → Reading Command
-bind_address d = do
+command_at statement.Bind d = do
   class ← class_at d
   address ← address_at d
   done (command.Bind class address)
-
-unfoldable pub unbind_address : Data → Reading Command
-unbind_address d = do
+command_at statement.Unbind d = do
   class ← class_at d
   address ← address_at d
   done (command.Unbind class address)
-
-unfoldable pub set_locals : Data → Reading Command
-set_locals d = do
+command_at statement.Locals d = do
   prefixes ← prefixes_at d
   done (command.Locals prefixes)
-
-unfoldable pub observe_name : Data → Reading Command
-observe_name d = do
+command_at statement.Observe d = do
   name ← name_at d
   address ← address_at d
   seconds ← number_at 1 2147483647 members.Ttl d
   done (command.Observe name address seconds)
-
--- the command that an object states
-unfoldable pub command_at : Statement → Data → Reading Command
-command_at statement.Move d = move_thing d
-command_at statement.Remove d = remove_thing d
-command_at statement.Hold d = hold_thing d
-command_at statement.Release d = release_thing d
-command_at statement.Lease d = lease_address d
-command_at statement.EndLease d = end_lease d
-command_at statement.Verdict d = state_verdict d
-command_at statement.Revoke d = revoke_file d
-command_at statement.Bind d = bind_address d
-command_at statement.Unbind d = unbind_address d
-command_at statement.Locals d = set_locals d
-command_at statement.Observe d = observe_name d

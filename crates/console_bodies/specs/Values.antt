@@ -56,24 +56,24 @@ name_at d = meant [] members.Name (option_and_then host_name_of (text_in members
 abbrev pub is_lower_hex : ℕ → Bool
 is_lower_hex c = (nat_le 48 c && nat_le c 57) || (nat_le 97 c && nat_le c 102)
 
-unfoldable pub is_digest : List ℕ → Bool
-is_digest text = length text == 64 && list_all is_lower_hex text
-
-abbrev pub digest_in : List ℕ → Option (List ℕ)
-digest_in text = if is_digest text then Some text else None
-
 -- a SHA-256 digest in 64 lower-case hex digits
 unfoldable pub digest_at : Data → Reading (List ℕ)
 digest_at d = meant [] members.Sha256 (option_and_then digest_in (text_in members.Sha256 d))
+  where
+    is_digest : List ℕ → Bool
+    is_digest text = length text == 64 && list_all is_lower_hex text
+
+    digest_in : List ℕ → Option (List ℕ)
+    digest_in text = if is_digest text then Some text else None
 
 -- ---- Numbers
-
-abbrev pub within : ℕ → ℕ → ℕ → Option ℕ
-within least most n = if nat_le least n && nat_le n most then Some n else None
 
 -- a whole number of this range
 unfoldable pub number_at : ℕ → ℕ → Member → Data → Reading ℕ
 number_at least most member d = meant 0 member (option_and_then (within least most) (number_in member d))
+  where
+    within : ℕ → ℕ → ℕ → Option ℕ
+    within least most n = if nat_le least n && nat_le n most then Some n else None
 
 -- ---- Lists
 
@@ -86,11 +86,8 @@ next_prefix before d = do
 unfoldable pub prefixes_of : List Data → Reading (List PrefixParts)
 prefixes_of ds = over next_prefix [] ds
 
-unfoldable pub list_at : Data → Reading (List Data)
-list_at d = meant [] members.Prefixes (option_and_then list_in (member_in members.Prefixes d))
-
 -- a list of texts, each of which writes a prefix
 unfoldable pub prefixes_at : Data → Reading (List PrefixParts)
 prefixes_at d = do
-  list ← list_at d
+  list ← meant [] members.Prefixes (option_and_then list_in (member_in members.Prefixes d))
   prefixes_of list

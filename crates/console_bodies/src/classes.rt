@@ -1,8 +1,13 @@
 //! Classes, and what the operator says of a file, as a body has them.
-ghost use Rattle.std.specs.Prelude.{◌≡◌, option_map};
+ghost use Rattle.std.specs.Prelude.{◌≡◌, option_map, option_and_then, is_some, []};
 ghost use Rattle.serde_json.specs.View.{view};
-ghost use Rattle.mud_base.specs.Readings.{Gives};
+ghost use Rattle.mud_base.specs.Readings.{Gives, refused_where};
 ghost use Rattle.console_bodies.specs.Statements as spec;
+ghost use Rattle.usage_tables.specs.declared.approval.OperatorVerdict.TheVariants.{Failed};
+ghost use Rattle.console_bodies.specs.Values.{meant};
+ghost use Rattle.console_bodies.specs.declared.member.Member.TheVariants as members;
+ghost use Rattle.console_bodies.specs.Objects.{text_in, member_in};
+ghost use Rattle.console_bodies.specs.declared.fault.BodyFault.TheVariants as fault;
 
 use crate::object::{member_in, text_in};
 use crate::texts::url;
@@ -27,9 +32,9 @@ fn uri_in(text: &str) -> Option<&str>
 }
 
 /// The URI that `class` is: 1 to 255 octets from 21 to 7E hex.
-#[tactic(auto, unfolding(crate::specs::Statements::uri_at, crate::specs::Values::meant), using(mud_base::proofs::Readings::answer_wanted, mud_base::proofs::Readings::answer_unwanted))]
+#[tactic(auto, unfolding(crate::specs::Values::meant), using(mud_base::proofs::Readings::answer_wanted, mud_base::proofs::Readings::answer_unwanted))]
 fn uri(alloc: Global, object: &Value) -> Result<Bytes, Unread>
-    ensures { Gives (λ u. u) result (spec.uri_at (view object.now)) }
+    ensures { Gives (λ u. u) result (meant [] members.Class (option_and_then spec.uri_in (text_in members.Class (view object.now)))) }
 {
     match text_in(object, Member::Class).and_then(uri_in) {
         Some(text) => Ok(Bytes::new(alloc, text.as_bytes())?),
@@ -54,9 +59,9 @@ fn own_class(object: &Value) -> Result<Class, Unread>
 }
 
 /// Where `class` stands beside `my-controller-of`, the second is wrong.
-#[tactic(auto, unfolding(crate::specs::Statements::only_own), using(mud_base::proofs::Readings::answer_passed, mud_base::proofs::Readings::answer_refused))]
+#[tactic(auto, using(mud_base::proofs::Readings::answer_passed, mud_base::proofs::Readings::answer_refused))]
 fn only_own(object: &Value) -> Result<(), Unread>
-    ensures { Gives (λ _. tt) result (spec.only_own (view object.now)) }
+    ensures { Gives (λ _. tt) result (refused_where (is_some (member_in members.Class (view object.now))) (fault.Member members.MyControllerOf)) }
 {
     match member_in(object, Member::Class) {
         Some(_) => Err(Unread::Broken(BodyFault::Member(Member::MyControllerOf))),
@@ -96,9 +101,9 @@ fn verdict_in(word: &str) -> Option<OperatorVerdict>
 }
 
 /// What the operator says of a candidate.
-#[tactic(auto, unfolding(crate::specs::Statements::verdict_at))]
+#[tactic(auto)]
 pub(crate) fn verdict(object: &Value) -> Result<OperatorVerdict, Unread>
-    ensures { Gives (λ v. v) result (spec.verdict_at (view object.now)) }
+    ensures { Gives (λ v. v) result (meant Failed members.Verdict (option_and_then spec.verdict_in (text_in members.Verdict (view object.now)))) }
 {
     let verdict = text_in(object, Member::Verdict).and_then(verdict_in);
     meant(verdict, Member::Verdict)

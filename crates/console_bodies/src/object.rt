@@ -1,9 +1,11 @@
 //! The object that a body is.
-ghost use Rattle.std.specs.Prelude.{◌≡◌, Ok, Err, option_map};
+ghost use Rattle.std.specs.Prelude.{◌≡◌, Ok, Err, option_map, is_some, if◌then◌else◌};
 ghost use Rattle.serde_json.specs.View.{view};
 ghost use Rattle.usage_walk.specs.Json as json;
 ghost use Rattle.mud_base.specs.Readings.{Answers};
 ghost use Rattle.console_bodies.specs.Objects as spec;
+ghost use Rattle.console_bodies.specs.declared.fault.BodyFault.TheVariants.{Json};
+ghost use Rattle.serde_json.specs.Find.{as_object};
 
 use crate::fault::{BodyFault, Unread};
 use crate::member::Member;
@@ -24,7 +26,7 @@ fn value_in(alloc: Global, octets: &[u8]) -> Result<Value, Unread>
 
 /// A value, where it is an object.
 fn as_object(value: Value) -> Result<Value, Unread>
-    ensures { Answers view result (spec.as_object_of (view value)) }
+    ensures { Answers view result (if is_some (as_object (view value)) then Ok (view value) else Err Json) }
 {
     if value.is_object() {
         Ok(value)

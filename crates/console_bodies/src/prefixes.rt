@@ -1,8 +1,11 @@
 //! The member that is a list of prefixes.
-ghost use Rattle.std.specs.Prelude.{◌≡◌, map};
+ghost use Rattle.std.specs.Prelude.{◌≡◌, map, option_and_then, []};
 ghost use Rattle.serde_json.specs.View.{view};
 ghost use Rattle.mud_base.specs.Readings.{Gives};
 ghost use Rattle.console_bodies.specs.Values as spec;
+ghost use Rattle.usage_walk.specs.Kinds.{list_in};
+ghost use Rattle.console_bodies.specs.declared.member.Member.TheVariants as members;
+ghost use Rattle.console_bodies.specs.Objects.{member_in};
 
 use crate::fault::{BodyFault, Unread};
 use crate::member::Member;
@@ -35,9 +38,9 @@ fn prefixes_of(alloc: Global, values: &[Value]) -> Result<Listed<Prefix>, Unread
 }
 
 /// The elements of the list that `prefixes` is.
-#[tactic(auto, unfolding(crate::specs::Values::list_at, crate::specs::Values::meant), using(mud_base::proofs::Readings::answer_wanted, mud_base::proofs::Readings::answer_unwanted, usage_walk::proofs::Items::list_in_some))]
+#[tactic(auto, unfolding(crate::specs::Values::meant), using(mud_base::proofs::Readings::answer_wanted, mud_base::proofs::Readings::answer_unwanted, usage_walk::proofs::Items::list_in_some))]
 fn list(object: &Value) -> Result<&[Value], Unread>
-    ensures { Gives (λ l. map view l.now) result (spec.list_at (view object.now)) }
+    ensures { Gives (λ l. map view l.now) result (spec.meant [] members.Prefixes (option_and_then list_in (member_in members.Prefixes (view object.now)))) }
 {
     match member_in(object, Member::Prefixes).and_then(Value::as_array) {
         Some(list) => Ok(list.as_slice()),

@@ -1,8 +1,10 @@
 //! The bodies of requests.
 ghost use Rattle.std.specs.Prelude.{◌≡◌, ◌≢◌, true, Err};
-ghost use Rattle.mud_base.specs.Readings.{Answers};
+ghost use Rattle.mud_base.specs.Readings.{Answers, and_then, answer};
 ghost use Rattle.mud_base.specs.declared.refusal.Refusal.TheVariants.{Memory};
 ghost use Rattle.console_bodies.specs.Bodies as spec;
+ghost use Rattle.console_bodies.specs.Objects.{object_of};
+ghost use Rattle.console_bodies.specs.Statements.{command_at};
 
 use crate::asked::Asked;
 use crate::statements::command;
@@ -25,9 +27,9 @@ fn heard(message: Result<Heard, HearFault>) -> Result<Asked, Unread>
 }
 
 /// The command that the octets of a JSON object state.
-#[tactic(auto, unfolding(crate::specs::Bodies::stated))]
+#[tactic(auto)]
 fn stated(alloc: Global, statement: Statement, octets: &[u8]) -> Result<Command, Unread>
-    ensures { Answers (λ c. c) result (spec.stated statement octets.now) }
+    ensures { Answers (λ c. c) result (and_then (object_of octets.now) (λ d. answer (command_at statement d))) }
 {
     let object = read_object(alloc, octets)?;
     command(alloc, statement, &object)

@@ -2,6 +2,7 @@
 ghost use Rattle.serde_json.specs.View.{view};
 ghost use Rattle.mud_base.specs.Readings.{Gives};
 ghost use Rattle.console_bodies.specs.Statements as spec;
+ghost use Rattle.console_routes.specs.declared.action.Statement.TheVariants as statement;
 
 use crate::classes::{class, verdict};
 use crate::prefixes::prefixes;
@@ -14,9 +15,9 @@ use serde_json::Value;
 use std::alloc::Global;
 
 /// A Thing moves to the URL that waits.
-#[tactic(auto, unfolding(crate::specs::Statements::move_thing), using(mud_base::proofs::Readings::answer_bind, mud_base::proofs::Readings::answer_done))]
+#[tactic(auto, unfolding(crate::specs::Statements::command_at), using(mud_base::proofs::Readings::answer_bind, mud_base::proofs::Readings::answer_done))]
 fn move_thing(object: &Value) -> Result<Command, Unread>
-    ensures { Gives (λ c. c) result (spec.move_thing (view object.now)) }
+    ensures { Gives (λ c. c) result (spec.command_at statement.Move (view object.now)) }
 {
     let mac = mac(object)?;
     let url = url(object, Member::Url)?;
@@ -24,33 +25,33 @@ fn move_thing(object: &Value) -> Result<Command, Unread>
 }
 
 /// A Thing goes.
-#[tactic(auto, unfolding(crate::specs::Statements::remove_thing), using(mud_base::proofs::Readings::answer_bind, mud_base::proofs::Readings::answer_done))]
+#[tactic(auto, unfolding(crate::specs::Statements::command_at), using(mud_base::proofs::Readings::answer_bind, mud_base::proofs::Readings::answer_done))]
 fn remove_thing(object: &Value) -> Result<Command, Unread>
-    ensures { Gives (λ c. c) result (spec.remove_thing (view object.now)) }
+    ensures { Gives (λ c. c) result (spec.command_at statement.Remove (view object.now)) }
 {
     Ok(Command::Remove(mac(object)?))
 }
 
 /// A Thing is held.
-#[tactic(auto, unfolding(crate::specs::Statements::hold_thing), using(mud_base::proofs::Readings::answer_bind, mud_base::proofs::Readings::answer_done))]
+#[tactic(auto, unfolding(crate::specs::Statements::command_at), using(mud_base::proofs::Readings::answer_bind, mud_base::proofs::Readings::answer_done))]
 fn hold_thing(object: &Value) -> Result<Command, Unread>
-    ensures { Gives (λ c. c) result (spec.hold_thing (view object.now)) }
+    ensures { Gives (λ c. c) result (spec.command_at statement.Hold (view object.now)) }
 {
     Ok(Command::Hold(mac(object)?))
 }
 
 /// A Thing's hold ends.
-#[tactic(auto, unfolding(crate::specs::Statements::release_thing), using(mud_base::proofs::Readings::answer_bind, mud_base::proofs::Readings::answer_done))]
+#[tactic(auto, unfolding(crate::specs::Statements::command_at), using(mud_base::proofs::Readings::answer_bind, mud_base::proofs::Readings::answer_done))]
 fn release_thing(object: &Value) -> Result<Command, Unread>
-    ensures { Gives (λ c. c) result (spec.release_thing (view object.now)) }
+    ensures { Gives (λ c. c) result (spec.command_at statement.Release (view object.now)) }
 {
     Ok(Command::Release(mac(object)?))
 }
 
 /// A Thing has an address, for 1 to 4,294,967,295 seconds.
-#[tactic(auto, unfolding(crate::specs::Statements::lease_address), using(mud_base::proofs::Readings::answer_bind, mud_base::proofs::Readings::answer_done))]
+#[tactic(auto, unfolding(crate::specs::Statements::command_at), using(mud_base::proofs::Readings::answer_bind, mud_base::proofs::Readings::answer_done))]
 fn lease_address(object: &Value) -> Result<Command, Unread>
-    ensures { Gives (λ c. c) result (spec.lease_address (view object.now)) }
+    ensures { Gives (λ c. c) result (spec.command_at statement.Lease (view object.now)) }
 {
     let mac = mac(object)?;
     let address = address(object)?;
@@ -59,9 +60,9 @@ fn lease_address(object: &Value) -> Result<Command, Unread>
 }
 
 /// No Thing has an address any longer.
-#[tactic(auto, unfolding(crate::specs::Statements::end_lease), using(mud_base::proofs::Readings::answer_bind, mud_base::proofs::Readings::answer_done))]
+#[tactic(auto, unfolding(crate::specs::Statements::command_at), using(mud_base::proofs::Readings::answer_bind, mud_base::proofs::Readings::answer_done))]
 fn end_lease(object: &Value) -> Result<Command, Unread>
-    ensures { Gives (λ c. c) result (spec.end_lease (view object.now)) }
+    ensures { Gives (λ c. c) result (spec.command_at statement.EndLease (view object.now)) }
 {
     Ok(Command::EndLease(address(object)?))
 }
@@ -78,17 +79,17 @@ fn state_verdict(alloc: Global, object: &Value) -> Result<Command, Unread>
 }
 
 /// The approval of a URL's file is taken back.
-#[tactic(auto, unfolding(crate::specs::Statements::revoke_file), using(mud_base::proofs::Readings::answer_bind, mud_base::proofs::Readings::answer_done))]
+#[tactic(auto, unfolding(crate::specs::Statements::command_at), using(mud_base::proofs::Readings::answer_bind, mud_base::proofs::Readings::answer_done))]
 fn revoke_file(object: &Value) -> Result<Command, Unread>
-    ensures { Gives (λ c. c) result (spec.revoke_file (view object.now)) }
+    ensures { Gives (λ c. c) result (spec.command_at statement.Revoke (view object.now)) }
 {
     Ok(Command::Revoke(url(object, Member::Url)?))
 }
 
 /// A class has an address.
-#[tactic(auto, unfolding(crate::specs::Statements::bind_address), using(mud_base::proofs::Readings::answer_bind, mud_base::proofs::Readings::answer_done))]
+#[tactic(auto, unfolding(crate::specs::Statements::command_at), using(mud_base::proofs::Readings::answer_bind, mud_base::proofs::Readings::answer_done))]
 fn bind_address(alloc: Global, object: &Value) -> Result<Command, Unread>
-    ensures { Gives (λ c. c) result (spec.bind_address (view object.now)) }
+    ensures { Gives (λ c. c) result (spec.command_at statement.Bind (view object.now)) }
 {
     let class = class(alloc, object)?;
     let address = address(object)?;
@@ -96,9 +97,9 @@ fn bind_address(alloc: Global, object: &Value) -> Result<Command, Unread>
 }
 
 /// A class no longer has an address.
-#[tactic(auto, unfolding(crate::specs::Statements::unbind_address), using(mud_base::proofs::Readings::answer_bind, mud_base::proofs::Readings::answer_done))]
+#[tactic(auto, unfolding(crate::specs::Statements::command_at), using(mud_base::proofs::Readings::answer_bind, mud_base::proofs::Readings::answer_done))]
 fn unbind_address(alloc: Global, object: &Value) -> Result<Command, Unread>
-    ensures { Gives (λ c. c) result (spec.unbind_address (view object.now)) }
+    ensures { Gives (λ c. c) result (spec.command_at statement.Unbind (view object.now)) }
 {
     let class = class(alloc, object)?;
     let address = address(object)?;
@@ -106,17 +107,17 @@ fn unbind_address(alloc: Global, object: &Value) -> Result<Command, Unread>
 }
 
 /// The local networks are these.
-#[tactic(auto, unfolding(crate::specs::Statements::set_locals), using(mud_base::proofs::Readings::answer_bind, mud_base::proofs::Readings::answer_done))]
+#[tactic(auto, unfolding(crate::specs::Statements::command_at), using(mud_base::proofs::Readings::answer_bind, mud_base::proofs::Readings::answer_done))]
 fn set_locals(alloc: Global, object: &Value) -> Result<Command, Unread>
-    ensures { Gives (λ c. c) result (spec.set_locals (view object.now)) }
+    ensures { Gives (λ c. c) result (spec.command_at statement.Locals (view object.now)) }
 {
     Ok(Command::Locals(prefixes(alloc, object)?))
 }
 
 /// A name was observed at an address, for 1 to 2,147,483,647 seconds.
-#[tactic(auto, unfolding(crate::specs::Statements::observe_name), using(mud_base::proofs::Readings::answer_bind, mud_base::proofs::Readings::answer_done))]
+#[tactic(auto, unfolding(crate::specs::Statements::command_at), using(mud_base::proofs::Readings::answer_bind, mud_base::proofs::Readings::answer_done))]
 fn observe_name(alloc: Global, object: &Value) -> Result<Command, Unread>
-    ensures { Gives (λ c. c) result (spec.observe_name (view object.now)) }
+    ensures { Gives (λ c. c) result (spec.command_at statement.Observe (view object.now)) }
 {
     let name = name(alloc, object)?;
     let address = address(object)?;

@@ -1,5 +1,5 @@
 //! Members that are texts which are kept.
-ghost use Rattle.std.specs.Prelude.{◌≡◌, option_map};
+ghost use Rattle.std.specs.Prelude.{◌≡◌, option_map, None, Some, if◌then◌else◌, length, ◌==◌, ◌&&◌};
 ghost use Rattle.std.specs.List.{list_all};
 ghost use Rattle.serde_json.specs.View.{view};
 ghost use Rattle.mud_base.specs.Readings.{Gives};
@@ -58,16 +58,16 @@ fn are_lower_hex(text: &[u8]) -> bool
 }
 
 /// Whether these are 64 lower-case hex digits.
-#[tactic(auto, unfolding(crate::specs::Values::is_digest))]
+#[tactic(auto)]
 fn is_digest(text: &[u8]) -> bool
-    ensures { result ≡ spec.is_digest text.now }
+    ensures { result ≡ length text.now == 64 && list_all spec.is_lower_hex text.now }
 {
     text.len() == 64 && are_lower_hex(text)
 }
 
 /// The text, where it is a digest.
 fn digest_in(text: &str) -> Option<&str>
-    ensures { option_map (λ t. t.now) result ≡ spec.digest_in text.now }
+    ensures { option_map (λ t. t.now) result ≡ if (length text.now == 64 && list_all spec.is_lower_hex text.now) then Some text.now else None }
 {
     if is_digest(text.as_bytes()) {
         Some(text)

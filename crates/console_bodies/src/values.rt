@@ -1,5 +1,5 @@
 //! Members that are numbers, addresses and words.
-ghost use Rattle.std.specs.Prelude.{◌≡◌, ◌≤◌, ◌<◌, ◌^◌, IfOk};
+ghost use Rattle.std.specs.Prelude.{◌≡◌, ◌≤◌, ◌<◌, ◌^◌, IfOk, nat_le, None, Some, ◌&&◌, if◌then◌else◌};
 ghost use Rattle.serde_json.specs.View.{view};
 ghost use Rattle.mud_base.specs.Readings.{Gives};
 ghost use Rattle.console_bodies.specs.Values as spec;
@@ -38,7 +38,7 @@ pub fn address(object: &Value) -> Result<Addr, Unread>
 
 /// The number, where it is in this range.
 fn within(least: u32, most: u32, number: u64) -> Option<u32>
-    ensures { result ≡ spec.within least most number }
+    ensures { result ≡ if nat_le least number && nat_le number most then Some number else None }
 {
     if number < u64::from(least) {
         return None;

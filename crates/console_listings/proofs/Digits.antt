@@ -2,7 +2,8 @@
 use Rattle.std.proofs.Common.{◌≡◌, ℕ, ◌+◌, ◌/◌, ◌%◌, ◌<◌, ◌≤◌, ◌^◌, List, [], ◌∷◌, ◌++◌, length, drop, flat_map, slice_index, refl, sym, ap, ◌∙◌, arith, append_assoc, decimal}
 use Rattle.std.proofs.lemmas.Fmt.{decimal_digit, decimal_step}
 use Rattle.std.specs.Char.{digit_char}
-use Rattle.mud_base.specs.Texts.{hex_pair, colon_pair}
+use Rattle.mud_base.specs.Texts.{hex_pair}
+use Rattle.mud_base.proofs.Parts.{colon_pair}
 
 pairs_of : (m : List ℕ) → length m ≡ 6 → hex_pair (slice_index m 0) ++ flat_map colon_pair (drop 1 m) ≡ digit_char (slice_index m 0 / 16) ∷ digit_char (slice_index m 0 % 16) ∷ 58 ∷ digit_char (slice_index m 1 / 16) ∷ digit_char (slice_index m 1 % 16) ∷ 58 ∷ digit_char (slice_index m 2 / 16) ∷ digit_char (slice_index m 2 % 16) ∷ 58 ∷ digit_char (slice_index m 3 / 16) ∷ digit_char (slice_index m 3 % 16) ∷ 58 ∷ digit_char (slice_index m 4 / 16) ∷ digit_char (slice_index m 4 % 16) ∷ 58 ∷ digit_char (slice_index m 5 / 16) ∷ digit_char (slice_index m 5 % 16) ∷ []
 unfolding hex_pair

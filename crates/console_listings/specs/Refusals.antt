@@ -37,19 +37,12 @@ url_member (Some f) = codes ",\"url\":" ++ url_fault_text f
 
 -- ---- Bodies of requests
 
-unfoldable pub heard_fault_body : HearFault → List ℕ
-heard_fault_body f = codes "{" ++ offset_member (hear_fault.offset_of f) ++ refused_members (hear_fault.number_of f) (hear_fault.name_of f) ++ url_member (hear_fault.url_fault_of f) ++ codes "}"
-
-unfoldable pub json_body : List ℕ
-json_body = codes "{\"rule\":\"json\"}"
-
-unfoldable pub member_body : Member → List ℕ
-member_body member = codes "{\"member\":" ++ quoted (name_of member) ++ codes ",\"rule\":\"member\"}"
-
 unfoldable pub body_fault_body : BodyFault → List ℕ
-body_fault_body fault.Json = json_body
-body_fault_body (fault.Member member) = member_body member
-body_fault_body (fault.Heard f) = heard_fault_body f
+body_fault_body fault.Json = codes "{\"rule\":\"json\"}"
+body_fault_body (fault.Member member) = codes "{\"member\":" ++ quoted (name_of member) ++ codes ",\"rule\":\"member\"}"
+body_fault_body (fault.Heard f) =
+    codes "{" ++ offset_member (hear_fault.offset_of f) ++ refused_members (hear_fault.number_of f) (hear_fault.name_of f)
+    ++ url_member (hear_fault.url_fault_of f) ++ codes "}"
 
 -- ---- Commands
 
@@ -59,27 +52,21 @@ book_body book number name = codes "{\"book\":" ++ quoted book ++ codes "," ++ r
 unfoldable pub broken_end : Broken → List ℕ
 broken_end broken = codes "," ++ refused_members (file_rule.number_of broken.rule) (file_rule.name_of broken.rule) ++ url_member broken.url ++ codes "}"
 
--- the path is the JSON pointer itself
-unfoldable pub broken_body : Broken → List ℕ
-broken_body broken = codes "{\"path\":" ++ quoted broken.path ++ broken_end broken
-
 abbrev pub file_book : CacheFault → List ℕ
 file_book f = book_body (codes "files") (number_of_cache_fault f) (name_of_cache_fault f)
 
-unfoldable pub files_refusal_body : CacheFault → List ℕ
-files_refusal_body (File broken) = broken_body broken
-files_refusal_body Memory = file_book Memory
-files_refusal_body Older = file_book Older
-files_refusal_body CacheFull = file_book CacheFull
-files_refusal_body NoCandidate = file_book NoCandidate
-files_refusal_body Digest = file_book Digest
-files_refusal_body NoSignature = file_book NoSignature
-files_refusal_body NotApproved = file_book NotApproved
-files_refusal_body PolicyFull = file_book PolicyFull
-
+-- of a file that breaks a rule, the path is the JSON pointer itself
 unfoldable pub refusal_body : Refusal → List ℕ
 refusal_body (Things f) = book_body (codes "things") (number_of_thing_fault f) (name_of_thing_fault f)
-refusal_body (Files f) = files_refusal_body f
+refusal_body (Files (File broken)) = codes "{\"path\":" ++ quoted broken.path ++ broken_end broken
+refusal_body (Files Memory) = file_book Memory
+refusal_body (Files Older) = file_book Older
+refusal_body (Files CacheFull) = file_book CacheFull
+refusal_body (Files NoCandidate) = file_book NoCandidate
+refusal_body (Files Digest) = file_book Digest
+refusal_body (Files NoSignature) = file_book NoSignature
+refusal_body (Files NotApproved) = file_book NotApproved
+refusal_body (Files PolicyFull) = file_book PolicyFull
 refusal_body (Binds f) = book_body (codes "binds") (number_of_bind_fault f) (name_of_bind_fault f)
 
 abbrev pub files_status : CacheFault → Status

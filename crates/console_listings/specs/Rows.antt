@@ -24,11 +24,8 @@ use Rattle.console_listings.specs.Lists.{list_text, listing_body}
 unfoldable pub until_end : ℕ → List ℕ
 until_end until = codes ",\"until\":" ++ until_text until ++ codes "}"
 
-unfoldable pub expiring_of : Addr → ℕ → List ℕ
-expiring_of address until = codes "{\"address\":" ++ quoted (addr_text address) ++ until_end until
-
 abbrev pub expiring_text : Addr × ℕ → List ℕ
-expiring_text row = expiring_of row.0 row.1
+expiring_text row = codes "{\"address\":" ++ quoted (addr_text row.0) ++ until_end row.1
 
 unfoldable pub url_end : List ℕ → List ℕ
 url_end url = codes ",\"url\":" ++ quoted url ++ codes "}"
@@ -44,14 +41,10 @@ network_text prefix = quoted (prefix_text prefix)
 unfoldable pub leases_text : Thing → List ℕ
 leases_text t = codes "{\"held\":" ++ truth_text t.held ++ codes ",\"leases\":" ++ list_text expiring_text t.leases
 
-unfoldable pub urls_text : Option (List ℕ) → List ℕ → List ℕ
-urls_text pending url = codes ",\"pending\":" ++ url_text pending ++ url_end url
-
 unfoldable pub thing_text : Thing → List ℕ
-thing_text t = leases_text t ++ codes ",\"mac\":" ++ quoted (mac_text t.mac) ++ urls_text t.pending t.url
-
-unfoldable pub things_body : List Thing → List ℕ
-things_body things = listing_body thing_text (codes "things") things
+thing_text t =
+    leases_text t ++ codes ",\"mac\":" ++ quoted (mac_text t.mac)
+    ++ (codes ",\"pending\":" ++ url_text t.pending ++ url_end t.url)
 
 -- ---- Classes, local networks, names, URLs
 
@@ -59,43 +52,13 @@ unfoldable pub class_member : Class → List ℕ
 class_member (Uri uri) = codes ",\"class\":" ++ quoted uri
 class_member (Mine url) = codes ",\"my-controller-of\":" ++ quoted url
 
-unfoldable pub addresses_text : List Addr → List ℕ
-addresses_text addrs = codes "{\"addresses\":" ++ list_text address_text addrs
-
 unfoldable pub class_text : ClassRow → List ℕ
-class_text row = addresses_text row.addrs ++ class_member row.class ++ codes "}"
-
-unfoldable pub classes_body : List ClassRow → List ℕ
-classes_body classes = listing_body class_text (codes "classes") classes
-
-unfoldable pub locals_body : List PrefixParts → List ℕ
-locals_body locals = listing_body network_text (codes "locals") locals
-
-unfoldable pub endings_text : List (Addr × ℕ) → List ℕ
-endings_text rows = codes "{\"addresses\":" ++ list_text expiring_text rows
-
-unfoldable pub name_end : List ℕ → List ℕ
-name_end name = codes ",\"name\":" ++ quoted name ++ codes "}"
+class_text row = codes "{\"addresses\":" ++ list_text address_text row.addrs ++ class_member row.class ++ codes "}"
 
 unfoldable pub name_text : NameRow → List ℕ
-name_text row = endings_text row.addrs ++ name_end row.name
-
-unfoldable pub names_body : List NameRow → List ℕ
-names_body names = listing_body name_text (codes "names") names
-
-unfoldable pub due_body : List (List ℕ) → List ℕ
-due_body urls = listing_body quoted (codes "due") urls
+name_text row = codes "{\"addresses\":" ++ list_text expiring_text row.addrs ++ codes ",\"name\":" ++ quoted row.name ++ codes "}"
 
 -- ---- Files
-
-unfoldable pub moment_text : ℕ → List ℕ
-moment_text fetched = codes "{\"fetched\":" ++ decimal fetched
-
-unfoldable pub hours_text : ℕ → List ℕ
-hours_text hours = codes ",\"hours\":" ++ decimal hours
-
-unfoldable pub fetched_text : HeldFile → UsageFile → List ℕ
-fetched_text held file = moment_text held.fetched ++ hours_text file.hours
 
 unfoldable pub digest_text : HeldFile → UsageFile → List ℕ
 digest_text held file = codes ",\"sha256\":" ++ quoted (digest_of held.octets) ++ codes ",\"update\":" ++ signed_decimal file.update
@@ -107,7 +70,8 @@ held_text held = file_text held (usage_in held.octets)
     -- what the octets mean; octets that mean nothing are not held
     file_text : HeldFile → Option UsageFile → List ℕ
     file_text held None = codes "{"
-    file_text held (Some file) = fetched_text held file ++ digest_text held file
+    file_text held (Some file) =
+        codes "{\"fetched\":" ++ decimal held.fetched ++ codes ",\"hours\":" ++ decimal file.hours ++ digest_text held file
 
 unfoldable pub approved_text : Option (HeldFile × Approval) → List ℕ
 approved_text None = codes "null"
@@ -122,6 +86,3 @@ holdings_text row = codes "{\"approved\":" ++ approved_text row.approved ++ code
 
 unfoldable pub cached_text : CachedFile → List ℕ
 cached_text row = holdings_text row ++ url_end row.url
-
-unfoldable pub files_body : List CachedFile → List ℕ
-files_body files = listing_body cached_text (codes "files") files

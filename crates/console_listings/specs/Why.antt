@@ -19,15 +19,10 @@ entry_number (Drop n) = Some n
 entry_number (DropDefault why) = None
 entry_number DropHeld = None
 
-unfoldable pub names_text : Entry → List ℕ
-names_text entry = codes "{\"ace\":" ++ quoted entry.name ++ codes ",\"acl\":" ++ quoted entry.acl
-
-unfoldable pub number_text : ℕ → List ℕ
-number_text n = codes ",\"entry\":" ++ decimal n
-
 -- the entry that decides; null where none of a usage file does
 unfoldable pub entry_text : Option ℕ → Option Entry → List ℕ
-entry_text (Some n) (Some entry) = names_text entry ++ number_text n
+entry_text (Some n) (Some entry) =
+    codes "{\"ace\":" ++ quoted entry.name ++ codes ",\"acl\":" ++ quoted entry.acl ++ codes ",\"entry\":" ++ decimal n
 entry_text (Some n) None = codes "{\"ace\":null,\"acl\":null,\"entry\":null"
 entry_text None found = codes "{\"ace\":null,\"acl\":null,\"entry\":null"
 
@@ -45,14 +40,8 @@ unfoldable pub side_text : Option RuledEndpoint → List ℕ
 side_text None = codes "null"
 side_text (Some ruled) = endpoint_text ruled
 
-unfoldable pub verdict_text_member : List ℕ → List ℕ
-verdict_text_member text = codes ",\"verdict\":" ++ quoted text
-
-unfoldable pub verdict_member : Verdict → List ℕ
-verdict_member verdict = verdict_text_member (verdict_text verdict)
-
 unfoldable pub verdict_end : Verdict → List ℕ
-verdict_end verdict = verdict_member verdict ++ codes "}"
+verdict_end verdict = codes ",\"verdict\":" ++ quoted (verdict_text verdict) ++ codes "}"
 
 unfoldable pub why_body : Option RuledEndpoint → Option RuledEndpoint → Verdict → List ℕ
 why_body source destination verdict = codes "{\"from\":" ++ side_text source ++ codes ",\"to\":" ++ side_text destination ++ verdict_end verdict

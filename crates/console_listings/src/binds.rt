@@ -1,6 +1,8 @@
 //! Classes, local networks and names, and URLs.
-ghost use Rattle.std.specs.Prelude.{◌≡◌, ◌++◌, OnOk, IfOk};
+ghost use Rattle.std.specs.Prelude.{◌≡◌, ◌++◌, OnOk, IfOk, codes};
 ghost use Rattle.console_listings.specs.Rows as spec;
+ghost use Rattle.json.specs.Print.{quoted};
+ghost use Rattle.console_listings.specs.Lists.{list_text, listing_body};
 
 use crate::addresses::{append_address, append_prefix};
 use crate::lists::{JsonRow, append_list, listing_body};
@@ -58,27 +60,27 @@ fn append_class(body: &mut Bytes, class: &Class) -> Result<(), Memory>
 }
 
 /// Adds the member that is a list of addresses, as the first one.
-#[tactic(auto, unfolding(crate::specs::Rows::addresses_text))]
+#[tactic(auto)]
 fn append_addresses(alloc: Global, body: &mut Bytes, addrs: &[Addr]) -> Result<(), Memory>
-    ensures { OnOk result (body.new ≡ body.old ++ spec.addresses_text addrs.now) }
+    ensures { OnOk result (body.new ≡ body.old ++ (codes "{\"addresses\":" ++ list_text spec.address_text addrs.now)) }
 {
     body.append(b"{\"addresses\":")?;
     append_list(alloc, body, addrs)
 }
 
 /// Adds the member that is a list of addresses with their expiries, as the first one.
-#[tactic(auto, unfolding(crate::specs::Rows::endings_text))]
+#[tactic(auto)]
 fn append_endings(alloc: Global, body: &mut Bytes, rows: &[(Addr, End)]) -> Result<(), Memory>
-    ensures { OnOk result (body.new ≡ body.old ++ spec.endings_text rows.now) }
+    ensures { OnOk result (body.new ≡ body.old ++ (codes "{\"addresses\":" ++ list_text spec.expiring_text rows.now)) }
 {
     body.append(b"{\"addresses\":")?;
     append_list(alloc, body, rows)
 }
 
 /// Adds the member that is a name, as the last one.
-#[tactic(auto, unfolding(crate::specs::Rows::name_end))]
+#[tactic(auto)]
 fn append_name_end(body: &mut Bytes, name: &[u8]) -> Result<(), Memory>
-    ensures { OnOk result (body.new ≡ body.old ++ spec.name_end name.now) }
+    ensures { OnOk result (body.new ≡ body.old ++ (codes ",\"name\":" ++ quoted name.now ++ codes "}")) }
 {
     body.append(b",\"name\":")?;
     append_quoted(body, name)?;
@@ -111,33 +113,33 @@ impl JsonRow for NameRow {
 }
 
 /// The body that lists classes, in their order.
-#[tactic(auto, unfolding(crate::specs::Rows::classes_body))]
+#[tactic(auto)]
 pub fn classes_body(alloc: Global, classes: &[ClassRow]) -> Result<Bytes, Memory>
-    ensures { IfOk result (λ body. body ≡ spec.classes_body classes.now) }
+    ensures { IfOk result (λ body. body ≡ listing_body spec.class_text (codes "classes") classes.now) }
 {
     listing_body(alloc, b"classes", classes)
 }
 
 /// The body that lists the local networks, in their order.
-#[tactic(auto, unfolding(crate::specs::Rows::locals_body))]
+#[tactic(auto)]
 pub fn locals_body(alloc: Global, locals: &[Prefix]) -> Result<Bytes, Memory>
-    ensures { IfOk result (λ body. body ≡ spec.locals_body locals.now) }
+    ensures { IfOk result (λ body. body ≡ listing_body spec.network_text (codes "locals") locals.now) }
 {
     listing_body(alloc, b"locals", locals)
 }
 
 /// The body that lists names, in their order.
-#[tactic(auto, unfolding(crate::specs::Rows::names_body))]
+#[tactic(auto)]
 pub fn names_body(alloc: Global, names: &[NameRow]) -> Result<Bytes, Memory>
-    ensures { IfOk result (λ body. body ≡ spec.names_body names.now) }
+    ensures { IfOk result (λ body. body ≡ listing_body spec.name_text (codes "names") names.now) }
 {
     listing_body(alloc, b"names", names)
 }
 
 /// The body that lists the URLs whose files are to be fetched again, in their order.
-#[tactic(auto, unfolding(crate::specs::Rows::due_body))]
+#[tactic(auto)]
 pub fn due_body(alloc: Global, urls: &[MudUrl]) -> Result<Bytes, Memory>
-    ensures { IfOk result (λ body. body ≡ spec.due_body urls.now) }
+    ensures { IfOk result (λ body. body ≡ listing_body quoted (codes "due") urls.now) }
 {
     listing_body(alloc, b"due", urls)
 }

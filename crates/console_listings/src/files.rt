@@ -1,6 +1,7 @@
 //! Usage files that are held.
-ghost use Rattle.std.specs.Prelude.{◌≡◌, ◌++◌, OnOk, IfOk};
+ghost use Rattle.std.specs.Prelude.{◌≡◌, ◌++◌, OnOk, IfOk, codes, decimal};
 ghost use Rattle.console_listings.specs.Rows as spec;
+ghost use Rattle.console_listings.specs.Lists.{listing_body};
 
 use crate::lists::{JsonRow, listing_body};
 use crate::things::append_url_end;
@@ -12,27 +13,27 @@ use text_values::{append_decimal, append_signed};
 use usage_tables::{Approval, CachedFile, Held};
 
 /// Adds when a file was fetched.
-#[tactic(auto, unfolding(crate::specs::Rows::moment_text))]
+#[tactic(auto)]
 fn append_moment(body: &mut Bytes, fetched: u64) -> Result<(), Memory>
-    ensures { OnOk result (body.new ≡ body.old ++ spec.moment_text fetched) }
+    ensures { OnOk result (body.new ≡ body.old ++ (codes "{\"fetched\":" ++ decimal fetched)) }
 {
     body.append(b"{\"fetched\":")?;
     append_decimal(body, fetched)
 }
 
 /// Adds for how many hours a file is valid.
-#[tactic(auto, unfolding(crate::specs::Rows::hours_text))]
+#[tactic(auto)]
 fn append_hours(body: &mut Bytes, hours: u8) -> Result<(), Memory>
-    ensures { OnOk result (body.new ≡ body.old ++ spec.hours_text hours) }
+    ensures { OnOk result (body.new ≡ body.old ++ (codes ",\"hours\":" ++ decimal hours)) }
 {
     body.append(b",\"hours\":")?;
     append_decimal(body, u64::from(hours))
 }
 
 /// Adds when a file was fetched, and for how long it is valid.
-#[tactic(auto, unfolding(crate::specs::Rows::fetched_text))]
+#[tactic(auto)]
 fn append_fetched(body: &mut Bytes, held: &Held, file: &UsageFile) -> Result<(), Memory>
-    ensures { OnOk result (body.new ≡ body.old ++ spec.fetched_text held.now file.now) }
+    ensures { OnOk result (body.new ≡ body.old ++ (codes "{\"fetched\":" ++ decimal held.now.fetched ++ codes ",\"hours\":" ++ decimal file.now.hours)) }
 {
     append_moment(body, held.fetched().seconds())?;
     append_hours(body, file.hours)
@@ -113,9 +114,9 @@ impl JsonRow for CachedFile {
 }
 
 /// The body that lists the files that are held, in the order of their URLs.
-#[tactic(auto, unfolding(crate::specs::Rows::files_body))]
+#[tactic(auto)]
 pub fn files_body(alloc: Global, files: &[CachedFile]) -> Result<Bytes, Memory>
-    ensures { IfOk result (λ body. body ≡ spec.files_body files.now) }
+    ensures { IfOk result (λ body. body ≡ listing_body spec.cached_text (codes "files") files.now) }
 {
     listing_body(alloc, b"files", files)
 }

@@ -1,6 +1,9 @@
 //! Why something is refused.
 ghost use Rattle.std.specs.Prelude.{◌≡◌, ◌++◌, OnOk, IfOk};
 ghost use Rattle.console_listings.specs.Refusals as spec;
+ghost use Rattle.desk_model.specs.declared.reply.Refusal.TheVariants.{Files};
+ghost use Rattle.console_bodies.specs.declared.fault.BodyFault.TheVariants as body_fault;
+ghost use Rattle.usage_tables.specs.declared.cache_fault.CacheFault.TheVariants.{File};
 
 use console_answers::{Status, append_quoted};
 use console_bodies::{BodyFault, Member};
@@ -65,9 +68,9 @@ fn append_url_member(body: &mut Bytes, fault: Option<UrlFault>) -> Result<(), Me
 }
 
 /// The body that says why a message is refused.
-#[tactic(auto, unfolding(crate::specs::Refusals::heard_fault_body))]
+#[tactic(auto, unfolding(crate::specs::Refusals::body_fault_body))]
 fn heard_fault_body(alloc: Global, fault: HearFault) -> Result<Bytes, Memory>
-    ensures { IfOk result (λ body. body ≡ spec.heard_fault_body fault) }
+    ensures { IfOk result (λ body. body ≡ spec.body_fault_body (body_fault.Heard fault)) }
 {
     let mut body = Bytes::new(alloc, b"{")?;
     append_offset(&mut body, fault.offset())?;
@@ -78,17 +81,17 @@ fn heard_fault_body(alloc: Global, fault: HearFault) -> Result<Bytes, Memory>
 }
 
 /// The body that names a rule alone.
-#[tactic(auto, unfolding(crate::specs::Refusals::json_body))]
+#[tactic(auto, unfolding(crate::specs::Refusals::body_fault_body))]
 fn json_body(alloc: Global) -> Result<Bytes, Memory>
-    ensures { IfOk result (λ body. body ≡ spec.json_body) }
+    ensures { IfOk result (λ body. body ≡ spec.body_fault_body body_fault.Json) }
 {
     Bytes::new(alloc, b"{\"rule\":\"json\"}")
 }
 
 /// The body that names a member.
-#[tactic(auto, unfolding(crate::specs::Refusals::member_body))]
+#[tactic(auto, unfolding(crate::specs::Refusals::body_fault_body))]
 fn member_body(alloc: Global, member: Member) -> Result<Bytes, Memory>
-    ensures { IfOk result (λ body. body ≡ spec.member_body member) }
+    ensures { IfOk result (λ body. body ≡ spec.body_fault_body (body_fault.Member member)) }
 {
     let mut body = Bytes::new(alloc, b"{\"member\":")?;
     append_quoted(&mut body, member.name().as_bytes())?;
@@ -122,9 +125,9 @@ fn book_body(alloc: Global, book: &[u8], number: u8, name: &str) -> Result<Bytes
 }
 
 /// The body that names the rule that a usage file breaks, and where.
-#[tactic(auto, unfolding(crate::specs::Refusals::broken_body))]
+#[tactic(auto, unfolding(crate::specs::Refusals::refusal_body))]
 fn broken_body(alloc: Global, broken: &Broken) -> Result<Bytes, Memory>
-    ensures { IfOk result (λ body. body ≡ spec.broken_body broken.now) }
+    ensures { IfOk result (λ body. body ≡ spec.refusal_body (Files (File broken.now))) }
 {
     let mut body = Bytes::new(alloc, b"{\"path\":")?;
     append_quoted(&mut body, broken.path.octets())?;
@@ -144,9 +147,9 @@ fn append_broken(body: &mut Bytes, broken: &Broken) -> Result<(), Memory>
 }
 
 /// The body of the answer to a usage file that is refused.
-#[tactic(auto, unfolding(crate::specs::Refusals::files_refusal_body))]
+#[tactic(auto, unfolding(crate::specs::Refusals::refusal_body))]
 fn files_refusal_body(alloc: Global, fault: &CacheFault) -> Result<Bytes, Memory>
-    ensures { IfOk result (λ body. body ≡ spec.files_refusal_body fault.now) }
+    ensures { IfOk result (λ body. body ≡ spec.refusal_body (Files fault.now)) }
 {
     match fault {
         CacheFault::File(broken) => broken_body(alloc, broken),

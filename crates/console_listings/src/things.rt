@@ -3,6 +3,9 @@ ghost use Rattle.std.specs.Prelude.{◌≡◌, ◌++◌, OnOk, IfOk, codes};
 ghost use Rattle.console_answers.specs.Texts.{url_text};
 ghost use Rattle.console_listings.specs.Texts.{truth_text, until_text};
 ghost use Rattle.console_listings.specs.Rows as spec;
+ghost use Rattle.mud_base.specs.Texts.{addr_text};
+ghost use Rattle.json.specs.Print.{quoted};
+ghost use Rattle.console_listings.specs.Lists.{listing_body};
 
 use crate::addresses::{append_address, append_mac};
 use crate::lists::{JsonRow, append_list, listing_body};
@@ -45,9 +48,9 @@ pub(crate) fn append_url_end(body: &mut Bytes, url: &MudUrl) -> Result<(), Memor
 }
 
 /// Adds an address with its expiry.
-#[tactic(auto, unfolding(crate::specs::Rows::expiring_of))]
+#[tactic(auto)]
 fn append_expiring(alloc: Global, body: &mut Bytes, address: Addr, until: End) -> Result<(), Memory>
-    ensures { OnOk result (body.new ≡ body.old ++ spec.expiring_of address until) }
+    ensures { OnOk result (body.new ≡ body.old ++ (codes "{\"address\":" ++ quoted (addr_text address) ++ spec.until_end until)) }
 {
     body.append(b"{\"address\":")?;
     append_address(alloc, body, address)?;
@@ -96,9 +99,9 @@ fn append_url(body: &mut Bytes, url: &Option<MudUrl>) -> Result<(), Memory>
 }
 
 /// Adds a Thing's last members.
-#[tactic(auto, unfolding(crate::specs::Rows::urls_text))]
+#[tactic(auto)]
 fn append_urls(body: &mut Bytes, pending: &Option<MudUrl>, url: &MudUrl) -> Result<(), Memory>
-    ensures { OnOk result (body.new ≡ body.old ++ spec.urls_text pending.now url.now) }
+    ensures { OnOk result (body.new ≡ body.old ++ (codes ",\"pending\":" ++ url_text pending.now ++ spec.url_end url.now)) }
 {
     body.append(b",\"pending\":")?;
     append_url(body, pending)?;
@@ -120,9 +123,9 @@ impl JsonRow for Thing {
 }
 
 /// The body that lists Things, in their order.
-#[tactic(auto, unfolding(crate::specs::Rows::things_body))]
+#[tactic(auto)]
 pub fn things_body(alloc: Global, things: &[Thing]) -> Result<Bytes, Memory>
-    ensures { IfOk result (λ body. body ≡ spec.things_body things.now) }
+    ensures { IfOk result (λ body. body ≡ listing_body spec.thing_text (codes "things") things.now) }
 {
     listing_body(alloc, b"things", things)
 }

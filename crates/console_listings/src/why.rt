@@ -1,5 +1,5 @@
 //! What decides a frame.
-ghost use Rattle.std.specs.Prelude.{◌≡◌, ◌++◌, OnOk, IfOk, option_map};
+ghost use Rattle.std.specs.Prelude.{◌≡◌, ◌++◌, OnOk, IfOk, option_map, codes, decimal};
 ghost use Rattle.json.specs.Print.{quoted};
 ghost use Rattle.desk_model.specs.Texts.Verdicts.{ruling_text, verdict_text};
 ghost use Rattle.console_listings.specs.Why as spec;
@@ -43,9 +43,9 @@ fn entry_number(ruling: Ruling) -> Option<u16>
 }
 
 /// Adds the names of an entry and of its list.
-#[tactic(auto, unfolding(crate::specs::Why::names_text))]
+#[tactic(auto)]
 fn append_names(body: &mut Bytes, entry: &Entry) -> Result<(), Memory>
-    ensures { OnOk result (body.new ≡ body.old ++ spec.names_text entry.now) }
+    ensures { OnOk result (body.new ≡ body.old ++ (codes "{\"ace\":" ++ quoted entry.now.name ++ codes ",\"acl\":" ++ quoted entry.now.acl)) }
 {
     body.append(b"{\"ace\":")?;
     append_quoted(body, entry.name.octets())?;
@@ -54,9 +54,9 @@ fn append_names(body: &mut Bytes, entry: &Entry) -> Result<(), Memory>
 }
 
 /// Adds the number of an entry.
-#[tactic(auto, unfolding(crate::specs::Why::number_text))]
+#[tactic(auto)]
 fn append_number(body: &mut Bytes, number: u16) -> Result<(), Memory>
-    ensures { OnOk result (body.new ≡ body.old ++ spec.number_text number) }
+    ensures { OnOk result (body.new ≡ body.old ++ (codes ",\"entry\":" ++ decimal number)) }
 {
     body.append(b",\"entry\":")?;
     append_decimal(body, u64::from(number))
@@ -124,18 +124,18 @@ fn append_side(
 }
 
 /// Adds the text of a verdict.
-#[tactic(auto, unfolding(crate::specs::Why::verdict_text_member))]
+#[tactic(auto)]
 fn append_verdict_text(body: &mut Bytes, text: &[u8]) -> Result<(), Memory>
-    ensures { OnOk result (body.new ≡ body.old ++ spec.verdict_text_member text.now) }
+    ensures { OnOk result (body.new ≡ body.old ++ (codes ",\"verdict\":" ++ quoted text.now)) }
 {
     body.append(b",\"verdict\":")?;
     append_quoted(body, text)
 }
 
 /// Adds the verdict.
-#[tactic(auto, unfolding(crate::specs::Why::verdict_member))]
+#[tactic(auto)]
 fn append_verdict_member(alloc: Global, body: &mut Bytes, verdict: &Verdict) -> Result<(), Memory>
-    ensures { OnOk result (body.new ≡ body.old ++ spec.verdict_member verdict.now) }
+    ensures { OnOk result (body.new ≡ body.old ++ (codes ",\"verdict\":" ++ quoted (verdict_text verdict.now))) }
 {
     let mut text = Bytes::empty(alloc);
     append_verdict(&mut text, verdict)?;

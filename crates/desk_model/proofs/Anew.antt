@@ -17,10 +17,10 @@ use Rattle.table_model.specs.ThingItems.{thing_fields, thing_item, first_thing_i
 use Rattle.table_model.specs.TakenItems.{all_taken, is_empty, have_none, with_item}
 use Rattle.table_model.proofs.ItemLaws.{thing_back, thing_alone}
 use Rattle.desk_model.specs.DeskTables.{DeskTables}
-use Rattle.desk_model.specs.Items.{KeptDesk, none_kept, with_desk_item, tables_in, in_second_version}
+use Rattle.desk_model.specs.Items.{KeptDesk, none_kept, tables_in, in_second_version}
 use Rattle.desk_model.proofs.Taking.{kept_by_taken, taken_by_kept}
 use Rattle.desk_model.proofs.ReadSound.{read_from}
-use Rattle.desk_model.proofs.Parts.{kept_in, desk_in}
+use Rattle.desk_model.proofs.Parts.{kept_in, desk_in, with_desk_item}
 
 not_both : (o : Option (ℕ × List ℕ)) (x y : ℕ × List ℕ) → o ≡ Some x → o ≡ Some y → x.0 ≡ 2 → y.0 ≡ 1 → ⊥
 not_both o x y e f two one = let g : x.0 ≡ y.0 = ap (λ (v : ℕ × List ℕ). v.0) (some_is x y (sym e ∙ f)) in omega (arith, g, two, one)
@@ -60,7 +60,7 @@ module _ (item : Item) (octets : IsOctets item.body) where
   -- ---- Taking it
 
   taken_thing : (kept : KeptDesk) (i : Item) → i.kind ≡ 1 → with_desk_item kept i ≡ cond (is_empty kept.files && have_none kept.binds && is_none kept.stamp) (option_map (λ (things : List Thing). record kept { things = things }) (with_thing_item kept.things i)) None
-  unfolding with_desk_item with_item
+  unfolding with_item
   taken_thing kept i e = rw e refl
 
   thing_kind : (thing : Thing) → (thing_item thing).kind ≡ 1

@@ -24,7 +24,7 @@ use Rattle.usage_tables.specs.declared.approval.OperatorVerdict.TheVariants as v
 use Rattle.usage_tables.specs.declared.cached_file.CachedFile.{CachedFile}
 use Rattle.usage_tables.specs.Held.{held_file, usage_in, digest_of}
 use Rattle.usage_tables.specs.Files.{url_of, file_at, set_file, without_file, new_file, with_candidate, with_approved, entries_of, approved_entries, entry_count}
-use Rattle.usage_tables.specs.FileCommands.{approved_again, beside_approved, beside_candidate, import_cases, import_step, approved_row, approve, ruled, candidate_cases, is_verdict, is_ruled, verdict_cases, verdict_step, left_with, approved_cases, revoke_cases, revoke_step}
+use Rattle.usage_tables.specs.FileCommands.{approved_again, beside_approved, beside_candidate, import_cases, import_step, approved_row, approve, ruled, candidate_cases, is_verdict, is_ruled, verdict_cases, verdict_step, left_with, approved_cases, revoke_step}
 use Rattle.desk_model.specs.declared.command.Command.TheVariants.{HearUrl, HearLease, Move, Remove, Hold, Release, Lease, EndLease, Import, Verdict, Revoke, Bind, Unbind, Locals, Observe}
 use Rattle.desk_model.specs.declared.reply.Outcome.{Outcome}
 use Rattle.desk_model.specs.declared.reply.Refusal.TheVariants.{Things, Files, Binds}
@@ -40,7 +40,7 @@ desk_compute = tt
 
 -- the files' steps
 unfoldable files_compute : Unit {0}
-unfolding desk_compute entries_of approved_entries entry_count usage_in approved_again beside_approved beside_candidate import_cases import_step approved_row approve ruled candidate_cases is_verdict is_ruled verdict_cases verdict_step without_file left_with approved_cases revoke_cases revoke_step
+unfolding desk_compute entries_of approved_entries entry_count usage_in approved_again beside_approved beside_candidate import_cases import_step approved_row approve ruled candidate_cases is_verdict is_ruled verdict_cases verdict_step without_file left_with approved_cases revoke_step
 files_compute = tt
 
 -- a list changes

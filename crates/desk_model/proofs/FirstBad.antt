@@ -2,9 +2,9 @@
 use Rattle.std.proofs.Common.{◌≡◌, List, [], ◌∷◌, ◌++◌, Option, Some, None, Result, Ok, Err, refl, ap, ◌∙◌}
 use Rattle.std.specs.Prelude.{IsOk}
 use Rattle.mud_world.specs.declared.item.Item.{Item}
-use Rattle.desk_model.specs.Items.{KeptDesk, none_kept, with_desk_item, tables_in, IsFirstBad}
+use Rattle.desk_model.specs.Items.{KeptDesk, none_kept, tables_in, IsFirstBad}
 use Rattle.desk_model.proofs.Taking.{kept_behind}
-use Rattle.desk_model.proofs.Parts.{kept_in, desk_in}
+use Rattle.desk_model.proofs.Parts.{kept_in, desk_in, with_desk_item}
 
 abbrev refused : Item → Result KeptDesk Item
 refused item = Err item

@@ -5,21 +5,21 @@ use Rattle.mud_url.specs.Url.{is_canonical}
 use Rattle.mud_url.proofs.OnLiterals.{url_on_literals}
 use Rattle.table_model.specs.declared.thing.Thing.{Thing}
 use Rattle.table_model.specs.Expiries.{are_ascending, have_expiries}
-use Rattle.table_model.specs.Things.{may_wait, are_leases, is_sound_thing, IsKeptThing}
+use Rattle.table_model.specs.Things.{may_wait, is_sound_thing, IsKeptThing}
 use Rattle.table_model.specs.Tables.{binds_of}
-use Rattle.table_model.specs.ThingItems.{thing_item, thing_items, first_thing_item, item_anew, in_second, is_taken, may_follow, with_thing_item}
+use Rattle.table_model.specs.ThingItems.{thing_item, thing_items, first_thing_item, item_anew, in_second, may_follow, with_thing_item}
 use Rattle.table_model.specs.BindItems.{locals_items, stamp_item, stamp_items, with_stamp_item}
 use Rattle.table_model.specs.TakenItems.{no_binds, bind_items, have_none, with_item}
 use Rattle.table_model.proofs.ItemLaws.{first_thing_back, stamp_back}
 use Rattle.table_model.proofs.Literals.{expiries_compute, bulb_url, bare_bulb}
 use Rattle.usage_tables.specs.FileItems.{file_items}
 use Rattle.desk_model.specs.DeskTables.{DeskTables}
-use Rattle.desk_model.specs.Items.{items_of, KeptDesk, none_kept, desk_of, with_desk_item, tables_in}
+use Rattle.desk_model.specs.Items.{items_of, KeptDesk, none_kept, desk_of, tables_in}
 use Rattle.desk_model.proofs.Taking.{kept_behind, take_thing, take_stamp}
-use Rattle.desk_model.proofs.Parts.{desk_in}
+use Rattle.desk_model.proofs.Parts.{desk_in, with_desk_item}
 
 unfoldable kept_compute : Unit {0}
-unfolding expiries_compute binds_of thing_items is_taken may_follow with_thing_item locals_items stamp_items with_stamp_item no_binds bind_items have_none with_item file_items items_of none_kept desk_of with_desk_item tables_in
+unfolding expiries_compute binds_of thing_items may_follow with_thing_item locals_items stamp_items with_stamp_item no_binds bind_items have_none with_item file_items items_of none_kept desk_of tables_in
 kept_compute = tt
 
 canonical : is_canonical bulb_url ≡ true
@@ -27,7 +27,7 @@ unfolding url_on_literals
 canonical = refl
 
 kept_bulb : IsKeptThing bare_bulb
-unfolding expiries_compute may_wait are_leases is_sound_thing are_ascending have_expiries
+unfolding expiries_compute may_wait is_sound_thing are_ascending have_expiries
 kept_bulb = record { sound = rw canonical refl; fits = record { mac = refl; url = lit< tt; pending = tt; leases = record { few = lit< tt; each = tt } } }
 
 abbrev one_bulb : DeskTables

@@ -21,11 +21,11 @@ use Rattle.usage_tables.specs.FileItems.{file_item, file_items, with_file_item}
 use Rattle.usage_tables.proofs.ItemLaws.{file_back}
 use Rattle.usage_tables.proofs.ReadFiles.{behind-sound}
 use Rattle.desk_model.specs.DeskTables.{DeskTables, IsStamp, IsSound}
-use Rattle.desk_model.specs.Items.{KeptDesk, none_kept, desk_of, with_desk_item, items_of, tables_in}
+use Rattle.desk_model.specs.Items.{KeptDesk, none_kept, desk_of, items_of, tables_in}
 use Rattle.desk_model.proofs.Taking.{kept_by_taken, all_taken-append, taken_within, take_thing, take_file, take_bind, take_stamp}
 use Rattle.base_rows.proofs.Lists.{all-append}
 use Rattle.table_model.proofs.Parts.{class_items, name_items}
-use Rattle.desk_model.proofs.Parts.{desk_in}
+use Rattle.desk_model.proofs.Parts.{desk_in, with_desk_item}
 
 -- ---- Files
 

@@ -25,9 +25,9 @@ use Rattle.usage_tables.specs.FileItems.{file_item, file_items, file_in, IsFileI
 use Rattle.usage_tables.proofs.ItemLaws.{file_alone}
 use Rattle.usage_tables.proofs.ReadFiles.{sound-push}
 use Rattle.desk_model.specs.DeskTables.{DeskTables, IsSound, empty_desk}
-use Rattle.desk_model.specs.Items.{KeptDesk, none_kept, desk_of, with_desk_item, items_of, tables_in, in_second_version}
+use Rattle.desk_model.specs.Items.{KeptDesk, none_kept, desk_of, items_of, tables_in, in_second_version}
 use Rattle.desk_model.proofs.Taking.{taken_by_kept, unequal}
-use Rattle.desk_model.proofs.Parts.{kept_in, desk_in}
+use Rattle.desk_model.proofs.Parts.{kept_in, desk_in, with_desk_item}
 
 -- ---- Small steps
 
@@ -195,7 +195,7 @@ module _ (kept : KeptDesk) (item : Item) (sound : IsSound (desk_of kept)) (octet
       subst (λ k. IsOneMore kept item k) m.2 (stamp_more m.0 (unequal item.kind 1 (λ f. omega (arith, kind, f)) (item.kind == 1) refl) m.1)
 
   one_more : (after : KeptDesk) → with_desk_item kept item ≡ Some after → IsOneMore kept item after
-  unfolding with_desk_item with_item is_thing is_file is_bind is_last
+  unfolding with_item is_thing is_file is_bind is_last
   one_more after e =
       let things : Option KeptDesk = option_map (λ (things : List Thing). record kept { things = things }) (with_thing_item kept.things item) in
       let files : Option KeptDesk = option_map (λ (files : List CachedFile). record kept { files = files }) (with_file_item kept.files item) in

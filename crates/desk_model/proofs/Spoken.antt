@@ -15,7 +15,7 @@ use Rattle.table_model.specs.declared.bind_fault.BindFault.{BindFault}
 use Rattle.table_model.specs.Expiries.{expiry_of}
 use Rattle.table_model.specs.Things.{thing_at}
 use Rattle.table_model.specs.Binds.{Binds, class_at, name_at, prefixes_in_order}
-use Rattle.table_model.specs.ThingCommands.{ThingStep, is_pending, url_cases, url_step, move_cases, move_step, remove_cases, remove_step, hold_cases, hold_step, release_cases, release_step, expiry_after, kept_lease, new_lease, known_lease, stranger_lease, lease_cases, lease_step, end_step}
+use Rattle.table_model.specs.ThingCommands.{ThingStep, is_pending, url_cases, url_step, move_cases, move_step, remove_step, hold_cases, hold_step, release_cases, release_step, expiry_after, kept_lease, new_lease, known_lease, stranger_lease, lease_cases, lease_step, end_step}
 use Rattle.table_model.specs.BindCommands.{ClassStep, LocalStep, NameStep, BindStep, bind_step, unbind_step, locals_step, addrs_of, least_dead, replacing, new_pair, kept_pair, observe_row, observe_step, with_classes, bind_class_step, unbind_class_step, set_locals_step, observe_name_step}
 use Rattle.table_model.specs.Tables.{binds_of}
 use Rattle.usage_tables.specs.declared.approval.Approval.{Approval}
@@ -25,14 +25,14 @@ use Rattle.usage_tables.specs.declared.approval.Approval.TheVariants as approval
 use Rattle.usage_tables.specs.declared.cached_file.CachedFile.{CachedFile}
 use Rattle.usage_tables.specs.Held.{HeldFile, held_file}
 use Rattle.usage_tables.specs.Files.{file_at}
-use Rattle.usage_tables.specs.FileCommands.{FileStep, candidate_again, approved_again, new_candidate, beside_approved, beside_candidate, import_cases, import_step, approve, ruled, candidate_cases, verdict_cases, verdict_step, approved_cases, revoke_cases, revoke_step}
+use Rattle.usage_tables.specs.FileCommands.{FileStep, candidate_again, approved_again, new_candidate, beside_approved, beside_candidate, import_cases, import_step, approve, ruled, candidate_cases, verdict_cases, verdict_step, approved_cases, revoke_step}
 use Rattle.desk_model.specs.declared.command.Command.{Command}
 use Rattle.desk_model.specs.declared.command.Command.TheVariants.{HearUrl, HearLease, Move, Remove, Hold, Release, Lease, EndLease, Import, Verdict, Revoke, Bind, Unbind, Locals, Observe}
 use Rattle.desk_model.specs.DeskTables.{DeskTables}
 use Rattle.desk_model.specs.Refusals.{is_thing_memory, is_file_memory, is_bind_memory, is_want_of_memory}
 use Rattle.desk_model.specs.Commands.{DeskStep, by_things, by_files, by_binds, command_step}
-use Rattle.table_model.proofs.Parts.{bind_cases, unbind_cases, locals_cases, observe_cases, with_locals, with_names}
-use Rattle.usage_tables.proofs.Parts.{import_read}
+use Rattle.table_model.proofs.Parts.{bind_cases, unbind_cases, locals_cases, observe_cases, with_locals, with_names, remove_cases}
+use Rattle.usage_tables.proofs.Parts.{import_read, revoke_cases}
 
 -- where the step is refused, it isn't by want of memory
 record IsSpoken {A F : Type 0} (memory : F → Bool) (step : Result A F) : Type 0 where
@@ -66,7 +66,6 @@ move_says url things None = by _ refl
 move_says url things (Some thing) = either (bytes_eq url thing.url) _ _ (fine _) (either (is_pending url thing.pending) _ _ (fine _) (by _ refl))
 
 remove_says : (mac : Mac) (things : List Thing) (found : Option Thing) → SaysThing (remove_cases mac things found)
-unfolding remove_cases
 remove_says mac things None = by _ refl
 remove_says mac things (Some thing) = fine _
 
@@ -148,7 +147,6 @@ revoked_says url files row None = by _ refl
 revoked_says url files row (Some approved) = fine _
 
 revoke_says : (url : List ℕ) (files : List CachedFile) (found : Option CachedFile) → SaysFile (revoke_cases url files found)
-unfolding revoke_cases
 revoke_says url files None = by _ refl
 revoke_says url files (Some row) = revoked_says url files row row.approved
 

@@ -13,8 +13,8 @@ use Rattle.table_model.specs.BindItems.{with_stamp_item}
 use Rattle.table_model.specs.TakenItems.{all_taken, no_binds, have_none, with_bind_item, with_item}
 use Rattle.usage_tables.specs.declared.cached_file.CachedFile.{CachedFile}
 use Rattle.usage_tables.specs.FileItems.{with_file_item}
-use Rattle.desk_model.specs.Items.{KeptDesk, with_desk_item}
-use Rattle.desk_model.proofs.Parts.{kept_in}
+use Rattle.desk_model.specs.Items.{KeptDesk}
+use Rattle.desk_model.proofs.Parts.{kept_in, with_desk_item}
 pub use Rattle.table_model.proofs.TakenLaws.{all_taken-append}
 
 -- ---- All items are taken where none of them is the first that can't be
@@ -58,15 +58,15 @@ unequal a b other false e = e
 
 module _ (item : Item) where
   pub take_thing : item.kind ≡ 1 → (things : List Thing) → with_desk_item (record { things = things; files = []; binds = no_binds; stamp = None }) item ≡ option_map (λ (x : List Thing). record { things = x; files = []; binds = no_binds; stamp = None }) (with_thing_item things item)
-  unfolding with_desk_item with_item have_none no_binds
+  unfolding with_item have_none no_binds
   take_thing e things = rw e refl
 
   pub take_file : item.kind ≡ 2 → (things : List Thing) (files : List CachedFile) → with_desk_item (record { things = things; files = files; binds = no_binds; stamp = None }) item ≡ option_map (λ (x : List CachedFile). record { things = things; files = x; binds = no_binds; stamp = None }) (with_file_item files item)
-  unfolding with_desk_item with_item have_none no_binds
+  unfolding with_item have_none no_binds
   take_file e things files = rw e refl
 
   pub take_bind : 2 < item.kind → item.kind < 6 → (things : List Thing) (files : List CachedFile) (binds : Binds) → with_desk_item (record { things = things; files = files; binds = binds; stamp = None }) item ≡ option_map (λ (x : Binds). record { things = things; files = files; binds = x; stamp = None }) (with_bind_item binds item)
-  unfolding with_desk_item with_item
+  unfolding with_item
   take_bind low high things files binds =
       let not_thing : (item.kind == 1) ≡ false = unequal item.kind 1 (λ e. omega (arith, low)) (item.kind == 1) refl in
       let not_file : (item.kind == 2) ≡ false = unequal item.kind 2 (λ e. omega (arith, low)) (item.kind == 2) refl in
@@ -75,5 +75,5 @@ module _ (item : Item) where
       rw (not_thing, not_file, above, below) refl
 
   pub take_stamp : item.kind ≡ 6 → (things : List Thing) (files : List CachedFile) (binds : Binds) (stamp : Option ℕ) → with_desk_item (record { things = things; files = files; binds = binds; stamp = stamp }) item ≡ option_map (λ (x : ℕ). record { things = things; files = files; binds = binds; stamp = Some x }) (with_stamp_item stamp item)
-  unfolding with_desk_item with_item
+  unfolding with_item
   take_stamp e things files binds stamp = rw e refl

@@ -28,10 +28,6 @@ none_kept = record { things = []; files = []; binds = no_binds; stamp = None }
 unfoldable pub desk_of : KeptDesk → DeskTables
 desk_of kept = record { tables = record { things = kept.things; classes = kept.binds.classes; locals = kept.binds.locals; names = kept.binds.names }; files = kept.files; stamp = kept.stamp }
 
--- what is kept with that of the item, where it is a record that may stand behind those before it
-unfoldable pub with_desk_item : KeptDesk → Item → Option KeptDesk
-with_desk_item kept item = with_item with_file_item is_empty kept item
-
 -- the desk that is kept in the items, which stand in the keeper's order, or the first of them that is no record
 unfoldable pub tables_in : List Item → Result DeskTables Item
 tables_in items = desk_in (kept_in none_kept items)
@@ -39,7 +35,7 @@ tables_in items = desk_in (kept_in none_kept items)
     -- what is kept of the items behind those taken, or the first of them that is no record
     kept_in : KeptDesk → List Item → Result KeptDesk Item
     kept_in kept [] = Ok kept
-    kept_in kept (item ∷ items) = elim (with_desk_item kept item) [ Some next ↦ kept_in next items | None ↦ Err item ]
+    kept_in kept (item ∷ items) = elim (with_item with_file_item is_empty kept item) [ Some next ↦ kept_in next items | None ↦ Err item ]
 
     desk_in : Result KeptDesk Item → Result DeskTables Item
     desk_in (Ok kept) = Ok (desk_of kept)

@@ -30,10 +30,6 @@ yiaddr_offset = 16
 abbrev pub chaddr_offset : ℕ
 chaddr_offset = 28
 
--- the magic cookie, with which the field options begins, and the first option (section 3)
-abbrev pub cookie_offset : ℕ
-cookie_offset = 236
-
 abbrev pub options_offset : ℕ
 options_offset = 240
 
@@ -51,9 +47,10 @@ is_ethernet message = slice_index message htype_offset == 1 && slice_index messa
 -- the octets 99, 130, 83 and 99 (section 3)
 unfoldable pub has_cookie : List ℕ → Bool
 has_cookie message = bytes_eq (octets_at 4 cookie_offset message) (99 ∷ 130 ∷ 83 ∷ 99 ∷ [])
-
-unfoldable pub yiaddr_of : List ℕ → ℕ
-yiaddr_of message = big_32 yiaddr_offset message
+  where
+    -- the magic cookie, with which the field options begins, and the first option (section 3)
+    cookie_offset : ℕ
+    cookie_offset = 236
 
 unfoldable pub options_of : List ℕ → Listing DhcpOption
 options_of message = listing 0 options_offset (drop options_offset message)
@@ -80,6 +77,9 @@ unfoldable pub said : List ℕ → Contents → Result Heard HearFault
 said message contents =
     if is_request message then announced (mac_at chaddr_offset message) contents.mud_url
     else (if is_reply message then Ok (granted (mac_at chaddr_offset message) (yiaddr_of message) contents) else Ok Nothing)
+  where
+    yiaddr_of : List ℕ → ℕ
+    yiaddr_of message = big_32 yiaddr_offset message
 
 unfoldable pub heard_of : List ℕ → Result Heard HearFault
 heard_of message = unless (rows message) (said message (contents_of (options_of message).whole))

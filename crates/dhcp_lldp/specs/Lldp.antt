@@ -11,17 +11,17 @@ use Rattle.dhcp_lldp.specs.Mud.{announced}
 use Rattle.dhcp_lldp.specs.Listings.{Listing}
 use Rattle.dhcp_lldp.specs.Tlvs.{Tlv, listing, tlv_fault, mud_string_of}
 
--- The TLVs stand behind the head of an Ethernet frame (clause 7). The type of LLDP is 88-CC, and a source has an address of its
--- own.
-unfoldable pub is_lldp : List ℕ → Bool
-is_lldp frame = big_16 type_offset frame == 0x88CC && not (is_group_at source_offset frame)
-
 unfoldable pub tlvs_of : List ℕ → Listing Tlv
 tlvs_of frame = listing 0 head_len (drop head_len frame)
 
 unfoldable pub lldp_of : List ℕ → Result Heard HearFault
 lldp_of frame = unless (rows frame) (announced (mac_at source_offset frame) (mud_string_of (tlvs_of frame).whole))
   where
+    -- The TLVs stand behind the head of an Ethernet frame (clause 7). The type of LLDP is 88-CC, and a source has an address of its
+    -- own.
+    is_lldp : List ℕ → Bool
+    is_lldp frame = big_16 type_offset frame == 0x88CC && not (is_group_at source_offset frame)
+
     -- the table of faults, in its order
     rows : List ℕ → List (Option HearFault)
     rows frame =

@@ -1,6 +1,7 @@
 //! DHCPv4 messages (RFC 2131).
 ghost use Rattle.std.specs.Prelude.{◌≡◌, ◌≤◌, length, option_copied};
-ghost use Rattle.dhcp_lldp.specs.Dhcp.{heard_of, is_request, is_reply, is_ethernet, has_cookie, yiaddr_of, is_ack, seconds_of, granted, said};
+ghost use Rattle.dhcp_lldp.specs.Dhcp.{heard_of, is_request, is_reply, is_ethernet, has_cookie, is_ack, seconds_of, granted, said, yiaddr_offset};
+ghost use Rattle.mud_base.specs.Numbers.{big_32};
 
 use crate::contents::Contents;
 use crate::heard::{HearFault, Heard};
@@ -77,10 +78,10 @@ fn has_cookie(message: &[u8]) -> bool
     octets_at(message, COOKIE_OFFSET) == COOKIE
 }
 
-#[tactic(auto, unfolding(crate::specs::Dhcp::yiaddr_of))]
+#[tactic(auto)]
 fn yiaddr(message: &[u8]) -> u32
     requires { 240 ≤ length message.now }
-    ensures { result ≡ yiaddr_of message.now }
+    ensures { result ≡ big_32 yiaddr_offset message.now }
 {
     big_32(message, YIADDR_OFFSET)
 }

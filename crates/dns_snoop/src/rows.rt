@@ -1,8 +1,10 @@
 //! The rows of the answers: addresses, each with its seconds.
-ghost use Rattle.std.specs.Prelude.{◌≡◌, ◌+◌, ◌≤◌, ◌≢◌, ◌⊎◌, IfSome, IsTrue, OnOk, ◌++◌, ◌∷◌, [], length, None};
+ghost use Rattle.std.specs.Prelude.{◌≡◌, ◌+◌, ◌≤◌, ◌≢◌, ◌⊎◌, IfSome, IsTrue, OnOk, ◌++◌, ◌∷◌, [], length, None, ◌==◌, if◌then◌else◌};
 ghost use Rattle.dns_snoop.specs.Records as spec;
 ghost use Rattle.dns_snoop.specs.Records.{records_from, class_in, type_a, type_aaaa};
 ghost use Rattle.dns_snoop.specs.Rows.{Answered, collected, bound_with, row_if, alias_after, least_after};
+ghost use Rattle.mud_base.specs.declared.addr.Addr.TheVariants.{V6, V4};
+ghost use Rattle.mud_base.specs.Numbers.{big_32, big_128};
 
 use crate::answer::{A, CNAME, IN, Record, read_record};
 use crate::fault::DnsFault;
@@ -66,7 +68,7 @@ fn least_after(answer: &Record, alias: &ShortText, least: Option<u32>) -> Option
 fn address_in(message: &[u8], answer: &Record) -> Addr
     requires four { answer.now.kind ≡ type_a → answer.now.offset + 4 ≤ length message.now }
     requires sixteen { answer.now.kind ≢ 1 → answer.now.offset + 16 ≤ length message.now }
-    ensures { result ≡ spec.address_in message.now answer.now }
+    ensures { result ≡ if answer.now.kind == type_a then V4 (big_32 answer.now.offset message.now) else V6 (big_128 answer.now.offset message.now) }
 {
     if answer.kind == A {
         return Addr::V4(big_32(message, answer.offset));

@@ -16,7 +16,7 @@ use Rattle.drop_ledger.specs.Counted.{count_of, numbered, count_rows, is_of, tho
 use Rattle.drop_ledger.specs.declared.seen.Seen.{Seen}
 use Rattle.mud_base.specs.Directions.{side_number}
 use Rattle.drop_ledger.specs.SortKeys.{six, thing_sort_key, ruling_class, entry_number, ruling_sort_key, port_number, peer_sort_key, sort_key_of_count, sort_key_of_denied, sort_key_of_other, with_count, with_denied, with_other}
-use Rattle.drop_ledger.specs.Seen.{hour_of, mac_on, ruling_on, ruled_on, rulings, is_unmanaged, is_link, is_unreadable, is_governed, has_both, totals_in}
+use Rattle.drop_ledger.specs.Seen.{hour_of, mac_on, ruling_on, ruled_on, rulings, is_governed, has_both, totals_in}
 use Rattle.drop_ledger.specs.Ledger.{count_row, counts_of, port_of, peer_row, denied_row, denials, denied_kinds, hour_in}
 
 unfoldable pub bulb : Mac
@@ -67,7 +67,7 @@ unfolding bulb gateway opening asking hour mac_on ruling_on ruled_on rulings cou
 others_of_the_hour = refl
 
 totals_of_the_hour : totals_in hour ≡ record { packets = 3; unmanaged = 0; link = 0; unreadable = 0; pass = 2; drop = 1; both = 0 }
-unfolding hour totals_in is_unmanaged is_link is_unreadable is_governed has_both accepts forwarded
+unfolding hour totals_in is_governed has_both accepts forwarded
 totals_of_the_hour = refl
 
 -- A packet between two Things, which the sender's file allows and the receiver's doesn't.
@@ -87,7 +87,7 @@ unfolding bulb switch between crossing mac_on ruling_on ruled_on rulings count_o
 denied_to_the_second = refl
 
 totals_of_both : totals_in crossing ≡ record { packets = 1; unmanaged = 0; link = 0; unreadable = 0; pass = 0; drop = 1; both = 1 }
-unfolding crossing totals_in is_unmanaged is_link is_unreadable is_governed has_both accepts forwarded
+unfolding crossing totals_in is_governed has_both accepts forwarded
 totals_of_both = refl
 
 totals_of_none : totals_in [] ≡ record { packets = 0; unmanaged = 0; link = 0; unreadable = 0; pass = 0; drop = 0; both = 0 }

@@ -32,7 +32,7 @@ use Rattle.mud_base.specs.Directions.{side_number}
 use Rattle.drop_ledger.specs.SortKeys.{six, thing_sort_key, ruling_sort_key, ruling_class, entry_number, peer_sort_key, sort_key_of_count, sort_key_of_denied, sort_key_of_other, count_of_row, denied_count, other_count, with_count}
 use Rattle.drop_ledger.specs.RowTypes.{count_stays, count_told, denied_stays, denied_told, other_stays, other_told}
 use Rattle.drop_ledger.specs.Seen.{hour_of, mac_on, ruling_on, ruled_on, rulings, is_governed, has_both, HasFields, HasThing, is_ruled}
-use Rattle.drop_ledger.specs.Ledger.{count_row, counts_of, times_of, peer_row, denied_row, denials, other_row, denied_kinds, hour_in, times_ruled}
+use Rattle.drop_ledger.specs.Ledger.{count_row, counts_of, times_of, peer_row, denied_row, denials, denied_kinds, hour_in, times_ruled}
 use Rattle.drop_ledger.proofs.SortKeyOrder.{front, length-six, length-thing_sort_key, same_length}
 use Rattle.drop_ledger.proofs.Parts.{ruled, rulings_in, passes, drops, verdicts, row_with, row_by}
 
@@ -59,7 +59,7 @@ unfolding sort_key_of_denied
 denied_begins r = front 7 (thing_sort_key r.mac r.side) (peer_sort_key r.peer r.protocol r.port) (length-thing_sort_key r.mac r.side)
 
 pub denied_are_kinds : AreKinds denied_kinds
-unfolding sort_key_of_denied sort_key_of_other other_row
+unfolding sort_key_of_denied sort_key_of_other
 denied_are_kinds = record {
   long = λ r. let sum : length (thing_sort_key r.mac r.side ++ peer_sort_key r.peer r.protocol r.port) ≡ length (thing_sort_key r.mac r.side) + length (peer_sort_key r.peer r.protocol r.port) = length-append (thing_sort_key r.mac r.side) (peer_sort_key r.peer r.protocol r.port) in
       let seven : length (thing_sort_key r.mac r.side) ≡ 7 = length-thing_sort_key r.mac r.side in omega arith;

@@ -1,5 +1,5 @@
 -- Parts of definitions that lemmas speak of.
-use Rattle.std.specs.Prelude.{ℕ, List, [], filter, not, ◌∷◌, take, Bool, map, None, Option, Some, option_to_list, ◌++◌, ◌&&◌, length}
+use Rattle.std.specs.Prelude.{ℕ, List, [], filter, not, ◌∷◌, take, Bool, map, None, Option, Some, option_to_list, ◌++◌, ◌&&◌, length, false, true}
 use Rattle.drop_ledger.specs.Counted.{SortKey, those_of, Kinds, is_first}
 use Rattle.base_rows.specs.Sortable.{same_sort_key}
 use Rattle.std.specs.List.{list_any}
@@ -17,6 +17,8 @@ use Rattle.drop_ledger.specs.Seen.{mac_on, ruled_on, is_governed}
 use Rattle.mud_base.specs.declared.packet.Direction.TheVariants.{From, To}
 use Rattle.packet_judge.specs.declared.verdict.Verdict.{Verdict}
 use Rattle.packet_judge.specs.Verdicts.{forwarded}
+use Rattle.drop_ledger.specs.declared.rows.OtherRow.{OtherRow}
+use Rattle.packet_judge.specs.declared.verdict.Verdict.TheVariants.{Governed, Link, Unmanaged, Unreadable}
 
 abbrev pub firsts : List SortKey → List SortKey
 firsts [] = []
@@ -57,3 +59,24 @@ drops verdict = is_governed verdict && not (forwarded verdict)
 
 abbrev pub verdicts : (Verdict → Bool) → List Seen → ℕ
 verdicts test all = length (filter (λ s. test s.verdict) all)
+
+abbrev pub other_row : DeniedRow → OtherRow
+other_row r = record { mac = r.mac; side = r.side; count = 0 }
+
+abbrev pub is_unmanaged : Verdict → Bool
+is_unmanaged Unmanaged = true
+is_unmanaged Link = false
+is_unmanaged (Unreadable part) = false
+is_unmanaged (Governed source destination) = false
+
+abbrev pub is_link : Verdict → Bool
+is_link Unmanaged = false
+is_link Link = true
+is_link (Unreadable part) = false
+is_link (Governed source destination) = false
+
+abbrev pub is_unreadable : Verdict → Bool
+is_unreadable Unmanaged = false
+is_unreadable Link = false
+is_unreadable (Unreadable part) = true
+is_unreadable (Governed source destination) = false

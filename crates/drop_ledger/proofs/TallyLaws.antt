@@ -13,11 +13,11 @@ use Rattle.drop_ledger.specs.declared.rows.OtherRow.{OtherRow}
 use Rattle.drop_ledger.specs.declared.seen.Seen.{Seen}
 use Rattle.drop_ledger.specs.declared.seen.Ruled.{Ruled}
 use Rattle.drop_ledger.specs.declared.totals.Totals.{Totals}
-use Rattle.drop_ledger.specs.Seen.{hour_of, mac_on, ruling_on, ruled_on, rulings, is_unmanaged, is_link, is_unreadable, is_governed, has_both, totals_in, AreSums, is_ruled}
+use Rattle.drop_ledger.specs.Seen.{hour_of, mac_on, ruling_on, ruled_on, rulings, is_governed, has_both, totals_in, AreSums, is_ruled}
 use Rattle.drop_ledger.specs.Steps.{governed_after, totals_after}
 use Rattle.drop_ledger.specs.Ledger.{counts_of, AreDenied, TallyState, hour_in, StandsFor, MayFollow, times_ruled}
 use Rattle.drop_ledger.proofs.LedgerLaws.{verdicts_first, no_verdicts, rulings_more, ruled_few, received_few}
-use Rattle.drop_ledger.proofs.Parts.{ruled, passes, drops, verdicts}
+use Rattle.drop_ledger.proofs.Parts.{ruled, passes, drops, verdicts, is_unmanaged, is_link, is_unreadable}
 
 -- ---- Totals
 
@@ -44,7 +44,7 @@ abbrev counted : Totals → Verdict → Totals
 counted t v = totals (t.packets + 1) (t.unmanaged + cond (is_unmanaged v) 1 0) (t.link + cond (is_link v) 1 0) (t.unreadable + cond (is_unreadable v) 1 0) (t.pass + cond (passes v) 1 0) (t.drop + cond (drops v) 1 0) (t.both + cond (has_both v) 1 0)
 
 counted_is : (t : Totals) (v : Verdict) → counted t v ≡ totals_after t v
-unfolding totals_after governed_after is_unmanaged is_link is_unreadable is_governed has_both
+unfolding totals_after governed_after is_governed has_both
 counted_is t Unmanaged = λ i. totals (t.packets + 1) (t.unmanaged + 1) (add-zero t.link i) (add-zero t.unreadable i) (add-zero t.pass i) (add-zero t.drop i) (add-zero t.both i)
 counted_is t Link = λ i. totals (t.packets + 1) (add-zero t.unmanaged i) (t.link + 1) (add-zero t.unreadable i) (add-zero t.pass i) (add-zero t.drop i) (add-zero t.both i)
 counted_is t (Unreadable part) = λ i. totals (t.packets + 1) (add-zero t.unmanaged i) (add-zero t.link i) (t.unreadable + 1) (add-zero t.pass i) (add-zero t.drop i) (add-zero t.both i)

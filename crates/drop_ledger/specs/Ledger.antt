@@ -70,11 +70,8 @@ denied_row r = row_by r.ruling r
 unfoldable pub denials : List Ruled → List DeniedRow
 denials done = filter_map denied_row done
 
-unfoldable pub other_row : DeniedRow → OtherRow
-other_row r = record { mac = r.mac; side = r.side; count = 0 }
-
 abbrev pub denied_kinds : Kinds DeniedRow OtherRow
-denied_kinds = kinds sort_key_of_denied with_denied sort_key_of_other with_other other_row thing_len most_peers
+denied_kinds = kinds sort_key_of_denied with_denied sort_key_of_other with_other (λ (r : DeniedRow). record { mac = r.mac; side = r.side; count = 0 }) thing_len most_peers
   where
     -- so many peers, protocols and ports of a Thing and side have rows of their own
     most_peers : ℕ

@@ -47,24 +47,6 @@ is_ruled s = is_some (ruled_on s From) || is_some (ruled_on s To)
 
 -- ---- Totals
 
-unfoldable pub is_unmanaged : Verdict → Bool
-is_unmanaged Unmanaged = true
-is_unmanaged Link = false
-is_unmanaged (Unreadable part) = false
-is_unmanaged (Governed source destination) = false
-
-unfoldable pub is_link : Verdict → Bool
-is_link Unmanaged = false
-is_link Link = true
-is_link (Unreadable part) = false
-is_link (Governed source destination) = false
-
-unfoldable pub is_unreadable : Verdict → Bool
-is_unreadable Unmanaged = false
-is_unreadable Link = false
-is_unreadable (Unreadable part) = true
-is_unreadable (Governed source destination) = false
-
 unfoldable pub is_governed : Verdict → Bool
 is_governed Unmanaged = false
 is_governed Link = false
@@ -91,6 +73,24 @@ totals_in all = record {
   where
     passes : Verdict → Bool
     passes verdict = is_governed verdict && forwarded verdict
+
+    is_unmanaged : Verdict → Bool
+    is_unmanaged Unmanaged = true
+    is_unmanaged Link = false
+    is_unmanaged (Unreadable part) = false
+    is_unmanaged (Governed source destination) = false
+
+    is_link : Verdict → Bool
+    is_link Unmanaged = false
+    is_link Link = true
+    is_link (Unreadable part) = false
+    is_link (Governed source destination) = false
+
+    is_unreadable : Verdict → Bool
+    is_unreadable Unmanaged = false
+    is_unreadable Link = false
+    is_unreadable (Unreadable part) = true
+    is_unreadable (Governed source destination) = false
 
     drops : Verdict → Bool
     drops verdict = is_governed verdict && not (forwarded verdict)

@@ -74,9 +74,9 @@ fn denied_row(ruled: &Ruled) -> Option<DeniedRow>
 }
 
 /// The row of the others of a Thing and side.
-#[tactic(auto, unfolding(crate::specs::Ledger::other_row))]
+#[tactic(auto)]
 fn other_row(row: &DeniedRow) -> OtherRow
-    ensures { result ≡ spec.other_row row.now }
+    ensures { result ≡ record { mac = row.now.mac; side = row.now.side; count = 0 } }
 {
     OtherRow {
         mac: row.mac,

@@ -20,13 +20,14 @@ use Rattle.usage_tables.specs.declared.file_edit.FileEdit.TheVariants.{Unchanged
 use Rattle.usage_tables.specs.Held.{HeldFile, held_file}
 use Rattle.usage_tables.specs.Limits.{most_files}
 use Rattle.usage_tables.specs.Files.{url_of, file_at, set_file, without_file, new_file, with_candidate, with_approved}
-use Rattle.usage_tables.specs.FileCommands.{FileStep, candidate_again, approved_again, is_outdated_by, new_candidate, beside_approved, beside_candidate, import_cases, import_step}
+use Rattle.usage_tables.specs.FileCommands.{FileStep, candidate_again, approved_again, new_candidate, beside_approved, beside_candidate, import_cases, import_step}
 use Rattle.usage_tables.specs.FileEdits.{fetched_at, approved_at, made_row, changed_row, edited_row, put_file, edited, is_change}
 use Rattle.usage_tables.specs.FileItems.{file_item, file_row, row_put, edit_puts}
 use Rattle.mud_world.specs.Items.{set_put, gone_put}
 use Rattle.usage_tables.proofs.EditLaws.{unchanged}
 use Rattle.file_cache.specs.Changes.{PlannedFile, no_change, set_change, gone_change}
 use Rattle.file_cache.specs.Planned.{IsMade, Makes, IsRefusal, IsUnread}
+use Rattle.usage_tables.proofs.Parts.{is_outdated_by}
 
 -- ---- Changes that are made
 

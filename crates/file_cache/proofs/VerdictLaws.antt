@@ -16,7 +16,7 @@ use Rattle.usage_tables.specs.declared.file_edit.FileEdit.TheVariants as edit
 use Rattle.usage_tables.specs.Held.{HeldFile, digest_of}
 use Rattle.usage_tables.specs.Limits.{most_policy_entries}
 use Rattle.usage_tables.specs.Files.{url_of, file_at, set_file, without_file, with_candidate, with_approved, is_signed, entry_count}
-use Rattle.usage_tables.specs.FileCommands.{FileStep, left_with, approved_row, approve, ruled, candidate_cases, is_ruled, verdict_cases, verdict_step, approved_cases, revoke_cases, revoke_step}
+use Rattle.usage_tables.specs.FileCommands.{FileStep, left_with, approved_row, approve, ruled, candidate_cases, is_ruled, verdict_cases, verdict_step, approved_cases, revoke_step}
 use Rattle.usage_tables.specs.FileEdits.{approved_as, if_any, kept_row, changed_row, edited_row, is_change}
 use Rattle.usage_tables.specs.FileItems.{file_item, file_row}
 use Rattle.file_cache.specs.Changes.{PlannedFile, no_change, set_change, gone_change}
@@ -127,7 +127,7 @@ module _ (url : List ℕ) (files : List CachedFile) (row : CachedFile) where
     judged own found = ap (verdict_cases url digest v files) found ∙ ap (λ u. verdict_cases u digest v files (Some row)) (sym own)
 
   pub revoked : row.url ≡ url → file_at url files ≡ Some row → revoke_step url files ≡ approved_cases row.url files row row.approved
-  unfolding revoke_step revoke_cases
+  unfolding revoke_step
   revoked own found = rw found (ap (λ u. approved_cases u files row row.approved) (sym own))
 
   pub not_approved : row.approved ≡ None → approved_cases url files row row.approved ≡ Err NotApproved
@@ -140,5 +140,5 @@ module _ (url : List ℕ) (files : List CachedFile) (found : file_at url files �
   unknown digest v = rw found refl
 
   pub unknown_url : revoke_step url files ≡ Err NotApproved
-  unfolding revoke_step revoke_cases
+  unfolding revoke_step
   unknown_url = rw found refl

@@ -1,5 +1,5 @@
 //! What the import of a usage file changes.
-ghost use Rattle.std.specs.Prelude.{◌≡◌, List, Some, None, Ok, IfOk, IfErr};
+ghost use Rattle.std.specs.Prelude.{◌≡◌, List, Some, None, Ok, IfOk, IfErr, ◌||◌};
 ghost use Rattle.base_rows.specs.Sortable.{SortKeysAscend};
 ghost use Rattle.mud_file.specs.File.{file_of};
 ghost use Rattle.usage_tables.specs.declared.cached_file.CachedFile.{CachedFile as Row};
@@ -60,9 +60,9 @@ fn older_than_candidate(file: &UsageFile, row: &CachedFile) -> bool
 }
 
 /// Whether a file was generated before one of the held ones.
-#[tactic(auto, unfolding(usage_tables::specs::FileCommands::is_outdated_by))]
+#[tactic(auto)]
 fn is_outdated_by(row: &CachedFile, file: &UsageFile) -> bool
-    ensures { result ≡ step.is_outdated_by row.now file.now }
+    ensures { result ≡ step.older_than_approved file.now row.now.approved || step.older_than_candidate file.now row.now.candidate }
 {
     older_than_approved(file, row) || older_than_candidate(file, row)
 }

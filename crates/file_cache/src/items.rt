@@ -3,6 +3,7 @@ ghost use Rattle.std.specs.Prelude.{◌≡◌, ◌≤◌, ◌++◌, length, IfOk
 ghost use Rattle.item_codec.specs.Records.{optional};
 ghost use Rattle.usage_tables.specs.Held.{held_file};
 ghost use Rattle.usage_tables.specs.FileItems as spec;
+ghost use Rattle.item_codec.specs.Spelling.{version};
 
 use item_codec::FieldWriter;
 use item_codec::kinds::FILE_KIND;
@@ -124,13 +125,13 @@ fn write_approved(
 }
 
 /// Writes the version and both files.
-#[tactic(auto, unfolding(usage_tables::specs::FileItems::file_body, item_codec::specs::Spelling::version, item_codec::specs::Spelling::version_of))]
+#[tactic(auto, unfolding(item_codec::specs::Spelling::version, item_codec::specs::Spelling::version_of))]
 fn body_of(
     alloc: Global,
     approved: Option<(Lent<'_>, Approval)>,
     candidate: Option<Lent<'_>>,
 ) -> Result<Bytes, Memory>
-    ensures { IfOk result (λ body. body ≡ spec.file_body approved.entry candidate.entry) }
+    ensures { IfOk result (λ body. body ≡ version ++ (optional spec.approved_fields approved.entry ++ optional spec.held_fields candidate.entry)) }
 {
     let mut writer = FieldWriter::new(alloc);
     writer.number(1, 1)?;

@@ -39,10 +39,6 @@ source_offset = 12
 abbrev pub destination_offset : ℕ
 destination_offset = 16
 
--- how many octets the header has at least
-abbrev pub least_header : ℕ
-least_header = 20
-
 -- how many octets the header has: its length counts words of four octets
 unfoldable pub header_len : List ℕ → ℕ
 header_len packet = slice_index packet version_and_length_offset % 16 * 4
@@ -55,6 +51,10 @@ counted packet = take (big_16 total_length_offset packet) packet
 unfoldable pub has_header : List ℕ → Bool
 has_header packet =
     slice_index packet version_and_length_offset / 16 == 4 && nat_le least_header (header_len packet) && nat_le (header_len packet) (length (counted packet))
+  where
+    -- how many octets the header has at least
+    least_header : ℕ
+    least_header = 20
 
 -- the fragment offset isn't 0
 unfoldable pub is_later_fragment : List ℕ → Bool

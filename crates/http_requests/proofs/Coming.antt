@@ -8,13 +8,14 @@ use Rattle.http_requests.specs.declared.fault.FramingFault.TheVariants.{Cut}
 use Rattle.http_requests.specs.declared.fault.RequestFault.{RequestFault}
 use Rattle.http_requests.specs.declared.fault.MomentFrom.{MomentFrom}
 use Rattle.http_requests.specs.declared.shape.RequestShape.{RequestShape}
-use Rattle.http_requests.specs.Framing.{refusal_of, body_length, leave_of, continue_octets}
+use Rattle.http_requests.specs.Framing.{refusal_of, body_length, leave_of}
 use Rattle.http_requests.specs.Head.{IsHead}
 use Rattle.http_requests.specs.Received.{Grown, Received}
 use Rattle.http_requests.specs.Requests.{Request, Begins, IsFault, no_head, fault_in}
 use Rattle.http_requests.specs.Shapes.{IsShape, HasHead, MayGetHead}
 use Rattle.http_requests.specs.Steps.{Came, CameWhole, CameFault, HoldsWhole, ReadFailed, LeaveFailed}
 use Rattle.http_requests.proofs.Heads.{head_append, head_octets, head_unique, fault_by}
+use Rattle.http_requests.proofs.Pieces.{continue_octets}
 
 -- ---- Steps of a door
 

@@ -10,11 +10,12 @@ use Rattle.http_requests.specs.declared.fault.MomentFrom.{MomentFrom}
 use Rattle.http_requests.specs.declared.framing.Framing.{Framing}
 use Rattle.http_requests.specs.declared.shape.RequestShape.{RequestShape}
 use Rattle.http_requests.specs.Fields.{fields_of}
-use Rattle.http_requests.specs.Framing.{is_head, first_reason, reasons, refusal_of, lengths, length_by, body_length, moment_by, moment_of, closes_by, closes, awaits_by, awaits_leave}
+use Rattle.http_requests.specs.Framing.{is_head, first_reason, reasons, refusal_of, lengths, length_by, body_length, moment_by, moment_of, closes, awaits_leave}
 use Rattle.http_requests.specs.Requests.{path_of}
 use Rattle.http_requests.specs.Shapes.{AreSpans, IsShape}
 use Rattle.http_requests.specs.Values.{IsFraming}
 use Rattle.http_requests.proofs.Fronts.{span_in_front}
+use Rattle.http_requests.proofs.Pieces.{closes_by, awaits_by}
 
 -- why a head is refused, from its method and its fields
 pub refusal_by : (from : MomentFrom) (octets : List ℕ) (headers : List HeaderSpan) (spans : RequestSpans) (head : RequestHead) (r : Option FramingFault) → AreSpans octets headers spans head

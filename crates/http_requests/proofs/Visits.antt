@@ -5,7 +5,7 @@ use Rattle.std.proofs.lemmas.List.{map-append}
 use Rattle.std.proofs.lemmas.List.Sums.{sum_by-append}
 use Rattle.mud_world.specs.Causes.{Counts}
 use Rattle.mud_world.specs.View.{DoorView}
-use Rattle.mud_world.specs.Door.{Connection, DoorState, connection_here, here, gone_on, has_more, put_out, with_left}
+use Rattle.mud_world.specs.Door.{Connection, DoorState, here, gone_on, has_more, put_out, with_left}
 use Rattle.http_requests.specs.declared.fault.RequestFault.{RequestFault}
 use Rattle.http_requests.specs.declared.fault.MomentFrom.{MomentFrom}
 use Rattle.http_requests.specs.Doors.{ReadsAndWrites}
@@ -17,6 +17,7 @@ use Rattle.http_requests.specs.Asked.{Asked}
 use Rattle.http_requests.specs.Ends.{ServedBy, IsServed, is_read_failed, is_write_failed}
 use Rattle.http_requests.specs.Visits.{Visit, alone, CountsOf, AreServed, Visited}
 use Rattle.http_requests.proofs.Pieces.{after_of, before_of, failed_to_read, failed_to_write}
+use Rattle.mud_world.proofs.Parts.{connection_here}
 
 -- ---- Counts
 

@@ -23,13 +23,13 @@ abbrev pub values_of : List ℕ → List (List ℕ × List ℕ) → List (List �
 values_of name [] = []
 values_of name (f ∷ fs) = if is_named name f then f.1 ∷ values_of name fs else values_of name fs
 
--- whether a list of words with commas between them has the word, in any case (5.6.1)
-abbrev pub has_element : List ℕ → List ℕ → Bool
-has_element word value = list_any (λ part. str_eq_ignore_ascii_case (trim_ows part) word) (slice_split (λ c. c == 44) value)
-
 -- whether a field of the name has the word in its list
 abbrev pub lists_word : List ℕ → List ℕ → List (List ℕ × List ℕ) → Bool
 lists_word name word fields = list_any (λ f. is_named name f && has_element word f.1) fields
+  where
+    -- whether a list of words with commas between them has the word, in any case (5.6.1)
+    has_element : List ℕ → List ℕ → Bool
+    has_element word value = list_any (λ part. str_eq_ignore_ascii_case (trim_ows part) word) (slice_split (λ c. c == 44) value)
 
 -- whether a field of the name has this value, in any case
 abbrev pub has_value : List ℕ → List ℕ → List (List ℕ × List ℕ) → Bool

@@ -1,5 +1,5 @@
 -- What a head says of the message (RFC 9112, section 6; RFC 9110, sections 8.6 and 10.1.1), and why it may be refused.
-use Rattle.std.specs.Prelude.{ℕ, ◌==◌, Bool, true, false, not, ◌&&◌, ◌||◌, nat_lt, bytes_eq, List, [], ◌∷◌, ◌++◌, Option, Some, None, is_none, if◌then◌else◌, codes}
+use Rattle.std.specs.Prelude.{ℕ, ◌==◌, Bool, true, false, not, ◌&&◌, ◌||◌, nat_lt, bytes_eq, List, [], ◌∷◌, ◌++◌, Option, Some, None, is_none, if◌then◌else◌, codes, length, nat_le}
 use Rattle.std.specs.Str.Parse.{digits_value}
 use Rattle.httparse.specs.Grammar.{RequestHead}
 use Rattle.mud_base.specs.Reading.{moment_in}
@@ -108,24 +108,20 @@ body_length head = length_by (lengths (fields_of head))
 unfoldable pub moment_of : MomentFrom → RequestHead → Option ℕ
 moment_of from head = moment_by from (fields_of head)
 
--- A connection ends after a request of HTTP/1.0, and where the client says so (RFC 9112, 9.6).
-abbrev pub closes_by : ℕ → List (List ℕ × List ℕ) → Bool
-closes_by minor fields = minor == 0 || lists_word (codes "connection") (codes "close") fields
-
 unfoldable pub closes : RequestHead → Bool
 closes head = closes_by head.minor (fields_of head)
-
--- A client of HTTP/1.1 waits for leave to send a body, where it says so (RFC 9110, 10.1.1).
-abbrev pub awaits_by : ℕ → ℕ → List (List ℕ × List ℕ) → Bool
-awaits_by minor body_len fields = minor == 1 && nat_lt 0 body_len && has_value (codes "expect") (codes "100-continue") fields
+  where
+    -- A connection ends after a request of HTTP/1.0, and where the client says so (RFC 9112, 9.6).
+    closes_by : ℕ → List (List ℕ × List ℕ) → Bool
+    closes_by minor fields = minor == 0 || lists_word (codes "connection") (codes "close") fields
 
 unfoldable pub awaits_leave : RequestHead → Bool
 awaits_leave head = awaits_by head.minor (body_length head) (fields_of head)
+  where
+    -- A client of HTTP/1.1 waits for leave to send a body, where it says so (RFC 9110, 10.1.1).
+    awaits_by : ℕ → ℕ → List (List ℕ × List ℕ) → Bool
+    awaits_by minor body_len fields = minor == 1 && nat_lt 0 body_len && has_value (codes "expect") (codes "100-continue") fields
 
--- `HTTP/1.1 100 Continue` and an empty line
-unfoldable pub continue_octets : List ℕ
-continue_octets = codes "HTTP/1.1 100 Continue" ++ 13 ∷ 10 ∷ 13 ∷ 10 ∷ []
-
--- what is written between a head and its body
+-- what is written between a head and its body: `HTTP/1.1 100 Continue` and an empty line, or nothing
 unfoldable pub leave_of : RequestHead → List ℕ
-leave_of head = if awaits_leave head then continue_octets else []
+leave_of head = if awaits_leave head then (codes "HTTP/1.1 100 Continue" ++ 13 ∷ 10 ∷ 13 ∷ 10 ∷ []) else []

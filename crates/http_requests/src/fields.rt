@@ -1,10 +1,11 @@
 //! What the fields of a head say.
-ghost use Rattle.std.specs.Prelude.{◌≡◌, ◌+◌, List, ℕ, length, map, All, reverse, [], ◌∷◌, ◌++◌};
+ghost use Rattle.std.specs.Prelude.{◌≡◌, ◌+◌, List, ℕ, length, map, All, reverse, [], ◌∷◌, ◌++◌, ◌==◌};
 ghost use Rattle.std.specs.Str.{str_eq_ignore_ascii_case};
 ghost use Rattle.httparse.specs.Grammar.{skip_ows, trim_ows};
 ghost use Rattle.httparse.specs.Spans.{IsHeaderWithin, header_bytes};
 ghost use Rattle.http_requests.specs.Fields as spec;
 ghost use Rattle.http_requests.specs.Values.{AreValues};
+ghost use Rattle.std.specs.List.{list_any, slice_split};
 
 use httparse::is_space_or_tab;
 use httparse::spans::HeaderSpan;
@@ -50,7 +51,7 @@ fn trim(text: &[u8]) -> &[u8]
 
 /// Whether a list of words with commas between them has the word.
 fn has_element(word: &[u8], value: &[u8]) -> bool
-    ensures { result ≡ spec.has_element word.now value.now }
+    ensures { result ≡ list_any (λ part. str_eq_ignore_ascii_case (trim_ows part) word.now) (slice_split (λ c. c == 44) value.now) }
 {
     value
         .split(|octet| *octet == b',')

@@ -1,11 +1,10 @@
 //! The next request of a connection.
-ghost use Rattle.std.specs.Prelude.{◌≡◌, ◌≢◌, ℕ, ◌+◌, ◌<◌, ◌≤◌, List, [], ◌++◌, length, false, nat_le, if◌then◌else◌, IfOk, OnErr, is_err};
+ghost use Rattle.std.specs.Prelude.{◌≡◌, ◌≢◌, ℕ, ◌+◌, ◌<◌, ◌≤◌, List, [], ◌++◌, length, false, nat_le, if◌then◌else◌, IfOk, OnErr, is_err, codes, ◌∷◌};
 ghost use Rattle.httparse.specs.Grammar.{RequestHead};
 ghost use Rattle.http_requests.specs.declared.fault.RequestFault.{RequestFault};
 ghost use Rattle.http_requests.specs.declared.fault.MomentFrom.{MomentFrom};
 ghost use Rattle.http_requests.specs.declared.shape.RequestShape.{RequestShape};
 ghost use Rattle.http_requests.specs.Doors.{ReadsAlone, ReadsAndWrites};
-ghost use Rattle.http_requests.specs.Framing.{continue_octets};
 ghost use Rattle.http_requests.specs.Head.{IsHead};
 ghost use Rattle.http_requests.specs.Received.{Grown, Received};
 ghost use Rattle.http_requests.specs.Requests.{Request, Begins, IsFault};
@@ -74,9 +73,9 @@ fn next_head<D: Door>(
 }
 
 /// The leave to send a body of this shape: none where the client doesn't wait for it.
-#[tactic(auto, unfolding(crate::specs::Framing::continue_octets))]
+#[tactic(auto)]
 fn leave_for(shape: &RequestShape) -> &'static [u8]
-    ensures { result.now ≡ (if shape.now.awaits_leave then continue_octets else []) }
+    ensures { result.now ≡ (if shape.now.awaits_leave then (codes "HTTP/1.1 100 Continue" ++ 13 ∷ 10 ∷ 13 ∷ 10 ∷ []) else []) }
 {
     if shape.awaits_leave { CONTINUE } else { &[] }
 }

@@ -1,5 +1,5 @@
 //! Looking for a head at the front of octets.
-ghost use Rattle.std.specs.Prelude.{◌≡◌, ◌≢◌, ◌==◌, ◌<◌, Some, None, IfOk, IfErr, ◌≤◌, ◌+◌, length, map, take, All};
+ghost use Rattle.std.specs.Prelude.{◌≡◌, ◌≢◌, ◌==◌, ◌<◌, Some, None, IfOk, IfErr, ◌≤◌, ◌+◌, length, map, take, All, codes, ◌||◌, nat_lt, ◌&&◌};
 ghost use Rattle.httparse.specs.declared.spans.RequestSpans.{RequestSpans};
 ghost use Rattle.http_requests.specs.declared.fault.RequestFault.{RequestFault};
 ghost use Rattle.http_requests.specs.declared.shape.RequestShape.{RequestShape};
@@ -10,6 +10,7 @@ ghost use Rattle.http_requests.specs.Framing.{refusal_of};
 ghost use Rattle.http_requests.specs.Framing as spec;
 ghost use Rattle.http_requests.specs.Head.{HasNoHead, NeverHasHead};
 ghost use Rattle.http_requests.specs.Shapes.{IsUnfinished, AreSpans, IsShape, HasHead, MayGetHead, EndsBroken};
+ghost use Rattle.http_requests.specs.Fields.{lists_word, has_value};
 
 use crate::fault::{FramingFault, MomentFrom, NO_HEAD, RequestFault, is_head};
 use crate::fields::{has_value, lists_word};
@@ -104,7 +105,7 @@ fn path_span(octets: &[u8], target: Span) -> Span
 /// Whether the connection ends after a request of this version and these fields.
 fn closes_by(minor: u8, octets: &[u8], fields: &[HeaderSpan]) -> bool
     requires { All (IsHeaderWithin (length octets.now)) fields.now }
-    ensures { result ≡ spec.closes_by minor (map (header_bytes octets.now) fields.now) }
+    ensures { result ≡ minor == 0 || lists_word (codes "connection") (codes "close") (map (header_bytes octets.now) fields.now) }
 {
     minor == 0 || lists_word(octets, b"connection", b"close", fields)
 }
@@ -112,7 +113,7 @@ fn closes_by(minor: u8, octets: &[u8], fields: &[HeaderSpan]) -> bool
 /// Whether the client waits for leave to send a body of this length.
 fn awaits_by(minor: u8, body_len: usize, octets: &[u8], fields: &[HeaderSpan]) -> bool
     requires { All (IsHeaderWithin (length octets.now)) fields.now }
-    ensures { result ≡ spec.awaits_by minor body_len (map (header_bytes octets.now) fields.now) }
+    ensures { result ≡ minor == 1 && nat_lt 0 body_len && has_value (codes "expect") (codes "100-continue") (map (header_bytes octets.now) fields.now) }
 {
     minor == 1 && body_len > 0 && has_value(octets, b"expect", b"100-continue", fields)
 }

@@ -3,3 +3,4 @@ pub mod Widths
 pub mod FieldLaws
 mod Examples
 pub mod RecordLaws
+pub mod Parts

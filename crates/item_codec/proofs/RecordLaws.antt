@@ -10,8 +10,9 @@ use Rattle.item_codec.specs.declared.fault.CodecFault.TheVariants.{Tail}
 use Rattle.mud_base.specs.Numbers.{IsOctets}
 use Rattle.item_codec.specs.Spelling.{IsWidth, number, string, list, version, version_of}
 use Rattle.item_codec.specs.Reading.{IsRead, number_at, string_at, list_at, version_to, version_at, end_at}
-use Rattle.item_codec.specs.Records.{Reading, ◌>>=◌, number_in, string_in, version_to_in, version_in, end_in, optional, some_value, optional_in, elements, each_in, elements_in, list_body, list_body_in, IsForm, OptionFits, ListFits}
+use Rattle.item_codec.specs.Records.{Reading, ◌>>=◌, number_in, string_in, version_to_in, version_in, end_in, optional, optional_in, elements, each_in, elements_in, list_body, list_body_in, IsForm, OptionFits, ListFits}
 use Rattle.item_codec.proofs.FieldLaws.{then_read, read_whole, number_read, number_again, string_read, string_again, list_read, list_again, IsVersion, version_to_read, version_to_again, version_read, version_again}
+use Rattle.item_codec.proofs.Parts.{some_value}
 
 -- ---- Readings that succeed
 

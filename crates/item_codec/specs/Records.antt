@@ -38,13 +38,13 @@ unfoldable pub optional : {A : Type 0} → (A → List ℕ) → Option A → Lis
 optional spell None = number 1 0
 optional spell (Some value) = number 1 1 ++ spell value
 
-abbrev pub some_value : {A : Type 0} → A × List ℕ → Option A × List ℕ
-some_value x = (Some x.0, x.1)
-
 unfoldable pub optional_in : {A : Type 0} → Reading A → Reading (Option A)
 optional_in value octets = do
   flag ← number_in 1 octets
   if flag.0 == 0 then Some (None, flag.1) else (if flag.0 == 1 then option_map some_value (value flag.1) else None)
+  where
+    some_value : {A : Type 0} → A × List ℕ → Option A × List ℕ
+    some_value x = (Some x.0, x.1)
 
 -- ---- A list: its count, and its elements
 

@@ -7,9 +7,10 @@ use Rattle.std.proofs.NetLemmas.Texts.{IsDotted-ipv4_text, IsColonHex-hex_groups
 use Rattle.std.proofs.NetLemmas.Alphabet.{IsDigitOrDot, IsHexOrColon, All-ipv4_text, All-hex_groups_text}
 use Rattle.mud_base.specs.declared.addr.Addr.{Addr}
 use Rattle.mud_base.specs.declared.addr.Addr.TheVariants.{V4, V6}
-use Rattle.mud_base.specs.Texts.{addr_text, octets_v4, groups_v6}
+use Rattle.mud_base.specs.Texts.{addr_text, octets_v4}
 use Rattle.mud_base.specs.Reading.{IsAddrText, is_slash}
 use Rattle.mud_base.proofs.BeBytes.{bytes_high_first_lt, from_be_bytes-to_be_bytes_16, octets_of-segments_of, segments_of_lt}
+use Rattle.mud_base.proofs.Parts.{groups_v6}
 
 -- the number of an address fits its version
 abbrev pub FitsAddr : Addr → Type 0
@@ -17,7 +18,7 @@ FitsAddr (V4 n) = n < 2 ^ 32
 FitsAddr (V6 n) = n < 2 ^ 128
 
 pub IsAddrText-addr_text : (addr : Addr) → FitsAddr addr → IsAddrText (addr_text addr) addr
-unfolding addr_text octets_v4 groups_v6
+unfolding addr_text octets_v4
 IsAddrText-addr_text (V4 n) fits = (
   octets_v4 n,
   IsDotted-ipv4_text (octets_v4 n) refl (bytes_high_first_lt 4 n),
@@ -30,7 +31,7 @@ IsAddrText-addr_text (V6 n) fits = (
 )
 
 pub addr_text-no_slash : (addr : Addr) (k : ℕ) → k < length (addr_text addr) → is_slash (get_or (addr_text addr) k 0) ≡ false
-unfolding addr_text octets_v4 groups_v6
+unfolding addr_text octets_v4
 addr_text-no_slash (V4 n) k h =
     let one : IsDigitOrDot (get_or (addr_text (V4 n)) k 0) = All-ipv4_text (octets_v4 n) (bytes_high_first_lt 4 n) k 0 h in
     grind (arith, nat_tests)

@@ -11,7 +11,8 @@ use Rattle.std.proofs.NetLemmas.Ipv4.{read_ipv4_complete, read_ipv4_sound}
 use Rattle.std.proofs.NetLemmas.Ipv6.{read_ipv6_complete, read_ipv6_sound, EndsGroups-nil, IsDotted-not_colon_hex}
 use Rattle.mud_base.specs.declared.addr.Addr.{Addr}
 use Rattle.mud_base.specs.declared.addr.Addr.TheVariants.{V4, V6}
-use Rattle.mud_base.specs.Reading.{IsAddrText, IsAddrReading, ipv4_in, ipv6_in, addr_in, addr_of_octets, addr_of_groups}
+use Rattle.mud_base.specs.Reading.{IsAddrText, IsAddrReading, addr_in, addr_of_octets, addr_of_groups}
+use Rattle.mud_base.proofs.Parts.{ipv4_in, ipv6_in}
 
 -- a value of a whole text leaves nothing of it
 whole-Some : {A : Type 0} (x y : A) (rest : List ℕ) → whole_value (Some (x, rest)) ≡ Some y → ◌≡◌ {A = Read A} (Some (x, rest)) (Some (y, []))
@@ -40,11 +41,11 @@ v6_complete text groups spells = ap whole_value (ap read_ipv6 (sym (append-nil t
 
 -- what the parsers of the library give
 pub read_v4 : (text : List ℕ) (addr : Ipv4Addr) → IsIpv4Text text addr → ipv4_in text ≡ Some (V4 (ipv4_bits addr))
-unfolding ipv4_in ipv4_bits
+unfolding ipv4_bits
 read_v4 text addr spells = ap (option_map addr_of_octets) (v4_complete text (ipv4_octets addr) spells)
 
 pub read_v6 : (text : List ℕ) (addr : Ipv6Addr) → IsIpv6Text text addr → ipv6_in text ≡ Some (V6 (ipv6_bits addr))
-unfolding ipv6_in ipv6_bits
+unfolding ipv6_bits
 read_v6 text addr spells = ap (option_map addr_of_groups) (v6_complete text (ipv6_segments addr) spells)
 
 none_of : {A B : Type 0} (f : A → B) (o : Option A) → ((x : A) → ¬ (o ≡ Some x)) → option_map f o ≡ None
@@ -52,11 +53,9 @@ none_of f None never = refl
 none_of f (Some x) never = absurd (never x refl)
 
 pub none_v4 : (text : List ℕ) → ((addr : Ipv4Addr) → ¬ (IsIpv4Text text addr)) → ipv4_in text ≡ None
-unfolding ipv4_in
 none_v4 text never = none_of addr_of_octets (whole_value (read_ipv4 text)) (λ octets e. never (record { octets = octets }) (v4_sound text octets e))
 
 pub none_v6 : (text : List ℕ) → ((addr : Ipv6Addr) → ¬ (IsIpv6Text text addr)) → ipv6_in text ≡ None
-unfolding ipv6_in
 none_v6 text never = none_of addr_of_groups (whole_value (read_ipv6 text)) (λ groups e. never (record { segments = groups }) (v6_sound text groups e))
 
 by_whole : (text : List ℕ) (o : Option (List ℕ)) (q : Option (List ℕ)) → whole_value (read_ipv4 text) ≡ o → whole_value (read_ipv6 text) ≡ q → IsAddrReading text (option_or (option_map addr_of_octets o) (option_map addr_of_groups q))
@@ -70,7 +69,7 @@ by_whole text None None is_v4 is_v6 = neither
 
 -- what is read is the address that the text writes, or none where it writes none
 pub reads : (text : List ℕ) → IsAddrReading text (addr_in text)
-unfolding addr_in ipv4_in ipv6_in
+unfolding addr_in
 reads text = by_whole text _ _ refl refl
 
 pub reads_as : (text : List ℕ) (result : Option Addr) → result ≡ addr_in text → IsAddrReading text result
@@ -78,7 +77,7 @@ reads_as text result is_read = subst (IsAddrReading text) (sym is_read) (reads t
 
 -- and a text that writes an address reads as that one
 pub addr_in-text : (text : List ℕ) (addr : Addr) → IsAddrText text addr → addr_in text ≡ Some addr
-unfolding addr_in ipv4_in ipv6_in
+unfolding addr_in
 addr_in-text text (V4 n) spells =
     ap (λ o. option_or (option_map addr_of_octets o) (ipv6_in text)) (v4_complete text spells.0 spells.1) ∙ ap Some (sym spells.2)
 addr_in-text text (V6 n) spells =

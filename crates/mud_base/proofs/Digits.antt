@@ -3,7 +3,8 @@ use Rattle.std.proofs.Common.{◌≡◌, ℕ, ◌+◌, ◌-◌, ◌*◌, ◌<◌
 use Rattle.std.proofs.Math.ListN.{drop_of_length-le}
 use Rattle.std.specs.Prelude.{Some, None}
 use Rattle.std.specs.Char.{is_ascii_digit}
-use Rattle.mud_base.specs.Decimal.{number_behind, digits_upto}
+use Rattle.mud_base.specs.Decimal.{digits_upto}
+use Rattle.mud_base.proofs.Parts.{number_behind}
 
 -- more digits spell no lesser number
 pub number_behind_ge : (n : ℕ) (cs : List ℕ) → n ≤ number_behind n cs

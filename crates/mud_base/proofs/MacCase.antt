@@ -9,7 +9,8 @@ use Rattle.std.proofs.lemmas.Nat.{div-mul-add, mod-mul-add}
 use Rattle.std.proofs.lemmas.Slice.Eq.{text_from_reads}
 use Rattle.mud_base.specs.declared.addr.Mac.{Mac}
 use Rattle.mud_base.specs.Texts.{hex_pair, mac_text}
-use Rattle.mud_base.specs.Reading.{hex_value, octet_at, has_mac_colons, mac_in}
+use Rattle.mud_base.specs.Reading.{hex_value, octet_at, mac_in}
+use Rattle.mud_base.proofs.Parts.{has_mac_colons}
 
 lowered_digit : (c : ℕ) → digit_value c < 16 → to_ascii_lowercase c ≡ digit_char (digit_value c)
 lowered_digit c small = grind (arith, nat_tests)
@@ -63,7 +64,6 @@ each_of_five a b c d e h =
     (at_a.0, at_b.0, at_c.0, at_d.0, (and_parts e true at_d.1).0)
 
 colons : (text : List ℕ) → has_mac_colons text ≡ true → HasColons text
-unfolding has_mac_colons
 colons text e =
     let each = each_of_five (eqb (get_or text 2 0) 58) (eqb (get_or text 5 0) 58) (eqb (get_or text 8 0) 58) (eqb (get_or text 11 0) 58) (eqb (get_or text 14 0) 58) e in
     record {

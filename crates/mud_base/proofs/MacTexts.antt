@@ -4,7 +4,7 @@ use Rattle.std.specs.Char.{digit_char, digit_value}
 use Rattle.std.proofs.lemmas.Str.{digit_value-digit_char}
 use Rattle.mud_base.specs.declared.addr.Mac.{Mac}
 use Rattle.mud_base.specs.Texts.{hex_pair, mac_text}
-use Rattle.mud_base.specs.Reading.{hex_value, octet_at, has_mac_colons, mac_in}
+use Rattle.mud_base.specs.Reading.{hex_value, octet_at, mac_in}
 
 six_items : (xs : List ℕ) → length xs ≡ 6 → xs ≡ get_or xs 0 0 ∷ get_or xs 1 0 ∷ get_or xs 2 0 ∷ get_or xs 3 0 ∷ get_or xs 4 0 ∷ get_or xs 5 0 ∷ []
 six_items [] l = absurd (omega arith)
@@ -30,7 +30,7 @@ octet_at-digits text offset octet small high low =
     rw (high, low, hex_value-digit_char (octet / 16) (omega arith), hex_value-digit_char (octet % 16) (omega arith)) (ap Some whole)
 
 mac_in-octets : (a b c d e f : ℕ) → a < 2 ^ 8 → b < 2 ^ 8 → c < 2 ^ 8 → d < 2 ^ 8 → e < 2 ^ 8 → f < 2 ^ 8 → mac_in (mac_text (record { 0 = a ∷ b ∷ c ∷ d ∷ e ∷ f ∷ [] })) ≡ Some (record { 0 = a ∷ b ∷ c ∷ d ∷ e ∷ f ∷ [] })
-unfolding mac_in mac_text hex_pair has_mac_colons
+unfolding mac_in mac_text hex_pair
 mac_in-octets a b c d e f a' b' c' d' e' f' =
     let text : List ℕ = mac_text (record { 0 = a ∷ b ∷ c ∷ d ∷ e ∷ f ∷ [] }) in
     rw (

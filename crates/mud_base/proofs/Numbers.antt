@@ -5,13 +5,13 @@ use Rattle.std.proofs.lemmas.Bool.{cases_lt}
 use Rattle.std.proofs.lemmas.Bool.Decides.{nat_tests}
 use Rattle.std.proofs.lemmas.Fmt.{digits_decimal, digits_value-decimal, decimal_nonempty, first_decimal, decimal_digit}
 use Rattle.std.proofs.lemmas.Str.Parse.{IsNumeralModel, numerals_by_fold}
-use Rattle.mud_base.specs.Decimal.{number_behind, digits_upto, has_numeral_front, number_upto}
+use Rattle.mud_base.specs.Decimal.{digits_upto, number_upto}
+use Rattle.mud_base.proofs.Parts.{has_numeral_front, number_behind}
 
 own : IsNumeralModel (λ ds. all_ascii_digits ds ≡ true) (number_behind 0)
 own = numerals_by_fold _ (search rules) number_behind (search rules)
 
 has_numeral_front-decimal : (n : ℕ) → n < 2 ^ 64 → has_numeral_front (decimal n) ≡ true
-unfolding has_numeral_front
 has_numeral_front-decimal n small =
     elim (cases_lt n 1) [
       | inl zero ↦ rw (decimal_digit n (omega arith)) refl

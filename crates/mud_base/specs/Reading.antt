@@ -28,10 +28,6 @@ octet_at text offset = do
   low ← hex_value (slice_index text (offset + 1))
   Some (high * 16 + low)
 
--- a colon behind each pair of 17 octets but the last
-unfoldable pub has_mac_colons : List ℕ → Bool
-has_mac_colons text = list_all (λ offset. slice_index text offset == 58) (2 ∷ 5 ∷ 8 ∷ 11 ∷ 14 ∷ [])
-
 -- the hardware address of a text: six pairs of hex digits of either case, with colons between them
 unfoldable pub mac_in : List ℕ → Option Mac
 mac_in text = if length text == 17 && has_mac_colons text then (do
@@ -42,6 +38,10 @@ mac_in text = if length text == 17 && has_mac_colons text then (do
   e ← octet_at text 12
   f ← octet_at text 15
   Some (record { 0 = a ∷ b ∷ c ∷ d ∷ e ∷ f ∷ [] })) else None
+  where
+    -- a colon behind each pair of 17 octets but the last
+    has_mac_colons : List ℕ → Bool
+    has_mac_colons text = list_all (λ offset. slice_index text offset == 58) (2 ∷ 5 ∷ 8 ∷ 11 ∷ 14 ∷ [])
 
 -- the IPv4 address of these octets, most significant first
 abbrev pub addr_of_octets : List ℕ → Addr
@@ -63,17 +63,11 @@ abbrev pub IsAddrReading : List ℕ → Option Addr → Type 0
 IsAddrReading text None = (addr : Addr) → ¬ (IsAddrText text addr)
 IsAddrReading text (Some addr) = IsAddrText text addr
 
--- the IPv4 address of a text
-unfoldable pub ipv4_in : List ℕ → Option Addr
-ipv4_in text = option_map addr_of_octets (whole_value (read_ipv4 text))
-
--- the IPv6 address of a text
-unfoldable pub ipv6_in : List ℕ → Option Addr
-ipv6_in text = option_map addr_of_groups (whole_value (read_ipv6 text))
-
 -- that address, computed
+-- the IPv4 address of a text
+-- the IPv6 address of a text
 unfoldable pub addr_in : List ℕ → Option Addr
-addr_in text = option_or (ipv4_in text) (ipv6_in text)
+addr_in text = option_or (option_map addr_of_octets (whole_value (read_ipv4 text))) (option_map addr_of_groups (whole_value (read_ipv6 text)))
 
 -- the text writes no other address than the one that is computed
 abbrev pub WritesOneAddr : List ℕ → Type 0

@@ -13,27 +13,24 @@ use Rattle.mud_base.specs.declared.addr.Addr.TheVariants.{V4, V6}
 unfoldable pub hex_pair : ℕ → List ℕ
 hex_pair octet = digit_char (octet / 16) ∷ digit_char (octet % 16) ∷ []
 
--- a colon, and the octet
-abbrev pub colon_pair : ℕ → List ℕ
-colon_pair octet = 58 ∷ hex_pair octet
-
 -- six pairs with colons between them
 unfoldable pub mac_text : Mac → List ℕ
 mac_text mac = hex_pair (slice_index mac.0 0) ++ flat_map colon_pair (drop 1 mac.0)
+  where
+    -- a colon, and the octet
+    colon_pair : ℕ → List ℕ
+    colon_pair octet = 58 ∷ hex_pair octet
 
 -- the octets of an IPv4 address (RFC 791)
 unfoldable pub octets_v4 : ℕ → List ℕ
 octets_v4 n = to_be_bytes w32 n
 
--- the groups of 16 bits of an IPv6 address (RFC 4291, 2.2)
-unfoldable pub groups_v6 : ℕ → List ℕ
-groups_v6 n = segments_of (to_be_bytes w128 n)
-
 -- Four decimal numbers with dots; or by RFC 5952, section 4, groups of lower-case hex digits with colons and the
 -- longest run of zeros as `::`, and never with an IPv4 text at the end.
+-- the groups of 16 bits of an IPv6 address (RFC 4291, 2.2)
 unfoldable pub addr_text : Addr → List ℕ
 addr_text (V4 n) = ipv4_text (octets_v4 n)
-addr_text (V6 n) = hex_groups_text (groups_v6 n)
+addr_text (V6 n) = hex_groups_text (segments_of (to_be_bytes w128 n))
 
 -- the address, `/`, and the length in decimal (RFC 4632, 3.1; RFC 4291, 2.3)
 unfoldable pub prefix_text : PrefixParts → List ℕ

@@ -1,5 +1,5 @@
 //! Numbers in decimal digits.
-ghost use Rattle.std.specs.Prelude.{◌≡◌, ◌≤◌, IfOk, IfSome, decimal};
+ghost use Rattle.std.specs.Prelude.{◌≡◌, ◌≤◌, IfOk, IfSome, decimal, slice_index, length, not, ◌==◌, ◌&&◌, ◌||◌};
 ghost use Rattle.mud_base.specs.Decimal as spec;
 
 use crate::bytes::Bytes;
@@ -7,9 +7,9 @@ use crate::memory::Memory;
 use std::alloc::Global;
 
 /// Whether a zero stands in front of no other digit, and the text isn't empty.
-#[tactic(auto, unfolding(crate::specs::Decimal::has_numeral_front))]
+#[tactic(auto)]
 fn has_numeral_front(text: &[u8]) -> bool
-    ensures { result ≡ spec.has_numeral_front text.now }
+    ensures { result ≡ not (length text.now == 0) && (length text.now == 1 || not (slice_index text.now 0 == 48)) }
 {
     match text {
         [] => false,

@@ -1,7 +1,8 @@
 //! The texts of addresses and moments, as they are read.
-ghost use Rattle.std.specs.Prelude.{◌≡◌, ◌+◌, ◌<◌, IfSome, length};
-ghost use Rattle.std.specs.List.{before_first, after_first, position};
+ghost use Rattle.std.specs.Prelude.{◌≡◌, ◌+◌, ◌<◌, IfSome, length, option_map, slice_index, ◌==◌, ◌∷◌, []};
+ghost use Rattle.std.specs.List.{before_first, after_first, position, list_all};
 ghost use Rattle.mud_base.specs.Reading as spec;
+ghost use Rattle.std.specs.Net.Reader.{read_ipv4, whole_value, read_ipv6};
 
 use crate::addr::{Addr, Mac};
 use crate::decimal::number_upto;
@@ -32,10 +33,10 @@ fn octet_at(text: &[u8], offset: usize) -> Option<u8>
     Some(high * 16 + low)
 }
 
-#[tactic(auto, unfolding(crate::specs::Reading::has_mac_colons))]
+#[tactic(auto)]
 fn has_mac_colons(text: &[u8]) -> bool
     requires { length text.now ≡ 17 }
-    ensures { result ≡ spec.has_mac_colons text.now }
+    ensures { result ≡ list_all (λ offset. slice_index text.now offset == 58) (2 ∷ 5 ∷ 8 ∷ 11 ∷ 14 ∷ []) }
 {
     text[2] == b':' && text[5] == b':' && text[8] == b':' && text[11] == b':' && text[14] == b':'
 }
@@ -62,9 +63,9 @@ pub fn mac_of(text: &[u8]) -> Option<Mac>
     ]))
 }
 
-#[tactic(auto, using(crate::proofs::AddrTexts::read_v4, crate::proofs::AddrTexts::none_v4), unfolding(crate::specs::Reading::ipv4_in))]
+#[tactic(auto, using(crate::proofs::AddrTexts::read_v4, crate::proofs::AddrTexts::none_v4))]
 fn ipv4_of(text: &[u8]) -> Option<Addr>
-    ensures { result ≡ spec.ipv4_in text.now }
+    ensures { result ≡ option_map spec.addr_of_octets (whole_value (read_ipv4 text.now)) }
 {
     match Ipv4Addr::parse_ascii(text) {
         Ok(addr) => Some(Addr::V4(addr.to_bits())),
@@ -72,9 +73,9 @@ fn ipv4_of(text: &[u8]) -> Option<Addr>
     }
 }
 
-#[tactic(auto, using(crate::proofs::AddrTexts::read_v6, crate::proofs::AddrTexts::none_v6), unfolding(crate::specs::Reading::ipv6_in))]
+#[tactic(auto, using(crate::proofs::AddrTexts::read_v6, crate::proofs::AddrTexts::none_v6))]
 fn ipv6_of(text: &[u8]) -> Option<Addr>
-    ensures { result ≡ spec.ipv6_in text.now }
+    ensures { result ≡ option_map spec.addr_of_groups (whole_value (read_ipv6 text.now)) }
 {
     match Ipv6Addr::parse_ascii(text) {
         Ok(addr) => Some(Addr::V6(addr.to_bits())),

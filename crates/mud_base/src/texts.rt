@@ -1,9 +1,10 @@
 //! The texts of addresses.
 ghost use Rattle.std.specs.Prelude.{◌≡◌, ◌++◌, ◌<◌, OnOk, IfOk};
 ghost use Rattle.std.specs.Char.{digit_char};
-ghost use Rattle.std.specs.Net.Addr.{ipv4_octets, ipv6_segments};
+ghost use Rattle.std.specs.Net.Addr.{ipv4_octets, ipv6_segments, segments_of};
 ghost use Rattle.std.specs.Net.Text.{ipv4_text, hex_groups_text};
 ghost use Rattle.mud_base.specs.Texts as spec;
+ghost use Rattle.std.specs.Int.{to_be_bytes, w128};
 
 use crate::addr::{Addr, Mac};
 use crate::bytes::Bytes;
@@ -54,9 +55,9 @@ fn ipv4_of(number: u32) -> Ipv4Addr
     Ipv4Addr::from_bits(number)
 }
 
-#[tactic(auto, unfolding(std::specs::Net::Addr::IsIpv6OfBits, crate::specs::Texts::groups_v6))]
+#[tactic(auto, unfolding(std::specs::Net::Addr::IsIpv6OfBits))]
 fn ipv6_of(number: u128) -> Ipv6Addr
-    ensures { ipv6_segments result ≡ spec.groups_v6 number }
+    ensures { ipv6_segments result ≡ segments_of (to_be_bytes w128 number) }
 {
     Ipv6Addr::from_bits(number)
 }
@@ -69,7 +70,7 @@ fn dotted_text(alloc: Global, number: u32) -> Result<Bytes, Memory>
 }
 
 fn groups_text(alloc: Global, number: u128) -> Result<Bytes, Memory>
-    ensures { IfOk result (λ text. text ≡ hex_groups_text (spec.groups_v6 number)) }
+    ensures { IfOk result (λ text. text ≡ hex_groups_text (segments_of (to_be_bytes w128 number))) }
 {
     let text = ipv6_of(number).hex_groups().to_string(alloc)?;
     Bytes::new(alloc, text.as_bytes())

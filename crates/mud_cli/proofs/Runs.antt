@@ -15,9 +15,10 @@ use Rattle.mud_file.specs.File.{file_of}
 use Rattle.mud_cli.specs.declared.answer.Input.{Input}
 use Rattle.mud_cli.specs.declared.answer.Input.TheVariants as input
 use Rattle.run_common.specs.Output.{WritesOutput, WritesPart}
-use Rattle.mud_cli.specs.Answers.{answer_to, most_of, status_of, output_of_input}
+use Rattle.mud_cli.specs.Answers.{answer_to, most_of, output_of_input}
 use Rattle.mud_cli.specs.Check.Answer.{checking}
-use Rattle.mud_cli.specs.Hear.Answer.{answer_of, hearing_within}
+use Rattle.mud_cli.specs.Hear.Answer.{hearing_within}
+use Rattle.mud_cli.proofs.Parts.{status_of}
 
 -- an answer is alike for all that begins with more octets than the most
 abbrev IsAlike : ℕ → (List ℕ → Answer) → Type 0
@@ -43,7 +44,7 @@ unfolding file_of
 checking_of_more octets more long = grind (arith, length-append octets more)
 
 answer_to_whole : (input : Input) (octets : List ℕ) (old mid : DoorState) → ReadWhole octets (most_of input) old mid → answer_to input octets ≡ answer_to input old.left
-unfolding answer_to answer_of most_of
+unfolding answer_to most_of
 answer_to_whole (input.Message Dhcp) octets old mid whole = alike_whole 65535 (hearing_of heard_of) octets old mid (hearing_of_more heard_of) whole
 answer_to_whole (input.Message Lldp) octets old mid whole = alike_whole 65535 (hearing_of lldp_of) octets old mid (hearing_of_more lldp_of) whole
 answer_to_whole input.UsageFile octets old mid whole = alike_whole 262144 (λ octets. checking (file_of octets)) octets old mid checking_of_more whole

@@ -1,5 +1,4 @@
 pub mod Names
-pub mod Lines
 pub mod Entries
 pub mod Imports
 pub mod Order

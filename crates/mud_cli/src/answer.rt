@@ -1,5 +1,5 @@
 //! Commands that read an input as a whole before they answer.
-ghost use Rattle.std.specs.Prelude.{◌≡◌, ◌+◌, IfOk, [], ◌∷◌};
+ghost use Rattle.std.specs.Prelude.{◌≡◌, ◌+◌, IfOk, [], ◌∷◌, if◌then◌else◌};
 ghost use Rattle.run_common.specs.Ends.{IsSteady, IsStopped};
 ghost use Rattle.run_common.specs.Output.{WritesOutput, WritesPart};
 ghost use Rattle.run_common.specs.Status.{Is, IsNot, IsOneOf, status_number};
@@ -56,7 +56,7 @@ fn answer_to(alloc: Global, input: Input, octets: &[u8]) -> Result<Answer, Memor
 
 /// The status of a run whose answer was written.
 fn status_of(answer: &Answer) -> Status
-    ensures { status_number result ≡ answers.status_of answer.now }
+    ensures { status_number result ≡ if answer.now.refused then 3 else 0 }
 {
     if answer.refused {
         Status::Refused

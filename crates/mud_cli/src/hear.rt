@@ -1,6 +1,8 @@
 //! The command `hear`: the line of one message or frame.
 ghost use Rattle.std.specs.Prelude.{◌≡◌, IfOk};
-ghost use Rattle.mud_cli.specs.Hear.Answer.{answer_of, hearing, hearing_within};
+ghost use Rattle.mud_cli.specs.Hear.Answer.{hearing, hearing_within};
+ghost use Rattle.mud_cli.specs.Answers.{answer_to};
+ghost use Rattle.mud_cli.specs.declared.answer.Input.TheVariants as input;
 
 mod lines;
 
@@ -58,9 +60,9 @@ fn hearing_within(
 }
 
 /// The answer to the octets of a message.
-#[tactic(auto, unfolding(crate::specs::Hear::Answer::answer_of))]
+#[tactic(auto, unfolding(crate::specs::Answers::answer_to))]
 pub(crate) fn answer_of(alloc: Global, message: Message, octets: &[u8]) -> Result<Answer, Memory>
-    ensures { IfOk result (λ answer. answer ≡ answer_of message octets.now) }
+    ensures { IfOk result (λ answer. answer ≡ answer_to (input.Message message) octets.now) }
 {
     match message {
         Message::Dhcp => hearing_within(alloc, octets.len(), read_dhcp(octets)),

@@ -4,7 +4,7 @@ use Rattle.mud_base.specs.declared.packet.Direction.TheVariants.{From, To}
 use Rattle.acl_model.specs.declared.ruling.Ruling.{Ruling}
 use Rattle.table_model.specs.declared.thing.Thing.{Thing}
 use Rattle.table_model.specs.Things.{thing_at}
-use Rattle.table_model.specs.Tables.{is_group, destination_thing}
+use Rattle.table_model.specs.Tables.{destination_thing}
 use Rattle.frame_view.specs.declared.views.Frame.{Frame}
 use Rattle.frame_view.specs.declared.views.Frame.TheVariants.{Link, Unreadable, Packet}
 use Rattle.frame_view.specs.Ethernet.{destination_of, source_of}
@@ -15,6 +15,7 @@ use Rattle.packet_judge.specs.Verdicts.{endpoints_of, Rulings, endpoint_ruling, 
 use Rattle.mud_desk.specs.Findings.{HasRulingsOfThings}
 use Rattle.desk_model.specs.Findings.{Policies, found_at, source_found, destination_found}
 use Rattle.packet_judge.proofs.Parts.{governed}
+use Rattle.table_model.proofs.Parts.{is_group}
 
 -- ---- The verdict has a ruling where there is a Thing alone
 

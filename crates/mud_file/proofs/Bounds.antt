@@ -19,7 +19,7 @@ use Rattle.mud_base.proofs.Readings.{answer_unwanted}
 use Rattle.usage_match.specs.declared.entry_tests.Tests.{Tests}
 use Rattle.mud_file.specs.declared.usage_file.Head.{Head}
 use Rattle.mud_file.specs.declared.usage_file.UsageFile.{UsageFile}
-use Rattle.mud_file.specs.Head.{as_hours, hours_at, url_fault, url_path, as_url, url_at, head_at}
+use Rattle.mud_file.specs.Head.{as_hours, hours_at, as_url, url_at, head_at}
 use Rattle.mud_file.specs.Entries as entries
 use Rattle.mud_file.specs.Entries.{ListHead, entry_of, most_entries}
 use Rattle.usage_walk.specs.Json.{value_in}
@@ -27,7 +27,7 @@ use Rattle.mud_file.specs.File.{policy_at, with_policy, mud_at, file_at, as_json
 use Rattle.mud_file.specs.Bounds.{HasFewMembers, IsBounded, ReadFilesAreBounded}
 use Rattle.usage_walk.proofs.Always.{Always, then_ok, always_bind, always_after, always_done, always_passed, always_over}
 use Rattle.mud_file.proofs.Members.{IsFewTests, always_tests_at}
-use Rattle.mud_file.proofs.Parts.{url_read, most_octets}
+use Rattle.mud_file.proofs.Parts.{url_read, most_octets, url_fault, url_path}
 
 -- ---- What the file says of itself
 

@@ -17,9 +17,10 @@ use Rattle.usage_walk.specs.Reading.{fault_at}
 use Rattle.usage_walk.proofs.Written.{num, list, obj}
 use Rattle.usage_match.specs.declared.entry_tests.ListType.TheVariants.{Ipv4, Ipv6}
 use Rattle.mud_file.specs.Head.{head_at}
-use Rattle.mud_file.specs.Entries.{ListHead, type_in, action_in, entries_in, next_list}
+use Rattle.mud_file.specs.Entries.{ListHead, entries_in, next_list}
 use Rattle.mud_file.specs.File.{file_at, file_of}
 use Rattle.mud_file.proofs.OnLiterals.{file_on_literals}
+use Rattle.mud_file.proofs.Parts.{type_in, action_in}
 
 abbrev txt : List ℕ → Data
 txt s = string s

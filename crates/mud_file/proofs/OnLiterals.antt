@@ -4,11 +4,11 @@ use Rattle.usage_match.proofs.OnLiterals.{match_on_literals}
 use Rattle.mud_file.proofs.DatesOnLiterals.{date_time_on_literals}
 use Rattle.serde_json.proofs.OnLiterals.{serde_json_on_literals}
 use Rattle.std.specs.Str.{is_utf8, chars}
-use Rattle.mud_file.specs.Head.{version_at, url_fault, as_url, url_at, as_update, update_at, as_hours, hours_at, infos_at, signature_at, extension_at, extensions_in, extensions_at, head_at}
-use Rattle.mud_file.specs.Entries.{module_prefix, without_module, ipv4_type_word, ipv6_type_word, type_named, type_in, accept_word, drop_word, reject_word, action_named, action_in, as_action, action_of, action_at, is_entry_named, new_entry_name, entry_name_at, family_of, entry_of, entry_at, with_entry, next_entry, entries_in, as_type, type_at, entries_path, aces_at, list_at, acl_named, next_list, entries_of}
+use Rattle.mud_file.specs.Head.{version_at, as_url, url_at, update_at, as_hours, hours_at, infos_at, extension_at, extensions_in, extensions_at, head_at}
+use Rattle.mud_file.specs.Entries.{module_prefix, without_module, type_named, action_named, as_action, action_of, action_at, new_entry_name, entry_name_at, family_of, entry_of, entry_at, with_entry, next_entry, entries_in, type_at, aces_at, list_at, acl_named, next_list, entries_of}
 use Rattle.mud_file.specs.File.{named_in, policy_member, names_path, policy_names, names_at, acls_at, policy_at, with_policy, mud_at, file_at, file_of}
 use Rattle.usage_walk.specs.Json.{value_in}
 
 unfoldable pub file_on_literals : ⊤
-unfolding match_on_literals date_time_on_literals serde_json_on_literals is_utf8 chars version_at url_fault as_url url_at as_update update_at as_hours hours_at infos_at signature_at extension_at extensions_in extensions_at head_at module_prefix without_module ipv4_type_word ipv6_type_word type_named type_in accept_word drop_word reject_word action_named action_in as_action action_of action_at is_entry_named new_entry_name entry_name_at family_of entry_of entry_at with_entry next_entry entries_in as_type type_at entries_path aces_at list_at acl_named next_list entries_of named_in policy_member names_path policy_names names_at acls_at policy_at with_policy mud_at file_at value_in file_of
+unfolding match_on_literals date_time_on_literals serde_json_on_literals is_utf8 chars version_at as_url url_at update_at as_hours hours_at infos_at extension_at extensions_in extensions_at head_at module_prefix without_module type_named action_named as_action action_of action_at new_entry_name entry_name_at family_of entry_of entry_at with_entry next_entry entries_in type_at aces_at list_at acl_named next_list entries_of named_in policy_member names_path policy_names names_at acls_at policy_at with_policy mud_at file_at value_in file_of
 file_on_literals = tt

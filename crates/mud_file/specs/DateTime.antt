@@ -52,10 +52,6 @@ behind_digits text = drop (prefix_len is_ascii_digit text) text
 unfoldable pub begins_fraction : List ℕ → Bool
 begins_fraction text = slice_index text 0 == byte "." && is_ascii_digit (slice_index text 1)
 
--- what stands behind a point and one or more digits at the front, or the whole text where none stand there
-unfoldable pub without_fraction : List ℕ → List ℕ
-without_fraction text = if begins_fraction text then behind_digits (drop 1 text) else text
-
 -- a number of seconds with a sign, `+` or `-`
 unfoldable pub signed : ℕ → ℕ → Option ℤ
 signed sign seconds = if sign == byte "+" then Some (pos seconds) else (if sign == byte "-" then Some (neg_ℤ (pos seconds)) else None)
@@ -74,3 +70,7 @@ seconds_in text = if slice_index text 10 == byte "T" then (do
   second ← second_in (drop 11 text)
   time_offset ← time_offset_in (without_fraction (drop 19 text))
   Some (((day *ℤ pos 86400) +ℤ pos second) -ℤ time_offset)) else None
+  where
+    -- what stands behind a point and one or more digits at the front, or the whole text where none stand there
+    without_fraction : List ℕ → List ℕ
+    without_fraction text = if begins_fraction text then behind_digits (drop 1 text) else text

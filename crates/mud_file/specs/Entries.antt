@@ -27,42 +27,21 @@ module_prefix = codes "ietf-access-control-list:"
 unfoldable pub without_module : List ℕ → List ℕ
 without_module text = if bytes_eq (take (length module_prefix) text) module_prefix then drop (length module_prefix) text else text
 
-unfoldable pub ipv4_type_word : List ℕ
-ipv4_type_word = codes "ipv4-acl-type"
-
-unfoldable pub ipv6_type_word : List ℕ
-ipv6_type_word = codes "ipv6-acl-type"
-
 unfoldable pub type_named : List ℕ → Option ListType
-type_named name = if bytes_eq name ipv4_type_word then Some Ipv4 else (if bytes_eq name ipv6_type_word then Some Ipv6 else None)
-
-unfoldable pub type_in : List ℕ → Option ListType
-type_in text = type_named (without_module text)
-
-unfoldable pub accept_word : List ℕ
-accept_word = codes "accept"
-
-unfoldable pub drop_word : List ℕ
-drop_word = codes "drop"
-
-unfoldable pub reject_word : List ℕ
-reject_word = codes "reject"
+type_named name = if bytes_eq name (codes "ipv4-acl-type") then Some Ipv4 else (if bytes_eq name (codes "ipv6-acl-type") then Some Ipv6 else None)
 
 -- `reject` is read as `drop`
 unfoldable pub action_named : List ℕ → Option Action
 action_named name =
-    if bytes_eq name accept_word then Some action.Accept
-    else (if bytes_eq name drop_word then Some action.Drop
-    else (if bytes_eq name reject_word then Some action.Drop
+    if bytes_eq name (codes "accept") then Some action.Accept
+    else (if bytes_eq name (codes "drop") then Some action.Drop
+    else (if bytes_eq name (codes "reject") then Some action.Drop
     else None))
-
-unfoldable pub action_in : List ℕ → Option Action
-action_in text = action_named (without_module text)
 
 -- ---- Entries
 
 unfoldable pub as_action : List ℕ → List ℕ → Reading Action
-as_action path text = wanted action.Drop (fault_at rule.Action (under path members.Forwarding)) (action_in text)
+as_action path text = wanted action.Drop (fault_at rule.Action (under path members.Forwarding)) (action_named (without_module text))
 
 -- what the actions at this path make of a packet
 unfoldable pub action_of : List ℕ → Data → Reading Action
@@ -76,14 +55,14 @@ action_at path d = do
   actions ← object_at path members.Actions d
   action_of (under path members.Actions) actions
 
-unfoldable pub is_entry_named : List ℕ → List Entry → Bool
-is_entry_named name entries = list_any (λ e. bytes_eq e.name name) entries
-
 -- an entry's name stands once in its list
 unfoldable pub new_entry_name : List ℕ → List Entry → List ℕ → Reading (List ℕ)
 new_entry_name path before name = do
   _ ← refused_where (is_entry_named name before) (fault_at rule.RepeatedName (under path members.Name))
   done name
+  where
+    is_entry_named : List ℕ → List Entry → Bool
+    is_entry_named name entries = list_any (λ e. bytes_eq e.name name) entries
 
 unfoldable pub entry_name_at : List ℕ → List Entry → Data → Reading (List ℕ)
 entry_name_at path before d = do
@@ -143,17 +122,13 @@ entries_in list ds = over (next_entry list) [] ds
 
 -- ---- Access lists
 
-unfoldable pub as_type : List ℕ → List ℕ → Reading ListType
-as_type path text = wanted Ipv4 (fault_at rule.AclType (under path members.Kind)) (type_in text)
-
 unfoldable pub type_at : List ℕ → Data → Reading ListType
 type_at path d = do
   text ← text_at path members.Kind d
   as_type path text
-
--- where the entries of the access list at this path stand
-unfoldable pub entries_path : List ℕ → List ℕ
-entries_path path = under (under path members.Aces) members.Ace
+  where
+    as_type : List ℕ → List ℕ → Reading ListType
+    as_type path text = wanted Ipv4 (fault_at rule.AclType (under path members.Kind)) (type_named (without_module text))
 
 -- the elements of its list of entries; without one it has none
 unfoldable pub aces_at : List ℕ → Data → Reading (List Data)
@@ -166,12 +141,9 @@ unfoldable pub list_at : Direction → ℕ → List ℕ → Element → Reading 
 list_at side room path acl = do
   type ← type_at path acl.value
   list ← aces_at path acl.value
-  entries_in (record { type = type; side = side; path = entries_path path; name = acl.name; room = room }) list
+  entries_in (record { type = type; side = side; path = under (under path members.Aces) members.Ace; name = acl.name; room = room }) list
 
 -- ---- The lists that a policy names
-
-abbrev pub acls_path : List ℕ
-acls_path = under (under [] members.Acls) members.Acl
 
 -- the access list of this name, which the list of names at this path has
 unfoldable pub acl_named : List ℕ → List Element → Element → Reading Element
@@ -188,7 +160,7 @@ most_entries = 128
 unfoldable pub next_list : Direction → List ℕ → List Element → List Entry → Element → Reading (List Entry)
 next_list side path acls so_far name = do
   acl ← acl_named path acls name
-  entries ← list_at side (most_entries - length so_far) (at_index acls_path acl.index) acl
+  entries ← list_at side (most_entries - length so_far) (at_index (under (under [] members.Acls) members.Acl) acl.index) acl
   done (so_far ++ entries)
 
 -- all entries of the direction: those of the lists of these names, which stand at this path

@@ -19,31 +19,25 @@ version_at path d = do
   refused_where (not (version == 1)) (fault_at rule.Version (under path members.MudVersion))
 
 -- a refusal of the URL carries the URL's own fault
-unfoldable pub url_fault : List ℕ → UrlFault → Broken
-url_fault path fault = record { rule = rule.Url; path = path; url = Some fault }
-
-abbrev pub url_path : List ℕ → List ℕ
-url_path path = under path members.MudUrl
-
 unfoldable pub as_url : List ℕ → List ℕ → Reading (List ℕ)
-as_url path text = url_read (url_path path) (url_of text)
+as_url path text = url_read (under path members.MudUrl) (url_of text)
   where
     url_read : List ℕ → Result (List ℕ) UrlFault → Reading (List ℕ)
     url_read path (Ok url) = done url
-    url_read path (Err fault) = wanted [] (url_fault path fault) None
+    url_read path (Err fault) = wanted [] (record { rule = rule.Url; path = path; url = Some fault }) None
 
 unfoldable pub url_at : List ℕ → Data → Reading (List ℕ)
 url_at path d = do
   text ← text_at path members.MudUrl d
   as_url path text
 
-unfoldable pub as_update : List ℕ → List ℕ → Reading ℤ
-as_update path text = wanted (pos 0) (fault_at rule.Update (under path members.LastUpdate)) (seconds_in text)
-
 unfoldable pub update_at : List ℕ → Data → Reading ℤ
 update_at path d = do
   text ← text_at path members.LastUpdate d
   as_update path text
+  where
+    as_update : List ℕ → List ℕ → Reading ℤ
+    as_update path text = wanted (pos 0) (fault_at rule.Update (under path members.LastUpdate)) (seconds_in text)
 
 unfoldable pub as_hours : List ℕ → ℕ → Reading ℕ
 as_hours path n = do
@@ -67,9 +61,6 @@ infos_at path d = do
   _ ← text_where_there path members.Documentation (Some d)
   done tt
 
-unfoldable pub signature_at : List ℕ → Data → Reading (Option (List ℕ))
-signature_at path d = text_where_there path members.MudSignature (Some d)
-
 -- the next extension of the list at this path, behind those before it
 unfoldable pub extension_at : List ℕ → List (List ℕ) → Data → Reading (List (List ℕ))
 extension_at path before d = do
@@ -92,7 +83,7 @@ head_at path d = do
   update ← update_at path d
   hours ← hours_at path d
   supported ← truth_at path members.IsSupported d
-  signature ← signature_at path d
+  signature ← text_where_there path members.MudSignature (Some d)
   _ ← infos_at path d
   extensions ← extensions_at path d
   done (record { url = url; update = update; hours = hours; supported = supported; signature = signature; extensions = extensions })

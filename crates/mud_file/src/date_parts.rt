@@ -1,5 +1,5 @@
 //! The parts of a date and time.
-ghost use Rattle.std.specs.Prelude.{◌≡◌, ◌≤◌, ◌+◌, ◌-◌, ◌<◌, true, false, length, IfSome, MatchOption};
+ghost use Rattle.std.specs.Prelude.{◌≡◌, ◌≤◌, ◌+◌, ◌-◌, ◌<◌, true, false, length, IfSome, MatchOption, drop, if◌then◌else◌};
 ghost use Rattle.std.specs.Char.{is_ascii_digit};
 ghost use Rattle.jiff_core.specs.Calendar.{IsEpochDay, IsWithin};
 ghost use Rattle.mud_file.specs.DateTime as spec;
@@ -139,9 +139,9 @@ fn begins_fraction(text: &[u8]) -> bool
 
 /// What stands behind a point and one or more digits at the front, or the whole text where none
 /// stand there.
-#[tactic(auto, unfolding(crate::specs::DateTime::without_fraction))]
+#[tactic(auto)]
 pub(crate) fn without_fraction(text: &[u8]) -> &[u8]
-    ensures { result.now ≡ spec.without_fraction text.now }
+    ensures { result.now ≡ if spec.begins_fraction text.now then spec.behind_digits (drop 1 text.now) else text.now }
 {
     if begins_fraction(text) {
         let (_, digits) = text.split_at(1);

@@ -1,9 +1,10 @@
 //! The entries of an access list (RFC 8519, 4.1).
-ghost use Rattle.std.specs.Prelude.{◌≡◌, map};
+ghost use Rattle.std.specs.Prelude.{◌≡◌, map, bytes_eq};
 ghost use Rattle.serde_json.specs.View.{view};
 ghost use Rattle.mud_base.specs.Readings.{Gives, done};
 ghost use Rattle.mud_file.specs.Entries as spec;
 ghost use Rattle.mud_file.specs.Lists.{list_head};
+ghost use Rattle.std.specs.List.{list_any};
 
 use crate::words::{action_in, family_of};
 use acl_model::{Action, Entry};
@@ -61,9 +62,9 @@ fn action(alloc: Global, entry: &Value, path: &[u8]) -> Result<Action, FileFault
 }
 
 /// Whether one of the entries has this name.
-#[tactic(auto, unfolding(crate::specs::Entries::is_entry_named))]
+#[tactic(auto)]
 fn is_entry_named(name: &[u8], entries: &[Entry]) -> bool
-    ensures { result ≡ spec.is_entry_named name.now entries.now }
+    ensures { result ≡ list_any (λ e. bytes_eq e.name name.now) entries.now }
 {
     entries.iter().any(|entry| entry.name.octets() == name)
 }

@@ -1,9 +1,14 @@
 //! What a usage file says of itself (RFC 8520, 3). The path is that of `ietf-mud:mud`.
-ghost use Rattle.std.specs.Prelude.{◌≡◌, map};
+ghost use Rattle.std.specs.Prelude.{◌≡◌, map, Some, pos};
 ghost use Rattle.serde_json.specs.View.{view};
-ghost use Rattle.mud_base.specs.Readings.{Gives, Refuses};
+ghost use Rattle.mud_base.specs.Readings.{Gives, Refuses, wanted};
 ghost use Rattle.mud_base.specs.declared.refusal.Refusal.TheVariants as refusal;
 ghost use Rattle.mud_file.specs.Head as spec;
+ghost use Rattle.usage_walk.specs.declared.member.Member.TheVariants as members;
+ghost use Rattle.usage_walk.specs.Reading.{under, fault_at};
+ghost use Rattle.usage_walk.specs.Kinds.{text_where_there};
+ghost use Rattle.mud_file.specs.DateTime.{seconds_in};
+ghost use Rattle.usage_walk.specs.declared.fault.Rule.TheVariants as rule;
 
 use crate::seconds_of;
 use crate::usage_file::Head;
@@ -27,9 +32,9 @@ fn version(alloc: Global, mud: &Value, path: &[u8]) -> Result<(), FileFault>
 }
 
 /// The refusal of a URL at this path, with the URL's own fault.
-#[tactic(auto, unfolding(crate::specs::Head::url_fault))]
+#[tactic(auto)]
 fn url_refused(path: Bytes, fault: UrlFault) -> FileFault
-    ensures { result ≡ refusal.Broken (spec.url_fault path fault) }
+    ensures { result ≡ refusal.Broken (record { rule = rule.Url; path = path; url = Some fault }) }
 {
     FileFault::Broken(Broken {
         rule: Rule::Url,
@@ -40,7 +45,7 @@ fn url_refused(path: Bytes, fault: UrlFault) -> FileFault
 
 /// The refusal of the URL of the object at this path, with the URL's own fault.
 fn url_refusal(alloc: Global, path: &[u8], fault: UrlFault) -> FileFault
-    ensures { Refuses result (spec.url_fault (spec.url_path path.now) fault) }
+    ensures { Refuses result (record { rule = rule.Url; path = (under path.now members.MudUrl); url = Some fault }) }
 {
     match under(alloc, path, Member::MudUrl) {
         Ok(path) => url_refused(path, fault),
@@ -69,9 +74,9 @@ fn url(alloc: Global, mud: &Value, path: &[u8]) -> Result<MudUrl, FileFault>
 }
 
 /// The seconds of the date and time that a text writes.
-#[tactic(auto, unfolding(crate::specs::Head::as_update), using(mud_base::proofs::Readings::answer_wanted, mud_base::proofs::Readings::answer_unwanted))]
+#[tactic(auto, using(mud_base::proofs::Readings::answer_wanted, mud_base::proofs::Readings::answer_unwanted))]
 fn as_update(alloc: Global, text: &str, path: &[u8]) -> Result<i64, FileFault>
-    ensures { Gives (λ s. s) result (spec.as_update path.now text.now) }
+    ensures { Gives (λ s. s) result (wanted (pos 0) (fault_at rule.Update (under path.now members.LastUpdate)) (seconds_in text.now)) }
 {
     match seconds_of(text.as_bytes()) {
         Some(seconds) => Ok(seconds),
@@ -123,9 +128,9 @@ fn infos(alloc: Global, mud: &Value, path: &[u8]) -> Result<(), FileFault>
 }
 
 /// A copy of the text that says where the signature is.
-#[tactic(auto, unfolding(crate::specs::Head::signature_at))]
+#[tactic(auto)]
 fn signature(alloc: Global, mud: &Value, path: &[u8]) -> Result<Option<Bytes>, FileFault>
-    ensures { Gives (λ s. s) result (spec.signature_at path.now (view mud.now)) }
+    ensures { Gives (λ s. s) result (text_where_there path.now members.MudSignature (Some (view mud.now))) }
 {
     match text_where_there(alloc, Some(mud), path, Member::MudSignature)? {
         None => Ok(None),

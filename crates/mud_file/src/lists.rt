@@ -1,14 +1,15 @@
 //! The access lists of a file, and the names by which a policy calls them (RFC 8520, 3.3; RFC 8519,
 //! 4.1).
-ghost use Rattle.std.specs.Prelude.{◌≡◌, ◌++◌, map, IfOk};
+ghost use Rattle.std.specs.Prelude.{◌≡◌, ◌++◌, map, IfOk, []};
 ghost use Rattle.serde_json.specs.View.{view};
-ghost use Rattle.mud_base.specs.Readings.{Gives, Refuses};
+ghost use Rattle.mud_base.specs.Readings.{Gives, Refuses, wanted};
 ghost use Rattle.usage_walk.specs.Reading.{fault_at};
 ghost use Rattle.usage_walk.specs.Reading as walk;
 ghost use Rattle.usage_walk.specs.Elements.{element_view, elements_view};
 ghost use Rattle.usage_walk.specs.declared.fault.Rule.TheVariants as rule;
 ghost use Rattle.usage_walk.specs.declared.member.Member.TheVariants as members;
 ghost use Rattle.mud_file.specs.Entries as spec;
+ghost use Rattle.usage_match.specs.declared.entry_tests.ListType.TheVariants.{Ipv4};
 
 use crate::entries::{AccessList, entries_in};
 use crate::words::type_in;
@@ -25,9 +26,9 @@ use usage_walk::{Element, Elements, FileFault, Member, Rule};
 const MOST_ENTRIES: usize = 128;
 
 /// The type that a text names.
-#[tactic(auto, unfolding(crate::specs::Entries::as_type), using(mud_base::proofs::Readings::answer_wanted, mud_base::proofs::Readings::answer_unwanted))]
+#[tactic(auto, using(mud_base::proofs::Readings::answer_wanted, mud_base::proofs::Readings::answer_unwanted))]
 fn as_type(alloc: Global, text: &str, path: &[u8]) -> Result<ListType, FileFault>
-    ensures { Gives (λ t. t) result (spec.as_type path.now text.now) }
+    ensures { Gives (λ t. t) result (wanted Ipv4 (fault_at rule.AclType (walk.under path.now members.Kind)) (spec.type_named (spec.without_module text.now))) }
 {
     match type_in(text.as_bytes()) {
         Some(list_type) => Ok(list_type),
@@ -45,9 +46,9 @@ fn type_at(alloc: Global, acl: &Value, path: &[u8]) -> Result<ListType, FileFaul
 }
 
 /// Where the entries of the access list at this path stand.
-#[tactic(auto, unfolding(crate::specs::Entries::entries_path))]
+#[tactic(auto)]
 fn entries_path(alloc: Global, path: &[u8]) -> Result<Bytes, Memory>
-    ensures { IfOk result (λ found. found ≡ spec.entries_path path.now) }
+    ensures { IfOk result (λ found. found ≡ walk.under (walk.under path.now members.Aces) members.Ace) }
 {
     let aces = under(alloc, path, Member::Aces)?;
     under(alloc, aces.octets(), Member::Ace)
@@ -91,7 +92,7 @@ fn list_entries(
 
 /// Where the access list with this index stands.
 fn acl_path(alloc: Global, index: usize) -> Result<Bytes, Memory>
-    ensures { IfOk result (λ found. found ≡ walk.at_index spec.acls_path index) }
+    ensures { IfOk result (λ found. found ≡ walk.at_index (walk.under (walk.under [] members.Acls) members.Acl) index) }
 {
     let acls = under(alloc, &[], Member::Acls)?;
     let list = under(alloc, acls.octets(), Member::Acl)?;

@@ -1,6 +1,6 @@
 //! The words of access lists and entries. Each is an identity, which may carry the prefix of its YANG
 //! module (RFC 7951, 6.8).
-ghost use Rattle.std.specs.Prelude.{◌≡◌};
+ghost use Rattle.std.specs.Prelude.{◌≡◌, codes};
 ghost use Rattle.mud_file.specs.Entries as spec;
 
 use acl_model::Action;
@@ -27,17 +27,17 @@ fn without_module(text: &[u8]) -> &[u8]
 }
 
 /// The name of the type whose entries are for IPv4.
-#[tactic(auto, unfolding(crate::specs::Entries::ipv4_type_word))]
+#[tactic(auto)]
 fn ipv4_type_word() -> &'static [u8]
-    ensures { result.now ≡ spec.ipv4_type_word }
+    ensures { result.now ≡ codes "ipv4-acl-type" }
 {
     b"ipv4-acl-type"
 }
 
 /// The name of the type whose entries are for IPv6.
-#[tactic(auto, unfolding(crate::specs::Entries::ipv6_type_word))]
+#[tactic(auto)]
 fn ipv6_type_word() -> &'static [u8]
-    ensures { result.now ≡ spec.ipv6_type_word }
+    ensures { result.now ≡ codes "ipv6-acl-type" }
 {
     b"ipv6-acl-type"
 }
@@ -57,9 +57,9 @@ fn type_named(name: &[u8]) -> Option<ListType>
 }
 
 /// The type of access lists that a text names.
-#[tactic(auto, unfolding(crate::specs::Entries::type_in))]
+#[tactic(auto)]
 pub(crate) fn type_in(text: &[u8]) -> Option<ListType>
-    ensures { result ≡ spec.type_in text.now }
+    ensures { result ≡ spec.type_named (spec.without_module text.now) }
 {
     type_named(without_module(text))
 }
@@ -76,25 +76,25 @@ pub(crate) fn family_of(list_type: ListType) -> Family
 }
 
 /// The name of what forwards a packet.
-#[tactic(auto, unfolding(crate::specs::Entries::accept_word))]
+#[tactic(auto)]
 fn accept_word() -> &'static [u8]
-    ensures { result.now ≡ spec.accept_word }
+    ensures { result.now ≡ codes "accept" }
 {
     b"accept"
 }
 
 /// The name of what drops a packet and says nothing.
-#[tactic(auto, unfolding(crate::specs::Entries::drop_word))]
+#[tactic(auto)]
 fn drop_word() -> &'static [u8]
-    ensures { result.now ≡ spec.drop_word }
+    ensures { result.now ≡ codes "drop" }
 {
     b"drop"
 }
 
 /// The name of what drops a packet and tells its sender.
-#[tactic(auto, unfolding(crate::specs::Entries::reject_word))]
+#[tactic(auto)]
 fn reject_word() -> &'static [u8]
-    ensures { result.now ≡ spec.reject_word }
+    ensures { result.now ≡ codes "reject" }
 {
     b"reject"
 }
@@ -117,9 +117,9 @@ fn action_named(name: &[u8]) -> Option<Action>
 }
 
 /// What becomes of a packet, as a text names it.
-#[tactic(auto, unfolding(crate::specs::Entries::action_in))]
+#[tactic(auto)]
 pub(crate) fn action_in(text: &[u8]) -> Option<Action>
-    ensures { result ≡ spec.action_in text.now }
+    ensures { result ≡ spec.action_named (spec.without_module text.now) }
 {
     action_named(without_module(text))
 }

@@ -4,7 +4,8 @@ use Rattle.std.specs.Prelude.{codes, bytes_eq}
 use Rattle.std.proofs.lemmas.Bool.{cond_both, eqb-false, or_parts}
 use Rattle.std.proofs.lemmas.List.{length-take, length-drop, length-map, length-append}
 use Rattle.mud_url.specs.Host.{lowered}
-use Rattle.mud_url.specs.Url.{authority, path_and_query, host_part, port_part, canonical_port, canonical_path, scheme}
+use Rattle.mud_url.specs.Url.{authority, path_and_query, host_part, port_part, canonical_path, scheme}
+use Rattle.mud_url.proofs.Pieces.{canonical_port}
 
 pub length-scheme : length scheme ≡ 8
 unfolding scheme
@@ -16,7 +17,6 @@ length-lowered text = length-map text _
 
 -- the port is written with its `:`, or not at all
 length-canonical_port : (port : List ℕ) → (length (canonical_port port) ≡ 0) ⊎ ((0 < length port) × (length (canonical_port port) ≡ length port + 1))
-unfolding canonical_port
 length-canonical_port port =
     cond_both (eqb (length port) 0 || bytes_eq port (codes "443")) [] (58 ∷ port) (λ (text : List ℕ). (length text ≡ 0) ⊎ ((0 < length port) × (length text ≡ length port + 1)))
     (λ t. inl refl)

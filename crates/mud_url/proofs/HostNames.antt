@@ -8,11 +8,12 @@ use Rattle.std.proofs.lemmas.Bool.{cond_both, and_parts, and_from, or_left, or_r
 use Rattle.std.proofs.lemmas.List.{nil_from_length}
 use Rattle.std.proofs.lemmas.List.Folds.{list_all-map}
 use Rattle.std.proofs.lemmas.Str.Ascii.{lowercase-lowercase}
-use Rattle.mud_base.specs.Decimal.{number_upto, digits_upto, has_numeral_front}
+use Rattle.mud_base.specs.Decimal.{number_upto, digits_upto}
 use Rattle.mud_url.specs.Host.{lowered, is_label_octet, is_label, is_dot, is_host}
 use Rattle.mud_url.specs.Url.{is_port}
 use Rattle.mud_url.proofs.Bounds.{length-lowered}
 use Rattle.mud_url.proofs.Octets.{at_lowercase, list_all-lowered, is_host_octet}
+use Rattle.mud_base.proofs.Parts.{has_numeral_front}
 
 pub lowered-lowered : (text : List ℕ) → lowered (lowered text) ≡ lowered text
 unfolding lowered

@@ -10,13 +10,14 @@ use Rattle.mud_base.specs.Faults.{row, row_at, first_row}
 use Rattle.mud_url.specs.declared.fault.UrlFault.{UrlFault}
 use Rattle.mud_url.specs.declared.fault.UrlFault.TheVariants.{Empty, Octet, Scheme, Host, Port, Path, UserInfo, Fragment, Long}
 use Rattle.mud_url.specs.Host.{lowered, is_label_octet, is_host}
-use Rattle.mud_url.specs.Url.{scheme, begins_with_scheme, is_colon, is_slash_or_question, authority, path_and_query, host_part, port_part, is_port, is_path_octet, path_fault, canonical_port, canonical_path, canonical, faults, url_of, is_question_mark, before_query, path_part, without_slash, gave, reads_as, is_canonical}
+use Rattle.mud_url.specs.Url.{scheme, begins_with_scheme, is_colon, is_slash_or_question, authority, path_and_query, host_part, port_part, is_port, path_fault, canonical_path, canonical, faults, url_of, is_question_mark, before_query, reads_as, is_canonical}
 use Rattle.mud_url.proofs.Bounds.{length-scheme, length-lowered, parts_fit}
 use Rattle.mud_url.proofs.Cuts.{begins, after_first-append, after_first-none, position-none, before_first-append}
 use Rattle.mud_url.proofs.Octets.{is_host_octet, is_url_octet, host_has_none, path_has_none}
 use Rattle.mud_url.proofs.Written.{written, AreParts, authority-written, path_and_query-written, host_part-written, canonical_port_cases, canonical_port_has_none, parts_of, begins-canonical_path}
 use Rattle.mud_url.proofs.HostNames.{lowered-lowered, is_host-lowered, host_stands, port_stands}
 use Rattle.mud_url.proofs.Paths.{path_fault_from, path_stands, path_fault-canonical_path, canonical_path-canonical_path}
+use Rattle.mud_url.proofs.Pieces.{without_slash, path_part, canonical_port, gave}
 
 pub url_of_no_fault : (url : List ℕ) → first_row (faults url) ≡ None → url_of url ≡ Ok (canonical url)
 unfolding url_of
@@ -81,7 +82,6 @@ unfolding is_port
 no_port = refl
 
 no_port_written : canonical_port [] ≡ []
-unfolding canonical_port
 no_port_written = refl
 
 -- the port that is read from what was written is good, and is written as before
@@ -112,7 +112,7 @@ unfolding written begins_with_scheme scheme lowered
 written_has_scheme host port path = refl
 
 written_is_graphic : (host port path : List ℕ) → AreSound host port path → list_any (λ c. not (is_ascii_graphic c)) (written host port path) ≡ false
-unfolding scheme is_host_octet is_label_octet is_url_octet is_path_octet
+unfolding scheme is_host_octet is_label_octet is_url_octet
 written_is_graphic host port path sound =
     let q : ℕ → Bool = λ c. not (is_ascii_graphic c) in
     written_has_none q host port path refl
@@ -121,7 +121,7 @@ written_is_graphic host port path sound =
     (path_has_none q refl path (path_stands 0 path sound.path_is))
 
 written_has_no_fragment : (host port path : List ℕ) → AreSound host port path → list_any (λ c. eqb c 35) (written host port path) ≡ false
-unfolding scheme is_host_octet is_label_octet is_url_octet is_path_octet
+unfolding scheme is_host_octet is_label_octet is_url_octet
 written_has_no_fragment host port path sound =
     let q : ℕ → Bool = λ c. eqb c 35 in
     written_has_none q host port path refl
@@ -202,12 +202,11 @@ front-written host port path rest =
 
 -- the text without its path `/`
 without_slash-written : (host port path : List ℕ) → AreParts host port (47 ∷ path) → without_slash (written host port (47 ∷ path)) ≡ written host port path
-unfolding without_slash
 without_slash-written host port path parts =
     rw (authority-written host port (47 ∷ path) parts, path_and_query-written host port (47 ∷ path) parts) (front-written host port (47 ∷ path) path)
 
 path_part-written : (host port path : List ℕ) → AreParts host port (47 ∷ path) → begins is_question_mark path ≡ true → path_part (written host port (47 ∷ path)) ≡ 47 ∷ []
-unfolding path_part before_query
+unfolding before_query
 path_part-written host port path parts query =
     ap (before_first is_question_mark) (path_and_query-written host port (47 ∷ path) parts) ∙ before_first-append is_question_mark (47 ∷ []) path refl query
 

@@ -8,3 +8,4 @@ pub mod OnLiterals
 pub mod Paths
 pub mod Offsets
 pub mod Written
+pub mod Pieces

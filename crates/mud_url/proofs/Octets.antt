@@ -7,7 +7,8 @@ use Rattle.std.proofs.lemmas.Bool.{agree_below, agree_below_at, cases_lt, and_pa
 use Rattle.std.proofs.lemmas.Bool.Decides.{nat_tests}
 use Rattle.std.proofs.lemmas.Str.Ascii.{lowercase_is}
 use Rattle.mud_url.specs.Host.{lowered, is_dot, is_label_octet}
-use Rattle.mud_url.specs.Url.{is_colon, is_slash_or_question, is_path_octet}
+use Rattle.mud_url.specs.Url.{is_colon, is_slash_or_question}
+use Rattle.mud_url.proofs.Pieces.{is_path_octet}
 
 -- a test that doesn't tell a letter's case, which computes for the octets of ASCII
 pub at_lowercase : (p : ℕ → Bool) → agree_below (λ c. p (to_ascii_lowercase c)) p 128 ≡ true → (c : ℕ) → p (to_ascii_lowercase c) ≡ p c
@@ -49,7 +50,7 @@ is_ascii_mark (m ∷ marks) c low e =
     ⊎_elim (λ here. let same = eqb-true m c here in let below = (and_parts (ltb m 128) _ low).0 in grind (arith, nat_tests)) (λ later. is_ascii_mark marks c (and_parts (ltb m 128) _ low).1 later) (or_cases (eqb m c) _ e)
 
 is_ascii_url : (c : ℕ) → is_url_octet c ≡ true → c < 128
-unfolding is_url_octet is_path_octet
+unfolding is_url_octet
 is_ascii_url c e =
     ⊎_elim
     (λ path. ⊎_elim (λ letter. ⊎_elim (λ low. low) (λ high. absurd (grind (arith, nat_tests))) (cases_lt c 128)) (λ mark. is_ascii_mark (codes "-._~!$&'()*+,;=:@/?") c refl mark) (or_cases _ _ path))

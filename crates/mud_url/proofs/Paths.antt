@@ -2,8 +2,9 @@
 use Rattle.std.proofs.Common.{◌≡◌, ℕ, ◌+◌, Bool, true, false, cond, eqb, ⊎_elim, List, [], ◌∷◌, Option, Some, None, refl, ◌∙◌}
 use Rattle.std.specs.List.{list_all}
 use Rattle.std.proofs.lemmas.Bool.{cond_both, and_parts, and_from, or_left, or_right, or_cases}
-use Rattle.mud_url.specs.Url.{may_stand, is_path_octet, begins_with_hex_pair, path_fault, canonical_path}
+use Rattle.mud_url.specs.Url.{may_stand, begins_with_hex_pair, path_fault, canonical_path}
 use Rattle.mud_url.proofs.Octets.{is_url_octet}
+use Rattle.mud_url.proofs.Pieces.{is_path_octet}
 
 path_fault-cons_yes : (at c : ℕ) (more : List ℕ) → may_stand c more ≡ true → path_fault at (c ∷ more) ≡ path_fault (at + 1) more
 unfolding path_fault
@@ -37,7 +38,7 @@ path_stands at (c ∷ more) e =
     and_from _ _ (stands c more both.0) (path_stands (at + 1) more both.1)
 
 slash_stands : (more : List ℕ) → may_stand 47 more ≡ true
-unfolding may_stand is_path_octet
+unfolding may_stand
 slash_stands more = refl
 
 pub path_fault-canonical_path : (at : ℕ) (path : List ℕ) → path_fault at path ≡ None → path_fault at (canonical_path path) ≡ None

@@ -7,9 +7,10 @@ use Rattle.std.proofs.lemmas.List.{drop_at, length-take-le}
 use Rattle.std.proofs.lemmas.List.Folds.{list_any-append}
 use Rattle.std.proofs.lemmas.List.Sums.{prefix_len-le-length}
 use Rattle.mud_url.specs.Host.{lowered}
-use Rattle.mud_url.specs.Url.{scheme, is_colon, is_slash_or_question, authority, path_and_query, host_part, port_part, canonical_port, canonical_path, canonical, host_of}
+use Rattle.mud_url.specs.Url.{scheme, is_colon, is_slash_or_question, authority, path_and_query, host_part, port_part, canonical_path, canonical, host_of}
 use Rattle.mud_url.proofs.Cuts.{begins, before_first-append, list_any-take, list_any-drop, list_any-before_first, begins-rest}
 use Rattle.mud_url.proofs.Octets.{list_any-lowered, colon_lowered, slash_or_question_lowered}
+use Rattle.mud_url.proofs.Pieces.{canonical_port}
 
 -- a URL, written from its parts
 unfoldable pub written : List ℕ → List ℕ → List ℕ → List ℕ
@@ -27,17 +28,15 @@ unfolding written scheme
 behind_scheme host port path = refl
 
 pub canonical_port_has_none : (q : ℕ → Bool) → q 58 ≡ false → (port : List ℕ) → list_any q port ≡ false → list_any q (canonical_port port) ≡ false
-unfolding canonical_port
 canonical_port_has_none q colon port none =
     cond_both (eqb (length port) 0 || bytes_eq port (codes "443")) [] (58 ∷ port) (λ text. list_any q text ≡ false) (λ _. refl) (λ _. or_from _ _ colon none)
 
 pub canonical_port_cases : (port : List ℕ) → (canonical_port port ≡ []) ⊎ (canonical_port port ≡ 58 ∷ port)
-unfolding canonical_port
 canonical_port_cases port =
     cond_both (eqb (length port) 0 || bytes_eq port (codes "443")) [] (58 ∷ port) (λ text. (text ≡ []) ⊎ (text ≡ 58 ∷ port)) (λ _. inl refl) (λ _. inr refl)
 
 canonical_port_begins : (port : List ℕ) → begins is_colon (canonical_port port) ≡ true
-unfolding canonical_port begins
+unfolding begins
 canonical_port_begins port =
     cond_both (eqb (length port) 0 || bytes_eq port (codes "443")) [] (58 ∷ port) (λ text. begins is_colon text ≡ true) (λ _. refl) (λ _. refl)
 

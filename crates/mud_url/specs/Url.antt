@@ -41,11 +41,6 @@ port_part url = after_first is_colon (authority url)
 unfoldable pub is_port : List ℕ → Bool
 is_port text = length text == 0 || option_map_or (λ n. nat_lt 0 n) (number_upto 65535 text) false
 
--- unreserved octets, sub-delimiters, `:`, `@`, `/` (RFC 3986, 3.3), and `?`. A query may hold `?`
--- too (3.4), and the first `?` begins it, so path and query have one set.
-unfoldable pub is_path_octet : ℕ → Bool
-is_path_octet c = is_ascii_alphanumeric c || list_any (λ mark. mark == c) (codes "-._~!$&'()*+,;=:@/?")
-
 unfoldable pub begins_with_hex_pair : List ℕ → Bool
 begins_with_hex_pair [] = false
 begins_with_hex_pair (c ∷ []) = false
@@ -54,15 +49,16 @@ begins_with_hex_pair (c ∷ d ∷ more) = is_ascii_hexdigit c && is_ascii_hexdig
 -- whether an octet may stand in front of the others: `%` only where two hex digits follow (2.1)
 unfoldable pub may_stand : ℕ → List ℕ → Bool
 may_stand c more = is_path_octet c || (c == 37 && begins_with_hex_pair more)
+  where
+    -- unreserved octets, sub-delimiters, `:`, `@`, `/` (RFC 3986, 3.3), and `?`. A query may hold `?`
+    -- too (3.4), and the first `?` begins it, so path and query have one set.
+    is_path_octet : ℕ → Bool
+    is_path_octet c = is_ascii_alphanumeric c || list_any (λ mark. mark == c) (codes "-._~!$&'()*+,;=:@/?")
 
 -- the offset of the first octet that may not stand, where the text begins at this offset
 unfoldable pub path_fault : ℕ → List ℕ → Option ℕ
 path_fault at [] = None
 path_fault at (c ∷ more) = if may_stand c more then path_fault (at + 1) more else Some at
-
--- `:` and the port, unless it is empty or the default one of the scheme (RFC 3986, 6.2.3)
-unfoldable pub canonical_port : List ℕ → List ℕ
-canonical_port port = if length port == 0 || bytes_eq port (codes "443") then [] else 58 ∷ port
 
 -- `/` for an empty path, and the rest as it is
 unfoldable pub canonical_path : List ℕ → List ℕ
@@ -72,6 +68,10 @@ canonical_path (c ∷ more) = if c == 47 then c ∷ more else 47 ∷ c ∷ more
 -- the text by which URLs are compared
 unfoldable pub canonical : List ℕ → List ℕ
 canonical url = scheme ++ lowered (host_part url) ++ canonical_port (port_part url) ++ canonical_path (path_and_query url)
+  where
+    -- `:` and the port, unless it is empty or the default one of the scheme (RFC 3986, 6.2.3)
+    canonical_port : List ℕ → List ℕ
+    canonical_port port = if length port == 0 || bytes_eq port (codes "443") then [] else 58 ∷ port
 
 -- the faults of a URL, in the order in which they are found
 abbrev pub faults : List ℕ → List (Option UrlFault)
@@ -98,25 +98,22 @@ without_last_zero text = if not (length text == 0) && slice_index text (length t
 abbrev pub is_space : ℕ → Bool
 is_space c = c == 32
 
-unfoldable pub before_space : List ℕ → List ℕ
-before_space text = before_first is_space text
-
 -- the URL of a MUD string of at most 255 octets, which ends at its first space (RFC 8520, 10)
 unfoldable pub string_of : List ℕ → Result (List ℕ) UrlFault
 string_of octets =
-    if nat_lt 255 (length (without_last_zero octets)) then Err Long else url_of (before_space (without_last_zero octets))
+    if nat_lt 255 (length (without_last_zero octets)) then Err Long else url_of (before_first is_space (without_last_zero octets))
 
 -- the host of a canonical text
 unfoldable pub host_of : List ℕ → List ℕ
 host_of text = host_part text
 
--- whether a reading gave this text
-abbrev pub gave : Result (List ℕ) UrlFault → List ℕ → Bool
-gave (Ok read) text = bytes_eq read text
-gave (Err fault) text = false
-
 unfoldable pub reads_as : List ℕ → List ℕ → Bool
 reads_as url text = gave (url_of url) text
+  where
+    -- whether a reading gave this text
+    gave : Result (List ℕ) UrlFault → List ℕ → Bool
+    gave (Ok read) text = bytes_eq read text
+    gave (Err fault) text = false
 
 abbrev pub is_question_mark : ℕ → Bool
 is_question_mark c = c == 63
@@ -125,16 +122,12 @@ is_question_mark c = c == 63
 unfoldable pub before_query : List ℕ → List ℕ
 before_query text = before_first is_question_mark text
 
--- the path, without the query (RFC 3986, 3.3)
-unfoldable pub path_part : List ℕ → List ℕ
-path_part url = before_query (path_and_query url)
-
--- the text without the first octet of its path
-unfoldable pub without_slash : List ℕ → List ℕ
-without_slash text = take (8 + length (authority text)) text ++ drop 1 (path_and_query text)
-
 -- a canonical text is read as itself. One of 256 octets is too long for that: there the path is the
 -- `/` that stands for an empty one, and the text is what is read without it.
 unfoldable pub is_canonical : List ℕ → Bool
 is_canonical text =
-    reads_as text text || (length text == 256 && bytes_eq (path_part text) (47 ∷ []) && reads_as (without_slash text) text)
+    reads_as text text || (length text == 256 && bytes_eq (before_query (path_and_query text)) (47 ∷ []) && reads_as (without_slash text) text)
+  where
+    -- the text without the first octet of its path
+    without_slash : List ℕ → List ℕ
+    without_slash text = take (8 + length (authority text)) text ++ drop 1 (path_and_query text)

@@ -1,5 +1,5 @@
 //! Writing the canonical text of a URL.
-ghost use Rattle.std.specs.Prelude.{◌≡◌, ◌≤◌, ◌+◌, ◌++◌, length, take, drop};
+ghost use Rattle.std.specs.Prelude.{◌≡◌, ◌≤◌, ◌+◌, ◌++◌, length, take, drop, bytes_eq, codes, ◌==◌, ◌||◌, ◌∷◌, if◌then◌else◌, []};
 ghost use Rattle.mud_url.specs.Host.{lowered};
 ghost use Rattle.mud_url.specs.Url as spec;
 
@@ -28,10 +28,10 @@ fn append_lowered(text: &mut ShortText, octets: &[u8])
 }
 
 /// Adds `:` and the port, unless it is empty or the default one.
-#[tactic(auto, unfolding(crate::specs::Url::canonical_port))]
+#[tactic(auto)]
 fn append_port(text: &mut ShortText, port: &[u8])
-    requires { length text.old + length (spec.canonical_port port.now) ≤ 256 }
-    ensures { text.new ≡ text.old ++ spec.canonical_port port.now }
+    requires { length text.old + length (if length port.now == 0 || bytes_eq port.now (codes "443") then [] else 58 ∷ port.now) ≤ 256 }
+    ensures { text.new ≡ text.old ++ (if length port.now == 0 || bytes_eq port.now (codes "443") then [] else 58 ∷ port.now) }
 {
     if port.is_empty() || port == b"443".as_slice() {
         return;
@@ -90,10 +90,10 @@ fn around_slash(text: &[u8]) -> (&[u8], &[u8])
 }
 
 /// The text without the first octet of its path.
-#[tactic(auto, using(crate::proofs::Bounds::around_slash_fits), unfolding(crate::specs::Url::without_slash))]
+#[tactic(auto, using(crate::proofs::Bounds::around_slash_fits))]
 pub(crate) fn without_slash(text: &[u8]) -> ShortText
     requires { length text.now ≤ 256 }
-    ensures { result ≡ spec.without_slash text.now }
+    ensures { result ≡ take (8 + length (spec.authority text.now)) text.now ++ drop 1 (spec.path_and_query text.now) }
 {
     let (front, back) = around_slash(text);
     let mut shorter = ShortText::new();

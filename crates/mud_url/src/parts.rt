@@ -1,6 +1,6 @@
 //! The parts of a URL, and what may stand in them.
-ghost use Rattle.std.specs.Prelude.{◌≡◌, ◌==◌, ◌+◌, ◌<◌, ◌^◌, drop, take, not, length, position};
-ghost use Rattle.std.specs.Char.{is_ascii_graphic};
+ghost use Rattle.std.specs.Prelude.{◌≡◌, ◌==◌, ◌+◌, ◌<◌, ◌^◌, drop, take, not, length, position, codes, ◌||◌};
+ghost use Rattle.std.specs.Char.{is_ascii_graphic, is_ascii_alphanumeric};
 ghost use Rattle.std.specs.List.{list_any};
 ghost use Rattle.mud_url.specs.Url as spec;
 
@@ -88,9 +88,9 @@ pub fn before_query(text: &[u8]) -> &[u8]
 }
 
 /// The path, without the query (RFC 3986, 3.3).
-#[tactic(auto, unfolding(crate::specs::Url::path_part))]
+#[tactic(auto)]
 pub fn path_part(url: &[u8]) -> &[u8]
-    ensures { result.now ≡ spec.path_part url.now }
+    ensures { result.now ≡ spec.before_query (spec.path_and_query url.now) }
 {
     before_query(path_and_query(url))
 }
@@ -151,9 +151,9 @@ pub(crate) fn has_user_info(authority: &[u8]) -> bool
 const MARKS: &[u8; 19] = b"-._~!$&'()*+,;=:@/?";
 
 /// Whether an octet may stand in a path or a query by itself.
-#[tactic(auto, unfolding(crate::specs::Url::is_path_octet))]
+#[tactic(auto)]
 fn is_path_octet(octet: u8) -> bool
-    ensures { result ≡ spec.is_path_octet octet }
+    ensures { result ≡ is_ascii_alphanumeric octet || list_any (λ mark. mark == octet) (codes "-._~!$&'()*+,;=:@/?") }
 {
     octet.is_ascii_alphanumeric() || MARKS.contains(&octet)
 }

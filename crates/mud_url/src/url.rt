@@ -7,6 +7,7 @@ ghost use Rattle.std.specs.Ordering.{nat_cmp, as_partial_cmp};
 ghost use Rattle.mud_base.specs.Faults.{first_row};
 ghost use Rattle.mud_url.specs.Url as spec;
 ghost use Rattle.mud_url.specs.Url.{url_of, string_of, host_of, is_canonical};
+ghost use Rattle.std.specs.List.{before_first};
 
 use crate::canonical::{canonical_text, without_slash};
 use crate::fault::UrlFault;
@@ -188,9 +189,9 @@ fn first_space(text: &[u8]) -> Option<usize>
 }
 
 /// What stands before the first space.
-#[tactic(auto, using(crate::proofs::Offsets::before_first_found, crate::proofs::Offsets::before_first_none), unfolding(crate::specs::Url::before_space))]
+#[tactic(auto, using(crate::proofs::Offsets::before_first_found, crate::proofs::Offsets::before_first_none))]
 fn before_space(text: &[u8]) -> &[u8]
-    ensures { result.now ≡ spec.before_space text.now }
+    ensures { result.now ≡ before_first spec.is_space text.now }
 {
     match first_space(text) {
         Some(end) => text.split_at(end).0,

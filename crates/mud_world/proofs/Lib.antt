@@ -5,3 +5,4 @@ pub mod Wholes
 pub mod Wires
 pub mod ItemLaws
 mod ItemExamples
+pub mod Parts

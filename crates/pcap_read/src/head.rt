@@ -1,7 +1,8 @@
 //! The heads of packets.
 ghost use Rattle.std.specs.Prelude.{◌≡◌, ◌≤◌, length};
-ghost use Rattle.pcap_read.specs.Packets.{seconds_of, captured_len};
+ghost use Rattle.pcap_read.specs.Packets.{captured_len, seconds_offset};
 ghost use Rattle.pcap_read.specs.Parts as spec;
+ghost use Rattle.mud_base.specs.Numbers.{number_32};
 
 use mud_base::{ByteOrder, number_32};
 
@@ -24,10 +25,10 @@ pub(crate) struct Head {
 }
 
 /// What a head says.
-#[tactic(auto, unfolding(crate::specs::Packets::seconds_of, crate::specs::Packets::captured_len))]
+#[tactic(auto, unfolding(crate::specs::Packets::captured_len))]
 pub(crate) fn head_in(order: ByteOrder, head: &[u8]) -> Head
     requires { 16 ≤ length head.now }
-    ensures seconds { result.seconds ≡ seconds_of order head.now }
+    ensures seconds { result.seconds ≡ number_32 order seconds_offset head.now }
     ensures len { result.len ≡ captured_len order head.now }
 {
     Head {

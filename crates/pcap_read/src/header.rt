@@ -1,7 +1,9 @@
 //! The header of a capture.
-ghost use Rattle.std.specs.Prelude.{◌≡◌, ◌≤◌, length, false};
+ghost use Rattle.std.specs.Prelude.{◌≡◌, ◌≤◌, length, false, ◌==◌, ◌&&◌, Some, None, if◌then◌else◌};
 ghost use Rattle.pcap_read.specs.Fault.{has_failed};
 ghost use Rattle.pcap_read.specs.Packets as spec;
+ghost use Rattle.mud_base.specs.Numbers.{number_16, number_32};
+ghost use Rattle.mud_base.specs.declared.number.ByteOrder.TheVariants.{Little, Big};
 
 use crate::fault::CapFault;
 use mud_base::{ByteOrder, number_16, number_32};
@@ -38,10 +40,10 @@ fn has_magic(order: ByteOrder, header: &[u8]) -> bool
 }
 
 /// The order in which a header has a magic number.
-#[tactic(auto, unfolding(crate::specs::Packets::order_in))]
+#[tactic(auto)]
 fn order_in(header: &[u8]) -> Option<ByteOrder>
     requires { 24 ≤ length header.now }
-    ensures { result ≡ spec.order_in header.now }
+    ensures { result ≡ if spec.has_magic Big header.now then Some Big else (if spec.has_magic Little header.now then Some Little else None) }
 {
     if has_magic(ByteOrder::Big, header) {
         return Some(ByteOrder::Big);
@@ -53,20 +55,20 @@ fn order_in(header: &[u8]) -> Option<ByteOrder>
 }
 
 /// Whether a header has the version 2.4.
-#[tactic(auto, unfolding(crate::specs::Packets::is_version_2_4))]
+#[tactic(auto)]
 fn is_version_2_4(order: ByteOrder, header: &[u8]) -> bool
     requires { 24 ≤ length header.now }
-    ensures { result ≡ spec.is_version_2_4 order header.now }
+    ensures { result ≡ number_16 order spec.major_version_offset header.now == 2 && number_16 order spec.minor_version_offset header.now == 4 }
 {
     number_16(order, header, MAJOR_VERSION_OFFSET) == MAJOR_VERSION
         && number_16(order, header, MINOR_VERSION_OFFSET) == MINOR_VERSION
 }
 
 /// Whether a header has the link type Ethernet.
-#[tactic(auto, unfolding(crate::specs::Packets::is_ethernet))]
+#[tactic(auto)]
 fn is_ethernet(order: ByteOrder, header: &[u8]) -> bool
     requires { 24 ≤ length header.now }
-    ensures { result ≡ spec.is_ethernet order header.now }
+    ensures { result ≡ number_32 order spec.link_type_offset header.now == 1 }
 {
     number_32(order, header, LINK_TYPE_OFFSET) == ETHERNET
 }

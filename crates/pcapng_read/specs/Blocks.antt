@@ -82,9 +82,6 @@ head_rows at octets =
 
 -- ---- A section header: magic number, version in two numbers, section length (not looked at), options (not read)
 
-unfoldable pub is_read_version : ByteOrder → List ℕ → Bool
-is_read_version order block = number_16 order 12 block == 1 && (number_16 order 14 block == 0 || number_16 order 14 block == 2)
-
 -- ---- An interface description: link type and reserved (2 octets each), snap length (4, not looked at), options
 
 abbrev pub options_in : ByteOrder → List ℕ → Listing
@@ -136,6 +133,9 @@ packet_rows offset section block =
 unfoldable pub body_rows : Head → Standing → List ℕ → List (Option NgFault)
 body_rows head at block = body_rows_of head.kind head.order at block
   where
+    is_read_version : ByteOrder → List ℕ → Bool
+    is_read_version order block = number_16 order 12 block == 1 && (number_16 order 14 block == 0 || number_16 order 14 block == 2)
+
     body_rows_of : Kind → ByteOrder → Standing → List ℕ → List (Option NgFault)
     body_rows_of SectionHeader order at block = row (not (is_read_version order block)) (faults.Version at.offset) ∷ []
     body_rows_of InterfaceDescription order at block =

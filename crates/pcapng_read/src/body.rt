@@ -1,9 +1,9 @@
 //! The bodies of blocks (draft-ietf-opsawg-pcapng, section 4).
-ghost use Rattle.std.specs.Prelude.{◌≡◌, ◌+◌, ◌*◌, ◌<◌, ◌≤◌, length, Ok, IfOk, OnOk, OnErr, IfSome, false, true, is_some};
+ghost use Rattle.std.specs.Prelude.{◌≡◌, ◌+◌, ◌*◌, ◌<◌, ◌≤◌, length, Ok, IfOk, OnOk, OnErr, IfSome, false, true, is_some, ◌==◌, ◌&&◌, ◌||◌};
 ghost use Rattle.std.specs.Option.{ForSome};
 ghost use Rattle.mud_base.specs.Faults.{unless};
 ghost use Rattle.pcapng_read.specs.Blocks as spec;
-ghost use Rattle.mud_base.specs.Numbers.{number_32 as number_at};
+ghost use Rattle.mud_base.specs.Numbers.{number_32 as number_at, number_16};
 ghost use Rattle.pcapng_read.specs.Fault.{has_failed};
 ghost use Rattle.pcapng_read.specs.Parts.{IsWithin, current_of, current_in, is_packet};
 
@@ -42,10 +42,10 @@ const ETHERNET: u16 = 1;
 const HALF_OF_TIME: u64 = 4_294_967_296;
 
 /// Whether a section header has a version that is read.
-#[tactic(auto, unfolding(crate::specs::Blocks::is_read_version))]
+#[tactic(auto)]
 fn is_read_version(order: ByteOrder, block: &[u8]) -> bool
     requires { 28 ≤ length block.now }
-    ensures { result ≡ spec.is_read_version order block.now }
+    ensures { result ≡ number_16 order 12 block.now == 1 && (number_16 order 14 block.now == 0 || number_16 order 14 block.now == 2) }
 {
     let minor = number_16(order, block, MINOR_VERSION_OFFSET);
     number_16(order, block, MAJOR_VERSION_OFFSET) == MAJOR_VERSION

@@ -22,7 +22,7 @@ use Rattle.acl_model.specs.declared.ruling.Why.TheVariants.{NoFile, NoMatch}
 use Rattle.acl_model.specs.Keys.{key_of}
 use Rattle.acl_model.specs.Match.{family_matches}
 use Rattle.acl_model.specs.Defaults.{default_entry, default_policy, defaults_of}
-use Rattle.acl_model.specs.FirstMatch.{entries_of, ruled_by, first_ruling, default_ruling, ruling_by}
+use Rattle.acl_model.specs.FirstMatch.{entries_of, ruled_by, default_ruling, ruling_by}
 use Rattle.acl_model.specs.SortKeys.{binding_sort_key}
 use Rattle.acl_model.specs.Policies.{UrlPolicy}
 use Rattle.acl_rows.specs.declared.row.Owner.{Owner}
@@ -45,6 +45,7 @@ use Rattle.rule_export.specs.Listed.{covers, items_from}
 use Rattle.rule_export.specs.Resolved.{Wanted, entry_networks, entry_items, part_items, file_items, default_rule, resolved_of}
 use Rattle.rule_export.specs.Ruling.{entry_of, item_passes, rule_of, resolved_ruling, number_of}
 use Rattle.rule_export.proofs.EntryLaws.{matched, items_match}
+use Rattle.acl_model.proofs.Parts.{first_ruling}
 
 -- ---- The first item that passes
 
@@ -105,7 +106,7 @@ module _ (slots : Slots) (bindings : List Binding) (ascend : SortKeysAscend bind
   module _ (o : Owner) (held : UrlPolicy) (holds : held_by slots o ≡ Some held) (file : (n : ℕ) (e : Entry) → entry_at n (entries_of view.side held.policy) ≡ Some e → entry_of view (rule.File n) ≡ Some e) (tail : List Resolved) (otherwise : Ruling) (rest_is : option_map rule_of (find test tail) ≡ number_of otherwise) where
     pub entries_alike : (n : ℕ) (es : List Entry) → IsRest (entries_of view.side held.policy) n es
         → option_map rule_of (find test (flat_map (entry_items w rule.File (rows_for o)) (numbered n es) ++ tail)) ≡ number_of (first_ruling (matches held.url) n es otherwise)
-    unfolding numbered first_ruling
+    unfolding numbered
     entries_alike n [] rest = rest_is
     entries_alike n (e ∷ es) rest =
         let is : entry_at n (entries_of view.side held.policy) ≡ Some e = rest_first (entries_of view.side held.policy) n e es rest in

@@ -25,7 +25,7 @@ use Rattle.acl_model.specs.declared.ruling.Why.TheVariants.{NoFile, NoMatch}
 use Rattle.acl_model.specs.Keys.{is_member, is_membered}
 use Rattle.acl_model.specs.Match.{peer_of, family_matches, own_of, prefix_passes, header_matches, layer_matches, near_met, near_matches, rest_matches, entry_matches}
 use Rattle.acl_model.specs.Defaults.{default_entry}
-use Rattle.acl_model.specs.FirstMatch.{entries_of, first_ruling, default_ruling, ruling_by}
+use Rattle.acl_model.specs.FirstMatch.{entries_of, default_ruling, ruling_by}
 use Rattle.table_model.specs.Tables.{Tables, meets, ruling_of}
 use Rattle.rule_export.specs.declared.item.RuleNumber.{RuleNumber}
 use Rattle.rule_export.specs.declared.item.RuleNumber.TheVariants as rule
@@ -37,6 +37,7 @@ use Rattle.rule_export.proofs.NetworkLaws.{networks_hold}
 use Rattle.rule_export.proofs.EntryLaws.{one_version, peer_version, none_near}
 use Rattle.rule_export.proofs.StandingLaws.{any_listed}
 use Rattle.rule_export.proofs.ListLaws.{chosen}
+use Rattle.acl_model.proofs.Parts.{first_ruling}
 
 -- ---- Near selectors
 
@@ -159,7 +160,7 @@ module _ (tables : Tables) (now : ℕ) (url : List ℕ) (version : Family) (side
 
     file_rules : (n : ℕ) (es : List Entry) (tail : List ListItem) (otherwise : Ruling) → first tail ≡ number_of otherwise
         → first (listed_file tables now url version n es ++ tail) ≡ number_of (first_ruling matches n es otherwise)
-    unfolding listed_file first_ruling
+    unfolding listed_file
     file_rules n [] tail otherwise rest_is = rest_is
     file_rules n (e ∷ es) tail otherwise rest_is =
         ap first (append_assoc (listed_items tables now url version (rule.File n) e) (listed_file tables now url version (n + 1) es) tail)

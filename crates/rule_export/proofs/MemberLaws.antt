@@ -1,7 +1,8 @@
 -- Members of an object that are added one behind another.
 use Rattle.std.proofs.Common.{◌≡◌, ℕ, Bool, true, List, [], ◌∷◌, ◌++◌, Some, ap, sym, ◌∙◌, append_assoc, append-nil}
 use Rattle.std.specs.Prelude.{codes}
-use Rattle.rule_export.specs.Objects.{Member, name_text, member_text, next_first, members_text, object}
+use Rattle.rule_export.specs.Objects.{Member, member_text, next_first, members_text, object}
+use Rattle.rule_export.proofs.Parts.{name_text}
 
 -- one more member, and those behind it
 pub next_member : (old : List ℕ) (first : Bool) (m : Member) (ms : List Member) {mid new : List ℕ} {next : Bool} → mid ≡ old ++ member_text first m → next ≡ next_first first m → new ≡ mid ++ members_text next ms → new ≡ old ++ members_text first (m ∷ ms)

@@ -1,5 +1,5 @@
 -- Parts of the list by the tables that the lemmas speak of.
-use Rattle.std.specs.Prelude.{ℕ, List, map, None, Option, Some, [], ◌∷◌, flat_map}
+use Rattle.std.specs.Prelude.{ℕ, List, map, None, Option, Some, [], ◌∷◌, flat_map, Bool, codes, ◌++◌, if◌then◌else◌}
 use Rattle.std.specs.List.{filter}
 use Rattle.mud_base.specs.declared.addr.Family.{Family}
 use Rattle.mud_base.specs.declared.packet.Direction.{Direction}
@@ -13,6 +13,7 @@ use Rattle.rule_export.specs.declared.item.Resolved.{Resolved}
 use Rattle.rule_export.specs.Networks.{in_order, common_part}
 use Rattle.rule_export.specs.Listed.{ListItem, table_addrs, addr_network, is_listed, listed_items}
 use Rattle.std.specs.Option.{option_and_then}
+use Rattle.rule_export.specs.Objects.{quoted}
 
 abbrev pub list_item : Entry → Resolved → ListItem
 list_item entry item = record { item = item; entry = entry }
@@ -31,3 +32,6 @@ common_of (p ∷ (q ∷ qs)) = option_and_then (common_part p) (common_of (q ∷
 abbrev pub choices : List (List Prefix) → List (List Prefix)
 choices [] = [] ∷ []
 choices (ps ∷ pss) = flat_map (λ p. map (λ choice. p ∷ choice) (choices pss)) ps
+
+abbrev pub name_text : Bool → List ℕ → List ℕ
+name_text first name = (if first then [] else codes ",") ++ quoted name ++ codes ":"

@@ -21,14 +21,14 @@ use Rattle.table_model.specs.declared.bind.Class.TheVariants as class
 use Rattle.table_model.specs.declared.bind.ClassRow.{ClassRow}
 use Rattle.table_model.specs.declared.bind.NameRow.{NameRow}
 use Rattle.table_model.specs.Expiries.{is_live, has_live, Expiries}
-use Rattle.table_model.specs.Binds.{same_class, has_addr}
+use Rattle.table_model.specs.Binds.{has_addr}
 use Rattle.table_model.specs.Tables.{Tables, has_host, has_url, is_leased, is_bound, is_named, meets}
 use Rattle.rule_export.specs.Listed.{table_addrs, addr_network, is_listed}
 use Rattle.rule_export.proofs.Parts.{addr_networks}
 use Rattle.rule_export.proofs.ChoiceLaws.{any_alike}
 use Rattle.rule_export.proofs.EntryLaws.{any-filter, host_holds}
 use Rattle.rule_export.proofs.NetworkLaws.{any-in_order}
-use Rattle.table_model.proofs.Parts.{has_lease}
+use Rattle.table_model.proofs.Parts.{has_lease, same_class}
 
 -- ---- Two lists
 

@@ -7,13 +7,13 @@ use Rattle.rule_export.specs.Objects.{quoted}
 unfoldable pub is_set : ℕ → TcpFlag → Bool
 is_set octet flag = octet / bit_of flag % 2 == 1
 
--- the word of a flag that is set, behind a space unless it is the first
-unfoldable pub flag_text : Bool → ℕ → TcpFlag → List ℕ
-flag_text first octet flag = if is_set octet flag then (if first then word_of flag else codes " " ++ word_of flag) else []
-
 unfoldable pub words_text : Bool → ℕ → List TcpFlag → List ℕ
 words_text first octet [] = []
 words_text first octet (f ∷ fs) = flag_text first octet f ++ words_text (first && not (is_set octet f)) octet fs
+  where
+    -- the word of a flag that is set, behind a space unless it is the first
+    flag_text : Bool → ℕ → TcpFlag → List ℕ
+    flag_text first octet flag = if is_set octet flag then (if first then word_of flag else codes " " ++ word_of flag) else []
 
 -- from the highest bit to the lowest
 unfoldable pub flags_text : ℕ → List ℕ

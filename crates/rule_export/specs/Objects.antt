@@ -10,14 +10,14 @@ Member = List ℕ × Option (List ℕ)
 unfoldable pub quoted : List ℕ → List ℕ
 quoted text = codes "\"" ++ text ++ codes "\""
 
--- a name and a colon, behind a comma unless the member is the first
-unfoldable pub name_text : Bool → List ℕ → List ℕ
-name_text first name = (if first then [] else codes ",") ++ quoted name ++ codes ":"
-
 -- a member without a value is left out
 unfoldable pub member_text : Bool → Member → List ℕ
 member_text first (name, None) = []
 member_text first (name, Some value) = name_text first name ++ value
+  where
+    -- a name and a colon, behind a comma unless the member is the first
+    name_text : Bool → List ℕ → List ℕ
+    name_text first name = (if first then [] else codes ",") ++ quoted name ++ codes ":"
 
 -- whether the next member is the first
 unfoldable pub next_first : Bool → Member → Bool

@@ -80,9 +80,6 @@ header_value family side network entry = if asks_header network entry then Some 
 unfoldable pub operator_text : List ℕ → ℕ → List ℕ
 operator_text operator number = codes "{\"operator\":\"" ++ operator ++ codes "\",\"port\":" ++ decimal number ++ codes "}"
 
-unfoldable pub range_text : ℕ → ℕ → List ℕ
-range_text lower upper = object ((codes "lower-port", number_value (Some lower)) ∷ (codes "upper-port", number_value (Some upper)) ∷ [])
-
 -- the test of a port; nothing where every port passes
 unfoldable pub test_text : PortTest → List ℕ
 test_text port.Any = []
@@ -90,7 +87,7 @@ test_text (port.Eq number) = operator_text (codes "eq") number
 test_text (port.Neq number) = operator_text (codes "neq") number
 test_text (port.Lte number) = operator_text (codes "lte") number
 test_text (port.Gte number) = operator_text (codes "gte") number
-test_text (port.Within lower upper) = range_text lower upper
+test_text (port.Within lower upper) = object ((codes "lower-port", number_value (Some lower)) ∷ (codes "upper-port", number_value (Some upper)) ∷ [])
 
 unfoldable pub is_any : PortTest → Bool
 is_any port.Any = true
@@ -107,9 +104,6 @@ beginner_value begun = option_map beginner_text begun
     beginner_text From = codes "\"from-device\""
     beginner_text To = codes "\"to-device\""
 
-unfoldable pub flags_value : Option ℕ → Option (List ℕ)
-flags_value flags = option_map flags_text flags
-
 -- a layer without tests is written, and is empty
 unfoldable pub icmp_value : Layer → Option (List ℕ)
 icmp_value (layer.Icmp kind code) = Some (object ((codes "code", number_value code) ∷ (codes "type", number_value kind) ∷ []))
@@ -117,7 +111,7 @@ icmp_value _ = None
 
 unfoldable pub tcp_value : Layer → Option (List ℕ)
 tcp_value (layer.Tcp source destination begun flags) =
-    Some (object ((codes "destination-port", port_value destination) ∷ (codes "flags", flags_value flags) ∷ (codes "ietf-mud:direction-initiated", beginner_value begun) ∷ (codes "source-port", port_value source) ∷ []))
+    Some (object ((codes "destination-port", port_value destination) ∷ (codes "flags", (option_map flags_text flags)) ∷ (codes "ietf-mud:direction-initiated", beginner_value begun) ∷ (codes "source-port", port_value source) ∷ []))
 tcp_value _ = None
 
 unfoldable pub udp_value : Layer → Option (List ℕ)
@@ -138,13 +132,8 @@ unfoldable pub forwarding : Action → List ℕ
 forwarding action.Accept = codes "accept"
 forwarding action.Drop = codes "drop"
 
--- what stands before the tests, and behind them
-unfoldable pub actions_text : Action → List ℕ
-actions_text act = codes "{\"actions\":{\"forwarding\":\"" ++ forwarding act ++ codes "\"},\"matches\":"
-
-unfoldable pub naming_text : List ℕ → List ℕ
-naming_text name = codes ",\"name\":\"" ++ name ++ codes "\"}"
-
--- the entry under a name
+-- the entry under a name: its action, its tests, and the name
 unfoldable pub entry_text : Family → Direction → Option Prefix → List ℕ → Entry → List ℕ
-entry_text family side network name entry = actions_text entry.action ++ matches_text family side network entry ++ naming_text name
+entry_text family side network name entry =
+    codes "{\"actions\":{\"forwarding\":\"" ++ forwarding entry.action ++ codes "\"},\"matches\":"
+    ++ matches_text family side network entry ++ codes ",\"name\":\"" ++ name ++ codes "\"}"

@@ -21,13 +21,9 @@ rule_text (rule.File n) = codes "e" ++ decimal n
 rule_text (rule.Default Dns) = codes "dns"
 rule_text (rule.Default Ntp) = codes "ntp"
 
--- the rule and the number of the item among those of its entry
-unfoldable pub item_name : Resolved → List ℕ
-item_name item = rule_text item.rule ++ codes "-" ++ decimal item.number
-
--- the text of an item by its entry, whose Thing is on this side
+-- the text of an item by its entry, whose Thing is on this side; its name is its rule and its number among those of its entry
 unfoldable pub item_text : Direction → Family → Resolved → Entry → List ℕ
-item_text side family item entry = entry_text family side item.network (item_name item) entry
+item_text side family item entry = entry_text family side item.network (rule_text item.rule ++ codes "-" ++ decimal item.number) entry
 
 -- ---- Lists
 

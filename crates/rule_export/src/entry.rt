@@ -1,5 +1,5 @@
 //! The text of an entry.
-ghost use Rattle.std.specs.Prelude.{◌≡◌, ◌++◌, OnOk};
+ghost use Rattle.std.specs.Prelude.{◌≡◌, ◌++◌, OnOk, codes};
 ghost use Rattle.rule_export.specs.Tests as spec;
 
 use crate::header::append_header;
@@ -40,9 +40,9 @@ fn append_matches(
 }
 
 /// Adds what stands before the tests: what becomes of a packet that passes them.
-#[tactic(auto, unfolding(crate::specs::Tests::actions_text))]
+#[tactic(auto)]
 fn append_actions(line: &mut Bytes, action: Action) -> Result<(), Memory>
-    ensures { OnOk result (line.new ≡ line.old ++ spec.actions_text action) }
+    ensures { OnOk result (line.new ≡ line.old ++ (codes "{\"actions\":{\"forwarding\":\"" ++ spec.forwarding action ++ codes "\"},\"matches\":")) }
 {
     line.append(b"{\"actions\":{\"forwarding\":\"")?;
     line.append(forwarding(action))?;
@@ -51,9 +51,9 @@ fn append_actions(line: &mut Bytes, action: Action) -> Result<(), Memory>
 }
 
 /// Adds what stands behind the tests: the name.
-#[tactic(auto, unfolding(crate::specs::Tests::naming_text))]
+#[tactic(auto)]
 fn append_naming(line: &mut Bytes, name: &[u8]) -> Result<(), Memory>
-    ensures { OnOk result (line.new ≡ line.old ++ spec.naming_text name.now) }
+    ensures { OnOk result (line.new ≡ line.old ++ (codes ",\"name\":\"" ++ name.now ++ codes "\"}")) }
 {
     line.append(b",\"name\":\"")?;
     line.append(name)?;

@@ -1,6 +1,7 @@
 //! The text of an octet of flags of TCP.
-ghost use Rattle.std.specs.Prelude.{◌≡◌, ◌≤◌, ◌++◌, ◌&&◌, true, not, OnOk, IfOk};
+ghost use Rattle.std.specs.Prelude.{◌≡◌, ◌≤◌, ◌++◌, ◌&&◌, true, not, OnOk, IfOk, codes, if◌then◌else◌, []};
 ghost use Rattle.rule_export.specs.Flags as spec;
+ghost use Rattle.acl_model.specs.TcpFlags.{word_of};
 
 use acl_model::TcpFlag;
 use acl_model::tcp_flag::{all_flags, bit_of, word_of};
@@ -16,9 +17,9 @@ fn is_set(octet: u8, flag: TcpFlag) -> bool
 
 /// Adds the word of a flag, where it is set, behind a space unless it is the first. The answer says
 /// whether the next word is the first.
-#[tactic(auto, unfolding(crate::specs::Flags::flag_text))]
+#[tactic(auto)]
 fn append_flag(line: &mut Bytes, first: bool, octet: u8, flag: TcpFlag) -> Result<bool, Memory>
-    ensures text { OnOk result (line.new ≡ line.old ++ spec.flag_text first octet flag) }
+    ensures text { OnOk result (line.new ≡ line.old ++ (if spec.is_set octet flag then (if first then word_of flag else codes " " ++ word_of flag) else [])) }
     ensures next { IfOk result (λ next. next ≡ (first && not (spec.is_set octet flag))) }
 {
     if !is_set(octet, flag) {

@@ -1,7 +1,9 @@
 //! The tests of the transport header.
-ghost use Rattle.std.specs.Prelude.{◌≡◌, ◌++◌, codes, OnOk, IfOk};
+ghost use Rattle.std.specs.Prelude.{◌≡◌, ◌++◌, codes, OnOk, IfOk, option_map};
 ghost use Rattle.rule_export.specs.Objects.{member_text, next_first};
 ghost use Rattle.rule_export.specs.Tests as spec;
+ghost use Rattle.rule_export.specs.Flags.{flags_text};
+ghost use Rattle.acl_model.specs.declared.entry.PortTest.TheVariants as port;
 
 use crate::flags::append_flags;
 use crate::members::{append_name, append_number, append_octet};
@@ -23,7 +25,7 @@ fn append_operator(line: &mut Bytes, operator: &[u8], number: u16) -> Result<(),
 
 /// Adds the test of a port by its two bounds.
 fn append_range(line: &mut Bytes, lower: u16, upper: u16) -> Result<(), Memory>
-    ensures { OnOk result (line.new ≡ line.old ++ spec.range_text lower upper) }
+    ensures { OnOk result (line.new ≡ line.old ++ (spec.test_text (port.Within lower upper))) }
 {
     line.append(b"{")?;
     let none = append_number(line, true, b"lower-port", Some(lower))?;
@@ -97,10 +99,10 @@ fn append_beginner(line: &mut Bytes, first: bool, begun: Option<Direction>) -> R
 
 /// Adds the member of the octet of flags, where one is named. The answer says whether the next member
 /// is the first.
-#[tactic(auto, unfolding(crate::specs::Objects::member_text, crate::specs::Objects::next_first, crate::specs::Tests::flags_value))]
+#[tactic(auto, unfolding(crate::specs::Objects::member_text, crate::specs::Objects::next_first))]
 fn append_flags_member(line: &mut Bytes, first: bool, flags: Option<u8>) -> Result<bool, Memory>
-    ensures text { OnOk result (line.new ≡ line.old ++ member_text first (codes "flags", spec.flags_value flags)) }
-    ensures next { IfOk result (λ next. next ≡ next_first first (codes "flags", spec.flags_value flags)) }
+    ensures text { OnOk result (line.new ≡ line.old ++ member_text first (codes "flags", (option_map flags_text flags))) }
+    ensures next { IfOk result (λ next. next ≡ next_first first (codes "flags", (option_map flags_text flags))) }
 {
     let Some(octet) = flags else {
         return Ok(first);

@@ -1,5 +1,5 @@
 //! Members of JSON objects.
-ghost use Rattle.std.specs.Prelude.{◌≡◌, ◌++◌, OnOk, IfOk};
+ghost use Rattle.std.specs.Prelude.{◌≡◌, ◌++◌, OnOk, IfOk, codes, if◌then◌else◌, []};
 ghost use Rattle.rule_export.specs.Objects as spec;
 ghost use Rattle.rule_export.specs.Tests.{number_value};
 
@@ -17,9 +17,9 @@ pub(crate) fn append_quoted(line: &mut Bytes, text: &[u8]) -> Result<(), Memory>
 }
 
 /// Adds a name and a colon, behind a comma unless the member is the first.
-#[tactic(auto, unfolding(crate::specs::Objects::name_text))]
+#[tactic(auto)]
 pub(crate) fn append_name(line: &mut Bytes, first: bool, name: &[u8]) -> Result<(), Memory>
-    ensures { OnOk result (line.new ≡ line.old ++ spec.name_text first name.now) }
+    ensures { OnOk result (line.new ≡ line.old ++ ((if first then [] else codes ",") ++ spec.quoted name.now ++ codes ":")) }
 {
     if !first {
         line.append(b",")?;

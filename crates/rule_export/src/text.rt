@@ -1,5 +1,5 @@
 //! The text of an item in the exchange form of access lists.
-ghost use Rattle.std.specs.Prelude.{◌≡◌, ◌++◌, OnOk, IfOk};
+ghost use Rattle.std.specs.Prelude.{◌≡◌, ◌++◌, OnOk, IfOk, codes, decimal};
 ghost use Rattle.rule_export.specs.Text as spec;
 
 use crate::append_entry;
@@ -27,9 +27,9 @@ fn append_rule(line: &mut Bytes, rule: RuleNumber) -> Result<(), Memory>
 }
 
 /// The name of an item: the word of its rule, and its number among the items of its entry.
-#[tactic(auto, unfolding(crate::specs::Text::item_name))]
+#[tactic(auto)]
 fn item_name(alloc: Global, item: &Resolved) -> Result<Bytes, Memory>
-    ensures { IfOk result (λ name. name ≡ spec.item_name item.now) }
+    ensures { IfOk result (λ name. name ≡ spec.rule_text item.now.rule ++ codes "-" ++ decimal item.now.number) }
 {
     let mut name = Bytes::empty(alloc);
     append_rule(&mut name, item.rule)?;

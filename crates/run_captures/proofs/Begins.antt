@@ -7,10 +7,11 @@ use Rattle.mud_world.specs.Door.{DoorState}
 use Rattle.pcap_read.specs.CaptureState as classic
 use Rattle.pcapng_read.specs.CaptureState as next
 use Rattle.pcapng_read.specs.Blocks.{ng_packets_of}
-use Rattle.run_captures.specs.Captures.{next_first, is_next}
+use Rattle.run_captures.specs.Captures.{is_next}
 use Rattle.run_captures.specs.First.{ReadsFirst}
 use Rattle.run_captures.specs.Reading.{HasRead}
 use Rattle.run_captures.specs.declared.reader.CaptureReader.TheVariants.{Classic, Next}
+use Rattle.run_captures.proofs.Parts.{next_first}
 
 no_front : (a b : List ℕ) → [] ≡ a ++ b → a ≡ []
 no_front [] b e = refl

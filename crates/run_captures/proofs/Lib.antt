@@ -6,3 +6,4 @@ pub mod Folds
 pub mod Numbered
 pub mod Runs
 pub mod SamePackets
+pub mod Parts

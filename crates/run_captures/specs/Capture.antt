@@ -9,14 +9,10 @@ use Rattle.text_values.specs.Numbers.{offset_text}
 use Rattle.run_common.specs.Output.{Output}
 use Rattle.run_captures.specs.Fold.{LineStep, lines_from, state_after}
 
--- the fault's name, and its offset where it has one
-unfoldable pub capture_fault_line : CaptureFault → List ℕ
-capture_fault_line fault = codes "fault " ++ capture_fault.name_of fault ++ offset_text (capture_fault.offset_of fault) ++ codes "\n"
-
--- the line of the fault, where one ends the packets
+-- the line of the fault, where one ends the packets: its name, and its offset where it has one
 abbrev pub end_line : Option CaptureFault → List ℕ
 end_line None = []
-end_line (Some fault) = capture_fault_line fault
+end_line (Some fault) = codes "fault " ++ capture_fault.name_of fault ++ offset_text (capture_fault.offset_of fault) ++ codes "\n"
 
 -- the status of a capture that was read to its end, or to the fault that ends it
 abbrev pub status_at : Option CaptureFault → ℕ

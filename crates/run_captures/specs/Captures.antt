@@ -15,12 +15,12 @@ Captures = Told CaptureFault
 abbrev pub with_fault : {F : Type 0} → (F → CaptureFault) → Told F → Captures
 with_fault of told = record { all = told.all; fault = option_map of told.fault }
 
--- the first four octets of a capture in pcapng: the type of a section header, in either order of octets
-abbrev pub next_first : List ℕ
-next_first = 0x0A ∷ 0x0D ∷ 0x0D ∷ 0x0A ∷ []
-
 unfoldable pub is_next : List ℕ → Bool
 is_next octets = bytes_eq (take 4 octets) next_first
+  where
+    -- the first four octets of a capture in pcapng: the type of a section header, in either order of octets
+    next_first : List ℕ
+    next_first = 0x0A ∷ 0x0D ∷ 0x0D ∷ 0x0A ∷ []
 
 -- the packets of a capture: it is in pcapng where its first four octets say so, and else in the classic format
 abbrev pub captured_of : List ℕ → Captures

@@ -1,5 +1,5 @@
 //! The reader of a capture in whichever format.
-ghost use Rattle.std.specs.Prelude.{◌≡◌, ◌<◌, [], false, true, is_some, IsSome, IsTrue, IfOk, IfErr, OnOk, OnErr, Err, Some, None};
+ghost use Rattle.std.specs.Prelude.{◌≡◌, ◌<◌, [], false, true, is_some, IsSome, IsTrue, IfOk, IfErr, OnOk, OnErr, Err, Some, None, ◌∷◌};
 ghost use Rattle.mud_world.specs.Causes.{Counts, StopsAtFailure};
 ghost use Rattle.mud_world.specs.Whole as whole;
 ghost use Rattle.mud_world.specs.Whole.{TookPart};
@@ -8,7 +8,6 @@ ghost use Rattle.read_buffer.specs.Reading.{Follows};
 ghost use Rattle.pcap_read.specs.Captured.{packet_of};
 ghost use Rattle.run_captures.specs.declared.fault.CaptureFault.{CaptureFault};
 ghost use Rattle.std.specs.Str.{bytes_eq};
-ghost use Rattle.run_captures.specs.Captures.{next_first};
 ghost use Rattle.run_captures.specs.Fault.{has_failed};
 ghost use Rattle.run_captures.specs.Reading as spec;
 ghost use Rattle.run_captures.specs.Reading.{AtEnd, EndsIn, HasRead, StandsBehind, fails, is_broken, most_to_come, packet_at, to_come};
@@ -25,7 +24,7 @@ const NEXT_FIRST: [u8; 4] = [0x0A, 0x0D, 0x0D, 0x0A];
 
 /// Whether these are the first four octets of a capture in pcapng.
 fn is_next(first: &[u8]) -> bool
-    ensures { result ≡ bytes_eq first.now next_first }
+    ensures { result ≡ bytes_eq first.now (0x0A ∷ 0x0D ∷ 0x0D ∷ 0x0A ∷ []) }
 {
     first == NEXT_FIRST.as_slice()
 }

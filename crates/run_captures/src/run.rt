@@ -1,5 +1,5 @@
 //! The door's half of a command that reads a capture, whatever it makes of the packets.
-ghost use Rattle.std.specs.Prelude.{◌≡◌, ◌≢◌, ◌<◌, ◌++◌, [], ℕ, List, false, IsSome, IsTrue, OnOk, OnErr, is_err, ◌∷◌};
+ghost use Rattle.std.specs.Prelude.{◌≡◌, ◌≢◌, ◌<◌, ◌++◌, [], ℕ, List, false, IsSome, IsTrue, OnOk, OnErr, is_err, ◌∷◌, Some};
 ghost use Rattle.mud_world.specs.Causes.{Counts};
 ghost use Rattle.mud_world.specs.Door.{DoorState, put_out};
 ghost use Rattle.mud_world.specs.Whole.{WrotePart};
@@ -9,7 +9,7 @@ ghost use Rattle.run_common.specs.Ends.{IsSteady, IsStopped, IsStoppedWriting};
 ghost use Rattle.run_common.specs.Output.{WritesOutput, WritesPart, WroteFront};
 ghost use Rattle.run_common.specs.Status.{Is, IsNot, IsOneOf, status_number};
 ghost use Rattle.run_common.specs.declared.status.Status.TheVariants.{Done, Refused, DoorFailed, NoMemory};
-ghost use Rattle.run_captures.specs.Capture.{capture_fault_line, output_behind};
+ghost use Rattle.run_captures.specs.Capture.{output_behind, end_line};
 ghost use Rattle.run_captures.specs.Runs.{HasAll, HasDone, LedTo, WroteTaken, has_failed};
 ghost use Rattle.run_captures.specs.declared.run.Way.TheVariants as way;
 
@@ -37,9 +37,9 @@ pub enum Way {
 
 /// Adds the line of a fault of a capture: `fault`, the rule's name, and its offset where it has
 /// one.
-#[tactic(auto, unfolding(crate::specs::Capture::capture_fault_line))]
+#[tactic(auto, unfolding(crate::specs::Capture::end_line))]
 fn append_fault(lines: &mut Bytes, fault: CaptureFault) -> Result<(), Memory>
-    ensures { OnOk result (lines.new ≡ lines.old ++ capture_fault_line fault) }
+    ensures { OnOk result (lines.new ≡ lines.old ++ (end_line (Some fault))) }
 {
     lines.append(b"fault ")?;
     lines.append(fault.name().as_bytes())?;

@@ -12,13 +12,13 @@ use Rattle.run_common.specs.Status.{Is, IsOneOf}
 use Rattle.run_common.specs.declared.status.Status.{Status}
 use Rattle.run_common.specs.declared.status.Status.TheVariants.{DoorFailed, NoMemory, BadItem, KeeperFailed}
 
--- a space and the key of an item in lower-case hex digits, where it isn't empty
-unfoldable pub key_part : List ℕ → List ℕ
-key_part key = if length key == 0 then [] else codes " " ++ encode_lower key
-
 -- the kind and the key of an item that is no record
 unfoldable pub bad_item_line : ℕ → List ℕ → List ℕ
 bad_item_line kind key = codes "fault item" ++ number_text kind ++ key_part key ++ codes "\n"
+  where
+    -- a space and the key of an item in lower-case hex digits, where it isn't empty
+    key_part : List ℕ → List ℕ
+    key_part key = if length key == 0 then [] else codes " " ++ encode_lower key
 
 -- what is written where the store can't be opened
 abbrev pub refusal_text : OpenFault → List ℕ

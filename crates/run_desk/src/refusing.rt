@@ -1,12 +1,13 @@
 //! What a run writes whose store can't be opened.
-ghost use Rattle.std.specs.Prelude.{◌≡◌, ◌++◌, IfOk, OnOk, [], ◌∷◌};
+ghost use Rattle.std.specs.Prelude.{◌≡◌, ◌++◌, IfOk, OnOk, [], ◌∷◌, codes, length, ◌==◌, if◌then◌else◌};
 ghost use Rattle.mud_world.specs.Door.{put_out};
 ghost use Rattle.run_common.specs.Ends.{IsStoppedWriting};
 ghost use Rattle.run_common.specs.Output.{WroteFirst};
 ghost use Rattle.run_common.specs.Status.{Is, IsNot, IsOneOf, status_number};
 ghost use Rattle.run_common.specs.declared.status.Status.TheVariants.{DoorFailed, NoMemory, BadItem};
 ghost use Rattle.mud_desk.specs.Items.Opening.{IsOfCall};
-ghost use Rattle.run_desk.specs.Refused.{IsRefusal, bad_item_line, key_part, refusal_text};
+ghost use Rattle.run_desk.specs.Refused.{IsRefusal, bad_item_line, refusal_text};
+ghost use Rattle.hex.specs.Hex.{encode_lower};
 
 use mud_base::{Bytes, Memory};
 use mud_desk::OpenFault;
@@ -16,9 +17,9 @@ use std::alloc::Global;
 use text_values::append_number;
 
 /// Adds a space and the key of an item in lower-case hex digits, where it isn't empty.
-#[tactic(auto, unfolding(crate::specs::Refused::key_part))]
+#[tactic(auto)]
 fn append_key(alloc: Global, line: &mut Bytes, key: &[u8]) -> Result<(), Memory>
-    ensures { OnOk result (line.new ≡ line.old ++ key_part key.now) }
+    ensures { OnOk result (line.new ≡ line.old ++ (if length key.now == 0 then [] else codes " " ++ encode_lower key.now)) }
 {
     if key.is_empty() {
         return Ok(());

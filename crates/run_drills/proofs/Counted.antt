@@ -12,8 +12,8 @@ use Rattle.packet_judge.specs.declared.verdict.Verdict.TheVariants.{Unmanaged, L
 use Rattle.packet_judge.specs.Verdicts.{forwarded}
 use Rattle.run_drills.specs.declared.counts.RulingCounts.{RulingCounts}
 use Rattle.run_drills.specs.declared.counts.VerdictCounts.{VerdictCounts}
-use Rattle.run_drills.specs.Counts.{is_accept, is_default_dns, is_default_ntp, is_drop_entry, is_no_file, is_no_match, ruling_counts, verdict_counts, with_ruling, with_rulings_in, with_verdict}
-use Rattle.run_drills.proofs.Parts.{is_dropped, rulings_in}
+use Rattle.run_drills.specs.Counts.{ruling_counts, verdict_counts, with_ruling, with_rulings_in, with_verdict}
+use Rattle.run_drills.proofs.Parts.{is_dropped, rulings_in, is_accept, is_default_dns, is_default_ntp, is_drop_entry, is_no_file, is_no_match}
 
 -- ---- One test
 

@@ -4,7 +4,7 @@ use Rattle.mud_base.specs.Texts.{octets_v4}
 use Rattle.frame_view.proofs.Hex.{from_hex}
 use Rattle.mud_base.proofs.OnLiterals.{texts_on_literals}
 use Rattle.run_drills.specs.Network.{thing_count, file_count, mac_of, lease_of, usage_url, host_text, host_address}
-use Rattle.run_drills.specs.Packets.{port_octets, call_frame, answer_frame, query_frame, thing_of, neighbour_of, frame_of_kind, packet_frame, packet_moment}
+use Rattle.run_drills.specs.Packets.{port_octets, call_frame, answer_frame, query_frame, frame_of_kind, packet_frame, packet_moment}
 
 -- ---- The network
 
@@ -43,27 +43,27 @@ no_more_files = refl
 
 -- the first is of the second Thing: its host isn't called at port 80 by its usage file
 first : packet_frame 5 1 ≡ from_hex (codes "0200000000fe 020000010002 0800 45000028 00010000 40060000 0a000002 c6336402 c3500050 00000001 00000000 5002ffff 00000000")
-unfolding packet_frame frame_of_kind thing_of neighbour_of call_frame mac_of lease_of host_address port_octets octets_v4
+unfolding packet_frame frame_of_kind call_frame mac_of lease_of host_address port_octets octets_v4
 first = refl
 
 -- a query of the third
 second : packet_frame 5 2 ≡ from_hex (codes "0200000000fe 020000010003 0800 4500001c 00020000 40110000 0a000003 c0000235 9c400035 00080000")
-unfolding packet_frame frame_of_kind thing_of neighbour_of query_frame mac_of lease_of host_address port_octets octets_v4
+unfolding packet_frame frame_of_kind query_frame mac_of lease_of host_address port_octets octets_v4
 second = refl
 
 -- the fourth calls the second
 third : packet_frame 5 3 ≡ from_hex (codes "0200000000fe 020000010004 0800 45000028 00010000 40060000 0a000004 0a000002 c35001bb 00000001 00000000 5002ffff 00000000")
-unfolding packet_frame frame_of_kind thing_of neighbour_of call_frame mac_of lease_of host_address port_octets octets_v4
+unfolding packet_frame frame_of_kind call_frame mac_of lease_of host_address port_octets octets_v4
 third = refl
 
 -- the host of the fifth answers it
 fourth : packet_frame 5 4 ≡ from_hex (codes "020000010005 0200000000fe 0800 45000028 00010000 40060000 c6336405 0a000005 01bbc350 00000001 00000000 5012ffff 00000000")
-unfolding packet_frame frame_of_kind thing_of neighbour_of answer_frame mac_of lease_of host_address port_octets octets_v4
+unfolding packet_frame frame_of_kind answer_frame mac_of lease_of host_address port_octets octets_v4
 fourth = refl
 
 -- the first calls its host
 fifth : packet_frame 5 5 ≡ from_hex (codes "0200000000fe 020000010001 0800 45000028 00010000 40060000 0a000001 c6336401 c35001bb 00000001 00000000 5002ffff 00000000")
-unfolding packet_frame frame_of_kind thing_of neighbour_of call_frame mac_of lease_of host_address port_octets octets_v4
+unfolding packet_frame frame_of_kind call_frame mac_of lease_of host_address port_octets octets_v4
 fifth = refl
 
 moment_of_fifth : packet_moment 5 ≡ 1005

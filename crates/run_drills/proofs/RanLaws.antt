@@ -19,13 +19,14 @@ use Rattle.mud_desk.proofs.Stays.{stays_itself, stays_further}
 use Rattle.run_drills.specs.declared.commands.Round.TheVariants.{Announcements, Leases, Files, Hosts}
 use Rattle.run_drills.specs.Network.{thing_count, file_count, usage_url}
 use Rattle.run_drills.specs.Usage.{usage_text}
-use Rattle.run_drills.specs.Commands.{approval, binding, command_moment, drill_commands, fetched_file, round_commands}
+use Rattle.run_drills.specs.Commands.{approval, command_moment, drill_commands, fetched_file, round_commands}
 use Rattle.run_drills.specs.Drill.{session_after}
 use Rattle.run_drills.proofs.Rounds.{session_further}
 use Rattle.run_drills.specs.declared.stop.Stop.{Stop}
 use Rattle.run_drills.specs.declared.stop.Stop.TheVariants.{Memory}
 use Rattle.run_drills.specs.Stops.{has_keeper_failed, stop_of}
 use Rattle.run_drills.specs.Runs.{RanAll, RanPart}
+use Rattle.run_drills.proofs.Parts.{binding}
 
 -- ---- One command
 

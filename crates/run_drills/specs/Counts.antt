@@ -13,30 +13,6 @@ use Rattle.run_drills.specs.declared.counts.VerdictCounts.{VerdictCounts}
 
 -- ---- Kinds of rulings
 
-abbrev pub is_accept : Ruling → Bool
-is_accept (Accept number) = true
-is_accept _ = false
-
-abbrev pub is_default_dns : Ruling → Bool
-is_default_dns (AcceptDefault Dns) = true
-is_default_dns _ = false
-
-abbrev pub is_default_ntp : Ruling → Bool
-is_default_ntp (AcceptDefault Ntp) = true
-is_default_ntp _ = false
-
-abbrev pub is_drop_entry : Ruling → Bool
-is_drop_entry (Drop number) = true
-is_drop_entry _ = false
-
-abbrev pub is_no_file : Ruling → Bool
-is_no_file (DropDefault NoFile) = true
-is_no_file _ = false
-
-abbrev pub is_no_match : Ruling → Bool
-is_no_match (DropDefault NoMatch) = true
-is_no_match _ = false
-
 -- ---- Counts
 
 unfoldable pub ruling_counts : List Ruling → RulingCounts
@@ -48,6 +24,30 @@ ruling_counts rulings = record {
   no_file = count_by is_no_file rulings;
   no_match = count_by is_no_match rulings;
 }
+  where
+    is_accept : Ruling → Bool
+    is_accept (Accept number) = true
+    is_accept _ = false
+
+    is_default_dns : Ruling → Bool
+    is_default_dns (AcceptDefault Dns) = true
+    is_default_dns _ = false
+
+    is_default_ntp : Ruling → Bool
+    is_default_ntp (AcceptDefault Ntp) = true
+    is_default_ntp _ = false
+
+    is_drop_entry : Ruling → Bool
+    is_drop_entry (Drop number) = true
+    is_drop_entry _ = false
+
+    is_no_file : Ruling → Bool
+    is_no_file (DropDefault NoFile) = true
+    is_no_file _ = false
+
+    is_no_match : Ruling → Bool
+    is_no_match (DropDefault NoMatch) = true
+    is_no_match _ = false
 
 -- how many frames are forwarded and how many aren't, and the counts of the rulings on them
 unfoldable pub verdict_counts : List Verdict → VerdictCounts

@@ -36,7 +36,3 @@ host_address thing = 0xC6336400 + model_of thing
 -- the IPv4 address of the DNS server: 192.0.2.53
 abbrev pub dns_address : ℕ
 dns_address = 0xC0000235
-
--- the class of DNS servers (RFC 8520, 4.6)
-abbrev pub dns_class : List ℕ
-dns_class = codes "urn:ietf:params:mud:dns"

@@ -43,14 +43,6 @@ query_frame thing =
 
 -- ---- The packet of a number, from 1 on, of so many
 
--- the Thing that it is of
-unfoldable pub thing_of : ℕ → ℕ → ℕ
-thing_of packets number = 1 + number % thing_count packets
-
--- the Thing whose address a Thing calls in place of its host's
-unfoldable pub neighbour_of : ℕ → ℕ → ℕ
-neighbour_of packets thing = (thing + 7) % thing_count packets + 1
-
 -- what a Thing does, by the remainder of the packet's number by 5
 unfoldable pub frame_of_kind : ℕ → ℕ → ℕ → List ℕ
 frame_of_kind packets thing kind =
@@ -59,9 +51,17 @@ frame_of_kind packets thing kind =
     else (if kind == 2 then query_frame thing
     else (if kind == 3 then call_frame thing (lease_of (neighbour_of packets thing)) 443
     else answer_frame thing)))
+  where
+    -- the Thing whose address a Thing calls in place of its host's
+    neighbour_of : ℕ → ℕ → ℕ
+    neighbour_of packets thing = (thing + 7) % thing_count packets + 1
 
 unfoldable pub packet_frame : ℕ → ℕ → List ℕ
 packet_frame packets number = frame_of_kind packets (thing_of packets number) (number % 5)
+  where
+    -- the Thing that it is of
+    thing_of : ℕ → ℕ → ℕ
+    thing_of packets number = 1 + number % thing_count packets
 
 -- it comes so many seconds after the moment 1000 of the commands
 abbrev pub packet_moment : ℕ → ℕ

@@ -1,9 +1,12 @@
 //! The commands that set the network of a drill up, all at one moment.
-ghost use Rattle.std.specs.Prelude.{◌≡◌, IfOk};
+ghost use Rattle.std.specs.Prelude.{◌≡◌, IfOk, codes};
 ghost use Rattle.desk_model.specs.Commands.{IsAsked};
 ghost use Rattle.usage_tables.specs.Held.{digest_of};
 ghost use Rattle.run_drills.specs.Commands as spec;
-ghost use Rattle.run_drills.specs.Network.{usage_url};
+ghost use Rattle.run_drills.specs.Network.{usage_url, dns_address, mac_of};
+ghost use Rattle.desk_model.specs.declared.command.Command.TheVariants.{Bind, HearUrl};
+ghost use Rattle.table_model.specs.declared.bind.Class.TheVariants.{Uri};
+ghost use Rattle.mud_base.specs.declared.addr.Addr.TheVariants.{V4};
 
 use crate::network::{append_host, host_address, lease_of, mac_of, url_of};
 use desk_model::Command;
@@ -49,9 +52,9 @@ pub(crate) fn command_moment() -> Moment
 }
 
 /// The Thing announces the URL of its model.
-#[tactic(auto, unfolding(crate::specs::Commands::announcement))]
+#[tactic(auto)]
 pub(crate) fn announcement(alloc: Global, thing: u16) -> Result<Command, Memory>
-    ensures made { IfOk result (λ command. command ≡ spec.announcement thing) }
+    ensures made { IfOk result (λ command. command ≡ HearUrl (mac_of thing) (usage_url thing)) }
     ensures asked { IfOk result (λ command. IsAsked command) }
 {
     let url = url_of(alloc, thing)?;
@@ -86,9 +89,9 @@ pub(crate) fn approval(alloc: Global, thing: u16, file: &[u8]) -> Result<Command
 }
 
 /// The DNS server is bound to its class.
-#[tactic(auto, unfolding(crate::specs::Commands::binding, table_model::specs::Binds::is_class, table_model::specs::Binds::is_class_uri))]
+#[tactic(auto, unfolding(table_model::specs::Binds::is_class, table_model::specs::Binds::is_class_uri))]
 pub(crate) fn binding(alloc: Global) -> Result<Command, Memory>
-    ensures made { IfOk result (λ command. command ≡ spec.binding) }
+    ensures made { IfOk result (λ command. command ≡ Bind (Uri (codes "urn:ietf:params:mud:dns")) (V4 dns_address)) }
     ensures asked { IfOk result (λ command. IsAsked command) }
 {
     let class = Class::Uri(Bytes::new(alloc, DNS_CLASS)?);

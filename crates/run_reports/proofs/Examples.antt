@@ -10,12 +10,12 @@ use Rattle.usage_tables.specs.declared.approval.Approval.TheVariants.{Waived}
 use Rattle.text_values.specs.Numbers.{expiry_text}
 use Rattle.desk_model.specs.DeskTables.{DeskTables, empty_desk}
 use Rattle.run_words.specs.declared.command.ReportKind.TheVariants.{Things, Files, Classes, Locals, Names, Due}
-use Rattle.run_reports.specs.Rows.{word_part, expiring_part, pending_word, hold_word, thing_line, lease_line, thing_lines, approved_word, candidate_word, file_line, class_part, class_line, class_lines, local_line, name_line, name_lines, due_line}
+use Rattle.run_reports.specs.Rows.{word_part, expiring_part, pending_word, thing_line, lease_line, thing_lines, approved_word, candidate_word, file_line, class_part, class_line, class_lines, local_line, name_line, name_lines, due_line}
 use Rattle.run_common.specs.Moments.{listing_moment}
 use Rattle.run_reports.specs.Tables.{clock_for, moments_after, table_text}
 
 unfoldable tables_compute : ⊤
-unfolding texts_on_literals expiry_text word_part expiring_part pending_word hold_word thing_line lease_line thing_lines approval_word approved_word candidate_word file_line class_part class_line class_lines local_line name_line name_lines due_line clock_for moments_after listing_moment table_text empty_desk
+unfolding texts_on_literals expiry_text word_part expiring_part pending_word thing_line lease_line thing_lines approval_word approved_word candidate_word file_line class_part class_line class_lines local_line name_line name_lines due_line clock_for moments_after listing_moment table_text empty_desk
 tables_compute = tt
 
 -- A bulb with a lease, its approved file, the DNS server and an address of the maker's server, all told at 1000.

@@ -11,11 +11,11 @@ use Rattle.usage_tables.specs.Held.{HeldFile}
 use Rattle.usage_tables.specs.declared.approval.Approval.TheVariants.{Verified, Waived}
 use Rattle.usage_tables.specs.declared.cached_file.CachedFile.{CachedFile}
 use Rattle.text_values.specs.Numbers.{expiry_text}
-use Rattle.run_reports.specs.Rows.{word_part, expiring_part, pending_word, hold_word, thing_line, lease_line, thing_lines, approved_word, candidate_word, file_line, class_part, class_line, class_lines, local_line, name_line, name_lines, due_line}
+use Rattle.run_reports.specs.Rows.{word_part, expiring_part, pending_word, thing_line, lease_line, thing_lines, approved_word, candidate_word, file_line, class_part, class_line, class_lines, local_line, name_line, name_lines, due_line}
 use Rattle.usage_tables.specs.Words.{approval_word}
 
 unfoldable lines_compute : ⊤
-unfolding texts_on_literals expiry_text word_part expiring_part pending_word hold_word thing_line lease_line thing_lines approval_word approved_word candidate_word file_line class_part class_line class_lines local_line name_line name_lines due_line
+unfolding texts_on_literals expiry_text word_part expiring_part pending_word thing_line lease_line thing_lines approval_word approved_word candidate_word file_line class_part class_line class_lines local_line name_line name_lines due_line
 lines_compute = tt
 
 -- ---- Things

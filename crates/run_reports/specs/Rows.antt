@@ -30,12 +30,12 @@ unfoldable pub pending_word : Option (List ℕ) → List ℕ
 pending_word None = codes "-"
 pending_word (Some url) = url
 
--- whether the operator holds the Thing
-unfoldable pub hold_word : Bool → List ℕ
-hold_word held = if held then codes "held" else codes "-"
-
 unfoldable pub thing_line : Thing → List ℕ
 thing_line thing = codes "thing " ++ mac_text thing.mac ++ word_part thing.url ++ word_part (pending_word thing.pending) ++ word_part (hold_word thing.held) ++ codes "\n"
+  where
+    -- whether the operator holds the Thing
+    hold_word : Bool → List ℕ
+    hold_word held = if held then codes "held" else codes "-"
 
 unfoldable pub lease_line : Mac → Addr × ℕ → List ℕ
 lease_line mac lease = codes "lease " ++ mac_text mac ++ expiring_part lease.0 lease.1

@@ -1,5 +1,5 @@
 //! Things with their leases.
-ghost use Rattle.std.specs.Prelude.{◌≡◌, ◌++◌, OnOk, flat_map};
+ghost use Rattle.std.specs.Prelude.{◌≡◌, ◌++◌, OnOk, flat_map, codes, if◌then◌else◌};
 ghost use Rattle.run_reports.specs.Rows as spec;
 
 use crate::row::{ReportRow, append_expiring, append_word};
@@ -21,9 +21,9 @@ fn append_pending(line: &mut Bytes, pending: &Option<MudUrl>) -> Result<(), Memo
 }
 
 /// The word for whether the operator holds a Thing.
-#[tactic(auto, unfolding(crate::specs::Rows::hold_word))]
+#[tactic(auto)]
 fn hold_word(held: bool) -> &'static [u8]
-    ensures { result.now ≡ spec.hold_word held }
+    ensures { result.now ≡ if held then codes "held" else codes "-" }
 {
     if held { b"held" } else { b"-" }
 }

@@ -3,3 +3,4 @@ mod Examples
 pub mod Lists
 pub mod Named
 pub mod Passing
+pub mod Parts

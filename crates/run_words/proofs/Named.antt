@@ -5,7 +5,8 @@ use Rattle.run_words.specs.declared.command.Command.{Command}
 use Rattle.run_words.specs.declared.command.Command.TheVariants.{Hear, Check, Frames, Judge, Tally, Snoop, Replay, Drill}
 use Rattle.run_words.specs.declared.command.Message.{Message}
 use Rattle.run_words.specs.Operands.{has_folder, has_store, second_of, third_of}
-use Rattle.run_words.specs.Words.{begins_with_dash, command_in, count_in, is_path, line_in, message_in, one_word, two_words}
+use Rattle.run_words.specs.Words.{begins_with_dash, command_in, count_in, is_path, line_in, one_word, two_words}
+use Rattle.run_words.proofs.Parts.{message_in}
 
 -- whether a line's command works on a store, and on a folder
 abbrev stores : Option Command → Bool

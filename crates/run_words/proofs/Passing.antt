@@ -16,8 +16,9 @@ use Rattle.clap.specs.declared.error.Error.{Error}
 use Rattle.clap.specs.declared.error.kind.ErrorKind.TheVariants.{OutOfMemory}
 use Rattle.clap.proofs.OnLiterals.{clap_on_literals}
 use Rattle.run_words.specs.declared.command.Command.{Command}
-use Rattle.run_words.specs.Words.{begins_with_dash, one_word, two_words, three_words, four_words, line_in}
+use Rattle.run_words.specs.Words.{begins_with_dash, one_word, two_words, line_in}
 use Rattle.run_words.specs.Parser.{IsRefused, line_of_two, line_of_three, line_of_four, program}
+use Rattle.run_words.proofs.Parts.{four_words, three_words}
 
 -- `clap` has no fault to name
 pub record Passes (words : List (List ℕ)) : Type 0 where
@@ -314,7 +315,7 @@ two_pass first second command p given =
     ]
 
 three_pass : (first second third : List ℕ) (command : Command) → IsPlain second → IsPlain third → three_words first second third ≡ Some command → Passes (first ∷ second ∷ third ∷ [])
-unfolding three_words
+unfolding line_in
 three_pass first second third command p q given =
     elim (chosen (bytes_eq first (codes "import") && _) _ _ command given) [
       | inl h ↦ at_word first (codes "import") _ (first_so _ _ h.0) (import_folder second third p q)
@@ -328,7 +329,7 @@ three_pass first second third command p q given =
     ]
 
 four_pass : (first second third fourth : List ℕ) (command : Command) → IsPlain second → IsPlain third → IsPlain fourth → four_words first second third fourth ≡ Some command → Passes (first ∷ second ∷ third ∷ fourth ∷ [])
-unfolding four_words
+unfolding line_in
 four_pass first second third fourth command p q r given =
     elim (chosen (bytes_eq first (codes "serve") && _) _ _ command given) [
       | inl h ↦ at_word first (codes "serve") _ (first_so _ _ h.0) (serve second third fourth p q r)

@@ -24,21 +24,17 @@ begins_with_dash (first ∷ rest) = first == 45
 unfoldable pub is_path : List ℕ → Bool
 is_path word = not (length word == 0)
 
-abbrev pub unless_zero : ℕ → Option ℕ
-unless_zero number = if number == 0 then None else Some number
-
 -- the number from 1 to `most` that it is, in decimal digits without a leading zero
 unfoldable pub count_in : ℕ → List ℕ → Option ℕ
 count_in most word = option_and_then unless_zero (number_upto most word)
+  where
+    unless_zero : ℕ → Option ℕ
+    unless_zero number = if number == 0 then None else Some number
 
 -- what it means by a table of words
 abbrev pub meaning_in : {A : Type 0} → List (List ℕ × A) → List ℕ → Option A
 meaning_in [] word = None
 meaning_in (row ∷ rows) word = if bytes_eq word row.0 then Some row.1 else meaning_in rows word
-
--- what `hear` reads
-unfoldable pub message_in : List ℕ → Option Message
-message_in = meaning_in ((codes "dhcp", Dhcp) ∷ (codes "lldp", Lldp) ∷ [])
 
 -- what `report` prints
 unfoldable pub kind_in : List ℕ → Option ReportKind
@@ -63,27 +59,25 @@ two_words first second =
     else (if bytes_eq first (codes "replay") then over_path Replay second
     else (if bytes_eq first (codes "drill") then option_map Drill (count_in 100000 second)
     else None)))))
+  where
+    -- what `hear` reads
+    message_in : List ℕ → Option Message
+    message_in = meaning_in ((codes "dhcp", Dhcp) ∷ (codes "lldp", Lldp) ∷ [])
 
+-- `serve STORE PORT COUNT`, where PORT is 1 to 65,535 and COUNT 1 to 1,000,000
 -- `import STORE FOLDER`, `report STORE KIND`, and `export STORE MAC`
-unfoldable pub three_words : List ℕ → List ℕ → List ℕ → Option Command
-three_words first second third =
+unfoldable pub line_in : List (List ℕ) → Option Command
+line_in (only ∷ []) = one_word only
+line_in (first ∷ second ∷ []) = two_words first second
+line_in (first ∷ second ∷ third ∷ []) =
     if bytes_eq first (codes "import") && is_path second then over_path Import third
     else (if bytes_eq first (codes "report") && is_path second then option_map Report (kind_in third)
     else (if bytes_eq first (codes "export") && is_path second then option_map Export (mac_in third)
     else None))
-
--- `serve STORE PORT COUNT`, where PORT is 1 to 65,535 and COUNT 1 to 1,000,000
-unfoldable pub four_words : List ℕ → List ℕ → List ℕ → List ℕ → Option Command
-four_words first second third fourth =
+line_in (first ∷ second ∷ third ∷ fourth ∷ []) =
     if bytes_eq first (codes "serve") && is_path second
     then option_and_then (λ port. option_map (Serve port) (count_in 1000000 fourth)) (count_in 65535 third)
     else None
-
-unfoldable pub line_in : List (List ℕ) → Option Command
-line_in (only ∷ []) = one_word only
-line_in (first ∷ second ∷ []) = two_words first second
-line_in (first ∷ second ∷ third ∷ []) = three_words first second third
-line_in (first ∷ second ∷ third ∷ fourth ∷ []) = four_words first second third fourth
 line_in _ = None
 
 -- the command that the words after the program's name are; a line with a word that begins with `-` is none

@@ -1,9 +1,10 @@
 //! The words of the command line.
-ghost use Rattle.std.specs.Prelude.{◌≡◌, ◌≤◌, IfSome, option_map};
+ghost use Rattle.std.specs.Prelude.{◌≡◌, ◌≤◌, IfSome, option_map, codes, ◌∷◌, []};
 ghost use Rattle.run_words.specs.declared.command.Command.TheVariants.{Drill};
 ghost use Rattle.std.specs.List.{list_any};
 ghost use Rattle.std.specs.String.{string_bytes};
 ghost use Rattle.run_words.specs.Words as spec;
+ghost use Rattle.run_words.specs.declared.command.Message.TheVariants.{Dhcp, Lldp};
 
 use crate::command::{Command, Message, ReportKind};
 use crate::parser::is_refused;
@@ -51,9 +52,9 @@ fn count_in(most: u64, word: &str) -> Option<u64>
 }
 
 /// What `hear` reads, by its word.
-#[tactic(auto, unfolding(crate::specs::Words::message_in))]
+#[tactic(auto)]
 fn message_in(word: &str) -> Option<Message>
-    ensures { result ≡ spec.message_in word.now }
+    ensures { result ≡ spec.meaning_in ((codes "dhcp", Dhcp) ∷ (codes "lldp", Lldp) ∷ []) word.now }
 {
     if word == "dhcp" {
         return Some(Message::Dhcp);
@@ -146,9 +147,9 @@ fn two_words(first: &str, second: &str) -> Option<Command>
 }
 
 /// The command of a line of three words.
-#[tactic(auto, unfolding(crate::specs::Words::three_words))]
+#[tactic(auto, unfolding(crate::specs::Words::line_in))]
 fn three_words(first: &str, second: &str, third: &str) -> Option<Command>
-    ensures { result ≡ spec.three_words first.now second.now third.now }
+    ensures { result ≡ spec.line_in (first.now ∷ second.now ∷ third.now ∷ []) }
 {
     if first == "import" && is_path(second) {
         return over_path(Command::Import, third);
@@ -163,9 +164,9 @@ fn three_words(first: &str, second: &str, third: &str) -> Option<Command>
 }
 
 /// The command of a line of four words.
-#[tactic(auto, unfolding(crate::specs::Words::four_words))]
+#[tactic(auto, unfolding(crate::specs::Words::line_in))]
 fn four_words(first: &str, second: &str, third: &str, fourth: &str) -> Option<Command>
-    ensures { result ≡ spec.four_words first.now second.now third.now fourth.now }
+    ensures { result ≡ spec.line_in (first.now ∷ second.now ∷ third.now ∷ fourth.now ∷ []) }
 {
     if first != "serve" || !is_path(second) {
         return None;

@@ -22,8 +22,8 @@ use Rattle.table_model.specs.declared.bind.ClassRow.{ClassRow}
 use Rattle.table_model.specs.declared.bind.NameRow.{NameRow}
 use Rattle.table_model.specs.Limits.{most_leases, most_class_addresses, most_name_addresses}
 use Rattle.table_model.specs.Expiries.{Expiries, has_address, are_ascending, have_expiries}
-use Rattle.table_model.specs.Things.{mac_of, holds, may_wait, are_leases, is_sound_thing, IsKeptThing, IsSoundThings}
-use Rattle.table_model.specs.Binds.{key_of_class, class_key, name_of, are_addrs, is_class, is_sound_class, is_name, is_sound_name, IsKeptClass, IsKeptName, IsSoundClasses, IsSoundNames}
+use Rattle.table_model.specs.Things.{mac_of, holds, may_wait, is_sound_thing, IsKeptThing, IsSoundThings}
+use Rattle.table_model.specs.Binds.{key_of_class, class_key, name_of, is_class, is_sound_class, is_name, is_sound_name, IsKeptClass, IsKeptName, IsSoundClasses, IsSoundNames}
 use Rattle.table_model.specs.Bindings.{binding, bindings_of_lease, thing_bindings, member_key, class_binding, class_bindings, name_binding, name_bindings}
 use Rattle.base_rows.specs.Changes.{are_apart}
 use Rattle.acl_model.specs.Changes.{same_spot}
@@ -34,6 +34,7 @@ use Rattle.acl_model.proofs.BindingLaws.{same_addr_exact, same_addr_itself}
 use Rattle.acl_model.proofs.BindingLaws.{same_spot_exact, same_spot_itself}
 use Rattle.table_laws.proofs.Differences.{IsBindingRows}
 use Rattle.table_model.proofs.RowSets.{first_of_three, all_at}
+use Rattle.table_model.proofs.Parts.{are_addrs, are_leases}
 
 -- ---- Ascending addresses are apart
 
@@ -45,7 +46,6 @@ unfolding are_ascending expiry_sort_key
 expiries_apart rows e = apart-unmap same_sort_key same_first expiry_sort_key (λ r s same. sym (same_addr-sort_key r.0 s.0) ∙ same) rows (apart-ascend expiry_sort_key rows (ascend_from expiry_sort_key rows e))
 
 addrs_apart : (addrs : List Addr) → are_addrs addrs ≡ true → are_apart same_addr addrs ≡ true
-unfolding are_addrs
 addrs_apart addrs e = apart-unmap same_sort_key same_addr addr_sort_key (λ a b same. sym (same_addr-sort_key a b) ∙ same) addrs (apart-ascend addr_sort_key addrs (ascend_from addr_sort_key addrs e))
 
 -- ---- Things
@@ -85,7 +85,7 @@ leases_apart t (r ∷ rows) e = apart-append same_spot same_spot_itself (binding
     (sym (any-flat_map (same_spot b) (bindings_of_lease t) rows) ∙ later)))
 
 thing_apart : (t : Thing) → is_sound_thing t ≡ true → are_apart same_spot (thing_bindings t) ≡ true
-unfolding is_sound_thing are_leases thing_bindings
+unfolding is_sound_thing thing_bindings
 thing_apart t sound =
     let leases : are_leases t.leases ≡ true = right_of (is_canonical t.url && may_wait t.url t.pending) (are_leases t.leases) sound in
     leases_apart t t.leases (expiries_apart t.leases (first_of_three (are_ascending t.leases) (have_expiries t.leases) (nat_le (length t.leases) most_leases) leases))

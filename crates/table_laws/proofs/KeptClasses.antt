@@ -8,10 +8,11 @@ use Rattle.table_model.specs.declared.bind.Class.{Class}
 use Rattle.table_model.specs.declared.bind.Class.TheVariants.{Uri, Mine}
 use Rattle.table_model.specs.declared.bind.ClassRow.{ClassRow}
 use Rattle.table_model.specs.Limits.{most_class_addresses}
-use Rattle.table_model.specs.Binds.{key_of_class, class_key, class_at, are_addrs, is_class, is_sound_class, IsKeptClass, IsSoundClasses}
+use Rattle.table_model.specs.Binds.{key_of_class, class_key, class_at, is_class, is_sound_class, IsKeptClass, IsSoundClasses}
 use Rattle.table_model.specs.BindCommands.{unbind_step}
 use Rattle.table_model.proofs.RowSets.{all_at, first_of_three}
 use Rattle.table_laws.proofs.SoundClasses.{OfClasses, sound-unbind_step}
+use Rattle.table_model.proofs.Parts.{are_addrs}
 
 -- classes with one key are one class
 one_class : (c d : Class) → key_of_class c ≡ key_of_class d → c ≡ d

@@ -12,7 +12,7 @@ use Rattle.table_model.specs.Limits.{most_leases}
 use Rattle.table_model.specs.Expiries.{expiry_of, with_expiry, live_count}
 use Rattle.table_model.specs.Things.{mac_of, thing_at, set_thing, with_leases, without_lease, holds, IsSoundThings}
 use Rattle.table_model.specs.ItemFields.{IsAddr}
-use Rattle.table_model.specs.ThingCommands.{ThingStep, done, leased_until, left, left_until, expiry_after, kept_lease, new_lease, known_lease, stranger_lease, lease_cases, lease_step}
+use Rattle.table_model.specs.ThingCommands.{ThingStep, done, leased_until, left, expiry_after, kept_lease, new_lease, known_lease, stranger_lease, lease_cases, lease_step}
 use Rattle.table_model.specs.Tables.{Tables}
 use Rattle.table_model.specs.Bindings.{thing_bindings, bindings_of}
 use Rattle.base_rows.specs.Changes.{RowChange, changed, sort_keys_of, is_plain}
@@ -22,6 +22,7 @@ use Rattle.table_model.specs.ThingChanges.{leased, new_lease_change, end_change,
 use Rattle.table_laws.proofs.LeaseChanges.{end_changed, end_unchanged, end_plain, new_lease_changed, new_lease_plain}
 use Rattle.table_model.proofs.SoundThings.{OfAfter, cond_after, at_its_sort_key, sound-lease_step}
 use Rattle.table_laws.proofs.BookChanges.{thing_book_change}
+use Rattle.table_model.proofs.Parts.{left_until}
 
 -- the change of rows makes the list
 pub record Leads (change : RowChange Thing) (things after : List Thing) : Type 0 where

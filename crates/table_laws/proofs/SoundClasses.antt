@@ -15,7 +15,7 @@ use Rattle.table_model.specs.declared.bind.ClassRow.{ClassRow}
 use Rattle.table_model.specs.declared.bind_fault.BindFault.TheVariants.{ClassesFull, ClassFull, NotBound}
 use Rattle.item_codec.specs.declared.word.Word.TheVariants.{Same, Bound, Unbound}
 use Rattle.table_model.specs.Limits.{most_classes, most_class_addresses}
-use Rattle.table_model.specs.Binds.{key_of_class, class_key, class_at, set_class, without_class, class_row, has_addr, with_addr, without_addr, are_addrs, is_class, is_sound_class, IsKeptClass, IsSoundClasses}
+use Rattle.table_model.specs.Binds.{key_of_class, class_key, class_at, set_class, without_class, class_row, has_addr, with_addr, without_addr, is_class, is_sound_class, IsKeptClass, IsSoundClasses}
 use Rattle.table_model.specs.ItemFields.{IsAddr}
 use Rattle.table_model.specs.BindCommands.{ClassStep, classes_done, bind_step, unbind_step}
 use Rattle.base_rows.proofs.ListTests.{left_of, right_of, both}
@@ -24,16 +24,16 @@ use Rattle.table_model.proofs.RowSets.{first_of_three}
 use Rattle.table_model.proofs.LeaseLaws.{all_kept}
 use Rattle.table_laws.proofs.SoundRows.{AreSoundRows, put_new_row, put_there_row, without_sound_row}
 use Rattle.table_model.proofs.RowSets.{all_at}
-use Rattle.table_model.proofs.Parts.{bind_cases, classes_without, unbind_cases}
+use Rattle.table_model.proofs.Parts.{bind_cases, classes_without, unbind_cases, are_addrs}
 
 -- ---- Addresses are rows by themselves
 
 with_addr_ascends : (a : Addr) (bs : List Addr) → are_addrs bs ≡ true → are_addrs (with_addr a bs) ≡ true
-unfolding are_addrs with_addr
+unfolding with_addr
 with_addr_ascends a bs e = ascend_to addr_sort_key (set_row addr_sort_key a bs) (ascend-set_row addr_sort_key a bs (ascend_from addr_sort_key bs e))
 
 without_addr_ascends : (a : Addr) (bs : List Addr) → are_addrs bs ≡ true → are_addrs (without_addr a bs) ≡ true
-unfolding are_addrs without_addr
+unfolding without_addr
 without_addr_ascends a bs e = ascend_to addr_sort_key (without_addr a bs) (ascend-filter addr_sort_key (λ b. not (same_addr b a)) bs (ascend_from addr_sort_key bs e))
 
 with_addr_grown : (a : Addr) (bs : List Addr) → length (with_addr a bs) ≤ length bs + 1
@@ -115,7 +115,7 @@ module _ (c : Class) (a : Addr) (classes : List ClassRow) (sound : IsSoundClasse
       (put_there_row class_key IsKeptClass most_classes (class_row c bs) row classes rows_sound (class_to c bs e s) there)
 
   bind_cases_sound : is_class c ≡ true → IsAddr a → (o : Option ClassRow) → class_at c classes ≡ o → OfClasses IsSoundClasses (bind_cases c a classes o)
-  unfolding set_class are_addrs
+  unfolding set_class
   bind_cases_sound e fine None is = cond_classes IsSoundClasses (nat_le most_classes (length classes)) (Err ClassesFull) (classes_done Bound (set_class (class_row c (a ∷ [])) classes))
       (λ _. tt)
       (λ room. from_rows (set_row class_key (class_row c (a ∷ [])) classes) (put_new_row class_key IsKeptClass most_classes (class_row c (a ∷ [])) classes rows_sound

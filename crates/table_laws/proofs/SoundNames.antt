@@ -10,7 +10,7 @@ use Rattle.table_model.specs.declared.bind.NameRow.{NameRow}
 use Rattle.table_model.specs.declared.bind_fault.BindFault.TheVariants.{NameFull}
 use Rattle.item_codec.specs.declared.word.Word.TheVariants.{New, Same, Renewed}
 use Rattle.table_model.specs.Limits.{most_names, most_name_addresses}
-use Rattle.table_model.specs.Expiries.{Expiries, for_ever, is_live, is_expiry, expiry_of, with_expiry, live_rows, live_count, are_ascending, have_expiries}
+use Rattle.table_model.specs.Expiries.{Expiries, for_ever, is_live, expiry_of, with_expiry, live_rows, live_count, are_ascending, have_expiries}
 use Rattle.table_model.specs.Binds.{name_of, name_at, set_name, without_name, name_row, has_live_row, is_name, is_sound_name, IsKeptName, IsSoundNames}
 use Rattle.table_model.specs.ItemFields.{IsAddr, IsExpiring}
 use Rattle.table_model.specs.BindCommands.{NameStep, observed, addrs_of, least_dead, replacing, new_pair, kept_pair, observe_row, observe_step}
@@ -20,7 +20,7 @@ use Rattle.table_laws.proofs.SoundRows.{AreSoundRows, put_new_row, put_there_row
 use Rattle.table_model.proofs.RowSets.{all_at}
 use Rattle.table_model.proofs.LeaseLaws.{with_expiry_ascends, filter_ascends, with_expiry_have, filter_expiries, with_expiry_grown, with_expiry_long, with_expiry_all, all_kept}
 use Rattle.table_laws.proofs.ExpiryRows.{with_expiry_some}
-use Rattle.table_model.proofs.Parts.{observe_cases}
+use Rattle.table_model.proofs.Parts.{observe_cases, is_expiry}
 
 -- ---- Names
 
@@ -153,7 +153,7 @@ module _ (name : List ℕ) (a : Addr) (until now : ℕ) (named : is_name name �
       (λ _. kept_pair_sound o old is kept) (λ _. new_pair_sound o is)
 
 pub sound-observe_step : (name : List ℕ) (a : Addr) (ttl now : ℕ) (names : List NameRow) → IsSoundNames names → is_name name ≡ true → IsAddr a → now ≤ 253402300799 → ttl < 2 ^ 32 → OfNames IsSoundNames (observe_step name a ttl now names)
-unfolding observe_step observe_row is_expiry
+unfolding observe_step observe_row
 sound-observe_step name a ttl now names sound named fits early short =
     observe_cases_sound name a (now + ttl) now named (later (now + ttl == for_ever) (now + ttl) (omega (arith, early, short))) (fits, omega (arith, early, short)) names sound (name_at name names) refl (expiry_of a (addrs_of (name_at name names))) refl
   where

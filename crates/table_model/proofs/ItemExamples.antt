@@ -14,15 +14,16 @@ use Rattle.table_model.specs.declared.thing.Thing.{Thing}
 use Rattle.table_model.specs.declared.bind.Class.TheVariants.{Uri, Mine}
 use Rattle.table_model.specs.declared.bind.ClassRow.{ClassRow}
 use Rattle.table_model.specs.Expiries.{are_ascending, have_expiries, for_ever}
-use Rattle.table_model.specs.Things.{may_wait, are_leases, is_sound_thing}
-use Rattle.table_model.specs.Binds.{are_addrs, are_prefixes, is_class_uri, is_class, is_sound_class, is_prefix, is_name, is_sound_name}
-use Rattle.table_model.specs.ItemFields.{address, v4_in, v6_in, address_in, expiring, expiring_in, network, network_in}
-use Rattle.table_model.specs.ThingItems.{thing_fields, hold_octet, thing_body, thing_item, first_thing_item, hold_in, thing_of, if_sound_thing, thing_in, is_taken, may_follow, with_thing_item}
+use Rattle.table_model.specs.Things.{may_wait, is_sound_thing}
+use Rattle.table_model.specs.Binds.{are_prefixes, is_class_uri, is_class, is_sound_class, is_prefix, is_name, is_sound_name}
+use Rattle.table_model.specs.ItemFields.{address, v4_in, v6_in, address_in, expiring, expiring_in, network_in}
+use Rattle.table_model.specs.ThingItems.{thing_fields, hold_octet, thing_body, thing_item, first_thing_item, hold_in, thing_of, thing_in, may_follow, with_thing_item}
 use Rattle.table_model.specs.BindItems.{class_item, class_of_key, class_in, locals_item, locals_items, are_locals, locals_in, name_item, name_in, stamp_item, stamp_items, moment_of_body, stamp_in, with_locals_item, with_stamp_item}
 use Rattle.table_model.proofs.Literals.{things_compute, binds_compute, bulb_addr, dns_addr, test_addr, bulb_url, next_url, dns_class, test_name, bulb, bare_bulb, bare_switch}
+use Rattle.table_model.proofs.Parts.{are_leases}
 
 unfoldable pub items_compute : Unit {0}
-unfolding things_compute binds_compute addr_bits masked number string list version version_of octets_at number_of number_at string_at list_at version_to version_at end_at number_in string_in version_to_in version_in end_in optional optional_in elements each_in elements_in list_body list_body_in are_ascending have_expiries may_wait are_leases is_sound_thing are_addrs are_prefixes is_class_uri is_class is_sound_class is_prefix is_name is_sound_name address v4_in v6_in address_in expiring expiring_in network network_in thing_fields hold_octet thing_body thing_item first_thing_item hold_in thing_of if_sound_thing thing_in is_taken may_follow with_thing_item class_item class_of_key class_in locals_item locals_items are_locals locals_in name_item name_in stamp_item stamp_items moment_of_body stamp_in with_locals_item with_stamp_item
+unfolding things_compute binds_compute addr_bits masked number string list version version_of octets_at number_of number_at string_at list_at version_to version_at end_at number_in string_in version_to_in version_in end_in optional optional_in elements each_in elements_in list_body list_body_in are_ascending have_expiries may_wait is_sound_thing are_prefixes is_class_uri is_class is_sound_class is_prefix is_name is_sound_name address v4_in v6_in address_in expiring expiring_in network_in thing_fields hold_octet thing_body thing_item first_thing_item hold_in thing_of thing_in may_follow with_thing_item class_item class_of_key class_in locals_item locals_items are_locals locals_in name_item name_in stamp_item stamp_items moment_of_body stamp_in with_locals_item with_stamp_item
 items_compute = tt
 
 -- ---- Things

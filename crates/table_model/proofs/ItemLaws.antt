@@ -24,9 +24,9 @@ use Rattle.table_model.specs.Fits.{FitsThing}
 use Rattle.table_model.specs.Things.{is_sound_thing, IsKeptThing, mac_of}
 use Rattle.table_model.specs.Binds.{key_of_class, class_key, class_row, is_sound_class, name_row, is_sound_name, IsKeptClass, IsKeptName}
 use Rattle.table_model.specs.BindItems.{class_item, class_of_key, class_in, locals_item, are_locals, locals_in, name_item, name_in, stamp_item, moment_of_body, stamp_in, IsKeptLocals, IsClassItem, IsLocalsItem, IsNameItem}
-use Rattle.table_model.specs.ItemFields.{address, v4_in, v6_in, address_in, IsAddr, expiring, expiring_in, IsExpiring, network, network_in, IsNetwork}
-use Rattle.table_model.specs.ThingItems.{thing_fields, hold_octet, thing_body, thing_item, first_thing_item, hold_in, thing_of, if_sound_thing, thing_in, IsThingItem}
-use Rattle.table_model.proofs.Parts.{if_sound_class, if_sound_locals, if_sound_name, if_moment}
+use Rattle.table_model.specs.ItemFields.{address, v4_in, v6_in, address_in, IsAddr, expiring, expiring_in, IsExpiring, network_in, IsNetwork}
+use Rattle.table_model.specs.ThingItems.{thing_fields, hold_octet, thing_body, thing_item, first_thing_item, hold_in, thing_of, thing_in, IsThingItem}
+use Rattle.table_model.proofs.Parts.{if_sound_class, if_sound_locals, if_sound_name, if_moment, network, if_sound_thing}
 
 -- ---- Addresses
 
@@ -120,7 +120,7 @@ make_prefix : Addr → ℕ → Prefix
 make_prefix a len = record { addr = a; len = len }
 
 pub network_form : IsForm network IsNetwork network_in
-unfolding network network_in make_prefix
+unfolding network_in make_prefix
 network_form =
     pair_form address IsAddr address_in (number 1) (λ n. n < 256 ^ 1) (number_in 1)
     make_prefix (λ (p : Prefix). p.addr) (λ (p : Prefix). p.len) (λ _. refl) (λ _ _. refl) (λ _ _. refl) address_form octet_form
@@ -251,11 +251,11 @@ thing_of_alone key body thing six fits e =
     })
 
 pub thing_back : (thing : Thing) → IsKeptThing thing → thing_in (thing_item thing) ≡ Some thing
-unfolding thing_in thing_item thing_body if_sound_thing
+unfolding thing_in thing_item thing_body
 thing_back thing kept = rw (kept.fits.mac, thing_of_back 2 thing (hold_octet thing.held) (lit≤ tt) (lit≤ tt) kept.fits (hold_back thing.held), kept.sound) refl
 
 pub first_thing_back : (thing : Thing) → IsKeptThing thing → thing.held ≡ false → thing_in (first_thing_item thing) ≡ Some thing
-unfolding thing_in first_thing_item if_sound_thing
+unfolding thing_in first_thing_item
 first_thing_back thing kept free =
     let read : thing_of thing.mac.0 (version_of 1 ++ thing_fields thing) ≡ Some thing =
     ap (λ (t : List ℕ). thing_of thing.mac.0 (version_of 1 ++ t)) (sym (append-nil (thing_fields thing)))
@@ -269,7 +269,7 @@ item_of_body item thing kind key (inl second) = inl (same_item item 1 thing.mac.
 item_of_body item thing kind key (inr (first, free)) = inr (same_item item 1 thing.mac.0 (version_of 1 ++ thing_fields thing) kind key first, free)
 
 pub thing_alone : (item : Item) (thing : Thing) → IsOctets item.body → thing_in item ≡ Some thing → IsThingItem item thing
-unfolding thing_in if_sound_thing
+unfolding thing_in
 thing_alone item thing octets e =
     let form = pass_some (eqb item.kind 1 && eqb (length item.key) 6) thing (thing_of item.key item.body >>= if_sound_thing) e in
     let tests = and_parts (eqb item.kind 1) (eqb (length item.key) 6) form.0 in

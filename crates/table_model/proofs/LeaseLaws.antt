@@ -10,8 +10,9 @@ use Rattle.base_rows.proofs.SortableLaws.{ascend-set_row, row_at_missed, set_row
 use Rattle.base_rows.proofs.RowLaws.{all-set_row, ascend-filter, length-set_row}
 use Rattle.base_rows.proofs.AddressLaws.{same_addr-sort_key}
 use Rattle.base_rows.proofs.AscendLaws.{ascend_from, ascend_to}
-use Rattle.table_model.specs.Expiries.{Expiries, is_expiry, expiry_of, with_expiry, are_ascending, have_expiries}
+use Rattle.table_model.specs.Expiries.{Expiries, expiry_of, with_expiry, are_ascending, have_expiries}
 use Rattle.table_model.proofs.RowSets.{left_of, right_of, both}
+use Rattle.table_model.proofs.Parts.{is_expiry}
 
 -- ---- What holds of rows that one is put into, or some are taken from
 

@@ -9,26 +9,26 @@ use Rattle.mud_base.specs.declared.packet.Fields.{Fields}
 use Rattle.mud_base.specs.declared.packet.Transport.TheVariants as packet
 use Rattle.base_rows.specs.Addresses.{addr_sort_key, expiry_sort_key, prefix_sort_key}
 use Rattle.table_model.specs.declared.thing.Thing.{Thing}
-use Rattle.table_model.specs.Expiries.{is_live, is_expiry, has_address, has_live, expiry_of, without_address, with_expiry, live_rows, live_count}
+use Rattle.table_model.specs.Expiries.{is_live, has_address, has_live, expiry_of, without_address, with_expiry, live_rows, live_count}
 use Rattle.table_model.specs.Things.{mac_of, thing_at, set_thing, without_thing, new_thing, holds, with_leases, released, without_lease}
-use Rattle.table_model.specs.ThingCommands.{is_pending, url_cases, url_step, move_cases, move_step, remove_cases, remove_step, with_hold, hold_cases, hold_step, release_cases, release_step, expiry_after, kept_lease, new_lease, known_lease, stranger_lease, lease_cases, lease_step, end_step}
-use Rattle.table_model.specs.Binds.{key_of_class, same_class, class_key, class_at, set_class, without_class, class_row, has_addr, with_addr, without_addr, same_prefix, prefixes_in_order, same_prefixes, name_of, name_at, set_name, without_name, name_row, has_live_row}
+use Rattle.table_model.specs.ThingCommands.{is_pending, url_cases, url_step, move_cases, move_step, remove_step, with_hold, hold_cases, hold_step, release_cases, release_step, expiry_after, kept_lease, new_lease, known_lease, stranger_lease, lease_cases, lease_step, end_step}
+use Rattle.table_model.specs.Binds.{key_of_class, class_key, class_at, set_class, without_class, class_row, has_addr, with_addr, without_addr, same_prefix, prefixes_in_order, same_prefixes, name_of, name_at, set_name, without_name, name_row, has_live_row}
 use Rattle.table_model.specs.BindCommands.{bind_step, unbind_step, locals_step, addrs_of, least_dead, replacing, new_pair, kept_pair, observe_row, observe_step}
 use Rattle.table_model.specs.History.{segment_of, same_endpoint, is_between, between, opens, resets, beginner_of, side_of, begun_of, with_segment, with_packet, last_moment, is_forward, with_moment, begun_at, begun_between, is_past}
 
 -- the lists of addresses and expiries
 unfoldable pub expiries_compute : Unit {0}
-unfolding addr_sort_key expiry_sort_key same_addr is_live is_expiry has_address has_live expiry_of without_address with_expiry live_rows live_count
+unfolding addr_sort_key expiry_sort_key same_addr is_live has_address has_live expiry_of without_address with_expiry live_rows live_count
 expiries_compute = tt
 
 -- the commands on Things
 unfoldable pub things_compute : Unit {0}
-unfolding expiries_compute mac_of thing_at set_thing without_thing new_thing holds with_leases released without_lease is_pending url_cases url_step move_cases move_step remove_cases remove_step with_hold hold_cases hold_step release_cases release_step expiry_after kept_lease new_lease known_lease stranger_lease lease_cases lease_step end_step
+unfolding expiries_compute mac_of thing_at set_thing without_thing new_thing holds with_leases released without_lease is_pending url_cases url_step move_cases move_step remove_step with_hold hold_cases hold_step release_cases release_step expiry_after kept_lease new_lease known_lease stranger_lease lease_cases lease_step end_step
 things_compute = tt
 
 -- the commands on classes, local networks and names
 unfoldable pub binds_compute : Unit {0}
-unfolding expiries_compute key_of_class same_class class_key class_at set_class without_class class_row has_addr with_addr without_addr prefix_sort_key same_prefix prefixes_in_order same_prefixes name_of name_at set_name without_name name_row has_live_row bind_step unbind_step locals_step addrs_of least_dead replacing new_pair kept_pair observe_row observe_step
+unfolding expiries_compute key_of_class class_key class_at set_class without_class class_row has_addr with_addr without_addr prefix_sort_key same_prefix prefixes_in_order same_prefixes name_of name_at set_name without_name name_row has_live_row bind_step unbind_step locals_step addrs_of least_dead replacing new_pair kept_pair observe_row observe_step
 binds_compute = tt
 
 -- who began a connection

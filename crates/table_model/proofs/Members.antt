@@ -17,13 +17,13 @@ use Rattle.table_model.specs.declared.bind.Class.TheVariants as class
 use Rattle.table_model.specs.declared.bind.ClassRow.{ClassRow}
 use Rattle.table_model.specs.declared.bind.NameRow.{NameRow}
 use Rattle.table_model.specs.Expiries.{is_live, for_ever, has_live}
-use Rattle.table_model.specs.Binds.{key_of_class, same_class, has_addr}
+use Rattle.table_model.specs.Binds.{key_of_class, has_addr}
 use Rattle.table_model.specs.Tables.{Tables, has_host, has_url, is_leased, is_bound, is_named}
 use Rattle.table_model.specs.Bindings.{bindings_of_lease, thing_bindings, member_key, class_binding, class_bindings, name_binding, name_bindings, things_bindings, classes_bindings, names_bindings, bindings_of, is_met_by, has_live_binding}
 use Rattle.base_rows.proofs.ListTests.{any-flat_map, any-map}
 use Rattle.base_rows.proofs.Lists.{any_const}
 use Rattle.std.proofs.Math.Bool.{and-true, or-false}
-use Rattle.table_model.proofs.Parts.{has_lease}
+use Rattle.table_model.proofs.Parts.{has_lease, same_class}
 
 -- ---- Some element passes a test
 
@@ -86,12 +86,12 @@ unfolding is_live
 live_for_ever now h = lt-ltb now for_ever h
 
 of_uri : (uri : List ℕ) (c : Class) → same_key (member_key c) (of_key.Class uri) ≡ same_class c (class.Uri uri)
-unfolding same_key member_key same_class key_of_class
+unfolding same_key member_key key_of_class
 of_uri uri (class.Uri x) = refl
 of_uri uri (class.Mine x) = refl
 
 of_mine : (url : List ℕ) (c : Class) → same_key (member_key c) (of_key.Mine url) ≡ same_class c (class.Mine url)
-unfolding same_key member_key same_class key_of_class
+unfolding same_key member_key key_of_class
 of_mine url (class.Uri x) = refl
 of_mine url (class.Mine x) = refl
 

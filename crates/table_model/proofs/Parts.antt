@@ -1,27 +1,34 @@
 -- Parts of definitions that lemmas speak of.
-use Rattle.std.specs.Prelude.{ℕ, List, map, Option, Err, Some, [], length, nat_le, ◌∷◌, if◌then◌else◌, Ok, nat_lt, None, Bool, true, ◌&&◌, ◌-◌, ◌++◌}
+use Rattle.std.specs.Prelude.{ℕ, List, map, Option, Err, Some, [], length, nat_le, ◌∷◌, if◌then◌else◌, Ok, nat_lt, None, Bool, true, ◌&&◌, ◌-◌, ◌++◌, bytes_eq, ◌==◌, ◌||◌, ◌^◌, slice_index_or, ◌%◌, false}
 use Rattle.table_model.specs.declared.bind.ClassRow.{ClassRow}
 use Rattle.mud_world.specs.declared.item.Item.{Item}
 use Rattle.table_model.specs.BindItems.{class_item, name_item, are_locals}
 use Rattle.table_model.specs.declared.bind.NameRow.{NameRow}
 use Rattle.mud_base.specs.declared.addr.Mac.{Mac}
 use Rattle.table_model.specs.declared.thing.Thing.{Thing}
-use Rattle.table_model.specs.Things.{thing_at}
+use Rattle.table_model.specs.Things.{thing_at, holds, is_sound_thing, without_thing}
 use Rattle.table_model.specs.declared.segment.Segment.{Segment}
 use Rattle.mud_base.specs.declared.addr.Addr.{Addr}
-use Rattle.item_codec.specs.declared.word.Word.TheVariants.{Bound, Same, Unbound, Set}
+use Rattle.item_codec.specs.declared.word.Word.TheVariants.{Bound, Same, Unbound, Set, Removed}
 use Rattle.table_model.specs.declared.bind.Class.{Class}
 use Rattle.table_model.specs.declared.bind_fault.BindFault.TheVariants.{ClassFull, ClassesFull, NotBound, LocalsFull}
 use Rattle.table_model.specs.BindCommands.{ClassStep, classes_done, LocalStep, NameStep, kept_pair, new_pair, BindStep, binds_done}
-use Rattle.table_model.specs.Binds.{class_row, has_addr, set_class, with_addr, without_class, without_addr, same_prefixes, Binds, is_sound_class, is_sound_name}
-use Rattle.table_model.specs.Limits.{most_class_addresses, most_classes, most_locals, most_pause}
+use Rattle.table_model.specs.Binds.{class_row, has_addr, set_class, with_addr, without_class, without_addr, same_prefixes, Binds, is_sound_class, is_sound_name, key_of_class}
+use Rattle.table_model.specs.Limits.{most_class_addresses, most_classes, most_locals, most_pause, most_leases}
 use Rattle.mud_base.specs.declared.prefix.Prefix.{Prefix}
 use Rattle.item_codec.specs.declared.word.Word as outcome
-use Rattle.table_model.specs.Expiries.{is_live, has_live}
+use Rattle.table_model.specs.Expiries.{is_live, has_live, Expiries, are_ascending, have_expiries}
 use Rattle.mud_base.specs.declared.packet.Transport.{Transport}
 use Rattle.mud_base.specs.declared.packet.Transport.TheVariants as packet
 use Rattle.std.specs.List.{list_any}
 use Rattle.table_model.specs.History.{opens, Endpoint, resets}
+use Rattle.base_rows.specs.Addresses.{addr_sort_key}
+use Rattle.base_rows.specs.Ascending.{sort_keys_ascend}
+use Rattle.acl_model.specs.Changes.{for_ever}
+use Rattle.table_model.specs.ItemFields.{address}
+use Rattle.item_codec.specs.Spelling.{number}
+use Rattle.table_model.specs.ThingCommands.{ThingStep, done}
+use Rattle.table_model.specs.declared.thing_fault.ThingFault.TheVariants.{NoThing}
 
 abbrev pub class_items : List ClassRow → List Item
 class_items classes = map class_item classes
@@ -111,3 +118,34 @@ beginner_since (p ∷ ps) now =
 
 abbrev pub has_lease : Addr → ℕ → Thing → Bool
 has_lease a now thing = has_live a now thing.leases
+
+abbrev pub are_addrs : List Addr → Bool
+are_addrs addrs = sort_keys_ascend addr_sort_key addrs
+
+abbrev pub same_class : Class → Class → Bool
+same_class c d = bytes_eq (key_of_class c) (key_of_class d)
+
+abbrev pub is_expiry : ℕ → Bool
+is_expiry until = until == for_ever || nat_lt until (2 ^ 40)
+
+abbrev pub network : Prefix → List ℕ
+network prefix = address prefix.addr ++ number 1 prefix.len
+
+abbrev pub is_group : Mac → Bool
+is_group mac = slice_index_or mac.0 0 0 % 2 == 1
+
+abbrev pub is_taken : List Thing → Thing → Bool
+is_taken things thing = list_any (λ r. list_any (holds r.0) things) thing.leases
+
+abbrev pub if_sound_thing : Thing → Option Thing
+if_sound_thing thing = if is_sound_thing thing then Some thing else None
+
+abbrev pub are_leases : Expiries → Bool
+are_leases rows = are_ascending rows && have_expiries rows && nat_le (length rows) most_leases
+
+abbrev pub left_until : ℕ → List Thing → ThingStep
+left_until until things = Ok (record { word = Same; until = Some until; changes = false; things = things })
+
+abbrev pub remove_cases : Mac → List Thing → Option Thing → ThingStep
+remove_cases mac things None = Err NoThing
+remove_cases mac things (Some thing) = done Removed (without_thing mac things)

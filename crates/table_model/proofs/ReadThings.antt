@@ -15,13 +15,14 @@ use Rattle.table_model.specs.declared.thing.Thing.{Thing}
 use Rattle.table_model.specs.Limits.{most_things}
 use Rattle.table_model.specs.Expiries.{has_address}
 use Rattle.table_model.specs.Things.{mac_of, holds, IsKeptThing, IsSoundThings, set_thing}
-use Rattle.table_model.specs.ThingItems.{is_taken, may_follow}
+use Rattle.table_model.specs.ThingItems.{may_follow}
 use Rattle.table_model.proofs.RowSets.{same_addr_exact, same_addr_itself, left_of, right_of, both, not_true, is_not, any_first, any_later, any_by, any_more, fewer_before, behind_others}
 use Rattle.table_model.proofs.AloneLaws.{IsApart}
 use Rattle.table_model.proofs.SoundThings.{put_new}
+use Rattle.table_model.proofs.Parts.{is_taken}
 
 not_taken : (things : List Thing) (thing : Thing) → not (is_taken things thing) ≡ true → IsApart thing things
-unfolding is_taken holds has_address
+unfolding holds has_address
 not_taken things thing free a q u there has_t has_u = absurd (is_not (is_taken things thing) free
     (any_more (λ r. same_addr r.0 a) (λ r. list_any (holds r.0) things) thing.leases (λ r at. passing_found mac_of (holds r.0) things q u there (subst (λ b. holds b u ≡ true) (sym (same_addr_exact r.0 a at)) has_u)) has_t))
 
@@ -64,7 +65,7 @@ pub record Taking (xs : List Thing) (t : Thing) : Type 0 where
   pub other : list_any (holds addr) xs ≡ true
 
 taking : (xs : List Thing) (t : Thing) → is_taken xs t ≡ true → Taking xs t
-unfolding is_taken holds has_address
+unfolding holds has_address
 taking xs t e = among t.leases (λ a h. h) e
   where
     among : (rows : List (Addr × ℕ)) → ((a : Addr) → list_any (λ r. same_addr r.0 a) rows ≡ true → holds a t ≡ true) → list_any (λ r. list_any (holds r.0) xs) rows ≡ true → Taking xs t

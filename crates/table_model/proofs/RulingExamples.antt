@@ -18,8 +18,8 @@ use Rattle.acl_model.specs.declared.ruling.DefaultRule.TheVariants.{Dns}
 use Rattle.acl_model.specs.declared.ruling.Why.TheVariants.{NoFile, NoMatch}
 use Rattle.acl_model.specs.declared.ruling.Ruling.TheVariants.{Accept, AcceptDefault, Drop, DropDefault}
 use Rattle.acl_model.specs.Defaults.{default_class, default_port, default_layer, default_entry}
-use Rattle.acl_model.specs.FirstMatch.{entries_of, ruled_by, first_ruling, default_ruling, ruling_by}
-use Rattle.acl_model.specs.Match.{peer_of, own_of, is_in_family, family_matches, prefix_passes, number_passes, header_matches, port_passes, same_direction, begun_passes, layer_matches, rest_matches, is_local, near_met, near_matches, entry_matches}
+use Rattle.acl_model.specs.FirstMatch.{entries_of, ruled_by, default_ruling, ruling_by}
+use Rattle.acl_model.specs.Match.{peer_of, own_of, is_in_family, family_matches, prefix_passes, number_passes, header_matches, port_passes, begun_passes, layer_matches, rest_matches, is_local, near_met, near_matches, entry_matches}
 use Rattle.table_model.specs.declared.bind.Class.TheVariants.{Uri, Mine}
 use Rattle.table_model.specs.declared.bind.ClassRow.{ClassRow}
 use Rattle.table_model.specs.declared.bind.NameRow.{NameRow}
@@ -28,7 +28,7 @@ use Rattle.table_model.specs.History.{begun_of, with_packet}
 use Rattle.table_model.proofs.Literals.{binds_compute, flows_compute, tcp, call, answer, back_call, bulb_addr, switch_addr, dns_addr, test_addr, bulb_url, next_url, switch_url, dns_class, test_name, bulb, bare_bulb, bare_switch}
 
 unfoldable rulings_compute : Unit {0}
-unfolding binds_compute prefix_holds authority host_part host_of default_class default_port default_layer default_entry entries_of ruled_by first_ruling default_ruling ruling_by peer_of own_of is_in_family family_matches prefix_passes number_passes header_matches port_passes same_direction begun_passes layer_matches rest_matches is_local near_met near_matches entry_matches has_host has_url is_leased is_bound is_named meets ruling_of
+unfolding binds_compute prefix_holds authority host_part host_of default_class default_port default_layer default_entry entries_of ruled_by default_ruling ruling_by peer_of own_of is_in_family family_matches prefix_passes number_passes header_matches port_passes begun_passes layer_matches rest_matches is_local near_met near_matches entry_matches has_host has_url is_leased is_bound is_named meets ruling_of
 rulings_compute = tt
 
 -- ---- The bulb's file: to its server by HTTPS on a connection that it began, and all that its maker's Things are

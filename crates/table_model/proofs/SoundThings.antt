@@ -20,13 +20,14 @@ use Rattle.table_model.specs.declared.thing_fault.ThingFault.TheVariants.{Things
 use Rattle.table_model.specs.Limits.{most_things, most_leases}
 use Rattle.table_model.specs.ItemFields.{IsAddr, IsExpiring}
 use Rattle.table_model.specs.Fits.{FitsThing}
-use Rattle.table_model.specs.Expiries.{Expiries, is_live, is_expiry, for_ever, expiry_of, with_expiry, without_address, live_rows, live_count, are_ascending, have_expiries}
-use Rattle.table_model.specs.Things.{mac_of, thing_at, set_thing, without_thing, holds, with_leases, released, without_lease, new_thing, may_wait, are_leases, is_sound_thing, IsKeptThing, IsSoundThings}
-use Rattle.table_model.specs.ThingCommands.{ThingStep, done, leased_until, left, left_until, is_pending, url_cases, url_step, move_cases, move_step, remove_cases, remove_step, with_hold, hold_cases, hold_step, release_cases, release_step, expiry_after, kept_lease, new_lease, known_lease, stranger_lease, lease_cases, lease_step, end_step}
+use Rattle.table_model.specs.Expiries.{Expiries, is_live, for_ever, expiry_of, with_expiry, without_address, live_rows, live_count, are_ascending, have_expiries}
+use Rattle.table_model.specs.Things.{mac_of, thing_at, set_thing, without_thing, holds, with_leases, released, without_lease, new_thing, may_wait, is_sound_thing, IsKeptThing, IsSoundThings}
+use Rattle.table_model.specs.ThingCommands.{ThingStep, done, leased_until, left, is_pending, url_cases, url_step, move_cases, move_step, remove_step, with_hold, hold_cases, hold_step, release_cases, release_step, expiry_after, kept_lease, new_lease, known_lease, stranger_lease, lease_cases, lease_step, end_step}
 use Rattle.table_model.proofs.RowSets.{left_of, right_of, both, first_of_three, all_at}
 use Rattle.table_model.proofs.AloneLaws.{IsApart, alone-set_thing, alone-without_thing, alone-without_lease, row_at-without_lease, has_none, same_leases, ended_apart, fresh_apart}
 use Rattle.table_model.proofs.LeaseLaws.{with_expiry_ascends, filter_ascends, with_expiry_have, filter_expiries, all_kept, with_expiry_all, with_expiry_grown, with_expiry_long, set_row_long}
 use Rattle.table_model.proofs.UrlLengths.{canonical_fits}
+use Rattle.table_model.proofs.Parts.{is_expiry, are_leases, left_until, remove_cases}
 
 -- ---- What holds of the Things behind a step
 
@@ -53,11 +54,9 @@ pub record AreKeptLeases (rows : Expiries) : Type 0 where
   pub fit : AllByRecursion IsExpiring rows
 
 leases_to : (rows : Expiries) → AreKeptLeases rows → are_leases rows ≡ true
-unfolding are_leases
 leases_to rows s = both (are_ascending rows && have_expiries rows) (nat_le (length rows) most_leases) (both (are_ascending rows) (have_expiries rows) s.ascend s.expiries) (le-leb (length rows) most_leases s.few)
 
 leases_from : (rows : Expiries) → are_leases rows ≡ true → AllByRecursion IsExpiring rows → AreKeptLeases rows
-unfolding are_leases
 leases_from rows e fit = record {
   ascend = first_of_three (are_ascending rows) (have_expiries rows) (nat_le (length rows) most_leases) e;
   expiries = right_of (are_ascending rows) (have_expiries rows) (left_of (are_ascending rows && have_expiries rows) (nat_le (length rows) most_leases) e);
@@ -123,7 +122,6 @@ released_kept a thing kept = kept_with (without_address a thing.leases) thing ke
 
 -- an expiry fits its field
 expiry_fits : (until : ℕ) → is_expiry until ≡ true → until < 2 ^ 64
-unfolding is_expiry
 expiry_fits until e = by_test (until == for_ever) refl e
   where
     by_test : (b : Bool) → (until == for_ever) ≡ b → (b || nat_lt until (2 ^ 40)) ≡ true → until < 2 ^ 64
@@ -132,7 +130,7 @@ expiry_fits until e = by_test (until == for_ever) refl e
 
 -- the expiry of what is leased for so many seconds
 pub expiry_after_is : (now seconds : ℕ) → now ≤ 253402300799 → seconds < 2 ^ 32 → is_expiry (expiry_after now seconds) ≡ true
-unfolding is_expiry expiry_after
+unfolding expiry_after
 expiry_after_is now seconds early short = by_test (seconds == 4294967295)
   where
     later : (b : Bool) (n : ℕ) → n < 2 ^ 40 → (b || nat_lt n (2 ^ 40)) ≡ true
@@ -257,7 +255,6 @@ module _ (things : List Thing) (sound : IsSoundThings things) where
   sound-move_step mac url = move_cases_sound mac url (thing_at mac things) refl
 
   remove_cases_sound : (mac : Mac) (o : Option Thing) → OfAfter IsSoundThings (remove_cases mac things o)
-  unfolding remove_cases
   remove_cases_sound mac None = tt
   remove_cases_sound mac (Some thing) = removed_sound things sound mac
 

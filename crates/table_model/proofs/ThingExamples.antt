@@ -8,8 +8,9 @@ use Rattle.table_model.specs.declared.thing.Thing.{Thing}
 use Rattle.table_model.specs.declared.thing_fault.ThingFault.TheVariants.{ThingsFull, NoThing, NoPending, LeasesFull, NoLease}
 use Rattle.table_model.specs.Expiries.{for_ever}
 use Rattle.table_model.specs.Things.{thing_at}
-use Rattle.table_model.specs.ThingCommands.{done, leased_until, left, left_until, url_cases, url_step, move_step, remove_step, hold_step, release_step, lease_step, end_step}
+use Rattle.table_model.specs.ThingCommands.{done, leased_until, left, url_cases, url_step, move_step, remove_step, hold_step, release_step, lease_step, end_step}
 use Rattle.table_model.proofs.Literals.{things_compute, mac_1, mac_2, mac_9, bulb_addr, switch_addr, bulb_url, next_url, switch_url, bulb, bare_bulb, bare_switch}
+use Rattle.table_model.proofs.Parts.{left_until}
 
 -- ---- URLs
 

@@ -18,10 +18,11 @@ use Rattle.table_model.specs.declared.thing_fault.ThingFault.TheVariants.{Things
 use Rattle.table_model.specs.Limits.{most_things, most_leases}
 use Rattle.table_model.specs.Expiries.{Expiries, expiry_of, with_expiry, live_rows, live_count}
 use Rattle.table_model.specs.Things.{mac_of, thing_at, set_thing, without_thing, holds, with_leases, without_lease, new_thing}
-use Rattle.table_model.specs.ThingCommands.{TellsChange, ThingStep, done, leased_until, left, left_until, is_pending, url_cases, url_step, move_cases, move_step, remove_cases, remove_step, with_hold, hold_cases, hold_step, release_cases, release_step, expiry_after, kept_lease, new_lease, known_lease, stranger_lease, lease_cases, lease_step, end_step}
+use Rattle.table_model.specs.ThingCommands.{TellsChange, ThingStep, done, leased_until, left, is_pending, url_cases, url_step, move_cases, move_step, remove_step, with_hold, hold_cases, hold_step, release_cases, release_step, expiry_after, kept_lease, new_lease, known_lease, stranger_lease, lease_cases, lease_step, end_step}
 use Rattle.table_model.proofs.AloneLaws.{left_none}
 use Rattle.table_model.proofs.LeaseLaws.{expiry_of-with_expiry}
 use Rattle.table_model.proofs.SoundThings.{at_its_sort_key}
+use Rattle.table_model.proofs.Parts.{left_until, remove_cases}
 
 -- ---- What a step says
 
@@ -109,7 +110,6 @@ module _ (things : List Thing) (ascend : SortKeysAscend mac_of things) where
       none-some thing (sym none ∙ ap (row_at mac_of mac.0) e ∙ found)
 
   remove_cases_told : (mac : Mac) (o : Option Thing) → thing_at mac things ≡ o → IsTold things (remove_cases mac things o)
-  unfolding remove_cases
   remove_cases_told mac None found = tt
   remove_cases_told mac (Some thing) found = as_other things (without_thing mac things) Removed None (gone_other mac thing found)
 

@@ -5,8 +5,9 @@ use Rattle.std.proofs.lemmas.Bool.{false≢true, eqb-true, ltb-false, or_cases}
 use Rattle.mud_base.specs.Faults.{row, unless}
 use Rattle.mud_url.specs.declared.fault.UrlFault.{UrlFault}
 use Rattle.mud_url.specs.declared.fault.UrlFault.TheVariants.{Empty, Long}
-use Rattle.mud_url.specs.Url.{url_of, gave, reads_as, path_part, without_slash, is_canonical}
+use Rattle.mud_url.specs.Url.{url_of, reads_as, is_canonical}
 use Rattle.table_model.proofs.RowSets.{left_of}
+use Rattle.mud_url.proofs.Pieces.{without_slash, path_part, gave}
 
 -- what is too long isn't read
 long_refused : (b c : Bool) (others : List (Option UrlFault)) (read text : List ℕ) → gave (unless (row b Empty ∷ row c Long ∷ others) (Ok read)) text ≡ true → c ≡ false

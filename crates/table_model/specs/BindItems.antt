@@ -16,7 +16,7 @@ use Rattle.table_model.specs.declared.bind.NameRow.{NameRow}
 use Rattle.table_model.specs.Limits.{most_classes, most_locals, most_names}
 use Rattle.table_model.specs.Binds.{class_key, class_row, is_sound_class, are_prefixes, is_prefix, name_of, name_row, is_sound_name, IsKeptClass, IsKeptName}
 use Rattle.table_model.specs.Fits.{FitsLocals}
-use Rattle.table_model.specs.ItemFields.{address, address_in, expiring, expiring_in, network, network_in}
+use Rattle.table_model.specs.ItemFields.{address, address_in, expiring, expiring_in, network_in}
 
 -- ---- Classes: the key is 1 and the URI, or 2 and the MUD URL; the body has the addresses
 
@@ -49,7 +49,7 @@ with_class_item classes item = do
 -- ---- Local networks: one item with the empty key for all of them, and none where there are none
 
 unfoldable pub locals_item : List Prefix → Item
-locals_item locals = record { kind = locals_kind; key = []; body = list_body network locals }
+locals_item locals = record { kind = locals_kind; key = []; body = list_body (λ (prefix : Prefix). address prefix.addr ++ number 1 prefix.len) locals }
 
 unfoldable pub locals_items : List Prefix → List Item
 locals_items [] = []

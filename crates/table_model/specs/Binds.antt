@@ -26,9 +26,6 @@ unfoldable pub key_of_class : Class → List ℕ
 key_of_class (class.Uri uri) = 1 ∷ uri
 key_of_class (class.Mine url) = 2 ∷ url
 
-unfoldable pub same_class : Class → Class → Bool
-same_class c d = bytes_eq (key_of_class c) (key_of_class d)
-
 unfoldable pub class_key : ClassRow → List ℕ
 class_key row = key_of_class row.class
 
@@ -56,10 +53,6 @@ with_addr a addrs = set_row addr_sort_key a addrs
 
 unfoldable pub without_addr : Addr → List Addr → List Addr
 without_addr a addrs = filter (λ b. not (same_addr b a)) addrs
-
--- in their order, each address once
-unfoldable pub are_addrs : List Addr → Bool
-are_addrs addrs = sort_keys_ascend addr_sort_key addrs
 
 -- ---- Local networks: prefixes in order, each once
 
@@ -126,9 +119,10 @@ unfoldable pub is_class : Class → Bool
 is_class (class.Uri uri) = is_class_uri uri
 is_class (class.Mine url) = is_canonical url
 
+-- in their order, each address once
 unfoldable pub is_sound_class : ClassRow → Bool
 is_sound_class row =
-    is_class row.class && are_addrs row.addrs && nat_lt 0 (length row.addrs) && nat_le (length row.addrs) most_class_addresses
+    is_class row.class && (sort_keys_ascend addr_sort_key row.addrs) && nat_lt 0 (length row.addrs) && nat_le (length row.addrs) most_class_addresses
 
 -- a prefix fixes no more bits than there are, and the others are 0
 unfoldable pub is_prefix : Prefix → Bool

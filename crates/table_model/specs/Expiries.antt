@@ -16,10 +16,6 @@ Expiries = List (Addr × ℕ)
 unfoldable pub is_live : ℕ → ℕ → Bool
 is_live until now = nat_lt now until
 
--- an expiry is for ever, or below 2^40
-unfoldable pub is_expiry : ℕ → Bool
-is_expiry until = until == for_ever || nat_lt until (2 ^ 40)
-
 -- ---- Rows of addresses and expiries
 
 unfoldable pub has_address : Addr → Expiries → Bool
@@ -56,3 +52,7 @@ are_ascending rows = sort_keys_ascend expiry_sort_key rows
 
 unfoldable pub have_expiries : Expiries → Bool
 have_expiries rows = list_all (λ r. is_expiry r.1) rows
+  where
+    -- an expiry is for ever, or below 2^40
+    is_expiry : ℕ → Bool
+    is_expiry until = until == for_ever || nat_lt until (2 ^ 40)

@@ -48,9 +48,6 @@ IsExpiring r = IsAddr r.0 × (r.1 < 2 ^ 64)
 
 -- ---- A prefix: its address, and its length in one octet
 
-unfoldable pub network : Prefix → List ℕ
-network prefix = address prefix.addr ++ number 1 prefix.len
-
 unfoldable pub network_in : Reading Prefix
 network_in octets = do
   a ← address_in octets

@@ -21,7 +21,7 @@ use Rattle.table_model.specs.declared.bind.ClassRow.{ClassRow}
 use Rattle.table_model.specs.declared.bind.NameRow.{NameRow}
 use Rattle.table_model.specs.Expiries.{has_live}
 use Rattle.table_model.specs.Things.{IsSoundThings, thing_at}
-use Rattle.table_model.specs.Binds.{Binds, same_class, has_addr, IsSoundClasses, IsSoundLocals, IsSoundNames}
+use Rattle.table_model.specs.Binds.{Binds, has_addr, IsSoundClasses, IsSoundLocals, IsSoundNames, key_of_class}
 
 pub record Tables : Type 0 where
   pub things : List Thing
@@ -45,13 +45,13 @@ with_binds binds tables = record { things = tables.things; classes = binds.class
 
 -- ---- The Things of a frame
 
--- an address for more than one station: the bit that is sent first, the least of the first octet, is 1 (IEEE 802, 8.2.2)
-unfoldable pub is_group : Mac → Bool
-is_group mac = slice_index_or mac.0 0 0 % 2 == 1
-
 -- the Thing that it is for: none where it is for a group, even where a Thing is kept by that address
 unfoldable pub destination_thing : Mac → List Thing → Option Thing
 destination_thing mac things = if is_group mac then None else thing_at mac things
+  where
+    -- an address for more than one station: the bit that is sent first, the least of the first octet, is 1 (IEEE 802, 8.2.2)
+    is_group : Mac → Bool
+    is_group mac = slice_index_or mac.0 0 0 % 2 == 1
 
 -- ---- Which addresses meet a selector
 
@@ -71,7 +71,7 @@ is_leased test a now things = list_any (λ thing. test thing && has_lease a now 
 
 -- the class has the address
 unfoldable pub is_bound : Class → Addr → List ClassRow → Bool
-is_bound c a classes = list_any (λ row. same_class row.class c && has_addr a row.addrs) classes
+is_bound c a classes = list_any (λ row. (bytes_eq (key_of_class row.class) (key_of_class c)) && has_addr a row.addrs) classes
 
 -- the name has the address with a live expiry
 unfoldable pub is_named : List ℕ → Addr → ℕ → List NameRow → Bool

@@ -39,9 +39,6 @@ leased_until until word things = Ok (record { word = word; until = Some until; c
 abbrev pub left : outcome.Word → List Thing → ThingStep
 left word things = Ok (record { word = word; until = None; changes = false; things = things })
 
-abbrev pub left_until : ℕ → List Thing → ThingStep
-left_until until things = Ok (record { word = Same; until = Some until; changes = false; things = things })
-
 -- the URL waits for the operator
 unfoldable pub is_pending : List ℕ → Option (List ℕ) → Bool
 is_pending url None = false
@@ -77,12 +74,12 @@ move_step mac url things = move_cases url things (thing_at mac things)
 
 -- ---- The operator removes a Thing, and its leases with it
 
-unfoldable pub remove_cases : Mac → List Thing → Option Thing → ThingStep
-remove_cases mac things None = Err NoThing
-remove_cases mac things (Some thing) = done Removed (without_thing mac things)
-
 unfoldable pub remove_step : Mac → List Thing → ThingStep
 remove_step mac things = remove_cases mac things (thing_at mac things)
+  where
+    remove_cases : Mac → List Thing → Option Thing → ThingStep
+    remove_cases mac things None = Err NoThing
+    remove_cases mac things (Some thing) = done Removed (without_thing mac things)
 
 -- ---- The operator holds a Thing, or releases it: a hold stays where the Thing is moved, and ends with a release or with
 -- the Thing
@@ -115,6 +112,9 @@ unfoldable pub kept_lease : Addr → ℕ → List Thing → Thing → ℕ → Th
 kept_lease a until things thing old =
     if old == until then left_until until things
     else leased_until until Renewed (set_thing (with_leases (with_expiry a until thing.leases) thing) things)
+  where
+    left_until : ℕ → List Thing → ThingStep
+    left_until until things = Ok (record { word = Same; until = Some until; changes = false; things = things })
 
 -- It hasn't: it gets the address, which leaves the Thing that has it, and its leases that have ended go.
 unfoldable pub new_lease : Addr → ℕ → ℕ → List Thing → Thing → ThingStep

@@ -55,9 +55,6 @@ thing_of key body = do
   ended ← end_in held.1
   Some (record { mac = record { 0 = key }; url = url.0; pending = pending.0; leases = leases.0; held = held.0 })
 
-unfoldable pub if_sound_thing : Thing → Option Thing
-if_sound_thing thing = if is_sound_thing thing then Some thing else None
-
 -- the Thing of an item: the URLs are canonical, the URL that waits is another one, and there are at most four leases in
 -- the order of their addresses, each address once, with expiries that are for ever or below 2^40
 unfoldable pub thing_in : Item → Option Thing
@@ -65,6 +62,9 @@ thing_in item =
     if item.kind == thing_kind && length item.key == 6 then (do
       thing ← thing_of item.key item.body
       if_sound_thing thing) else None
+  where
+    if_sound_thing : Thing → Option Thing
+    if_sound_thing thing = if is_sound_thing thing then Some thing else None
 
 -- the item in which version 2 says what an item of either version says, where it says a Thing
 unfoldable pub item_anew : Item → Option Thing → Item
@@ -76,14 +76,14 @@ in_second item = item_anew item (thing_in item)
 
 -- ---- Reading them one after the other
 
--- one of these Things has a lease of the address of the row
-unfoldable pub is_taken : List Thing → Thing → Bool
-is_taken things thing = list_any (λ r. list_any (holds r.0) things) thing.leases
-
 -- the Thing may stand behind these: its hardware address is greater, there is room, and none of them has one of its
 -- addresses
 unfoldable pub may_follow : List Thing → Thing → Bool
 may_follow things thing = comes_last mac_of thing things && nat_lt (length things) most_things && not (is_taken things thing)
+  where
+    -- one of these Things has a lease of the address of the row
+    is_taken : List Thing → Thing → Bool
+    is_taken things thing = list_any (λ r. list_any (holds r.0) things) thing.leases
 
 -- the Things with that of the item, where it is one that may stand behind them
 unfoldable pub with_thing_item : List Thing → Item → Option (List Thing)

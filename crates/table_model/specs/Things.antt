@@ -51,12 +51,12 @@ unfoldable pub may_wait : List ℕ → Option (List ℕ) → Bool
 may_wait url None = true
 may_wait url (Some pending) = is_canonical pending && not (bytes_eq pending url)
 
--- the leases of one Thing
-unfoldable pub are_leases : Expiries → Bool
-are_leases rows = are_ascending rows && have_expiries rows && nat_le (length rows) most_leases
-
 unfoldable pub is_sound_thing : Thing → Bool
 is_sound_thing thing = is_canonical thing.url && may_wait thing.url thing.pending && are_leases thing.leases
+  where
+    -- the leases of one Thing
+    are_leases : Expiries → Bool
+    are_leases rows = are_ascending rows && have_expiries rows && nat_le (length rows) most_leases
 
 -- a Thing that can be kept: it is sound, and fits the fields of its item
 pub record IsKeptThing (thing : Thing) : Type 0 where

@@ -1,6 +1,8 @@
 //! The addresses of a class, and the local networks.
 ghost use Rattle.std.specs.Prelude.{◌≡◌, IfOk, Some, None, if◌then◌else◌};
 ghost use Rattle.table_model.specs.Binds as spec;
+ghost use Rattle.base_rows.specs.Addresses.{addr_sort_key};
+ghost use Rattle.base_rows.specs.Ascending.{sort_keys_ascend};
 
 use base_rows::sortable::lists;
 use mud_base::{Addr, Listed, Memory, Prefix, same_addr};
@@ -37,9 +39,9 @@ pub fn without_addr(alloc: Global, addr: Addr, addrs: &[Addr]) -> Result<Listed<
 }
 
 /// Whether the addresses are in their order, each once.
-#[tactic(auto, unfolding(crate::specs::Binds::are_addrs))]
+#[tactic(auto)]
 pub(crate) fn are_addrs(addrs: &[Addr]) -> bool
-    ensures { result ≡ spec.are_addrs addrs.now }
+    ensures { result ≡ sort_keys_ascend addr_sort_key addrs.now }
 {
     lists::is_ascending(addrs)
 }

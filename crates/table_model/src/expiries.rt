@@ -1,6 +1,7 @@
 //! Addresses with their expiries: the leases of a Thing, and the addresses of a name.
-ghost use Rattle.std.specs.Prelude.{◌≡◌, IfOk};
+ghost use Rattle.std.specs.Prelude.{◌≡◌, IfOk, nat_lt, ◌==◌, ◌||◌, ◌^◌};
 ghost use Rattle.table_model.specs.Expiries as spec;
+ghost use Rattle.acl_model.specs.Changes.{for_ever};
 
 use base_rows::sortable::lists;
 use mud_base::{Addr, End, Listed, Memory, Moment, same_addr};
@@ -18,9 +19,9 @@ pub fn is_live(until: End, now: Moment) -> bool
 }
 
 /// Whether an expiry is for ever, or below 2^40 seconds.
-#[tactic(auto, unfolding(crate::specs::Expiries::is_expiry))]
+#[tactic(auto)]
 pub(crate) fn is_expiry(until: End) -> bool
-    ensures { result ≡ spec.is_expiry until }
+    ensures { result ≡ until == for_ever || nat_lt until (2 ^ 40) }
 {
     until.0 == End::NEVER || until.0 < LAST_EXPIRY
 }

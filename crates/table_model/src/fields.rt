@@ -1,7 +1,7 @@
 //! The fields of kept items: addresses, expiries and prefixes, how they are written and how they
 //! are read back.
 ghost use Rattle.std.specs.Prelude.{◌≡◌, ◌++◌, ◌^◌, ◌<◌, OnOk, MatchOption, IfSome, Some, None};
-ghost use Rattle.item_codec.specs.Spelling.{IsWidth};
+ghost use Rattle.item_codec.specs.Spelling.{IsWidth, number};
 ghost use Rattle.item_codec.specs.Records.{number_in};
 ghost use Rattle.table_model.specs.Binds.{prefix_with};
 ghost use Rattle.table_model.specs.ItemFields as spec;
@@ -44,9 +44,9 @@ pub fn write_expiring(writer: &mut FieldWriter, row: (Addr, End)) -> Result<(), 
 }
 
 /// Writes a prefix: its address, and its length in one octet.
-#[tactic(auto, unfolding(crate::specs::ItemFields::network))]
+#[tactic(auto)]
 pub fn write_network(writer: &mut FieldWriter, prefix: &Prefix) -> Result<(), Memory>
-    ensures { OnOk result (writer.new ≡ writer.old ++ spec.network prefix.now) }
+    ensures { OnOk result (writer.new ≡ writer.old ++ (spec.address prefix.now.addr ++ number 1 prefix.now.len)) }
 {
     write_address(writer, prefix.addr())?;
     writer.number(1, prefix.len() as u64)?;

@@ -1,11 +1,13 @@
 //! Whether rows that were read are ones that may be kept.
-ghost use Rattle.std.specs.Prelude.{◌≡◌, ◌==◌, bytes_eq};
+ghost use Rattle.std.specs.Prelude.{◌≡◌, ◌==◌, bytes_eq, nat_le, length, ◌&&◌};
 ghost use Rattle.std.specs.List.{list_all};
 ghost use Rattle.std.specs.Char.{is_ascii_graphic, to_ascii_lowercase};
 ghost use Rattle.mud_url.specs.Host.{lowered};
-ghost use Rattle.table_model.specs.Things.{are_leases, is_sound_thing, may_wait};
+ghost use Rattle.table_model.specs.Things.{is_sound_thing, may_wait};
 ghost use Rattle.table_model.specs.Binds as spec;
 ghost use Rattle.table_model.specs.BindItems.{are_locals};
+ghost use Rattle.table_model.specs.Limits.{most_leases};
+ghost use Rattle.table_model.specs.Expiries.{have_expiries, are_ascending};
 
 use crate::addrs::{are_addrs, are_prefixes, prefix_of_parts};
 use crate::bind::{Class, ClassRow, NameRow};
@@ -18,9 +20,9 @@ use mud_url::host::is_host;
 
 /// Whether these are the leases of a Thing: at most four, in the order of their addresses, each
 /// address once, with expiries that are for ever or below 2^40 seconds.
-#[tactic(auto, unfolding(crate::specs::Things::are_leases))]
+#[tactic(auto)]
 pub fn are_leases(rows: &[(Addr, End)]) -> bool
-    ensures { result ≡ are_leases rows.now }
+    ensures { result ≡ are_ascending rows.now && have_expiries rows.now && nat_le (length rows.now) most_leases }
 {
     are_ascending(rows) && have_expiries(rows) && rows.len() <= MOST_LEASES
 }

@@ -7,9 +7,9 @@ use Rattle.hex.specs.Hex.{encode_lower}
 unfoldable pub shown : ℕ → List ℕ
 shown c = if is_ascii_graphic c && not (c == 92) then (c ∷ []) else codes "\\x" ++ encode_lower (c ∷ [])
 
-unfoldable pub path_text : List ℕ → List ℕ
-path_text path = flat_map shown path
-
 -- a space and the path, where it isn't empty
 unfoldable pub path_part : List ℕ → List ℕ
 path_part path = if length path == 0 then [] else codes " " ++ path_text path
+  where
+    path_text : List ℕ → List ℕ
+    path_text path = flat_map shown path

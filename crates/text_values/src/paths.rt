@@ -1,5 +1,5 @@
 //! Paths, in which only octets of 21 to 7E hex are shown as they are, and no backslash.
-ghost use Rattle.std.specs.Prelude.{◌≡◌, ◌++◌, OnErr, OnOk};
+ghost use Rattle.std.specs.Prelude.{◌≡◌, ◌++◌, OnErr, OnOk, flat_map};
 ghost use Rattle.text_values.specs.Added.{AddedPart};
 ghost use Rattle.text_values.specs.Paths as spec;
 
@@ -20,10 +20,10 @@ fn append_shown(alloc: Global, line: &mut Bytes, octet: u8) -> Result<(), Memory
 }
 
 /// Adds a path as it is shown.
-#[tactic(auto, unfolding(crate::specs::Paths::path_text))]
+#[tactic(auto)]
 fn append_path(alloc: Global, line: &mut Bytes, path: &[u8]) -> Result<(), Memory>
-    ensures ok { OnOk result (line.new ≡ line.old ++ spec.path_text path.now) }
-    ensures part { OnErr result (AddedPart (spec.path_text path.now) line.old line.new) }
+    ensures ok { OnOk result (line.new ≡ line.old ++ (flat_map spec.shown path.now)) }
+    ensures part { OnErr result (AddedPart (flat_map spec.shown path.now) line.old line.new) }
 {
     'path: for octet in path {
         append_shown(alloc, line, *octet)?;

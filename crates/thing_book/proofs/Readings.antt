@@ -12,9 +12,10 @@ use Rattle.item_codec.specs.Records.{each_in, string_in, version_to_in, end_in, 
 use Rattle.table_model.specs.Expiries.{Expiries}
 use Rattle.table_model.specs.ItemFields.{expiring_in}
 use Rattle.table_model.specs.declared.thing.Thing.{Thing}
-use Rattle.table_model.specs.Things.{may_wait, are_leases, is_sound_thing}
-use Rattle.table_model.specs.ThingItems.{hold_in, if_sound_thing, thing_of}
+use Rattle.table_model.specs.Things.{may_wait, is_sound_thing}
+use Rattle.table_model.specs.ThingItems.{hold_in, thing_of}
 use Rattle.thing_book.specs.Said.{pending_said}
+use Rattle.table_model.proofs.Parts.{if_sound_thing, are_leases}
 
 -- ---- Rows that are read one behind the other
 
@@ -117,7 +118,7 @@ pending_some (Some text) pending e = by_test (is_canonical text) e
     by_test false f = absurd (none-some pending (sym f))
 
 pub not_url : (thing : Thing) → is_canonical thing.url ≡ false → if_sound_thing thing ≡ None
-unfolding if_sound_thing is_sound_thing
+unfolding is_sound_thing
 not_url thing e = ap (λ b. cond (b && may_wait thing.url thing.pending && are_leases thing.leases) (Some thing) None) e
 
 none_waits : (url : List ℕ) (said : Option (List ℕ)) → None ≡ pending_said said → may_wait url said ≡ false
@@ -134,14 +135,13 @@ not_both true c d e = ap (λ x. x && d) e
 not_both false c d e = refl
 
 pub not_pending : (thing : Thing) → None ≡ pending_said thing.pending → if_sound_thing thing ≡ None
-unfolding if_sound_thing is_sound_thing
+unfolding is_sound_thing
 not_pending thing e = ap (λ b. cond b (Some thing) None) (not_both (is_canonical thing.url) (may_wait thing.url thing.pending) (are_leases thing.leases) (none_waits thing.url thing.pending e))
 
 -- the Thing that was made of what is said
 pub sound_or_not : (mac : Mac) (url url' : List ℕ) (pending pending' : Option (List ℕ)) (leases : Expiries) (held b : Bool) → url ≡ url' → pending ≡ pending'
     → b ≡ is_sound_thing (record { mac = mac; url = url; pending = pending; leases = leases; held = held })
     → cond b (Some (record { mac = mac; url = url; pending = pending; leases = leases; held = held })) None ≡ if_sound_thing (record { mac = mac; url = url'; pending = pending'; leases = leases; held = held })
-unfolding if_sound_thing
 sound_or_not mac url url' pending pending' leases held b e f g =
     ap (λ t. cond t (Some (record { mac = mac; url = url; pending = pending; leases = leases; held = held })) None) g
     ∙ (λ i. if_sound_thing (record { mac = mac; url = e i; pending = f i; leases = leases; held = held }))

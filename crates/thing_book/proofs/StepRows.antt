@@ -17,7 +17,7 @@ use Rattle.table_model.specs.declared.thing_fault.ThingFault.TheVariants.{Things
 use Rattle.table_model.specs.Limits.{most_things, most_leases}
 use Rattle.table_model.specs.Expiries.{expiry_of, with_expiry, live_rows, live_count}
 use Rattle.table_model.specs.Things.{mac_of, thing_at, set_thing, without_thing, holds, with_leases, released, without_lease, new_thing, IsAlone, IsSoundThings}
-use Rattle.table_model.specs.ThingCommands.{TellsChange, ThingStep, done, leased_until, left, left_until, is_pending, url_cases, url_step, move_cases, move_step, remove_cases, remove_step, with_hold, hold_cases, hold_step, release_cases, release_step, expiry_after, kept_lease, new_lease, known_lease, stranger_lease, lease_cases, lease_step, end_step}
+use Rattle.table_model.specs.ThingCommands.{TellsChange, ThingStep, done, leased_until, left, is_pending, url_cases, url_step, move_cases, move_step, remove_step, with_hold, hold_cases, hold_step, release_cases, release_step, expiry_after, kept_lease, new_lease, known_lease, stranger_lease, lease_cases, lease_step, end_step}
 use Rattle.table_model.specs.ThingChanges.{puts_in, released_holders, leased, new_lease_change, end_change, kept_lease_change, known_lease_change, lease_cases_change, lease_change}
 use Rattle.base_rows.proofs.ListTests.{or_first, or_second}
 use Rattle.base_rows.proofs.Lists.{all-map, all_push}
@@ -28,6 +28,7 @@ use Rattle.table_model.proofs.SoundThings.{at_its_sort_key}
 use Rattle.table_model.proofs.ToldThings.{told-url_step, told-move_step, told-hold_step, told-release_step, told-lease_step}
 use Rattle.table_laws.proofs.LeaseChanges.{end_changed, end_unchanged, end_plain, new_lease_changed, new_lease_plain}
 use Rattle.thing_book.specs.RowChanges.{url_cases_change, url_change, waiting_for, moved_to, move_cases_change, move_change, remove_change, hold_cases_change, hold_change, release_cases_change, release_change}
+use Rattle.table_model.proofs.Parts.{left_until, remove_cases}
 
 -- the change makes the list from the Things, touches at most two sort keys, none of them twice, and changes something at each
 pub record Makes (things : List Thing) (change : RowChange Thing) (after : List Thing) : Type 0 where
@@ -115,7 +116,7 @@ module _ (things : List Thing) (ascend : SortKeysAscend mac_of things) where
   move_step_makes mac url = move_makes url (thing_at mac things) (told-move_step things ascend mac url)
 
   remove_makes : (mac : Mac) (o : Option Thing) → thing_at mac things ≡ o → MakesStep things (remove_change mac) (remove_cases mac things o)
-  unfolding remove_cases remove_change changed is_plain sort_keys_of thing_at without_thing
+  unfolding remove_change changed is_plain sort_keys_of thing_at without_thing
   remove_makes mac None found = tt
   remove_makes mac (Some thing) found = record { leads = refl; plain = refl; needed = record { gone = λ none. none-some thing (sym none ∙ found); sets = tt }; few = lit≤ tt }
 

@@ -4,7 +4,6 @@ ghost use Rattle.std.specs.List.{list_any};
 ghost use Rattle.table_model.specs.declared.thing.Thing.{Thing as ThingValue};
 ghost use Rattle.item_codec.specs.declared.word.Word.TheVariants as word;
 ghost use Rattle.table_model.specs.Expiries as spec;
-ghost use Rattle.table_model.specs.ThingItems.{is_taken};
 ghost use Rattle.table_model.specs.Things.{thing_at, holds, released};
 ghost use Rattle.table_model.specs.ThingCommands.{expiry_after, end_step, kept_lease, known_lease, lease_cases, lease_step, new_lease, stranger_lease};
 ghost use Rattle.table_model.specs.ThingChanges.{end_change, kept_lease_change, known_lease_change, lease_cases_change, lease_change, leased, new_lease_change, released_holders};
@@ -216,9 +215,9 @@ fn is_leased(things: &[Thing], addr: Addr) -> bool
 }
 
 /// Whether one of these Things has one of the Thing's addresses.
-#[tactic(auto, unfolding(table_model::specs::ThingItems::is_taken))]
+#[tactic(auto)]
 pub(crate) fn is_taken(things: &[Thing], thing: &Thing) -> bool
-    ensures { result ≡ is_taken things.now thing.now }
+    ensures { result ≡ list_any (λ r. list_any (holds r.0) things.now) thing.now.leases }
 {
     thing
         .leases

@@ -6,8 +6,8 @@ ghost use Rattle.item_codec.specs.Records.{number_in, string_in, version_to_in, 
 ghost use Rattle.item_codec.specs.Reading.{list_at};
 ghost use Rattle.std.specs.Result.{result_ok};
 ghost use Rattle.table_model.specs.ItemFields.{expiring_in};
-ghost use Rattle.table_model.specs.Things.{IsKeptThing};
-ghost use Rattle.table_model.specs.ThingItems.{hold_in, if_sound_thing, thing_in, thing_of};
+ghost use Rattle.table_model.specs.Things.{IsKeptThing, is_sound_thing};
+ghost use Rattle.table_model.specs.ThingItems.{hold_in, thing_in, thing_of};
 ghost use Rattle.thing_book.specs.Said.{pending_said, thing_said};
 
 use crate::items::VERSION;
@@ -205,9 +205,9 @@ fn pending_url(said: Option<&[u8]>) -> Option<Option<MudUrl>>
 }
 
 /// The Thing that is said, where it can be kept.
-#[tactic(auto, unfolding(table_model::specs::ThingItems::if_sound_thing, crate::specs::Said::thing_said))]
+#[tactic(auto, unfolding(crate::specs::Said::thing_said))]
 fn thing_said(mac: Mac, said: Said<'_>) -> Option<Thing>
-    ensures { result ≡ if_sound_thing (thing_said mac.0 said.entry) }
+    ensures { result ≡ if is_sound_thing (thing_said mac.0 said.entry) then Some (thing_said mac.0 said.entry) else None }
 {
     let url = canonical_url(said.url)?;
     let pending = pending_url(said.pending)?;

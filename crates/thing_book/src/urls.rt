@@ -130,7 +130,7 @@ fn moved(alloc: Global, thing: &Thing, url: MudUrl) -> Result<Plan, Memory>
 }
 
 /// The operator removes a Thing.
-#[tactic(auto, unfolding(table_model::specs::ThingCommands::remove_step, table_model::specs::ThingCommands::remove_cases))]
+#[tactic(auto, unfolding(table_model::specs::ThingCommands::remove_step))]
 pub(crate) fn remove(
     alloc: Global,
     things: &SortedRows<Thing>,

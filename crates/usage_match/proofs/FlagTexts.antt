@@ -2,10 +2,10 @@
 use Rattle.std.proofs.Common.{◌≡◌, None, Some, refl}
 use Rattle.std.specs.Prelude.{codes}
 use Rattle.acl_model.specs.TcpFlags as flag
-use Rattle.usage_match.specs.Flags.{pieces, is_flag, is_piece, are_flags, times, has_repeat, begins_with_space, ends_with_space, is_flag_text, bit_where_named, octet_of, flags_in}
+use Rattle.usage_match.specs.Flags.{pieces, is_piece, times, begins_with_space, is_flag_text, bit_where_named, flags_in}
 
 unfoldable flags_on_literals : Unit {0}
-unfolding flag.all_flags flag.word_of flag.bit_of pieces is_flag is_piece are_flags times has_repeat begins_with_space ends_with_space is_flag_text bit_where_named octet_of flags_in
+unfolding flag.all_flags flag.word_of flag.bit_of pieces is_piece times begins_with_space is_flag_text bit_where_named flags_in
 flags_on_literals = tt
 
 one_flag : flags_in (codes "syn") ≡ Some 2

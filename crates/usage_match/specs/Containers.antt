@@ -27,7 +27,7 @@ use Rattle.usage_match.specs.declared.ways.LayerKind.TheVariants.{Tcp, Udp, Icmp
 use Rattle.usage_match.specs.declared.ways.LayerWay.{LayerWay}
 use Rattle.usage_match.specs.declared.ways.LayerWay.TheVariants as way
 use Rattle.usage_match.specs.declared.ways.LayerTests.{LayerTests}
-use Rattle.usage_match.specs.Texts.{octet_where_there, length_where_there, host_where_there, model_where_there, uri_where_there, network_where_there, direction_where_there}
+use Rattle.usage_match.specs.Texts.{octet_where_there, length_where_there, host_where_there, model_where_there, network_where_there, direction_where_there, meant_where_there, uri_in}
 use Rattle.usage_match.specs.Flags.{flags_where_there}
 use Rattle.usage_match.specs.Ports.{stands, port_where_there}
 
@@ -57,7 +57,8 @@ mud_ways mud.LocalNetworks path m d tests = do
   found ← leaf_where_there path m (Some d)
   done (record tests { local_networks = found })
 mud_ways mud.Controller path m d tests = do
-  found ← uri_where_there path m d
+  -- the URI of a class, where it is there
+  found ← meant_where_there [] rule.NameText uri_in path m d
   done (record tests { controller = found })
 mud_ways mud.MyController path m d tests = do
   found ← leaf_where_there path m (Some d)
@@ -193,9 +194,6 @@ layer_ways way.Refused path m d tests = do
   _ ← no_direction path m d
   done tests
 
-unfoldable pub no_layer_tests : LayerTests
-no_layer_tests = record { source = port.Any; destination = port.Any; begun = None; flags = None; kind = None; code = None }
-
 unfoldable pub layer_of : LayerKind → LayerTests → Layer
 layer_of Tcp tests = layer.Tcp tests.source tests.destination tests.begun tests.flags
 layer_of Udp tests = layer.Udp tests.source tests.destination
@@ -206,3 +204,6 @@ unfoldable pub layer_at : LayerKind → List ℕ → Member → Data → Reading
 layer_at kind path m d = do
   found ← container_at layer_ways (layer_rows kind) no_layer_tests path m d
   done (option_map (layer_of kind) found)
+  where
+    no_layer_tests : LayerTests
+    no_layer_tests = record { source = port.Any; destination = port.Any; begun = None; flags = None; kind = None; code = None }

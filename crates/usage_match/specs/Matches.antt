@@ -135,13 +135,10 @@ match_ways (way.Layer kind) path m d tests = do
   found ← layer_at kind path m d
   done (record tests { layer = unwrap_or found tests.layer })
 
-unfoldable pub no_match_tests : MatchTests
-no_match_tests = record { mud = no_mud_tests; ip = no_ip_tests; layer = layer.Any }
-
 unfoldable pub matches_of : ListType → Direction → List ℕ → Data → Reading Tests
 matches_of type side path d = do
   _ ← members_fit type side path d
-  tests ← rows_of match_ways path (match_rows type side) d no_match_tests
+  tests ← rows_of match_ways path (match_rows type side) d (record { mud = no_mud_tests; ip = no_ip_tests; layer = layer.Any })
   done (tests_of side tests.mud tests.ip tests.layer)
 
 -- the tests of an entry at this path; without `matches` it tests nothing

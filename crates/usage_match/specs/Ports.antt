@@ -20,13 +20,6 @@ use Rattle.usage_match.specs.Texts.{as_upto, operator_where_there}
 unfoldable pub stands : Member → Data → Bool
 stands m d = is_some (inside m (Some d))
 
--- the members of a port container: two of one port, and two of a range
-unfoldable pub port_rows : List (Row (Unit {0}))
-port_rows = row Operator tt ∷ row Port tt ∷ row LowerPort tt ∷ row UpperPort tt ∷ []
-
-unfoldable pub names_single : Data → Bool
-names_single d = stands Operator d || stands Port d
-
 unfoldable pub names_range : Data → Bool
 names_range d = stands LowerPort d || stands UpperPort d
 
@@ -60,6 +53,13 @@ port_test_of path d = do
   _ ← all_known path port_rows d
   _ ← refused_where (names_range d && names_single d) (fault_at rule.PortRange path)
   if names_range d then range_at path d else single_at path d
+  where
+    names_single : Data → Bool
+    names_single d = stands Operator d || stands Port d
+
+    -- the members of a port container: two of one port, and two of a range
+    port_rows : List (Row (Unit {0}))
+    port_rows = row Operator tt ∷ row Port tt ∷ row LowerPort tt ∷ row UpperPort tt ∷ []
 
 -- an absent container tests nothing
 unfoldable pub port_where_there : List ℕ → Member → Data → Reading PortTest

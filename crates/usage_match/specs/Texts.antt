@@ -77,16 +77,12 @@ model_in text = value_of (url_of text)
 unfoldable pub model_where_there : List ℕ → Member → Data → Reading (Option (List ℕ))
 model_where_there path m parent = meant_where_there [] rule.NameText model_in path m parent
 
--- 1 to 255 octets from 21 to 7E hex
-unfoldable pub is_uri : List ℕ → Bool
-is_uri text = not (length text == 0) && nat_le (length text) 255 && list_all is_ascii_graphic text
-
 unfoldable pub uri_in : List ℕ → Option (List ℕ)
 uri_in text = if is_uri text then Some text else None
-
--- the URI of a class, where it is there
-unfoldable pub uri_where_there : List ℕ → Member → Data → Reading (Option (List ℕ))
-uri_where_there path m parent = meant_where_there [] rule.NameText uri_in path m parent
+  where
+    -- 1 to 255 octets from 21 to 7E hex
+    is_uri : List ℕ → Bool
+    is_uri text = not (length text == 0) && nat_le (length text) 255 && list_all is_ascii_graphic text
 
 -- ---- Networks
 

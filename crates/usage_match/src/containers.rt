@@ -1,9 +1,10 @@
 //! The containers inside `matches`. Each is an object that is read by its table.
-ghost use Rattle.std.specs.Prelude.{◌≡◌, Some};
+ghost use Rattle.std.specs.Prelude.{◌≡◌, Some, None};
 ghost use Rattle.serde_json.specs.View.{view};
 ghost use Rattle.mud_base.specs.Readings.{Gives};
 ghost use Rattle.usage_walk.specs.Kinds.{leaf_where_there};
 ghost use Rattle.usage_match.specs.Containers as spec;
+ghost use Rattle.acl_model.specs.declared.entry.PortTest.TheVariants as port;
 
 use crate::entry_tests::{IpTests, ListType, MudTests};
 use crate::flags::flags_where_there;
@@ -305,9 +306,9 @@ impl Reads for LayerWay {
 }
 
 /// Nothing is asked of the header.
-#[tactic(auto, unfolding(crate::specs::Containers::no_layer_tests))]
+#[tactic(auto)]
 fn no_layer_tests() -> LayerTests
-    ensures { result ≡ spec.no_layer_tests }
+    ensures { result ≡ record { source = port.Any; destination = port.Any; begun = None; flags = None; kind = None; code = None } }
 {
     LayerTests {
         source: PortTest::Any,

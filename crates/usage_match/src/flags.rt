@@ -1,9 +1,10 @@
 //! Texts that name flags of TCP (RFC 8519, 4.2, `flags`).
-ghost use Rattle.std.specs.Prelude.{◌≡◌, ◌≤◌};
+ghost use Rattle.std.specs.Prelude.{◌≡◌, ◌≤◌, map, sum, nat_lt, bytes_eq, length, slice_index, ◌==◌, ◌-◌};
 ghost use Rattle.serde_json.specs.View.{view};
 ghost use Rattle.mud_base.specs.Readings.{Gives};
-ghost use Rattle.acl_model.specs.TcpFlags.{bit_of};
+ghost use Rattle.acl_model.specs.TcpFlags.{bit_of, all_flags, word_of};
 ghost use Rattle.usage_match.specs.Flags as spec;
+ghost use Rattle.std.specs.List.{list_all, list_any};
 
 use crate::texts::{meant, text_of};
 use acl_model::TcpFlag;
@@ -11,9 +12,9 @@ use acl_model::tcp_flag::{all_flags, bit_of, word_of};
 use usage_walk::{FileFault, Rule, Spot};
 
 /// Whether a word names a flag.
-#[tactic(auto, unfolding(crate::specs::Flags::is_flag))]
+#[tactic(auto)]
 fn is_flag(word: &str) -> bool
-    ensures { result ≡ spec.is_flag word.now }
+    ensures { result ≡ list_any (λ f. bytes_eq (word_of f) word.now) all_flags }
 {
     all_flags().iter().any(|flag| word_of(*flag) == word)
 }
@@ -30,9 +31,9 @@ fn is_piece(piece: &str) -> bool
 }
 
 /// Whether every word of a text is a flag.
-#[tactic(auto, unfolding(crate::specs::Flags::are_flags, crate::specs::Flags::pieces))]
+#[tactic(auto, unfolding(crate::specs::Flags::pieces))]
 fn are_flags(text: &str) -> bool
-    ensures { result ≡ spec.are_flags text.now }
+    ensures { result ≡ list_all spec.is_piece (spec.pieces text.now) }
 {
     text.split(' ').all(is_piece)
 }
@@ -47,9 +48,9 @@ fn times(text: &str, flag: TcpFlag) -> usize
 }
 
 /// Whether a text names a flag twice.
-#[tactic(auto, unfolding(crate::specs::Flags::has_repeat))]
+#[tactic(auto)]
 fn has_repeat(text: &str) -> bool
-    ensures { result ≡ spec.has_repeat text.now }
+    ensures { result ≡ list_any (λ f. nat_lt 1 (spec.times text.now f)) all_flags }
 {
     all_flags().iter().any(|flag| times(text, *flag) > 1)
 }
@@ -66,9 +67,9 @@ fn begins_with_space(text: &[u8]) -> bool
 }
 
 /// Whether a text ends with a space.
-#[tactic(auto, unfolding(crate::specs::Flags::ends_with_space))]
+#[tactic(auto)]
 fn ends_with_space(text: &[u8]) -> bool
-    ensures { result ≡ spec.ends_with_space text.now }
+    ensures { result ≡ slice_index text.now (length text.now - 1) == 32 }
 {
     match text {
         [] => false,
@@ -108,9 +109,9 @@ fn bit_where_named(text: &str, flag: TcpFlag) -> u8
 }
 
 /// The octet of flags in which those that a text names are set, and no other.
-#[tactic(auto, unfolding(crate::specs::Flags::octet_of, acl_model::specs::TcpFlags::all_flags, acl_model::specs::TcpFlags::bit_of))]
+#[tactic(auto, unfolding(acl_model::specs::TcpFlags::all_flags, acl_model::specs::TcpFlags::bit_of))]
 fn octet_of(text: &str) -> u8
-    ensures { result ≡ spec.octet_of text.now }
+    ensures { result ≡ sum (map (spec.bit_where_named text.now) all_flags) }
 {
     let cwr = bit_where_named(text, TcpFlag::Cwr);
     let ece = bit_where_named(text, TcpFlag::Ece);

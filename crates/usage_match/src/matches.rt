@@ -4,6 +4,8 @@ ghost use Rattle.std.specs.Option.{option_to_list};
 ghost use Rattle.serde_json.specs.View.{view};
 ghost use Rattle.mud_base.specs.Readings.{Gives};
 ghost use Rattle.usage_match.specs.Matches as spec;
+ghost use Rattle.acl_model.specs.declared.entry.Layer.TheVariants as layer;
+ghost use Rattle.usage_match.specs.Containers.{no_ip_tests, no_mud_tests};
 
 use crate::containers::{ip_at, layer_at, mud_at, no_ip_tests, no_mud_tests};
 use crate::entry_tests::{IpTests, ListType, MudTests, Tests};
@@ -272,9 +274,9 @@ impl Reads for MatchWay {
 }
 
 /// Nothing is asked by the members of `matches`.
-#[tactic(auto, unfolding(crate::specs::Matches::no_match_tests))]
+#[tactic(auto)]
 fn no_match_tests() -> MatchTests
-    ensures { result ≡ spec.no_match_tests }
+    ensures { result ≡ record { mud = no_mud_tests; ip = no_ip_tests; layer = layer.Any } }
 {
     MatchTests {
         mud: no_mud_tests(),

@@ -1,8 +1,10 @@
 //! The tests of ports (RFC 8519, 4.2): one port with an operator, or a range.
-ghost use Rattle.std.specs.Prelude.{◌≡◌};
+ghost use Rattle.std.specs.Prelude.{◌≡◌, ◌∷◌, [], ◌||◌};
 ghost use Rattle.serde_json.specs.View.{view};
 ghost use Rattle.mud_base.specs.Readings.{Gives};
 ghost use Rattle.usage_match.specs.Ports as spec;
+ghost use Rattle.usage_walk.specs.declared.member.Member.TheVariants as members;
+ghost use Rattle.usage_walk.specs.Tables.{row};
 
 use crate::entry_tests::Operator;
 use crate::texts::{as_two_octets, operator_where_there};
@@ -23,9 +25,9 @@ pub fn stands(object: &Value, member: Member) -> bool
 }
 
 /// The members of a port container: two of one port, and two of a range.
-#[tactic(auto, unfolding(crate::specs::Ports::port_rows))]
+#[tactic(auto)]
 fn port_rows() -> [Row<()>; 4]
-    ensures { result ≡ spec.port_rows }
+    ensures { result ≡ row members.Operator tt ∷ row members.Port tt ∷ row members.LowerPort tt ∷ row members.UpperPort tt ∷ [] }
 {
     [
         Row::new(Member::Operator, ()),
@@ -36,9 +38,9 @@ fn port_rows() -> [Row<()>; 4]
 }
 
 /// Whether a port container names a single port or an operator.
-#[tactic(auto, unfolding(crate::specs::Ports::names_single))]
+#[tactic(auto)]
 fn names_single(object: &Value) -> bool
-    ensures { result ≡ spec.names_single (view object.now) }
+    ensures { result ≡ spec.stands members.Operator (view object.now) || spec.stands members.Port (view object.now) }
 {
     stands(object, Member::Operator) || stands(object, Member::Port)
 }

@@ -1,5 +1,5 @@
 //! The rules of single members inside `matches`.
-ghost use Rattle.std.specs.Prelude.{◌≡◌, IfOk, option_map};
+ghost use Rattle.std.specs.Prelude.{◌≡◌, IfOk, option_map, length, nat_le, not, ◌==◌, ◌&&◌, []};
 ghost use Rattle.std.specs.List.{list_all};
 ghost use Rattle.std.specs.Char.{is_ascii_graphic};
 ghost use Rattle.serde_json.specs.View.{view};
@@ -7,6 +7,7 @@ ghost use Rattle.mud_base.specs.Readings.{Answers, Gives};
 ghost use Rattle.usage_walk.specs.Kinds.{text_where_there};
 ghost use Rattle.usage_walk.specs.Reading.{fault_at, under};
 ghost use Rattle.usage_match.specs.Texts as spec;
+ghost use Rattle.usage_walk.specs.declared.fault.Rule.TheVariants as rule;
 
 use crate::entry_tests::{ListType, Operator};
 use mud_base::{Addr, Bytes, Direction, Memory, Prefix, prefix_of};
@@ -137,9 +138,9 @@ fn is_graphic(text: &[u8]) -> bool
 }
 
 /// Whether a text has 1 to 255 octets, all from 21 to 7E hex.
-#[tactic(auto, unfolding(crate::specs::Texts::is_uri))]
+#[tactic(auto)]
 fn is_uri(text: &[u8]) -> bool
-    ensures { result ≡ spec.is_uri text.now }
+    ensures { result ≡ not (length text.now == 0) && nat_le (length text.now) 255 && list_all is_ascii_graphic text.now }
 {
     if text.is_empty() {
         return false;
@@ -163,9 +164,9 @@ fn uri_in(alloc: Global, text: &[u8]) -> Result<Option<Bytes>, Memory>
 }
 
 /// The URI of a class, where it is there.
-#[tactic(auto, unfolding(crate::specs::Texts::uri_where_there), using(crate::proofs::Meant::meant_refused, crate::proofs::Meant::meant_absent, crate::proofs::Meant::meant_there))]
+#[tactic(auto, using(crate::proofs::Meant::meant_refused, crate::proofs::Meant::meant_absent, crate::proofs::Meant::meant_there))]
 pub(crate) fn uri_where_there(spot: Spot<'_>) -> Result<Option<Bytes>, FileFault>
-    ensures { Gives (λ v. v) result (spec.uri_where_there spot.entry.path.now spot.entry.member (view spot.entry.object.now)) }
+    ensures { Gives (λ v. v) result (spec.meant_where_there [] rule.NameText spec.uri_in spot.entry.path.now spot.entry.member (view spot.entry.object.now)) }
 {
     match text_of(spot)? {
         None => Ok(None),

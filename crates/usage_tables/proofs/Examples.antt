@@ -13,8 +13,8 @@ use Rattle.usage_tables.specs.declared.cached_file.CachedFile.{CachedFile}
 use Rattle.usage_tables.specs.declared.cache_fault.CacheFault.TheVariants.{NoCandidate, NotApproved}
 use Rattle.usage_tables.specs.Held.{HeldFile, held_file, digest_of}
 use Rattle.usage_tables.specs.Files.{url_of, file_at, set_file, without_file, with_candidate, with_approved}
-use Rattle.usage_tables.specs.FileCommands.{done, left, left_with, candidate_again, ruled, verdict_cases, verdict_step, approved_cases, revoke_cases, revoke_step}
-use Rattle.usage_tables.specs.FileItems.{held_fields, approved_fields, approval_number, file_body, file_item}
+use Rattle.usage_tables.specs.FileCommands.{done, left, left_with, candidate_again, ruled, verdict_cases, verdict_step, approved_cases, revoke_step}
+use Rattle.usage_tables.specs.FileItems.{held_fields, approved_fields, approval_number, file_item}
 use Rattle.usage_tables.specs.Due.{latest}
 use Rattle.usage_tables.proofs.Parts.{has_expired}
 
@@ -40,15 +40,15 @@ both = record { url = url; approved = Some (old, Waived); candidate = Some new }
 -- ---- Steps
 
 revoked : revoke_step url (approved ∷ []) ≡ done Revoked url []
-unfolding revoke_step revoke_cases approved_cases left_with with_approved file_at url_of without_file set_file
+unfolding revoke_step approved_cases left_with with_approved file_at url_of without_file set_file
 revoked = refl
 
 revoked_beside : revoke_step url (both ∷ []) ≡ done Revoked url (waiting ∷ [])
-unfolding revoke_step revoke_cases approved_cases left_with with_approved file_at url_of without_file set_file
+unfolding revoke_step approved_cases left_with with_approved file_at url_of without_file set_file
 revoked_beside = refl
 
 not_approved : revoke_step url (waiting ∷ []) ≡ Err NotApproved
-unfolding revoke_step revoke_cases approved_cases file_at url_of
+unfolding revoke_step approved_cases file_at url_of
 not_approved = refl
 
 rejected : ruled url (waiting ∷ []) waiting new verdict.Failed ≡ done Rejected url []
@@ -93,7 +93,7 @@ expired = refl
 -- ---- Items
 
 item : file_item both ≡ record { kind = 2; key = url; body = 1 ∷ 1 ∷ 0 ∷ 0 ∷ 0 ∷ 0 ∷ 0 ∷ 0 ∷ 3 ∷ 232 ∷ 2 ∷ 0 ∷ 0 ∷ 0 ∷ 3 ∷ 1 ∷ 2 ∷ 3 ∷ 1 ∷ 0 ∷ 0 ∷ 0 ∷ 0 ∷ 0 ∷ 0 ∷ 3 ∷ 232 ∷ 0 ∷ 0 ∷ 0 ∷ 1 ∷ 4 ∷ [] }
-unfolding file_item file_body held_fields approved_fields approval_number optional number string version version_of
+unfolding file_item held_fields approved_fields approval_number optional number string version version_of
 item = refl
 
 -- ---- Digests (FIPS 180-4)

@@ -22,9 +22,9 @@ use Rattle.usage_tables.specs.declared.cached_file.CachedFile.{CachedFile}
 use Rattle.usage_tables.specs.Held.{HeldFile, held_file, usage_in}
 use Rattle.usage_tables.specs.Limits.{last_moment}
 use Rattle.usage_tables.specs.Files.{is_held, may_have, is_approved, may_follow, is_sound_file, IsKeptFile}
-use Rattle.usage_tables.specs.FileItems.{approval_number, held_fields, approved_fields, file_body, file_item, held_in, approval_in, approved_in, file_row, row_of, if_sound_file, file_in, IsFileItem}
+use Rattle.usage_tables.specs.FileItems.{approval_number, held_fields, approved_fields, file_item, held_in, approval_in, approved_in, file_row, row_of, if_sound_file, file_in, IsFileItem}
 use Rattle.base_rows.proofs.ListTests.{left_of, right_of}
-use Rattle.usage_tables.proofs.Parts.{is_of_url, approval_field, is_usage_of, are_files, approval_of}
+use Rattle.usage_tables.proofs.Parts.{is_of_url, approval_field, is_usage_of, are_files, approval_of, file_body}
 use Rattle.mud_file.proofs.Parts.{most_octets}
 
 -- ---- Fields
@@ -186,7 +186,7 @@ last_part : (candidate : Option HeldFile) → OptionFits FitsHeld candidate → 
 last_part candidate fits = ap (optional_in held_in) (sym (append-nil (optional held_fields candidate))) ∙ candidate_part.back candidate [] fits
 
 row_of_back : (url : List ℕ) (approved : Option (HeldFile × Approval)) (candidate : Option HeldFile) → FitParts approved candidate → row_of url (file_body approved candidate) ≡ Some (file_row url approved candidate)
-unfolding row_of file_body
+unfolding row_of
 row_of_back url approved candidate fits =
     rw (version_back (optional approved_fields approved ++ optional held_fields candidate), approval_part.back approved (optional held_fields candidate) fits.0, last_part candidate fits.1, end_back) refl
 
@@ -196,7 +196,7 @@ record IsRowRead (key body : List ℕ) (row : CachedFile) : Type 0 where
   body_is : body ≡ file_body row.approved row.candidate
 
 row_of_alone : (key body : List ℕ) (row : CachedFile) → IsOctets body → row_of key body ≡ Some row → IsRowRead key body row
-unfolding row_of file_body file_row
+unfolding row_of file_row
 row_of_alone key body row fits e =
     let v = bind_some (version_in body) (λ one. optional_in approved_in one.1 >>= λ approved. optional_in held_in approved.1 >>= λ candidate. end_in candidate.1 >>= λ ended. Some (file_row key approved.0 candidate.0)) row e in
     let a = bind_some (optional_in approved_in v.0.1) (λ approved. optional_in held_in approved.1 >>= λ candidate. end_in candidate.1 >>= λ ended. Some (file_row key approved.0 candidate.0)) row v.2 in

@@ -1,19 +1,20 @@
 -- Parts of definitions that lemmas speak of.
-use Rattle.std.specs.Prelude.{ℕ, Bool, List, bytes_eq, nat_le, ◌+◌, ◌*◌, Err, Ok, Result, None, Option, Some, ◌==◌, if◌then◌else◌, false, ◌&&◌}
+use Rattle.std.specs.Prelude.{ℕ, Bool, List, bytes_eq, nat_le, ◌+◌, ◌*◌, Err, Ok, Result, None, Option, Some, ◌==◌, if◌then◌else◌, false, ◌&&◌, ◌||◌, ◌++◌}
 use Rattle.mud_file.specs.declared.usage_file.UsageFile.{UsageFile}
 use Rattle.usage_tables.specs.declared.approval.Approval.{Approval}
-use Rattle.usage_tables.specs.FileItems.{approval_number}
-use Rattle.item_codec.specs.Spelling.{number}
+use Rattle.usage_tables.specs.FileItems.{approval_number, approved_fields, held_fields}
+use Rattle.item_codec.specs.Spelling.{number, version}
 use Rattle.usage_walk.specs.declared.fault.Broken.{Broken}
 use Rattle.usage_tables.specs.declared.cached_file.CachedFile.{CachedFile}
-use Rattle.usage_tables.specs.declared.cache_fault.CacheFault.TheVariants.{File}
-use Rattle.usage_tables.specs.FileCommands.{FileStep, import_cases}
+use Rattle.usage_tables.specs.declared.cache_fault.CacheFault.TheVariants.{File, NotApproved}
+use Rattle.usage_tables.specs.FileCommands.{FileStep, import_cases, older_than_approved, older_than_candidate, approved_cases}
 use Rattle.usage_tables.specs.Held.{HeldFile, usage_in}
 use Rattle.usage_tables.specs.Files.{file_at, set_file, without_file, is_older, is_approved, is_held, may_follow}
 use Rattle.usage_tables.specs.declared.approval.Approval.TheVariants.{Verified, Waived}
 use Rattle.std.specs.Option.{option_map_or}
 use Rattle.acl_model.specs.declared.entry.Policy.{Policy}
 use Rattle.usage_tables.specs.Policies.{policy_in_held}
+use Rattle.item_codec.specs.Records.{optional}
 
 abbrev pub is_of_url : List ℕ → UsageFile → Bool
 is_of_url url file = bytes_eq file.url url
@@ -53,3 +54,13 @@ policy_in_file file = file.policy
 
 abbrev pub policy_in_approved : HeldFile × Approval → Option Policy
 policy_in_approved approved = policy_in_held approved.0
+
+abbrev pub is_outdated_by : CachedFile → UsageFile → Bool
+is_outdated_by row file = older_than_approved file row.approved || older_than_candidate file row.candidate
+
+abbrev pub file_body : Option (HeldFile × Approval) → Option HeldFile → List ℕ
+file_body approved candidate = version ++ (optional approved_fields approved ++ optional held_fields candidate)
+
+abbrev pub revoke_cases : List ℕ → List CachedFile → Option CachedFile → FileStep
+revoke_cases url files None = Err NotApproved
+revoke_cases url files (Some row) = approved_cases url files row row.approved

@@ -24,9 +24,9 @@ use Rattle.usage_tables.specs.declared.cache_fault.CacheFault.TheVariants.{Older
 use Rattle.usage_tables.specs.Held.{HeldFile, held_file, usage_in, digest_of}
 use Rattle.usage_tables.specs.Limits.{most_files, most_policy_entries, last_moment}
 use Rattle.usage_tables.specs.Files.{url_of, file_at, set_file, without_file, new_file, with_candidate, with_approved, is_signed, is_older, entries_of, approved_entries, entry_count, is_held, may_have, is_approved, may_follow, is_sound_file, IsKeptFile, IsSoundFiles}
-use Rattle.usage_tables.specs.FileCommands.{FileStep, done, left, candidate_again, approved_again, older_than_approved, older_than_candidate, is_outdated_by, new_candidate, beside_approved, beside_candidate, import_cases, import_step, left_with, approved_row, approve, ruled, candidate_cases, is_ruled, verdict_cases, verdict_step, approved_cases, revoke_cases, revoke_step}
+use Rattle.usage_tables.specs.FileCommands.{FileStep, done, left, candidate_again, approved_again, older_than_approved, older_than_candidate, new_candidate, beside_approved, beside_candidate, import_cases, import_step, left_with, approved_row, approve, ruled, candidate_cases, is_ruled, verdict_cases, verdict_step, approved_cases, revoke_step}
 use Rattle.usage_tables.proofs.Counts.{entries_found, entry_count-set_row, entry_count-without_row}
-use Rattle.usage_tables.proofs.Parts.{is_of_url, is_outdated, are_files, import_read, settled}
+use Rattle.usage_tables.proofs.Parts.{is_of_url, is_outdated, are_files, import_read, settled, revoke_cases}
 
 -- ---- What holds of the files behind a step
 
@@ -214,7 +214,7 @@ module _ (files : List CachedFile) (sound : IsSoundFiles files) (url : List ℕ)
       (λ _. sound)
 
   new_candidate_sound : (held : HeldFile) (file : UsageFile) → is_held row.url held ≡ true → usage_in held.octets ≡ Some file → ((x : HeldFile × Approval) → row.approved ≡ Some x → bytes_eq held.octets x.0.octets ≡ false) → OfAfter IsSoundFiles (new_candidate held file files row)
-  unfolding new_candidate is_outdated_by with_candidate is_sound_file url_of
+  unfolding new_candidate with_candidate is_sound_file url_of
   new_candidate_sound held file fits read other =
       let new : CachedFile = record row { candidate = Some held } in
       let older : Bool = older_than_approved file row.approved || older_than_candidate file row.candidate in
@@ -309,7 +309,6 @@ module _ (files : List CachedFile) (sound : IsSoundFiles files) where
   sound-verdict_step url digest v = verdict_cases_sound url digest v (file_at url files) refl
 
   revoke_cases_sound : (url : List ℕ) (o : Option CachedFile) → file_at url files ≡ o → OfAfter IsSoundFiles (revoke_cases url files o)
-  unfolding revoke_cases
   revoke_cases_sound url None found = tt
   revoke_cases_sound url (Some row) found = approved_cases_sound files sound url row found row.approved
 

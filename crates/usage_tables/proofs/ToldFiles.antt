@@ -20,9 +20,9 @@ use Rattle.usage_tables.specs.declared.cache_fault.CacheFault.TheVariants.{Older
 use Rattle.usage_tables.specs.Held.{HeldFile, held_file, digest_of}
 use Rattle.usage_tables.specs.Limits.{most_files, most_policy_entries}
 use Rattle.usage_tables.specs.Files.{url_of, file_at, set_file, without_file, new_file, with_candidate, with_approved, is_signed, entry_count}
-use Rattle.usage_tables.specs.FileCommands.{TellsChange, FileStep, done, left, candidate_again, approved_again, older_than_approved, older_than_candidate, is_outdated_by, new_candidate, beside_approved, beside_candidate, import_cases, import_step, left_with, approved_row, approve, ruled, candidate_cases, is_ruled, verdict_cases, verdict_step, approved_cases, revoke_cases, revoke_step}
+use Rattle.usage_tables.specs.FileCommands.{TellsChange, FileStep, done, left, candidate_again, approved_again, older_than_approved, older_than_candidate, new_candidate, beside_approved, beside_candidate, import_cases, import_step, left_with, approved_row, approve, ruled, candidate_cases, is_ruled, verdict_cases, verdict_step, approved_cases, revoke_step}
 use Rattle.usage_tables.proofs.SoundFiles.{at_its_sort_key}
-use Rattle.usage_tables.proofs.Parts.{import_read, settled}
+use Rattle.usage_tables.proofs.Parts.{import_read, settled, revoke_cases}
 
 -- the step, where it isn't refused, says truly whether these files change
 abbrev pub IsTold : List CachedFile → FileStep → Type 0
@@ -89,7 +89,7 @@ module _ (files : List CachedFile) (ascend : SortKeysAscend url_of files) (url :
       (λ _. as_before files url)
 
   new_candidate_told : (held : HeldFile) (file : UsageFile) → ((c : HeldFile) → row.candidate ≡ Some c → bytes_eq held.octets c.octets ≡ false) → IsTold files (new_candidate held file files row)
-  unfolding new_candidate is_outdated_by
+  unfolding new_candidate
   new_candidate_told held file other =
       told_by files (older_than_approved file row.approved || older_than_candidate file row.candidate) (Err Older) (done New file.url (set_file (with_candidate (Some held) row) files))
       (λ _. tt)
@@ -172,7 +172,6 @@ module _ (files : List CachedFile) (ascend : SortKeysAscend url_of files) where
   told-verdict_step url digest v = verdict_cases_told url digest v (file_at url files) refl
 
   revoke_cases_told : (url : List ℕ) (o : Option CachedFile) → file_at url files ≡ o → IsTold files (revoke_cases url files o)
-  unfolding revoke_cases
   revoke_cases_told url None found = tt
   revoke_cases_told url (Some row) found = approved_cases_told files ascend url row found row.approved refl
 

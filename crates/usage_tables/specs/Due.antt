@@ -20,9 +20,9 @@ is_expired now held = option_map_or (λ (file : UsageFile). nat_le (held.fetched
 unfoldable pub is_due : ℕ → CachedFile → Bool
 is_due now row = option_map_or (is_expired now) (latest row.approved row.candidate) false
 
-unfoldable pub due_files : ℕ → List CachedFile → List CachedFile
-due_files now files = filter (is_due now) files
-
 -- the URLs of which a file is to be fetched again, in their order
 unfoldable pub due_urls : ℕ → List CachedFile → List (List ℕ)
 due_urls now files = map url_of (due_files now files)
+  where
+    due_files : ℕ → List CachedFile → List CachedFile
+    due_files now files = filter (is_due now) files

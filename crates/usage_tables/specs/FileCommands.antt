@@ -62,15 +62,15 @@ abbrev pub older_than_candidate : UsageFile → Option HeldFile → Bool
 older_than_candidate file None = false
 older_than_candidate file (Some candidate) = is_older file candidate
 
--- a file that was generated before one of the held ones
-unfoldable pub is_outdated_by : CachedFile → UsageFile → Bool
-is_outdated_by row file = older_than_approved file row.approved || older_than_candidate file row.candidate
-
 -- octets that aren't held become the candidate, in place of an earlier one
 unfoldable pub new_candidate : HeldFile → UsageFile → List CachedFile → CachedFile → FileStep
 new_candidate held file files row =
     if is_outdated_by row file then Err Older
     else done New file.url (set_file (with_candidate (Some held) row) files)
+  where
+    -- a file that was generated before one of the held ones
+    is_outdated_by : CachedFile → UsageFile → Bool
+    is_outdated_by row file = older_than_approved file row.approved || older_than_candidate file row.candidate
 
 unfoldable pub beside_approved : HeldFile → UsageFile → List CachedFile → CachedFile → Option (HeldFile × Approval) → FileStep
 beside_approved held file files row None = new_candidate held file files row
@@ -153,9 +153,9 @@ unfoldable pub approved_cases : List ℕ → List CachedFile → CachedFile → 
 approved_cases url files row None = Err NotApproved
 approved_cases url files row (Some approved) = done Revoked url (left_with url (with_approved None row) files)
 
-unfoldable pub revoke_cases : List ℕ → List CachedFile → Option CachedFile → FileStep
-revoke_cases url files None = Err NotApproved
-revoke_cases url files (Some row) = approved_cases url files row row.approved
-
 unfoldable pub revoke_step : List ℕ → List CachedFile → FileStep
 revoke_step url files = revoke_cases url files (file_at url files)
+  where
+    revoke_cases : List ℕ → List CachedFile → Option CachedFile → FileStep
+    revoke_cases url files None = Err NotApproved
+    revoke_cases url files (Some row) = approved_cases url files row row.approved

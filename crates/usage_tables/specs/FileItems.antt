@@ -31,11 +31,11 @@ held_fields held = number 8 held.fetched ++ string held.octets
 unfoldable pub approved_fields : HeldFile × Approval → List ℕ
 approved_fields approved = number 8 approved.0.fetched ++ (number 1 (approval_number approved.1) ++ string approved.0.octets)
 
-unfoldable pub file_body : Option (HeldFile × Approval) → Option HeldFile → List ℕ
-file_body approved candidate = version ++ (optional approved_fields approved ++ optional held_fields candidate)
-
 unfoldable pub file_item : CachedFile → Item
 file_item row = record { kind = file_kind; key = row.url; body = file_body row.approved row.candidate }
+  where
+    file_body : Option (HeldFile × Approval) → Option HeldFile → List ℕ
+    file_body approved candidate = version ++ (optional approved_fields approved ++ optional held_fields candidate)
 
 unfoldable pub file_items : List CachedFile → List Item
 file_items files = map file_item files

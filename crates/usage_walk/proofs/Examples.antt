@@ -9,12 +9,13 @@ use Rattle.usage_walk.specs.declared.row.Row.{Row}
 use Rattle.usage_walk.specs.Names as names
 use Rattle.mud_base.specs.Readings.{answer}
 use Rattle.usage_walk.specs.Reading.{fault_at, under, at_index, under_name}
-use Rattle.usage_walk.specs.Kinds.{is_empty_leaf, text_at, number_at, truth_at, object_at, text_where_there, number_where_there, object_where_there, list_where_there, leaf_where_there}
+use Rattle.usage_walk.specs.Kinds.{text_at, number_at, truth_at, object_at, text_where_there, number_where_there, object_where_there, list_where_there, leaf_where_there}
 use Rattle.usage_walk.specs.Named.{elements_of}
 use Rattle.usage_walk.specs.Others.{all_known}
 use Rattle.usage_walk.specs.Tables.{row}
 use Rattle.usage_walk.proofs.OnLiterals.{walk_on_literals}
 use Rattle.usage_walk.proofs.Written.{num, list, obj}
+use Rattle.usage_walk.proofs.Parts.{is_empty_leaf}
 
 -- ---- Rules, by their numbers
 

@@ -24,10 +24,6 @@ is_only_null [] = false
 is_only_null (d ∷ []) = is_null d
 is_only_null (d ∷ e ∷ ds) = false
 
--- an empty leaf is `[null]` (RFC 7951, 6.9) or `null`
-unfoldable pub is_empty_leaf : Data → Bool
-is_empty_leaf d = option_map_or is_only_null (list_in d) (is_null d)
-
 -- ---- Values
 
 unfoldable pub text_of : List ℕ → Data → Reading (List ℕ)
@@ -36,20 +32,15 @@ text_of path d = wanted [] (fault_at WrongKind path) (as_str d)
 unfoldable pub number_of : List ℕ → Data → Reading ℕ
 number_of path d = wanted 0 (fault_at WrongKind path) (option_and_then as_u64 (as_number d))
 
-unfoldable pub truth_of : List ℕ → Data → Reading Bool
-truth_of path d = wanted false (fault_at WrongKind path) (as_bool d)
-
 unfoldable pub object_of : List ℕ → Data → Reading Data
 object_of path d = wanted null (fault_at WrongKind path) (object_in d)
   where
     object_in : Data → Option Data
     object_in d = if is_some (as_object d) then Some d else None
 
-unfoldable pub list_of : List ℕ → Data → Reading (List Data)
-list_of path d = wanted [] (fault_at WrongKind path) (list_in d)
-
+-- an empty leaf is `[null]` (RFC 7951, 6.9) or `null`
 unfoldable pub leaf_of : List ℕ → Data → Reading (Unit {0})
-leaf_of path d = refused_where (not (is_empty_leaf d)) (fault_at WrongKind path)
+leaf_of path d = refused_where (not (option_map_or is_only_null (list_in d) (is_null d))) (fault_at WrongKind path)
 
 -- ---- Members of an object. The path is the object's.
 
@@ -71,6 +62,9 @@ unfoldable pub truth_at : List ℕ → Member → Data → Reading Bool
 truth_at path member d = do
   value ← member_at path member d
   truth_of (under path member) value
+  where
+    truth_of : List ℕ → Data → Reading Bool
+    truth_of path d = wanted false (fault_at WrongKind path) (as_bool d)
 
 unfoldable pub object_at : List ℕ → Member → Data → Reading Data
 object_at path member d = do
@@ -96,6 +90,9 @@ unfoldable pub list_where_there : List ℕ → Member → Option Data → Readin
 list_where_there path member parent = do
   found ← where_there (list_of (under path member)) (inside member parent)
   done (unwrap_or found [])
+  where
+    list_of : List ℕ → Data → Reading (List Data)
+    list_of path d = wanted [] (fault_at WrongKind path) (list_in d)
 
 -- whether an empty leaf is there
 unfoldable pub leaf_where_there : List ℕ → Member → Option Data → Reading Bool

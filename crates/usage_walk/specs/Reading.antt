@@ -19,12 +19,12 @@ under path member = path ++ 47 ∷ name_of member
 unfoldable pub at_index : List ℕ → ℕ → List ℕ
 at_index path index = path ++ 47 ∷ decimal index
 
--- `~` is written as `~0`, and `/` as `~1` (RFC 6901, 3)
-abbrev pub escape : ℕ → List ℕ
-escape c = if c == 126 then (126 ∷ 48 ∷ []) else (if c == 47 then (126 ∷ 49 ∷ []) else (c ∷ []))
-
 unfoldable pub under_name : List ℕ → List ℕ → List ℕ
 under_name path name = path ++ 47 ∷ flat_map escape name
+  where
+    -- `~` is written as `~0`, and `/` as `~1` (RFC 6901, 3)
+    escape : ℕ → List ℕ
+    escape c = if c == 126 then (126 ∷ 48 ∷ []) else (if c == 47 then (126 ∷ 49 ∷ []) else (c ∷ []))
 
 unfoldable pub fault_at : Rule → List ℕ → Broken
 fault_at rule path = record { rule = rule; path = path; url = None }

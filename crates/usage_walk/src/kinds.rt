@@ -1,9 +1,12 @@
 //! Values of one JSON kind, and members of an object.
-ghost use Rattle.std.specs.Prelude.{◌≡◌, map, option_map};
+ghost use Rattle.std.specs.Prelude.{◌≡◌, map, option_map, [], false};
 ghost use Rattle.serde_json.specs.View.{view};
-ghost use Rattle.mud_base.specs.Readings.{Gives};
-ghost use Rattle.usage_walk.specs.Reading.{under};
+ghost use Rattle.mud_base.specs.Readings.{Gives, wanted};
+ghost use Rattle.usage_walk.specs.Reading.{under, fault_at};
 ghost use Rattle.usage_walk.specs.Kinds as spec;
+ghost use Rattle.std.specs.Option.{option_map_or};
+ghost use Rattle.usage_walk.specs.declared.fault.Rule.TheVariants.{WrongKind};
+ghost use Rattle.serde_json.specs.Find.{as_bool};
 
 use crate::fault::{FileFault, Rule};
 use crate::member::Member;
@@ -83,9 +86,9 @@ pub fn number_at(
 }
 
 /// The truth value that a member is.
-#[tactic(auto, unfolding(crate::specs::Kinds::truth_of), using(mud_base::proofs::Readings::answer_wanted, mud_base::proofs::Readings::answer_unwanted))]
+#[tactic(auto, using(mud_base::proofs::Readings::answer_wanted, mud_base::proofs::Readings::answer_unwanted))]
 fn truth_of(alloc: Global, value: &Value, path: &[u8], member: Member) -> Result<bool, FileFault>
-    ensures { Gives (λ b. b) result (spec.truth_of (under path.now member) (view value.now)) }
+    ensures { Gives (λ b. b) result (wanted false (fault_at WrongKind (under path.now member)) (as_bool (view value.now))) }
 {
     match value.as_bool() {
         Some(truth) => Ok(truth),
@@ -207,14 +210,14 @@ pub fn object_where_there<'a>(
 }
 
 /// The elements of the list that a member is.
-#[tactic(auto, unfolding(crate::specs::Kinds::list_of), using(mud_base::proofs::Readings::answer_wanted, mud_base::proofs::Readings::answer_unwanted, crate::proofs::Items::list_in_some))]
+#[tactic(auto, using(mud_base::proofs::Readings::answer_wanted, mud_base::proofs::Readings::answer_unwanted, crate::proofs::Items::list_in_some))]
 fn list_of<'a>(
     alloc: Global,
     value: &'a Value,
     path: &[u8],
     member: Member,
 ) -> Result<&'a [Value], FileFault>
-    ensures { Gives (λ l. map view l.now) result (spec.list_of (under path.now member) (view value.now)) }
+    ensures { Gives (λ l. map view l.now) result (wanted [] (fault_at WrongKind (under path.now member)) (spec.list_in (view value.now))) }
 {
     match value.as_array() {
         Some(list) => Ok(list.as_slice()),
@@ -250,9 +253,9 @@ fn is_only_null(list: &[Value]) -> bool
 }
 
 /// Whether a value is an empty leaf: `[null]` (RFC 7951, 6.9) or `null`.
-#[tactic(auto, unfolding(crate::specs::Kinds::is_empty_leaf), using(crate::proofs::Items::list_in_some))]
+#[tactic(auto, using(crate::proofs::Items::list_in_some))]
 fn is_empty_leaf(value: &Value) -> bool
-    ensures { result ≡ spec.is_empty_leaf (view value.now) }
+    ensures { result ≡ option_map_or spec.is_only_null (spec.list_in (view value.now)) (spec.is_null (view value.now)) }
 {
     match value.as_array() {
         Some(list) => is_only_null(list.as_slice()),

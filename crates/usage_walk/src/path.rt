@@ -1,5 +1,5 @@
 //! Paths: JSON pointers (RFC 6901), and refusals that name them.
-ghost use Rattle.std.specs.Prelude.{◌≡◌, IfOk};
+ghost use Rattle.std.specs.Prelude.{◌≡◌, IfOk, ◌==◌, ◌∷◌, if◌then◌else◌, []};
 ghost use Rattle.mud_base.specs.Readings.{Gives, Refuses, refused_where};
 ghost use Rattle.mud_base.specs.declared.refusal.Refusal.TheVariants as told;
 ghost use Rattle.usage_walk.specs.Reading.{at_index, fault_at, under, under_name};
@@ -35,7 +35,7 @@ pub fn at_index(alloc: Global, path: &[u8], index: usize) -> Result<Bytes, Memor
 
 /// How an octet of a name stands in a path (RFC 6901, 3).
 fn escape(octet: &u8) -> &[u8]
-    ensures { result.now ≡ spec.escape octet.now }
+    ensures { result.now ≡ if octet.now == 126 then (126 ∷ 48 ∷ []) else (if octet.now == 47 then (126 ∷ 49 ∷ []) else (octet.now ∷ [])) }
 {
     match octet {
         b'~' => b"~0",

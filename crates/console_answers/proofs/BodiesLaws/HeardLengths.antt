@@ -9,7 +9,7 @@ use Rattle.item_codec.specs.Word.{text_of}
 use Rattle.mud_base.specs.declared.addr.Mac.{Mac}
 use Rattle.mud_base.specs.declared.addr.Addr.{Addr}
 use Rattle.mud_base.specs.declared.addr.Addr.TheVariants.{V4, V6}
-use Rattle.mud_base.specs.Texts.{hex_pair, colon_pair, mac_text, octets_v4, groups_v6, addr_text}
+use Rattle.mud_base.specs.Texts.{hex_pair, mac_text, octets_v4, addr_text}
 use Rattle.console_answers.specs.Kept.{kept}
 use Rattle.console_answers.proofs.KeptLemmas.{kept_short, short_quoted}
 use Rattle.dhcp_lldp.specs.declared.heard.Heard.{Heard}
@@ -18,6 +18,7 @@ use Rattle.desk_model.specs.declared.reply.Outcome.{Outcome}
 use Rattle.console_answers.specs.Bodies.Outcomes.{until_text, EndFits}
 use Rattle.console_answers.specs.Bodies.Heards.{nothing_body, heard_url_body, lease_end, heard_lease_body, heard_body, HeardFits}
 use Rattle.console_answers.proofs.BodiesLaws.Lengths.{short_quoted_word, short_until}
+use Rattle.mud_base.proofs.Parts.{groups_v6, colon_pair}
 
 -- ---- Addresses
 
@@ -91,7 +92,6 @@ short_v6 groups =
     short_compressed_by (nat_lt 1 run.1) groups run.0 (run.0 + run.1)
 
 eight_groups : (n : ℕ) → length (groups_v6 n) ≡ 8
-unfolding groups_v6
 eight_groups n = refl
 
 short_addr : (a : Addr) → length (addr_text a) ≤ 83

@@ -16,8 +16,9 @@ use Rattle.acl_model.specs.declared.ruling.Why.TheVariants.{NoFile, NoMatch}
 use Rattle.packet_judge.specs.Verdicts.{forwarded}
 use Rattle.packet_judge.specs.declared.verdict.Verdict.{Verdict}
 use Rattle.packet_judge.specs.declared.verdict.Verdict.TheVariants.{Unmanaged, Link, Unreadable, Governed}
-use Rattle.desk_model.specs.Texts.Verdicts.{part_name, unreadable_text, default_name, why_name, ruling_text, endpoint_text, passing_text, reason_text, verdict_text}
+use Rattle.desk_model.specs.Texts.Verdicts.{part_name, unreadable_text, ruling_text, endpoint_text, reason_text, verdict_text}
 use Rattle.console_answers.specs.Bodies.Verdicts.{verdict_body, RulingFits, VerdictFits}
+use Rattle.desk_model.proofs.Parts.{why_name, default_name, passing_text}
 
 two : (a b : List ℕ) (m n : ℕ) → length a ≤ m → length b ≤ n → length (a ++ b) ≤ m + n
 two a b m n la lb = omega (arith, length-append a b)
@@ -31,12 +32,12 @@ short_part part.Extension = lit≤ tt
 short_part part.Transport = lit≤ tt
 
 short_default : (rule : DefaultRule) → length (default_name rule) ≤ 40
-unfolding default_name
+unfolding ruling_text
 short_default Dns = lit≤ tt
 short_default Ntp = lit≤ tt
 
 short_why : (why : Why) → length (why_name why) ≤ 40
-unfolding why_name
+unfolding ruling_text
 short_why NoFile = lit≤ tt
 short_why NoMatch = lit≤ tt
 
@@ -72,7 +73,6 @@ short_passing_by true = lit≤ tt
 short_passing_by false = lit≤ tt
 
 short_passing : (verdict : Verdict) → length (passing_text verdict) ≤ 4
-unfolding passing_text
 short_passing verdict = short_passing_by (forwarded verdict)
 
 short_text : (verdict : Verdict) → VerdictFits verdict → length (verdict_text verdict) ≤ 104

@@ -41,10 +41,6 @@ stated_body statement.Bind o = result_body o.word
 stated_body statement.Unbind o = result_body o.word
 stated_body statement.Locals o = result_body o.word
 
--- what became of a usage file, with its URL
-unfoldable pub file_body : Outcome → List ℕ
-file_body o = url_body o.word o.url
-
 -- ---- What the types say
 
 abbrev pub EndFits : Option ℕ → Type 0

@@ -120,9 +120,9 @@ fn url_fits(url: &Option<MudUrl>)
 
 /// Writes the body of the answer to a usage file that was taken, in place of what stood in the
 /// buffer.
-#[tactic(auto, unfolding(crate::specs::Bodies::Outcomes::file_body), using(crate::proofs::BodiesLaws::Lengths::url_kept))]
+#[tactic(auto, using(crate::proofs::BodiesLaws::Lengths::url_kept))]
 pub fn write_file(buffer: &mut AnswerBuffer, outcome: &Outcome)
-    ensures { buffer.new ≡ spec.file_body outcome.now }
+    ensures { buffer.new ≡ spec.url_body outcome.now.word outcome.now.url }
 {
     url_fits(&outcome.url);
     buffer.clear();

@@ -23,30 +23,20 @@ part_name part.Transport = codes "transport"
 unfoldable pub unreadable_text : Part → List ℕ
 unreadable_text part = codes " unreadable " ++ part_name part
 
-unfoldable pub default_name : DefaultRule → List ℕ
-default_name Dns = codes "default-dns"
-default_name Ntp = codes "default-ntp"
-
-unfoldable pub why_name : Why → List ℕ
-why_name NoFile = codes "drop:no-file"
-why_name NoMatch = codes "drop:no-match"
-
 -- the number of the entry, or what decided in place of one
 unfoldable pub ruling_text : Ruling → List ℕ
 ruling_text (Accept n) = codes "accept:" ++ decimal n
-ruling_text (AcceptDefault which) = default_name which
+ruling_text (AcceptDefault Dns) = codes "default-dns"
+ruling_text (AcceptDefault Ntp) = codes "default-ntp"
 ruling_text (Drop n) = codes "drop:" ++ decimal n
-ruling_text (DropDefault why) = why_name why
+ruling_text (DropDefault NoFile) = codes "drop:no-file"
+ruling_text (DropDefault NoMatch) = codes "drop:no-match"
 ruling_text DropHeld = codes "drop:held"
 
 -- the ruling of an endpoint that is a Thing, behind the name of the endpoint
 unfoldable pub endpoint_text : List ℕ → Option Ruling → List ℕ
 endpoint_text name None = []
 endpoint_text name (Some ruling) = name ++ ruling_text ruling
-
--- whether the packet passes
-unfoldable pub passing_text : Verdict → List ℕ
-passing_text verdict = if forwarded verdict then codes "pass" else codes "drop"
 
 -- the rulings, or what stands in place of them
 unfoldable pub reason_text : Verdict → List ℕ
@@ -57,3 +47,7 @@ reason_text (Governed source destination) = endpoint_text (codes " from=") sourc
 
 unfoldable pub verdict_text : Verdict → List ℕ
 verdict_text verdict = passing_text verdict ++ reason_text verdict
+  where
+    -- whether the packet passes
+    passing_text : Verdict → List ℕ
+    passing_text verdict = if forwarded verdict then codes "pass" else codes "drop"

@@ -16,13 +16,9 @@ use Rattle.desk_model.specs.Refusals.{number_of_refusal, name_of_refusal}
 unfoldable pub rule_text : ℕ → List ℕ → List ℕ
 rule_text number name = number_text number ++ codes " " ++ name
 
--- the rule that a file breaks, and where
-unfoldable pub broken_text : Broken → List ℕ
-broken_text broken = rule_text (rule.number_of broken.rule) (rule.name_of broken.rule) ++ path_part broken.path
-
--- a file that is refused names the rule of usage files that it breaks, any other refusal that of its book
+-- a file that is refused names the rule of usage files that it breaks, and where; any other refusal names that of its book
 unfoldable pub refusal_text : Refusal → List ℕ
-refusal_text (Files (File broken)) = broken_text broken
+refusal_text (Files (File broken)) = rule_text (rule.number_of broken.rule) (rule.name_of broken.rule) ++ path_part broken.path
 refusal_text refusal = rule_text (number_of_refusal refusal) (name_of_refusal refusal)
 
 -- what is written behind the name

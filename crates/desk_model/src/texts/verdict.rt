@@ -90,7 +90,7 @@ fn append_accepted(line: &mut Bytes, words: &[u8], number: u16) -> Result<(), Me
 
 /// Adds a verdict: `pass` or `drop`, and the ruling of each endpoint that is a Thing, or why none
 /// is ruled on.
-#[tactic(auto, unfolding(crate::specs::Texts::Verdicts::verdict_text, crate::specs::Texts::Verdicts::passing_text, crate::specs::Texts::Verdicts::reason_text, crate::specs::Texts::Verdicts::endpoint_text, crate::specs::Texts::Verdicts::ruling_text, packet_judge::specs::Verdicts::forwarded, packet_judge::specs::Verdicts::accepts))]
+#[tactic(auto, unfolding(crate::specs::Texts::Verdicts::verdict_text, crate::specs::Texts::Verdicts::reason_text, crate::specs::Texts::Verdicts::endpoint_text, crate::specs::Texts::Verdicts::ruling_text, packet_judge::specs::Verdicts::forwarded, packet_judge::specs::Verdicts::accepts))]
 #[inline(always)]
 pub fn append_verdict(line: &mut Bytes, verdict: &Verdict) -> Result<(), Memory>
     ensures { OnOk result (line.new ≡ line.old ++ spec.verdict_text verdict.now) }

@@ -1,6 +1,8 @@
 //! The words of which the texts of rulings and verdicts are made.
-ghost use Rattle.std.specs.Prelude.{◌≡◌};
+ghost use Rattle.std.specs.Prelude.{◌≡◌, codes, if◌then◌else◌};
 ghost use Rattle.desk_model.specs.Texts.Verdicts as spec;
+ghost use Rattle.acl_model.specs.declared.ruling.Ruling.TheVariants.{DropDefault, AcceptDefault};
+ghost use Rattle.packet_judge.specs.Verdicts.{forwarded};
 
 use acl_model::{DefaultRule, Why};
 use frame_view::Part;
@@ -21,9 +23,9 @@ pub fn part_name(part: Part) -> &'static str
 }
 
 /// The name of a default entry that accepts.
-#[tactic(auto, unfolding(crate::specs::Texts::Verdicts::default_name))]
+#[tactic(auto, unfolding(crate::specs::Texts::Verdicts::ruling_text))]
 pub fn default_name(rule: DefaultRule) -> &'static str
-    ensures { result.now ≡ spec.default_name rule }
+    ensures { result.now ≡ spec.ruling_text (AcceptDefault rule) }
 {
     match rule {
         DefaultRule::Dns => "default-dns",
@@ -32,9 +34,9 @@ pub fn default_name(rule: DefaultRule) -> &'static str
 }
 
 /// The name of a drop that no entry decided.
-#[tactic(auto, unfolding(crate::specs::Texts::Verdicts::why_name))]
+#[tactic(auto, unfolding(crate::specs::Texts::Verdicts::ruling_text))]
 pub fn why_name(why: Why) -> &'static str
-    ensures { result.now ≡ spec.why_name why }
+    ensures { result.now ≡ spec.ruling_text (DropDefault why) }
 {
     match why {
         Why::NoFile => "drop:no-file",
@@ -43,9 +45,9 @@ pub fn why_name(why: Why) -> &'static str
 }
 
 /// `pass` where the frame passes, and else `drop`.
-#[tactic(auto, unfolding(crate::specs::Texts::Verdicts::passing_text))]
+#[tactic(auto)]
 pub fn passing(verdict: &Verdict) -> &'static str
-    ensures { result.now ≡ spec.passing_text verdict.now }
+    ensures { result.now ≡ if forwarded verdict.now then codes "pass" else codes "drop" }
 {
     if forwarded(verdict) { "pass" } else { "drop" }
 }

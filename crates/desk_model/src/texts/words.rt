@@ -1,6 +1,8 @@
 //! What a line says of the reply to a command.
 ghost use Rattle.std.specs.Prelude.{◌≡◌, ◌++◌, OnOk};
 ghost use Rattle.desk_model.specs.Texts.Words as spec;
+ghost use Rattle.desk_model.specs.declared.reply.Refusal.TheVariants.{Files};
+ghost use Rattle.usage_tables.specs.declared.cache_fault.CacheFault.TheVariants.{File};
 
 use crate::{Refusal, Reply};
 use mud_base::{Bytes, Memory};
@@ -20,9 +22,9 @@ fn append_rule(line: &mut Bytes, number: u8, name: &str) -> Result<(), Memory>
 }
 
 /// Adds the rule that a file breaks, and where.
-#[tactic(auto, unfolding(crate::specs::Texts::Words::broken_text))]
+#[tactic(auto, unfolding(crate::specs::Texts::Words::refusal_text))]
 fn append_broken(alloc: Global, line: &mut Bytes, broken: &Broken) -> Result<(), Memory>
-    ensures { OnOk result (line.new ≡ line.old ++ spec.broken_text broken.now) }
+    ensures { OnOk result (line.new ≡ line.old ++ (spec.refusal_text (Files (File broken.now)))) }
 {
     append_rule(line, broken.rule.number(), broken.rule.name())?;
     append_path_part(alloc, line, broken.path.octets())

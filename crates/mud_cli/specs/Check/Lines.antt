@@ -25,10 +25,6 @@ family_word V4 = codes " v4"
 family_word V6 = codes " v6"
 family_word Both = codes " both"
 
--- whether an entry has a member selector
-unfoldable pub reach_word : Entry → List ℕ
-reach_word entry = if is_membered entry then codes " member" else codes " wide"
-
 unfoldable pub action_word : Action → List ℕ
 action_word Accept = codes " accept"
 action_word Drop = codes " drop"
@@ -37,6 +33,10 @@ action_word Drop = codes " drop"
 unfoldable pub entry_line : Direction → ℕ → Entry → List ℕ
 entry_line side number entry =
     side_word side ++ number_text number ++ family_word entry.family ++ reach_word entry ++ action_word entry.action ++ codes "\n"
+  where
+    -- whether an entry has a member selector
+    reach_word : Entry → List ℕ
+    reach_word entry = if is_membered entry then codes " member" else codes " wide"
 
 -- the lines of entries that are numbered from this number on
 abbrev pub entry_lines : Direction → ℕ → List Entry → List ℕ

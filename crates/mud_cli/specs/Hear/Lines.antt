@@ -12,25 +12,14 @@ use Rattle.dhcp_lldp.specs.declared.heard.HearFault.{HearFault}
 
 -- ---- What a message says
 
-unfoldable pub url_line : Mac → List ℕ → List ℕ
-url_line mac url = codes "url " ++ mac_text mac ++ codes " " ++ url ++ codes "\n"
-
-unfoldable pub lease_line : Mac → Addr → ℕ → List ℕ
-lease_line mac addr seconds = codes "lease " ++ mac_text mac ++ codes " " ++ addr_text addr ++ codes " " ++ decimal seconds ++ codes "\n"
-
-unfoldable pub nothing_line : List ℕ
-nothing_line = codes "nothing\n"
-
 unfoldable pub heard_line : Heard → List ℕ
-heard_line (Url mac url) = url_line mac url
-heard_line (Lease mac addr seconds) = lease_line mac addr seconds
-heard_line Nothing = nothing_line
+heard_line (Url mac url) = codes "url " ++ mac_text mac ++ codes " " ++ url ++ codes "\n"
+heard_line (Lease mac addr seconds) =
+    codes "lease " ++ mac_text mac ++ codes " " ++ addr_text addr ++ codes " " ++ decimal seconds ++ codes "\n"
+heard_line Nothing = codes "nothing\n"
 
 -- ---- Faults: the rule's name, then its offset where it has one
 
 unfoldable pub fault_line : HearFault → List ℕ
 fault_line fault =
     codes "fault " ++ hear_fault.name_of fault ++ offset_text (hear_fault.offset_of fault) ++ url_part (hear_fault.url_fault_of fault) ++ codes "\n"
-
-unfoldable pub too_long_line : List ℕ
-too_long_line = codes "fault Long\n"

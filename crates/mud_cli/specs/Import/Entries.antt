@@ -1,9 +1,9 @@
 -- The names of a folder that is imported, and what is said of each: its line, and the status of all of them.
-use Rattle.std.specs.Prelude.{ℕ, ◌+◌, max, Bool, true, false, if◌then◌else◌, List, [], ◌∷◌, ◌++◌, map, Option, Some, None}
+use Rattle.std.specs.Prelude.{ℕ, ◌+◌, max, Bool, true, false, if◌then◌else◌, List, [], ◌∷◌, ◌++◌, map, Option, Some, None, codes}
 use Rattle.desk_model.specs.declared.reply.Reply.{Reply}
 use Rattle.desk_model.specs.declared.reply.Reply.TheVariants.{Done, Refused, Keeper, Memory}
 use Rattle.desk_model.specs.Sessions.{is_of_keeper}
-use Rattle.mud_cli.specs.Import.Lines.{reply_line, skipped_line}
+use Rattle.desk_model.specs.Texts.Words.{reply_text}
 
 -- a name, and what was replied to the import of its file; none where the name has another form and is skipped
 pub record Entry : Type 0 where
@@ -15,9 +15,10 @@ names_of_entries entries = map (λ (entry : Entry). entry.name) entries
 
 -- ---- Lines
 
+-- the line of a file: of one whose name has another form, and of one that was imported, or refused
 unfoldable pub line_with : List ℕ → Option Reply → List ℕ
-line_with name None = skipped_line name
-line_with name (Some reply) = reply_line name reply
+line_with name None = name ++ codes " skipped\n"
+line_with name (Some reply) = name ++ reply_text reply ++ codes "\n"
 
 -- the lines, in order
 abbrev pub lines_of : List Entry → List ℕ

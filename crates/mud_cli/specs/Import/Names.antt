@@ -11,21 +11,21 @@ is_dash c = c == 45
 unfoldable pub is_label_octet : ℕ → Bool
 is_label_octet c = is_ascii_alphanumeric c || is_dash c || c == 95 || c == 46
 
-abbrev pub has_label_length : List ℕ → Bool
-has_label_length text = nat_lt 0 (length text) && nat_le (length text) 64
-
 -- a label has 1 to 64 of them
 unfoldable pub is_label : List ℕ → Bool
 is_label text = has_label_length text && list_all is_label_octet text
-
--- the moment in front of the first dash, where a label stands behind it
-unfoldable pub fetched_in_stem : List ℕ → Option ℕ
-fetched_in_stem stem = if is_label (after_first is_dash stem) then moment_in (before_first is_dash stem) else None
+  where
+    has_label_length : List ℕ → Bool
+    has_label_length text = nat_lt 0 (length text) && nat_le (length text) 64
 
 -- the moment at which the file was fetched, by its name; none for a name of another form
 unfoldable pub fetched_in : List ℕ → Option ℕ
 fetched_in name = option_and_then fetched_in_stem (stem_of name)
   where
+    -- the moment in front of the first dash, where a label stands behind it
+    fetched_in_stem : List ℕ → Option ℕ
+    fetched_in_stem stem = if is_label (after_first is_dash stem) then moment_in (before_first is_dash stem) else None
+
     -- what stands before `.json`, where the name ends so
     stem_of : List ℕ → Option (List ℕ)
     stem_of name = if bytes_eq (drop (length name - 5) name) (codes ".json") then Some (take (length name - 5) name) else None

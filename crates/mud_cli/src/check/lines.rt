@@ -1,6 +1,7 @@
 //! The lines of `check`. Each ends with a line feed.
-ghost use Rattle.std.specs.Prelude.{◌≡◌, ◌++◌, IfOk, OnOk};
+ghost use Rattle.std.specs.Prelude.{◌≡◌, ◌++◌, IfOk, OnOk, codes, if◌then◌else◌};
 ghost use Rattle.mud_cli.specs.Check.Lines as spec;
+ghost use Rattle.acl_model.specs.Keys.{is_membered};
 
 use acl_model::{Action, Entry};
 use mud_base::{Bytes, Direction, Family, Memory};
@@ -35,9 +36,9 @@ fn family_word(family: Family) -> &'static str
 }
 
 /// Whether an entry has a member selector.
-#[tactic(auto, unfolding(crate::specs::Check::Lines::reach_word))]
+#[tactic(auto)]
 fn reach_word(entry: &Entry) -> &'static str
-    ensures { result.now ≡ spec.reach_word entry.now }
+    ensures { result.now ≡ if is_membered entry.now then codes " member" else codes " wide" }
 {
     if entry.is_membered() {
         " member"

@@ -1,6 +1,7 @@
 //! The lines of `hear`. Each ends with a line feed.
 ghost use Rattle.std.specs.Prelude.{◌≡◌, ◌++◌, IfOk, codes, decimal};
 ghost use Rattle.mud_cli.specs.Hear.Lines as spec;
+ghost use Rattle.dhcp_lldp.specs.declared.heard.Heard.TheVariants.{Url, Lease, Nothing};
 
 use dhcp_lldp::{HearFault, Heard};
 use mud_base::{Addr, Bytes, Mac, Memory};
@@ -11,9 +12,9 @@ use text_values::{
 };
 
 /// `url MAC URL`.
-#[tactic(auto, unfolding(crate::specs::Hear::Lines::url_line))]
+#[tactic(auto, unfolding(crate::specs::Hear::Lines::heard_line))]
 fn url_line(alloc: Global, mac: Mac, url: &MudUrl) -> Result<Bytes, Memory>
-    ensures { IfOk result (λ line. line ≡ spec.url_line mac url.now) }
+    ensures { IfOk result (λ line. line ≡ spec.heard_line (Url mac url.now)) }
 {
     let mut line = Bytes::new(alloc, b"url ")?;
     append_mac(alloc, &mut line, mac)?;
@@ -24,9 +25,9 @@ fn url_line(alloc: Global, mac: Mac, url: &MudUrl) -> Result<Bytes, Memory>
 }
 
 /// `lease MAC ADDRESS SECONDS`.
-#[tactic(auto, unfolding(crate::specs::Hear::Lines::lease_line))]
+#[tactic(auto, unfolding(crate::specs::Hear::Lines::heard_line))]
 fn lease_line(alloc: Global, mac: Mac, addr: Addr, seconds: u32) -> Result<Bytes, Memory>
-    ensures { IfOk result (λ line. line ≡ spec.lease_line mac addr seconds) }
+    ensures { IfOk result (λ line. line ≡ spec.heard_line (Lease mac addr seconds)) }
 {
     let mut line = Bytes::new(alloc, b"lease ")?;
     append_mac(alloc, &mut line, mac)?;
@@ -39,9 +40,9 @@ fn lease_line(alloc: Global, mac: Mac, addr: Addr, seconds: u32) -> Result<Bytes
 }
 
 /// `nothing`.
-#[tactic(auto, unfolding(crate::specs::Hear::Lines::nothing_line))]
+#[tactic(auto, unfolding(crate::specs::Hear::Lines::heard_line))]
 fn nothing_line(alloc: Global) -> Result<Bytes, Memory>
-    ensures { IfOk result (λ line. line ≡ spec.nothing_line) }
+    ensures { IfOk result (λ line. line ≡ spec.heard_line Nothing) }
 {
     Bytes::new(alloc, b"nothing\n")
 }
@@ -72,9 +73,9 @@ pub(crate) fn fault_line(alloc: Global, fault: &HearFault) -> Result<Bytes, Memo
 }
 
 /// `fault Long`, for a message of more octets than a message has.
-#[tactic(auto, unfolding(crate::specs::Hear::Lines::too_long_line))]
+#[tactic(auto)]
 pub(crate) fn too_long_line(alloc: Global) -> Result<Bytes, Memory>
-    ensures { IfOk result (λ line. line ≡ spec.too_long_line) }
+    ensures { IfOk result (λ line. line ≡ codes "fault Long\n") }
 {
     Bytes::new(alloc, b"fault Long\n")
 }

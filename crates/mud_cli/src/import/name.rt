@@ -1,7 +1,8 @@
 //! The names of usage files that wait to be imported.
-ghost use Rattle.std.specs.Prelude.{◌≡◌, ◌==◌, option_map};
+ghost use Rattle.std.specs.Prelude.{◌≡◌, ◌==◌, option_map, None, if◌then◌else◌, length, nat_le, nat_lt, ◌&&◌};
 ghost use Rattle.std.specs.List.{list_all, before_first, after_first, position};
 ghost use Rattle.mud_cli.specs.Import.Names as spec;
+ghost use Rattle.mud_base.specs.Reading.{moment_in};
 
 use mud_base::{Moment, moment_of};
 
@@ -15,7 +16,7 @@ fn is_label_octet(octet: u8) -> bool
 
 /// Whether the text has 1 to 64 octets.
 fn has_label_length(text: &[u8]) -> bool
-    ensures { result ≡ spec.has_label_length text.now }
+    ensures { result ≡ nat_lt 0 (length text.now) && nat_le (length text.now) 64 }
 {
     !text.is_empty() && text.len() <= 64
 }
@@ -57,9 +58,9 @@ fn around_dash(text: &[u8]) -> (&[u8], &[u8])
 }
 
 /// The moment in front of the first dash, where a label stands behind it.
-#[tactic(auto, unfolding(crate::specs::Import::Names::fetched_in_stem))]
+#[tactic(auto)]
 fn fetched_in_stem(stem: &[u8]) -> Option<Moment>
-    ensures { result ≡ spec.fetched_in_stem stem.now }
+    ensures { result ≡ if spec.is_label (after_first spec.is_dash stem.now) then moment_in (before_first spec.is_dash stem.now) else None }
 {
     let (moment, label) = around_dash(stem);
     if !is_label(label) {

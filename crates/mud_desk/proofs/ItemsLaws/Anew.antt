@@ -11,7 +11,7 @@ use Rattle.mud_world.specs.declared.item.Put.TheVariants.{Set}
 use Rattle.mud_world.specs.Items.{sort_key_of, put_one, put_all, IsOrdered}
 use Rattle.table_model.specs.declared.thing.Thing.{Thing}
 use Rattle.table_model.specs.Tables.{binds_of}
-use Rattle.table_model.specs.ThingItems.{thing_item, thing_items, thing_of, if_sound_thing, thing_in, item_anew, in_second}
+use Rattle.table_model.specs.ThingItems.{thing_item, thing_items, thing_of, thing_in, item_anew, in_second}
 use Rattle.table_model.specs.BindItems.{stamp_item, stamp_items}
 use Rattle.table_model.specs.TakenItems.{bind_items}
 use Rattle.usage_tables.specs.FileItems.{file_item, file_items}
@@ -25,6 +25,7 @@ use Rattle.mud_desk.specs.declared.items.loaded.Loaded.{Loaded}
 use Rattle.mud_desk.specs.Items.Loaded.{loaded_desk}
 use Rattle.mud_desk.specs.Items.Opening.{HasOctets, IsPartlyAnew, PutsAnew}
 use Rattle.base_rows.proofs.Lists.{all-append}
+use Rattle.table_model.proofs.Parts.{if_sound_thing}
 
 abbrev no_such : Option Thing
 no_such = None

@@ -4,12 +4,12 @@ use Rattle.std.proofs.Math.Seq.{drop-cons}
 use Rattle.std.proofs.lemmas.List.{drop_all}
 use Rattle.std.proofs.lemmas.Option.{slice_get-get_or, get_or_from_slice_get}
 use Rattle.mud_world.specs.declared.item.Item.{Item}
-use Rattle.desk_model.specs.Items.{KeptDesk, none_kept, desk_of, with_desk_item, tables_in}
+use Rattle.desk_model.specs.Items.{KeptDesk, none_kept, desk_of, tables_in}
 use Rattle.desk_model.proofs.Taking.{kept_behind}
 use Rattle.bind_book.specs.Reading.{IsTaken}
 use Rattle.mud_desk.specs.Items.Loaded.{IsBadAt}
 use Rattle.mud_desk.specs.Items.Opening.{IsBadItem}
-use Rattle.desk_model.proofs.Parts.{kept_in, desk_in}
+use Rattle.desk_model.proofs.Parts.{kept_in, desk_in, with_desk_item}
 
 -- the items, of which so many were taken, are those that are left behind what was taken
 first_left : (items : List Item) (i : ℕ) (item : Item) (kept : KeptDesk) → i < length items → item ≡ get_or items i item → kept_in kept (drop i items) ≡ kept_behind item (drop (i + 1) items) (with_desk_item kept item)

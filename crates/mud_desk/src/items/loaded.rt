@@ -3,9 +3,9 @@ ghost use Rattle.std.specs.Prelude.{◌≡◌, ◌==◌, ◌&&◌, ◌↔◌, na
 ghost use Rattle.std.specs.Option.{option_map};
 ghost use Rattle.table_model.specs.ThingItems.{with_thing_item};
 ghost use Rattle.table_model.specs.BindItems.{with_stamp_item};
-ghost use Rattle.table_model.specs.TakenItems.{is_empty, have_none, with_bind_item};
+ghost use Rattle.table_model.specs.TakenItems.{is_empty, have_none, with_bind_item, with_item};
 ghost use Rattle.usage_tables.specs.FileItems.{with_file_item};
-ghost use Rattle.desk_model.specs.Items.{none_kept, with_desk_item};
+ghost use Rattle.desk_model.specs.Items.{none_kept};
 ghost use Rattle.bind_book.specs.Reading.{IsTaken};
 ghost use Rattle.mud_desk.specs.Items.Loaded.{kept_of, IsReadingOf, set_things, set_files, set_binds, set_stamp};
 
@@ -45,9 +45,9 @@ impl Loaded {
     /// Takes what an item keeps, where that may stand behind what the items taken so far keep, which
     /// were those before it in the keeper's order: true exactly there. Else, and without memory, all
     /// is as before.
-    #[tactic(auto, unfolding(desk_model::specs::Items::with_desk_item, table_model::specs::TakenItems::with_item))]
+    #[tactic(auto, unfolding(table_model::specs::TakenItems::with_item))]
     pub fn take(&mut self, item: &Item) -> Result<bool, Memory>
-        ensures loaded { IfOk result (IsTaken (with_desk_item (kept_of self.old) item.now) (kept_of self.old) (kept_of self.new)) }
+        ensures loaded { IfOk result (IsTaken (with_item with_file_item is_empty (kept_of self.old) item.now) (kept_of self.old) (kept_of self.new)) }
         ensures memory { OnErr result (kept_of self.new ≡ kept_of self.old) }
     {
         let no_stamp = self.stamp.is_none();

@@ -7,7 +7,8 @@ use Rattle.frame_view.specs.declared.views.Frame.TheVariants as frame
 use Rattle.table_model.specs.declared.bind.ClassRow.{ClassRow}
 use Rattle.table_model.specs.Tables.{is_bound}
 use Rattle.packet_judge.specs.declared.verdict.Verdict.{Verdict}
-use Rattle.run_packets.specs.Snoop.Learning.{dns_class, is_from_dns, is_let_through, heard_in}
+use Rattle.run_packets.specs.Snoop.Learning.{is_from_dns, is_let_through, heard_in}
+use Rattle.run_packets.proofs.Parts.{dns_class}
 
 pub true_of : (test defined : Bool) → test ≡ true → test ≡ defined → defined ≡ true
 true_of test defined passed is = sym is ∙ passed

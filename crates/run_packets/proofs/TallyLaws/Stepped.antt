@@ -12,9 +12,10 @@ use Rattle.drop_ledger.specs.declared.seen.Seen.{Seen}
 use Rattle.drop_ledger.specs.declared.rows.CountRow.{CountRow}
 use Rattle.drop_ledger.specs.Seen.{hour_of, rulings}
 use Rattle.drop_ledger.specs.Ledger.{TallyState, StandsFor, IsSameTally, counts_of, hour_in}
-use Rattle.run_packets.specs.Tally.Tallied.{Tallied, seen_as, seen_of, is_over, closed_before, closing, ending_of, latest_with, tally_step, tally_ending, IsTallied}
+use Rattle.run_packets.specs.Tally.Tallied.{Tallied, seen_as, seen_of, is_over, closing, ending_of, latest_with, tally_step, tally_ending, IsTallied}
 use Rattle.run_packets.specs.Tally.Texts.{hour_lines, end_lines}
 use Rattle.run_packets.proofs.TallyLaws.TextLaws.{seen_hour, moment_then}
+use Rattle.run_packets.proofs.Parts.{closed_before}
 
 -- with more room alone it stands for the same
 pub same_stands : (all latest : List Seen) (before after : TallyState) → IsSameTally before after → StandsFor all latest before → StandsFor all latest after
@@ -62,13 +63,12 @@ next_tallied t packet state moment tally s moment_is seen session_is stands = re
 }
 
 pub closed_is : (latest : List Seen) (s : Seen) (hour : Option ℕ) (now : ℕ) (counts : List CountRow) → hour ≡ hour_in latest → counts ≡ counts_of (rulings latest) → hour_of s ≡ now → is_over hour now ≡ true → hour_lines hour counts ≡ closed_before latest s
-unfolding closed_before closing
+unfolding closing
 closed_is latest s hour now counts hour_is counts_are now_is over =
     (λ i. hour_lines (hour_is i) (counts_are i))
     ∙ ap (λ b. cond b (hour_lines (hour_in latest) (counts_of (rulings latest))) []) (sym over ∙ (λ i. is_over (hour_is i) (sym now_is i)))
 
 pub closed_not : (latest : List Seen) (s : Seen) (hour : Option ℕ) (now : ℕ) → hour ≡ hour_in latest → hour_of s ≡ now → is_over hour now ≡ false → [] ≡ closed_before latest s
-unfolding closed_before
 closed_not latest s hour now hour_is now_is over = ap (λ b. cond b (closing latest) []) (sym over ∙ (λ i. is_over (hour_is i) (sym now_is i)))
 
 pub counted_seen : (all latest : List Seen) (s p : Seen) (old closed planned new : TallyState) (now : ℕ) → StandsFor all latest old → now ≡ hour_of s → StandsFor all (cond (is_over old.hour now) [] latest) closed → IsSameTally closed planned → p ≡ s

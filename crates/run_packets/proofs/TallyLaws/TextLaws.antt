@@ -22,9 +22,9 @@ use Rattle.drop_ledger.specs.Ledger.{counts_of, hour_in}
 use Rattle.drop_ledger.proofs.LedgerLaws.{none_ruled}
 use Rattle.drop_ledger.proofs.TallyLaws.{first_some, hour-append}
 use Rattle.run_packets.specs.Tally.Texts.{hour_lines}
-use Rattle.run_packets.specs.Tally.Tallied.{Tallied, begun, seen_as, seen_of, seen_in, hours, in_hour, ending_of, tally_text, is_over, closing, closed_before, latest_with, tally_step, tally_ending}
+use Rattle.run_packets.specs.Tally.Tallied.{Tallied, begun, seen_as, seen_of, seen_in, hours, in_hour, ending_of, tally_text, is_over, closing, latest_with, tally_step, tally_ending}
 use Rattle.drop_ledger.proofs.Parts.{rulings_in}
-use Rattle.run_packets.proofs.Parts.{text_of_hour}
+use Rattle.run_packets.proofs.Parts.{text_of_hour, closed_before}
 use Rattle.desk_model.proofs.Parts.{judged}
 
 -- ---- The lines by the list of what was seen
@@ -311,7 +311,7 @@ written_by : (latest rest : List Seen) (s : Seen) → One (hour_in latest) lates
     → (is_over (hour_in latest) (hour_of s) ≡ false → fold_text (latest ++ s ∷ []) rest ≡ text_of_hours ((latest ++ s ∷ []) ++ rest))
     → fold_text (s ∷ []) rest ≡ text_of_hours (s ∷ rest)
     → closed_before latest s ++ fold_text (latest_with latest s) rest ≡ text_of_hours (latest ++ s ∷ rest)
-unfolding closed_before latest_with From
+unfolding latest_with From
 written_by latest rest s one from later false is same alone =
     (λ i. cond (is i) (closing latest) [] ++ fold_text (cond (is i) [] latest ++ s ∷ []) rest)
     ∙ same is ∙ ap text_of_hours (append_assoc latest (s ∷ []) rest)

@@ -1,5 +1,5 @@
 -- What is made of each packet of a capture: its verdict, what names are learnt from it, and what is replied to each observation.
-use Rattle.std.specs.Prelude.{◌≢◌, ℕ, ◌+◌, nat_lt, if◌then◌else◌, List, [], ◌∷◌, ◌++◌, map, Option, Some, None, Result, Ok, Err}
+use Rattle.std.specs.Prelude.{◌≢◌, ℕ, ◌+◌, nat_lt, if◌then◌else◌, List, [], ◌∷◌, ◌++◌, map, Option, Some, None, Result, Ok, Err, codes}
 use Rattle.mud_base.specs.declared.addr.Addr.{Addr}
 use Rattle.read_buffer.specs.Packets.{Packet}
 use Rattle.packet_judge.specs.declared.verdict.Verdict.{Verdict}
@@ -11,7 +11,9 @@ use Rattle.dns_snoop.specs.declared.answers.Answers.{Answers}
 use Rattle.dns_snoop.specs.declared.fault.DnsFault.{DnsFault}
 use Rattle.desk_model.specs.Sessions.{is_of_keeper}
 use Rattle.run_desk.specs.Judged.{judged_line}
-use Rattle.run_packets.specs.Snoop.Lines.{name_line, dns_fault_line}
+use Rattle.run_packets.specs.Snoop.Lines.{name_line}
+use Rattle.text_values.specs.Numbers.{offset_text}
+use Rattle.dns_snoop.specs.Fault as dns_fault
 
 -- what is heard: nothing, what a DNS message answers, or its fault
 abbrev pub Heard : Type 0
@@ -41,9 +43,11 @@ calls_of moment (Some (Ok answers)) = observations moment answers.name answers.r
 
 -- ---- Lines
 
+-- the line of a fault, its name and its offset where it has one, or a line for each address
 abbrev pub heard_lines : Heard → List Reply → List ℕ
 heard_lines None replies = []
-heard_lines (Some (Err fault)) replies = dns_fault_line fault
+heard_lines (Some (Err fault)) replies =
+    codes "dns fault " ++ dns_fault.name_of fault ++ offset_text (dns_fault.offset_of fault) ++ codes "\n"
 heard_lines (Some (Ok answers)) replies = name_lines answers.name answers.rows replies
   where
     -- the line of each address that was replied to

@@ -14,10 +14,6 @@ use Rattle.packet_judge.specs.declared.verdict.Verdict.{Verdict}
 use Rattle.packet_judge.specs.declared.verdict.Verdict.TheVariants.{Unmanaged, Link, Unreadable, Governed}
 use Rattle.packet_judge.specs.Verdicts.{forwarded}
 
--- the class of DNS servers (RFC 8520, 4.6)
-unfoldable pub dns_class : Class
-dns_class = Uri (codes "urn:ietf:params:mud:dns")
-
 -- it came by UDP from the port of DNS servers (RFC 1035, section 4.2.1)
 unfoldable pub is_from_dns : Transport → Bool
 is_from_dns (packet.Tcp from to flags) = false
@@ -34,6 +30,7 @@ is_let_through (Governed source destination) = forwarded (Governed source destin
 
 -- What names are learnt from: the payload of a packet that has a ruling, is forwarded, and came by UDP from port 53 of an address of
 -- the class of DNS servers.
+-- the class of DNS servers (RFC 8520, 4.6)
 unfoldable pub heard_in : List ClassRow → List ℕ → Verdict → Option (List ℕ)
 heard_in classes octets verdict = if is_let_through verdict then payload_if classes (frame_of octets) else None
   where
@@ -42,4 +39,4 @@ heard_in classes octets verdict = if is_let_through verdict then payload_if clas
     payload_if classes (frame.Unreadable octets part) = None
     payload_if classes (frame.Link octets) = None
     payload_if classes (frame.Packet packet) =
-        if is_from_dns packet.fields.transport && is_bound dns_class packet.fields.src classes then Some (payload_of packet.octets) else None
+        if is_from_dns packet.fields.transport && is_bound (Uri (codes "urn:ietf:params:mud:dns")) packet.fields.src classes then Some (payload_of packet.octets) else None

@@ -11,7 +11,3 @@ use Rattle.desk_model.specs.Texts.Words.{reply_text}
 -- the name, its address, the seconds, and what was replied to the observation
 unfoldable pub name_line : List ℕ → Addr × ℕ → Reply → List ℕ
 name_line name row reply = codes "name " ++ name ++ codes " " ++ addr_text row.0 ++ number_text row.1 ++ reply_text reply ++ codes "\n"
-
--- the fault's name, and its offset where it has one
-unfoldable pub dns_fault_line : DnsFault → List ℕ
-dns_fault_line fault = codes "dns fault " ++ dns_fault.name_of fault ++ offset_text (dns_fault.offset_of fault) ++ codes "\n"

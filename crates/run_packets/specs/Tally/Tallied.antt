@@ -82,10 +82,6 @@ is_over (Some hour) now = not (hour == now)
 unfoldable pub closing : List Seen → List ℕ
 closing latest = hour_lines (hour_in latest) (counts_of (rulings latest))
 
--- the lines of the last hour, where the packet is of another one
-unfoldable pub closed_before : List Seen → Seen → List ℕ
-closed_before latest s = if is_over (hour_in latest) (hour_of s) then closing latest else []
-
 -- the packets since the last hour was closed, with this one
 unfoldable pub latest_with : List Seen → Seen → List Seen
 latest_with latest s = (if is_over (hour_in latest) (hour_of s) then [] else latest) ++ s ∷ []
@@ -94,6 +90,10 @@ latest_with latest s = (if is_over (hour_in latest) (hour_of s) then [] else lat
 unfoldable pub tally_step : Tallied → Packet → LineStep Tallied
 tally_step t packet = tallied t (judged_packet t.session packet) (seen_of (judged_packet t.session packet) packet)
   where
+    -- the lines of the last hour, where the packet is of another one
+    closed_before : List Seen → Seen → List ℕ
+    closed_before latest s = if is_over (hour_in latest) (hour_of s) then closing latest else []
+
     tallied : Tallied → Judged → Seen → LineStep Tallied
     tallied t judged s = record { line = closed_before t.latest s; next = record { session = judged.session; all = t.all ++ s ∷ []; latest = latest_with t.latest s } }
 

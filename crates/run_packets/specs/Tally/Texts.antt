@@ -32,13 +32,12 @@ unfoldable pub port_text : Option ℕ → List ℕ
 port_text None = codes " -"
 port_text (Some port) = number_text port
 
--- the peer, the protocol, and the peer's port
-unfoldable pub peer_text : DeniedRow → List ℕ
-peer_text row = codes " " ++ addr_text row.peer ++ number_text row.protocol ++ port_text row.port
-
 -- the Thing, the side, the peer with its protocol and port, and how many packets
+-- the peer, the protocol, and the peer's port
 unfoldable pub denied_line : DeniedRow → List ℕ
-denied_line row = codes "denied" ++ thing_text row.mac row.side ++ peer_text row ++ number_text row.count ++ codes "\n"
+denied_line row =
+    codes "denied" ++ thing_text row.mac row.side ++ codes " " ++ addr_text row.peer ++ number_text row.protocol
+    ++ port_text row.port ++ number_text row.count ++ codes "\n"
 
 -- the Thing, the side, and how many packets there were of peers, protocols and ports that have no line
 unfoldable pub others_line : OtherRow → List ℕ

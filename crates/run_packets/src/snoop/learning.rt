@@ -1,9 +1,10 @@
 //! From which packets names are learnt.
-ghost use Rattle.std.specs.Prelude.{◌≡◌, option_copied};
+ghost use Rattle.std.specs.Prelude.{◌≡◌, option_copied, codes, bytes_eq};
 ghost use Rattle.frame_view.specs.Frame.{frame_of};
-ghost use Rattle.table_model.specs.Binds.{same_class};
+ghost use Rattle.table_model.specs.Binds.{key_of_class};
 ghost use Rattle.table_model.specs.Tables.{is_bound};
 ghost use Rattle.run_packets.specs.Snoop.Learning as spec;
+ghost use Rattle.table_model.specs.declared.bind.Class.TheVariants.{Uri};
 
 use frame_view::{Frame, view};
 use mud_base::{Addr, Transport};
@@ -19,9 +20,9 @@ const DNS_CLASS: &[u8] = b"urn:ietf:params:mud:dns";
 const DNS_PORT: u16 = 53;
 
 /// Whether a class is that of DNS servers.
-#[tactic(auto, unfolding(crate::specs::Snoop::Learning::dns_class, table_model::specs::Binds::same_class, table_model::specs::Binds::key_of_class))]
+#[tactic(auto, unfolding(table_model::specs::Binds::key_of_class))]
 fn is_dns_class(class: &Class) -> bool
-    ensures { result ≡ same_class class.now spec.dns_class }
+    ensures { result ≡ bytes_eq (key_of_class class.now) (key_of_class (Uri (codes "urn:ietf:params:mud:dns"))) }
 {
     match class {
         Class::Uri(uri) => uri.octets() == DNS_CLASS,
@@ -32,7 +33,7 @@ fn is_dns_class(class: &Class) -> bool
 /// Whether an address is bound to the class of DNS servers.
 #[tactic(auto, unfolding(table_model::specs::Tables::is_bound))]
 fn is_dns_server(addr: Addr, classes: &[ClassRow]) -> bool
-    ensures { result ≡ is_bound spec.dns_class addr classes.now }
+    ensures { result ≡ is_bound (Uri (codes "urn:ietf:params:mud:dns")) addr classes.now }
 {
     classes.iter().any(|row| is_dns_class(&row.class) && has_addr(addr, row.addrs.as_slice()))
 }

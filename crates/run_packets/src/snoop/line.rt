@@ -1,6 +1,8 @@
 //! The lines of what is learnt. Each ends with a line feed.
-ghost use Rattle.std.specs.Prelude.{◌≡◌, ◌++◌, OnOk};
+ghost use Rattle.std.specs.Prelude.{◌≡◌, ◌++◌, OnOk, codes};
 ghost use Rattle.run_packets.specs.Snoop.Lines as spec;
+ghost use Rattle.text_values.specs.Numbers.{offset_text};
+ghost use Rattle.dns_snoop.specs.Fault as dns_fault;
 
 use desk_model::texts::append_reply_words;
 use dns_snoop::DnsFault;
@@ -32,9 +34,9 @@ pub(crate) fn append_name(
 
 /// Adds the line of a DNS message that isn't read: `dns fault`, the fault's name, and its offset
 /// where it has one.
-#[tactic(auto, unfolding(crate::specs::Snoop::Lines::dns_fault_line))]
+#[tactic(auto)]
 pub(crate) fn append_dns_fault(lines: &mut Bytes, fault: DnsFault) -> Result<(), Memory>
-    ensures { OnOk result (lines.new ≡ lines.old ++ spec.dns_fault_line fault) }
+    ensures { OnOk result (lines.new ≡ lines.old ++ (codes "dns fault " ++ dns_fault.name_of fault ++ offset_text (dns_fault.offset_of fault) ++ codes "\n")) }
 {
     lines.append(b"dns fault ")?;
     lines.append(fault.name().as_bytes())?;

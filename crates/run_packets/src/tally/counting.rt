@@ -4,10 +4,10 @@ ghost use Rattle.std.specs.Prelude.{◌≡◌, ◌++◌, ◌∷◌, [], ℕ, Lis
 ghost use Rattle.pcap_read.specs.Captured.{packet_of};
 ghost use Rattle.mud_desk.specs.DeskState.{session_of};
 ghost use Rattle.drop_ledger.specs.Seen.{hour_of};
-ghost use Rattle.drop_ledger.specs.Ledger.{StandsFor, IsSameTally, HasRooms};
+ghost use Rattle.drop_ledger.specs.Ledger.{StandsFor, IsSameTally, HasRooms, hour_in};
 ghost use Rattle.drop_ledger.specs.declared.seen.Seen.{Seen as SeenValue};
 ghost use Rattle.run_packets.specs.Tally.Tallied as spec;
-ghost use Rattle.run_packets.specs.Tally.Tallied.{IsTallied, begun, closed_before, latest_with};
+ghost use Rattle.run_packets.specs.Tally.Tallied.{IsTallied, begun, latest_with};
 
 use crate::tally::seeing::seen_as;
 use crate::tally::texts::{append_end, append_hour};
@@ -47,7 +47,7 @@ fn is_over(hour: Option<u64>, now: u64) -> bool
 /// Adds the lines of the hour of the counts, where a packet is of another one.
 fn append_closed(alloc: Global, lines: &mut Bytes, tally: &Tally, now: u64) -> Result<(), Memory>
     ensures { (all latest : List SeenValue) (s : SeenValue) → StandsFor all latest tally.now → hour_of s ≡ now
-        → OnOk result (lines.new ≡ lines.old ++ closed_before latest s) }
+        → OnOk result (lines.new ≡ lines.old ++ (if spec.is_over (hour_in latest) (hour_of s) then spec.closing latest else [])) }
 {
     let hour = tally.hour();
     if is_over(hour, now) {

@@ -1,6 +1,8 @@
 //! The lines of a tally.
-ghost use Rattle.std.specs.Prelude.{◌≡◌, ◌++◌, OnOk, flat_map};
+ghost use Rattle.std.specs.Prelude.{◌≡◌, ◌++◌, OnOk, flat_map, codes};
 ghost use Rattle.run_packets.specs.Tally.Texts as spec;
+ghost use Rattle.mud_base.specs.Texts.{addr_text};
+ghost use Rattle.text_values.specs.Numbers.{number_text};
 
 use desk_model::texts::append_ruling;
 use drop_ledger::{CountRow, DeniedRow, OtherRow, Totals};
@@ -54,9 +56,9 @@ fn append_port(line: &mut Bytes, port: Option<u16>) -> Result<(), Memory>
 }
 
 /// Adds a peer, its protocol and its port, each behind a space.
-#[tactic(auto, unfolding(crate::specs::Tally::Texts::peer_text))]
+#[tactic(auto)]
 fn append_peer(alloc: Global, line: &mut Bytes, row: &DeniedRow) -> Result<(), Memory>
-    ensures { OnOk result (line.new ≡ line.old ++ spec.peer_text row.now) }
+    ensures { OnOk result (line.new ≡ line.old ++ (codes " " ++ addr_text row.now.peer ++ number_text row.now.protocol ++ spec.port_text row.now.port)) }
 {
     line.append(b" ")?;
     append_addr(alloc, line, row.peer)?;

@@ -4,9 +4,9 @@ use Rattle.std.proofs.lemmas.List.{take_all}
 use Rattle.mud_base.specs.declared.prefix.Prefix.{Prefix}
 use Rattle.item_codec.specs.Spelling.{version, list}
 use Rattle.item_codec.specs.Records.{elements, list_body}
-use Rattle.table_model.specs.ItemFields.{network}
 use Rattle.table_model.specs.BindItems.{locals_item}
 use Rattle.bind_book.proofs.items.locals_item.Goals as goal
+use Rattle.table_model.proofs.Parts.{network}
 
 pub returns : goal.returns
 unfolding locals_item list_body elements

@@ -1,13 +1,12 @@
 use Rattle.std.specs.Prelude.{◌++◌, codes}
 use Rattle.json.specs.Print.{quoted}
 use Rattle.mud_base.specs.Texts.{addr_text}
-use Rattle.console_listings.specs.Rows.{expiring_of, until_end}
+use Rattle.console_listings.specs.Rows.{until_end}
 use Rattle.console_listings.proofs.Joins.{ok_behind}
 use Rattle.console_listings.proofs.things.append_expiring.Goals as goal
 use Rattle.text_values.proofs.Parts.{behind_both}
 
 pub returns : goal.returns
-unfolding expiring_of
 returns c =
     let first = codes "{\"address\":" in
     let second = quoted (addr_text c.args.address) in

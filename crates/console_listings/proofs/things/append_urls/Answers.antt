@@ -1,12 +1,11 @@
 use Rattle.std.specs.Prelude.{◌++◌, codes}
 use Rattle.console_answers.specs.Texts.{url_text}
-use Rattle.console_listings.specs.Rows.{urls_text, url_end}
+use Rattle.console_listings.specs.Rows.{url_end}
 use Rattle.console_listings.proofs.Joins.{ok_behind}
 use Rattle.console_listings.proofs.things.append_urls.Goals as goal
 use Rattle.text_values.proofs.Parts.{behind_both}
 
 pub returns : goal.returns
-unfolding urls_text
 returns c =
     let first = codes ",\"pending\":" in
     let second = url_text c.args.pending.now in

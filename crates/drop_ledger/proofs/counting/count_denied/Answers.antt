@@ -2,9 +2,10 @@ use Rattle.std.proofs.Common.{◌≡◌, ◌≤◌, length, map, take, Some, Non
 use Rattle.std.proofs.lemmas.List.{append-nil}
 use Rattle.drop_ledger.specs.Counted.{AreFirstRows, those_of}
 use Rattle.drop_ledger.specs.SortKeys.{sort_key_of_denied, sort_key_of_other}
-use Rattle.drop_ledger.specs.Ledger.{denied_row, denials, other_row, denied_kinds, times_ruled}
+use Rattle.drop_ledger.specs.Ledger.{denied_row, denials, denied_kinds, times_ruled}
 use Rattle.drop_ledger.proofs.LedgerLaws.{denied_are_kinds, denied_few, denials_more}
 use Rattle.drop_ledger.proofs.counting.count_denied.Goals as goal
+use Rattle.drop_ledger.proofs.Parts.{other_row}
 
 pub returns-in-Some-clause-counted : goal.returns-in-Some-clause-counted
 returns-in-Some-clause-counted c = λ done are few.

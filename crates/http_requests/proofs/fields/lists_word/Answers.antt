@@ -2,9 +2,10 @@ use Rattle.std.proofs.Common.{rules, tests, ◌&&◌, sym, ◌∙◌}
 use Rattle.std.proofs.lemmas.Iterator.{YieldsList-from_slice}
 use Rattle.std.proofs.lemmas.Iterator.Search.{any_from_yields_List}
 use Rattle.httparse.specs.Spans.{header_bytes}
-use Rattle.http_requests.specs.Fields.{is_named, has_element}
+use Rattle.http_requests.specs.Fields.{is_named}
 use Rattle.http_requests.proofs.Lists.{list_any-map}
 use Rattle.http_requests.proofs.fields.lists_word.Goals as goal
+use Rattle.http_requests.proofs.Pieces.{has_element}
 
 pub returns : goal.returns
 returns c =

@@ -1,8 +1,8 @@
 use Rattle.std.proofs.Common.{◌≡◌, ℕ, ◌+◌, ◌<◌, List, ◌++◌, length, take, drop, get_or, flat_map, sym, ap, ◌∙◌}
 use Rattle.std.proofs.lemmas.Grind.{flat_map-append}
 use Rattle.std.proofs.lemmas.List.{drop_more, take-append-drop}
-use Rattle.text_values.specs.Paths.{path_text, shown}
-use Rattle.text_values.proofs.Parts.{always_on_err, part_behind}
+use Rattle.text_values.specs.Paths.{shown}
+use Rattle.text_values.proofs.Parts.{always_on_err, part_behind, path_text}
 use Rattle.text_values.proofs.paths.append_path.Goals as goal
 
 -- a path, from an octet on
@@ -14,7 +14,6 @@ path_from path i within =
     ∙ ap (λ (octets : List ℕ). flat_map shown (take i path) ++ flat_map shown octets) (drop_more path i 0 within)
 
 pub returns-in_err-append_shown-clause-part : goal.returns-in_err-append_shown-clause-part
-unfolding path_text
 returns-in_err-append_shown-clause-part c =
     let path = c.args.path.now in
     let i = c.path.octet-index in

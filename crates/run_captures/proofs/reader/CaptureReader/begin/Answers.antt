@@ -1,8 +1,8 @@
 use Rattle.std.proofs.Common.{◌≡◌, List, ℕ, true, false, sym, ◌∙◌, ap}
 use Rattle.std.specs.Str.{bytes_eq}
-use Rattle.run_captures.specs.Captures.{next_first}
 use Rattle.run_captures.proofs.Begins.{begun_next, begun_classic}
 use Rattle.run_captures.proofs.reader.CaptureReader.begin.Goals as goal
+use Rattle.run_captures.proofs.Parts.{next_first}
 
 pub returns-then-is_next-clause-begun : goal.returns-then-is_next-clause-begun
 returns-then-is_next-clause-begun g c = λ t.

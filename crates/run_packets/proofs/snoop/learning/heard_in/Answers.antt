@@ -1,9 +1,10 @@
 use Rattle.std.proofs.Common.{sym, ap, ◌∙◌, Some, List, ℕ}
 use Rattle.mud_base.specs.declared.packet.Fields.{Fields}
 use Rattle.table_model.specs.Tables.{is_bound}
-use Rattle.run_packets.specs.Snoop.Learning.{dns_class, is_from_dns}
+use Rattle.run_packets.specs.Snoop.Learning.{is_from_dns}
 use Rattle.run_packets.proofs.SnoopLaws.Hearing.{heard_here, true_of}
 use Rattle.run_packets.proofs.snoop.learning.heard_in.Goals as goal
+use Rattle.run_packets.proofs.Parts.{dns_class}
 
 pub returns : goal.returns
 returns c =

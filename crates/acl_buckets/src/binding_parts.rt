@@ -56,7 +56,7 @@ pub(crate) fn bindings_at<'a>(
 }
 
 /// What the edits of bindings of one key are found by.
-#[derive(Clone, Copy, Debug)]
+#[derive(Clone, Copy)]
 struct OfKey<'a>(KeyText<'a>);
 
 impl PrefixOf<Edit<Binding>> for OfKey<'_> {

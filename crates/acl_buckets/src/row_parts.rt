@@ -66,7 +66,7 @@ pub(crate) fn part_of<'a>(
 }
 
 /// What the edits of rows of one owner, side and address are found by.
-#[derive(Clone, Copy, Debug)]
+#[derive(Clone, Copy)]
 struct OfPeer(Peer);
 
 impl PrefixOf<Edit<Row>> for OfPeer {

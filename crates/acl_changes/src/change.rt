@@ -55,7 +55,7 @@ fn kept_expiry<L: Ledger>(
 
 /// A policy that is held, with its URL's text and host and its index by keys, and whose rows are
 /// its own.
-#[derive(Drop, Debug)]
+#[derive(Drop)]
 pub struct Holding<'a> {
     owner: Owner,
     url: &'a [u8],

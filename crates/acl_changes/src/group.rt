@@ -11,7 +11,7 @@ use std::alloc::Global;
 use std::cmp::Ordering;
 
 /// Where an entry stands in a policy.
-#[derive(Clone, Copy, Debug, PartialEq, Eq)]
+#[derive(Clone, Copy)]
 pub struct EntrySpot {
     /// The side of the packets that it is for.
     pub side: Direction,
@@ -20,7 +20,7 @@ pub struct EntrySpot {
 }
 
 /// A kind of key with its text, and the entries with such a key.
-#[derive(Drop, Debug)]
+#[derive(Drop)]
 pub struct KeyEntries {
     kind: u8,
     text: Bytes,

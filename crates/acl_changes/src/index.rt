@@ -15,7 +15,7 @@ use std::marker::Model;
 
 /// The entries of a policy by the keys that they have. Contracts see it as the keys, each with its
 /// entries.
-#[derive(Drop, Debug)]
+#[derive(Drop)]
 pub struct KeyIndex {
     groups: SortedRows<KeyEntries>,
 }

@@ -16,7 +16,6 @@ use std::alloc::Global;
 use std::marker::Model;
 
 /// A policy with the numbers of its wide entries: those with no member selector.
-#[derive(Debug)]
 pub struct CompiledPolicy {
     policy: Policy,
     wide_outgoing: Listed<u16>,
@@ -46,7 +45,6 @@ impl Model for CompiledPolicy {
 }
 
 /// A policy that is held, with the URL of its file, and its index by keys.
-#[derive(Debug)]
 pub struct Held {
     url: MudUrl,
     policy: CompiledPolicy,
@@ -76,7 +74,6 @@ impl Model for Held {
 }
 
 /// The policy of the default entries, which are in no file, and its index by keys.
-#[derive(Debug)]
 pub struct HeldDefaults {
     policy: CompiledPolicy,
     keys: KeyIndex,

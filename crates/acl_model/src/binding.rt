@@ -5,7 +5,7 @@ ghost use Rattle.acl_model.specs.Keys as spec;
 use mud_base::{Addr, Bytes, End, Memory};
 
 /// What an address is bound to, so that it meets the member selectors with this key.
-#[derive(Drop, Debug)]
+#[derive(Drop)]
 pub enum MemberKey {
     /// The host of the MUD URL of the Thing that has the address.
     Host(Bytes),
@@ -20,7 +20,7 @@ pub enum MemberKey {
 }
 
 /// An address and what it is bound to until its expiry.
-#[derive(Drop, Debug)]
+#[derive(Drop)]
 pub struct Binding {
     /// What the address is bound to.
     pub key: MemberKey,

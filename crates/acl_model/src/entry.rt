@@ -10,7 +10,7 @@ use mud_url::MudUrl;
 /// 8520, 2). The first six are member selectors: which addresses meet them comes from leases,
 /// bindings of the operator and observed names. The last two are near selectors: the local networks
 /// of the operator meet the one, the network that the entry itself names meets the other.
-#[derive(Drop, Debug)]
+#[derive(Drop)]
 pub enum Selector {
     /// An address of the class with this URI (RFC 8520, 4.6).
     Controller(Bytes),
@@ -31,7 +31,7 @@ pub enum Selector {
 }
 
 /// A test of a port (RFC 8519, 4.2, `port-range-or-operator`).
-#[derive(Clone, Copy, Debug, PartialEq, Eq)]
+#[derive(Clone, Copy)]
 pub enum PortTest {
     /// Every port passes.
     Any,
@@ -49,7 +49,7 @@ pub enum PortTest {
 
 /// What an entry asks of the transport header (RFC 8519, 4.2, `acl-tcp-header-fields`,
 /// `acl-udp-header-fields`, `acl-icmp-header-fields`).
-#[derive(Clone, Copy, Debug, PartialEq, Eq)]
+#[derive(Clone, Copy)]
 pub enum Layer {
     /// Nothing, whether there is such a header or not.
     Any,
@@ -75,7 +75,7 @@ pub enum Layer {
 }
 
 /// What becomes of a packet that an entry matches (RFC 8519, 4.1, `forwarding`).
-#[derive(Clone, Copy, Debug, PartialEq, Eq)]
+#[derive(Clone, Copy)]
 pub enum Action {
     /// It is forwarded.
     Accept,
@@ -85,7 +85,7 @@ pub enum Action {
 
 /// An entry of an access list (RFC 8519, 4.1, `ace`). It matches a packet where each of its tests
 /// passes.
-#[derive(Drop, Debug)]
+#[derive(Drop)]
 pub struct Entry {
     /// The name of its access list.
     pub acl: Bytes,
@@ -114,7 +114,7 @@ pub struct Entry {
 }
 
 /// The entries of a usage file (RFC 8520, 3.3). The entries of each list are counted from 1.
-#[derive(Drop, Debug)]
+#[derive(Drop)]
 pub struct Policy {
     /// The entries for what the Thing sends.
     pub outgoing: Listed<Entry>,

@@ -2,7 +2,7 @@
 
 /// The default entries, in the order in which they stand behind those of each usage file (RFC 8520,
 /// Appendix A).
-#[derive(Clone, Copy, Debug, PartialEq, Eq)]
+#[derive(Clone, Copy)]
 pub enum DefaultRule {
     /// Queries to a DNS server, and its answers.
     Dns,
@@ -11,7 +11,7 @@ pub enum DefaultRule {
 }
 
 /// Why a packet is dropped that no entry matches.
-#[derive(Clone, Copy, Debug, PartialEq, Eq)]
+#[derive(Clone, Copy)]
 pub enum Why {
     /// There is no approved usage file.
     NoFile,
@@ -21,7 +21,7 @@ pub enum Why {
 
 /// The ruling on a packet of a Thing, and the entry that it comes from. Entries are counted from 1
 /// on the side of the packet that the Thing is on.
-#[derive(Clone, Copy, Debug, PartialEq, Eq)]
+#[derive(Clone, Copy)]
 pub enum Ruling {
     /// The entry of this number is the first that matches, and accepts.
     Accept(u16),

@@ -13,7 +13,7 @@ use mud_base::{Addr, addr_order, octets_order};
 use std::cmp::Ordering;
 
 /// A kind of key and its text, lent. Of bindings it is the prefix of those with such a key.
-#[derive(Clone, Copy, Debug)]
+#[derive(Clone, Copy)]
 pub struct KeyText<'a> {
     /// From 1 to 5, in the order of the variants of `MemberKey`.
     pub kind: u8,
@@ -22,7 +22,7 @@ pub struct KeyText<'a> {
 }
 
 /// A kind of key with its text, and an address: the key by which their binding is found.
-#[derive(Clone, Copy, Debug)]
+#[derive(Clone, Copy)]
 pub struct BoundKey<'a> {
     /// What the address is bound to.
     pub key: KeyText<'a>,

@@ -4,7 +4,7 @@ ghost use Rattle.acl_model.specs.TcpFlags as spec;
 
 /// A flag of the TCP header (RFC 9293, 3.1), from the highest bit of the octet of flags to the
 /// lowest.
-#[derive(Clone, Copy, Debug, PartialEq, Eq)]
+#[derive(Clone, Copy)]
 pub enum TcpFlag {
     /// `cwr`, 128.
     Cwr,

@@ -10,7 +10,7 @@ use std::cmp::Ordering;
 use std::sync::ledger::Ledger;
 
 /// What becomes of one sort key of sorted rows.
-#[derive(Drop, Debug)]
+#[derive(Drop)]
 pub struct Edit<R> {
     /// The row of the sort key: the one that comes, in place of another or not, or the one that
     /// goes.

@@ -15,7 +15,7 @@ use table_laws::changed_bindings;
 use table_model::{Class, ClassRow, NameKey, NameRow};
 
 /// A name, as the key of its row.
-#[derive(Drop, Debug)]
+#[derive(Drop)]
 pub struct KeptName(pub Bytes);
 
 impl KeyOf<NameRow> for KeptName {
@@ -27,7 +27,7 @@ impl KeyOf<NameRow> for KeptName {
 }
 
 /// The rows that a command changes.
-#[derive(Drop, Debug)]
+#[derive(Drop)]
 pub enum BindRows {
     /// None.
     Nothing,
@@ -41,7 +41,6 @@ pub enum BindRows {
 
 /// What a command answers and changes. It is made by a plan, and done by
 /// [`commit`](crate::BindBook::commit).
-#[derive(Debug)]
 pub struct BindChange {
     word: Word,
     until: Option<End>,

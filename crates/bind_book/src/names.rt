@@ -23,7 +23,7 @@ use table_model::{BindFault, NameKey, NameRow};
 pub type NameChange = Change<KeptName, NameRow>;
 
 /// What an observation answers, and the change of names that it makes.
-#[derive(Drop, Debug)]
+#[derive(Drop)]
 pub struct Observed {
     pub word: Word,
     /// The expiry that is kept.

@@ -22,7 +22,7 @@ use table_model::sound::{are_locals, is_sound_class, is_sound_name};
 use table_model::{Class, ClassRow, NameRow};
 
 /// The parts of a prefix, as they were read: they may fail to be one.
-#[derive(Clone, Copy, Debug)]
+#[derive(Clone, Copy)]
 pub struct Network {
     addr: Addr,
     len: u8,

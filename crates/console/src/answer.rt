@@ -11,7 +11,7 @@ ghost use Rattle.desk_model.specs.Boxed.{IsKept};
 ghost use Rattle.console.specs.Replies.{is_unavailable};
 ghost use Rattle.console.specs.Answers as spec;
 
-use crate::BodyText;
+use crate::body::BodyText;
 use crate::replies::reply_to;
 use console_answers::{AnswerBuffer, Status, body_part, write_head};
 use console_routes::Routes;
@@ -23,7 +23,7 @@ use std::marker::Model;
 
 /// The octets of an answer: its head, and what of its body is shown. Contracts see it as the list of
 /// these octets. The routes by which requests are told apart are made once, beside them.
-#[derive(Drop, Debug)]
+#[derive(Drop)]
 pub struct Answer {
     routes: Routes,
     head: AnswerBuffer,

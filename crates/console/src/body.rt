@@ -20,7 +20,7 @@ use std::marker::Model;
 
 /// The text of a body. Short ones are written into a buffer and take no memory; a longer one is kept
 /// as it was made. Contracts see it as the list of its octets.
-#[derive(Drop, Debug)]
+#[derive(Drop)]
 pub struct BodyText {
     buffer: AnswerBuffer,
     made: Option<Bytes>,

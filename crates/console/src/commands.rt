@@ -13,7 +13,7 @@ ghost use Rattle.console.specs.Requests.{AllowedCommand, outcome_body};
 ghost use Rattle.console_listings.specs.Refusals as refusals;
 ghost use Rattle.console.specs.Origins.{said_of, HasTexts, IsWritten};
 
-use crate::BodyText;
+use crate::body::BodyText;
 use crate::refusals::want_memory;
 use base_rows::Steps;
 use console_answers::Status;
@@ -29,7 +29,7 @@ use std::marker::Brand;
 use std::sync::ledger::{Blank, Ledger};
 
 /// Where a command comes from, which decides what its answer tells.
-#[derive(Drop, Debug)]
+#[derive(Drop)]
 pub(crate) enum Origin {
     /// The operator states it, or a usage file was fetched.
     Asked(Action),

@@ -11,7 +11,7 @@ ghost use Rattle.desk_model.specs.Boxed.{IsKept};
 ghost use Rattle.console.specs.Replies.{reply, replied, is_unavailable, IsOrFailed};
 ghost use Rattle.console.specs.Requests.{AllowedCommand, AllowedHeard};
 
-use crate::BodyText;
+use crate::body::BodyText;
 use crate::commands::{Origin, answer_command};
 use crate::refusals::want_memory;
 use crate::session::raise;

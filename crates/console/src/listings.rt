@@ -9,9 +9,10 @@ ghost use Rattle.console.specs.Listings as spec;
 ghost use Rattle.console.specs.Replies.{reply, is_unavailable, IsOrFailed};
 ghost use Rattle.console.specs.Requests.{by_listing};
 
+use crate::body::BodyText;
+use crate::due::due_text;
 use crate::refusals::want_memory;
 use crate::session::{later, raise};
-use crate::{BodyText, due_text};
 use console_answers::Status;
 use console_listings::{classes_body, files_body, locals_body, names_body, things_body};
 use console_routes::Listing;

@@ -9,7 +9,7 @@ ghost use Rattle.desk_model.specs.Boxed.{IsKept};
 ghost use Rattle.console.specs.Replies.{reply, is_unavailable, IsOrFailed};
 ghost use Rattle.console.specs.Requests.{by_verdict};
 
-use crate::BodyText;
+use crate::body::BodyText;
 use crate::refusals::want_memory;
 use crate::session::judge;
 use console_answers::Status;

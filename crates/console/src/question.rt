@@ -14,14 +14,14 @@ use mud_base::{Moment, Refusal};
 use std::alloc::Global;
 
 /// What a request asks for: the action of its route by its method, and what its body means there.
-#[derive(Drop, Debug)]
+#[derive(Drop)]
 pub struct Question {
     pub action: Action,
     pub asked: Asked,
 }
 
 /// Why a request asks for nothing.
-#[derive(Clone, Copy, Debug, PartialEq, Eq)]
+#[derive(Clone, Copy)]
 pub enum NoQuestion {
     /// No route has the path of its target.
     NoRoute,

@@ -3,14 +3,15 @@ ghost use Rattle.std.specs.Prelude.{◌≡◌, false, None};
 ghost use Rattle.console.specs.Replies.{reply, no_storage, is_unavailable};
 ghost use Rattle.console.specs.Refused.{IsToldOf, IsRefusalOf};
 
-use crate::{BodyText, NoQuestion, Unasked};
+use crate::body::BodyText;
+use crate::question::{NoQuestion, Unasked};
 use console_answers::Status;
 use console_listings::body_fault_body;
 use console_routes::Route;
 use std::alloc::Global;
 
 /// A reply whose body is held elsewhere: its status, and the route whose methods are named.
-#[derive(Drop, Debug)]
+#[derive(Drop)]
 pub(crate) struct ReplyHead {
     pub(crate) status: Status,
     pub(crate) allow: Option<Route>,

@@ -13,14 +13,15 @@ ghost use Rattle.console.specs.Replies.{reply, is_unavailable};
 ghost use Rattle.console.specs.Requests.{AllowedQuestion, AllowedResponse, NeedsMemory};
 ghost use Rattle.console.specs.Refused.{AskedNeedsMemory};
 
+use crate::body::BodyText;
 use crate::commands::{Origin, answer_command};
 use crate::heard::answer_heard;
 use crate::listings::answer_listing;
 use crate::packets::answer_frame;
+use crate::question::{Question, question_of};
 use crate::refusals::{ReplyHead, plain, refuse_unasked};
 use crate::session::later;
 use crate::why::answer_why;
-use crate::{BodyText, Question, question_of};
 use console_answers::Status;
 use console_bodies::Asked;
 use console_routes::Routes;

@@ -7,7 +7,7 @@ ghost use Rattle.console_listings.specs.Why.{side_text};
 ghost use Rattle.console.specs.Replies.{reply, is_unavailable, IsOrWanted};
 ghost use Rattle.console.specs.Why as spec;
 
-use crate::BodyText;
+use crate::body::BodyText;
 use console_answers::Status;
 use console_listings::{RuledEndpoint, why_body};
 use mud_base::{Bytes, Memory, Moment};

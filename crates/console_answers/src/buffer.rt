@@ -8,7 +8,7 @@ use std::marker::Model;
 
 /// A text in a buffer of 4,096 octets. What doesn't fit is cut off. Contracts see it as the list of
 /// its octets.
-#[derive(Drop, Debug)]
+#[derive(Drop)]
 pub struct AnswerBuffer {
     octets: Vec<u8>,
     len: usize,

@@ -5,7 +5,7 @@ ghost use Rattle.console_answers.specs.Statuses as spec;
 use http::StatusCode;
 
 /// A status of an answer (RFC 9110, 15; RFC 4918, 11.5).
-#[derive(Clone, Copy, Debug, PartialEq, Eq)]
+#[derive(Clone, Copy)]
 pub enum Status {
     /// 200
     Done,

@@ -7,7 +7,7 @@ use desk_model::Command;
 use dhcp_lldp::Heard;
 
 /// What a request asks for, its body read.
-#[derive(Drop, Debug)]
+#[derive(Drop)]
 pub enum Asked {
     /// A command that the operator states, or a fetched usage file.
     Command(Command),

@@ -4,7 +4,7 @@ use dhcp_lldp::HearFault;
 use mud_base::Refusal;
 
 /// What is wrong with a body.
-#[derive(Clone, Copy, Debug, PartialEq, Eq)]
+#[derive(Clone, Copy)]
 pub enum BodyFault {
     /// It is no JSON object (RFC 8259).
     Json,

@@ -7,8 +7,9 @@ ghost use Rattle.console_bodies.specs.Objects.{object_of};
 ghost use Rattle.console_bodies.specs.Statements.{command_at};
 
 use crate::asked::Asked;
+use crate::object::read_object;
 use crate::statements::command;
-use crate::{BodyFault, Unread, read_object};
+use crate::{BodyFault, Unread};
 use console_routes::{Action, Statement};
 use desk_model::Command;
 use dhcp_lldp::{HearFault, Heard, read_dhcp, read_lldp};

@@ -6,7 +6,7 @@ ghost use Rattle.console_routes.specs.declared.action.Method.TheVariants.{Delete
 use crate::route::Route;
 
 /// A method that a route may have (RFC 9110, 9.3).
-#[derive(Clone, Copy, Debug, PartialEq, Eq)]
+#[derive(Clone, Copy)]
 pub enum Method {
     /// `DELETE`
     Delete,
@@ -19,7 +19,7 @@ pub enum Method {
 }
 
 /// What may be listed.
-#[derive(Clone, Copy, Debug, PartialEq, Eq)]
+#[derive(Clone, Copy)]
 pub enum Listing {
     /// The Things with their leases.
     Things,
@@ -36,7 +36,7 @@ pub enum Listing {
 }
 
 /// What the operator states by a JSON object.
-#[derive(Clone, Copy, Debug, PartialEq, Eq)]
+#[derive(Clone, Copy)]
 pub enum Statement {
     /// A Thing moves to the URL that waits: `mac`, `url`.
     Move,
@@ -65,7 +65,7 @@ pub enum Statement {
 }
 
 /// What a request asks for, before its body is read.
-#[derive(Clone, Copy, Debug, PartialEq, Eq)]
+#[derive(Clone, Copy)]
 pub enum Action {
     /// What a DHCPv4 message says is taken: the body is the message.
     HearDhcp,

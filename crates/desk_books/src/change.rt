@@ -15,7 +15,7 @@ use std::marker::Model;
 use thing_book::ThingChange;
 
 /// A planned change of one of the books.
-#[derive(Drop, Debug)]
+#[derive(Drop)]
 pub enum BookChange {
     Things(ThingChange),
     Files(CacheChange),

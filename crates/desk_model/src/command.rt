@@ -5,7 +5,7 @@ use table_model::Class;
 use usage_tables::OperatorVerdict;
 
 /// A command: what was heard from a Thing, or what the operator states.
-#[derive(Drop, Debug)]
+#[derive(Drop)]
 pub enum Command {
     /// A hardware address announced a URL (RFC 8520, 1.5, 10 and 12).
     HearUrl(Mac, MudUrl),

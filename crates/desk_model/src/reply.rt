@@ -8,7 +8,7 @@ use table_model::{BindFault, ThingFault};
 use usage_tables::CacheFault;
 
 /// What a command did.
-#[derive(Clone, Copy, Debug)]
+#[derive(Clone, Copy)]
 pub struct Outcome {
     pub word: Word,
     /// The expiry that is kept of a lease or of an address of a name.
@@ -18,7 +18,7 @@ pub struct Outcome {
 }
 
 /// Why a command is refused, by the book that refuses it.
-#[derive(Drop, Debug)]
+#[derive(Drop)]
 pub enum Refusal {
     Things(ThingFault),
     Files(CacheFault),
@@ -26,7 +26,7 @@ pub enum Refusal {
 }
 
 /// What a command answers. After any reply but `Done` all is as it was.
-#[derive(Drop, Debug)]
+#[derive(Drop)]
 pub enum Reply {
     /// It was carried out, and what it changes is kept.
     Done(Outcome),

@@ -30,6 +30,10 @@ yiaddr_offset = 16
 abbrev pub chaddr_offset : ℕ
 chaddr_offset = 28
 
+-- the magic cookie, with which the field options begins, and the first option (section 3)
+abbrev pub cookie_offset : ℕ
+cookie_offset = 236
+
 abbrev pub options_offset : ℕ
 options_offset = 240
 
@@ -47,10 +51,6 @@ is_ethernet message = slice_index message htype_offset == 1 && slice_index messa
 -- the octets 99, 130, 83 and 99 (section 3)
 unfoldable pub has_cookie : List ℕ → Bool
 has_cookie message = bytes_eq (octets_at 4 cookie_offset message) (99 ∷ 130 ∷ 83 ∷ 99 ∷ [])
-  where
-    -- the magic cookie, with which the field options begins, and the first option (section 3)
-    cookie_offset : ℕ
-    cookie_offset = 236
 
 unfoldable pub options_of : List ℕ → Listing DhcpOption
 options_of message = listing 0 options_offset (drop options_offset message)

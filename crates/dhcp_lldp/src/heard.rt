@@ -5,7 +5,7 @@ use mud_base::{Addr, Mac};
 use mud_url::{MudUrl, UrlFault};
 
 /// What a DHCPv4 message or an LLDP frame says of a Thing.
-#[derive(Clone, Copy, Debug, PartialEq, Eq)]
+#[derive(Clone, Copy)]
 pub enum Heard {
     /// The Thing with this hardware address announces this MUD URL (RFC 8520, sections 10 and 12).
     Url(Mac, MudUrl),
@@ -17,7 +17,7 @@ pub enum Heard {
 }
 
 /// Why a message is refused. Offsets count the octets of the message or frame from 0.
-#[derive(Clone, Copy, Debug, PartialEq, Eq)]
+#[derive(Clone, Copy)]
 pub enum HearFault {
     /// The octets end before the fixed fields do, which is the offset 0, or within the option or
     /// TLV that begins at this offset.

@@ -4,7 +4,7 @@ ghost use Rattle.std.specs.Prelude.{◌≡◌};
 use mud_base::Memory;
 
 /// Why a DNS message isn't read. Offsets count the octets of the message from 0.
-#[derive(Clone, Copy, Debug, PartialEq, Eq)]
+#[derive(Clone, Copy)]
 pub enum DnsFault {
     /// Memory was wanted and there was none.
     Memory,

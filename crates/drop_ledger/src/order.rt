@@ -8,14 +8,14 @@ use mud_base::{Addr, Direction, Mac, addr_order, side_order};
 use std::cmp::Ordering;
 
 /// A Thing, and the side of packets that it is on.
-#[derive(Clone, Copy, Debug, PartialEq, Eq)]
+#[derive(Clone, Copy)]
 pub struct ThingSide {
     pub mac: Mac,
     pub side: Direction,
 }
 
 /// The other endpoint of packets, and how they come there.
-#[derive(Clone, Copy, Debug, PartialEq, Eq)]
+#[derive(Clone, Copy)]
 pub struct Peer {
     /// The address at the other side.
     pub addr: Addr,

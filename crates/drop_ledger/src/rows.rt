@@ -9,7 +9,7 @@ use mud_base::{Addr, Direction, Mac};
 use std::cmp::Ordering;
 
 /// How often a ruling was given on the packets of a Thing on a side.
-#[derive(Clone, Copy, Debug, PartialEq, Eq, Drop)]
+#[derive(Clone, Copy, Drop)]
 pub struct CountRow {
     /// The Thing.
     pub mac: Mac,
@@ -23,7 +23,7 @@ pub struct CountRow {
 
 /// How many packets of a Thing on a side were dropped since no entry matches, of one peer, protocol
 /// and port.
-#[derive(Clone, Copy, Debug, PartialEq, Eq, Drop)]
+#[derive(Clone, Copy, Drop)]
 pub struct DeniedRow {
     /// The Thing.
     pub mac: Mac,
@@ -41,7 +41,7 @@ pub struct DeniedRow {
 
 /// How many more packets of a Thing on a side were dropped so, of peers, protocols and ports that
 /// have no row of their own.
-#[derive(Clone, Copy, Debug, PartialEq, Eq, Drop)]
+#[derive(Clone, Copy, Drop)]
 pub struct OtherRow {
     /// The Thing.
     pub mac: Mac,

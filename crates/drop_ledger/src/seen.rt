@@ -9,7 +9,7 @@ use packet_judge::{Ruling, Verdict};
 const SECONDS_PER_HOUR: u64 = 3600;
 
 /// A packet that was judged.
-#[derive(Clone, Copy, Debug, PartialEq, Eq)]
+#[derive(Clone, Copy)]
 pub struct Seen {
     /// The moment at which it was judged.
     pub moment: Moment,
@@ -24,7 +24,7 @@ pub struct Seen {
 }
 
 /// The ruling on the Thing at one side of a packet.
-#[derive(Clone, Copy, Debug, PartialEq, Eq)]
+#[derive(Clone, Copy)]
 pub struct Ruled {
     /// The Thing.
     pub mac: Mac,

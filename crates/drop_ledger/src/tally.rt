@@ -57,7 +57,7 @@ impl Model for Tally {
 }
 
 /// A packet for which there is room.
-#[derive(Clone, Copy, Debug, PartialEq, Eq)]
+#[derive(Clone, Copy)]
 pub struct TallyPlan {
     seen: Seen,
 }

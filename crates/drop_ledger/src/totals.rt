@@ -7,7 +7,7 @@ ghost use Rattle.drop_ledger.specs.Steps.{governed_after, totals_after};
 use packet_judge::{Verdict, forwarded};
 
 /// How many packets of each kind of verdict there were.
-#[derive(Clone, Copy, Debug, PartialEq, Eq)]
+#[derive(Clone, Copy)]
 pub struct Totals {
     /// All packets.
     pub packets: u64,

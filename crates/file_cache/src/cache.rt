@@ -29,7 +29,6 @@ use usage_tables::{CacheFault, CachedFile, FileEdit, OperatorVerdict};
 /// The usage files that the manager holds, of at most 128 URLs, in the order of the URLs: of each at
 /// most one that the operator approved and one that waits for a verdict. All approved files together
 /// have at most 4,096 entries. Contracts see the cache as the list and its room.
-#[derive(Debug)]
 pub struct FileCache {
     alloc: Global,
     files: SortedRows<CachedFile>,

@@ -15,7 +15,6 @@ use usage_tables::{FileEdit, PolicyChange};
 
 /// A planned change of the files of one URL. Contracts see what it answers, the URL, the edit and
 /// the puts.
-#[derive(Debug)]
 pub struct CacheChange {
     word: Word,
     url: MudUrl,

@@ -2,7 +2,7 @@
 
 /// The two endpoints of a connection as whole numbers, the lesser endpoint first. Keys are in the
 /// order of their members, and those of two connections mostly differ in the first.
-#[derive(Clone, Copy, Debug, PartialEq, Eq, PartialOrd, Ord)]
+#[derive(Clone, Copy, PartialEq, Eq, PartialOrd, Ord)]
 pub struct Key {
     /// The last 32 bits of the first address, and then those of the second.
     pub(crate) near: u64,

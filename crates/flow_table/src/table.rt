@@ -70,7 +70,7 @@ impl Model for FlowTable {
 }
 
 /// A packet that the table has room for.
-#[derive(Debug, Drop)]
+#[derive(Drop)]
 pub struct FlowPlan {
     packet: Segment,
 }

@@ -8,7 +8,7 @@ use mud_base::{Fields, Mac, mac_at};
 use std::marker::Model;
 
 /// The part of a frame that is cut or broken.
-#[derive(Clone, Copy, Debug, PartialEq, Eq)]
+#[derive(Clone, Copy)]
 pub enum Part {
     /// The head of an Ethernet frame (IEEE 802.3).
     Ethernet,
@@ -23,7 +23,7 @@ pub enum Part {
 }
 
 /// A frame with a whole Ethernet head. Contracts see it as the octets of the frame.
-#[derive(Drop, Debug)]
+#[derive(Drop)]
 pub struct FrameView<'a> {
     octets: &'a [u8],
 }
@@ -81,7 +81,7 @@ impl<'a> Model for Contents<'a> {
 
 /// A frame that carries an IP packet. Contracts see it as the octets of the frame and what the
 /// packet's headers say.
-#[derive(Drop, Debug)]
+#[derive(Drop)]
 pub struct PacketView<'a> {
     octets: &'a [u8],
     fields: Fields,
@@ -137,7 +137,7 @@ impl<'a> PacketView<'a> {
 }
 
 /// What a frame is.
-#[derive(Drop, Debug)]
+#[derive(Drop)]
 pub enum Frame<'a> {
     /// It isn't IP, or it keeps the link up.
     Link(FrameView<'a>),

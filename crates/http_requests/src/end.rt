@@ -1,7 +1,7 @@
 //! How connections end.
 
 /// How the service of a connection ended.
-#[derive(Clone, Copy, Debug, PartialEq, Eq)]
+#[derive(Clone, Copy)]
 pub enum ConnectionEnd {
     /// The octets ended between two requests.
     Ended,

@@ -3,7 +3,7 @@ ghost use Rattle.std.specs.Prelude.{◌≡◌};
 ghost use Rattle.http_requests.specs.Framing as spec;
 
 /// Why no whole request stands where one should begin. Each ends its connection.
-#[derive(Clone, Copy, Debug, PartialEq, Eq)]
+#[derive(Clone, Copy)]
 pub enum FramingFault {
     /// No head stands there, or one of more than 64 fields or 8,192 octets.
     Head,
@@ -22,7 +22,7 @@ pub enum FramingFault {
 }
 
 /// The fault of a request, and what its answer has to know of the request's method.
-#[derive(Clone, Copy, Debug, PartialEq, Eq)]
+#[derive(Clone, Copy)]
 pub struct RequestFault {
     /// Why no whole request stands there.
     pub framing: FramingFault,
@@ -37,7 +37,7 @@ pub(crate) const NO_HEAD: RequestFault = RequestFault {
 };
 
 /// Where the moments of requests come from.
-#[derive(Clone, Copy, Debug, PartialEq, Eq)]
+#[derive(Clone, Copy)]
 pub enum MomentFrom {
     /// From a clock. The requests give none.
     Clock,

@@ -14,7 +14,7 @@ use mud_base::{Moment, moment_of};
 const MOST_BODY: usize = 524_288;
 
 /// What the fields of a head say of the body and the moment.
-#[derive(Clone, Copy, Debug)]
+#[derive(Clone, Copy)]
 pub(crate) struct Framing {
     /// How many octets the body has.
     pub(crate) body_len: usize,

@@ -101,7 +101,7 @@ fn next_body<D: Door>(buffer: &mut RequestBuffer, door: &mut D, len: usize) -> R
 }
 
 /// What comes next at a connection.
-#[derive(Clone, Copy, Debug)]
+#[derive(Clone, Copy)]
 pub enum Next {
     /// A whole request of this shape is held.
     Whole(RequestShape),
@@ -112,7 +112,7 @@ pub enum Next {
 }
 
 /// Which call of the door failed.
-#[derive(Clone, Copy, Debug, PartialEq, Eq)]
+#[derive(Clone, Copy)]
 pub enum DoorFault {
     /// A read. The count of failed reads rose.
     Read,

@@ -9,7 +9,7 @@ use crate::shape::RequestShape;
 use mud_base::Moment;
 
 /// A whole request, lent from the octets among which it stands.
-#[derive(Clone, Copy, Debug)]
+#[derive(Clone, Copy)]
 pub struct RequestParts<'a> {
     /// The method (RFC 9110, section 9).
     pub method: &'a [u8],

@@ -26,7 +26,7 @@ const MOST_HEAD: usize = 8_192;
 const MOST_FIELDS: usize = 64;
 
 /// What stands at the front of octets.
-#[derive(Clone, Copy, Debug)]
+#[derive(Clone, Copy)]
 pub enum HeadStep {
     /// A head of this shape, which isn't refused.
     Found(RequestShape),

@@ -6,7 +6,7 @@ use httparse::spans::Span;
 use mud_base::Moment;
 
 /// Where the parts of a request stand, counted from the front of its head, and what its head says.
-#[derive(Clone, Copy, Debug)]
+#[derive(Clone, Copy)]
 pub struct RequestShape {
     /// Where the method stands.
     pub method: Span,

@@ -7,7 +7,7 @@ ghost use Rattle.http_requests.specs.Requests.{Request, closed, spent, stop_afte
 pub const MOST_REQUESTS: u32 = 1_000_000;
 
 /// Why a connection ends after a request.
-#[derive(Clone, Copy, Debug, PartialEq, Eq)]
+#[derive(Clone, Copy)]
 pub enum Stop {
     /// The request closes it.
     Closed,

@@ -2,7 +2,7 @@
 use std::io;
 
 /// What a call of the outside was made for.
-#[derive(Clone, Copy, Debug, PartialEq, Eq)]
+#[derive(Clone, Copy)]
 pub enum Call {
     /// To listen on the port of this number.
     Bind(u16),

@@ -8,7 +8,7 @@ use mud_world::KeepFault;
 use sqlite::{Error, ErrorCode};
 
 /// Why a database didn't do what was asked, as far as it tells.
-#[derive(Clone, Copy, Debug, PartialEq, Eq)]
+#[derive(Clone, Copy, PartialEq, Eq)]
 pub enum Refusal {
     /// Memory was wanted and there was none.
     Memory,

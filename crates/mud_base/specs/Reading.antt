@@ -63,9 +63,7 @@ abbrev pub IsAddrReading : List ℕ → Option Addr → Type 0
 IsAddrReading text None = (addr : Addr) → ¬ (IsAddrText text addr)
 IsAddrReading text (Some addr) = IsAddrText text addr
 
--- that address, computed
--- the IPv4 address of a text
--- the IPv6 address of a text
+-- that address, computed: the text's IPv4 address, or else its IPv6 address
 unfoldable pub addr_in : List ℕ → Option Addr
 addr_in text = option_or (option_map addr_of_octets (whole_value (read_ipv4 text))) (option_map addr_of_groups (whole_value (read_ipv6 text)))
 

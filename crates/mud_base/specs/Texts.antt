@@ -25,9 +25,8 @@ mac_text mac = hex_pair (slice_index mac.0 0) ++ flat_map colon_pair (drop 1 mac
 unfoldable pub octets_v4 : ℕ → List ℕ
 octets_v4 n = to_be_bytes w32 n
 
--- Four decimal numbers with dots; or by RFC 5952, section 4, groups of lower-case hex digits with colons and the
--- longest run of zeros as `::`, and never with an IPv4 text at the end.
--- the groups of 16 bits of an IPv6 address (RFC 4291, 2.2)
+-- Four decimal numbers with dots; or by RFC 5952, section 4, the groups of 16 bits (RFC 4291, 2.2) in lower-case hex
+-- digits with colons and the longest run of zeros as `::`, and never with an IPv4 text at the end.
 unfoldable pub addr_text : Addr → List ℕ
 addr_text (V4 n) = ipv4_text (octets_v4 n)
 addr_text (V6 n) = hex_groups_text (segments_of (to_be_bytes w128 n))

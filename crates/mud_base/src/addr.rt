@@ -5,12 +5,12 @@ ghost use Rattle.mud_base.specs.Addresses as spec;
 use std::cmp::Ordering;
 
 /// A hardware (MAC) address of six octets, in the order in which a frame carries them.
-#[derive(Clone, Copy, Debug, PartialEq, Eq, PartialOrd, Ord)]
+#[derive(Clone, Copy)]
 pub struct Mac(pub [u8; 6]);
 
 /// An IP address as the number that its octets spell, most significant first. IPv4 comes before
 /// IPv6, and then the lesser number.
-#[derive(Clone, Copy, Debug, PartialEq, Eq, PartialOrd, Ord)]
+#[derive(Clone, Copy, PartialEq, Eq, PartialOrd, Ord)]
 pub enum Addr {
     /// An IPv4 address (RFC 791).
     V4(u32),
@@ -19,7 +19,7 @@ pub enum Addr {
 }
 
 /// Which IP versions an entry is for.
-#[derive(Clone, Copy, Debug, PartialEq, Eq)]
+#[derive(Clone, Copy)]
 pub enum Family {
     /// IPv4 alone.
     V4,

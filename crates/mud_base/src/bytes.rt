@@ -6,7 +6,7 @@ use std::alloc::Global;
 use std::marker::Model;
 
 /// An octet string. Contracts see it as the list of its octets.
-#[derive(Drop, Debug)]
+#[derive(Drop)]
 pub struct Bytes {
     octets: Vec<u8>,
 }

@@ -6,7 +6,7 @@ use std::alloc::Global;
 use std::marker::Model;
 
 /// A list. Contracts see it as the list of its elements.
-#[derive(Drop, Debug)]
+#[derive(Drop)]
 pub struct Listed<T> {
     items: Vec<T>,
 }

@@ -53,7 +53,7 @@ impl Moment {
 
 /// When something expires, in seconds like a [`Moment`]; [`End::NEVER`] means for ever. Contracts
 /// see it as that number.
-#[derive(Clone, Copy, Debug, PartialEq, Eq, PartialOrd, Ord)]
+#[derive(Clone, Copy, PartialEq, Eq, PartialOrd, Ord)]
 pub struct End(pub u64);
 
 impl Model for End {

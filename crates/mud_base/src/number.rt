@@ -5,7 +5,7 @@ ghost use Rattle.mud_base.specs.Numbers as spec;
 use crate::offset::octets_at;
 
 /// The order of the octets of a number.
-#[derive(Clone, Copy, Debug, PartialEq, Eq)]
+#[derive(Clone, Copy)]
 pub enum ByteOrder {
     /// The most significant octet first, as in all fields of network protocols (RFC 791,
     /// appendix B).

@@ -29,7 +29,7 @@ pub fn side_order(own: Direction, other: Direction) -> Ordering
 }
 
 /// The transport header of a packet.
-#[derive(Clone, Copy, Debug, PartialEq, Eq)]
+#[derive(Clone, Copy)]
 pub enum Transport {
     /// TCP (RFC 9293) with its ports and its octet of flags.
     Tcp {
@@ -52,7 +52,7 @@ pub enum Transport {
 }
 
 /// The fields of an IP packet that an access list can test.
-#[derive(Clone, Copy, Debug, PartialEq, Eq)]
+#[derive(Clone, Copy)]
 pub struct Fields {
     pub src: Addr,
     pub dst: Addr,

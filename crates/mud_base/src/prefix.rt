@@ -8,7 +8,7 @@ use std::marker::Model;
 /// A prefix of IPv4 or IPv6 addresses (RFC 4632, section 3.1; RFC 4291, section 2.3): the first
 /// `len` bits of `addr`, at most 32 or 128. The bits of `addr` behind them are 0. Contracts see it
 /// as the record of both.
-#[derive(Clone, Copy, Debug, PartialEq, Eq, PartialOrd, Ord)]
+#[derive(Clone, Copy)]
 pub struct Prefix {
     addr: Addr,
     len: u8,

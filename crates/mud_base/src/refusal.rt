@@ -3,7 +3,7 @@ use crate::Memory;
 use std::alloc::{AllocError, AllocFailed};
 
 /// Why something has no reading, where `F` says which check fails.
-#[derive(Drop, Debug)]
+#[derive(Drop)]
 pub enum Refusal<F> {
     /// Memory was wanted and there was none.
     Memory,

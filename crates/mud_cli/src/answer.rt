@@ -17,7 +17,7 @@ use run_words::Message;
 use std::alloc::Global;
 
 /// What a command reads as a whole before it answers.
-#[derive(Clone, Copy, Debug, PartialEq, Eq)]
+#[derive(Clone, Copy)]
 pub enum Input {
     /// One message or frame.
     Message(Message),
@@ -26,7 +26,7 @@ pub enum Input {
 }
 
 /// What a command writes, and whether its input breaks a rule of its reader.
-#[derive(Drop, Debug)]
+#[derive(Drop)]
 pub struct Answer {
     pub text: Bytes,
     pub refused: bool,

@@ -8,7 +8,7 @@ use run_captures::PacketLines;
 use std::alloc::Global;
 
 /// The lines of `frames`: that of a packet doesn't depend on the packets before it.
-#[derive(Clone, Copy, Debug)]
+#[derive(Clone, Copy)]
 pub struct FrameLines;
 
 impl PacketLines for FrameLines {

@@ -16,10 +16,8 @@ use run_captures::write_capture;
 use run_common::Status;
 use run_desk::judge_store;
 use run_drills::run_drill;
-use run_packets::snoop::snoop_store;
-use run_packets::tally::tally_store;
-use run_reports::export::export_store;
-use run_reports::report_store;
+use run_packets::{snoop_store, tally_store};
+use run_reports::{export_store, report_store};
 use run_words::{Command, command_of};
 use std::alloc::Global;
 

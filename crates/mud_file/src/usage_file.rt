@@ -4,7 +4,7 @@ use mud_base::{Bytes, Listed};
 use mud_url::MudUrl;
 
 /// What a usage file says of itself (RFC 8520, 3).
-#[derive(Drop, Debug)]
+#[derive(Drop)]
 pub struct Head {
     /// Its own URL.
     pub url: MudUrl,
@@ -21,7 +21,6 @@ pub struct Head {
 }
 
 /// A usage file (RFC 8520).
-#[derive(Debug)]
 pub struct UsageFile {
     /// Its own URL.
     pub url: MudUrl,

@@ -3,7 +3,7 @@ ghost use Rattle.std.specs.Prelude.{◌≡◌};
 
 /// Why octets are no MUD URL. An offset is that of an octet, counted from 0 in the octets that were
 /// given.
-#[derive(Clone, Copy, Debug, PartialEq, Eq)]
+#[derive(Clone, Copy, Debug)]
 pub enum UrlFault {
     /// There are no octets.
     Empty,

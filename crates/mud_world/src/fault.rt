@@ -4,11 +4,11 @@ ghost use Rattle.std.specs.Prelude.{◌≡◌};
 use mud_base::Memory;
 
 /// The door itself failed. Its count of such failures rose in that call.
-#[derive(Clone, Copy, Debug, PartialEq, Eq)]
+#[derive(Clone, Copy)]
 pub struct Failed;
 
 /// Why a call of a spool didn't succeed.
-#[derive(Clone, Copy, Debug, PartialEq, Eq)]
+#[derive(Clone, Copy)]
 pub enum SpoolFault {
     /// The spool itself failed, or has no file of that name. Its count of failures rose in that
     /// call.
@@ -28,7 +28,7 @@ impl From<Memory> for SpoolFault {
 }
 
 /// Why a call of a keeper didn't succeed.
-#[derive(Clone, Copy, Debug, PartialEq, Eq)]
+#[derive(Clone, Copy, Debug)]
 pub enum KeepFault {
     /// The keeper itself failed. Its count of failures rose in that call.
     Failed,

@@ -9,7 +9,7 @@ use std::cmp::Ordering;
 
 /// An item. Items are ordered by kind and then by the octets of the key, and no two have the same
 /// kind and key.
-#[derive(Drop, Debug)]
+#[derive(Drop)]
 pub struct Item {
     pub kind: u8,
     pub key: Bytes,
@@ -66,7 +66,7 @@ fn sort_key_order(kind: u8, key: &[u8], other_kind: u8, other_key: &[u8]) -> Ord
 }
 
 /// A change of one item.
-#[derive(Drop, Debug)]
+#[derive(Drop)]
 pub enum Put {
     /// This item, in place of the one of its kind and key if there is one.
     Set(Item),

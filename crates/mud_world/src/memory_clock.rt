@@ -5,7 +5,7 @@ use crate::clock::Clock;
 use mud_base::{Listed, Moment};
 
 /// A clock in memory. It gives its moments in order, and then the last one again and again.
-#[derive(Drop, Debug)]
+#[derive(Drop)]
 pub struct MemoryClock {
     /// The moments.
     pub moments: Listed<Moment>,

@@ -11,7 +11,7 @@ use mud_base::{Bytes, Listed, Memory};
 use std::alloc::Global;
 
 /// How often each call of a door was made. A number that has reached the last u64 stays there.
-#[derive(Clone, Copy, Debug, PartialEq, Eq)]
+#[derive(Clone, Copy)]
 pub struct DoorCalls {
     pub bind: u64,
     pub next: u64,
@@ -22,7 +22,7 @@ pub struct DoorCalls {
 /// A door in memory. A call fails exactly where its number is in the list of its method, counted
 /// from 1, and `write` also where no octet of a piece that isn't empty can be written: at no
 /// connection, or where the connection's room is used up.
-#[derive(Drop, Debug)]
+#[derive(Drop)]
 pub struct MemoryDoor {
     /// The connections, each the pieces in which its octets come.
     pub inputs: Listed<Listed<Bytes>>,

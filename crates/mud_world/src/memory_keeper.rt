@@ -14,7 +14,7 @@ use mud_base::Listed;
 use std::alloc::Global;
 
 /// How often each call of a keeper was made. A number that has reached the last u64 stays there.
-#[derive(Clone, Copy, Debug, PartialEq, Eq)]
+#[derive(Clone, Copy)]
 pub struct KeeperCalls {
     pub open: u64,
     pub apply: u64,
@@ -22,7 +22,6 @@ pub struct KeeperCalls {
 
 /// A keeper in memory. A call fails exactly where its number is in the list of its method, counted
 /// from 1.
-#[derive(Debug)]
 pub struct MemoryKeeper {
     /// The items, ordered by kind and then key, keys distinct.
     pub items: SortedRows<Item>,

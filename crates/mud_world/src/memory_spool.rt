@@ -12,7 +12,7 @@ use mud_base::{Bytes, Listed, Memory};
 use std::alloc::Global;
 
 /// How often each call of a spool was made. A number that has reached the last u64 stays there.
-#[derive(Clone, Copy, Debug, PartialEq, Eq)]
+#[derive(Clone, Copy)]
 pub struct SpoolCalls {
     pub list: u64,
     pub read: u64,
@@ -20,7 +20,7 @@ pub struct SpoolCalls {
 
 /// A spool in memory. A call fails exactly where its number is in the list of its method, counted
 /// from 1, and `read` also where there is no file of the name.
-#[derive(Drop, Debug)]
+#[derive(Drop)]
 pub struct MemorySpool {
     /// Names and contents. Of two files with one name the first counts.
     pub files: Listed<(Bytes, Bytes)>,

@@ -10,7 +10,7 @@ use mud_base::{Bytes, Memory};
 use std::alloc::Global;
 
 /// Why a connection wasn't read whole.
-#[derive(Clone, Copy, Debug, PartialEq, Eq)]
+#[derive(Clone, Copy)]
 pub enum ReadFault {
     /// The door failed. Its count of failed reads rose.
     Failed,

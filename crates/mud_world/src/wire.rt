@@ -7,7 +7,7 @@ use std::alloc::Global;
 use std::marker::Model;
 
 /// What was taken of a connection's pieces, and what was written to it.
-#[derive(Drop, Debug)]
+#[derive(Drop)]
 pub(crate) struct Wire {
     /// How many pieces were taken whole.
     piece: usize,

@@ -11,7 +11,7 @@ use std::marker::Model;
 use std::sync::ledger::Ledger;
 
 /// What is asked of an entry beside its member selectors.
-#[derive(Drop, Debug)]
+#[derive(Drop)]
 pub(crate) struct Question<'a> {
     /// The local networks of the operator.
     locals: &'a [Prefix],

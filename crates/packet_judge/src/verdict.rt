@@ -8,7 +8,7 @@ use frame_view::{Frame, Part};
 use mud_base::{Fields, Transport};
 
 /// What is decided on a frame.
-#[derive(Clone, Copy, Debug, PartialEq, Eq)]
+#[derive(Clone, Copy)]
 pub enum Verdict {
     /// Neither endpoint is a Thing.
     Unmanaged,

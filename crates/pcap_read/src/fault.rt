@@ -5,7 +5,7 @@ use mud_world::Failed;
 
 /// Why a capture is refused, or ends before its octets do. Offsets count the octets of the capture
 /// from 0.
-#[derive(Clone, Copy, Debug, PartialEq, Eq)]
+#[derive(Clone, Copy)]
 pub enum CapFault {
     /// The magic number is neither that of captures in microseconds nor that of captures in
     /// nanoseconds.

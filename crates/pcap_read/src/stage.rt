@@ -3,7 +3,7 @@ use crate::fault::CapFault;
 use mud_base::ByteOrder;
 
 /// How far a capture was read.
-#[derive(Clone, Copy, Debug)]
+#[derive(Clone, Copy)]
 pub enum Stage {
     /// The header wasn't read yet.
     Start,
@@ -14,7 +14,7 @@ pub enum Stage {
 }
 
 /// How far a capture was read, how many packets were handed out, and the offset of the next head.
-#[derive(Clone, Copy, Debug)]
+#[derive(Clone, Copy)]
 pub struct Progress {
     pub stage: Stage,
     pub count: u32,
@@ -23,7 +23,7 @@ pub struct Progress {
 
 /// Where a reader stands between two packets: the order of numbers, how many packets stand before
 /// it, and the offset of the next head.
-#[derive(Clone, Copy, Debug)]
+#[derive(Clone, Copy)]
 pub struct Cursor {
     pub order: ByteOrder,
     pub count: u32,
@@ -31,7 +31,7 @@ pub struct Cursor {
 }
 
 /// What is known of a packet beside its octets.
-#[derive(Clone, Copy, Debug)]
+#[derive(Clone, Copy)]
 pub struct Current {
     pub number: u32,
     pub at: u64,
@@ -39,7 +39,7 @@ pub struct Current {
 }
 
 /// Where a step leads, and the packet that it met.
-#[derive(Clone, Copy, Debug)]
+#[derive(Clone, Copy)]
 pub struct Next {
     pub progress: Progress,
     pub current: Option<Current>,

@@ -5,7 +5,7 @@ use mud_world::Failed;
 
 /// Why a capture is refused, or ends before its octets do. Offsets count the octets of the capture
 /// from 0, and name the beginning of a block.
-#[derive(Clone, Copy, Debug, PartialEq, Eq)]
+#[derive(Clone, Copy)]
 pub enum NgFault {
     /// The first block is no section header, or the magic number of a section header has neither
     /// order of octets.

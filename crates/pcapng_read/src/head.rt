@@ -32,7 +32,7 @@ const MAGIC: u32 = 0x1A2B_3C4D;
 pub(crate) const MOST_OCTETS: usize = 524_288;
 
 /// What a block is, by its type.
-#[derive(Clone, Copy, Debug, PartialEq, Eq)]
+#[derive(Clone, Copy)]
 pub enum Kind {
     /// The beginning of a section.
     SectionHeader,
@@ -48,7 +48,7 @@ pub enum Kind {
 
 /// What counts of a head: what the block is, the order of the octets of its numbers, and its total
 /// length.
-#[derive(Clone, Copy, Debug)]
+#[derive(Clone, Copy)]
 pub struct Head {
     pub kind: Kind,
     pub order: ByteOrder,

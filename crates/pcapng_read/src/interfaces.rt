@@ -8,7 +8,7 @@ pub(crate) const MOST_INTERFACES: usize = 64;
 
 /// What counts of an interface: its link type, and how many units of its time a second has.
 /// Contracts see it as the record of both.
-#[derive(Clone, Copy, Debug)]
+#[derive(Clone, Copy)]
 pub struct Interface {
     link: u16,
     units: u64,

@@ -41,7 +41,7 @@ impl Standing {
 
 /// What is known of a packet beside the octets of its block: its number, the octet where its block
 /// begins, its seconds, and how many octets were captured.
-#[derive(Clone, Copy, Debug)]
+#[derive(Clone, Copy)]
 pub struct Current {
     pub number: u32,
     pub at: u64,
@@ -50,7 +50,7 @@ pub struct Current {
 }
 
 /// What a reader met: the end of the capture, or a block with its packet, if it has one.
-#[derive(Clone, Copy, Debug)]
+#[derive(Clone, Copy)]
 pub enum Met {
     End,
     Block(Option<Current>),

@@ -19,7 +19,7 @@ use std::marker::Model;
 use std::sync::ledger::Ledger;
 
 /// What a list is asked for: the local networks, the moment, and the IP version.
-#[derive(Drop, Debug)]
+#[derive(Drop)]
 pub struct Wants<'a> {
     locals: &'a [Prefix],
     moment: Moment,

@@ -6,7 +6,7 @@ use pcap_read::CapFault;
 use pcapng_read::NgFault;
 
 /// Why a capture is refused, or ends before its octets do.
-#[derive(Clone, Copy, Debug, PartialEq, Eq)]
+#[derive(Clone, Copy)]
 pub enum CaptureFault {
     /// The fault of a capture in the classic format.
     Classic(CapFault),

@@ -23,7 +23,7 @@ use text_values::append_offset;
 const MOST_GATHERED: usize = 65_536;
 
 /// Where a run stands that went on.
-#[derive(Clone, Copy, Debug, PartialEq, Eq)]
+#[derive(Clone, Copy)]
 pub enum Way {
     /// At the next packet.
     Packet,

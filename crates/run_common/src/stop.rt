@@ -7,7 +7,7 @@ use mud_base::Memory;
 use mud_world::{Failed, SpoolFault};
 
 /// Why a run ends before all of it is done.
-#[derive(Clone, Copy, Debug, PartialEq, Eq)]
+#[derive(Clone, Copy)]
 pub enum Stop {
     /// The spool or the door failed. Its count of failures rose.
     Failed,

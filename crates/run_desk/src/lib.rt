@@ -2,11 +2,11 @@
 //! `judge` writes the verdict on each packet of a capture.
 #![tactic(auto)]
 
-pub mod judging;
+mod judging;
 pub mod laws;
-pub mod refusing;
-pub mod store;
+mod refusing;
+mod store;
 
-pub use judging::{JudgedLines, append_judged, judge_packet, moment_of};
+pub use judging::{append_judged, judge_packet, moment_of};
 pub use refusing::refuse_store;
 pub use store::judge_store;

@@ -32,7 +32,7 @@ pub(crate) const DNS_ADDRESS: u32 = 0xC000_0235;
 const DNS_CLASS: &[u8] = b"urn:ietf:params:mud:dns";
 
 /// A round of commands over the Things.
-#[derive(Clone, Copy, Debug, PartialEq, Eq)]
+#[derive(Clone, Copy)]
 pub enum Round {
     /// Each Thing announces its MUD URL.
     Announcements,

@@ -8,7 +8,7 @@ use packet_judge::{Verdict, forwarded};
 use text_values::append_number;
 
 /// How often rulings of each kind came. No entry is counted for a Thing that the operator holds.
-#[derive(Clone, Copy, Debug, PartialEq, Eq)]
+#[derive(Clone, Copy)]
 pub struct RulingCounts {
     /// An entry accepted.
     pub accept: u64,
@@ -25,7 +25,7 @@ pub struct RulingCounts {
 }
 
 /// How often frames were forwarded and dropped, and the rulings on them.
-#[derive(Clone, Copy, Debug, PartialEq, Eq)]
+#[derive(Clone, Copy)]
 pub struct VerdictCounts {
     pub passed: u64,
     pub dropped: u64,

@@ -6,7 +6,7 @@ ghost use Rattle.mud_desk.specs.DeskState.{session_of};
 ghost use Rattle.run_drills.specs.Counts.{verdict_counts};
 ghost use Rattle.run_drills.specs.Drill.{numbers_to, verdicts_on};
 
-use crate::VerdictCounts;
+use crate::counts::VerdictCounts;
 use crate::packets::{packet_moment, write_packet};
 use base_rows::Steps;
 use mud_base::{Bytes, Memory, Moment};

@@ -2,17 +2,15 @@
 //! judged, and the counts of the verdicts are written.
 #![tactic(auto)]
 
-pub mod commands;
-pub mod counts;
+mod commands;
+mod counts;
 mod desk;
 mod judging;
 mod network;
 mod packets;
 mod running;
 mod stop;
-pub mod store;
+mod store;
 mod usage;
 
-pub use commands::Round;
-pub use counts::{RulingCounts, VerdictCounts};
 pub use store::run_drill;

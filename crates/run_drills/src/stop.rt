@@ -6,7 +6,7 @@ use mud_base::Memory;
 use run_common::Status;
 
 /// Why a drill ends before all its commands ran, or before its lines were made.
-#[derive(Clone, Copy, Debug, PartialEq, Eq)]
+#[derive(Clone, Copy)]
 pub(crate) enum Stop {
     /// The keeper failed. Its count of failures rose.
     Keeper,

@@ -7,4 +7,4 @@ pub mod snoop;
 pub mod tally;
 
 pub use snoop::snoop_store;
-pub use tally::{TalliedLines, tally_store};
+pub use tally::tally_store;

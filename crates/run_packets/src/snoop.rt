@@ -6,6 +6,6 @@ mod learning;
 mod line;
 mod observing;
 mod packet;
-pub mod store;
+mod store;
 
 pub use store::snoop_store;

@@ -7,5 +7,4 @@ mod sources;
 mod store;
 mod writing;
 
-pub use lists::ListName;
 pub use store::export_store;

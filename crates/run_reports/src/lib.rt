@@ -3,14 +3,13 @@
 #![tactic(auto)]
 
 mod binds;
-pub mod export;
+mod export;
 mod files;
-pub mod row;
+mod row;
 mod rows;
-pub mod store;
+mod store;
 mod table;
 mod things;
 
-pub use export::{ListName, export_store};
-pub use row::ReportRow;
+pub use export::export_store;
 pub use store::report_store;

@@ -7,8 +7,8 @@ ghost use Rattle.run_common.specs.Output.{WroteFirst};
 ghost use Rattle.run_common.specs.Stops.{has_failed};
 ghost use Rattle.run_reports.specs.Tables.{due_part};
 
-use crate::ReportRow;
 use crate::files::append_due;
+use crate::row::ReportRow;
 use file_cache::is_due;
 use mud_base::{Bytes, Memory, Moment};
 use mud_world::Door;

@@ -5,11 +5,11 @@ use Rattle.mud_base.proofs.OnLiterals.{texts_on_literals}
 use Rattle.run_words.specs.declared.command.Command.TheVariants.{Hear, Check, Frames, Judge, Tally, Snoop, Import, Replay, Serve, Report, Export, Drill}
 use Rattle.run_words.specs.declared.command.Message.TheVariants.{Dhcp, Lldp}
 use Rattle.run_words.specs.declared.command.ReportKind.TheVariants.{Things, Files, Classes, Locals, Names, Due}
-use Rattle.run_words.specs.Words.{begins_with_dash, is_path, count_in, kind_in, one_word, two_words, line_in, command_in}
+use Rattle.run_words.specs.Words.{begins_with_dash, is_path, count_in, kind_in, line_in, command_in}
 
 -- what a proof unfolds to compute with lines that are written out
 unfoldable lines_on_literals : ⊤
-unfolding texts_on_literals digits_upto number_upto begins_with_dash is_path count_in kind_in one_word two_words line_in command_in
+unfolding texts_on_literals digits_upto number_upto begins_with_dash is_path count_in kind_in line_in command_in
 lines_on_literals = tt
 
 -- ---- each line

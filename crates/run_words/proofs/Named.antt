@@ -5,8 +5,8 @@ use Rattle.run_words.specs.declared.command.Command.{Command}
 use Rattle.run_words.specs.declared.command.Command.TheVariants.{Hear, Check, Frames, Judge, Tally, Snoop, Replay, Drill}
 use Rattle.run_words.specs.declared.command.Message.{Message}
 use Rattle.run_words.specs.Operands.{has_folder, has_store, second_of, third_of}
-use Rattle.run_words.specs.Words.{begins_with_dash, command_in, count_in, is_path, line_in, one_word, two_words}
-use Rattle.run_words.proofs.Parts.{message_in}
+use Rattle.run_words.specs.Words.{begins_with_dash, command_in, count_in, is_path, line_in}
+use Rattle.run_words.proofs.Parts.{message_in, one_word, two_words}
 
 -- whether a line's command works on a store, and on a folder
 abbrev stores : Option Command → Bool
@@ -33,7 +33,7 @@ one_of false true = (refl, refl)
 one_of false false = (refl, refl)
 
 one_lacks : (word : List ℕ) → (stores (one_word word) ≡ false) × (folders (one_word word) ≡ false)
-unfolding one_word
+unfolding line_in
 one_lacks word = one_of (bytes_eq word (codes "check")) (bytes_eq word (codes "frames"))
 
 of_message : (message : Option Message) → folders (option_map Hear message) ≡ false
@@ -59,7 +59,7 @@ two_of false false false false false true message packets named = of_count packe
 two_of false false false false false false message packets named = refl
 
 two_lacks : (first second : List ℕ) → folders (two_words first second) ≡ false
-unfolding two_words
+unfolding line_in
 two_lacks first second =
     two_of (bytes_eq first (codes "hear")) (bytes_eq first (codes "judge")) (bytes_eq first (codes "snoop")) (bytes_eq first (codes "tally")) (bytes_eq first (codes "replay")) (bytes_eq first (codes "drill"))
     (message_in second) (count_in 100000 second) (is_path second)

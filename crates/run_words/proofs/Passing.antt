@@ -16,9 +16,9 @@ use Rattle.clap.specs.declared.error.Error.{Error}
 use Rattle.clap.specs.declared.error.kind.ErrorKind.TheVariants.{OutOfMemory}
 use Rattle.clap.proofs.OnLiterals.{clap_on_literals}
 use Rattle.run_words.specs.declared.command.Command.{Command}
-use Rattle.run_words.specs.Words.{begins_with_dash, one_word, two_words, line_in}
-use Rattle.run_words.specs.Parser.{IsRefused, line_of_two, line_of_three, line_of_four, program}
-use Rattle.run_words.proofs.Parts.{four_words, three_words}
+use Rattle.run_words.specs.Words.{begins_with_dash, line_in}
+use Rattle.run_words.specs.Parser.{IsRefused, line_of, program}
+use Rattle.run_words.proofs.Parts.{one_word, two_words, three_words, four_words}
 
 -- `clap` has no fault to name
 pub record Passes (words : List (List ℕ)) : Type 0 where
@@ -110,7 +110,7 @@ abbrev leaf_of : App → Shape
 leaf_of line = built_leaf (inherited (with_leaf_noted (marked_built program.top)) line.top)
 
 abbrev hear_leaf : Shape
-hear_leaf = leaf_of (line_of_two (codes "hear") (codes "MESSAGE"))
+hear_leaf = leaf_of (line_of (codes "hear", codes "MESSAGE" ∷ []))
 
 hear_enters : (u : List ℕ) → Enters (codes "hear" ∷ u ∷ []) hear_leaf (u ∷ [])
 unfolding clap_on_literals
@@ -133,7 +133,7 @@ unfolding clap_on_literals
 frames = record { clear = refl }
 
 abbrev judge_leaf : Shape
-judge_leaf = leaf_of (line_of_two (codes "judge") (codes "STORE"))
+judge_leaf = leaf_of (line_of (codes "judge", codes "STORE" ∷ []))
 
 judge_enters : (u : List ℕ) → Enters (codes "judge" ∷ u ∷ []) judge_leaf (u ∷ [])
 unfolding clap_on_literals
@@ -148,7 +148,7 @@ judge : (u : List ℕ) → IsPlain u → Passes (codes "judge" ∷ u ∷ [])
 judge u p = passes_by _ judge_leaf (u ∷ []) (judge_enters u) (judge_clear u p)
 
 abbrev snoop_leaf : Shape
-snoop_leaf = leaf_of (line_of_two (codes "snoop") (codes "STORE"))
+snoop_leaf = leaf_of (line_of (codes "snoop", codes "STORE" ∷ []))
 
 snoop_enters : (u : List ℕ) → Enters (codes "snoop" ∷ u ∷ []) snoop_leaf (u ∷ [])
 unfolding clap_on_literals
@@ -163,7 +163,7 @@ snoop : (u : List ℕ) → IsPlain u → Passes (codes "snoop" ∷ u ∷ [])
 snoop u p = passes_by _ snoop_leaf (u ∷ []) (snoop_enters u) (snoop_clear u p)
 
 abbrev tally_leaf : Shape
-tally_leaf = leaf_of (line_of_two (codes "tally") (codes "STORE"))
+tally_leaf = leaf_of (line_of (codes "tally", codes "STORE" ∷ []))
 
 tally_enters : (u : List ℕ) → Enters (codes "tally" ∷ u ∷ []) tally_leaf (u ∷ [])
 unfolding clap_on_literals
@@ -178,7 +178,7 @@ tally : (u : List ℕ) → IsPlain u → Passes (codes "tally" ∷ u ∷ [])
 tally u p = passes_by _ tally_leaf (u ∷ []) (tally_enters u) (tally_clear u p)
 
 abbrev import_folder_leaf : Shape
-import_folder_leaf = leaf_of (line_of_three (codes "import") (codes "STORE") (codes "FOLDER"))
+import_folder_leaf = leaf_of (line_of (codes "import", codes "STORE" ∷ codes "FOLDER" ∷ []))
 
 import_folder_enters : (u v : List ℕ) → Enters (codes "import" ∷ u ∷ v ∷ []) import_folder_leaf (u ∷ v ∷ [])
 unfolding clap_on_literals
@@ -193,7 +193,7 @@ import_folder : (u v : List ℕ) → IsPlain u → IsPlain v → Passes (codes "
 import_folder u v p q = passes_by _ import_folder_leaf (u ∷ v ∷ []) (import_folder_enters u v) (import_folder_clear u v p q)
 
 abbrev report_leaf : Shape
-report_leaf = leaf_of (line_of_three (codes "report") (codes "STORE") (codes "KIND"))
+report_leaf = leaf_of (line_of (codes "report", codes "STORE" ∷ codes "KIND" ∷ []))
 
 report_enters : (u v : List ℕ) → Enters (codes "report" ∷ u ∷ v ∷ []) report_leaf (u ∷ v ∷ [])
 unfolding clap_on_literals
@@ -208,7 +208,7 @@ report : (u v : List ℕ) → IsPlain u → IsPlain v → Passes (codes "report"
 report u v p q = passes_by _ report_leaf (u ∷ v ∷ []) (report_enters u v) (report_clear u v p q)
 
 abbrev export_leaf : Shape
-export_leaf = leaf_of (line_of_three (codes "export") (codes "STORE") (codes "MAC"))
+export_leaf = leaf_of (line_of (codes "export", codes "STORE" ∷ codes "MAC" ∷ []))
 
 export_enters : (u v : List ℕ) → Enters (codes "export" ∷ u ∷ v ∷ []) export_leaf (u ∷ v ∷ [])
 unfolding clap_on_literals
@@ -223,7 +223,7 @@ export : (u v : List ℕ) → IsPlain u → IsPlain v → Passes (codes "export"
 export u v p q = passes_by _ export_leaf (u ∷ v ∷ []) (export_enters u v) (export_clear u v p q)
 
 abbrev replay_leaf : Shape
-replay_leaf = leaf_of (line_of_two (codes "replay") (codes "STORE"))
+replay_leaf = leaf_of (line_of (codes "replay", codes "STORE" ∷ []))
 
 replay_enters : (u : List ℕ) → Enters (codes "replay" ∷ u ∷ []) replay_leaf (u ∷ [])
 unfolding clap_on_literals
@@ -238,7 +238,7 @@ replay : (u : List ℕ) → IsPlain u → Passes (codes "replay" ∷ u ∷ [])
 replay u p = passes_by _ replay_leaf (u ∷ []) (replay_enters u) (replay_clear u p)
 
 abbrev serve_leaf : Shape
-serve_leaf = leaf_of (line_of_four (codes "serve") (codes "STORE") (codes "PORT") (codes "COUNT"))
+serve_leaf = leaf_of (line_of (codes "serve", codes "STORE" ∷ codes "PORT" ∷ codes "COUNT" ∷ []))
 
 serve_enters : (u v w : List ℕ) → Enters (codes "serve" ∷ u ∷ v ∷ w ∷ []) serve_leaf (u ∷ v ∷ w ∷ [])
 unfolding clap_on_literals
@@ -253,7 +253,7 @@ serve : (u v w : List ℕ) → IsPlain u → IsPlain v → IsPlain w → Passes 
 serve u v w p q r = passes_by _ serve_leaf (u ∷ v ∷ w ∷ []) (serve_enters u v w) (serve_clear u v w p q r)
 
 abbrev drill_leaf : Shape
-drill_leaf = leaf_of (line_of_two (codes "drill") (codes "N"))
+drill_leaf = leaf_of (line_of (codes "drill", codes "N" ∷ []))
 
 drill_enters : (u : List ℕ) → Enters (codes "drill" ∷ u ∷ []) drill_leaf (u ∷ [])
 unfolding clap_on_literals
@@ -281,7 +281,7 @@ at_word : (word name : List ℕ) (rest : List (List ℕ)) → bytes_eq word name
 at_word word name rest same passes = subst (λ w. Passes (w ∷ rest)) (sym ((bytes_eq-Decides word name).0 same)) passes
 
 one_passes : (first : List ℕ) (command : Command) → one_word first ≡ Some command → Passes (first ∷ [])
-unfolding one_word
+unfolding line_in
 one_passes first command given =
     elim (chosen (bytes_eq first (codes "check")) _ _ command given) [
       | inl h ↦ at_word first (codes "check") [] h.0 check
@@ -292,7 +292,7 @@ one_passes first command given =
     ]
 
 two_pass : (first second : List ℕ) (command : Command) → IsPlain second → two_words first second ≡ Some command → Passes (first ∷ second ∷ [])
-unfolding two_words
+unfolding line_in
 two_pass first second command p given =
     elim (chosen (bytes_eq first (codes "hear")) _ _ command given) [
       | inl h ↦ at_word first (codes "hear") _ h.0 (hear second p)

@@ -1,31 +1,42 @@
 -- The lines as `clap` is told of them: a subcommand for the first word of each, and a positional argument for each word behind it.
-use Rattle.std.specs.Prelude.{◌≡◌, ◌≢◌, true, false, ℕ, List, [], codes}
+use Rattle.std.specs.Prelude.{◌≡◌, ◌≢◌, true, false, ℕ, List, [], ◌∷◌, codes, fold, map}
 use Rattle.clap.specs.Words.{App, Rule, app_of, fault_of, new_app, new_rule, with_rule, with_subcommand}
 use Rattle.clap.specs.declared.builder.command.Command.{Command}
 use Rattle.clap.specs.declared.builder.command.Command.TheViews.{out-Command}
+use Rattle.run_words.specs.declared.parser.Line.{Line}
 
-abbrev pub word_rule : List ℕ → Rule
-word_rule name = record (new_rule name) { required = true }
+-- the name of a line's command, and the names of the words behind it
+abbrev pub Words : Type 0
+Words = List ℕ × List (List ℕ)
 
-abbrev pub with_word : App → List ℕ → App
-with_word line name = with_rule line (word_rule name)
+abbrev pub shown : Line → Words
+shown line = (line.name.now, map (λ operand. operand.now) line.operands.now)
 
-abbrev pub line_of_two : List ℕ → List ℕ → App
-line_of_two first second = with_word (new_app first) second
+-- the lines of the usage text
+abbrev pub lines : List Words
+lines =
+    (codes "hear", codes "MESSAGE" ∷ []) ∷ (codes "check", []) ∷ (codes "frames", []) ∷ (codes "judge", codes "STORE" ∷ [])
+    ∷ (codes "snoop", codes "STORE" ∷ []) ∷ (codes "tally", codes "STORE" ∷ []) ∷ (codes "import", codes "STORE" ∷ codes "FOLDER" ∷ [])
+    ∷ (codes "report", codes "STORE" ∷ codes "KIND" ∷ []) ∷ (codes "export", codes "STORE" ∷ codes "MAC" ∷ []) ∷ (codes "replay", codes "STORE" ∷ [])
+    ∷ (codes "serve", codes "STORE" ∷ codes "PORT" ∷ codes "COUNT" ∷ []) ∷ (codes "drill", codes "N" ∷ []) ∷ []
 
-abbrev pub line_of_three : List ℕ → List ℕ → List ℕ → App
-line_of_three first second third = with_word (line_of_two first second) third
+-- a line wants each of its words
+abbrev pub operand_rule : List ℕ → Rule
+operand_rule name = record (new_rule name) { required = true }
 
-abbrev pub line_of_four : List ℕ → List ℕ → List ℕ → List ℕ → App
-line_of_four first second third fourth = with_word (line_of_three first second third) fourth
+abbrev pub with_operand : App → List ℕ → App
+with_operand line name = with_rule line (operand_rule name)
+
+abbrev pub line_of : Words → App
+line_of words = fold with_operand (new_app words.0) words.1
+
+abbrev pub with_line : App → Words → App
+with_line program words = with_subcommand program (line_of words).top
 
 -- the command is this line
 pub record IsLine (line : App) (command : Command) : Type 0 where
   pub app : app_of command ≡ line
   pub local : (out-Command command).has_globals ≡ false
-
-abbrev pub with_line : App → App → App
-with_line program line = with_subcommand program line.top
 
 -- a program without lines: it has neither `--help` nor `help`
 abbrev pub bare_program : App
@@ -38,19 +49,8 @@ bare_program = record (new_app (codes "mud")) {
   };
 }
 
-abbrev pub with_input_lines : App → App
-with_input_lines program = with_line (with_line (with_line program (line_of_two (codes "hear") (codes "MESSAGE"))) (new_app (codes "check"))) (new_app (codes "frames"))
-
-abbrev pub with_store_lines : App → App
-with_store_lines program =
-    with_line (with_line (with_line (with_line (with_line (with_line program (line_of_two (codes "judge") (codes "STORE"))) (line_of_two (codes "snoop") (codes "STORE"))) (line_of_two (codes "tally") (codes "STORE"))) (line_of_three (codes "import") (codes "STORE") (codes "FOLDER"))) (line_of_three (codes "report") (codes "STORE") (codes "KIND")))
-    (line_of_three (codes "export") (codes "STORE") (codes "MAC"))
-
-abbrev pub with_session_lines : App → App
-with_session_lines program = with_line (with_line (with_line program (line_of_two (codes "replay") (codes "STORE"))) (line_of_four (codes "serve") (codes "STORE") (codes "PORT") (codes "COUNT"))) (line_of_two (codes "drill") (codes "N"))
-
 abbrev pub program : App
-program = with_session_lines (with_store_lines (with_input_lines bare_program))
+program = fold with_line bare_program lines
 
 -- `clap` refuses the words
 pub record IsRefused (words : List (List ℕ)) : Type 0 where

@@ -8,7 +8,6 @@ use Rattle.mud_base.specs.Decimal.{number_upto}
 use Rattle.mud_base.specs.Reading.{mac_in}
 use Rattle.run_words.specs.declared.command.Command.{Command}
 use Rattle.run_words.specs.declared.command.Command.TheVariants.{Hear, Check, Frames, Judge, Tally, Snoop, Import, Replay, Serve, Report, Export, Drill}
-use Rattle.run_words.specs.declared.command.Message.{Message}
 use Rattle.run_words.specs.declared.command.Message.TheVariants.{Dhcp, Lldp}
 use Rattle.run_words.specs.declared.command.ReportKind.{ReportKind}
 use Rattle.run_words.specs.declared.command.ReportKind.TheVariants.{Things, Files, Classes, Locals, Names, Due}
@@ -42,33 +41,22 @@ kind_in = meaning_in ((codes "things", Things) ∷ (codes "files", Files) ∷ (c
 
 -- ---- the lines, by their number of words
 
--- `check` and `frames`
-unfoldable pub one_word : List ℕ → Option Command
-one_word = meaning_in ((codes "check", Check) ∷ (codes "frames", Frames) ∷ [])
-
 abbrev pub over_path : Command → List ℕ → Option Command
 over_path command path = if is_path path then Some command else None
 
--- `hear dhcp` and `hear lldp`, `judge STORE`, `snoop STORE`, `tally STORE`, `replay STORE`, and `drill N`, where N is 1 to 100,000
-unfoldable pub two_words : List ℕ → List ℕ → Option Command
-two_words first second =
-    if bytes_eq first (codes "hear") then option_map Hear (message_in second)
+-- `check` and `frames`; `hear dhcp` and `hear lldp`, `judge STORE`, `snoop STORE`, `tally STORE`, `replay STORE`, and `drill N`, where N is 1
+-- to 100,000; `import STORE FOLDER`, `report STORE KIND`, and `export STORE MAC`; and `serve STORE PORT COUNT`, where PORT is 1 to 65,535 and
+-- COUNT 1 to 1,000,000
+unfoldable pub line_in : List (List ℕ) → Option Command
+line_in (only ∷ []) = meaning_in ((codes "check", Check) ∷ (codes "frames", Frames) ∷ []) only
+line_in (first ∷ second ∷ []) =
+    if bytes_eq first (codes "hear") then option_map Hear (meaning_in ((codes "dhcp", Dhcp) ∷ (codes "lldp", Lldp) ∷ []) second)
     else (if bytes_eq first (codes "judge") then over_path Judge second
     else (if bytes_eq first (codes "snoop") then over_path Snoop second
     else (if bytes_eq first (codes "tally") then over_path Tally second
     else (if bytes_eq first (codes "replay") then over_path Replay second
     else (if bytes_eq first (codes "drill") then option_map Drill (count_in 100000 second)
     else None)))))
-  where
-    -- what `hear` reads
-    message_in : List ℕ → Option Message
-    message_in = meaning_in ((codes "dhcp", Dhcp) ∷ (codes "lldp", Lldp) ∷ [])
-
--- `serve STORE PORT COUNT`, where PORT is 1 to 65,535 and COUNT 1 to 1,000,000
--- `import STORE FOLDER`, `report STORE KIND`, and `export STORE MAC`
-unfoldable pub line_in : List (List ℕ) → Option Command
-line_in (only ∷ []) = one_word only
-line_in (first ∷ second ∷ []) = two_words first second
 line_in (first ∷ second ∷ third ∷ []) =
     if bytes_eq first (codes "import") && is_path second then over_path Import third
     else (if bytes_eq first (codes "report") && is_path second then option_map Report (kind_in third)

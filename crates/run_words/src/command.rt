@@ -2,7 +2,7 @@
 use mud_base::Mac;
 
 /// What `hear` reads.
-#[derive(Clone, Copy, Debug, PartialEq, Eq)]
+#[derive(Clone, Copy)]
 pub enum Message {
     /// One DHCPv4 message.
     Dhcp,
@@ -11,7 +11,7 @@ pub enum Message {
 }
 
 /// What `report` prints of a store.
-#[derive(Clone, Copy, Debug, PartialEq, Eq)]
+#[derive(Clone, Copy)]
 pub enum ReportKind {
     /// The Things, each with its leases.
     Things,
@@ -28,7 +28,7 @@ pub enum ReportKind {
 }
 
 /// A command line that the program takes.
-#[derive(Clone, Copy, Debug, PartialEq, Eq)]
+#[derive(Clone, Copy)]
 pub enum Command {
     /// `hear dhcp` or `hear lldp`: reads one message and writes what it says.
     Hear(Message),

@@ -56,13 +56,11 @@ fn count_in(most: u64, word: &str) -> Option<u64>
 fn message_in(word: &str) -> Option<Message>
     ensures { result ≡ spec.meaning_in ((codes "dhcp", Dhcp) ∷ (codes "lldp", Lldp) ∷ []) word.now }
 {
-    if word == "dhcp" {
-        return Some(Message::Dhcp);
+    match word {
+        "dhcp" => Some(Message::Dhcp),
+        "lldp" => Some(Message::Lldp),
+        _ => None,
     }
-    if word == "lldp" {
-        return Some(Message::Lldp);
-    }
-    None
 }
 
 /// What `report` prints, by its word.
@@ -70,25 +68,15 @@ fn message_in(word: &str) -> Option<Message>
 fn kind_in(word: &str) -> Option<ReportKind>
     ensures { result ≡ spec.kind_in word.now }
 {
-    if word == "things" {
-        return Some(ReportKind::Things);
+    match word {
+        "things" => Some(ReportKind::Things),
+        "files" => Some(ReportKind::Files),
+        "classes" => Some(ReportKind::Classes),
+        "locals" => Some(ReportKind::Locals),
+        "names" => Some(ReportKind::Names),
+        "due" => Some(ReportKind::Due),
+        _ => None,
     }
-    if word == "files" {
-        return Some(ReportKind::Files);
-    }
-    if word == "classes" {
-        return Some(ReportKind::Classes);
-    }
-    if word == "locals" {
-        return Some(ReportKind::Locals);
-    }
-    if word == "names" {
-        return Some(ReportKind::Names);
-    }
-    if word == "due" {
-        return Some(ReportKind::Due);
-    }
-    None
 }
 
 /// A command over a store or a folder.
@@ -99,17 +87,15 @@ fn over_path(command: Command, path: &str) -> Option<Command>
 }
 
 /// The command of a line of one word.
-#[tactic(auto, unfolding(crate::specs::Words::one_word))]
+#[tactic(auto, unfolding(crate::specs::Words::line_in))]
 fn one_word(word: &str) -> Option<Command>
-    ensures { result ≡ spec.one_word word.now }
+    ensures { result ≡ spec.line_in (word.now ∷ []) }
 {
-    if word == "check" {
-        return Some(Command::Check);
+    match word {
+        "check" => Some(Command::Check),
+        "frames" => Some(Command::Frames),
+        _ => None,
     }
-    if word == "frames" {
-        return Some(Command::Frames);
-    }
-    None
 }
 
 /// `drill N`, by its number.
@@ -121,29 +107,19 @@ fn drill(packets: &str) -> Option<Command>
 }
 
 /// The command of a line of two words.
-#[tactic(auto, unfolding(crate::specs::Words::two_words))]
+#[tactic(auto, unfolding(crate::specs::Words::line_in))]
 fn two_words(first: &str, second: &str) -> Option<Command>
-    ensures { result ≡ spec.two_words first.now second.now }
+    ensures { result ≡ spec.line_in (first.now ∷ second.now ∷ []) }
 {
-    if first == "hear" {
-        return Some(Command::Hear(message_in(second)?));
+    match first {
+        "hear" => Some(Command::Hear(message_in(second)?)),
+        "judge" => over_path(Command::Judge, second),
+        "snoop" => over_path(Command::Snoop, second),
+        "tally" => over_path(Command::Tally, second),
+        "replay" => over_path(Command::Replay, second),
+        "drill" => drill(second),
+        _ => None,
     }
-    if first == "judge" {
-        return over_path(Command::Judge, second);
-    }
-    if first == "snoop" {
-        return over_path(Command::Snoop, second);
-    }
-    if first == "tally" {
-        return over_path(Command::Tally, second);
-    }
-    if first == "replay" {
-        return over_path(Command::Replay, second);
-    }
-    if first == "drill" {
-        return drill(second);
-    }
-    None
 }
 
 /// The command of a line of three words.
@@ -151,16 +127,12 @@ fn two_words(first: &str, second: &str) -> Option<Command>
 fn three_words(first: &str, second: &str, third: &str) -> Option<Command>
     ensures { result ≡ spec.line_in (first.now ∷ second.now ∷ third.now ∷ []) }
 {
-    if first == "import" && is_path(second) {
-        return over_path(Command::Import, third);
+    match first {
+        "import" if is_path(second) => over_path(Command::Import, third),
+        "report" if is_path(second) => Some(Command::Report(kind_in(third)?)),
+        "export" if is_path(second) => Some(Command::Export(mac_of(third.as_bytes())?)),
+        _ => None,
     }
-    if first == "report" && is_path(second) {
-        return Some(Command::Report(kind_in(third)?));
-    }
-    if first == "export" && is_path(second) {
-        return Some(Command::Export(mac_of(third.as_bytes())?));
-    }
-    None
 }
 
 /// The command of a line of four words.

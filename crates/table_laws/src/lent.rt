@@ -10,7 +10,7 @@ use mud_url::MudUrl;
 use std::alloc::Global;
 
 /// What an address is bound to, lent.
-#[derive(Clone, Copy, Debug)]
+#[derive(Clone, Copy)]
 pub enum LentKey<'a> {
     /// The host of the MUD URL of the Thing that has the address.
     Host(&'a [u8]),
@@ -25,7 +25,7 @@ pub enum LentKey<'a> {
 }
 
 /// An address and what it is bound to until its expiry, lent.
-#[derive(Clone, Copy, Debug)]
+#[derive(Clone, Copy)]
 pub struct LentBinding<'a> {
     /// What the address is bound to.
     pub key: LentKey<'a>,

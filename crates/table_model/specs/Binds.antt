@@ -119,7 +119,7 @@ unfoldable pub is_class : Class → Bool
 is_class (class.Uri uri) = is_class_uri uri
 is_class (class.Mine url) = is_canonical url
 
--- in their order, each address once
+-- its addresses in their order, each once, 1 to 64 of them
 unfoldable pub is_sound_class : ClassRow → Bool
 is_sound_class row =
     is_class row.class && (sort_keys_ascend addr_sort_key row.addrs) && nat_lt 0 (length row.addrs) && nat_le (length row.addrs) most_class_addresses

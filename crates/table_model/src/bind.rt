@@ -7,7 +7,7 @@ use mud_url::MudUrl;
 use std::cmp::Ordering;
 
 /// A class of addresses that the operator fills.
-#[derive(Drop, Debug)]
+#[derive(Drop)]
 pub enum Class {
     /// The class of this URI, of 1 to 255 octets from 21 to 7E hex (RFC 8520, 4.6, `controller`).
     Uri(Bytes),
@@ -17,7 +17,7 @@ pub enum Class {
 
 /// A class and its addresses, at least one. Classes by URI stand before those by MUD URL, and both
 /// in the order of their texts.
-#[derive(Drop, Debug)]
+#[derive(Drop)]
 pub struct ClassRow {
     pub class: Class,
     /// In their order, each once.
@@ -26,7 +26,7 @@ pub struct ClassRow {
 
 /// A DNS name and the addresses at which it was observed, at least one (RFC 8520, 8). Names are
 /// ordered by their octets.
-#[derive(Drop, Debug)]
+#[derive(Drop)]
 pub struct NameRow {
     /// A host name in lower case.
     pub name: Bytes,
@@ -97,7 +97,7 @@ impl Sortable for NameRow {
 }
 
 /// A name, as the key of its row.
-#[derive(Clone, Copy, Debug)]
+#[derive(Clone, Copy)]
 pub struct NameKey<'a>(pub &'a [u8]);
 
 impl KeyOf<NameRow> for NameKey<'_> {

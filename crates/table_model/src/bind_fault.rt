@@ -4,7 +4,7 @@ ghost use Rattle.std.specs.Prelude.{◌≡◌};
 use mud_base::Memory;
 
 /// Why a command on classes, local networks or names is refused. A refusal changes nothing.
-#[derive(Clone, Copy, Debug, PartialEq, Eq)]
+#[derive(Clone, Copy)]
 pub enum BindFault {
     /// Memory was wanted and there was none.
     Memory,

@@ -8,7 +8,7 @@ use mud_base::{Addr, Direction, Fields, Moment, Transport, same_addr};
 pub type Endpoint = (Addr, u16);
 
 /// A TCP packet that had a ruling and was forwarded.
-#[derive(Clone, Copy, Debug)]
+#[derive(Clone, Copy)]
 pub struct Segment {
     /// The endpoint that sent it.
     pub source: Endpoint,

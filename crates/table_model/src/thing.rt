@@ -23,7 +23,7 @@ fn mac_order(own: &Mac, other: &Mac) -> Ordering
 }
 
 /// A Thing (RFC 8520, 1.3): a device that announced a MUD URL. It is known by its hardware address.
-#[derive(Drop, Debug)]
+#[derive(Drop)]
 pub struct Thing {
     /// Its hardware address, by which Things are ordered.
     pub mac: Mac,

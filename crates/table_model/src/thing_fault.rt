@@ -4,7 +4,7 @@ ghost use Rattle.std.specs.Prelude.{◌≡◌};
 use mud_base::Memory;
 
 /// Why a command on Things is refused. A refusal changes nothing.
-#[derive(Clone, Copy, Debug, PartialEq, Eq)]
+#[derive(Clone, Copy)]
 pub enum ThingFault {
     /// Memory was wanted and there was none.
     Memory,

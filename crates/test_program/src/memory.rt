@@ -9,7 +9,7 @@ use std::process::Abort;
 const MOST_WRITTEN: usize = 4096;
 
 /// The calls that may fail.
-#[derive(Clone, Copy, Debug, PartialEq, Eq)]
+#[derive(Clone, Copy)]
 pub enum Call {
     Open,
     Apply,

@@ -32,8 +32,8 @@ fn goes_on(capture: &mut Capture<MemoryDoor>) -> bool {
     };
     let is_ready = capture.is_ready();
     let is_second = matches!(capture.next(), Ok(Some(packet)) if packet.number == 2);
-    let is_written = capture.write(b"done") == Ok(4);
-    let has_failed = capture.advance() == Err(CapFault::ReadFault);
+    let is_written = matches!(capture.write(b"done"), Ok(4));
+    let has_failed = matches!(capture.advance(), Err(CapFault::ReadFault));
     is_first && is_ready && is_second && is_written && has_failed
 }
 

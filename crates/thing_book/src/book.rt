@@ -28,7 +28,6 @@ use table_model::{Thing, ThingFault};
 /// The Things that the manager keeps, at most 512, in the order of their hardware addresses, each
 /// with at most four leases; an address is in the leases of one Thing. Contracts see the book as the
 /// list and its room.
-#[derive(Debug)]
 pub struct ThingBook {
     alloc: Global,
     things: SortedRows<Thing>,

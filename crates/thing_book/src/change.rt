@@ -18,7 +18,6 @@ use table_model::Thing;
 
 /// A planned change of the Things: what its command answers, and what it will do. Contracts see it
 /// as the record of these.
-#[derive(Debug)]
 pub struct ThingChange {
     word: Word,
     until: Option<End>,

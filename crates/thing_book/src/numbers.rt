@@ -24,7 +24,7 @@ const SHARED: u16 = 65535;
 /// Each has a spot, by what is left when it is divided by their number, and there stands its index.
 /// So a hardware address is mostly looked for in one spot; where several numbers have it, they are
 /// searched. Whoever chooses addresses that have one spot in common gains no more than that.
-#[derive(Drop, Debug)]
+#[derive(Drop)]
 pub(crate) struct ThingNumbers {
     room: [u64; MOST_THINGS],
     spots: [u16; SPOT_COUNT],

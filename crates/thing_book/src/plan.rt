@@ -13,7 +13,7 @@ use std::alloc::Global;
 use table_model::{Thing, ThingFault};
 
 /// What a command answers, the expiry that it keeps for a lease, and the rows that it changes.
-#[derive(Drop, Debug)]
+#[derive(Drop)]
 pub struct Plan {
     pub word: Word,
     pub until: Option<End>,

@@ -28,7 +28,6 @@ begins_with_space [] = false
 begins_with_space (c ∷ more) = c == 32
 
 -- words that are flags, each at most once, parted by one or more spaces, with no space at either end
--- every word is a flag
 unfoldable pub is_flag_text : List ℕ → Bool
 is_flag_text text = not (begins_with_space text) && not (ends_with_space text) && (list_all is_piece (pieces text)) && not (has_repeat text)
   where

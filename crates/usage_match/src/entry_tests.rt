@@ -5,7 +5,7 @@ use mud_url::MudUrl;
 
 /// The type of an access list: the IP version that its entries are for (RFC 8519, 4.1). Lists of
 /// other types are refused.
-#[derive(Clone, Copy, Debug, PartialEq, Eq)]
+#[derive(Clone, Copy)]
 pub enum ListType {
     /// `ipv4-acl-type`.
     Ipv4,
@@ -14,7 +14,7 @@ pub enum ListType {
 }
 
 /// How a port is compared with the one that is named (RFC 8519, 4.2, `operator`).
-#[derive(Clone, Copy, Debug, PartialEq, Eq)]
+#[derive(Clone, Copy)]
 pub enum Operator {
     /// `eq`: it is that port.
     Eq,
@@ -27,7 +27,7 @@ pub enum Operator {
 }
 
 /// What the container `ietf-mud:mud` asks of the peer (RFC 8520, 4.1 to 4.7).
-#[derive(Drop, Debug)]
+#[derive(Drop)]
 pub struct MudTests {
     /// The host of the peer's MUD URL, in lower case.
     pub manufacturer: Option<Bytes>,
@@ -45,7 +45,7 @@ pub struct MudTests {
 
 /// What the container `ipv4` or `ipv6` asks (RFC 8519, 4.2; RFC 8520, 8), each at its side of the
 /// packet.
-#[derive(Drop, Debug)]
+#[derive(Drop)]
 pub struct IpTests {
     /// The codepoint of differentiated services, from 0 to 63.
     pub dscp: Option<u8>,
@@ -68,7 +68,7 @@ pub struct IpTests {
 }
 
 /// What an entry tests.
-#[derive(Drop, Debug)]
+#[derive(Drop)]
 pub struct Tests {
     /// What it asks of the peer's address.
     pub selectors: Listed<Selector>,

@@ -220,13 +220,11 @@ pub(crate) fn network_where_there(
 fn direction_in(text: &str) -> Option<Direction>
     ensures { result ≡ spec.direction_in text.now }
 {
-    if text == "to-device" {
-        return Some(Direction::To);
+    match text {
+        "to-device" => Some(Direction::To),
+        "from-device" => Some(Direction::From),
+        _ => None,
     }
-    if text == "from-device" {
-        return Some(Direction::From);
-    }
-    None
 }
 
 /// A direction, where it is there.
@@ -245,19 +243,13 @@ pub(crate) fn direction_where_there(spot: Spot<'_>) -> Result<Option<Direction>,
 fn operator_in(text: &str) -> Option<Operator>
     ensures { result ≡ spec.operator_in text.now }
 {
-    if text == "eq" {
-        return Some(Operator::Eq);
+    match text {
+        "eq" => Some(Operator::Eq),
+        "neq" => Some(Operator::Neq),
+        "lte" => Some(Operator::Lte),
+        "gte" => Some(Operator::Gte),
+        _ => None,
     }
-    if text == "neq" {
-        return Some(Operator::Neq);
-    }
-    if text == "lte" {
-        return Some(Operator::Lte);
-    }
-    if text == "gte" {
-        return Some(Operator::Gte);
-    }
-    None
 }
 
 /// An operator, where it is there.

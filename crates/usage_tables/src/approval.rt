@@ -3,7 +3,7 @@ ghost use Rattle.std.specs.Prelude.{◌≡◌};
 ghost use Rattle.usage_tables.specs.Words.{approval_word};
 
 /// How a file was approved.
-#[derive(Clone, Copy, Debug, PartialEq, Eq)]
+#[derive(Clone, Copy)]
 pub enum Approval {
     /// The operator verified its signature (RFC 8520, 13).
     Verified,
@@ -25,7 +25,7 @@ impl Approval {
 }
 
 /// What the operator says of a candidate.
-#[derive(Clone, Copy, Debug, PartialEq, Eq)]
+#[derive(Clone, Copy)]
 pub enum OperatorVerdict {
     /// Its signature was verified.
     Verified,

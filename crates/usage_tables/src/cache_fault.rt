@@ -5,7 +5,7 @@ use mud_base::Memory;
 use mud_file::Broken;
 
 /// Why a command on files is refused. A refusal changes nothing.
-#[derive(Drop, Debug)]
+#[derive(Drop)]
 pub enum CacheFault {
     /// Memory was wanted and there was none.
     Memory,

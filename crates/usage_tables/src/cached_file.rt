@@ -7,7 +7,7 @@ use mud_url::MudUrl;
 use std::cmp::Ordering;
 
 /// The files of one URL: at least one of the two.
-#[derive(Drop, Debug)]
+#[derive(Drop)]
 pub struct CachedFile {
     /// The URL, by whose text files are ordered.
     pub url: MudUrl,

@@ -6,7 +6,7 @@ use crate::held::Held;
 use mud_base::Moment;
 
 /// What a command changes of the files of one URL. No edit copies a file that is held.
-#[derive(Drop, Debug)]
+#[derive(Drop)]
 pub enum FileEdit {
     /// Nothing.
     Unchanged,
@@ -25,7 +25,7 @@ pub enum FileEdit {
 }
 
 /// What becomes of the policy of a URL.
-#[derive(Clone, Copy, Debug, PartialEq, Eq)]
+#[derive(Clone, Copy)]
 pub enum PolicyChange {
     /// It stays what it is.
     Stays,

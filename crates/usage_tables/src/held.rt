@@ -10,7 +10,6 @@ use std::marker::Model;
 
 /// A usage file as it is held. It was read and digested when it came, and is never again. Contracts
 /// see it as its octets and the moment at which they were fetched.
-#[derive(Debug)]
 pub struct Held {
     octets: Bytes,
     fetched: Moment,

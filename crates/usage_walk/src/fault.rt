@@ -6,7 +6,7 @@ use mud_url::UrlFault;
 
 /// The rules of usage files. The first rule that is broken, in the order in which a file is read,
 /// is the one that a refusal names.
-#[derive(Clone, Copy, Debug, PartialEq, Eq)]
+#[derive(Clone, Copy)]
 pub enum Rule {
     /// The file has more than 262,144 octets.
     TooLong,
@@ -135,7 +135,7 @@ impl Rule {
 }
 
 /// A broken rule: which one, and where.
-#[derive(Drop, Debug)]
+#[derive(Drop)]
 pub struct Broken {
     /// The first rule that is broken.
     pub rule: Rule,

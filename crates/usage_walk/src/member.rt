@@ -3,7 +3,7 @@ ghost use Rattle.std.specs.Prelude.{◌≡◌};
 
 /// The members of a usage file that are read (RFC 8520, 2 to 9; RFC 8519, 4), each by its name.
 /// Members of several objects that share a name share a variant.
-#[derive(Clone, Copy, Debug, PartialEq, Eq)]
+#[derive(Clone, Copy)]
 pub enum Member {
     /// `ietf-mud:mud`
     Mud,

@@ -5,7 +5,7 @@ ghost use Rattle.usage_walk.specs.Tables.{row};
 use crate::member::Member;
 
 /// A row of the table of an object: a member that may stand in it, and how it is read.
-#[derive(Clone, Copy, Debug, PartialEq, Eq)]
+#[derive(Clone, Copy)]
 pub struct Row<H> {
     /// The member.
     pub member: Member,

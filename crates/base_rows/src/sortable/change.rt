@@ -9,7 +9,7 @@ use std::marker::Model;
 /// A change of rows of type `R`: the row that a key names goes, where there is one, and then these
 /// rows are put in, from the first to the last. Contracts see the key as the sort key that it
 /// names.
-#[derive(Drop, Debug)]
+#[derive(Drop)]
 pub struct Change<K: KeyOf<R>, R: Sortable> {
     gone: Option<K>,
     sets: Listed<R>,

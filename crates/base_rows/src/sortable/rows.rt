@@ -17,7 +17,7 @@ use std::sync::ledger::{Blank, Ledger};
 
 /// Rows in ascending order of their sort keys, each sort key once. Contracts see them as the list
 /// of the rows and the room: how many more can be added without memory.
-#[derive(Debug, Drop)]
+#[derive(Drop)]
 pub struct SortedRows<R: Sortable> {
     rows: Vec<R>,
 }

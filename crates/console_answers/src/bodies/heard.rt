@@ -15,7 +15,7 @@ use std::alloc::Global;
 
 /// The texts of the addresses that were heard. They are made before what was heard is taken, so that
 /// the answer takes no memory.
-#[derive(Drop, Debug)]
+#[derive(Drop)]
 pub struct HeardTexts {
     /// The hardware address; empty where nothing is said.
     pub mac: Bytes,

@@ -5,7 +5,7 @@ use mud_base::{Bytes, Memory};
 use mud_world::KeepFault;
 
 /// Why a desk can't be opened over a keeper.
-#[derive(Drop, Debug)]
+#[derive(Drop)]
 pub enum OpenFault {
     /// The keeper failed. Its count of failures rose in that call.
     Keeper,

@@ -28,9 +28,8 @@ is_let_through Link = false
 is_let_through (Unreadable part) = false
 is_let_through (Governed source destination) = forwarded (Governed source destination)
 
--- What names are learnt from: the payload of a packet that has a ruling, is forwarded, and came by UDP from port 53 of an address of
--- the class of DNS servers.
--- the class of DNS servers (RFC 8520, 4.6)
+-- What names are learnt from: the payload of a packet that has a ruling, is forwarded, and came by UDP from port 53 of an
+-- address of the class of DNS servers (RFC 8520, 4.6).
 unfoldable pub heard_in : List ClassRow → List ℕ → Verdict → Option (List ℕ)
 heard_in classes octets verdict = if is_let_through verdict then payload_if classes (frame_of octets) else None
   where

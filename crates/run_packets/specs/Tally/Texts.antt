@@ -32,8 +32,7 @@ unfoldable pub port_text : Option ℕ → List ℕ
 port_text None = codes " -"
 port_text (Some port) = number_text port
 
--- the Thing, the side, the peer with its protocol and port, and how many packets
--- the peer, the protocol, and the peer's port
+-- the Thing, the side, the peer, the protocol, the peer's port, and how many packets
 unfoldable pub denied_line : DeniedRow → List ℕ
 denied_line row =
     codes "denied" ++ thing_text row.mac row.side ++ codes " " ++ addr_text row.peer ++ number_text row.protocol

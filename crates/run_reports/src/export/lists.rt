@@ -5,7 +5,7 @@ ghost use Rattle.run_reports.specs.Export.Lists as spec;
 use mud_base::Family;
 
 /// An access list of a Thing, in the order in which they are written.
-#[derive(Clone, Copy, Debug, PartialEq, Eq)]
+#[derive(Clone, Copy)]
 pub enum ListName {
     /// `from-v4`: the IPv4 packets that it sends.
     FromV4,

@@ -54,6 +54,7 @@ fn serve_desk<D: Door, C: Clock>(
     ensures same_box { IsSameBox desk.keeper result.1 }
 {
     let Ok(()) = door.bind(port) else {
+        drop(room);
         return (Status::DoorFailed, desk.close());
     };
     let Room {

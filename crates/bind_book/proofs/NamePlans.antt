@@ -17,7 +17,7 @@ use Rattle.item_codec.specs.declared.word.Word.TheVariants.{Same}
 use Rattle.acl_model.specs.Changes.{IsBindingChange}
 use Rattle.table_model.specs.declared.bind.NameRow.{NameRow}
 use Rattle.table_model.specs.declared.bind_fault.BindFault.{BindFault}
-use Rattle.table_model.specs.Limits.{most_names}
+use Rattle.table_model.specs.Limits.{most}
 use Rattle.table_model.specs.Fits.{FitsName}
 use Rattle.table_model.specs.Expiries.{is_live, expiry_of, with_expiry, live_rows}
 use Rattle.table_model.specs.Binds.{Binds, name_of, name_at, name_row, has_live_row, is_name, IsKeptName, IsSoundNames, IsSoundBinds}
@@ -99,7 +99,7 @@ module _ (name : List ℕ) (a : Addr) (until now : ℕ) (names : List NameRow) (
 
   new_pair_small : (o : Option NameRow) → name_at name names ≡ o → Differs (new_pair_change name a until now names o) names → IsSmall (new_pair_change name a until now names o) names
   unfolding new_pair_change
-  new_pair_small None is differs = by_room is (nat_le most_names (length names)) differs
+  new_pair_small None is differs = by_room is (nat_le most.names (length names)) differs
   new_pair_small (Some row) is differs = inl (row_put (name_row name (with_expiry a until (live_rows now row.addrs))))
 
   by_expiry : (row : NameRow) (b : Bool) → Differs (cond b (one_row row) no_rows) names → IsSmall (cond b (one_row row) no_rows) names

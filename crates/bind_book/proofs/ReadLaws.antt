@@ -1,7 +1,7 @@
 -- What is read of bodies, element after element, and which items are of no row.
 use Rattle.std.proofs.Common.{◌≡◌, ℕ, zero, suc, ◌+◌, ◌<◌, Bool, true, false, ◌&&◌, cond, List, [], ◌∷◌, ◌++◌, length, Option, Some, None, Result, Ok, Err, refl, sym, ap, subst, ◌∙◌, append_assoc, arith}
 use Rattle.std.specs.Prelude.{option_map, IfSome, ◌==◌, nat_lt, nat_le}
-use Rattle.table_model.specs.Limits.{most_locals}
+use Rattle.table_model.specs.Limits.{most}
 use Rattle.std.specs.List.{list_all}
 use Rattle.std.specs.Result.{result_ok, is_err}
 use Rattle.std.proofs.lemmas.List.{append-nil}
@@ -113,7 +113,7 @@ no_class item fails = by_kind (item.kind == 3)
 
 unsound_locals : (locals : List Prefix) → list_all is_prefix locals ≡ false → if_sound_locals locals ≡ None
 unfolding are_locals
-unsound_locals locals fails = ap (λ b. cond b (Some locals) None) (all_false (are_prefixes locals) (list_all is_prefix locals) (nat_lt 0 (length locals)) (nat_le (length locals) most_locals) fails)
+unsound_locals locals fails = ap (λ b. cond b (Some locals) None) (all_false (are_prefixes locals) (list_all is_prefix locals) (nat_lt 0 (length locals)) (nat_le (length locals) most.locals) fails)
   where
     all_false : (a b c d : Bool) → b ≡ false → (a && b && c && d) ≡ false
     all_false true b c d e = ap (λ x. x && c && d) e

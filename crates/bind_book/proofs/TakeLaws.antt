@@ -9,7 +9,7 @@ use Rattle.mud_base.specs.Numbers.{IsOctets}
 use Rattle.item_codec.specs.Records.{◌>>=◌}
 use Rattle.table_model.specs.declared.bind.ClassRow.{ClassRow}
 use Rattle.table_model.specs.declared.bind.NameRow.{NameRow}
-use Rattle.table_model.specs.Limits.{most_classes, most_names}
+use Rattle.table_model.specs.Limits.{most}
 use Rattle.table_model.specs.Binds.{Binds, class_key, name_of, IsSoundBinds}
 use Rattle.table_model.specs.BindItems.{class_in, with_class_item, locals_in, with_locals_item, name_in, with_name_item}
 use Rattle.table_model.specs.TakenItems.{is_empty, set_classes, set_locals, set_names, with_bind_item}
@@ -19,24 +19,24 @@ use Rattle.bind_book.specs.Reading.{IsTaken}
 
 -- ---- Rows behind others
 
-module _ {R : Type 0} (sort_key : R → List ℕ) (most : ℕ) (rows : List R) where
+module _ {R : Type 0} (sort_key : R → List ℕ) (limit : ℕ) (rows : List R) where
   abbrev with_row : R → Option (List R)
-  with_row row = cond (comes_last sort_key row rows && nat_lt (length rows) most) (Some (rows ++ row ∷ [])) None
+  with_row row = cond (comes_last sort_key row rows && nat_lt (length rows) limit) (Some (rows ++ row ∷ [])) None
 
-  with_last : (o : Option R) (row : R) (b : Bool) → o ≡ Some row → length rows < most → b ≡ comes_last sort_key row rows → (o >>= with_row) ≡ cond b (Some (rows ++ row ∷ [])) None
+  with_last : (o : Option R) (row : R) (b : Bool) → o ≡ Some row → length rows < limit → b ≡ comes_last sort_key row rows → (o >>= with_row) ≡ cond b (Some (rows ++ row ∷ [])) None
   with_last o row b is room last =
       ap (λ x. x >>= with_row) is
-      ∙ ap (λ t. cond (t && nat_lt (length rows) most) (Some (rows ++ row ∷ [])) None) (sym last)
-      ∙ ap (λ t. cond (b && t) (Some (rows ++ row ∷ [])) None) (lt-ltb (length rows) most room)
+      ∙ ap (λ t. cond (t && nat_lt (length rows) limit) (Some (rows ++ row ∷ [])) None) (sym last)
+      ∙ ap (λ t. cond (b && t) (Some (rows ++ row ∷ [])) None) (lt-ltb (length rows) limit room)
       ∙ by_test b
     where
       by_test : (t : Bool) → cond (t && true) (Some (rows ++ row ∷ [])) None ≡ cond t (Some (rows ++ row ∷ [])) None
       by_test true = refl
       by_test false = refl
 
-  without_room : (o : Option R) → most ≤ length rows → (o >>= with_row) ≡ None
+  without_room : (o : Option R) → limit ≤ length rows → (o >>= with_row) ≡ None
   without_room None full = refl
-  without_room (Some row) full = ap (λ t. cond (comes_last sort_key row rows && t) (Some (rows ++ row ∷ [])) None) (le-ltb (length rows) most full) ∙ by_test (comes_last sort_key row rows)
+  without_room (Some row) full = ap (λ t. cond (comes_last sort_key row rows && t) (Some (rows ++ row ∷ [])) None) (le-ltb (length rows) limit full) ∙ by_test (comes_last sort_key row rows)
     where
       by_test : (t : Bool) → cond (t && false) (Some (rows ++ row ∷ [])) None ≡ None
       by_test true = refl
@@ -53,24 +53,24 @@ by_push set binds new o rows pushed false is made here = subst (λ x. IsTaken (o
 
 -- ---- Classes
 
-pub full_classes : (classes : List ClassRow) (item : Item) → most_classes ≤ length classes → with_class_item classes item ≡ None
+pub full_classes : (classes : List ClassRow) (item : Item) → most.classes ≤ length classes → with_class_item classes item ≡ None
 unfolding with_class_item
-full_classes classes item full = without_room class_key most_classes classes (class_in item) full
+full_classes classes item full = without_room class_key most.classes classes (class_in item) full
 
 pub no_class_taken : (classes : List ClassRow) (item : Item) → class_in item ≡ None → with_class_item classes item ≡ None
 unfolding with_class_item
-no_class_taken classes item none = ap (λ o. o >>= with_row class_key most_classes classes) none
+no_class_taken classes item none = ap (λ o. o >>= with_row class_key most.classes classes) none
 
-module _ (binds : Binds) (item : Item) (row : ClassRow) (b : Bool) (is : class_in item ≡ Some row) (room : length binds.classes < most_classes) (last : b ≡ comes_last class_key row binds.classes) where
+module _ (binds : Binds) (item : Item) (row : ClassRow) (b : Bool) (is : class_in item ≡ Some row) (room : length binds.classes < most.classes) (last : b ≡ comes_last class_key row binds.classes) where
   with_class : with_class_item binds.classes item ≡ cond b (Some (binds.classes ++ row ∷ [])) None
   unfolding with_class_item
-  with_class = with_last class_key most_classes binds.classes (class_in item) row b is room last
+  with_class = with_last class_key most.classes binds.classes (class_in item) row b is room last
 
   pub class_taken : (new : List ClassRow) → new ≡ cond b (binds.classes ++ row ∷ []) binds.classes → IsTaken (option_map (set_classes binds) (with_class_item binds.classes item)) binds (record { classes = new; locals = binds.locals; names = binds.names }) b
   unfolding set_classes
   class_taken new made = by_push set_classes binds (record { classes = new; locals = binds.locals; names = binds.names }) (with_class_item binds.classes item) binds.classes (binds.classes ++ row ∷ []) b with_class (ap (λ classes. record binds { classes = classes }) made) refl
 
-pub class_sound : (binds : Binds) (item : Item) (row : ClassRow) (b : Bool) → class_in item ≡ Some row → length binds.classes < most_classes → b ≡ comes_last class_key row binds.classes → (new : List ClassRow) → new ≡ cond b (binds.classes ++ row ∷ []) binds.classes
+pub class_sound : (binds : Binds) (item : Item) (row : ClassRow) (b : Bool) → class_in item ≡ Some row → length binds.classes < most.classes → b ≡ comes_last class_key row binds.classes → (new : List ClassRow) → new ≡ cond b (binds.classes ++ row ∷ []) binds.classes
     → IsSoundBinds binds → IsOctets item.body → IsTrue (item.kind == 3 && is_empty binds.locals && is_empty binds.names) → IsSoundBinds (record { classes = new; locals = binds.locals; names = binds.names })
 unfolding with_bind_item set_classes
 class_sound binds item row true is room last new made sound octets here =
@@ -82,18 +82,18 @@ class_sound binds item row false is room last new made sound octets here = subst
 
 -- ---- Names
 
-pub full_names : (names : List NameRow) (item : Item) → most_names ≤ length names → with_name_item names item ≡ None
+pub full_names : (names : List NameRow) (item : Item) → most.names ≤ length names → with_name_item names item ≡ None
 unfolding with_name_item
-full_names names item full = without_room name_of most_names names (name_in item) full
+full_names names item full = without_room name_of most.names names (name_in item) full
 
 pub no_name_taken : (names : List NameRow) (item : Item) → name_in item ≡ None → with_name_item names item ≡ None
 unfolding with_name_item
-no_name_taken names item none = ap (λ o. o >>= with_row name_of most_names names) none
+no_name_taken names item none = ap (λ o. o >>= with_row name_of most.names names) none
 
-module _ (binds : Binds) (item : Item) (row : NameRow) (b : Bool) (is : name_in item ≡ Some row) (room : length binds.names < most_names) (last : b ≡ comes_last name_of row binds.names) where
+module _ (binds : Binds) (item : Item) (row : NameRow) (b : Bool) (is : name_in item ≡ Some row) (room : length binds.names < most.names) (last : b ≡ comes_last name_of row binds.names) where
   with_name : with_name_item binds.names item ≡ cond b (Some (binds.names ++ row ∷ [])) None
   unfolding with_name_item
-  with_name = with_last name_of most_names binds.names (name_in item) row b is room last
+  with_name = with_last name_of most.names binds.names (name_in item) row b is room last
 
   pub name_taken : (new : List NameRow) → new ≡ cond b (binds.names ++ row ∷ []) binds.names → IsTaken (option_map (set_names binds) (with_name_item binds.names item)) binds (record { classes = binds.classes; locals = binds.locals; names = new }) b
   unfolding set_names
@@ -105,7 +105,7 @@ unfolding with_bind_item
 name_here binds item here =
     ap (λ k. cond (k == 3 && is_empty binds.locals && is_empty binds.names) (option_map (set_classes binds) (with_class_item binds.classes item)) (cond (k == 4 && is_empty binds.names) (option_map (set_locals binds) (with_locals_item binds.locals item)) (cond (k == 5) (option_map (set_names binds) (with_name_item binds.names item)) None))) (eqb-true item.kind 5 here)
 
-pub name_sound : (binds : Binds) (item : Item) (row : NameRow) (b : Bool) → name_in item ≡ Some row → length binds.names < most_names → b ≡ comes_last name_of row binds.names → (new : List NameRow) → new ≡ cond b (binds.names ++ row ∷ []) binds.names
+pub name_sound : (binds : Binds) (item : Item) (row : NameRow) (b : Bool) → name_in item ≡ Some row → length binds.names < most.names → b ≡ comes_last name_of row binds.names → (new : List NameRow) → new ≡ cond b (binds.names ++ row ∷ []) binds.names
     → IsSoundBinds binds → IsOctets item.body → IsTrue (item.kind == 5) → IsSoundBinds (record { classes = binds.classes; locals = binds.locals; names = new })
 unfolding set_names
 name_sound binds item row true is room last new made sound octets here =

@@ -26,7 +26,7 @@ fn due_urls(alloc: Global, files: &[CachedFile], now: Moment) -> Result<Listed<M
 }
 
 /// The body that lists the URLs of which a file is to be fetched again at a moment, in their order.
-pub fn due_text(alloc: Global, files: &[CachedFile], now: Moment) -> Result<Bytes, Memory>
+pub(crate) fn due_text(alloc: Global, files: &[CachedFile], now: Moment) -> Result<Bytes, Memory>
     ensures { IfOk result (λ text. text ≡ listing_body quoted (codes "due") (due_urls now files.now)) }
 {
     let urls = due_urls(alloc, files, now)?;

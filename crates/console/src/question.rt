@@ -80,7 +80,7 @@ fn question_to(
 /// is wrong with it is its path, to which no route belongs, its method, which the route has not, or
 /// its body. The path may be the target as well. Memory is taken for what the body means.
 #[tactic(auto, unfolding(crate::specs::Asks::question_of, crate::specs::Asks::action_at))]
-pub fn question_of(
+pub(crate) fn question_of(
     alloc: Global,
     routes: &Routes,
     method: &[u8],

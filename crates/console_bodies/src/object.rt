@@ -37,7 +37,7 @@ fn as_object(value: Value) -> Result<Value, Unread>
 
 /// The JSON object that the octets of a body are.
 #[tactic(auto, unfolding(crate::specs::Objects::object_of))]
-pub fn read_object(alloc: Global, octets: &[u8]) -> Result<Value, Unread>
+pub(crate) fn read_object(alloc: Global, octets: &[u8]) -> Result<Value, Unread>
     ensures { Answers view result (spec.object_of octets.now) }
 {
     let value = value_in(alloc, octets)?;
@@ -46,7 +46,7 @@ pub fn read_object(alloc: Global, octets: &[u8]) -> Result<Value, Unread>
 
 /// The member of an object, where it is there.
 #[tactic(auto, unfolding(crate::specs::Objects::member_in))]
-pub fn member_in(object: &Value, member: Member) -> Option<&Value>
+pub(crate) fn member_in(object: &Value, member: Member) -> Option<&Value>
     ensures { option_map (λ v. view v.now) result ≡ spec.member_in member (view object.now) }
 {
     object.get(member.name())
@@ -54,7 +54,7 @@ pub fn member_in(object: &Value, member: Member) -> Option<&Value>
 
 /// The text that a member of an object is, where it is one.
 #[tactic(auto, unfolding(crate::specs::Objects::text_in, crate::specs::Objects::member_in))]
-pub fn text_in(object: &Value, member: Member) -> Option<&str>
+pub(crate) fn text_in(object: &Value, member: Member) -> Option<&str>
     ensures { option_map (λ t. t.now) result ≡ spec.text_in member (view object.now) }
 {
     object.get(member.name()).and_then(Value::as_str)

@@ -50,7 +50,7 @@ fn list(object: &Value) -> Result<&[Value], Unread>
 
 /// The prefixes that the list `prefixes` writes, in its order.
 #[tactic(auto, unfolding(crate::specs::Values::prefixes_at), using(mud_base::proofs::Readings::answer_bind))]
-pub fn prefixes(alloc: Global, object: &Value) -> Result<Listed<Prefix>, Unread>
+pub(crate) fn prefixes(alloc: Global, object: &Value) -> Result<Listed<Prefix>, Unread>
     ensures { Gives (λ p. p) result (spec.prefixes_at (view object.now)) }
 {
     let list = list(object)?;

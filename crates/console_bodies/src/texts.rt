@@ -26,7 +26,7 @@ fn url_in(text: &str) -> Option<MudUrl>
 
 /// The MUD URL that a member spells.
 #[tactic(auto, unfolding(crate::specs::Values::url_at))]
-pub fn url(object: &Value, member: Member) -> Result<MudUrl, Unread>
+pub(crate) fn url(object: &Value, member: Member) -> Result<MudUrl, Unread>
     ensures { Gives (λ u. u) result (spec.url_at member (view object.now)) }
 {
     meant(text_in(object, member).and_then(url_in), member)
@@ -34,7 +34,7 @@ pub fn url(object: &Value, member: Member) -> Result<MudUrl, Unread>
 
 /// The host name that `name` is, in lower case.
 #[tactic(auto, unfolding(crate::specs::Values::name_at, crate::specs::Values::meant), using(mud_base::proofs::Readings::answer_wanted, mud_base::proofs::Readings::answer_unwanted))]
-pub fn name(alloc: Global, object: &Value) -> Result<Bytes, Unread>
+pub(crate) fn name(alloc: Global, object: &Value) -> Result<Bytes, Unread>
     ensures { Gives (λ n. n) result (spec.name_at (view object.now)) }
 {
     match text_in(object, Member::Name) {
@@ -78,7 +78,7 @@ fn digest_in(text: &str) -> Option<&str>
 
 /// The SHA-256 digest that `sha256` is: 64 lower-case hex digits.
 #[tactic(auto, unfolding(crate::specs::Values::digest_at, crate::specs::Values::meant), using(mud_base::proofs::Readings::answer_wanted, mud_base::proofs::Readings::answer_unwanted))]
-pub fn digest(alloc: Global, object: &Value) -> Result<Bytes, Unread>
+pub(crate) fn digest(alloc: Global, object: &Value) -> Result<Bytes, Unread>
     ensures { Gives (λ d. d) result (spec.digest_at (view object.now)) }
 {
     match text_in(object, Member::Sha256).and_then(digest_in) {

@@ -12,7 +12,7 @@ use serde_json::Value;
 
 /// What a member means, where it means something; else it is the fault.
 #[tactic(auto, unfolding(crate::specs::Values::meant))]
-pub fn meant<A>(meaning: Option<A>, member: Member) -> Result<A, Unread>
+pub(crate) fn meant<A>(meaning: Option<A>, member: Member) -> Result<A, Unread>
     ensures { (default : A) → Gives (λ a. a) result (spec.meant default member meaning) }
 {
     wanted(meaning, BodyFault::Member(member))
@@ -20,7 +20,7 @@ pub fn meant<A>(meaning: Option<A>, member: Member) -> Result<A, Unread>
 
 /// The hardware address that `mac` writes.
 #[tactic(auto, unfolding(crate::specs::Values::mac_at))]
-pub fn mac(object: &Value) -> Result<Mac, Unread>
+pub(crate) fn mac(object: &Value) -> Result<Mac, Unread>
     ensures { Gives (λ m. m) result (spec.mac_at (view object.now)) }
 {
     let mac = text_in(object, Member::Mac).and_then(|text| mac_of(text.as_bytes()));
@@ -29,7 +29,7 @@ pub fn mac(object: &Value) -> Result<Mac, Unread>
 
 /// The IP address that `address` writes.
 #[tactic(auto, unfolding(crate::specs::Values::address_at))]
-pub fn address(object: &Value) -> Result<Addr, Unread>
+pub(crate) fn address(object: &Value) -> Result<Addr, Unread>
     ensures { Gives (λ a. a) result (spec.address_at (view object.now)) }
 {
     let address = text_in(object, Member::Address).and_then(|text| addr_of(text.as_bytes()));
@@ -51,7 +51,7 @@ fn within(least: u32, most: u32, number: u64) -> Option<u32>
 
 /// The whole number of this range that a member is.
 #[tactic(auto, unfolding(crate::specs::Values::number_at))]
-pub fn number(object: &Value, member: Member, least: u32, most: u32) -> Result<u32, Unread>
+pub(crate) fn number(object: &Value, member: Member, least: u32, most: u32) -> Result<u32, Unread>
     ensures { Gives (λ n. n) result (spec.number_at least most member (view object.now)) }
 {
     let number = number_in(object, member).and_then(|number| within(least, most, number));

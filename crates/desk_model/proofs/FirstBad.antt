@@ -1,8 +1,7 @@
 -- The item that is answered is the first that is no record.
 use Rattle.std.proofs.Common.{◌≡◌, List, [], ◌∷◌, ◌++◌, Option, Some, None, Result, Ok, Err, refl, ap, ◌∙◌}
-use Rattle.std.specs.Prelude.{IsOk}
 use Rattle.mud_world.specs.declared.item.Item.{Item}
-use Rattle.desk_model.specs.Items.{KeptDesk, none_kept, tables_in, IsFirstBad}
+use Rattle.desk_model.specs.Items.{KeptDesk, none_kept, desk_of, tables_in, IsFirstUnread}
 use Rattle.desk_model.proofs.Taking.{kept_behind}
 use Rattle.desk_model.proofs.Parts.{kept_in, desk_in, with_desk_item}
 
@@ -54,17 +53,15 @@ refused_from : (read : Result KeptDesk Item) (item : Item) → desk_in read ≡ 
 refused_from (Ok kept) item e = absurd cc
 refused_from (Err other) item e = cc
 
-good_desk : (kept : KeptDesk) (read : Result KeptDesk Item) → read ≡ Ok kept → IsOk (desk_in read)
-good_desk kept read e = rw e refl
-
-pub first_bad : (items : List Item) (item : Item) → tables_in items ≡ Err item → IsFirstBad items item
+pub first_unread : (items : List Item) (item : Item) → tables_in items ≡ Err item → IsFirstUnread items item
 unfolding tables_in
-first_bad items item e =
+first_unread items item e =
     let f = first_behind none_kept items item (refused_from (kept_in none_kept items) item e) in
     record {
       before = f.before;
       behind = f.behind;
       splits = f.splits;
-      good = good_desk f.taken (kept_in none_kept f.before) f.good;
+      desk = desk_of f.taken;
+      good = ap desk_in f.good;
       bad = ap desk_in f.bad;
     }

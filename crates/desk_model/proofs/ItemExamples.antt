@@ -1,5 +1,5 @@
 -- A desk with one Thing, and its items in both versions.
-use Rattle.std.proofs.Common.{◌≡◌, ℕ, true, List, [], ◌∷◌, Option, Some, None, Ok, Err, refl, ap, ◌∙◌, lit<, lit≤}
+use Rattle.std.proofs.Common.{◌≡◌, ℕ, true, List, [], ◌∷◌, Option, Some, None, Ok, Err, refl, sym, ap, subst, ◌∙◌, inl, inr, lit<, lit≤}
 use Rattle.std.specs.Prelude.{option_map}
 use Rattle.mud_url.specs.Url.{is_canonical}
 use Rattle.mud_url.proofs.OnLiterals.{url_on_literals}
@@ -15,6 +15,8 @@ use Rattle.table_model.proofs.Literals.{expiries_compute, bulb_url, bare_bulb}
 use Rattle.usage_tables.specs.FileItems.{file_items}
 use Rattle.desk_model.specs.DeskTables.{DeskTables}
 use Rattle.desk_model.specs.Items.{items_of, KeptDesk, none_kept, desk_of, tables_in}
+use Rattle.desk_model.specs.Keeping.{AreVersionsOf, KeepsDesk}
+use Rattle.desk_model.proofs.Keeping.{not_both, read_kept}
 use Rattle.desk_model.proofs.Taking.{kept_behind, take_thing, take_stamp}
 use Rattle.desk_model.proofs.Parts.{desk_in, with_desk_item}
 
@@ -84,3 +86,13 @@ unfolding tables_in none_kept
 behind_stamp =
     ap desk_in
     (ap (kept_behind (stamp_item 1000) (first_thing_item bare_bulb ∷ [])) (stamp_taken []) ∙ ap (kept_behind (first_thing_item bare_bulb) []) no_more)
+
+-- the item of version 1 stands for that of version 2
+in_first_version : AreVersionsOf (first_thing_item bare_bulb ∷ stamp_item 1000 ∷ []) (items_of one_bulb)
+in_first_version =
+    subst (AreVersionsOf (first_thing_item bare_bulb ∷ stamp_item 1000 ∷ [])) (sym bulb_items)
+    (inr (record { thing = bare_bulb; kept = kept_bulb; unheld = refl; first = refl; second = refl }), (inl refl, tt))
+
+-- no desk is kept where a Thing stands behind the stamp
+keeps_no_desk : (desk : DeskTables) → KeepsDesk (stamp_item 1000 ∷ first_thing_item bare_bulb ∷ []) desk → ⊥
+keeps_no_desk desk keeps = not_both desk (first_thing_item bare_bulb) (sym (read_kept (stamp_item 1000 ∷ first_thing_item bare_bulb ∷ []) desk keeps) ∙ behind_stamp)

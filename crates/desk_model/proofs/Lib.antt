@@ -9,6 +9,7 @@ pub mod Order
 pub mod Batches
 pub mod Anew
 pub mod FirstBad
+pub mod Keeping
 pub mod Passing
 pub mod Sessions
 mod Examples

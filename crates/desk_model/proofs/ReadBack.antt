@@ -63,7 +63,7 @@ all_bind_items P holds binds =
 
 -- ---- The whole
 
-pub kept_of : DeskTables → KeptDesk
+unfoldable pub kept_of : DeskTables → KeptDesk
 unfolding binds_of
 kept_of desk = record { things = desk.tables.things; files = desk.files; binds = binds_of desk.tables; stamp = desk.stamp }
 
@@ -105,7 +105,7 @@ module _ (desk : DeskTables) (sound : IsSound desk) where
   stamp_taken None early = refl
   stamp_taken (Some moment) early = ap (λ (o : Option KeptDesk). o >>= λ next. Some next) (take_stamp (stamp_item moment) (stamp_kind moment) desk.tables.things desk.files (binds_of desk.tables) None ∙ ap (option_map (λ (x : ℕ). record { things = desk.tables.things; files = desk.files; binds = binds_of desk.tables; stamp = Some x })) (read_stamp moment early))
 
-  desk_taken : all_taken with_desk_item none_kept (items_of desk) ≡ Some (kept_of desk)
+  pub desk_taken : all_taken with_desk_item none_kept (items_of desk) ≡ Some (kept_of desk)
   unfolding items_of kept_of
   desk_taken =
       all_taken-append with_desk_item none_kept (thing_items desk.tables.things) _ _ things_taken

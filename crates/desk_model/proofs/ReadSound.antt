@@ -61,7 +61,7 @@ no_bind_items binds e =
     refl
 
 -- an item of another kind is the same in both versions
-second_of_other : (item : Item) → (item.kind == 1) ≡ false → in_second item ≡ item
+pub second_of_other : (item : Item) → (item.kind == 1) ≡ false → in_second item ≡ item
 unfolding in_second item_anew thing_in
 second_of_other item e = rw e refl
 

@@ -1,5 +1,5 @@
 -- An address is taken out of a class only where the class is kept, and then it is one that may be kept.
-use Rattle.std.proofs.Common.{◌≡◌, true, false, List, Option, Some, None, Err, refl, sym, ◌∙◌}
+use Rattle.std.proofs.Common.{◌≡◌, false, List, Option, Some, None, Err, refl, sym, ◌∙◌}
 use Rattle.std.proofs.lemmas.Bool.{false≢true}
 use Rattle.std.specs.Prelude.{IfOk}
 use Rattle.mud_base.specs.declared.addr.Addr.{Addr}

@@ -1,5 +1,5 @@
 -- The items in which a desk is kept, and the desk that items are.
-use Rattle.std.specs.Prelude.{◌≡◌, ℕ, IsTrue, List, [], ◌∷◌, ◌++◌, map, Option, Some, None, Result, Ok, Err, IsOk}
+use Rattle.std.specs.Prelude.{◌≡◌, ℕ, IsTrue, List, [], ◌∷◌, ◌++◌, map, Some, None, Result, Ok, Err}
 use Rattle.mud_world.specs.declared.item.Item.{Item}
 use Rattle.mud_world.specs.declared.item.Put.{Put}
 use Rattle.mud_world.specs.Items.{put_all, set_put, is_batch}
@@ -41,12 +41,13 @@ tables_in items = desk_in (kept_in none_kept items)
     desk_in (Ok kept) = Ok (desk_of kept)
     desk_in (Err item) = Err item
 
--- the item is the first that is no record: the items before it are those of a desk, and with it they aren't
-pub record IsFirstBad (items : List Item) (item : Item) : Type 0 where
+-- the item is the first that can't be read: the items before it are those of a desk, and with it they aren't
+pub record IsFirstUnread (items : List Item) (item : Item) : Type 0 where
   pub before : List Item
   pub behind : List Item
   pub splits : items ≡ before ++ item ∷ behind
-  pub good : IsOk (tables_in before)
+  pub desk : DeskTables
+  pub good : tables_in before ≡ Ok desk
   pub bad : tables_in (before ++ item ∷ []) ≡ Err item
 
 -- the items with each Thing of version 1 put anew in version 2, and all others as they are

@@ -3,6 +3,7 @@ pub mod DeskTables
 pub mod Commands
 pub mod Forwarding
 pub mod Items
+pub mod Keeping
 pub mod Verdicts
 pub mod Sessions
 pub mod Boxed

@@ -18,7 +18,8 @@ ghost use Rattle.usage_tables.specs.declared.cached_file.CachedFile.{CachedFile}
 ghost use Rattle.usage_tables.specs.FileItems.{file_items};
 ghost use Rattle.desk_model.specs.DeskTables.{DeskTables, IsSound, empty_desk, with_things, with_files, with_desk_binds};
 ghost use Rattle.desk_model.specs.Commands.{stamped};
-ghost use Rattle.desk_model.specs.Items.{items_of, tables_in, in_second_version, with_stamp_put, IsFirstBad, IsKeptBy};
+ghost use Rattle.desk_model.specs.Items.{items_of, tables_in, in_second_version, with_stamp_put, IsFirstUnread, IsKeptBy};
+ghost use Rattle.desk_model.specs.Keeping.{IsFirstBad, KeepsDesk};
 
 /// A desk and its items.
 pub fn desks_are_read_back()
@@ -31,8 +32,18 @@ pub fn desks_are_read_back()
     ensures alone { (items : List Item) (desk : DeskTables)
         → AllByRecursion (λ item. IsOctets item.body) items → tables_in items ≡ Ok desk
         → IsSound desk × (items_of desk ≡ in_second_version items) }
-    // Where they can't be read, the first item that is no record is answered.
+    // Where they can't be read, the first item that can't be is answered.
     ensures first { (items : List Item) (item : Item) → tables_in items ≡ Err item
+        → IsFirstUnread items item }
+    // So what items are read as is the desk that they keep, and the item that is answered is the first
+    // that is no record.
+    ensures kept { (items : List Item) (desk : DeskTables)
+        → AllByRecursion (λ item. IsOctets item.body) items → tables_in items ≡ Ok desk
+        → KeepsDesk items desk }
+    ensures read { (items : List Item) (desk : DeskTables) → KeepsDesk items desk
+        → tables_in items ≡ Ok desk }
+    ensures bad { (items : List Item) (item : Item)
+        → AllByRecursion (λ item. IsOctets item.body) items → tables_in items ≡ Err item
         → IsFirstBad items item }
     // The items of a sound desk are in order.
     ensures ordered { (desk : DeskTables) → IsSound desk → IsOrdered (items_of desk) }

@@ -14,46 +14,37 @@ use Rattle.dhcp_lldp.specs.Mud.{announced}
 use Rattle.dhcp_lldp.specs.Listings.{Listing}
 use Rattle.dhcp_lldp.specs.Options.{DhcpOption, listing, Contents, contents_of, option_fault}
 
--- The offsets of the fields that are read (section 2, figure 1)
-abbrev pub op_offset : ℕ
-op_offset = 0
+-- where the fields stand that are read (section 2, figure 1)
+pub record Offsets : Type 0 where
+  pub op : ℕ
+  pub htype : ℕ
+  pub hlen : ℕ
+  pub yiaddr : ℕ
+  pub chaddr : ℕ
+  -- the magic cookie, with which the field options begins, and the first option (section 3)
+  pub cookie : ℕ
+  pub options : ℕ
 
-abbrev pub htype_offset : ℕ
-htype_offset = 1
-
-abbrev pub hlen_offset : ℕ
-hlen_offset = 2
-
-abbrev pub yiaddr_offset : ℕ
-yiaddr_offset = 16
-
-abbrev pub chaddr_offset : ℕ
-chaddr_offset = 28
-
--- the magic cookie, with which the field options begins, and the first option (section 3)
-abbrev pub cookie_offset : ℕ
-cookie_offset = 236
-
-abbrev pub options_offset : ℕ
-options_offset = 240
+abbrev pub offsets : Offsets
+offsets = record { op = 0; htype = 1; hlen = 2; yiaddr = 16; chaddr = 28; cookie = 236; options = 240 }
 
 -- a message of a client, and one of a server
 unfoldable pub is_request : List ℕ → Bool
-is_request message = slice_index message op_offset == 1
+is_request message = slice_index message offsets.op == 1
 
 unfoldable pub is_reply : List ℕ → Bool
-is_reply message = slice_index message op_offset == 2
+is_reply message = slice_index message offsets.op == 2
 
 -- htype 1 and hlen 6 are Ethernet's, and a client has an address of its own
 unfoldable pub is_ethernet : List ℕ → Bool
-is_ethernet message = slice_index message htype_offset == 1 && slice_index message hlen_offset == 6 && not (is_group_at chaddr_offset message)
+is_ethernet message = slice_index message offsets.htype == 1 && slice_index message offsets.hlen == 6 && not (is_group_at offsets.chaddr message)
 
 -- the octets 99, 130, 83 and 99 (section 3)
 unfoldable pub has_cookie : List ℕ → Bool
-has_cookie message = bytes_eq (octets_at 4 cookie_offset message) (99 ∷ 130 ∷ 83 ∷ 99 ∷ [])
+has_cookie message = bytes_eq (octets_at 4 offsets.cookie message) (99 ∷ 130 ∷ 83 ∷ 99 ∷ [])
 
 unfoldable pub options_of : List ℕ → Listing DhcpOption
-options_of message = listing 0 options_offset (drop options_offset message)
+options_of message = listing 0 offsets.options (drop offsets.options message)
 
 -- DHCPACK is the message type 5 (RFC 2132, section 9.6)
 unfoldable pub is_ack : Option (List ℕ) → Bool
@@ -75,11 +66,11 @@ granted mac yiaddr contents =
 -- what a message without a fault says, with the contents of its options
 unfoldable pub said : List ℕ → Contents → Result Heard HearFault
 said message contents =
-    if is_request message then announced (mac_at chaddr_offset message) contents.mud_url
-    else (if is_reply message then Ok (granted (mac_at chaddr_offset message) (yiaddr_of message) contents) else Ok Nothing)
+    if is_request message then announced (mac_at offsets.chaddr message) contents.mud_url
+    else (if is_reply message then Ok (granted (mac_at offsets.chaddr message) (yiaddr_of message) contents) else Ok Nothing)
   where
     yiaddr_of : List ℕ → ℕ
-    yiaddr_of message = big_32 yiaddr_offset message
+    yiaddr_of message = big_32 offsets.yiaddr message
 
 unfoldable pub heard_of : List ℕ → Result Heard HearFault
 heard_of message = unless (rows message) (said message (contents_of (options_of message).whole))
@@ -87,7 +78,7 @@ heard_of message = unless (rows message) (said message (contents_of (options_of 
     -- the table of faults, in its order
     rows : List ℕ → List (Option HearFault)
     rows message =
-        row (nat_lt (length message) options_offset) (faults.Cut 0)
+        row (nat_lt (length message) offsets.options) (faults.Cut 0)
         ∷ row (not (is_ethernet message)) faults.Hardware
         ∷ row (not (has_cookie message)) faults.Cookie
         ∷ option_fault (options_of message)

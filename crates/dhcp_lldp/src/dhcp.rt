@@ -1,6 +1,6 @@
 //! DHCPv4 messages (RFC 2131).
 ghost use Rattle.std.specs.Prelude.{◌≡◌, ◌≤◌, length, option_copied};
-ghost use Rattle.dhcp_lldp.specs.Dhcp.{heard_of, is_request, is_reply, is_ethernet, has_cookie, is_ack, seconds_of, granted, said, yiaddr_offset};
+ghost use Rattle.dhcp_lldp.specs.Dhcp.{heard_of, is_request, is_reply, is_ethernet, has_cookie, is_ack, seconds_of, granted, said, offsets};
 ghost use Rattle.mud_base.specs.Numbers.{big_32};
 
 use crate::contents::Contents;
@@ -81,7 +81,7 @@ fn has_cookie(message: &[u8]) -> bool
 #[tactic(auto)]
 fn yiaddr(message: &[u8]) -> u32
     requires { 240 ≤ length message.now }
-    ensures { result ≡ big_32 yiaddr_offset message.now }
+    ensures { result ≡ big_32 offsets.yiaddr message.now }
 {
     big_32(message, YIADDR_OFFSET)
 }

@@ -1,5 +1,5 @@
 //! The cache of usage files.
-ghost use Rattle.std.specs.Prelude.{◌≡◌, ◌≤◌, [], option_copied, length, IfOk, IfErr, OnOk, OnErr, if◌then◌else◌, false, Some, None, filter};
+ghost use Rattle.std.specs.Prelude.{◌≡◌, ◌≤◌, [], option_copied, IfOk, IfErr, OnOk, OnErr, if◌then◌else◌, false, Some, None};
 ghost use Rattle.std.specs.Option.{option_map};
 ghost use Rattle.base_rows.specs.Sortable.{SortKeysAscend};
 ghost use Rattle.usage_tables.specs.Files.{url_of, file_at, IsSoundFiles};
@@ -7,12 +7,10 @@ ghost use Rattle.usage_tables.specs.FileEdits.{edited, room_for};
 ghost use Rattle.usage_tables.specs.Policies.{candidate_policy};
 ghost use Rattle.usage_tables.specs.Limits.{last_moment};
 ghost use Rattle.usage_tables.specs.FileCommands.{import_step, verdict_step, revoke_step};
-ghost use Rattle.usage_tables.specs.Due.{is_due};
 ghost use Rattle.usage_tables.specs.FileItems.{with_file_item};
 ghost use Rattle.file_cache.specs.Planned.{IsMemory, Plans};
 
 use crate::change::CacheChange;
-use crate::due::is_due;
 use crate::edits::edited_row;
 use crate::imports::import;
 use crate::take::{push, row_in};
@@ -90,18 +88,6 @@ impl FileCache {
             },
             None => None,
         }
-    }
-
-    /// Of how many URLs a file is to be fetched again.
-    #[tactic(auto)]
-    pub fn due_count(&self, now: Moment) -> usize
-        ensures { result ≡ length (filter (is_due now) self.now.files) }
-    {
-        self.files
-            .rows()
-            .iter()
-            .filter(|row| is_due(row, now))
-            .count()
     }
 
     /// A usage file is imported, fetched at a moment. The first case that holds counts. The octets are

@@ -1,6 +1,6 @@
 -- What a table of connections keeps of two endpoints, and what it keeps after one packet more.
 use Rattle.std.specs.Prelude.{◌≡◌, ℕ, ◌-◌, true, false, nat_le, IsTrue, option_map, Option, Some, None, ◌⊎◌, if◌then◌else◌}
-use Rattle.table_model.specs.Limits.{most_pause}
+use Rattle.table_model.specs.Limits.{most}
 use Rattle.table_model.specs.History.{Endpoint, Begun, is_between, opens, resets, with_moment, is_past}
 use Rattle.table_model.specs.declared.segment.Segment.{Segment}
 pub use Rattle.table_model.specs.History.{Flows, StandsFor}
@@ -9,7 +9,7 @@ unfoldable pub use Rattle.flow_table.specs.Noted.{is_since}
 -- the beginner that is kept, unless there was a pause
 unfoldable pub beginner_kept : Option Begun → ℕ → Option Endpoint
 beginner_kept None now = None
-beginner_kept (Some begun) now = if nat_le (now - begun.1) most_pause then Some begun.0 else None
+beginner_kept (Some begun) now = if nat_le (now - begun.1) most.pause then Some begun.0 else None
 
 -- what is kept of two endpoints after a packet between them
 unfoldable pub kept_after : Segment → Option Begun → Option Begun

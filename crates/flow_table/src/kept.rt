@@ -1,6 +1,6 @@
 //! What is kept of a connection, and what follows from it.
 ghost use Rattle.std.specs.Prelude.{◌≡◌, ◌-◌, nat_le};
-ghost use Rattle.table_model.specs.Limits.{most_pause};
+ghost use Rattle.table_model.specs.Limits.{most};
 ghost use Rattle.flow_table.specs.Kept as spec;
 
 use mud_base::Moment;
@@ -25,7 +25,7 @@ pub(crate) fn beginner_kept(kept: Option<Begun>, now: Moment) -> Option<Endpoint
 /// Whether a connection whose last packet was at this moment is kept at a later one: that was no more
 /// than [`MOST_PAUSE`] seconds ago.
 fn is_kept(at: Moment, now: Moment) -> bool
-    ensures { result ≡ nat_le (now - at) most_pause }
+    ensures { result ≡ nat_le (now - at) most.pause }
 {
     now.seconds().saturating_sub(at.seconds()) <= MOST_PAUSE
 }

@@ -13,44 +13,43 @@ use Rattle.frame_view.specs.Traffic.{codepoint, congestion}
 use Rattle.frame_view.specs.PacketFrame.{Contents}
 use Rattle.frame_view.specs.Upper.{transport_of, payload_of}
 
--- The offsets of the fields of the header. The version is the upper half of the first octet, the header's length the lower half.
-abbrev pub version_and_length_offset : ℕ
-version_and_length_offset = 0
+-- where the fields of the header stand
+pub record Offsets : Type 0 where
+  -- the version is the upper half of the octet, the header's length the lower half
+  pub version_and_length : ℕ
+  pub type_of_service : ℕ
+  pub total_length : ℕ
+  -- three bits of flags, and thirteen of the offset
+  pub fragment_field : ℕ
+  pub time_to_live : ℕ
+  pub protocol : ℕ
+  pub source : ℕ
+  pub destination : ℕ
 
-abbrev pub type_of_service_offset : ℕ
-type_of_service_offset = 1
-
-abbrev pub total_length_offset : ℕ
-total_length_offset = 2
-
--- three bits of flags, and thirteen of the offset
-abbrev pub fragment_field_offset : ℕ
-fragment_field_offset = 6
-
-abbrev pub time_to_live_offset : ℕ
-time_to_live_offset = 8
-
-abbrev pub protocol_offset : ℕ
-protocol_offset = 9
-
-abbrev pub source_offset : ℕ
-source_offset = 12
-
-abbrev pub destination_offset : ℕ
-destination_offset = 16
+abbrev pub offsets : Offsets
+offsets = record {
+  version_and_length = 0;
+  type_of_service = 1;
+  total_length = 2;
+  fragment_field = 6;
+  time_to_live = 8;
+  protocol = 9;
+  source = 12;
+  destination = 16;
+}
 
 -- how many octets the header has: its length counts words of four octets
 unfoldable pub header_len : List ℕ → ℕ
-header_len packet = slice_index packet version_and_length_offset % 16 * 4
+header_len packet = slice_index packet offsets.version_and_length % 16 * 4
 
 -- what counts: up to the end that the total length names, or the frame's end where that is first
 unfoldable pub counted : List ℕ → List ℕ
-counted packet = take (big_16 total_length_offset packet) packet
+counted packet = take (big_16 offsets.total_length packet) packet
 
 -- version 4, and a header of at least five words, all of it among what counts
 unfoldable pub has_header : List ℕ → Bool
 has_header packet =
-    slice_index packet version_and_length_offset / 16 == 4 && nat_le least_header (header_len packet) && nat_le (header_len packet) (length (counted packet))
+    slice_index packet offsets.version_and_length / 16 == 4 && nat_le least_header (header_len packet) && nat_le (header_len packet) (length (counted packet))
   where
     -- how many octets the header has at least
     least_header : ℕ
@@ -58,7 +57,7 @@ has_header packet =
 
 -- the fragment offset isn't 0
 unfoldable pub is_later_fragment : List ℕ → Bool
-is_later_fragment packet = not (big_16 fragment_field_offset packet % 8192 == 0)
+is_later_fragment packet = not (big_16 offsets.fragment_field packet % 8192 == 0)
 
 -- what counts behind the header
 abbrev pub upper_octets : List ℕ → List ℕ
@@ -68,20 +67,20 @@ upper_octets packet = drop (header_len packet) (counted packet)
 unfoldable pub transport_in : List ℕ → Result Transport Part
 transport_in packet =
     if is_later_fragment packet then (Ok Absent)
-    else (transport_of 1 (slice_index packet protocol_offset) (upper_octets packet))
+    else (transport_of 1 (slice_index packet offsets.protocol) (upper_octets packet))
 
 unfoldable pub fields_of : List ℕ → Result Fields Part
 fields_of packet = if has_header packet then (transport_in packet >>= λ transport. Ok (fields_with packet transport)) else (Err part.Ip)
   where
     fields_with : List ℕ → Transport → Fields
     fields_with packet transport = record {
-      src = V4 (big_32 source_offset packet);
-      dst = V4 (big_32 destination_offset packet);
-      protocol = slice_index packet protocol_offset;
-      dscp = codepoint (slice_index packet type_of_service_offset);
-      ecn = congestion (slice_index packet type_of_service_offset);
-      length = big_16 total_length_offset packet;
-      ttl = slice_index packet time_to_live_offset;
+      src = V4 (big_32 offsets.source packet);
+      dst = V4 (big_32 offsets.destination packet);
+      protocol = slice_index packet offsets.protocol;
+      dscp = codepoint (slice_index packet offsets.type_of_service);
+      ecn = congestion (slice_index packet offsets.type_of_service);
+      length = big_16 offsets.total_length packet;
+      ttl = slice_index packet offsets.time_to_live;
       transport = transport;
     }
 

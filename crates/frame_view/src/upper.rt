@@ -53,7 +53,7 @@ impl<'a> Model for UpperLayer<'a> {
 /// The ports of source and destination, with which the headers of TCP and UDP begin.
 fn ports(octets: &[u8]) -> (u16, u16)
     requires { 4 ≤ length octets.now }
-    ensures { result ≡ (numbers.big_16 spec.source_port_offset octets.now, numbers.big_16 spec.destination_port_offset octets.now) }
+    ensures { result ≡ (numbers.big_16 spec.offsets.source_port octets.now, numbers.big_16 spec.offsets.destination_port octets.now) }
 {
     (
         big_16(octets, SOURCE_PORT_OFFSET),

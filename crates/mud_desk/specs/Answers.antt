@@ -1,5 +1,5 @@
 -- What a command answers, and the steps that it takes; and why a desk can't be opened.
-use Rattle.std.specs.Prelude.{◌≡◌, ℕ, ◌+◌, ◌≤◌, Bool, true, false, List, length, ◌⊎◌, IsOk}
+use Rattle.std.specs.Prelude.{◌≡◌, ℕ, ◌+◌, ◌≤◌, Bool, true, false, List, length, ◌⊎◌}
 use Rattle.acl_model.specs.declared.binding.Binding.{Binding}
 use Rattle.acl_model.specs.Changes.{IsBindingChange}
 use Rattle.acl_changes.specs.Patch.{rows_apart}
@@ -13,7 +13,7 @@ use Rattle.mud_desk.specs.declared.items.fault.OpenFault.{OpenFault}
 use Rattle.mud_desk.specs.declared.items.fault.OpenFault.TheVariants as opening
 use Rattle.mud_desk.specs.Items.Opening.{IsPartlyAnew}
 use Rattle.mud_world.specs.declared.item.Item.{Item}
-use Rattle.desk_model.specs.Items.{tables_in}
+use Rattle.desk_model.specs.Keeping.{KeepsSame}
 use Rattle.desk_books.specs.Books.{Books, desk_of}
 use Rattle.desk_books.specs.Planned.{IsPaid}
 
@@ -30,17 +30,12 @@ is_fault_of_keeper opening.Keeper = true
 is_fault_of_keeper opening.Memory = false
 is_fault_of_keeper (opening.BadItem kind key) = false
 
--- all items were records, and the items are those of the same desk
-pub record AreSameTables (before now : List Item) : Type 0 where
-  pub good : IsOk (tables_in before)
-  pub same : tables_in now ≡ tables_in before
-
 -- What a refusal leaves of the items: all of them where an item is named. Else all of them, or those of the same desk: where the
 -- keeper failed, with some of its Things put anew.
 abbrev pub IsLeft : List Item → List Item → OpenFault → Type 0
 IsLeft before now (opening.BadItem kind key) = now ≡ before
 IsLeft before now opening.Keeper = (now ≡ before) ⊎ IsPartlyAnew before now
-IsLeft before now opening.Memory = (now ≡ before) ⊎ AreSameTables before now
+IsLeft before now opening.Memory = KeepsSame before now
 
 -- one step for each compiled row that is only before or only after, and for each binding that goes or comes
 pub record PaysForCommit (before after : Books) (steps : ℕ) : Type 0 where

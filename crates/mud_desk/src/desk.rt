@@ -7,7 +7,8 @@ ghost use Rattle.frame_view.specs.Frame.{frame_of};
 ghost use Rattle.packet_judge.specs.Verdicts.{steps_on};
 ghost use Rattle.desk_model.specs.DeskTables.{IsSound};
 ghost use Rattle.desk_model.specs.Commands.{IsAsked, command_step};
-ghost use Rattle.desk_model.specs.Items.{none_kept, tables_in};
+ghost use Rattle.desk_model.specs.Items.{none_kept};
+ghost use Rattle.desk_model.specs.Keeping.{KeepsDesk};
 ghost use Rattle.desk_model.specs.Sessions as sessions;
 ghost use Rattle.desk_model.specs.Sessions.{AllowedReply, AllowedVerdict, verdict_in, is_of_keeper};
 ghost use Rattle.desk_model.specs.Verdicts.{policy_at};
@@ -71,9 +72,9 @@ impl Desk {
         nothing: Loaded,
     ) -> Result<Desk, (OpenFault, Box<dyn Keeper>)>
         requires { kept_of nothing ≡ none_kept }
-        // The desk's lists are those that the keeper told before, and are kept now.
+        // The desk's lists are those that the keeper's items kept before, and are kept now.
         ensures tables { Tells Keeper-dyn keeper → IfOk result (λ desk. Tells Keeper-dyn desk.keeper
-            → tables_in (kept_items Keeper-dyn keeper) ≡ Ok (tables_of desk.state)) }
+            → KeepsDesk (kept_items Keeper-dyn keeper) (tables_of desk.state)) }
         ensures sound { IfOk result (λ desk. IsSound (tables_of desk.state)) }
         ensures kept { IfOk result (λ desk. IsKept Keeper-dyn desk.keeper (tables_of desk.state)) }
         ensures begun { IfOk result (λ desk. session_of desk.state ≡ sessions.opened (tables_of desk.state)) }

@@ -1,7 +1,7 @@
 -- Parts of definitions that lemmas speak of.
 use Rattle.std.specs.Prelude.{ℕ, List, drop, length, nat_le, nat_lt, take, ◌+◌, if◌then◌else◌, Err, Ok, Result}
 use Rattle.mud_base.specs.declared.number.ByteOrder.{ByteOrder}
-use Rattle.pcap_read.specs.Packets.{Packets, captured_len, head_len, header_len, packets_from, seconds_offset}
+use Rattle.pcap_read.specs.Packets.{Packets, captured_len, head_len, header_len, offsets, packets_from}
 use Rattle.read_buffer.specs.Packets.{broken, with_packet}
 use Rattle.pcap_read.specs.declared.fault.CapFault.TheVariants as faults
 use Rattle.pcap_read.specs.declared.fault.CapFault.{CapFault}
@@ -12,7 +12,7 @@ behind_header (Err fault) octets = broken fault
 behind_header (Ok order) octets = packets_from order 0 0 header_len octets
 
 abbrev pub seconds_of : ByteOrder → List ℕ → ℕ
-seconds_of order head = number_32 order seconds_offset head
+seconds_of order head = number_32 order offsets.seconds head
 
 abbrev pub at_head : ByteOrder → ℕ → ℕ → List ℕ → Packets → Packets
 at_head order count offset octets later =

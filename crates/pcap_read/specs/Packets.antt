@@ -12,39 +12,43 @@ use Rattle.pcap_read.specs.declared.fault.CapFault.TheVariants as faults
 abbrev pub Packets : Type 0
 Packets = Told CapFault
 
--- The header has 24 octets (section 4): the magic number, the version in two numbers, two reserved ones, the snap length and the
--- link type. The magic number tells the order of the octets of all numbers. Here the offsets of those that are read:
-abbrev pub magic_offset : ℕ
-magic_offset = 0
+-- where the fields stand that are read
+pub record Offsets : Type 0 where
+  -- In the header (section 4): the magic number, which tells the order of the octets of all numbers, the version, and the link type.
+  pub magic : ℕ
+  pub major_version : ℕ
+  pub minor_version : ℕ
+  pub link_type : ℕ
+  -- in a packet's head (section 5): its seconds, and how many octets were captured
+  pub seconds : ℕ
+  pub captured_len : ℕ
 
-abbrev pub major_version_offset : ℕ
-major_version_offset = 4
+abbrev pub offsets : Offsets
+offsets = record { magic = 0; major_version = 4; minor_version = 6; link_type = 20; seconds = 0; captured_len = 8 }
 
-abbrev pub minor_version_offset : ℕ
-minor_version_offset = 6
-
-abbrev pub link_type_offset : ℕ
-link_type_offset = 20
-
+-- how many octets the header has, and a packet's head
 abbrev pub header_len : ℕ
 header_len = 24
 
+abbrev pub head_len : ℕ
+head_len = 16
+
 -- the magic numbers of captures in microseconds and in nanoseconds
 unfoldable pub has_magic : ByteOrder → List ℕ → Bool
-has_magic order header = number_32 order magic_offset header == 0xA1B2C3D4 || number_32 order magic_offset header == 0xA1B23C4D
+has_magic order header = number_32 order offsets.magic header == 0xA1B2C3D4 || number_32 order offsets.magic header == 0xA1B23C4D
 
 -- the order of the octets of all numbers, or what is wrong with the header
 unfoldable pub header_of : List ℕ → Result ByteOrder CapFault
 header_of header = header_by (order_in header) header
   where
     is_ethernet : ByteOrder → List ℕ → Bool
-    is_ethernet order header = number_32 order link_type_offset header == 1
+    is_ethernet order header = number_32 order offsets.link_type header == 1
 
     order_in : List ℕ → Option ByteOrder
     order_in header = if has_magic Big header then Some Big else (if has_magic Little header then Some Little else None)
 
     is_version_2_4 : ByteOrder → List ℕ → Bool
-    is_version_2_4 order header = number_16 order major_version_offset header == 2 && number_16 order minor_version_offset header == 4
+    is_version_2_4 order header = number_16 order offsets.major_version header == 2 && number_16 order offsets.minor_version header == 4
 
     header_by : Option ByteOrder → List ℕ → Result ByteOrder CapFault
     header_by None header = Err faults.Magic
@@ -55,19 +59,8 @@ header_of header = header_by (order_in header) header
         ∷ [])
         (Ok order)
 
--- The head of a packet has 16 octets (section 5): its seconds, a fraction, how many octets were captured, and how many there were.
--- Here the offsets of those that are read:
-abbrev pub seconds_offset : ℕ
-seconds_offset = 0
-
-abbrev pub captured_len_offset : ℕ
-captured_len_offset = 8
-
-abbrev pub head_len : ℕ
-head_len = 16
-
 unfoldable pub captured_len : ByteOrder → List ℕ → ℕ
-captured_len order head = number_32 order captured_len_offset head
+captured_len order head = number_32 order offsets.captured_len head
 
 -- The packets in the octets from an offset on, behind so many packets, where the first so many octets are the rest of a packet.
 unfoldable pub packets_from : ByteOrder → ℕ → ℕ → ℕ → List ℕ → Packets
@@ -88,7 +81,7 @@ packets_from order zero count offset (octet ∷ behind) =
         else with_packet (record {
           number = count + 1;
           offset = offset;
-          seconds = (number_32 order seconds_offset (take head_len octets));
+          seconds = (number_32 order offsets.seconds (take head_len octets));
           octets = take (captured_len order (take head_len octets)) (drop head_len octets);
         }) later)))
 

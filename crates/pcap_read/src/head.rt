@@ -1,6 +1,6 @@
 //! The heads of packets.
 ghost use Rattle.std.specs.Prelude.{◌≡◌, ◌≤◌, length};
-ghost use Rattle.pcap_read.specs.Packets.{captured_len, seconds_offset};
+ghost use Rattle.pcap_read.specs.Packets.{captured_len, offsets};
 ghost use Rattle.pcap_read.specs.Parts as spec;
 ghost use Rattle.mud_base.specs.Numbers.{number_32};
 
@@ -28,7 +28,7 @@ pub(crate) struct Head {
 #[tactic(auto, unfolding(crate::specs::Packets::captured_len))]
 pub(crate) fn head_in(order: ByteOrder, head: &[u8]) -> Head
     requires { 16 ≤ length head.now }
-    ensures seconds { result.seconds ≡ number_32 order seconds_offset head.now }
+    ensures seconds { result.seconds ≡ number_32 order offsets.seconds head.now }
     ensures len { result.len ≡ captured_len order head.now }
 {
     Head {

@@ -58,7 +58,7 @@ fn order_in(header: &[u8]) -> Option<ByteOrder>
 #[tactic(auto)]
 fn is_version_2_4(order: ByteOrder, header: &[u8]) -> bool
     requires { 24 ≤ length header.now }
-    ensures { result ≡ number_16 order spec.major_version_offset header.now == 2 && number_16 order spec.minor_version_offset header.now == 4 }
+    ensures { result ≡ number_16 order spec.offsets.major_version header.now == 2 && number_16 order spec.offsets.minor_version header.now == 4 }
 {
     number_16(order, header, MAJOR_VERSION_OFFSET) == MAJOR_VERSION
         && number_16(order, header, MINOR_VERSION_OFFSET) == MINOR_VERSION
@@ -68,7 +68,7 @@ fn is_version_2_4(order: ByteOrder, header: &[u8]) -> bool
 #[tactic(auto)]
 fn is_ethernet(order: ByteOrder, header: &[u8]) -> bool
     requires { 24 ≤ length header.now }
-    ensures { result ≡ number_32 order spec.link_type_offset header.now == 1 }
+    ensures { result ≡ number_32 order spec.offsets.link_type header.now == 1 }
 {
     number_32(order, header, LINK_TYPE_OFFSET) == ETHERNET
 }

@@ -1,5 +1,5 @@
 -- What a run comes to whose store isn't opened, by the fault of the opening.
-use Rattle.std.proofs.Common.{◌≡◌, ◌≢◌, ℕ, ◌⊎◌, inl, inr, List, [], take, Result, Ok, Err, IsOk, IsErr, refl, rules, sym, ap, ap₂, subst, ◌∙◌, arith}
+use Rattle.std.proofs.Common.{◌≡◌, ◌≢◌, ℕ, ◌⊎◌, inl, inr, List, [], take, refl, rules, sym, ap, ap₂, subst, ◌∙◌, arith}
 use Rattle.std.specs.declared.dyn_box.DynBox.{DynBox}
 use Rattle.std.specs.declared.alloc.Global.{Global}
 use Rattle.mud_world.specs.declared.keeper.Keeper.{Ghosts}
@@ -12,12 +12,10 @@ use Rattle.mud_world.proofs.Doors.{put_out_none}
 use Rattle.run_common.specs.Output.{WroteFirst}
 use Rattle.run_common.specs.Ends.{IsSteady, IsStopped, IsStoppedWriting}
 use Rattle.run_common.specs.Status.{each_status}
-use Rattle.run_common.proofs.Outputs.{wrote_none}
 use Rattle.mud_desk.specs.declared.items.fault.OpenFault.{OpenFault}
 use Rattle.mud_desk.specs.declared.items.fault.OpenFault.TheVariants.{Keeper, Memory, BadItem}
 use Rattle.mud_desk.specs.Items.Opening.{IsFaultOf, IsOfCall}
-use Rattle.desk_model.specs.DeskTables.{DeskTables}
-use Rattle.desk_model.specs.Items.{tables_in}
+use Rattle.desk_model.specs.Keeping.{IsFirstBad, KeepsSame}
 use Rattle.mud_desk.specs.Answers.{IsLeft, is_fault_of_keeper}
 use Rattle.desk_model.specs.Boxed.{IsSameBox}
 use Rattle.run_desk.specs.Honest.{RunsHonestly}
@@ -47,39 +45,39 @@ steady_of (BadItem kind key) status before now is counts other = counts.steady r
 -- ---- What is written
 
 module _ (old new : DoorState) (status : ℕ) where
-  refuses_item : (store : Result DeskTables Item) (item : Item) → store ≡ Err item → (status ≡ 6) ⊎ ((status ≡ 4) ⊎ (status ≡ 5))
+  refuses_item : (items : List Item) (item : Item) → IsFirstBad items item → (status ≡ 6) ⊎ ((status ≡ 4) ⊎ (status ≡ 5))
       → (status ≡ 6 → new ≡ put_out (bad_item_line item.kind item.key) old)
       → ((status ≡ 4) ⊎ (status ≡ 5) → WroteFirst (bad_item_line item.kind item.key) old new)
-      → RefusesStore store old new status
-  refuses_item store item bad is done part = subst (λ (found : Result DeskTables Item). RefusesStore found old new status) (sym bad) (record {
+      → RefusesStore items old new status
+  refuses_item items item bad is done part = record {
     statuses = refusal_status (BadItem item.kind item.key) status is;
-    bad = λ which. (item, refl);
-    done = done;
-    part = part;
+    done = λ six. record { item = item; bad = bad; line = done six };
+    part = λ four. record { item = item; bad = bad; line = part (inl four) };
+    unpaid = λ five. inr (record { item = item; bad = bad; line = part (inr five) });
     none = λ seven. absurd (grind arith);
-  })
+  }
 
   refuses_by : (items : List Item) (fault : OpenFault) → IsFaultOf items fault → IsRefusal fault status
       → (status ≡ 6 → new ≡ put_out (refusal_text fault) old)
       → ((status ≡ 4) ⊎ (status ≡ 5) → WroteFirst (refusal_text fault) old new)
-      → (IsOfCall fault → new ≡ old) → RefusesStore (tables_in items) old new status
+      → (IsOfCall fault → new ≡ old) → RefusesStore items old new status
   refuses_by items Keeper of is done part untouched = record {
     statuses = refusal_status Keeper status is;
-    bad = λ which. absurd (grind arith);
     done = λ six. absurd (grind arith);
-    part = λ which. absurd (grind arith);
+    part = λ four. absurd (grind arith);
+    unpaid = λ five. absurd (grind arith);
     none = λ seven. untouched tt;
   }
   refuses_by items Memory of is done part untouched = record {
     statuses = refusal_status Memory status is;
-    bad = λ which. absurd (grind arith);
     done = λ six. absurd (grind arith);
-    part = λ which. wrote_none _ old new (untouched tt);
+    part = λ four. absurd (grind arith);
+    unpaid = λ five. inl (untouched tt);
     none = λ seven. absurd (grind arith);
   }
   refuses_by items (BadItem kind key) of is done part untouched =
       let text : bad_item_line kind key ≡ bad_item_line of.item.kind of.item.key = ap₂ bad_item_line (sym of.kind_is) (sym of.key_is) in
-      refuses_item (tables_in items) of.item of.bad is
+      refuses_item items of.item of.bad is
       (λ six. done six ∙ ap (λ (line : List ℕ). put_out line old) text)
       (λ first. subst (λ (line : List ℕ). WroteFirst line old new) text (part first))
 
@@ -92,34 +90,21 @@ module _ (old new : DoorState) (status : ℕ) where
 
 -- ---- What is kept
 
-left_tables : (before now : List Item) (fault : OpenFault) → IsLeft before now fault → tables_in now ≡ tables_in before
-left_tables before now (BadItem kind key) same = ap tables_in same
-left_tables before now Keeper (inl same) = ap tables_in same
-left_tables before now Keeper (inr anew) = anew.same
-left_tables before now Memory (inl same) = ap tables_in same
-left_tables before now Memory (inr tables) = tables.same
+left_same : (before now : List Item) (fault : OpenFault) → IsLeft before now fault → KeepsSame before now
+left_same before now (BadItem kind key) same = inl same
+left_same before now Keeper (inl same) = inl same
+left_same before now Keeper (inr anew) = inr (anew.desk, anew.keeps, anew.still)
+left_same before now Memory left = left
 
 same_items_of : (before now : List Item) (fault : OpenFault) (status : ℕ) → IsRefusal fault status → IsLeft before now fault → status ≡ 6 → now ≡ before
 same_items_of before now Keeper status is left six = absurd (grind arith)
 same_items_of before now Memory status is left six = absurd (grind arith)
 same_items_of before now (BadItem kind key) status is left six = left
 
-not_both : {A : Type 0} (store : Result DeskTables Item) → IsOk store → IsErr store → A
-not_both (Ok tables) ok err = absurd (cc)
-not_both (Err item) ok err = absurd (cc)
-
--- where an item is no record, all items are as they were
-same_where_bad : (before now : List Item) (fault : OpenFault) → IsLeft before now fault → IsErr (tables_in now) → now ≡ before
-same_where_bad before now (BadItem kind key) same bad = same
-same_where_bad before now Keeper (inl same) bad = same
-same_where_bad before now Keeper (inr anew) bad = not_both (tables_in before) anew.good (subst (λ (store : Result DeskTables Item). IsErr store) anew.same bad)
-same_where_bad before now Memory (inl same) bad = same
-same_where_bad before now Memory (inr tables) bad = not_both (tables_in before) tables.good (subst (λ (store : Result DeskTables Item). IsErr store) tables.same bad)
-
-bad_where_told : (items : List Item) (fault : OpenFault) (status : ℕ) → IsFaultOf items fault → IsRefusal fault status → (status ≡ 4) ⊎ (status ≡ 6) → IsErr (tables_in items)
+bad_where_told : (items : List Item) (fault : OpenFault) (status : ℕ) → IsFaultOf items fault → IsRefusal fault status → (status ≡ 4) ⊎ (status ≡ 6) → (item : Item) × IsFirstBad items item
 bad_where_told items Keeper status of is which = absurd (grind arith)
 bad_where_told items Memory status of is which = absurd (grind arith)
-bad_where_told items (BadItem kind key) status of is which = subst (λ (store : Result DeskTables Item). IsErr store) (sym of.bad) refl
+bad_where_told items (BadItem kind key) status of is which = (of.item, of.bad)
 
 -- ---- The run
 
@@ -140,7 +125,7 @@ module _ {X : Type 0} {F : X → Type 0} (members : (v : (x : X) × F x) → Gho
   pub record RunsRefused (tells : Type 0) (keeper returned : DynBox X Global F) (old new : DoorView) (status : ℕ) : Type 0 where
     pub honest : RunsHonestly members each_refusal (IsStoppedWriting old new) (new.writes ≡ old.writes) keeper returned status
     pub leaves : LeavesStore members keeper returned status
-    pub refuses : tells → Tells members returned → RefusesStore (tables_in (kept_items members returned)) old.state new.state status
+    pub refuses : tells → Tells members returned → RefusesStore (kept_items members returned) old.state new.state status
     pub wrote : tells → (text : List ℕ) × (new.state ≡ put_out text old.state)
     pub same_turns : new.turns ≡ old.turns
     pub same_reads : new.reads ≡ old.reads
@@ -152,8 +137,7 @@ module _ {X : Type 0} {F : X → Type 0} (members : (v : (x : X) × F x) → Gho
   unopened fault named left is = record {
     statuses = refusal_status fault status is;
     bad = λ which tell. bad_where_told (kept_items members after) fault status (named tell) is which;
-    same_tables = λ before now. left_tables (kept_items members keeper) (kept_items members after) fault (left before now);
-    same_items = λ before now bad. same_where_bad (kept_items members keeper) (kept_items members after) fault (left before now) bad;
+    same = λ before now. left_same (kept_items members keeper) (kept_items members after) fault (left before now);
   }
 
   pub runs_refused : (fault : OpenFault)
@@ -177,7 +161,7 @@ module _ {X : Type 0} {F : X → Type 0} (members : (v : (x : X) × F x) → Gho
     };
     leaves = record {
       keeper_steady = steady_of fault status (faults_of members keeper) (faults_of members after) is counts;
-      same_tables = λ before now. left_tables (kept_items members keeper) (kept_items members after) fault (left before now);
+      same = λ before now. left_same (kept_items members keeper) (kept_items members after) fault (left before now);
       same_items = λ six before now. same_items_of (kept_items members keeper) (kept_items members after) fault status is (left before now) six;
       kept = inr (unopened fault bad left is);
     };
@@ -190,6 +174,6 @@ module _ {X : Type 0} {F : X → Type 0} (members : (v : (x : X) × F x) → Gho
   pub is_refused : RunsRefused members tells keeper after old new status → tells → Tells members after → IsRefused members keeper after old.state new.state status
   is_refused run told tell = record {
     refuses = run.refuses told tell;
-    same_tables = λ before. run.leaves.same_tables before tell;
+    same = λ before. run.leaves.same before tell;
     same_items = λ six before. run.leaves.same_items six before tell;
   }

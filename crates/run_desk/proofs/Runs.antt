@@ -1,20 +1,21 @@
 -- What a run that reads a capture promises where the desk is opened, and where it isn't.
-use Rattle.std.proofs.Common.{◌≡◌, ◌≢◌, ℕ, ◌⊎◌, inl, inr, List, Result, Ok, sym, subst}
+use Rattle.std.proofs.Common.{◌≡◌, ◌≢◌, ℕ, ◌⊎◌, inl, inr, List, sym, subst}
 use Rattle.std.specs.declared.dyn_box.DynBox.{DynBox}
 use Rattle.std.specs.declared.alloc.Global.{Global}
 use Rattle.mud_world.specs.declared.keeper.Keeper.{Ghosts}
-use Rattle.mud_world.specs.declared.item.Item.{Item}
 use Rattle.mud_world.specs.Boxed.{faults_of, Tells, kept_items}
 use Rattle.mud_world.specs.Causes.{EndsAtFailure}
-use Rattle.mud_world.specs.Door.{DoorState}
+use Rattle.read_buffer.specs.Packets.{Packet}
+use Rattle.run_captures.specs.Capture.{WritesTaken}
+use Rattle.run_captures.specs.Fold.{LineStep}
 use Rattle.run_common.specs.Output.{Output, WritesOutput, WritesPart}
 use Rattle.mud_world.specs.View.{DoorView}
 use Rattle.desk_model.specs.DeskTables.{DeskTables, IsSound}
-use Rattle.desk_model.specs.Items.{tables_in}
+use Rattle.desk_model.specs.Keeping.{KeepsDesk}
 use Rattle.desk_model.specs.Boxed.{IsKept, IsSameBox}
-use Rattle.run_desk.specs.Store.{ReadsByStore, WritesOfStore}
+use Rattle.run_desk.specs.Store.{ReadsByStore}
 use Rattle.run_desk.proofs.Refusals.{RunsRefused, reads_honestly}
-use Rattle.run_desk.proofs.Stores.{IsOfCapture, kept_tables, leaves_opened, no_six, no_seven, writes_opened, writes_refused}
+use Rattle.run_desk.proofs.Stores.{IsOfCapture, keeps_tables, leaves_opened, no_six, no_seven, writes_opened}
 
 abbrev IsOfStore : ℕ → Type 0
 IsOfStore status = (status ≡ 0) ⊎ ((status ≡ 3) ⊎ ((status ≡ 4) ⊎ ((status ≡ 5) ⊎ ((status ≡ 6) ⊎ (status ≡ 7)))))
@@ -28,18 +29,18 @@ of_capture status (inr (inr (inr five))) = inr (inr (inr (inl five)))
 -- ---- Runs
 
 module _ {X : Type 0} {F : X → Type 0} (members : (v : (x : X) × F x) → Ghosts (F v.0)) (keeper after : DynBox X Global F) (tells : Type 0) (old new : DoorView) (status : ℕ)
-    (output : DeskTables → List ℕ → Output) (taken : DeskTables → DoorState → DoorState → Type 0) where
+    {S : Type 0} (output : DeskTables → List ℕ → Output) (step : S → Packet → LineStep S) (from : DeskTables → S) where
   pub opened_over : (tables : DeskTables)
-      → (Tells members keeper → Tells members after → tables_in (kept_items members keeper) ≡ Ok tables)
+      → (Tells members keeper → Tells members after → KeepsDesk (kept_items members keeper) tables)
       → IsSound tables → IsKept members after tables → faults_of members after ≡ faults_of members keeper → IsSameBox keeper after
       → IsOfCapture status
       → (status ≡ 4 → EndsAtFailure new.failed old.reads new.reads old.writes new.writes)
       → (status ≢ 4 → (new.reads ≡ old.reads) × (new.writes ≡ old.writes))
       → (tells → (status ≡ 0) ⊎ (status ≡ 3) → WritesOutput (output tables old.state.left) old.state new.state status)
       → (tells → (status ≡ 4) ⊎ (status ≡ 5) → WritesPart (output tables old.state.left) old.state new.state)
-      → (tells → new.reads ≢ old.reads → taken tables old.state new.state)
-      → new.turns ≡ old.turns → (returned : DynBox X Global F) → returned ≡ after → ReadsByStore members output taken tells keeper returned old new status
-  opened_over tables read sound kept same_count same_box is fault steady done part gone turns returned same = subst (λ (box : DynBox X Global F). ReadsByStore members output taken tells keeper box old new status) (sym same) (record {
+      → (tells → new.reads ≢ old.reads → WritesTaken step (from tables) old.state new.state)
+      → new.turns ≡ old.turns → (returned : DynBox X Global F) → returned ≡ after → ReadsByStore members output step from tells keeper returned old new status
+  opened_over tables read sound kept same_count same_box is fault steady done part gone turns returned same = subst (λ (box : DynBox X Global F). ReadsByStore members output step from tells keeper box old new status) (sym same) (record {
     honest = record {
       statuses = of_capture status is;
       fault = fault;
@@ -47,17 +48,15 @@ module _ {X : Type 0} {F : X → Type 0} (members : (v : (x : X) × F x) → Gho
       keeper_fault = λ seven. no_seven status is seven;
       same_box = same_box;
     };
-    writes = λ told tell.
-        subst (λ (store : Result DeskTables Item). WritesOfStore output taken store old new status) (sym (kept_tables members after tables sound kept tell))
-        (writes_opened output taken tables old new status is (done told) (part told) (gone told));
+    writes = λ told tell. inl (tables, keeps_tables members after tables sound kept tell, writes_opened output step from tables old new status is (done told) (part told) (gone told));
     leaves = leaves_opened members keeper after status tables read sound kept same_count (λ six. no_six status is six);
     same_turns = turns;
   })
 
-  pub refused_over : RunsRefused members tells keeper after old new status → ReadsByStore members output taken tells keeper after old new status
+  pub refused_over : RunsRefused members tells keeper after old new status → ReadsByStore members output step from tells keeper after old new status
   refused_over run = record {
     honest = reads_honestly members keeper after old new status run.honest run.same_reads;
-    writes = λ told tell. writes_refused output taken (tables_in (kept_items members after)) old new status (run.refuses told tell) run.same_reads;
+    writes = λ told tell. inr (run.refuses told tell, run.same_reads);
     leaves = run.leaves;
     same_turns = run.same_turns;
   }

@@ -1,12 +1,11 @@
 -- What a run of `drill` promises where the store holds nothing, where it holds something, and where no desk is opened.
-use Rattle.std.proofs.Common.{◌≡◌, ◌≢◌, ℕ, ◌==◌, ◌⊎◌, inl, inr, true, false, List, [], ◌∷◌, length, Option, None, is_none, Result, Ok, IsOkAnd, refl, sym, ap, subst, ◌∙◌, arith}
+use Rattle.std.proofs.Common.{◌≡◌, ◌≢◌, ℕ, ◌==◌, ◌⊎◌, inl, inr, true, false, List, [], ◌∷◌, length, Option, None, is_none, refl, sym, subst, ◌∙◌, arith}
 use Rattle.std.proofs.lemmas.Bool.Decides.{Decides-eqb}
 use Rattle.std.specs.declared.dyn_box.DynBox.{DynBox}
 use Rattle.std.specs.declared.alloc.Global.{Global}
 use Rattle.std.proofs.lemmas.Bool.{and_parts}
 use Rattle.mud_base.specs.declared.prefix.Prefix.{Prefix}
 use Rattle.mud_world.specs.declared.keeper.Keeper.{Ghosts}
-use Rattle.mud_world.specs.declared.item.Item.{Item}
 use Rattle.mud_world.specs.Boxed.{faults_of, Tells, kept_items}
 use Rattle.mud_world.specs.Causes.{Rose, StopsAtFailure}
 use Rattle.mud_world.specs.Door.{put_out}
@@ -17,12 +16,13 @@ use Rattle.usage_tables.specs.declared.cached_file.CachedFile.{CachedFile}
 use Rattle.run_common.specs.Output.{WroteFirst}
 use Rattle.mud_world.specs.View.{DoorView}
 use Rattle.desk_model.specs.DeskTables.{DeskTables, IsSound, empty_desk}
-use Rattle.desk_model.specs.Items.{tables_in}
+use Rattle.desk_model.specs.Keeping.{KeepsDesk}
+use Rattle.desk_model.proofs.Keeping.{keeps_none}
 use Rattle.desk_model.specs.Sessions.{opened}
 use Rattle.desk_model.proofs.ReadSound.{no_stamp}
 use Rattle.desk_model.specs.Boxed.{IsKept, IsSameBox}
 use Rattle.run_desk.proofs.Refusals.{RunsRefused, is_refused}
-use Rattle.run_desk.proofs.Stores.{kept_tables}
+use Rattle.run_desk.proofs.Stores.{keeps_tables}
 use Rattle.run_drills.specs.Commands.{drill_commands}
 use Rattle.run_drills.specs.Drill.{drill_text, lines_in, session_after}
 use Rattle.run_drills.specs.Store.{DrillsFrom, DrillsStore, IsFull, holds_nothing, not_empty_line}
@@ -77,7 +77,7 @@ is_seven_not status is seven = absurd (grind arith)
 -- ---- A store that holds something
 
 module _ {X : Type 0} {F : X → Type 0} (members : (v : (x : X) × F x) → Ghosts (F v.0)) (keeper begun : DynBox X Global F) (tells : Type 0) (old new : DoorView) (status packets : ℕ) (tables : DeskTables)
-    (read : Tells members keeper → Tells members begun → tables_in (kept_items members keeper) ≡ Ok tables)
+    (read : Tells members keeper → Tells members begun → KeepsDesk (kept_items members keeper) tables)
     (same_count : faults_of members begun ≡ faults_of members keeper) (same_box : IsSameBox keeper begun) where
   pub drilled_run : holds_nothing tables ≡ true → (returned : DynBox X Global F) → DrillsFrom members tells packets (opened tables) begun returned old new status → DrillsStore members tells packets keeper returned old new status
   drilled_run empty returned from =
@@ -94,7 +94,7 @@ module _ {X : Type 0} {F : X → Type 0} (members : (v : (x : X) × F x) → Gho
         keeper_steady = λ other. run.keeper_steady other ∙ same_count;
         runs = λ told tell. inl (record {
           statuses = run.statuses;
-          held = λ before. read before (run.told tell) ∙ ap Ok new_desk;
+          held = λ before. keeps_none (kept_items members keeper) (subst (KeepsDesk (kept_items members keeper)) new_desk (read before (run.told tell)));
           ran = run.ran;
           rest = run.rest;
           split = run.split;
@@ -136,11 +136,11 @@ module _ {X : Type 0} {F : X → Type 0} (members : (v : (x : X) × F x) → Gho
     where
       left : tells → Tells members begun → IsFull members keeper begun old new status
       left told tell =
-          let store : tables_in (kept_items members begun) ≡ Ok tables = kept_tables members begun tables sound kept tell in
+          let keeps : KeepsDesk (kept_items members begun) tables = keeps_tables members begun tables sound kept tell in
           record {
             statuses = is;
-            full = subst (λ (found : Result DeskTables Item). IsOkAnd found (λ desk. holds_nothing desk ≡ false)) (sym store) full;
-            same_tables = λ before. store ∙ sym (read before tell);
+            full = (tables, keeps, full);
+            same = λ before. inr (tables, read before tell, keeps);
             done = done told;
             part = part told;
           }

@@ -1,5 +1,5 @@
 -- What a drill over a store does.
-use Rattle.std.specs.Prelude.{◌≡◌, ℕ, ◌<◌, ◌⊎◌, ◌&&◌, Bool, false, List, [], ◌++◌, length, codes, is_none, Ok, IsOkAnd, ◌∷◌}
+use Rattle.std.specs.Prelude.{◌≡◌, ℕ, ◌<◌, ◌⊎◌, ◌&&◌, Bool, false, List, [], ◌++◌, length, codes, is_none, ◌∷◌}
 use Rattle.std.specs.declared.dyn_box.DynBox.{DynBox}
 use Rattle.std.specs.declared.alloc.Global.{Global}
 use Rattle.mud_world.specs.declared.keeper.Keeper.{Ghosts}
@@ -12,7 +12,8 @@ use Rattle.run_common.specs.Output.{WroteFirst}
 use Rattle.mud_world.specs.View.{DoorView}
 use Rattle.desk_model.specs.declared.command.Command.{Command}
 use Rattle.desk_model.specs.DeskTables.{DeskTables, IsSound, empty_desk}
-use Rattle.desk_model.specs.Items.{items_of, tables_in}
+use Rattle.desk_model.specs.Items.{items_of}
+use Rattle.desk_model.specs.Keeping.{KeepsDesk, KeepsSame}
 use Rattle.desk_model.specs.Sessions.{Session, opened}
 use Rattle.desk_model.specs.Boxed.{IsKept, IsSameBox}
 use Rattle.run_desk.specs.Honest.{RunsHonestly}
@@ -62,7 +63,7 @@ module _ {X : Type 0} {F : X → Type 0} (members : (v : (x : X) × F x) → Gho
   -- A store that held nothing was drilled from empty lists and an empty history on.
   pub record Drills (packets : ℕ) (keeper returned : DynBox X Global F) (old new : DoorView) (status : ℕ) : Type 0 where
     pub statuses : IsOneOf (Done ∷ DoorFailed ∷ NoMemory ∷ KeeperFailed ∷ []) status
-    pub held : Tells members keeper → tables_in (kept_items members keeper) ≡ Ok empty_desk
+    pub held : Tells members keeper → kept_items members keeper ≡ []
     -- Some of the commands ran, in order from the first on, and the lists behind them are kept: all of them with 0 and 4, and with
     -- 7 those before the failed one.
     pub ran : List Command
@@ -80,22 +81,19 @@ module _ {X : Type 0} {F : X → Type 0} (members : (v : (x : X) × F x) → Gho
   -- part of it with 4.
   pub record IsFull (keeper returned : DynBox X Global F) (old new : DoorView) (status : ℕ) : Type 0 where
     pub statuses : IsOneOf (Refused ∷ DoorFailed ∷ []) status
-    pub full : IsOkAnd (tables_in (kept_items members returned)) (λ tables. holds_nothing tables ≡ false)
-    pub same_tables : Tells members keeper → tables_in (kept_items members returned) ≡ tables_in (kept_items members keeper)
+    pub full : (tables : DeskTables) × KeepsDesk (kept_items members returned) tables × (holds_nothing tables ≡ false)
+    pub same : Tells members keeper → KeepsSame (kept_items members keeper) (kept_items members returned)
     pub done : Is Refused status → new.state ≡ put_out not_empty_line old.state
     pub part : Is DoorFailed status → WroteFirst not_empty_line old.state new.state
-
-  -- No command ran: the store holds something, or it is refused.
-  abbrev pub Leaves : DynBox X Global F → DynBox X Global F → DoorView → DoorView → ℕ → Type 0
-  Leaves keeper returned old new status = IsFull keeper returned old new status ⊎ IsRefused members keeper returned old.state new.state status
 
   -- A run of `drill`. `tells` says that the door tells its connections.
   pub record DrillsStore (tells : Type 0) (packets : ℕ) (keeper returned : DynBox X Global F) (old new : DoorView) (status : ℕ) : Type 0 where
     -- A write that fails ends the run.
     pub honest : RunsHonestly members each_status (IsStoppedWriting old new) (new.writes ≡ old.writes) keeper returned status
     pub keeper_steady : IsNot KeeperFailed status → faults_of members returned ≡ faults_of members keeper
-    -- The store held nothing and was drilled, or it was left as it was.
-    pub runs : tells → Tells members returned → Drills packets keeper returned old new status ⊎ Leaves keeper returned old new status
+    -- The store held nothing and was drilled, or no command ran: it holds something, or it is refused.
+    pub runs : tells → Tells members returned → Drills packets keeper returned old new status
+        ⊎ (IsFull keeper returned old new status ⊎ IsRefused members keeper returned old.state new.state status)
     -- Whatever the status, the items of sound tables are kept, but where no desk was opened.
     pub kept : KeepsTables members returned ⊎ IsUnopened members keeper returned status
     -- The box that comes back is the one that was handed in. The door isn't read, no port is bound, and the connection isn't left.

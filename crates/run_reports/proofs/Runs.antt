@@ -1,23 +1,20 @@
 -- What a run of `report` promises where the desk is opened, and where it isn't.
-use Rattle.std.proofs.Common.{◌≡◌, ◌≢◌, ℕ, ◌⊎◌, inl, inr, List, Option, Result, Ok, Err, refl, sym, subst, arith}
+use Rattle.std.proofs.Common.{◌≡◌, ◌≢◌, ℕ, ◌⊎◌, inl, inr, List, Option, sym, subst, arith}
 use Rattle.std.specs.declared.dyn_box.DynBox.{DynBox}
 use Rattle.std.specs.declared.alloc.Global.{Global}
 use Rattle.mud_world.specs.declared.keeper.Keeper.{Ghosts}
-use Rattle.mud_world.specs.declared.item.Item.{Item}
 use Rattle.mud_world.specs.Boxed.{faults_of, Tells, kept_items}
 use Rattle.mud_world.specs.Causes.{StopsAtFailure}
 use Rattle.mud_world.specs.Door.{DoorState, put_out}
 use Rattle.run_words.specs.declared.command.ReportKind.{ReportKind}
 use Rattle.run_common.specs.Output.{WroteFirst}
 use Rattle.mud_world.specs.View.{DoorView}
-use Rattle.run_common.proofs.Outputs.{wrote_none}
 use Rattle.desk_model.specs.DeskTables.{DeskTables, IsSound}
-use Rattle.desk_model.specs.Items.{tables_in}
+use Rattle.desk_model.specs.Keeping.{KeepsDesk}
 use Rattle.desk_model.specs.Boxed.{IsKept, IsSameBox}
-use Rattle.run_desk.specs.Refused.{RefusesStore}
 use Rattle.run_desk.proofs.Refusals.{RunsRefused}
-use Rattle.run_desk.proofs.Stores.{kept_tables, leaves_opened, no_bad, not_read, nothing_written}
-use Rattle.run_reports.specs.Store.{ReportsStore, WritesReport, WritesTable}
+use Rattle.run_desk.proofs.Stores.{keeps_tables, leaves_opened}
+use Rattle.run_reports.specs.Store.{ReportsStore, WritesTable}
 use Rattle.run_reports.specs.Tables.{clock_for, table_text}
 
 -- ---- Statuses
@@ -46,7 +43,7 @@ module _ (kind : ReportKind) (clock_tells : Type 0) (moments : List ℕ) (old ne
   pub writes_table : (desk : DeskTables) (clock : Option ℕ) → (clock_tells → clock ≡ clock_for kind moments) → IsOfTable status
       → (status ≡ 0 → new ≡ put_out (table_text kind clock desk) old)
       → ((status ≡ 4) ⊎ (status ≡ 5) → WroteFirst (table_text kind clock desk) old new)
-      → WritesTable kind clock_tells moments desk old new status
+      → WritesTable kind clock_tells moments old new status desk
   writes_table desk clock clock_is is done part = record {
     clock = clock;
     clock_is = clock_is;
@@ -55,26 +52,16 @@ module _ (kind : ReportKind) (clock_tells : Type 0) (moments : List ℕ) (old ne
     part = part;
   }
 
-  writes_refused : (store : Result DeskTables Item) → RefusesStore store old new status → WritesReport kind clock_tells moments store old new status
-  writes_refused (Ok desk) p = record {
-    clock = clock_for kind moments;
-    clock_is = λ tells. refl;
-    good = no_bad desk old new status p;
-    done = λ zero. not_read status p.statuses (inl zero);
-    part = λ which. wrote_none _ old new (nothing_written desk old new status p which);
-  }
-  writes_refused (Err item) p = p
-
 -- ---- Runs
 
 module _ {X : Type 0} {F : X → Type 0} (members : (v : (x : X) × F x) → Ghosts (F v.0)) (keeper after : DynBox X Global F) (kind : ReportKind) (tells clock_tells : Type 0) (moments : List ℕ) (old new : DoorView) (status : ℕ) where
   pub opened_run : (tables : DeskTables)
-      → (Tells members keeper → Tells members after → tables_in (kept_items members keeper) ≡ Ok tables)
+      → (Tells members keeper → Tells members after → KeepsDesk (kept_items members keeper) tables)
       → IsSound tables → IsKept members after tables → faults_of members after ≡ faults_of members keeper → IsSameBox keeper after
       → IsOfTable status
       → (status ≡ 4 → StopsAtFailure new.failed old.writes new.writes)
       → (status ≢ 4 → new.writes ≡ old.writes)
-      → (tells → WritesTable kind clock_tells moments tables old.state new.state status)
+      → (tells → WritesTable kind clock_tells moments old.state new.state status tables)
       → new.turns ≡ old.turns → new.reads ≡ old.reads → (returned : DynBox X Global F) → returned ≡ after
       → ReportsStore members kind tells clock_tells moments keeper returned old new status
   opened_run tables read sound kept same_count same_box is fault steady writes turns reads returned same = subst (λ (box : DynBox X Global F). ReportsStore members kind tells clock_tells moments keeper box old new status) (sym same) (record {
@@ -85,8 +72,7 @@ module _ {X : Type 0} {F : X → Type 0} (members : (v : (x : X) × F x) → Gho
       keeper_fault = λ seven. no_seven status is seven;
       same_box = same_box;
     };
-    writes = λ told tell.
-        subst (λ (store : Result DeskTables Item). WritesReport kind clock_tells moments store old.state new.state status) (sym (kept_tables members after tables sound kept tell)) (writes told);
+    writes = λ told tell. inl (tables, keeps_tables members after tables sound kept tell, writes told);
     leaves = leaves_opened members keeper after status tables read sound kept same_count (λ six. no_six status is six);
     same_turns = turns;
     same_reads = reads;
@@ -101,7 +87,7 @@ module _ {X : Type 0} {F : X → Type 0} (members : (v : (x : X) × F x) → Gho
       keeper_fault = run.honest.keeper_fault;
       same_box = run.honest.same_box;
     };
-    writes = λ told tell. writes_refused kind clock_tells moments old.state new.state status (tables_in (kept_items members after)) (run.refuses told tell);
+    writes = λ told tell. inr (run.refuses told tell);
     leaves = run.leaves;
     same_turns = run.same_turns;
     same_reads = run.same_reads;

@@ -122,7 +122,7 @@ pub(crate) fn report_desk<D: Door, C: Clock>(
     ensures statuses { IsOneOf (Done ∷ DoorFailed ∷ NoMemory ∷ []) (status_number result.0) }
     ensures fault { Is DoorFailed (status_number result.0) → IsStoppedWriting (D.view door.old) (D.view door.new) }
     ensures steady { IsNot DoorFailed (status_number result.0) → (D.view door.new).writes ≡ (D.view door.old).writes }
-    ensures writes { D.tells → WritesTable kind C.tells (C.moments clock.old) (tables_of desk.state) (D.view door.old).state (D.view door.new).state (status_number result.0) }
+    ensures writes { D.tells → WritesTable kind C.tells (C.moments clock.old) (D.view door.old).state (D.view door.new).state (status_number result.0) (tables_of desk.state) }
     ensures turns { (D.view door.new).turns ≡ (D.view door.old).turns }
     ensures reads { (D.view door.new).reads ≡ (D.view door.old).reads }
     ensures later { C.tells → C.moments clock.new ≡ moments_after kind (C.moments clock.old) }

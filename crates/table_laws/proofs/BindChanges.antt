@@ -18,7 +18,7 @@ use Rattle.table_model.specs.declared.bind.Class.{Class}
 use Rattle.table_model.specs.declared.bind.ClassRow.{ClassRow}
 use Rattle.table_model.specs.declared.bind.NameRow.{NameRow}
 use Rattle.table_model.specs.declared.bind_fault.BindFault.TheVariants.{ClassesFull, ClassFull, NotBound, LocalsFull, NameFull}
-use Rattle.table_model.specs.Limits.{most_classes, most_class_addresses, most_locals, most_names, most_name_addresses}
+use Rattle.table_model.specs.Limits.{most}
 use Rattle.table_model.specs.Expiries.{Expiries, is_live, expiry_of, with_expiry, live_rows, live_count}
 use Rattle.table_model.specs.Binds.{key_of_class, class_key, class_at, set_class, without_class, class_row, has_addr, with_addr, without_addr, same_prefix, same_prefixes, prefixes_in_order, name_of, name_at, set_name, without_name, name_row}
 use Rattle.table_model.specs.BindCommands.{ClassStep, classes_done, bind_step, unbind_step, LocalStep, locals_step, NameStep, observed, addrs_of, least_dead, replacing, new_pair, kept_pair, observe_row, observe_step, is_change}
@@ -66,15 +66,15 @@ module _ (c : Class) (a : Addr) (classes : List ClassRow) where
 
   bind_cases_tell : (o : Option ClassRow) → class_at c classes ≡ o → TellsClasses (bind_cases c a classes o)
   unfolding set_class class_at class_key class_row is_change
-  bind_cases_tell None is = by_classes (nat_le most_classes (length classes)) (Err ClassesFull) (classes_done Bound (set_class (class_row c (a ∷ [])) classes))
+  bind_cases_tell None is = by_classes (nat_le most.classes (length classes)) (Err ClassesFull) (classes_done Bound (set_class (class_row c (a ∷ [])) classes))
       (λ _. tt)
       (λ _. tells_other Bound classes (set_row class_key (class_row c (a ∷ [])) classes) refl
       (put_differs class_key (class_row c (a ∷ [])) classes classes (λ f. none-some (class_row c (a ∷ [])) (sym is ∙ f))))
   bind_cases_tell (Some row) is =
       let new : ClassRow = class_row c (with_addr a row.addrs) in
-      by_classes (has_addr a row.addrs) (classes_done Same classes) (cond (nat_le most_class_addresses (length row.addrs)) (Err ClassFull) (classes_done Bound (set_class new classes)))
+      by_classes (has_addr a row.addrs) (classes_done Same classes) (cond (nat_le most.class_addresses (length row.addrs)) (Err ClassFull) (classes_done Bound (set_class new classes)))
       (λ _. tells_same classes)
-      (λ hasn't. by_classes (nat_le most_class_addresses (length row.addrs)) (Err ClassFull) (classes_done Bound (set_class new classes))
+      (λ hasn't. by_classes (nat_le most.class_addresses (length row.addrs)) (Err ClassFull) (classes_done Bound (set_class new classes))
       (λ _. tt)
       (λ _. tells_other Bound classes (set_row class_key new classes) refl
       (put_differs class_key new classes classes (λ f. false≢true (sym hasn't ∙ ap (λ (r : ClassRow). has_addr a r.addrs) (same_Some row new (sym is ∙ f)) ∙ has_its_addr a row.addrs)))))
@@ -126,7 +126,7 @@ module _ (prefixes locals : List Prefix) where
   unfolding locals_step is_change
   locals_tell =
       let ordered : List Prefix = prefixes_in_order prefixes in
-      by_locals (nat_lt most_locals (length ordered)) (Err LocalsFull) (cond (same_prefixes ordered locals) (locals_done Same locals) (locals_done Set ordered))
+      by_locals (nat_lt most.locals (length ordered)) (Err LocalsFull) (cond (same_prefixes ordered locals) (locals_done Same locals) (locals_done Set ordered))
       (λ _. tt)
       (λ _. by_locals (same_prefixes ordered locals) (locals_done Same locals) (locals_done Set ordered)
       (λ _. tells_same locals)
@@ -159,12 +159,12 @@ module _ (name : List ℕ) (a : Addr) (until now : ℕ) (later : now < until) (n
 
   new_pair_tells : (o : Option NameRow) → name_at name names ≡ o → (expiry_of a (addrs_of o) ≡ Some until → ⊥) → TellsNames (new_pair name a until now names o)
   unfolding new_pair addrs_of set_name name_at name_of name_row is_change
-  new_pair_tells None is differ = by_names (nat_le most_names (length names)) (replacing name a until names (least_dead now names)) (observed New until (set_name one names))
+  new_pair_tells None is differ = by_names (nat_le most.names (length names)) (replacing name a until names (least_dead now names)) (observed New until (set_name one names))
       (λ _. replacing_tell is (least_dead now names))
       (λ _. tells_other New names (set_row name_of one names) refl (put_differs name_of one names names (λ f. none-some one (sym is ∙ f))))
   new_pair_tells (Some row) is differ =
       let rows : Expiries = with_expiry a until (live_rows now row.addrs) in
-      by_names (nat_le most_name_addresses (live_count now row.addrs)) (Err NameFull) (observed New until (set_name (name_row name rows) names))
+      by_names (nat_le most.name_addresses (live_count now row.addrs)) (Err NameFull) (observed New until (set_name (name_row name rows) names))
       (λ _. tt)
       (λ _. other_expiries New row rows refl is differ (expiry_of-with_expiry a until (live_rows now row.addrs)))
 

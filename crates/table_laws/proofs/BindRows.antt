@@ -12,7 +12,7 @@ use Rattle.table_model.specs.declared.bind.Class.{Class}
 use Rattle.table_model.specs.declared.bind.ClassRow.{ClassRow}
 use Rattle.table_model.specs.declared.bind.NameRow.{NameRow}
 use Rattle.table_model.specs.declared.bind_fault.BindFault.TheVariants.{ClassesFull, ClassFull, NotBound, NameFull}
-use Rattle.table_model.specs.Limits.{most_classes, most_class_addresses, most_names, most_name_addresses}
+use Rattle.table_model.specs.Limits.{most}
 use Rattle.table_model.specs.Expiries.{Expiries, is_live, expiry_of, with_expiry, live_rows, live_count}
 use Rattle.table_model.specs.Tables.{Tables}
 use Rattle.table_model.specs.Bindings.{class_bindings, name_bindings, bindings_of}
@@ -43,15 +43,15 @@ module _ (c : Class) (a : Addr) (classes : List ClassRow) where
   put_class row = record { is = refl; plain = refl }
 
   bound_or_full : (row : ClassRow) (b : Bool)
-      → OfClasses (Makes class_key (cond b no_rows (one_row (class_row c (with_addr a row.addrs)))) classes) (cond b (classes_done Same classes) (cond (nat_le most_class_addresses (length row.addrs)) (Err ClassFull) (classes_done Bound (set_class (class_row c (with_addr a row.addrs)) classes))))
+      → OfClasses (Makes class_key (cond b no_rows (one_row (class_row c (with_addr a row.addrs)))) classes) (cond b (classes_done Same classes) (cond (nat_le most.class_addresses (length row.addrs)) (Err ClassFull) (classes_done Bound (set_class (class_row c (with_addr a row.addrs)) classes))))
   bound_or_full row true = nothing class_key classes
   bound_or_full row false =
-      cond_classes (Makes class_key (one_row (class_row c (with_addr a row.addrs))) classes) (nat_le most_class_addresses (length row.addrs)) (Err ClassFull) (classes_done Bound (set_class (class_row c (with_addr a row.addrs)) classes))
+      cond_classes (Makes class_key (one_row (class_row c (with_addr a row.addrs))) classes) (nat_le most.class_addresses (length row.addrs)) (Err ClassFull) (classes_done Bound (set_class (class_row c (with_addr a row.addrs)) classes))
       (λ _. tt) (λ _. put_class (class_row c (with_addr a row.addrs)))
 
   bind_cases_make : (o : Option ClassRow) → OfClasses (Makes class_key (bind_cases_change c a o) classes) (bind_cases c a classes o)
   unfolding bind_cases_change
-  bind_cases_make None = cond_classes (Makes class_key (one_row (class_row c (a ∷ []))) classes) (nat_le most_classes (length classes)) (Err ClassesFull) (classes_done Bound (set_class (class_row c (a ∷ [])) classes))
+  bind_cases_make None = cond_classes (Makes class_key (one_row (class_row c (a ∷ []))) classes) (nat_le most.classes (length classes)) (Err ClassesFull) (classes_done Bound (set_class (class_row c (a ∷ [])) classes))
       (λ _. tt) (λ _. put_class (class_row c (a ∷ [])))
   bind_cases_make (Some row) = bound_or_full row (has_addr a row.addrs)
 
@@ -99,10 +99,10 @@ module _ (name : List ℕ) (a : Addr) (until now : ℕ) (names : List NameRow) (
 
   new_pair_makes : (o : Option NameRow) → name_at name names ≡ o → OfNames (Makes name_of (new_pair_change name a until now names o) names) (new_pair name a until now names o)
   unfolding new_pair new_pair_change
-  new_pair_makes None is = by_room is (nat_le most_names (length names))
+  new_pair_makes None is = by_room is (nat_le most.names (length names))
   new_pair_makes (Some row) is =
       let new : NameRow = name_row name (with_expiry a until (live_rows now row.addrs)) in
-      cond_names (Makes name_of (one_row new) names) (nat_le most_name_addresses (live_count now row.addrs)) (Err NameFull) (observed New until (set_name new names)) (λ _. tt) (λ _. put_name new)
+      cond_names (Makes name_of (one_row new) names) (nat_le most.name_addresses (live_count now row.addrs)) (Err NameFull) (observed New until (set_name new names)) (λ _. tt) (λ _. put_name new)
 
   by_expiry : (rows : Expiries) (old : ℕ) (b : Bool) → OfNames (Makes name_of (cond b (one_row (name_row name (with_expiry a until rows))) no_rows) names) (cond b (observed Renewed until (set_name (name_row name (with_expiry a until rows)) names)) (observed Same old names))
   by_expiry rows old true = put_name (name_row name (with_expiry a until rows))

@@ -20,7 +20,7 @@ use Rattle.table_model.specs.declared.bind.Class.{Class}
 use Rattle.table_model.specs.declared.bind.Class.TheVariants as class
 use Rattle.table_model.specs.declared.bind.ClassRow.{ClassRow}
 use Rattle.table_model.specs.declared.bind.NameRow.{NameRow}
-use Rattle.table_model.specs.Limits.{most_leases, most_class_addresses, most_name_addresses}
+use Rattle.table_model.specs.Limits.{most}
 use Rattle.table_model.specs.Expiries.{Expiries, has_address, are_ascending, have_expiries}
 use Rattle.table_model.specs.Things.{mac_of, holds, may_wait, is_sound_thing, IsKeptThing, IsSoundThings}
 use Rattle.table_model.specs.Binds.{key_of_class, class_key, name_of, is_class, is_sound_class, is_name, is_sound_name, IsKeptClass, IsKeptName, IsSoundClasses, IsSoundNames}
@@ -88,7 +88,7 @@ thing_apart : (t : Thing) → is_sound_thing t ≡ true → are_apart same_spot 
 unfolding is_sound_thing thing_bindings
 thing_apart t sound =
     let leases : are_leases t.leases ≡ true = right_of (is_canonical t.url && may_wait t.url t.pending) (are_leases t.leases) sound in
-    leases_apart t t.leases (expiries_apart t.leases (first_of_three (are_ascending t.leases) (have_expiries t.leases) (nat_le (length t.leases) most_leases) leases))
+    leases_apart t t.leases (expiries_apart t.leases (first_of_three (are_ascending t.leases) (have_expiries t.leases) (nat_le (length t.leases) most.leases) leases))
 
 pub things_bind : (things : List Thing) → IsSoundThings things → IsBindingRows mac_of thing_bindings things
 things_bind things sound = record {
@@ -129,7 +129,7 @@ class_sort_key b row e = ap key_octets (class_bound b row e) ∙ octets_of_class
 class_apart : (row : ClassRow) → is_sound_class row ≡ true → are_apart same_spot (class_bindings row) ≡ true
 unfolding is_sound_class class_bindings class_binding
 class_apart row sound =
-    let addrs : are_addrs row.addrs ≡ true = right_of (is_class row.class) (are_addrs row.addrs) (first_of_three (is_class row.class && are_addrs row.addrs) (nat_lt 0 (length row.addrs)) (nat_le (length row.addrs) most_class_addresses) sound) in
+    let addrs : are_addrs row.addrs ≡ true = right_of (is_class row.class) (are_addrs row.addrs) (first_of_three (is_class row.class && are_addrs row.addrs) (nat_lt 0 (length row.addrs)) (nat_le (length row.addrs) most.class_addresses) sound) in
     apart-map same_spot same_addr (class_binding row) (λ a b e. same_turned b a (spot_addr (class_binding row a) (class_binding row b) e)) row.addrs (addrs_apart row.addrs addrs)
 
 pub classes_bind : (classes : List ClassRow) → IsSoundClasses classes → IsBindingRows class_key class_bindings classes
@@ -157,7 +157,7 @@ name_sort_key b row e = ap key_octets (name_bound b row e)
 name_apart : (row : NameRow) → is_sound_name row ≡ true → are_apart same_spot (name_bindings row) ≡ true
 unfolding is_sound_name name_bindings name_binding
 name_apart row sound =
-    let expiries : (is_name row.name && are_ascending row.addrs && have_expiries row.addrs) ≡ true = first_of_three (is_name row.name && are_ascending row.addrs && have_expiries row.addrs) (nat_lt 0 (length row.addrs)) (nat_le (length row.addrs) most_name_addresses) sound in
+    let expiries : (is_name row.name && are_ascending row.addrs && have_expiries row.addrs) ≡ true = first_of_three (is_name row.name && are_ascending row.addrs && have_expiries row.addrs) (nat_lt 0 (length row.addrs)) (nat_le (length row.addrs) most.name_addresses) sound in
     let rows : (is_name row.name && are_ascending row.addrs) ≡ true = left_of (is_name row.name && are_ascending row.addrs) (have_expiries row.addrs) expiries in
     apart-map same_spot same_first (name_binding row) (λ r s e. same_turned s.0 r.0 (spot_addr (name_binding row r) (name_binding row s) e)) row.addrs
     (expiries_apart row.addrs (right_of (is_name row.name) (are_ascending row.addrs) rows))

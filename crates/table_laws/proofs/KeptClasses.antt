@@ -7,7 +7,7 @@ use Rattle.mud_base.specs.declared.addr.Addr.{Addr}
 use Rattle.table_model.specs.declared.bind.Class.{Class}
 use Rattle.table_model.specs.declared.bind.Class.TheVariants.{Uri, Mine}
 use Rattle.table_model.specs.declared.bind.ClassRow.{ClassRow}
-use Rattle.table_model.specs.Limits.{most_class_addresses}
+use Rattle.table_model.specs.Limits.{most}
 use Rattle.table_model.specs.Binds.{key_of_class, class_key, class_at, is_class, is_sound_class, IsKeptClass, IsSoundClasses}
 use Rattle.table_model.specs.BindCommands.{unbind_step}
 use Rattle.table_model.proofs.RowSets.{all_at, first_of_three}
@@ -26,7 +26,7 @@ kept_class : (row : ClassRow) → IsKeptClass row → is_class row.class ≡ tru
 unfolding is_sound_class
 kept_class row kept =
     first_of_three (is_class row.class) (are_addrs row.addrs) (nat_lt 0 (length row.addrs))
-    (left_of (is_class row.class && are_addrs row.addrs && nat_lt 0 (length row.addrs)) (nat_le (length row.addrs) most_class_addresses) kept.sound)
+    (left_of (is_class row.class && are_addrs row.addrs && nat_lt 0 (length row.addrs)) (nat_le (length row.addrs) most.class_addresses) kept.sound)
 
 pub class_there : (c : Class) (classes : List ClassRow) (row : ClassRow) → IsSoundClasses classes → class_at c classes ≡ Some row → is_class c ≡ true
 unfolding class_at class_key

@@ -8,7 +8,7 @@ use Rattle.item_codec.specs.declared.word.Word.TheVariants.{New, Stranger, Renew
 use Rattle.base_rows.specs.Sortable.{row_at}
 use Rattle.table_model.specs.declared.thing.Thing.{Thing}
 use Rattle.table_model.specs.declared.thing_fault.ThingFault.TheVariants.{NoThing, LeasesFull}
-use Rattle.table_model.specs.Limits.{most_leases}
+use Rattle.table_model.specs.Limits.{most}
 use Rattle.table_model.specs.Expiries.{expiry_of, with_expiry, live_count}
 use Rattle.table_model.specs.Things.{mac_of, thing_at, set_thing, with_leases, without_lease, holds, IsSoundThings}
 use Rattle.table_model.specs.ItemFields.{IsAddr}
@@ -40,7 +40,7 @@ module _ (things : List Thing) (sound : IsSoundThings things) where
   unfolding known_lease known_lease_change kept_lease kept_lease_change new_lease leased
   known_leads a until now thing there (Some old) kept = kept_leads a until now old thing (old == until) refl
   known_leads a until now thing there None none =
-      cond_after (Leads (new_lease_change a until now things thing) things) (nat_le most_leases (live_count now thing.leases)) (Err LeasesFull) (leased_until until New (set_thing (leased a until now thing) (without_lease a things)))
+      cond_after (Leads (new_lease_change a until now things thing) things) (nat_le most.leases (live_count now thing.leases)) (Err LeasesFull) (leased_until until New (set_thing (leased a until now thing) (without_lease a things)))
       (λ _. tt) (λ _. record { is = new_lease_changed a things sound.ascend until now thing; plain = new_lease_plain a things sound.ascend until now thing there none })
 
   stranger_leads : (a : Addr) → OfAfter (Leads (end_change a things) things) (stranger_lease a things)

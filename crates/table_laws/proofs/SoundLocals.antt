@@ -11,7 +11,7 @@ use Rattle.base_rows.proofs.SortableLaws.{ascend-set_row}
 use Rattle.base_rows.proofs.RowLaws.{all-set_row}
 use Rattle.item_codec.specs.declared.word.Word.TheVariants.{Same, Set}
 use Rattle.table_model.specs.declared.bind_fault.BindFault.TheVariants.{LocalsFull}
-use Rattle.table_model.specs.Limits.{most_locals}
+use Rattle.table_model.specs.Limits.{most}
 use Rattle.table_model.specs.Binds.{prefixes_in_order, same_prefixes, are_prefixes, IsKeptNetwork, IsSoundLocals}
 use Rattle.table_model.specs.BindCommands.{LocalStep, locals_step}
 use Rattle.table_model.proofs.Parts.{locals_done}
@@ -39,8 +39,8 @@ pub sound-locals_step : (prefixes locals : List Prefix) → AllByRecursion IsKep
 unfolding locals_step are_prefixes
 sound-locals_step prefixes locals each sound =
     let ordered : List Prefix = prefixes_in_order prefixes in
-    cond_locals IsSoundLocals (nat_lt most_locals (length ordered)) (Err LocalsFull) (cond (same_prefixes ordered locals) (locals_done Same locals) (locals_done Set ordered))
+    cond_locals IsSoundLocals (nat_lt most.locals (length ordered)) (Err LocalsFull) (cond (same_prefixes ordered locals) (locals_done Same locals) (locals_done Set ordered))
     (λ _. tt)
     (λ few. cond_locals IsSoundLocals (same_prefixes ordered locals) (locals_done Same locals) (locals_done Set ordered)
     (λ _. sound)
-    (λ _. record { ascend = ascend_to prefix_sort_key ordered (in_order_ascend prefixes); each = in_order_each IsKeptNetwork prefixes each; few = ltb-false most_locals (length ordered) few }))
+    (λ _. record { ascend = ascend_to prefix_sort_key ordered (in_order_ascend prefixes); each = in_order_each IsKeptNetwork prefixes each; few = ltb-false most.locals (length ordered) few }))

@@ -9,7 +9,7 @@ use Rattle.base_rows.specs.Sortable.{row_at, set_row, without_row}
 use Rattle.table_model.specs.declared.bind.NameRow.{NameRow}
 use Rattle.table_model.specs.declared.bind_fault.BindFault.TheVariants.{NameFull}
 use Rattle.item_codec.specs.declared.word.Word.TheVariants.{New, Same, Renewed}
-use Rattle.table_model.specs.Limits.{most_names, most_name_addresses}
+use Rattle.table_model.specs.Limits.{most}
 use Rattle.table_model.specs.Expiries.{Expiries, for_ever, is_live, expiry_of, with_expiry, live_rows, live_count, are_ascending, have_expiries}
 use Rattle.table_model.specs.Binds.{name_of, name_at, set_name, without_name, name_row, has_live_row, is_name, is_sound_name, IsKeptName, IsSoundNames}
 use Rattle.table_model.specs.ItemFields.{IsAddr, IsExpiring}
@@ -28,7 +28,7 @@ pub record AreSoundExpiries (rows : Expiries) : Type 0 where
   pub ascend : are_ascending rows ≡ true
   pub expiries : have_expiries rows ≡ true
   pub some : 0 < length rows
-  pub few : length rows ≤ most_name_addresses
+  pub few : length rows ≤ most.name_addresses
   pub fit : AllByRecursion IsExpiring rows
 
 name_from : (row : NameRow) → IsKeptName row → (is_name row.name ≡ true) × AreSoundExpiries row.addrs
@@ -39,7 +39,7 @@ name_from row kept =
     let up : Bool = are_ascending row.addrs in
     let expiries : Bool = have_expiries row.addrs in
     let some : Bool = nat_lt 0 (length row.addrs) in
-    let few : Bool = nat_le (length row.addrs) most_name_addresses in
+    let few : Bool = nat_le (length row.addrs) most.name_addresses in
     let four : (n && up && expiries && some) ≡ true = left_of (n && up && expiries && some) few e in
     let three : (n && up && expiries) ≡ true = left_of (n && up && expiries) some four in (
       first_of_three n up expiries three,
@@ -47,22 +47,22 @@ name_from row kept =
         ascend = right_of n up (left_of (n && up) expiries three);
         expiries = right_of (n && up) expiries three;
         some = ltb-true 0 (length row.addrs) (right_of (n && up && expiries) some four);
-        few = leb-true (length row.addrs) most_name_addresses (right_of (n && up && expiries && some) few e);
+        few = leb-true (length row.addrs) most.name_addresses (right_of (n && up && expiries && some) few e);
         fit = kept.fits.each;
       },
     )
 
-few_enough : (n : ℕ) → n ≤ most_name_addresses → n < 2 ^ 16
+few_enough : (n : ℕ) → n ≤ most.name_addresses → n < 2 ^ 16
 few_enough n few = omega (arith, few)
 
 name_to : (name : List ℕ) (rows : Expiries) → is_name name ≡ true → AreSoundExpiries rows → IsKeptName (name_row name rows)
 unfolding is_sound_name name_row
 name_to name rows e s = record {
-  sound = both (is_name name && are_ascending rows && have_expiries rows && nat_lt 0 (length rows)) (nat_le (length rows) most_name_addresses)
+  sound = both (is_name name && are_ascending rows && have_expiries rows && nat_lt 0 (length rows)) (nat_le (length rows) most.name_addresses)
       (both (is_name name && are_ascending rows && have_expiries rows) (nat_lt 0 (length rows))
       (both (is_name name && are_ascending rows) (have_expiries rows) (both (is_name name) (are_ascending rows) e s.ascend) s.expiries)
       (lt-ltb 0 (length rows) s.some))
-      (le-leb (length rows) most_name_addresses s.few);
+      (le-leb (length rows) most.name_addresses s.few);
   fits = record { few = few_enough (length rows) s.few; each = s.fit };
 }
 
@@ -79,10 +79,10 @@ pub cond_names : (P : List NameRow → Type 0) (b : Bool) (x y : NameStep) → (
 cond_names P true x y f g = f refl
 cond_names P false x y f g = g refl
 
-from_rows : (names : List NameRow) → AreSoundRows name_of IsKeptName most_names names → IsSoundNames names
+from_rows : (names : List NameRow) → AreSoundRows name_of IsKeptName most.names names → IsSoundNames names
 from_rows names s = record { ascend = s.ascend; each = s.each; few = s.few }
 
-to_rows : (names : List NameRow) → IsSoundNames names → AreSoundRows name_of IsKeptName most_names names
+to_rows : (names : List NameRow) → IsSoundNames names → AreSoundRows name_of IsKeptName most.names names
 to_rows names s = record { ascend = s.ascend; each = s.each; few = s.few }
 
 module _ (name : List ℕ) (a : Addr) (until now : ℕ) (named : is_name name ≡ true) (end : is_expiry until ≡ true) (fine : IsExpiring (a, until)) (names : List NameRow) (sound : IsSoundNames names) where
@@ -91,20 +91,20 @@ module _ (name : List ℕ) (a : Addr) (until now : ℕ) (named : is_name name �
   replacing_sound None is = tt
   replacing_sound (Some dead) is =
       let new : NameRow = name_row name ((a, until) ∷ []) in
-      let rows : AreSoundRows name_of IsKeptName most_names names = to_rows names sound in
+      let rows : AreSoundRows name_of IsKeptName most.names names = to_rows names sound in
       let there : row_at name_of (name_of dead) names ≡ Some dead = found_there name_of (λ row. not (has_live_row now row)) names dead sound.ascend is in
       from_rows (set_row name_of new (without_row name_of (name_of dead) names))
-      (put_new_row name_of IsKeptName most_names new (without_row name_of (name_of dead) names) (without_sound_row name_of IsKeptName most_names (name_of dead) names rows) (name_to name ((a, until) ∷ []) named (one_expiry a until end fine))
+      (put_new_row name_of IsKeptName most.names new (without_row name_of (name_of dead) names) (without_sound_row name_of IsKeptName most.names (name_of dead) names rows) (name_to name ((a, until) ∷ []) named (one_expiry a until end fine))
       (less_than (length (without_row name_of (name_of dead) names)) (length names) (without_row_short name_of (name_of dead) names dead sound.ascend there) sound.few))
     where
-      less_than : (n m : ℕ) → n < m → m ≤ most_names → n < most_names
+      less_than : (n m : ℕ) → n < m → m ≤ most.names → n < most.names
       less_than n m h k = omega arith
 
   -- the row of the name, where there is one, with other addresses
   put_name : (row : NameRow) (rows : Expiries) → name_at name names ≡ Some row → AreSoundExpiries rows → IsSoundNames (set_name (name_row name rows) names)
   unfolding name_at set_name name_of name_row
   put_name row rows there s = from_rows (set_row name_of (name_row name rows) names)
-      (put_there_row name_of IsKeptName most_names (name_row name rows) row names (to_rows names sound) (name_to name rows named s) there)
+      (put_there_row name_of IsKeptName most.names (name_row name rows) row names (to_rows names sound) (name_to name rows named s) there)
 
   its_expiries : (row : NameRow) → name_at name names ≡ Some row → AreSoundExpiries row.addrs
   unfolding name_at
@@ -113,23 +113,23 @@ module _ (name : List ℕ) (a : Addr) (until now : ℕ) (named : is_name name �
   new_pair_sound : (o : Option NameRow) → name_at name names ≡ o → OfNames IsSoundNames (new_pair name a until now names o)
   unfolding new_pair live_count live_rows set_name
   new_pair_sound None is =
-      cond_names IsSoundNames (nat_le most_names (length names)) (replacing name a until names (least_dead now names)) (observed New until (set_name (name_row name ((a, until) ∷ [])) names))
+      cond_names IsSoundNames (nat_le most.names (length names)) (replacing name a until names (least_dead now names)) (observed New until (set_name (name_row name ((a, until) ∷ [])) names))
       (λ _. replacing_sound (least_dead now names) refl)
-      (λ room. from_rows (set_row name_of (name_row name ((a, until) ∷ [])) names) (put_new_row name_of IsKeptName most_names (name_row name ((a, until) ∷ [])) names (to_rows names sound) (name_to name ((a, until) ∷ []) named (one_expiry a until end fine)) (leb-false most_names (length names) room)))
+      (λ room. from_rows (set_row name_of (name_row name ((a, until) ∷ [])) names) (put_new_row name_of IsKeptName most.names (name_row name ((a, until) ∷ [])) names (to_rows names sound) (name_to name ((a, until) ∷ []) named (one_expiry a until end fine)) (leb-false most.names (length names) room)))
   new_pair_sound (Some row) is =
       let live : Expiries = live_rows now row.addrs in
       let old : AreSoundExpiries row.addrs = its_expiries row is in
-      cond_names IsSoundNames (nat_le most_name_addresses (live_count now row.addrs)) (Err NameFull) (observed New until (set_name (name_row name (with_expiry a until live)) names))
+      cond_names IsSoundNames (nat_le most.name_addresses (live_count now row.addrs)) (Err NameFull) (observed New until (set_name (name_row name (with_expiry a until live)) names))
       (λ _. tt)
       (λ room. put_name row (with_expiry a until live) is (record {
         ascend = with_expiry_ascends a until live (filter_ascends (λ r. is_live r.1 now) row.addrs old.ascend);
         expiries = with_expiry_have a until live end (filter_expiries (λ r. is_live r.1 now) row.addrs old.expiries);
         some = with_expiry_some a until live;
-        few = few_more (length live) (length (with_expiry a until live)) (leb-false most_name_addresses (live_count now row.addrs) room) (with_expiry_grown a until live);
+        few = few_more (length live) (length (with_expiry a until live)) (leb-false most.name_addresses (live_count now row.addrs) room) (with_expiry_grown a until live);
         fit = with_expiry_all IsExpiring a until live fine (all_kept IsExpiring (λ r. is_live r.1 now) row.addrs old.fit);
       }))
     where
-      few_more : (n m : ℕ) → n < most_name_addresses → m ≤ n + 1 → m ≤ most_name_addresses
+      few_more : (n m : ℕ) → n < most.name_addresses → m ≤ n + 1 → m ≤ most.name_addresses
       few_more n m h k = omega arith
 
   kept_pair_sound : (o : Option NameRow) (old : ℕ) → name_at name names ≡ o → expiry_of a (addrs_of o) ≡ Some old → OfNames IsSoundNames (kept_pair name a until names o old)
@@ -142,7 +142,7 @@ module _ (name : List ℕ) (a : Addr) (until now : ℕ) (named : is_name name �
         ascend = with_expiry_ascends a until row.addrs was.ascend;
         expiries = with_expiry_have a until row.addrs end was.expiries;
         some = with_expiry_some a until row.addrs;
-        few = subst (λ n. n ≤ most_name_addresses) (sym (with_expiry_long a until old row.addrs was.ascend kept)) was.few;
+        few = subst (λ n. n ≤ most.name_addresses) (sym (with_expiry_long a until old row.addrs was.ascend kept)) was.few;
         fit = with_expiry_all IsExpiring a until row.addrs fine was.fit;
       }))
       (λ _. sound)

@@ -14,7 +14,7 @@ use Rattle.table_model.specs.declared.bind.Class.{Class}
 use Rattle.table_model.specs.declared.bind_fault.BindFault.TheVariants.{ClassFull, ClassesFull, NotBound, LocalsFull}
 use Rattle.table_model.specs.BindCommands.{ClassStep, classes_done, LocalStep, NameStep, kept_pair, new_pair, BindStep, binds_done}
 use Rattle.table_model.specs.Binds.{class_row, has_addr, set_class, with_addr, without_class, without_addr, same_prefixes, Binds, is_sound_class, is_sound_name, key_of_class}
-use Rattle.table_model.specs.Limits.{most_class_addresses, most_classes, most_locals, most_pause, most_leases}
+use Rattle.table_model.specs.Limits.{most}
 use Rattle.mud_base.specs.declared.prefix.Prefix.{Prefix}
 use Rattle.item_codec.specs.declared.word.Word as outcome
 use Rattle.table_model.specs.Expiries.{is_live, has_live, Expiries, are_ascending, have_expiries}
@@ -44,11 +44,11 @@ moment_of p = p.at
 
 abbrev pub bind_cases : Class → Addr → List ClassRow → Option ClassRow → ClassStep
 bind_cases class a classes None =
-    if nat_le most_classes (length classes) then Err ClassesFull
+    if nat_le most.classes (length classes) then Err ClassesFull
     else classes_done Bound (set_class (class_row class (a ∷ [])) classes)
 bind_cases class a classes (Some row) =
     if has_addr a row.addrs then classes_done Same classes
-    else (if nat_le most_class_addresses (length row.addrs) then Err ClassFull
+    else (if nat_le most.class_addresses (length row.addrs) then Err ClassFull
     else classes_done Bound (set_class (class_row class (with_addr a row.addrs)) classes))
 
 abbrev pub classes_without : Class → List Addr → List ClassRow → List ClassRow
@@ -66,7 +66,7 @@ locals_done word locals = Ok (record { word = word; locals = locals })
 
 abbrev pub locals_cases : List Prefix → List Prefix → LocalStep
 locals_cases prefixes locals =
-    if nat_lt most_locals (length prefixes) then Err LocalsFull
+    if nat_lt most.locals (length prefixes) then Err LocalsFull
     else (if same_prefixes prefixes locals then locals_done Same locals
     else locals_done Set prefixes)
 
@@ -108,7 +108,7 @@ since_opened (p ∷ ps) = if list_any opens ps then since_opened ps else (if ope
 
 abbrev pub is_unbroken : ℕ → List ℕ → Bool
 is_unbroken m [] = true
-is_unbroken m (n ∷ ns) = nat_le (n - m) most_pause && is_unbroken n ns
+is_unbroken m (n ∷ ns) = nat_le (n - m) most.pause && is_unbroken n ns
 
 abbrev pub beginner_since : List Segment → ℕ → Option Endpoint
 beginner_since [] now = None
@@ -141,7 +141,7 @@ abbrev pub if_sound_thing : Thing → Option Thing
 if_sound_thing thing = if is_sound_thing thing then Some thing else None
 
 abbrev pub are_leases : Expiries → Bool
-are_leases rows = are_ascending rows && have_expiries rows && nat_le (length rows) most_leases
+are_leases rows = are_ascending rows && have_expiries rows && nat_le (length rows) most.leases
 
 abbrev pub left_until : ℕ → List Thing → ThingStep
 left_until until things = Ok (record { word = Same; until = Some until; changes = false; things = things })

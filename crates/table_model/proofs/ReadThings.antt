@@ -12,7 +12,7 @@ use Rattle.base_rows.specs.Sortable.{sort_key_cmp, same_sort_key, SortKeysAbove,
 use Rattle.base_rows.proofs.SortableLaws.{less_from_is_lt, set_row_last, same_sort_key_itself, same_sort_key-cmp}
 use Rattle.base_rows.proofs.RowSets.{Passing, found_passing, passing_found}
 use Rattle.table_model.specs.declared.thing.Thing.{Thing}
-use Rattle.table_model.specs.Limits.{most_things}
+use Rattle.table_model.specs.Limits.{most}
 use Rattle.table_model.specs.Expiries.{has_address}
 use Rattle.table_model.specs.Things.{mac_of, holds, IsKeptThing, IsSoundThings, set_thing}
 use Rattle.table_model.specs.ThingItems.{may_follow}
@@ -29,10 +29,10 @@ not_taken things thing free a q u there has_t has_u = absurd (is_not (is_taken t
 pub sound-push : (things : List Thing) (thing : Thing) → IsSoundThings things → IsKeptThing thing → may_follow things thing ≡ true → IsSoundThings (things ++ thing ∷ [])
 unfolding may_follow set_thing
 sound-push things thing sound good follows =
-    let last : (comes_last mac_of thing things && nat_lt (length things) most_things) ≡ true = left_of (comes_last mac_of thing things && nat_lt (length things) most_things) (not (is_taken things thing)) follows in
-    subst IsSoundThings (set_row_last mac_of thing things (left_of (comes_last mac_of thing things) (nat_lt (length things) most_things) last))
-    (put_new things sound thing good (not_taken things thing (right_of (comes_last mac_of thing things && nat_lt (length things) most_things) (not (is_taken things thing)) follows))
-    (ltb-true (length things) most_things (right_of (comes_last mac_of thing things) (nat_lt (length things) most_things) last)))
+    let last : (comes_last mac_of thing things && nat_lt (length things) most.things) ≡ true = left_of (comes_last mac_of thing things && nat_lt (length things) most.things) (not (is_taken things thing)) follows in
+    subst IsSoundThings (set_row_last mac_of thing things (left_of (comes_last mac_of thing things) (nat_lt (length things) most.things) last))
+    (put_new things sound thing good (not_taken things thing (right_of (comes_last mac_of thing things && nat_lt (length things) most.things) (not (is_taken things thing)) follows))
+    (ltb-true (length things) most.things (right_of (comes_last mac_of thing things) (nat_lt (length things) most.things) last)))
 
 -- ---- The other way round: each of sound Things may follow those before it
 
@@ -86,8 +86,8 @@ pub follows-sound : (xs : List Thing) (t : Thing) (ys : List Thing) → IsSoundT
 unfolding may_follow
 follows-sound xs t ys sound =
     let last : comes_last mac_of t xs ≡ true = behind_others mac_of xs t ys sound.ascend in
-    both (comes_last mac_of t xs && nat_lt (length xs) most_things) (not (is_taken xs t))
-    (both (comes_last mac_of t xs) (nat_lt (length xs) most_things) last (lt-ltb (length xs) most_things (omega (arith, sound.few, fewer_before xs t ys))))
+    both (comes_last mac_of t xs && nat_lt (length xs) most.things) (not (is_taken xs t))
+    (both (comes_last mac_of t xs) (nat_lt (length xs) most.things) last (lt-ltb (length xs) most.things (omega (arith, sound.few, fewer_before xs t ys))))
     (not_true (is_taken xs t) (λ e.
     let k : Taking xs t = taking xs t e in
     let u : Passing mac_of (holds k.addr) xs = found_passing mac_of (holds k.addr) xs (before_up xs (t ∷ ys) sound.ascend) k.other in

@@ -17,7 +17,7 @@ use Rattle.base_rows.proofs.RowLaws.{all-set_row, all-without_row, ascend-map, l
 use Rattle.base_rows.proofs.Lists.{filter_few}
 use Rattle.table_model.specs.declared.thing.Thing.{Thing}
 use Rattle.table_model.specs.declared.thing_fault.ThingFault.TheVariants.{ThingsFull, NoThing, NoPending, LeasesFull, NoLease}
-use Rattle.table_model.specs.Limits.{most_things, most_leases}
+use Rattle.table_model.specs.Limits.{most}
 use Rattle.table_model.specs.ItemFields.{IsAddr, IsExpiring}
 use Rattle.table_model.specs.Fits.{FitsThing}
 use Rattle.table_model.specs.Expiries.{Expiries, is_live, for_ever, expiry_of, with_expiry, without_address, live_rows, live_count, are_ascending, have_expiries}
@@ -50,17 +50,17 @@ at_its_sort_key things mac thing found = subst (λ p. row_at mac_of p things ≡
 pub record AreKeptLeases (rows : Expiries) : Type 0 where
   pub ascend : are_ascending rows ≡ true
   pub expiries : have_expiries rows ≡ true
-  pub few : length rows ≤ most_leases
+  pub few : length rows ≤ most.leases
   pub fit : AllByRecursion IsExpiring rows
 
 leases_to : (rows : Expiries) → AreKeptLeases rows → are_leases rows ≡ true
-leases_to rows s = both (are_ascending rows && have_expiries rows) (nat_le (length rows) most_leases) (both (are_ascending rows) (have_expiries rows) s.ascend s.expiries) (le-leb (length rows) most_leases s.few)
+leases_to rows s = both (are_ascending rows && have_expiries rows) (nat_le (length rows) most.leases) (both (are_ascending rows) (have_expiries rows) s.ascend s.expiries) (le-leb (length rows) most.leases s.few)
 
 leases_from : (rows : Expiries) → are_leases rows ≡ true → AllByRecursion IsExpiring rows → AreKeptLeases rows
 leases_from rows e fit = record {
-  ascend = first_of_three (are_ascending rows) (have_expiries rows) (nat_le (length rows) most_leases) e;
-  expiries = right_of (are_ascending rows) (have_expiries rows) (left_of (are_ascending rows && have_expiries rows) (nat_le (length rows) most_leases) e);
-  few = leb-true (length rows) most_leases (right_of (are_ascending rows && have_expiries rows) (nat_le (length rows) most_leases) e);
+  ascend = first_of_three (are_ascending rows) (have_expiries rows) (nat_le (length rows) most.leases) e;
+  expiries = right_of (are_ascending rows) (have_expiries rows) (left_of (are_ascending rows && have_expiries rows) (nat_le (length rows) most.leases) e);
+  few = leb-true (length rows) most.leases (right_of (are_ascending rows && have_expiries rows) (nat_le (length rows) most.leases) e);
   fit = fit;
 }
 
@@ -86,7 +86,7 @@ unfolding may_wait
 pending_fits url None waits = tt
 pending_fits url (Some pending) waits = canonical_fits pending (left_of (is_canonical pending) (not (bytes_eq pending url)) waits)
 
-few_fit : (n : ℕ) → n ≤ most_leases → n < 2 ^ 16
+few_fit : (n : ℕ) → n ≤ most.leases → n < 2 ^ 16
 few_fit n few = omega (arith, few)
 
 from_parts : (thing : Thing) → is_canonical thing.url ≡ true → may_wait thing.url thing.pending ≡ true → AreKeptLeases thing.leases → length thing.mac.0 ≡ 6 → IsKeptThing thing
@@ -171,7 +171,7 @@ module _ (things : List Thing) (sound : IsSoundThings things) where
   kept_at : (p : List ℕ) (thing : Thing) → row_at mac_of p things ≡ Some thing → IsKeptThing thing
   kept_at p thing there = all_at mac_of IsKeptThing things p thing sound.each there
 
-  put : (t : Thing) → IsKeptThing t → IsApart t things → length (set_thing t things) ≤ most_things → IsSoundThings (set_thing t things)
+  put : (t : Thing) → IsKeptThing t → IsApart t things → length (set_thing t things) ≤ most.things → IsSoundThings (set_thing t things)
   unfolding set_thing
   put t good apart few = record {
     ascend = ascend-set_row mac_of t things sound.ascend;
@@ -180,14 +180,14 @@ module _ (things : List Thing) (sound : IsSoundThings things) where
     alone = alone-set_thing t things sound.alone apart;
   }
 
-  pub put_new : (t : Thing) → IsKeptThing t → IsApart t things → length things < most_things → IsSoundThings (set_thing t things)
+  pub put_new : (t : Thing) → IsKeptThing t → IsApart t things → length things < most.things → IsSoundThings (set_thing t things)
   unfolding set_thing
   put_new t good apart room = put t good apart (omega (arith, room, (length-set_row mac_of t things).grown))
 
   put_there : (t old : Thing) → row_at mac_of (mac_of t) things ≡ Some old → IsKeptThing t → IsApart t things → IsSoundThings (set_thing t things)
   unfolding set_thing
   put_there t old there good apart =
-      put t good apart (subst (λ n. n ≤ most_things) (sym (set_row_long mac_of t things sound.ascend (λ none. none-some old (sym none ∙ there)))) sound.few)
+      put t good apart (subst (λ n. n ≤ most.things) (sym (set_row_long mac_of t things sound.ascend (λ none. none-some old (sym none ∙ there)))) sound.few)
 
   -- a Thing with its own leases is put in its place
   put_same : (t old : Thing) → mac_of t ≡ mac_of old → t.leases ≡ old.leases → row_at mac_of (mac_of old) things ≡ Some old → IsKeptThing t → IsSoundThings (set_thing t things)
@@ -225,8 +225,8 @@ module _ (things : List Thing) (sound : IsSoundThings things) where
   url_cases_sound : (mac : Mac) (url : List ℕ) → length mac.0 ≡ 6 → is_canonical url ≡ true → (o : Option Thing) → thing_at mac things ≡ o → OfAfter IsSoundThings (url_cases mac url things o)
   unfolding url_cases mac_of
   url_cases_sound mac url six e None found =
-      cond_after IsSoundThings (nat_le most_things (length things)) (Err ThingsFull) (done New (set_thing (new_thing mac url) things))
-      (λ _. tt) (λ room. put_new things sound (new_thing mac url) (new_kept mac url e six) (has_none things sound.alone mac url) (leb-false most_things (length things) room))
+      cond_after IsSoundThings (nat_le most.things (length things)) (Err ThingsFull) (done New (set_thing (new_thing mac url) things))
+      (λ _. tt) (λ room. put_new things sound (new_thing mac url) (new_kept mac url e six) (has_none things sound.alone mac url) (leb-false most.things (length things) room))
   url_cases_sound mac url six e (Some thing) found =
       let there : row_at mac_of (mac_of thing) things ≡ Some thing = at_its_sort_key things mac thing found in
       let waits : Thing = record thing { pending = Some url } in
@@ -306,18 +306,18 @@ module _ (things : List Thing) (sound : IsSoundThings things) where
       let leased : Thing = with_leases (with_expiry a until rows) thing in
       let good : IsKeptThing thing = kept_at things sound (mac_of thing) thing there in
       let live : AreKeptLeases rows = live_leases now thing.leases (leases_of thing good) in
-      cond_after IsSoundThings (nat_le most_leases (live_count now thing.leases)) (Err LeasesFull) (leased_until until New (set_thing leased (without_lease a things)))
+      cond_after IsSoundThings (nat_le most.leases (live_count now thing.leases)) (Err LeasesFull) (leased_until until New (set_thing leased (without_lease a things)))
       (λ _. tt)
       (λ room. put_there (without_lease a things) (left_sound things sound a) leased (released a thing) (released_some a thing there)
       (kept_with (with_expiry a until rows) thing good (record {
         ascend = with_expiry_ascends a until rows live.ascend;
         expiries = with_expiry_have a until rows end live.expiries;
-        few = few_more (length rows) (length (with_expiry a until rows)) (leb-false most_leases (live_count now thing.leases) room) (with_expiry_grown a until rows);
+        few = few_more (length rows) (length (with_expiry a until rows)) (leb-false most.leases (live_count now thing.leases) room) (with_expiry_grown a until rows);
         fit = with_expiry_all IsExpiring a until rows (fits, expiry_fits until end) live.fit;
       }))
       (fresh_apart things sound.alone a until now thing there))
     where
-      few_more : (n m : ℕ) → n < most_leases → m ≤ n + 1 → m ≤ most_leases
+      few_more : (n m : ℕ) → n < most.leases → m ≤ n + 1 → m ≤ most.leases
       few_more n m h k = omega arith
 
   kept_lease_sound : (a : Addr) (until old : ℕ) (thing : Thing) → is_expiry until ≡ true → IsAddr a → row_at mac_of (mac_of thing) things ≡ Some thing → expiry_of a thing.leases ≡ Some old → OfAfter IsSoundThings (kept_lease a until things thing old)
@@ -332,7 +332,7 @@ module _ (things : List Thing) (sound : IsSoundThings things) where
       (kept_with (with_expiry a until thing.leases) thing good (record {
         ascend = with_expiry_ascends a until thing.leases leases.ascend;
         expiries = with_expiry_have a until thing.leases end leases.expiries;
-        few = subst (λ n. n ≤ most_leases) (sym (with_expiry_long a until old thing.leases leases.ascend kept)) leases.few;
+        few = subst (λ n. n ≤ most.leases) (sym (with_expiry_long a until old thing.leases leases.ascend kept)) leases.few;
         fit = with_expiry_all IsExpiring a until thing.leases (fits, expiry_fits until end) leases.fit;
       }))
       (ended_apart things sound.alone a until old thing there kept))

@@ -16,7 +16,7 @@ use Rattle.item_codec.proofs.RecordLaws.{some_is, bind_some, pass_some, chosen}
 use Rattle.table_model.specs.declared.thing.Thing.{Thing}
 use Rattle.table_model.specs.declared.bind.ClassRow.{ClassRow}
 use Rattle.table_model.specs.declared.bind.NameRow.{NameRow}
-use Rattle.table_model.specs.Limits.{most_classes, most_locals, most_names}
+use Rattle.table_model.specs.Limits.{most}
 use Rattle.table_model.specs.ItemFields.{IsNetwork}
 use Rattle.table_model.specs.Things.{IsKeptThing, IsSoundThings}
 use Rattle.table_model.specs.Binds.{Binds, class_key, name_of, is_prefix, are_prefixes, IsKeptClass, IsKeptNetwork, IsKeptName, IsSoundClasses, IsSoundLocals, IsSoundNames, IsSoundBinds}
@@ -31,9 +31,9 @@ use Rattle.table_model.proofs.Parts.{class_items, name_items}
 
 -- ---- One row more, read from its item
 
-module _ {R : Type 0} (sort_key : R → List ℕ) (most : ℕ) (read : Item → Option R) where
+module _ {R : Type 0} (sort_key : R → List ℕ) (limit : ℕ) (read : Item → Option R) where
   abbrev pushes : List R → R → Bool
-  pushes rows row = comes_last sort_key row rows && nat_lt (length rows) most
+  pushes rows row = comes_last sort_key row rows && nat_lt (length rows) limit
 
   abbrev with_read : List R → Item → Option (List R)
   with_read rows item = read item >>= λ row. cond (pushes rows row) (Some (rows ++ row ∷ [])) None
@@ -42,7 +42,7 @@ module _ {R : Type 0} (sort_key : R → List ℕ) (most : ℕ) (read : Item → 
     pub row : R
     pub is : read item ≡ Some row
     pub last : comes_last sort_key row rows ≡ true
-    pub room : length rows < most
+    pub room : length rows < limit
     pub after_is : rows ++ row ∷ [] ≡ after
 
   pushed : (rows : List R) (item : Item) (after : List R) → with_read rows item ≡ Some after → IsPushed rows item after
@@ -52,14 +52,14 @@ module _ {R : Type 0} (sort_key : R → List ℕ) (most : ℕ) (read : Item → 
       record {
         row = b.0;
         is = b.1;
-        last = left_of (comes_last sort_key b.0 rows) (nat_lt (length rows) most) p.0;
-        room = ltb-true (length rows) most (right_of (comes_last sort_key b.0 rows) (nat_lt (length rows) most) p.0);
+        last = left_of (comes_last sort_key b.0 rows) (nat_lt (length rows) limit) p.0;
+        room = ltb-true (length rows) limit (right_of (comes_last sort_key b.0 rows) (nat_lt (length rows) limit) p.0);
         after_is = some_is (rows ++ b.0 ∷ []) after p.1;
       }
 
-  read_behind : (item : Item) (xs : List R) (t : R) (ys : List R) → SortKeysAscend sort_key (xs ++ t ∷ ys) → length (xs ++ t ∷ ys) ≤ most → read item ≡ Some t → with_read xs item ≡ Some (xs ++ t ∷ [])
+  read_behind : (item : Item) (xs : List R) (t : R) (ys : List R) → SortKeysAscend sort_key (xs ++ t ∷ ys) → length (xs ++ t ∷ ys) ≤ limit → read item ≡ Some t → with_read xs item ≡ Some (xs ++ t ∷ [])
   read_behind item xs t ys up few is =
-      rw (is, behind_others sort_key xs t ys up, lt-ltb (length xs) most (omega (arith, fewer_before xs t ys, few))) refl
+      rw (is, behind_others sort_key xs t ys up, lt-ltb (length xs) limit (omega (arith, fewer_before xs t ys, few))) refl
 
 one_more : {A : Type 0} (xs : List A) (x : A) (n : ℕ) → length xs < n → length (xs ++ x ∷ []) ≤ n
 one_more xs x n room = omega (arith, room, length-append xs (x ∷ []))
@@ -74,20 +74,20 @@ pub record IsTaken {R : Type 0} (Sound : R → Type 0) (items_of : R → List It
 class_taken : (classes : List ClassRow) (item : Item) (after : List ClassRow) → IsSoundClasses classes → IsOctets item.body → with_class_item classes item ≡ Some after → IsTaken IsSoundClasses class_items classes item after
 unfolding with_class_item
 class_taken classes item after sound octets e =
-    let p = pushed class_key most_classes class_in classes item after e in
+    let p = pushed class_key most.classes class_in classes item after e in
     let of_row : IsClassItem item p.row = class_alone item p.row octets p.is in
     subst (λ (rows : List ClassRow). IsTaken IsSoundClasses class_items classes item rows) p.after_is (record {
-      sound = record { ascend = ascend-push class_key p.row classes sound.ascend p.last; each = all_push IsKeptClass classes p.row sound.each of_row.kept; few = one_more classes p.row most_classes p.room };
+      sound = record { ascend = ascend-push class_key p.row classes sound.ascend p.last; each = all_push IsKeptClass classes p.row sound.each of_row.kept; few = one_more classes p.row most.classes p.room };
       items = map_push class_item classes p.row ∙ ap (λ (i : Item). map class_item classes ++ i ∷ []) (sym of_row.same);
     })
 
 name_taken : (names : List NameRow) (item : Item) (after : List NameRow) → IsSoundNames names → IsOctets item.body → with_name_item names item ≡ Some after → IsTaken IsSoundNames name_items names item after
 unfolding with_name_item
 name_taken names item after sound octets e =
-    let p = pushed name_of most_names name_in names item after e in
+    let p = pushed name_of most.names name_in names item after e in
     let of_row : IsNameItem item p.row = name_alone item p.row octets p.is in
     subst (λ (rows : List NameRow). IsTaken IsSoundNames name_items names item rows) p.after_is (record {
-      sound = record { ascend = ascend-push name_of p.row names sound.ascend p.last; each = all_push IsKeptName names p.row sound.each of_row.kept; few = one_more names p.row most_names p.room };
+      sound = record { ascend = ascend-push name_of p.row names sound.ascend p.last; each = all_push IsKeptName names p.row sound.each of_row.kept; few = one_more names p.row most.names p.room };
       items = map_push name_item names p.row ∙ ap (λ (i : Item). map name_item names ++ i ∷ []) (sym of_row.same);
     })
 
@@ -107,16 +107,16 @@ fitting_networks (p ∷ ps) kept = (kept.0.fits, fitting_networks ps kept.1)
 sound_locals : (locals : List Prefix) → IsKeptLocals locals → IsSoundLocals locals
 unfolding are_locals
 sound_locals locals kept =
-    let front : (are_prefixes locals && list_all is_prefix locals && nat_lt 0 (length locals)) ≡ true = left_of (are_prefixes locals && list_all is_prefix locals && nat_lt 0 (length locals)) (nat_le (length locals) most_locals) kept.sound in
+    let front : (are_prefixes locals && list_all is_prefix locals && nat_lt 0 (length locals)) ≡ true = left_of (are_prefixes locals && list_all is_prefix locals && nat_lt 0 (length locals)) (nat_le (length locals) most.locals) kept.sound in
     let both_of : (are_prefixes locals && list_all is_prefix locals) ≡ true = left_of (are_prefixes locals && list_all is_prefix locals) (nat_lt 0 (length locals)) front in
     record {
       ascend = left_of (are_prefixes locals) (list_all is_prefix locals) both_of;
       each = all_networks locals (all_from is_prefix locals (right_of (are_prefixes locals) (list_all is_prefix locals) both_of)) kept.fits.each;
-      few = leb-true (length locals) most_locals (right_of (are_prefixes locals && list_all is_prefix locals && nat_lt 0 (length locals)) (nat_le (length locals) most_locals) kept.sound);
+      few = leb-true (length locals) most.locals (right_of (are_prefixes locals && list_all is_prefix locals && nat_lt 0 (length locals)) (nat_le (length locals) most.locals) kept.sound);
     }
 
 -- their number fits its field
-pub few_fit : (n : ℕ) → n ≤ most_locals → n < 2 ^ 16
+pub few_fit : (n : ℕ) → n ≤ most.locals → n < 2 ^ 16
 few_fit n few = omega (arith, few)
 
 -- and sound ones, where there are some, have one
@@ -124,17 +124,17 @@ kept_locals : (p : Prefix) (ps : List Prefix) → IsSoundLocals (p ∷ ps) → I
 unfolding are_locals
 kept_locals p ps sound = record {
   sound =
-      both (are_prefixes (p ∷ ps) && list_all is_prefix (p ∷ ps) && nat_lt 0 (length (p ∷ ps))) (nat_le (length (p ∷ ps)) most_locals)
+      both (are_prefixes (p ∷ ps) && list_all is_prefix (p ∷ ps) && nat_lt 0 (length (p ∷ ps))) (nat_le (length (p ∷ ps)) most.locals)
       (both (are_prefixes (p ∷ ps) && list_all is_prefix (p ∷ ps)) (nat_lt 0 (length (p ∷ ps)))
       (both (are_prefixes (p ∷ ps)) (list_all is_prefix (p ∷ ps)) sound.ascend (all_to is_prefix (p ∷ ps) (sound_networks (p ∷ ps) sound.each)))
       (lt-ltb 0 (length (p ∷ ps)) (omega arith)))
-      (le-leb (length (p ∷ ps)) most_locals sound.few);
+      (le-leb (length (p ∷ ps)) most.locals sound.few);
   fits = record { few = few_fit (length (p ∷ ps)) sound.few; each = fitting_networks (p ∷ ps) sound.each };
 }
 
 some_locals : (locals : List Prefix) → IsKeptLocals locals → locals_items locals ≡ locals_item locals ∷ []
 unfolding locals_items are_locals
-some_locals [] kept = absurd (none_there (right_of (are_prefixes [] && list_all is_prefix []) (nat_lt 0 0) (left_of (are_prefixes [] && list_all is_prefix [] && nat_lt 0 0) (nat_le 0 most_locals) kept.sound)))
+some_locals [] kept = absurd (none_there (right_of (are_prefixes [] && list_all is_prefix []) (nat_lt 0 0) (left_of (are_prefixes [] && list_all is_prefix [] && nat_lt 0 0) (nat_le 0 most.locals) kept.sound)))
   where
     none_there : nat_lt 0 0 ≡ true → ⊥
     none_there e = omega (arith, ltb-true 0 0 e)
@@ -305,13 +305,13 @@ class_step : (xs : List ClassRow) (t : ClassRow) (ys : List ClassRow) → IsSoun
 unfolding with_bind_item set_classes with_class_item class_item
 class_step xs t ys sound =
     ap (option_map (λ (rows : List ClassRow). the_binds rows [] []))
-    (read_behind class_key most_classes class_in (class_item t) xs t ys sound.ascend sound.few (class_back t (all_behind IsKeptClass xs t ys sound.each)))
+    (read_behind class_key most.classes class_in (class_item t) xs t ys sound.ascend sound.few (class_back t (all_behind IsKeptClass xs t ys sound.each)))
 
 name_step : (classes : List ClassRow) (locals : List Prefix) (xs : List NameRow) (t : NameRow) (ys : List NameRow) → IsSoundNames (xs ++ t ∷ ys) → with_bind_item (record { classes = classes; locals = locals; names = xs }) (name_item t) ≡ Some (record { classes = classes; locals = locals; names = xs ++ t ∷ [] })
 unfolding with_bind_item set_names with_name_item name_item
 name_step classes locals xs t ys sound =
     ap (option_map (λ (rows : List NameRow). the_binds classes locals rows))
-    (read_behind name_of most_names name_in (name_item t) xs t ys sound.ascend sound.few (name_back t (all_behind IsKeptName xs t ys sound.each)))
+    (read_behind name_of most.names name_in (name_item t) xs t ys sound.ascend sound.few (name_back t (all_behind IsKeptName xs t ys sound.each)))
 
 locals_again : (classes : List ClassRow) (locals : List Prefix) → IsSoundLocals locals → all_taken with_bind_item (the_binds classes [] []) (locals_items locals) ≡ Some (the_binds classes locals [])
 unfolding locals_items with_bind_item set_locals with_locals_item locals_item

@@ -15,7 +15,7 @@ use Rattle.base_rows.proofs.ListTests.{same_bytes}
 use Rattle.base_rows.proofs.RowSets.{Passing, found_passing}
 use Rattle.table_model.specs.declared.thing.Thing.{Thing}
 use Rattle.table_model.specs.declared.thing_fault.ThingFault.TheVariants.{ThingsFull, NoThing, NoPending, LeasesFull, NoLease}
-use Rattle.table_model.specs.Limits.{most_things, most_leases}
+use Rattle.table_model.specs.Limits.{most}
 use Rattle.table_model.specs.Expiries.{Expiries, expiry_of, with_expiry, live_rows, live_count}
 use Rattle.table_model.specs.Things.{mac_of, thing_at, set_thing, without_thing, holds, with_leases, without_lease, new_thing}
 use Rattle.table_model.specs.ThingCommands.{TellsChange, ThingStep, done, leased_until, left, is_pending, url_cases, url_step, move_cases, move_step, remove_step, with_hold, hold_cases, hold_step, release_cases, release_step, expiry_after, kept_lease, new_lease, known_lease, stranger_lease, lease_cases, lease_step, end_step}
@@ -70,7 +70,7 @@ module _ (things : List Thing) (ascend : SortKeysAscend mac_of things) where
   url_cases_told : (mac : Mac) (url : List ℕ) (o : Option Thing) → thing_at mac things ≡ o → IsTold things (url_cases mac url things o)
   unfolding url_cases thing_at mac_of new_thing
   url_cases_told mac url None found =
-      told_by things (nat_le most_things (length things)) (Err ThingsFull) (done New (set_thing (new_thing mac url) things))
+      told_by things (nat_le most.things (length things)) (Err ThingsFull) (done New (set_thing (new_thing mac url) things))
       (λ _. tt) (λ _. as_other things (set_thing (new_thing mac url) things) New None (put_other (new_thing mac url) things things (λ is. none-some (new_thing mac url) (sym found ∙ is))))
   url_cases_told mac url (Some thing) found =
       let waits : Thing = record thing { pending = Some url } in
@@ -173,7 +173,7 @@ module _ (things : List Thing) (ascend : SortKeysAscend mac_of things) where
   unfolding new_lease
   new_lease_told a until now thing there free =
       let leased : Thing = with_leases (with_expiry a until (live_rows now thing.leases)) thing in
-      told_by things (nat_le most_leases (live_count now thing.leases)) (Err LeasesFull) (leased_until until New (set_thing leased (without_lease a things)))
+      told_by things (nat_le most.leases (live_count now thing.leases)) (Err LeasesFull) (leased_until until New (set_thing leased (without_lease a things)))
       (λ _. tt)
       (λ _. as_other things (set_thing leased (without_lease a things)) New (Some until) (other_expiry a until (live_rows now thing.leases) thing (without_lease a things) there (λ is. none-some until (sym free ∙ is))))
 

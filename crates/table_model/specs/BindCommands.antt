@@ -10,7 +10,7 @@ use Rattle.table_model.specs.declared.bind.ClassRow.{ClassRow}
 use Rattle.table_model.specs.declared.bind.NameRow.{NameRow}
 use Rattle.table_model.specs.declared.bind_fault.BindFault.{BindFault}
 use Rattle.table_model.specs.declared.bind_fault.BindFault.TheVariants.{ClassesFull, ClassFull, NotBound, LocalsFull, NamesFull, NameFull}
-use Rattle.table_model.specs.Limits.{most_classes, most_class_addresses, most_locals, most_names, most_name_addresses}
+use Rattle.table_model.specs.Limits.{most}
 use Rattle.table_model.specs.Expiries.{Expiries, is_live, expiry_of, with_expiry, live_rows, live_count}
 use Rattle.table_model.specs.Binds.{Binds, class_at, set_class, without_class, class_row, has_addr, with_addr, without_addr, prefixes_in_order, same_prefixes, name_at, set_name, without_name, name_row, has_live_row}
 
@@ -32,11 +32,11 @@ bind_step class a classes = bind_cases class a classes (class_at class classes)
   where
     bind_cases : Class → Addr → List ClassRow → Option ClassRow → ClassStep
     bind_cases class a classes None =
-        if nat_le most_classes (length classes) then Err ClassesFull
+        if nat_le most.classes (length classes) then Err ClassesFull
         else classes_done Bound (set_class (class_row class (a ∷ [])) classes)
     bind_cases class a classes (Some row) =
         if has_addr a row.addrs then classes_done Same classes
-        else (if nat_le most_class_addresses (length row.addrs) then Err ClassFull
+        else (if nat_le most.class_addresses (length row.addrs) then Err ClassFull
         else classes_done Bound (set_class (class_row class (with_addr a row.addrs)) classes))
 
 -- ---- The operator takes an address out of a class; a class with no address left goes
@@ -73,7 +73,7 @@ locals_step prefixes locals = locals_cases (prefixes_in_order prefixes) locals
     -- these prefixes are in order, each once
     locals_cases : List Prefix → List Prefix → LocalStep
     locals_cases prefixes locals =
-        if nat_lt most_locals (length prefixes) then Err LocalsFull
+        if nat_lt most.locals (length prefixes) then Err LocalsFull
         else (if same_prefixes prefixes locals then locals_done Same locals
         else locals_done Set prefixes)
 
@@ -108,10 +108,10 @@ replacing name a until names (Some dead) = observed New until (set_name (name_ro
 -- The pair is new: the addresses of the name whose expiries have come go, and the address is added.
 unfoldable pub new_pair : List ℕ → Addr → ℕ → ℕ → List NameRow → Option NameRow → NameStep
 new_pair name a until now names None =
-    if nat_le most_names (length names) then replacing name a until names (least_dead now names)
+    if nat_le most.names (length names) then replacing name a until names (least_dead now names)
     else observed New until (set_name (name_row name ((a, until) ∷ [])) names)
 new_pair name a until now names (Some row) =
-    if nat_le most_name_addresses (live_count now row.addrs) then Err NameFull
+    if nat_le most.name_addresses (live_count now row.addrs) then Err NameFull
     else observed New until (set_name (name_row name (with_expiry a until (live_rows now row.addrs))) names)
 
 -- The name has the address with a live expiry: the later expiry is kept.

@@ -13,7 +13,7 @@ use Rattle.table_model.specs.declared.bind.Class.{Class}
 use Rattle.table_model.specs.declared.bind.Class.TheVariants.{Uri, Mine}
 use Rattle.table_model.specs.declared.bind.ClassRow.{ClassRow}
 use Rattle.table_model.specs.declared.bind.NameRow.{NameRow}
-use Rattle.table_model.specs.Limits.{most_classes, most_locals, most_names}
+use Rattle.table_model.specs.Limits.{most}
 use Rattle.table_model.specs.Binds.{class_key, class_row, is_sound_class, are_prefixes, is_prefix, name_of, name_row, is_sound_name, IsKeptClass, IsKeptName}
 use Rattle.table_model.specs.Fits.{FitsLocals}
 use Rattle.table_model.specs.ItemFields.{address, address_in, expiring, expiring_in, network_in}
@@ -44,7 +44,7 @@ class_in item =
 unfoldable pub with_class_item : List ClassRow → Item → Option (List ClassRow)
 with_class_item classes item = do
   row ← class_in item
-  if comes_last class_key row classes && nat_lt (length classes) most_classes then Some (classes ++ row ∷ []) else None
+  if comes_last class_key row classes && nat_lt (length classes) most.classes then Some (classes ++ row ∷ []) else None
 
 -- ---- Local networks: one item with the empty key for all of them, and none where there are none
 
@@ -57,7 +57,7 @@ locals_items (prefix ∷ more) = locals_item (prefix ∷ more) ∷ []
 
 -- 1 to 64 prefixes in their order, each once, each with a length of at most 32 or 128 and the other bits at 0
 unfoldable pub are_locals : List Prefix → Bool
-are_locals locals = are_prefixes locals && list_all is_prefix locals && nat_lt 0 (length locals) && nat_le (length locals) most_locals
+are_locals locals = are_prefixes locals && list_all is_prefix locals && nat_lt 0 (length locals) && nat_le (length locals) most.locals
 
 unfoldable pub locals_in : Item → Option (List Prefix)
 locals_in item =
@@ -93,7 +93,7 @@ name_in item =
 unfoldable pub with_name_item : List NameRow → Item → Option (List NameRow)
 with_name_item names item = do
   row ← name_in item
-  if comes_last name_of row names && nat_lt (length names) most_names then Some (names ++ row ∷ []) else None
+  if comes_last name_of row names && nat_lt (length names) most.names then Some (names ++ row ∷ []) else None
 
 -- ---- The stamp, the moment of the last change: one item with the empty key; the body has the moment in eight octets
 

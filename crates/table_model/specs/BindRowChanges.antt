@@ -5,7 +5,7 @@ use Rattle.base_rows.specs.Changes.{RowChange}
 use Rattle.table_model.specs.declared.bind.Class.{Class}
 use Rattle.table_model.specs.declared.bind.ClassRow.{ClassRow}
 use Rattle.table_model.specs.declared.bind.NameRow.{NameRow}
-use Rattle.table_model.specs.Limits.{most_names}
+use Rattle.table_model.specs.Limits.{most}
 use Rattle.table_model.specs.Expiries.{is_live, expiry_of, with_expiry, live_rows}
 use Rattle.table_model.specs.Binds.{key_of_class, class_at, class_row, has_addr, with_addr, without_addr, name_at, name_row}
 use Rattle.table_model.specs.BindCommands.{addrs_of, least_dead}
@@ -47,7 +47,7 @@ replacing_change name a until (Some dead) = record { gone = Some dead.name; sets
 
 unfoldable pub new_pair_change : List ℕ → Addr → ℕ → ℕ → List NameRow → Option NameRow → RowChange NameRow
 new_pair_change name a until now names None =
-    if nat_le most_names (length names) then replacing_change name a until (least_dead now names)
+    if nat_le most.names (length names) then replacing_change name a until (least_dead now names)
     else one_row (name_row name ((a, until) ∷ []))
 new_pair_change name a until now names (Some row) = one_row (name_row name (with_expiry a until (live_rows now row.addrs)))
 

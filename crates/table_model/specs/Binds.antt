@@ -14,7 +14,7 @@ use Rattle.table_model.specs.declared.bind.Class.{Class}
 use Rattle.table_model.specs.declared.bind.Class.TheVariants as class
 use Rattle.table_model.specs.declared.bind.ClassRow.{ClassRow}
 use Rattle.table_model.specs.declared.bind.NameRow.{NameRow}
-use Rattle.table_model.specs.Limits.{most_classes, most_class_addresses, most_locals, most_names, most_name_addresses}
+use Rattle.table_model.specs.Limits.{most}
 use Rattle.table_model.specs.ItemFields.{IsNetwork}
 use Rattle.table_model.specs.Fits.{FitsClass, FitsName}
 use Rattle.table_model.specs.Expiries.{Expiries, is_live, are_ascending, have_expiries}
@@ -122,7 +122,7 @@ is_class (class.Mine url) = is_canonical url
 -- its addresses in their order, each once, 1 to 64 of them
 unfoldable pub is_sound_class : ClassRow → Bool
 is_sound_class row =
-    is_class row.class && (sort_keys_ascend addr_sort_key row.addrs) && nat_lt 0 (length row.addrs) && nat_le (length row.addrs) most_class_addresses
+    is_class row.class && (sort_keys_ascend addr_sort_key row.addrs) && nat_lt 0 (length row.addrs) && nat_le (length row.addrs) most.class_addresses
 
 -- a prefix fixes no more bits than there are, and the others are 0
 unfoldable pub is_prefix : Prefix → Bool
@@ -134,7 +134,7 @@ is_name name = is_host name && bytes_eq (lowered name) name
 
 unfoldable pub is_sound_name : NameRow → Bool
 is_sound_name row =
-    is_name row.name && are_ascending row.addrs && have_expiries row.addrs && nat_lt 0 (length row.addrs) && nat_le (length row.addrs) most_name_addresses
+    is_name row.name && are_ascending row.addrs && have_expiries row.addrs && nat_lt 0 (length row.addrs) && nat_le (length row.addrs) most.name_addresses
 
 -- a row that can be kept: it is sound, and fits the fields of its item
 pub record IsKeptClass (row : ClassRow) : Type 0 where
@@ -152,17 +152,17 @@ pub record IsKeptName (row : NameRow) : Type 0 where
 pub record IsSoundClasses (classes : List ClassRow) : Type 0 where
   pub ascend : SortKeysAscend class_key classes
   pub each : AllByRecursion IsKeptClass classes
-  pub few : length classes ≤ most_classes
+  pub few : length classes ≤ most.classes
 
 pub record IsSoundLocals (locals : List Prefix) : Type 0 where
   pub ascend : IsTrue (are_prefixes locals)
   pub each : AllByRecursion IsKeptNetwork locals
-  pub few : length locals ≤ most_locals
+  pub few : length locals ≤ most.locals
 
 pub record IsSoundNames (names : List NameRow) : Type 0 where
   pub ascend : SortKeysAscend name_of names
   pub each : AllByRecursion IsKeptName names
-  pub few : length names ≤ most_names
+  pub few : length names ≤ most.names
 
 pub record IsSoundBinds (binds : Binds) : Type 0 where
   pub classes : IsSoundClasses binds.classes

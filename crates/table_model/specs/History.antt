@@ -10,7 +10,7 @@ use Rattle.mud_base.specs.declared.packet.Transport.TheVariants as packet
 use Rattle.mud_base.specs.declared.packet.Direction.{Direction}
 use Rattle.mud_base.specs.declared.packet.Direction.TheVariants.{From, To}
 pub use Rattle.table_model.specs.declared.segment.Segment.{Segment}
-use Rattle.table_model.specs.Limits.{most_pause}
+use Rattle.table_model.specs.Limits.{most}
 
 -- an endpoint of a connection: an address and a port
 abbrev pub Endpoint : Type 0
@@ -60,7 +60,7 @@ beginner_of history a b now = beginner_since (since_opened (between a b history)
     -- no two neighbours of these moments are further apart than a connection may be silent
     is_unbroken : ℕ → List ℕ → Bool
     is_unbroken m [] = true
-    is_unbroken m (n ∷ ns) = nat_le (n - m) most_pause && is_unbroken n ns
+    is_unbroken m (n ∷ ns) = nat_le (n - m) most.pause && is_unbroken n ns
 
     -- The beginner by the packets from the last one that opens on: its source, unless a later one resets or there was a
     -- pause.
@@ -138,7 +138,7 @@ begun_between history a b = begun_at history a b (last_moment (between a b histo
 -- the moment is further before the last one than a connection may be silent
 unfoldable pub is_past : Option ℕ → ℕ → Bool
 is_past None m = false
-is_past (Some last) m = nat_lt most_pause (last - m)
+is_past (Some last) m = nat_lt most.pause (last - m)
 
 -- What the history says is kept; it may be forgotten where it is past. Where the history says nothing, nothing is kept.
 abbrev pub MayKeep : Option ℕ → Option Begun → Option Begun → Type 0

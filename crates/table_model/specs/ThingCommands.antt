@@ -9,7 +9,7 @@ use Rattle.item_codec.specs.declared.word.Word.TheVariants.{New, Same, Pending, 
 use Rattle.table_model.specs.declared.thing.Thing.{Thing}
 use Rattle.table_model.specs.declared.thing_fault.ThingFault.{ThingFault}
 use Rattle.table_model.specs.declared.thing_fault.ThingFault.TheVariants.{ThingsFull, NoThing, NoPending, LeasesFull, NoLease}
-use Rattle.table_model.specs.Limits.{most_things, most_leases}
+use Rattle.table_model.specs.Limits.{most}
 use Rattle.table_model.specs.Expiries.{expiry_of, with_expiry, live_rows, live_count, for_ever}
 use Rattle.table_model.specs.Things.{thing_at, set_thing, without_thing, without_lease, holds, with_leases, new_thing}
 
@@ -50,7 +50,7 @@ is_pending url (Some pending) = bytes_eq url pending
 -- one waits for the operator, in place of what waited.
 unfoldable pub url_cases : Mac → List ℕ → List Thing → Option Thing → ThingStep
 url_cases mac url things None =
-    if nat_le most_things (length things) then Err ThingsFull
+    if nat_le most.things (length things) then Err ThingsFull
     else done New (set_thing (new_thing mac url) things)
 url_cases mac url things (Some thing) =
     if bytes_eq url thing.url then left Same things
@@ -119,7 +119,7 @@ kept_lease a until things thing old =
 -- It hasn't: it gets the address, which leaves the Thing that has it, and its leases that have ended go.
 unfoldable pub new_lease : Addr → ℕ → ℕ → List Thing → Thing → ThingStep
 new_lease a until now things thing =
-    if nat_le most_leases (live_count now thing.leases) then Err LeasesFull
+    if nat_le most.leases (live_count now thing.leases) then Err LeasesFull
     else leased_until until New (set_thing (with_leases (with_expiry a until (live_rows now thing.leases)) thing) (without_lease a things))
 
 unfoldable pub known_lease : Addr → ℕ → ℕ → List Thing → Thing → Option ℕ → ThingStep

@@ -7,7 +7,7 @@ use Rattle.item_codec.specs.Kinds.{thing_kind}
 use Rattle.item_codec.specs.Spelling.{number, string, version_of}
 use Rattle.item_codec.specs.Records.{Reading, ◌>>=◌, number_in, string_in, version_to_in, end_in, optional, optional_in, elements, elements_in}
 use Rattle.table_model.specs.declared.thing.Thing.{Thing}
-use Rattle.table_model.specs.Limits.{most_things}
+use Rattle.table_model.specs.Limits.{most}
 use Rattle.table_model.specs.Things.{mac_of, holds, is_sound_thing, IsKeptThing}
 use Rattle.table_model.specs.ItemFields.{expiring, expiring_in}
 
@@ -79,7 +79,7 @@ in_second item = item_anew item (thing_in item)
 -- the Thing may stand behind these: its hardware address is greater, there is room, and none of them has one of its
 -- addresses
 unfoldable pub may_follow : List Thing → Thing → Bool
-may_follow things thing = comes_last mac_of thing things && nat_lt (length things) most_things && not (is_taken things thing)
+may_follow things thing = comes_last mac_of thing things && nat_lt (length things) most.things && not (is_taken things thing)
   where
     -- one of these Things has a lease of the address of the row
     is_taken : List Thing → Thing → Bool

@@ -6,7 +6,7 @@ use Rattle.mud_base.specs.declared.addr.Addr.{Addr}
 use Rattle.mud_base.specs.declared.addr.Mac.{Mac}
 use Rattle.mud_url.specs.Url.{is_canonical}
 use Rattle.table_model.specs.declared.thing.Thing.{Thing}
-use Rattle.table_model.specs.Limits.{most_things, most_leases}
+use Rattle.table_model.specs.Limits.{most}
 use Rattle.table_model.specs.Fits.{FitsThing}
 use Rattle.table_model.specs.Expiries.{Expiries, has_address, without_address, are_ascending, have_expiries}
 
@@ -56,7 +56,7 @@ is_sound_thing thing = is_canonical thing.url && may_wait thing.url thing.pendin
   where
     -- the leases of one Thing
     are_leases : Expiries → Bool
-    are_leases rows = are_ascending rows && have_expiries rows && nat_le (length rows) most_leases
+    are_leases rows = are_ascending rows && have_expiries rows && nat_le (length rows) most.leases
 
 -- a Thing that can be kept: it is sound, and fits the fields of its item
 pub record IsKeptThing (thing : Thing) : Type 0 where
@@ -70,5 +70,5 @@ IsAlone things = (a : Addr) (p q : List ℕ) (t u : Thing) → row_at mac_of p t
 pub record IsSoundThings (things : List Thing) : Type 0 where
   pub ascend : SortKeysAscend mac_of things
   pub each : AllByRecursion IsKeptThing things
-  pub few : length things ≤ most_things
+  pub few : length things ≤ most.things
   pub alone : IsAlone things

@@ -6,7 +6,7 @@ ghost use Rattle.mud_url.specs.Host.{lowered};
 ghost use Rattle.table_model.specs.Things.{is_sound_thing, may_wait};
 ghost use Rattle.table_model.specs.Binds as spec;
 ghost use Rattle.table_model.specs.BindItems.{are_locals};
-ghost use Rattle.table_model.specs.Limits.{most_leases};
+ghost use Rattle.table_model.specs.Limits.{most};
 ghost use Rattle.table_model.specs.Expiries.{have_expiries, are_ascending};
 
 use crate::addrs::{are_addrs, are_prefixes, prefix_of_parts};
@@ -22,7 +22,7 @@ use mud_url::host::is_host;
 /// address once, with expiries that are for ever or below 2^40 seconds.
 #[tactic(auto)]
 pub fn are_leases(rows: &[(Addr, End)]) -> bool
-    ensures { result ≡ are_ascending rows.now && have_expiries rows.now && nat_le (length rows.now) most_leases }
+    ensures { result ≡ are_ascending rows.now && have_expiries rows.now && nat_le (length rows.now) most.leases }
 {
     are_ascending(rows) && have_expiries(rows) && rows.len() <= MOST_LEASES
 }

@@ -14,7 +14,7 @@ use Rattle.base_rows.proofs.SortableLaws.{row_at_above, same_sort_key_itself}
 use Rattle.base_rows.proofs.RowLaws.{set_row_there}
 use Rattle.table_model.specs.declared.thing.Thing.{Thing}
 use Rattle.table_model.specs.declared.thing_fault.ThingFault.TheVariants.{ThingsFull, NoThing, NoPending, LeasesFull, NoLease}
-use Rattle.table_model.specs.Limits.{most_things, most_leases}
+use Rattle.table_model.specs.Limits.{most}
 use Rattle.table_model.specs.Expiries.{expiry_of, with_expiry, live_rows, live_count}
 use Rattle.table_model.specs.Things.{mac_of, thing_at, set_thing, without_thing, holds, with_leases, released, without_lease, new_thing, IsAlone, IsSoundThings}
 use Rattle.table_model.specs.ThingCommands.{TellsChange, ThingStep, done, leased_until, left, is_pending, url_cases, url_step, move_cases, move_step, remove_step, with_hold, hold_cases, hold_step, release_cases, release_step, expiry_after, kept_lease, new_lease, known_lease, stranger_lease, lease_cases, lease_step, end_step}
@@ -79,7 +79,7 @@ module _ (things : List Thing) (ascend : SortKeysAscend mac_of things) where
   url_makes : (mac : Mac) (url : List ℕ) (o : Option Thing) → IfOk (url_cases mac url things o) (TellsChange things) → MakesStep things (url_cases_change mac url o) (url_cases mac url things o)
   unfolding url_cases url_cases_change waiting_for
   url_makes mac url None told =
-      let full : Bool = nat_le most_things (length things) in
+      let full : Bool = nat_le most.things (length things) in
       by_step things full (puts_in (new_thing mac url ∷ [])) (Err ThingsFull) (done New (set_thing (new_thing mac url) things)) (λ _. tt)
       (λ room. one_told (new_thing mac url) ((told_right full (Err ThingsFull) (done New (set_thing (new_thing mac url) things)) told room).other refl))
   url_makes mac url (Some thing) told =
@@ -270,7 +270,7 @@ module _ (things : List Thing) (sound : IsSoundThings things) (a : Addr) where
   unfolding known_lease known_lease_change new_lease leased
   known_lease_makes until now thing there (Some old) kept told = kept_lease_makes until old thing told
   known_lease_makes until now thing there None none told =
-      by_step things (nat_le most_leases (live_count now thing.leases)) (new_lease_change a until now things thing) (Err LeasesFull) (leased_until until New (set_thing (leased a until now thing) (without_lease a things)))
+      by_step things (nat_le most.leases (live_count now thing.leases)) (new_lease_change a until now things thing) (Err LeasesFull) (leased_until until New (set_thing (leased a until now thing) (without_lease a things)))
       (λ _. tt) (λ _. new_lease_makes until now thing there none)
 
   lease_makes : (mac : Mac) (until now : ℕ) (heard : Bool) (o : Option Thing) → thing_at mac things ≡ o → IfOk (lease_cases a until now heard things o) (TellsChange things)

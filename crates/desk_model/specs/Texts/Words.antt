@@ -1,7 +1,6 @@
 -- What a line says of the reply to a command, behind what names it.
 use Rattle.std.specs.Prelude.{ℕ, List, ◌++◌, codes}
 use Rattle.item_codec.specs.Word.{text_of}
-use Rattle.usage_walk.specs.declared.fault.Broken.{Broken}
 use Rattle.usage_walk.specs.Names as rule
 use Rattle.text_values.specs.Numbers.{number_text}
 use Rattle.text_values.specs.Paths.{path_part}

@@ -1,5 +1,5 @@
 -- What a run of `import` promises where a desk is opened, and where none is.
-use Rattle.std.proofs.Common.{◌≡◌, ◌≢◌, ℕ, ◌⊎◌, inl, inr, List, Ok, sym, ap, ap₂, subst, ◌∙◌, arith}
+use Rattle.std.proofs.Common.{◌≡◌, ◌≢◌, ℕ, ◌⊎◌, inl, inr, List, sym, ap, ap₂, subst, ◌∙◌, arith}
 use Rattle.std.specs.declared.dyn_box.DynBox.{DynBox}
 use Rattle.std.specs.declared.alloc.Global.{Global}
 use Rattle.mud_world.specs.declared.keeper.Keeper.{Ghosts}
@@ -9,7 +9,7 @@ use Rattle.mud_world.specs.Door.{DoorState}
 use Rattle.mud_world.specs.Files.{names_of}
 use Rattle.run_common.specs.Ends.{IsStoppedByDoorOrSpool}
 use Rattle.desk_model.specs.DeskTables.{IsSound}
-use Rattle.desk_model.specs.Items.{tables_in}
+use Rattle.desk_model.specs.Keeping.{KeepsDesk}
 use Rattle.desk_model.specs.Sessions.{Session, opened}
 use Rattle.desk_model.specs.Boxed.{IsSameBox}
 use Rattle.mud_desk.specs.DeskState.{DeskState, session_of, tables_of}
@@ -52,7 +52,7 @@ scene_begun state moments door a b begun same = ap₂ (λ (s : Session) (n : ℕ
 
 module _ {X : Type 0} {F : X → Type 0} (members : (v : (x : X) × F x) → Ghosts (F v.0)) (keeper : DynBox X Global F) (tells : Type 0) (old new : OutsideView) (status : ℕ) where
   pub imported_run : (desk ended : Desk X F)
-      → (Tells members keeper → Tells members desk.keeper → tables_in (kept_items members keeper) ≡ Ok (tables_of desk.state))
+      → (Tells members keeper → Tells members desk.keeper → KeepsDesk (kept_items members keeper) (tables_of desk.state))
       → IsSound (tables_of desk.state) → session_of desk.state ≡ opened (tables_of desk.state) → faults_of members desk.keeper ≡ faults_of members keeper → IsSameBox keeper desk.keeper
       → StaysKept members desk ended → IsSound (tables_of ended.state)
       → IsOfImport status

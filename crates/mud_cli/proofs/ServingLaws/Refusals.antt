@@ -1,5 +1,5 @@
 -- What is done where no connection is served.
-use Rattle.std.proofs.Common.{◌≡◌, ℕ, Bool, inl, inr, [], Result, Ok, refl, sym, subst, arith}
+use Rattle.std.proofs.Common.{◌≡◌, ℕ, Bool, inl, inr, List, [], refl, sym, subst, arith}
 use Rattle.std.specs.declared.dyn_box.DynBox.{DynBox}
 use Rattle.std.specs.declared.alloc.Global.{Global}
 use Rattle.mud_world.specs.declared.keeper.Keeper.{Ghosts}
@@ -8,9 +8,8 @@ use Rattle.mud_world.specs.Boxed.{faults_of, Tells, kept_items}
 use Rattle.mud_world.specs.Causes.{Rose, StopsAtFailure}
 use Rattle.mud_world.specs.View.{DoorView}
 use Rattle.mud_world.proofs.Doors.{put_out_none}
-use Rattle.run_common.proofs.Outputs.{wrote_none}
 use Rattle.desk_model.specs.DeskTables.{DeskTables, IsSound}
-use Rattle.desk_model.specs.Items.{tables_in}
+use Rattle.desk_model.specs.Keeping.{KeepsDesk}
 use Rattle.desk_model.specs.Boxed.{IsKept, IsSameBox}
 use Rattle.run_desk.specs.Refused.{RefusesStore}
 use Rattle.run_desk.proofs.Refusals.{RunsRefused}
@@ -35,7 +34,7 @@ module _ {X : Type 0} {F : X → Type 0} (members : (v : (x : X) × F x) → Gho
 
   -- a desk was opened, and there was no memory to serve with
   pub memory_none : (view : DoorView) (tables : DeskTables)
-      → (Tells members keeper → Tells members after → tables_in (kept_items members keeper) ≡ Ok tables)
+      → (Tells members keeper → Tells members after → KeepsDesk (kept_items members keeper) tables)
       → IsSound tables → IsKept members after tables → faults_of members after ≡ faults_of members keeper → IsSameBox keeper after
       → (returned : DynBox X Global F) → returned ≡ after → ServesNone members tells keeper returned view view 5
   memory_none view tables read sound kept same_count same_box returned same =
@@ -49,16 +48,16 @@ module _ {X : Type 0} {F : X → Type 0} (members : (v : (x : X) × F x) → Gho
         };
         same_turns = refl;
         same_reads = refl;
-        says = λ told tell. nothing_said (tables_in (kept_items members after));
+        says = λ told tell. nothing_said (kept_items members after);
         only_writes = λ told. record { text = []; wrote = sym (put_out_none view.state) };
         leaves = leaves_opened members keeper after 5 tables read sound kept same_count (λ six. absurd (omega (arith, six)));
       })
     where
-      nothing_said : (store : Result DeskTables Item) → RefusesStore store view.state view.state 5
-      nothing_said store = record {
+      nothing_said : (items : List Item) → RefusesStore items view.state view.state 5
+      nothing_said items = record {
         statuses = inr (inl refl);
-        bad = λ which. absurd (grind arith);
         done = λ six. absurd (omega (arith, six));
-        part = λ which. wrote_none _ view.state view.state refl;
+        part = λ four. absurd (omega (arith, four));
+        unpaid = λ five. inl refl;
         none = λ seven. refl;
       }

@@ -1,5 +1,5 @@
 -- What a run of `replay` promises where the connection is served, and where it isn't.
-use Rattle.std.proofs.Common.{◌≡◌, ◌≢◌, ℕ, ◌⊎◌, inl, inr, [], Ok, refl, ap, subst, ◌∙◌, arith}
+use Rattle.std.proofs.Common.{◌≡◌, ◌≢◌, ℕ, ◌⊎◌, inl, inr, [], refl, ap, subst, ◌∙◌, arith}
 use Rattle.std.specs.declared.dyn_box.DynBox.{DynBox}
 use Rattle.std.specs.declared.alloc.Global.{Global}
 use Rattle.mud_world.specs.declared.keeper.Keeper.{Ghosts}
@@ -7,7 +7,7 @@ use Rattle.mud_world.specs.Boxed.{faults_of, Tells, kept_items}
 use Rattle.mud_world.specs.Causes.{Rose}
 use Rattle.mud_world.specs.View.{DoorView}
 use Rattle.desk_model.specs.DeskTables.{DeskTables, IsSound}
-use Rattle.desk_model.specs.Items.{tables_in}
+use Rattle.desk_model.specs.Keeping.{KeepsDesk}
 use Rattle.desk_model.specs.Sessions.{Session, opened}
 use Rattle.desk_model.specs.Boxed.{IsKept, IsSameBox}
 use Rattle.mud_desk.specs.DeskState.{DeskState, session_of, tables_of}
@@ -115,7 +115,7 @@ module _ {X : Type 0} {F : X → Type 0} (members : (v : (x : X) × F x) → Gho
         none_complete none (inr (inr (inr seven))) = absurd (none.keeper (p.honest.keeper_fault seven))
 
     pub replays_opened : (tables : DeskTables) (begins : DynBox X Global F)
-        → (Tells members keeper → Tells members begins → tables_in (kept_items members keeper) ≡ Ok tables)
+        → (Tells members keeper → Tells members begins → KeepsDesk (kept_items members keeper) tables)
         → IsSound tables → faults_of members begins ≡ faults_of members keeper → IsSameBox keeper begins
         → ReplaysConnection members tells tables (faults_of members begins) returned old new status
         → (Tells members returned → Tells members begins) → IsSameBox begins returned

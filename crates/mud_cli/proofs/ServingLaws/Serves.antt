@@ -1,5 +1,5 @@
 -- What a run of `serve` promises where connections are served, and where they aren't.
-use Rattle.std.proofs.Common.{◌≡◌, ◌≢◌, ℕ, ◌⊎◌, inl, inr, Bool, true, false, IsTrue, cond, List, [], Ok, refl, ap, subst, ◌∙◌, arith}
+use Rattle.std.proofs.Common.{◌≡◌, ◌≢◌, ℕ, ◌⊎◌, inl, inr, Bool, true, false, IsTrue, cond, List, [], refl, ap, subst, ◌∙◌, arith}
 use Rattle.std.specs.declared.dyn_box.DynBox.{DynBox}
 use Rattle.std.specs.declared.alloc.Global.{Global}
 use Rattle.mud_world.specs.declared.keeper.Keeper.{Ghosts}
@@ -8,7 +8,7 @@ use Rattle.mud_world.specs.Causes.{Counts, Rose, StopsAtFailure}
 use Rattle.mud_world.specs.Door.{bound_anew}
 use Rattle.mud_world.specs.View.{DoorView}
 use Rattle.desk_model.specs.DeskTables.{DeskTables, IsSound}
-use Rattle.desk_model.specs.Items.{tables_in}
+use Rattle.desk_model.specs.Keeping.{KeepsDesk}
 use Rattle.desk_model.specs.Sessions.{Session, opened}
 use Rattle.desk_model.specs.Boxed.{IsKept, IsSameBox}
 use Rattle.mud_desk.specs.DeskState.{DeskState, session_of, tables_of}
@@ -123,7 +123,7 @@ module _ {X : Type 0} {F : X → Type 0} (members : (v : (x : X) × F x) → Gho
         none_complete none (inr (inr (inr seven))) = absurd (none.keeper (p.honest.keeper_fault seven))
 
     pub serves_opened : (tables : DeskTables) (begins : DynBox X Global F)
-        → (Tells members keeper → Tells members begins → tables_in (kept_items members keeper) ≡ Ok tables)
+        → (Tells members keeper → Tells members begins → KeepsDesk (kept_items members keeper) tables)
         → IsSound tables → faults_of members begins ≡ faults_of members keeper → IsSameBox keeper begins
         → ServesConnections members tells clock_tells tables (faults_of members begins) returned at clock old new status
         → (Tells members returned → Tells members begins) → IsSameBox begins returned

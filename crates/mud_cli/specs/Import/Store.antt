@@ -1,5 +1,5 @@
 -- What a run of `import` over a store and a folder does.
-use Rattle.std.specs.Prelude.{◌≡◌, ℕ, ◌⊎◌, Ok, [], ◌∷◌}
+use Rattle.std.specs.Prelude.{◌≡◌, ℕ, ◌⊎◌, [], ◌∷◌}
 use Rattle.std.specs.declared.dyn_box.DynBox.{DynBox}
 use Rattle.std.specs.declared.alloc.Global.{Global}
 use Rattle.mud_world.specs.declared.keeper.Keeper.{Ghosts}
@@ -8,7 +8,8 @@ use Rattle.mud_world.specs.Files.{names_of}
 use Rattle.run_common.specs.Ends.{AreSteady, IsStoppedByDoorOrSpool}
 use Rattle.mud_world.specs.View.{OutsideView}
 use Rattle.desk_model.specs.DeskTables.{DeskTables, IsSound}
-use Rattle.desk_model.specs.Items.{items_of, tables_in}
+use Rattle.desk_model.specs.Items.{items_of}
+use Rattle.desk_model.specs.Keeping.{KeepsDesk}
 use Rattle.desk_model.specs.Sessions.{Session, opened}
 use Rattle.run_desk.specs.Honest.{RunsHonestly}
 use Rattle.run_desk.specs.Store.{IsRefused, IsUnopened, KeepsTables}
@@ -36,7 +37,7 @@ module _ {X : Type 0} {F : X → Type 0} (members : (v : (x : X) × F x) → Gho
     pub tables : DeskTables
     pub session : Session
     pub sound : IsSound tables
-    pub were_kept : Tells members keeper → tables_in (kept_items members keeper) ≡ Ok tables
+    pub were_kept : Tells members keeper → KeepsDesk (kept_items members keeper) tables
     pub imports : ImportsFolder tables session (faults_of members keeper) (faults_of members returned) old new status
     pub are_kept : kept_items members returned ≡ items_of session.desk
 

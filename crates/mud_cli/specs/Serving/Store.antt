@@ -1,5 +1,5 @@
 -- What `replay` and `serve` make of their store: what a served desk leaves, and what is done where no connection is served.
-use Rattle.std.specs.Prelude.{◌≡◌, ℕ, ◌+◌, List, Ok}
+use Rattle.std.specs.Prelude.{◌≡◌, ℕ, ◌+◌, List}
 use Rattle.std.specs.declared.dyn_box.DynBox.{DynBox}
 use Rattle.std.specs.declared.alloc.Global.{Global}
 use Rattle.mud_world.specs.declared.keeper.Keeper.{Ghosts}
@@ -9,7 +9,7 @@ use Rattle.mud_world.specs.Door.{DoorState, put_out}
 use Rattle.run_common.specs.Ends.{IsStoppedWriting}
 use Rattle.mud_world.specs.View.{DoorView}
 use Rattle.desk_model.specs.DeskTables.{DeskTables, IsSound}
-use Rattle.desk_model.specs.Items.{tables_in}
+use Rattle.desk_model.specs.Keeping.{KeepsDesk}
 use Rattle.desk_model.specs.Boxed.{IsKept}
 use Rattle.run_desk.specs.Honest.{RunsHonestly}
 use Rattle.run_desk.specs.Refused.{RefusesStore, each_refusal}
@@ -33,7 +33,7 @@ module _ {X : Type 0} {F : X → Type 0} (members : (v : (x : X) × F x) → Gho
   -- a desk is opened with the tables that were kept
   pub record OpensWith (tables : DeskTables) (keeper returned : DynBox X Global F) : Type 0 where
     pub sound : IsSound tables
-    pub were_kept : Tells members keeper → Tells members returned → tables_in (kept_items members keeper) ≡ Ok tables
+    pub were_kept : Tells members keeper → Tells members returned → KeepsDesk (kept_items members keeper) tables
 
   -- What requests leave, whose state is this: the box keeps the tables of the session, the clock will give its moments, and the
   -- keeper's count rose with the requests that were answered with 503 and with no other. At most as many were as it rose: none
@@ -54,6 +54,6 @@ module _ {X : Type 0} {F : X → Type 0} (members : (v : (x : X) × F x) → Gho
     pub same_turns : new.turns ≡ old.turns
     pub same_reads : new.reads ≡ old.reads
     -- What is written goes by the items that are kept.
-    pub says : tells → Tells members returned → RefusesStore (tables_in (kept_items members returned)) old.state new.state status
+    pub says : tells → Tells members returned → RefusesStore (kept_items members returned) old.state new.state status
     pub only_writes : tells → OnlyWrites old.state new.state
     pub leaves : LeavesStore members keeper returned status

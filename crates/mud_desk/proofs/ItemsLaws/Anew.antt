@@ -1,6 +1,6 @@
 -- Things of version 1 are put anew, one after the other, in the items of a desk.
-use Rattle.std.proofs.Common.{◌≡◌, ℕ, zero, suc, ◌+◌, ◌≤◌, ◌<◌, cond, ◌&&◌, ◌==◌, List, [], ◌∷◌, ◌++◌, map, length, take, drop, get_or, slice_get, Option, Some, None, Result, Ok, refl, sym, ap, subst, ◌∙◌, arith, add-one, lit<, length-append, append_assoc}
-use Rattle.std.specs.Prelude.{IsOk, option_map}
+use Rattle.std.proofs.Common.{◌≡◌, ℕ, zero, suc, ◌+◌, ◌≤◌, ◌<◌, cond, ◌&&◌, ◌==◌, List, [], ◌∷◌, ◌++◌, map, length, take, drop, get_or, slice_get, Option, Some, None, Ok, refl, sym, ap, subst, ◌∙◌, arith, add-one, lit<, length-append, append_assoc}
+use Rattle.std.specs.Prelude.{option_map}
 use Rattle.std.specs.List.{AllByRecursion}
 use Rattle.std.proofs.Math.Seq.{drop-cons, drop-append_seam}
 use Rattle.std.proofs.lemmas.List.{take_more, take_all, take-append-drop, drop-map, map-append, length-map}
@@ -17,7 +17,8 @@ use Rattle.table_model.specs.TakenItems.{bind_items}
 use Rattle.usage_tables.specs.FileItems.{file_item, file_items}
 use Rattle.desk_model.specs.DeskTables.{DeskTables}
 use Rattle.desk_model.specs.Items.{desk_of, items_of, tables_in, in_second_version}
-use Rattle.desk_model.proofs.Anew.{sort_key_in_second, put_anew, read_anew}
+use Rattle.desk_model.proofs.Anew.{sort_key_in_second, put_anew}
+use Rattle.desk_model.proofs.Keeping.{keeps_read, keeps_anew}
 use Rattle.desk_model.proofs.ReadBack.{each_item, all_bind_items}
 use Rattle.desk_model.proofs.Taking.{unequal}
 use Rattle.desk_model.proofs.ReadSound.{desk_alone}
@@ -78,11 +79,6 @@ all_left : (n : ℕ) (items : List Item) → AllByRecursion HasOctets items → 
 all_left zero items octets = octets
 all_left (suc n) [] octets = tt
 all_left (suc n) (item ∷ items) octets = all_left n items octets.1
-
-all_first : (n : ℕ) (items : List Item) → AllByRecursion HasOctets items → AllByRecursion HasOctets (take n items)
-all_first zero items octets = tt
-all_first (suc n) [] octets = tt
-all_first (suc n) (item ∷ items) octets = (octets.0, all_first n items octets.1)
 
 -- ---- The items of Things stand first
 
@@ -168,14 +164,12 @@ one_anew items i item now after within is e up puts =
 
 -- ---- Some of them
 
-is_ok_read : (read : Result DeskTables Item) (desk : DeskTables) → read ≡ Ok desk → IsOk read
-is_ok_read read desk e = rw e refl
-
 pub partly_anew : (items now : List Item) (desk : DeskTables) → AllByRecursion HasOctets items → tables_in items ≡ Ok desk → (i : ℕ) → now ≡ in_second_version (take i items) ++ drop i items → IsPartlyAnew items now
 partly_anew items now desk octets read i e = record {
   anew = record { count = i; items = e };
-  good = is_ok_read (tables_in items) desk read;
-  same = ap tables_in e ∙ read_anew (take i items) (drop i items) desk (all_first i items octets) (ap tables_in (take-append-drop i items) ∙ read) ∙ sym read;
+  desk = desk;
+  keeps = keeps_read items desk octets read;
+  still = keeps_anew items now desk i e (keeps_read items desk octets read);
 }
 
 -- ---- Octets

@@ -3,12 +3,14 @@ use Rattle.std.proofs.Common.{◌≡◌, ℕ, ◌+◌, ◌≤◌, ◌<◌, Bool,
 use Rattle.std.proofs.Math.Seq.{drop-cons}
 use Rattle.std.proofs.lemmas.List.{drop_all}
 use Rattle.std.proofs.lemmas.Option.{slice_get-get_or, get_or_from_slice_get}
+use Rattle.std.specs.List.{AllByRecursion}
 use Rattle.mud_world.specs.declared.item.Item.{Item}
 use Rattle.desk_model.specs.Items.{KeptDesk, none_kept, desk_of, tables_in}
+use Rattle.desk_model.proofs.Keeping as keeping
 use Rattle.desk_model.proofs.Taking.{kept_behind}
 use Rattle.bind_book.specs.Reading.{IsTaken}
 use Rattle.mud_desk.specs.Items.Loaded.{IsBadAt}
-use Rattle.mud_desk.specs.Items.Opening.{IsBadItem}
+use Rattle.mud_desk.specs.Items.Opening.{HasOctets, IsBadItem}
 use Rattle.desk_model.proofs.Parts.{kept_in, desk_in, with_desk_item}
 
 -- the items, of which so many were taken, are those that are left behind what was taken
@@ -43,7 +45,7 @@ unfolding tables_in
 all_read items i kept past so_far = ap desk_in (so_far ∙ ap (kept_in kept) (drop_all i items past))
 
 -- the item of the index is the one that is no record
-pub bad_item : (items : List Item) (index : ℕ) (item : Item) (key : List ℕ) → IsBadAt items index → item ≡ get_or items index item → key ≡ item.key → IsBadItem items item.kind key
-bad_item items index item key bad is of_key =
+pub bad_item : (items : List Item) (index : ℕ) (item : Item) (key : List ℕ) → AllByRecursion HasOctets items → IsBadAt items index → item ≡ get_or items index item → key ≡ item.key → IsBadItem items item.kind key
+bad_item items index item key octets bad is of_key =
     let same : bad.item ≡ item = sym (get_or_from_slice_get items index bad.item item bad.there) ∙ sym is in
-    record { item = bad.item; bad = bad.bad; kind_is = ap (λ (i : Item). i.kind) same; key_is = ap (λ (i : Item). i.key) same ∙ sym of_key }
+    record { item = bad.item; bad = keeping.first_bad items bad.item octets bad.bad; kind_is = ap (λ (i : Item). i.kind) same; key_is = ap (λ (i : Item). i.key) same ∙ sym of_key }

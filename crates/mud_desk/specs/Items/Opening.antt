@@ -1,12 +1,14 @@
 -- Opening a keeper: why it can't be done, and what it leaves.
-use Rattle.std.specs.Prelude.{◌≡◌, ℕ, Bool, true, false, List, ◌∷◌, ◌++◌, take, drop, ◌⊎◌, Result, Ok, Err, IsOk}
+use Rattle.std.specs.Prelude.{◌≡◌, ℕ, Bool, true, false, List, ◌∷◌, ◌++◌, take, drop, ◌⊎◌, Result, Ok, Err}
 use Rattle.mud_base.specs.Numbers.{IsOctets}
 use Rattle.mud_world.specs.declared.item.Item.{Item}
 use Rattle.mud_world.specs.declared.fault.KeepFault.{KeepFault}
 use Rattle.mud_world.specs.declared.fault.KeepFault.TheVariants as keep
 use Rattle.mud_world.specs.Items.{IsOrdered}
 use Rattle.table_model.specs.ThingItems.{in_second}
-use Rattle.desk_model.specs.Items.{tables_in, in_second_version}
+use Rattle.desk_model.specs.DeskTables.{DeskTables}
+use Rattle.desk_model.specs.Items.{in_second_version}
+use Rattle.desk_model.specs.Keeping.{KeepsDesk, IsFirstBad}
 use Rattle.mud_desk.specs.declared.items.fault.OpenFault.{OpenFault}
 use Rattle.mud_desk.specs.declared.items.fault.OpenFault.TheVariants.{Keeper, Memory, BadItem}
 
@@ -38,7 +40,7 @@ IsOfCall (BadItem kind key) = ⊥
 -- the first item that is no record has this kind and key
 pub record IsBadItem (items : List Item) (kind : ℕ) (key : List ℕ) : Type 0 where
   pub item : Item
-  pub bad : tables_in items ≡ Err item
+  pub bad : IsFirstBad items item
   pub kind_is : item.kind ≡ kind
   pub key_is : item.key ≡ key
 
@@ -58,8 +60,9 @@ pub record IsAnew (before now : List Item) : Type 0 where
 -- all items were records, and some of them are put anew, which are those of the same desk
 pub record IsPartlyAnew (before now : List Item) : Type 0 where
   pub anew : IsAnew before now
-  pub good : IsOk (tables_in before)
-  pub same : tables_in now ≡ tables_in before
+  pub desk : DeskTables
+  pub keeps : KeepsDesk before desk
+  pub still : KeepsDesk now desk
 
 -- what a failure leaves of the items: all of them where an item is named, and also else until Things are put anew
 abbrev pub Leaves : List Item → List Item → OpenFault → Type 0

@@ -7,6 +7,7 @@ ghost use Rattle.mud_base.specs.Numbers.{IsOctets};
 ghost use Rattle.table_model.specs.ThingItems.{in_second};
 ghost use Rattle.desk_model.specs.DeskTables.{IsSound};
 ghost use Rattle.desk_model.specs.Items.{none_kept, items_of, tables_in};
+ghost use Rattle.desk_model.specs.Keeping.{KeepsDesk};
 ghost use Rattle.mud_desk.specs.Items.Loaded.{kept_of, loaded_desk};
 ghost use Rattle.mud_desk.specs.Items.Opening.{has_keeper_failed, HasOctets, IsFaultOf, IsOfCall, IsPartlyAnew, Leaves, PutsAnew};
 
@@ -32,9 +33,9 @@ pub fn open_items(
     requires { kept_of nothing ≡ none_kept }
     ensures opened { OnOk result (opened keeper.new ≡ true) }
     ensures still { IsTrue (opened keeper.old) → IsTrue (opened keeper.new) }
-    // What was read is the desk that the keeper told before, it is sound, and is kept now.
+    // What was read is the desk that the keeper's items kept before, it is sound, and is kept now.
     ensures read { tells keeper.old → tells keeper.new
-        → IfOk result (λ loaded. tables_in (items keeper.old) ≡ Ok (loaded_desk loaded)) }
+        → IfOk result (λ loaded. KeepsDesk (items keeper.old) (loaded_desk loaded)) }
     ensures sound { IfOk result (λ loaded. IsSound (loaded_desk loaded)) }
     ensures kept { tells keeper.new
         → IfOk result (λ loaded. items keeper.new ≡ items_of (loaded_desk loaded)) }
@@ -72,6 +73,7 @@ fn opened_items(keeper: &mut Box<dyn Keeper>, alloc: Global) -> Result<Listed<It
 fn read_items(nothing: Loaded, items: &[Item]) -> Result<Loaded, OpenFault>
     requires { kept_of nothing ≡ none_kept }
     ensures read { IfOk result (λ loaded. tables_in items.now ≡ Ok (loaded_desk loaded)) }
+    ensures keeps { IfOk result (λ loaded. KeepsDesk items.now (loaded_desk loaded)) }
     ensures sound { IfOk result (λ loaded. IsSound (loaded_desk loaded)) }
     ensures bad { IfErr result (IsFaultOf items.now) }
     ensures told { has_keeper_failed result ≡ false }

@@ -1,5 +1,5 @@
 -- What a run of `snoop` promises where a desk is opened, and where none is.
-use Rattle.std.proofs.Common.{◌≡◌, ◌≢◌, ℕ, ◌⊎◌, inl, inr, Ok, sym, ap₂, subst, ◌∙◌, arith}
+use Rattle.std.proofs.Common.{◌≡◌, ◌≢◌, ℕ, ◌⊎◌, inl, inr, sym, ap₂, subst, ◌∙◌, arith}
 use Rattle.std.specs.declared.dyn_box.DynBox.{DynBox}
 use Rattle.std.specs.declared.alloc.Global.{Global}
 use Rattle.mud_world.specs.declared.keeper.Keeper.{Ghosts}
@@ -7,7 +7,7 @@ use Rattle.mud_world.specs.Boxed.{faults_of, Tells, kept_items}
 use Rattle.mud_world.specs.Causes.{EndsAtFailure, Rose}
 use Rattle.mud_world.specs.View.{DoorView}
 use Rattle.desk_model.specs.DeskTables.{IsSound}
-use Rattle.desk_model.specs.Items.{tables_in}
+use Rattle.desk_model.specs.Keeping.{KeepsDesk}
 use Rattle.desk_model.specs.Sessions.{Session, opened}
 use Rattle.desk_model.specs.Boxed.{IsSameBox}
 use Rattle.mud_desk.specs.DeskState.{session_of, tables_of}
@@ -39,7 +39,7 @@ not_six status is (inr (inr six)) = absurd (grind arith)
 
 module _ {X : Type 0} {F : X → Type 0} (members : (v : (x : X) × F x) → Ghosts (F v.0)) (keeper : DynBox X Global F) (tells : Type 0) (old new : DoorView) (status : ℕ) where
   pub snooped_run : (desk ended : Desk X F)
-      → (Tells members keeper → Tells members desk.keeper → tables_in (kept_items members keeper) ≡ Ok (tables_of desk.state))
+      → (Tells members keeper → Tells members desk.keeper → KeepsDesk (kept_items members keeper) (tables_of desk.state))
       → IsSound (tables_of desk.state) → session_of desk.state ≡ opened (tables_of desk.state) → faults_of members desk.keeper ≡ faults_of members keeper → IsSameBox keeper desk.keeper
       → StaysKept members desk ended → IsSound (tables_of ended.state)
       → IsOfSnoop status
@@ -75,17 +75,17 @@ module _ {X : Type 0} {F : X → Type 0} (members : (v : (x : X) × F x) → Gho
             all = λ which. record {
               session = session_of ended.state;
               are_kept = stays.kept.items tell;
-              all = subst (λ (a : Scene). SnoopsAll a last status) first (all told which);
+              scene_is = subst (λ (a : Scene). SnoopsAll a last status) first (all told which);
             };
             part = λ which. record {
               session = session_of ended.state;
               are_kept = stays.kept.items tell;
-              part = subst (λ (a : Scene). SnoopsPart a last) first (part told which);
+              scene_is = subst (λ (a : Scene). SnoopsPart a last) first (part told which);
             };
             taken = λ other. record {
               session = session_of ended.state;
               are_kept = stays.kept.items tell;
-              taken = subst (λ (a : Scene). SnoopsTaken a last) first (taken told other);
+              scene_is = subst (λ (a : Scene). SnoopsTaken a last) first (taken told other);
             };
           };
         });

@@ -1,5 +1,5 @@
 -- What a run of `snoop` over a store and a capture does.
-use Rattle.std.specs.Prelude.{◌≡◌, ◌≢◌, ℕ, ◌⊎◌, List, [], Ok, ◌∷◌}
+use Rattle.std.specs.Prelude.{◌≡◌, ◌≢◌, ℕ, ◌⊎◌, List, [], ◌∷◌}
 use Rattle.std.specs.declared.dyn_box.DynBox.{DynBox}
 use Rattle.std.specs.declared.alloc.Global.{Global}
 use Rattle.mud_world.specs.declared.keeper.Keeper.{Ghosts}
@@ -9,48 +9,38 @@ use Rattle.mud_world.specs.Door.{DoorState}
 use Rattle.run_common.specs.Ends.{IsSteady, IsStopped}
 use Rattle.mud_world.specs.View.{DoorView}
 use Rattle.desk_model.specs.DeskTables.{DeskTables, IsSound}
-use Rattle.desk_model.specs.Items.{items_of, tables_in}
+use Rattle.desk_model.specs.Items.{items_of}
+use Rattle.desk_model.specs.Keeping.{KeepsDesk}
 use Rattle.desk_model.specs.Sessions.{Session, opened}
 use Rattle.run_desk.specs.Honest.{RunsHonestly}
 use Rattle.run_desk.specs.Store.{IsRefused, IsUnopened, KeepsTables}
-use Rattle.run_packets.specs.Snoop.Runs.{scene, SnoopsAll, SnoopsPart, SnoopsTaken}
+use Rattle.run_packets.specs.Snoop.Runs.{Scene, scene, SnoopsAll, SnoopsPart, SnoopsTaken}
 use Rattle.run_common.specs.Status.{IsOneOf, each_status}
 use Rattle.run_common.specs.declared.status.Status.TheVariants.{Done, Refused, DoorFailed, NoMemory, BadItem, KeeperFailed}
 
 -- ---- A desk that is opened
 
--- All packets lead from the session that began with these tables to one whose tables these items are.
-pub record LeavesAll (tables : DeskTables) (items : List Item) (faults faults_after : ℕ) (old new : DoorState) (status : ℕ) : Type 0 where
+-- The packets lead to a scene, in a session whose tables these items are.
+pub record LeadsTo (leads : Scene → Type 0) (items : List Item) (faults : ℕ) (door : DoorState) : Type 0 where
   pub session : Session
   pub are_kept : items ≡ items_of session.desk
-  pub all : SnoopsAll (scene (opened tables) old faults) (scene session new faults_after) status
+  pub scene_is : leads (scene session door faults)
 
--- so do some of them, from the first on
-pub record LeavesPart (tables : DeskTables) (items : List Item) (faults faults_after : ℕ) (old new : DoorState) : Type 0 where
-  pub session : Session
-  pub are_kept : items ≡ items_of session.desk
-  pub part : SnoopsPart (scene (opened tables) old faults) (scene session new faults_after)
-
--- so do those in the octets that were taken
-pub record LeavesTaken (tables : DeskTables) (items : List Item) (faults faults_after : ℕ) (old new : DoorState) : Type 0 where
-  pub session : Session
-  pub are_kept : items ≡ items_of session.desk
-  pub taken : SnoopsTaken (scene (opened tables) old faults) (scene session new faults_after)
-
--- The packets of the capture were gone through: all of them with 0, 3 and 7, and with 4 and 5 some of them, from the first on. Where a
--- read failed, they are those in the octets that were taken, and all their lines were written.
+-- The packets of the capture were gone through, in the session that began with these tables: all of them with 0, 3 and 7, and with 4
+-- and 5 some of them, from the first on. Where a read failed, they are those in the octets that were taken, and all their lines
+-- were written.
 pub record SnoopsCapture (tables : DeskTables) (items : List Item) (faults faults_after : ℕ) (old new : DoorView) (status : ℕ) : Type 0 where
   pub statuses : IsOneOf (Done ∷ Refused ∷ DoorFailed ∷ NoMemory ∷ KeeperFailed ∷ []) status
-  pub all : IsOneOf (Done ∷ Refused ∷ KeeperFailed ∷ []) status → LeavesAll tables items faults faults_after old.state new.state status
-  pub part : IsOneOf (DoorFailed ∷ NoMemory ∷ []) status → LeavesPart tables items faults faults_after old.state new.state
-  pub taken : new.reads ≢ old.reads → LeavesTaken tables items faults faults_after old.state new.state
+  pub all : IsOneOf (Done ∷ Refused ∷ KeeperFailed ∷ []) status → LeadsTo (λ after. SnoopsAll (scene (opened tables) old.state faults) after status) items faults_after new.state
+  pub part : IsOneOf (DoorFailed ∷ NoMemory ∷ []) status → LeadsTo (SnoopsPart (scene (opened tables) old.state faults)) items faults_after new.state
+  pub taken : new.reads ≢ old.reads → LeadsTo (SnoopsTaken (scene (opened tables) old.state faults)) items faults_after new.state
 
 module _ {X : Type 0} {F : X → Type 0} (members : (v : (x : X) × F x) → Ghosts (F v.0)) where
   -- A desk is opened with the tables that were kept, and what the packets lead to is kept.
   pub record OpensAndSnoops (keeper returned : DynBox X Global F) (old new : DoorView) (status : ℕ) : Type 0 where
     pub tables : DeskTables
     pub sound : IsSound tables
-    pub were_kept : Tells members keeper → tables_in (kept_items members keeper) ≡ Ok tables
+    pub were_kept : Tells members keeper → KeepsDesk (kept_items members keeper) tables
     pub snoops : SnoopsCapture tables (kept_items members returned) (faults_of members keeper) (faults_of members returned) old new status
 
   -- A run of `snoop`. `tells` says that the door tells its connections.

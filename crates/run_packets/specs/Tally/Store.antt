@@ -3,12 +3,10 @@ use Rattle.std.specs.Prelude.{ℕ, List}
 use Rattle.std.specs.declared.dyn_box.DynBox.{DynBox}
 use Rattle.std.specs.declared.alloc.Global.{Global}
 use Rattle.mud_world.specs.declared.keeper.Keeper.{Ghosts}
-use Rattle.mud_world.specs.Door.{DoorState}
 use Rattle.run_captures.specs.Captures.{captured_of}
-use Rattle.run_captures.specs.Capture.{WritesTaken, output_behind}
+use Rattle.run_captures.specs.Capture.{output_behind}
 use Rattle.run_common.specs.Output.{Output}
 use Rattle.mud_world.specs.View.{DoorView}
-use Rattle.desk_model.specs.DeskTables.{DeskTables}
 use Rattle.desk_model.specs.Sessions.{Session, opened}
 use Rattle.run_desk.specs.Store.{ReadsByStore}
 use Rattle.run_packets.specs.Tally.Tallied.{begun, seen_in, tally_step, tally_text}
@@ -18,15 +16,9 @@ use Rattle.run_packets.specs.Tally.Tallied.{begun, seen_in, tally_step, tally_te
 abbrev pub output_of_tally : Session → List ℕ → Output
 output_of_tally session octets = output_behind (tally_text (seen_in session (captured_of octets).all)) (captured_of octets).fault
 
--- in the session that begins with the tables of the store
-abbrev pub tallied_output : DeskTables → List ℕ → Output
-tallied_output tables octets = output_of_tally (opened tables) octets
-
--- where a read failed, the lines of the hours that were over were written
-abbrev pub tallied_taken : DeskTables → DoorState → DoorState → Type 0
-tallied_taken tables old new = WritesTaken tally_step (begun (opened tables)) old new
-
 module _ {X : Type 0} {F : X → Type 0} (members : (v : (x : X) × F x) → Ghosts (F v.0)) where
-  -- A run of `tally`. `tells` says that the door tells its connections.
+  -- A run of `tally`, in the session that begins with the tables of the store. Where a read failed, the lines of the hours that were
+  -- over were written. `tells` says that the door tells its connections.
   abbrev pub TalliesStore : Type 0 → DynBox X Global F → DynBox X Global F → DoorView → DoorView → ℕ → Type 0
-  TalliesStore tells keeper returned old new status = ReadsByStore members tallied_output tallied_taken tells keeper returned old new status
+  TalliesStore tells keeper returned old new status =
+      ReadsByStore members (λ tables. output_of_tally (opened tables)) tally_step (λ tables. begun (opened tables)) tells keeper returned old new status

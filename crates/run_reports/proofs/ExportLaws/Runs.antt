@@ -1,9 +1,8 @@
 -- What a run of `export` promises where the desk is opened, and where it isn't.
-use Rattle.std.proofs.Common.{◌≡◌, ◌≢◌, ℕ, ◌⊎◌, inl, inr, List, Result, Ok, Err, refl, sym, subst, arith}
+use Rattle.std.proofs.Common.{◌≡◌, ◌≢◌, ℕ, ◌⊎◌, inl, inr, List, sym, subst, arith}
 use Rattle.std.specs.declared.dyn_box.DynBox.{DynBox}
 use Rattle.std.specs.declared.alloc.Global.{Global}
 use Rattle.mud_world.specs.declared.keeper.Keeper.{Ghosts}
-use Rattle.mud_world.specs.declared.item.Item.{Item}
 use Rattle.mud_world.specs.Boxed.{faults_of, Tells, kept_items}
 use Rattle.mud_world.specs.Causes.{StopsAtFailure}
 use Rattle.mud_world.specs.Door.{DoorState}
@@ -11,14 +10,12 @@ use Rattle.mud_base.specs.declared.addr.Mac.{Mac}
 use Rattle.mud_world.specs.Clock.{next_moment}
 use Rattle.mud_world.specs.View.{DoorView}
 use Rattle.desk_model.specs.DeskTables.{DeskTables, IsSound}
-use Rattle.desk_model.specs.Items.{tables_in}
+use Rattle.desk_model.specs.Keeping.{KeepsDesk}
 use Rattle.desk_model.specs.Boxed.{IsKept, IsSameBox}
-use Rattle.run_desk.specs.Refused.{RefusesStore}
 use Rattle.run_desk.proofs.Refusals.{RunsRefused}
-use Rattle.run_desk.proofs.Stores.{kept_tables, leaves_opened, no_bad, not_read, nothing_written}
-use Rattle.run_common.proofs.Outputs.{wrote_none}
+use Rattle.run_desk.proofs.Stores.{keeps_tables, leaves_opened}
 use Rattle.run_reports.specs.Export.Exported.{export_output, WritesLists}
-use Rattle.run_reports.specs.Export.Store.{ExportsStore, IsOfDesk, WritesExport, WritesThing}
+use Rattle.run_reports.specs.Export.Store.{ExportsStore, IsOfDesk, WritesThing}
 
 -- ---- Statuses
 
@@ -42,7 +39,7 @@ no_seven status is seven = absurd (grind arith)
 module _ (mac : Mac) (clock_tells : Type 0) (moments : List ℕ) (old new : DoorState) (status : ℕ) where
   -- the output of a desk was written, at what the clock gave
   pub writes_desk : (desk : DeskTables) (clock : ℕ) → (clock_tells → clock ≡ next_moment moments) → IsOfDesk status
-      → WritesLists (export_output mac clock desk) old new status → WritesThing mac clock_tells moments desk old new status
+      → WritesLists (export_output mac clock desk) old new status → WritesThing mac clock_tells moments old new status desk
   writes_desk desk clock clock_is is wrote = record {
     clock = clock;
     clock_is = clock_is;
@@ -50,29 +47,16 @@ module _ (mac : Mac) (clock_tells : Type 0) (moments : List ℕ) (old new : Door
     lists = wrote;
   }
 
-  writes_refused : (store : Result DeskTables Item) → RefusesStore store old new status → WritesExport mac clock_tells moments store old new status
-  writes_refused (Ok desk) p = record {
-    clock = next_moment moments;
-    clock_is = λ tells. refl;
-    good = no_bad desk old new status p;
-    lists = record {
-      status_is = λ which. not_read status p.statuses which;
-      done = λ which. not_read status p.statuses which;
-      part = λ which. wrote_none _ old new (nothing_written desk old new status p which);
-    };
-  }
-  writes_refused (Err item) p = p
-
 -- ---- Runs
 
 module _ {X : Type 0} {F : X → Type 0} (members : (v : (x : X) × F x) → Ghosts (F v.0)) (keeper after : DynBox X Global F) (mac : Mac) (tells clock_tells : Type 0) (moments : List ℕ) (old new : DoorView) (status : ℕ) where
   pub opened_run : (tables : DeskTables)
-      → (Tells members keeper → Tells members after → tables_in (kept_items members keeper) ≡ Ok tables)
+      → (Tells members keeper → Tells members after → KeepsDesk (kept_items members keeper) tables)
       → IsSound tables → IsKept members after tables → faults_of members after ≡ faults_of members keeper → IsSameBox keeper after
       → IsOfDesk status
       → (status ≡ 4 → StopsAtFailure new.failed old.writes new.writes)
       → (status ≢ 4 → new.writes ≡ old.writes)
-      → (tells → WritesThing mac clock_tells moments tables old.state new.state status)
+      → (tells → WritesThing mac clock_tells moments old.state new.state status tables)
       → new.turns ≡ old.turns → new.reads ≡ old.reads → (returned : DynBox X Global F) → returned ≡ after
       → ExportsStore members mac tells clock_tells moments keeper returned old new status
   opened_run tables read sound kept same_count same_box is fault steady writes turns reads returned same = subst (λ (box : DynBox X Global F). ExportsStore members mac tells clock_tells moments keeper box old new status) (sym same) (record {
@@ -83,8 +67,7 @@ module _ {X : Type 0} {F : X → Type 0} (members : (v : (x : X) × F x) → Gho
       keeper_fault = λ seven. no_seven status is seven;
       same_box = same_box;
     };
-    writes = λ told tell.
-        subst (λ (store : Result DeskTables Item). WritesExport mac clock_tells moments store old.state new.state status) (sym (kept_tables members after tables sound kept tell)) (writes told);
+    writes = λ told tell. inl (tables, keeps_tables members after tables sound kept tell, writes told);
     leaves = leaves_opened members keeper after status tables read sound kept same_count (λ six. no_six status is six);
     same_turns = turns;
     same_reads = reads;
@@ -99,7 +82,7 @@ module _ {X : Type 0} {F : X → Type 0} (members : (v : (x : X) × F x) → Gho
       keeper_fault = run.honest.keeper_fault;
       same_box = run.honest.same_box;
     };
-    writes = λ told tell. writes_refused mac clock_tells moments old.state new.state status (tables_in (kept_items members after)) (run.refuses told tell);
+    writes = λ told tell. inr (run.refuses told tell);
     leaves = run.leaves;
     same_turns = run.same_turns;
     same_reads = run.same_reads;

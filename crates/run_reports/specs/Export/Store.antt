@@ -1,37 +1,30 @@
 -- What a run of `export` over a store does.
-use Rattle.std.specs.Prelude.{◌≡◌, ℕ, List, Result, Ok, Err, [], ◌∷◌}
+use Rattle.std.specs.Prelude.{◌≡◌, ℕ, List, [], ◌∷◌}
 use Rattle.std.specs.declared.dyn_box.DynBox.{DynBox}
 use Rattle.std.specs.declared.alloc.Global.{Global}
 use Rattle.mud_base.specs.declared.addr.Mac.{Mac}
 use Rattle.mud_world.specs.declared.keeper.Keeper.{Ghosts}
-use Rattle.mud_world.specs.declared.item.Item.{Item}
 use Rattle.mud_world.specs.Boxed.{Tells, kept_items}
 use Rattle.mud_world.specs.Clock.{next_moment}
 use Rattle.mud_world.specs.Door.{DoorState}
 use Rattle.run_common.specs.Ends.{IsStoppedWriting}
 use Rattle.mud_world.specs.View.{DoorView}
 use Rattle.desk_model.specs.DeskTables.{DeskTables}
-use Rattle.desk_model.specs.Items.{tables_in}
 use Rattle.run_desk.specs.Honest.{RunsHonestly}
-use Rattle.run_desk.specs.Refused.{RefusesStore}
+use Rattle.run_desk.specs.Refused.{ByStore, RefusesStore}
 use Rattle.run_desk.specs.Store.{LeavesStore}
 use Rattle.run_reports.specs.Export.Exported.{export_output, WritesLists}
 use Rattle.run_common.specs.Status.{IsNot, IsOneOf, each_status}
 use Rattle.run_common.specs.declared.status.Status.TheVariants.{Done, Refused, DoorFailed, NoMemory, BadItem}
 
--- What is written of a Thing of a store whose items are all records. Nothing is read.
-pub record WritesThing (mac : Mac) (clock_tells : Type 0) (moments : List ℕ) (desk : DeskTables) (old new : DoorState) (status : ℕ) : Type 0 where
+-- What is written of a Thing of a store that keeps this desk. Nothing is read.
+pub record WritesThing (mac : Mac) (clock_tells : Type 0) (moments : List ℕ) (old new : DoorState) (status : ℕ) (desk : DeskTables) : Type 0 where
   -- What the clock gave: the moment that it tells next, where it tells its moments.
   pub clock : ℕ
   pub clock_is : clock_tells → clock ≡ next_moment moments
   -- No item is there to be named with 6.
   pub good : IsNot BadItem status
   pub lists : WritesLists (export_output mac clock desk) old new status
-
--- What is written, by the tables of the store or its first item that is no record.
-abbrev pub WritesExport : Mac → Type 0 → List ℕ → Result DeskTables Item → DoorState → DoorState → ℕ → Type 0
-WritesExport mac clock_tells moments (Ok desk) old new status = WritesThing mac clock_tells moments desk old new status
-WritesExport mac clock_tells moments (Err item) old new status = RefusesStore (Err item) old new status
 
 -- where the desk was opened
 abbrev pub IsOfDesk : ℕ → Type 0
@@ -44,7 +37,8 @@ module _ {X : Type 0} {F : X → Type 0} (members : (v : (x : X) × F x) → Gho
     -- A write that fails ends the run.
     pub honest : RunsHonestly members each_status (IsStoppedWriting old new) (new.writes ≡ old.writes) keeper returned status
     -- The items that are kept when the run ends say what the output is.
-    pub writes : tells → Tells members returned → WritesExport mac clock_tells moments (tables_in (kept_items members returned)) old.state new.state status
+    pub writes : tells → Tells members returned → ByStore (kept_items members returned) (WritesThing mac clock_tells moments old.state new.state status)
+        (RefusesStore (kept_items members returned) old.state new.state status)
     pub leaves : LeavesStore members keeper returned status
     -- The box that comes back is the one that was handed in. No port is bound, the connection isn't left, and no read fails.
     pub same_turns : new.turns ≡ old.turns

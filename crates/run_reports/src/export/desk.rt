@@ -94,8 +94,8 @@ fn export_mac<D: Door, C: Clock>(
     ensures statuses { IsOfDesk (status_number result) }
     ensures fault { Is DoorFailed (status_number result) → IsStoppedWriting (D.view door.old) (D.view door.new) }
     ensures steady { IsNot DoorFailed (status_number result) → (D.view door.new).writes ≡ (D.view door.old).writes }
-    ensures writes { D.tells → WritesThing mac C.tells (C.moments clock.old) (tables_of desk.now.state)
-        (D.view door.old).state (D.view door.new).state (status_number result) }
+    ensures writes { D.tells → WritesThing mac C.tells (C.moments clock.old)
+        (D.view door.old).state (D.view door.new).state (status_number result) (tables_of desk.now.state) }
     ensures turns { (D.view door.new).turns ≡ (D.view door.old).turns }
     ensures reads { (D.view door.new).reads ≡ (D.view door.old).reads }
     ensures later { C.tells → Is Done (status_number result) → C.moments clock.new ≡ later_moments (C.moments clock.old) }
@@ -128,8 +128,8 @@ pub(crate) fn export_desk<D: Door, C: Clock>(
     ensures statuses { IsOfDesk (status_number result.0) }
     ensures fault { Is DoorFailed (status_number result.0) → IsStoppedWriting (D.view door.old) (D.view door.new) }
     ensures steady { IsNot DoorFailed (status_number result.0) → (D.view door.new).writes ≡ (D.view door.old).writes }
-    ensures writes { D.tells → WritesThing mac C.tells (C.moments clock.old) (tables_of desk.state)
-        (D.view door.old).state (D.view door.new).state (status_number result.0) }
+    ensures writes { D.tells → WritesThing mac C.tells (C.moments clock.old)
+        (D.view door.old).state (D.view door.new).state (status_number result.0) (tables_of desk.state) }
     ensures turns { (D.view door.new).turns ≡ (D.view door.old).turns }
     ensures reads { (D.view door.new).reads ≡ (D.view door.old).reads }
     ensures later { C.tells → Is Done (status_number result.0) → C.moments clock.new ≡ later_moments (C.moments clock.old) }

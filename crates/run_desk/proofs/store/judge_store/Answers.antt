@@ -3,7 +3,9 @@ use Rattle.run_common.specs.Status.{status_number}
 use Rattle.mud_desk.specs.DeskState.{tables_of}
 use Rattle.run_desk.proofs.Refusals.{runs_refused}
 use Rattle.run_desk.proofs.Runs.{opened_over, refused_over}
-use Rattle.run_desk.specs.Store.{judged_output, judged_taken}
+use Rattle.desk_model.specs.Sessions.{opened}
+use Rattle.run_desk.specs.Judged.{judged_step}
+use Rattle.run_desk.specs.Store.{judged_output}
 use Rattle.run_desk.proofs.store.judge_store.Goals as goal
 
 pub returns-in-Ok-clause-judged : goal.returns-in-Ok-clause-judged
@@ -18,7 +20,7 @@ returns-in-Ok-clause-judged g c =
     opened_over (goal.Keeper-dyn g) c.args.keeper desk.keeper door.tells
     (door.view old)
     (door.view new)
-    (status_number c.judge_capture.result.0) judged_output judged_taken
+    (status_number c.judge_capture.result.0) judged_output judged_step opened
     tables store.tables store.sound store.kept store.steady store.same_box
     run.statuses run.fault run.steady (rw store.begun at run.done) (rw store.begun at run.part) (rw store.begun at run.taken) run.turns
     c.judge_capture.result.1 run.keeper
@@ -30,7 +32,7 @@ returns-in-Err-clause-judged g c =
     let new = c.refuse_store.new.door in
     let store = c.in-Err.ensures in
     let run = c.refuse_store.ensures in
-    refused_over (goal.Keeper-dyn g) c.args.keeper c.in-Err.keeper door.tells (door.view old) (door.view new) (status_number c.refuse_store.result) judged_output judged_taken
+    refused_over (goal.Keeper-dyn g) c.args.keeper c.in-Err.keeper door.tells (door.view old) (door.view new) (status_number c.refuse_store.result) judged_output judged_step opened
     (runs_refused (goal.Keeper-dyn g) c.args.keeper c.in-Err.keeper door.tells (door.view old) (door.view new) (status_number c.refuse_store.result)
     c.in-Err.fault store.bad store.left store.cause store.handed_back
     run.statuses run.fault run.steady run.done run.part (λ call. ap (λ d. (door.view d).state) (run.untouched call)) run.turns run.reads)

@@ -1,7 +1,8 @@
-use Rattle.std.proofs.Common.{Ok, ap, subst, ◌∙◌}
+use Rattle.std.proofs.Common.{ap, subst, ◌∙◌}
 use Rattle.mud_world.specs.Boxed.{kept_items}
-use Rattle.desk_model.specs.DeskTables.{DeskTables, IsSound}
+use Rattle.desk_model.specs.DeskTables.{IsSound}
 use Rattle.desk_model.specs.Items.{items_of}
+use Rattle.desk_model.specs.Keeping.{KeepsDesk}
 use Rattle.mud_desk.specs.Items.Loaded.{loaded_desk}
 use Rattle.mud_desk.proofs.Opening.{left_kept, begun_tables, begun_own}
 use Rattle.mud_desk.proofs.desk.Desk.open.Goals as goal
@@ -13,7 +14,7 @@ returns-in-Err-of-clause-left g c = λ told tells.
 
 pub returns-in-Ok-of-clause-tables : goal.returns-in-Ok-of-clause-tables
 returns-in-Ok-of-clause-tables g c = λ told tells.
-    c.in-Ok.ensures.read told tells ∙ ap (λ (d : DeskTables). Ok d) (begun_tables (loaded_desk c.in-Ok.taken) c.in-Ok-of.state c.in-Ok-of.ensures)
+    subst (KeepsDesk (kept_items (goal.Keeper-dyn g) c.args.keeper)) (begun_tables (loaded_desk c.in-Ok.taken) c.in-Ok-of.state c.in-Ok-of.ensures) (c.in-Ok.ensures.read told tells)
 
 pub returns-in-Ok-of-clause-sound : goal.returns-in-Ok-of-clause-sound
 returns-in-Ok-of-clause-sound g c = subst IsSound (begun_tables (loaded_desk c.in-Ok.taken) c.in-Ok-of.state c.in-Ok-of.ensures) c.in-Ok.ensures.sound

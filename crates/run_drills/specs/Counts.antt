@@ -1,5 +1,5 @@
 -- How often verdicts and rulings of each kind come, and the lines that say so.
-use Rattle.std.specs.Prelude.{ℕ, ◌+◌, ◌≤◌, Bool, true, false, not, List, [], ◌++◌, codes, count_by, flat_map, option_to_list, if◌then◌else◌, Option, Some, None}
+use Rattle.std.specs.Prelude.{ℕ, ◌+◌, ◌≤◌, Bool, true, false, not, List, [], ◌∷◌, ◌++◌, codes, count_by, flat_map, option_to_list, if◌then◌else◌, Option, Some, None}
 use Rattle.acl_model.specs.declared.ruling.Ruling.{Ruling}
 use Rattle.acl_model.specs.declared.ruling.Ruling.TheVariants.{Accept, AcceptDefault, Drop, DropDefault, DropHeld}
 use Rattle.acl_model.specs.declared.ruling.DefaultRule.TheVariants.{Dns, Ntp}
@@ -107,23 +107,23 @@ pub record AreAtMost (most : ℕ) (counts : VerdictCounts) : Type 0 where
 
 -- ---- Lines
 
--- a name, and behind a space its number
-unfoldable pub count_line : List ℕ → ℕ → List ℕ
-count_line name number = name ++ number_text number ++ codes "\n"
-
-unfoldable pub accept_lines : RulingCounts → List ℕ
-accept_lines counts = count_line (codes "accept") counts.accept ++ count_line (codes "default-dns") counts.default_dns ++ count_line (codes "default-ntp") counts.default_ntp
-
-unfoldable pub drop_lines : RulingCounts → List ℕ
-drop_lines counts = count_line (codes "drop-entry") counts.drop_entry ++ count_line (codes "no-file") counts.no_file ++ count_line (codes "no-match") counts.no_match
-
-unfoldable pub frame_lines : VerdictCounts → List ℕ
-frame_lines counts = count_line (codes "pass") counts.passed ++ count_line (codes "drop") counts.dropped ++ accept_lines counts.rulings ++ drop_lines counts.rulings
-
--- how many Things, files and packets there were, and what came of the packets
+-- the lines that say how many Things, files and packets there were, and what came of the packets
 unfoldable pub count_lines : ℕ → ℕ → ℕ → VerdictCounts → List ℕ
 count_lines things files packets counts =
-    count_line (codes "things") things
-    ++ count_line (codes "files") files
-    ++ count_line (codes "packets") packets
-    ++ frame_lines counts
+    flat_map line_of (
+    (codes "things", things)
+    ∷ (codes "files", files)
+    ∷ (codes "packets", packets)
+    ∷ (codes "pass", counts.passed)
+    ∷ (codes "drop", counts.dropped)
+    ∷ (codes "accept", counts.rulings.accept)
+    ∷ (codes "default-dns", counts.rulings.default_dns)
+    ∷ (codes "default-ntp", counts.rulings.default_ntp)
+    ∷ (codes "drop-entry", counts.rulings.drop_entry)
+    ∷ (codes "no-file", counts.rulings.no_file)
+    ∷ (codes "no-match", counts.rulings.no_match)
+    ∷ [])
+  where
+    -- a name, and behind a space its number
+    line_of : List ℕ × ℕ → List ℕ
+    line_of row = row.0 ++ number_text row.1 ++ codes "\n"

@@ -1,5 +1,6 @@
 //! How often verdicts and rulings of each kind come.
-ghost use Rattle.std.specs.Prelude.{◌≡◌, ◌++◌, ◌^◌, ◌<◌, OnOk};
+ghost use Rattle.std.specs.Prelude.{◌≡◌, ◌++◌, ◌^◌, ◌<◌, OnOk, codes, flat_map};
+ghost use Rattle.text_values.specs.Numbers.{number_text};
 ghost use Rattle.run_drills.specs.Counts as spec;
 
 use acl_model::{DefaultRule, Ruling, Why};
@@ -111,45 +112,28 @@ impl VerdictCounts {
     }
 }
 
+/// A name and its number.
+#[derive(Clone, Copy)]
+struct Count<'a>(&'a [u8], u64);
+
 /// Adds the line of a count.
-#[tactic(auto, unfolding(crate::specs::Counts::count_line))]
-fn append_count(lines: &mut Bytes, name: &[u8], number: u64) -> Result<(), Memory>
-    ensures { OnOk result (lines.new ≡ lines.old ++ spec.count_line name.now number) }
+#[tactic(auto)]
+fn append_count(lines: &mut Bytes, row: Count) -> Result<(), Memory>
+    ensures { OnOk result (lines.new ≡ lines.old ++ (row.entry.0.now ++ number_text row.entry.1 ++ codes "\n")) }
 {
-    lines.append(name)?;
-    append_number(lines, number)?;
+    lines.append(row.0)?;
+    append_number(lines, row.1)?;
     lines.append(b"\n")
 }
 
-/// Adds the lines of the rulings that accept.
-#[tactic(auto, unfolding(crate::specs::Counts::accept_lines))]
-fn append_accepts(lines: &mut Bytes, counts: &RulingCounts) -> Result<(), Memory>
-    ensures { OnOk result (lines.new ≡ lines.old ++ spec.accept_lines counts.now) }
+/// Adds the lines of counts, in their order.
+fn append_lines(lines: &mut Bytes, rows: &[Count]) -> Result<(), Memory>
+    ensures { OnOk result (lines.new ≡ lines.old ++ flat_map (λ row. row.0.now ++ number_text row.1 ++ codes "\n") rows.now) }
 {
-    append_count(lines, b"accept", counts.accept)?;
-    append_count(lines, b"default-dns", counts.default_dns)?;
-    append_count(lines, b"default-ntp", counts.default_ntp)
-}
-
-/// Adds the lines of the rulings that drop.
-#[tactic(auto, unfolding(crate::specs::Counts::drop_lines))]
-fn append_drops(lines: &mut Bytes, counts: &RulingCounts) -> Result<(), Memory>
-    ensures { OnOk result (lines.new ≡ lines.old ++ spec.drop_lines counts.now) }
-{
-    append_count(lines, b"drop-entry", counts.drop_entry)?;
-    append_count(lines, b"no-file", counts.no_file)?;
-    append_count(lines, b"no-match", counts.no_match)
-}
-
-/// Adds the lines of the frames.
-#[tactic(auto, unfolding(crate::specs::Counts::frame_lines))]
-fn append_frames(lines: &mut Bytes, counts: &VerdictCounts) -> Result<(), Memory>
-    ensures { OnOk result (lines.new ≡ lines.old ++ spec.frame_lines counts.now) }
-{
-    append_count(lines, b"pass", counts.passed)?;
-    append_count(lines, b"drop", counts.dropped)?;
-    append_accepts(lines, &counts.rulings)?;
-    append_drops(lines, &counts.rulings)
+    'rows: for row in rows {
+        append_count(lines, *row)?;
+    }
+    Ok(())
 }
 
 /// Adds the lines that say how many Things, usage files and packets there were, and what came of the
@@ -164,8 +148,21 @@ pub(crate) fn append_counts(
 ) -> Result<(), Memory>
     ensures { OnOk result (lines.new ≡ lines.old ++ spec.count_lines things files packets counts.now) }
 {
-    append_count(lines, b"things", things)?;
-    append_count(lines, b"files", files)?;
-    append_count(lines, b"packets", packets)?;
-    append_frames(lines, counts)
+    let rulings = &counts.rulings;
+    append_lines(
+        lines,
+        &[
+            Count(b"things", things),
+            Count(b"files", files),
+            Count(b"packets", packets),
+            Count(b"pass", counts.passed),
+            Count(b"drop", counts.dropped),
+            Count(b"accept", rulings.accept),
+            Count(b"default-dns", rulings.default_dns),
+            Count(b"default-ntp", rulings.default_ntp),
+            Count(b"drop-entry", rulings.drop_entry),
+            Count(b"no-file", rulings.no_file),
+            Count(b"no-match", rulings.no_match),
+        ],
+    )
 }

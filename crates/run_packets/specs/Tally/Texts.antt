@@ -1,5 +1,5 @@
 -- The lines of a tally. Each ends with a line feed.
-use Rattle.std.specs.Prelude.{ℕ, List, [], ◌++◌, codes, flat_map, Option, Some, None}
+use Rattle.std.specs.Prelude.{ℕ, List, [], ◌∷◌, ◌++◌, codes, flat_map, Option, Some, None}
 use Rattle.mud_base.specs.Texts.{mac_text, addr_text}
 use Rattle.mud_base.specs.declared.addr.Mac.{Mac}
 use Rattle.mud_base.specs.declared.packet.Direction.{Direction}
@@ -42,16 +42,23 @@ denied_line row =
 unfoldable pub others_line : OtherRow → List ℕ
 others_line row = codes "denied" ++ thing_text row.mac row.side ++ codes " others" ++ number_text row.count ++ codes "\n"
 
--- the packets on which no ruling was given
-unfoldable pub unruled_text : Totals → List ℕ
-unruled_text t = total_text (codes " unmanaged") t.unmanaged ++ total_text (codes " link") t.link ++ total_text (codes " unreadable") t.unreadable
-
--- the packets on which one was given, or two
-unfoldable pub ruled_text : Totals → List ℕ
-ruled_text t = total_text (codes " pass") t.pass ++ total_text (codes " drop") t.drop ++ total_text (codes " both") t.both
-
+-- how many packets there were; on how many no ruling was given, by their verdicts; how many pass and are dropped by rulings, and on how
+-- many two were given
 unfoldable pub totals_line : Totals → List ℕ
-totals_line t = total_text (codes "packets") t.packets ++ unruled_text t ++ ruled_text t ++ codes "\n"
+totals_line t =
+    flat_map total_of (
+    (codes "packets", t.packets)
+    ∷ (codes " unmanaged", t.unmanaged)
+    ∷ (codes " link", t.link)
+    ∷ (codes " unreadable", t.unreadable)
+    ∷ (codes " pass", t.pass)
+    ∷ (codes " drop", t.drop)
+    ∷ (codes " both", t.both)
+    ∷ [])
+    ++ codes "\n"
+  where
+    total_of : List ℕ × ℕ → List ℕ
+    total_of row = total_text row.0 row.1
 
 -- the line of an hour, and those of the counts in it; nothing where there is no hour
 unfoldable pub hour_lines : Option ℕ → List CountRow → List ℕ

@@ -99,24 +99,18 @@ fn append_total(line: &mut Bytes, name: &[u8], number: u64) -> Result<(), Memory
     append_number(line, number)
 }
 
-/// Adds how many packets had no ruling, by their verdicts.
-#[tactic(auto, unfolding(crate::specs::Tally::Texts::unruled_text))]
-fn append_unruled(line: &mut Bytes, totals: &Totals) -> Result<(), Memory>
-    ensures { OnOk result (line.new ≡ line.old ++ spec.unruled_text totals.now) }
-{
-    append_total(line, b" unmanaged", totals.unmanaged)?;
-    append_total(line, b" link", totals.link)?;
-    append_total(line, b" unreadable", totals.unreadable)
-}
+/// A name and its number.
+#[derive(Clone, Copy)]
+struct Total<'a>(&'a [u8], u64);
 
-/// Adds how many packets pass and are dropped by rulings, and how many have two.
-#[tactic(auto, unfolding(crate::specs::Tally::Texts::ruled_text))]
-fn append_ruled(line: &mut Bytes, totals: &Totals) -> Result<(), Memory>
-    ensures { OnOk result (line.new ≡ line.old ++ spec.ruled_text totals.now) }
+/// Adds names, each with its number behind it, in their order.
+fn append_named(line: &mut Bytes, rows: &[Total]) -> Result<(), Memory>
+    ensures { OnOk result (line.new ≡ line.old ++ flat_map (λ row. spec.total_text row.0.now row.1) rows.now) }
 {
-    append_total(line, b" pass", totals.pass)?;
-    append_total(line, b" drop", totals.drop)?;
-    append_total(line, b" both", totals.both)
+    'rows: for row in rows {
+        append_total(line, row.0, row.1)?;
+    }
+    Ok(())
 }
 
 /// Adds the line of the totals.
@@ -124,9 +118,18 @@ fn append_ruled(line: &mut Bytes, totals: &Totals) -> Result<(), Memory>
 fn append_totals(line: &mut Bytes, totals: &Totals) -> Result<(), Memory>
     ensures { OnOk result (line.new ≡ line.old ++ spec.totals_line totals.now) }
 {
-    append_total(line, b"packets", totals.packets)?;
-    append_unruled(line, totals)?;
-    append_ruled(line, totals)?;
+    append_named(
+        line,
+        &[
+            Total(b"packets", totals.packets),
+            Total(b" unmanaged", totals.unmanaged),
+            Total(b" link", totals.link),
+            Total(b" unreadable", totals.unreadable),
+            Total(b" pass", totals.pass),
+            Total(b" drop", totals.drop),
+            Total(b" both", totals.both),
+        ],
+    )?;
     line.append(b"\n")
 }
 

@@ -71,7 +71,14 @@ module _ {S X : Type 0} (may : S → Asked → List ℕ → S → Type 0) where
         let on = runs_of from most_requests s x t p.done.requests p.done.answers p.done.run in
         record {
           is = on.is;
-          holds = record { end = p.end; done = exchanged_as _ _ _ old new p.done on.holds; reads = p.reads };
+          holds = record {
+            pending = p.pending;
+            done = exchanged_as _ _ _ old new p.done on.holds;
+            more = p.more;
+            rest = p.rest;
+            goes_on = p.goes_on;
+            awaits = p.awaits;
+          };
         }
     by_end s x t WriteFailed old new (inl p) =
         let on = runs_of from most_requests s x t p.done.requests p.done.answers p.done.run in

@@ -1,5 +1,5 @@
 -- The desk that items keep is the one that is read of them.
-use Rattle.std.proofs.Common.{◌≡◌, ℕ, ◌==◌, ◌⊎◌, zero, suc, false, List, [], ◌∷◌, ◌++◌, map, take, drop, Option, Some, None, Ok, Err, refl, sym, ap, subst, ◌∙◌, inl, inr, arith}
+use Rattle.std.proofs.Common.{◌≡◌, ℕ, ◌==◌, ◌⊎◌, zero, suc, false, List, [], ◌∷◌, ◌++◌, map, take, drop, Option, Some, None, Result, Ok, Err, refl, sym, ap, subst, ◌∙◌, inl, inr, arith}
 use Rattle.std.specs.List.{AllByRecursion}
 use Rattle.base_rows.proofs.Lists.{all-append}
 use Rattle.mud_world.specs.declared.item.Item.{Item}
@@ -17,10 +17,10 @@ use Rattle.desk_model.specs.DeskTables.{DeskTables, IsSound, empty_desk}
 use Rattle.desk_model.specs.Items.{KeptDesk, none_kept, desk_of, items_of, tables_in, in_second_version}
 use Rattle.desk_model.specs.Keeping.{IsFirstVersion, AreVersionsOf, KeepsDesk, IsFirstBad}
 use Rattle.desk_model.proofs.FirstBad.{first_unread}
-use Rattle.desk_model.proofs.Parts.{desk_in, with_desk_item}
+use Rattle.desk_model.proofs.Parts.{desk_in, kept_in, with_desk_item}
 use Rattle.desk_model.proofs.ReadBack.{kept_of, each_item, all_bind_items, desk_taken}
 use Rattle.desk_model.proofs.ReadSound.{desk_alone, empty_sound, second_of_other}
-use Rattle.desk_model.proofs.Taking.{kept_by_taken, unequal}
+use Rattle.desk_model.proofs.Taking.{kept_behind, kept_by_taken, kept_in-append, unequal}
 
 -- ---- What is read is kept
 
@@ -165,3 +165,35 @@ first_bad items item octets read =
       good = (first.desk, keeps_read first.before first.desk (all_before (λ item. IsOctets item.body) first.before (item ∷ first.behind) (subst (AllByRecursion (λ item. IsOctets item.body)) first.splits octets)) first.good);
       bad = λ desk keeps. not_both desk item (sym (read_kept (first.before ++ item ∷ []) desk keeps) ∙ first.bad);
     }
+
+all_upto : {A : Type 0} (P : A → Type 0) (xs : List A) (y : A) (zs : List A) → AllByRecursion P (xs ++ y ∷ zs) → AllByRecursion P (xs ++ y ∷ [])
+all_upto P [] y zs all = (all.0, tt)
+all_upto P (x ∷ xs) y zs all = (all.0, all_upto P xs y zs all.1)
+
+taken_of : (read : Result KeptDesk Item) (desk : DeskTables) → desk_in read ≡ Ok desk → (taken : KeptDesk) × (read ≡ Ok taken)
+taken_of (Ok taken) desk e = (taken, refl)
+taken_of (Err item) desk e = absurd cc
+
+-- where the item is taken behind those before it, these keep a desk with it
+pub first_bad_is_answered : (items : List Item) (item : Item) → AllByRecursion (λ item. IsOctets item.body) items → IsFirstBad items item → tables_in items ≡ Err item
+unfolding tables_in
+first_bad_is_answered items item octets first = at (with_desk_item taken item) refl
+  where
+    before : List Item
+    before = first.before
+
+    found : (taken : KeptDesk) × (kept_in none_kept before ≡ Ok taken)
+    found = taken_of (kept_in none_kept before) first.good.0 (read_kept before first.good.0 first.good.1)
+
+    taken : KeptDesk
+    taken = found.0
+
+    with_rest : (rest : List Item) → kept_in none_kept (before ++ item ∷ rest) ≡ kept_behind item rest (with_desk_item taken item)
+    with_rest rest = kept_in-append none_kept before (item ∷ rest) taken found.1
+
+    octets_upto : AllByRecursion (λ item. IsOctets item.body) (before ++ item ∷ [])
+    octets_upto = all_upto (λ item. IsOctets item.body) before item first.behind (subst (AllByRecursion (λ item. IsOctets item.body)) first.splits octets)
+
+    at : (o : Option KeptDesk) → with_desk_item taken item ≡ o → tables_in items ≡ Err item
+    at None none = ap tables_in first.splits ∙ ap desk_in (with_rest first.behind ∙ ap (kept_behind item first.behind) none)
+    at (Some next) some = absurd (first.bad (desk_of next) (keeps_read (before ++ item ∷ []) (desk_of next) octets_upto (ap desk_in (with_rest [] ∙ ap (kept_behind item []) some))))

@@ -1,5 +1,5 @@
 -- Items that are taken one after the other.
-use Rattle.std.proofs.Common.{◌≡◌, ℕ, ◌<◌, Bool, true, false, ◌==◌, List, [], ◌∷◌, Option, Some, None, Result, Ok, Err, refl, ap, ◌∙◌, arith}
+use Rattle.std.proofs.Common.{◌≡◌, ℕ, ◌<◌, Bool, true, false, ◌==◌, List, [], ◌∷◌, ◌++◌, Option, Some, None, Result, Ok, Err, refl, ap, ◌∙◌, arith}
 use Rattle.std.specs.Prelude.{option_map, nat_lt}
 use Rattle.std.specs.List.{AllByRecursion}
 use Rattle.std.proofs.lemmas.Bool.{eqb-true, lt-ltb}
@@ -41,6 +41,15 @@ after_one item items after again None e = absurd cc
 pub taken_by_kept : (kept : KeptDesk) (items : List Item) (after : KeptDesk) → kept_in kept items ≡ Ok after → all_taken with_desk_item kept items ≡ Some after
 taken_by_kept kept [] after e = ap (λ (k : KeptDesk). Some k) (ok_is kept after e)
 taken_by_kept kept (item ∷ items) after e = after_one item items after (λ next f. taken_by_kept next items after f) (with_desk_item kept item) e
+
+-- items behind others are taken into what these leave
+pub kept_in-append : (kept : KeptDesk) (xs ys : List Item) (taken : KeptDesk) → kept_in kept xs ≡ Ok taken → kept_in kept (xs ++ ys) ≡ kept_in taken ys
+kept_in-append kept [] ys taken e = ap (λ (k : KeptDesk). kept_in k ys) (ok_is kept taken e)
+kept_in-append kept (x ∷ xs) ys taken e = past (λ next f. kept_in-append next xs ys taken f) (with_desk_item kept x) e
+  where
+    past : ((next : KeptDesk) → kept_in next xs ≡ well taken → kept_in next (xs ++ ys) ≡ kept_in taken ys) → (o : Option KeptDesk) → kept_behind x xs o ≡ well taken → kept_behind x (xs ++ ys) o ≡ kept_in taken ys
+    past again (Some next) e = again next e
+    past again None e = absurd cc
 
 -- what is taken of items into one part is taken of them into the whole
 pub taken_within : {A : Type 0} (put : A → KeptDesk) (take : A → Item → Option A) (items : List Item) → AllByRecursion (λ item. (a : A) → with_desk_item (put a) item ≡ option_map put (take a item)) items → (a b : A) → all_taken take a items ≡ Some b → all_taken with_desk_item (put a) items ≡ Some (put b)

@@ -35,8 +35,8 @@ pub fn desks_are_read_back()
     // Where they can't be read, the first item that can't be is answered.
     ensures first { (items : List Item) (item : Item) → tables_in items ≡ Err item
         → IsFirstUnread items item }
-    // So what items are read as is the desk that they keep, and the item that is answered is the first
-    // that is no record.
+    // So items are read as the desk that they keep, and where they keep none, the item that is answered
+    // is the first that is no record.
     ensures kept { (items : List Item) (desk : DeskTables)
         → AllByRecursion (λ item. IsOctets item.body) items → tables_in items ≡ Ok desk
         → KeepsDesk items desk }
@@ -45,6 +45,9 @@ pub fn desks_are_read_back()
     ensures bad { (items : List Item) (item : Item)
         → AllByRecursion (λ item. IsOctets item.body) items → tables_in items ≡ Err item
         → IsFirstBad items item }
+    ensures unread { (items : List Item) (item : Item)
+        → AllByRecursion (λ item. IsOctets item.body) items → IsFirstBad items item
+        → tables_in items ≡ Err item }
     // The items of a sound desk are in order.
     ensures ordered { (desk : DeskTables) → IsSound desk → IsOrdered (items_of desk) }
 {}

@@ -1,5 +1,5 @@
 -- How the next request comes.
-use Rattle.std.proofs.Common.{◌≡◌, ℕ, ◌+◌, ◌<◌, ◌≤◌, Bool, cond, List, [], ◌∷◌, ◌++◌, length, take, drop, None, refl, inl, inr, sym, ap, ◌∙◌, subst, arith, append_assoc, append-nil, length-append, length-take, take-append-drop}
+use Rattle.std.proofs.Common.{◌≡◌, ℕ, ◌+◌, ◌<◌, ◌≤◌, Bool, cond, List, [], ◌++◌, length, take, drop, None, refl, inl, inr, sym, ap, ◌∙◌, subst, arith, append_assoc, append-nil, length-append, length-take, take-append-drop}
 use Rattle.mud_world.specs.Door.{DoorState, put_out, with_left}
 use Rattle.mud_world.specs.Whole.{WrotePart}
 use Rattle.mud_world.proofs.Doors.{put_out_none, put_out_twice}
@@ -11,7 +11,7 @@ use Rattle.http_requests.specs.declared.shape.RequestShape.{RequestShape}
 use Rattle.http_requests.specs.Framing.{refusal_of, body_length, leave_of}
 use Rattle.http_requests.specs.Head.{IsHead}
 use Rattle.http_requests.specs.Received.{Grown, Received}
-use Rattle.http_requests.specs.Requests.{Request, Begins, IsFault, no_head, fault_in}
+use Rattle.http_requests.specs.Requests.{Request, Begins, IsCut, IsFault, fault_in}
 use Rattle.http_requests.specs.Shapes.{IsShape, HasHead, MayGetHead}
 use Rattle.http_requests.specs.Steps.{Came, CameWhole, CameFault, HoldsWhole, ReadFailed, LeaveFailed}
 use Rattle.http_requests.proofs.Heads.{head_append, head_octets, head_unique, fault_by}
@@ -106,19 +106,17 @@ whole_holds from shape a b h g enough =
     }
 
 -- the octets end inside the body
-cut_fault : (from : MomentFrom) (shape : RequestShape) (a b : List ℕ) → (h : HasHead from a shape) → Grown a b → length b < shape.head_len + shape.body_len → IsFault from b (fault_in h.head Cut) (leave_of h.head)
-cut_fault from shape a b h g short =
+cut_inside : (from : MomentFrom) (shape : RequestShape) (a b : List ℕ) → (h : HasHead from a shape) → Grown a b → length b < shape.head_len + shape.body_len → IsCut from b (fault_in h.head Cut) (leave_of h.head)
+cut_inside from shape a b h g short =
     let is = head_grown a b h.head h.rest h.is_head g in
     record {
-      cause = inr (record {
-        head = h.head;
-        rest = h.rest ++ g.more;
-        is_head = is;
-        taken = h.taken;
-        short = omega (arith, held_behind b h.head (h.rest ++ g.more) is, h.is_shape.head_len, h.is_shape.body_len);
-        is_cut = refl;
-        leave_written = refl;
-      });
+      head = h.head;
+      rest = h.rest ++ g.more;
+      is_head = is;
+      taken = h.taken;
+      short = omega (arith, held_behind b h.head (h.rest ++ g.more) is, h.is_shape.head_len, h.is_shape.body_len);
+      is_cut = refl;
+      leave_written = refl;
     }
 
 -- no more octets come
@@ -130,7 +128,7 @@ pub cut_came : (from : MomentFrom) (shape : RequestShape) (fault : RequestFault)
 cut_came from shape fault a b s t u h wrote g r is_cut short none = record {
   pending = leave_of h.head;
   is_fault = subst (λ f. IsFault from (b ++ u.left) f (leave_of h.head)) (sym (is_cut ∙ ap (fault_by Cut) h.is_shape.is_head))
-      (at_the_end from b u.left (fault_in h.head Cut) (leave_of h.head) none (cut_fault from shape a b h g short));
+      (at_the_end from b u.left (fault_in h.head Cut) (leave_of h.head) none (record { cause = inr (cut_inside from shape a b h g short) }));
   came = subst (Came a b s u) (leave_is from shape h.head h.is_shape) (came_answered a b _ s t u wrote r);
 }
 
@@ -138,7 +136,7 @@ pub body_failed : (from : MomentFrom) (shape : RequestShape) (a b : List ℕ) (s
     → Grown a b → Received a b t u → length b < shape.head_len + shape.body_len → ReadFailed from a b s u
 body_failed from shape a b s t u h wrote g r short = record {
   pending = leave_of h.head;
-  holds = record { part = inr (fault_in h.head Cut, cut_fault from shape a b h g short) };
+  awaits = record { part = inr (fault_in h.head Cut, cut_inside from shape a b h g short) };
   came = subst (Came a b s u) (leave_is from shape h.head h.is_shape) (came_answered a b _ s t u wrote r);
 }
 
@@ -158,16 +156,7 @@ leave_failed from shape octets s t h w =
 -- ---- What comes before a head is held
 
 pub head_failed : (from : MomentFrom) (a b : List ℕ) (s t : DoorState) → MayGetHead b → Received a b s t → ReadFailed from a b s t
-head_failed from a [] s t may r = record {
-  pending = [];
-  holds = record { part = inl (refl, refl) };
-  came = came_received a [] s t r;
-}
-head_failed from a (o ∷ os) s t may r = record {
-  pending = [];
-  holds = record { part = inr (no_head, record { cause = inl (inl (record { some = omega arith; none = may.none; is_lack = refl; nothing_written = refl })) }) };
-  came = came_received a (o ∷ os) s t r;
-}
+head_failed from a b s t may r = record { pending = []; awaits = record { part = inl (may, refl) }; came = came_received a b s t r }
 
 pub fault_came : (from : MomentFrom) (fault : RequestFault) (a b : List ℕ) (s t : DoorState) → IsFault from (b ++ t.left) fault [] → Received a b s t → CameFault from fault a b s t
 fault_came from fault a b s t is r = record { pending = []; is_fault = is; came = came_received a b s t r }
@@ -187,7 +176,7 @@ pub fault_later : (from : MomentFrom) (fault : RequestFault) (a b c : List ℕ) 
 fault_later from fault a b c s t u r w = record { pending = w.pending; is_fault = w.is_fault; came = came_later a b c _ s t u r w.came }
 
 pub read_later : (from : MomentFrom) (a b c : List ℕ) (s t u : DoorState) → Received a b s t → ReadFailed from b c t u → ReadFailed from a c s u
-read_later from a b c s t u r w = record { pending = w.pending; holds = w.holds; came = came_later a b c _ s t u r w.came }
+read_later from a b c s t u r w = record { pending = w.pending; awaits = w.awaits; came = came_later a b c _ s t u r w.came }
 
 pub leave_later : (from : MomentFrom) (a b c : List ℕ) (s t u : DoorState) → Received a b s t → LeaveFailed from b c t u → LeaveFailed from a c s u
 leave_later from a b c s t u r w = record {

@@ -130,7 +130,14 @@ module _ {S : Type 0} (may : S → Asked → List ℕ → S → Type 0) (refusal
       record {
         next = x.done.run.next;
         kept = x.done.run.kept;
-        served = record { end = x.end; done = serving.exchanged_as (Ran may from keeps more s) (Run may refusal from s x.done.run.next) _ old.state u.state x.done x.done.run.run; reads = x.reads };
+        served = record {
+          pending = x.pending;
+          done = serving.exchanged_as (Ran may from keeps more s) (Run may refusal from s x.done.run.next) _ old.state u.state x.done x.done.run.run;
+          more = x.more;
+          rest = x.rest;
+          goes_on = x.goes_on;
+          awaits = x.awaits;
+        };
       }
 
   -- a write failed behind the answers, and nothing more was carried out

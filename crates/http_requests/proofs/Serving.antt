@@ -156,19 +156,7 @@ broken_at A from more refusal fault b c s t u v f came said =
 pub read_failed_at : (A : Run) (from : MomentFrom) (more : ℕ) (b c : List ℕ) (s t u : DoorState) → SoFar A from more [] s t b → ReadFailed from b c t u → ServedTaken A from s u
 read_failed_at A from more b c s t u f failed =
     let all = so_far_came A from more [] failed.pending b c s t u f failed.came in
-    let d = all.done in
-    elim failed.holds.part [
-      | inl none ↦ record {
-        end = ended;
-        done = no_more A [] s u (written_as A failed.pending [] s u none.1 d);
-        reads = joined from most_requests d.taken d.requests more c [] ended all.goes_on none.0;
-      }
-      | inr part ↦ record {
-        end = broken part.0 failed.pending;
-        done = no_more A failed.pending s u d;
-        reads = joined from most_requests d.taken d.requests more c [] (broken part.0 failed.pending) all.goes_on part.1;
-      }
-    ]
+    record { pending = failed.pending; done = all.done; more = more; rest = c; goes_on = all.goes_on; awaits = failed.awaits }
 
 -- a write of the leave for a body failed
 pub leave_failed_at : (A : Run) (from : MomentFrom) (more : ℕ) (refusal : RequestFault → List ℕ) (b c : List ℕ) (s t u : DoorState) → SoFar A from more [] s t b → LeaveFailed from b c t u → FailedPiece A from refusal s u

@@ -78,7 +78,14 @@ module _ {S : Type 0} (may : S → Asked → List ℕ → S → Type 0) (refusal
   alone_by Closed s t old new x = served_alone _ _ _ old new x
   alone_by Broken s t old new x = record { fault = x.fault; pending = x.pending; served = served_alone _ _ _ old new x.served }
   alone_by Spent s t old new x = served_alone _ _ _ old new x
-  alone_by ReadFailed s t old new x = record { end = x.end; done = exchanged_alone _ _ old new x.done; reads = x.reads }
+  alone_by ReadFailed s t old new x = record {
+    pending = x.pending;
+    done = exchanged_alone _ _ old new x.done;
+    more = x.more;
+    rest = x.rest;
+    goes_on = x.goes_on;
+    awaits = x.awaits;
+  }
   alone_by WriteFailed s t old new (inl x) = inl (record {
     piece = x.piece;
     count = x.count;

@@ -1,5 +1,5 @@
 -- What a head says of the message (RFC 9112, section 6; RFC 9110, sections 8.6 and 10.1.1), and why it may be refused.
-use Rattle.std.specs.Prelude.{ℕ, ◌==◌, Bool, true, false, not, ◌&&◌, ◌||◌, nat_lt, bytes_eq, List, [], ◌∷◌, ◌++◌, Option, Some, None, is_none, if◌then◌else◌, codes, length, nat_le}
+use Rattle.std.specs.Prelude.{ℕ, ◌==◌, Bool, true, false, not, ◌&&◌, ◌||◌, nat_lt, bytes_eq, List, [], ◌∷◌, ◌++◌, Option, Some, None, is_none, if◌then◌else◌, codes, length}
 use Rattle.std.specs.Str.Parse.{digits_value}
 use Rattle.httparse.specs.Grammar.{RequestHead}
 use Rattle.mud_base.specs.Reading.{moment_in}

@@ -7,7 +7,8 @@ use Rattle.http_requests.specs.declared.fault.RequestFault.{RequestFault}
 use Rattle.http_requests.specs.declared.fault.MomentFrom.{MomentFrom}
 use Rattle.http_requests.specs.Head.{IsHead}
 use Rattle.http_requests.specs.Framing.{refusal_of, leave_of}
-use Rattle.http_requests.specs.Requests.{Request, Begins, IsFault, Ending, ended, closed, spent, broken, AreRequests, GoOn, most_requests}
+use Rattle.http_requests.specs.Requests.{Request, Begins, IsFault, Ending, broken, AreRequests, GoOn, most_requests}
+use Rattle.http_requests.specs.Shapes.{AwaitsMore}
 
 -- Requests were taken of the connection and answered, and behind their answers `last` was written.
 pub record Exchanged (A : List Request → List ℕ → Type 0) (last : List ℕ) (old new : DoorState) : Type 0 where
@@ -34,19 +35,15 @@ pub record ServedFault (A : List Request → List ℕ → Type 0) (from : Moment
   pub pending : List ℕ
   pub served : Served A from (broken fault pending) (pending ++ refusal fault) old new
 
--- what was written while a body was awaited
-abbrev pub pending_of : Ending → List ℕ
-pending_of ended = []
-pending_of closed = []
-pending_of spent = []
-pending_of (broken fault pending) = pending
-
--- A read failed. All requests of the octets that were taken were answered, and nothing else was written but the leave for a body
--- whose head stands among them.
+-- A read failed. All requests of the octets that were taken were answered, none of which ends the connection, and behind them
+-- nothing is decided yet. Nothing else was written but the leave for the body whose head stands there.
 pub record ServedTaken (A : List Request → List ℕ → Type 0) (from : MomentFrom) (old new : DoorState) : Type 0 where
-  pub end : Ending
-  pub done : Exchanged A (pending_of end) old new
-  pub reads : AreRequests from most_requests done.taken done.requests end
+  pub pending : List ℕ
+  pub done : Exchanged A pending old new
+  pub more : ℕ
+  pub rest : List ℕ
+  pub goes_on : GoOn from most_requests done.taken done.requests more rest
+  pub awaits : AwaitsMore from rest pending
 
 -- What is written next, where no further request is carried out: the leave for the body of the head that stands there, or the
 -- answer to the fault.

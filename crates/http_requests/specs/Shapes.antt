@@ -10,7 +10,7 @@ use Rattle.http_requests.specs.declared.fault.MomentFrom.{MomentFrom}
 use Rattle.http_requests.specs.declared.shape.RequestShape.{RequestShape}
 use Rattle.http_requests.specs.Head.{IsHead, HasNoHead}
 use Rattle.http_requests.specs.Framing.{is_head, refusal_of, body_length, moment_of, closes, awaits_leave}
-use Rattle.http_requests.specs.Requests.{IsFault, path_of}
+use Rattle.http_requests.specs.Requests.{IsCut, IsFault, path_of}
 
 -- The shape is that of the head. Its offsets count from the front of the head.
 pub record IsShape (from : MomentFrom) (shape : RequestShape) (head : RequestHead) : Type 0 where
@@ -40,6 +40,11 @@ pub record MayGetHead (octets : List ℕ) : Type 0 where
   pub none : HasNoHead octets
   pub few : length octets < 8192
   pub unfinished : 0 < length octets → IsUnfinished octets
+
+-- Nothing is decided yet: no head stands there and one may come, or the octets end inside a body. `pending` is the leave for
+-- that body.
+pub record AwaitsMore (from : MomentFrom) (octets pending : List ℕ) : Type 0 where
+  pub part : (MayGetHead octets × (pending ≡ [])) ⊎ ((fault : RequestFault) × IsCut from octets fault pending)
 
 -- The spans are those of the head, at the front of the octets.
 pub record AreSpans (octets : List ℕ) (headers : List HeaderSpan) (spans : RequestSpans) (head : RequestHead) : Type 0 where

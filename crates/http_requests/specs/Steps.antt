@@ -1,5 +1,5 @@
 -- What is done at a connection until its next whole request is there.
-use Rattle.std.specs.Prelude.{◌≡◌, ℕ, ◌<◌, ◌⊎◌, List, [], ◌++◌, length, take, None}
+use Rattle.std.specs.Prelude.{◌≡◌, ℕ, ◌<◌, List, [], ◌++◌, length, take, None}
 use Rattle.mud_world.specs.Door.{DoorState, put_out, with_left}
 use Rattle.httparse.specs.Grammar.{RequestHead}
 use Rattle.http_requests.specs.declared.fault.RequestFault.{RequestFault}
@@ -8,7 +8,7 @@ use Rattle.http_requests.specs.declared.shape.RequestShape.{RequestShape}
 use Rattle.http_requests.specs.Head.{IsHead}
 use Rattle.http_requests.specs.Framing.{refusal_of, leave_of}
 use Rattle.http_requests.specs.Requests.{Request, Begins, IsFault}
-use Rattle.http_requests.specs.Shapes.{IsShape}
+use Rattle.http_requests.specs.Shapes.{IsShape, AwaitsMore}
 
 -- Octets were taken of the connection and came behind those that were held, and these were written to it.
 pub record Came (before after : List ℕ) (old new : DoorState) (written : List ℕ) : Type 0 where
@@ -44,14 +44,10 @@ pub record CameFault (from : MomentFrom) (fault : RequestFault) (before after : 
   pub is_fault : IsFault from (after ++ new.left) fault pending
   pub came : Came before after old new pending
 
--- No whole request is held, but for the fault with which these octets would end.
-pub record HoldsPart (from : MomentFrom) (octets pending : List ℕ) : Type 0 where
-  pub part : ((octets ≡ []) × (pending ≡ [])) ⊎ ((fault : RequestFault) × IsFault from octets fault pending)
-
--- A read failed before the next request was whole.
+-- A read failed before the next request was whole, and before it was known that it can't be.
 pub record ReadFailed (from : MomentFrom) (before after : List ℕ) (old new : DoorState) : Type 0 where
   pub pending : List ℕ
-  pub holds : HoldsPart from after pending
+  pub awaits : AwaitsMore from after pending
   pub came : Came before after old new pending
 
 -- A write of the leave for a body failed.

@@ -1,7 +1,11 @@
 -- The steps of a batch.
-use Rattle.std.proofs.Common.{◌≡◌, ◌⊎◌, inl, inr, ℕ, ◌+◌, ◌<◌, pos, Bool, true, false, List, [], ◌∷◌, drop, IsTrue, Ok, Err, Result, refl, sym, ap, subst, ◌∙◌}
+use Rattle.std.proofs.Common.{◌≡◌, ◌⊎◌, inl, inr, ℕ, ◌+◌, ◌<◌, pos, Bool, true, false, List, [], ◌∷◌, drop, IsTrue, IfErr, Ok, Err, Result, refl, sym, ap, subst, ◌∙◌}
 use Rattle.sqlite.specs.declared.types.Value.TheVariants.{Int, Blob}
+use Rattle.sqlite_trees.specs.declared.store.Store.{Ghosts}
+use Rattle.sqlite.specs.declared.error.Error.{Error}
 use Rattle.sqlite.specs.State.{State, ExecutesInside, KeepsCommit}
+use Rattle.sqlite.specs.Steps.{FailsToCommit}
+use Rattle.sqlite.specs.Held.{Held, state}
 use Rattle.mud_world.specs.declared.item.Item.{Item}
 use Rattle.mud_world.specs.declared.item.Put.{Put}
 use Rattle.mud_world.specs.declared.item.Put.TheVariants.{Set, Gone}
@@ -9,6 +13,7 @@ use Rattle.mud_world.specs.Items.{put_all}
 use Rattle.keep_sqlite.proofs.Texts.{upsert_text, delete_text}
 use Rattle.keep_sqlite.specs.Rows.{items_of, HoldsItems}
 use Rattle.keep_sqlite.specs.Batches.{Reaches}
+use Rattle.keep_sqlite.specs.Refused.{RefusesBatch, RefusesPut}
 use Rattle.keep_sqlite.proofs.Upserts.{upserts}
 use Rattle.keep_sqlite.proofs.Deletes.{deletes}
 
@@ -62,3 +67,34 @@ keeps_then a b c p q = record { was_open = λ o. p.was_open (q.was_open o); comm
 pub start_from : {H : Type 0} (f : H → State) (a b : H) (i : ℕ) (R : Type 0) → ((i ≡ 0) × (a ≡ b)) ⊎ R → ((i ≡ 0) × (f a ≡ f b)) ⊎ R
 start_from f a b i R (inl s) = inl (s.0, ap f s.1)
 start_from f a b i R (inr r) = inr r
+
+-- ---- Why a batch is refused
+
+-- the transaction goes on while puts are done
+inside_at : {S : Type 0} (g : Ghosts S) (old mid : Held S) (i : ℕ) (left all : List Put) → ((i ≡ 0) × (mid ≡ old)) ⊎ Reaches (state g old) (state g mid) left all → IsTrue old.in_transaction → IsTrue mid.in_transaction
+inside_at g old mid i left all (inl start) inside = subst (λ (h : Held _). IsTrue h.in_transaction) (sym start.1) inside
+inside_at g old mid i left all (inr done) inside = done.mode
+
+-- a put is refused
+pub put_refused : {S : Type 0} (g : Ghosts S) (old mid after : Held S) (i : ℕ) (put : Put) (batch : List Put) (error : Error) → ((i ≡ 0) × (mid ≡ old)) ⊎ Reaches (state g old) (state g mid) (drop i batch) batch
+    → drop i batch ≡ put ∷ drop (i + 1) batch → IsTrue old.in_transaction → (IsTrue mid.in_transaction → RefusesPut put (state g mid) (state g after) error) → RefusesBatch g old batch error
+put_refused g old mid after i put batch error (inl start) here inside refused = record {
+  left = put ∷ drop (i + 1) batch;
+  before = mid;
+  after = after;
+  done = inl (sym (sym (ap (λ k. drop k batch) start.0) ∙ here), start.1);
+  next = refused (inside_at g old mid i (drop i batch) batch (inl start) inside);
+}
+put_refused g old mid after i put batch error (inr done) here inside refused = record {
+  left = put ∷ drop (i + 1) batch;
+  before = mid;
+  after = after;
+  done = inr (subst (λ (left : List Put). Reaches (state g old) (state g mid) left batch) here done);
+  next = refused (inside_at g old mid i (drop i batch) batch (inr done) inside);
+}
+
+-- the commit is refused
+pub commit_refused : {S A : Type 0} (B : Type 0) (g : Ghosts S) (old before after : Held S) (batch : List Put) (answer : Result A Error) → Reaches (state g old) (state g before) [] batch → IfErr answer (FailsToCommit (state g before) (state g after))
+    → IfErr answer (λ error. B ⊎ RefusesBatch g old batch error)
+commit_refused B g old before after batch (Ok a) reaches failed = tt
+commit_refused B g old before after batch (Err e) reaches failed = inr (record { left = []; before = before; after = after; done = inr reaches; next = failed })

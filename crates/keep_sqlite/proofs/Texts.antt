@@ -16,6 +16,7 @@ use Rattle.sqlite_schema.specs.declared.command.Upsert.{Upsert}
 use Rattle.sqlite_value.specs.Keys.{ascending}
 use Rattle.sqlite_tied.specs.Compute.{everything}
 use Rattle.keep_sqlite.specs.Table.{item_table, no_schema, item_schema}
+pub use Rattle.keep_sqlite.specs.Refused.{upsert_text, delete_text}
 
 abbrev pub create_text : List ℕ
 create_text = codes "CREATE TABLE item (kind INTEGER NOT NULL, name BLOB NOT NULL, body BLOB NOT NULL, PRIMARY KEY (kind, name)) STRICT"
@@ -25,12 +26,6 @@ select_text = codes "SELECT kind, name, body FROM item ORDER BY kind, name"
 
 abbrev pub ids_text : List ℕ
 ids_text = codes "SELECT rowid FROM item ORDER BY rowid"
-
-abbrev pub upsert_text : List ℕ
-upsert_text = codes "INSERT INTO item (kind, name, body) VALUES (?1, ?2, ?3) ON CONFLICT (kind, name) DO UPDATE SET body = excluded.body"
-
-abbrev pub delete_text : List ℕ
-delete_text = codes "DELETE FROM item WHERE kind = ?1 AND name = ?2"
 
 -- ---- CREATE
 

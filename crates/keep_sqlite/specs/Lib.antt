@@ -3,6 +3,7 @@ pub mod Files
 pub mod Paths
 pub mod Reopened
 pub mod Refusals
+pub mod Refused
 pub mod Rows
 pub mod Selections
 pub mod Table

@@ -73,6 +73,10 @@ MayHold has_opened db = HoldsItems db ⊎ ((has_opened ≡ false) × (db.schema 
 abbrev pub AreTreesOf : List Item → Trees → Type 0
 AreTreesOf items trees = HoldsItems (record { schema = item_schema; trees = trees }) × (items_in (trees 0) ≡ items)
 
+-- The trees that are left where the table is made: there was none, and now it has no row.
+abbrev pub AreMadeTrees : Database → Trees → Type 0
+AreMadeTrees old trees = (old.schema ≡ no_schema) × AreTreesOf [] trees
+
 -- What an `open` may do to a database: it makes the table where there is none, without a row, and else changes nothing.
 abbrev pub MayMake : Database → Database → Type 0
 MayMake old new = (new ≡ old) ⊎ ((old.schema ≡ no_schema) × HoldsItems new × (items_of new ≡ []))

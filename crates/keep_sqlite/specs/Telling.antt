@@ -7,7 +7,7 @@ use Rattle.sqlite.specs.Effect.{Database}
 use Rattle.sqlite.specs.State.{HasCleanDisk, Survives}
 use Rattle.sqlite.specs.Held.{Held, held_code, state}
 use Rattle.mud_world.specs.declared.item.Item.{Item}
-use Rattle.keep_sqlite.specs.Rows.{held_items, AreTreesOf, HoldsItems, MayHold}
+use Rattle.keep_sqlite.specs.Rows.{held_items, AreMadeTrees, AreTreesOf, HoldsItems, MayHold}
 
 -- A keeper over a connection, as contracts see it.
 pub record KeeperView (S : Type 0) : Type 0 where
@@ -55,3 +55,7 @@ module _ {S : Type 0} (g : Ghosts S) where
   -- After a call a crash leaves what it could leave before, or the trees of these items, whole. Only a fault shuts the connection.
   abbrev pub MayLeave : KeeperView S → KeeperView S → List Item → Type 0
   MayLeave old new items = Survives (state g old.connection) (state g new.connection) (AreTreesOf items)
+
+  -- After an opening a crash leaves what it could leave before or, where there was no table, the table without a row.
+  abbrev pub MayLeaveMade : KeeperView S → KeeperView S → Type 0
+  MayLeaveMade old new = Survives (state g old.connection) (state g new.connection) (AreMadeTrees (database old))

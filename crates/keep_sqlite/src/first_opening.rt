@@ -34,6 +34,7 @@ pub fn open_at<S: Start>(
         → Tells over_files opened.0) }
     ensures items { IfOk result (λ opened. Tells over_files opened.0 → opened.1 ≡ told over_files opened.0) }
     ensures opened { IfOk result (λ opened. opened.0.has_opened ≡ true) }
+    ensures faults { IfOk result (λ opened. opened.0.faults ≡ 0) }
 {
     let connection = connect(rt, path, start)?;
     let opened = open_over(alloc, connection)?;
@@ -55,6 +56,7 @@ fn open_over<S: Alter + Drop>(
         → Tells S.Store opened.0) }
     ensures items { IfOk result (λ opened. Tells S.Store opened.0 → opened.1 ≡ told S.Store opened.0) }
     ensures opened { IfOk result (λ opened. opened.0.has_opened ≡ true) }
+    ensures faults { IfOk result (λ opened. opened.0.faults ≡ 0) }
 {
     let mut opened = SqliteKeeper::adopt(connection);
     let items = opened.read(alloc)?;

@@ -2,10 +2,10 @@
 ghost use Rattle.std.specs.Prelude.{◌≡◌, ◌≤◌, ◌⊎◌, List, [], IsTrue, IfOk, OnOk};
 ghost use Rattle.mud_world.specs.declared.item.Item.{Item};
 ghost use Rattle.mud_world.specs.Items.{is_batch, put_all};
-ghost use Rattle.sqlite_trees.specs.View.{doubt, IsClean, IsQuiet, IsRolledBack};
+ghost use Rattle.sqlite_trees.specs.View.{doubt, IsClean};
 ghost use Rattle.sqlite.specs.Files.{over_files};
 ghost use Rattle.sqlite.specs.FileStore.{view};
-ghost use Rattle.sqlite.specs.Held.{state, AreDatabases};
+ghost use Rattle.sqlite.specs.Held.{state};
 ghost use Rattle.sqlite.specs.State.{HasCleanDisk};
 ghost use Rattle.sqlite.specs.Steps.{over_memory};
 ghost use Rattle.keep_sqlite.specs.Table.{no_schema};
@@ -62,17 +62,7 @@ pub fn leave<D: Disk + Drop>(keeper: SqliteKeeper<FileStore<D>>) -> FileStore<D>
     ensures either { IsClean (view result) → (one other : List Item) → LeavesEither over_files keeper one other
         → IsFoundNext result (λ list. (list ≡ one) ⊎ (list ≡ other)) }
 {
-    store_of(keeper)
-}
-
-/// The store of a keeper, whatever store it is. A crash may leave no more of it than of the keeper's.
-fn store_of<S: Alter + Drop>(keeper: SqliteKeeper<S>) -> S
-    ensures numbered { IsClean (S.Store.view result) → IsTrue (S.Store.view result).is_numbered }
-    ensures sound { IsClean (S.Store.view result) → AreDatabases (S.Store.recovers result) }
-    ensures undone { IsRolledBack (S.Store.view keeper.connection.store) (S.Store.view result) }
-    ensures quiet { IsQuiet S.Store.view S.Store.faults S.Store.recovers S.Store.is_shielded keeper.connection.store result }
-{
-    keeper.give_back().into_store()
+    keeper.connection.into_store()
 }
 
 /// The last batch of a run, and what is left of the store. Where the run left the items that it told,

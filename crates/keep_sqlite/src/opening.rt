@@ -1,9 +1,9 @@
 //! The first `open` of a database: its table is found or made.
-ghost use Rattle.std.specs.Prelude.{◌≡◌, [], false, IfOk, IsTrue, OnErr, OnOk};
+ghost use Rattle.std.specs.Prelude.{◌≡◌, false, IfOk, IsTrue, OnErr, OnOk};
 ghost use Rattle.sqlite.specs.Held.{state};
 ghost use Rattle.sqlite.specs.State.{HasCleanDisk, Survives};
-ghost use Rattle.keep_sqlite.specs.Table.{item_schema, no_schema};
-ghost use Rattle.keep_sqlite.specs.Rows.{items_of, AreTreesOf, HoldsItems};
+ghost use Rattle.keep_sqlite.specs.Table.{no_schema};
+ghost use Rattle.keep_sqlite.specs.Rows.{items_of, AreMadeTrees, HoldsItems};
 ghost use Rattle.keep_sqlite.specs.Batches.{Makes, Stays};
 
 use crate::listing::{list, test_rowids};
@@ -24,7 +24,7 @@ pub(crate) fn find<S: Alter>(
     requires settled { IsTrue (state S.Store connection.old).is_open
         → (state S.Store connection.old).now ≡ (state S.Store connection.old).committed }
     ensures crash { Survives (state S.Store connection.old) (state S.Store connection.new)
-        (AreTreesOf []) }
+        (AreMadeTrees (state S.Store connection.old).now) }
     ensures makes { HasCleanDisk (state S.Store connection.new)
         → Makes (state S.Store connection.old) (state S.Store connection.new) }
     ensures ok { HasCleanDisk (state S.Store connection.new)
@@ -48,7 +48,7 @@ fn create_if_blank<S: Alter>(connection: &mut Connection<S>) -> Result<(), Error
     requires settled { IsTrue (state S.Store connection.old).is_open
         → (state S.Store connection.old).now ≡ (state S.Store connection.old).committed }
     ensures crash { Survives (state S.Store connection.old) (state S.Store connection.new)
-        (AreTreesOf []) }
+        (AreMadeTrees (state S.Store connection.old).now) }
     ensures makes { HasCleanDisk (state S.Store connection.new)
         → Makes (state S.Store connection.old) (state S.Store connection.new) }
 {
@@ -63,7 +63,7 @@ fn create<S: Alter>(connection: &mut Connection<S>) -> Result<(), Error>
     requires blank { (state S.Store connection.old).now.schema ≡ no_schema }
     requires autocommit { (state S.Store connection.old).in_transaction ≡ false }
     ensures crash { Survives (state S.Store connection.old) (state S.Store connection.new)
-        (AreTreesOf []) }
+        (AreMadeTrees (state S.Store connection.old).now) }
     ensures ok { HasCleanDisk (state S.Store connection.new)
         → OnOk result (Makes (state S.Store connection.old) (state S.Store connection.new)) }
     ensures err { HasCleanDisk (state S.Store connection.new)

@@ -39,10 +39,13 @@ impl Drop for PathKeeper {
         let PathKeeper {
             rt: _,
             path: _,
-            keeper: _,
+            keeper,
             faults: _,
             said: _,
         } = self;
+        if let Some(keeper) = keeper {
+            drop(keeper.connection);
+        }
     }
 }
 
@@ -76,7 +79,7 @@ impl PathKeeper {
             faults: _,
             said: _,
         } = self;
-        Some(keeper?.give_back())
+        Some(keeper?.connection)
     }
 }
 

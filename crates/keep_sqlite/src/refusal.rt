@@ -1,5 +1,5 @@
 //! Why a database didn't do what was asked, and how a keeper tells and counts it.
-ghost use Rattle.std.specs.Prelude.{◌≡◌, ◌≢◌};
+ghost use Rattle.std.specs.Prelude.{◌≡◌};
 ghost use Rattle.mud_world.specs.Causes.{Counts};
 ghost use Rattle.keep_sqlite.specs.Refusals.{fault_of, has_failed, refusal_of};
 

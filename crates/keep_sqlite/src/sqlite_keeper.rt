@@ -1,13 +1,15 @@
 //! A keeper over a connection.
-ghost use Rattle.std.specs.Prelude.{◌≡◌, [], true, false, IsTrue, IfOk, OnOk, OnErr};
+ghost use Rattle.std.specs.Prelude.{◌≡◌, true, false, IsTrue, IfOk, IfErr, OnOk, OnErr};
 ghost use Rattle.mud_world.specs.Causes.{Counts};
 ghost use Rattle.mud_world.specs.Items as items;
 ghost use Rattle.mud_world.specs.Items.{is_batch, put_all, IsOrdered};
 ghost use Rattle.sqlite.specs.Held.{state};
 ghost use Rattle.sqlite.specs.State.{HasCleanDisk};
-ghost use Rattle.keep_sqlite.specs.Refusals.{has_failed};
+ghost use Rattle.keep_sqlite.specs.declared.refusal.Refusal.{Refusal};
+ghost use Rattle.keep_sqlite.specs.Refusals.{fault_of, has_failed};
+ghost use Rattle.keep_sqlite.specs.Refused.{IsRefused};
 ghost use Rattle.keep_sqlite.specs.Rows.{items_of, HoldsItems, MayMake};
-ghost use Rattle.keep_sqlite.specs.Telling.{database, told, IsUp, Leaves, MayLeave, Tells};
+ghost use Rattle.keep_sqlite.specs.Telling.{database, told, IsUp, Leaves, MayLeave, MayLeaveMade, Tells};
 
 use crate::batch;
 use crate::listing::list;
@@ -97,7 +99,7 @@ impl<S: Alter + Drop> SqliteKeeper<S> {
         ensures table { Tells S.Store self.new → OnOk result (HoldsItems (database S.Store self.new)) }
         ensures kept { IsUp S.Store self.new.connection
             → MayMake (database S.Store self.old) (database S.Store self.new) }
-        ensures crash { IsUp S.Store self.old.connection → MayLeave S.Store self.old self.new [] }
+        ensures crash { IsUp S.Store self.old.connection → MayLeaveMade S.Store self.old self.new }
         ensures after { Tells S.Store self.new
             → OnOk result (Leaves S.Store self.new (told S.Store self.new)) }
     {
@@ -121,7 +123,7 @@ impl<S: Alter + Drop> SqliteKeeper<S> {
             → HoldsItems (database S.Store self.old) }
         ensures kept { IsUp S.Store self.new.connection
             → MayMake (database S.Store self.old) (database S.Store self.new) }
-        ensures crash { IsUp S.Store self.old.connection → MayLeave S.Store self.old self.new [] }
+        ensures crash { IsUp S.Store self.old.connection → MayLeaveMade S.Store self.old self.new }
         ensures left { IsUp S.Store self.new.connection
             → OnOk result ((state S.Store self.new.connection).committed ≡ database S.Store self.new) }
     {
@@ -150,6 +152,9 @@ impl<S: Alter + Drop> SqliteKeeper<S> {
             → OnErr result (told S.Store self.new ≡ told S.Store self.old) }
         ensures opened { self.new.has_opened ≡ self.old.has_opened }
         ensures cause { Counts (has_failed result) self.old.faults self.new.faults }
+        // While the disk gives back what was written, an Err is what the database answered.
+        ensures refused { HasCleanDisk (state S.Store self.new.connection)
+            → IfErr result (IsRefused S.Store self.old.connection batch.now) }
         // At each return a crash leaves what it could leave before, or the items after the whole batch,
         ensures crash { MayLeave S.Store self.old self.new (put_all (items_of (database S.Store self.old)) batch.now) }
         // and after Ok the items after the batch.
@@ -175,6 +180,8 @@ impl<S: Alter + Drop> SqliteKeeper<S> {
             → OnErr result (database S.Store self.new ≡ database S.Store self.old) }
         ensures opened { self.new.has_opened ≡ self.old.has_opened }
         ensures faults { self.new.faults ≡ self.old.faults }
+        ensures refused { HasCleanDisk (state S.Store self.new.connection)
+            → IfErr result (IsRefused S.Store self.old.connection batch.now) }
         ensures crash { MayLeave S.Store self.old self.new (put_all (items_of (database S.Store self.old)) batch.now) }
         ensures left { IsUp S.Store self.new.connection
             → OnOk result ((state S.Store self.new.connection).committed ≡ database S.Store self.new) }
@@ -211,8 +218,9 @@ impl<S: Alter + Drop> Keeper for SqliteKeeper<S> {
         // Whatever it answers, it made the table in a database with no table, or changed nothing.
         ensures kept { IsUp S.Store self.new.connection
             → MayMake (database S.Store self.old) (database S.Store self.new) }
-        // At each return a crash leaves what it could leave before, or the table without an item,
-        ensures crash { IsUp S.Store self.old.connection → MayLeave S.Store self.old self.new [] }
+        // At each return a crash leaves what it could leave before or, where there was no table, the table
+        // without an item,
+        ensures crash { IsUp S.Store self.old.connection → MayLeaveMade S.Store self.old self.new }
         // and after Ok the items that it answered.
         ensures after { Tells S.Store self.new
             → OnOk result (Leaves S.Store self.new (told S.Store self.new)) }
@@ -236,6 +244,9 @@ impl<S: Alter + Drop> Keeper for SqliteKeeper<S> {
             → OnErr result (told S.Store self.new ≡ told S.Store self.old) }
         ensures opened { self.new.has_opened ≡ self.old.has_opened }
         ensures cause { Counts (items.has_failed result) self.old.faults self.new.faults }
+        ensures refused { HasCleanDisk (state S.Store self.new.connection)
+            → IfErr result (λ fault. (refusal : Refusal) × (fault ≡ fault_of refusal)
+            × IsRefused S.Store self.old.connection batch.now refusal) }
         ensures crash { MayLeave S.Store self.old self.new (put_all (items_of (database S.Store self.old)) batch.now) }
         ensures after { Tells S.Store self.new
             → OnOk result (Leaves S.Store self.new (told S.Store self.new)) }

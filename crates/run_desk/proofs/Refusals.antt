@@ -53,7 +53,7 @@ module _ (old new : DoorState) (status : ℕ) where
     statuses = refusal_status (BadItem item.kind item.key) status is;
     done = λ six. record { item = item; bad = bad; line = done six };
     part = λ four. record { item = item; bad = bad; line = part (inl four) };
-    unpaid = λ five. inr (record { item = item; bad = bad; line = part (inr five) });
+    wanting = λ five. inr (record { item = item; bad = bad; line = part (inr five) });
     none = λ seven. absurd (grind arith);
   }
 
@@ -65,14 +65,14 @@ module _ (old new : DoorState) (status : ℕ) where
     statuses = refusal_status Keeper status is;
     done = λ six. absurd (grind arith);
     part = λ four. absurd (grind arith);
-    unpaid = λ five. absurd (grind arith);
+    wanting = λ five. absurd (grind arith);
     none = λ seven. untouched tt;
   }
   refuses_by items Memory of is done part untouched = record {
     statuses = refusal_status Memory status is;
     done = λ six. absurd (grind arith);
     part = λ four. absurd (grind arith);
-    unpaid = λ five. inl (untouched tt);
+    wanting = λ five. inl (untouched tt);
     none = λ seven. absurd (grind arith);
   }
   refuses_by items (BadItem kind key) of is done part untouched =

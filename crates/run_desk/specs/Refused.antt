@@ -52,7 +52,7 @@ pub record RefusesStore (items : List Item) (old new : DoorState) (status : ℕ)
   pub statuses : IsOneOf each_refusal status
   pub done : Is BadItem status → WritesBad items (λ line. new ≡ put_out line old)
   pub part : Is DoorFailed status → WritesBad items (λ line. WroteFirst line old new)
-  pub unpaid : Is NoMemory status → (new ≡ old) ⊎ WritesBad items (λ line. WroteFirst line old new)
+  pub wanting : Is NoMemory status → (new ≡ old) ⊎ WritesBad items (λ line. WroteFirst line old new)
   pub none : Is KeeperFailed status → new ≡ old
 
 -- What is done by the desk that these items keep. Or the store is refused, and that is said.

@@ -11,4 +11,6 @@ mod dns;
 #[cfg(test)]
 mod machine;
 #[cfg(test)]
+mod pcapng_captures;
+#[cfg(test)]
 mod urls;

@@ -58,6 +58,6 @@ module _ {X : Type 0} {F : X → Type 0} (members : (v : (x : X) × F x) → Gho
         statuses = inr (inl refl);
         done = λ six. absurd (omega (arith, six));
         part = λ four. absurd (omega (arith, four));
-        unpaid = λ five. inl refl;
+        wanting = λ five. inl refl;
         none = λ seven. refl;
       }

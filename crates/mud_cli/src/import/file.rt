@@ -1,5 +1,5 @@
 //! One name of a folder.
-ghost use Rattle.std.specs.Prelude.{◌≡◌, ◌==◌, ◌⊎◌, ℕ, false, [], ◌∷◌, Err, IfOk, OnOk, OnErr, IsTrue};
+ghost use Rattle.std.specs.Prelude.{◌≡◌, ◌==◌, ◌⊎◌, false, [], ◌∷◌, Ok, Err, None, IfOk, OnOk, OnErr, IsTrue};
 ghost use Rattle.mud_world.specs.Boxed.{faults_of};
 ghost use Rattle.mud_world.specs.Causes.{Counts, StopsAtFailure};
 ghost use Rattle.mud_world.specs.Clock.{later_moments};
@@ -14,6 +14,7 @@ ghost use Rattle.run_common.specs.declared.status.Status.TheVariants.{Done, Refu
 ghost use Rattle.mud_cli.specs.Import.Entries.{has_keeper_failed, is_of_memory};
 ghost use Rattle.mud_cli.specs.Import.Entries as entries;
 ghost use Rattle.mud_cli.specs.Import.Imports.{ImportsEntry};
+ghost use Rattle.mud_cli.specs.Import.Names as names;
 ghost use Rattle.mud_cli.specs.Import.Scenes.{standing, scene};
 ghost use Rattle.mud_cli.specs.Import.Runs.{ImportsPart, ImportsAll};
 ghost use Rattle.run_common.specs.Stops.{has_failed};
@@ -65,6 +66,8 @@ fn reply_to<L: Ledger, P: Spool, C: Clock>(
     ensures same { P.tells → (P.view spool.new).files ≡ (P.view spool.old).files }
     ensures cause { Counts (has_failed result) (P.view spool.old).faults (P.view spool.new).faults }
     ensures stop { IsTrue (has_failed result) → StopsAtFailure (P.view spool.new).failed (P.view spool.old).faults (P.view spool.new).faults }
+    // A name of another form asks neither the folder nor the clock.
+    ensures skipped { names.fetched_in name.now ≡ None → (result ≡ Ok None) × (spool.new ≡ spool.old) × (clock.new ≡ clock.old) }
 {
     let Some(fetched) = fetched_in(name) else {
         return Ok(None);

@@ -1,8 +1,11 @@
 -- What the packets that were judged are like, and the counts of all hours.
-use Rattle.std.proofs.Common.{◌≡◌, ℕ, ◌+◌, ◌*◌, Bool, true, false, cond, not, ◌||◌, List, [], ◌∷◌, length, Option, Some, None, refl, sym, ap, ◌∙◌, arith, length-append}
+use Rattle.std.proofs.Common.{◌≡◌, ℕ, ◌+◌, ◌*◌, Bool, true, false, cond, not, ◌||◌, List, [], ◌∷◌, ◌++◌, map, length, Option, Some, None, refl, sym, ap, ◌∙◌, arith, length-append}
 use Rattle.std.specs.Prelude.{is_some, ◌==◌, option_map}
 use Rattle.std.specs.List.{filter, AllByRecursion}
 use Rattle.std.proofs.lemmas.Bool.{false≢true, eqb-true, eq-eqb}
+use Rattle.std.proofs.lemmas.List.{map-append}
+use Rattle.std.proofs.lemmas.List.Elements.{filter-append}
+use Rattle.mud_base.specs.declared.addr.Mac.{Mac}
 use Rattle.mud_base.specs.declared.packet.Direction.{Direction}
 use Rattle.mud_base.specs.declared.packet.Direction.TheVariants.{From, To}
 use Rattle.mud_base.specs.declared.packet.Fields.{Fields}
@@ -15,15 +18,17 @@ use Rattle.acl_model.specs.declared.ruling.Ruling.{Ruling}
 use Rattle.packet_judge.specs.declared.verdict.Verdict.{Verdict}
 use Rattle.packet_judge.specs.declared.verdict.Verdict.TheVariants.{Unmanaged, Link, Unreadable, Governed}
 use Rattle.packet_judge.specs.Verdicts.{Rulings, Endpoints, endpoints_of, endpoint_ruling, is_managed, if_managed, verdict_on, verdict_of}
-use Rattle.drop_ledger.specs.Counted.{total}
+use Rattle.base_rows.specs.Sortable.{same_sort_key}
+use Rattle.drop_ledger.specs.Counted.{SortKey, count_of, total}
 use Rattle.desk_model.specs.Verdicts.{verdict_at}
 use Rattle.desk_model.specs.Sessions.{Session, frame_in, verdict_in}
 use Rattle.run_desk.specs.Judged.{judged_packet}
+use Rattle.drop_ledger.specs.declared.rows.CountRow.{CountRow}
 use Rattle.drop_ledger.specs.declared.seen.Seen.{Seen}
 use Rattle.drop_ledger.specs.declared.seen.Ruled.{Ruled}
-use Rattle.drop_ledger.specs.SortKeys.{count_of_row}
+use Rattle.drop_ledger.specs.SortKeys.{count_of_row, sort_key_of_count}
 use Rattle.drop_ledger.specs.Seen.{hour_of, ruling_on, ruled_on, is_ruled, is_governed, rulings, HasFields, HasThing}
-use Rattle.drop_ledger.specs.Ledger.{counts_of}
+use Rattle.drop_ledger.specs.Ledger.{count_row, counts_of, times_of}
 use Rattle.drop_ledger.proofs.LedgerLaws.{none_ruled, counts_sum}
 use Rattle.run_packets.specs.Tally.Tallied.{seen_as, seen_of, seen_in, hours, in_hour}
 use Rattle.drop_ledger.proofs.Parts.{ruled, rulings_in}
@@ -161,18 +166,6 @@ unfolding hours Once
 hours_once [] = tt
 hours_once (s ∷ all) = once_by s (hours all) all (hours_once all) (is_ruled s) refl
 
-of_hour : List Seen → ℕ → ℕ
-of_hour xs h = length (rulings (in_hour h xs))
-
-split_by : (s : Seen) (xs : List Seen) (b : Bool) → length (rulings (cond b (s ∷ xs) xs)) ≡ length (rulings_in s) * cond b 1 0 + length (rulings xs)
-unfolding rulings
-split_by s xs true = length-append (rulings_in s) (rulings xs) ∙ (let n = length (rulings_in s) in omega arith)
-split_by s xs false = omega arith
-
-of_hour_more : (s : Seen) (xs : List Seen) (h : ℕ) → of_hour (s ∷ xs) h ≡ length (rulings_in s) * cond (hour_of s == h) 1 0 + of_hour xs h
-unfolding of_hour in_hour
-of_hour_more s xs h = split_by s (in_hour h xs) (hour_of s == h)
-
 sums_apart : (f g e : ℕ → ℕ) (n : ℕ) (l : List ℕ) → ((h : ℕ) → f h ≡ n * e h + g h) → total f l ≡ n * total e l + total g l
 unfolding total
 sums_apart f g e n [] each = none n
@@ -184,31 +177,54 @@ sums_apart f g e n (h ∷ l) each = (λ i. each h i + sums_apart f g e n l each 
     joined : (m a b c d : ℕ) → (m * a + b) + (m * c + d) ≡ m * (a + c) + (b + d)
     joined m a b c d = grind arith
 
-once_rulings : (s : Seen) (m : ℕ) → (is_ruled s ≡ true → m ≡ 1) → length (rulings_in s) * m ≡ length (rulings_in s)
-once_rulings s m one = by (is_ruled s) refl
-  where
-    by : (b : Bool) → is_ruled s ≡ b → length (rulings_in s) * m ≡ length (rulings_in s)
-    by true is = ap (λ k. length (rulings_in s) * k) (one is) ∙ whole (length (rulings_in s))
-      where
-        whole : (k : ℕ) → k * 1 ≡ k
-        whole k = omega arith
-    by false is = ap (λ (rs : List Ruled). length rs * m) (none_ruled s is) ∙ nothing m ∙ ap (λ (rs : List Ruled). length rs) (sym (none_ruled s is))
-      where
-        nothing : (k : ℕ) → 0 * k ≡ 0
-        nothing k = omega arith
+-- what is counted of rulings: of none it is 0, and of two lists the sum
+module _ (count : List Ruled → ℕ) (of_none : count [] ≡ 0) (of_both : (xs ys : List Ruled) → count (xs ++ ys) ≡ count xs + count ys) where
+  of_hour : List Seen → ℕ → ℕ
+  of_hour xs h = count (rulings (in_hour h xs))
 
-no_hours_sum : (l : List ℕ) → total (of_hour []) l ≡ 0
-unfolding total of_hour in_hour rulings
-no_hours_sum [] = refl
-no_hours_sum (h ∷ l) = ap (λ n. 0 + n) (no_hours_sum l)
+  split_by : (s : Seen) (xs : List Seen) (b : Bool) → count (rulings (cond b (s ∷ xs) xs)) ≡ count (rulings_in s) * cond b 1 0 + count (rulings xs)
+  unfolding rulings
+  split_by s xs true = of_both (rulings_in s) (rulings xs) ∙ once (count (rulings_in s)) (count (rulings xs))
+    where
+      once : (n m : ℕ) → n + m ≡ n * 1 + m
+      once n m = omega arith
+  split_by s xs false = never (count (rulings_in s)) (count (rulings xs))
+    where
+      never : (n m : ℕ) → m ≡ n * 0 + m
+      never n m = omega arith
 
-hours_sum : (l : List ℕ) (xs : List Seen) → Once l xs → total (of_hour xs) l ≡ length (rulings xs)
-unfolding Once rulings times
-hours_sum l [] once = no_hours_sum l
-hours_sum l (s ∷ xs) once =
-    sums_apart (of_hour (s ∷ xs)) (of_hour xs) (λ h. cond (hour_of s == h) 1 0) (length (rulings_in s)) l (of_hour_more s xs)
-    ∙ (λ i. once_rulings s (times (hour_of s) l) once.0 i + hours_sum l xs once.1 i)
-    ∙ sym (length-append (rulings_in s) (rulings xs))
+  of_hour_more : (s : Seen) (xs : List Seen) (h : ℕ) → of_hour (s ∷ xs) h ≡ count (rulings_in s) * cond (hour_of s == h) 1 0 + of_hour xs h
+  unfolding of_hour in_hour
+  of_hour_more s xs h = split_by s (in_hour h xs) (hour_of s == h)
+
+  once_rulings : (s : Seen) (m : ℕ) → (is_ruled s ≡ true → m ≡ 1) → count (rulings_in s) * m ≡ count (rulings_in s)
+  once_rulings s m one = by (is_ruled s) refl
+    where
+      by : (b : Bool) → is_ruled s ≡ b → count (rulings_in s) * m ≡ count (rulings_in s)
+      by true is = ap (λ k. count (rulings_in s) * k) (one is) ∙ whole (count (rulings_in s))
+        where
+          whole : (k : ℕ) → k * 1 ≡ k
+          whole k = omega arith
+      by false is = ap (λ k. k * m) unruled ∙ nothing m ∙ sym unruled
+        where
+          unruled : count (rulings_in s) ≡ 0
+          unruled = ap count (none_ruled s is) ∙ of_none
+
+          nothing : (k : ℕ) → 0 * k ≡ 0
+          nothing k = omega arith
+
+  no_hours_sum : (l : List ℕ) → total (of_hour []) l ≡ 0
+  unfolding total of_hour in_hour rulings
+  no_hours_sum [] = refl
+  no_hours_sum (h ∷ l) = (λ i. of_none i + no_hours_sum l i)
+
+  hours_sum : (l : List ℕ) (xs : List Seen) → Once l xs → total (of_hour xs) l ≡ count (rulings xs)
+  unfolding Once rulings times
+  hours_sum l [] once = no_hours_sum l ∙ sym of_none
+  hours_sum l (s ∷ xs) once =
+      sums_apart (of_hour (s ∷ xs)) (of_hour xs) (λ h. cond (hour_of s == h) 1 0) (count (rulings_in s)) l (of_hour_more s xs)
+      ∙ (λ i. once_rulings s (times (hour_of s) l) once.0 i + hours_sum l xs once.1 i)
+      ∙ sym (of_both (rulings_in s) (rulings xs))
 
 same_total : (f g : ℕ → ℕ) (l : List ℕ) → ((h : ℕ) → f h ≡ g h) → total f l ≡ total g l
 unfolding total
@@ -219,5 +235,20 @@ same_total f g (h ∷ l) same = (λ i. same h i + same_total f g l same i)
 pub counts_of_hours : (all : List Seen) → total (λ h. total count_of_row (counts_of (rulings (in_hour h all)))) (hours all) ≡ length (rulings all)
 unfolding of_hour
 counts_of_hours all =
-    same_total (λ h. total count_of_row (counts_of (rulings (in_hour h all)))) (of_hour all) (hours all) (λ h. counts_sum (rulings (in_hour h all)))
-    ∙ hours_sum (hours all) all (hours_once all)
+    same_total (λ h. total count_of_row (counts_of (rulings (in_hour h all)))) (of_hour length refl length-append all) (hours all) (λ h. counts_sum (rulings (in_hour h all)))
+    ∙ hours_sum length refl length-append (hours all) all (hours_once all)
+
+-- so is each ruling on a side of a Thing
+pub times_of_hours : (mac : Mac) (side : Direction) (ruling : Ruling) (all : List Seen) → total (λ h. times_of mac side ruling (rulings (in_hour h all))) (hours all) ≡ times_of mac side ruling (rulings all)
+unfolding of_hour times_of count_of
+times_of_hours mac side ruling all = hours_sum (times_of mac side ruling) refl both (hours all) all (hours_once all)
+  where
+    both : (xs ys : List Ruled) → times_of mac side ruling (xs ++ ys) ≡ times_of mac side ruling xs + times_of mac side ruling ys
+    both xs ys =
+        ap (λ (rows : List CountRow). length (filter (same_sort_key p) (map sort_key_of_count rows))) (map-append count_row xs ys)
+        ∙ ap (λ (ps : List SortKey). length (filter (same_sort_key p) ps)) (map-append sort_key_of_count (map count_row xs) (map count_row ys))
+        ∙ ap length (filter-append (same_sort_key p) (map sort_key_of_count (map count_row xs)) (map sort_key_of_count (map count_row ys)))
+        ∙ length-append (filter (same_sort_key p) (map sort_key_of_count (map count_row xs))) (filter (same_sort_key p) (map sort_key_of_count (map count_row ys)))
+      where
+        p : SortKey
+        p = sort_key_of_count (record { mac = mac; side = side; ruling = ruling; count = 0 })

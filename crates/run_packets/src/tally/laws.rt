@@ -7,6 +7,7 @@ ghost use Rattle.drop_ledger.specs.Counted.{first_rows, late_rows, total};
 ghost use Rattle.drop_ledger.specs.SortKeys.{count_of_row};
 ghost use Rattle.drop_ledger.specs.Seen.{AreSums, rulings, totals_in};
 ghost use Rattle.drop_ledger.specs.Ledger.{counts_of, denials, denied_kinds, denied_times, no_match, times_of};
+ghost use Rattle.acl_model.specs.declared.ruling.Ruling.{Ruling};
 ghost use Rattle.mud_base.specs.declared.addr.Mac.{Mac};
 ghost use Rattle.mud_base.specs.declared.packet.Direction.{Direction};
 ghost use Rattle.read_buffer.specs.Packets.{Packet};
@@ -30,6 +31,9 @@ pub fn tally_adds_up()
     // What was denied of a Thing and side is, with the others, as much as it was ruled so in all hours.
     ensures denied { (session : Session) (packets : List Packet) (mac : Mac) (side : Direction) → let done = rulings (seen_in session packets) in
         denied_times mac side (first_rows denied_kinds (denials done)) (late_rows denied_kinds (denials done)) ≡ times_of mac side no_match done }
+    // That is the sum of what the hours' lines count, and so it is of each ruling.
+    ensures hours { (session : Session) (packets : List Packet) (mac : Mac) (side : Direction) (ruling : Ruling) → let all = seen_in session packets in
+        total (λ hour. times_of mac side ruling (rulings (in_hour hour all))) (hours all) ≡ times_of mac side ruling (rulings all) }
 {}
 
 /// Two whole captures whose packets have the same seconds and octets are counted alike, in whichever

@@ -1,7 +1,7 @@
 use Rattle.desk_model.proofs.ReadBack.{desk_again}
 use Rattle.desk_model.proofs.ReadSound.{desk_alone, empty_sound}
 use Rattle.desk_model.proofs.FirstBad.{first_unread}
-use Rattle.desk_model.proofs.Keeping.{keeps_read, read_kept, first_bad}
+use Rattle.desk_model.proofs.Keeping.{keeps_read, read_kept, first_bad, first_bad_is_answered}
 use Rattle.desk_model.proofs.Order.{ordered-items_of}
 use Rattle.desk_model.proofs.item_laws.desks_are_read_back.Goals as goal
 
@@ -25,6 +25,9 @@ returns-clause-read c = read_kept
 
 pub returns-clause-bad : goal.returns-clause-bad
 returns-clause-bad c = first_bad
+
+pub returns-clause-unread : goal.returns-clause-unread
+returns-clause-unread c = first_bad_is_answered
 
 pub returns-clause-ordered : goal.returns-clause-ordered
 returns-clause-ordered c = ordered-items_of

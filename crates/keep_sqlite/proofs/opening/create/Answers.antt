@@ -8,10 +8,10 @@ pub returns-clause-ok : goal.returns-clause-ok
 returns-clause-ok g c clean = creates _ _ _ c.requires.blank c.requires.autocommit (c.in_ok-execute.ensures.runs clean)
 
 pub returns-clause-crash : goal.returns-clause-crash
-returns-clause-crash g c = survives_as _ _ (λ _ db commits. creates_trees _ db c.requires.blank commits) c.execute.ensures.survives
+returns-clause-crash g c = survives_as _ _ (λ _ db commits. (c.requires.blank, creates_trees _ db c.requires.blank commits)) c.execute.ensures.survives
 
 pub returns-in_err-execute-clause-err : goal.returns-in_err-execute-clause-err
 returns-in_err-execute-clause-err g c clean = always_on_err _ (executed_stays _ _ _ _ _ (c.in_err-execute.ensures.runs clean))
 
 pub returns-in_err-execute-clause-crash : goal.returns-in_err-execute-clause-crash
-returns-in_err-execute-clause-crash g c = survives_as _ _ (λ _ db commits. creates_trees _ db c.requires.blank commits) c.execute.ensures.survives
+returns-in_err-execute-clause-crash g c = survives_as _ _ (λ _ db commits. (c.requires.blank, creates_trees _ db c.requires.blank commits)) c.execute.ensures.survives

@@ -1,9 +1,8 @@
 //! A capture over a source of its own, which no command has: each call with ample memory, and a read
 //! that fails.
-use mud_base::{Bytes, Listed, Memory};
+use crate::doors::failing_door;
 use mud_world::MemoryDoor;
 use pcap_read::{CapFault, Capture};
-use std::alloc::Global;
 use std::test::Fail;
 
 /// The header of a capture in microseconds, with the least significant octet first, and a packet of
@@ -13,16 +12,6 @@ const CAPTURE: [u8; 60] = [
     0x23, 4, 0, 0, 9, 0, 0, 0, 2, 0, 0, 0, 8, 0, 0, 0, 1, 2, //
     0x23, 4, 0, 0, 9, 0, 0, 0, 2, 0, 0, 0, 8, 0, 0, 0, 1, 2,
 ];
-
-/// A connection at which the capture comes at once, and whose second read fails.
-fn door(alloc: Global) -> Result<MemoryDoor, Memory> {
-    let octets = Bytes::new(alloc, &CAPTURE)?;
-    let pieces = Listed::from_vec(vec![in alloc; octets]?);
-    let inputs = Listed::from_vec(vec![in alloc; pieces]?);
-    let mut door = MemoryDoor::new(alloc, inputs, 4)?;
-    door.failing_read = Listed::from_vec(vec![in alloc; 2]?);
-    Ok(door)
-}
 
 /// Whether it goes on to the second packet without a further read, and then to its failure.
 fn goes_on(capture: &mut Capture<MemoryDoor>) -> bool {
@@ -39,7 +28,7 @@ fn goes_on(capture: &mut Capture<MemoryDoor>) -> bool {
 
 #[test]
 fn packets_and_a_failed_read(rt: HostRuntime) -> Result<(), Fail> {
-    let mut capture = Capture::new(rt.alloc(), door(rt.alloc())?)?;
+    let mut capture = Capture::new(rt.alloc(), failing_door(rt.alloc(), &CAPTURE)?)?;
     let is_read = goes_on(&mut capture);
     drop(capture);
     assert!(rt; is_read);

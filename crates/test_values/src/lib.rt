@@ -9,6 +9,8 @@ mod captures;
 #[cfg(test)]
 mod dns;
 #[cfg(test)]
+mod doors;
+#[cfg(test)]
 mod machine;
 #[cfg(test)]
 mod pcapng_captures;

@@ -1,9 +1,8 @@
 //! A capture in pcapng over a source of its own, which no command has: each call with ample memory,
 //! and a read that fails.
-use mud_base::{Bytes, Listed, Memory};
+use crate::doors::failing_door;
 use mud_world::MemoryDoor;
 use pcapng_read::{NgCapture, NgFault};
-use std::alloc::Global;
 use std::test::Fail;
 
 /// A section with the least significant octet first, an interface of Ethernet (link type 1) whose
@@ -17,16 +16,6 @@ const CAPTURE: [u8; 120] = [
     6, 0, 0, 0, 36, 0, 0, 0, 0, 0, 0, 0, 0, 0, 0, 0, 0xC0, 0x0E, 0x1F, 0x3F, //
     2, 0, 0, 0, 2, 0, 0, 0, 1, 2, 0, 0, 36, 0, 0, 0,
 ];
-
-/// A connection at which the capture comes at once, and whose second read fails.
-fn door(alloc: Global) -> Result<MemoryDoor, Memory> {
-    let octets = Bytes::new(alloc, &CAPTURE)?;
-    let pieces = Listed::from_vec(vec![in alloc; octets]?);
-    let inputs = Listed::from_vec(vec![in alloc; pieces]?);
-    let mut door = MemoryDoor::new(alloc, inputs, 4)?;
-    door.failing_read = Listed::from_vec(vec![in alloc; 2]?);
-    Ok(door)
-}
 
 /// Whether it goes on to the second packet without a further read, and then to its failure.
 fn goes_on(capture: &mut NgCapture<MemoryDoor>) -> bool {
@@ -43,7 +32,7 @@ fn goes_on(capture: &mut NgCapture<MemoryDoor>) -> bool {
 
 #[test]
 fn pcapng_packets_and_a_failed_read(rt: HostRuntime) -> Result<(), Fail> {
-    let mut capture = NgCapture::new(rt.alloc(), door(rt.alloc())?)?;
+    let mut capture = NgCapture::new(rt.alloc(), failing_door(rt.alloc(), &CAPTURE)?)?;
     let is_read = goes_on(&mut capture);
     drop(capture);
     assert!(rt; is_read);

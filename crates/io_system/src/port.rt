@@ -1,5 +1,5 @@
 //! A port of this machine on which clients are awaited, and the client that is served.
-ghost use Rattle.std.specs.Prelude.{◌≡◌, true, false, Ok, IfOk, OnOk, OnErr};
+ghost use Rattle.std.specs.Prelude.{◌≡◌, true, false, None, Ok, IfOk, OnOk, OnErr};
 ghost use Rattle.std.specs.Net.Socket.{socket_ip, socket_port};
 ghost use Rattle.std.specs.Io.{ReadsAtMost, WritesAtMost};
 ghost use Rattle.std.specs.Io.KnownBytes.{ReadConsumes, WriteAppends};
@@ -46,7 +46,9 @@ impl<N: Net> Port<N> {
     /// Waits for a further client, and gives it its time limits. What is written to it is sent at once:
     /// an answer is written in two pieces, and the second one isn't to wait until the client has
     /// acknowledged the first.
-    fn accept(&self) -> io::Result<Client<N::Stream>> {
+    fn accept(&self) -> io::Result<Client<N::Stream>>
+        ensures { IfOk result (λ client. client.since ≡ None) }
+    {
         let (stream, _) = self.listener.accept()?;
         let limit = Some(Duration::from_secs(LONGEST_WAIT));
         stream.set_read_timeout(limit)?;

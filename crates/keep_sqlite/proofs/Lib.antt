@@ -16,4 +16,5 @@ pub mod Steps
 pub mod Tellings
 pub mod Texts
 pub mod Unique
+pub mod Unread
 pub mod Upserts

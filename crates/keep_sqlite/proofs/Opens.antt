@@ -1,14 +1,10 @@
 -- What the tests of an open show of the rows.
-use Rattle.std.proofs.Common.{◌≡◌, ℕ, ◌+◌, ◌≤◌, ◌<◌, ℤ, pos, Bool, true, false, cond, ◌&&◌, List, [], ◌∷◌, map, Option, Some, None, Ok, Err, Result, IfOk, refl, sym, ap, subst, ◌∙◌, arith}
+use Rattle.std.proofs.Common.{◌≡◌, ℕ, ◌<◌, ℤ, pos, Bool, true, false, cond, ◌&&◌, List, [], ◌∷◌, map, Option, Some, None, Ok, Err, Result, IfOk, IfErr, refl, sym, ap, subst, ◌∙◌}
 use Rattle.std.proofs.lemmas.Bool.{false≢true}
 use Rattle.std.proofs.lemmas.Option.{none-some}
-use Rattle.std.proofs.lemmas.Map.Lookups.{exact_signed}
 use Rattle.std.proofs.lemmas.List.Elements.{All-from_recursion, recursion_from_All}
-use Rattle.std.proofs.lemmas.List.Sorted.{All-permutation, IsPermutation-sym, IsPermutation-map, sum_by-IsPermutation}
-use Rattle.std.proofs.lemmas.List.Sums.{sum_by-cons}
+use Rattle.std.proofs.lemmas.List.Sorted.{All-permutation, IsPermutation-sym}
 use Rattle.std.specs.List.{AllByRecursion}
-use Rattle.std.specs.Prelude.{sum_by}
-use Rattle.std.specs.Ordering.{is_eq, int_cmp}
 use Rattle.std.specs.List.Sorted.{IsPermutation}
 use Rattle.sqlite.specs.declared.types.Value.TheVariants.{Int, Blob}
 use Rattle.sqlite_value.specs.Order.{Row, column}
@@ -25,10 +21,10 @@ use Rattle.base_rows.proofs.Lists.{all-map}
 use Rattle.mud_world.specs.declared.item.Item.{Item}
 use Rattle.mud_world.specs.Items.{sort_key_of, IsOrdered}
 use Rattle.keep_sqlite.specs.Table.{item_table, item_schema}
-use Rattle.keep_sqlite.specs.Rows.{item_in, items_in, items_of, id_of, IsItemRow, AreDistinct, HoldsItems}
-use Rattle.keep_sqlite.specs.Selections.{item_shown, ShowsItem, ShowsId, AreUnequal, shown_row, shown_id, HaveIds, HaveItems}
+use Rattle.keep_sqlite.specs.Rows.{item_in, items_in, items_of, IsItemRow, AreDistinct, HoldsItems}
+use Rattle.keep_sqlite.specs.Selections.{item_shown, number_shown, ShowsItem, ShowsId, AreUnequal, shown_row, shown_id, HaveIds, HaveItems}
 use Rattle.keep_sqlite.proofs.Lookups.{sort_key_in, found, item_at, items_ascend}
-use Rattle.keep_sqlite.proofs.Ids.{eq_exact, int_itself}
+use Rattle.keep_sqlite.proofs.Unread.{distinct_shown, unequal_in}
 
 -- ---- what holds of what is shown holds of the rows
 
@@ -67,56 +63,8 @@ item_rows db sound schema ids items = each (db.trees 0) (subst (λ s. Keeps Data
 
 -- ---- the rowids are distinct
 
-abbrev one_if : ℤ → ℤ → ℕ
-one_if n m = cond (is_eq (int_cmp n m)) 1 0
-
-none_of : (n : ℤ) (ms : List ℤ) → AllByRecursion (λ m. n ≡ m → ⊥) ms → sum_by (one_if n) ms ≡ 0
-none_of n [] far = refl
-none_of n (m ∷ ms) far = sum_by-cons (one_if n) m ms ∙ by (none_of n ms far.1) (is_eq (int_cmp n m)) refl
-  where
-    by : sum_by (one_if n) ms ≡ 0 → (b : Bool) → is_eq (int_cmp n m) ≡ b → cond b 1 0 + sum_by (one_if n) ms ≡ 0
-    by rest true e = absurd (far.0 (exact_signed n m (eq_exact (int_cmp n m) e)))
-    by rest false e = omega arith
-
-rise_once : (ms : List ℤ) → AreUnequal ms → (n : ℤ) → sum_by (one_if n) ms ≤ 1
-rise_once [] rise n = omega arith
-rise_once (m ∷ ms) rise n = subst (λ k. k ≤ 1) (sym (sum_by-cons (one_if n) m ms)) (by (rise_once ms rise.1 n) (is_eq (int_cmp n m)) refl)
-  where
-    by : sum_by (one_if n) ms ≤ 1 → (b : Bool) → is_eq (int_cmp n m) ≡ b → cond b 1 0 + sum_by (one_if n) ms ≤ 1
-    by rest true e =
-        let same : n ≡ m = exact_signed n m (eq_exact (int_cmp n m) e) in
-        let none : sum_by (one_if n) ms ≡ 0 = subst (λ k. sum_by (one_if k) ms ≡ 0) (sym same) (none_of m ms rise.0) in
-        omega arith
-    by rest false e = omega arith
-
-far_from : (n : ℤ) (rows : List Row) → sum_by (one_if n) (map id_of rows) ≡ 0 → AllByRecursion (λ other. n ≡ id_of other → ⊥) rows
-far_from n [] none = tt
-far_from n (r ∷ rs) none = by (far_from n rs) (is_eq (int_cmp n (id_of r))) refl
-  where
-    by : (sum_by (one_if n) (map id_of rs) ≡ 0 → AllByRecursion (λ other. n ≡ id_of other → ⊥) rs) → (b : Bool) → is_eq (int_cmp n (id_of r)) ≡ b → (n ≡ id_of r → ⊥) × AllByRecursion (λ other. n ≡ id_of other → ⊥) rs
-    by rest true e =
-        let total : cond true 1 0 + sum_by (one_if n) (map id_of rs) ≡ 0 = ap (λ b. cond b 1 0 + sum_by (one_if n) (map id_of rs)) (sym e) ∙ sym (sum_by-cons (one_if n) (id_of r) (map id_of rs)) ∙ none in
-        absurd (omega arith)
-    by rest false e =
-        let total : cond false 1 0 + sum_by (one_if n) (map id_of rs) ≡ 0 = ap (λ b. cond b 1 0 + sum_by (one_if n) (map id_of rs)) (sym e) ∙ sym (sum_by-cons (one_if n) (id_of r) (map id_of rs)) ∙ none in
-        ((λ same. false≢true (sym e ∙ ap (λ m. is_eq (int_cmp n m)) (sym same) ∙ ap is_eq (int_itself n))), rest (omega arith))
-
-distinct_from : (rows : List Row) → ((n : ℤ) → sum_by (one_if n) (map id_of rows) ≤ 1) → AreDistinct rows
-distinct_from [] once = tt
-distinct_from (r ∷ rs) once =
-    let here : cond true 1 0 + sum_by (one_if (id_of r)) (map id_of rs) ≤ 1 = subst (λ b. cond b 1 0 + sum_by (one_if (id_of r)) (map id_of rs) ≤ 1) (ap is_eq (int_itself (id_of r))) (subst (λ k. k ≤ 1) (sum_by-cons (one_if (id_of r)) (id_of r) (map id_of rs)) (once (id_of r))) in
-    (far_from (id_of r) rs (omega arith), distinct_from rs (λ n. let more = subst (λ k. k ≤ 1) (sum_by-cons (one_if n) (id_of r) (map id_of rs)) (once n) in omega arith))
-
-map_ids : (rows : List Row) → map (λ r. id_in (column r 0)) (map shown_id rows) ≡ map id_of rows
-map_ids [] = refl
-map_ids (r ∷ rs) = ap (λ xs. id_of r ∷ xs) (map_ids rs)
-
-pub distinct_rows : (rows answer : List Row) → IsPermutation (map shown_id rows) answer → AreUnequal (map (λ r. id_in (column r 0)) answer) → AreDistinct rows
-distinct_rows rows answer same rise = distinct_from rows (λ n.
-    let moved : sum_by (one_if n) (map (λ r. id_in (column r 0)) answer) ≡ sum_by (one_if n) (map id_of rows) =
-    sum_by-IsPermutation (one_if n) (map (λ r. id_in (column r 0)) (map shown_id rows)) (map (λ r. id_in (column r 0)) answer) (IsPermutation-map (λ r. id_in (column r 0)) (map shown_id rows) answer same) ∙ ap (sum_by (one_if n)) (map_ids rows) in
-    let few = rise_once (map (λ r. id_in (column r 0)) answer) rise n in
-    omega arith)
+pub distinct_rows : (rows answer : List Row) → IsPermutation (map shown_id rows) answer → AreUnequal (map number_shown answer) → AreDistinct rows
+distinct_rows rows answer same rise = distinct_shown rows (unequal_in answer (map shown_id rows) (IsPermutation-sym (map shown_id rows) answer same) rise)
 
 -- ---- the items that are shown are those of the rows
 
@@ -185,3 +133,7 @@ holds_from first mid new items sound schema same next ids shown is =
 pub if_ok_map : {A E : Type 0} {P Q : A → Type 0} (r : Result A E) → IfOk r P → ((a : A) → P a → Q a) → IfOk r Q
 if_ok_map (Ok a) p f = f a p
 if_ok_map (Err e) p f = tt
+
+pub if_err_map : {A E : Type 0} {P Q : E → Type 0} (r : Result A E) → IfErr r P → ((e : E) → P e → Q e) → IfErr r Q
+if_err_map (Ok a) p f = tt
+if_err_map (Err e) p f = f e p

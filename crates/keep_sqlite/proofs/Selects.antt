@@ -13,11 +13,11 @@ use Rattle.sqlite.specs.State.{State, HasCleanDisk, Shown, ShowsRows, IsUnchange
 use Rattle.sqlite.specs.Clock.{timed}
 use Rattle.sqlite.proofs.Callers.{IsPlain, reads_as, never_commits}
 use Rattle.keep_sqlite.specs.Table.{item_schema}
-use Rattle.keep_sqlite.specs.Selections.{shown_cmp, shown_row, shown_id}
+use Rattle.keep_sqlite.specs.Selections.{shown_cmp, id_cmp, shown_row, shown_id}
 use Rattle.keep_sqlite.proofs.Texts.{select_text, select_query, select_is, select_plain, ids_text, ids_query, ids_is, ids_plain}
 use Rattle.keep_sqlite.proofs.Crashes.{survives_as}
 use Rattle.keep_sqlite.proofs.Parts.{one_table, map_map}
-use Rattle.keep_sqlite.proofs.Sorting.{in_order}
+use Rattle.keep_sqlite.proofs.Sorting.{in_order, ids_in_order}
 
 all_pass : (rows : List Row) → filter (λ _. true) rows ≡ rows
 all_pass [] = refl
@@ -39,11 +39,17 @@ select_answer db rows a =
 select_order : (db : Trees) (rows : List Row) → IsAnswer select_query (overlay db []) [] rows → IsSorted shown_cmp rows
 select_order db rows a = in_order (db 0) a.kept a.ordered rows (select_kept db rows a) a.same a.sorted a.shown
 
+ids_kept : (db : Trees) (rows : List Row) (a : IsAnswer ids_query (overlay db []) [] rows) → a.kept ≡ map (λ r. output ids_query ([] ∷ r ∷ [])) (db 0)
+ids_kept db rows a =
+    let staged : a.staged ≡ map (λ r. [] ∷ r ∷ []) (db 0) = a.grouped ∙ one_table [] (λ _. true) (db 0) ∙ ap (map (λ r. [] ∷ r ∷ [])) (all_pass (db 0)) in
+    a.distinct ∙ ap (map (output ids_query)) staged ∙ map_map (λ r. [] ∷ r ∷ []) (output ids_query) (db 0)
+
 ids_answer : (db : Trees) (rows : List Row) → IsAnswer ids_query (overlay db []) [] rows → IsPermutation (map shown_id (db 0)) rows
 ids_answer db rows a =
-    let staged : a.staged ≡ map (λ r. [] ∷ r ∷ []) (db 0) = a.grouped ∙ one_table [] (λ _. true) (db 0) ∙ ap (map (λ r. [] ∷ r ∷ [])) (all_pass (db 0)) in
-    let kept : a.kept ≡ map (λ r. output ids_query ([] ∷ r ∷ [])) (db 0) = a.distinct ∙ ap (map (output ids_query)) staged ∙ map_map (λ r. [] ∷ r ∷ []) (output ids_query) (db 0) in
-    shown_in_order db ids_query rows (map shown_id (db 0)) a.kept a.ordered a.same (ap (map (λ (o : Output). o.1)) kept ∙ map_map (λ r. output ids_query ([] ∷ r ∷ [])) (λ (o : Output). o.1) (db 0)) a.shown
+    shown_in_order db ids_query rows (map shown_id (db 0)) a.kept a.ordered a.same (ap (map (λ (o : Output). o.1)) (ids_kept db rows a) ∙ map_map (λ r. output ids_query ([] ∷ r ∷ [])) (λ (o : Output). o.1) (db 0)) a.shown
+
+ids_order : (db : Trees) (rows : List Row) → IsAnswer ids_query (overlay db []) [] rows → IsSorted id_cmp rows
+ids_order db rows a = ids_in_order (db 0) a.kept a.ordered rows (ids_kept db rows a) a.same a.sorted a.shown
 
 -- a query changes nothing
 pub unchanged : (sql : List ℕ) (params : Row) (old new : State) (rows : List Row) → IsPlain (understood old.now.schema sql) → Shown sql params old new rows → IsUnchanged old new
@@ -67,6 +73,9 @@ module _ (old new : State) (rows : List Row) (has : old.now.schema ≡ item_sche
     ids_answer old.now.trees rows ((reads_as ids_text [] old new item_schema has _ ids_is.0 ids_plain ids_is.1 rows h).answer Null),
     unchanged ids_text [] old new rows (subst (λ s. IsPlain (understood s ids_text)) (sym has) ids_plain) h,
   )
+
+  pub selects_ids_in_order : Shown ids_text [] old new rows → IsSorted id_cmp rows
+  selects_ids_in_order h = ids_order old.now.trees rows ((reads_as ids_text [] old new item_schema has _ ids_is.0 ids_plain ids_is.1 rows h).answer Null)
 
 -- what a selection of a database with our schema commits: nothing
 module _ {P : Trees → Type 0} (old new : State) (has : HasCleanDisk new → old.now.schema ≡ item_schema) where

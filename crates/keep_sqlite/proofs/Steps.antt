@@ -1,5 +1,5 @@
 -- The steps of a batch.
-use Rattle.std.proofs.Common.{◌≡◌, ◌⊎◌, inl, inr, ℕ, ◌+◌, ◌<◌, pos, Bool, true, false, List, [], ◌∷◌, drop, IsTrue, IfErr, Ok, Err, Result, refl, sym, ap, subst, ◌∙◌}
+use Rattle.std.proofs.Common.{◌≡◌, ◌⊎◌, inl, inr, ℕ, ◌+◌, ◌<◌, pos, Bool, true, false, List, [], ◌∷◌, drop, IsTrue, Ok, Err, Result, refl, sym, ap, subst, ◌∙◌}
 use Rattle.sqlite.specs.declared.types.Value.TheVariants.{Int, Blob}
 use Rattle.sqlite_trees.specs.declared.store.Store.{Ghosts}
 use Rattle.sqlite.specs.declared.error.Error.{Error}
@@ -94,7 +94,5 @@ put_refused g old mid after i put batch error (inr done) here inside refused = r
 }
 
 -- the commit is refused
-pub commit_refused : {S A : Type 0} (B : Type 0) (g : Ghosts S) (old before after : Held S) (batch : List Put) (answer : Result A Error) → Reaches (state g old) (state g before) [] batch → IfErr answer (FailsToCommit (state g before) (state g after))
-    → IfErr answer (λ error. B ⊎ RefusesBatch g old batch error)
-commit_refused B g old before after batch (Ok a) reaches failed = tt
-commit_refused B g old before after batch (Err e) reaches failed = inr (record { left = []; before = before; after = after; done = inr reaches; next = failed })
+pub commit_refused : {S : Type 0} (g : Ghosts S) (old before after : Held S) (batch : List Put) (error : Error) → Reaches (state g old) (state g before) [] batch → FailsToCommit (state g before) (state g after) error → RefusesBatch g old batch error
+commit_refused g old before after batch error reaches failed = record { left = []; before = before; after = after; done = inr reaches; next = failed }

@@ -1,5 +1,5 @@
 -- What the texts of the statements are.
-use Rattle.std.proofs.Common.{◌≡◌, ℕ, pos, negsuc, List, [], ◌∷◌, codes, false, Some, None, Ok, refl}
+use Rattle.std.proofs.Common.{◌≡◌, pos, negsuc, [], ◌∷◌, codes, false, Some, None, Ok, refl}
 use Rattle.sqlite.specs.declared.types.Value.TheVariants.{Null, Int}
 use Rattle.sqlite.specs.Term.{lit, col, op2}
 use Rattle.sqlite.specs.Query.{Query, inner, end}
@@ -16,16 +16,7 @@ use Rattle.sqlite_schema.specs.declared.command.Upsert.{Upsert}
 use Rattle.sqlite_value.specs.Keys.{ascending}
 use Rattle.sqlite_tied.specs.Compute.{everything}
 use Rattle.keep_sqlite.specs.Table.{item_table, no_schema, item_schema}
-pub use Rattle.keep_sqlite.specs.Refused.{upsert_text, delete_text}
-
-abbrev pub create_text : List ℕ
-create_text = codes "CREATE TABLE item (kind INTEGER NOT NULL, name BLOB NOT NULL, body BLOB NOT NULL, PRIMARY KEY (kind, name)) STRICT"
-
-abbrev pub select_text : List ℕ
-select_text = codes "SELECT kind, name, body FROM item ORDER BY kind, name"
-
-abbrev pub ids_text : List ℕ
-ids_text = codes "SELECT rowid FROM item ORDER BY rowid"
+pub use Rattle.keep_sqlite.specs.Refused.{create_text, ids_text, select_text, upsert_text, delete_text}
 
 -- ---- CREATE
 

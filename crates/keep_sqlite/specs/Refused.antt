@@ -1,22 +1,40 @@
--- Why a batch isn't kept.
+-- Why a batch isn't kept, and why an opening answers no items.
 use Rattle.std.specs.Prelude.{◌≡◌, ◌⊎◌, true, ℕ, pos, List, [], ◌∷◌, codes, IsTrue, Err}
 use Rattle.mud_world.specs.declared.item.Put.{Put}
 use Rattle.mud_world.specs.declared.item.Put.TheVariants.{Set, Gone}
 use Rattle.sqlite_trees.specs.declared.store.Store.{Ghosts}
 use Rattle.sqlite.specs.declared.error.Error.{Error}
 use Rattle.sqlite.specs.declared.types.Value.TheVariants.{Int, Blob}
-use Rattle.sqlite.specs.State.{State, ExecutesInside}
+use Rattle.sqlite.specs.State.{State, Executes, ExecutesInside, FailsToQuery}
 use Rattle.sqlite.specs.Steps.{FailsToCommit}
 use Rattle.sqlite.specs.Held.{Held, state}
 use Rattle.keep_sqlite.specs.declared.refusal.Refusal.{Refusal}
-use Rattle.keep_sqlite.specs.Batches.{Reaches}
+use Rattle.keep_sqlite.specs.declared.refusal.Refusal.TheVariants.{Memory, NoStore, Other}
+use Rattle.keep_sqlite.specs.Batches.{Makes, Reaches}
 use Rattle.keep_sqlite.specs.Refusals.{refusal_of}
+use Rattle.keep_sqlite.specs.Rows.{HoldsItems}
+use Rattle.keep_sqlite.specs.Table.{item_schema, no_schema}
+
+abbrev pub create_text : List ℕ
+create_text = codes "CREATE TABLE item (kind INTEGER NOT NULL, name BLOB NOT NULL, body BLOB NOT NULL, PRIMARY KEY (kind, name)) STRICT"
+
+abbrev pub ids_text : List ℕ
+ids_text = codes "SELECT rowid FROM item ORDER BY rowid"
+
+abbrev pub select_text : List ℕ
+select_text = codes "SELECT kind, name, body FROM item ORDER BY kind, name"
 
 abbrev pub upsert_text : List ℕ
 upsert_text = codes "INSERT INTO item (kind, name, body) VALUES (?1, ?2, ?3) ON CONFLICT (kind, name) DO UPDATE SET body = excluded.body"
 
 abbrev pub delete_text : List ℕ
 delete_text = codes "DELETE FROM item WHERE kind = ?1 AND name = ?2"
+
+-- The refusal is what an error of the database is told as, and with that the database failed so.
+pub record TellsError (Fails : Error → Type 0) (refusal : Refusal) : Type 0 where
+  pub error : Error
+  pub told : refusal ≡ refusal_of error
+  pub fails : Fails error
 
 -- The database answered the statement of the put with this error.
 abbrev pub RefusesPut : Put → State → State → Error → Type 0
@@ -38,8 +56,31 @@ module _ {S : Type 0} (g : Ghosts S) where
     pub done : ((left ≡ batch) × (before ≡ old)) ⊎ Reaches (state g old) (state g before) left batch
     pub next : RefusesNext left (state g before) (state g after) error
 
-  -- The batch is refused with what an error of the database is told as, with which that answered, or a transaction was begun before.
-  pub record IsRefused (old : Held S) (batch : List Put) (refusal : Refusal) : Type 0 where
-    pub error : Error
-    pub told : refusal ≡ refusal_of error
-    pub cause : IsTrue (state g old).in_transaction ⊎ RefusesBatch (record old { in_transaction = true }) batch error
+  -- The batch is refused since a transaction was begun before, or with an error of the database.
+  abbrev pub IsRefused : Held S → List Put → Refusal → Type 0
+  IsRefused old batch refusal =
+      (IsTrue (state g old).in_transaction × (refusal ≡ Other)) ⊎ TellsError (RefusesBatch (record old { in_transaction = true }) batch) refusal
+
+-- Why what a database must hold isn't read of it: it fails so, or it doesn't hold that. Want of memory is free.
+abbrev pub IsUnread : (Error → Type 0) → Type 0 → Refusal → Type 0
+IsUnread Fails Holds Memory = Unit {0}
+IsUnread Fails Holds NoStore = (Holds → ⊥) ⊎ TellsError Fails NoStore
+IsUnread Fails Holds refusal = TellsError Fails refusal
+
+-- The database answered with this error to the making of the table, where it had none, or to a reading of the table of items.
+abbrev pub RefusesOpening : State → State → Error → Type 0
+RefusesOpening before after error = ((before.now.schema ≡ no_schema) × Executes create_text [] before after (Err error))
+    ⊎ ((IsTrue before.is_open → before.now.schema ≡ item_schema)
+    × (FailsToQuery ids_text [] before after error ⊎ FailsToQuery select_text [] before after error))
+
+module _ {S : Type 0} (g : Ghosts S) where
+  -- It did so in an opening, which until then had made the table or changed nothing.
+  pub record FailsToOpen (old new : Held S) (error : Error) : Type 0 where
+    pub before : Held S
+    pub found : Makes (state g old) (state g before)
+    pub refused : RefusesOpening (state g before) (state g new) error
+
+  -- An opening is refused since a transaction was begun before, with an error of the database, or since that holds no items.
+  abbrev pub IsUnopened : Held S → Held S → Refusal → Type 0
+  IsUnopened old new refusal =
+      (IsTrue (state g old).in_transaction × (refusal ≡ Other)) ⊎ IsUnread (FailsToOpen old new) (HoldsItems (state g new).now) refusal

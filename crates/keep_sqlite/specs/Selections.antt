@@ -26,6 +26,10 @@ shown_id row = column row 0 ∷ []
 abbrev pub shown_cmp : Row → Row → Ordering
 shown_cmp = key_cmp 0 (ascending Binary ∷ ascending Binary ∷ [])
 
+-- how ORDER BY compares two rows of the answer that show rowids
+abbrev pub id_cmp : Row → Row → Ordering
+id_cmp = key_cmp 0 (ascending Binary ∷ [])
+
 -- the number in a row that shows a rowid
 abbrev pub number_shown : Row → ℤ
 number_shown row = id_in (column row 0)

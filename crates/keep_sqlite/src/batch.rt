@@ -1,6 +1,7 @@
 //! A batch of puts as one transaction, with a statement for each put.
 ghost use Rattle.std.specs.Prelude.{◌≡◌, ◌≤◌, ◌⊎◌, true, [], ◌∷◌, length, IsTrue, IfErr, OnOk, OnErr};
 ghost use Rattle.mud_world.specs.Items.{put_all};
+ghost use Rattle.sqlite.specs.declared.error.Error.TheVariants.{InvalidQuery};
 ghost use Rattle.sqlite.specs.Held.{state};
 ghost use Rattle.sqlite.specs.State.{HasCleanDisk, Survives};
 ghost use Rattle.keep_sqlite.specs.Rows.{items_of, AreTreesOf, HoldsItems};
@@ -27,8 +28,8 @@ pub(crate) fn keep<S: Alter>(connection: &mut Connection<S>, batch: &[Put]) -> R
         → OnErr result ((state S.Store connection.new).now ≡ (state S.Store connection.old).now) }
     ensures left { HasCleanDisk (state S.Store connection.new)
         → OnOk result ((state S.Store connection.new).committed ≡ (state S.Store connection.new).now) }
-    ensures cause { HasCleanDisk (state S.Store connection.new) → IfErr result (λ error.
-        IsTrue (state S.Store connection.old).in_transaction
+    ensures refused { HasCleanDisk (state S.Store connection.new) → IfErr result (λ error.
+        (IsTrue (state S.Store connection.old).in_transaction × (error ≡ InvalidQuery))
         ⊎ RefusesBatch S.Store (record connection.old { in_transaction = true }) batch.now error) }
 {
     if !connection.is_autocommit() {
@@ -46,7 +47,7 @@ fn put_each<S: Alter>(tx: &mut Transaction<'_, S>, batch: &[Put]) -> Result<(), 
     ensures crash { LeavesNothing S.Store tx.old.conn.now tx.new.conn.now }
     ensures kept { CommitsNothing S.Store tx.old.conn.now tx.new.conn.now }
     ensures ok { OnOk result (Puts S.Store tx.old.conn.now tx.new.conn.now batch.now) }
-    ensures cause { HasCleanDisk (state S.Store tx.new.conn.now)
+    ensures refused { HasCleanDisk (state S.Store tx.new.conn.now)
         → (IsTrue (state S.Store tx.old.conn.now).is_open → HoldsItems (state S.Store tx.old.conn.now).now)
         → IsTrue (state S.Store tx.old.conn.now).in_transaction
         → IfErr result (RefusesBatch S.Store tx.old.conn.now batch.now) }
@@ -63,7 +64,7 @@ fn put_one<S: Alter>(tx: &mut Transaction<'_, S>, put: &Put) -> Result<(), Error
     ensures crash { LeavesNothing S.Store tx.old.conn.now tx.new.conn.now }
     ensures kept { CommitsNothing S.Store tx.old.conn.now tx.new.conn.now }
     ensures ok { OnOk result (Puts S.Store tx.old.conn.now tx.new.conn.now (put.now ∷ [])) }
-    ensures cause { HasCleanDisk (state S.Store tx.new.conn.now) → IsTrue (state S.Store tx.old.conn.now).in_transaction
+    ensures refused { HasCleanDisk (state S.Store tx.new.conn.now) → IsTrue (state S.Store tx.old.conn.now).in_transaction
         → IfErr result (RefusesPut put.now (state S.Store tx.old.conn.now) (state S.Store tx.new.conn.now)) }
 {
     match put {
@@ -84,7 +85,7 @@ fn set<S: Alter>(
     ensures kept { CommitsNothing S.Store tx.old.conn.now tx.new.conn.now }
     ensures ok { OnOk result (Puts S.Store tx.old.conn.now tx.new.conn.now
         (Put.Set (record { kind = kind; key = key.now; body = body.now }) ∷ [])) }
-    ensures cause { HasCleanDisk (state S.Store tx.new.conn.now) → IsTrue (state S.Store tx.old.conn.now).in_transaction
+    ensures refused { HasCleanDisk (state S.Store tx.new.conn.now) → IsTrue (state S.Store tx.old.conn.now).in_transaction
         → IfErr result (RefusesPut (Put.Set (record { kind = kind; key = key.now; body = body.now }))
         (state S.Store tx.old.conn.now) (state S.Store tx.new.conn.now)) }
 {
@@ -101,7 +102,7 @@ fn take_out<S: Alter>(tx: &mut Transaction<'_, S>, kind: u8, key: &Bytes) -> Res
     ensures crash { LeavesNothing S.Store tx.old.conn.now tx.new.conn.now }
     ensures kept { CommitsNothing S.Store tx.old.conn.now tx.new.conn.now }
     ensures ok { OnOk result (Puts S.Store tx.old.conn.now tx.new.conn.now (Put.Gone kind key.now ∷ [])) }
-    ensures cause { HasCleanDisk (state S.Store tx.new.conn.now) → IsTrue (state S.Store tx.old.conn.now).in_transaction
+    ensures refused { HasCleanDisk (state S.Store tx.new.conn.now) → IsTrue (state S.Store tx.old.conn.now).in_transaction
         → IfErr result (RefusesPut (Put.Gone kind key.now)
         (state S.Store tx.old.conn.now) (state S.Store tx.new.conn.now)) }
 {

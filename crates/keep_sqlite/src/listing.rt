@@ -1,15 +1,18 @@
 //! The items that the table holds.
-ghost use Rattle.std.specs.Prelude.{◌≡◌, ◌≤◌, IsTrue, IfOk, IfSome, OnOk, map};
+ghost use Rattle.std.specs.Prelude.{◌≡◌, ◌≤◌, [], IsTrue, IsNone, IfOk, IfErr, IfSome, OnOk, map};
+ghost use Rattle.std.specs.Ordering.{int_cmp};
 ghost use Rattle.std.specs.List.{AllByRecursion};
 ghost use Rattle.std.specs.List.Sorted.{IsPermutation, IsSorted};
 ghost use Rattle.mud_world.specs.Items.{IsOrdered};
 ghost use Rattle.sqlite_trees.specs.View.{doubt};
 ghost use Rattle.sqlite.specs.Held.{state};
-ghost use Rattle.sqlite.specs.State.{HasCleanDisk, IsUnchanged};
+ghost use Rattle.sqlite.specs.State.{FailsToQuery, HasCleanDisk, IsUnchanged};
 ghost use Rattle.keep_sqlite.specs.Table.{item_schema};
-ghost use Rattle.keep_sqlite.specs.Rows.{items_of};
+ghost use Rattle.keep_sqlite.specs.Rows.{items_of, HoldsItems};
 ghost use Rattle.keep_sqlite.specs.Telling.{IsUp};
-ghost use Rattle.keep_sqlite.specs.Selections.{item_shown, number_shown, shown_cmp, shown_id, shown_row, AreUnequal, HaveIds, HaveItems, ShowsId, ShowsItem};
+ghost use Rattle.keep_sqlite.specs.Selections.{id_cmp, item_shown, number_shown, shown_cmp, shown_id, shown_row};
+ghost use Rattle.keep_sqlite.specs.Selections.{AreUnequal, HaveIds, HaveItems, ShowsId, ShowsItem};
+ghost use Rattle.keep_sqlite.specs.Refused.{ids_text, select_text, IsUnread};
 ghost use Rattle.keep_sqlite.specs.Batches.{LeavesNothing, Stays};
 
 use crate::refusal::{Refusal, refusal_of};
@@ -37,6 +40,9 @@ pub(crate) fn list<S: Alter>(
         → IfOk result (λ items. IsUnchanged (state S.Store connection.old) (state S.Store connection.new)
         × HaveItems ((state S.Store connection.old).now.trees 0)
         × (items ≡ items_of (state S.Store connection.old).now)) }
+    ensures refused { HasCleanDisk (state S.Store connection.new)
+        → IfErr result (IsUnread (FailsToQuery select_text [] (state S.Store connection.old) (state S.Store connection.new))
+        (HoldsItems (state S.Store connection.new).now)) }
 {
     let rows = match select(connection) {
         Ok(rows) => rows,
@@ -64,6 +70,8 @@ fn select<S: Alter>(connection: &mut Connection<S>) -> Result<Vec<Row>, Error>
         × IsPermutation (map shown_row ((state S.Store connection.old).now.trees 0)) rows.items) }
     ensures ordered { HasCleanDisk (state S.Store connection.new)
         → IfOk result (λ rows. IsSorted shown_cmp rows.items) }
+    ensures refused { HasCleanDisk (state S.Store connection.new)
+        → IfErr result (FailsToQuery select_text [] (state S.Store connection.old) (state S.Store connection.new)) }
 {
     let rows = connection.query_all("SELECT kind, name, body FROM item ORDER BY kind, name", &[])?;
     Ok(rows)
@@ -73,6 +81,7 @@ fn select<S: Alter>(connection: &mut Connection<S>) -> Result<Vec<Row>, Error>
 fn items_in(alloc: Global, rows: &[Row]) -> Result<Listed<Item>, Refusal>
     ensures items { IfOk result (λ items. items ≡ map item_shown rows.now) }
     ensures shown { OnOk result (AllByRecursion ShowsItem rows.now) }
+    ensures refused { IfErr result (IsUnread (λ _. ⊥) (AllByRecursion ShowsItem rows.now)) }
 {
     let mut items = Listed::new(alloc);
     'rows: for row in rows {
@@ -84,7 +93,8 @@ fn items_in(alloc: Global, rows: &[Row]) -> Result<Listed<Item>, Refusal>
 
 /// The item that a row shows. A kind that is no octet is a failure.
 fn item_in(alloc: Global, row: &Row) -> Result<Item, Refusal>
-    ensures { IfOk result (λ item. (item ≡ item_shown row.now) × ShowsItem row.now) }
+    ensures item { IfOk result (λ item. (item ≡ item_shown row.now) × ShowsItem row.now) }
+    ensures refused { IfErr result (IsUnread (λ _. ⊥) (ShowsItem row.now)) }
 {
     let kind = match row.get_ref(0) {
         Ok(ValueRef::Int(number)) => match u8::try_from(number) {
@@ -106,7 +116,8 @@ fn item_in(alloc: Global, row: &Row) -> Result<Item, Refusal>
 
 /// Whether each item's sort key is before the next one's.
 fn are_ordered(items: &[Item]) -> bool
-    ensures { IsTrue result → IsOrdered items.now }
+    ensures ordered { IsTrue result → IsOrdered items.now }
+    ensures back { IsOrdered items.now → IsTrue result }
 {
     items.is_sorted_by(|one, next| one.order(next).is_lt())
 }
@@ -128,6 +139,9 @@ pub(crate) fn test_rowids<S: Alter>(
     ensures ok { HasCleanDisk (state S.Store connection.new)
         → OnOk result (IsUnchanged (state S.Store connection.old) (state S.Store connection.new)
         × HaveIds ((state S.Store connection.old).now.trees 0)) }
+    ensures refused { HasCleanDisk (state S.Store connection.new)
+        → IfErr result (IsUnread (FailsToQuery ids_text [] (state S.Store connection.old) (state S.Store connection.new))
+        (HoldsItems (state S.Store connection.new).now)) }
 {
     let rows = match select_rowids(connection) {
         Ok(rows) => rows,
@@ -153,6 +167,10 @@ fn select_rowids<S: Alter>(connection: &mut Connection<S>) -> Result<Vec<Row>, E
     ensures ok { HasCleanDisk (state S.Store connection.new)
         → IfOk result (λ rows. IsUnchanged (state S.Store connection.old) (state S.Store connection.new)
         × IsPermutation (map shown_id ((state S.Store connection.old).now.trees 0)) rows.items) }
+    ensures ordered { HasCleanDisk (state S.Store connection.new)
+        → IfOk result (λ rows. IsSorted id_cmp rows.items) }
+    ensures refused { HasCleanDisk (state S.Store connection.new)
+        → IfErr result (FailsToQuery ids_text [] (state S.Store connection.old) (state S.Store connection.new)) }
 {
     let rows = connection.query_all("SELECT rowid FROM item ORDER BY rowid", &[])?;
     Ok(rows)
@@ -162,6 +180,7 @@ fn select_rowids<S: Alter>(connection: &mut Connection<S>) -> Result<Vec<Row>, E
 fn rowids_in(alloc: Global, rows: &[Row]) -> Result<Listed<i64>, Refusal>
     ensures ids { IfOk result (λ ids. ids ≡ map number_shown rows.now) }
     ensures shown { OnOk result (AllByRecursion ShowsId rows.now) }
+    ensures refused { IfErr result (IsUnread (λ _. ⊥) (AllByRecursion ShowsId rows.now)) }
 {
     let mut ids = Listed::new(alloc);
     'rows: for row in rows {
@@ -175,7 +194,8 @@ fn rowids_in(alloc: Global, rows: &[Row]) -> Result<Listed<i64>, Refusal>
 
 /// The rowid that a row shows.
 fn rowid_in(row: &Row) -> Option<i64>
-    ensures { IfSome result (λ id. (id ≡ number_shown row.now) × ShowsId row.now) }
+    ensures id { IfSome result (λ id. (id ≡ number_shown row.now) × ShowsId row.now) }
+    ensures none { IsNone result → ShowsId row.now → ⊥ }
 {
     match row.get_ref(0) {
         Ok(ValueRef::Int(id)) => Some(id),
@@ -185,7 +205,8 @@ fn rowid_in(row: &Row) -> Option<i64>
 
 /// Whether each number is below the next.
 fn are_rising(ids: &[i64]) -> bool
-    ensures { IsTrue result → AreUnequal ids.now }
+    ensures unequal { IsTrue result → AreUnequal ids.now }
+    ensures back { IsSorted int_cmp ids.now → AreUnequal ids.now → IsTrue result }
 {
     ids.is_sorted_by(|one, next| one < next)
 }

@@ -1,10 +1,11 @@
 //! The first `open` of a database: its table is found or made.
-ghost use Rattle.std.specs.Prelude.{◌≡◌, false, IfOk, IsTrue, OnErr, OnOk};
+ghost use Rattle.std.specs.Prelude.{◌≡◌, false, IfOk, IfErr, IsTrue, OnErr, OnOk};
 ghost use Rattle.sqlite.specs.Held.{state};
 ghost use Rattle.sqlite.specs.State.{HasCleanDisk, Survives};
 ghost use Rattle.keep_sqlite.specs.Table.{no_schema};
 ghost use Rattle.keep_sqlite.specs.Rows.{items_of, AreMadeTrees, HoldsItems};
 ghost use Rattle.keep_sqlite.specs.Batches.{Makes, Stays};
+ghost use Rattle.keep_sqlite.specs.Refused.{FailsToOpen, IsUnread, RefusesOpening};
 
 use crate::listing::{list, test_rowids};
 use crate::refusal::{Refusal, refusal_of};
@@ -31,6 +32,8 @@ pub(crate) fn find<S: Alter>(
         → IfOk result (λ items. IsTrue (state S.Store connection.new).is_open
         × HoldsItems (state S.Store connection.new).now
         × (items ≡ items_of (state S.Store connection.new).now)) }
+    ensures refused { HasCleanDisk (state S.Store connection.new)
+        → IfErr result (IsUnread (FailsToOpen S.Store connection.old connection.new) (HoldsItems (state S.Store connection.new).now)) }
 {
     if let Err(error) = create_if_blank(connection) {
         return Err(refusal_of(error));
@@ -51,6 +54,8 @@ fn create_if_blank<S: Alter>(connection: &mut Connection<S>) -> Result<(), Error
         (AreMadeTrees (state S.Store connection.old).now) }
     ensures makes { HasCleanDisk (state S.Store connection.new)
         → Makes (state S.Store connection.old) (state S.Store connection.new) }
+    ensures refused { HasCleanDisk (state S.Store connection.new)
+        → IfErr result (RefusesOpening (state S.Store connection.old) (state S.Store connection.new)) }
 {
     if is_blank(connection.schema()) {
         create(connection)?;
@@ -68,6 +73,8 @@ fn create<S: Alter>(connection: &mut Connection<S>) -> Result<(), Error>
         → OnOk result (Makes (state S.Store connection.old) (state S.Store connection.new)) }
     ensures err { HasCleanDisk (state S.Store connection.new)
         → OnErr result (Stays (state S.Store connection.old) (state S.Store connection.new)) }
+    ensures refused { HasCleanDisk (state S.Store connection.new)
+        → IfErr result (RefusesOpening (state S.Store connection.old) (state S.Store connection.new)) }
 {
     connection.execute(
         "CREATE TABLE item (kind INTEGER NOT NULL, name BLOB NOT NULL, body BLOB NOT NULL, PRIMARY KEY (kind, name)) STRICT",

@@ -1,10 +1,14 @@
 //! A keeper over the database file at a path.
-ghost use Rattle.std.specs.Prelude.{◌≡◌, ◌↔◌, true, false, not, IsTrue, IsNone, IfOk, IfSome, OnOk, OnErr, is_some};
+ghost use Rattle.std.specs.Prelude.{◌≡◌, ◌↔◌, true, false, not, IsTrue, IsNone, IfOk, IfErr, IfSome, OnOk, OnErr, is_some};
 ghost use Rattle.std.specs.Option.{ForSome};
-ghost use Rattle.mud_world.specs.Items.{is_batch, put_all};
+ghost use Rattle.mud_world.specs.Calls.{counted};
+ghost use Rattle.mud_world.specs.Causes.{Counts};
+ghost use Rattle.mud_world.specs.Items as items;
+ghost use Rattle.mud_world.specs.Items.{is_batch, put_all, IsOrdered};
 ghost use Rattle.sqlite.specs.Files.{over_files};
-ghost use Rattle.keep_sqlite.specs.Refusals.{refused, told_of};
-ghost use Rattle.keep_sqlite.specs.Files.{file_items, found_items, FileTells, FoundTells};
+ghost use Rattle.keep_sqlite.specs.declared.refusal.Refusal.{Refusal};
+ghost use Rattle.keep_sqlite.specs.Refusals.{fault_of, refused, told_of};
+ghost use Rattle.keep_sqlite.specs.Files.{file_items, found_items, FileTells, FoundRefuses, FoundTells, FoundUnread};
 ghost use Rattle.keep_sqlite.specs.Telling.{told, Tells};
 
 use crate::SqliteKeeper;
@@ -98,6 +102,7 @@ fn read_path(
     ensures each { ForSome keeper.new (λ opened. IsTrue opened.has_opened) }
     ensures opened { OnOk result (is_some keeper.new ≡ true) }
     ensures still { OnErr result (is_some keeper.new ≡ is_some keeper.old) }
+    ensures refused { IfErr result (FoundUnread over_files keeper.old keeper.new) }
 {
     let first = first_answer(alloc, rt, path, keeper);
     read_or_take(alloc, first, keeper)
@@ -141,6 +146,7 @@ fn read_or_take<S: Alter + Drop>(
     ensures each { ForSome keeper.new (λ opened. IsTrue opened.has_opened) }
     ensures opened { OnOk result (is_some keeper.new ≡ true) }
     ensures still { OnErr result (is_some keeper.new ≡ is_some keeper.old) }
+    ensures refused { IfErr result (FoundUnread S.Store keeper.old keeper.new) }
 {
     match first {
         None => read_found(alloc, keeper),
@@ -162,6 +168,7 @@ fn read_found<S: Alter + Drop>(
     ensures told { FoundTells S.Store keeper.new → OnErr result (FoundTells S.Store keeper.old) }
     ensures each { ForSome keeper.new (λ opened. IsTrue opened.has_opened) }
     ensures opened { is_some keeper.new ≡ true }
+    ensures refused { IfErr result (FoundUnread S.Store keeper.old keeper.new) }
 {
     match keeper {
         Some(keeper) => keeper.read(alloc),
@@ -207,6 +214,7 @@ fn keep_found<S: Alter + Drop>(
     ensures err { FoundTells S.Store keeper.new
         → OnErr result (found_items S.Store keeper.new ≡ found_items S.Store keeper.old) }
     ensures opened { is_some keeper.new ≡ is_some keeper.old }
+    ensures refused { IfErr result (FoundRefuses S.Store keeper.old keeper.new batch.now) }
 {
     match keeper {
         Some(keeper) => keeper.keep(batch),
@@ -240,6 +248,8 @@ fn told<T>(
 }
 
 impl Keeper for PathKeeper {
+    ghost use Rattle.keep_sqlite.specs.Paths.{has_opened};
+
     ghost tells = { λ keeper. FileTells keeper.keeper };
 
     ghost items = { λ keeper. file_items keeper.keeper };
@@ -249,14 +259,43 @@ impl Keeper for PathKeeper {
     ghost faults = { λ keeper. keeper.faults };
 
     #[tactic(auto, using(crate::proofs::Lookups::items_ascend))]
-    fn open(&mut self, alloc: Global) -> Result<Listed<Item>, KeepFault> {
+    fn open(&mut self, alloc: Global) -> Result<Listed<Item>, KeepFault>
+        ensures items { FileTells self.new.keeper → IfOk result (λ list. list ≡ file_items self.new.keeper) }
+        ensures ordered { FileTells self.new.keeper → IsOrdered (file_items self.new.keeper) }
+        ensures same { FileTells self.old.keeper → FileTells self.new.keeper
+            → file_items self.new.keeper ≡ file_items self.old.keeper }
+        ensures told { FileTells self.new.keeper → OnErr result (FileTells self.old.keeper) }
+        ensures opened { OnOk result (has_opened self.new ≡ true) }
+        ensures still { OnErr result (has_opened self.new ≡ has_opened self.old) }
+        ensures cause { Counts (items.has_failed result) self.old.faults self.new.faults }
+        ensures count { self.new.faults ≡ counted (items.has_failed result) self.old.faults }
+        // Once an `open` has answered Ok, a later one fails only for what the database answered, or since that
+        // holds no items, while the disk gives back what was written.
+        ensures refused { IfErr result (λ fault. (refusal : Refusal) × (fault ≡ fault_of refusal)
+            × FoundUnread over_files self.old.keeper self.new.keeper refusal) }
+    {
         let answer = read_path(alloc, &self.rt, self.path.as_str(), &mut self.keeper);
         count(&answer, &mut self.faults);
         told(answer, &self.rt, self.path.as_str(), &mut self.said)
     }
 
     #[tactic(auto, using(crate::proofs::Lookups::items_ascend))]
-    fn apply(&mut self, batch: &[Put]) -> Result<(), KeepFault> {
+    fn apply(&mut self, batch: &[Put]) -> Result<(), KeepFault>
+        requires opened { IsTrue (has_opened self.old) }
+        requires batch { IsTrue (is_batch batch.now) }
+        ensures told { FileTells self.new.keeper → FileTells self.old.keeper }
+        ensures ordered { FileTells self.new.keeper → IsOrdered (file_items self.new.keeper) }
+        ensures ok { FileTells self.new.keeper
+            → OnOk result (file_items self.new.keeper ≡ put_all (file_items self.old.keeper) batch.now) }
+        ensures err { FileTells self.new.keeper
+            → OnErr result (file_items self.new.keeper ≡ file_items self.old.keeper) }
+        ensures opened { has_opened self.new ≡ has_opened self.old }
+        ensures cause { Counts (items.has_failed result) self.old.faults self.new.faults }
+        ensures count { self.new.faults ≡ counted (items.has_failed result) self.old.faults }
+        // While the disk gives back what was written, an Err is what the database answered.
+        ensures refused { IfErr result (λ fault. (refusal : Refusal) × (fault ≡ fault_of refusal)
+            × FoundRefuses over_files self.old.keeper self.new.keeper batch.now refusal) }
+    {
         let answer = keep_found(&mut self.keeper, batch);
         count(&answer, &mut self.faults);
         told(answer, &self.rt, self.path.as_str(), &mut self.said)

@@ -1,5 +1,6 @@
 //! Why a database didn't do what was asked, and how a keeper tells and counts it.
 ghost use Rattle.std.specs.Prelude.{◌≡◌};
+ghost use Rattle.mud_world.specs.Calls.{counted};
 ghost use Rattle.mud_world.specs.Causes.{Counts};
 ghost use Rattle.keep_sqlite.specs.Refusals.{fault_of, has_failed, refusal_of};
 
@@ -88,7 +89,8 @@ pub(crate) fn fault_of(refusal: Refusal) -> KeepFault
 
 /// Counts a failure. A count that has reached the last u64 stays there.
 pub(crate) fn count<T: Drop>(answer: &Result<T, Refusal>, faults: &mut u64)
-    ensures { Counts (has_failed answer.now) faults.old faults.new }
+    ensures value { faults.new ≡ counted (has_failed answer.now) faults.old }
+    ensures cause { Counts (has_failed answer.now) faults.old faults.new }
 {
     match answer {
         Ok(_) | Err(Refusal::Memory) => {}

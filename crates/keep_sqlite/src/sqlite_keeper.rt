@@ -1,5 +1,6 @@
 //! A keeper over a connection.
 ghost use Rattle.std.specs.Prelude.{◌≡◌, true, false, IsTrue, IfOk, IfErr, OnOk, OnErr};
+ghost use Rattle.mud_world.specs.Calls.{counted};
 ghost use Rattle.mud_world.specs.Causes.{Counts};
 ghost use Rattle.mud_world.specs.Items as items;
 ghost use Rattle.mud_world.specs.Items.{is_batch, put_all, IsOrdered};
@@ -7,7 +8,7 @@ ghost use Rattle.sqlite.specs.Held.{state};
 ghost use Rattle.sqlite.specs.State.{HasCleanDisk};
 ghost use Rattle.keep_sqlite.specs.declared.refusal.Refusal.{Refusal};
 ghost use Rattle.keep_sqlite.specs.Refusals.{fault_of, has_failed};
-ghost use Rattle.keep_sqlite.specs.Refused.{IsRefused};
+ghost use Rattle.keep_sqlite.specs.Refused.{IsRefused, IsUnopened};
 ghost use Rattle.keep_sqlite.specs.Rows.{items_of, HoldsItems, MayMake};
 ghost use Rattle.keep_sqlite.specs.Telling.{database, told, IsUp, Leaves, MayLeave, MayLeaveMade, Tells};
 
@@ -96,6 +97,9 @@ impl<S: Alter + Drop> SqliteKeeper<S> {
         ensures still { OnErr result (self.new.has_opened ≡ self.old.has_opened) }
         ensures opens { IsUp S.Store self.new.connection → IsUp S.Store self.old.connection }
         ensures cause { Counts (has_failed result) self.old.faults self.new.faults }
+        ensures count { self.new.faults ≡ counted (has_failed result) self.old.faults }
+        ensures refused { HasCleanDisk (state S.Store self.new.connection)
+            → IfErr result (IsUnopened S.Store self.old.connection self.new.connection) }
         ensures table { Tells S.Store self.new → OnOk result (HoldsItems (database S.Store self.new)) }
         ensures kept { IsUp S.Store self.new.connection
             → MayMake (database S.Store self.old) (database S.Store self.new) }
@@ -126,6 +130,8 @@ impl<S: Alter + Drop> SqliteKeeper<S> {
         ensures crash { IsUp S.Store self.old.connection → MayLeaveMade S.Store self.old self.new }
         ensures left { IsUp S.Store self.new.connection
             → OnOk result ((state S.Store self.new.connection).committed ≡ database S.Store self.new) }
+        ensures refused { HasCleanDisk (state S.Store self.new.connection)
+            → IfErr result (IsUnopened S.Store self.old.connection self.new.connection) }
     {
         // Within a transaction the items would be some that aren't committed.
         if !self.connection.is_autocommit() {
@@ -152,6 +158,7 @@ impl<S: Alter + Drop> SqliteKeeper<S> {
             → OnErr result (told S.Store self.new ≡ told S.Store self.old) }
         ensures opened { self.new.has_opened ≡ self.old.has_opened }
         ensures cause { Counts (has_failed result) self.old.faults self.new.faults }
+        ensures count { self.new.faults ≡ counted (has_failed result) self.old.faults }
         // While the disk gives back what was written, an Err is what the database answered.
         ensures refused { HasCleanDisk (state S.Store self.new.connection)
             → IfErr result (IsRefused S.Store self.old.connection batch.now) }
@@ -213,6 +220,12 @@ impl<S: Alter + Drop> Keeper for SqliteKeeper<S> {
         ensures still { OnErr result (self.new.has_opened ≡ self.old.has_opened) }
         ensures opens { IsUp S.Store self.new.connection → IsUp S.Store self.old.connection }
         ensures cause { Counts (items.has_failed result) self.old.faults self.new.faults }
+        ensures count { self.new.faults ≡ counted (items.has_failed result) self.old.faults }
+        // While the disk gives back what was written, an Err is what the database answered, or says that it
+        // holds no items.
+        ensures refused { HasCleanDisk (state S.Store self.new.connection)
+            → IfErr result (λ fault. (refusal : Refusal) × (fault ≡ fault_of refusal)
+            × IsUnopened S.Store self.old.connection self.new.connection refusal) }
         // An Ok says that the database has our table and no other, and that each row is an item.
         ensures table { Tells S.Store self.new → OnOk result (HoldsItems (database S.Store self.new)) }
         // Whatever it answers, it made the table in a database with no table, or changed nothing.
@@ -244,6 +257,7 @@ impl<S: Alter + Drop> Keeper for SqliteKeeper<S> {
             → OnErr result (told S.Store self.new ≡ told S.Store self.old) }
         ensures opened { self.new.has_opened ≡ self.old.has_opened }
         ensures cause { Counts (items.has_failed result) self.old.faults self.new.faults }
+        ensures count { self.new.faults ≡ counted (items.has_failed result) self.old.faults }
         ensures refused { HasCleanDisk (state S.Store self.new.connection)
             → IfErr result (λ fault. (refusal : Refusal) × (fault ≡ fault_of refusal)
             × IsRefused S.Store self.old.connection batch.now refusal) }

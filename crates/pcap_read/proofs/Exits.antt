@@ -1,5 +1,5 @@
 -- Where reading leaves off: with a fault, or with what stands behind the header, a head or a packet.
-use Rattle.std.proofs.Common.{◌≡◌, ℕ, ◌<◌, ◌≤◌, List, [], ◌++◌, length, take, drop, Some, Ok, Err, refl, sym, ap, ap₂, ◌∙◌, arith, length-append, append-nil}
+use Rattle.std.proofs.Common.{◌≡◌, ℕ, ◌<◌, ◌≤◌, List, [], ◌++◌, length, take, drop, Some, Ok, Err, refl, sym, ap, ap₂, subst, ◌∙◌, arith, length-append, append-nil}
 use Rattle.std.proofs.lemmas.List.{take-append-le, drop-append-le}
 use Rattle.mud_world.specs.Door.{DoorState}
 use Rattle.mud_base.specs.declared.number.ByteOrder.{ByteOrder}
@@ -12,9 +12,10 @@ use Rattle.pcap_read.specs.Packets.{Packets, captured_len, packets_from, header_
 use Rattle.std.specs.Prelude.{IsTrue}
 use Rattle.pcap_read.specs.Parts.{is_decided, body_from, packets_at, behind_head, behind_packet}
 use Rattle.read_buffer.specs.Reading.{Fetched, Follows, behind}
+use Rattle.pcap_read.specs.Fault.{is_cut}
 use Rattle.pcap_read.specs.Reading.{EndsIn}
-use Rattle.read_buffer.proofs.Readings.{follows, follows_more, ends, ends_more}
-use Rattle.pcap_read.proofs.Steps.{header_short, header_read, header_refused, head_many, head_short, head_long, head_whole, head_lacks, body_whole, body_short, decided_whole}
+use Rattle.read_buffer.proofs.Readings.{follows, follows_more, ends, ends_more, fails, AreOnlyCut}
+use Rattle.pcap_read.proofs.Steps.{header_short, header_read, header_refused, head_many, head_short, head_long, head_whole, head_lacks, head_waits, body_whole, body_short, decided_whole}
 use Rattle.pcap_read.proofs.Parts.{seconds_of}
 
 all_of : Packets → List Packet
@@ -25,13 +26,15 @@ module _ (h k : List ℕ) (s t : DoorState) (f : Fetched h k s t) where
 
   pub header_failed : length k < 24 → EndsIn faults.ReadFault (behind packets_of h) s t
   unfolding all_of
-  header_failed short = ends faults.ReadFault packets_of h k s t f (ap all_of (header_short k short)) (λ other. absurd (other refl))
+  header_failed short =
+      let here = header_short k short in
+      fails packets_of h k s t f (ap all_of here) (subst (AreOnlyCut is_cut) (sym here) refl)
 
   pub header_cut : length k < 24 → t.left ≡ [] → EndsIn (faults.Cut 0) (behind packets_of h) s t
   unfolding all_of
   header_cut short none =
       ends (faults.Cut 0) packets_of h k s t f (ap all_of (header_short k short))
-      (λ _. ap (λ (rest : List ℕ). packets_of (k ++ rest)) none ∙ ap packets_of (append-nil k) ∙ header_short k short)
+      (ap (λ (rest : List ℕ). packets_of (k ++ rest)) none ∙ ap packets_of (append-nil k) ∙ header_short k short)
 
   pub header_ends : (fault : CapFault) (header : List ℕ) → 24 ≤ length k → header ≡ take 24 k → Err fault ≡ header_of header → EndsIn fault (behind packets_of h) s t
   unfolding all_of
@@ -39,7 +42,7 @@ module _ (h k : List ℕ) (s t : DoorState) (f : Fetched h k s t) where
       let here : Err fault ≡ header_of (take 24 k) = is ∙ ap header_of front in
       ends fault packets_of h k s t f
       (ap all_of (ap packets_of (sym (append-nil k)) ∙ header_refused k [] fault long here))
-      (λ _. header_refused k t.left fault long here)
+      (header_refused k t.left fault long here)
 
   pub header_follows : (order : ByteOrder) (header m : List ℕ) → 24 ≤ length k → header ≡ take 24 k → Ok order ≡ header_of header → m ≡ drop 24 k
       → Follows (behind packets_of h) (behind (packets_from order 0 0 24) m) s t
@@ -49,20 +52,20 @@ module _ (h k : List ℕ) (s t : DoorState) (f : Fetched h k s t) where
 
   -- The head of a packet
 
-  pub head_failed : (c : Cursor) → length k < 16 → EndsIn faults.ReadFault (behind (packets_at c) h) s t
-  head_failed c short = ends faults.ReadFault (packets_at c) h k s t f (head_lacks c.order c.count c.offset k short) (λ other. absurd (other refl))
+  pub head_failed : (c : Cursor) → length k < 16 → (100000000 ≤ c.count → length k < 1) → EndsIn faults.ReadFault (behind (packets_at c) h) s t
+  head_failed c short beyond = fails (packets_at c) h k s t f (head_lacks c.order c.count c.offset k short) (head_waits c.order c.count c.offset k short beyond)
 
   pub head_ends_many : (c : Cursor) → 0 < length k → 100000000 ≤ c.count → EndsIn faults.Many (behind (packets_at c) h) s t
   unfolding all_of
   head_ends_many c some many =
       ends faults.Many (packets_at c) h k s t f (ap all_of (head_many c.order c.count c.offset k some many))
-      (λ _. head_many c.order c.count c.offset (k ++ t.left) (omega (arith, length-append k t.left)) many)
+      (head_many c.order c.count c.offset (k ++ t.left) (omega (arith, length-append k t.left)) many)
 
   pub head_ends_cut : (c : Cursor) → 0 < length k → length k < 16 → c.count < 100000000 → t.left ≡ [] → EndsIn (faults.Cut c.offset) (behind (packets_at c) h) s t
   head_ends_cut c some short few none =
       let here = head_short c.order c.count c.offset k some short few in
       ends (faults.Cut c.offset) (packets_at c) h k s t f (head_lacks c.order c.count c.offset k short)
-      (λ _. ap (λ (rest : List ℕ). packets_at c (k ++ rest)) none ∙ ap (packets_at c) (append-nil k) ∙ here)
+      (ap (λ (rest : List ℕ). packets_at c (k ++ rest)) none ∙ ap (packets_at c) (append-nil k) ∙ here)
 
   long_behind : (c : Cursor) (more : List ℕ) → 16 ≤ length k → c.count < 100000000 → 262144 < captured_len c.order (take 16 k) → packets_at c (k ++ more) ≡ broken (faults.Long c.offset)
   long_behind c more enough few long =
@@ -76,7 +79,7 @@ module _ (h k : List ℕ) (s t : DoorState) (f : Fetched h k s t) where
       let beyond : 262144 < captured_len c.order (take 16 k) = omega arith in
       ends (faults.Long c.offset) (packets_at c) h k s t f
       (ap all_of (ap (packets_at c) (sym (append-nil k)) ∙ long_behind c [] enough few beyond))
-      (λ _. long_behind c t.left enough few beyond)
+      (long_behind c t.left enough few beyond)
 
   whole_behind : (c : Cursor) (more : List ℕ) → 16 ≤ length k → c.count < 100000000 → captured_len c.order (take 16 k) ≤ 262144
       → packets_at c (k ++ more) ≡ body_from c.order c.count c.offset (seconds_of c.order (take 16 k)) (captured_len c.order (take 16 k)) (drop 16 k ++ more)
@@ -107,8 +110,8 @@ module _ (c : Cursor) (head : Head) (g : List ℕ → Packets) (h k : List ℕ) 
   pub body_failed : length k < head.len → EndsIn faults.ReadFault g s u
   unfolding all_of
   body_failed short =
-      ends_more faults.ReadFault g (behind body h) s t u before
-      (ends faults.ReadFault body h k t u f (ap all_of (body_short c.order c.count c.offset head.seconds head.len k short)) (λ other. absurd (other refl)))
+      let here = body_short c.order c.count c.offset head.seconds head.len k short in
+      ends_more faults.ReadFault g (behind body h) s t u before (fails body h k t u f (ap all_of here) (subst (AreOnlyCut is_cut) (sym here) refl))
 
   pub body_cut : length k < head.len → u.left ≡ [] → EndsIn (faults.Cut c.offset) g s u
   unfolding all_of
@@ -116,7 +119,7 @@ module _ (c : Cursor) (head : Head) (g : List ℕ → Packets) (h k : List ℕ) 
       let here = body_short c.order c.count c.offset head.seconds head.len k short in
       ends_more (faults.Cut c.offset) g (behind body h) s t u before
       (ends (faults.Cut c.offset) body h k t u f (ap all_of here)
-      (λ _. ap (λ (rest : List ℕ). body (k ++ rest)) none ∙ ap body (append-nil k) ∙ here))
+      (ap (λ (rest : List ℕ). body (k ++ rest)) none ∙ ap body (append-nil k) ∙ here))
 
   pub body_follows : (given rest : List ℕ) → head.len ≤ length k → given ≡ take head.len k → rest ≡ drop head.len k
       → Follows g (behind (behind_packet c (Some head) given) rest) s u

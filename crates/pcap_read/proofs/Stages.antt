@@ -1,5 +1,5 @@
 -- The stages of a reader.
-use Rattle.std.proofs.Common.{◌≡◌, ℕ, false, List, [], ◌++◌, Option, Some, None, is_some, refl, ap, ◌∙◌}
+use Rattle.std.proofs.Common.{◌≡◌, ℕ, false, List, [], Option, Some, None, is_some, refl, ap, ◌∙◌}
 use Rattle.mud_world.specs.Door.{DoorState}
 use Rattle.mud_base.specs.declared.number.ByteOrder.{ByteOrder}
 use Rattle.pcap_read.specs.declared.stage.Stage.{Stage}

@@ -1,10 +1,11 @@
 -- What the octets that are held make of the packets to come.
-use Rattle.std.proofs.Common.{◌≡◌, ◌⊎◌, inl, inr, ℕ, zero, suc, ◌+◌, ◌<◌, ◌≤◌, ltb, leb, Bool, true, false, cond, List, [], ◌∷◌, ◌++◌, length, take, drop, Ok, Err, refl, sym, ap, ap₂, ◌∙◌, arith, length-append, length-drop, le-ltb, lt-ltb, ltb-true, ltb-false, le-leb}
+use Rattle.std.proofs.Common.{◌≡◌, ◌⊎◌, inl, inr, ℕ, zero, suc, ◌+◌, ◌<◌, ◌≤◌, ltb, leb, Bool, true, false, cond, List, [], ◌∷◌, ◌++◌, length, take, drop, Ok, Err, refl, sym, ap, ap₂, ◌∙◌, arith, length-append, length-drop, le-ltb, lt-ltb, ltb-true, ltb-false, le-leb, leb-true, IfSome}
 use borrow.Author.Tests.{lt-leb}
 use Rattle.std.proofs.lemmas.List.{take-append-le, drop-append-le, drop-drop}
 use Rattle.mud_base.specs.declared.number.ByteOrder.{ByteOrder}
 use Rattle.pcap_read.specs.declared.fault.CapFault.{CapFault}
 use Rattle.pcap_read.specs.declared.fault.CapFault.TheVariants as faults
+use Rattle.pcap_read.specs.Fault.{is_cut}
 use Rattle.read_buffer.specs.Packets.{Packet, whole, broken, with_packet}
 use Rattle.pcap_read.specs.Packets.{Packets, captured_len, packets_from, header_of, packets_of}
 use Rattle.pcap_read.specs.Parts.{body_from, is_decided}
@@ -94,6 +95,16 @@ head_lacks order count offset [] short = refl
 head_lacks order count offset (octet ∷ octets) short =
     elim (cases_Bool (leb 100000000 count)) [
       | inl many ↦ rw many refl
+      | inr few ↦ rw (few, lt-ltb (length (octet ∷ octets)) 16 short) refl
+    ]
+
+-- octets that decide nothing are too few
+pub head_waits : (order : ByteOrder) (count offset : ℕ) (octets : List ℕ) → length octets < 16 → (100000000 ≤ count → length octets < 1) → IfSome (packets_from order 0 count offset octets).fault (λ found. IsTrue (is_cut found))
+unfolding packets_from
+head_waits order count offset [] short beyond = tt
+head_waits order count offset (octet ∷ octets) short beyond =
+    elim (cases_Bool (leb 100000000 count)) [
+      | inl many ↦ absurd (let none = beyond (leb-true 100000000 count many) in omega arith)
       | inr few ↦ rw (few, lt-ltb (length (octet ∷ octets)) 16 short) refl
     ]
 

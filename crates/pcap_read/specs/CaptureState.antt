@@ -4,7 +4,7 @@ use Rattle.mud_world.specs.Door.{DoorState}
 use Rattle.pcap_read.specs.declared.stage.Stage.TheVariants.{Start}
 use Rattle.pcap_read.specs.declared.stage.Progress.{Progress}
 use Rattle.read_buffer.specs.Packets.{Packet, whole}
-use Rattle.pcap_read.specs.Packets.{Packets, packets_of}
+use Rattle.pcap_read.specs.Packets.{Packets}
 use Rattle.pcap_read.specs.Parts.{coming, is_ready_at}
 
 -- where it stands, the octets that it took of the source and didn't hand out, and the packet at which it stands

@@ -39,6 +39,11 @@ is_read_fault (Long at) = false
 is_read_fault ReadFault = true
 is_read_fault Many = false
 
+-- whether the octets end within something that begins there
+abbrev pub is_cut : CapFault → Bool
+is_cut (Cut at) = true
+is_cut _ = false
+
 -- whether the source failed
 abbrev pub has_failed : {A : Type 0} → Result A CapFault → Bool
 has_failed (Ok a) = false

@@ -1,5 +1,5 @@
 -- What `next` answers, and where it leaves a capture.
-use Rattle.std.specs.Prelude.{◌≡◌, ◌<◌, ℕ, false, is_some, IsTrue, Option, Some, None, Result, Err, IfOk, IfErr, OnOk, OnErr}
+use Rattle.std.specs.Prelude.{◌≡◌, ◌<◌, false, is_some, IsTrue, Option, Some, None, Result, Err, IfOk, IfErr, OnOk, OnErr}
 use Rattle.mud_world.specs.Causes.{Counts, StopsAtFailure}
 use Rattle.mud_world.specs.View.{DoorView}
 use Rattle.pcap_read.specs.declared.fault.CapFault.{CapFault}

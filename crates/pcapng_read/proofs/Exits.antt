@@ -1,5 +1,5 @@
 -- Where reading leaves off: with a fault, or with what stands behind a head or a block.
-use Rattle.std.proofs.Common.{◌≡◌, ◌≢◌, ℕ, zero, suc, ◌+◌, ◌-◌, ◌<◌, ◌≤◌, false, List, [], ◌∷◌, ◌++◌, length, take, drop, Option, Some, Ok, Err, refl, sym, ap, ap₂, ◌∙◌, arith, length-append, append_assoc, append-nil}
+use Rattle.std.proofs.Common.{◌≡◌, ◌≢◌, ℕ, zero, suc, ◌+◌, ◌-◌, ◌<◌, ◌≤◌, false, inl, inr, subst, List, [], ◌∷◌, ◌++◌, length, take, drop, Option, Some, Ok, Err, refl, sym, ap, ap₂, ◌∙◌, arith, length-append, append_assoc, append-nil}
 use Rattle.std.proofs.lemmas.List.{take-append-le, drop-append-le, drop-drop, drop_at, drop-take}
 use Rattle.std.specs.Int.{w32, from_be_bytes, from_le_bytes}
 use Rattle.mud_base.specs.Faults.{first_row, unless}
@@ -9,7 +9,7 @@ use Rattle.mud_base.specs.declared.number.ByteOrder.TheVariants.{Big, Little}
 use Rattle.mud_base.specs.Numbers.{number_32, big_32}
 use Rattle.read_buffer.specs.Packets.{Packet, broken, with_all, with_next}
 use Rattle.read_buffer.specs.Reading.{Fetched, Follows, behind}
-use Rattle.read_buffer.proofs.Readings.{follows, ends}
+use Rattle.read_buffer.proofs.Readings.{follows, ends, fails, AreOnlyCut}
 use Rattle.pcapng_read.specs.declared.fault.NgFault.{NgFault}
 use Rattle.pcapng_read.specs.declared.fault.NgFault.TheVariants as faults
 use Rattle.pcapng_read.specs.declared.head.Kind.{Kind}
@@ -20,8 +20,9 @@ use Rattle.pcapng_read.specs.declared.standing.Standing.{Standing}
 use Rattle.pcapng_read.specs.declared.standing.Current.{Current}
 use Rattle.pcapng_read.specs.Blocks.{NgPackets, head_of, head_rows, body_rows, standing_behind, packets_in, is_read}
 use Rattle.pcapng_read.specs.Parts.{Begins, blocks_at, coming_next, current_in, packet_in}
+use Rattle.pcapng_read.specs.Fault.{is_cut}
 use Rattle.pcapng_read.specs.Reading.{EndsIn, Passes, FallsShort}
-use Rattle.pcapng_read.proofs.Steps.{answered, refused, blocks_broken, blocks_lack, rows_many, rows_short, rows_head, block_cut, block_ends, block_refused, block_whole, next_packet}
+use Rattle.pcapng_read.proofs.Steps.{answered, refused, blocks_broken, blocks_lack, blocks_wait, rows_many, rows_short, rows_head, block_cut, block_ends, block_refused, block_whole, next_packet}
 use Rattle.pcapng_read.proofs.Parts.{body_rows_of, section_behind}
 
 all_of : NgPackets → List Packet
@@ -32,19 +33,19 @@ module _ (at : Standing) (h k : List ℕ) (s t : DoorState) (f : Fetched h k s t
   broken_now : (fault : NgFault) → ((more : List ℕ) → blocks_at at (k ++ more) ≡ broken fault) → EndsIn fault (behind (blocks_at at) h) s t
   unfolding all_of
   broken_now fault here =
-      ends fault (blocks_at at) h k s t f (ap all_of (ap (blocks_at at) (sym (append-nil k)) ∙ here [])) (λ _. here t.left)
+      ends fault (blocks_at at) h k s t f (ap all_of (ap (blocks_at at) (sym (append-nil k)) ∙ here [])) (here t.left)
 
   -- nothing comes any more, and there is this fault
   broken_here : (fault : NgFault) → blocks_at at k ≡ broken fault → t.left ≡ [] → EndsIn fault (behind (blocks_at at) h) s t
   unfolding all_of
   broken_here fault here none =
       ends fault (blocks_at at) h k s t f (ap all_of here)
-      (λ _. ap (λ (rest : List ℕ). blocks_at at (k ++ rest)) none ∙ ap (blocks_at at) (append-nil k) ∙ here)
+      (ap (λ (rest : List ℕ). blocks_at at (k ++ rest)) none ∙ ap (blocks_at at) (append-nil k) ∙ here)
 
   -- The head of a block
 
-  pub head_failed : length k < 12 → EndsIn faults.ReadFault (behind (blocks_at at) h) s t
-  head_failed short = ends faults.ReadFault (blocks_at at) h k s t f (blocks_lack at k short) (λ other. absurd (other refl))
+  pub head_failed : length k < 12 → (100000000 ≤ at.blocks → length k < 1) → EndsIn faults.ReadFault (behind (blocks_at at) h) s t
+  head_failed short beyond = fails (blocks_at at) h k s t f (blocks_lack at k short) (blocks_wait at k short beyond)
 
   pub head_many : 0 < length k → 100000000 ≤ at.blocks → EndsIn (faults.Many at.offset) (behind (blocks_at at) h) s t
   head_many some many =
@@ -87,7 +88,7 @@ module _ (at : Standing) (head : Head) (h k : List ℕ) (s t : DoorState) (b : B
 
   pub whole_failed : length k < head.total → EndsIn faults.ReadFault (behind (blocks_at at) h) s t
   unfolding all_of
-  whole_failed short = ends faults.ReadFault (blocks_at at) h k s t f (ap all_of (cut short)) (λ other. absurd (other refl))
+  whole_failed short = fails (blocks_at at) h k s t f (ap all_of (cut short)) (subst (AreOnlyCut is_cut) (sym (cut short)) refl)
 
   pub whole_cut : length k < head.total → t.left ≡ [] → EndsIn (faults.Cut at.offset) (behind (blocks_at at) h) s t
   whole_cut short none = broken_here at h k s t f (faults.Cut at.offset) (cut short) none
@@ -170,7 +171,12 @@ module _ (at : Standing) (head : Head) (h : List ℕ) (s t : DoorState) (b : Beg
 
   pub over_failed : FallsShort head.total h s t → EndsIn faults.ReadFault (behind (blocks_at at) h) s t
   unfolding all_of
-  over_failed p = record { octets = p.octets; took = p.took; none = ap all_of (short_ends p); broken = λ other. absurd (other refl) }
+  over_failed p = record {
+    octets = p.octets;
+    took = p.took;
+    none = ap all_of (short_ends p);
+    cause = inr (refl, subst (AreOnlyCut is_cut) (sym (short_ends p)) refl);
+  }
 
   pub over_cut : FallsShort head.total h s t → t.left ≡ [] → EndsIn (faults.Cut at.offset) (behind (blocks_at at) h) s t
   unfolding all_of
@@ -178,7 +184,7 @@ module _ (at : Standing) (head : Head) (h : List ℕ) (s t : DoorState) (b : Beg
     octets = p.octets;
     took = p.took;
     none = ap all_of (short_ends p);
-    broken = λ _. ap (λ (rest : List ℕ). blocks_at at (h ++ (p.octets ++ rest))) none ∙ ap (λ (rest : List ℕ). blocks_at at (h ++ rest)) (append-nil p.octets) ∙ short_ends p;
+    cause = inl (ap (λ (rest : List ℕ). blocks_at at (h ++ (p.octets ++ rest))) none ∙ ap (λ (rest : List ℕ). blocks_at at (h ++ rest)) (append-nil p.octets) ∙ short_ends p);
   }
 
   module _ (k : List ℕ) (p : Passes head.total 4 h k s t) (held : 4 ≤ length k) where
@@ -216,7 +222,7 @@ module _ (at : Standing) (head : Head) (h : List ℕ) (s t : DoorState) (b : Beg
       octets = p.octets;
       took = p.took;
       none = ap all_of (ap (λ (rest : List ℕ). blocks_at at (h ++ rest)) (sym (append-nil p.octets)) ∙ here []);
-      broken = λ _. here t.left;
+      cause = inl (here t.left);
     }
 
     pub over_ends : number_32 head.order 0 k ≢ head.total → EndsIn (faults.Length at.offset) (behind (blocks_at at) h) s t

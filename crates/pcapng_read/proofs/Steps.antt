@@ -1,11 +1,12 @@
 -- What a whole block, or a part of one, makes of the packets to come.
-use Rattle.std.proofs.Common.{◌≡◌, ◌≢◌, ◌⊎◌, inl, inr, ℕ, zero, suc, ◌-◌, ◌<◌, ◌≤◌, leb, eqb, true, List, [], ◌∷◌, ◌++◌, length, take, drop, Option, Some, None, Result, Ok, Err, refl, sym, ap, ◌∙◌, arith, length-append, le-ltb, lt-ltb, le-leb, ne_eqb}
+use Rattle.std.proofs.Common.{◌≡◌, ◌≢◌, ◌⊎◌, inl, inr, ℕ, zero, suc, ◌-◌, ◌<◌, ◌≤◌, leb, eqb, true, List, [], ◌∷◌, ◌++◌, length, take, drop, Option, Some, None, Result, Ok, Err, refl, sym, ap, ◌∙◌, arith, length-append, le-ltb, lt-ltb, le-leb, leb-true, IfSome, IsTrue, ne_eqb}
 use borrow.Author.Tests.{lt-leb}
 use Rattle.std.proofs.lemmas.List.{take-append-le}
 use Rattle.std.proofs.lemmas.Bool.{cases_Bool}
 use Rattle.std.proofs.lemmas.Bool.Decides.{eqb_tells}
 use Rattle.mud_base.specs.Faults.{first_row, unless}
 use Rattle.mud_base.specs.Numbers.{number_32}
+use Rattle.pcapng_read.specs.Fault.{is_cut}
 use Rattle.read_buffer.specs.Packets.{whole, broken, with_all, with_next}
 use Rattle.pcapng_read.specs.declared.fault.NgFault.{NgFault}
 use Rattle.pcapng_read.specs.declared.fault.NgFault.TheVariants as faults
@@ -120,6 +121,16 @@ blocks_lack at [] short = refl
 blocks_lack at (octet ∷ behind) short =
     elim (cases_Bool (leb 100000000 at.blocks)) [
       | inl many ↦ rw many refl
+      | inr few ↦ rw (few, lt-ltb (length (octet ∷ behind)) 12 short) refl
+    ]
+
+-- octets that decide nothing are too few
+pub blocks_wait : (at : Standing) (octets : List ℕ) → length octets < 12 → (100000000 ≤ at.blocks → length octets < 1) → IfSome (blocks_at at octets).fault (λ found. IsTrue (is_cut found))
+unfolding blocks_from
+blocks_wait at [] short beyond = tt
+blocks_wait at (octet ∷ behind) short beyond =
+    elim (cases_Bool (leb 100000000 at.blocks)) [
+      | inl many ↦ absurd (let none = beyond (leb-true 100000000 at.blocks many) in omega arith)
       | inr few ↦ rw (few, lt-ltb (length (octet ∷ behind)) 12 short) refl
     ]
 

@@ -5,7 +5,7 @@ use Rattle.read_buffer.specs.Packets.{Packet, whole}
 use Rattle.pcapng_read.specs.declared.fault.NgFault.{NgFault}
 use Rattle.pcapng_read.specs.declared.standing.Standing.{Standing}
 use Rattle.pcapng_read.specs.Blocks as blocks
-use Rattle.pcapng_read.specs.Blocks.{NgPackets, ng_packets_of}
+use Rattle.pcapng_read.specs.Blocks.{NgPackets}
 use Rattle.pcapng_read.specs.Parts.{coming, is_decided}
 
 -- where it stands between two blocks, the fault that was answered, if any, the octets that it took of the source and didn't hand

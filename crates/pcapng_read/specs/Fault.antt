@@ -59,6 +59,11 @@ is_read_fault (Resolution at) = false
 is_read_fault (Interface at) = false
 is_read_fault (Late at) = false
 
+-- whether the octets end within something that begins there
+abbrev pub is_cut : NgFault → Bool
+is_cut (Cut at) = true
+is_cut _ = false
+
 -- whether the source failed
 abbrev pub has_failed : {A : Type 0} → Result A NgFault → Bool
 has_failed (Ok a) = false

@@ -1,5 +1,5 @@
 -- What `next` answers, and where it leaves a capture.
-use Rattle.std.specs.Prelude.{◌≡◌, ◌<◌, ℕ, is_some, IsTrue, Option, Some, None, Result, Err, IfOk, IfErr, OnOk, OnErr}
+use Rattle.std.specs.Prelude.{◌≡◌, ◌<◌, is_some, IsTrue, Option, Some, None, Result, Err, IfOk, IfErr, OnOk, OnErr}
 use Rattle.mud_world.specs.Causes.{Counts, StopsAtFailure}
 use Rattle.mud_world.specs.View.{DoorView}
 use Rattle.read_buffer.specs.Packets.{with_next}

@@ -1,5 +1,6 @@
 //! A capture, read packet by packet.
 ghost use Rattle.std.specs.Prelude.{◌≡◌, ◌≢◌, IfSome, ◌<◌, ◌≤◌, ℕ, [], length, take, false, true, is_some, IsSome, IsTrue, IfOk, IfErr, OnOk, OnErr, is_err, Ok, Err, Some, None};
+ghost use Rattle.mud_world.specs.Calls.{counted};
 ghost use Rattle.mud_world.specs.Causes.{Counts, StopsAtFailure};
 ghost use Rattle.mud_world.specs.Door.{put_out};
 ghost use Rattle.pcap_read.specs.Captured.{packet_of};
@@ -129,6 +130,8 @@ impl<S: Door> NgCapture<S> {
         ensures nowhere { S.tells → (S.view self.old.0).state.stands ≡ false → OnOk result (piece.now ≡ []) }
         ensures err { S.tells → OnErr result ((S.view self.new.0).state ≡ (S.view self.old.0).state) }
         ensures cause { Counts (is_err result) (S.view self.old.0).writes (S.view self.new.0).writes }
+        ensures count { (S.view self.new.0).writes ≡ counted (is_err result) (S.view self.old.0).writes }
+        ensures last { (S.view self.new.0).failed ≡ is_err result }
         ensures turns { (S.view self.new.0).turns ≡ (S.view self.old.0).turns }
         ensures reads { (S.view self.new.0).reads ≡ (S.view self.old.0).reads }
     {

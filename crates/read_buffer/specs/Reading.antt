@@ -1,5 +1,5 @@
 -- What is taken of a source, and what that makes of the packets to come.
-use Rattle.std.specs.Prelude.{◌≡◌, ◌≢◌, ℕ, List, [], ◌++◌}
+use Rattle.std.specs.Prelude.{◌≡◌, ◌⊎◌, ℕ, Bool, IsTrue, List, [], ◌++◌, IfSome}
 use Rattle.mud_world.specs.Door.{DoorState, Took}
 use Rattle.read_buffer.specs.Packets.{Told, broken}
 
@@ -19,10 +19,10 @@ pub record Follows {F : Type 0} (before after : List ℕ → Told F) (old new : 
   pub took : Took octets old new
   pub same : (more : List ℕ) → before (octets ++ more) ≡ after more
 
--- Octets were taken of the source. No packet comes in them, nor in all that is left, unless the fault is the one that stands for
--- a source that failed: there the fault comes.
-pub record EndsIn {F : Type 0} (read_fault fault : F) (before : List ℕ → Told F) (old new : DoorState) : Type 0 where
+-- Octets were taken of the source, and no packet comes in them. Nor does one come in all that is left, but this fault; or the
+-- source failed, and so far nothing was wrong with the octets but that they end.
+pub record EndsIn {F : Type 0} (read_fault : F) (is_cut : F → Bool) (fault : F) (before : List ℕ → Told F) (old new : DoorState) : Type 0 where
   pub octets : List ℕ
   pub took : Took octets old new
   pub none : (before octets).all ≡ []
-  pub broken : fault ≢ read_fault → before (octets ++ new.left) ≡ broken fault
+  pub cause : (before (octets ++ new.left) ≡ broken fault) ⊎ ((fault ≡ read_fault) × IfSome (before octets).fault (λ found. IsTrue (is_cut found)))

@@ -1,13 +1,14 @@
 -- How far a command is that reads a capture: at its beginning, behind what it writes and adds, behind a packet, and at each end.
-use Rattle.std.proofs.Common.{◌≡◌, true, false, ℕ, ◌+◌, ◌≤◌, List, [], ◌++◌, length, take, Option, Some, None, is_some, refl, rules, arith, sym, ap, ◌∙◌, append_assoc, append-nil}
+use Rattle.std.proofs.Common.{◌≡◌, ◌⊎◌, inl, inr, IsTrue, IfSome, true, false, ℕ, ◌+◌, ◌≤◌, List, [], ◌++◌, length, take, Option, Some, None, is_some, refl, rules, arith, sym, ap, ◌∙◌, append_assoc, append-nil}
+use Rattle.std.proofs.lemmas.Bool.{false≢true}
 use Rattle.std.proofs.lemmas.List.{length-append}
 use Rattle.std.proofs.Math.Seq.{take-append-add}
 use Rattle.mud_world.specs.Door.{DoorState, Took, with_left, put_out}
 use Rattle.mud_world.specs.Whole.{WrotePart}
 use Rattle.mud_world.proofs.Doors.{put_out_twice, put_out_none}
-use Rattle.read_buffer.specs.Packets.{Packet, with_next, with_all}
+use Rattle.read_buffer.specs.Packets.{Packet, broken, with_next, with_all}
 use Rattle.read_buffer.specs.Reading.{Follows}
-use Rattle.run_captures.specs.Fault.{is_read_fault}
+use Rattle.run_captures.specs.Fault.{is_cut, is_read_fault}
 use Rattle.run_captures.specs.Reading.{AtEnd, EndsIn, HasRead, packet_at, to_come}
 use Rattle.run_captures.specs.declared.fault.CaptureFault.{CaptureFault}
 use Rattle.run_captures.specs.declared.reader.CaptureReader.{CaptureReader}
@@ -109,7 +110,11 @@ module _ (packets : List Packet) (text : List ℕ) (reader : CaptureReader) (fir
       (ap (to_come reader) q.took.left ∙ q.same t.left ∙ ap (λ (next : Option Packet). with_next next (to_come new t.left)) is ∙ ap (to_come new) e.left ∙ e.ended)
 
   pub has_broken : (fault : CaptureFault) → EndsIn fault (to_come reader) s t → is_read_fault fault ≡ false → HasAll packets text (Some fault) first t lines
-  has_broken fault q other = has_all q.octets q.took (Some fault) (ap (to_come reader) q.took.left ∙ q.broken other)
+  has_broken fault q other = has_all q.octets q.took (Some fault) (ap (to_come reader) q.took.left ∙ comes q.cause)
+    where
+      comes : (to_come reader (q.octets ++ t.left) ≡ broken fault) ⊎ (IsTrue (is_read_fault fault) × IfSome (to_come reader q.octets).fault (λ found. IsTrue (is_cut found))) → to_come reader (q.octets ++ t.left) ≡ broken fault
+      comes (inl here) = here
+      comes (inr failed) = absurd (false≢true (sym other ∙ failed.0))
 
   some_here : (octets : List ℕ) → Took octets s t → (count : ℕ) → count ≤ length lines → WroteSome text first (put_out (take count lines) t)
   some_here octets q count within =

@@ -17,6 +17,11 @@ abbrev pub is_read_fault : CaptureFault → Bool
 is_read_fault (Classic fault) = classic.is_read_fault fault
 is_read_fault (Next fault) = next.is_read_fault fault
 
+-- whether the octets end within something that begins there
+abbrev pub is_cut : CaptureFault → Bool
+is_cut (Classic fault) = classic.is_cut fault
+is_cut (Next fault) = next.is_cut fault
+
 -- whether the source failed
 abbrev pub has_failed : {A : Type 0} → Result A CaptureFault → Bool
 has_failed (Ok a) = false

@@ -1,5 +1,5 @@
 -- What a reader of a capture has taken of its source, and what that makes of the packets to come, in whichever format.
-use Rattle.std.specs.Prelude.{◌≡◌, ℕ, Bool, false, List, [], ◌++◌, Option, Some, is_some}
+use Rattle.std.specs.Prelude.{◌≡◌, ◌⊎◌, ℕ, Bool, IsTrue, List, [], ◌++◌, Option, Some, is_some, IfSome}
 use Rattle.mud_world.specs.Door.{DoorState, Took}
 use Rattle.read_buffer.specs.Packets.{Packet, whole, broken, with_all}
 use Rattle.pcap_read.specs.Parts as classic
@@ -10,7 +10,7 @@ use Rattle.pcapng_read.specs.Reading as next_reading
 use Rattle.pcapng_read.specs.CaptureState as next_taken
 use Rattle.pcap_read.specs.declared.stage.Stage.TheVariants.{Failed}
 use Rattle.run_captures.specs.Captures.{Captures, captured_of, with_fault}
-use Rattle.run_captures.specs.Fault.{is_read_fault}
+use Rattle.run_captures.specs.Fault.{is_cut, is_read_fault}
 use Rattle.run_captures.specs.declared.fault.CaptureFault.{CaptureFault}
 use Rattle.run_captures.specs.declared.fault.CaptureFault.TheVariants as fault
 use Rattle.run_captures.specs.declared.reader.CaptureReader.{CaptureReader}
@@ -58,12 +58,13 @@ pub record AtEnd (reader : CaptureReader) (source : DoorState) : Type 0 where
   pub left : source.left ≡ []
   pub ended : to_come reader [] ≡ whole
 
--- Octets were taken of the source. No packet comes in them, nor in all that is left, unless the source failed.
+-- Octets were taken of the source, and no packet comes in them. Nor does one come in all that is left, but this fault; or the
+-- source failed, and so far nothing was wrong with the octets but that they end.
 pub record EndsIn (fault : CaptureFault) (before : List ℕ → Captures) (old new : DoorState) : Type 0 where
   pub octets : List ℕ
   pub took : Took octets old new
   pub none : (before octets).all ≡ []
-  pub broken : is_read_fault fault ≡ false → before (octets ++ new.left) ≡ broken fault
+  pub cause : (before (octets ++ new.left) ≡ broken fault) ⊎ (IsTrue (is_read_fault fault) × IfSome (before octets).fault (λ found. IsTrue (is_cut found)))
 
 -- These packets were read since the source stood at the first of the two states. However far the source goes on in what is left
 -- of it, they are the first packets of the octets taken since then, and the others are to come.

@@ -1,5 +1,5 @@
 -- Captures that hold the same packets.
-use Rattle.std.specs.Prelude.{◌≡◌, ℕ, List, map, Option, None}
+use Rattle.std.specs.Prelude.{◌≡◌, ℕ, List, map, None}
 use Rattle.read_buffer.specs.Packets.{Packet}
 use Rattle.run_captures.specs.Captures.{captured_of}
 

@@ -1,16 +1,18 @@
-use Rattle.std.proofs.Common.{true, [], rules, IsTrue, subst}
+use Rattle.std.proofs.Common.{true, [], inr, rules, IsTrue, subst}
 use Rattle.sqlite.specs.Held.{state}
 use Rattle.sqlite.specs.State.{HasCleanDisk}
 use Rattle.keep_sqlite.specs.Rows.{HoldsItems}
 use Rattle.keep_sqlite.specs.Batches.{Reaches}
+use Rattle.keep_sqlite.proofs.Opens.{if_err_map}
 use Rattle.keep_sqlite.proofs.Steps.{commit_refused}
 use Rattle.keep_sqlite.proofs.batch.keep.Goals as goal
 
-pub returns-clause-cause : goal.returns-clause-cause
-returns-clause-cause g c clean =
+pub returns-clause-refused : goal.returns-clause-refused
+returns-clause-refused g c clean =
     let early : HasCleanDisk (state g.S.Store c.put_each.new.tx.conn.now) = search rules in
     let first : HasCleanDisk (state g.S.Store c.args.connection.now) = search rules in
     let holds : IsTrue (state g.S.Store c.transaction-tx.result.conn.now).is_open → HoldsItems (state g.S.Store c.transaction-tx.result.conn.now).now = search rules in
     let reaches : Reaches (state g.S.Store (record c.args.connection.now { in_transaction = true })) (state g.S.Store c.put_each.new.tx.conn.now) [] c.args.batch.now =
     subst (λ connection. Reaches (state g.S.Store connection) (state g.S.Store c.put_each.new.tx.conn.now) [] c.args.batch.now) c.transaction-tx.ensures.begun (c.in_ok-put_each.ensures.ok early holds) in
-    commit_refused _ g.S.Store (record c.args.connection.now { in_transaction = true }) c.put_each.new.tx.conn.now c.commit.new.self.0 c.args.batch.now c.commit.result reaches (c.commit.ensures.err (search rules))
+    if_err_map c.commit.result (c.commit.ensures.err (search rules))
+    (λ error failed. inr (commit_refused g.S.Store (record c.args.connection.now { in_transaction = true }) c.put_each.new.tx.conn.now c.commit.new.self.0 c.args.batch.now error reaches failed))

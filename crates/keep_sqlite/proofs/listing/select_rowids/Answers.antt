@@ -1,7 +1,7 @@
 use Rattle.std.proofs.Common.{arith}
 use Rattle.sqlite.specs.State.{HasCleanDisk}
 use Rattle.sqlite.specs.Held.{state}
-use Rattle.keep_sqlite.proofs.Selects.{selects_ids, select_ids_leaves}
+use Rattle.keep_sqlite.proofs.Selects.{selects_ids, selects_ids_in_order, select_ids_leaves}
 use Rattle.keep_sqlite.proofs.Readings.{shown_open, failed_stays, unchanged_stays}
 use Rattle.keep_sqlite.proofs.listing.select_rowids.Goals as goal
 
@@ -14,6 +14,14 @@ returns-clause-ok g c clean =
     let was_open = shown_open _ _ old new _ shown in
     let all = selects_ids old new c.in_ok-rows.rows.items (c.requires (early, was_open)) shown in
     (all.1, all.0)
+
+pub returns-clause-ordered : goal.returns-clause-ordered
+returns-clause-ordered g c clean =
+    let old = state g.S.Store c.args.connection.now in
+    let new = state g.S.Store c.query_all.new.self in
+    let early : HasCleanDisk old = omega (arith, c.query_all.ensures.survives.clean) in
+    let shown = c.in_ok-rows.ensures.ok clean in
+    selects_ids_in_order old new c.in_ok-rows.rows.items (c.requires (early, shown_open _ _ old new _ shown)) shown
 
 pub returns-clause-same : goal.returns-clause-same
 returns-clause-same g c clean = unchanged_stays _ _ (returns-clause-ok g c clean).0

@@ -9,7 +9,7 @@ pub returns-in_err-is_enough-clause-err : goal.returns-in_err-is_enough-clause-e
 returns-in_err-is_enough-clause-err g c = λ t.
     let p = err_from_is_err_and c.from_residual.result c.from_residual.ensures.1 in
     let short : length c.fetch.new.buffer.held < 16 = omega (arith, c.in_err-is_enough.ensures.short, c.wanted_behind.ensures.most) in
-    rw (p.1, p.2) (head_failed _ _ _ _ (c.in_err-is_enough.ensures.octets t) c.args.cursor short)
+    rw (p.1, p.2) (head_failed _ _ _ _ (c.in_err-is_enough.ensures.octets t) c.args.cursor short (λ beyond. omega (arith, c.in_err-is_enough.ensures.short, c.wanted_behind.ensures.beyond beyond)))
 
 pub returns-then-cursor-ge-MOST_PACKETS-clause-err : goal.returns-then-cursor-ge-MOST_PACKETS-clause-err
 returns-then-cursor-ge-MOST_PACKETS-clause-err g c = λ t.

@@ -1,5 +1,6 @@
 //! A port of this machine on which clients are awaited, and the client that is served.
 ghost use Rattle.std.specs.Prelude.{◌≡◌, true, false, None, Ok, IfOk, OnOk, OnErr};
+ghost use Rattle.std.specs.Option.{ForSome};
 ghost use Rattle.std.specs.Net.Socket.{socket_ip, socket_port};
 ghost use Rattle.std.specs.Io.{ReadsAtMost, WritesAtMost};
 ghost use Rattle.std.specs.Io.KnownBytes.{ReadConsumes, WriteAppends};
@@ -64,6 +65,7 @@ impl<N: Net> Port<N> {
     pub(crate) fn go_on(&mut self) -> io::Result<()>
         ensures ok { OnOk result (is_served self.new ≡ true) }
         ensures err { OnErr result (is_served self.new ≡ false) }
+        ensures fresh { OnOk result (ForSome self.new.client (λ client. client.since ≡ None)) }
         ensures number { self.new.number ≡ self.old.number }
     {
         self.client = None;

@@ -49,17 +49,20 @@ holds_none db sound schema none = (
 pub trees_of : (db : Database) → HoldsItems db → AreTreesOf (items_of db) db.trees
 trees_of db holds = (subst (λ s. HoldsItems (record { schema = s; trees = db.trees })) holds.schema holds, refl)
 
-pub creates : (old new : State) (count : ℕ) → old.now.schema ≡ no_schema → old.in_transaction ≡ false → Executes create_text [] old new (Ok count) → Makes old new
+pub creates : (old new : State) (count : ℕ) → old.now.schema ≡ no_schema → old.in_transaction ≡ false → Executes create_text [] old new (Ok count) → Makes old new × IsTrue new.is_open × HoldsItems new.now
 creates old new count has alone h =
     let w = subst (λ t. Writes old new None CreateTable t [] count) create_is.1 (runs_as create_text [] old new no_schema has CreateTable create_is.0 create_plain count h) in
     let did = made old.step_limit (mode_of old) old.now w.tally new.now has w.changed in
     let holds = holds_none new.now w.sound did.0 did.1 in
-    let left = rw alone at w.shown.committed_is in
-    record {
-      was_open = λ _. w.shown.was_open;
-      made = λ _. inr (has, holds.0, holds.1);
-      settled = λ _. sym left;
-    }
+    let left = rw alone at w.shown.committed_is in (
+      record {
+        was_open = λ _. w.shown.was_open;
+        made = λ _. inr (has, holds.0, holds.1);
+        settled = λ _. sym left;
+      },
+      w.shown.is_open,
+      holds.0,
+    )
 
 -- it ends no transaction
 ends_nothing : (s : State) → (CreateTable ≡ Commit) ⊎ ((name : List ℕ) × (at : ℕ) × (CreateTable ≡ Release name) × IsNewestNamed (names_in s) name at × IsTrue (begins_at s at)) → ⊥

@@ -1,5 +1,5 @@
 -- The steps of a batch.
-use Rattle.std.proofs.Common.{◌≡◌, ◌⊎◌, inl, inr, ℕ, ◌+◌, ◌<◌, pos, Bool, true, false, List, [], ◌∷◌, drop, IsTrue, Ok, Err, Result, refl, sym, ap, subst, ◌∙◌}
+use Rattle.std.proofs.Common.{◌≡◌, ◌⊎◌, inl, inr, ℕ, ◌+◌, ◌<◌, pos, Bool, true, false, List, [], ◌∷◌, ◌++◌, take, drop, append-nil, take-append-drop, IsTrue, Ok, Err, Result, refl, sym, ap, subst, ◌∙◌}
 use Rattle.sqlite.specs.declared.types.Value.TheVariants.{Int, Blob}
 use Rattle.sqlite_trees.specs.declared.store.Store.{Ghosts}
 use Rattle.sqlite.specs.declared.error.Error.{Error}
@@ -77,15 +77,22 @@ inside_at g old mid i left all (inr done) inside = done.mode
 
 -- a put is refused
 pub put_refused : {S : Type 0} (g : Ghosts S) (old mid after : Held S) (i : ℕ) (put : Put) (batch : List Put) (error : Error) → ((i ≡ 0) × (mid ≡ old)) ⊎ Reaches (state g old) (state g mid) (drop i batch) batch
-    → drop i batch ≡ put ∷ drop (i + 1) batch → IsTrue old.in_transaction → (IsTrue mid.in_transaction → RefusesPut put (state g mid) (state g after) error) → RefusesBatch g old batch error
-put_refused g old mid after i put batch error (inl start) here inside refused = record {
+    → drop i batch ≡ put ∷ drop (i + 1) batch → IsTrue old.in_transaction → (state g mid).step_limit ≡ (state g old).step_limit
+    → (IsTrue mid.in_transaction → RefusesPut put (state g mid) (state g after) error) → RefusesBatch g old batch error
+put_refused g old mid after i put batch error (inl start) here inside limit refused = record {
+  finished = take i batch;
+  split = sym (take-append-drop i batch) ∙ ap (λ (left : List Put). take i batch ++ left) here;
+  limit = limit;
   left = put ∷ drop (i + 1) batch;
   before = mid;
   after = after;
   done = inl (sym (sym (ap (λ k. drop k batch) start.0) ∙ here), start.1);
   next = refused (inside_at g old mid i (drop i batch) batch (inl start) inside);
 }
-put_refused g old mid after i put batch error (inr done) here inside refused = record {
+put_refused g old mid after i put batch error (inr done) here inside limit refused = record {
+  finished = take i batch;
+  split = sym (take-append-drop i batch) ∙ ap (λ (left : List Put). take i batch ++ left) here;
+  limit = limit;
   left = put ∷ drop (i + 1) batch;
   before = mid;
   after = after;
@@ -94,5 +101,15 @@ put_refused g old mid after i put batch error (inr done) here inside refused = r
 }
 
 -- the commit is refused
-pub commit_refused : {S : Type 0} (g : Ghosts S) (old before after : Held S) (batch : List Put) (error : Error) → Reaches (state g old) (state g before) [] batch → FailsToCommit (state g before) (state g after) error → RefusesBatch g old batch error
-commit_refused g old before after batch error reaches failed = record { left = []; before = before; after = after; done = inr reaches; next = failed }
+pub commit_refused : {S : Type 0} (g : Ghosts S) (old before after : Held S) (batch : List Put) (error : Error) → Reaches (state g old) (state g before) [] batch → (state g before).step_limit ≡ (state g old).step_limit
+    → FailsToCommit (state g before) (state g after) error → RefusesBatch g old batch error
+commit_refused g old before after batch error reaches limit failed = record {
+  finished = batch;
+  left = [];
+  split = sym (append-nil batch);
+  before = before;
+  after = after;
+  done = inr reaches;
+  limit = limit;
+  next = failed;
+}

@@ -1,5 +1,5 @@
 -- Why nothing is read of a database, from what its rows show, and what a database that holds items shows.
-use Rattle.std.proofs.Common.{◌≡◌, inl, inr, ℕ, zero, suc, ◌+◌, ◌<◌, ℤ, Bool, true, false, List, [], ◌∷◌, map, length, get_or, IsTrue, IsPermutation, IsSorted, refl, sym, ap, ap₂, subst, ◌∙◌, arith}
+use Rattle.std.proofs.Common.{◌≡◌, inl, inr, ℕ, zero, suc, ◌+◌, ◌<◌, ℤ, Bool, false, List, [], ◌∷◌, map, length, get_or, IsTrue, IsPermutation, IsSorted, refl, sym, ap, ap₂, subst, ◌∙◌, arith}
 use Rattle.std.proofs.lemmas.Bool.{false≢true, cases_Bool}
 use Rattle.std.proofs.lemmas.Cmp.{int_cmp_total}
 use Rattle.std.proofs.lemmas.Map.Lookups.{exact_signed}
@@ -17,6 +17,8 @@ use Rattle.sqlite_value.proofs.OrderLemmas.{value_cmp-Int, value_cmp-Blob}
 use Rattle.sqlite_rules.specs.Lists.{Has}
 use Rattle.sqlite.specs.Effect.{Database}
 use Rattle.sqlite.specs.State.{State}
+use Rattle.sqlite.specs.Held.{Held, state}
+use Rattle.sqlite_trees.specs.declared.store.Store.{Ghosts}
 use Rattle.base_rows.specs.Sortable.{sort_key_cmp, same_sort_key}
 use Rattle.base_rows.proofs.SortableLaws.{sort_key_cmp_turned, same_sort_key-cmp, same_sort_key_exact, ascend_from_neighbours, sort_key_cmp_total}
 use Rattle.base_rows.proofs.RowLaws.{ascend-map}
@@ -25,8 +27,8 @@ use Rattle.mud_world.specs.Items.{sort_key_of, IsOrdered}
 use Rattle.keep_sqlite.specs.declared.refusal.Refusal.{Refusal}
 use Rattle.keep_sqlite.specs.declared.refusal.Refusal.TheVariants.{Memory, InUse, CannotOpen, NoStore, DiskFull, DiskFailed, Shut, Other}
 use Rattle.keep_sqlite.specs.Batches.{Makes, Stays}
-use Rattle.keep_sqlite.specs.Refused.{TellsError, IsUnread}
-use Rattle.keep_sqlite.specs.Rows.{id_of, IsItemRow, AreDistinct, HoldsItems, MayMake}
+use Rattle.keep_sqlite.specs.Refused.{TellsError, IsUnread, FindsOrMakes}
+use Rattle.keep_sqlite.specs.Rows.{id_of, IsItemRow, AreDistinct, HoldsItems, MayHold, MayMake}
 use Rattle.keep_sqlite.specs.Selections.{item_shown, number_shown, shown_cmp, id_cmp, shown_row, shown_id, AreUnequal, ShowsItem, ShowsId}
 use Rattle.keep_sqlite.proofs.Comparisons.{cmp_naturals}
 use Rattle.keep_sqlite.proofs.Ids.{eq_exact, int_itself}
@@ -72,6 +74,17 @@ makes_still old mid new made same = record {
   made = λ o. subst (MayMake old.now) (sym (same.now_is o (made.settled (same.was_open o)))) (made.made (same.was_open o));
   settled = λ o. same.now_is o (made.settled (same.was_open o)) ∙ made.settled (same.was_open o) ∙ sym (same.committed_is o);
 }
+
+module _ {S : Type 0} (g : Ghosts S) (old new : Held S) where
+  -- a table that was found or made is that of items, where the database held items or had none
+  pub ready_holds : FindsOrMakes g old new → MayHold false (state g old).now → HoldsItems (state g new).now
+  ready_holds (inl (same, made)) (inl holds) = subst (λ h. HoldsItems (state g h).now) (sym same) holds
+  ready_holds (inl (same, made)) (inr (unopened, blank)) = absurd (made blank)
+  ready_holds (inr (blank, is_open, holds)) may = holds
+
+  pub ready_open : FindsOrMakes g old new → IsTrue (state g old).is_open → IsTrue (state g new).is_open
+  ready_open (inl (same, made)) was = subst (λ h. IsTrue (state g h).is_open) (sym same) was
+  ready_open (inr (blank, is_open, holds)) was = is_open
 
 -- ---- what each row of an answer shows
 

@@ -22,10 +22,10 @@ module _ {S : Type 0} (g : Ghosts S) where
   found_items None = []
   found_items (Some keeper) = told g keeper
 
-  -- While the disk gives back what was written, a keeper that was opened reads no items only for these causes,
-  abbrev pub FoundUnread : Option (KeeperView S) → Option (KeeperView S) → Refusal → Type 0
-  FoundUnread before after refusal =
-      ForSome before (λ old. ForSome after (λ new. HasCleanDisk (state g new.connection) → IsUnopened g old.connection new.connection refusal))
+  -- While the disk gives back what was written, a keeper that was opened fails to read only for these causes,
+  abbrev pub FoundUnopened : Option (KeeperView S) → Option (KeeperView S) → Refusal → Type 0
+  FoundUnopened before after refusal =
+      ForSome before (λ old. ForSome after (λ new. HasCleanDisk (state g new.connection) → IsUnopened g old new refusal))
 
   -- and refuses a batch only for these.
   abbrev pub FoundRefuses : Option (KeeperView S) → Option (KeeperView S) → List Put → Refusal → Type 0

@@ -42,7 +42,7 @@ pub(crate) fn list<S: Alter>(
         × (items ≡ items_of (state S.Store connection.old).now)) }
     ensures refused { HasCleanDisk (state S.Store connection.new)
         → IfErr result (IsUnread (FailsToQuery select_text [] (state S.Store connection.old) (state S.Store connection.new))
-        (HoldsItems (state S.Store connection.new).now)) }
+        (HoldsItems (state S.Store connection.old).now)) }
 {
     let rows = match select(connection) {
         Ok(rows) => rows,
@@ -141,7 +141,7 @@ pub(crate) fn test_rowids<S: Alter>(
         × HaveIds ((state S.Store connection.old).now.trees 0)) }
     ensures refused { HasCleanDisk (state S.Store connection.new)
         → IfErr result (IsUnread (FailsToQuery ids_text [] (state S.Store connection.old) (state S.Store connection.new))
-        (HoldsItems (state S.Store connection.new).now)) }
+        (HoldsItems (state S.Store connection.old).now)) }
 {
     let rows = match select_rowids(connection) {
         Ok(rows) => rows,

@@ -3,9 +3,9 @@ ghost use Rattle.std.specs.Prelude.{◌≡◌, false, IfOk, IfErr, IsTrue, OnErr
 ghost use Rattle.sqlite.specs.Held.{state};
 ghost use Rattle.sqlite.specs.State.{HasCleanDisk, Survives};
 ghost use Rattle.keep_sqlite.specs.Table.{no_schema};
-ghost use Rattle.keep_sqlite.specs.Rows.{items_of, AreMadeTrees, HoldsItems};
+ghost use Rattle.keep_sqlite.specs.Rows.{items_of, AreMadeTrees, HoldsItems, MayHold};
 ghost use Rattle.keep_sqlite.specs.Batches.{Makes, Stays};
-ghost use Rattle.keep_sqlite.specs.Refused.{FailsToOpen, IsUnread, RefusesOpening};
+ghost use Rattle.keep_sqlite.specs.Refused.{FindsOrMakes, IsUnread, RefusesOpening, RefusesStatement};
 
 use crate::listing::{list, test_rowids};
 use crate::refusal::{Refusal, refusal_of};
@@ -33,7 +33,7 @@ pub(crate) fn find<S: Alter>(
         × HoldsItems (state S.Store connection.new).now
         × (items ≡ items_of (state S.Store connection.new).now)) }
     ensures refused { HasCleanDisk (state S.Store connection.new)
-        → IfErr result (IsUnread (FailsToOpen S.Store connection.old connection.new) (HoldsItems (state S.Store connection.new).now)) }
+        → IfErr result (IsUnread (RefusesOpening S.Store connection.old connection.new) (MayHold false (state S.Store connection.old).now)) }
 {
     if let Err(error) = create_if_blank(connection) {
         return Err(refusal_of(error));
@@ -54,8 +54,10 @@ fn create_if_blank<S: Alter>(connection: &mut Connection<S>) -> Result<(), Error
         (AreMadeTrees (state S.Store connection.old).now) }
     ensures makes { HasCleanDisk (state S.Store connection.new)
         → Makes (state S.Store connection.old) (state S.Store connection.new) }
+    ensures found { HasCleanDisk (state S.Store connection.new)
+        → OnOk result (FindsOrMakes S.Store connection.old connection.new) }
     ensures refused { HasCleanDisk (state S.Store connection.new)
-        → IfErr result (RefusesOpening (state S.Store connection.old) (state S.Store connection.new)) }
+        → IfErr result (RefusesStatement (state S.Store connection.old) (state S.Store connection.new)) }
 {
     if is_blank(connection.schema()) {
         create(connection)?;
@@ -71,10 +73,12 @@ fn create<S: Alter>(connection: &mut Connection<S>) -> Result<(), Error>
         (AreMadeTrees (state S.Store connection.old).now) }
     ensures ok { HasCleanDisk (state S.Store connection.new)
         → OnOk result (Makes (state S.Store connection.old) (state S.Store connection.new)) }
+    ensures made { HasCleanDisk (state S.Store connection.new)
+        → OnOk result (IsTrue (state S.Store connection.new).is_open × HoldsItems (state S.Store connection.new).now) }
     ensures err { HasCleanDisk (state S.Store connection.new)
         → OnErr result (Stays (state S.Store connection.old) (state S.Store connection.new)) }
     ensures refused { HasCleanDisk (state S.Store connection.new)
-        → IfErr result (RefusesOpening (state S.Store connection.old) (state S.Store connection.new)) }
+        → IfErr result (RefusesStatement (state S.Store connection.old) (state S.Store connection.new)) }
 {
     connection.execute(
         "CREATE TABLE item (kind INTEGER NOT NULL, name BLOB NOT NULL, body BLOB NOT NULL, PRIMARY KEY (kind, name)) STRICT",

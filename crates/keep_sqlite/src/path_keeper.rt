@@ -1,5 +1,5 @@
 //! A keeper over the database file at a path.
-ghost use Rattle.std.specs.Prelude.{◌≡◌, ◌↔◌, true, false, not, IsTrue, IsNone, IfOk, IfErr, IfSome, OnOk, OnErr, is_some};
+ghost use Rattle.std.specs.Prelude.{◌≡◌, ◌↔◌, true, false, not, IsTrue, IsNone, IfOk, IfErr, IfSome, OnOk, OnErr, Err, is_some};
 ghost use Rattle.std.specs.Option.{ForSome};
 ghost use Rattle.mud_world.specs.Calls.{counted};
 ghost use Rattle.mud_world.specs.Causes.{Counts};
@@ -8,7 +8,7 @@ ghost use Rattle.mud_world.specs.Items.{is_batch, put_all, IsOrdered};
 ghost use Rattle.sqlite.specs.Files.{over_files};
 ghost use Rattle.keep_sqlite.specs.declared.refusal.Refusal.{Refusal};
 ghost use Rattle.keep_sqlite.specs.Refusals.{fault_of, refused, told_of};
-ghost use Rattle.keep_sqlite.specs.Files.{file_items, found_items, FileTells, FoundRefuses, FoundTells, FoundUnread};
+ghost use Rattle.keep_sqlite.specs.Files.{file_items, found_items, FileTells, FoundRefuses, FoundTells, FoundUnopened};
 ghost use Rattle.keep_sqlite.specs.Telling.{told, Tells};
 
 use crate::SqliteKeeper;
@@ -102,7 +102,7 @@ fn read_path(
     ensures each { ForSome keeper.new (λ opened. IsTrue opened.has_opened) }
     ensures opened { OnOk result (is_some keeper.new ≡ true) }
     ensures still { OnErr result (is_some keeper.new ≡ is_some keeper.old) }
-    ensures refused { IfErr result (FoundUnread over_files keeper.old keeper.new) }
+    ensures refused { IfErr result (FoundUnopened over_files keeper.old keeper.new) }
 {
     let first = first_answer(alloc, rt, path, keeper);
     read_or_take(alloc, first, keeper)
@@ -146,7 +146,8 @@ fn read_or_take<S: Alter + Drop>(
     ensures each { ForSome keeper.new (λ opened. IsTrue opened.has_opened) }
     ensures opened { OnOk result (is_some keeper.new ≡ true) }
     ensures still { OnErr result (is_some keeper.new ≡ is_some keeper.old) }
-    ensures refused { IfErr result (FoundUnread S.Store keeper.old keeper.new) }
+    ensures refused { IfErr result (FoundUnopened S.Store keeper.old keeper.new) }
+    ensures first { IfSome first (λ answer. IfErr answer (λ refusal. result ≡ Err refusal)) }
 {
     match first {
         None => read_found(alloc, keeper),
@@ -168,7 +169,7 @@ fn read_found<S: Alter + Drop>(
     ensures told { FoundTells S.Store keeper.new → OnErr result (FoundTells S.Store keeper.old) }
     ensures each { ForSome keeper.new (λ opened. IsTrue opened.has_opened) }
     ensures opened { is_some keeper.new ≡ true }
-    ensures refused { IfErr result (FoundUnread S.Store keeper.old keeper.new) }
+    ensures refused { IfErr result (FoundUnopened S.Store keeper.old keeper.new) }
 {
     match keeper {
         Some(keeper) => keeper.read(alloc),
@@ -189,6 +190,7 @@ fn keep_first<S: Alter + Drop>(
     ensures each { ForSome keeper.new (λ opened. IsTrue opened.has_opened) }
     ensures opened { OnOk result (is_some keeper.new ≡ true) }
     ensures still { OnErr result (is_some keeper.new ≡ false) }
+    ensures first { IfErr answer (λ refusal. result ≡ Err refusal) }
 {
     match answer {
         Ok((opened, items)) => {
@@ -269,10 +271,10 @@ impl Keeper for PathKeeper {
         ensures still { OnErr result (has_opened self.new ≡ has_opened self.old) }
         ensures cause { Counts (items.has_failed result) self.old.faults self.new.faults }
         ensures count { self.new.faults ≡ counted (items.has_failed result) self.old.faults }
-        // Once an `open` has answered Ok, a later one fails only for what the database answered, or since that
-        // holds no items, while the disk gives back what was written.
+        // Once an `open` has answered Ok, a later one fails for want of memory or, while the disk gives back
+        // what was written, for what the database answered, or since it holds no items.
         ensures refused { IfErr result (λ fault. (refusal : Refusal) × (fault ≡ fault_of refusal)
-            × FoundUnread over_files self.old.keeper self.new.keeper refusal) }
+            × FoundUnopened over_files self.old.keeper self.new.keeper refusal) }
     {
         let answer = read_path(alloc, &self.rt, self.path.as_str(), &mut self.keeper);
         count(&answer, &mut self.faults);
@@ -292,7 +294,8 @@ impl Keeper for PathKeeper {
         ensures opened { has_opened self.new ≡ has_opened self.old }
         ensures cause { Counts (items.has_failed result) self.old.faults self.new.faults }
         ensures count { self.new.faults ≡ counted (items.has_failed result) self.old.faults }
-        // While the disk gives back what was written, an Err is what the database answered.
+        // While the disk gives back what was written, an Err is what the database answered, or a transaction was
+        // begun before.
         ensures refused { IfErr result (λ fault. (refusal : Refusal) × (fault ≡ fault_of refusal)
             × FoundRefuses over_files self.old.keeper self.new.keeper batch.now refusal) }
     {

@@ -99,7 +99,7 @@ impl<S: Alter + Drop> SqliteKeeper<S> {
         ensures cause { Counts (has_failed result) self.old.faults self.new.faults }
         ensures count { self.new.faults ≡ counted (has_failed result) self.old.faults }
         ensures refused { HasCleanDisk (state S.Store self.new.connection)
-            → IfErr result (IsUnopened S.Store self.old.connection self.new.connection) }
+            → IfErr result (IsUnopened S.Store self.old self.new) }
         ensures table { Tells S.Store self.new → OnOk result (HoldsItems (database S.Store self.new)) }
         ensures kept { IsUp S.Store self.new.connection
             → MayMake (database S.Store self.old) (database S.Store self.new) }
@@ -131,7 +131,7 @@ impl<S: Alter + Drop> SqliteKeeper<S> {
         ensures left { IsUp S.Store self.new.connection
             → OnOk result ((state S.Store self.new.connection).committed ≡ database S.Store self.new) }
         ensures refused { HasCleanDisk (state S.Store self.new.connection)
-            → IfErr result (IsUnopened S.Store self.old.connection self.new.connection) }
+            → IfErr result (IsUnopened S.Store self.old self.new) }
     {
         // Within a transaction the items would be some that aren't committed.
         if !self.connection.is_autocommit() {
@@ -159,7 +159,8 @@ impl<S: Alter + Drop> SqliteKeeper<S> {
         ensures opened { self.new.has_opened ≡ self.old.has_opened }
         ensures cause { Counts (has_failed result) self.old.faults self.new.faults }
         ensures count { self.new.faults ≡ counted (has_failed result) self.old.faults }
-        // While the disk gives back what was written, an Err is what the database answered.
+        // While the disk gives back what was written, an Err is what the database answered, or a transaction was
+        // begun before.
         ensures refused { HasCleanDisk (state S.Store self.new.connection)
             → IfErr result (IsRefused S.Store self.old.connection batch.now) }
         // At each return a crash leaves what it could leave before, or the items after the whole batch,
@@ -221,11 +222,11 @@ impl<S: Alter + Drop> Keeper for SqliteKeeper<S> {
         ensures opens { IsUp S.Store self.new.connection → IsUp S.Store self.old.connection }
         ensures cause { Counts (items.has_failed result) self.old.faults self.new.faults }
         ensures count { self.new.faults ≡ counted (items.has_failed result) self.old.faults }
-        // While the disk gives back what was written, an Err is what the database answered, or says that it
-        // holds no items.
+        // While the disk gives back what was written, an Err is want of memory or what the database answered, or
+        // a transaction was begun before, or the database holds no items and isn't one without a table.
         ensures refused { HasCleanDisk (state S.Store self.new.connection)
             → IfErr result (λ fault. (refusal : Refusal) × (fault ≡ fault_of refusal)
-            × IsUnopened S.Store self.old.connection self.new.connection refusal) }
+            × IsUnopened S.Store self.old self.new refusal) }
         // An Ok says that the database has our table and no other, and that each row is an item.
         ensures table { Tells S.Store self.new → OnOk result (HoldsItems (database S.Store self.new)) }
         // Whatever it answers, it made the table in a database with no table, or changed nothing.

@@ -24,5 +24,5 @@ pub returns-in_err-put_one-clause-refused : goal.returns-in_err-put_one-clause-r
 returns-in_err-put_one-clause-refused g c clean holds inside =
     let early : HasCleanDisk (state g.S.Store c.puts.tx.conn.now) = omega (arith, c.put_one.ensures.crash.clean) in
     let refused : RefusesBatch g.S.Store c.args.tx.now.conn.now c.args.batch.now c.in_err-put_one.field-0.0 = put_refused g.S.Store _ c.puts.tx.conn.now c.put_one.new.tx.conn.now c.puts.put-index _ c.args.batch.now _ (c.puts.invariant.reaches early holds)
-    (drop_more c.args.batch.now c.puts.put-index c.put-item.result c.puts-test.true ∙ ap (λ x. x ∷ drop (c.puts.put-index + 1) c.args.batch.now) (sym c.put-item.is)) inside (c.in_err-put_one.ensures.refused clean) in
+    (drop_more c.args.batch.now c.puts.put-index c.put-item.result c.puts-test.true ∙ ap (λ x. x ∷ drop (c.puts.put-index + 1) c.args.batch.now) (sym c.put-item.is)) inside c.puts.invariant.survives.limit (c.in_err-put_one.ensures.refused clean) in
     search rules

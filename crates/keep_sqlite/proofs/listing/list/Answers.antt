@@ -25,8 +25,8 @@ returns-in_err-items-clause-refused g c clean =
     let all = c.in-Ok.ensures.ok clean in
     let answer = c.in-Ok.rows.items in
     let new = state g.S.Store c.select.new.connection in
-    let refused : IsUnread (FailsToQuery select_text [] old new) (HoldsItems new.now) c.in_err-items.field-0.0 =
-    unread_as c.in_err-items.field-0.0 (λ e none. absurd none) (λ holds. items_are_shown old.now answer (subst HoldsItems all.0.0.now_is holds) all.1) (rw c.as_slice.ensures.value at c.in_err-items.ensures.refused) in
+    let refused : IsUnread (FailsToQuery select_text [] old new) (HoldsItems old.now) c.in_err-items.field-0.0 =
+    unread_as c.in_err-items.field-0.0 (λ e none. absurd none) (λ holds. items_are_shown old.now answer holds all.1) (rw c.as_slice.ensures.value at c.in_err-items.ensures.refused) in
     search rules
 
 pub returns-then-not-are_ordered-clause-refused : goal.returns-then-not-are_ordered-clause-refused
@@ -36,6 +36,6 @@ returns-then-not-are_ordered-clause-refused g c clean =
     let answer = c.in-Ok.rows.items in
     let is : c.in_ok-items.items ≡ map item_shown answer = rw c.as_slice.ensures.value at c.in_ok-items.ensures.items in
     inl (λ holds.
-    let up : IsOrdered (map item_shown answer) = items_are_ordered old.now (subst HoldsItems all.0.0.now_is holds) answer all.1 (c.in-Ok.ensures.ordered clean) in
+    let up : IsOrdered (map item_shown answer) = items_are_ordered old.now holds answer all.1 (c.in-Ok.ensures.ordered clean) in
     let back : IsTrue c.are_ordered.result = c.are_ordered.ensures.back (subst IsOrdered (sym (c.as_slice-2.ensures ∙ is)) up) in
     absurd (search rules))

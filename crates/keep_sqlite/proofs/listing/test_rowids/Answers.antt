@@ -25,8 +25,8 @@ returns-in_err-ids-clause-refused g c clean =
     let all = c.in-Ok.ensures.ok clean in
     let answer = c.in-Ok.rows.items in
     let new = state g.S.Store c.select_rowids.new.connection in
-    let refused : IsUnread (FailsToQuery ids_text [] old new) (HoldsItems new.now) c.in_err-ids.field-0.0 =
-    unread_as c.in_err-ids.field-0.0 (λ e none. absurd none) (λ holds. ids_are_shown old.now answer (subst HoldsItems all.0.0.now_is holds) all.1) (rw c.as_slice.ensures.value at c.in_err-ids.ensures.refused) in
+    let refused : IsUnread (FailsToQuery ids_text [] old new) (HoldsItems old.now) c.in_err-ids.field-0.0 =
+    unread_as c.in_err-ids.field-0.0 (λ e none. absurd none) (λ holds. ids_are_shown old.now answer holds all.1) (rw c.as_slice.ensures.value at c.in_err-ids.ensures.refused) in
     search rules
 
 pub returns-then-not-are_rising-clause-refused : goal.returns-then-not-are_rising-clause-refused
@@ -35,8 +35,7 @@ returns-then-not-are_rising-clause-refused g c clean =
     let all = c.in-Ok.ensures.ok clean in
     let answer = c.in-Ok.rows.items in
     let is : c.in_ok-ids.ids ≡ map number_shown answer = rw c.as_slice.ensures.value at c.in_ok-ids.ensures.ids in
-    inl (λ after.
-    let holds = subst HoldsItems all.0.0.now_is after in
+    inl (λ holds.
     let apart = unequal_in (map shown_id (old.now.trees 0)) answer all.1 (shown_distinct (old.now.trees 0) holds.distinct) in
     let sorted = numbers_sorted answer (ids_are_shown old.now answer holds all.1) (c.in-Ok.ensures.ordered clean) in
     let here = c.as_slice-2.ensures ∙ is in

@@ -5,7 +5,12 @@ use Rattle.keep_sqlite.proofs.opening.create.Goals as goal
 use Rattle.base_rows.proofs.Results.{always_on_err}
 
 pub returns-clause-ok : goal.returns-clause-ok
-returns-clause-ok g c clean = creates _ _ _ c.requires.blank c.requires.autocommit (c.in_ok-execute.ensures.runs clean)
+returns-clause-ok g c clean = (creates _ _ _ c.requires.blank c.requires.autocommit (c.in_ok-execute.ensures.runs clean)).0
+
+pub returns-clause-made : goal.returns-clause-made
+returns-clause-made g c clean =
+    let made = creates _ _ _ c.requires.blank c.requires.autocommit (c.in_ok-execute.ensures.runs clean) in
+    (made.1, made.2)
 
 pub returns-clause-crash : goal.returns-clause-crash
 returns-clause-crash g c = survives_as _ _ (λ _ db commits. (c.requires.blank, creates_trees _ db c.requires.blank commits)) c.execute.ensures.survives

@@ -1,4 +1,4 @@
-use Rattle.std.proofs.Common.{◌≡◌, [], inr, IsTrue, ap, subst, rules}
+use Rattle.std.proofs.Common.{◌≡◌, [], inr, IsTrue, refl, ap, subst, rules}
 use Rattle.sqlite.specs.Held.{state}
 use Rattle.sqlite.specs.State.{FailsToQuery}
 use Rattle.keep_sqlite.specs.Refused.{select_text}
@@ -16,6 +16,8 @@ returns-then-self-clause-refused g c clean =
     let ours : IsTrue old.is_open → old.now.schema ≡ item_schema = search rules in
     if_err_map c.list.result (c.list.ensures.refused clean) (λ refusal refused. inr (unread_as refusal (λ e fails. record {
       before = c.args.self.now.connection;
-      found = makes_nothing old settled;
-      refused = inr (ours, inr (subst (λ h. FailsToQuery select_text [] (state g.S.Store h) new e) was fails));
-    }) (λ holds. holds) refused))
+      made = makes_nothing old settled;
+      is_open = λ o. o;
+      limit = refl;
+      next = inr (ours, inr (subst (λ h. FailsToQuery select_text [] (state g.S.Store h) new e) was fails));
+    }) (λ may. search rules) refused))

@@ -28,7 +28,7 @@ module _ (h k : List ℕ) (s t : DoorState) (f : Fetched h k s t) where
   unfolding all_of
   header_failed short =
       let here = header_short k short in
-      fails packets_of h k s t f (ap all_of here) (subst (AreOnlyCut is_cut) (sym here) refl)
+      fails faults.ReadFault packets_of h k s t f (ap all_of here) refl (subst (AreOnlyCut is_cut) (sym here) refl)
 
   pub header_cut : length k < 24 → t.left ≡ [] → EndsIn (faults.Cut 0) (behind packets_of h) s t
   unfolding all_of
@@ -53,7 +53,7 @@ module _ (h k : List ℕ) (s t : DoorState) (f : Fetched h k s t) where
   -- The head of a packet
 
   pub head_failed : (c : Cursor) → length k < 16 → (100000000 ≤ c.count → length k < 1) → EndsIn faults.ReadFault (behind (packets_at c) h) s t
-  head_failed c short beyond = fails (packets_at c) h k s t f (head_lacks c.order c.count c.offset k short) (head_waits c.order c.count c.offset k short beyond)
+  head_failed c short beyond = fails faults.ReadFault (packets_at c) h k s t f (head_lacks c.order c.count c.offset k short) refl (head_waits c.order c.count c.offset k short beyond)
 
   pub head_ends_many : (c : Cursor) → 0 < length k → 100000000 ≤ c.count → EndsIn faults.Many (behind (packets_at c) h) s t
   unfolding all_of
@@ -111,7 +111,7 @@ module _ (c : Cursor) (head : Head) (g : List ℕ → Packets) (h k : List ℕ) 
   unfolding all_of
   body_failed short =
       let here = body_short c.order c.count c.offset head.seconds head.len k short in
-      ends_more faults.ReadFault g (behind body h) s t u before (fails body h k t u f (ap all_of here) (subst (AreOnlyCut is_cut) (sym here) refl))
+      ends_more faults.ReadFault g (behind body h) s t u before (fails faults.ReadFault body h k t u f (ap all_of here) refl (subst (AreOnlyCut is_cut) (sym here) refl))
 
   pub body_cut : length k < head.len → u.left ≡ [] → EndsIn (faults.Cut c.offset) g s u
   unfolding all_of

@@ -20,7 +20,8 @@ packet_found (Some packet) = Some (packet_of packet)
 
 -- What was found, and where the source and what is kept beside it stand then: clause by clause as `advance` says it. `view`
 -- says what counts of the source.
-pub record WentOn {S : Type 0} (tells : Type 0) (view : S → DoorView) (old : S × CaptureState) (result : Result (Option Captured) CapFault) (new : S × CaptureState) : Type 0 where
+pub record WentOn {S : Type 0} (tells : Type 0) (view : S → DoorView) (old : S × CaptureState)
+    (result : Result (Option Captured) CapFault) (new : S × CaptureState) : Type 0 where
   pub found : IfOk result (λ found. packet_found found ≡ new.1.packet)
   pub going : OnOk result (is_broken new.1.progress.stage ≡ false)
   pub fewer : IfOk result (λ found. IsTrue (is_some found) → most_to_come new.1.progress < most_to_come old.1.progress)

@@ -3,17 +3,15 @@ use Rattle.std.specs.Prelude.{ℕ, ◌+◌, ◌*◌, ◌≤◌, Bool, false, Lis
 use Rattle.mud_world.specs.Door.{DoorState}
 use Rattle.read_buffer.specs.Reading as sources
 use Rattle.pcap_read.specs.declared.fault.CapFault.{CapFault}
-use Rattle.pcap_read.specs.declared.fault.CapFault.TheVariants.{ReadFault}
-use Rattle.pcap_read.specs.Fault.{is_cut}
+use Rattle.pcap_read.specs.Fault.{is_cut, is_read_fault}
 use Rattle.pcap_read.specs.declared.stage.Stage.{Stage}
 use Rattle.pcap_read.specs.declared.stage.Stage.TheVariants.{Start, Reading, Failed}
 use Rattle.pcap_read.specs.declared.stage.Progress.{Progress}
 use Rattle.pcap_read.specs.Packets.{Packets}
 
--- Octets were taken of the source, and no packet comes in them. Nor does one come in all that is left, but this fault; or the
--- source failed, and so far nothing was wrong with the octets but that they end.
+-- Octets were taken of the source, and no packet comes in them: this fault does, or the source failed.
 abbrev pub EndsIn : CapFault → (List ℕ → Packets) → DoorState → DoorState → Type 0
-EndsIn fault before old new = sources.EndsIn ReadFault is_cut fault before old new
+EndsIn fault before old new = sources.EndsIn is_read_fault is_cut fault before old new
 
 -- The numbers of packets and octets stay in their bounds.
 pub record IsWithin (progress : Progress) : Type 0 where

@@ -59,7 +59,8 @@ fn read_head<D: Door>(
     cursor: Cursor,
 ) -> Result<Option<Head>, CapFault>
     ensures ok { D.tells → IfOk result (λ head.
-        Follows (behind (packets_at cursor) buffer.old.held) (behind (behind_head cursor head) buffer.new.held) (D.view source.old).state (D.view source.new).state) }
+        Follows (behind (packets_at cursor) buffer.old.held) (behind (behind_head cursor head) buffer.new.held)
+        (D.view source.old).state (D.view source.new).state) }
     ensures end { D.tells → IfOk result (λ head. head ≡ None → (buffer.new.held ≡ []) × ((D.view source.new).state.left ≡ [])) }
     ensures within { IfOk result (λ head. IfSome head (λ h. (h.len ≤ 262144) × (cursor.count < 100000000))) }
     ensures unread { IsTrue (is_decided cursor.order cursor.count buffer.old.held) → source.new ≡ source.old }
@@ -100,7 +101,8 @@ fn read_packet<D: Door>(
     cursor: Cursor,
 ) -> Result<Option<Head>, CapFault>
     ensures ok { D.tells → IfOk result (λ head.
-        Follows (behind (packets_at cursor) buffer.old.held) (behind (behind_packet cursor head buffer.new.given) buffer.new.held) (D.view source.old).state (D.view source.new).state) }
+        Follows (behind (packets_at cursor) buffer.old.held) (behind (behind_packet cursor head buffer.new.given) buffer.new.held)
+        (D.view source.old).state (D.view source.new).state) }
     ensures end { D.tells → IfOk result (λ head. head ≡ None → (buffer.new.held ≡ []) × ((D.view source.new).state.left ≡ [])) }
     ensures within { IfOk result (λ head. IfSome head (λ h. (h.len ≤ 262144) × (cursor.count < 100000000))) }
     ensures unread { IsTrue (is_decided cursor.order cursor.count buffer.old.held) → source.new ≡ source.old }
@@ -139,7 +141,8 @@ fn begin<D: Door>(
     ensures err { D.tells → IfErr result (λ fault.
         EndsIn fault (behind (coming progress) buffer.old.held) (D.view source.old).state (D.view source.new).state) }
     ensures cause { Counts (fails progress.stage (has_failed result)) (D.view source.old).reads (D.view source.new).reads }
-    ensures stop { IsTrue (fails progress.stage (has_failed result)) → StopsAtFailure (D.view source.new).failed (D.view source.old).reads (D.view source.new).reads }
+    ensures stop { IsTrue (fails progress.stage (has_failed result))
+        → StopsAtFailure (D.view source.new).failed (D.view source.old).reads (D.view source.new).reads }
     ensures turns { (D.view source.new).turns ≡ (D.view source.old).turns }
     ensures writes { (D.view source.new).writes ≡ (D.view source.old).writes }
 {
@@ -205,7 +208,8 @@ pub(crate) fn step<D: Door>(
 ) -> Result<Next, CapFault>
     requires { IsWithin progress }
     ensures ok { D.tells → IfOk result (λ next.
-        Follows (behind (coming progress) buffer.old.held) (behind (coming_next next buffer.new.given) buffer.new.held) (D.view source.old).state (D.view source.new).state) }
+        Follows (behind (coming progress) buffer.old.held) (behind (coming_next next buffer.new.given) buffer.new.held)
+        (D.view source.old).state (D.view source.new).state) }
     ensures end { D.tells → IfOk result (λ next. is_some next.current ≡ false →
         (buffer.new.held ≡ []) × ((D.view source.new).state.left ≡ []) × (coming next.progress [] ≡ whole)) }
     ensures within { IfOk result (λ next. IsWithin next.progress) }
@@ -216,7 +220,8 @@ pub(crate) fn step<D: Door>(
     ensures err { D.tells → IfErr result (λ fault.
         EndsIn fault (behind (coming progress) buffer.old.held) (D.view source.old).state (D.view source.new).state) }
     ensures cause { Counts (fails progress.stage (has_failed result)) (D.view source.old).reads (D.view source.new).reads }
-    ensures stop { IsTrue (fails progress.stage (has_failed result)) → StopsAtFailure (D.view source.new).failed (D.view source.old).reads (D.view source.new).reads }
+    ensures stop { IsTrue (fails progress.stage (has_failed result))
+        → StopsAtFailure (D.view source.new).failed (D.view source.old).reads (D.view source.new).reads }
     ensures turns { (D.view source.new).turns ≡ (D.view source.old).turns }
     ensures writes { (D.view source.new).writes ≡ (D.view source.old).writes }
 {

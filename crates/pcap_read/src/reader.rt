@@ -108,7 +108,8 @@ impl Reader {
         ensures again { (fault : CapFault) → self.old.progress.stage ≡ HasFailed fault → (result ≡ Err fault) × (source.new ≡ source.old) }
         ensures ready { IsTrue (spec.is_ready self.old) → source.new ≡ source.old }
         ensures cause { Counts (fails self.old.progress.stage (has_failed result)) (D.view source.old).reads (D.view source.new).reads }
-        ensures stop { IsTrue (fails self.old.progress.stage (has_failed result)) → StopsAtFailure (D.view source.new).failed (D.view source.old).reads (D.view source.new).reads }
+        ensures stop { IsTrue (fails self.old.progress.stage (has_failed result))
+            → StopsAtFailure (D.view source.new).failed (D.view source.old).reads (D.view source.new).reads }
         ensures turns { (D.view source.new).turns ≡ (D.view source.old).turns }
         ensures writes { (D.view source.new).writes ≡ (D.view source.old).writes }
     {

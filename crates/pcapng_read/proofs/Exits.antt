@@ -45,7 +45,7 @@ module _ (at : Standing) (h k : List ℕ) (s t : DoorState) (f : Fetched h k s t
   -- The head of a block
 
   pub head_failed : length k < 12 → (100000000 ≤ at.blocks → length k < 1) → EndsIn faults.ReadFault (behind (blocks_at at) h) s t
-  head_failed short beyond = fails (blocks_at at) h k s t f (blocks_lack at k short) (blocks_wait at k short beyond)
+  head_failed short beyond = fails faults.ReadFault (blocks_at at) h k s t f (blocks_lack at k short) refl (blocks_wait at k short beyond)
 
   pub head_many : 0 < length k → 100000000 ≤ at.blocks → EndsIn (faults.Many at.offset) (behind (blocks_at at) h) s t
   head_many some many =
@@ -88,7 +88,7 @@ module _ (at : Standing) (head : Head) (h k : List ℕ) (s t : DoorState) (b : B
 
   pub whole_failed : length k < head.total → EndsIn faults.ReadFault (behind (blocks_at at) h) s t
   unfolding all_of
-  whole_failed short = fails (blocks_at at) h k s t f (ap all_of (cut short)) (subst (AreOnlyCut is_cut) (sym (cut short)) refl)
+  whole_failed short = fails faults.ReadFault (blocks_at at) h k s t f (ap all_of (cut short)) refl (subst (AreOnlyCut is_cut) (sym (cut short)) refl)
 
   pub whole_cut : length k < head.total → t.left ≡ [] → EndsIn (faults.Cut at.offset) (behind (blocks_at at) h) s t
   whole_cut short none = broken_here at h k s t f (faults.Cut at.offset) (cut short) none

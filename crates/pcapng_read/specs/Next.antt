@@ -14,7 +14,8 @@ use Rattle.pcapng_read.specs.CaptureState.{NgState, AtEnd, is_ready, to_come}
 
 -- What was found, and where the source and what is kept beside it stand then: clause by clause as `advance` says it. `view`
 -- says what counts of the source.
-pub record WentOn {S : Type 0} (tells : Type 0) (view : S → DoorView) (old : S × NgState) (result : Result (Option Captured) NgFault) (new : S × NgState) : Type 0 where
+pub record WentOn {S : Type 0} (tells : Type 0) (view : S → DoorView) (old : S × NgState)
+    (result : Result (Option Captured) NgFault) (new : S × NgState) : Type 0 where
   pub found : IfOk result (λ found. packet_found found ≡ new.1.packet)
   pub going : OnOk result (new.1.fault ≡ None)
   pub fewer : IfOk result (λ found. IsTrue (is_some found) → most_to_come new.1.fault new.1.standing < most_to_come old.1.fault old.1.standing)

@@ -3,14 +3,12 @@ use Rattle.std.specs.Prelude.{◌≡◌, ℕ, ◌+◌, ◌<◌, Bool, false, Lis
 use Rattle.mud_world.specs.Door.{DoorState, Took}
 use Rattle.read_buffer.specs.Reading as sources
 use Rattle.pcapng_read.specs.declared.fault.NgFault.{NgFault}
-use Rattle.pcapng_read.specs.declared.fault.NgFault.TheVariants.{ReadFault}
-use Rattle.pcapng_read.specs.Fault.{is_cut}
+use Rattle.pcapng_read.specs.Fault.{is_cut, is_read_fault}
 use Rattle.pcapng_read.specs.Blocks.{NgPackets}
 
--- Octets were taken of the source, and no packet comes in them. Nor does one come in all that is left, but this fault; or the
--- source failed, and so far nothing was wrong with the octets but that they end.
+-- Octets were taken of the source, and no packet comes in them: this fault does, or the source failed.
 abbrev pub EndsIn : NgFault → (List ℕ → NgPackets) → DoorState → DoorState → Type 0
-EndsIn fault before old new = sources.EndsIn ReadFault is_cut fault before old new
+EndsIn fault before old new = sources.EndsIn is_read_fault is_cut fault before old new
 
 -- Octets were taken of the source. Of these and of those held before, some in front were passed over, and so many more are to be
 -- passed over to make the count; the others are held.

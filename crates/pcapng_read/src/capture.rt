@@ -1,5 +1,5 @@
 //! A capture, read packet by packet.
-ghost use Rattle.std.specs.Prelude.{◌≡◌, ◌≢◌, IfSome, ◌<◌, ◌≤◌, ℕ, [], length, take, false, true, is_some, IsSome, IsTrue, IfOk, IfErr, OnOk, OnErr, is_err, Ok, Err, Some, None};
+ghost use Rattle.std.specs.Prelude.{◌≡◌, ◌≢◌, IfSome, ◌<◌, ◌≤◌, [], length, take, false, true, is_some, IsSome, IsTrue, IfOk, IfErr, OnOk, OnErr, is_err, Ok, Err, Some, None};
 ghost use Rattle.mud_world.specs.Calls.{counted};
 ghost use Rattle.mud_world.specs.Causes.{Counts, StopsAtFailure};
 ghost use Rattle.mud_world.specs.Door.{put_out};
@@ -66,7 +66,8 @@ impl<S: Door> NgCapture<S> {
         ensures fewer { IfOk result (λ more.
             more ≡ true → most_to_come self.new.1.fault self.new.1.standing < most_to_come self.old.1.fault self.old.1.standing) }
         ensures next { S.tells → OnOk result (
-            Follows (to_come self.old.1) (λ octets. with_next self.new.1.packet (to_come self.new.1 octets)) (S.view self.old.0).state (S.view self.new.0).state) }
+            Follows (to_come self.old.1) (λ octets. with_next self.new.1.packet (to_come self.new.1 octets))
+            (S.view self.old.0).state (S.view self.new.0).state) }
         ensures end { S.tells → IfOk result (λ more. more ≡ false → AtEnd self.new.1 (S.view self.new.0).state) }
         ensures fault { S.tells → IfErr result (λ fault. EndsIn fault (to_come self.old.1) (S.view self.old.0).state (S.view self.new.0).state) }
         ensures failed { IfErr result (λ fault. self.new.1.fault ≡ Some fault) }
@@ -74,7 +75,8 @@ impl<S: Door> NgCapture<S> {
         ensures again { (fault : NgFault) → self.old.1.fault ≡ Some fault → (result ≡ Err fault) × (self.new.0 ≡ self.old.0) }
         ensures ready { IsTrue (spec.is_ready self.old.1) → self.new.0 ≡ self.old.0 }
         ensures cause { Counts (fails self.old.1.fault (has_failed result)) (S.view self.old.0).reads (S.view self.new.0).reads }
-        ensures stop { IsTrue (fails self.old.1.fault (has_failed result)) → StopsAtFailure (S.view self.new.0).failed (S.view self.old.0).reads (S.view self.new.0).reads }
+        ensures stop { IsTrue (fails self.old.1.fault (has_failed result))
+            → StopsAtFailure (S.view self.new.0).failed (S.view self.old.0).reads (S.view self.new.0).reads }
         ensures turns { (S.view self.new.0).turns ≡ (S.view self.old.0).turns }
         ensures writes { (S.view self.new.0).writes ≡ (S.view self.old.0).writes }
     {

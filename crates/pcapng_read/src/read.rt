@@ -78,7 +78,8 @@ fn read_whole<D: Door>(
     requires looked_into { spec.is_read head.kind ≡ true }
     requires within { IsWithin standing.old }
     ensures ok { D.tells → IfOk result (λ current.
-        Follows (behind (blocks_at standing.old) buffer.old.held) (behind (coming_next current buffer.new.given standing.new) buffer.new.held) (D.view source.old).state (D.view source.new).state) }
+        Follows (behind (blocks_at standing.old) buffer.old.held) (behind (coming_next current buffer.new.given standing.new) buffer.new.held)
+        (D.view source.old).state (D.view source.new).state) }
     ensures within { IsWithin standing.new }
     ensures further { OnOk result (standing.new.blocks ≡ standing.old.blocks + 1) }
     ensures whole { IfOk result (λ found. ForSome found (λ current. 32 + current.len ≤ length buffer.new.given)) }
@@ -171,7 +172,8 @@ fn read_over<D: Door>(
     requires looked_into { spec.is_read head.kind ≡ false }
     requires within { IsWithin standing.old }
     ensures ok { D.tells → OnOk result (
-        Follows (behind (blocks_at standing.old) buffer.old.held) (behind (blocks_at standing.new) buffer.new.held) (D.view source.old).state (D.view source.new).state) }
+        Follows (behind (blocks_at standing.old) buffer.old.held) (behind (blocks_at standing.new) buffer.new.held)
+        (D.view source.old).state (D.view source.new).state) }
     ensures within { IsWithin standing.new }
     ensures further { OnOk result (standing.new.blocks ≡ standing.old.blocks + 1) }
     ensures err { D.tells → IfErr result (λ fault.
@@ -200,7 +202,8 @@ fn read_block<D: Door>(
 ) -> Result<Met, NgFault>
     requires { IsWithin standing.old }
     ensures ok { D.tells → IfOk result (λ met.
-        Follows (behind (blocks_at standing.old) buffer.old.held) (behind (behind_met met buffer.new.given standing.new) buffer.new.held) (D.view source.old).state (D.view source.new).state) }
+        Follows (behind (blocks_at standing.old) buffer.old.held) (behind (behind_met met buffer.new.given standing.new) buffer.new.held)
+        (D.view source.old).state (D.view source.new).state) }
     ensures end { D.tells → IfOk result (λ met. met ≡ End → (buffer.new.held ≡ []) × ((D.view source.new).state.left ≡ [])) }
     ensures within { IsWithin standing.new }
     ensures further { IfOk result (λ met. (met ≡ End) ⊎ (standing.new.blocks ≡ standing.old.blocks + 1)) }
@@ -233,7 +236,8 @@ pub(crate) fn step<D: Door>(
 ) -> Result<Option<Current>, NgFault>
     requires { IsWithin standing.old }
     ensures ok { D.tells → IfOk result (λ found.
-        Follows (behind (blocks_at standing.old) buffer.old.held) (behind (coming_next found buffer.new.given standing.new) buffer.new.held) (D.view source.old).state (D.view source.new).state) }
+        Follows (behind (blocks_at standing.old) buffer.old.held) (behind (coming_next found buffer.new.given standing.new) buffer.new.held)
+        (D.view source.old).state (D.view source.new).state) }
     ensures end { D.tells → IfOk result (λ found. is_some found ≡ false → (buffer.new.held ≡ []) × ((D.view source.new).state.left ≡ [])) }
     ensures within { IsWithin standing.new }
     ensures fewer { IfOk result (λ found. is_some found ≡ true → standing.old.blocks < standing.new.blocks) }

@@ -1,5 +1,5 @@
 -- Laws of what is taken of a source.
-use Rattle.std.proofs.Common.{◌≡◌, ◌⊎◌, inl, inr, ℕ, Bool, IsTrue, List, [], ◌++◌, IfSome, refl, sym, ap, subst, ◌∙◌, append_assoc}
+use Rattle.std.proofs.Common.{◌≡◌, ◌⊎◌, inl, inr, ℕ, Bool, IsTrue, List, [], ◌++◌, IfSome, sym, ap, subst, ◌∙◌, append_assoc}
 use Rattle.mud_world.specs.Door.{DoorState}
 use Rattle.mud_world.proofs.Doors.{took_more}
 use Rattle.read_buffer.specs.Packets.{Packet, Told, broken}
@@ -27,10 +27,10 @@ follows_more f g h s t u p q = record {
 abbrev pub AreOnlyCut : {F : Type 0} → (F → Bool) → Told F → Type 0
 AreOnlyCut is_cut packets = IfSome packets.fault (λ found. IsTrue (is_cut found))
 
-module _ {F : Type 0} {read_fault : F} {is_cut : F → Bool} where
+module _ {F : Type 0} {is_read_fault is_cut : F → Bool} where
   -- the end that follows from the octets that are held now
   pub ends : (fault : F) (before : List ℕ → Told F) (h k : List ℕ) (s t : DoorState) → Fetched h k s t
-      → (before k).all ≡ [] → before (k ++ t.left) ≡ broken fault → EndsIn read_fault is_cut fault (behind before h) s t
+      → (before k).all ≡ [] → before (k ++ t.left) ≡ broken fault → EndsIn is_read_fault is_cut fault (behind before h) s t
   unfolding all_of
   ends fault before h k s t f none end = record {
     octets = f.octets;
@@ -40,17 +40,17 @@ module _ {F : Type 0} {read_fault : F} {is_cut : F → Bool} where
   }
 
   -- the source fails, and the octets that are held now decide nothing
-  pub fails : (before : List ℕ → Told F) (h k : List ℕ) (s t : DoorState) → Fetched h k s t
-      → (before k).all ≡ [] → AreOnlyCut is_cut (before k) → EndsIn read_fault is_cut read_fault (behind before h) s t
+  pub fails : (fault : F) (before : List ℕ → Told F) (h k : List ℕ) (s t : DoorState) → Fetched h k s t
+      → (before k).all ≡ [] → IsTrue (is_read_fault fault) → AreOnlyCut is_cut (before k) → EndsIn is_read_fault is_cut fault (behind before h) s t
   unfolding all_of
-  fails before h k s t f none cut = record {
+  fails fault before h k s t f none failed cut = record {
     octets = f.octets;
     took = f.took;
     none = ap (λ held. all_of (before held)) (sym f.held) ∙ none;
-    cause = inr (refl, subst (λ held. AreOnlyCut is_cut (before held)) f.held cut);
+    cause = inr (failed, subst (λ held. AreOnlyCut is_cut (before held)) f.held cut);
   }
 
-  pub ends_more : (fault : F) (f g : List ℕ → Told F) (s t u : DoorState) → Follows f g s t → EndsIn read_fault is_cut fault g t u → EndsIn read_fault is_cut fault f s u
+  pub ends_more : (fault : F) (f g : List ℕ → Told F) (s t u : DoorState) → Follows f g s t → EndsIn is_read_fault is_cut fault g t u → EndsIn is_read_fault is_cut fault f s u
   unfolding all_of
   ends_more fault f g s t u p q = record {
     octets = p.octets ++ q.octets;
@@ -59,7 +59,7 @@ module _ {F : Type 0} {read_fault : F} {is_cut : F → Bool} where
     cause = by q.cause;
   }
     where
-      by : (g (q.octets ++ u.left) ≡ broken fault) ⊎ ((fault ≡ read_fault) × AreOnlyCut is_cut (g q.octets))
-          → (f ((p.octets ++ q.octets) ++ u.left) ≡ broken fault) ⊎ ((fault ≡ read_fault) × AreOnlyCut is_cut (f (p.octets ++ q.octets)))
+      by : (g (q.octets ++ u.left) ≡ broken fault) ⊎ (IsTrue (is_read_fault fault) × AreOnlyCut is_cut (g q.octets))
+          → (f ((p.octets ++ q.octets) ++ u.left) ≡ broken fault) ⊎ (IsTrue (is_read_fault fault) × AreOnlyCut is_cut (f (p.octets ++ q.octets)))
       by (inl comes) = inl (ap f (append_assoc p.octets q.octets u.left) ∙ p.same (q.octets ++ u.left) ∙ comes)
       by (inr failed) = inr (failed.0, subst (AreOnlyCut is_cut) (sym (p.same q.octets)) failed.1)

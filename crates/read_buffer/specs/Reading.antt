@@ -21,8 +21,8 @@ pub record Follows {F : Type 0} (before after : List ℕ → Told F) (old new : 
 
 -- Octets were taken of the source, and no packet comes in them. Nor does one come in all that is left, but this fault; or the
 -- source failed, and so far nothing was wrong with the octets but that they end.
-pub record EndsIn {F : Type 0} (read_fault : F) (is_cut : F → Bool) (fault : F) (before : List ℕ → Told F) (old new : DoorState) : Type 0 where
+pub record EndsIn {F : Type 0} (is_read_fault is_cut : F → Bool) (fault : F) (before : List ℕ → Told F) (old new : DoorState) : Type 0 where
   pub octets : List ℕ
   pub took : Took octets old new
   pub none : (before octets).all ≡ []
-  pub cause : (before (octets ++ new.left) ≡ broken fault) ⊎ ((fault ≡ read_fault) × IfSome (before octets).fault (λ found. IsTrue (is_cut found)))
+  pub cause : (before (octets ++ new.left) ≡ broken fault) ⊎ (IsTrue (is_read_fault fault) × IfSome (before octets).fault (λ found. IsTrue (is_cut found)))

@@ -1,7 +1,8 @@
 -- What a reader of a capture has taken of its source, and what that makes of the packets to come, in whichever format.
-use Rattle.std.specs.Prelude.{◌≡◌, ◌⊎◌, ℕ, Bool, IsTrue, List, [], ◌++◌, Option, Some, is_some, IfSome}
+use Rattle.std.specs.Prelude.{◌≡◌, ℕ, Bool, List, [], ◌++◌, Option, Some, is_some}
 use Rattle.mud_world.specs.Door.{DoorState, Took}
-use Rattle.read_buffer.specs.Packets.{Packet, whole, broken, with_all}
+use Rattle.read_buffer.specs.Packets.{Packet, whole, with_all}
+use Rattle.read_buffer.specs.Reading as sources
 use Rattle.pcap_read.specs.Parts as classic
 use Rattle.pcap_read.specs.Reading as classic_reading
 use Rattle.pcap_read.specs.CaptureState as classic_taken
@@ -58,13 +59,9 @@ pub record AtEnd (reader : CaptureReader) (source : DoorState) : Type 0 where
   pub left : source.left ≡ []
   pub ended : to_come reader [] ≡ whole
 
--- Octets were taken of the source, and no packet comes in them. Nor does one come in all that is left, but this fault; or the
--- source failed, and so far nothing was wrong with the octets but that they end.
-pub record EndsIn (fault : CaptureFault) (before : List ℕ → Captures) (old new : DoorState) : Type 0 where
-  pub octets : List ℕ
-  pub took : Took octets old new
-  pub none : (before octets).all ≡ []
-  pub cause : (before (octets ++ new.left) ≡ broken fault) ⊎ (IsTrue (is_read_fault fault) × IfSome (before octets).fault (λ found. IsTrue (is_cut found)))
+-- Octets were taken of the source, and no packet comes in them: this fault does, or the source failed.
+abbrev pub EndsIn : CaptureFault → (List ℕ → Captures) → DoorState → DoorState → Type 0
+EndsIn fault before old new = sources.EndsIn is_read_fault is_cut fault before old new
 
 -- These packets were read since the source stood at the first of the two states. However far the source goes on in what is left
 -- of it, they are the first packets of the octets taken since then, and the others are to come.
